@@ -1,0 +1,139 @@
+ghost use Rattle.std.specs.Prelude.{◌≡◌, ◌≤◌, ◌++◌, [], Bool, true, IsTrue, List, ℕ, length};
+ghost use Rattle.world_io.specs.Stream.{Rose, FillCount, filled_bytes, EndsAtEnd, PutCount, put_bytes};
+
+use std::marker::Model;
+
+/// What a fill did.
+#[derive(Clone, Copy, Debug, PartialEq, Eq)]
+pub enum Filled {
+    /// So many bytes stand at the front of the piece; at least one, unless the piece is empty.
+    Got(usize),
+    /// Nothing was left.
+    End,
+    /// Reading failed, and took nothing.
+    Failed,
+}
+
+/// What a put did.
+#[derive(Clone, Copy, Debug, PartialEq, Eq)]
+pub enum Put {
+    /// So many bytes from the front of the piece were appended; at least one, unless the piece is empty.
+    Took(usize),
+    /// Writing failed, and appended nothing.
+    Failed,
+    /// There was no memory, and nothing was appended.
+    NoMemory,
+}
+
+/// Bytes to be read from the front, in pieces of any size.
+///
+/// A source may tell its bytes or not, as a real file. What a call took is known either way, since it stands in
+/// the piece; what is left is known only where it is told.
+pub trait Source {
+    /// Whether it tells its bytes.
+    ghost tells: { Bool };
+
+    /// The bytes left, where told.
+    ghost left: { Self → List ℕ };
+
+    /// How often reading failed. A count at 2^64 - 1 stays there.
+    ghost faults: { Self → ℕ };
+
+    /// From the one state to the other these bytes were taken, and all else but the count of faults stays.
+    ghost reads: { Self → List ℕ → Self → Type 0 };
+
+    /// Takes the next bytes into the front of the piece.
+    fn fill(&mut self, piece: &mut [u8]) -> Filled
+        ensures count { FillCount result (length piece.old) }
+        ensures reads { reads self.old (filled_bytes result piece.new) self.new }
+        ensures end { IsTrue tells → EndsAtEnd result (left self.old) }
+        ensures later { faults self.old ≤ faults self.new }
+        ensures cause { result ≡ Filled.Failed → Rose (faults self.old) (faults self.new) };
+
+    ghost reads_nothing: { (s : Self) → reads s [] s };
+
+    ghost reads_more: { (a b c : Self) (front more : List ℕ) → reads a front b → reads b more c → reads a (front ++ more) c };
+
+    ghost reads_told: { (a b : Self) (taken : List ℕ) → IsTrue tells → reads a taken b → left a ≡ taken ++ left b };
+}
+
+/// A place to append bytes to.
+pub trait Sink {
+    /// Whether it tells its bytes.
+    ghost tells: { Bool };
+
+    /// The bytes written, where told.
+    ghost written: { Self → List ℕ };
+
+    /// How often writing failed. A count at 2^64 - 1 stays there.
+    ghost faults: { Self → ℕ };
+
+    /// From the one state to the other these bytes were appended, and all else but the count of faults stays.
+    ghost writes: { Self → List ℕ → Self → Type 0 };
+
+    /// Appends the front of the piece.
+    fn put(&mut self, piece: &[u8]) -> Put
+        ensures count { PutCount result (length piece.now) }
+        ensures writes { writes self.old (put_bytes result piece.now) self.new }
+        ensures later { faults self.old ≤ faults self.new }
+        ensures cause { result ≡ Put.Failed → Rose (faults self.old) (faults self.new) };
+
+    ghost writes_nothing: { (s : Self) → writes s [] s };
+
+    ghost writes_more: { (a b c : Self) (front more : List ℕ) → writes a front b → writes b more c → writes a (front ++ more) c };
+
+    ghost writes_told: { (a b : Self) (added : List ℕ) → IsTrue tells → writes a added b → written b ≡ written a ++ added };
+}
+
+/// The bytes of a slice as a source, which never fails. Contracts see the bytes left.
+#[derive(Drop)]
+pub struct SliceSource<'a> {
+    rest: &'a [u8],
+}
+
+impl<'a> Model for SliceSource<'a> {
+    ghost use Rattle.std.specs.Prelude.{List, ℕ};
+
+    ghost Value = { List ℕ };
+
+    ghost view = { λ s. s.rest.now };
+}
+
+impl<'a> SliceSource<'a> {
+    /// Reads this slice from its first byte.
+    pub fn of(bytes: &'a [u8]) -> SliceSource<'a>
+        ensures { result ≡ bytes.now }
+    {
+        SliceSource { rest: bytes }
+    }
+}
+
+impl<'a> Source for SliceSource<'a> {
+    ghost use Rattle.std.specs.Prelude.{◌≡◌, ◌++◌, true, refl};
+    ghost use Rattle.std.proofs.Common.{◌∙◌, sym, ap, append_assoc};
+
+    ghost tells = { true };
+
+    ghost left = { λ s. s };
+
+    ghost faults = { λ _. 0 };
+
+    ghost reads = { λ a taken b. a ≡ taken ++ b };
+
+    ghost reads_nothing = { λ _. refl };
+
+    ghost reads_more = { λ a b c front more first second. first ∙ ap (λ l. front ++ l) second ∙ sym (append_assoc front more c) };
+
+    ghost reads_told = { λ a b taken _ r. r };
+
+    fn fill(&mut self, piece: &mut [u8]) -> Filled {
+        if self.rest.is_empty() {
+            return Filled::End;
+        }
+        let count = piece.len().min(self.rest.len());
+        let (front, rest) = self.rest.split_at(count);
+        piece[..count].copy_from_slice(front);
+        self.rest = rest;
+        Filled::Got(count)
+    }
+}
