@@ -25,6 +25,8 @@ pub record Meaning (V : Type 0) : Type 0 where
   pub emitted : Local → Local
   -- the bytes that go out
   pub out : Packet → Local → List ℕ
+  -- the text that shows a variable's value
+  pub shown : ℕ → V → List ℕ
   -- how many moves are left before the end, at most
   pub rank : Local → ℕ
 
