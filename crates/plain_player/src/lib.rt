@@ -1,0 +1,10 @@
+//! A player of the plain machine: one move at a time, exactly as the definition has it.
+#![tactic(auto)]
+
+mod hand;
+mod player;
+mod seat;
+
+pub use hand::{HandMove, MoveError};
+pub use player::Player;
+pub use seat::Seat;
