@@ -1,5 +1,7 @@
 -- A source that asks the source below it for large pieces, and holds what it has not given yet.
-use Rattle.std.specs.Prelude.{◌≡◌, ℕ, List, [], ◌++◌, refl}
+use Rattle.std.specs.Prelude.{◌≡◌, ◌<◌, ℕ, List, [], ◌++◌, length, refl}
+use Rattle.world_io.specs.declared.stream.Filled.{Filled}
+use Rattle.world_io.specs.declared.stream.Filled.TheVariants.{Got, End, Failed}
 use Rattle.std.proofs.Common.{sym, ◌∙◌, ap, append_assoc, append-nil}
 
 -- These bytes were taken: what was held before, and what was fetched from the source below, are they and what is held.
@@ -7,6 +9,12 @@ pub record TakesThrough {S : Type 0} (reads : S → List ℕ → S → Type 0) (
   pub fetched : List ℕ
   pub below : reads old.0 fetched new.0
   pub held : old.1 ++ fetched ≡ taken ++ new.1
+
+-- after a fill that got bytes, some are held
+abbrev pub HoldsSome : Filled → List ℕ → Type 0
+HoldsSome (Got n) held = 0 < length held
+HoldsSome End held = held ≡ []
+HoldsSome Failed held = held ≡ []
 
 module _ {S : Type 0} (reads : S → List ℕ → S → Type 0) where
   pub TakesThrough-nothing : (reads_nothing : (s : S) → reads s [] s) (b : S × List ℕ) → TakesThrough reads [] b b

@@ -1,5 +1,6 @@
-ghost use Rattle.std.specs.Prelude.{◌≡◌, ◌++◌, [], IfOk};
-ghost use Rattle.world_io.specs.Buffered.{TakesThrough};
+ghost use Rattle.std.specs.Prelude.{◌≡◌, ◌≤◌, ◌++◌, [], length, min, take, IsTrue, IfOk};
+ghost use Rattle.world_io.specs.Stream.{Rose, EndsAtEnd};
+ghost use Rattle.world_io.specs.Buffered.{HoldsSome};
 
 use crate::{Filled, Source};
 use plain_text::NoMemory;
@@ -52,6 +53,48 @@ impl<S: Drop> BufferedSource<S> {
     }
 }
 
+impl<S> BufferedSource<S> {
+    /// How many bytes are held.
+    fn held(&self) -> usize
+        ensures { result ≡ length self.now.1 }
+    {
+        self.filled - self.given
+    }
+
+    /// Gives the first bytes held, as many as fit into the piece.
+    fn give(&mut self, piece: &mut [u8]) -> usize
+        ensures count { result ≡ min (length piece.old) (length self.old.1) }
+        ensures given { self.old.1 ≡ take result piece.new ++ self.new.1 }
+        ensures source { self.new.0 ≡ self.old.0 }
+    {
+        let count = piece.len().min(self.filled - self.given);
+        let end = self.given + count;
+        piece[..count].copy_from_slice(&self.buffer[self.given..end]);
+        self.given = end;
+        count
+    }
+}
+
+impl<S: Source> BufferedSource<S> {
+    /// Fetches the next piece of the source below.
+    fn refill(&mut self) -> Filled
+        requires { length self.old.1 ≡ 0 }
+        ensures reads { S.reads self.old.0 self.new.1 self.new.0 }
+        ensures holds { HoldsSome result self.new.1 }
+        ensures end { IsTrue S.tells → EndsAtEnd result (S.left self.old.0) }
+        ensures later { S.faults self.old.0 ≤ S.faults self.new.0 }
+        ensures cause { result ≡ Filled.Failed → Rose (S.faults self.old.0) (S.faults self.new.0) }
+    {
+        let filled = self.source.fill(self.buffer.as_mut_slice());
+        self.given = 0;
+        self.filled = match filled {
+            Filled::Got(count) => count,
+            Filled::End | Filled::Failed => 0,
+        };
+        filled
+    }
+}
+
 impl<S: Source> Source for BufferedSource<S> {
     ghost use Rattle.std.specs.Prelude.{◌++◌};
     ghost use Rattle.world_io.specs.Buffered.{TakesThrough, TakesThrough-nothing, TakesThrough-more, TakesThrough-told};
@@ -71,18 +114,12 @@ impl<S: Source> Source for BufferedSource<S> {
     ghost reads_told = { λ a b taken told r. TakesThrough-told S.reads S.left (λ s t bytes. S.reads_told s t bytes told) taken a b r };
 
     fn fill(&mut self, piece: &mut [u8]) -> Filled {
-        if self.given == self.filled {
-            match self.source.fill(self.buffer.as_mut_slice()) {
-                Filled::Got(count) => {
-                    self.given = 0;
-                    self.filled = count;
-                }
-                stopped => return stopped,
-            }
+        if self.held() > 0 {
+            return Filled::Got(self.give(piece));
         }
-        let count = piece.len().min(self.filled - self.given);
-        piece[..count].copy_from_slice(&self.buffer[self.given..self.given + count]);
-        self.given += count;
-        Filled::Got(count)
+        match self.refill() {
+            Filled::Got(_) => Filled::Got(self.give(piece)),
+            stopped => stopped,
+        }
     }
 }
