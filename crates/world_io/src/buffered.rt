@@ -1,19 +1,14 @@
-ghost use Rattle.std.specs.Prelude.{◌≡◌, ◌≤◌, ◌++◌, [], length, min, take, IsTrue, IfOk};
+ghost use Rattle.std.specs.Prelude.{◌≡◌, ◌≤◌, ◌<◌, ◌++◌, [], length, min, take, vec_len, IsTrue};
 ghost use Rattle.world_io.specs.Stream.{Rose, EndsAtEnd};
 ghost use Rattle.world_io.specs.Buffered.{HoldsSome};
 
 use crate::{Filled, Source};
-use plain_text::NoMemory;
-use std::alloc::Global;
 use std::marker::Model;
-
-/// The bytes that the source below is asked for at once.
-const CAPACITY: usize = 65_536;
 
 /// A source that asks the source below it for large pieces, so that small fills make few calls there.
 ///
 /// Contracts see the source below and the bytes that are held, in the order in which they will be given. When
-/// it is let go, the bytes held are lost to the source below, which has given them already.
+/// it is let go, the bytes held are lost: the source below has given them already.
 #[derive(Drop)]
 pub struct BufferedSource<S> {
     source: S,
@@ -32,17 +27,18 @@ impl<S> Model for BufferedSource<S> {
     ghost invariant = { λ b. (b.given ≤ b.filled) × (b.filled ≤ vec_len b.buffer) × (0 < vec_len b.buffer) };
 }
 
-impl<S: Drop> BufferedSource<S> {
-    /// Holds no bytes yet. The buffer is taken here, and fills take no memory.
-    pub fn of(alloc: Global, source: S) -> Result<BufferedSource<S>, NoMemory>
-        ensures { IfOk result (λ buffered. buffered ≡ (source, [])) }
+impl<S> BufferedSource<S> {
+    /// Holds no bytes yet. The source below is asked for as many bytes at once as the buffer has room for.
+    pub fn of(source: S, buffer: Vec<u8>) -> BufferedSource<S>
+        requires { 0 < vec_len buffer }
+        ensures { result ≡ (source, []) }
     {
-        Ok(BufferedSource {
+        BufferedSource {
             source,
-            buffer: vec![in alloc; 0u8; CAPACITY]?,
+            buffer,
             given: 0,
             filled: 0,
-        })
+        }
     }
 
     /// The source below. The bytes held are lost.
@@ -51,9 +47,7 @@ impl<S: Drop> BufferedSource<S> {
     {
         self.source
     }
-}
 
-impl<S> BufferedSource<S> {
     /// How many bytes are held.
     fn held(&self) -> usize
         ensures { result ≡ length self.now.1 }
@@ -67,9 +61,10 @@ impl<S> BufferedSource<S> {
         ensures given { self.old.1 ≡ take result piece.new ++ self.new.1 }
         ensures source { self.new.0 ≡ self.old.0 }
     {
-        let count = piece.len().min(self.filled - self.given);
-        let end = self.given + count;
-        piece[..count].copy_from_slice(&self.buffer[self.given..end]);
+        let start = self.given;
+        let count = piece.len().min(self.filled - start);
+        let end = start + count;
+        piece[..count].copy_from_slice(&self.buffer[start..end]);
         self.given = end;
         count
     }
