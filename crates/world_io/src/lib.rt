@@ -1,6 +1,14 @@
 //! The outside: a world of named files, and sources and sinks of bytes.
 #![tactic(auto)]
 
+mod all;
+mod buffered;
 mod stream;
+mod world;
+mod world_stream;
 
+pub use all::{ReadAll, WriteAll, read_all, write_all};
+pub use buffered::BufferedSource;
 pub use stream::{Filled, Put, Sink, SliceSource, Source};
+pub use world::{OpenFault, World};
+pub use world_stream::{WorldSink, WorldSource};

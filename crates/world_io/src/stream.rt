@@ -85,6 +85,54 @@ pub trait Sink {
     ghost writes_told: { (a b : Self) (added : List ℕ) → IsTrue tells → writes a added b → written b ≡ written a ++ added };
 }
 
+/// A source that is lent is a source. What it read is known of the source afterwards.
+impl<'a, S: Source> Source for &'a mut S {
+    ghost use Rattle.std.specs.Prelude.{◌≡◌, refl};
+    ghost use Rattle.std.proofs.Common.{◌∙◌};
+
+    ghost tells = { S.tells };
+
+    ghost left = { λ s. S.left s.now };
+
+    ghost faults = { λ s. S.faults s.now };
+
+    ghost reads = { λ a taken b. (b.ghost_name ≡ a.ghost_name) × S.reads a.now taken b.now };
+
+    ghost reads_nothing = { λ s. (refl, S.reads_nothing s.now) };
+
+    ghost reads_more = { λ a b c front more r s. (s.0 ∙ r.0, S.reads_more a.now b.now c.now front more r.1 s.1) };
+
+    ghost reads_told = { λ a b taken told r. S.reads_told a.now b.now taken told r.1 };
+
+    fn fill(&mut self, piece: &mut [u8]) -> Filled {
+        (**self).fill(piece)
+    }
+}
+
+/// A sink that is lent is a sink. What it wrote is known of the sink afterwards.
+impl<'a, K: Sink> Sink for &'a mut K {
+    ghost use Rattle.std.specs.Prelude.{◌≡◌, refl};
+    ghost use Rattle.std.proofs.Common.{◌∙◌};
+
+    ghost tells = { K.tells };
+
+    ghost written = { λ s. K.written s.now };
+
+    ghost faults = { λ s. K.faults s.now };
+
+    ghost writes = { λ a added b. (b.ghost_name ≡ a.ghost_name) × K.writes a.now added b.now };
+
+    ghost writes_nothing = { λ s. (refl, K.writes_nothing s.now) };
+
+    ghost writes_more = { λ a b c front more r s. (s.0 ∙ r.0, K.writes_more a.now b.now c.now front more r.1 s.1) };
+
+    ghost writes_told = { λ a b added told r. K.writes_told a.now b.now added told r.1 };
+
+    fn put(&mut self, piece: &[u8]) -> Put {
+        (**self).put(piece)
+    }
+}
+
 /// The bytes of a slice as a source, which never fails. Contracts see the bytes left.
 #[derive(Drop)]
 pub struct SliceSource<'a> {

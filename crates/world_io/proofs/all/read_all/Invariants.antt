@@ -1,0 +1,15 @@
+use Rattle.std.proofs.Common.{◌≡◌, ◌≤◌, ◌+◌, length}
+use Rattle.world_io.proofs.all.read_all.Given as goal
+
+-- the bytes so far were taken, and the room is what the limit leaves
+abbrev pub invariant-loop-bytes : goal.invariant-loop-bytes
+invariant-loop-bytes g l =
+    let source = g.S.Source in
+    record {
+      reads : source.reads l.fn.source l.bytes l.source;
+      room : l.room + length l.bytes ≡ l.limit;
+      later : source.faults l.fn.source ≤ source.faults l.source;
+    }
+
+abbrev pub decreases-loop-bytes : goal.decreases-loop-bytes
+decreases-loop-bytes g l = l.room
