@@ -1,16 +1,23 @@
-//! Bytes, texts, packets and numbers: the plain data that every other crate of FTMB speaks of.
+//! Bytes, texts, packets and numbers: the plain data that every other crate of FTMB speaks of, and the lines of its text
+//! files.
 #![tactic(auto)]
 
 mod bytes;
+mod fault;
+mod line;
 mod memory;
 mod number;
 mod packet;
 mod sequence;
 mod text;
+mod word;
 
 pub use bytes::Bytes;
+pub use fault::{LineCause, LineFault, ReadError};
+pub use line::{Line, LineIter, lines};
 pub use memory::NoMemory;
-pub use number::put_u64;
+pub use number::{put_u64, read_u64};
 pub use packet::{Packet, Packets, Unit};
 pub use sequence::Sequence;
 pub use text::Text;
+pub use word::{WordIter, words};
