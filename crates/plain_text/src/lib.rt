@@ -4,6 +4,7 @@
 
 mod bytes;
 mod fault;
+mod field;
 mod line;
 mod memory;
 mod number;
@@ -14,7 +15,8 @@ mod word;
 
 pub use bytes::Bytes;
 pub use fault::{LineCause, LineFault, ReadError};
-pub use line::{Line, LineIter, lines};
+pub use field::{Field, end_of_line, read_field};
+pub use line::{Line, LineIter, count_lines, lines};
 pub use memory::NoMemory;
 pub use number::{put_u64, read_u64};
 pub use packet::{Packet, Packets, Unit};

@@ -44,6 +44,20 @@ pub fn lines(text: &[u8]) -> LineIter<'_>
     }
 }
 
+/// How many lines a text has, whether they count or not.
+pub fn count_lines(text: &[u8]) -> u64
+    ensures { result ≡ length (lines_of text.now) }
+{
+    let mut rest = text;
+    let mut count = 0;
+    while !rest.is_empty() {
+        let (_, more) = cut_line(rest);
+        rest = more;
+        count += 1;
+    }
+    count
+}
+
 impl<'a> Iterator for LineIter<'a> {
     ghost use Rattle.std.specs.Iterator.{YieldsFirstBy, item_count};
 
