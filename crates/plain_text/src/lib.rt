@@ -2,6 +2,7 @@
 #![tactic(auto)]
 
 mod bytes;
+mod limit;
 mod memory;
 mod number;
 mod packet;
@@ -9,6 +10,7 @@ mod sequence;
 mod text;
 
 pub use bytes::Bytes;
+pub use limit::Limit;
 pub use memory::NoMemory;
 pub use number::put_u64;
 pub use packet::{Packet, Packets, Unit};

@@ -1,0 +1,4 @@
+pub mod Capture
+pub mod Faults
+pub mod Limits
+pub mod Reading
