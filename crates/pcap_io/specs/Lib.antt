@@ -1,4 +1,6 @@
 pub mod Capture
 pub mod Faults
 pub mod Limits
+pub mod Reader
 pub mod Reading
+pub mod Record

@@ -3,7 +3,10 @@
 
 mod fault;
 mod front;
+mod next;
 mod order;
+mod record;
 
 pub use fault::{CaptureCause, CaptureFault};
+pub use next::Next;
 pub use order::Order;
