@@ -4,3 +4,4 @@ pub mod Limits
 pub mod Reader
 pub mod Reading
 pub mod Record
+pub mod Started

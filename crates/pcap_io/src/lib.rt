@@ -3,10 +3,17 @@
 
 mod fault;
 mod front;
+mod header;
 mod next;
 mod order;
+mod reader;
 mod record;
+mod started;
 
 pub use fault::{CaptureCause, CaptureFault};
+pub use header::put_header;
 pub use next::Next;
 pub use order::Order;
+pub use reader::Reader;
+pub use record::put_packet;
+pub use started::Started;

@@ -1,4 +1,4 @@
-ghost use Rattle.std.specs.Prelude.{◌≡◌, ◌≤◌, ◌++◌, IsTrue, length};
+ghost use Rattle.std.specs.Prelude.{◌≡◌, ◌≢◌, ◌≤◌, ◌+◌, ◌++◌, IsTrue, IfOk, length};
 ghost use Rattle.world_io.specs.Stream.{Rose};
 ghost use Rattle.pcap_io.specs.Capture.{record_of};
 ghost use Rattle.pcap_io.specs.Reader.{Answers, Takes, IsGiven};
@@ -6,7 +6,8 @@ ghost use Rattle.pcap_io.specs.Record.{TakesBody};
 
 use crate::front::read_front;
 use crate::{CaptureCause, CaptureFault, Next, Order};
-use plain_text::{Bytes, Limit, Packet};
+use byteorder::{ByteOrder, LittleEndian};
+use plain_text::{Bytes, Limit, NoMemory, Packet};
 use std::alloc::Global;
 use world_io::Source;
 
@@ -30,6 +31,7 @@ impl Place {
         ensures told { IsTrue S.tells → Answers self.order self.offset self.room self.limit (S.left source.old) result }
         ensures taken { Takes S.reads self.order result source.old source.new }
         ensures given { IsGiven self.room result }
+        ensures running { result ≢ Next.Over }
         ensures later { S.faults source.old ≤ S.faults source.new }
         ensures cause { result ≡ Next.ReadFault → Rose (S.faults source.old) (S.faults source.new) }
     {
@@ -84,6 +86,7 @@ impl Place {
         })
     }
 
+    /// The fault of the record that begins here.
     fn refused(self, cause: CaptureCause) -> Next
         ensures { result ≡ Next.Refused (record { offset = self.offset; cause = cause }) }
     {
@@ -92,4 +95,20 @@ impl Place {
             cause,
         })
     }
+}
+
+/// A packet's record, as it is written after the header of `put_header`: seconds, fraction, captured length and
+/// original length in 32 bits each, little-endian, and the captured bytes.
+pub fn put_packet(alloc: Global, packet: &Packet) -> Result<Bytes, NoMemory>
+    requires { length packet.now.bytes ≤ 262144 }
+    ensures { IfOk result (λ bytes. bytes ≡ record_of Order.Little packet.now) }
+{
+    let mut head = [0; RECORD_HEADER];
+    LittleEndian::write_u32(&mut head, packet.seconds);
+    LittleEndian::write_u32(&mut head[4..], packet.fraction);
+    LittleEndian::write_u32(&mut head[8..], packet.bytes.len() as u32);
+    LittleEndian::write_u32(&mut head[12..], packet.original);
+    let mut record = Bytes::of(alloc, &head)?;
+    record.extend(packet.bytes.as_slice())?;
+    Ok(record)
 }
