@@ -1,9 +1,9 @@
 -- Numbers spelled as bytes, in either order.
-use Rattle.std.proofs.Common.{◌≡◌, ℕ, ◌+◌, ◌^◌, ◌<◌, ◌≤◌, List, ◌++◌, length, take, drop, get_or, sym, ◌∙◌, arith, inl, inr}
-use Rattle.std.proofs.lemmas.List.{length-take, get_or-take, get_or-drop, get_or_past, drop_at}
+use Rattle.std.proofs.Common.{◌≡◌, ℕ, ◌+◌, ◌^◌, ◌<◌, ◌≤◌, List, ◌++◌, length, take, drop, get_or, sym, ap, ◌∙◌, arith, inl, inr}
+use Rattle.std.proofs.lemmas.List.{length-take, get_or-take, get_or-drop, get_or_past, drop_at, drop-append-le, length-drop}
 use Rattle.std.proofs.lemmas.Bool.{cases_lt}
 use Rattle.std.proofs.lemmas.Nat.{le_bytes_2, be_bytes_2, le_bytes_4, be_bytes_4}
-use Rattle.byteorder.specs.Numbers.{big_from-take, little_from-take, big_number-reads_back, little_number-reads_back, length-bytes_high_first, length-bytes_low_first}
+use Rattle.byteorder.specs.Numbers.{big_from-take, little_from-take, big_from-append, little_from-append, big_number-reads_back, little_number-reads_back, length-bytes_high_first, length-bytes_low_first}
 use Rattle.pcap_io.specs.declared.order.Order.{Order}
 use Rattle.pcap_io.specs.declared.order.Order.TheVariants.{Little, Big}
 use Rattle.pcap_io.specs.Capture.{spelled, number}
@@ -29,9 +29,13 @@ pub number-spelled : (o : Order) (n x : ℕ) (rest : List ℕ) → x < 256 ^ n �
 number-spelled Little n x rest fits = little_number-reads_back n x rest fits
 number-spelled Big n x rest fits = big_number-reads_back n x rest fits
 
-pub number-take : (o : Order) (n m : ℕ) (xs : List ℕ) → n ≤ m → number o n (take m xs) ≡ number o n xs
-number-take Little n m xs h = little_from-take 0 n m xs (omega arith)
-number-take Big n m xs h = big_from-take 0 n m xs (omega arith)
+pub number-append : (o : Order) (n : ℕ) (xs ys : List ℕ) → n ≤ length xs → number o n (xs ++ ys) ≡ number o n xs
+number-append Little n xs ys h = little_from-append n xs ys h
+number-append Big n xs ys h = big_from-append n xs ys h
+
+pub number-drop : (o : Order) (n k : ℕ) (xs ys : List ℕ) → k + n ≤ length xs → number o n (drop k (xs ++ ys)) ≡ number o n (drop k xs)
+number-drop o n k xs ys h =
+    ap (number o n) (drop-append-le k xs ys (omega arith)) ∙ number-append o n (drop k xs) ys (omega (arith, length-drop k xs))
 
 -- what follows four bytes that spell a number
 pub drop-spelled : (o : Order) (x : ℕ) (rest : List ℕ) → drop 4 (spelled o 4 x ++ rest) ≡ rest

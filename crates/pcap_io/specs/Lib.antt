@@ -5,3 +5,4 @@ pub mod Reader
 pub mod Reading
 pub mod Record
 pub mod Started
+pub mod Captured

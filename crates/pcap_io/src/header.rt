@@ -1,5 +1,5 @@
-ghost use Rattle.std.specs.Prelude.{◌≡◌, ◌≤◌, List, ℕ, length, MatchResult, Some};
-ghost use Rattle.pcap_io.specs.Capture.{magic, header_of, written_header};
+ghost use Rattle.std.specs.Prelude.{◌≡◌, ◌≤◌, List, ℕ, length, IfSome, MatchResult, Some};
+ghost use Rattle.pcap_io.specs.Capture.{magic, number, header_of, written_header};
 ghost use Rattle.pcap_io.specs.Faults.{form_of, header_fault};
 
 use crate::{CaptureCause, CaptureFault, Order};
@@ -42,7 +42,8 @@ pub(crate) fn read_header(head: &[u8]) -> Result<(Order, Unit), CaptureFault>
 /// The byte order and the unit that the magic at the front tells.
 fn read_form(head: &[u8]) -> Option<(Order, Unit)>
     requires { 4 ≤ length head.now }
-    ensures { result ≡ form_of head.now }
+    ensures form { result ≡ form_of head.now }
+    ensures magic { IfSome result (λ form. number form.0 4 head.now ≡ magic form.1) }
 {
     match (Order::Little.read_u32(head), Order::Big.read_u32(head)) {
         (MICRO, _) => Some((Order::Little, Unit::Micro)),

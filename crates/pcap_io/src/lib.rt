@@ -1,6 +1,7 @@
 //! Captures: libpcap savefiles of version 2.4 with Ethernet frames, read in pieces and written.
 #![tactic(auto)]
 
+mod capture;
 mod fault;
 mod front;
 mod header;
@@ -10,6 +11,7 @@ mod reader;
 mod record;
 mod started;
 
+pub use capture::{Captured, read_capture};
 pub use fault::{CaptureCause, CaptureFault};
 pub use header::put_header;
 pub use next::Next;

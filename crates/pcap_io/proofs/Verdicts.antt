@@ -1,0 +1,90 @@
+-- Bytes have one verdict: a capture, a fault, or a limit that is passed.
+use Rattle.std.proofs.Common.{◌≡◌, ℕ, ◌+◌, ◌-◌, ◌<◌, ◌≤◌, List, [], ◌∷◌, ◌++◌, length, take, Some, None, refl, sym, ap, subst, ◌∙◌, arith, length-append, inl, inr}
+use Rattle.std.proofs.lemmas.Bool.{eqb-true}
+use Rattle.std.proofs.Math.Seq.{take-append-add}
+use Rattle.plain_text.specs.declared.limit.Limit.{Limit}
+use Rattle.plain_text.specs.declared.packet.Packet.{Packet}
+use Rattle.plain_text.specs.declared.packet.Unit as unit
+use Rattle.pcap_io.specs.declared.order.Order.{Order}
+use Rattle.pcap_io.specs.declared.fault.CaptureCause.{CaptureCause}
+use Rattle.pcap_io.specs.declared.fault.CaptureCause.TheVariants.{ShortRecord}
+use Rattle.pcap_io.specs.declared.fault.CaptureFault.{CaptureFault}
+use Rattle.pcap_io.specs.Capture.{record_of, records_of, header_of, AreRecorded, Begins, IsCapture}
+use Rattle.pcap_io.specs.Faults.{header_fault, record_fault, offset_after, IsRecordFault, IsFaultOf}
+use Rattle.pcap_io.specs.Limits.{IsCut, room_at, limit_at, IsWithinLimits, PassesLimit}
+use Rattle.pcap_io.proofs.Headers.{same_header, header_fault-header_of, length-header_of}
+use Rattle.pcap_io.proofs.Places.{Stops, same_place}
+use Rattle.pcap_io.proofs.Records.{record_fault-record_of, length-record_of}
+
+-- no record begins where nothing is left
+stops_end : (o : Order) (packets bytes : ℕ) → Stops o packets bytes []
+stops_end o packets bytes p more of_p is some fits =
+    absurd (omega (arith, ap length is, length-append (record_of o p) more, length-record_of o p more))
+
+-- no whole record begins where one is faulty
+stops_fault : (o : Order) (packets bytes : ℕ) (rest : List ℕ) (cause : CaptureCause) → record_fault o rest ≡ Some cause → Stops o packets bytes rest
+stops_fault o packets bytes rest cause faulty p more of_p is some fits =
+    let none : record_fault o rest ≡ None = ap (record_fault o) is ∙ record_fault-record_of o p more of_p in
+    cc
+
+-- no record that fits the room begins where one needs more
+stops_cut : (o : Order) (packets bytes room : ℕ) (rest : List ℕ) → (0 < packets → bytes ≤ room) → IsCut o room rest → Stops o packets bytes rest
+stops_cut o packets bytes room rest enough cut p more of_p is some fits =
+    let size = length (record_of o p) in
+    let reach : size + (room - size) ≡ room = omega (arith, enough some) in
+    let front : take room rest ≡ record_of o p ++ take (room - size) more =
+        ap (take room) is ∙ ap (λ n. take n (record_of o p ++ more)) (sym reach) ∙ take-append-add (record_of o p) more (room - size) in
+    let none : record_fault o (take room rest) ≡ None = ap (record_fault o) front ∙ record_fault-record_of o p (take (room - size) more) of_p in
+    let short = cut.1 in
+    cc
+
+-- a reading of at most so many packets and bytes of records, which stops where no other record within these limits stands
+record Reads (packets bytes : ℕ) (o : Order) (ps : List Packet) (rest : List ℕ) : Type 0 where
+  pub count : length ps ≤ packets
+  pub size : length (records_of o ps) ≤ bytes
+  pub stops : Stops o (packets - length ps) (bytes - length (records_of o ps)) rest
+
+-- two readings of the same bytes are one
+same_reading : (packets bytes : ℕ) (all : List ℕ) (o p : Order) (u v : unit.Unit) (ps qs : List Packet) (x y : List ℕ)
+    → Begins all o u ps x → Begins all p v qs y → Reads packets bytes o ps x → Reads packets bytes p qs y
+    → (o ≡ p) × (u ≡ v) × (ps ≡ qs) × (x ≡ y)
+same_reading packets bytes all o p u v ps qs x y first second of_ps of_qs =
+    let heads = same_header o p u v first.unused second.unused _ _ first.unused_length second.unused_length (sym first.parts ∙ second.parts) in
+    let Same : Order → Type 0 = λ r. Reads packets bytes r qs y → records_of o ps ++ x ≡ records_of r qs ++ y → (ps ≡ qs) × (x ≡ y) in
+    let at_o : Same o = λ reads same. same_place o packets bytes ps qs x y first.each second.each of_ps.count reads.count of_ps.size reads.size of_ps.stops reads.stops same in
+    let rest = subst Same heads.0 at_o of_qs heads.2 in
+    (heads.0, heads.1, rest.0, rest.1)
+
+-- a header that was begun with has no fault
+pub header_fault-begins : (all : List ℕ) (o : Order) (u : unit.Unit) (ps : List Packet) (rest : List ℕ) → Begins all o u ps rest → header_fault all ≡ None
+header_fault-begins all o u ps rest begins = ap header_fault begins.parts ∙ header_fault-header_of o u begins.unused _ begins.unused_length
+
+-- readings of any length
+pub same_capture : (all : List ℕ) (u v : unit.Unit) (ps qs : List Packet) → IsCapture all u ps → IsCapture all v qs → (u ≡ v) × (ps ≡ qs)
+same_capture all u v ps qs (o, first) (p, second) =
+    let same = same_reading (length ps + length qs) (length (records_of o ps) + length (records_of p qs)) all o p u v ps qs [] [] first second
+      (record { count = omega arith; size = omega arith; stops = stops_end o _ _ }) (record { count = omega arith; size = omega arith; stops = stops_end p _ _ }) in
+    (same.1, same.2)
+
+pub capture_is_faultless : (all : List ℕ) (u : unit.Unit) (ps : List Packet) (fault : CaptureFault) → IsCapture all u ps → IsFaultOf all fault → ⊥
+capture_is_faultless all u ps fault (o, first) (inl faulty) = let none = header_fault-begins all o u ps [] first in cc
+capture_is_faultless all u ps fault (o, first) (inr f) =
+    let same = same_reading (length ps + length f.before) (length (records_of o ps) + length (records_of f.order f.before)) all o f.order u f.unit_is ps f.before [] f.rest first f.begins
+      (record { count = omega arith; size = omega arith; stops = stops_end o _ _ }) (record { count = omega arith; size = omega arith; stops = stops_fault f.order _ _ f.rest fault.cause f.faulty }) in
+    omega (arith, f.some, ap length same.3)
+
+same_fault : (f g : CaptureFault) → f.offset ≡ g.offset → f.cause ≡ g.cause → f ≡ g
+same_fault f g offset cause =
+    let made : ◌≡◌ {A = CaptureFault} (record { offset = f.offset; cause = f.cause }) (record { offset = g.offset; cause = g.cause }) = rw (offset, cause) refl in
+    made
+
+pub one_fault : (all : List ℕ) (f g : CaptureFault) → IsFaultOf all f → IsFaultOf all g → f ≡ g
+one_fault all f g (inl first) (inl second) = cc
+one_fault all f g (inl first) (inr second) = let none = header_fault-begins all second.order second.unit_is second.before second.rest second.begins in cc
+one_fault all f g (inr first) (inl second) = let none = header_fault-begins all first.order first.unit_is first.before first.rest first.begins in cc
+one_fault all f g (inr a) (inr b) =
+    let same = same_reading (length a.before + length b.before) (length (records_of a.order a.before) + length (records_of b.order b.before)) all a.order b.order a.unit_is b.unit_is a.before b.before a.rest b.rest a.begins b.begins
+      (record { count = omega arith; size = omega arith; stops = stops_fault a.order _ _ a.rest f.cause a.faulty }) (record { count = omega arith; size = omega arith; stops = stops_fault b.order _ _ b.rest g.cause b.faulty }) in
+    let causes : ◌≡◌ {A = _} (Some f.cause) (Some g.cause) = sym a.faulty ∙ rw (same.0, same.3) b.faulty in
+    let offsets : f.offset ≡ g.offset = a.place ∙ rw (same.0, same.2) (sym b.place) in
+    same_fault f g offsets cc
