@@ -1,6 +1,6 @@
 ghost use Rattle.std.specs.Prelude.{◌≡◌, ◌≤◌, IsTrue};
 ghost use Rattle.world_io.specs.Stream.{Rose};
-ghost use Rattle.pcap_io.specs.Captured.{Says, TakesCapture};
+ghost use Rattle.pcap_io.specs.Captured.{Says, TakesCapture, EndsAt};
 
 use crate::{CaptureFault, Next, Reader, Started};
 use plain_text::{Limit, Packets, Unit};
@@ -25,37 +25,34 @@ pub enum Captured {
 pub fn read_capture<S: Source>(alloc: Global, source: &mut S) -> Captured
     ensures told { IsTrue S.tells → Says (S.left source.old) result }
     ensures taken { TakesCapture S.reads result source.old source.new }
+    ensures whole { IsTrue S.tells → EndsAt result (S.left source.new) }
     ensures later { S.faults source.old ≤ S.faults source.new }
     ensures cause { result ≡ Captured.ReadFault → Rose (S.faults source.old) (S.faults source.new) }
 {
-    let reader = match Reader::start(source) {
+    let mut reader = match Reader::start(source) {
         Started::Reader(reader) => reader,
         Started::Refused(fault) => return Captured::Refused(fault),
         Started::ReadFault => return Captured::ReadFault,
         Started::NoMemory => return Captured::NoMemory,
     };
-    read_packets(alloc, reader, source)
-}
-
-/// Reads the packets of a capture to its end.
-fn read_packets<S: Source>(alloc: Global, mut reader: Reader, source: &mut S) -> Captured {
     let mut packets = Packets::new(alloc);
-    loop {
+    'records: loop {
         match reader.next_packet(alloc, source) {
             Next::Packet(packet) => {
                 if packets.push(packet).is_err() {
                     return Captured::NoMemory;
                 }
             }
-            Next::End => {
-                let unit = reader.unit();
-                return Captured::Capture { unit, packets };
-            }
+            Next::End => break 'records,
             Next::Refused(fault) => return Captured::Refused(fault),
             Next::TooLarge(limit) => return Captured::TooLarge(limit),
             Next::ReadFault => return Captured::ReadFault,
             Next::NoMemory => return Captured::NoMemory,
             Next::Over => unreachable!(),
         }
+    }
+    Captured::Capture {
+        unit: reader.unit(),
+        packets,
     }
 }

@@ -5,6 +5,7 @@ mod capture;
 mod fault;
 mod front;
 mod header;
+pub mod laws;
 mod next;
 mod order;
 mod reader;
