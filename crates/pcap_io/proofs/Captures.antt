@@ -62,15 +62,6 @@ stands_on r further ps qs p stands further_is qs_is given =
       running = stands.running;
     })
 
-module _ {S : Type 0} (reads : S → List ℕ → S → Type 0) (reads_more : (a b c : S) (front more : List ℕ) → reads a front b → reads b more c → reads a (front ++ more) c) (old now new : S) where
-  pub has_read_on : (r further : Reading) (ps qs : List Packet) (p : Packet) → HasRead reads old now r.order r.unit ps → further ≡ after r (next.Packet p) → qs ≡ ps ++ p ∷ []
-      → reads now (record_of r.order p) new → HasRead reads old new further.order further.unit qs
-  has_read_on r further ps qs p has further_is qs_is more =
-      let Taken : List ℕ → Type 0 = λ taken. reads old taken new in
-      let parts = append_assoc (header_of r.order r.unit has.unused) (records_of r.order ps) (record_of r.order p)
-      ∙ ap (λ records. header_of r.order r.unit has.unused ++ records) (sym (records_of-push r.order ps p)) in
-      rw (further_is, qs_is) (record { unused = has.unused; unused_length = has.unused_length; taken = subst Taken parts (reads_more old now new _ _ has.taken more) })
-
 -- where the bytes are told
 module _ (r : Reading) (ps : List Packet) (all left : List ℕ) (stands : StandsAt r ps) (begins : Begins all r.order r.unit ps left) where
   pub refused_says : (fault : CaptureFault) → AnswersAt r left (next.Refused fault) → Says all (Refused fault)
@@ -94,3 +85,21 @@ pub begins_read : (o : Order) (u : unit.Unit) (ps : List Packet) (unused all lef
     → all ≡ (header_of o u unused ++ records_of o ps) ++ left → Begins all o u ps left
 begins_read o u ps unused all left twelve each parts =
     record { unused = unused; unused_length = twelve; parts = parts ∙ append_assoc (header_of o u unused) (records_of o ps) left; each = each }
+
+module _ {S : Type 0} (reads : S → List ℕ → S → Type 0) (reads_more : (a b c : S) (front more : List ℕ) → reads a front b → reads b more c → reads a (front ++ more) c) (old now new : S) where
+  pub has_read_on : (r further : Reading) (ps qs : List Packet) (p : Packet) → HasRead reads old now r.order r.unit ps → further ≡ after r (next.Packet p) → qs ≡ ps ++ p ∷ []
+      → reads now (record_of r.order p) new → HasRead reads old new further.order further.unit qs
+  has_read_on r further ps qs p has further_is qs_is more =
+      let Taken : List ℕ → Type 0 = λ taken. reads old taken new in
+      let parts = append_assoc (header_of r.order r.unit has.unused) (records_of r.order ps) (record_of r.order p)
+      ∙ ap (λ records. header_of r.order r.unit has.unused ++ records) (sym (records_of-push r.order ps p)) in
+      rw (further_is, qs_is) (record { unused = has.unused; unused_length = has.unused_length; taken = subst Taken parts (reads_more old now new _ _ has.taken more) })
+
+  -- all that was taken
+  pub taken_more : (o : Order) (u : unit.Unit) (ps : List Packet) → HasRead reads old now o u ps → (more : List ℕ) × reads now more new → (taken : List ℕ) × reads old taken new
+  taken_more o u ps has more = (_, reads_more old now new _ _ has.taken more.1)
+
+  pub taken_capture : (r : Reading) (ps : List Packet) → StandsAt r ps → HasRead reads old now r.order r.unit ps → reads now [] new
+      → (bytes : List ℕ) × reads old bytes new × IsCaptureWithin bytes r.unit ps
+  taken_capture r ps stands has nothing =
+      (_, reads_more old now new _ _ has.taken nothing, begun_capture r ps _ [] stands (begins_read r.order r.unit ps has.unused _ [] has.unused_length stands.each refl) refl)

@@ -39,9 +39,9 @@ pub fn read_capture<S: Source>(alloc: Global, source: &mut S) -> Captured
     'records: loop {
         match reader.next_packet(alloc, source) {
             Next::Packet(packet) => {
-                if packets.push(packet).is_err() {
+                let Ok(()) = packets.push(packet) else {
                     return Captured::NoMemory;
-                }
+                };
             }
             Next::End => break 'records,
             Next::Refused(fault) => return Captured::Refused(fault),
