@@ -1,11 +1,11 @@
 -- A capture that is read packet by packet.
-use Rattle.std.proofs.Common.{◌≡◌, ℕ, ◌+◌, ◌<◌, ◌≤◌, Bool, false, List, [], ◌∷◌, ◌++◌, length, refl, sym, ap, subst, ◌∙◌, arith, append_assoc, length-append, inr}
+use Rattle.std.proofs.Common.{◌≡◌, ℕ, ◌+◌, ◌<◌, ◌≤◌, false, List, [], ◌∷◌, ◌++◌, length, refl, sym, ap, subst, ◌∙◌, arith, append_assoc, length-append, inr}
 use Rattle.std.proofs.lemmas.Bool.Decides.{nat_tests}
 use Rattle.std.proofs.lemmas.List.{append-nil, length_push}
 use Rattle.plain_text.specs.declared.limit.Limit.{Limit}
 use Rattle.plain_text.specs.declared.packet.Packet.{Packet}
-use Rattle.plain_text.specs.declared.packet.Unit as unit
-use Rattle.pcap_io.specs.declared.capture.Captured.TheVariants.{Capture, Refused, TooLarge}
+use Rattle.plain_text.specs.declared.packet.Unit.{Unit as TimeUnit}
+use Rattle.pcap_io.specs.declared.capture.Captured.TheVariants.{Refused, TooLarge}
 use Rattle.pcap_io.specs.declared.fault.CaptureFault.{CaptureFault}
 use Rattle.pcap_io.specs.declared.next.Next.TheVariants as next
 use Rattle.pcap_io.specs.declared.order.Order.{Order}
@@ -28,7 +28,7 @@ pub record StandsAt (r : Reading) (packets : List Packet) : Type 0 where
   pub running : r.over ≡ false
 
 -- a header and the records of these packets were taken
-pub record HasRead {S : Type 0} (reads : S → List ℕ → S → Type 0) (old new : S) (o : Order) (u : unit.Unit) (packets : List Packet) : Type 0 where
+pub record HasRead {S : Type 0} (reads : S → List ℕ → S → Type 0) (old new : S) (o : Order) (u : TimeUnit) (packets : List Packet) : Type 0 where
   pub unused : List ℕ
   pub unused_length : length unused ≡ 12
   pub taken : reads old (header_of o u unused ++ records_of o packets) new
@@ -66,13 +66,13 @@ stands_on r further ps qs p stands further_is qs_is given =
 module _ (r : Reading) (ps : List Packet) (all left : List ℕ) (stands : StandsAt r ps) (begins : Begins all r.order r.unit ps left) where
   pub refused_says : (fault : CaptureFault) → AnswersAt r left (next.Refused fault) → Says all (Refused fault)
   refused_says fault answer = (
-    inr (record { order = r.order; unit_is = r.unit; before = ps; rest = left; begins = begins; some = answer.0; faulty = answer.1; place = answer.3 ∙ stands.offset }),
+    inr (record { order = r.order; unit = r.unit; before = ps; rest = left; begins = begins; some = answer.0; faulty = answer.1; place = answer.3 ∙ stands.offset }),
     λ limit passes. fault_passes_none all r.order r.unit ps left fault.cause limit begins stands.within answer.1 (rw (← stands.count, ← stands.offset) answer.2) passes,
   )
 
   pub too_large_says : (limit : Limit) → AnswersAt r left (next.TooLarge limit) → Says all (TooLarge limit)
   too_large_says limit answer =
-      record { order = r.order; unit_is = r.unit; before = ps; rest = left; begins = begins; within = stands.within; cut = rw (← stands.count, ← stands.offset) answer.0; passed = answer.1 ∙ ap limit_at stands.count }
+      record { order = r.order; unit = r.unit; before = ps; rest = left; begins = begins; within = stands.within; cut = rw (← stands.count, ← stands.offset) answer.0; passed = answer.1 ∙ ap limit_at stands.count }
 
   pub begun_capture : left ≡ [] → IsCaptureWithin all r.unit ps
   begun_capture none =
@@ -81,7 +81,7 @@ module _ (r : Reading) (ps : List Packet) (all left : List ℕ) (stands : Stands
       let records = length-append (records_of r.order ps) left in
       record { capture = (r.order, rw none at begins); count = stands.within.0; size = omega (arith, ap length begins.parts, ap length none, stands.within.1) }
 
-pub begins_read : (o : Order) (u : unit.Unit) (ps : List Packet) (unused all left : List ℕ) → length unused ≡ 12 → AreRecorded ps
+pub begins_read : (o : Order) (u : TimeUnit) (ps : List Packet) (unused all left : List ℕ) → length unused ≡ 12 → AreRecorded ps
     → all ≡ (header_of o u unused ++ records_of o ps) ++ left → Begins all o u ps left
 begins_read o u ps unused all left twelve each parts =
     record { unused = unused; unused_length = twelve; parts = parts ∙ append_assoc (header_of o u unused) (records_of o ps) left; each = each }
@@ -96,7 +96,7 @@ module _ {S : Type 0} (reads : S → List ℕ → S → Type 0) (reads_more : (a
       rw (further_is, qs_is) (record { unused = has.unused; unused_length = has.unused_length; taken = subst Taken parts (reads_more old now new _ _ has.taken more) })
 
   -- all that was taken
-  pub taken_more : (o : Order) (u : unit.Unit) (ps : List Packet) → HasRead reads old now o u ps → (more : List ℕ) × reads now more new → (taken : List ℕ) × reads old taken new
+  pub taken_more : (o : Order) (u : TimeUnit) (ps : List Packet) → HasRead reads old now o u ps → (more : List ℕ) × reads now more new → (taken : List ℕ) × reads old taken new
   taken_more o u ps has more = (_, reads_more old now new _ _ has.taken more.1)
 
   pub taken_capture : (r : Reading) (ps : List Packet) → StandsAt r ps → HasRead reads old now r.order r.unit ps → reads now [] new

@@ -1,8 +1,8 @@
 -- What stands in a file header.
-use Rattle.std.proofs.Common.{◌≡◌, ℕ, ◌+◌, ◌<◌, ◌≤◌, List, ◌++◌, length, take, drop, Option, Some, None, true, ◌&&◌, ◌==◌, refl, sym, ap, ◌∙◌, arith, append_assoc, length-append, drop-drop, ◌-◌}
+use Rattle.std.proofs.Common.{◌≡◌, ℕ, ◌+◌, ◌≤◌, List, ◌++◌, length, take, drop, Option, Some, None, true, ◌&&◌, ◌==◌, refl, sym, ap, ◌∙◌, arith, append_assoc, length-append, drop-drop, ◌-◌}
 use Rattle.std.proofs.lemmas.List.{drop_at, take_all, take_rest, take-append-drop, length-drop, length-take}
 use Rattle.std.proofs.lemmas.Bool.{le-ltb}
-use Rattle.plain_text.specs.declared.packet.Unit as unit
+use Rattle.plain_text.specs.declared.packet.Unit.{Unit as TimeUnit}
 use Rattle.plain_text.specs.declared.packet.Unit.TheVariants.{Micro, Nano}
 use Rattle.pcap_io.specs.declared.order.Order.{Order}
 use Rattle.pcap_io.specs.declared.order.Order.TheVariants.{Little, Big}
@@ -10,20 +10,20 @@ use Rattle.pcap_io.specs.Capture.{spelled, number, magic, header_of}
 use Rattle.pcap_io.specs.Faults.{form_of, later_fault, header_fault}
 use Rattle.pcap_io.proofs.Spelled.{IsBytes, IsBytes-drop, length-spelled, number-spelled, number-append, number-drop, spelled_2, spelled_4}
 
-pub form_of-header_of : (o : Order) (u : unit.Unit) (unused more : List ℕ) → form_of (header_of o u unused ++ more) ≡ Some (o, u)
+pub form_of-header_of : (o : Order) (u : TimeUnit) (unused more : List ℕ) → form_of (header_of o u unused ++ more) ≡ Some (o, u)
 form_of-header_of Little Micro unused more = refl
 form_of-header_of Little Nano unused more = refl
 form_of-header_of Big Micro unused more = refl
 form_of-header_of Big Nano unused more = refl
 
-version : (o : Order) (u : unit.Unit) (unused more : List ℕ)
+version : (o : Order) (u : TimeUnit) (unused more : List ℕ)
     → (number o 2 (drop 4 (header_of o u unused ++ more)) == 2) && (number o 2 (drop 6 (header_of o u unused ++ more)) == 4) ≡ true
 version Little Micro unused more = refl
 version Little Nano unused more = refl
 version Big Micro unused more = refl
 version Big Nano unused more = refl
 
-module _ (o : Order) (u : unit.Unit) (unused more : List ℕ) (twelve : length unused ≡ 12) where
+module _ (o : Order) (u : TimeUnit) (unused more : List ℕ) (twelve : length unused ≡ 12) where
   pub length-header_of : length (header_of o u unused) ≡ 24
   length-header_of = simp (length-append, length-spelled) (omega (arith, twelve))
 
@@ -44,12 +44,12 @@ module _ (o : Order) (u : unit.Unit) (unused more : List ℕ) (twelve : length u
       rw (le-ltb (length (header_of o u unused ++ more)) 24 (omega arith), form_of-header_of o u unused more, version o u unused more, link_type) refl
 
 -- bytes begin with at most one header
-pub same_header : (o p : Order) (u v : unit.Unit) (unused other x y : List ℕ) → length unused ≡ 12 → length other ≡ 12
+pub same_header : (o p : Order) (u v : TimeUnit) (unused other x y : List ℕ) → length unused ≡ 12 → length other ≡ 12
     → header_of o u unused ++ x ≡ header_of p v other ++ y → (o ≡ p) × (u ≡ v) × (x ≡ y)
 same_header o p u v unused other x y twelve twelve' same =
-    let forms : ◌≡◌ {A = Option (Order × unit.Unit)} (Some (o, u)) (Some (p, v)) = sym (form_of-header_of o u unused x) ∙ ap form_of same ∙ form_of-header_of p v other y in
-    let form : ◌≡◌ {A = Order × unit.Unit} (o, u) (p, v) = cc in
-    (ap (λ (f : Order × unit.Unit). f.0) form, ap (λ (f : Order × unit.Unit). f.1) form, sym (drop-header_of o u unused x twelve) ∙ ap (drop 24) same ∙ drop-header_of p v other y twelve')
+    let forms : ◌≡◌ {A = Option (Order × TimeUnit)} (Some (o, u)) (Some (p, v)) = sym (form_of-header_of o u unused x) ∙ ap form_of same ∙ form_of-header_of p v other y in
+    let form : ◌≡◌ {A = Order × TimeUnit} (o, u) (p, v) = cc in
+    (ap (λ (f : Order × TimeUnit). f.0) form, ap (λ (f : Order × TimeUnit). f.1) form, sym (drop-header_of o u unused x twelve) ∙ ap (drop 24) same ∙ drop-header_of p v other y twelve')
 
 -- a header's bytes, cut at its parts
 header_parts : (head : List ℕ) → length head ≡ 24
@@ -64,7 +64,7 @@ header_parts head long =
     (take-append-drop 4 head)
 
 -- a header's numbers, read from its slices, make a header
-pub spelled_header : (o : Order) (u : unit.Unit) (head : List ℕ) (major minor link : ℕ) → length head ≡ 24 → IsBytes head → number o 4 head ≡ magic u
+pub spelled_header : (o : Order) (u : TimeUnit) (head : List ℕ) (major minor link : ℕ) → length head ≡ 24 → IsBytes head → number o 4 head ≡ magic u
     → major ≡ number o 2 (take (length head - 4) (drop 4 head)) → major ≡ 2 → minor ≡ number o 2 (take (length head - 6) (drop 6 head)) → minor ≡ 4
     → link ≡ number o 4 (take (length head - 20) (drop 20 head)) → link ≡ 1
     → (unused : List ℕ) × (length unused ≡ 12) × (head ≡ header_of o u unused)
@@ -76,7 +76,7 @@ spelled_header o u head major minor link long bytes magic_is major_is is_2 minor
         ap (spelled o 4) (sym is_1 ∙ link_is ∙ ap (number o 4) (take_rest head 20)) ∙ spelled_4 o (drop 20 head) (omega (arith, length-drop 20 head)) (IsBytes-drop 20 head bytes) in
     (take 12 (drop 8 head), omega (arith, length-take 12 (drop 8 head), length-drop 8 head), sym (rw (m, two 4 (omega arith) major 2 major_is is_2, two 6 (omega arith) minor 4 minor_is is_4, l) (header_parts head long)))
 
-later_fault-append : (form : Option (Order × unit.Unit)) (head more : List ℕ) → length head ≡ 24 → later_fault form (head ++ more) ≡ later_fault form head
+later_fault-append : (form : Option (Order × TimeUnit)) (head more : List ℕ) → length head ≡ 24 → later_fault form (head ++ more) ≡ later_fault form head
 later_fault-append None head more long = refl
 later_fault-append (Some form) head more long =
     rw (number-drop form.0 2 4 head more (omega arith), number-drop form.0 2 6 head more (omega arith), number-drop form.0 4 20 head more (omega arith)) refl
@@ -96,5 +96,5 @@ module _ (had : ℕ) (head left rest : List ℕ) (long : length head ≡ 24) (wh
   pub header_fault-taken : header_fault left ≡ header_fault head
   header_fault-taken = ap header_fault behind ∙ header_fault-append head rest long
 
-  pub header_fault-whole : (o : Order) (u : unit.Unit) (unused : List ℕ) → length unused ≡ 12 → head ≡ header_of o u unused → header_fault left ≡ None
+  pub header_fault-whole : (o : Order) (u : TimeUnit) (unused : List ℕ) → length unused ≡ 12 → head ≡ header_of o u unused → header_fault left ≡ None
   header_fault-whole o u unused twelve is = ap header_fault (behind ∙ ap (λ l. l ++ rest) is) ∙ header_fault-header_of o u unused rest twelve

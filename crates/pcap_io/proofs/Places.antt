@@ -1,12 +1,9 @@
 -- Two readings of the same bytes stop at the same place.
-use Rattle.std.proofs.Common.{◌≡◌, ℕ, ◌+◌, ◌-◌, ◌<◌, ◌≤◌, List, [], ◌∷◌, ◌++◌, length, take, drop, Some, None, refl, sym, ap, subst, ◌∙◌, arith, append_assoc, length-append}
-use Rattle.std.proofs.lemmas.List.{append_cancel_left}
+use Rattle.std.proofs.Common.{◌≡◌, ℕ, ◌-◌, ◌<◌, ◌≤◌, List, [], ◌∷◌, ◌++◌, length, refl, sym, ap, ◌∙◌, arith, append_assoc, length-append}
 use Rattle.plain_text.specs.declared.packet.Packet.{Packet}
 use Rattle.pcap_io.specs.declared.order.Order.{Order}
-use Rattle.pcap_io.specs.declared.fault.CaptureCause.{CaptureCause}
 use Rattle.pcap_io.specs.Capture.{record_of, records_of, IsRecorded, AreRecorded}
-use Rattle.pcap_io.specs.Faults.{record_fault}
-use Rattle.pcap_io.proofs.Records.{same_record, record_fault-record_of, length-record_of}
+use Rattle.pcap_io.proofs.Records.{same_record}
 
 -- no record of at most so many bytes stands here, where at most so many may follow
 abbrev pub Stops : Order → ℕ → ℕ → List ℕ → Type 0

@@ -1,11 +1,9 @@
 -- What stands in a record.
-use Rattle.std.proofs.Common.{◌≡◌, ℕ, ◌+◌, ◌-◌, ◌^◌, ◌<◌, ◌≤◌, List, [], ◌∷◌, ◌++◌, length, take, drop, Some, None, refl, sym, ap, subst, ◌∙◌, arith, append_assoc, length-append, drop-drop}
+use Rattle.std.proofs.Common.{◌≡◌, ℕ, ◌+◌, ◌-◌, ◌≤◌, List, ◌++◌, length, take, drop, None, refl, sym, ap, ◌∙◌, arith, append_assoc, length-append, drop-drop}
 use Rattle.std.proofs.lemmas.List.{take_at, take_all, take_rest, take-append-drop, drop_at, length-drop}
-use Rattle.std.proofs.lemmas.Bool.{le-ltb, lt-ltb}
+use Rattle.std.proofs.lemmas.Bool.{le-ltb}
 use Rattle.plain_text.specs.declared.packet.Packet.{Packet}
 use Rattle.pcap_io.specs.declared.order.Order.{Order}
-use Rattle.pcap_io.specs.declared.fault.CaptureCause.{CaptureCause}
-use Rattle.pcap_io.specs.declared.fault.CaptureCause.TheVariants.{ShortRecord, TooLong}
 use Rattle.pcap_io.specs.Capture.{spelled, number, record_of, IsRecorded}
 use Rattle.pcap_io.specs.Faults.{captured, record_fault}
 use Rattle.pcap_io.proofs.Spelled.{IsBytes, IsBytes-drop, spelled_4, length-spelled, number-spelled, drop-spelled}

@@ -1,5 +1,5 @@
 -- A record is taken in two parts, its header and what follows.
-use Rattle.std.proofs.Common.{◌≡◌, ℕ, List, ◌++◌, sym, subst}
+use Rattle.std.proofs.Common.{ℕ, List, ◌++◌, sym, subst}
 use Rattle.pcap_io.specs.declared.order.Order.{Order}
 use Rattle.pcap_io.specs.declared.next.Next.{Next}
 use Rattle.pcap_io.specs.declared.next.Next.TheVariants as next

@@ -1,22 +1,21 @@
 -- Bytes have one verdict: a capture, a fault, or a limit that is passed.
-use Rattle.std.proofs.Common.{◌≡◌, ℕ, ◌+◌, ◌-◌, ◌<◌, ◌≤◌, List, [], ◌∷◌, ◌++◌, length, take, replicate, Some, None, refl, sym, ap, subst, ◌∙◌, arith, length-append, inl, inr}
+use Rattle.std.proofs.Common.{◌≡◌, ℕ, ◌+◌, ◌-◌, ◌<◌, ◌≤◌, List, [], ◌++◌, length, take, replicate, Some, None, refl, sym, ap, subst, ◌∙◌, arith, length-append, inl, inr}
 use Rattle.std.proofs.lemmas.Bool.Decides.{nat_tests}
 use Rattle.std.proofs.lemmas.List.{append-nil}
 use Rattle.std.proofs.Math.Seq.{take-append-add}
 use Rattle.pcap_io.specs.declared.order.Order.TheVariants.{Little}
 use Rattle.plain_text.specs.declared.limit.Limit.{Limit}
 use Rattle.plain_text.specs.declared.packet.Packet.{Packet}
-use Rattle.plain_text.specs.declared.packet.Unit as unit
+use Rattle.plain_text.specs.declared.packet.Unit.{Unit as TimeUnit}
 use Rattle.pcap_io.specs.declared.order.Order.{Order}
 use Rattle.pcap_io.specs.declared.fault.CaptureCause.{CaptureCause}
-use Rattle.pcap_io.specs.declared.fault.CaptureCause.TheVariants.{ShortRecord}
 use Rattle.pcap_io.specs.declared.fault.CaptureFault.{CaptureFault}
 use Rattle.pcap_io.specs.declared.capture.Captured.{Captured}
 use Rattle.pcap_io.specs.declared.capture.Captured.TheVariants.{Capture, Refused, TooLarge, ReadFault, NoMemory}
 use Rattle.pcap_io.specs.Captured.{Says, IsDecided}
 use Rattle.pcap_io.specs.Capture.{spelled, record_of, records_of, header_of, written, AreRecorded, Begins, IsCapture}
-use Rattle.pcap_io.specs.Faults.{header_fault, record_fault, offset_after, IsRecordFault, IsFaultOf}
-use Rattle.pcap_io.specs.Limits.{IsCut, room_at, limit_at, IsWithinLimits, PassesLimit}
+use Rattle.pcap_io.specs.Faults.{header_fault, record_fault, offset_after, IsFaultOf}
+use Rattle.pcap_io.specs.Limits.{IsCut, room_at, IsWithinLimits, PassesLimit}
 use Rattle.pcap_io.proofs.Headers.{same_header, header_fault-header_of, length-header_of}
 use Rattle.pcap_io.proofs.Places.{Stops, same_place}
 use Rattle.pcap_io.proofs.Records.{record_fault-record_of, length-record_of}
@@ -50,7 +49,7 @@ pub record Reads (packets bytes : ℕ) (o : Order) (ps : List Packet) (rest : Li
   pub stops : Stops o (packets - length ps) (bytes - length (records_of o ps)) rest
 
 -- two readings of the same bytes are one
-same_reading : (packets bytes : ℕ) (all : List ℕ) (o p : Order) (u v : unit.Unit) (ps qs : List Packet) (x y : List ℕ)
+same_reading : (packets bytes : ℕ) (all : List ℕ) (o p : Order) (u v : TimeUnit) (ps qs : List Packet) (x y : List ℕ)
     → Begins all o u ps x → Begins all p v qs y → Reads packets bytes o ps x → Reads packets bytes p qs y
     → (o ≡ p) × (u ≡ v) × (ps ≡ qs) × (x ≡ y)
 same_reading packets bytes all o p u v ps qs x y first second of_ps of_qs =
@@ -61,25 +60,25 @@ same_reading packets bytes all o p u v ps qs x y first second of_ps of_qs =
     (heads.0, heads.1, rest.0, rest.1)
 
 -- a header that was begun with has no fault
-pub header_fault-begins : (all : List ℕ) (o : Order) (u : unit.Unit) (ps : List Packet) (rest : List ℕ) → Begins all o u ps rest → header_fault all ≡ None
+pub header_fault-begins : (all : List ℕ) (o : Order) (u : TimeUnit) (ps : List Packet) (rest : List ℕ) → Begins all o u ps rest → header_fault all ≡ None
 header_fault-begins all o u ps rest begins = ap header_fault begins.parts ∙ header_fault-header_of o u begins.unused _ begins.unused_length
 
 -- the written form is a capture of what was written
-pub written_is_capture : (u : unit.Unit) (ps : List Packet) → AreRecorded ps → IsCapture (written u ps) u ps
+pub written_is_capture : (u : TimeUnit) (ps : List Packet) → AreRecorded ps → IsCapture (written u ps) u ps
 written_is_capture u ps each =
     let unused = replicate 8 0 ++ spelled Little 4 262144 in
     (Little, record { unused = unused; unused_length = refl; parts = ap (λ records. header_of Little u unused ++ records) (sym (append-nil (records_of Little ps))); each = each })
 
-pub same_capture : (all : List ℕ) (u v : unit.Unit) (ps qs : List Packet) → IsCapture all u ps → IsCapture all v qs → (u ≡ v) × (ps ≡ qs)
+pub same_capture : (all : List ℕ) (u v : TimeUnit) (ps qs : List Packet) → IsCapture all u ps → IsCapture all v qs → (u ≡ v) × (ps ≡ qs)
 same_capture all u v ps qs (o, first) (p, second) =
     let same = same_reading (length ps + length qs) (length (records_of o ps) + length (records_of p qs)) all o p u v ps qs [] [] first second
       (record { count = omega arith; size = omega arith; stops = stops_end o _ _ }) (record { count = omega arith; size = omega arith; stops = stops_end p _ _ }) in
     (same.1, same.2)
 
-pub capture_is_faultless : (all : List ℕ) (u : unit.Unit) (ps : List Packet) (fault : CaptureFault) → IsCapture all u ps → IsFaultOf all fault → ⊥
+pub capture_is_faultless : (all : List ℕ) (u : TimeUnit) (ps : List Packet) (fault : CaptureFault) → IsCapture all u ps → IsFaultOf all fault → ⊥
 capture_is_faultless all u ps fault (o, first) (inl faulty) = let none = header_fault-begins all o u ps [] first in cc
 capture_is_faultless all u ps fault (o, first) (inr f) =
-    let same = same_reading (length ps + length f.before) (length (records_of o ps) + length (records_of f.order f.before)) all o f.order u f.unit_is ps f.before [] f.rest first f.begins
+    let same = same_reading (length ps + length f.before) (length (records_of o ps) + length (records_of f.order f.before)) all o f.order u f.unit ps f.before [] f.rest first f.begins
       (record { count = omega arith; size = omega arith; stops = stops_end o _ _ }) (record { count = omega arith; size = omega arith; stops = stops_fault f.order _ _ f.rest fault.cause f.faulty }) in
     omega (arith, f.some, ap length same.3)
 
@@ -90,10 +89,10 @@ same_fault f g offset cause =
 
 pub one_fault : (all : List ℕ) (f g : CaptureFault) → IsFaultOf all f → IsFaultOf all g → f ≡ g
 one_fault all f g (inl first) (inl second) = cc
-one_fault all f g (inl first) (inr second) = let none = header_fault-begins all second.order second.unit_is second.before second.rest second.begins in cc
-one_fault all f g (inr first) (inl second) = let none = header_fault-begins all first.order first.unit_is first.before first.rest first.begins in cc
+one_fault all f g (inl first) (inr second) = let none = header_fault-begins all second.order second.unit second.before second.rest second.begins in cc
+one_fault all f g (inr first) (inl second) = let none = header_fault-begins all first.order first.unit first.before first.rest first.begins in cc
 one_fault all f g (inr a) (inr b) =
-    let same = same_reading (length a.before + length b.before) (length (records_of a.order a.before) + length (records_of b.order b.before)) all a.order b.order a.unit_is b.unit_is a.before b.before a.rest b.rest a.begins b.begins
+    let same = same_reading (length a.before + length b.before) (length (records_of a.order a.before) + length (records_of b.order b.before)) all a.order b.order a.unit b.unit a.before b.before a.rest b.rest a.begins b.begins
       (record { count = omega arith; size = omega arith; stops = stops_fault a.order _ _ a.rest f.cause a.faulty }) (record { count = omega arith; size = omega arith; stops = stops_fault b.order _ _ b.rest g.cause b.faulty }) in
     let causes : ◌≡◌ {A = _} (Some f.cause) (Some g.cause) = sym a.faulty ∙ rw (same.0, same.3) b.faulty in
     let offsets : f.offset ≡ g.offset = a.place ∙ rw (same.0, same.2) (sym b.place) in
@@ -116,30 +115,30 @@ limited_passes all limit l =
 
 pub one_limit : (all : List ℕ) (l m : Limit) → PassesLimit all l → PassesLimit all m → l ≡ m
 one_limit all l m a b =
-    let same = same_reading 65536 67108840 all a.order b.order a.unit_is b.unit_is a.before b.before a.rest b.rest a.begins b.begins (limited_passes all l a) (limited_passes all m b) in
+    let same = same_reading 65536 67108840 all a.order b.order a.unit b.unit a.before b.before a.rest b.rest a.begins b.begins (limited_passes all l a) (limited_passes all m b) in
     a.passed ∙ rw same.2 (sym b.passed)
 
 -- a capture within the limits passes none
-pub within_passes_none : (all : List ℕ) (u : unit.Unit) (ps : List Packet) (limit : Limit) → IsCapture all u ps → length ps ≤ 65536 → length all ≤ 67108864 → PassesLimit all limit → ⊥
+pub within_passes_none : (all : List ℕ) (u : TimeUnit) (ps : List Packet) (limit : Limit) → IsCapture all u ps → length ps ≤ 65536 → length all ≤ 67108864 → PassesLimit all limit → ⊥
 within_passes_none all u ps limit (o, first) count size l =
     let header = length-header_of o u first.unused [] first.unused_length in
     let records = length-append (records_of o ps) [] in
     let total = length-append (header_of o u first.unused) (records_of o ps ++ []) in
     let whole : offset_after o ps ≤ 67108864 = omega (arith, ap length first.parts) in
-    let same = same_reading 65536 67108840 all o l.order u l.unit_is ps l.before [] l.rest first l.begins (limited o ps [] (count, whole) (stops_end o _ _)) (limited_passes all limit l) in
+    let same = same_reading 65536 67108840 all o l.order u l.unit ps l.before [] l.rest first l.begins (limited o ps [] (count, whole) (stops_end o _ _)) (limited_passes all limit l) in
     omega (arith, l.cut.0, ap length same.3)
 
 -- where a record is faulty within its room, no limit is passed
-pub fault_passes_none : (all : List ℕ) (o : Order) (u : unit.Unit) (ps : List Packet) (rest : List ℕ) (cause : CaptureCause) (limit : Limit)
+pub fault_passes_none : (all : List ℕ) (o : Order) (u : TimeUnit) (ps : List Packet) (rest : List ℕ) (cause : CaptureCause) (limit : Limit)
     → Begins all o u ps rest → IsWithinLimits o ps → record_fault o rest ≡ Some cause
     → (IsCut o (room_at (length ps) (offset_after o ps)) rest → ⊥) → PassesLimit all limit → ⊥
 fault_passes_none all o u ps rest cause limit begins within faulty uncut l =
-    let same = same_reading 65536 67108840 all o l.order u l.unit_is ps l.before rest l.rest begins l.begins (limited o ps rest within (stops_fault o _ _ rest cause faulty)) (limited_passes all limit l) in
+    let same = same_reading 65536 67108840 all o l.order u l.unit ps l.before rest l.rest begins l.begins (limited o ps rest within (stops_fault o _ _ rest cause faulty)) (limited_passes all limit l) in
     uncut (rw (same.0, same.2, same.3) l.cut)
 
 -- where the header is faulty, no limit is passed
 pub header_passes_none : (all : List ℕ) (fault : CaptureFault) (limit : Limit) → header_fault all ≡ Some fault → PassesLimit all limit → ⊥
-header_passes_none all fault limit faulty l = let none = header_fault-begins all l.order l.unit_is l.before l.rest l.begins in cc
+header_passes_none all fault limit faulty l = let none = header_fault-begins all l.order l.unit l.before l.rest l.begins in cc
 
 pub one_answer : (all : List ℕ) (a b : Captured) → IsDecided a → IsDecided b → Says all a → Says all b → a ≡ b
 one_answer all (Capture u ps) (Capture v qs) da db sa sb = let same = same_capture all u v ps qs sa.capture sb.capture in rw (same.0, same.1) refl
@@ -155,3 +154,8 @@ one_answer all ReadFault b da db sa sb = absurd da
 one_answer all NoMemory b da db sa sb = absurd da
 one_answer all a ReadFault da db sa sb = absurd db
 one_answer all a NoMemory da db sa sb = absurd db
+
+pub written_is_read : (u : TimeUnit) (ps : List Packet) (answer : Captured) → AreRecorded ps → length ps ≤ 65536 → length (written u ps) ≤ 67108864
+    → IsDecided answer → Says (written u ps) answer → answer ≡ Capture u ps
+written_is_read u ps answer each count size decided says =
+    one_answer (written u ps) answer (Capture u ps) decided tt says (record { capture = written_is_capture u ps each; count = count; size = size })

@@ -2,7 +2,7 @@
 use Rattle.std.specs.Prelude.{◌≡◌, ℕ, ◌≤◌, List, [], length}
 use Rattle.plain_text.specs.declared.limit.Limit.{Limit}
 use Rattle.plain_text.specs.declared.packet.Packet.{Packet}
-use Rattle.plain_text.specs.declared.packet.Unit as unit
+use Rattle.plain_text.specs.declared.packet.Unit.{Unit as TimeUnit}
 use Rattle.pcap_io.specs.declared.capture.Captured.{Captured}
 use Rattle.pcap_io.specs.declared.capture.Captured.TheVariants.{Capture, Refused, TooLarge, ReadFault, NoMemory}
 use Rattle.pcap_io.specs.Capture.{IsCapture}
@@ -10,7 +10,7 @@ use Rattle.pcap_io.specs.Faults.{IsFaultOf}
 use Rattle.pcap_io.specs.Limits.{PassesLimit}
 
 -- the bytes are a capture of these packets, and within the limits
-pub record IsCaptureWithin (bytes : List ℕ) (u : unit.Unit) (packets : List Packet) : Type 0 where
+pub record IsCaptureWithin (bytes : List ℕ) (u : TimeUnit) (packets : List Packet) : Type 0 where
   pub capture : IsCapture bytes u packets
   pub count : length packets ≤ 65536
   pub size : length bytes ≤ 67108864

@@ -1,7 +1,7 @@
 -- Where bytes are no capture: the first place at which they leave the format, and why.
 use Rattle.std.specs.Prelude.{◌≡◌, ℕ, ◌+◌, ◌<◌, List, length, drop, ◌==◌, nat_lt, if◌then◌else◌, ◌&&◌, Option, Some, None, ◌⊎◌}
 use Rattle.plain_text.specs.declared.packet.Packet.{Packet}
-use Rattle.plain_text.specs.declared.packet.Unit as unit
+use Rattle.plain_text.specs.declared.packet.Unit.{Unit as TimeUnit}
 use Rattle.plain_text.specs.declared.packet.Unit.TheVariants.{Micro, Nano}
 use Rattle.pcap_io.specs.declared.order.Order.{Order}
 use Rattle.pcap_io.specs.declared.order.Order.TheVariants.{Little, Big}
@@ -14,7 +14,7 @@ abbrev pub fault_at : ℕ → CaptureCause → CaptureFault
 fault_at offset cause = record { offset = offset; cause = cause }
 
 -- the byte order and the unit that the magic at the front tells, if it is one
-abbrev pub form_of : List ℕ → Option (Order × unit.Unit)
+abbrev pub form_of : List ℕ → Option (Order × TimeUnit)
 form_of bytes =
     if number Little 4 bytes == magic Micro then Some (Little, Micro)
     else if number Little 4 bytes == magic Nano then Some (Little, Nano)
@@ -23,7 +23,7 @@ form_of bytes =
     else None
 
 -- the first test of the header's later numbers that fails
-abbrev pub later_fault : Option (Order × unit.Unit) → List ℕ → Option CaptureFault
+abbrev pub later_fault : Option (Order × TimeUnit) → List ℕ → Option CaptureFault
 later_fault None bytes = Some (fault_at 0 BadMagic)
 later_fault (Some form) bytes =
     if (number form.0 2 (drop 4 bytes) == 2) && (number form.0 2 (drop 6 bytes) == 4)
@@ -54,10 +54,10 @@ offset_after o packets = 24 + length (records_of o packets)
 -- whole records, and then at least one byte of one that is faulty
 pub record IsRecordFault (bytes : List ℕ) (fault : CaptureFault) : Type 0 where
   pub order : Order
-  pub unit_is : unit.Unit
+  pub unit : TimeUnit
   pub before : List Packet
   pub rest : List ℕ
-  pub begins : Begins bytes order unit_is before rest
+  pub begins : Begins bytes order unit before rest
   pub some : 0 < length rest
   pub faulty : record_fault order rest ≡ Some fault.cause
   pub place : fault.offset ≡ offset_after order before

@@ -1,7 +1,7 @@
 -- The limits of a capture: 65,536 packets and 67,108,864 bytes.
 use Rattle.std.specs.Prelude.{◌≡◌, ℕ, ◌-◌, ◌<◌, ◌≤◌, List, length, take, ◌==◌, if◌then◌else◌, Some}
 use Rattle.plain_text.specs.declared.packet.Packet.{Packet}
-use Rattle.plain_text.specs.declared.packet.Unit as unit
+use Rattle.plain_text.specs.declared.packet.Unit.{Unit as TimeUnit}
 use Rattle.plain_text.specs.declared.limit.Limit.{Limit}
 use Rattle.plain_text.specs.declared.limit.Limit.TheVariants.{File, Packets}
 use Rattle.pcap_io.specs.declared.order.Order.{Order}
@@ -28,10 +28,10 @@ IsWithinLimits o packets = (length packets ≤ 65536) × (offset_after o packets
 -- whole records within the limits, and then one that passes this limit
 pub record PassesLimit (bytes : List ℕ) (limit : Limit) : Type 0 where
   pub order : Order
-  pub unit_is : unit.Unit
+  pub unit : TimeUnit
   pub before : List Packet
   pub rest : List ℕ
-  pub begins : Begins bytes order unit_is before rest
+  pub begins : Begins bytes order unit before rest
   pub within : IsWithinLimits order before
   pub cut : IsCut order (room_at (length before) (offset_after order before)) rest
   pub passed : limit ≡ limit_at (length before)

@@ -1,5 +1,5 @@
 -- What reading a file header answers and takes.
-use Rattle.std.specs.Prelude.{◌≡◌, ℕ, Bool, false, List, ◌++◌, length, Some, None}
+use Rattle.std.specs.Prelude.{◌≡◌, ℕ, false, List, length, Some, None}
 use Rattle.pcap_io.specs.declared.started.Started.{Started}
 use Rattle.pcap_io.specs.declared.started.Started.TheVariants as started
 use Rattle.pcap_io.specs.Capture.{header_of}

@@ -1,4 +1,4 @@
-use Rattle.std.proofs.Common.{◌≡◌, ◌-◌, ◌≤◌, false, length}
+use Rattle.std.proofs.Common.{◌-◌, ◌≤◌}
 use Rattle.pcap_io.proofs.Captures.{HasRead, StandsAt}
 use Rattle.pcap_io.proofs.capture.read_capture.Given as goal
 

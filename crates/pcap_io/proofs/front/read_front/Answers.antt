@@ -1,6 +1,5 @@
-use Rattle.std.proofs.Common.{List, ℕ, ◌+◌, [], take, sym, subst, arith}
+use Rattle.std.proofs.Common.{List, ℕ, sym, subst, arith}
 use Rattle.std.proofs.lemmas.Grind.{common_steps}
-use Rattle.std.proofs.lemmas.List.{append-nil}
 use Rattle.pcap_io.proofs.Pieces.{take-put_mid_more, take-put_mid}
 use Rattle.pcap_io.proofs.front.read_front.Goals as goal
 

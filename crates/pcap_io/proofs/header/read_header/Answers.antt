@@ -1,4 +1,4 @@
-use Rattle.std.proofs.Common.{arith, sym, ◌∙◌}
+use Rattle.std.proofs.Common.{arith}
 use Rattle.pcap_io.proofs.Headers.{spelled_header}
 use Rattle.pcap_io.proofs.header.read_header.Goals as goal
 
