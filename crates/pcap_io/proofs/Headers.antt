@@ -59,8 +59,15 @@ header_parts head long =
     let fourth : take 12 (drop 8 head) ++ drop 20 head ≡ drop 8 head = ap (λ l. take 12 (drop 8 head) ++ l) (sym (drop-drop 12 8 head)) ∙ take-append-drop 12 (drop 8 head) in
     let third : take 2 (drop 6 head) ++ drop 8 head ≡ drop 6 head = ap (λ l. take 2 (drop 6 head) ++ l) (sym (drop-drop 2 6 head)) ∙ take-append-drop 2 (drop 6 head) in
     let second : take 2 (drop 4 head) ++ drop 6 head ≡ drop 4 head = ap (λ l. take 2 (drop 4 head) ++ l) (sym (drop-drop 2 4 head)) ∙ take-append-drop 2 (drop 4 head) in
-    rw (last, append_assoc ((take 4 head ++ take 2 (drop 4 head)) ++ take 2 (drop 6 head)) (take 12 (drop 8 head)) (drop 20 head), fourth,
-        append_assoc (take 4 head ++ take 2 (drop 4 head)) (take 2 (drop 6 head)) (drop 8 head), third, append_assoc (take 4 head) (take 2 (drop 4 head)) (drop 6 head), second)
+    rw (
+      last,
+      append_assoc ((take 4 head ++ take 2 (drop 4 head)) ++ take 2 (drop 6 head)) (take 12 (drop 8 head)) (drop 20 head),
+      fourth,
+      append_assoc (take 4 head ++ take 2 (drop 4 head)) (take 2 (drop 6 head)) (drop 8 head),
+      third,
+      append_assoc (take 4 head) (take 2 (drop 4 head)) (drop 6 head),
+      second,
+    )
     (take-append-drop 4 head)
 
 -- a header's numbers, read from its slices, make a header
@@ -71,9 +78,9 @@ pub spelled_header : (o : Order) (u : TimeUnit) (head : List ℕ) (major minor l
 spelled_header o u head major minor link long bytes magic_is major_is is_2 minor_is is_4 link_is is_1 =
     let m : spelled o 4 (magic u) ≡ take 4 head = ap (spelled o 4) (sym magic_is) ∙ spelled_4 o head (omega arith) bytes in
     let two : (k : ℕ) → k + 2 ≤ 24 → (n x : ℕ) → n ≡ number o 2 (take (length head - k) (drop k head)) → n ≡ x → spelled o 2 x ≡ take 2 (drop k head) =
-        λ k room n x is known. ap (spelled o 2) (sym known ∙ is ∙ ap (number o 2) (take_rest head k)) ∙ spelled_2 o (drop k head) (omega (arith, length-drop k head)) (IsBytes-drop k head bytes) in
+    λ k room n x is known. ap (spelled o 2) (sym known ∙ is ∙ ap (number o 2) (take_rest head k)) ∙ spelled_2 o (drop k head) (omega (arith, length-drop k head)) (IsBytes-drop k head bytes) in
     let l : spelled o 4 1 ≡ take 4 (drop 20 head) =
-        ap (spelled o 4) (sym is_1 ∙ link_is ∙ ap (number o 4) (take_rest head 20)) ∙ spelled_4 o (drop 20 head) (omega (arith, length-drop 20 head)) (IsBytes-drop 20 head bytes) in
+    ap (spelled o 4) (sym is_1 ∙ link_is ∙ ap (number o 4) (take_rest head 20)) ∙ spelled_4 o (drop 20 head) (omega (arith, length-drop 20 head)) (IsBytes-drop 20 head bytes) in
     (take 12 (drop 8 head), omega (arith, length-take 12 (drop 8 head), length-drop 8 head), sym (rw (m, two 4 (omega arith) major 2 major_is is_2, two 6 (omega arith) minor 4 minor_is is_4, l) (header_parts head long)))
 
 later_fault-append : (form : Option (Order × TimeUnit)) (head more : List ℕ) → length head ≡ 24 → later_fault form (head ++ more) ≡ later_fault form head

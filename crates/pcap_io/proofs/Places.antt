@@ -27,5 +27,5 @@ same_place o packets bytes (p ∷ ps) (q ∷ qs) x y of_ps of_qs ps_count qs_cou
     let front = same_record o p q _ _ of_ps.0 of_qs.0 (sym (append_assoc (record_of o p) (records_of o ps) x) ∙ same ∙ append_assoc (record_of o q) (records_of o qs) y) in
     let heads : length (record_of o p) ≡ length (record_of o q) = ap (λ r. length (record_of o r)) front.0 in
     let rest = same_place o (packets - 1) (bytes - length (record_of o p)) ps qs x y of_ps.1 of_qs.1 (omega arith) (omega arith) (omega arith) (omega arith)
-      (λ r more is at some fits. x_stops r more is at (omega arith) (omega arith)) (λ r more is at some fits. y_stops r more is at (omega arith) (omega arith)) front.1 in
+    (λ r more is at some fits. x_stops r more is at (omega arith) (omega arith)) (λ r more is at some fits. y_stops r more is at (omega arith) (omega arith)) front.1 in
     (cc, rest.1)

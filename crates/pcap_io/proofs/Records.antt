@@ -41,7 +41,7 @@ module _ (o : Order) (p : Packet) (more : List ℕ) where
         let fraction : number o 4 (drop 4 (record_of o p ++ more)) ≡ p.fraction = ap (number o 4) from_4 ∙ number-spelled o 4 p.fraction _ recorded.fraction in
         let original : number o 4 (drop 12 (record_of o p ++ more)) ≡ p.original = ap (number o 4) from_12 ∙ number-spelled o 4 p.original _ recorded.original in
         let bytes : take (captured o (record_of o p ++ more)) (drop 16 (record_of o p ++ more)) ≡ p.bytes =
-            ap (λ n. take n (drop 16 (record_of o p ++ more))) captured-record_of ∙ ap (take (length p.bytes)) from_16 ∙ take_at p.bytes more (length p.bytes) refl in
+        ap (λ n. take n (drop 16 (record_of o p ++ more))) captured-record_of ∙ ap (take (length p.bytes)) from_16 ∙ take_at p.bytes more (length p.bytes) refl in
         rw (seconds, fraction, original, bytes) refl
 
     pub rest-record_of : drop (16 + captured o (record_of o p ++ more)) (record_of o p ++ more) ≡ more
@@ -79,7 +79,7 @@ pub spelled_record : (o : Order) (head body out : List ℕ) (seconds fraction ca
     → record_of o (record { seconds = seconds; fraction = fraction; original = original; bytes = out }) ≡ head ++ body
 spelled_record o head body out seconds fraction cap original sixteen bytes seconds_is fraction_is cap_is original_is size_is out_is =
     let part : (k : ℕ) → k + 4 ≤ 16 → (n : ℕ) → n ≡ number o 4 (take (length head - k) (drop k head)) → spelled o 4 n ≡ take 4 (drop k head) =
-        λ k room n is. ap (spelled o 4) (is ∙ ap (number o 4) (take_rest head k)) ∙ spelled_4 o (drop k head) (omega (arith, length-drop k head)) (IsBytes-drop k head bytes) in
+    λ k room n is. ap (spelled o 4) (is ∙ ap (number o 4) (take_rest head k)) ∙ spelled_4 o (drop k head) (omega (arith, length-drop k head)) (IsBytes-drop k head bytes) in
     let first : spelled o 4 seconds ≡ take 4 head = ap (spelled o 4) seconds_is ∙ spelled_4 o head (omega arith) bytes in
     let size : length out ≡ cap = ap length out_is ∙ size_is in
     rw (first, part 4 (omega arith) fraction fraction_is, size, part 8 (omega arith) cap cap_is, part 12 (omega arith) original original_is, out_is, in_fours head sixteen) refl

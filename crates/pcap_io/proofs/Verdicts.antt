@@ -37,7 +37,7 @@ stops_cut o packets bytes room rest enough cut p more of_p is some fits =
     let size = length (record_of o p) in
     let reach : size + (room - size) ≡ room = omega (arith, enough some) in
     let front : take room rest ≡ record_of o p ++ take (room - size) more =
-        ap (take room) is ∙ ap (λ n. take n (record_of o p ++ more)) (sym reach) ∙ take-append-add (record_of o p) more (room - size) in
+    ap (take room) is ∙ ap (λ n. take n (record_of o p ++ more)) (sym reach) ∙ take-append-add (record_of o p) more (room - size) in
     let none : record_fault o (take room rest) ≡ None = ap (record_fault o) front ∙ record_fault-record_of o p (take (room - size) more) of_p in
     let short = cut.1 in
     cc
@@ -72,14 +72,14 @@ written_is_capture u ps each =
 pub same_capture : (all : List ℕ) (u v : TimeUnit) (ps qs : List Packet) → IsCapture all u ps → IsCapture all v qs → (u ≡ v) × (ps ≡ qs)
 same_capture all u v ps qs (o, first) (p, second) =
     let same = same_reading (length ps + length qs) (length (records_of o ps) + length (records_of p qs)) all o p u v ps qs [] [] first second
-      (record { count = omega arith; size = omega arith; stops = stops_end o _ _ }) (record { count = omega arith; size = omega arith; stops = stops_end p _ _ }) in
+    (record { count = omega arith; size = omega arith; stops = stops_end o _ _ }) (record { count = omega arith; size = omega arith; stops = stops_end p _ _ }) in
     (same.1, same.2)
 
 pub capture_is_faultless : (all : List ℕ) (u : TimeUnit) (ps : List Packet) (fault : CaptureFault) → IsCapture all u ps → IsFaultOf all fault → ⊥
 capture_is_faultless all u ps fault (o, first) (inl faulty) = let none = header_fault-begins all o u ps [] first in cc
 capture_is_faultless all u ps fault (o, first) (inr f) =
     let same = same_reading (length ps + length f.before) (length (records_of o ps) + length (records_of f.order f.before)) all o f.order u f.unit ps f.before [] f.rest first f.begins
-      (record { count = omega arith; size = omega arith; stops = stops_end o _ _ }) (record { count = omega arith; size = omega arith; stops = stops_fault f.order _ _ f.rest fault.cause f.faulty }) in
+    (record { count = omega arith; size = omega arith; stops = stops_end o _ _ }) (record { count = omega arith; size = omega arith; stops = stops_fault f.order _ _ f.rest fault.cause f.faulty }) in
     omega (arith, f.some, ap length same.3)
 
 same_fault : (f g : CaptureFault) → f.offset ≡ g.offset → f.cause ≡ g.cause → f ≡ g
@@ -93,7 +93,7 @@ one_fault all f g (inl first) (inr second) = let none = header_fault-begins all 
 one_fault all f g (inr first) (inl second) = let none = header_fault-begins all first.order first.unit first.before first.rest first.begins in cc
 one_fault all f g (inr a) (inr b) =
     let same = same_reading (length a.before + length b.before) (length (records_of a.order a.before) + length (records_of b.order b.before)) all a.order b.order a.unit b.unit a.before b.before a.rest b.rest a.begins b.begins
-      (record { count = omega arith; size = omega arith; stops = stops_fault a.order _ _ a.rest f.cause a.faulty }) (record { count = omega arith; size = omega arith; stops = stops_fault b.order _ _ b.rest g.cause b.faulty }) in
+    (record { count = omega arith; size = omega arith; stops = stops_fault a.order _ _ a.rest f.cause a.faulty }) (record { count = omega arith; size = omega arith; stops = stops_fault b.order _ _ b.rest g.cause b.faulty }) in
     let causes : ◌≡◌ {A = _} (Some f.cause) (Some g.cause) = sym a.faulty ∙ rw (same.0, same.3) b.faulty in
     let offsets : f.offset ≡ g.offset = a.place ∙ rw (same.0, same.2) (sym b.place) in
     same_fault f g offsets cc

@@ -15,40 +15,34 @@ ghost use Rattle.pcap_io.specs.Limits.{PassesLimit};
 pub fn one_capture()
     ensures { (bytes : List ℕ) (u v : TimeUnit) (ps qs : List Packet)
         → IsCapture bytes u ps → IsCapture bytes v qs → (u ≡ v) × (ps ≡ qs) }
-{
-}
+{}
 
 /// Bytes have at most one first fault, and a capture has none.
 pub fn one_fault()
     ensures one { (bytes : List ℕ) (f g : CaptureFault) → IsFaultOf bytes f → IsFaultOf bytes g → f ≡ g }
     ensures none { (bytes : List ℕ) (u : TimeUnit) (ps : List Packet) (f : CaptureFault)
         → IsCapture bytes u ps → IsFaultOf bytes f → ⊥ }
-{
-}
+{}
 
 /// What is written is a capture of the packets that were written.
 pub fn written_is_capture()
     ensures { (u : TimeUnit) (ps : List Packet) → AreRecorded ps → IsCapture (written u ps) u ps }
-{
-}
+{}
 
 /// What is written is read again, where it is within the limits.
 pub fn written_is_read()
     ensures { (u : TimeUnit) (ps : List Packet) (answer : Captured)
         → AreRecorded ps → length ps ≤ 65536 → length (written u ps) ≤ 67108864
         → IsDecided answer → Says (written u ps) answer → answer ≡ Capture u ps }
-{
-}
+{}
 
 /// Bytes pass at most one limit.
 pub fn one_limit()
     ensures { (bytes : List ℕ) (l m : Limit) → PassesLimit bytes l → PassesLimit bytes m → l ≡ m }
-{
-}
+{}
 
 /// Bytes have one answer, so that each comes exactly where it is true.
 pub fn one_answer()
     ensures { (bytes : List ℕ) (a b : Captured)
         → IsDecided a → IsDecided b → Says bytes a → Says bytes b → a ≡ b }
-{
-}
+{}

@@ -11,6 +11,8 @@ mod order;
 mod reader;
 mod record;
 mod started;
+#[cfg(test)]
+mod tests;
 
 pub use capture::{Captured, read_capture};
 pub use fault::{CaptureCause, CaptureFault};
