@@ -1,0 +1,16 @@
+use Rattle.std.proofs.Common.{◌-◌, ◌≤◌}
+use Rattle.pcap_io.proofs.Captures.{HasRead, StandsAt}
+use Rattle.pcap_io.proofs.capture.read_capture.Given as goal
+
+-- the reader stands behind the packets that were read
+abbrev pub invariant-records : goal.invariant-records
+invariant-records g l =
+    let source = g.S.Source in
+    record {
+      stands : StandsAt l.reader l.packets;
+      taken : HasRead source.reads l.fn.source l.source l.reader.order l.reader.unit l.packets;
+      later : source.faults l.fn.source ≤ source.faults l.source;
+    }
+
+abbrev pub decreases-records : goal.decreases-records
+decreases-records g l = 65536 - l.reader.count

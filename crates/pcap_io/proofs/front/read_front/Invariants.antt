@@ -1,0 +1,15 @@
+use Rattle.std.proofs.Common.{length, ◌-◌, ◌≤◌, take}
+use Rattle.pcap_io.proofs.front.read_front.Given as goal
+
+-- the first `done` bytes of the piece are those that were taken
+abbrev pub invariant-loop-done : goal.invariant-loop-done
+invariant-loop-done g l =
+    let source = g.S.Source in
+    record {
+      taken : source.reads l.fn.source (take l.done l.piece) l.source;
+      within : l.done ≤ length l.piece;
+      later : source.faults l.fn.source ≤ source.faults l.source;
+    }
+
+abbrev pub decreases-loop-done : goal.decreases-loop-done
+decreases-loop-done g l = length l.piece - l.done

@@ -1,0 +1,129 @@
+ghost use Rattle.std.specs.Prelude.{◌≡◌, ◌≢◌, ◌≤◌, ◌↔◌, true, IsTrue};
+ghost use Rattle.world_io.specs.Stream.{Rose};
+ghost use Rattle.pcap_io.specs.Limits.{room_at, limit_at};
+ghost use Rattle.pcap_io.specs.Reader.{AnswersAt, Takes, IsGiven, after};
+ghost use Rattle.pcap_io.specs.Started.{Starts, TakesHeader, IsFresh};
+
+use crate::front::read_front;
+use crate::header::{FILE_HEADER, read_header};
+use crate::record::{Place, RECORD_HEADER};
+use crate::{CaptureCause, CaptureFault, Next, Order, Started};
+use plain_text::{Limit, Unit};
+use std::alloc::Global;
+use std::marker::Model;
+use world_io::Source;
+
+/// The most packets of a capture.
+const MOST_PACKETS: u32 = 65_536;
+
+/// The most bytes of a file.
+const MOST_BYTES: u64 = 67_108_864;
+
+/// Reads a capture's packets, one at a time, from the source that is lent to each call.
+///
+/// It takes from the source exactly the bytes that it uses, and asks for a record's header and for its captured
+/// bytes in one piece each: a source of small pieces, as a file, wants a buffer around it.
+///
+/// Contracts see what the header told, the bytes used and the packets given, and whether the reader is over.
+#[derive(Debug, Drop)]
+pub struct Reader {
+    unit: Unit,
+    order: Order,
+    offset: u64,
+    count: u32,
+    over: bool,
+}
+
+impl Model for Reader {
+    ghost use Rattle.std.specs.Prelude.{◌≤◌};
+    ghost use Rattle.pcap_io.specs.Reading.{Reading};
+
+    ghost Value = { Reading };
+
+    ghost view = { λ r. record { unit = r.unit; order = r.order; offset = r.offset; count = r.count; over = r.over } };
+
+    ghost invariant = { λ r. (r.offset ≤ 67108864) × (r.count ≤ 65536) };
+}
+
+impl Reader {
+    /// Reads the file header.
+    pub fn start<S: Source>(source: &mut S) -> Started
+        ensures told { IsTrue S.tells → Starts (S.left source.old) result }
+        ensures taken { TakesHeader S.reads result source.old source.new }
+        ensures fresh { IsFresh result }
+        ensures later { S.faults source.old ≤ S.faults source.new }
+        ensures cause { result ≡ Started.ReadFault → Rose (S.faults source.old) (S.faults source.new) }
+        ensures memory { result ≢ Started.NoMemory }
+    {
+        let mut head = [0u8; FILE_HEADER];
+        let Some(had) = read_front(source, &mut head) else {
+            return Started::ReadFault;
+        };
+        if had < FILE_HEADER {
+            return Started::Refused(CaptureFault {
+                offset: had as u64,
+                cause: CaptureCause::ShortHeader,
+            });
+        }
+        match read_header(&head) {
+            Ok((order, unit)) => Started::Reader(Reader {
+                unit,
+                order,
+                offset: FILE_HEADER as u64,
+                count: 0,
+                over: false,
+            }),
+            Err(fault) => Started::Refused(fault),
+        }
+    }
+
+    /// What the fractions of the packets count.
+    pub fn unit(&self) -> Unit
+        ensures { result ≡ self.now.unit }
+    {
+        self.unit
+    }
+
+    /// The next packet, or why there is none. After anything but a packet, NoMemory too, the reader is over.
+    pub fn next_packet<S: Source>(&mut self, alloc: Global, source: &mut S) -> Next
+        ensures over { (result ≡ Next.Over) ↔ (self.old.over ≡ true) }
+        ensures after { self.new ≡ after self.old result }
+        ensures told { IsTrue S.tells → AnswersAt self.old (S.left source.old) result }
+        ensures taken { Takes S.reads self.old.order result source.old source.new }
+        ensures given { IsGiven (room_at self.old.count self.old.offset) result }
+        ensures later { S.faults source.old ≤ S.faults source.new }
+        ensures cause { result ≡ Next.ReadFault → Rose (S.faults source.old) (S.faults source.new) }
+    {
+        if self.over {
+            return Next::Over;
+        }
+        self.over = true;
+        let next = self.place().read_record(alloc, source);
+        if let Next::Packet(packet) = &next {
+            self.over = false;
+            self.offset += (RECORD_HEADER + packet.bytes.len()) as u64;
+            self.count += 1;
+        }
+        next
+    }
+
+    /// Where the next record begins.
+    fn place(&self) -> Place
+        ensures order { result.order ≡ self.now.order }
+        ensures offset { result.offset ≡ self.now.offset }
+        ensures room { result.room ≡ room_at self.now.count self.now.offset }
+        ensures limit { result.limit ≡ limit_at self.now.count }
+    {
+        let (room, limit) = if self.count == MOST_PACKETS {
+            (0, Limit::Packets)
+        } else {
+            (MOST_BYTES - self.offset, Limit::File)
+        };
+        Place {
+            order: self.order,
+            offset: self.offset,
+            room,
+            limit,
+        }
+    }
+}

@@ -1,0 +1,114 @@
+ghost use Rattle.std.specs.Prelude.{◌≡◌, ◌≢◌, ◌≤◌, ◌+◌, ◌++◌, IsTrue, IfOk, length};
+ghost use Rattle.world_io.specs.Stream.{Rose};
+ghost use Rattle.pcap_io.specs.Capture.{record_of};
+ghost use Rattle.pcap_io.specs.Reader.{Answers, Takes, IsGiven};
+ghost use Rattle.pcap_io.specs.Record.{TakesBody};
+
+use crate::front::read_front;
+use crate::{CaptureCause, CaptureFault, Next, Order};
+use byteorder::{ByteOrder, LittleEndian};
+use plain_text::{Bytes, Limit, NoMemory, Packet};
+use std::alloc::Global;
+use world_io::Source;
+
+pub(crate) const RECORD_HEADER: usize = 16;
+
+/// The most captured bytes that a packet may have.
+const LONGEST: u32 = 262_144;
+
+/// Where a record begins, how many bytes it may take, and the limit that it passes which needs more.
+#[derive(Clone, Copy, Debug)]
+pub(crate) struct Place {
+    pub(crate) order: Order,
+    pub(crate) offset: u64,
+    pub(crate) room: u64,
+    pub(crate) limit: Limit,
+}
+
+impl Place {
+    /// Reads the record that begins here.
+    pub(crate) fn read_record<S: Source>(self, alloc: Global, source: &mut S) -> Next
+        ensures told { IsTrue S.tells → Answers self.order self.offset self.room self.limit (S.left source.old) result }
+        ensures taken { Takes S.reads self.order result source.old source.new }
+        ensures given { IsGiven self.room result }
+        ensures running { result ≢ Next.Over }
+        ensures later { S.faults source.old ≤ S.faults source.new }
+        ensures cause { result ≡ Next.ReadFault → Rose (S.faults source.old) (S.faults source.new) }
+    {
+        let mut head = [0u8; RECORD_HEADER];
+        let Some(had) = read_front(source, &mut head) else {
+            return Next::ReadFault;
+        };
+        if had == 0 {
+            return Next::End;
+        }
+        if had as u64 > self.room {
+            return Next::TooLarge(self.limit);
+        }
+        if had < RECORD_HEADER {
+            return self.refused(CaptureCause::ShortRecord);
+        }
+        self.read_body(alloc, &head, source)
+    }
+
+    /// Reads what follows this record header.
+    fn read_body<S: Source>(self, alloc: Global, head: &[u8], source: &mut S) -> Next
+        requires head { length head.now ≡ 16 }
+        requires room { 16 ≤ self.room }
+        ensures told { IsTrue S.tells
+            → Answers self.order self.offset self.room self.limit (head.now ++ S.left source.old) result }
+        ensures taken { TakesBody S.reads self.order head.now result source.old source.new }
+        ensures given { IsGiven self.room result }
+        ensures later { S.faults source.old ≤ S.faults source.new }
+        ensures cause { result ≡ Next.ReadFault → Rose (S.faults source.old) (S.faults source.new) }
+    {
+        let captured = self.order.read_u32(&head[8..]);
+        if captured > LONGEST {
+            return self.refused(CaptureCause::TooLong);
+        }
+        let Ok(mut bytes) = vec![in alloc; 0u8; captured as usize] else {
+            return Next::NoMemory;
+        };
+        let Some(had) = read_front(source, &mut bytes) else {
+            return Next::ReadFault;
+        };
+        if (RECORD_HEADER + had) as u64 > self.room {
+            return Next::TooLarge(self.limit);
+        }
+        if had < captured as usize {
+            return self.refused(CaptureCause::ShortRecord);
+        }
+        Next::Packet(Packet {
+            seconds: self.order.read_u32(head),
+            fraction: self.order.read_u32(&head[4..]),
+            original: self.order.read_u32(&head[12..]),
+            bytes: Bytes::from_vec(bytes),
+        })
+    }
+
+    /// The fault of the record that begins here.
+    fn refused(self, cause: CaptureCause) -> Next
+        ensures { result ≡ Next.Refused (record { offset = self.offset; cause = cause }) }
+    {
+        Next::Refused(CaptureFault {
+            offset: self.offset,
+            cause,
+        })
+    }
+}
+
+/// A packet's record, as it is written after the header of `put_header`: seconds, fraction, captured length and
+/// original length in 32 bits each, little-endian, and the captured bytes.
+pub fn put_packet(alloc: Global, packet: &Packet) -> Result<Bytes, NoMemory>
+    requires { length packet.now.bytes ≤ 262144 }
+    ensures { IfOk result (λ bytes. bytes ≡ record_of Order.Little packet.now) }
+{
+    let mut head = [0; RECORD_HEADER];
+    LittleEndian::write_u32(&mut head, packet.seconds);
+    LittleEndian::write_u32(&mut head[4..], packet.fraction);
+    LittleEndian::write_u32(&mut head[8..], packet.bytes.len() as u32);
+    LittleEndian::write_u32(&mut head[12..], packet.original);
+    let mut record = Bytes::of(alloc, &head)?;
+    record.extend(packet.bytes.as_slice())?;
+    Ok(record)
+}
