@@ -1,4 +1,4 @@
-ghost use Rattle.std.specs.Prelude.{◌≡◌, ◌==◌, ◌<◌, ◌∷◌, [], length, position};
+ghost use Rattle.std.specs.Prelude.{◌≡◌, ◌==◌, ◌<◌, ◌≤◌, ◌∷◌, [], length, position};
 ghost use Rattle.std.specs.Str.Lines.{lines as lines_of, strip_carriage_return};
 ghost use Rattle.plain_text.specs.Lines.{counted_lines, words_of, words_count};
 
@@ -46,7 +46,8 @@ pub fn lines(text: &[u8]) -> LineIter<'_>
 
 /// How many lines a text has, whether they count or not.
 pub fn count_lines(text: &[u8]) -> u64
-    ensures { result ≡ length (lines_of text.now) }
+    ensures count { result ≡ length (lines_of text.now) }
+    ensures bound { result ≤ length text.now }
 {
     let mut rest = text;
     let mut count = 0;

@@ -1,0 +1,7 @@
+use Rattle.std.proofs.Common.{◌≡◌}
+use Rattle.box_conf.specs.BoxFile.{box_of, conf_of, set_lines}
+use Rattle.box_conf.proofs.conf.read_box.Given as goal
+
+-- the text comes to what the settings so far and the lines left come to
+abbrev pub invariant-loop-line : goal.invariant-loop-line
+invariant-loop-line l = box_of l.text ≡ conf_of l.kind (set_lines l.settings l.line-iterator)

@@ -1,0 +1,3 @@
+pub mod BoxFile
+pub mod Keywords
+pub mod Settings

@@ -1,0 +1,20 @@
+-- The lines of a box file that set a number.
+use Rattle.std.specs.Prelude.{ℕ, ◌&&◌, List, [], ◌∷◌, nat_le, if◌then◌else◌, Bool, true, false, Result, Ok, Err}
+use Rattle.plain_text.specs.declared.fault.LineCause.{LineCause}
+use Rattle.plain_text.specs.declared.fault.LineCause.TheVariants.{MissingWord, OutOfRange, Twice}
+use Rattle.plain_text.specs.declared.field.Field.TheVariants.{Number}
+use Rattle.plain_text.specs.Fields.{fields_of}
+
+-- a line that may stand once, and stood before or not
+abbrev pub once : Bool → ℕ → Result ℕ LineCause
+once false n = Ok n
+once true n = Err Twice
+
+abbrev pub in_range : ℕ → ℕ → Bool → Result (List ℕ) LineCause → Result ℕ LineCause
+in_range low high had (Ok (n ∷ numbers)) = if nat_le low n && nat_le n high then once had n else Err OutOfRange
+in_range low high had (Ok []) = Err MissingWord
+in_range low high had (Err cause) = Err cause
+
+-- the number of a line with one number from low to high, which may stand once
+abbrev pub number_line : ℕ → ℕ → Bool → List (List ℕ) → Result ℕ LineCause
+number_line low high had words = in_range low high had (fields_of (Number ∷ []) words)

@@ -1,0 +1,10 @@
+//! Box files: which box runs, on how many threads, and with which seed.
+#![tactic(auto)]
+
+mod conf;
+mod keywords;
+mod kind;
+mod settings;
+
+pub use conf::{ConfError, read_box};
+pub use kind::{BoxConf, BoxKind};
