@@ -1,5 +1,5 @@
 -- Which histories of the plain machine a player stands for, and what one call of it does.
-use Rattle.std.specs.Prelude.{◌≡◌, ℕ, ◌<◌, ◌≤◌, ◌++◌, List, length, Bool, Option, Some, None, slice_get, slice_index_or, is_some, option_to_list, Result, Ok, Err, MatchResult}
+use Rattle.std.specs.Prelude.{◌≡◌, ℕ, ◌+◌, ◌<◌, ◌≤◌, ◌++◌, List, length, Bool, Option, Some, None, slice_get, slice_index_or, is_some, option_to_list, Result, Ok, Err, MatchResult}
 use Rattle.plain_text.specs.declared.packet.Packet.{Packet}
 use Rattle.plain_machine.specs.declared.local.Local.{Local}
 use Rattle.plain_machine.specs.declared.emission.Emission.{Emission}
@@ -43,6 +43,14 @@ hand_of (Some s) = s.hand
 -- whether the thread has a packet in hand
 abbrev pub has_hand : {V : Type 0} → Playing V → ℕ → Bool
 has_hand p t = is_some (hand_of (slice_get p.seats t))
+
+abbrev pub rank_of : {V : Type 0} → Meaning V → Option Local → ℕ
+rank_of m None = 0
+rank_of m (Some place) = m.rank place + 1
+
+-- how many moves the thread makes at most until it has ended the packet in hand
+abbrev pub moves_left : {V : Type 0} → Meaning V → Playing V → ℕ → ℕ
+moves_left m p t = rank_of m (hand_of (slice_get p.seats t))
 
 -- the packet that a move of a thread with these inputs is made with: the one in hand, else the next input, if there is one
 abbrev pub input_for : List Packet → ℕ → Option Hand → Option Packet

@@ -3,8 +3,10 @@
 
 mod hand;
 mod player;
+mod schedule;
 mod seat;
 
 pub use hand::{HandMove, MoveError};
 pub use player::Player;
+pub use schedule::put_schedule;
 pub use seat::Seat;

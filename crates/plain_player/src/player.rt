@@ -3,7 +3,7 @@ ghost use Rattle.plain_text.specs.declared.packet.Packet as packet_of;
 ghost use Rattle.plain_machine.specs.History.{Step, thread_after};
 ghost use Rattle.plain_player.specs.Hands.{FitsProgram, HasValues, TakesInput, seat_after};
 ghost use Rattle.plain_machine.specs.Machine.{take_move};
-ghost use Rattle.plain_player.specs.Playing.{Stands, Follows, has_hand, input_for};
+ghost use Rattle.plain_player.specs.Playing.{Stands, Follows, has_hand, moves_left, input_for};
 
 use crate::hand::{HandMove, MoveError, play_hand};
 use crate::seat::Seat;
@@ -57,6 +57,16 @@ impl<V: Drop> Player<V> {
         })
     }
 
+    /// Whether the thread has a packet in hand.
+    pub fn in_hand(&self, thread: u32) -> bool
+        ensures { result ≡ has_hand self.now thread }
+    {
+        match self.seats.get(thread as usize) {
+            Some(seat) => seat.hand.is_some(),
+            None => false,
+        }
+    }
+
     /// Makes one move: with the packet in hand, or else with the thread's next input, if there is one.
     ///
     /// It gives the packet that the move sends out. What the plain machine may not make is `Illegal`, with its cause. After
@@ -76,6 +86,7 @@ impl<V: Drop> Player<V> {
             (option_copied input.entry ≡ input_for (inputs plain.thread) (thread_after steps plain.thread).taken (thread_after steps plain.thread).hand) →
             Follows (P.meaning program.now) inputs threads steps plain result self.new }
         ensures fits { FitsProgram (P.meaning program.now) (P.fits program.now) self.new.values }
+        ensures falls { IsTrue (has_hand self.old plain.thread) → OnOk result (moves_left (P.meaning program.now) self.new plain.thread < moves_left (P.meaning program.now) self.old plain.thread) }
         ensures made { OnOk result (self.new.made ≡ self.old.made + 1) }
         ensures err { OnErr result (self.new ≡ self.old) }
     {
