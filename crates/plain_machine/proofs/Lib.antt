@@ -1,0 +1,6 @@
+pub mod Moving
+pub mod Histories
+pub mod Seats
+pub mod Values
+pub mod Agreement
+pub mod Playing

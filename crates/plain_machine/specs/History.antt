@@ -121,7 +121,7 @@ after_moved steps t (Moves after deed) = Ok (step_of t steps after deed ∷ step
 abbrev pub plain_move : {V : Type 0} → Meaning V → (ℕ → List Packet) → ℕ → List (Step V) → PlainMove → Result (List (Step V)) PlayCause
 plain_move m inputs threads steps move =
     if nat_lt move.thread threads then
-      after_moved steps move.thread (thread_move m (inputs move.thread) (value_after m steps) (thread_after steps move.thread) move.answer)
+    after_moved steps move.thread (thread_move m (inputs move.thread) (value_after m steps) (thread_after steps move.thread) move.answer)
     else Err NoSuchThread
 
 -- the number of a move is one more than the moves before it

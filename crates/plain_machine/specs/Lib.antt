@@ -1,3 +1,4 @@
 pub mod Program
 pub mod Machine
 pub mod History
+pub mod Agree
