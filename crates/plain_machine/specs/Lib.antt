@@ -2,3 +2,4 @@ pub mod Program
 pub mod Machine
 pub mod History
 pub mod Agree
+pub mod Continue

@@ -8,6 +8,7 @@ ghost use Rattle.plain_machine.specs.Program.{Meaning};
 ghost use Rattle.plain_machine.specs.Machine.{Thread};
 ghost use Rattle.plain_machine.specs.History.{Step, log_of, plain_move, and_moves, play, IsStep, IsHistory};
 ghost use Rattle.plain_machine.specs.Agree.{IsEarlier, Makes, Agreement};
+ghost use Rattle.plain_machine.specs.Continue.{Continuation};
 
 /// A legal list of moves gives a history, with one step for each move, and each history is that of a legal list. Where a
 /// list is not legal, the moves before the one that the fault names are, and that one is none that may follow them.
@@ -61,4 +62,11 @@ pub fn entries_are_logged<X>()
 /// predecessors are in the set.
 pub fn runs_agree<X>()
     ensures { (m : Meaning X) (inputs : ℕ → List Packet) (threads : ℕ) → Agreement m inputs threads }
+{}
+
+/// A run is continued by entries of another run on the same inputs: where they are numbered on after it, and where each of
+/// their immediate predecessors in it is in a closed set of entries that both keep, some moves after it have exactly
+/// these entries.
+pub fn runs_continue<X>()
+    ensures { (m : Meaning X) (inputs : ℕ → List Packet) (threads : ℕ) → Continuation m inputs threads }
 {}
