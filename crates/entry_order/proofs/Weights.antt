@@ -4,7 +4,7 @@ use Rattle.std.specs.Prelude.{nat_le, min}
 use Rattle.std.proofs.lemmas.Bool.{cases_lt}
 use Rattle.std.proofs.lemmas.Bool.Decides.{nat_tests}
 use Rattle.entry_order.specs.Log.{Entry, PrecedesOrIs, entries, IsLog, IsIn, Precedes}
-use Rattle.entry_order.specs.Stamps.{IsStamp, IsCount, IsWeight, stamp_sum}
+use Rattle.entry_order.specs.Stamps.{IsStamp, IsCount, IsWeight, sum_below}
 use Rattle.entry_order.proofs.Order.{is_or, number_within, precedes_trans}
 use Rattle.entry_order.proofs.Positions.{not_precedes_itself}
 use Rattle.entry_order.proofs.Parts.{stamp_covers}
@@ -52,22 +52,24 @@ weight_falls log e f n k good here p a b = count_less (λ g. PrecedesOrIs log g 
 
 -- Sums of components
 
-total_same : (n : ℕ) (f g : ℕ → ℕ) → ((u : ℕ) → u < n → f u ≡ g u) → stamp_sum n f ≡ stamp_sum n g
-total_same zero f g h = refl
-total_same (suc n) f g h =
-    let a : stamp_sum n f ≡ stamp_sum n g = total_same n f g (λ u l. h u (omega arith)) in
+-- a sum hangs on its terms alone
+pub sum_below_same : (n : ℕ) (f g : ℕ → ℕ) → ((u : ℕ) → u < n → f u ≡ g u) → sum_below n f ≡ sum_below n g
+sum_below_same zero f g h = refl
+sum_below_same (suc n) f g h =
+    let a : sum_below n f ≡ sum_below n g = sum_below_same n f g (λ u l. h u (omega arith)) in
     let b : f n ≡ g n = h n (omega arith) in omega arith
 
-total_more : (n t : ℕ) (f g : ℕ → ℕ) → t < n → f t ≡ g t + 1 → ((u : ℕ) → u ≢ t → f u ≡ g u) → stamp_sum n f ≡ stamp_sum n g + 1
-total_more zero t f g low h same = absurd (omega arith)
-total_more (suc n) t f g low h same = go (is_or t n) (λ k. total_more n t f g k h same)
+-- one more at one term is one more
+pub sum_below_more : (n t : ℕ) (f g : ℕ → ℕ) → t < n → f t ≡ g t + 1 → ((u : ℕ) → u ≢ t → f u ≡ g u) → sum_below n f ≡ sum_below n g + 1
+sum_below_more zero t f g low h same = absurd (omega arith)
+sum_below_more (suc n) t f g low h same = go (is_or t n) (λ k. sum_below_more n t f g k h same)
   where
-    go : (t ≡ n) ⊎ (t ≢ n) → (t < n → stamp_sum n f ≡ stamp_sum n g + 1) → stamp_sum n f + f n ≡ stamp_sum n g + g n + 1
+    go : (t ≡ n) ⊎ (t ≢ n) → (t < n → sum_below n f ≡ sum_below n g + 1) → sum_below n f + f n ≡ sum_below n g + g n + 1
     go (inl e) rest =
-        let a : stamp_sum n f ≡ stamp_sum n g = total_same n f g (λ u l. same u (λ k. let q : u ≡ n = k ∙ e in absurd (omega arith))) in
+        let a : sum_below n f ≡ sum_below n g = sum_below_same n f g (λ u l. same u (λ k. let q : u ≡ n = k ∙ e in absurd (omega arith))) in
         let b : f n ≡ g n + 1 = subst (λ (u : ℕ). f u ≡ g u + 1) e h in omega arith
     go (inr e) rest =
-        let a : stamp_sum n f ≡ stamp_sum n g + 1 = rest (omega arith) in
+        let a : sum_below n f ≡ sum_below n g + 1 = rest (omega arith) in
         let b : f n ≡ g n = same n (λ k. e (sym k)) in omega arith
 
 -- how many entries of the log a stamp covers
@@ -75,17 +77,20 @@ abbrev covered : List Entry → (ℕ → ℕ) → ℕ
 covered [] stamp = 0
 covered (f ∷ log) stamp = cond (nat_le f.number (stamp f.thread)) (covered log stamp + 1) (covered log stamp)
 
+-- a stamp, cut at the counts of the log
 capped : (ℕ → ℕ) → List Entry → ℕ → ℕ
 capped s log u = min (s u) (entries u log)
 
-total_none : (n : ℕ) (s : ℕ → ℕ) → stamp_sum n (capped s []) ≡ 0
+-- nothing is below the counts of an empty log
+sum_below_none : (n : ℕ) (s : ℕ → ℕ) → sum_below n (capped s []) ≡ 0
 unfolding capped
-total_none zero s = refl
-total_none (suc n) s = let a : stamp_sum n (λ u. min (s u) 0) ≡ 0 = total_none n s in omega arith
+sum_below_none zero s = refl
+sum_below_none (suc n) s = let a : sum_below n (λ u. min (s u) 0) ≡ 0 = sum_below_none n s in omega arith
 
-covered_capped : (log : List Entry) (n : ℕ) (s : ℕ → ℕ) → IsLog log → ((e : Entry) → IsIn e log → e.thread < n) → covered log s ≡ stamp_sum n (capped s log)
+-- a stamp covers as many entries as its cut components sum to
+covered_capped : (log : List Entry) (n : ℕ) (s : ℕ → ℕ) → IsLog log → ((e : Entry) → IsIn e log → e.thread < n) → covered log s ≡ sum_below n (capped s log)
 unfolding capped
-covered_capped [] n s good low = sym (total_none n s)
+covered_capped [] n s good low = sym (sum_below_none n s)
 covered_capped (e ∷ log) n s good low = go (cases_lt (s e.thread) e.number) (covered_capped log n s good.2 (λ f h. low f (inr h)))
   where
     other : (u : ℕ) → u ≢ e.thread → entries u (e ∷ log) ≡ entries u log
@@ -94,17 +99,17 @@ covered_capped (e ∷ log) n s good low = go (cases_lt (s e.thread) e.number) (c
     mine : entries e.thread (e ∷ log) ≡ entries e.thread log + 1
     mine = grind (arith, nat_tests)
 
-    go : (s e.thread < e.number) ⊎ (e.number ≤ s e.thread) → covered log s ≡ stamp_sum n (λ u. min (s u) (entries u log)) → cond (nat_le e.number (s e.thread)) (covered log s + 1) (covered log s) ≡ stamp_sum n (λ u. min (s u) (entries u (e ∷ log)))
+    go : (s e.thread < e.number) ⊎ (e.number ≤ s e.thread) → covered log s ≡ sum_below n (λ u. min (s u) (entries u log)) → cond (nat_le e.number (s e.thread)) (covered log s + 1) (covered log s) ≡ sum_below n (λ u. min (s u) (entries u (e ∷ log)))
     go (inl k) rest =
         let t : nat_le e.number (s e.thread) ≡ false = grind (arith, nat_tests) in
-        rw t (rest ∙ sym (total_same n (λ u. min (s u) (entries u (e ∷ log))) (λ u. min (s u) (entries u log)) (λ u l. each u (is_or u e.thread))))
+        rw t (rest ∙ sym (sum_below_same n (λ u. min (s u) (entries u (e ∷ log))) (λ u. min (s u) (entries u log)) (λ u l. each u (is_or u e.thread))))
       where
         each : (u : ℕ) → (u ≡ e.thread) ⊎ (u ≢ e.thread) → min (s u) (entries u (e ∷ log)) ≡ min (s u) (entries u log)
         each u (inl q) = subst (λ (x : ℕ). min (s x) (entries x (e ∷ log)) ≡ min (s x) (entries x log)) (sym q) (omega (arith, mine, good.0))
         each u (inr q) = ap (λ (x : ℕ). min (s u) x) (other u q)
     go (inr k) rest =
         let t : nat_le e.number (s e.thread) ≡ true = grind (arith, nat_tests) in
-        rw t (ap (λ (x : ℕ). x + 1) rest ∙ sym (total_more n e.thread (λ u. min (s u) (entries u (e ∷ log))) (λ u. min (s u) (entries u log)) (low e (inl refl)) (omega (arith, mine, good.0)) (λ u q. ap (λ (x : ℕ). min (s u) x) (other u q))))
+        rw t (ap (λ (x : ℕ). x + 1) rest ∙ sym (sum_below_more n e.thread (λ u. min (s u) (entries u (e ∷ log))) (λ u. min (s u) (entries u log)) (low e (inl refl)) (omega (arith, mine, good.0)) (λ u q. ap (λ (x : ℕ). min (s u) x) (other u q))))
 
 -- a component of a stamp is at most the count of its thread
 pub stamp_within : (log : List Entry) (e : Entry) (s : ℕ → ℕ) (u : ℕ) → IsLog log → IsStamp log e s → s u ≤ entries u log
@@ -130,7 +135,7 @@ count_covered log e s good st (f ∷ xs) sub = go (cases_lt (s f.thread) f.numbe
         rw t (inl (stamp_covers log e f s good st (sub f (inl refl)) k, covered xs s, refl, rest))
 
 -- The weight of an entry is the sum of the components of its stamp.
-pub weight_is_sum : (log : List Entry) (n : ℕ) (e : Entry) (s : ℕ → ℕ) → IsLog log → ((f : Entry) → IsIn f log → f.thread < n) → IsStamp log e s → IsWeight log e (stamp_sum n s)
+pub weight_is_sum : (log : List Entry) (n : ℕ) (e : Entry) (s : ℕ → ℕ) → IsLog log → ((f : Entry) → IsIn f log → f.thread < n) → IsStamp log e s → IsWeight log e (sum_below n s)
 unfolding capped
 weight_is_sum log n e s good low st =
-    subst (λ (k : ℕ). IsWeight log e k) (covered_capped log n s good low ∙ total_same n (λ u. min (s u) (entries u log)) s (λ u l. let k : s u ≤ entries u log = stamp_within log e s u good st in omega arith)) (count_covered log e s good st log (λ f h. h))
+    subst (λ (k : ℕ). IsWeight log e k) (covered_capped log n s good low ∙ sum_below_same n (λ u. min (s u) (entries u log)) s (λ u l. let k : s u ≤ entries u log = stamp_within log e s u good st in omega arith)) (count_covered log e s good st log (λ f h. h))

@@ -23,10 +23,10 @@ IsCount P (f ∷ rest) n = (P f × (k : ℕ) × (n ≡ k + 1) × IsCount P rest 
 abbrev pub IsWeight : List Entry → Entry → ℕ → Type 0
 IsWeight log e n = IsCount (λ f. PrecedesOrIs log f e) log n
 
--- the sum of the components of the first n threads
-abbrev pub stamp_sum : ℕ → (ℕ → ℕ) → ℕ
-stamp_sum zero stamp = 0
-stamp_sum (suc n) stamp = stamp_sum n stamp + stamp n
+-- the sum of the terms at the numbers below n: of a stamp, the components of the first n threads
+abbrev pub sum_below : ℕ → (ℕ → ℕ) → ℕ
+sum_below zero term = 0
+sum_below (suc n) term = sum_below n term + term n
 
 -- Stamps by joins
 

@@ -2,7 +2,7 @@
 ghost use Rattle.std.specs.Prelude.{◌≡◌, ℕ, ◌+◌, ◌≤◌, ◌<◌, ◌⊎◌, ◌↔◌, List, ◌∷◌, IsTrue};
 ghost use Rattle.entry_order.specs.declared.what.What.TheVariants.{Access, Read};
 ghost use Rattle.entry_order.specs.Log.{Entry, entries, places, IsLog, IsIn, StandsBefore, IsNext, Precedes, PrecedesOrIs, PrecedesOutput, IsClosed};
-ghost use Rattle.entry_order.specs.Stamps.{IsStamp, IsOutputStamp, IsWeight, stamp_sum, shares, IsJoinBefore, bumped, stamp};
+ghost use Rattle.entry_order.specs.Stamps.{IsStamp, IsOutputStamp, IsWeight, sum_below, shares, IsJoinBefore, bumped, stamp};
 ghost use Rattle.entry_order.specs.Closed.{IsClosedPart, IsMissing, IsFirstMissing, IsDue, IsFrontier};
 
 /// The entries of each thread have the numbers from 1 to their count, each once, and the touches of each variable the
@@ -88,7 +88,7 @@ pub fn stamps_are_joins()
 pub fn weights_are_sums()
     ensures sum { (log : List Entry) (threads : ℕ) (e : Entry) (s : ℕ → ℕ) → IsLog log
         → ((f : Entry) → IsIn f log → f.thread < threads)
-        → IsStamp log e s → IsWeight log e (stamp_sum threads s) }
+        → IsStamp log e s → IsWeight log e (sum_below threads s) }
     ensures one { (log : List Entry) (e : Entry) (n k : ℕ) → IsWeight log e n → IsWeight log e k → n ≡ k }
     ensures falls { (log : List Entry) (e f : Entry) (n k : ℕ) → IsLog log → Precedes log e f
         → IsWeight log e n → IsWeight log f k → n < k }

@@ -6,3 +6,4 @@ pub mod Values
 pub mod Agreement
 pub mod Playing
 pub mod Continuing
+pub mod Bounds
