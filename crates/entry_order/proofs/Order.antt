@@ -1,13 +1,12 @@
 -- What follows from the numbering of a log.
-use Rattle.std.proofs.Common.{◌≡◌, ℕ, zero, suc, ◌+◌, ◌≤◌, ◌<◌, ◌-◌, ◌≢◌, Bool, true, false, List, [], ◌∷◌, refl, sym, ap, ◌∙◌, subst, inl, inr, ◌⊎◌, arith, rules, cond, eqb}
-use Rattle.std.specs.Prelude.{nat_eq}
-use Rattle.std.proofs.lemmas.Grind.{common_steps}
+use Rattle.std.proofs.Common.{◌≡◌, ℕ, zero, suc, ◌+◌, ◌≤◌, ◌<◌, ◌-◌, ◌≢◌, Bool, true, false, List, [], ◌∷◌, refl, sym, ap, ◌∙◌, subst, inl, inr, ◌⊎◌, arith, cond, eqb}
 use Rattle.std.proofs.lemmas.Bool.{cases_lt}
 use Rattle.std.proofs.lemmas.Bool.Decides.{nat_tests, eqb_tells}
 use Rattle.entry_order.specs.declared.what.What.{What}
 use Rattle.entry_order.specs.declared.what.What.TheVariants.{Access, Read, Clock, Draw}
-use Rattle.entry_order.specs.Log.{Entry, touches, entries, places, HasPlace, IsLog, IsIn, StandsBefore, IsNextTouch, IsReadOf, IsTouchPast, IsNext, Precedes, AtOnce, Through, IsClosed}
+use Rattle.entry_order.specs.Log.{Entry, touches, entries, places, IsLog, IsIn, StandsBefore, IsNext, Precedes, AtOnce, Through, IsClosed}
 
+-- two numbers are equal or not
 pub is_or : (a b : ℕ) → (a ≡ b) ⊎ (a ≢ b)
 is_or a b = go (eqb_tells a b)
   where
@@ -15,10 +14,11 @@ is_or a b = go (eqb_tells a b)
     go (inl h) = inl h.1
     go (inr h) = inr h.1
 
--- one more entry
+-- an entry adds one to the count of its thread, and a touch to that of its variable
 pub entries_same : (t : ℕ) (e : Entry) (log : List Entry) → e.thread ≡ t → entries t (e ∷ log) ≡ entries t log + 1
 entries_same t e log h = grind (arith, nat_tests)
 
+-- the counts only grow
 pub entries_grow : (t : ℕ) (e : Entry) (log : List Entry) → entries t log ≤ entries t (e ∷ log)
 entries_grow t e log = grind (arith, nat_tests)
 
@@ -32,6 +32,7 @@ places_grow v e log = go (touches v e.what)
     go true = omega arith
     go false = omega arith
 
+-- an entry has a number from 1 to the count of its thread
 pub number_within : (log : List Entry) (e : Entry) → IsLog log → IsIn e log → (1 ≤ e.number) × (e.number ≤ entries e.thread log)
 number_within [] e good here = absurd here
 number_within (x ∷ log) e good (inl h) = grind (arith, nat_tests, entries_same)
@@ -40,6 +41,7 @@ number_within (x ∷ log) e good (inr h) =
     let g : entries e.thread log ≤ entries e.thread (x ∷ log) = entries_grow e.thread x log in
     omega arith
 
+-- a touch has a place from 1 to the count of its variable
 pub place_within : (log : List Entry) (e : Entry) (v s : ℕ) → IsLog log → IsIn e log → e.what ≡ Access v s → (1 ≤ s) × (s ≤ places v log)
 place_within [] e v s good here w = absurd here
 place_within (x ∷ log) e v s good (inl h) w =
@@ -52,6 +54,7 @@ place_within (x ∷ log) e v s good (inr h) w =
     let g : places v log ≤ places v (x ∷ log) = places_grow v x log in
     omega arith
 
+-- a read stands after at most all touches of its variable
 pub read_within : (log : List Entry) (e : Entry) (v s : ℕ) → IsLog log → IsIn e log → e.what ≡ Read v s → s ≤ places v log
 read_within [] e v s good here w = absurd here
 read_within (x ∷ log) e v s good (inl h) w =
@@ -101,11 +104,13 @@ next_stands (x ∷ log) e f good (inl he) (inr hf) (inr (inl n)) =
     let k : (1 ≤ n.1 + 1) × (n.1 + 1 ≤ places n.0 log) = place_within log f n.0 (n.1 + 1) good.2 hf n.3 in
     absurd (omega arith)
 
+-- what stands before another is in the log, as the other is
 pub before_in : (log : List Entry) (e f : Entry) → StandsBefore log e f → IsIn e log × IsIn f log
 before_in [] e f b = absurd b
 before_in (x ∷ log) e f (inl b) = (inr b.1, inl b.0)
 before_in (x ∷ log) e f (inr b) = (inr (before_in log e f b).0, inr (before_in log e f b).1)
 
+-- standing before is transitive
 pub before_trans : (log : List Entry) (e g f : Entry) → IsLog log → StandsBefore log e g → StandsBefore log g f → StandsBefore log e f
 before_trans [] e g f good a b = absurd a
 before_trans (x ∷ log) e g f good (inl a) (inl b) = absurd (newest log x good (subst (λ (y : Entry). IsIn y log) (sym a.0) b.1))
@@ -113,7 +118,7 @@ before_trans (x ∷ log) e g f good (inl a) (inr b) = absurd (newest log x good 
 before_trans (x ∷ log) e g f good (inr a) (inl b) = inl (b.0, (before_in log e g a).0)
 before_trans (x ∷ log) e g f good (inr a) (inr b) = inr (before_trans log e g f good.2 a b)
 
--- K1
+-- An entry stands after all that precedes it.
 pub stands_after : (log : List Entry) (e f : Entry) → IsLog log → Precedes log e f → StandsBefore log e f
 stands_after log e f good (AtOnce he hf n) = next_stands log e f good he hf n
 stands_after log e f good (Through {g = g} he n p) =
@@ -199,54 +204,62 @@ thread_chain log (suc k) e f good he hf a b =
     let g : (g : Entry) × IsIn g log × (g.thread ≡ f.thread) × (g.number ≡ e.number + 1) = entry_there log f.thread (e.number + 1) good (omega arith) (omega arith) in
     Through he (inl (a ∙ sym g.2, g.3)) (thread_chain log k g.0 f good g.1 hf g.2 (omega arith))
 
--- K2
-pub touches_in_order : (log : List Entry) (e f : Entry) (v s r : ℕ) → IsLog log → IsIn e log → IsIn f log → e.what ≡ Access v s → f.what ≡ Access v r → (e ≡ f) ⊎ (Precedes log e f ⊎ Precedes log f e)
-touches_in_order log e f v s r good he hf a b = go (is_or s r) (cases_lt s r)
-  where
-    before : (e f : Entry) (s r : ℕ) → IsIn e log → IsIn f log → e.what ≡ Access v s → f.what ≡ Access v r → s < r → Precedes log e f
-    before e f s r he hf a b h = touch_chain log (r - s - 1) e f v s good he hf a (b ∙ ap (λ (q : ℕ). Access v q) (let z : r ≡ s + 1 + (r - s - 1) = omega arith in z))
+-- Of two touches of one variable, the one at the lesser place precedes the other.
+pub touch_by_place : (log : List Entry) (e f : Entry) (v s r : ℕ) → IsLog log → IsIn e log → IsIn f log → e.what ≡ Access v s → f.what ≡ Access v r → s < r → Precedes log e f
+touch_by_place log e f v s r good he hf a b h =
+    touch_chain log (r - s - 1) e f v s good he hf a (b ∙ ap (λ (q : ℕ). Access v q) (let z : r ≡ s + 1 + (r - s - 1) = omega arith in z))
 
-    go : (s ≡ r) ⊎ (s ≢ r) → (s < r) ⊎ (r ≤ s) → (e ≡ f) ⊎ (Precedes log e f ⊎ Precedes log f e)
-    go (inl h) o = inl (same_place log e f v s good he hf a (b ∙ ap (λ (q : ℕ). Access v q) (sym h)))
-    go (inr h) (inl o) = inr (inl (before e f s r he hf a b o))
-    go (inr h) (inr o) = inr (inr (before f e r s hf he b a (omega arith)))
+-- Of two entries of one thread, the one with the lesser number precedes the other.
+pub thread_by_number : (log : List Entry) (e f : Entry) → IsLog log → IsIn e log → IsIn f log → e.thread ≡ f.thread → e.number < f.number → Precedes log e f
+thread_by_number log e f good he hf t n = thread_chain log (f.number - e.number - 1) e f good he hf t (omega arith)
+
+-- Precedes is transitive.
+pub precedes_trans : (log : List Entry) (e g f : Entry) → Precedes log e g → Precedes log g f → Precedes log e f
+precedes_trans log e g f (AtOnce i j n) q = Through i n q
+precedes_trans log e g f (Through {g = k} i n r) q = Through i n (precedes_trans log k g f r q)
+
+-- what precedes is in the log
+pub precedes_in : (log : List Entry) (e f : Entry) → Precedes log e f → IsIn e log
+precedes_in log e f (AtOnce i j n) = i
+precedes_in log e f (Through i n p) = i
 
 -- A closed set has all that precedes a member.
 pub closed_down : (log set : List Entry) (e f : Entry) → IsClosed log set → Precedes log e f → IsIn f set → IsIn e set
 closed_down log set e f closed (AtOnce he hf n) h = closed e f he h n
 closed_down log set e f closed (Through {g = g} he n p) h = closed e g he (closed_down log set g f closed p h) n
 
--- K3
+-- A closed set that has an entry has the entries of its thread with lesser numbers.
 pub closed_thread : (log set : List Entry) (e f : Entry) → IsLog log → IsClosed log set → IsIn e log → IsIn f log → IsIn f set → e.thread ≡ f.thread → e.number < f.number → IsIn e set
-closed_thread log set e f good closed he hf h t n = closed_down log set e f closed (thread_chain log (f.number - e.number - 1) e f good he hf t (omega arith)) h
+closed_thread log set e f good closed he hf h t n = closed_down log set e f closed (thread_by_number log e f good he hf t n) h
 
-pub closed_touches : (log set : List Entry) (e f : Entry) (v s r : ℕ) → IsLog log → IsClosed log set → IsIn e log → IsIn f log → IsIn f set → e.what ≡ Access v s → f.what ≡ Access v r → s < r → IsIn e set
-closed_touches log set e f v s r good closed he hf h a b n =
-    closed_down log set e f closed (touch_chain log (r - s - 1) e f v s good he hf a (b ∙ ap (λ (q : ℕ). Access v q) (let z : r ≡ s + 1 + (r - s - 1) = omega arith in z))) h
+-- A touch precedes the reads of its variable that stand after so many touches or more.
+pub touch_then_read : (log : List Entry) (e f : Entry) (v s r : ℕ) → IsLog log → IsIn e log → IsIn f log → e.what ≡ Access v s → f.what ≡ Read v r → s ≤ r → Precedes log e f
+touch_then_read log e f v s r good he hf a b n = go (touch_there log v r good (omega (arith, n, w)) (read_within log f v r good hf b)) (is_or s r)
+  where
+    w : (1 ≤ s) × (s ≤ places v log)
+    w = place_within log e v s good he a
+
+    go : (g : Entry) × IsIn g log × (g.what ≡ Access v r) → (s ≡ r) ⊎ (s ≢ r) → Precedes log e f
+    go g (inl k) = AtOnce he hf (inr (inr (inl (v, r, a ∙ ap (λ (q : ℕ). Access v q) k, b))))
+    go g (inr k) =
+        precedes_trans log e g.0 f (touch_chain log (r - s - 1) e g.0 v s good he g.1 a (g.2 ∙ ap (λ (q : ℕ). Access v q) (let z : r ≡ s + 1 + (r - s - 1) = omega arith in z))) (AtOnce g.1 hf (inr (inr (inl (v, r, g.2, b)))))
+
+-- A read precedes the touches of its variable at the places past it.
+pub read_then_touch : (log : List Entry) (e f : Entry) (v s r : ℕ) → IsLog log → IsIn e log → IsIn f log → e.what ≡ Access v s → f.what ≡ Read v r → r < s → Precedes log f e
+read_then_touch log e f v s r good he hf a b n = go (touch_there log v (r + 1) good (omega arith) (omega (arith, n, w))) (is_or s (r + 1))
+  where
+    w : (1 ≤ s) × (s ≤ places v log)
+    w = place_within log e v s good he a
+
+    go : (g : Entry) × IsIn g log × (g.what ≡ Access v (r + 1)) → (s ≡ r + 1) ⊎ (s ≢ r + 1) → Precedes log f e
+    go g (inl k) = AtOnce hf he (inr (inr (inr (v, r, b, a ∙ ap (λ (q : ℕ). Access v q) k))))
+    go g (inr k) =
+        Through hf (inr (inr (inr (v, r, b, g.2)))) (touch_chain log (s - (r + 1) - 1) g.0 e v (r + 1) good g.1 he g.2 (a ∙ ap (λ (q : ℕ). Access v q) (let z : s ≡ r + 1 + 1 + (s - (r + 1) - 1) = omega arith in z)))
 
 -- A touch and a read of one variable are in order.
 pub touch_and_read : (log : List Entry) (e f : Entry) (v s r : ℕ) → IsLog log → IsIn e log → IsIn f log → e.what ≡ Access v s → f.what ≡ Read v r → Precedes log e f ⊎ Precedes log f e
 touch_and_read log e f v s r good he hf a b = go (cases_lt r s)
   where
-    top : r ≤ places v log
-    top = read_within log f v r good hf b
-
-    chain : (e g f : Entry) → Precedes log e g → IsNext g f → IsIn f log → IsIn g log → Precedes log e f
-    chain e g f (AtOnce i j n) q hf hg = Through i n (AtOnce hg hf q)
-    chain e g f (Through {g = k} i n p) q hf hg = Through i n (chain k g f p q hf hg)
-
-    same : (g : Entry) → IsIn g log → g.what ≡ Access v r → (s ≡ r) ⊎ (s ≢ r) → s ≤ r → Precedes log e f
-    same g hg w (inl k) n = AtOnce he hf (inr (inr (inl (v, r, a ∙ ap (λ (q : ℕ). Access v q) k, b))))
-    same g hg w (inr k) n = chain e g f (touch_chain log (r - s - 1) e g v s good he hg a (w ∙ ap (λ (q : ℕ). Access v q) (let z : r ≡ s + 1 + (r - s - 1) = omega arith in z))) (inr (inr (inl (v, r, w, b)))) hf hg
-
-    past : (g : Entry) → IsIn g log → g.what ≡ Access v (r + 1) → (s ≡ r + 1) ⊎ (s ≢ r + 1) → r < s → Precedes log f e
-    past g hg w (inl k) n = AtOnce hf he (inr (inr (inr (v, r, b, a ∙ ap (λ (q : ℕ). Access v q) k))))
-    past g hg w (inr k) n = Through hf (inr (inr (inr (v, r, b, w)))) (touch_chain log (s - (r + 1) - 1) g e v (r + 1) good hg he w (a ∙ ap (λ (q : ℕ). Access v q) (let z : s ≡ r + 1 + 1 + (s - (r + 1) - 1) = omega arith in z)))
-
     go : (r < s) ⊎ (s ≤ r) → Precedes log e f ⊎ Precedes log f e
-    go (inl n) =
-        let w : (1 ≤ s) × (s ≤ places v log) = place_within log e v s good he a in
-        let g = touch_there log v (r + 1) good (omega arith) (omega (arith, n, w)) in inr (past g.0 g.1 g.2 (is_or s (r + 1)) n)
-    go (inr n) =
-        let w : (1 ≤ s) × (s ≤ places v log) = place_within log e v s good he a in
-        let g = touch_there log v r good (omega (arith, n, w)) top in inl (same g.0 g.1 g.2 (is_or s r) n)
+    go (inl n) = inr (read_then_touch log e f v s r good he hf a b n)
+    go (inr n) = inl (touch_then_read log e f v s r good he hf a b n)

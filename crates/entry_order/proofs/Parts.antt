@@ -4,17 +4,13 @@ use Rattle.std.proofs.lemmas.Bool.{cases_lt}
 use Rattle.entry_order.specs.Log.{Entry, PrecedesOrIs, entries, IsLog, IsIn, IsNext, Precedes, AtOnce, Through, IsClosed}
 use Rattle.entry_order.specs.Stamps.{IsStamp}
 use Rattle.entry_order.specs.Closed.{IsClosedOver, IsClosedPart, IsFrontier}
-use Rattle.entry_order.proofs.Order.{is_or, number_within, thread_chain, entry_there, same_number}
+use Rattle.entry_order.proofs.Order.{is_or, number_within, thread_chain, entry_there, same_number, precedes_trans}
 use Rattle.entry_order.proofs.Stamping.{precedes_more, precedes_old}
-
-chain : (log : List Entry) (f g x : Entry) → Precedes log f g → Precedes log g x → Precedes log f x
-chain log f g x (AtOnce i j n) q = Through i n q
-chain log f g x (Through {g = k} i n r) q = Through i n (chain log k g x r q)
 
 or_chain : (log : List Entry) (f g x : Entry) → PrecedesOrIs log f g → PrecedesOrIs log g x → PrecedesOrIs log f x
 or_chain log f g x (inl e) q = subst (λ (z : Entry). PrecedesOrIs log z x) (sym e) q
 or_chain log f g x (inr r) (inl e) = inr (subst (λ (z : Entry). Precedes log f z) e r)
-or_chain log f g x (inr r) (inr q) = inr (chain log f g x r q)
+or_chain log f g x (inr r) (inr q) = inr (precedes_trans log f g x r q)
 
 -- A stamp covers exactly what precedes.
 pub stamp_covers : (log : List Entry) (e f : Entry) (s : ℕ → ℕ) → IsLog log → IsStamp log e s → IsIn f log → f.number ≤ s f.thread → PrecedesOrIs log f e
@@ -129,3 +125,7 @@ closed_part log stored held part stamps frontier good held_in stored_closed stor
                 both : IsIn f other ⊎ IsIn f stored → IsIn f held ⊎ IsIn f stored
                 both (inl a) = inl (sub f a)
                 both (inr a) = inr a
+
+-- Two closed parts have the same members.
+pub part_unique : (log stored held part other : List Entry) → IsClosedPart log stored held part → IsClosedPart log stored held other → (e : Entry) → IsIn e part → IsIn e other
+part_unique log stored held part other a b e here = b.greatest part a.within a.closed e here

@@ -7,7 +7,7 @@ use Rattle.entry_order.specs.declared.what.What.{What}
 use Rattle.entry_order.specs.declared.what.What.TheVariants.{Access, Read, Clock, Draw}
 use Rattle.entry_order.specs.Log.{Entry, PrecedesOrIs, entries, places, IsLog, IsIn, StandsBefore, IsNext, Precedes, AtOnce, Through}
 use Rattle.entry_order.specs.Stamps.{IsStamp, shares, binds, joined, stamp}
-use Rattle.entry_order.proofs.Order.{is_or, number_within, place_within, newest, before_in, stands_after, next_stands, thread_chain, touch_chain, touch_and_read}
+use Rattle.entry_order.proofs.Order.{is_or, number_within, place_within, newest, before_in, stands_after, next_stands, thread_chain, touch_chain, touch_and_read, precedes_trans}
 
 -- a chain in a longer log
 pub precedes_more : (x : Entry) (log : List Entry) (e f : Entry) → Precedes log e f → Precedes (x ∷ log) e f
@@ -15,7 +15,7 @@ precedes_more x log e f (AtOnce a b n) = AtOnce (inr a) (inr b) n
 precedes_more x log e f (Through {g = g} a n p) = Through (inr a) n (precedes_more x log g f p)
 
 -- a chain that ends before the newest entry does not meet it
-stands_old : (x : Entry) (log : List Entry) (e f : Entry) → StandsBefore (x ∷ log) e f → IsIn e log
+pub stands_old : (x : Entry) (log : List Entry) (e f : Entry) → StandsBefore (x ∷ log) e f → IsIn e log
 stands_old x log e f (inl h) = h.1
 stands_old x log e f (inr h) = (before_in log e f h).0
 
@@ -25,7 +25,7 @@ precedes_less x log e f good (Through {g = g} a n p) h =
     Through (stands_old x log e g (next_stands (x ∷ log) e g good a (before_in (x ∷ log) g f (stands_after (x ∷ log) g f good p)).0 n)) n (precedes_less x log g f good p h)
 
 -- the last link of a chain
-last_link : (log : List Entry) (e f : Entry) → Precedes log e f → (h : Entry) × IsIn h log × IsNext h f × PrecedesOrIs log e h
+pub last_link : (log : List Entry) (e f : Entry) → Precedes log e f → (h : Entry) × IsIn h log × IsNext h f × PrecedesOrIs log e h
 last_link log e f (AtOnce a b n) = (e, a, n, inl refl)
 last_link log e f (Through {g = g} a n p) = go (last_link log g f p)
   where
@@ -53,7 +53,7 @@ next_binds e f (inr (inr (inr n))) = rw (n.2, n.3) (go (nat_eq e.thread f.thread
     go false = grind (arith, nat_tests)
 
 -- an earlier entry that binds precedes
-binds_precedes : (x : Entry) (log : List Entry) (g : Entry) → IsLog (x ∷ log) → IsIn g log → binds x g ≡ true → Precedes (x ∷ log) g x
+pub binds_precedes : (x : Entry) (log : List Entry) (g : Entry) → IsLog (x ∷ log) → IsIn g log → binds x g ≡ true → Precedes (x ∷ log) g x
 binds_precedes x log g good here b = go (is_or g.thread x.thread)
   where
     touch : (v s w r : ℕ) → x.what ≡ Access v s → g.what ≡ Access w r → nat_eq w v ≡ true → Precedes (x ∷ log) g x
@@ -126,13 +126,9 @@ reaches_new p x log u n good ok (inr (f, g, a, b, c, d, e, h)) = inr (f, x, inr 
     link : Precedes (x ∷ log) g x
     link = binds_precedes x log g good b c
 
-    chain : (log : List Entry) (f g x : Entry) → Precedes log f g → Precedes log g x → Precedes log f x
-    chain log f g x (AtOnce i j n) q = Through i n q
-    chain log f g x (Through {g = k} i n r) q = Through i n (chain log k g x r q)
-
     go : PrecedesOrIs log f g → Precedes (x ∷ log) f x
     go (inl same) = subst (λ (z : Entry). Precedes (x ∷ log) z x) (sym same) link
-    go (inr r) = chain (x ∷ log) f g x (precedes_more x log f g r) link
+    go (inr r) = precedes_trans (x ∷ log) f g x (precedes_more x log f g r) link
 
 -- each component is reached, or 0
 joined_reached : (p : Entry → Bool) (log : List Entry) (u : ℕ) → IsLog log → Reaches p log u (joined p log u)
@@ -208,13 +204,9 @@ stamp_is x log good = record {
     old u n (inl h) = inl h
     old u n (inr (f, g, a, b, c, d, e, h)) = inr (f, inr a, d, e, inr (link f g h (binds_precedes x log g good b c)))
       where
-        chain : (f g : Entry) → Precedes (x ∷ log) f g → Precedes (x ∷ log) g x → Precedes (x ∷ log) f x
-        chain f g (AtOnce i j n) q = Through i n q
-        chain f g (Through {g = k} i n r) q = Through i n (chain k g r q)
-
         link : (f g : Entry) → PrecedesOrIs log f g → Precedes (x ∷ log) g x → Precedes (x ∷ log) f x
         link f g (inl e) q = subst (λ (z : Entry). Precedes (x ∷ log) z x) (sym e) q
-        link f g (inr r) q = chain f g (precedes_more x log f g r) q
+        link f g (inr r) q = precedes_trans (x ∷ log) f g x (precedes_more x log f g r) q
 
     go : (u : ℕ) → (u ≡ x.thread) ⊎ (u ≢ x.thread) → Reaches (binds x) log u (joined (binds x) log u) → (stamp x log u ≡ 0) ⊎ ((f : Entry) × IsIn f (x ∷ log) × (f.thread ≡ u) × (f.number ≡ stamp x log u) × PrecedesOrIs (x ∷ log) f x)
     go u (inl e) r = let k : nat_eq u x.thread ≡ true = grind (arith, nat_tests) in inr (x, inl refl, sym e, rw k refl, inl refl)

@@ -1,3 +1,5 @@
 pub mod Program
 pub mod Machine
 pub mod History
+pub mod Agree
+pub mod Continue

@@ -5,9 +5,11 @@
 #![tactic(auto)]
 
 mod emission;
+mod laws;
 mod local;
 mod plain_move;
 
 pub use emission::Emission;
+pub use laws::{entries_are_logged, lists_are_histories, lists_go_on, runs_agree, runs_continue};
 pub use local::{Local, Move};
 pub use plain_move::{PlainMove, PlayCause, PlayFault, Schedule};

@@ -1,0 +1,21 @@
+-- How a run is continued by entries of another one.
+use Rattle.std.specs.Prelude.{◌≡◌, ℕ, List, ◌++◌, Ok}
+use Rattle.plain_text.specs.declared.packet.Packet.{Packet}
+use Rattle.entry_order.specs.Log.{Entry, IsLog, IsIn, IsNext, IsClosed, Keeps}
+use Rattle.plain_machine.specs.declared.plain_move.PlainMove.{PlainMove}
+use Rattle.plain_machine.specs.Program.{Meaning}
+use Rattle.plain_machine.specs.History.{Step, log_of, play}
+
+-- Each immediate predecessor, in the log, of one of the further entries is in the set.
+abbrev pub IsGrounded : List Entry → List Entry → List Entry → Type 0
+IsGrounded log set more = (e g : Entry) → IsIn e more → IsIn g log → IsNext g e → IsIn g set
+
+-- Entries of another run that are numbered on after this one, and whose immediate predecessors in this one are in a closed
+-- set that both keep, are the log of a continuation of this one.
+abbrev pub Continuation : {V : Type 0} → Meaning V → (ℕ → List Packet) → ℕ → Type 0
+Continuation {V} m inputs threads =
+    (past others : List PlainMove) (steps other_steps : List (Step V)) (set more : List Entry)
+    → play m inputs threads past ≡ Ok steps → play m inputs threads others ≡ Ok other_steps
+    → IsClosed (log_of steps) set → Keeps (log_of steps) set → Keeps (log_of other_steps) set
+    → IsLog (more ++ log_of steps) → Keeps (log_of other_steps) more → IsGrounded (log_of steps) set more
+    → (rest : List PlainMove) × (next : List (Step V)) × (play m inputs threads (past ++ rest) ≡ Ok next) × (log_of next ≡ more ++ log_of steps)
