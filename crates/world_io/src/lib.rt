@@ -3,6 +3,9 @@
 
 mod all;
 mod buffered;
+mod files;
+mod memory_file;
+mod names;
 mod stream;
 mod world;
 mod world_stream;
