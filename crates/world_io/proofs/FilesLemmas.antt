@@ -1,11 +1,12 @@
 -- The file of a number, after a change of one file and after one more file.
-use Rattle.std.proofs.Common.{◌≡◌, ◌≢◌, ℕ, zero, suc, ◌+◌, ◌-◌, ◌<◌, ◌≤◌, ◌⊎◌, inl, inr, List, [], ◌∷◌, ◌++◌, Option, Some, None, Bool, true, false, IsTrue, length, get_or, set, slice_get, arith, ap, ◌∙◌, sym, refl, subst, add-one}
+use Rattle.std.proofs.Common.{◌≡◌, ◌≢◌, ℕ, zero, suc, ◌+◌, ◌-◌, ◌<◌, ◌≤◌, ◌⊎◌, inl, inr, List, [], ◌∷◌, ◌++◌, Option, Some, None, Bool, true, false, IsTrue, length, get_or, set, take, slice_get, arith, ap, ◌∙◌, sym, refl, subst, add-one}
+use Rattle.std.specs.Prelude.{Result, Ok, Err, OnOk, OnErr, is_err}
 use mathlib.Core.Path.{fun_ext}
-use Rattle.std.proofs.lemmas.List.{set-get_or}
+use Rattle.std.proofs.lemmas.List.{set-get_or, set-set, take_at}
 use Rattle.world_io.specs.declared.memory_file.CreatedFile.{CreatedFile}
 use Rattle.world_io.specs.declared.memory_file.MemoryFile.{MemoryFile}
 use Rattle.world_io.specs.declared.memory_file.MemoryFile.TheVariants.{Opened, Created}
-use Rattle.world_io.specs.Files.{file_of}
+use Rattle.world_io.specs.Files.{file_of, name_in, TakesFromFile, SendsToFile, CutsFile}
 
 -- sending nothing to a file leaves the files as they were
 pub send_nothing : (files : List MemoryFile) (place : ℕ) (x : MemoryFile) (f : CreatedFile) (sent : List ℕ) → x ≡ get_or files place x → x ≡ Created f → sent ≡ f.sent
@@ -86,3 +87,47 @@ seen_alike-push see files f alike = fun_ext (λ k. elim (same_or_other k (length
         ∙ sym (ap see (file_of-push_old files)) ∙ sym (ap (λ j. see (file_of files j)) same)
   | inr differ ↦ ap see (file_of-push_other files f k differ)
   ])
+
+set-there : {X : Type 0} (xs : List X) (i : ℕ) (x : X) → slice_get xs i ≡ Some x → set xs i x ≡ xs
+set-there [] i x there = refl
+set-there (z ∷ zs) zero x there =
+    let e : z ≡ x = cc in
+    ap (λ w. w ∷ zs) (sym e)
+set-there (z ∷ zs) (suc i) x there = ap (λ ws. z ∷ ws) (set-there zs i x there)
+
+set-file_of : (files : List MemoryFile) (n : ℕ) (f : MemoryFile) → file_of files n ≡ Some f → set files (n - 1) f ≡ files
+set-file_of files zero f there = cc
+set-file_of files (suc n) f there =
+    let e : suc n - 1 ≡ n = omega arith in
+    rw e (set-there files n f there)
+
+-- taking nothing from a file leaves the files as they were
+pub TakesFromFile-nothing : (n : ℕ) (old new : List MemoryFile) → TakesFromFile n [] old new → new ≡ old
+TakesFromFile-nothing n old new t = t.after ∙ set-file_of old n (Opened t.rest) t.had
+
+-- what was sent is cut away again
+pub CutsFile-sent : (n count : ℕ) (bytes : List ℕ) (f : CreatedFile) (a b c : List MemoryFile) → file_of a n ≡ Some (Created f) → count ≡ length f.sent
+    → SendsToFile n bytes a b → CutsFile n count b c → c ≡ a
+CutsFile-sent n count bytes f a b c had size sends cuts =
+    let file : sends.file ≡ f = let h = sends.had in cc in
+    let whole : CreatedFile = record f { sent = f.sent ++ bytes } in
+    let sent : b ≡ set a (n - 1) (Created whole) = sends.after ∙ ap (λ g. set a (n - 1) (Created (record g { sent = g.sent ++ bytes }))) file in
+    let now : file_of b n ≡ Some (Created whole) = ap (λ l. file_of l n) sent ∙ file_of-set_same a n (Created f) (Created whole) had in
+    let cut : cuts.file ≡ whole = let h = cuts.had in cc in
+    let back : take count (f.sent ++ bytes) ≡ f.sent = take_at f.sent bytes count (sym size) in
+    cuts.after ∙ ap (λ g. set b (n - 1) (Created (record g { sent = take count g.sent }))) cut
+    ∙ ap (λ l. set b (n - 1) (Created (record f { sent = l }))) back
+    ∙ ap (λ l. set l (n - 1) (Created f)) sent ∙ set-set a (n - 1) (Created whole) (Created f) ∙ set-file_of a n (Created f) had
+
+-- sending to a file leaves its name
+pub SendsToFile-name : (n : ℕ) (bytes : List ℕ) (g : CreatedFile) (a b : List MemoryFile) → SendsToFile n bytes a b → file_of b n ≡ Some (Created g) → g.name ≡ name_in (file_of a n)
+SendsToFile-name n bytes g a b sends there =
+    sym (ap name_in there) ∙ ap (λ l. name_in (file_of l n)) sends.after ∙ ap name_in (file_of-set_same a n _ _ sends.had) ∙ sym (ap name_in sends.had)
+
+pub at_ok : {T E P : Type 0} (r : Result T E) → false ≡ is_err r → OnOk r P → P
+at_ok (Ok x) e h = h
+at_ok (Err y) e h = cc
+
+pub at_err : {T E P : Type 0} (r : Result T E) → true ≡ is_err r → OnErr r P → P
+at_err (Ok x) e h = cc
+at_err (Err y) e h = h

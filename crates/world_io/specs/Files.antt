@@ -1,5 +1,5 @@
 -- The files of a world in memory, each under its number: the place where it stands, counted from 1.
-use Rattle.std.specs.Prelude.{◌≡◌, ℕ, zero, suc, ◌-◌, Bool, true, false, List, [], ◌++◌, Option, Some, None, slice_get, slice_set}
+use Rattle.std.specs.Prelude.{◌≡◌, ℕ, zero, suc, ◌-◌, Bool, true, false, List, [], ◌++◌, Option, Some, None, slice_get, slice_set, take}
 use Rattle.world_io.specs.declared.memory_file.CreatedFile.{CreatedFile}
 use Rattle.world_io.specs.declared.memory_file.MemoryFile.{MemoryFile}
 use Rattle.world_io.specs.declared.memory_file.MemoryFile.TheVariants.{Opened, Created}
@@ -45,3 +45,9 @@ pub record SendsToFile (number : ℕ) (bytes : List ℕ) (old new : List MemoryF
   pub file : CreatedFile
   pub had : file_of old number ≡ Some (Created file)
   pub after : new ≡ slice_set old (number - 1) (Created (record file { sent = file.sent ++ bytes }))
+
+-- what was sent to the created file of this number was cut to so many bytes
+pub record CutsFile (number count : ℕ) (old new : List MemoryFile) : Type 0 where
+  pub file : CreatedFile
+  pub had : file_of old number ≡ Some (Created file)
+  pub after : new ≡ slice_set old (number - 1) (Created (record file { sent = take count file.sent }))

@@ -1,5 +1,6 @@
 pub mod All
 pub mod Buffered
+pub mod Calls
 pub mod Files
 pub mod Memory
 pub mod Names

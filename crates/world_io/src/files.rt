@@ -1,7 +1,7 @@
 ghost use Rattle.std.specs.Prelude.{◌≡◌, ◌≢◌, ◌++◌, ◌∷◌, [], length, take, IsTrue, OnOk, OnErr};
 ghost use Rattle.world_io.specs.declared.memory_file.MemoryFile.TheVariants.{Opened, Created};
 ghost use Rattle.world_io.specs.Stream.{FillCount, filled_bytes, EndsAtEnd};
-ghost use Rattle.world_io.specs.Files.{file_of, is_opened, is_created, left_in, name_in, TakesFromFile, SendsToFile};
+ghost use Rattle.world_io.specs.Files.{file_of, is_opened, is_created, left_in, name_in, TakesFromFile, SendsToFile, CutsFile};
 
 use crate::Filled;
 use crate::memory_file::{CreatedFile, MemoryFile, OpenedFile};
@@ -97,6 +97,17 @@ impl Files {
     {
         match &mut self.files[number as usize - 1] {
             MemoryFile::Created(created) => created.sent.extend(bytes),
+            MemoryFile::Opened(_) => unreachable!(),
+        }
+    }
+
+    /// Keeps the first bytes that a created file was sent, at most so many.
+    pub fn cut(&mut self, number: u32, count: usize)
+        requires { IsTrue (is_created (file_of self.old number)) }
+        ensures { CutsFile number count self.old self.new }
+    {
+        match &mut self.files[number as usize - 1] {
+            MemoryFile::Created(created) => created.sent.truncate(count),
             MemoryFile::Opened(_) => unreachable!(),
         }
     }
