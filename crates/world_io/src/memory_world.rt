@@ -1,10 +1,10 @@
-ghost use Rattle.std.specs.Prelude.{◌≡◌, ◌<◌, ◌-◌, ◌^◌, ◌⊎◌, ◌++◌, ◌∷◌, [], length, IsTrue, IfOk, OnOk, OnErr};
+ghost use Rattle.std.specs.Prelude.{◌≡◌, ◌<◌, ◌-◌, ◌^◌, ◌⊎◌, ◌++◌, ◌∷◌, [], length, true, IsTrue, IfOk, OnOk, OnErr, IsErrOf};
 ghost use Rattle.std.specs.Option.{option_copied};
-ghost use Rattle.world_io.specs.Stream.{FillCount};
-ghost use Rattle.world_io.specs.World.{is_writable};
+ghost use Rattle.world_io.specs.Stream.{Rose, FillCount, filled_bytes, EndsAtEnd, PutCount, put_bytes};
+ghost use Rattle.world_io.specs.World.{KeepsLedgerReading, KeepsLedgerWriting, GivesOpened, GivesCreated, OpensFile, ReadsFile, CreatesFile, CreatesNothing, WritesFile, FilledNothing, PutNothing, is_writable};
 ghost use Rattle.world_io.specs.Names.{bytes_under, SetsName};
 ghost use Rattle.world_io.specs.Files.{file_of, is_opened, is_created};
-ghost use Rattle.world_io.specs.Memory.{empty_memory, ledger_of, Opens, Fills, Creates, Sends, Puts};
+ghost use Rattle.world_io.specs.Memory.{empty_memory, shown_of, ledger_of, Opens, Fills, Creates, Sends, Puts};
 
 use crate::calls::Calls;
 use crate::files::Files;
@@ -181,19 +181,60 @@ impl World for MemoryWorld {
 
     ghost ledger = { ledger_of };
 
-    fn open_file(&mut self, name: &Text) -> Result<u32, OpenFault> {
+    fn open_file(&mut self, name: &Text) -> Result<u32, OpenFault>
+        requires { (ledger_of self.old).given < 2 ^ 32 - 1 }
+        ensures told { IsTrue true → IfOk result (λ file. OpensFile name.now file (shown_of self.old) (shown_of self.new)) }
+        ensures told_err { IsTrue true → OnErr result (shown_of self.new ≡ shown_of self.old) }
+        ensures given { IfOk result (λ file. GivesOpened file (ledger_of self.old) (ledger_of self.new)) }
+        ensures not_given { OnErr result (KeepsLedgerReading (ledger_of self.old) (ledger_of self.new)) }
+        ensures cause { IsErrOf result OpenFault.Failed → Rose (ledger_of self.old).read_faults (ledger_of self.new).read_faults }
+
+        // Beyond any world: when it fails, and what it does to the plain data.
+        ensures opens { Opens self.old name.now result self.new }
+    {
         self.open(name)
     }
 
-    fn fill(&mut self, file: u32, piece: &mut [u8]) -> Filled {
+    fn fill(&mut self, file: u32, piece: &mut [u8]) -> Filled
+        requires { IsTrue ((ledger_of self.old).opened file) }
+        ensures count { FillCount result (length piece.old) }
+        ensures told { IsTrue true → ReadsFile file (filled_bytes result piece.new) (shown_of self.old) (shown_of self.new) }
+        ensures told_nothing { IsTrue true → FilledNothing result → shown_of self.new ≡ shown_of self.old }
+        ensures end { IsTrue true → EndsAtEnd result ((shown_of self.old).left file) }
+        ensures ledger { KeepsLedgerReading (ledger_of self.old) (ledger_of self.new) }
+        ensures cause { result ≡ Filled.Failed → Rose (ledger_of self.old).read_faults (ledger_of self.new).read_faults }
+
+        // Beyond any world: when it fails, and what it does to the plain data.
+        ensures fills { Fills self.old file result piece.new self.new }
+    {
         self.take(file, piece)
     }
 
-    fn create_file(&mut self, name: &Text) -> Result<u32, OpenFault> {
+    fn create_file(&mut self, name: &Text) -> Result<u32, OpenFault>
+        requires { (ledger_of self.old).given < 2 ^ 32 - 1 }
+        ensures told { IsTrue true → IfOk result (λ file. CreatesFile name.now file (shown_of self.old) (shown_of self.new)) }
+        ensures told_err { IsTrue true → OnErr result (CreatesNothing name.now (shown_of self.old) (shown_of self.new)) }
+        ensures given { IfOk result (λ file. GivesCreated file (ledger_of self.old) (ledger_of self.new)) }
+        ensures not_given { OnErr result (KeepsLedgerWriting (ledger_of self.old) (ledger_of self.new)) }
+        ensures cause { IsErrOf result OpenFault.Failed → Rose (ledger_of self.old).write_faults (ledger_of self.new).write_faults }
+
+        // Beyond any world: when it fails, and what it does to the plain data.
+        ensures creates { Creates self.old name.now result self.new }
+    {
         self.create(name)
     }
 
-    fn put(&mut self, file: u32, piece: &[u8]) -> Put {
+    fn put(&mut self, file: u32, piece: &[u8]) -> Put
+        requires { IsTrue (is_writable (ledger_of self.old) file) }
+        ensures count { PutCount result (length piece.now) }
+        ensures told { IsTrue true → WritesFile file (put_bytes result piece.now) (shown_of self.old) (shown_of self.new) }
+        ensures told_nothing { IsTrue true → PutNothing result → shown_of self.new ≡ shown_of self.old }
+        ensures ledger { KeepsLedgerWriting (ledger_of self.old) (ledger_of self.new) }
+        ensures cause { result ≡ Put.Failed → Rose (ledger_of self.old).write_faults (ledger_of self.new).write_faults }
+
+        // Beyond any world: when it fails, and what it does to the plain data.
+        ensures puts { Puts self.old file result piece.now self.new }
+    {
         self.append(file, piece)
     }
 }
