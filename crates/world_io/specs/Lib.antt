@@ -1,5 +1,9 @@
 pub mod All
 pub mod Buffered
+pub mod Calls
+pub mod Files
+pub mod Memory
+pub mod Names
 pub mod OneFile
 pub mod Stream
 pub mod World

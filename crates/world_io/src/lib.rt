@@ -3,12 +3,18 @@
 
 mod all;
 mod buffered;
+mod calls;
+mod files;
+mod memory_file;
+mod memory_world;
+mod names;
 mod stream;
 mod world;
 mod world_stream;
 
 pub use all::{ReadAll, WriteAll, read_all, write_all};
 pub use buffered::BufferedSource;
+pub use memory_world::MemoryWorld;
 pub use stream::{Filled, Put, Sink, SliceSource, Source};
 pub use world::{OpenFault, World};
 pub use world_stream::{WorldSink, WorldSource};

@@ -3,7 +3,7 @@ ghost use Rattle.world_io.specs.Stream.{Rose, FillCount, filled_bytes, EndsAtEnd
 ghost use Rattle.world_io.specs.World.{Shown, Ledger, KeepsLedgerReading, KeepsLedgerWriting, GivesOpened, GivesCreated, OpensFile, ReadsFile, CreatesFile, CreatesNothing, WritesFile, FilledNothing, PutNothing, is_writable};
 
 use crate::{Filled, Put};
-use plain_text::Text;
+use plain_text::{NoMemory, Text};
 
 /// Why a file was not opened or not created.
 #[derive(Clone, Copy, Debug, PartialEq, Eq)]
@@ -11,6 +11,17 @@ pub enum OpenFault {
     /// The outside refused it, and a count of faults rose.
     Failed,
     NoMemory,
+}
+
+impl From<NoMemory> for OpenFault {
+    ghost use Rattle.std.specs.Prelude.{◌≡◌};
+    ghost use Rattle.world_io.specs.declared.world.OpenFault.TheVariants as fault;
+
+    ghost from_gives = { λ _ r. r ≡ fault.NoMemory };
+
+    fn from(_: NoMemory) -> Self {
+        OpenFault::NoMemory
+    }
 }
 
 /// The outside: named files, and the report, which is file 0 and is always there.

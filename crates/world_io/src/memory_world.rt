@@ -1,0 +1,240 @@
+ghost use Rattle.std.specs.Prelude.{◌≡◌, ◌<◌, ◌-◌, ◌^◌, ◌⊎◌, ◌++◌, ◌∷◌, [], length, true, IsTrue, IfOk, OnOk, OnErr, IsErrOf};
+ghost use Rattle.std.specs.Option.{option_copied};
+ghost use Rattle.world_io.specs.Stream.{Rose, FillCount, filled_bytes, EndsAtEnd, PutCount, put_bytes};
+ghost use Rattle.world_io.specs.World.{KeepsLedgerReading, KeepsLedgerWriting, GivesOpened, GivesCreated, OpensFile, ReadsFile, CreatesFile, CreatesNothing, WritesFile, FilledNothing, PutNothing, is_writable};
+ghost use Rattle.world_io.specs.Names.{bytes_under, SetsName};
+ghost use Rattle.world_io.specs.Files.{file_of, is_opened, is_created};
+ghost use Rattle.world_io.specs.Memory.{empty_memory, shown_of, ledger_of, Opens, Fills, Creates, Sends, Puts};
+
+use crate::calls::Calls;
+use crate::files::Files;
+use crate::names::Names;
+use crate::{Filled, OpenFault, Put, World};
+use plain_text::{Bytes, NoMemory, Text};
+use std::alloc::Global;
+use std::marker::Model;
+
+/// A world in memory, for tests: names with their bytes, the report, and calls that fail where they are told to.
+///
+/// Calls of `open_file` and `fill` are numbered together from 1, and so are those of `create_file` and `put`, over
+/// the world's life and whatever they answered. Numbers go up to 2^64 - 1, and every later call has this last
+/// number too. Opening a name that is not there fails. A file that was opened goes on with the bytes that its
+/// name had then.
+#[derive(Debug, Drop)]
+pub struct MemoryWorld {
+    alloc: Global,
+    names: Names,
+    files: Files,
+    report: Bytes,
+    reading: Calls,
+    writing: Calls,
+}
+
+impl Model for MemoryWorld {
+    ghost use Rattle.world_io.specs.Memory.{Memory};
+
+    ghost Value = { Memory };
+
+    ghost view = { λ w. record { names = w.names; files = w.files; report = w.report; reading = w.reading; writing = w.writing } };
+}
+
+impl MemoryWorld {
+    /// No names, an empty report, no calls and no faults.
+    pub fn new(alloc: Global) -> Result<MemoryWorld, NoMemory>
+        ensures { IfOk result (λ world. world ≡ empty_memory) }
+    {
+        Ok(MemoryWorld {
+            alloc,
+            names: Names::new(alloc),
+            files: Files::new(alloc),
+            report: Bytes::new(alloc),
+            reading: Calls::new(alloc),
+            writing: Calls::new(alloc),
+        })
+    }
+
+    /// Sets the bytes of a name.
+    pub fn add(&mut self, name: &Text, bytes: Bytes) -> Result<(), NoMemory>
+        ensures ok { OnOk result (SetsName name.now bytes self.old.names self.new.names) }
+        ensures others { self.new ≡ record self.old { names = self.new.names } }
+        ensures err { OnErr result (self.new ≡ self.old) }
+    {
+        self.names.set(self.alloc, name, bytes)
+    }
+
+    /// Makes the nth call of `open_file` or `fill` fail.
+    pub fn fail_read(&mut self, nth: u64) -> Result<(), NoMemory>
+        ensures ok { OnOk result (self.new ≡ record self.old { reading = record self.old.reading { failing = self.old.reading.failing ++ nth ∷ [] } }) }
+        ensures err { OnErr result (self.new ≡ self.old) }
+    {
+        self.reading.fail(nth)
+    }
+
+    /// Makes the nth call of `create_file` or `put` fail.
+    pub fn fail_write(&mut self, nth: u64) -> Result<(), NoMemory>
+        ensures ok { OnOk result (self.new ≡ record self.old { writing = record self.old.writing { failing = self.old.writing.failing ++ nth ∷ [] } }) }
+        ensures err { OnErr result (self.new ≡ self.old) }
+    {
+        self.writing.fail(nth)
+    }
+
+    /// The bytes of a name, or none exactly where the name is not there.
+    pub fn bytes(&self, name: &Text) -> Option<&[u8]>
+        ensures { option_copied result ≡ bytes_under self.now.names name.now }
+    {
+        self.names.bytes(name.as_str())
+    }
+
+    pub fn report(&self) -> &[u8]
+        ensures { result.now ≡ self.now.report }
+    {
+        self.report.as_slice()
+    }
+
+    fn open(&mut self, name: &Text) -> Result<u32, OpenFault>
+        requires { length self.old.files < 2 ^ 32 - 1 }
+        ensures { Opens self.old name.now result self.new }
+    {
+        if self.reading.next_fails() {
+            return Err(OpenFault::Failed);
+        }
+        let Some(bytes) = self.names.bytes(name.as_str()) else {
+            self.reading.fault();
+            return Err(OpenFault::Failed);
+        };
+        let bytes = Bytes::of(self.alloc, bytes)?;
+        self.files.open(bytes)?;
+        Ok(self.files.len() as u32)
+    }
+
+    fn take(&mut self, file: u32, piece: &mut [u8]) -> Filled
+        requires { IsTrue (is_opened (file_of self.old.files file)) }
+        ensures count { FillCount result (length piece.old) }
+        ensures fills { Fills self.old file result piece.new self.new }
+    {
+        if self.reading.next_fails() {
+            return Filled::Failed;
+        }
+        self.files.fill(file, piece)
+    }
+
+    fn create(&mut self, name: &Text) -> Result<u32, OpenFault>
+        requires { length self.old.files < 2 ^ 32 - 1 }
+        ensures { Creates self.old name.now result self.new }
+    {
+        if self.writing.next_fails() {
+            return Err(OpenFault::Failed);
+        }
+        let count = self.files.len();
+        let copy = Text::of(self.alloc, name.as_str())?;
+        self.files.create(copy, Bytes::new(self.alloc))?;
+        if self.names.set(self.alloc, name, Bytes::new(self.alloc)).is_err() {
+            self.files.truncate(count);
+            return Err(OpenFault::NoMemory);
+        }
+        Ok(self.files.len() as u32)
+    }
+
+    fn append(&mut self, file: u32, piece: &[u8]) -> Put
+        requires { IsTrue (is_writable (ledger_of self.old) file) }
+        ensures { Puts self.old file result piece.now self.new }
+    {
+        if self.writing.next_fails() {
+            return Put::Failed;
+        }
+        if file == 0 {
+            return match self.report.extend(piece) {
+                Ok(()) => Put::Took(piece.len()),
+                Err(NoMemory) => Put::NoMemory,
+            };
+        }
+        match self.send(file, piece) {
+            Ok(()) => Put::Took(piece.len()),
+            Err(NoMemory) => Put::NoMemory,
+        }
+    }
+
+    /// Appends to a created file, and to the bytes of its name.
+    fn send(&mut self, file: u32, piece: &[u8]) -> Result<(), NoMemory>
+        requires { IsTrue (is_created (file_of self.old.files file)) }
+        ensures ok { OnOk result (Sends file piece.now self.old self.new) }
+        ensures err { OnErr result (self.new ≡ self.old) }
+    {
+        let sent = self.files.created(file).sent.len();
+        self.files.send(file, piece)?;
+        let name = self.files.created(file).name.as_str();
+        if self.names.append(name, piece).is_err() {
+            self.files.cut(file, sent);
+            return Err(NoMemory);
+        }
+        Ok(())
+    }
+}
+
+impl World for MemoryWorld {
+    ghost use Rattle.std.specs.Prelude.{true};
+    ghost use Rattle.world_io.specs.Memory.{shown_of, ledger_of};
+
+    ghost tells = { true };
+
+    ghost shown = { shown_of };
+
+    ghost ledger = { ledger_of };
+
+    fn open_file(&mut self, name: &Text) -> Result<u32, OpenFault>
+        requires { (ledger_of self.old).given < 2 ^ 32 - 1 }
+        ensures told { IsTrue true → IfOk result (λ file. OpensFile name.now file (shown_of self.old) (shown_of self.new)) }
+        ensures told_err { IsTrue true → OnErr result (shown_of self.new ≡ shown_of self.old) }
+        ensures given { IfOk result (λ file. GivesOpened file (ledger_of self.old) (ledger_of self.new)) }
+        ensures not_given { OnErr result (KeepsLedgerReading (ledger_of self.old) (ledger_of self.new)) }
+        ensures cause { IsErrOf result OpenFault.Failed → Rose (ledger_of self.old).read_faults (ledger_of self.new).read_faults }
+
+        // Beyond any world: when it fails, and what it does to the plain data.
+        ensures opens { Opens self.old name.now result self.new }
+    {
+        self.open(name)
+    }
+
+    fn fill(&mut self, file: u32, piece: &mut [u8]) -> Filled
+        requires { IsTrue ((ledger_of self.old).opened file) }
+        ensures count { FillCount result (length piece.old) }
+        ensures told { IsTrue true → ReadsFile file (filled_bytes result piece.new) (shown_of self.old) (shown_of self.new) }
+        ensures told_nothing { IsTrue true → FilledNothing result → shown_of self.new ≡ shown_of self.old }
+        ensures end { IsTrue true → EndsAtEnd result ((shown_of self.old).left file) }
+        ensures ledger { KeepsLedgerReading (ledger_of self.old) (ledger_of self.new) }
+        ensures cause { result ≡ Filled.Failed → Rose (ledger_of self.old).read_faults (ledger_of self.new).read_faults }
+
+        // Beyond any world: when it fails, and what it does to the plain data.
+        ensures fills { Fills self.old file result piece.new self.new }
+    {
+        self.take(file, piece)
+    }
+
+    fn create_file(&mut self, name: &Text) -> Result<u32, OpenFault>
+        requires { (ledger_of self.old).given < 2 ^ 32 - 1 }
+        ensures told { IsTrue true → IfOk result (λ file. CreatesFile name.now file (shown_of self.old) (shown_of self.new)) }
+        ensures told_err { IsTrue true → OnErr result (CreatesNothing name.now (shown_of self.old) (shown_of self.new)) }
+        ensures given { IfOk result (λ file. GivesCreated file (ledger_of self.old) (ledger_of self.new)) }
+        ensures not_given { OnErr result (KeepsLedgerWriting (ledger_of self.old) (ledger_of self.new)) }
+        ensures cause { IsErrOf result OpenFault.Failed → Rose (ledger_of self.old).write_faults (ledger_of self.new).write_faults }
+
+        // Beyond any world: when it fails, and what it does to the plain data.
+        ensures creates { Creates self.old name.now result self.new }
+    {
+        self.create(name)
+    }
+
+    fn put(&mut self, file: u32, piece: &[u8]) -> Put
+        requires { IsTrue (is_writable (ledger_of self.old) file) }
+        ensures count { PutCount result (length piece.now) }
+        ensures told { IsTrue true → WritesFile file (put_bytes result piece.now) (shown_of self.old) (shown_of self.new) }
+        ensures told_nothing { IsTrue true → PutNothing result → shown_of self.new ≡ shown_of self.old }
+        ensures ledger { KeepsLedgerWriting (ledger_of self.old) (ledger_of self.new) }
+        ensures cause { result ≡ Put.Failed → Rose (ledger_of self.old).write_faults (ledger_of self.new).write_faults }
+
+        // Beyond any world: when it fails, and what it does to the plain data.
+        ensures puts { Puts self.old file result piece.now self.new }
+    {
+        self.append(file, piece)
+    }
+}
