@@ -1,13 +1,14 @@
 -- What stands in a file header.
-use Rattle.std.proofs.Common.{◌≡◌, ℕ, ◌+◌, ◌≤◌, List, ◌++◌, length, take, drop, Option, Some, None, true, ◌&&◌, ◌==◌, refl, sym, ap, ◌∙◌, arith, append_assoc, length-append, drop-drop, ◌-◌}
-use Rattle.std.proofs.lemmas.List.{drop_at, take_all, take_rest, take-append-drop, length-drop, length-take}
-use Rattle.std.proofs.lemmas.Bool.{le-ltb}
+use Rattle.std.proofs.Common.{◌≡◌, ℕ, ◌+◌, ◌≤◌, List, ◌++◌, length, take, drop, Option, Some, None, Bool, true, false, ◌&&◌, ◌==◌, if◌then◌else◌, refl, sym, ap, ◌∙◌, arith, append_assoc, length-append, drop-drop, ◌-◌}
+use Rattle.std.proofs.lemmas.List.{drop_at, take_all, take-append-drop, length-drop, length-take}
+use Rattle.std.proofs.lemmas.Bool.{le-ltb, eqb-true}
 use Rattle.plain_text.specs.declared.packet.Unit.{Unit as TimeUnit}
 use Rattle.plain_text.specs.declared.packet.Unit.TheVariants.{Micro, Nano}
 use Rattle.pcap_io.specs.declared.order.Order.{Order}
 use Rattle.pcap_io.specs.declared.order.Order.TheVariants.{Little, Big}
+use Rattle.pcap_io.specs.declared.fault.CaptureFault.{CaptureFault}
 use Rattle.pcap_io.specs.Capture.{spelled, number, magic, header_of}
-use Rattle.pcap_io.specs.Faults.{form_of, later_fault, header_fault}
+use Rattle.pcap_io.specs.Faults.{form_of, form_fault, later_fault, header_fault}
 use Rattle.pcap_io.proofs.Spelled.{IsBytes, IsBytes-drop, length-spelled, number-spelled, number-append, number-drop, spelled_2, spelled_4}
 
 pub form_of-header_of : (o : Order) (u : TimeUnit) (unused more : List ℕ) → form_of (header_of o u unused ++ more) ≡ Some (o, u)
@@ -70,22 +71,32 @@ header_parts head long =
     )
     (take-append-drop 4 head)
 
--- a header's numbers, read from its slices, make a header
-pub spelled_header : (o : Order) (u : TimeUnit) (head : List ℕ) (major minor link : ℕ) → length head ≡ 24 → IsBytes head → number o 4 head ≡ magic u
-    → major ≡ number o 2 (take (length head - 4) (drop 4 head)) → major ≡ 2 → minor ≡ number o 2 (take (length head - 6) (drop 6 head)) → minor ≡ 4
-    → link ≡ number o 4 (take (length head - 20) (drop 20 head)) → link ≡ 1
-    → (unused : List ℕ) × (length unused ≡ 12) × (head ≡ header_of o u unused)
-spelled_header o u head major minor link long bytes magic_is major_is is_2 minor_is is_4 link_is is_1 =
-    let m : spelled o 4 (magic u) ≡ take 4 head = ap (spelled o 4) (sym magic_is) ∙ spelled_4 o head (omega arith) bytes in
-    let two : (k : ℕ) → k + 2 ≤ 24 → (n x : ℕ) → n ≡ number o 2 (take (length head - k) (drop k head)) → n ≡ x → spelled o 2 x ≡ take 2 (drop k head) =
-    λ k room n x is known. ap (spelled o 2) (sym known ∙ is ∙ ap (number o 2) (take_rest head k)) ∙ spelled_2 o (drop k head) (omega (arith, length-drop k head)) (IsBytes-drop k head bytes) in
-    let l : spelled o 4 1 ≡ take 4 (drop 20 head) =
-    ap (spelled o 4) (sym is_1 ∙ link_is ∙ ap (number o 4) (take_rest head 20)) ∙ spelled_4 o (drop 20 head) (omega (arith, length-drop 20 head)) (IsBytes-drop 20 head bytes) in
-    (take 12 (drop 8 head), omega (arith, length-take 12 (drop 8 head), length-drop 8 head), sym (rw (m, two 4 (omega arith) major 2 major_is is_2, two 6 (omega arith) minor 4 minor_is is_4, l) (header_parts head long)))
+-- no fault of the later numbers: each is what it is to be
+later_numbers : (a b c : Bool) (link version : CaptureFault) → (if a && b then if c then None else Some link else Some version) ≡ None → (a ≡ true) × (b ≡ true) × (c ≡ true)
+later_numbers true true true link version none = (refl, refl, refl)
+later_numbers true true false link version none = cc
+later_numbers true false c link version none = cc
+later_numbers false b c link version none = cc
 
-later_fault-append : (form : Option (Order × TimeUnit)) (head more : List ℕ) → length head ≡ 24 → later_fault form (head ++ more) ≡ later_fault form head
-later_fault-append None head more long = refl
-later_fault-append (Some form) head more long =
+-- bytes that have the magic and no fault of the later numbers are a header
+pub spelled_header : (o : Order) (u : TimeUnit) (head : List ℕ) → length head ≡ 24 → IsBytes head → number o 4 head ≡ magic u → later_fault o head ≡ None
+    → (unused : List ℕ) × (length unused ≡ 12) × (head ≡ header_of o u unused)
+spelled_header o u head long bytes magic_is faultless =
+    let numbers = later_numbers (number o 2 (drop 4 head) == 2) (number o 2 (drop 6 head) == 4) (number o 4 (drop 20 head) == 1) _ _ faultless in
+    let first : spelled o 4 (magic u) ≡ take 4 head = ap (spelled o 4) (sym magic_is) ∙ spelled_4 o head (omega arith) bytes in
+    let two : (k x : ℕ) → k + 2 ≤ 24 → number o 2 (drop k head) ≡ x → spelled o 2 x ≡ take 2 (drop k head) =
+        λ k x room is. ap (spelled o 2) (sym is) ∙ spelled_2 o (drop k head) (omega (arith, length-drop k head)) (IsBytes-drop k head bytes) in
+    let last : spelled o 4 1 ≡ take 4 (drop 20 head) =
+        ap (spelled o 4) (sym (eqb-true _ _ numbers.2)) ∙ spelled_4 o (drop 20 head) (omega (arith, length-drop 20 head)) (IsBytes-drop 20 head bytes) in
+    (
+      take 12 (drop 8 head),
+      omega (arith, length-take 12 (drop 8 head), length-drop 8 head),
+      sym (rw (first, two 4 2 (omega arith) (eqb-true _ _ numbers.0), two 6 4 (omega arith) (eqb-true _ _ numbers.1), last) (header_parts head long)),
+    )
+
+form_fault-append : (form : Option (Order × TimeUnit)) (head more : List ℕ) → length head ≡ 24 → form_fault form (head ++ more) ≡ form_fault form head
+form_fault-append None head more long = refl
+form_fault-append (Some form) head more long =
     rw (number-drop form.0 2 4 head more (omega arith), number-drop form.0 2 6 head more (omega arith), number-drop form.0 4 20 head more (omega arith)) refl
 
 -- what follows a header does not matter for its faults
@@ -93,7 +104,7 @@ pub header_fault-append : (head more : List ℕ) → length head ≡ 24 → head
 header_fault-append head more long =
     let size = length-append head more in
     rw (le-ltb (length (head ++ more)) 24 (omega arith), le-ltb (length head) 24 (omega arith), number-append Little 4 head more (omega arith), number-append Big 4 head more (omega arith))
-    (later_fault-append (form_of head) head more long)
+    (form_fault-append (form_of head) head more long)
 
 -- a header that was read whole from the front of what is left
 module _ (had : ℕ) (head left rest : List ℕ) (long : length head ≡ 24) (whole : 24 ≤ had) (parts : left ≡ take had head ++ rest) where

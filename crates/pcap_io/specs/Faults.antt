@@ -22,18 +22,21 @@ form_of bytes =
     else if number Big 4 bytes == magic Nano then Some (Big, Nano)
     else None
 
--- the first test of the header's later numbers that fails
-abbrev pub later_fault : Option (Order × TimeUnit) → List ℕ → Option CaptureFault
-later_fault None bytes = Some (fault_at 0 BadMagic)
-later_fault (Some form) bytes =
-    if (number form.0 2 (drop 4 bytes) == 2) && (number form.0 2 (drop 6 bytes) == 4)
-    then if number form.0 4 (drop 20 bytes) == 1 then None else Some (fault_at 20 BadLinkType)
+-- the first test that fails of the numbers that follow the magic
+abbrev pub later_fault : Order → List ℕ → Option CaptureFault
+later_fault o bytes =
+    if (number o 2 (drop 4 bytes) == 2) && (number o 2 (drop 6 bytes) == 4)
+    then if number o 4 (drop 20 bytes) == 1 then None else Some (fault_at 20 BadLinkType)
     else Some (fault_at 4 BadVersion)
+
+abbrev pub form_fault : Option (Order × TimeUnit) → List ℕ → Option CaptureFault
+form_fault None bytes = Some (fault_at 0 BadMagic)
+form_fault (Some form) bytes = later_fault form.0 bytes
 
 -- the first test of the file header that fails
 abbrev pub header_fault : List ℕ → Option CaptureFault
 header_fault bytes =
-    if nat_lt (length bytes) 24 then Some (fault_at (length bytes) ShortHeader) else later_fault (form_of bytes) bytes
+    if nat_lt (length bytes) 24 then Some (fault_at (length bytes) ShortHeader) else form_fault (form_of bytes) bytes
 
 -- the captured length in a record's header
 abbrev pub captured : Order → List ℕ → ℕ

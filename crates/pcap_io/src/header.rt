@@ -1,6 +1,6 @@
 ghost use Rattle.std.specs.Prelude.{◌≡◌, ◌≤◌, List, ℕ, length, IfSome, MatchResult, Some};
 ghost use Rattle.pcap_io.specs.Capture.{magic, number, header_of, written_header};
-ghost use Rattle.pcap_io.specs.Faults.{form_of, header_fault};
+ghost use Rattle.pcap_io.specs.Faults.{form_of, later_fault, header_fault};
 
 use crate::{CaptureCause, CaptureFault, Order};
 use byteorder::{ByteOrder, LittleEndian};
@@ -30,13 +30,24 @@ pub(crate) fn read_header(head: &[u8]) -> Result<(Order, Unit), CaptureFault>
     let Some((order, unit)) = read_form(head) else {
         return Err(fault_at(0, CaptureCause::BadMagic));
     };
+    match later_fault(order, head) {
+        None => Ok((order, unit)),
+        Some(fault) => Err(fault),
+    }
+}
+
+/// The first fault of the numbers that follow the magic.
+fn later_fault(order: Order, head: &[u8]) -> Option<CaptureFault>
+    requires { length head.now ≡ 24 }
+    ensures { result ≡ later_fault order head.now }
+{
     if order.read_u16(&head[4..]) != MAJOR || order.read_u16(&head[6..]) != MINOR {
-        return Err(fault_at(4, CaptureCause::BadVersion));
+        return Some(fault_at(4, CaptureCause::BadVersion));
     }
     if order.read_u32(&head[20..]) != ETHERNET {
-        return Err(fault_at(20, CaptureCause::BadLinkType));
+        return Some(fault_at(20, CaptureCause::BadLinkType));
     }
-    Ok((order, unit))
+    None
 }
 
 /// The byte order and the unit that the magic at the front tells.

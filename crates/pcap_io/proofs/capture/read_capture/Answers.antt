@@ -15,7 +15,7 @@ records-preserved g c =
     let packet = c.in-Packet.ensures in
     record {
       stands = stands_on _ _ _ _ c.in-Packet.packet inv.stands packet.after c.in-Ok.ensures.ok packet.given;
-      taken = has_read_on g.S.Source.reads g.met.S.Source.reads_more _ _ _ _ _ _ _ c.in-Packet.packet inv.taken packet.after c.in-Ok.ensures.ok packet.taken;
+      taken = has_read_on g.S.Source.reads g.met.S.Source.reads_more c.args.source.now c.records.source c.next_packet.new.source c.records.reader c.next_packet.new.self c.records.packets c.push.new.self c.in-Packet.packet inv.taken packet.after c.in-Ok.ensures.ok packet.taken;
       later = omega (arith, inv.later, packet.later);
     }
 
