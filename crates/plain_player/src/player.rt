@@ -1,4 +1,4 @@
-ghost use Rattle.std.specs.Prelude.{◌≡◌, ◌<◌, ◌+◌, ◌^◌, ℕ, List, [], length, slice_index_or, IfOk, OnOk, OnErr, IsSome, IsTrue, option_copied};
+ghost use Rattle.std.specs.Prelude.{◌≡◌, ◌<◌, ◌≤◌, false, ◌+◌, ◌^◌, ℕ, List, [], length, slice_index_or, IfOk, OnOk, OnErr, IsSome, IsTrue, option_copied};
 ghost use Rattle.plain_text.specs.declared.packet.Packet as packet_of;
 ghost use Rattle.plain_machine.specs.History.{Step, thread_after};
 ghost use Rattle.plain_player.specs.Hands.{FitsProgram, HasValues, TakesInput, seat_after};
@@ -86,6 +86,7 @@ impl<V: Drop> Player<V> {
             (option_copied input.entry ≡ input_for (inputs plain.thread) (thread_after steps plain.thread).taken (thread_after steps plain.thread).hand) →
             Follows (P.meaning program.now) inputs threads steps plain result self.new }
         ensures fits { FitsProgram (P.meaning program.now) (P.fits program.now) self.new.values }
+        ensures begins { has_hand self.old plain.thread ≡ false → OnOk result (moves_left (P.meaning program.now) self.new plain.thread ≤ 63) }
         ensures falls { IsTrue (has_hand self.old plain.thread) → OnOk result (moves_left (P.meaning program.now) self.new plain.thread < moves_left (P.meaning program.now) self.old plain.thread) }
         ensures made { OnOk result (self.new.made ≡ self.old.made + 1) }
         ensures err { OnErr result (self.new ≡ self.old) }
