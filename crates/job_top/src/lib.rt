@@ -1,0 +1,6 @@
+//! The commands of FTMB.
+#![tactic(auto)]
+
+mod running;
+
+pub use running::Running;

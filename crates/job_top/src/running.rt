@@ -1,0 +1,54 @@
+ghost use Rattle.std.specs.Prelude.{◌≡◌, ◌<◌, ◌≤◌, ◌+◌, ◌*◌, ◌^◌, true, false, IsTrue, OnOk, IfOk, length};
+ghost use Rattle.plain_player.specs.Hands.{FitsProgram};
+ghost use Rattle.plain_player.specs.Playing.{has_hand, moves_left};
+ghost use Rattle.job_top.specs.Running.{AsksNothing, Goes, IsWithin, CanMove};
+
+use box_program::Program;
+use plain_machine::{Emission, PlainMove, Schedule};
+use plain_player::{MoveError, Player};
+use plain_text::{NoMemory, Packet, Sequence};
+use std::alloc::Global;
+
+/// A run so far: the moves that were made, the packets that were sent out, and the machine after them.
+#[derive(Drop)]
+pub struct Running<V> {
+    pub schedule: Schedule,
+    pub sent: Sequence<Emission>,
+    pub player: Player<V>,
+}
+
+/// Makes one move on thread 0, with the packet at this place.
+fn make_move<P: Program>(
+    alloc: Global,
+    program: &P,
+    packets: &[Packet],
+    at: usize,
+    run: &mut Running<P::Value>,
+) -> Result<(), NoMemory>
+    requires asks { AsksNothing (P.meaning program.now) }
+    requires fits { FitsProgram (P.meaning program.now) (P.fits program.now) run.old.player.values }
+    requires room { run.old.player.made + 1 < 2 ^ 64 }
+    requires in_range { at < length packets.now }
+    requires goes { CanMove (P.meaning program.now) packets.now at run.old.schedule run.old.sent run.old.player }
+    ensures goes { OnOk result (Goes (P.meaning program.now) packets.now (at + 1) run.new.schedule run.new.sent run.new.player) }
+    ensures fits { FitsProgram (P.meaning program.now) (P.fits program.now) run.new.player.values }
+    ensures made { OnOk result (run.new.player.made ≡ run.old.player.made + 1) }
+    ensures begins { has_hand run.old.player 0 ≡ false → OnOk result (moves_left (P.meaning program.now) run.new.player 0 ≤ 63) }
+    ensures falls { IsTrue (has_hand run.old.player 0) → OnOk result (moves_left (P.meaning program.now) run.new.player 0 < moves_left (P.meaning program.now) run.old.player 0) }
+{
+    let plain = PlainMove {
+        thread: 0,
+        answer: None,
+    };
+    match run.player.step(alloc, program, plain, Some(&packets[at])) {
+        Ok(sent) => {
+            run.schedule.push(plain)?;
+            if let Some(emission) = sent {
+                run.sent.push(emission)?;
+            }
+            Ok(())
+        }
+        Err(MoveError::NoMemory) => Err(NoMemory),
+        Err(MoveError::Illegal(_)) => unreachable!(),
+    }
+}
