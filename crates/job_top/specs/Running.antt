@@ -41,3 +41,12 @@ IsWithin m taken player = player.made + moves_left m player 0 ≤ 64 * taken
 abbrev pub CanMove : {V : Type 0} → Meaning V → List Packet → ℕ → List PlainMove → List Emission → Playing V → Type 0
 CanMove m packets at moves sent player =
     (Goes m packets at moves sent player × (has_hand player 0 ≡ false)) ⊎ (Goes m packets (at + 1) moves sent player × (has_hand player 0 ≡ true))
+
+-- Played one after another to their ends: the moves are a legal list on these packets, after which the thread has taken each
+-- packet and has none in hand, and these packets were sent out, in order.
+pub record IsSettled {V : Type 0} (m : Meaning V) (packets : List Packet) (moves : List PlainMove) (sent : List Emission) : Type 0 where
+  pub steps : List (Step V)
+  pub legal : play m (on_one_thread packets) 1 moves ≡ Ok steps
+  pub sent_is : sent ≡ emissions steps
+  pub taken : (thread_after steps 0).taken ≡ length packets
+  pub ended : (thread_after steps 0).hand ≡ None

@@ -3,4 +3,4 @@
 
 mod running;
 
-pub use running::Running;
+pub use running::{Running, play_packets};
