@@ -48,3 +48,22 @@ HasFront whole old new = (new ≡ old) ⊎ ((part : List ℕ) × (new ≡ Some p
 -- all but two names are as they were
 abbrev pub KeepsOthers : List ℕ → List ℕ → Shown → Shown → Type 0
 KeepsOthers first second old new = (name : List ℕ) → ¬ (name ≡ first) → ¬ (name ≡ second) → new.names name ≡ old.names name
+
+-- a front of the bytes was appended to the file of a name; all of them, where the answer says so
+pub record Appended (answer : WriteAll) (file : ℕ) (name had bytes : List ℕ) (old new : Shown) : Type 0 where
+  pub part : List ℕ
+  pub front : IsFront part bytes
+  pub whole : answer ≡ write.All → part ≡ bytes
+  pub own : IsFile file name (had ++ part) new
+  pub files : (k : ℕ) (other bytes : List ℕ) → ¬ (k ≡ file) → ¬ (other ≡ name) → IsFile k other bytes old → IsFile k other bytes new
+  pub others : (other : List ℕ) → ¬ (other ≡ name) → new.names other ≡ old.names other
+  pub report : new.sent 0 ≡ old.sent 0
+
+-- a front of the bytes was appended to the report; all of them, where the answer says so
+pub record Reported (answer : WriteAll) (bytes : List ℕ) (old new : Shown) : Type 0 where
+  pub part : List ℕ
+  pub front : IsFront part bytes
+  pub whole : answer ≡ write.All → part ≡ bytes
+  pub report : new.sent 0 ≡ old.sent 0 ++ part
+  pub names : (name : List ℕ) → new.names name ≡ old.names name
+  pub files : (k : ℕ) (name bytes : List ℕ) → IsFile k name bytes old → IsFile k name bytes new
