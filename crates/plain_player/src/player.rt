@@ -1,4 +1,4 @@
-ghost use Rattle.std.specs.Prelude.{◌≡◌, ◌<◌, ◌≤◌, false, ◌+◌, ◌^◌, ℕ, List, [], length, slice_index_or, IfOk, OnOk, OnErr, IsSome, IsTrue, option_copied};
+ghost use Rattle.std.specs.Prelude.{◌≡◌, ◌<◌, ◌≤◌, false, ◌+◌, ◌^◌, ℕ, List, [], length, slice_index_or, Some, IfOk, IfSome, OnOk, OnErr, IsSome, IsTrue, option_copied};
 ghost use Rattle.plain_text.specs.declared.packet.Packet as packet_of;
 ghost use Rattle.plain_machine.specs.History.{Step, thread_after};
 ghost use Rattle.plain_player.specs.Hands.{FitsProgram, HasValues, TakesInput, seat_after};
@@ -88,6 +88,7 @@ impl<V: Drop> Player<V> {
         ensures fits { FitsProgram (P.meaning program.now) (P.fits program.now) self.new.values }
         ensures begins { has_hand self.old plain.thread ≡ false → OnOk result (moves_left (P.meaning program.now) self.new plain.thread ≤ 63) }
         ensures falls { IsTrue (has_hand self.old plain.thread) → OnOk result (moves_left (P.meaning program.now) self.new plain.thread < moves_left (P.meaning program.now) self.old plain.thread) }
+        ensures as_long { IfOk result (λ sent. IfSome sent (λ emission. (packet : packet_of.Packet) → option_copied input.entry ≡ Some packet → length emission.packet.bytes ≡ length packet.bytes)) }
         ensures made { OnOk result (self.new.made ≡ self.old.made + 1) }
         ensures err { OnErr result (self.new ≡ self.old) }
     {
