@@ -1,5 +1,5 @@
 -- What stands in a file header.
-use Rattle.std.proofs.Common.{◌≡◌, ℕ, ◌+◌, ◌≤◌, List, ◌++◌, length, take, drop, Option, Some, None, Bool, true, false, ◌&&◌, ◌==◌, if◌then◌else◌, refl, sym, ap, ◌∙◌, arith, append_assoc, length-append, drop-drop, ◌-◌}
+use Rattle.std.proofs.Common.{◌≡◌, ℕ, ◌+◌, ◌≤◌, List, ◌++◌, length, take, drop, Option, Some, None, Bool, true, false, ◌&&◌, ◌==◌, if◌then◌else◌, refl, sym, ap, ◌∙◌, arith, append_assoc, length-append, drop-drop}
 use Rattle.std.proofs.lemmas.List.{drop_at, take_all, take-append-drop, length-drop, length-take}
 use Rattle.std.proofs.lemmas.Bool.{le-ltb, eqb-true}
 use Rattle.plain_text.specs.declared.packet.Unit.{Unit as TimeUnit}
@@ -85,10 +85,9 @@ spelled_header o u head long bytes magic_is faultless =
     let numbers = later_numbers (number o 2 (drop 4 head) == 2) (number o 2 (drop 6 head) == 4) (number o 4 (drop 20 head) == 1) _ _ faultless in
     let first : spelled o 4 (magic u) ≡ take 4 head = ap (spelled o 4) (sym magic_is) ∙ spelled_4 o head (omega arith) bytes in
     let two : (k x : ℕ) → k + 2 ≤ 24 → number o 2 (drop k head) ≡ x → spelled o 2 x ≡ take 2 (drop k head) =
-        λ k x room is. ap (spelled o 2) (sym is) ∙ spelled_2 o (drop k head) (omega (arith, length-drop k head)) (IsBytes-drop k head bytes) in
+    λ k x room is. ap (spelled o 2) (sym is) ∙ spelled_2 o (drop k head) (omega (arith, length-drop k head)) (IsBytes-drop k head bytes) in
     let last : spelled o 4 1 ≡ take 4 (drop 20 head) =
-        ap (spelled o 4) (sym (eqb-true _ _ numbers.2)) ∙ spelled_4 o (drop 20 head) (omega (arith, length-drop 20 head)) (IsBytes-drop 20 head bytes) in
-    (
+    ap (spelled o 4) (sym (eqb-true _ _ numbers.2)) ∙ spelled_4 o (drop 20 head) (omega (arith, length-drop 20 head)) (IsBytes-drop 20 head bytes) in (
       take 12 (drop 8 head),
       omega (arith, length-take 12 (drop 8 head), length-drop 8 head),
       sym (rw (first, two 4 2 (omega arith) (eqb-true _ _ numbers.0), two 6 4 (omega arith) (eqb-true _ _ numbers.1), last) (header_parts head long)),

@@ -237,7 +237,7 @@ fn a_reader_is_over_after_anything_but_a_packet(rt: HostRuntime) -> Result<(), F
 }
 
 #[test]
-fn a_packet_past_a_limit_is_too_large(rt: HostRuntime) -> Result<(), Fail> {
+fn the_65537th_packet_is_too_large(rt: HostRuntime) -> Result<(), Fail> {
     let alloc = rt.alloc();
     let records = vec![in alloc; 0u8; 16 * 65_537]?;
     for (size, want) in [
@@ -249,18 +249,21 @@ fn a_packet_past_a_limit_is_too_large(rt: HostRuntime) -> Result<(), Fail> {
         let bytes = joined(alloc, &[LITTLE_MICRO, &records[..size]])?;
         assert_eq!(rt; told(alloc, bytes.as_slice())?.as_str(), want);
     }
+    Ok(())
+}
 
-    // 255 records of the longest packet, and one that ends at byte 67,108,864.
-    let longest = b"\0\0\0\0\0\0\0\0\0\0\x04\0\0\0\x04\0";
-    let last = b"\0\0\0\0\0\0\0\0\xe8\xef\x03\0\0\0\0\0";
-    let zeros = vec![in alloc; 0u8; 262_144]?;
+#[test]
+fn a_byte_past_67_108_864_is_too_large(rt: HostRuntime) -> Result<(), Fail> {
+    let alloc = rt.alloc();
+    let longest = vec![in alloc; 0u8; 262_144]?;
+    let rest = vec![in alloc; 0u8; 258_024]?;
     let mut bytes = Bytes::of(alloc, LITTLE_MICRO)?;
     for _ in 0..255 {
-        bytes.extend(longest)?;
-        bytes.extend(&zeros)?;
+        bytes.extend(b"\0\0\0\0\0\0\0\0\0\0\x04\0\0\0\x04\0")?;
+        bytes.extend(&longest)?;
     }
-    bytes.extend(last)?;
-    bytes.extend(&zeros[..258_024])?;
+    bytes.extend(b"\0\0\0\0\0\0\0\0\xe8\xef\x03\0\0\0\0\0")?;
+    bytes.extend(&rest)?;
     assert_eq!(rt; bytes.len(), 67_108_864);
     assert_eq!(rt; told(alloc, bytes.as_slice())?.as_str(), "256 packets");
     bytes.push(0)?;
