@@ -7,3 +7,4 @@ pub mod Joins
 pub mod Missing
 pub mod Members
 pub mod Searching
+pub mod Existing
