@@ -3,7 +3,7 @@ use Rattle.std.proofs.Common.{◌≡◌, ℕ, ◌+◌, ◌≤◌, ◌≢◌, tru
 use Rattle.std.specs.Prelude.{nat_eq}
 use Rattle.std.proofs.lemmas.Bool.Decides.{nat_tests}
 use Rattle.entry_order.specs.Log.{Entry, PrecedesOrIs, entries, IsLog, IsIn, IsNext, Precedes, AtOnce, PrecedesOutput}
-use Rattle.entry_order.specs.Stamps.{IsStamp, IsOutputStamp, IsJoinBefore, bumped, stamp}
+use Rattle.entry_order.specs.Stamps.{IsStamp, IsComponent, IsOutputStamp, IsJoinBefore, bumped, stamp}
 use Rattle.entry_order.proofs.Order.{is_or, number_within, same_number, next_stands, precedes_trans}
 use Rattle.entry_order.proofs.Stamping.{stamp_is, precedes_more, precedes_old, last_link, stands_old}
 use Rattle.entry_order.proofs.Parts.{stamp_stays}
@@ -26,6 +26,16 @@ stamp_unique log e s r a b u = let low : s u ≤ r u = most s r a b in let high 
         go (inr (f, hf, t, n, p)) =
             let k : f.number ≤ r f.thread = b.above f hf p in
             let same : r f.thread ≡ r u = ap r t in omega (arith, n)
+
+-- A stamp is its components.
+pub stamp_components : (log : List Entry) (e : Entry) (s : ℕ → ℕ) → IsStamp log e s → (u : ℕ) → IsComponent log e u (s u)
+stamp_components log e s st u = record {
+  above = λ f here th p. subst (λ (w : ℕ). f.number ≤ s w) th (st.above f here p);
+  reached = st.reached u;
+}
+
+pub components_stamp : (log : List Entry) (e : Entry) (s : ℕ → ℕ) → ((u : ℕ) → IsComponent log e u (s u)) → IsStamp log e s
+components_stamp log e s each = record { above = λ f here p. (each f.thread).above f here refl p; reached = λ u. (each u).reached }
 
 -- The stamp of the newest entry is the join of the stamps of its immediate predecessors, with its own number.
 pub join_is_stamp : (x : Entry) (log : List Entry) (join : ℕ → ℕ) → IsLog (x ∷ log) → IsJoinBefore log x join → IsStamp (x ∷ log) x (bumped x join)

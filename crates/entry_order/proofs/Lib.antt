@@ -5,3 +5,6 @@ pub mod Parts
 pub mod Weights
 pub mod Joins
 pub mod Missing
+pub mod Members
+pub mod Searching
+pub mod Existing

@@ -21,9 +21,9 @@ missing_past log stored held t n s frontier e st fr here gone = (past (cases_lt 
     past (inr h) = absurd (kept (fr.below e here h))
 
 -- the entries that precede an output are in the log
-pub output_in : (log : List Entry) (t n : ℕ) (e : Entry) → IsLog log → PrecedesOutput log t n e → IsIn e log
-output_in log t n e good (last, here, th, num, inl same) = subst (λ (y : Entry). IsIn y log) (sym same) here
-output_in log t n e good (last, here, th, num, inr p) = precedes_in log e last p
+pub output_in : (log : List Entry) (t n : ℕ) (e : Entry) → PrecedesOutput log t n e → IsIn e log
+output_in log t n e (last, here, th, num, inl same) = subst (λ (y : Entry). IsIn y log) (sym same) here
+output_in log t n e (last, here, th, num, inr p) = precedes_in log e last p
 
 -- Where a component of the stamp is above the frontier, the next entry of its thread is missing.
 pub missing_next : (log stored held : List Entry) (t n : ℕ) (s frontier : ℕ → ℕ) (u : ℕ) → IsLog log → IsOutputStamp log t n s → IsFrontier log stored held frontier → frontier u < s u → (e : Entry) × IsMissing log stored held t n e × (e.thread ≡ u) × (e.number ≡ frontier u + 1)
@@ -38,7 +38,7 @@ missing_next log stored held t n s frontier u good st fr high = go (st.reached u
 -- What a thread sends out is due exactly where no component of its stamp is above the frontier.
 pub due_within : (log stored held : List Entry) (t n : ℕ) (s frontier : ℕ → ℕ) → IsLog log → IsOutputStamp log t n s → IsFrontier log stored held frontier → ((u : ℕ) → s u ≤ frontier u) → IsDue log stored held t n
 due_within log stored held t n s frontier good st fr low e gone =
-    let k : (frontier e.thread < e.number) × (e.number ≤ s e.thread) = missing_past log stored held t n s frontier e st fr (output_in log t n e good gone.precedes) gone in
+    let k : (frontier e.thread < e.number) × (e.number ≤ s e.thread) = missing_past log stored held t n s frontier e st fr (output_in log t n e gone.precedes) gone in
     let l : s e.thread ≤ frontier e.thread = low e.thread in absurd (omega (arith, k))
 
 pub within_due : (log stored held : List Entry) (t n : ℕ) (s frontier : ℕ → ℕ) → IsLog log → IsOutputStamp log t n s → IsFrontier log stored held frontier → IsDue log stored held t n → (u : ℕ) → s u ≤ frontier u
@@ -59,7 +59,7 @@ first_missing log stored held t n s frontier u good st fr high least = (r.0, rec
     first f gone = go (cases_lt f.thread u) (cases_lt u f.thread)
       where
         k : (frontier f.thread < f.number) × (f.number ≤ s f.thread)
-        k = missing_past log stored held t n s frontier f st fr (output_in log t n f good gone.precedes) gone
+        k = missing_past log stored held t n s frontier f st fr (output_in log t n f gone.precedes) gone
 
         go : (f.thread < u) ⊎ (u ≤ f.thread) → (u < f.thread) ⊎ (f.thread ≤ u) → (r.0.thread < f.thread) ⊎ ((r.0.thread ≡ f.thread) × (r.0.number ≤ f.number))
         go (inl less) b = let l : s f.thread ≤ frontier f.thread = least f.thread less in absurd (omega (arith, k))
@@ -78,4 +78,4 @@ first_unique log stored held t n e f good a b = go (a.first f b.missing) (b.firs
     go (inl h) (inl k) = absurd (omega arith)
     go (inl h) (inr k) = absurd (omega (arith, k))
     go (inr h) (inl k) = absurd (omega (arith, h))
-    go (inr h) (inr k) = same_number log e f good (output_in log t n e good a.missing.precedes) (output_in log t n f good b.missing.precedes) h.0 (omega (arith, h, k))
+    go (inr h) (inr k) = same_number log e f good (output_in log t n e a.missing.precedes) (output_in log t n f b.missing.precedes) h.0 (omega (arith, h, k))

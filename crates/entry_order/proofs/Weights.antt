@@ -1,6 +1,8 @@
 -- The weight of an entry is the sum of the components of its stamp, and precedes lowers it.
-use Rattle.std.proofs.Common.{◌≡◌, ℕ, zero, suc, ◌+◌, ◌≤◌, ◌<◌, ◌≢◌, true, false, List, [], ◌∷◌, refl, sym, ap, ◌∙◌, subst, inl, inr, ◌⊎◌, arith, cond}
+use Rattle.std.proofs.Common.{◌≡◌, ℕ, zero, suc, ◌+◌, ◌≤◌, ◌<◌, ◌≢◌, true, false, List, [], ◌∷◌, refl, sym, ap, ◌∙◌, subst, inl, inr, ◌⊎◌, arith, cond, length, get_or, take, sum, slice_index, add-one}
 use Rattle.std.specs.Prelude.{nat_le, min}
+use Rattle.std.proofs.Math.Seq.{take-length}
+use Rattle.std.proofs.lemmas.List.Sums.{fold_more}
 use Rattle.std.proofs.lemmas.Bool.{cases_lt}
 use Rattle.std.proofs.lemmas.Bool.Decides.{nat_tests}
 use Rattle.entry_order.specs.Log.{Entry, PrecedesOrIs, entries, IsLog, IsIn, Precedes}
@@ -139,3 +141,16 @@ pub weight_is_sum : (log : List Entry) (n : ℕ) (e : Entry) (s : ℕ → ℕ) �
 unfolding capped
 weight_is_sum log n e s good low st =
     subst (λ (k : ℕ). IsWeight log e k) (covered_capped log n s good low ∙ sum_below_same n (λ u. min (s u) (entries u log)) s (λ u l. let k : s u ≤ entries u log = stamp_within log e s u good st in omega arith)) (count_covered log e s good st log (λ f h. h))
+
+-- the sum of a list's first elements
+sum_taken : (xs : List ℕ) (n : ℕ) → n ≤ length xs → sum_below n (λ u. slice_index xs u) ≡ sum (take n xs)
+sum_taken xs zero low = refl
+sum_taken xs (suc n) low =
+    let a : sum_below n (λ u. slice_index xs u) ≡ sum (take n xs) = sum_taken xs n (omega arith) in
+    let b : sum (take (n + 1) xs) ≡ sum (take n xs) + get_or xs n 0 = fold_more (λ a x. a + x) 0 xs n 0 (omega arith) in
+    let c : sum (take (suc n) xs) ≡ sum (take n xs) + get_or xs n 0 = subst (λ (k : ℕ). sum (take k xs) ≡ sum (take n xs) + get_or xs n 0) (add-one n) b in
+    omega arith
+
+-- The sum of the components of a stamp that is kept as a list is the sum of the list.
+pub sum_below_list : (xs : List ℕ) → sum_below (length xs) (λ u. slice_index xs u) ≡ sum xs
+sum_below_list xs = sum_taken xs (length xs) (omega arith) ∙ ap (λ (ys : List ℕ). sum ys) (take-length xs)

@@ -6,6 +6,10 @@ use Rattle.entry_order.specs.Log.{Entry, IsIn, IsNext, PrecedesOutput}
 abbrev pub IsClosedOver : List Entry → List Entry → List Entry → Type 0
 IsClosedOver log stored set = (e f : Entry) → IsIn e log → IsIn f set → IsNext e f → IsIn e set ⊎ IsIn e stored
 
+-- An immediate predecessor of the entry, in the log, is neither one of the set nor stored.
+abbrev pub Lacks : List Entry → List Entry → List Entry → Entry → Type 0
+Lacks log stored set f = (e : Entry) × IsIn e log × IsNext e f × (IsIn e set → ⊥) × (IsIn e stored → ⊥)
+
 -- the greatest subset of the held entries that is closed over the stored ones
 pub record IsClosedPart (log stored held part : List Entry) : Type 0 where
   pub within : (e : Entry) → IsIn e part → IsIn e held
@@ -18,10 +22,14 @@ pub record IsMissing (log stored held : List Entry) (t n : ℕ) (e : Entry) : Ty
   pub not_held : IsIn e held → ⊥
   pub not_stored : IsIn e stored → ⊥
 
+-- e is of a lesser thread than f, or of the same one and has no greater number
+abbrev pub IsNoLater : Entry → Entry → Type 0
+IsNoLater e f = (e.thread < f.thread) ⊎ ((e.thread ≡ f.thread) × (e.number ≤ f.number))
+
 -- the missing entry of the least thread, and of that thread the one with the least number
 pub record IsFirstMissing (log stored held : List Entry) (t n : ℕ) (e : Entry) : Type 0 where
   pub missing : IsMissing log stored held t n e
-  pub first : (f : Entry) → IsMissing log stored held t n f → (e.thread < f.thread) ⊎ ((e.thread ≡ f.thread) × (e.number ≤ f.number))
+  pub first : (f : Entry) → IsMissing log stored held t n f → IsNoLater e f
 
 -- What the thread sends out then is due: nothing is missing for it.
 abbrev pub IsDue : List Entry → List Entry → List Entry → ℕ → ℕ → Type 0

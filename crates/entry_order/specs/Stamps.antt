@@ -9,6 +9,11 @@ pub record IsStamp (log : List Entry) (e : Entry) (stamp : ℕ → ℕ) : Type 0
   pub above : (f : Entry) → IsIn f log → PrecedesOrIs log f e → f.number ≤ stamp f.thread
   pub reached : (u : ℕ) → (stamp u ≡ 0) ⊎ ((f : Entry) × IsIn f log × (f.thread ≡ u) × (f.number ≡ stamp u) × PrecedesOrIs log f e)
 
+-- One component of the stamp: n is the greatest number of an entry of thread u that is the entry itself or precedes it, or 0.
+pub record IsComponent (log : List Entry) (e : Entry) (u n : ℕ) : Type 0 where
+  pub above : (f : Entry) → IsIn f log → f.thread ≡ u → PrecedesOrIs log f e → f.number ≤ n
+  pub reached : (n ≡ 0) ⊎ ((f : Entry) × IsIn f log × (f.thread ≡ u) × (f.number ≡ n) × PrecedesOrIs log f e)
+
 -- The same for what a thread sends out after its first n entries, by its predecessors.
 pub record IsOutputStamp (log : List Entry) (t n : ℕ) (stamp : ℕ → ℕ) : Type 0 where
   pub above : (f : Entry) → IsIn f log → PrecedesOutput log t n f → f.number ≤ stamp f.thread

@@ -1,8 +1,8 @@
 //! The laws of entries and their order, over every log. Each is proved, and does nothing: a caller has them by the call.
-ghost use Rattle.std.specs.Prelude.{◌≡◌, ℕ, ◌+◌, ◌≤◌, ◌<◌, ◌⊎◌, ◌↔◌, List, ◌∷◌, IsTrue};
+ghost use Rattle.std.specs.Prelude.{◌≡◌, ℕ, ◌+◌, ◌≤◌, ◌<◌, ◌⊎◌, ◌↔◌, List, ◌∷◌, length, sum, slice_index, IsTrue};
 ghost use Rattle.entry_order.specs.declared.what.What.TheVariants.{Access, Read};
 ghost use Rattle.entry_order.specs.Log.{Entry, entries, places, IsLog, IsIn, StandsBefore, IsNext, Precedes, PrecedesOrIs, PrecedesOutput, IsClosed};
-ghost use Rattle.entry_order.specs.Stamps.{IsStamp, IsOutputStamp, IsWeight, sum_below, shares, IsJoinBefore, bumped, stamp};
+ghost use Rattle.entry_order.specs.Stamps.{IsStamp, IsComponent, IsOutputStamp, IsWeight, sum_below, shares, IsJoinBefore, bumped, stamp};
 ghost use Rattle.entry_order.specs.Closed.{IsClosedPart, IsMissing, IsFirstMissing, IsDue, IsFrontier};
 
 /// The entries of each thread have the numbers from 1 to their count, each once, and the touches of each variable the
@@ -72,6 +72,8 @@ pub fn stamps_are_joins()
         → (s : ℕ → ℕ) × IsStamp log e s }
     ensures one { (log : List Entry) (e : Entry) (s r : ℕ → ℕ) → IsStamp log e s → IsStamp log e r
         → (u : ℕ) → s u ≡ r u }
+    ensures components { (log : List Entry) (e : Entry) (s : ℕ → ℕ)
+        → IsStamp log e s ↔ ((u : ℕ) → IsComponent log e u (s u)) }
     ensures covers { (log : List Entry) (e f : Entry) (s : ℕ → ℕ) → IsLog log → IsStamp log e s → IsIn f log
         → (f.number ≤ s f.thread) ↔ PrecedesOrIs log f e }
     ensures stays { (x : Entry) (log : List Entry) (e : Entry) (s : ℕ → ℕ) → IsLog (x ∷ log) → IsIn e log
@@ -86,10 +88,11 @@ pub fn stamps_are_joins()
 
 /// The weight of an entry is the sum of the components of its stamp, and precedes lowers it.
 pub fn weights_are_sums()
-    ensures sum { (log : List Entry) (threads : ℕ) (e : Entry) (s : ℕ → ℕ) → IsLog log
+    ensures summed { (log : List Entry) (threads : ℕ) (e : Entry) (s : ℕ → ℕ) → IsLog log
         → ((f : Entry) → IsIn f log → f.thread < threads)
         → IsStamp log e s → IsWeight log e (sum_below threads s) }
     ensures one { (log : List Entry) (e : Entry) (n k : ℕ) → IsWeight log e n → IsWeight log e k → n ≡ k }
+    ensures of_list { (xs : List ℕ) → sum_below (length xs) (λ u. slice_index xs u) ≡ sum xs }
     ensures falls { (log : List Entry) (e f : Entry) (n k : ℕ) → IsLog log → Precedes log e f
         → IsWeight log e n → IsWeight log f k → n < k }
 {}
@@ -119,7 +122,7 @@ pub fn missing_is_past_frontiers()
 {}
 
 /// The closed part of the held entries, by stamps and frontiers: those that are stored, or of whose stamp no component is
-/// above the frontier. It is one set.
+/// above the frontier. There is one, and it is one set.
 pub fn closed_part_is_within_frontiers()
     ensures part { (log stored held part : List Entry) (stamps : Entry → ℕ → ℕ) (frontier : ℕ → ℕ)
         → IsLog log → ((e : Entry) → IsIn e held → IsIn e log)
@@ -128,6 +131,8 @@ pub fn closed_part_is_within_frontiers()
         → ((e : Entry) → IsIn e part → IsIn e held × (IsIn e stored ⊎ ((u : ℕ) → stamps e u ≤ frontier u)))
         → ((e : Entry) → IsIn e held → IsIn e stored ⊎ ((u : ℕ) → stamps e u ≤ frontier u) → IsIn e part)
         → IsClosedPart log stored held part }
+    ensures there { (log stored held : List Entry)
+        → (part : List Entry) × IsClosedPart log stored held part }
     ensures one { (log stored held part other : List Entry)
         → IsClosedPart log stored held part → IsClosedPart log stored held other
         → (e : Entry) → IsIn e part ↔ IsIn e other }

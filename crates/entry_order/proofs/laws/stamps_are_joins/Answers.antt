@@ -1,7 +1,7 @@
 use Rattle.entry_order.proofs.laws.stamps_are_joins.Goals as goal
 use Rattle.entry_order.proofs.Stamping.{stamp_is}
 use Rattle.entry_order.proofs.Parts.{stamp_covers, stamp_stays}
-use Rattle.entry_order.proofs.Joins.{stamp_there, stamp_unique, join_is_stamp}
+use Rattle.entry_order.proofs.Joins.{stamp_there, stamp_unique, stamp_components, components_stamp, join_is_stamp}
 use Rattle.entry_order.proofs.Weights.{stamp_within}
 
 pub returns-clause-there : goal.returns-clause-there
@@ -9,6 +9,9 @@ returns-clause-there c = stamp_there
 
 pub returns-clause-one : goal.returns-clause-one
 returns-clause-one c = stamp_unique
+
+pub returns-clause-components : goal.returns-clause-components
+returns-clause-components c = λ log e s. (stamp_components log e s, components_stamp log e s)
 
 pub returns-clause-covers : goal.returns-clause-covers
 returns-clause-covers c = λ log e f s good st here. (stamp_covers log e f s good st here, st.above f here)

@@ -1,0 +1,20 @@
+use crate::What;
+use std::marker::Model;
+
+/// One entry of a log, as plain data: the `number`-th logged move of `thread`, counted from 1, and what it did.
+#[derive(Clone, Copy, Debug, PartialEq, Eq)]
+pub struct LogEntry {
+    pub thread: u32,
+    pub number: u64,
+    pub what: What,
+}
+
+impl Model for LogEntry {
+    ghost use Rattle.entry_order.specs.Log.{Entry};
+
+    ghost Value = { Entry };
+
+    ghost view = { λ e. record { thread = e.thread; number = e.number; what = e.what } };
+
+    ghost inverse = { λ e. record { thread = e.thread; number = e.number; what = e.what } };
+}
