@@ -6,6 +6,8 @@ mod memory;
 mod number;
 mod packet;
 mod sequence;
+#[cfg(test)]
+mod tests;
 mod text;
 
 pub use bytes::Bytes;

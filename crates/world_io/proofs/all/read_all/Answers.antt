@@ -14,8 +14,7 @@ returns-in-Failed-clause-reads g c =
 pub returns-then-count-room-clause-reads : goal.returns-then-count-room-clause-reads
 returns-then-count-room-clause-reads g c =
     let taken = take c.in-Got.count c.fill.new.piece in
-    let more = c.in-Got.ensures in
-    (
+    let more = c.in-Got.ensures in (
       c.loop-bytes.bytes ++ taken,
       g.met.S.Source.reads_more _ _ _ _ _ c.loop-bytes.invariant.reads more.reads,
       grind (arith, common_steps),
