@@ -1,5 +1,5 @@
 -- The file of a number, after a change of one file and after one more file.
-use Rattle.std.proofs.Common.{◌≡◌, ◌≢◌, ℕ, zero, suc, ◌+◌, ◌-◌, ◌<◌, ◌≤◌, ◌⊎◌, inl, inr, List, [], ◌∷◌, ◌++◌, Option, Some, None, Bool, true, false, IsTrue, length, get_or, set, take, slice_get, arith, ap, ◌∙◌, sym, refl, subst, add-one}
+use Rattle.std.proofs.Common.{◌≡◌, ◌≢◌, ℕ, zero, suc, ◌+◌, ◌-◌, ◌⊎◌, inl, inr, List, [], ◌∷◌, ◌++◌, Option, Some, None, true, false, length, get_or, set, take, slice_get, arith, ap, ◌∙◌, sym, refl, add-one}
 use Rattle.std.specs.Prelude.{Result, Ok, Err, OnOk, OnErr, is_err}
 use mathlib.Core.Path.{fun_ext}
 use Rattle.std.proofs.lemmas.List.{set-get_or, set-set, take_at}

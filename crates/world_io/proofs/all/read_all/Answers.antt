@@ -1,4 +1,4 @@
-use Rattle.std.proofs.Common.{◌≡◌, ◌+◌, ◌++◌, [], length, take, arith, append-nil, length-append, length-take}
+use Rattle.std.proofs.Common.{◌++◌, [], take, arith, append-nil}
 use Rattle.std.proofs.lemmas.Grind.{common_steps}
 use Rattle.world_io.proofs.all.read_all.Goals as goal
 

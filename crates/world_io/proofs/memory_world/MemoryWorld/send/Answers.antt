@@ -1,5 +1,5 @@
-use Rattle.std.proofs.Common.{◌≡◌, List, ap, sym, ◌∙◌, refl}
-use Rattle.world_io.specs.Memory.{Memory, Sends}
+use Rattle.std.proofs.Common.{List, ap, ◌∙◌, refl}
+use Rattle.world_io.specs.Memory.{Memory}
 use Rattle.world_io.specs.declared.memory_file.MemoryFile.{MemoryFile}
 use Rattle.world_io.specs.declared.names.NamedBytes.{NamedBytes}
 use Rattle.world_io.proofs.FilesLemmas.{CutsFile-sent, SendsToFile-name, at_ok, at_err}
