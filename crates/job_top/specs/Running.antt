@@ -15,6 +15,13 @@ use Rattle.job_top.specs.declared.running.Running.{Running}
 abbrev pub AsksNothing : {V : Type 0} → Meaning V → Type 0
 AsksNothing m = (l : Local) → (m.next l ≡ Clock → ⊥) × (m.next l ≡ Draw → ⊥)
 
+-- a packet that a record can have
+abbrev pub IsShort : Packet → Type 0
+IsShort p = length p.bytes ≤ 262144
+
+abbrev pub IsShortEmission : Emission → Type 0
+IsShortEmission e = length e.packet.bytes ≤ 262144
+
 -- all packets are inputs of thread 0
 abbrev pub on_one_thread : List Packet → ℕ → List Packet
 on_one_thread packets t = if nat_eq t 0 then packets else []
