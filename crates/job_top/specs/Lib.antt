@@ -1,5 +1,9 @@
 pub mod Files
+pub mod Inputs
+pub mod Judging
 pub mod Outputs
+pub mod Report
 pub mod Running
+pub mod Script
 pub mod Status
 pub mod Words

@@ -1,5 +1,5 @@
 -- One packet after another is played to its end on one thread.
-use Rattle.std.specs.Prelude.{◌≡◌, ℕ, ◌+◌, ◌*◌, ◌<◌, ◌≤◌, ◌⊎◌, Bool, true, false, List, [], length, Option, Some, None, slice_get, nat_eq, if◌then◌else◌, Ok}
+use Rattle.std.specs.Prelude.{◌≡◌, ℕ, ◌+◌, ◌*◌, ◌<◌, ◌≤◌, ◌⊎◌, Bool, true, false, List, [], length, Option, Some, None, slice_get, nat_eq, if◌then◌else◌, Ok, map}
 use Rattle.plain_text.specs.declared.packet.Packet.{Packet}
 use Rattle.plain_machine.specs.declared.local.Local.{Local}
 use Rattle.plain_machine.specs.declared.local.Move.TheVariants.{Clock, Draw}
@@ -57,3 +57,6 @@ pub record IsSettled {V : Type 0} (m : Meaning V) (packets : List Packet) (moves
   pub sent_is : sent ≡ emissions steps
   pub taken : (thread_after steps 0).taken ≡ length packets
   pub ended : (thread_after steps 0).hand ≡ None
+
+abbrev pub packets_of : List Emission → List Packet
+packets_of sent = map (λ emission. emission.packet) sent
