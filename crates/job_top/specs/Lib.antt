@@ -3,7 +3,9 @@ pub mod Inputs
 pub mod Judging
 pub mod Outputs
 pub mod Report
+pub mod Run
 pub mod Running
 pub mod Script
 pub mod Status
+pub mod Texts
 pub mod Words
