@@ -2,6 +2,7 @@ pub mod Files
 pub mod Inputs
 pub mod Judging
 pub mod Outputs
+pub mod Reading
 pub mod Report
 pub mod Run
 pub mod Running

@@ -16,8 +16,7 @@ use Rattle.world_io.specs.World.{Shown}
 use Rattle.job_top.specs.declared.status.Status.{Status}
 use Rattle.job_top.specs.declared.status.Status.TheVariants as status
 use Rattle.job_top.specs.declared.status.InputFault.TheVariants as input
-use Rattle.job_top.specs.Inputs.{AcceptsBox, AcceptsCapture, ReadsScript}
-use Rattle.job_top.specs.Judging.{JudgesBox, JudgesCapture, JudgesScript, CaptureTooLarge}
+use Rattle.job_top.specs.Judging.{AcceptsInputs}
 use Rattle.job_top.specs.Outputs.{WritesFronts, WritesWhole}
 use Rattle.job_top.specs.Report.{report_text}
 use Rattle.job_top.specs.Running.{IsSettled, packets_of}
@@ -39,15 +38,12 @@ pub record Runs {V : Type 0} (m : Meaning V) (packets : List Packet) (unit : Tim
 abbrev pub RunsKind : BoxKind → List Packet → TimeUnit → (List ℕ → List ℕ → List ℕ → Type 0) → Type 0
 RunsKind (Count box) packets unit Stands = Runs count_meaning packets unit Stands
 
--- the inputs are accepted, for one thread and the script `settle`, and the box ran on the packets of the capture
+-- the inputs are accepted, and the box ran on the packets of the capture
 pub record RunsOn (names : RunNames) (old : Shown) (Stands : List ℕ → List ℕ → List ℕ → Type 0) : Type 0 where
   pub conf : BoxConf
   pub unit : TimeUnit
   pub packets : List Packet
-  pub box_accepted : AcceptsBox names.box_file conf old
-  pub one_thread : conf.threads ≡ 1
-  pub capture_accepted : AcceptsCapture names.capture unit packets old
-  pub script_accepted : ReadsScript names.script true old
+  pub accepted : AcceptsInputs names conf unit packets old
   pub ran : RunsKind conf.kind packets unit Stands
 
 -- the outputs have all that the run gives

@@ -1,7 +1,8 @@
-ghost use Rattle.std.specs.Prelude.{◌≡◌, ◌<◌, ◌-◌, ◌^◌, IsTrue, IsErrOf};
+ghost use Rattle.std.specs.Prelude.{◌≡◌, ◌<◌, ◌≤◌, ◌-◌, ◌^◌, All, length, IsTrue, IfOk, IsErrOf};
 ghost use Rattle.world_io.specs.Stream.{Rose};
 ghost use Rattle.job_top.specs.Files.{KeepsOutputs, AfterReading};
 ghost use Rattle.job_top.specs.Judging.{JudgesBox, JudgesCapture, JudgesScript};
+ghost use Rattle.job_top.specs.Running.{IsShort};
 
 use crate::{InputFault, ReadFile, Status, is_settle, read_file};
 use box_conf::{BoxConf, ConfError, read_box};
@@ -46,6 +47,8 @@ pub fn read_capture_file<W: World>(
 ) -> Result<Capture, Status>
     requires { (W.ledger world.old).given < 2 ^ 32 - 1 }
     ensures judged { IsTrue W.tells → JudgesCapture name.now result (W.shown world.old) }
+    ensures few { IfOk result (λ capture. length capture.packets ≤ 65536) }
+    ensures short { IfOk result (λ capture. All IsShort capture.packets) }
     ensures outputs { IsTrue W.tells → KeepsOutputs (W.shown world.old) (W.shown world.new) }
     ensures ledger { AfterReading (W.ledger world.old) (W.ledger world.new) }
     ensures cause { IsErrOf result Status.ReadFault → Rose (W.ledger world.old).read_faults (W.ledger world.new).read_faults }

@@ -11,6 +11,7 @@ mod run_words;
 mod running;
 mod script;
 mod status;
+mod top;
 mod writing;
 
 pub use inputs::{Capture, read_box_file, read_capture_file, read_script_file};
@@ -23,4 +24,5 @@ pub use run_words::{RunWords, read_run_words};
 pub use running::{Running, play_packets};
 pub use script::is_settle;
 pub use status::{InputFault, Status};
+pub use top::Inputs;
 pub use writing::append;
