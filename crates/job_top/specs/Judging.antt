@@ -94,7 +94,7 @@ Judges names (status.BadInput (input.BoxFile fault)) shown = FaultsBox names.box
 Judges names (status.BadInput (input.Capture fault)) shown = BehindBox names shown (FaultsCapture names.capture fault shown)
 Judges names (status.TooLarge limit) shown =
     ((limit ≡ File) × HasTooMany names.box_file shown) ⊎ (BehindBox names shown (CaptureTooLarge names.capture limit shown)
-      ⊎ BehindCapture names shown ((limit ≡ File) × HasTooMany names.script shown))
+    ⊎ BehindCapture names shown ((limit ≡ File) × HasTooMany names.script shown))
 Judges names status.NotBuilt shown = AsksForMore names shown
 
 -- the statuses that come before anything is written

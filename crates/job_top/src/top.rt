@@ -40,7 +40,10 @@ fn read_inputs<W: World>(
     let conf = read_box_file(alloc, world, names.box_file)?;
     let capture = read_capture_file(alloc, world, names.capture)?;
     let settle = read_script_file(alloc, world, names.script)?;
-    if conf.threads != 1 || !settle {
+    if conf.threads != 1 {
+        return Err(Status::NotBuilt);
+    }
+    if !settle {
         return Err(Status::NotBuilt);
     }
     Ok(Inputs {
