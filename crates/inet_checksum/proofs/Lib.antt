@@ -1,0 +1,3 @@
+pub mod Recomputing
+pub mod Values
+pub mod Words
