@@ -1,0 +1,16 @@
+-- Lists of tests, of which the first that fails answers.
+use Rattle.std.proofs.Common.{◌≡◌, Bool, true, false, List, [], ◌∷◌, ◌++◌, Result, Ok, Err, refl}
+use Rattle.packet_headers.specs.declared.flow.NotFlow.{NotFlow}
+use Rattle.packet_headers.specs.View.{first_failure}
+
+-- a failure is the same whatever value would have come
+pub first_failure_err : {A B : Type 0} (tests : List (Bool × NotFlow)) (a : A) (b : B) (answer : NotFlow) → first_failure tests a ≡ Err answer → first_failure tests b ≡ Err answer
+first_failure_err [] a b answer fails = cc
+first_failure_err ((true, said) ∷ later) a b answer fails = cc
+first_failure_err ((false, said) ∷ later) a b answer fails = first_failure_err later a b answer fails
+
+-- where the earlier tests pass, the later ones answer
+pub first_failure-append : {A B : Type 0} (earlier later : List (Bool × NotFlow)) (a passed : A) (b : B) → first_failure earlier a ≡ Ok passed → first_failure (earlier ++ later) b ≡ first_failure later b
+first_failure-append [] later a passed b passes = refl
+first_failure-append ((true, said) ∷ more) later a passed b passes = cc
+first_failure-append ((false, said) ∷ more) later a passed b passes = first_failure-append more later a passed b passes

@@ -1,0 +1,40 @@
+ghost use Rattle.std.specs.Prelude.{◌≡◌, ◌+◌, ◌<◌, length};
+ghost use Rattle.packet_headers.specs.Fields.{word_at, long_at, put_word, put_long};
+
+/// The 16-bit number at a place, high byte first.
+pub(crate) fn word_at(frame: &[u8], place: usize) -> u16
+    requires { place + 1 < length frame.now }
+    ensures { result ≡ word_at frame.now place }
+{
+    u16::from_be_bytes([frame[place], frame[place + 1]])
+}
+
+/// The 32-bit number at a place, high byte first.
+pub(crate) fn long_at(frame: &[u8], place: usize) -> u32
+    requires { place + 3 < length frame.now }
+    ensures { result ≡ long_at frame.now place }
+{
+    u32::from_be_bytes([
+        frame[place],
+        frame[place + 1],
+        frame[place + 2],
+        frame[place + 3],
+    ])
+}
+
+pub(crate) fn put_word(frame: &mut [u8], place: usize, word: u16)
+    requires { place + 1 < length frame.old }
+    ensures { frame.new ≡ put_word frame.old place word }
+{
+    let [high, low] = word.to_be_bytes();
+    frame[place] = high;
+    frame[place + 1] = low;
+}
+
+pub(crate) fn put_long(frame: &mut [u8], place: usize, number: u32)
+    requires { place + 3 < length frame.old }
+    ensures { frame.new ≡ put_long frame.old place number }
+{
+    put_word(frame, place, (number >> 16) as u16);
+    put_word(frame, place + 2, (number & 0xffff) as u16);
+}

@@ -1,0 +1,84 @@
+ghost use Rattle.std.specs.Prelude.{◌≡◌, ◌+◌, ◌≤◌, ◌<◌, length};
+ghost use Rattle.packet_headers.specs.Rewriting.{CanRewrite, checksum_place, written_checksum, rewritten, with_source, with_dest};
+
+use crate::Flow;
+use crate::fields::{long_at, put_long, put_word, word_at};
+use crate::flow::TCP;
+use inet_checksum::{adjust16, adjust32};
+
+/// Writes another source address and port into the frame of a flow.
+pub fn set_source(frame: &mut [u8], flow: &Flow, address: u32, port: u16)
+    requires { CanRewrite frame.old flow.now }
+    ensures value { frame.new ≡ with_source frame.old flow.now address port }
+{
+    rewrite(frame, flow, 26, flow.transport_at as usize, address, port);
+}
+
+/// Writes another destination address and port into the frame of a flow.
+pub fn set_dest(frame: &mut [u8], flow: &Flow, address: u32, port: u16)
+    requires { CanRewrite frame.old flow.now }
+    ensures value { frame.new ≡ with_dest frame.old flow.now address port }
+{
+    rewrite(
+        frame,
+        flow,
+        30,
+        flow.transport_at as usize + 2,
+        address,
+        port,
+    );
+}
+
+/// Writes an address and a port at their places, after both checksums were adjusted to them.
+fn rewrite(
+    frame: &mut [u8],
+    flow: &Flow,
+    address_place: usize,
+    port_place: usize,
+    address: u32,
+    port: u16,
+)
+    requires header_in { 34 ≤ length frame.old }
+    requires address_in { address_place + 3 < length frame.old }
+    requires port_in { port_place + 1 < length frame.old }
+    requires checksum_in { checksum_place flow.now + 1 < length frame.old }
+    ensures { frame.new ≡ rewritten frame.old flow.now address_place port_place address port }
+{
+    let old_address = long_at(frame, address_place);
+    let old_port = word_at(frame, port_place);
+    let header = adjust32(word_at(frame, 24), old_address, address);
+    let place = checksum_place(flow);
+    let old = word_at(frame, place);
+    let transport = adjust16(adjust32(old, old_address, address), old_port, port);
+    put_word(frame, 24, header);
+    put_word(
+        frame,
+        place,
+        written_checksum(flow.protocol, old, transport),
+    );
+    put_long(frame, address_place, address);
+    put_word(frame, port_place, port);
+}
+
+/// Where the checksum stands in the frame.
+fn checksum_place(flow: &Flow) -> usize
+    ensures { result ≡ checksum_place flow.now }
+{
+    flow.transport_at as usize + if flow.protocol == TCP { 16 } else { 6 }
+}
+
+/// A TCP or UDP checksum as it is written. A UDP checksum of 0 says that there is none, so it stays, and one that
+/// becomes 0 is written as all ones (RFC 768).
+fn written_checksum(protocol: u8, old: u16, adjusted: u16) -> u16
+    ensures { result ≡ written_checksum protocol old adjusted }
+{
+    if protocol == TCP {
+        adjusted
+    } else {
+        match (old, adjusted) {
+            (0, _) => 0,
+            (_, 0) => 0xffff,
+            _ => adjusted,
+        }
+    }
+}
