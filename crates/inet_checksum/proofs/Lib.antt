@@ -1,3 +1,4 @@
+pub mod Adjusting
 pub mod Recomputing
 pub mod Values
 pub mod Words

@@ -3,7 +3,7 @@ use Rattle.std.proofs.Common.{◌≡◌, ℕ, ◌+◌, ◌%◌, ◌/◌, ◌^◌
 use Rattle.std.proofs.lemmas.List.Sums.{sum_by-set}
 use Rattle.std.proofs.lemmas.List.{get_or-set_other, length-set}
 use Rattle.inet_checksum.specs.OnesComplement.{ones_value, complement, adjusted_16, checksum_at, CanRecompute, EqualsRecomputing_16, with_32, EqualsRecomputing_32}
-use Rattle.inet_checksum.proofs.Values.{same_value, same_remainder, ones_value_bounds, ones_value-mod}
+use Rattle.inet_checksum.proofs.Values.{same_value, same_remainder, ones_value-le, ones_value_positive, ones_value-mod}
 
 -- equation 3 gives the checksum computed anew, where what was removed and what came balance the words' total
 pub anew : (before after : List ℕ) (place checksum old new total : ℕ)
@@ -39,6 +39,7 @@ equation_3_twice_recomputes checksum old new high total checksum_fits old_fits h
     let there = get_or-set_other (set before changed (new / 65536)) (changed + 1) place (new % 65536) 0 apart_low ∙ get_or-set_other before changed place (new / 65536) 0 apart ∙ can.checksum_there in
     let not_all_ones = can.not_all_ones in
     let high_total = sum (complement checksum ∷ complement (old / 65536) ∷ new / 65536 ∷ []) in
-    let bounds = ones_value_bounds high_total (omega arith) in
+    let high_small = ones_value-le high_total in
+    let high_positive = ones_value_positive high_total (omega arith) in
     let high_remainder = ones_value-mod high_total in
     anew before (with_32 before changed new) place checksum (old / 65536 + old % 65536) (new / 65536 + new % 65536) total can checksum_fits there (simp length-set can.place_in) (omega arith) (omega arith) (omega arith)

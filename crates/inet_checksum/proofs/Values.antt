@@ -34,9 +34,12 @@ ones_value_small total small = grind (arith, nat_tests)
 pub ones_value-wide : (a b c d rest : ℕ) → ones_value (a * 2 ^ 48 + b * 2 ^ 32 + c * 2 ^ 16 + d + rest) ≡ ones_value (a + b + c + d + rest)
 ones_value-wide a b c d rest = same_value _ _ (λ z. omega arith) (λ z. omega arith) (omega arith)
 
--- the value of a total that is not 0 is from 1 to 65,535
-pub ones_value_bounds : (total : ℕ) → 0 < total → (0 < ones_value total) × (ones_value total ≤ 65535)
-ones_value_bounds total positive = (grind (arith, nat_tests), grind (arith, nat_tests))
+-- a value is at most 65,535, is 0 for 0 alone, and has the total's remainder
+pub ones_value-le : (total : ℕ) → ones_value total ≤ 65535
+ones_value-le total = grind (arith, nat_tests)
+
+pub ones_value_positive : (total : ℕ) → 0 < total → 0 < ones_value total
+ones_value_positive total positive = grind (arith, nat_tests)
 
 pub ones_value-mod : (total : ℕ) → ones_value total % 65535 ≡ total % 65535
 ones_value-mod total = grind (arith, nat_tests)

@@ -1,1 +1,5 @@
+pub mod Laws
+pub mod Places
+pub mod Residues
 pub mod Tests
+pub mod Weights

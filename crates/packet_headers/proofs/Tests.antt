@@ -1,5 +1,5 @@
 -- Lists of tests, of which the first that fails answers.
-use Rattle.std.proofs.Common.{◌≡◌, Bool, true, false, List, [], ◌∷◌, ◌++◌, Result, Ok, Err, refl}
+use Rattle.std.proofs.Common.{◌≡◌, Bool, true, false, List, [], ◌∷◌, ◌++◌, Result, Ok, Err, IsOkAnd, refl}
 use Rattle.packet_headers.specs.declared.flow.NotFlow.{NotFlow}
 use Rattle.packet_headers.specs.View.{first_failure}
 
@@ -14,3 +14,17 @@ pub first_failure-append : {A B : Type 0} (earlier later : List (Bool × NotFlow
 first_failure-append [] later a passed b passes = refl
 first_failure-append ((true, said) ∷ more) later a passed b passes = cc
 first_failure-append ((false, said) ∷ more) later a passed b passes = first_failure-append more later a passed b passes
+
+-- every test passes
+abbrev pub Pass : List (Bool × NotFlow) → Type 0
+Pass [] = Unit {0}
+Pass (test ∷ later) = (test.0 ≡ false) × Pass later
+
+pub pass_from_ok : {A : Type 0} (tests : List (Bool × NotFlow)) (value seen : A) → first_failure tests value ≡ Ok seen → Pass tests × (value ≡ seen)
+pass_from_ok [] value seen ok = (tt, cc)
+pass_from_ok ((true, said) ∷ later) value seen ok = cc
+pass_from_ok ((false, said) ∷ later) value seen ok = let rest = pass_from_ok later value seen ok in ((refl, rest.0), rest.1)
+
+pub ok_and : {A : Type 0} (r : Result A NotFlow) (P : A → Type 0) → IsOkAnd r P → (x : A) × (r ≡ Ok x) × P x
+ok_and (Ok x) P holds = (x, refl, holds)
+ok_and (Err e) P holds = absurd holds
