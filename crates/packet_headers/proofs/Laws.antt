@@ -1,22 +1,80 @@
--- What rewriting keeps.
-use Rattle.std.proofs.Common.{◌≡◌, ◌≢◌, ◌⊎◌, ℕ, ◌+◌, ◌-◌, ◌*◌, ◌/◌, ◌%◌, ◌^◌, ◌<◌, ◌≤◌, Bool, true, false, nat_lt, if◌then◌else◌, List, [], ◌∷◌, ◌++◌, length, get_or, take, drop, sum, ◌∙◌, sym, ap, inl, inr, arith, rules, refl}
+-- What rewriting keeps: the residues that the two checksums tell.
+use Rattle.std.proofs.Common.{◌≡◌, ◌≢◌, ◌⊎◌, ℕ, ◌+◌, ◌-◌, ◌*◌, ◌/◌, ◌%◌, ◌^◌, ◌<◌, ◌≤◌, false, if◌then◌else◌, List, [], ◌++◌, length, get_or, take, drop, sum, ◌∙◌, sym, ap, inl, inr, arith, refl}
 use Rattle.std.proofs.lemmas.List.{append-nil, length-append, length-take, length-drop}
 use Rattle.std.proofs.lemmas.List.Sums.{sum_by_from}
 use Rattle.std.proofs.lemmas.Bool.{ltb-false}
 use Rattle.std.proofs.lemmas.Bool.Decides.{nat_tests}
-use Rattle.inet_checksum.specs.OnesComplement.{words, residue, adjusted_16, adjusted_32}
+use Rattle.inet_checksum.specs.OnesComplement.{words, adjusted_16, adjusted_32}
 use Rattle.inet_checksum.proofs.Adjusting.{adjusted_16-residue, adjusted_32-le, adjusted_32-residue}
 use Rattle.packet_headers.specs.declared.flow.Flow.{Flow}
-use Rattle.packet_headers.specs.Fields.{word_at, long_at, put_word, put_long, protocol, header_end}
-use Rattle.packet_headers.specs.View.{is_tcp, is_udp, least_header, failures, flow_of, viewed}
+use Rattle.packet_headers.specs.Fields.{AreBytes, word_at, long_at, protocol, header_end}
+use Rattle.packet_headers.specs.View.{is_tcp, least_header, failures, flow_of, viewed}
 use Rattle.packet_headers.specs.Rewriting.{CanRewrite, checksum_place, written_checksum, adjusted_checksum, rewritten, covered_words, KeepsHeaderResidue, KeepsTransportResidue}
 use Rattle.packet_headers.proofs.Tests.{ok_and, pass_from_ok}
-use Rattle.packet_headers.proofs.Places.{length-put_word}
 use Rattle.packet_headers.proofs.Weights.{weight}
-use Rattle.packet_headers.proofs.Residues.{five, Layout, length-five, header_weight, transport_weight, early_byte, other_address_byte, other_transport_byte, new_words}
+use Rattle.packet_headers.proofs.Residues.{Write, written, Layout, length-written, header_weight, transport_weight, address_there, other_address, early_byte}
 
-abbrev AreBytes : List ℕ → Type 0
-AreBytes frame = (k : ℕ) → get_or frame k 0 < 256
+-- ---- a frame that can be rewritten
+
+pub record IsFlowFrame (frame : List ℕ) (flow : Flow) : Type 0 where
+  pub at : flow.transport_at ≡ header_end frame
+  pub number : flow.protocol ≡ protocol frame
+  pub behind : 34 ≤ flow.transport_at
+  pub in_frame : flow.transport_at + least_header flow.protocol ≤ length frame
+
+abbrev pub SameTransport : Flow → Flow → Type 0
+SameTransport flow seen = (seen.protocol ≡ flow.protocol) × (seen.transport_at ≡ flow.transport_at)
+
+pub flow_frame : (frame : List ℕ) (flow : Flow) → CanRewrite frame flow → IsFlowFrame frame flow
+flow_frame frame flow can =
+    let seen = ok_and (viewed frame can.0) (SameTransport flow) can.1 in
+    let passes = pass_from_ok (failures frame can.0) (flow_of frame) seen.0 seen.1 in
+    let at : flow.transport_at ≡ header_end frame = cc in
+    let number : flow.protocol ≡ protocol frame = cc in
+    let header_long = ltb-false _ _ passes.0.1.1.1.1.0 in
+    let frame_long = ltb-false _ _ passes.0.1.1.1.1.1.1.1.1.1.0 in
+    record { at = at; number = number; behind = omega arith; in_frame = rw (at, number) frame_long }
+
+-- what is written into it
+abbrev pub write_of : List ℕ → Flow → ℕ → ℕ → ℕ → ℕ → Write
+write_of frame flow address_place port_place address port = record {
+  header = adjusted_32 (word_at frame 24) (long_at frame address_place) address;
+  transport = adjusted_checksum flow.protocol (word_at frame (checksum_place flow)) (long_at frame address_place) address (word_at frame port_place) port;
+  address = address;
+  port = port;
+  checksum_place = checksum_place flow;
+  address_place = address_place;
+  port_place = port_place;
+}
+
+-- where the source or the destination is rewritten: n words into the header, and p words into the transport
+layout_of : (frame : List ℕ) (flow : Flow) (address_place port_place n p address port : ℕ) → IsFlowFrame frame flow
+    → address_place ≡ 14 + 2 * n → 6 ≤ n → n ≤ 8 → port_place ≡ flow.transport_at + 2 * p → p ≤ 1
+    → Layout frame flow.transport_at (least_header flow.protocol) (write_of frame flow address_place port_place address port)
+layout_of frame flow address_place port_place n p address port known address_is from to port_is small = record {
+  address_words = n;
+  checksum_words = if is_tcp flow.protocol then 8 else 3;
+  port_words = p;
+  behind = known.behind;
+  in_frame = known.in_frame;
+  address_is = address_is;
+  address_from = from;
+  address_to = to;
+  checksum_is = grind (arith, nat_tests);
+  checksum_in = grind (arith, nat_tests);
+  port_is = port_is;
+  port_before = grind (arith, nat_tests);
+}
+
+pub source_layout : (frame : List ℕ) (flow : Flow) (address port : ℕ) → IsFlowFrame frame flow
+    → Layout frame flow.transport_at (least_header flow.protocol) (write_of frame flow 26 flow.transport_at address port)
+source_layout frame flow address port known = layout_of frame flow 26 flow.transport_at 6 0 address port known refl (omega arith) (omega arith) (omega arith) (omega arith)
+
+pub dest_layout : (frame : List ℕ) (flow : Flow) (address port : ℕ) → IsFlowFrame frame flow
+    → Layout frame flow.transport_at (least_header flow.protocol) (write_of frame flow 30 (flow.transport_at + 2) address port)
+dest_layout frame flow address port known = layout_of frame flow 30 (flow.transport_at + 2) 8 1 address port known refl (omega arith) (omega arith) (omega arith) (omega arith)
+
+-- ---- the header
 
 word_at-le : (frame : List ℕ) (place : ℕ) → AreBytes frame → word_at frame place ≤ 65535
 word_at-le frame place bytes =
@@ -30,65 +88,18 @@ long_at-lt frame place bytes =
     let low = word_at-le frame (place + 2) bytes in
     omega arith
 
-pub keeps_header_residue : (frame : List ℕ) (flow : Flow) (address_place port_place n c p address port : ℕ)
-    → AreBytes frame → Layout frame flow.transport_at (least_header flow.protocol) (checksum_place flow) address_place port_place n c p
+keeps_header_residue : (frame : List ℕ) (flow : Flow) (address_place port_place address port : ℕ) → AreBytes frame
+    → Layout frame flow.transport_at (least_header flow.protocol) (write_of frame flow address_place port_place address port)
     → KeepsHeaderResidue frame (rewritten frame flow address_place port_place address port) flow
-keeps_header_residue frame flow address_place port_place n c p address port bytes layout =
-    let old = long_at frame address_place in
-    let header = adjusted_32 (word_at frame 24) old address in
-    let transport = adjusted_checksum flow.protocol (word_at frame (checksum_place flow)) old address (word_at frame port_place) port in
-    let weighs = header_weight frame flow.transport_at (least_header flow.protocol) (checksum_place flow) address_place port_place n c p header transport address port layout in
-    let balance = adjusted_32-residue (word_at frame 24) old address (word_at-le frame 24 bytes) (long_at-lt frame address_place bytes) in
+keeps_header_residue frame flow address_place port_place address port bytes layout =
+    let w = write_of frame flow address_place port_place address port in
+    let weighs = header_weight frame flow.transport_at (least_header flow.protocol) w layout in
+    let balance = adjusted_32-residue (word_at frame 24) (long_at frame address_place) address (word_at-le frame 24 bytes) (long_at-lt frame address_place bytes) in
     let kept : weight (rewritten frame flow address_place port_place address port) 14 flow.transport_at [] % 65535 ≡ weight frame 14 flow.transport_at [] % 65535 = omega arith in
     simp append-nil at kept
 
--- what is known of a frame that can be rewritten
-pub record IsFlowFrame (frame : List ℕ) (flow : Flow) : Type 0 where
-  pub at : flow.transport_at ≡ header_end frame
-  pub number : flow.protocol ≡ protocol frame
-  pub behind : 34 ≤ flow.transport_at
-  pub in_frame : flow.transport_at + least_header flow.protocol ≤ length frame
+-- ---- the transport and its pseudo-header
 
-pub flow_frame : (frame : List ℕ) (flow : Flow) → CanRewrite frame flow → IsFlowFrame frame flow
-flow_frame frame flow can =
-    let seen = ok_and (viewed frame can.0) (λ (seen : Flow). (seen.protocol ≡ flow.protocol) × (seen.transport_at ≡ flow.transport_at)) can.1 in
-    let passes = pass_from_ok (failures frame can.0) (flow_of frame) seen.0 seen.1 in
-    let at : flow.transport_at ≡ header_end frame = cc in
-    let number : flow.protocol ≡ protocol frame = cc in
-    let header_long = ltb-false _ _ passes.0.1.1.1.1.0 in
-    let frame_long = ltb-false _ _ passes.0.1.1.1.1.1.1.1.1.1.0 in
-    record { at = at; number = number; behind = omega arith; in_frame = rw (at, number) frame_long }
-
--- the places of the words, where the source or the destination is rewritten
-pub source_layout : (frame : List ℕ) (flow : Flow) → IsFlowFrame frame flow
-    → Layout frame flow.transport_at (least_header flow.protocol) (checksum_place flow) 26 flow.transport_at 6 (if is_tcp flow.protocol then 8 else 3) 0
-source_layout frame flow known = record {
-  behind = known.behind;
-  in_frame = known.in_frame;
-  address_is = refl;
-  address_from = omega arith;
-  address_to = omega arith;
-  checksum_is = grind (arith, nat_tests);
-  checksum_in = grind (arith, nat_tests);
-  port_is = omega arith;
-  port_before = grind (arith, nat_tests)
-}
-
-pub dest_layout : (frame : List ℕ) (flow : Flow) → IsFlowFrame frame flow
-    → Layout frame flow.transport_at (least_header flow.protocol) (checksum_place flow) 30 (flow.transport_at + 2) 8 (if is_tcp flow.protocol then 8 else 3) 1
-dest_layout frame flow known = record {
-  behind = known.behind;
-  in_frame = known.in_frame;
-  address_is = refl;
-  address_from = omega arith;
-  address_to = omega arith;
-  checksum_is = grind (arith, nat_tests);
-  checksum_in = grind (arith, nat_tests);
-  port_is = omega arith;
-  port_before = grind (arith, nat_tests)
-}
-
--- the sum of the words of both addresses
 abbrev addresses : List ℕ → ℕ
 addresses frame = word_at frame 26 + word_at frame 28 + word_at frame 30 + word_at frame 32
 
@@ -102,15 +113,25 @@ length_piece new old more from to same = simp (length-append, length-take, lengt
 written_checksum-mod : (number old adjusted : ℕ) → (is_tcp number ≡ false → old ≢ 0) → written_checksum number old adjusted % 65535 ≡ adjusted % 65535
 written_checksum-mod number old adjusted has_checksum = grind (arith, nat_tests)
 
--- what came and went balances, in the pseudo-header and in the transport
-balances : (new_addresses old_addresses weight_new weight_old checksum high low old_port written first second new_high new_low port : ℕ)
-    → new_addresses + (high + low) ≡ old_addresses + (new_high + new_low)
-    → weight_new + (checksum + old_port) ≡ weight_old + (written + port)
-    → (first + (65536 * new_high + new_low)) % 65535 ≡ (checksum + (65536 * high + low)) % 65535
+-- two addresses of which one changed, in 32 bits as in words
+record OneChanged (new old : List ℕ) (was is : ℕ) : Type 0 where
+  balance : long_at new 26 + long_at new 30 + was ≡ long_at old 26 + long_at old 30 + is
+
+source_changed : (new old : List ℕ) (address : ℕ) → long_at new 26 ≡ address → long_at new 30 ≡ long_at old 30 → OneChanged new old (long_at old 26) address
+source_changed new old address there other = record { balance = omega arith }
+
+dest_changed : (new old : List ℕ) (address : ℕ) → long_at new 30 ≡ address → long_at new 26 ≡ long_at old 26 → OneChanged new old (long_at old 30) address
+dest_changed new old address there other = record { balance = omega arith }
+
+-- what came and what went balance
+balances : (addresses_new addresses_old weight_new weight_old checksum was is old_port port transport first second : ℕ)
+    → (addresses_new + was) % 65535 ≡ (addresses_old + is) % 65535
+    → weight_new + (checksum + old_port) ≡ weight_old + (transport + port)
+    → (first + is) % 65535 ≡ (checksum + was) % 65535
     → (second + port) % 65535 ≡ (first + old_port) % 65535
-    → written % 65535 ≡ second % 65535
-    → (new_addresses + weight_new) % 65535 ≡ (old_addresses + weight_old) % 65535
-balances new_addresses old_addresses weight_new weight_old checksum high low old_port written first second new_high new_low port a b c d e = omega arith
+    → transport % 65535 ≡ second % 65535
+    → (addresses_new + weight_new) % 65535 ≡ (addresses_old + weight_old) % 65535
+balances addresses_new addresses_old weight_new weight_old checksum was is old_port port transport first second a b c d e = omega arith
 
 same_residue : (addresses_new addresses_old protocol_new protocol_old length_new length_old weight_new weight_old new old : ℕ)
     → new ≡ addresses_new + protocol_new + length_new + weight_new
@@ -120,29 +141,51 @@ same_residue : (addresses_new addresses_old protocol_new protocol_old length_new
     → new % 65535 ≡ old % 65535
 same_residue addresses_new addresses_old protocol_new protocol_old length_new length_old weight_new weight_old new old a b c d e = omega arith
 
--- where the addresses change by one of them, and the pseudo-header in nothing else
-pub keeps_transport_residue : (frame : List ℕ) (flow : Flow) (address_place port_place n c p address port : ℕ)
-    → AreBytes frame → Layout frame flow.transport_at (least_header flow.protocol) (checksum_place flow) address_place port_place n c p
-    → addresses (rewritten frame flow address_place port_place address port) + (word_at frame address_place + word_at frame (address_place + 2)) ≡ addresses frame + (address / 65536 + address % 65536)
+addresses-mod : (new old : List ℕ) (was is : ℕ) → OneChanged new old was is → (addresses new + was) % 65535 ≡ (addresses old + is) % 65535
+addresses-mod new old was is changed = let balance = changed.balance in omega arith
+
+keeps_transport_residue : (frame : List ℕ) (flow : Flow) (address_place port_place address port : ℕ) → AreBytes frame
+    → Layout frame flow.transport_at (least_header flow.protocol) (write_of frame flow address_place port_place address port)
+    → OneChanged (rewritten frame flow address_place port_place address port) frame (long_at frame address_place) address
     → KeepsTransportResidue frame (rewritten frame flow address_place port_place address port) flow
-keeps_transport_residue frame flow address_place port_place n c p address port bytes layout pseudo end uncaptured ends has_checksum =
-    let old = long_at frame address_place in
-    let checksum = word_at frame (checksum_place flow) in
-    let old_port = word_at frame port_place in
-    let header = adjusted_32 (word_at frame 24) old address in
-    let first = adjusted_32 checksum old address in
-    let second = adjusted_16 first old_port port in
-    let transport = written_checksum flow.protocol checksum second in
+keeps_transport_residue frame flow address_place port_place address port bytes layout changed end uncaptured ends has_checksum =
+    let w = write_of frame flow address_place port_place address port in
     let new = rewritten frame flow address_place port_place address port in
     let at = flow.transport_at in
-    let weighs = transport_weight frame uncaptured at (least_header flow.protocol) end (checksum_place flow) address_place port_place n c p header transport address port layout ends in
-    let halves : address ≡ 65536 * (address / 65536) + address % 65536 = omega arith in
-    let balance = ap (λ (x : ℕ). (first + x) % 65535) (sym halves) ∙ adjusted_32-residue checksum old address (word_at-le frame (checksum_place flow) bytes) (long_at-lt frame address_place bytes) in
-    let port_balance = adjusted_16-residue first old_port port (adjusted_32-le checksum old address) (word_at-le frame port_place bytes) in
-    let as_adjusted = written_checksum-mod flow.protocol checksum second has_checksum in
-    let protocol_kept = early_byte frame at (least_header flow.protocol) (checksum_place flow) address_place port_place n c p header transport address port 23 layout (omega arith) in
-    let length_kept = length_piece new frame uncaptured at end (length-five frame (checksum_place flow) address_place port_place header transport address port) in
-    let all = balances (addresses new) (addresses frame) (weight new at end uncaptured) (weight frame at end uncaptured) checksum (word_at frame address_place) (word_at frame (address_place + 2)) old_port transport first second (address / 65536) (address % 65536) port pseudo weighs balance port_balance as_adjusted in
-    let covered_new = covered_sum new (take (end - at) (drop at new) ++ uncaptured) in
-    let covered_old = covered_sum frame (take (end - at) (drop at frame) ++ uncaptured) in
-    same_residue (addresses new) (addresses frame) _ _ _ _ _ _ _ _ covered_new covered_old protocol_kept length_kept all
+    let least = least_header flow.protocol in
+    let old_address = long_at frame address_place in
+    let old_port = word_at frame port_place in
+    let checksum = word_at frame (checksum_place flow) in
+    let first = adjusted_32 checksum old_address address in
+    let second = adjusted_16 first old_port port in
+    let weighs = transport_weight frame uncaptured at least end w layout ends in
+    let first_balance = adjusted_32-residue checksum old_address address (word_at-le frame (checksum_place flow) bytes) (long_at-lt frame address_place bytes) in
+    let second_balance = adjusted_16-residue first old_port port (adjusted_32-le checksum old_address address) (word_at-le frame port_place bytes) in
+    let all = balances (addresses new) (addresses frame) (weight new at end uncaptured) (weight frame at end uncaptured) checksum old_address address old_port port w.transport first second (addresses-mod new frame old_address address changed) weighs first_balance second_balance (written_checksum-mod flow.protocol checksum second has_checksum) in
+    same_residue (addresses new) (addresses frame) _ _ _ _ _ _ _ _
+    (covered_sum new (take (end - at) (drop at new) ++ uncaptured)) (covered_sum frame (take (end - at) (drop at frame) ++ uncaptured))
+    (early_byte frame at least w 23 layout (omega arith)) (length_piece new frame uncaptured at end (length-written frame w)) all
+
+-- ---- both, for a source and for a destination
+
+pub source_keeps : (frame : List ℕ) (flow : Flow) (address port : ℕ) → AreBytes frame → CanRewrite frame flow
+    → KeepsHeaderResidue frame (rewritten frame flow 26 flow.transport_at address port) flow × KeepsTransportResidue frame (rewritten frame flow 26 flow.transport_at address port) flow
+source_keeps frame flow address port bytes can =
+    let layout = source_layout frame flow address port (flow_frame frame flow can) in
+    let w = write_of frame flow 26 flow.transport_at address port in
+    let there = address_there frame flow.transport_at (least_header flow.protocol) w layout in
+    let other = other_address frame flow.transport_at (least_header flow.protocol) w 30 layout (omega arith) (omega arith) (inr (omega arith)) in (
+      keeps_header_residue frame flow 26 flow.transport_at address port bytes layout,
+      keeps_transport_residue frame flow 26 flow.transport_at address port bytes layout (source_changed (written frame w) frame address there other),
+    )
+
+pub dest_keeps : (frame : List ℕ) (flow : Flow) (address port : ℕ) → AreBytes frame → CanRewrite frame flow
+    → KeepsHeaderResidue frame (rewritten frame flow 30 (flow.transport_at + 2) address port) flow × KeepsTransportResidue frame (rewritten frame flow 30 (flow.transport_at + 2) address port) flow
+dest_keeps frame flow address port bytes can =
+    let layout = dest_layout frame flow address port (flow_frame frame flow can) in
+    let w = write_of frame flow 30 (flow.transport_at + 2) address port in
+    let there = address_there frame flow.transport_at (least_header flow.protocol) w layout in
+    let other = other_address frame flow.transport_at (least_header flow.protocol) w 26 layout (omega arith) (omega arith) (inl (omega arith)) in (
+      keeps_header_residue frame flow 30 (flow.transport_at + 2) address port bytes layout,
+      keeps_transport_residue frame flow 30 (flow.transport_at + 2) address port bytes layout (dest_changed (written frame w) frame address there other),
+    )

@@ -1,7 +1,8 @@
 -- Lists of tests, of which the first that fails answers.
 use Rattle.std.proofs.Common.{◌≡◌, Bool, true, false, List, [], ◌∷◌, ◌++◌, Result, Ok, Err, IsOkAnd, refl}
+use Rattle.packet_headers.specs.declared.flow.Flow.{Flow}
 use Rattle.packet_headers.specs.declared.flow.NotFlow.{NotFlow}
-use Rattle.packet_headers.specs.View.{first_failure}
+use Rattle.packet_headers.specs.View.{first_failure, changed_flow}
 
 -- a failure is the same whatever value would have come
 pub first_failure_err : {A B : Type 0} (tests : List (Bool × NotFlow)) (a : A) (b : B) (answer : NotFlow) → first_failure tests a ≡ Err answer → first_failure tests b ≡ Err answer
@@ -28,3 +29,13 @@ pass_from_ok ((false, said) ∷ later) value seen ok = let rest = pass_from_ok l
 pub ok_and : {A : Type 0} (r : Result A NotFlow) (P : A → Type 0) → IsOkAnd r P → (x : A) × (r ≡ Ok x) × P x
 ok_and (Ok x) P holds = (x, refl, holds)
 ok_and (Err e) P holds = absurd holds
+
+-- what comes of a value that was changed
+pub first_failure-changed : (tests : List (Bool × NotFlow)) (change : Flow → Flow) (flow : Flow) → first_failure tests (change flow) ≡ changed_flow change (first_failure tests flow)
+first_failure-changed [] change flow = refl
+first_failure-changed ((true, said) ∷ later) change flow = refl
+first_failure-changed ((false, said) ∷ later) change flow = first_failure-changed later change flow
+
+pub is_ok_and-changed : (r : Result Flow NotFlow) (change : Flow → Flow) (P : Flow → Type 0) → ((flow : Flow) → P flow → P (change flow)) → IsOkAnd r P → IsOkAnd (changed_flow change r) P
+is_ok_and-changed (Ok flow) change P keeps holds = keeps flow holds
+is_ok_and-changed (Err answer) change P keeps holds = absurd holds

@@ -1,6 +1,10 @@
 -- The fields of an Ethernet frame that carries IPv4 (RFC 791), and in it UDP (RFC 768) or TCP (RFC 9293), by the names
 -- that these give them. A byte past the end of the frame reads as 0.
-use Rattle.std.specs.Prelude.{ℕ, ◌+◌, ◌*◌, ◌/◌, ◌%◌, List, slice_index, slice_set}
+use Rattle.std.specs.Prelude.{ℕ, ◌+◌, ◌*◌, ◌/◌, ◌%◌, ◌<◌, List, slice_index, slice_set}
+
+-- numbers that are bytes
+abbrev pub AreBytes : List ℕ → Type 0
+AreBytes frame = (k : ℕ) → slice_index frame k < 256
 
 -- numbers of 16 and 32 bits, the high byte first
 abbrev pub word_at : List ℕ → ℕ → ℕ

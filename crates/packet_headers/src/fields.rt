@@ -1,5 +1,5 @@
 ghost use Rattle.std.specs.Prelude.{◌≡◌, ◌+◌, ◌<◌, length};
-ghost use Rattle.packet_headers.specs.Fields.{word_at, long_at, put_word, put_long};
+ghost use Rattle.packet_headers.specs.Fields.{AreBytes, word_at, long_at, put_word, put_long};
 
 /// The 16-bit number at a place, high byte first.
 pub(crate) fn word_at(frame: &[u8], place: usize) -> u16
@@ -12,7 +12,8 @@ pub(crate) fn word_at(frame: &[u8], place: usize) -> u16
 /// The 32-bit number at a place, high byte first.
 pub(crate) fn long_at(frame: &[u8], place: usize) -> u32
     requires { place + 3 < length frame.now }
-    ensures { result ≡ long_at frame.now place }
+    ensures value { result ≡ long_at frame.now place }
+    ensures bytes { AreBytes frame.now }
 {
     u32::from_be_bytes([
         frame[place],

@@ -1,4 +1,5 @@
-ghost use Rattle.std.specs.Prelude.{◌≡◌, ◌+◌};
+ghost use Rattle.std.specs.Prelude.{◌≡◌};
+ghost use Rattle.packet_headers.specs.Steering.{steering_sum};
 
 /// The numbers of the protocols that have ports (RFC 790).
 pub(crate) const TCP: u8 = 6;
@@ -35,4 +36,16 @@ pub enum NotFlow {
     OtherProtocol = 5,
     /// The packet's total length has no room for its headers, or is more than the frame had.
     BadTotalLength = 6,
+}
+
+/// The sum of a flow's addresses, ports and protocol, as whole numbers: one number for both of its directions, by
+/// which its packets are kept together.
+pub fn flow_sum(flow: &Flow) -> u64
+    ensures { result ≡ steering_sum flow.now }
+{
+    u64::from(flow.source)
+        + u64::from(flow.dest)
+        + u64::from(flow.source_port)
+        + u64::from(flow.dest_port)
+        + u64::from(flow.protocol)
 }

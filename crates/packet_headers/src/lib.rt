@@ -6,6 +6,6 @@ mod flow;
 mod rewriting;
 mod viewing;
 
-pub use flow::{Flow, NotFlow};
+pub use flow::{Flow, NotFlow, flow_sum};
 pub use rewriting::{set_dest, set_source};
 pub use viewing::view;

@@ -1,23 +1,41 @@
 ghost use Rattle.std.specs.Prelude.{◌≡◌, ◌+◌, ◌≤◌, ◌<◌, length};
+ghost use Rattle.packet_headers.specs.Fields.{AreBytes};
 ghost use Rattle.packet_headers.specs.Rewriting.{CanRewrite, checksum_place, written_checksum, rewritten, with_source, with_dest};
+ghost use Rattle.packet_headers.specs.Rewriting.{KeepsHeaderResidue, KeepsTransportResidue, SeenWithSource, SeenWithDest};
 
 use crate::Flow;
 use crate::fields::{long_at, put_long, put_word, word_at};
 use crate::flow::TCP;
 use inet_checksum::{adjust16, adjust32};
 
-/// Writes another source address and port into the frame of a flow.
+/// Writes another source address and port into a flow's frame, and adjusts both checksums to them (RFC 3022, section
+/// 4.1): the IPv4 checksum to the address, the TCP or UDP checksum to the address and then the port. All other bytes
+/// stay.
+///
+/// A checksum that was wrong stays wrong by the same amount. A UDP checksum of 0, which says that there is none, stays
+/// 0, and one that becomes 0 is written as 0xFFFF (RFC 768). The frame may have been captured in part.
 pub fn set_source(frame: &mut [u8], flow: &Flow, address: u32, port: u16)
     requires { CanRewrite frame.old flow.now }
     ensures value { frame.new ≡ with_source frame.old flow.now address port }
+
+    // What was right stays right, and the frame can be rewritten again.
+    ensures header { KeepsHeaderResidue frame.old frame.new flow.now }
+    ensures transport { KeepsTransportResidue frame.old frame.new flow.now }
+    ensures seen { SeenWithSource frame.old frame.new address port }
+    ensures again { CanRewrite frame.new flow.now }
 {
     rewrite(frame, flow, 26, flow.transport_at as usize, address, port);
 }
 
-/// Writes another destination address and port into the frame of a flow.
+/// Writes another destination address and port into a flow's frame, as `set_source` does the source's.
 pub fn set_dest(frame: &mut [u8], flow: &Flow, address: u32, port: u16)
     requires { CanRewrite frame.old flow.now }
     ensures value { frame.new ≡ with_dest frame.old flow.now address port }
+
+    ensures header { KeepsHeaderResidue frame.old frame.new flow.now }
+    ensures transport { KeepsTransportResidue frame.old frame.new flow.now }
+    ensures seen { SeenWithDest frame.old frame.new address port }
+    ensures again { CanRewrite frame.new flow.now }
 {
     rewrite(
         frame,
@@ -42,7 +60,8 @@ fn rewrite(
     requires address_in { address_place + 3 < length frame.old }
     requires port_in { port_place + 1 < length frame.old }
     requires checksum_in { checksum_place flow.now + 1 < length frame.old }
-    ensures { frame.new ≡ rewritten frame.old flow.now address_place port_place address port }
+    ensures value { frame.new ≡ rewritten frame.old flow.now address_place port_place address port }
+    ensures bytes { AreBytes frame.old }
 {
     let old_address = long_at(frame, address_place);
     let old_port = word_at(frame, port_place);
