@@ -1,5 +1,5 @@
 -- One's complement arithmetic on 16-bit words: RFC 1071, and RFC 1624 for a checksum that is brought up to date.
-use Rattle.std.specs.Prelude.{◌≡◌, ◌≢◌, ℕ, ◌+◌, ◌-◌, ◌*◌, ◌/◌, ◌%◌, ◌<◌, ◌==◌, if◌then◌else◌, List, [], ◌∷◌, length, sum, slice_index, slice_set}
+use Rattle.std.specs.Prelude.{◌≡◌, ◌≢◌, ◌↔◌, ℕ, ◌+◌, ◌-◌, ◌*◌, ◌/◌, ◌%◌, ◌<◌, ◌==◌, if◌then◌else◌, List, [], ◌∷◌, length, sum, slice_index, slice_set}
 
 -- the 16-bit words of bytes, the high byte first; a last odd byte is the high byte of its word
 abbrev pub words : List ℕ → List ℕ
@@ -15,7 +15,7 @@ ones_value total = if total == 0 then 0 else (total - 1) % 65535 + 1
 abbrev pub ones_sum : List ℕ → ℕ
 ones_sum ws = ones_value (sum ws)
 
--- the residue of words, which tells how far their sum is from the one that verifies
+-- the residue of words: 0 where they verify, and else by how much they are wrong
 abbrev pub residue : List ℕ → ℕ
 residue ws = sum ws % 65535
 
@@ -30,6 +30,11 @@ checksum_of ws = complement (ones_sum ws)
 -- words that hold their checksum verify where their one's complement sum is all ones
 abbrev pub Verifies : List ℕ → Type 0
 Verifies ws = ones_sum ws ≡ 65535
+
+-- words that are as right or as wrong as others: their residue is the same, and they verify where the others do
+pub record AreAsRight (old new : List ℕ) : Type 0 where
+  pub same_residue : residue new ≡ residue old
+  pub same_verdict : Verifies new ↔ Verifies old
 
 -- the checksum that words should hold at a place: it is computed with a zero there
 abbrev pub checksum_at : List ℕ → ℕ → ℕ

@@ -5,7 +5,7 @@ use Rattle.packet_headers.specs.declared.flow.NotFlow.{NotFlow}
 use Rattle.packet_headers.specs.Fields.{word_at, long_at, header_end}
 use Rattle.packet_headers.specs.View.{is_tcp, least_header, failures, flow_of, first_failure, viewed, changed_flow}
 use Rattle.packet_headers.specs.Rewriting.{CanRewrite, with_source, with_dest, SeenWithSource, SeenWithDest}
-use Rattle.packet_headers.proofs.Tests.{first_failure-changed, is_ok_and-changed}
+use Rattle.packet_headers.proofs.FirstFailure.{first_failure-changed, is_ok_and-changed}
 use Rattle.packet_headers.proofs.Residues.{written, Layout, length-written, early_byte, transport_byte, address_there, port_there, other_address, other_side}
 use Rattle.packet_headers.proofs.Laws.{SameTransport, flow_frame, write_of, source_layout, dest_layout}
 

@@ -1,6 +1,6 @@
 -- Another address and port in a frame, and its checksums brought up to date (RFC 3022, section 4.1, and RFC 1624).
 use Rattle.std.specs.Prelude.{◌≡◌, ◌≢◌, ℕ, ◌+◌, ◌/◌, ◌%◌, ◌≤◌, ◌==◌, if◌then◌else◌, List, [], ◌∷◌, ◌++◌, length, slice_index, slice_range, false, IsOkAnd}
-use Rattle.inet_checksum.specs.OnesComplement.{words, residue, adjusted_16, adjusted_32}
+use Rattle.inet_checksum.specs.OnesComplement.{words, AreAsRight, adjusted_16, adjusted_32}
 use Rattle.packet_headers.specs.declared.flow.Flow.{Flow}
 use Rattle.packet_headers.specs.Fields.{word_at, long_at, put_word, put_long, header_checksum, protocol}
 use Rattle.packet_headers.specs.View.{is_tcp, is_udp, least_header, viewed, changed_flow}
@@ -40,10 +40,10 @@ with_source frame flow address port = rewritten frame flow 26 flow.transport_at 
 abbrev pub with_dest : List ℕ → Flow → ℕ → ℕ → List ℕ
 with_dest frame flow address port = rewritten frame flow 30 (flow.transport_at + 2) address port
 
--- the header is as right or wrong as it was: the residue of the IPv4 header with its checksum is the same
-abbrev pub KeepsHeaderResidue : List ℕ → List ℕ → Flow → Type 0
-KeepsHeaderResidue old new flow =
-    residue (words (slice_range new 14 flow.transport_at)) ≡ residue (words (slice_range old 14 flow.transport_at))
+-- the IPv4 header with its checksum is as right or as wrong as it was
+abbrev pub KeepsHeader : List ℕ → List ℕ → Flow → Type 0
+KeepsHeader old new flow =
+    AreAsRight (words (slice_range old 14 flow.transport_at)) (words (slice_range new 14 flow.transport_at))
 
 -- what a TCP or UDP checksum is of: the pseudo-header, which has both addresses, the protocol and the length of the
 -- transport, and then the transport
@@ -51,14 +51,14 @@ abbrev pub covered_words : List ℕ → List ℕ → List ℕ
 covered_words frame transport =
     (word_at frame 26 ∷ word_at frame 28 ∷ word_at frame 30 ∷ word_at frame 32 ∷ protocol frame ∷ length transport ∷ []) ++ words transport
 
--- So is the transport, unless it is UDP with a checksum of 0: the residue of the pseudo-header and the transport with
--- its checksum is the same. The transport may end anywhere behind its least header, as padding may follow it, and may
--- have had further bytes that were not captured.
-abbrev pub KeepsTransportResidue : List ℕ → List ℕ → Flow → Type 0
-KeepsTransportResidue old new flow =
+-- and so is the transport with its checksum and the pseudo-header, unless it is UDP with a checksum of 0. The
+-- transport may end anywhere behind its shortest header, since padding may follow it, and may have had more bytes than
+-- were captured, whichever they were.
+abbrev pub KeepsTransport : List ℕ → List ℕ → Flow → Type 0
+KeepsTransport old new flow =
     (end : ℕ) (uncaptured : List ℕ) → flow.transport_at + least_header flow.protocol ≤ end →
     (is_tcp flow.protocol ≡ false → word_at old (checksum_place flow) ≢ 0) →
-    residue (covered_words new (slice_range new flow.transport_at end ++ uncaptured)) ≡ residue (covered_words old (slice_range old flow.transport_at end ++ uncaptured))
+    AreAsRight (covered_words old (slice_range old flow.transport_at end ++ uncaptured)) (covered_words new (slice_range new flow.transport_at end ++ uncaptured))
 
 -- at each length on the wire, the new frame is seen as what the old one was, with another source or destination
 abbrev pub SeenWithSource : List ℕ → List ℕ → ℕ → ℕ → Type 0

@@ -9,3 +9,6 @@ mod viewing;
 pub use flow::{Flow, NotFlow, flow_sum};
 pub use rewriting::{set_dest, set_source};
 pub use viewing::view;
+
+#[cfg(test)]
+mod tests;

@@ -1,7 +1,7 @@
 ghost use Rattle.std.specs.Prelude.{◌≡◌, ◌+◌, ◌≤◌, ◌<◌, length};
 ghost use Rattle.packet_headers.specs.Fields.{AreBytes};
 ghost use Rattle.packet_headers.specs.Rewriting.{CanRewrite, checksum_place, written_checksum, rewritten, with_source, with_dest};
-ghost use Rattle.packet_headers.specs.Rewriting.{KeepsHeaderResidue, KeepsTransportResidue, SeenWithSource, SeenWithDest};
+ghost use Rattle.packet_headers.specs.Rewriting.{KeepsHeader, KeepsTransport, SeenWithSource, SeenWithDest};
 
 use crate::Flow;
 use crate::fields::{long_at, put_long, put_word, word_at};
@@ -19,8 +19,8 @@ pub fn set_source(frame: &mut [u8], flow: &Flow, address: u32, port: u16)
     ensures value { frame.new ≡ with_source frame.old flow.now address port }
 
     // What was right stays right, and the frame can be rewritten again.
-    ensures header { KeepsHeaderResidue frame.old frame.new flow.now }
-    ensures transport { KeepsTransportResidue frame.old frame.new flow.now }
+    ensures header { KeepsHeader frame.old frame.new flow.now }
+    ensures transport { KeepsTransport frame.old frame.new flow.now }
     ensures seen { SeenWithSource frame.old frame.new address port }
     ensures again { CanRewrite frame.new flow.now }
 {
@@ -32,8 +32,8 @@ pub fn set_dest(frame: &mut [u8], flow: &Flow, address: u32, port: u16)
     requires { CanRewrite frame.old flow.now }
     ensures value { frame.new ≡ with_dest frame.old flow.now address port }
 
-    ensures header { KeepsHeaderResidue frame.old frame.new flow.now }
-    ensures transport { KeepsTransportResidue frame.old frame.new flow.now }
+    ensures header { KeepsHeader frame.old frame.new flow.now }
+    ensures transport { KeepsTransport frame.old frame.new flow.now }
     ensures seen { SeenWithDest frame.old frame.new address port }
     ensures again { CanRewrite frame.new flow.now }
 {

@@ -1,5 +1,6 @@
-ghost use Rattle.std.specs.Prelude.{◌≡◌, ◌+◌, ◌≤◌, length};
+ghost use Rattle.std.specs.Prelude.{◌≡◌, ◌+◌, ◌≤◌, length, IfOk};
 ghost use Rattle.packet_headers.specs.Fields.{header_end, protocol};
+ghost use Rattle.packet_headers.specs.Rewriting.{CanRewrite};
 ghost use Rattle.packet_headers.specs.View.{first_failure, flow_of, header_failures, least_header, packet_failures, viewed};
 
 use crate::fields::{long_at, word_at};
@@ -10,7 +11,8 @@ use crate::{Flow, NotFlow};
 ///
 /// It takes no memory, and verifies no checksum.
 pub fn view(frame: &[u8], original: u32) -> Result<Flow, NotFlow>
-    ensures { result ≡ viewed frame.now original }
+    ensures value { result ≡ viewed frame.now original }
+    ensures rewritable { IfOk result (λ flow. CanRewrite frame.now flow) }
 {
     let transport_at = find_transport(frame)?;
     check_packet(frame, original, transport_at)?;
