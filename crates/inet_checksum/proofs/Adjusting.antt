@@ -1,7 +1,7 @@
 -- What an adjusted checksum keeps, for the laws of crates above.
-use Rattle.std.proofs.Common.{◌≡◌, ℕ, ◌+◌, ◌-◌, ◌*◌, ◌/◌, ◌%◌, ◌^◌, ◌<◌, ◌≤◌, List, [], ◌∷◌, get_or, sum, ◌∙◌, sym, arith}
+use Rattle.std.proofs.Common.{◌≡◌, ℕ, ◌+◌, ◌*◌, ◌/◌, ◌%◌, ◌^◌, ◌<◌, ◌≤◌, List, [], ◌∷◌, get_or, sum, ◌∙◌, sym, arith}
 use Rattle.std.proofs.lemmas.List.Sums.{sum_by-cons}
-use Rattle.inet_checksum.specs.OnesComplement.{words, ones_value, residue, AreAsRight, complement, adjusted_16, adjusted_32}
+use Rattle.inet_checksum.specs.OnesComplement.{words, residue, AreAsRight, complement, adjusted_16, adjusted_32}
 use Rattle.inet_checksum.proofs.Values.{same_value, ones_value-le, ones_value-mod}
 
 pub adjusted_16-le : (checksum old new : ℕ) → adjusted_16 checksum old new ≤ 65535

@@ -1,5 +1,5 @@
 -- What rewriting keeps: the residues that the two checksums tell.
-use Rattle.std.proofs.Common.{◌≡◌, ◌≢◌, ◌⊎◌, ℕ, ◌+◌, ◌-◌, ◌*◌, ◌/◌, ◌%◌, ◌^◌, ◌<◌, ◌≤◌, not, ◌&&◌, ◌==◌, false, if◌then◌else◌, List, [], ◌++◌, length, get_or, take, drop, sum, ◌∙◌, sym, ap, inl, inr, subst, arith, refl}
+use Rattle.std.proofs.Common.{◌≡◌, ◌≢◌, ℕ, ◌+◌, ◌-◌, ◌*◌, ◌/◌, ◌%◌, ◌^◌, ◌<◌, ◌≤◌, not, ◌&&◌, ◌==◌, false, if◌then◌else◌, List, [], ◌++◌, length, get_or, take, drop, sum, ◌∙◌, inl, inr, subst, arith, refl}
 use Rattle.std.proofs.lemmas.List.{append-nil, length-append, length-take, length-drop, get_or-take, get_or-drop}
 use Rattle.std.proofs.lemmas.List.Sums.{sum_by_from}
 use Rattle.std.proofs.lemmas.Bool.{ltb-false}

@@ -1,5 +1,5 @@
 -- What a number that is put into a frame leaves alone.
-use Rattle.std.proofs.Common.{◌≡◌, ◌≢◌, ℕ, ◌+◌, ◌-◌, ◌*◌, ◌/◌, ◌%◌, ◌<◌, ◌≤◌, List, [], ◌∷◌, ◌++◌, length, get_or, set, take, drop, ◌∙◌, sym, ap, arith, refl}
+use Rattle.std.proofs.Common.{◌≡◌, ◌≢◌, ℕ, ◌+◌, ◌-◌, ◌/◌, ◌%◌, ◌<◌, ◌≤◌, List, ◌++◌, length, get_or, set, take, drop, ◌∙◌, sym, ap, arith, refl}
 use Rattle.std.proofs.lemmas.List.{get_or-set_other, get_or-set_same, length-set, length-take, length-drop, get_or_append_left, get_or-take, get_or-drop, drop-set-lt, drop-set-add, take-set-le, set-append_left}
 use Rattle.std.proofs.Math.Seq.{take-set-lt}
 use Rattle.packet_headers.specs.Fields.{word_at, put_word}

@@ -1,5 +1,5 @@
 -- Five words that are put into a frame: what is read afterwards, and how the sums of words change.
-use Rattle.std.proofs.Common.{◌≡◌, ◌≢◌, ◌⊎◌, ℕ, ◌+◌, ◌-◌, ◌*◌, ◌/◌, ◌%◌, ◌<◌, ◌≤◌, List, [], length, get_or, inl, inr, ◌∙◌, arith, refl}
+use Rattle.std.proofs.Common.{◌≡◌, ◌⊎◌, ℕ, ◌+◌, ◌*◌, ◌/◌, ◌%◌, ◌<◌, ◌≤◌, List, [], length, get_or, inl, inr, ◌∙◌, arith, refl}
 use Rattle.packet_headers.specs.Fields.{word_at, long_at, put_word}
 use Rattle.packet_headers.proofs.Places.{length-put_word, get_or-put_word_other, word_before, word_behind, word_there}
 use Rattle.packet_headers.proofs.Weights.{weight, weight_inside, weight_before, weight_behind}

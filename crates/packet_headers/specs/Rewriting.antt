@@ -1,9 +1,9 @@
 -- Another address and port in a frame, and its checksums brought up to date (RFC 3022, section 4.1, and RFC 1624).
-use Rattle.std.specs.Prelude.{◌≡◌, ◌≢◌, ℕ, ◌+◌, ◌/◌, ◌%◌, ◌≤◌, ◌==◌, if◌then◌else◌, List, [], ◌∷◌, ◌++◌, length, slice_index, slice_range, false, IsOkAnd}
+use Rattle.std.specs.Prelude.{◌≡◌, ◌≢◌, ℕ, ◌+◌, ◌≤◌, ◌==◌, if◌then◌else◌, List, [], ◌∷◌, ◌++◌, length, slice_range, false, IsOkAnd}
 use Rattle.inet_checksum.specs.OnesComplement.{words, AreAsRight, adjusted_16, adjusted_32}
 use Rattle.packet_headers.specs.declared.flow.Flow.{Flow}
 use Rattle.packet_headers.specs.Fields.{word_at, long_at, put_word, put_long, header_checksum, protocol}
-use Rattle.packet_headers.specs.View.{is_tcp, is_udp, least_header, viewed, changed_flow}
+use Rattle.packet_headers.specs.View.{is_tcp, least_header, viewed, changed_flow}
 
 -- the frame is seen, at some length on the wire, as a flow of this protocol whose transport begins at this place
 abbrev pub CanRewrite : List ℕ → Flow → Type 0

@@ -15,8 +15,8 @@ is_udp number = number == 17
 abbrev pub least_header : ℕ → ℕ
 least_header number = if is_tcp number then 20 else 8
 
--- a total length with no room for the headers, or past the end of what the frame had; 0 is how captures from
--- before an offloading network card have it, and is no length
+-- a total length that has no room for the headers, or goes past the end of what the frame had; one of 0, which
+-- captures on the sending host have where the network card fills it in, tells nothing
 abbrev pub has_bad_total_length : List ℕ → ℕ → Bool
 has_bad_total_length frame original =
     not (total_length frame == 0)

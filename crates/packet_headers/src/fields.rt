@@ -1,6 +1,25 @@
 ghost use Rattle.std.specs.Prelude.{◌≡◌, ◌+◌, ◌<◌, length};
 ghost use Rattle.packet_headers.specs.Fields.{AreBytes, word_at, long_at, put_word, put_long};
 
+/// Where the fields of an Ethernet frame that carries IPv4 stand (RFC 791, section 3.1).
+pub(crate) const ETHER_TYPE: usize = 12;
+
+pub(crate) const IP_HEADER: usize = 14;
+
+pub(crate) const TOTAL_LENGTH: usize = 16;
+
+pub(crate) const FLAGS_AND_OFFSET: usize = 20;
+
+pub(crate) const PROTOCOL: usize = 23;
+
+pub(crate) const HEADER_CHECKSUM: usize = 24;
+
+pub(crate) const SOURCE_ADDRESS: usize = 26;
+
+pub(crate) const DESTINATION_ADDRESS: usize = 30;
+
+pub(crate) const IP_OPTIONS: usize = 34;
+
 /// The 16-bit number at a place, high byte first.
 pub(crate) fn word_at(frame: &[u8], place: usize) -> u16
     requires { place + 1 < length frame.now }

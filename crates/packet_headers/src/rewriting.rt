@@ -4,7 +4,9 @@ ghost use Rattle.packet_headers.specs.Rewriting.{CanRewrite, checksum_place, wri
 ghost use Rattle.packet_headers.specs.Rewriting.{KeepsHeader, KeepsTransport, SeenWithSource, SeenWithDest};
 
 use crate::Flow;
-use crate::fields::{long_at, put_long, put_word, word_at};
+use crate::fields::{
+    DESTINATION_ADDRESS, HEADER_CHECKSUM, SOURCE_ADDRESS, long_at, put_long, put_word, word_at,
+};
 use crate::flow::TCP;
 use inet_checksum::{adjust16, adjust32};
 
@@ -24,7 +26,14 @@ pub fn set_source(frame: &mut [u8], flow: &Flow, address: u32, port: u16)
     ensures seen { SeenWithSource frame.old frame.new address port }
     ensures again { CanRewrite frame.new flow.now }
 {
-    rewrite(frame, flow, 26, flow.transport_at as usize, address, port);
+    rewrite(
+        frame,
+        flow,
+        SOURCE_ADDRESS,
+        flow.transport_at as usize,
+        address,
+        port,
+    );
 }
 
 /// Writes another destination address and port into a flow's frame, as `set_source` does the source's.
@@ -40,7 +49,7 @@ pub fn set_dest(frame: &mut [u8], flow: &Flow, address: u32, port: u16)
     rewrite(
         frame,
         flow,
-        30,
+        DESTINATION_ADDRESS,
         flow.transport_at as usize + 2,
         address,
         port,
@@ -65,11 +74,11 @@ fn rewrite(
 {
     let old_address = long_at(frame, address_place);
     let old_port = word_at(frame, port_place);
-    let header = adjust32(word_at(frame, 24), old_address, address);
+    let header = adjust32(word_at(frame, HEADER_CHECKSUM), old_address, address);
     let place = checksum_place(flow);
     let old = word_at(frame, place);
     let transport = adjust16(adjust32(old, old_address, address), old_port, port);
-    put_word(frame, 24, header);
+    put_word(frame, HEADER_CHECKSUM, header);
     put_word(
         frame,
         place,

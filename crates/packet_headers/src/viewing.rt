@@ -3,9 +3,15 @@ ghost use Rattle.packet_headers.specs.Fields.{header_end, protocol};
 ghost use Rattle.packet_headers.specs.Rewriting.{CanRewrite};
 ghost use Rattle.packet_headers.specs.View.{first_failure, flow_of, header_failures, least_header, packet_failures, viewed};
 
-use crate::fields::{long_at, word_at};
+use crate::fields::{
+    DESTINATION_ADDRESS, ETHER_TYPE, FLAGS_AND_OFFSET, IP_HEADER, IP_OPTIONS, PROTOCOL,
+    SOURCE_ADDRESS, TOTAL_LENGTH, long_at, word_at,
+};
 use crate::flow::{TCP, UDP};
 use crate::{Flow, NotFlow};
+
+/// The Ethernet type of IPv4 (RFC 894).
+const IPV4: u16 = 0x0800;
 
 /// A captured frame as a flow, where it had `original` bytes on the wire.
 ///
@@ -26,7 +32,7 @@ fn read_flow(frame: &[u8], transport_at: usize) -> Flow
     requires behind_header { 34 ≤ header_end frame.now }
     ensures { result ≡ flow_of frame.now }
 {
-    let protocol = frame[23];
+    let protocol = frame[PROTOCOL];
     let flags = if protocol == TCP {
         frame[transport_at + 13]
     } else {
@@ -34,9 +40,9 @@ fn read_flow(frame: &[u8], transport_at: usize) -> Flow
     };
     Flow {
         protocol,
-        source: long_at(frame, 26),
+        source: long_at(frame, SOURCE_ADDRESS),
         source_port: word_at(frame, transport_at),
-        dest: long_at(frame, 30),
+        dest: long_at(frame, DESTINATION_ADDRESS),
         dest_port: word_at(frame, transport_at + 2),
         flags,
         transport_at: transport_at as u32,
@@ -47,23 +53,23 @@ fn read_flow(frame: &[u8], transport_at: usize) -> Flow
 fn find_transport(frame: &[u8]) -> Result<usize, NotFlow>
     ensures { result ≡ first_failure (header_failures frame.now) (header_end frame.now) }
 {
-    if frame.len() < 14 {
+    if frame.len() < IP_HEADER {
         return Err(NotFlow::Short);
     }
-    if word_at(frame, 12) != 0x0800 {
+    if word_at(frame, ETHER_TYPE) != IPV4 {
         return Err(NotFlow::NotIpv4);
     }
-    if frame.len() < 34 {
+    if frame.len() < IP_OPTIONS {
         return Err(NotFlow::Short);
     }
-    if frame[14] >> 4 != 4 {
+    if frame[IP_HEADER] >> 4 != 4 {
         return Err(NotFlow::NotIpv4);
     }
-    let header_words = frame[14] & 0x0f;
+    let header_words = frame[IP_HEADER] & 0x0f;
     if header_words < 5 {
         return Err(NotFlow::BadHeaderLength);
     }
-    let transport_at = 14 + 4 * usize::from(header_words);
+    let transport_at = IP_HEADER + 4 * usize::from(header_words);
     if frame.len() < transport_at {
         return Err(NotFlow::Short);
     }
@@ -76,26 +82,26 @@ fn check_packet(frame: &[u8], original: u32, transport_at: usize) -> Result<(), 
     requires long_enough { 34 ≤ length frame.now }
     ensures { result ≡ first_failure (packet_failures frame.now original) tt }
 {
-    let fragment = word_at(frame, 20);
+    let fragment = word_at(frame, FLAGS_AND_OFFSET);
     if fragment >> 13 & 1 != 0 || fragment & 0x1fff != 0 {
         return Err(NotFlow::Fragment);
     }
-    let least_header = match frame[23] {
+    let least_header = match frame[PROTOCOL] {
         TCP => 20,
         UDP => 8,
         _ => return Err(NotFlow::OtherProtocol),
     };
-    let total_length = usize::from(word_at(frame, 16));
-    let had = frame.len().max(original as usize) - 14;
+    let total_length = usize::from(word_at(frame, TOTAL_LENGTH));
+    let had = frame.len().max(original as usize) - IP_HEADER;
     if total_length != 0
-        && (total_length < transport_at - 14 + least_header || total_length > had)
+        && (total_length < transport_at - IP_HEADER + least_header || total_length > had)
     {
         return Err(NotFlow::BadTotalLength);
     }
     if frame.len() < transport_at + least_header {
         return Err(NotFlow::Short);
     }
-    if frame[23] == TCP && frame[transport_at + 12] >> 4 < 5 {
+    if frame[PROTOCOL] == TCP && frame[transport_at + 12] >> 4 < 5 {
         return Err(NotFlow::BadHeaderLength);
     }
     Ok(())
