@@ -1,4 +1,4 @@
-ghost use Rattle.std.specs.Prelude.{◌≡◌, ◌+◌, ◌≤◌, ◌++◌, ◌∷◌, [], length, slice_get, IfOk, OnOk, OnErr};
+ghost use Rattle.std.specs.Prelude.{◌≡◌, ◌+◌, ◌<◌, ◌≤◌, ◌++◌, ◌∷◌, [], length, slice_get, IfOk, OnOk, OnErr};
 ghost use Rattle.std.specs.Option.{option_copied};
 ghost use Rattle.input_logger.specs.Inputs.{thread_of, inputs_of, input_at};
 
@@ -49,6 +49,7 @@ impl InputLog {
     pub fn feed(&mut self, packet: Packet) -> Result<(u32, u64), NoMemory>
         ensures ok { OnOk result (self.new ≡ record self.old { packets = self.old.packets ++ packet ∷ [] }) }
         ensures thread { IfOk result (λ input. input.0 ≡ thread_of packet self.old.threads) }
+        ensures below { IfOk result (λ input. input.0 < self.old.threads) }
         ensures number { IfOk result (λ input. input.1 ≡ length (inputs_of self.old input.0) + 1) }
         ensures err { OnErr result (self.new ≡ self.old) }
     {
@@ -82,9 +83,11 @@ impl InputLog {
         self.packets.len() as u64
     }
 
-    /// The number of threads.
+    /// The number of threads, 1 to 16.
     pub fn threads(&self) -> u32
-        ensures { result ≡ self.now.threads }
+        ensures value { result ≡ self.now.threads }
+        ensures some { 1 ≤ result }
+        ensures few { result ≤ 16 }
     {
         self.threads
     }
