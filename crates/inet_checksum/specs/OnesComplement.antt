@@ -15,7 +15,7 @@ ones_value total = if total == 0 then 0 else (total - 1) % 65535 + 1
 abbrev pub ones_sum : List ℕ → ℕ
 ones_sum ws = ones_value (sum ws)
 
--- the residue of words: 0 where they verify, and else by how much they are wrong
+-- the residue of words: of words that are not all zero, 0 where they verify, and else by how much they are wrong
 abbrev pub residue : List ℕ → ℕ
 residue ws = sum ws % 65535
 

@@ -1,4 +1,6 @@
 //! The Internet checksum: the one's complement sum of RFC 1071, and RFC 1624's way to bring a checksum up to date.
+//!
+//! No call takes memory or refuses.
 #![tactic(auto)]
 
 ghost use Rattle.std.specs.Prelude.{◌≡◌, ◌+◌, ◌%◌};

@@ -17,7 +17,7 @@ pub struct Flow {
     pub dest_port: u16,
     /// The control bits of a TCP segment, CWR first and FIN last (RFC 9293, section 3.1); 0 for UDP.
     pub flags: u8,
-    /// The place in the frame of the first byte behind the IPv4 header.
+    /// The place in the frame of the first byte behind the IPv4 header: 34, or more where it has options.
     pub transport_at: u32,
 }
 

@@ -15,7 +15,10 @@ const IPV4: u16 = 0x0800;
 
 /// A captured frame as a flow, where it had `original` bytes on the wire.
 ///
-/// It takes no memory, and verifies no checksum.
+/// Its headers are tested from the front to the back, and the first test that fails answers, as `NotFlow` says. No
+/// checksum is verified. A total length of 0 is accepted, as the sending host's captures have it where the network card
+/// fills it in; any other has room for both headers, and ends within the captured or the original bytes, whichever are
+/// more.
 pub fn view(frame: &[u8], original: u32) -> Result<Flow, NotFlow>
     ensures value { result ≡ viewed frame.now original }
     ensures rewritable { IfOk result (λ flow. CanRewrite frame.now flow) }
