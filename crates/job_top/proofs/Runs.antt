@@ -72,14 +72,6 @@ module _ (old mid new : Shown) (kept : KeepsOutputs old mid) where
   pub kept_run : KeepsShown old mid
   kept_run = record { names = kept.names; sent = kept.sent }
 
--- all names but the outputs' are as they were
-pub others_kept : (names : RunNames) (old new : Shown) → RunsFronts names old new → KeepsOthers names.released names.schedule old new
-others_kept names old new (inl same) = λ name x y. ap (λ f. f name) same.names
-others_kept names old new (inr ran) = by_kind ran.conf.kind ran.ran
-  where
-    by_kind : (kind : BoxKind) → RunsKind kind ran.packets ran.unit (λ a b c. WritesFronts names.released names.schedule a b c old new) → KeepsOthers names.released names.schedule old new
-    by_kind (Count box) r = r.stands.others
-
 -- once the inputs are accepted
 pub outcome_judged : (names : RunNames) (inputs : accepted_of.Inputs) (shown : Shown) (s : Status) → IsOutcome s → JudgesInputs names (Ok inputs) shown → Judges names s shown
 outcome_judged names inputs shown status.Done is judged = (judged.0, inputs.capture.unit, inputs.capture.packets, judged.2)
@@ -90,10 +82,3 @@ outcome_judged names inputs shown status.ReadFault is judged = absurd is
 outcome_judged names inputs shown (status.BadInput fault) is judged = absurd is
 outcome_judged names inputs shown (status.TooLarge limit) is judged = absurd is
 outcome_judged names inputs shown status.NotBuilt is judged = absurd is
-
--- neither comes while the inputs are read
-pub not_bad_words : (s : Status) → IsRefusalOrMemory s → s ≡ status.BadWords → ⊥
-not_bad_words s is e = subst IsRefusalOrMemory e is
-
-pub not_write_fault : (s : Status) → IsRefusalOrMemory s → s ≡ status.WriteFault → ⊥
-not_write_fault s is e = subst IsRefusalOrMemory e is
