@@ -24,5 +24,5 @@ pub use run_words::{RunWords, read_run_words};
 pub use running::{Running, play_packets};
 pub use script::is_settle;
 pub use status::{InputFault, Status};
-pub use top::Inputs;
+pub use top::{Inputs, ftmb};
 pub use writing::append;
