@@ -19,6 +19,16 @@ is_writing None = false
 is_writing (Some (Reading f)) = false
 is_writing (Some (Writing f)) = true
 
+abbrev pub left_in : {F : Type 0} → (F → Option (List ℕ)) → Option (RealFile F) → Option (List ℕ)
+left_in remaining None = None
+left_in remaining (Some (Reading f)) = remaining f
+left_in remaining (Some (Writing f)) = None
+
+abbrev pub held_in : {F : Type 0} → (F → Option (List ℕ)) → Option (RealFile F) → Option (List ℕ)
+held_in contents None = None
+held_in contents (Some (Reading f)) = None
+held_in contents (Some (Writing f)) = contents f
+
 -- the files in the order of their numbers, which count from 1, and how often reading and writing failed
 pub record Real (F : Type 0) : Type 0 where
   pub files : List (RealFile F)
@@ -33,6 +43,14 @@ real_ledger w = record {
   read_faults = w.read_faults;
   write_faults = w.write_faults;
 }
+
+-- what the opened file of this number has left, where files of this kind tell it
+abbrev pub left_at : {F : Type 0} → (F → Option (List ℕ)) → Real F → ℕ → Option (List ℕ)
+left_at remaining w file = left_in remaining (file_at w.files file)
+
+-- what the created file of this number holds, where files of this kind tell it
+abbrev pub held_at : {F : Type 0} → (F → Option (List ℕ)) → Real F → ℕ → Option (List ℕ)
+held_at contents w file = held_in contents (file_at w.files file)
 
 abbrev pub nothing_shown : Shown
 nothing_shown = record { names = λ _. None; left = λ _. []; sent = λ _. []; name_of = λ _. [] }

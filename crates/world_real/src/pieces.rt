@@ -1,4 +1,4 @@
-ghost use Rattle.std.specs.Prelude.{◌≡◌, length};
+ghost use Rattle.std.specs.Prelude.{◌≡◌, ◌≢◌, length};
 ghost use Rattle.std.specs.Io.KnownBytes.{Appends, Consumes, IsAtEnd};
 ghost use Rattle.world_io.specs.Stream.{FillCount, filled_bytes, PutCount, put_bytes};
 
@@ -22,6 +22,7 @@ pub fn read_some<F: Read>(from: &mut F, piece: &mut [u8]) -> Filled
 pub fn write_some<F: Write>(to: &mut F, piece: &[u8]) -> Put
     ensures count { PutCount result (length piece.now) }
     ensures appends { Appends (F.contents to.old) (F.contents to.new) (put_bytes result piece.now) }
+    ensures memory { result ≢ Put.NoMemory }
 {
     match to.write(piece) {
         Ok(0) if !piece.is_empty() => Put::Failed,

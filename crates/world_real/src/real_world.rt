@@ -1,6 +1,9 @@
-ghost use Rattle.std.specs.Prelude.{◌≡◌};
+ghost use Rattle.std.specs.Prelude.{◌≡◌, ◌≢◌, length, IsTrue};
+ghost use Rattle.std.specs.Io.KnownBytes.{Appends, Consumes, IsAtEnd};
 ghost use Rattle.world_io.specs.Calls.{counted};
-ghost use Rattle.world_real.specs.Real.{IsUnused, real_ledger};
+ghost use Rattle.world_io.specs.Stream.{Rose, FillCount, filled_bytes, PutCount, put_bytes};
+ghost use Rattle.world_io.specs.World.{KeepsLedgerReading, KeepsLedgerWriting, is_writable};
+ghost use Rattle.world_real.specs.Real.{IsUnused, held_at, left_at, real_ledger};
 
 use crate::pieces::{read_some, write_some};
 use crate::real_file::RealFile;
@@ -85,7 +88,16 @@ impl<R: Files + Print + Drop> World for RealWorld<R> {
         Ok(self.files.len() as u32)
     }
 
-    fn fill(&mut self, file: u32, piece: &mut [u8]) -> Filled {
+    fn fill(&mut self, file: u32, piece: &mut [u8]) -> Filled
+        requires { IsTrue ((real_ledger self.old).opened file) }
+        ensures count { FillCount result (length piece.old) }
+        ensures ledger { KeepsLedgerReading (real_ledger self.old) (real_ledger self.new) }
+        ensures cause { result ≡ Filled.Failed → Rose self.old.read_faults self.new.read_faults }
+
+        // Beyond any world: what it takes of a file that tells its bytes.
+        ensures takes { Consumes (left_at R.File.remaining self.old file) (left_at R.File.remaining self.new file) (filled_bytes result piece.new) }
+        ensures at_end { result ≡ Filled.End → IsAtEnd (left_at R.File.remaining self.old file) }
+    {
         let RealFile::Reading(from) = &mut self.files[file as usize - 1] else {
             unreachable!()
         };
@@ -107,7 +119,16 @@ impl<R: Files + Print + Drop> World for RealWorld<R> {
         Ok(self.files.len() as u32)
     }
 
-    fn put(&mut self, file: u32, piece: &[u8]) -> Put {
+    fn put(&mut self, file: u32, piece: &[u8]) -> Put
+        requires { IsTrue (is_writable (real_ledger self.old) file) }
+        ensures count { PutCount result (length piece.now) }
+        ensures ledger { KeepsLedgerWriting (real_ledger self.old) (real_ledger self.new) }
+        ensures cause { result ≡ Put.Failed → Rose self.old.write_faults self.new.write_faults }
+
+        // Beyond any world: what it appends to a file that tells its bytes. It asks for no memory.
+        ensures appends { Appends (held_at R.File.contents self.old file) (held_at R.File.contents self.new file) (put_bytes result piece.now) }
+        ensures memory { result ≢ Put.NoMemory }
+    {
         if file == 0 {
             return match write_some(&mut io::writer(&self.rt), piece) {
                 Put::Failed => self.write_fault(),
