@@ -1,9 +1,9 @@
-ghost use Rattle.std.specs.Prelude.{◌≡◌, ◌≢◌, length, IsTrue};
+ghost use Rattle.std.specs.Prelude.{◌≡◌, ◌≢◌, ℕ, length, IsTrue};
 ghost use Rattle.std.specs.Io.KnownBytes.{Appends, Consumes, IsAtEnd};
 ghost use Rattle.world_io.specs.Calls.{counted};
 ghost use Rattle.world_io.specs.Stream.{Rose, FillCount, filled_bytes, PutCount, put_bytes};
 ghost use Rattle.world_io.specs.World.{KeepsLedgerReading, KeepsLedgerWriting, is_writable};
-ghost use Rattle.world_real.specs.Real.{IsUnused, held_at, left_at, real_ledger};
+ghost use Rattle.world_real.specs.Real.{IsUnused, file_at, held_at, left_at, real_ledger};
 
 use crate::pieces::{read_some, write_some};
 use crate::real_file::RealFile;
@@ -96,6 +96,7 @@ impl<R: Files + Print + Drop> World for RealWorld<R> {
 
         // Beyond any world: what it takes of a file that tells its bytes.
         ensures takes { Consumes (left_at R.File.remaining self.old file) (left_at R.File.remaining self.new file) (filled_bytes result piece.new) }
+        ensures others { (k : ℕ) → k ≢ file → file_at self.new.files k ≡ file_at self.old.files k }
         ensures at_end { result ≡ Filled.End → IsAtEnd (left_at R.File.remaining self.old file) }
     {
         let RealFile::Reading(from) = &mut self.files[file as usize - 1] else {
@@ -127,6 +128,7 @@ impl<R: Files + Print + Drop> World for RealWorld<R> {
 
         // Beyond any world: what it appends to a file that tells its bytes. It asks for no memory.
         ensures appends { Appends (held_at R.File.contents self.old file) (held_at R.File.contents self.new file) (put_bytes result piece.now) }
+        ensures others { (k : ℕ) → k ≢ file → file_at self.new.files k ≡ file_at self.old.files k }
         ensures memory { result ≢ Put.NoMemory }
     {
         if file == 0 {
