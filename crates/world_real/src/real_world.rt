@@ -1,8 +1,8 @@
-ghost use Rattle.std.specs.Prelude.{◌≡◌, ◌≢◌, ℕ, length, IsTrue};
+ghost use Rattle.std.specs.Prelude.{◌≡◌, ◌≢◌, ◌<◌, ◌-◌, ◌^◌, ℕ, length, IsTrue, IfOk, OnErr, IsErrOf};
 ghost use Rattle.std.specs.Io.KnownBytes.{Appends, Consumes, IsAtEnd};
 ghost use Rattle.world_io.specs.Calls.{counted};
 ghost use Rattle.world_io.specs.Stream.{Rose, FillCount, filled_bytes, PutCount, put_bytes};
-ghost use Rattle.world_io.specs.World.{KeepsLedgerReading, KeepsLedgerWriting, is_writable};
+ghost use Rattle.world_io.specs.World.{KeepsLedgerReading, KeepsLedgerWriting, GivesOpened, GivesCreated, is_writable};
 ghost use Rattle.world_real.specs.Real.{IsUnused, file_at, held_at, left_at, real_ledger};
 
 use crate::pieces::{read_some, write_some};
@@ -76,7 +76,15 @@ impl<R: Files + Print + Drop> World for RealWorld<R> {
 
     ghost ledger = { real_ledger };
 
-    fn open_file(&mut self, name: &Text) -> Result<u32, OpenFault> {
+    fn open_file(&mut self, name: &Text) -> Result<u32, OpenFault>
+        requires { (real_ledger self.old).given < 2 ^ 32 - 1 }
+        ensures given { IfOk result (λ file. GivesOpened file (real_ledger self.old) (real_ledger self.new)) }
+        ensures not_given { OnErr result (KeepsLedgerReading (real_ledger self.old) (real_ledger self.new)) }
+        ensures cause { IsErrOf result OpenFault.Failed → Rose self.old.read_faults self.new.read_faults }
+
+        // Beyond any world: the number is the next.
+        ensures number { IfOk result (λ file. file ≡ length self.new.files) }
+    {
         if self.files.reserve(1).is_err() {
             return Err(OpenFault::NoMemory);
         }
@@ -108,7 +116,15 @@ impl<R: Files + Print + Drop> World for RealWorld<R> {
         }
     }
 
-    fn create_file(&mut self, name: &Text) -> Result<u32, OpenFault> {
+    fn create_file(&mut self, name: &Text) -> Result<u32, OpenFault>
+        requires { (real_ledger self.old).given < 2 ^ 32 - 1 }
+        ensures given { IfOk result (λ file. GivesCreated file (real_ledger self.old) (real_ledger self.new)) }
+        ensures not_given { OnErr result (KeepsLedgerWriting (real_ledger self.old) (real_ledger self.new)) }
+        ensures cause { IsErrOf result OpenFault.Failed → Rose self.old.write_faults self.new.write_faults }
+
+        // Beyond any world: the number is the next.
+        ensures number { IfOk result (λ file. file ≡ length self.new.files) }
+    {
         if self.files.reserve(1).is_err() {
             return Err(OpenFault::NoMemory);
         }
