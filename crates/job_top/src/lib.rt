@@ -11,6 +11,8 @@ mod run_words;
 mod running;
 mod script;
 mod status;
+#[cfg(test)]
+mod tests;
 mod top;
 mod writing;
 

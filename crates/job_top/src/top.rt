@@ -70,12 +70,7 @@ impl Written {
 }
 
 /// Runs the box on the packets, and writes the outputs.
-fn run_box<W: World>(
-    alloc: Global,
-    world: &mut W,
-    names: RunWords<'_>,
-    inputs: &Inputs,
-) -> Written
+fn run_box<W: World>(alloc: Global, world: &mut W, names: RunWords<'_>, inputs: &Inputs) -> Written
     requires few { length inputs.now.capture.packets ≤ 65536 }
     requires short { All IsShort inputs.now.capture.packets }
     requires room { (W.ledger world.old).given < 2 ^ 32 - 2 }
