@@ -1,1 +1,2 @@
 pub mod Retaining
+pub mod LaneLemmas

@@ -49,21 +49,30 @@ fn cover_each(lanes: &mut [Lane], counts: &Stamp)
     }
 }
 
-/// Drops in each lane the entries with a component of their stamps above this one's.
-fn retain_in_each(lanes: &mut [Lane], frontiers: &Stamp) -> Kept
+/// Drops in each lane the entries with a component of their stamps above this one's, and counts them.
+fn retain_in_each(lanes: &mut [Lane], frontiers: &Stamp) -> u64
     requires { length lanes.old ≤ 16 }
     ensures retained { (t : ℕ) → RetainsAtMost (lane lanes.old t) (lane lanes.new t) frontiers.now }
-    ensures kept { result.kept ≡ held_count lanes.new }
-    ensures dropped { result.kept + result.dropped ≡ held_count lanes.old }
+    ensures dropped { held_count lanes.new + result ≡ held_count lanes.old }
 {
-    let mut count = Kept { kept: 0, dropped: 0 };
+    let mut dropped = 0;
     for i in 0..lanes.len() {
         let lane = &mut lanes[i];
-        let held = lane.len() as u64;
+        let held = lane.len();
         lane.retain_at_most(frontiers);
-        let kept = lane.len() as u64;
-        count.kept += kept;
-        count.dropped += held - kept;
+        dropped += (held - lane.len()) as u64;
+    }
+    dropped
+}
+
+/// How many entries the lanes hold.
+fn count_held(lanes: &[Lane]) -> u64
+    requires { length lanes.now ≤ 16 }
+    ensures { result ≡ held_count lanes.now }
+{
+    let mut count = 0;
+    for lane in lanes {
+        count += lane.len() as u64;
     }
     count
 }
@@ -134,6 +143,7 @@ impl Held {
     fn frontiers(&self) -> Stamp
         ensures { (t : ℕ) → IsFrontier (lane self.now t) (slice_index result t) }
     {
+        let _few = &self.lanes;
         let mut components = [0; 16];
         for i in 0..16 {
             components[i as usize] = self.frontier(i);
@@ -168,6 +178,8 @@ impl Held {
         ensures dropped { result.kept + result.dropped ≡ held_count self.old }
     {
         let frontiers = self.frontiers();
-        retain_in_each(&mut self.lanes, &frontiers)
+        let dropped = retain_in_each(&mut self.lanes, &frontiers);
+        let kept = count_held(&self.lanes);
+        Kept { kept, dropped }
     }
 }

@@ -1,0 +1,7 @@
+use Rattle.std.proofs.Common.{◌≡◌, ℕ, ◌+◌, ◌*◌, ◌^◌, ◌<◌, ◌≤◌, length, take, replicate, slice_index}
+use Rattle.access_log.specs.Held.{lane, entry_at, fresh_lane, IsKnown, IsFrontier, IsWithin, IsFirstMissing, held_count}
+use Rattle.access_log.specs.Lanes.{PutsEntry, CoversUpTo, RetainsAtMost}
+use Rattle.access_log.proofs.held.Held.missing.Given as goal
+
+abbrev pub invariant-loop-thread : goal.invariant-loop-thread
+invariant-loop-thread l = (w f : ℕ) → w < l.thread → IsFrontier (lane l.self w) f → slice_index l.stamp w ≤ f
