@@ -1,5 +1,5 @@
 -- Frontiers and lanes that are fresh.
-use Rattle.std.proofs.Common.{◌≡◌, ℕ, zero, suc, ◌+◌, ◌≤◌, ◌<◌, ◌⊎◌, List, [], ◌∷◌, Option, Some, None, IsSome, IfSome, replicate, length, option_copied, slice_index, slice_index_or, slice_set, sum_by, ◌≢◌, ◌↔◌, refl, sym, inl, inr, ⊎_elim, arith, Bor}
+use Rattle.std.proofs.Common.{◌≡◌, ℕ, zero, suc, ◌+◌, ◌≤◌, ◌<◌, List, [], ◌∷◌, Option, Some, None, IfSome, replicate, length, option_copied, slice_index, slice_set, ◌≢◌, ◌↔◌, refl, sym, inl, inr, ⊎_elim, arith, Bor}
 use Rattle.access_log.specs.declared.entry.Entry.{Entry}
 use Rattle.access_log.specs.Held.{Lane, lane, fresh_lane, entry_at, IsKnown, IsFrontier, IsWithin, held_count}
 use Rattle.access_log.specs.Lanes.{RetainsAtMost, IsHeldSet}

@@ -8,3 +8,6 @@ mod lane;
 pub use entry::{Added, Entry, Output, Outputs, Turn};
 pub use entry_order::What;
 pub use held::{Held, Kept};
+
+#[cfg(test)]
+mod tests;

@@ -23,7 +23,7 @@ loop-i-preserved c =
       retained = below_more (λ t. RetainsAtMost (lane c.args.lanes.now t) (lane (slice_set lanes i after) t) c.args.frontiers.now) i (λ t h. let apart : t ≢ i = λ e. omega arith in rw (lane-slice_set_other lanes i after t apart) (c.loop-i.invariant.retained t h)) (rw (same, ← first) retained);
       ahead = λ t h. let apart : t ≢ i = λ e. omega arith in rw (lane-slice_set_other lanes i after t apart) (c.loop-i.invariant.ahead t (omega arith));
       dropped = omega arith;
-      small = omega arith
+      small = omega arith;
     }
 
 pub returns-clause-retained : goal.returns-clause-retained

@@ -1,5 +1,4 @@
-use Rattle.std.proofs.Common.{rules, arith, sym, take, drop, length, ◌≡◌, ◌∙◌, ap}
-use Rattle.std.proofs.lemmas.Grind.{common_steps}
+use Rattle.std.proofs.Common.{drop, length, ◌≡◌, ◌∙◌, ap}
 use Rattle.std.proofs.lemmas.List.{take_at}
 use Rattle.access_log.proofs.LaneLemmas.{closed_from_retained, IsHeldSet-retained}
 use Rattle.access_log.proofs.held.Held.closed_part.Goals as goal

@@ -1,4 +1,4 @@
-use Rattle.std.proofs.Common.{rules, arith, sym}
+use Rattle.std.proofs.Common.{arith}
 use Rattle.std.proofs.lemmas.Grind.{common_steps}
 use Rattle.access_log.proofs.LaneLemmas.{entry_named}
 use Rattle.access_log.proofs.held.Held.get.Goals as goal
