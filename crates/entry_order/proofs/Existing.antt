@@ -9,7 +9,7 @@ use Rattle.entry_order.proofs.Order.{is_or}
 use Rattle.entry_order.proofs.Searching.{IsDropping, dropping_step}
 
 -- a fact holds or not
-abbrev Or : Type 0 → Type 0
+abbrev pub Or : Type 0 → Type 0
 Or P = P ⊎ (P → ⊥)
 
 what_or : (a b : What) → Or (a ≡ b)
@@ -60,7 +60,7 @@ entry_or e f = go (is_or e.thread f.thread) (is_or e.number f.number) (what_or e
     go (inl a) (inl b) (inr c) = inr (λ same. c (ap (λ (g : Entry). g.what) same))
     go (inl a) (inl b) (inl c) = inl (ap (λ (t : ℕ). make t e.number e.what) a ∙ (ap (λ (n : ℕ). make f.thread n e.what) b ∙ ap (λ (w : What). make f.thread f.number w) c))
 
-in_or : (e : Entry) (xs : List Entry) → Or (IsIn e xs)
+pub in_or : (e : Entry) (xs : List Entry) → Or (IsIn e xs)
 in_or e [] = inr (λ h. h)
 in_or e (x ∷ xs) = go (entry_or x e) (in_or e xs)
   where

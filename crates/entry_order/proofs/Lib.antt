@@ -8,3 +8,4 @@ pub mod Missing
 pub mod Members
 pub mod Searching
 pub mod Existing
+pub mod Keeping

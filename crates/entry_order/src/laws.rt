@@ -1,9 +1,9 @@
 //! The laws of entries and their order, over every log. Each is proved, and does nothing: a caller has them by the call.
-ghost use Rattle.std.specs.Prelude.{◌≡◌, ℕ, ◌+◌, ◌≤◌, ◌<◌, ◌⊎◌, ◌↔◌, List, ◌∷◌, length, sum, slice_index, IsTrue};
+ghost use Rattle.std.specs.Prelude.{◌≡◌, ℕ, ◌+◌, ◌≤◌, ◌<◌, ◌⊎◌, ◌↔◌, List, ◌∷◌, ◌++◌, length, sum, slice_index, IsTrue};
 ghost use Rattle.entry_order.specs.declared.what.What.TheVariants.{Access, Read};
 ghost use Rattle.entry_order.specs.Log.{Entry, entries, places, IsLog, IsIn, StandsBefore, IsNext, Precedes, PrecedesOrIs, PrecedesOutput, IsClosed};
 ghost use Rattle.entry_order.specs.Stamps.{IsStamp, IsComponent, IsOutputStamp, IsWeight, sum_below, shares, IsJoinBefore, bumped, stamp};
-ghost use Rattle.entry_order.specs.Closed.{IsClosedPart, IsMissing, IsFirstMissing, IsDue, IsFrontier};
+ghost use Rattle.entry_order.specs.Closed.{IsClosedOver, IsClosedPart, IsMissing, IsFirstMissing, IsDue, IsFrontier};
 
 /// The entries of each thread have the numbers from 1 to their count, each once, and the touches of each variable the
 /// places from 1 to theirs; a read stands after at most all touches of its variable.
@@ -136,4 +136,12 @@ pub fn closed_part_is_within_frontiers()
     ensures one { (log stored held part other : List Entry)
         → IsClosedPart log stored held part → IsClosedPart log stored held other
         → (e : Entry) → IsIn e part ↔ IsIn e other }
+{}
+
+/// The later entries of a log that are in a set which is closed over the past are, in some order, a log after that past.
+pub fn closed_sets_go_on()
+    ensures { (later past set : List Entry) → IsLog (later ++ past)
+        → IsClosedOver (later ++ past) past set
+        → (more : List Entry) × IsLog (more ++ past)
+        × ((e : Entry) → IsIn e more ↔ (IsIn e later × IsIn e set)) }
 {}

@@ -11,7 +11,7 @@ pub use by_definition::{
     precedes_output, stamp_component, weight,
 };
 pub use laws::{
-    closed_part_is_within_frontiers, closed_sets_go_back, entries_are_in_order,
+    closed_part_is_within_frontiers, closed_sets_go_back, closed_sets_go_on, entries_are_in_order,
     entries_are_numbered, missing_is_past_frontiers, numbers_tell_order, outputs_have_stamps,
     stamps_are_joins, weights_are_sums,
 };

@@ -1,3 +1,12 @@
 pub mod Files
+pub mod Inputs
+pub mod Judging
 pub mod Outputs
+pub mod Reading
+pub mod Report
+pub mod Run
 pub mod Running
+pub mod Script
+pub mod Status
+pub mod Texts
+pub mod Words

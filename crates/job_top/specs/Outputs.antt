@@ -1,17 +1,9 @@
 -- The outputs of a run: the released capture and the schedule under their names, and the report.
 use Rattle.std.specs.Prelude.{◌≡◌, ◌⊎◌, ℕ, ◌+◌, ◌≤◌, List, [], ◌++◌, Option, Some}
 use Rattle.world_io.specs.World.{Shown, Ledger}
-use Rattle.world_io.specs.declared.world.OpenFault.{OpenFault}
-use Rattle.world_io.specs.declared.world.OpenFault.TheVariants as open_fault
 use Rattle.world_io.specs.declared.all.WriteAll.{WriteAll}
 use Rattle.world_io.specs.declared.all.WriteAll.TheVariants as write
-use Rattle.job_top.specs.declared.outputs.Written.{Written}
-use Rattle.job_top.specs.declared.outputs.Written.TheVariants as written
 use Rattle.job_top.specs.Files.{IsFile, IsFront, HasFront, KeepsOthers}
-
-abbrev pub written_open : OpenFault → Written
-written_open open_fault.Failed = written.Failed
-written_open open_fault.NoMemory = written.NoMemory
 
 -- only writing has gone on
 pub record AfterWriting (old new : Ledger) : Type 0 where
@@ -45,4 +37,20 @@ pub record FillsOutputs (answer : WriteAll) (released_name schedule_name had rec
   pub report_front : IsFront report_part report
   pub reported : new.sent 0 ≡ old.sent 0 ++ report_part
   pub whole : answer ≡ write.All → (records_part ≡ records) × (schedule_part ≡ schedule) × (report_part ≡ report)
+  pub others : KeepsOthers released_name schedule_name old new
+
+-- each output is as it was, or has a front of what it is to have; the report got a front of its text
+pub record WritesFronts (released_name schedule_name released schedule report : List ℕ) (old new : Shown) : Type 0 where
+  pub released_front : HasFront released (old.names released_name) (new.names released_name)
+  pub schedule_front : HasFront schedule (old.names schedule_name) (new.names schedule_name)
+  pub report_part : List ℕ
+  pub report_front : IsFront report_part report
+  pub reported : new.sent 0 ≡ old.sent 0 ++ report_part
+  pub others : KeepsOthers released_name schedule_name old new
+
+-- each output has what it is to have
+pub record WritesWhole (released_name schedule_name released schedule report : List ℕ) (old new : Shown) : Type 0 where
+  pub released_whole : new.names released_name ≡ Some released
+  pub schedule_whole : new.names schedule_name ≡ Some schedule
+  pub reported : new.sent 0 ≡ old.sent 0 ++ report
   pub others : KeepsOthers released_name schedule_name old new

@@ -1,5 +1,5 @@
 -- One packet after another is played to its end on one thread.
-use Rattle.std.specs.Prelude.{◌≡◌, ℕ, ◌+◌, ◌*◌, ◌<◌, ◌≤◌, ◌⊎◌, Bool, true, false, List, [], length, Option, Some, None, slice_get, nat_eq, if◌then◌else◌, Ok}
+use Rattle.std.specs.Prelude.{◌≡◌, ℕ, ◌+◌, ◌*◌, ◌<◌, ◌≤◌, ◌⊎◌, Bool, true, false, List, [], length, Option, Some, None, slice_get, nat_eq, if◌then◌else◌, Ok, map}
 use Rattle.plain_text.specs.declared.packet.Packet.{Packet}
 use Rattle.plain_machine.specs.declared.local.Local.{Local}
 use Rattle.plain_machine.specs.declared.local.Move.TheVariants.{Clock, Draw}
@@ -14,6 +14,13 @@ use Rattle.job_top.specs.declared.running.Running.{Running}
 -- the program asks for no time and no random word
 abbrev pub AsksNothing : {V : Type 0} → Meaning V → Type 0
 AsksNothing m = (l : Local) → (m.next l ≡ Clock → ⊥) × (m.next l ≡ Draw → ⊥)
+
+-- a packet that a record can have
+abbrev pub IsShort : Packet → Type 0
+IsShort p = length p.bytes ≤ 262144
+
+abbrev pub IsShortEmission : Emission → Type 0
+IsShortEmission e = length e.packet.bytes ≤ 262144
 
 -- all packets are inputs of thread 0
 abbrev pub on_one_thread : List Packet → ℕ → List Packet
@@ -50,3 +57,6 @@ pub record IsSettled {V : Type 0} (m : Meaning V) (packets : List Packet) (moves
   pub sent_is : sent ≡ emissions steps
   pub taken : (thread_after steps 0).taken ≡ length packets
   pub ended : (thread_after steps 0).hand ≡ None
+
+abbrev pub packets_of : List Emission → List Packet
+packets_of sent = map (λ emission. emission.packet) sent

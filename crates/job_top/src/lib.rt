@@ -1,12 +1,28 @@
 //! The commands of FTMB.
 #![tactic(auto)]
 
+mod inputs;
 mod outputs;
+mod programs;
 mod reading;
+mod records;
+mod report;
+mod run_words;
 mod running;
+mod script;
+mod status;
+mod top;
 mod writing;
 
-pub use outputs::{RunFiles, Written};
+pub use inputs::{Capture, read_box_file, read_capture_file, read_script_file};
+pub use outputs::{RunFiles, Written, write_outputs};
+pub use programs::run_program;
 pub use reading::{ReadFile, read_file};
+pub use records::put_records;
+pub use report::put_report;
+pub use run_words::{RunWords, read_run_words};
 pub use running::{Running, play_packets};
+pub use script::is_settle;
+pub use status::{InputFault, Status};
+pub use top::Inputs;
 pub use writing::append;

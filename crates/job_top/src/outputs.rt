@@ -3,7 +3,7 @@ ghost use Rattle.world_io.specs.Stream.{Rose};
 ghost use Rattle.world_io.specs.World.{KeepsLedgerWriting, is_writable};
 ghost use Rattle.world_io.specs.All.{WriteFailed};
 ghost use Rattle.job_top.specs.Files.{IsFile};
-ghost use Rattle.job_top.specs.Outputs.{AfterWriting, OpensOutputs, OpensFronts, FillsOutputs};
+ghost use Rattle.job_top.specs.Outputs.{AfterWriting, OpensOutputs, OpensFronts, FillsOutputs, WritesFronts, WritesWhole};
 
 use crate::append;
 use plain_text::Text;
@@ -28,40 +28,26 @@ pub enum Written {
     NoMemory,
 }
 
-impl From<OpenFault> for Written {
-    ghost use Rattle.std.specs.Prelude.{◌≡◌};
-    ghost use Rattle.job_top.specs.Outputs.{written_open};
-
-    ghost from_gives = { λ fault w. w ≡ written_open fault };
-
-    fn from(fault: OpenFault) -> Self {
-        match fault {
-            OpenFault::Failed => Written::Failed,
-            OpenFault::NoMemory => Written::NoMemory,
-        }
-    }
-}
-
 /// Creates the released capture, which gets its header, and then the schedule.
 fn open_outputs<W: World>(
     world: &mut W,
     released: &Text,
     schedule: &Text,
     header: &[u8],
-) -> Result<(u32, u32), Written>
+) -> Result<(u32, u32), OpenFault>
     requires room { (W.ledger world.old).given < 2 ^ 32 - 2 }
     requires apart { released.now ≡ schedule.now → ⊥ }
     ensures opened { IsTrue W.tells → IfOk result (λ files. OpensOutputs files.0 files.1 released.now schedule.now header.now (W.shown world.old) (W.shown world.new)) }
     ensures writable { IfOk result (λ files. IsTrue (is_writable (W.ledger world.new) files.0) × IsTrue (is_writable (W.ledger world.new) files.1)) }
     ensures fronts { IsTrue W.tells → OnErr result (OpensFronts released.now schedule.now header.now (W.shown world.old) (W.shown world.new)) }
     ensures ledger { AfterWriting (W.ledger world.old) (W.ledger world.new) }
-    ensures cause { IsErrOf result Written.Failed → Rose (W.ledger world.old).write_faults (W.ledger world.new).write_faults }
+    ensures cause { IsErrOf result OpenFault.Failed → Rose (W.ledger world.old).write_faults (W.ledger world.new).write_faults }
 {
     let released = world.create_file(released)?;
     match append(world, released, header) {
         WriteAll::All => {}
-        WriteAll::Failed(_) => return Err(Written::Failed),
-        WriteAll::NoMemory(_) => return Err(Written::NoMemory),
+        WriteAll::Failed(_) => return Err(OpenFault::Failed),
+        WriteAll::NoMemory(_) => return Err(OpenFault::NoMemory),
     }
     let schedule = world.create_file(schedule)?;
     Ok((released, schedule))
@@ -91,4 +77,33 @@ fn fill_outputs<W: World>(
         fault => return fault,
     }
     append(world, 0, files.report)
+}
+
+/// Writes the outputs of a run: creates the released capture with its header, and the schedule, and then writes the records,
+/// the schedule and the report.
+pub fn write_outputs<W: World>(
+    world: &mut W,
+    released: &Text,
+    schedule: &Text,
+    files: RunFiles<'_>,
+) -> Written
+    requires room { (W.ledger world.old).given < 2 ^ 32 - 2 }
+    requires apart { released.now ≡ schedule.now → ⊥ }
+    ensures whole { IsTrue W.tells → result ≡ Written.All
+        → WritesWhole released.now schedule.now (files.entry.header.now ++ files.entry.records.now) files.entry.schedule.now files.entry.report.now (W.shown world.old) (W.shown world.new) }
+    ensures fronts { IsTrue W.tells
+        → WritesFronts released.now schedule.now (files.entry.header.now ++ files.entry.records.now) files.entry.schedule.now files.entry.report.now (W.shown world.old) (W.shown world.new) }
+    ensures ledger { AfterWriting (W.ledger world.old) (W.ledger world.new) }
+    ensures cause { result ≡ Written.Failed → Rose (W.ledger world.old).write_faults (W.ledger world.new).write_faults }
+{
+    let (first, second) = match open_outputs(world, released, schedule, files.header) {
+        Ok(opened) => opened,
+        Err(OpenFault::Failed) => return Written::Failed,
+        Err(OpenFault::NoMemory) => return Written::NoMemory,
+    };
+    match fill_outputs(world, first, second, files) {
+        WriteAll::All => Written::All,
+        WriteAll::Failed(_) => Written::Failed,
+        WriteAll::NoMemory(_) => Written::NoMemory,
+    }
 }

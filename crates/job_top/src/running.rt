@@ -1,7 +1,7 @@
-ghost use Rattle.std.specs.Prelude.{◌≡◌, ◌<◌, ◌≤◌, ◌+◌, ◌*◌, ◌^◌, true, false, IsTrue, OnOk, IfOk, length};
+ghost use Rattle.std.specs.Prelude.{◌≡◌, ◌<◌, ◌≤◌, ◌+◌, ◌*◌, ◌^◌, true, false, IsTrue, OnOk, IfOk, All, length};
 ghost use Rattle.plain_player.specs.Hands.{FitsProgram};
 ghost use Rattle.plain_player.specs.Playing.{has_hand, moves_left};
-ghost use Rattle.job_top.specs.Running.{AsksNothing, Goes, IsWithin, CanMove, IsSettled};
+ghost use Rattle.job_top.specs.Running.{AsksNothing, Goes, IsWithin, CanMove, IsSettled, IsShort, IsShortEmission};
 
 use box_program::Program;
 use plain_machine::{Emission, PlainMove, Schedule};
@@ -30,8 +30,11 @@ fn make_move<P: Program>(
     requires room { run.old.player.made + 1 < 2 ^ 64 }
     requires in_range { at < length packets.now }
     requires goes { CanMove (P.meaning program.now) packets.now at run.old.schedule run.old.sent run.old.player }
+    requires short { All IsShort packets.now }
+    requires sent { All IsShortEmission run.old.sent }
     ensures goes { OnOk result (Goes (P.meaning program.now) packets.now (at + 1) run.new.schedule run.new.sent run.new.player) }
     ensures fits { FitsProgram (P.meaning program.now) (P.fits program.now) run.new.player.values }
+    ensures sent { OnOk result (All IsShortEmission run.new.sent) }
     ensures made { OnOk result (run.new.player.made ≡ run.old.player.made + 1) }
     ensures begins { has_hand run.old.player 0 ≡ false → OnOk result (moves_left (P.meaning program.now) run.new.player 0 ≤ 63) }
     ensures falls { IsTrue (has_hand run.old.player 0) → OnOk result (moves_left (P.meaning program.now) run.new.player 0 < moves_left (P.meaning program.now) run.old.player 0) }
@@ -68,10 +71,13 @@ fn play_packet<P: Program>(
     requires goes { Goes (P.meaning program.now) packets.now at run.old.schedule run.old.sent run.old.player }
     requires ended { has_hand run.old.player 0 ≡ false }
     requires within { run.old.player.made ≤ 64 * at }
+    requires short { All IsShort packets.now }
+    requires sent { All IsShortEmission run.old.sent }
     ensures goes { OnOk result (Goes (P.meaning program.now) packets.now (at + 1) run.new.schedule run.new.sent run.new.player) }
     ensures ended { OnOk result (has_hand run.new.player 0 ≡ false) }
     ensures fits { FitsProgram (P.meaning program.now) (P.fits program.now) run.new.player.values }
     ensures within { OnOk result (run.new.player.made ≤ 64 * (at + 1)) }
+    ensures sent { OnOk result (All IsShortEmission run.new.sent) }
 {
     make_move(alloc, program, packets, at, run)?;
     'moves: while run.player.in_hand(0) {
@@ -88,7 +94,9 @@ pub fn play_packets<P: Program>(
 ) -> Result<Running<P::Value>, NoMemory>
     requires asks { AsksNothing (P.meaning program.now) }
     requires few { length packets.now ≤ 65536 }
-    ensures { IfOk result (λ run. IsSettled (P.meaning program.now) packets.now run.schedule run.sent) }
+    requires short { All IsShort packets.now }
+    ensures settled { IfOk result (λ run. IsSettled (P.meaning program.now) packets.now run.schedule run.sent) }
+    ensures sent { IfOk result (λ run. All IsShortEmission run.sent) }
 {
     let mut run = Running {
         schedule: Schedule::new(alloc),

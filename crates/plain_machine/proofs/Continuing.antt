@@ -5,6 +5,7 @@ use Rattle.plain_text.specs.declared.packet.Packet.{Packet}
 use Rattle.entry_order.specs.declared.what.What.TheVariants.{Access, Read}
 use Rattle.entry_order.specs.Log.{Entry, entries, places, IsLog, IsIn, IsNext, IsClosed}
 use Rattle.entry_order.proofs.Order.{is_or, number_within, place_within, same_number, same_place, entries_same, entry_there, closed_thread}
+use Rattle.entry_order.proofs.Keeping.{in_left, in_right, in_either}
 use Rattle.plain_machine.specs.Program.{Meaning}
 use Rattle.plain_machine.specs.Machine.{Thread, Deed, Takes, Touches, Looks, HearsClock, HearsDraw, Sends, Ends, Moves, thread_move}
 use Rattle.plain_machine.specs.History.{Did, Step, log_of, moves_of, act_of, thread_after, value_after, IsStep, IsHistory}
@@ -19,24 +20,6 @@ use Rattle.plain_machine.proofs.Logging.{logged_makes, makes_logged, quiet_log, 
 
 drop_one : (a b : ℕ) → a + 1 ≡ b + 1 → a ≡ b
 drop_one a b h = omega arith
-
-in_left : (e : Entry) (xs ys : List Entry) → IsIn e xs → IsIn e (xs ++ ys)
-in_left e [] ys h = absurd h
-in_left e (x ∷ xs) ys (inl h) = inl h
-in_left e (x ∷ xs) ys (inr h) = inr (in_left e xs ys h)
-
-in_right : (e : Entry) (xs ys : List Entry) → IsIn e ys → IsIn e (xs ++ ys)
-in_right e [] ys h = h
-in_right e (x ∷ xs) ys h = inr (in_right e xs ys h)
-
-in_either : (e : Entry) (xs ys : List Entry) → IsIn e (xs ++ ys) → IsIn e xs ⊎ IsIn e ys
-in_either e [] ys h = inr h
-in_either e (x ∷ xs) ys (inl h) = inl (inl h)
-in_either e (x ∷ xs) ys (inr h) = go (in_either e xs ys h)
-  where
-    go : IsIn e xs ⊎ IsIn e ys → IsIn e (x ∷ xs) ⊎ IsIn e ys
-    go (inl k) = inl (inr k)
-    go (inr k) = inr k
 
 module _ {X : Type 0} (m : Meaning X) (inputs : ℕ → List Packet) (threads : ℕ) (H P : List (Step X))
     (hH : IsHistory m inputs threads H) (hP : IsHistory m inputs threads P)

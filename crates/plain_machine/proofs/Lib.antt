@@ -7,3 +7,5 @@ pub mod Agreement
 pub mod Playing
 pub mod Continuing
 pub mod Bounds
+pub mod Recovering
+pub mod Examples

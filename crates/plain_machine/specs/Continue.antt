@@ -1,7 +1,8 @@
 -- How a run is continued by entries of another one.
-use Rattle.std.specs.Prelude.{◌≡◌, ℕ, List, ◌++◌, Ok}
+use Rattle.std.specs.Prelude.{◌≡◌, ℕ, List, ◌++◌, ◌⊎◌, ◌↔◌, Ok}
 use Rattle.plain_text.specs.declared.packet.Packet.{Packet}
 use Rattle.entry_order.specs.Log.{Entry, IsLog, IsIn, IsNext, IsClosed, Keeps}
+use Rattle.entry_order.specs.Closed.{IsClosedOver}
 use Rattle.plain_machine.specs.declared.plain_move.PlainMove.{PlainMove}
 use Rattle.plain_machine.specs.Program.{Meaning}
 use Rattle.plain_machine.specs.History.{Step, log_of, play}
@@ -19,3 +20,13 @@ Continuation {V} m inputs threads =
     → IsClosed (log_of steps) set → Keeps (log_of steps) set → Keeps (log_of other_steps) set
     → IsLog (more ++ log_of steps) → Keeps (log_of other_steps) more → IsGrounded (log_of steps) set more
     → (rest : List PlainMove) × (next : List (Step V)) × (play m inputs threads (past ++ rest) ≡ Ok next) × (log_of next ≡ more ++ log_of steps)
+
+-- After a crash, the entries of a set that is closed over a past, of a run that went on from it, can be made again: some
+-- continuation of the past has exactly the entries of the past and of the set.
+abbrev pub Recovery : {V : Type 0} → Meaning V → (ℕ → List Packet) → ℕ → Type 0
+Recovery {V} m inputs threads =
+    (past rest : List PlainMove) (steps line : List (Step V)) (set : List Entry)
+    → play m inputs threads past ≡ Ok steps → play m inputs threads (past ++ rest) ≡ Ok line
+    → IsClosedOver (log_of line) (log_of steps) set → Keeps (log_of line) set
+    → (again : List PlainMove) × (next : List (Step V)) × (play m inputs threads (past ++ again) ≡ Ok next)
+    × ((e : Entry) → IsIn e (log_of next) ↔ (IsIn e (log_of steps) ⊎ IsIn e set))

@@ -8,7 +8,7 @@ ghost use Rattle.plain_machine.specs.Program.{Meaning};
 ghost use Rattle.plain_machine.specs.Machine.{Thread};
 ghost use Rattle.plain_machine.specs.History.{Step, log_of, plain_move, and_moves, play, IsStep, IsHistory};
 ghost use Rattle.plain_machine.specs.Agree.{IsEarlier, Makes, Agreement};
-ghost use Rattle.plain_machine.specs.Continue.{Continuation};
+ghost use Rattle.plain_machine.specs.Continue.{Continuation, Recovery};
 
 /// A legal list of moves gives a history, with one step for each move, and each history is that of a legal list. Where a
 /// list is not legal, the moves before the one that the fault names are, and that one is none that may follow them.
@@ -69,4 +69,10 @@ pub fn runs_agree<X>()
 /// these entries.
 pub fn runs_continue<X>()
     ensures { (m : Meaning X) (inputs : ℕ → List Packet) (threads : ℕ) → Continuation m inputs threads }
+{}
+
+/// What was logged can be made again after a crash: where a set of entries of a run is closed over an earlier moment of it,
+/// some moves after that moment make exactly the entries of the set that it lacks.
+pub fn runs_recover<X>()
+    ensures { (m : Meaning X) (inputs : ℕ → List Packet) (threads : ℕ) → Recovery m inputs threads }
 {}

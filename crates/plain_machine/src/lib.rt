@@ -10,6 +10,8 @@ mod local;
 mod plain_move;
 
 pub use emission::Emission;
-pub use laws::{entries_are_logged, lists_are_histories, lists_go_on, runs_agree, runs_continue};
+pub use laws::{
+    entries_are_logged, lists_are_histories, lists_go_on, runs_agree, runs_continue, runs_recover,
+};
 pub use local::{Local, Move};
 pub use plain_move::{PlainMove, PlayCause, PlayFault, Schedule};

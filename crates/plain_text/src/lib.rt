@@ -11,6 +11,8 @@ mod memory;
 mod number;
 mod packet;
 mod sequence;
+#[cfg(test)]
+mod tests;
 mod text;
 mod word;
 

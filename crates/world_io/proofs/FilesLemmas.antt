@@ -1,5 +1,5 @@
 -- The file of a number, after a change of one file and after one more file.
-use Rattle.std.proofs.Common.{◌≡◌, ◌≢◌, ℕ, zero, suc, ◌+◌, ◌-◌, ◌<◌, ◌≤◌, ◌⊎◌, inl, inr, List, [], ◌∷◌, ◌++◌, Option, Some, None, Bool, true, false, IsTrue, length, get_or, set, take, slice_get, arith, ap, ◌∙◌, sym, refl, subst, add-one}
+use Rattle.std.proofs.Common.{◌≡◌, ◌≢◌, ℕ, zero, suc, ◌+◌, ◌-◌, ◌⊎◌, inl, inr, List, [], ◌∷◌, ◌++◌, Option, Some, None, true, false, length, get_or, set, take, slice_get, arith, ap, ◌∙◌, sym, refl, add-one}
 use Rattle.std.specs.Prelude.{Result, Ok, Err, OnOk, OnErr, is_err}
 use mathlib.Core.Path.{fun_ext}
 use Rattle.std.proofs.lemmas.List.{set-get_or, set-set, take_at}
@@ -74,19 +74,19 @@ same_or_other (suc k) (suc n) =
 pub seen_alike-set : {X : Type 0} (see : Option MemoryFile → X) (files : List MemoryFile) (n : ℕ) (f g : MemoryFile) → file_of files n ≡ Some f → see (Some g) ≡ see (Some f)
     → ◌≡◌ {A = ℕ → X} (λ k. see (file_of (set files (n - 1) g) k)) (λ k. see (file_of files k))
 seen_alike-set see files n f g there alike = fun_ext (λ k. elim (same_or_other k n) [
-    inl same ↦ ap (λ j. see (file_of (set files (n - 1) g) j)) same ∙ ap see (file_of-set_same files n f g there) ∙ alike
-        ∙ sym (ap see there) ∙ sym (ap (λ j. see (file_of files j)) same)
+  | inl same ↦ ap (λ j. see (file_of (set files (n - 1) g) j)) same ∙ ap see (file_of-set_same files n f g there) ∙ alike
+      ∙ sym (ap see there) ∙ sym (ap (λ j. see (file_of files j)) same)
   | inr differ ↦ ap see (file_of-set_other files n k f g there differ)
-  ])
+])
 
 -- what is seen alike of a new file and of no file is seen alike of every file
 pub seen_alike-push : {X : Type 0} (see : Option MemoryFile → X) (files : List MemoryFile) (f : MemoryFile) → see (Some f) ≡ see None
     → ◌≡◌ {A = ℕ → X} (λ k. see (file_of (files ++ f ∷ []) k)) (λ k. see (file_of files k))
 seen_alike-push see files f alike = fun_ext (λ k. elim (same_or_other k (length files + 1)) [
-    inl same ↦ ap (λ j. see (file_of (files ++ f ∷ []) j)) same ∙ ap see (file_of-push_new files f) ∙ alike
-        ∙ sym (ap see (file_of-push_old files)) ∙ sym (ap (λ j. see (file_of files j)) same)
+  | inl same ↦ ap (λ j. see (file_of (files ++ f ∷ []) j)) same ∙ ap see (file_of-push_new files f) ∙ alike
+      ∙ sym (ap see (file_of-push_old files)) ∙ sym (ap (λ j. see (file_of files j)) same)
   | inr differ ↦ ap see (file_of-push_other files f k differ)
-  ])
+])
 
 set-there : {X : Type 0} (xs : List X) (i : ℕ) (x : X) → slice_get xs i ≡ Some x → set xs i x ≡ xs
 set-there [] i x there = refl

@@ -1,10 +1,9 @@
 -- That what the calls of a world in memory do is what a world promises.
-use Rattle.std.proofs.Common.{◌≡◌, ◌≢◌, ℕ, zero, suc, ◌+◌, ◌-◌, ◌^◌, ◌≤◌, List, [], ◌∷◌, ◌++◌, Option, Some, None, Ok, Err, Result, Bool, true, false, cond, eqb, length, take, set, arith, ap, ◌∙◌, sym, refl, subst, length-set}
+use Rattle.std.proofs.Common.{◌≡◌, ◌≢◌, ℕ, zero, suc, ◌+◌, ◌-◌, ◌^◌, ◌≤◌, List, [], ◌++◌, Some, Ok, Err, Result, true, false, cond, eqb, length, take, arith, ap, ◌∙◌, sym, refl, subst, length-set}
 use Rattle.std.specs.Prelude.{OnErr, ◌==◌, if◌then◌else◌}
 use Rattle.std.proofs.lemmas.List.{take_all}
 use Rattle.std.proofs.lemmas.Bool.Decides.{nat_tests}
 use Rattle.world_io.specs.declared.memory_file.MemoryFile.{MemoryFile}
-use Rattle.world_io.specs.declared.memory_file.MemoryFile.TheVariants.{Opened, Created}
 use Rattle.world_io.specs.declared.stream.Filled.{Filled}
 use Rattle.world_io.specs.declared.stream.Filled.TheVariants.{Got, End, Failed}
 use Rattle.world_io.specs.declared.stream.Put.{Put}
@@ -16,7 +15,7 @@ use Rattle.world_io.specs.Files.{file_of, is_opened, is_created, left_in, sent_t
 use Rattle.world_io.specs.Calls.{next_fails, counted}
 use Rattle.world_io.specs.World.{Shown, KeepsLedgerReading, KeepsLedgerWriting, WritesFile}
 use Rattle.world_io.specs.OneFile.{WritesFile-nothing}
-use Rattle.world_io.specs.Memory.{Memory, Opens, Fills, Creates, Puts, Sends, after_read, after_read_fault, after_write, after_write_fault, shown_of, ledger_of}
+use Rattle.world_io.specs.Memory.{Memory, Opens, Fills, Creates, Puts, after_read, after_read_fault, after_write, after_write_fault, shown_of, ledger_of}
 use Rattle.world_io.proofs.FilesLemmas.{TakesFromFile-nothing, seen_alike-set, file_of-set_same, file_of-set_other}
 
 pub Fills-passed : (old : Memory) (file : ℕ) (r : Filled) (piece : List ℕ) (files : List MemoryFile) → next_fails old.reading ≡ false → r ≢ Failed

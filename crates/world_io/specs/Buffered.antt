@@ -1,5 +1,5 @@
 -- A source that asks the source below it for large pieces, and holds what it has not given yet.
-use Rattle.std.specs.Prelude.{◌≡◌, ◌<◌, ℕ, List, [], ◌++◌, length, refl}
+use Rattle.std.specs.Prelude.{◌≡◌, ◌<◌, ℕ, List, [], ◌++◌, length}
 use Rattle.world_io.specs.declared.stream.Filled.{Filled}
 use Rattle.world_io.specs.declared.stream.Filled.TheVariants.{Got, End, Failed}
 use Rattle.std.proofs.Common.{sym, ◌∙◌, ap, append_assoc, append-nil}

@@ -2,7 +2,7 @@
 --
 -- A told byte is a bare number: no law says that it is below 256. It is known to be a byte where code has held it,
 -- as in the piece of a fill.
-use Rattle.std.specs.Prelude.{◌≡◌, ◌⊎◌, ◌||◌, nat_eq, ℕ, ◌+◌, ◌≤◌, Bool, true, false, IsTrue, List, [], ◌++◌, Option, Some}
+use Rattle.std.specs.Prelude.{◌≡◌, ◌⊎◌, ◌||◌, nat_eq, ℕ, ◌+◌, ◌≤◌, Bool, true, false, List, [], ◌++◌, Option, Some}
 use Rattle.world_io.specs.declared.stream.Filled.{Filled}
 use Rattle.world_io.specs.declared.stream.Filled.TheVariants.{Got, End, Failed}
 use Rattle.world_io.specs.declared.stream.Put.{Put}

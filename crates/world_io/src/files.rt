@@ -53,7 +53,8 @@ impl Files {
         ensures ok { OnOk result (self.new ≡ self.old ++ Created (record { name = name; sent = sent }) ∷ []) }
         ensures err { OnErr result (self.new ≡ self.old) }
     {
-        self.files.push(MemoryFile::Created(CreatedFile { name, sent }))?;
+        self.files
+            .push(MemoryFile::Created(CreatedFile { name, sent }))?;
         Ok(())
     }
 

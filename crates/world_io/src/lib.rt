@@ -9,6 +9,8 @@ mod memory_file;
 mod memory_world;
 mod names;
 mod stream;
+#[cfg(test)]
+mod tests;
 mod world;
 mod world_stream;
 

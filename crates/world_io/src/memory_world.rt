@@ -128,7 +128,11 @@ impl MemoryWorld {
         let count = self.files.len();
         let copy = Text::of(self.alloc, name.as_str())?;
         self.files.create(copy, Bytes::new(self.alloc))?;
-        if self.names.set(self.alloc, name, Bytes::new(self.alloc)).is_err() {
+        if self
+            .names
+            .set(self.alloc, name, Bytes::new(self.alloc))
+            .is_err()
+        {
             self.files.truncate(count);
             return Err(OpenFault::NoMemory);
         }

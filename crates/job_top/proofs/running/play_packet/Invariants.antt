@@ -1,7 +1,7 @@
-use Rattle.std.proofs.Common.{◌+◌}
+use Rattle.std.proofs.Common.{◌+◌, All}
 use Rattle.plain_player.specs.Hands.{FitsProgram}
 use Rattle.plain_player.specs.Playing.{moves_left}
-use Rattle.job_top.specs.Running.{Goes, IsWithin}
+use Rattle.job_top.specs.Running.{Goes, IsWithin, IsShortEmission}
 use Rattle.job_top.proofs.running.play_packet.Given as goal
 
 -- the packet was taken, and the moves left of it fall
@@ -12,6 +12,7 @@ invariant-moves g l =
       goes : Goes m l.packets (l.at + 1) l.run.schedule l.run.sent l.run.player;
       fits : FitsProgram m (g.P.Program.fits l.program) l.run.player.values;
       within : IsWithin m (l.at + 1) l.run.player;
+      sent : All IsShortEmission l.run.sent;
     }
 
 abbrev pub decreases-moves : goal.decreases-moves

@@ -1,7 +1,7 @@
-use Rattle.std.proofs.Common.{◌≡◌, ◌≤◌, ◌*◌, false}
+use Rattle.std.proofs.Common.{◌≡◌, ◌≤◌, ◌*◌, false, All}
 use Rattle.plain_player.specs.Hands.{FitsProgram}
 use Rattle.plain_player.specs.Playing.{has_hand}
-use Rattle.job_top.specs.Running.{Goes}
+use Rattle.job_top.specs.Running.{Goes, IsShortEmission}
 use Rattle.job_top.proofs.running.play_packets.Given as goal
 
 -- the packets so far were played to their ends
@@ -13,4 +13,5 @@ invariant-loop-at g l =
       ended : has_hand l.run.player 0 ≡ false;
       fits : FitsProgram m (g.P.Program.fits l.program) l.run.player.values;
       within : l.run.player.made ≤ 64 * l.at;
+      sent : All IsShortEmission l.run.sent;
     }

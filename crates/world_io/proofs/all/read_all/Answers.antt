@@ -1,4 +1,4 @@
-use Rattle.std.proofs.Common.{◌≡◌, ◌+◌, ◌++◌, [], length, take, arith, append-nil, length-append, length-take}
+use Rattle.std.proofs.Common.{◌++◌, [], take, arith, append-nil}
 use Rattle.std.proofs.lemmas.Grind.{common_steps}
 use Rattle.world_io.proofs.all.read_all.Goals as goal
 
@@ -14,8 +14,7 @@ returns-in-Failed-clause-reads g c =
 pub returns-then-count-room-clause-reads : goal.returns-then-count-room-clause-reads
 returns-then-count-room-clause-reads g c =
     let taken = take c.in-Got.count c.fill.new.piece in
-    let more = c.in-Got.ensures in
-    (
+    let more = c.in-Got.ensures in (
       c.loop-bytes.bytes ++ taken,
       g.met.S.Source.reads_more _ _ _ _ _ c.loop-bytes.invariant.reads more.reads,
       grind (arith, common_steps),

@@ -1,4 +1,4 @@
-use Rattle.std.proofs.Common.{◌≤◌, ◌+◌, ◌++◌, ◌≡◌, length, take, drop, arith, append-nil, length-drop}
+use Rattle.std.proofs.Common.{length, arith, append-nil, length-drop}
 use Rattle.std.proofs.Math.Seq.{take-add}
 use Rattle.std.proofs.lemmas.Slice.{between_to_end}
 use Rattle.world_io.proofs.all.write_all.Goals as goal

@@ -1,4 +1,4 @@
-use Rattle.std.proofs.Common.{◌≡◌, ◌+◌, ◌-◌, take, drop, arith, ap, ◌∙◌, sym}
+use Rattle.std.proofs.Common.{arith, ap, ◌∙◌, sym}
 use Rattle.world_io.proofs.Pieces.{held_copied}
 use Rattle.world_io.proofs.buffered.BufferedSource.give.Goals as goal
 

@@ -1,4 +1,4 @@
-use Rattle.std.proofs.Common.{◌≡◌, ◌+◌, ◌-◌, length, take, drop, arith, ◌∙◌, sym, length-drop}
+use Rattle.std.proofs.Common.{arith, ◌∙◌, sym, length-drop}
 use Rattle.std.proofs.lemmas.List.{take_rest}
 use Rattle.world_io.proofs.Pieces.{rest_copied}
 use Rattle.world_io.proofs.memory_file.OpenedFile.fill.Goals as goal

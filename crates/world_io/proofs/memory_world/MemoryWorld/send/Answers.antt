@@ -1,5 +1,5 @@
-use Rattle.std.proofs.Common.{◌≡◌, List, ap, sym, ◌∙◌, refl}
-use Rattle.world_io.specs.Memory.{Memory, Sends}
+use Rattle.std.proofs.Common.{List, ap, ◌∙◌, refl}
+use Rattle.world_io.specs.Memory.{Memory}
 use Rattle.world_io.specs.declared.memory_file.MemoryFile.{MemoryFile}
 use Rattle.world_io.specs.declared.names.NamedBytes.{NamedBytes}
 use Rattle.world_io.proofs.FilesLemmas.{CutsFile-sent, SendsToFile-name, at_ok, at_err}
@@ -10,7 +10,7 @@ returns-then-is_err-clause-err c =
     let w = c.self.inside in
     let names = at_err c.append.result c.if-is_err.ensures.value c.append.ensures.err in
     let files = CutsFile-sent c.args.file c.len-sent.result c.args.piece.now c.created.result.now w.files c.send.new.self c.cut.new.self
-        c.created.ensures c.len-sent.ensures c.in_ok-send.ensures.ok c.cut.ensures in
+    c.created.ensures c.len-sent.ensures c.in_ok-send.ensures.ok c.cut.ensures in
     let with : List NamedBytes → List MemoryFile → Memory = λ n f. record { names = n; files = f; report = w.report; reading = w.reading; writing = w.writing } in
     ap (λ n. with n c.cut.new.self) names ∙ ap (with w.names) files ∙ c.self.view_is
 

@@ -1,0 +1,4 @@
+pub mod Adjusting
+pub mod Recomputing
+pub mod Values
+pub mod Words

@@ -1,0 +1,18 @@
+use Rattle.std.proofs.Common.{◌+◌, ap, arith, ℕ, length-append}
+use Rattle.input_logger.specs.Inputs.{Fed}
+use Rattle.input_logger.proofs.Indexing.{fed_is_indexed, length-inputs}
+use Rattle.input_logger.proofs.log.InputLog.feed.Goals as goal
+
+pub invariant_of-self-2 : goal.invariant_of-self-2
+invariant_of-self-2 c =
+    let log : Fed = record { threads = c.self.inside.threads; packets = c.self.inside.packets } in
+    let in_lists = c.self.invariant.one_each in
+    rw (c.in-Ok.ensures.ok, c.in_ok-push.ensures.ok, c.len-place.ensures)
+    (fed_is_indexed log c.self.inside.places.items c.args.packet c.steer-thread.result c.index_mut-places.result.now c.self.invariant c.steer-thread.ensures.thread (omega (arith, c.steer-thread.ensures.below)) c.index_mut-places.ensures.value)
+
+pub returns-clause-number : goal.returns-clause-number
+returns-clause-number c =
+    let log : Fed = record { threads = c.self.inside.threads; packets = c.self.inside.packets } in
+    let in_lists = c.self.invariant.one_each in
+    let earlier = length-inputs log c.self.inside.places.items c.steer-thread.result c.index_mut-places.result.now c.self.invariant (omega (arith, c.steer-thread.ensures.below)) c.index_mut-places.ensures.value in
+    rw (← c.self.view_is, c.len-k.ensures, c.in_ok-push.ensures.ok, length-append) (ap (λ (n : ℕ). n + 1) earlier)

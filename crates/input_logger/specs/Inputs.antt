@@ -1,0 +1,28 @@
+-- The inputs of each thread: of the fed packets, those that are steered to it.
+use Rattle.std.specs.Prelude.{ℕ, suc, zero, ◌%◌, ◌==◌, List, filter, slice_get, Option, None, Result, Ok, Err}
+use Rattle.plain_text.specs.declared.packet.Packet.{Packet}
+use Rattle.packet_headers.specs.declared.flow.Flow.{Flow}
+use Rattle.packet_headers.specs.declared.flow.NotFlow.{NotFlow}
+use Rattle.packet_headers.specs.Steering.{steering_sum}
+use Rattle.packet_headers.specs.View.{viewed}
+
+-- a flow goes to the thread that its sum leaves, and all else to thread 0
+abbrev pub thread_of_view : Result Flow NotFlow → ℕ → ℕ
+thread_of_view (Ok flow) threads = steering_sum flow % threads
+thread_of_view (Err answer) threads = 0
+
+abbrev pub thread_of : Packet → ℕ → ℕ
+thread_of packet threads = thread_of_view (viewed packet.bytes packet.original) threads
+
+-- what was fed to so many threads, in order
+pub record Fed : Type 0 where
+  pub threads : ℕ
+  pub packets : List Packet
+
+abbrev pub inputs_of : Fed → ℕ → List Packet
+inputs_of log thread = filter (λ packet. thread_of packet log.threads == thread) log.packets
+
+-- input k of a thread, from 1
+abbrev pub input_at : Fed → ℕ → ℕ → Option Packet
+input_at log thread zero = None
+input_at log thread (suc earlier) = slice_get (inputs_of log thread) earlier

@@ -1,0 +1,11 @@
+//! The input log: packets as they are fed, each steered to a thread, so that the packets of one flow go to one thread.
+#![tactic(auto)]
+
+mod log;
+mod steering;
+
+pub use log::InputLog;
+pub use steering::steer;
+
+#[cfg(test)]
+mod tests;

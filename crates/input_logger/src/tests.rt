@@ -1,0 +1,78 @@
+use super::*;
+use plain_text::{Bytes, NoMemory, Packet};
+use std::alloc::Global;
+use std::marker::{Send, Sync};
+use std::test::Fail;
+
+/// A DNS query from 10.0.0.5:5000 to 198.51.100.7:53.
+const QUERY: [u8; 42] = [
+    0x02, 0x00, 0xaa, 0xaa, 0xaa, 0xaa, 0x02, 0x00, 0x00, 0x00, 0x00, 0x01, 0x08, 0x00, 0x45, 0x00,
+    0x00, 0x1c, 0x00, 0x01, 0x00, 0x00, 0x40, 0x11, 0x46, 0x91, 0x0a, 0x00, 0x00, 0x05, 0xc6, 0x33,
+    0x64, 0x07, 0x13, 0x88, 0x00, 0x35, 0x00, 0x08, 0xb7, 0xe1,
+];
+
+/// The same from port 5001.
+const NEXT_QUERY: [u8; 42] = [
+    0x02, 0x00, 0xaa, 0xaa, 0xaa, 0xaa, 0x02, 0x00, 0x00, 0x00, 0x00, 0x01, 0x08, 0x00, 0x45, 0x00,
+    0x00, 0x1c, 0x00, 0x02, 0x00, 0x00, 0x40, 0x11, 0x46, 0x90, 0x0a, 0x00, 0x00, 0x05, 0xc6, 0x33,
+    0x64, 0x07, 0x13, 0x89, 0x00, 0x35, 0x00, 0x08, 0xb7, 0xe0,
+];
+
+/// A DNS answer from 198.51.100.7:53 to 203.0.113.1:39276.
+const ANSWER: [u8; 42] = [
+    0x02, 0x00, 0xaa, 0xaa, 0xaa, 0xaa, 0x02, 0x00, 0x00, 0x00, 0x00, 0x01, 0x08, 0x00, 0x45, 0x00,
+    0x00, 0x1c, 0x00, 0x04, 0x00, 0x00, 0x40, 0x11, 0x14, 0x91, 0xc6, 0x33, 0x64, 0x07, 0xcb, 0x00,
+    0x71, 0x01, 0x00, 0x35, 0x99, 0x6c, 0x00, 0x08, 0x00, 0x00,
+];
+
+fn packet(alloc: Global, seconds: u32, bytes: &[u8]) -> Result<Packet, NoMemory> {
+    Ok(Packet {
+        seconds,
+        fraction: 0,
+        original: 42,
+        bytes: Bytes::of(alloc, bytes)?,
+    })
+}
+
+/// That a value may be used by other threads, and handed to one.
+fn goes_between_threads<T: Send + Sync>(_value: &T) {}
+
+fn seconds_of(input: Option<&Packet>) -> Option<u32> {
+    input.map(|packet| packet.seconds)
+}
+
+#[test]
+fn keeps_the_inputs_of_each_thread(rt: HostRuntime) -> Result<(), Fail> {
+    let alloc = rt.alloc();
+    let mut log = InputLog::new(alloc, 2)?;
+    goes_between_threads(&log);
+    assert_eq!(rt; (log.threads(), log.fed()), (2, 0));
+    assert_eq!(rt; log.feed(packet(alloc, 1, &QUERY)?)?, (0, 1));
+    assert_eq!(rt; log.feed(packet(alloc, 2, &NEXT_QUERY)?)?, (1, 1));
+    assert_eq!(rt; log.feed(packet(alloc, 3, &[])?)?, (0, 2));
+    assert_eq!(rt; log.feed(packet(alloc, 4, &NEXT_QUERY)?)?, (1, 2));
+    assert_eq!(rt; log.fed(), 4);
+    for (thread, k, seconds) in [
+        (0, 0, None),
+        (0, 1, Some(1)),
+        (0, 2, Some(3)),
+        (0, 3, None),
+        (1, 1, Some(2)),
+        (1, 2, Some(4)),
+        (1, 3, None),
+        (2, 1, None),
+    ] {
+        assert_eq!(rt; seconds_of(log.input(thread, k)), seconds, "{thread} {k}");
+    }
+    Ok(())
+}
+
+#[test]
+fn steers_by_the_whole_sum(rt: HostRuntime) -> Result<(), Fail> {
+    // 198.51.100.7 + 203.0.113.1 + 53 + 39,276 + 17 is 6,731,099,834
+    let answer = packet(rt.alloc(), 0, &ANSWER)?;
+    assert_eq!(rt; steer(&answer, 1), 0);
+    assert_eq!(rt; steer(&answer, 7), 4);
+    assert_eq!(rt; steer(&answer, 16), 10);
+    Ok(())
+}

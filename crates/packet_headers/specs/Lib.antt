@@ -1,0 +1,4 @@
+pub mod Fields
+pub mod Rewriting
+pub mod Steering
+pub mod View

@@ -1,0 +1,60 @@
+ghost use Rattle.std.specs.Prelude.{◌≡◌, ◌+◌, ◌<◌, length};
+ghost use Rattle.packet_headers.specs.Fields.{AreBytes, word_at, long_at, put_word, put_long};
+
+/// Where the fields of an Ethernet frame that carries IPv4 stand (RFC 791, section 3.1).
+pub(crate) const ETHER_TYPE: usize = 12;
+
+pub(crate) const IP_HEADER: usize = 14;
+
+pub(crate) const TOTAL_LENGTH: usize = 16;
+
+pub(crate) const FLAGS_AND_OFFSET: usize = 20;
+
+pub(crate) const PROTOCOL: usize = 23;
+
+pub(crate) const HEADER_CHECKSUM: usize = 24;
+
+pub(crate) const SOURCE_ADDRESS: usize = 26;
+
+pub(crate) const DESTINATION_ADDRESS: usize = 30;
+
+pub(crate) const IP_OPTIONS: usize = 34;
+
+/// The 16-bit number at a place, high byte first.
+pub(crate) fn word_at(frame: &[u8], place: usize) -> u16
+    requires { place + 1 < length frame.now }
+    ensures { result ≡ word_at frame.now place }
+{
+    u16::from_be_bytes([frame[place], frame[place + 1]])
+}
+
+/// The 32-bit number at a place, high byte first.
+pub(crate) fn long_at(frame: &[u8], place: usize) -> u32
+    requires { place + 3 < length frame.now }
+    ensures value { result ≡ long_at frame.now place }
+    ensures bytes { AreBytes frame.now }
+{
+    u32::from_be_bytes([
+        frame[place],
+        frame[place + 1],
+        frame[place + 2],
+        frame[place + 3],
+    ])
+}
+
+pub(crate) fn put_word(frame: &mut [u8], place: usize, word: u16)
+    requires { place + 1 < length frame.old }
+    ensures { frame.new ≡ put_word frame.old place word }
+{
+    let [high, low] = word.to_be_bytes();
+    frame[place] = high;
+    frame[place + 1] = low;
+}
+
+pub(crate) fn put_long(frame: &mut [u8], place: usize, number: u32)
+    requires { place + 3 < length frame.old }
+    ensures { frame.new ≡ put_long frame.old place number }
+{
+    put_word(frame, place, (number >> 16) as u16);
+    put_word(frame, place + 2, (number & 0xffff) as u16);
+}

@@ -1,0 +1,51 @@
+ghost use Rattle.std.specs.Prelude.{◌≡◌};
+ghost use Rattle.packet_headers.specs.Steering.{steering_sum};
+
+/// The numbers of the protocols that have ports (RFC 790).
+pub(crate) const TCP: u8 = 6;
+
+pub(crate) const UDP: u8 = 17;
+
+/// A frame's TCP or UDP flow: its protocol, its two endpoints, and where its transport header begins.
+#[derive(Clone, Copy, Debug, PartialEq, Eq)]
+pub struct Flow {
+    /// 6 for TCP, 17 for UDP, as in the IPv4 header (RFC 791).
+    pub protocol: u8,
+    pub source: u32,
+    pub source_port: u16,
+    pub dest: u32,
+    pub dest_port: u16,
+    /// The control bits of a TCP segment, CWR first and FIN last (RFC 9293, section 3.1); 0 for UDP.
+    pub flags: u8,
+    /// The place in the frame of the first byte behind the IPv4 header: 34, or more where it has options.
+    pub transport_at: u32,
+}
+
+/// Why a frame is not a flow.
+#[derive(Clone, Copy, Debug, PartialEq, Eq)]
+pub enum NotFlow {
+    /// The frame ends before a header does.
+    Short = 1,
+    /// It carries something else than IPv4.
+    NotIpv4 = 2,
+    /// An IPv4 or TCP header says that it is shorter than the shortest one.
+    BadHeaderLength = 3,
+    /// It is a piece of a packet that was fragmented.
+    Fragment = 4,
+    /// It carries something else than TCP or UDP.
+    OtherProtocol = 5,
+    /// The packet's total length has no room for its headers, or is more than the frame had.
+    BadTotalLength = 6,
+}
+
+/// The sum of a flow's addresses, ports and protocol, as whole numbers: one number for both of its directions, by
+/// which its packets are kept together.
+pub fn flow_sum(flow: &Flow) -> u64
+    ensures { result ≡ steering_sum flow.now }
+{
+    u64::from(flow.source)
+        + u64::from(flow.dest)
+        + u64::from(flow.source_port)
+        + u64::from(flow.dest_port)
+        + u64::from(flow.protocol)
+}
