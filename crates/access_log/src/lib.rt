@@ -1,0 +1,13 @@
+//! Log entries with their stamps, outputs, and the set of entries that a node holds.
+#![tactic(auto)]
+
+mod entry;
+mod held;
+mod lane;
+
+pub use entry::{Added, Entry, Output, Outputs, Turn};
+pub use entry_order::What;
+pub use held::{Held, Kept};
+
+#[cfg(test)]
+mod tests;
