@@ -1,13 +1,15 @@
 //! The program: reads its words, runs the command that they name over the files of the system, and ends with its status.
 #![tactic(auto)]
 
-ghost use Rattle.std.specs.Prelude.{◌≡◌, ◌⊎◌};
+ghost use Rattle.std.specs.Prelude.{◌≡◌, ◌⊎◌, None};
+ghost use Rattle.job_top.specs.Words.{run_names};
 
 mod asked;
 mod words;
 
 use asked::{Request, read_request};
 use job_top::{Status, ftmb};
+use plain_text::Text;
 use std::process::ExitCode;
 use words::read_words;
 use world_real::RealWorld;
@@ -50,15 +52,20 @@ fn run(rt: &HostRuntime) -> Status {
     match read_request(words.as_slice()) {
         Request::Help => print(rt, HELP),
         Request::Version => print(rt, VERSION),
-        Request::Command => match rt.clone() {
-            Ok(host) => ftmb(
-                rt.alloc(),
-                words.as_slice(),
-                &mut RealWorld::new(rt.alloc(), host),
-            ),
-            Err(_) => Status::NoMemory,
-        },
+        Request::Command => run_command(rt, words.as_slice()),
     }
+}
+
+/// Runs a command over the files of the system.
+fn run_command(rt: &HostRuntime, words: &[Text]) -> Status
+    ensures bad_words { result ≡ Status.BadWords → run_names words.now ≡ None }
+    ensures no_names { run_names words.now ≡ None → (result ≡ Status.BadWords) ⊎ (result ≡ Status.NoMemory) }
+{
+    let Ok(host) = rt.clone() else {
+        return Status::NoMemory;
+    };
+    let mut world = RealWorld::new(rt.alloc(), host);
+    ftmb(rt.alloc(), words, &mut world)
 }
 
 /// Tells on standard error what was not done. The status stays, unless telling fails.
