@@ -108,6 +108,17 @@ IsRefusal (status.BadInput fault) = Unit {0}
 IsRefusal (status.TooLarge limit) = Unit {0}
 IsRefusal status.NotBuilt = Unit {0}
 
+-- the statuses that come once the inputs are accepted
+abbrev pub IsOutcome : Status → Type 0
+IsOutcome status.Done = Unit {0}
+IsOutcome status.BadWords = ⊥
+IsOutcome status.ReadFault = ⊥
+IsOutcome status.WriteFault = Unit {0}
+IsOutcome status.NoMemory = Unit {0}
+IsOutcome (status.BadInput fault) = ⊥
+IsOutcome (status.TooLarge limit) = ⊥
+IsOutcome status.NotBuilt = ⊥
+
 abbrev pub IsRefusalOrMemory : Status → Type 0
 IsRefusalOrMemory status.Done = ⊥
 IsRefusalOrMemory status.BadWords = ⊥

@@ -34,9 +34,20 @@ pub record Runs {V : Type 0} (m : Meaning V) (packets : List Packet) (unit : Tim
   pub settled : IsSettled m packets moves sent
   pub stands : Stands (written unit (packets_of sent)) (schedule_text moves) (report_text (length moves) (length sent) (length packets))
 
+-- the moves of the counting box: four of thread 0 for each packet, with no answer
+abbrev pub count_moves : List Packet → List PlainMove
+count_moves packets = replicate (4 * length packets) (record { thread = 0; answer = None })
+
+-- The same of the counting box, whose moves are known, and which sends out a packet for each.
+pub record RunsCount (packets : List Packet) (unit : TimeUnit) (Stands : List ℕ → List ℕ → List ℕ → Type 0) : Type 0 where
+  pub sent : List Emission
+  pub settled : IsSettled count_meaning packets (count_moves packets) sent
+  pub one_each : length sent ≡ length packets
+  pub stands : Stands (written unit (packets_of sent)) (schedule_text (count_moves packets)) (report_text (4 * length packets) (length packets) (length packets))
+
 -- the same of the program of a kind
 abbrev pub RunsKind : BoxKind → List Packet → TimeUnit → (List ℕ → List ℕ → List ℕ → Type 0) → Type 0
-RunsKind (Count box) packets unit Stands = Runs count_meaning packets unit Stands
+RunsKind (Count box) packets unit Stands = RunsCount packets unit Stands
 
 -- the inputs are accepted, and the box ran on the packets of the capture
 pub record RunsOn (names : RunNames) (old : Shown) (Stands : List ℕ → List ℕ → List ℕ → Type 0) : Type 0 where

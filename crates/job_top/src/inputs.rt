@@ -1,7 +1,7 @@
-ghost use Rattle.std.specs.Prelude.{◌≡◌, ◌<◌, ◌≤◌, ◌-◌, ◌^◌, All, length, IsTrue, IfOk, IsErrOf};
+ghost use Rattle.std.specs.Prelude.{◌≡◌, ◌<◌, ◌≤◌, ◌-◌, ◌^◌, All, length, IsTrue, IfOk, IfErr, IsErrOf};
 ghost use Rattle.world_io.specs.Stream.{Rose};
 ghost use Rattle.job_top.specs.Files.{KeepsOutputs, AfterReading};
-ghost use Rattle.job_top.specs.Judging.{JudgesBox, JudgesCapture, JudgesScript};
+ghost use Rattle.job_top.specs.Judging.{IsRefusalOrMemory, JudgesBox, JudgesCapture, JudgesScript};
 ghost use Rattle.job_top.specs.Running.{IsShort};
 
 use crate::{InputFault, ReadFile, Status, is_settle, read_file};
@@ -22,6 +22,7 @@ pub struct Capture {
 pub fn read_box_file<W: World>(alloc: Global, world: &mut W, name: &Text) -> Result<BoxConf, Status>
     requires { (W.ledger world.old).given < 2 ^ 32 - 1 }
     ensures judged { IsTrue W.tells → JudgesBox name.now result (W.shown world.old) }
+    ensures refused { IfErr result IsRefusalOrMemory }
     ensures outputs { IsTrue W.tells → KeepsOutputs (W.shown world.old) (W.shown world.new) }
     ensures ledger { AfterReading (W.ledger world.old) (W.ledger world.new) }
     ensures cause { IsErrOf result Status.ReadFault → Rose (W.ledger world.old).read_faults (W.ledger world.new).read_faults }
@@ -47,6 +48,7 @@ pub fn read_capture_file<W: World>(
 ) -> Result<Capture, Status>
     requires { (W.ledger world.old).given < 2 ^ 32 - 1 }
     ensures judged { IsTrue W.tells → JudgesCapture name.now result (W.shown world.old) }
+    ensures refused { IfErr result IsRefusalOrMemory }
     ensures few { IfOk result (λ capture. length capture.packets ≤ 65536) }
     ensures short { IfOk result (λ capture. All IsShort capture.packets) }
     ensures outputs { IsTrue W.tells → KeepsOutputs (W.shown world.old) (W.shown world.new) }
@@ -72,6 +74,7 @@ pub fn read_capture_file<W: World>(
 pub fn read_script_file<W: World>(alloc: Global, world: &mut W, name: &Text) -> Result<bool, Status>
     requires { (W.ledger world.old).given < 2 ^ 32 - 1 }
     ensures judged { IsTrue W.tells → JudgesScript name.now result (W.shown world.old) }
+    ensures refused { IfErr result IsRefusalOrMemory }
     ensures outputs { IsTrue W.tells → KeepsOutputs (W.shown world.old) (W.shown world.new) }
     ensures ledger { AfterReading (W.ledger world.old) (W.ledger world.new) }
     ensures cause { IsErrOf result Status.ReadFault → Rose (W.ledger world.old).read_faults (W.ledger world.new).read_faults }

@@ -11,6 +11,8 @@ mod run_words;
 mod running;
 mod script;
 mod status;
+#[cfg(test)]
+mod tests;
 mod top;
 mod writing;
 
@@ -24,5 +26,5 @@ pub use run_words::{RunWords, read_run_words};
 pub use running::{Running, play_packets};
 pub use script::is_settle;
 pub use status::{InputFault, Status};
-pub use top::Inputs;
+pub use top::{Inputs, ftmb};
 pub use writing::append;

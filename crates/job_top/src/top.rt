@@ -1,15 +1,16 @@
-ghost use Rattle.std.specs.Prelude.{◌≡◌, ◌<◌, ◌≤◌, ◌+◌, ◌-◌, ◌^◌, ◌↔◌, All, length, None, IsTrue, IfOk, IfSome, IsErrOf};
+ghost use Rattle.std.specs.Prelude.{◌≡◌, ◌<◌, ◌≤◌, ◌-◌, ◌^◌, ◌⊎◌, ◌↔◌, All, length, None, IsTrue, IfErr, IfOk, IfSome, IsErrOf};
 ghost use Rattle.world_io.specs.Stream.{Rose};
 ghost use Rattle.job_top.specs.Files.{KeepsOutputs, KeepsOthers};
-ghost use Rattle.job_top.specs.Judging.{Judges, JudgesInputs, IsRefusal};
-ghost use Rattle.job_top.specs.Outputs.{AfterWriting};
+ghost use Rattle.job_top.specs.Judging.{IsOutcome, IsRefusal, IsRefusalOrMemory, Judges, JudgesInputs};
+ghost use Rattle.job_top.specs.Outputs.{AfterWriting, WritesFronts, WritesWhole};
 ghost use Rattle.job_top.specs.Reading.{AfterInputs};
-ghost use Rattle.job_top.specs.Run.{KeepsShown, RunsWhole, RunsFronts, RunsKind};
+ghost use Rattle.job_top.specs.Run.{KeepsShown, RunsFronts, RunsKind, RunsWhole};
 ghost use Rattle.job_top.specs.Running.{IsShort};
 ghost use Rattle.job_top.specs.Words.{run_names, names_of};
 
 use crate::{
-    Capture, RunWords, Status, read_box_file, read_capture_file, read_run_words, read_script_file,
+    Capture, RunWords, Status, Written, read_box_file, read_capture_file, read_run_words,
+    read_script_file, run_program,
 };
 use box_conf::BoxKind;
 use plain_text::Text;
@@ -31,6 +32,7 @@ fn read_inputs<W: World>(
 ) -> Result<Inputs, Status>
     requires { (W.ledger world.old).given < 2 ^ 31 }
     ensures judged { IsTrue W.tells → JudgesInputs (names_of names.entry) result (W.shown world.old) }
+    ensures refused { IfErr result IsRefusalOrMemory }
     ensures few { IfOk result (λ inputs. length inputs.capture.packets ≤ 65536) }
     ensures short { IfOk result (λ inputs. All IsShort inputs.capture.packets) }
     ensures outputs { IsTrue W.tells → KeepsOutputs (W.shown world.old) (W.shown world.new) }
@@ -50,4 +52,92 @@ fn read_inputs<W: World>(
         kind: conf.kind,
         capture,
     })
+}
+
+impl Written {
+    /// What a command comes to whose outputs were written so.
+    fn status(self) -> Status
+        ensures outcome { IsOutcome result }
+        ensures done { result ≡ Status.Done → self ≡ Written.All }
+        ensures write_fault { result ≡ Status.WriteFault → self ≡ Written.Failed }
+    {
+        match self {
+            Written::All => Status::Done,
+            Written::Failed => Status::WriteFault,
+            Written::NoMemory => Status::NoMemory,
+        }
+    }
+}
+
+/// Runs the box on the packets, and writes the outputs.
+fn run_box<W: World>(alloc: Global, world: &mut W, names: RunWords<'_>, inputs: &Inputs) -> Written
+    requires few { length inputs.now.capture.packets ≤ 65536 }
+    requires short { All IsShort inputs.now.capture.packets }
+    requires room { (W.ledger world.old).given < 2 ^ 32 - 2 }
+    requires apart { names.released.now ≡ names.schedule.now → ⊥ }
+    ensures whole { IsTrue W.tells → result ≡ Written.All → RunsKind inputs.now.kind inputs.now.capture.packets inputs.now.capture.unit
+        (λ released schedule report. WritesWhole (names_of names.entry).released (names_of names.entry).schedule released schedule report (W.shown world.old) (W.shown world.new)) }
+    ensures fronts { IsTrue W.tells → KeepsShown (W.shown world.old) (W.shown world.new) ⊎ RunsKind inputs.now.kind inputs.now.capture.packets inputs.now.capture.unit
+        (λ released schedule report. WritesFronts (names_of names.entry).released (names_of names.entry).schedule released schedule report (W.shown world.old) (W.shown world.new)) }
+    ensures ledger { AfterWriting (W.ledger world.old) (W.ledger world.new) }
+    ensures cause { result ≡ Written.Failed → Rose (W.ledger world.old).write_faults (W.ledger world.new).write_faults }
+{
+    let unit = inputs.capture.unit;
+    let packets = inputs.capture.packets.as_slice();
+    match &inputs.kind {
+        BoxKind::Count(count) => run_program(
+            alloc,
+            count,
+            unit,
+            packets,
+            world,
+            names.released,
+            names.schedule,
+        ),
+    }
+}
+
+/// The command `run`: all input files are judged before an output is created.
+fn run<W: World>(alloc: Global, world: &mut W, names: RunWords<'_>) -> Status
+    requires room { (W.ledger world.old).given < 2 ^ 31 }
+    requires apart { names.released.now ≡ names.schedule.now → ⊥ }
+    ensures done { IsTrue W.tells → result ≡ Status.Done → RunsWhole (names_of names.entry) (W.shown world.old) (W.shown world.new) }
+    ensures judged { IsTrue W.tells → Judges (names_of names.entry) result (W.shown world.old) }
+    ensures fronts { IsTrue W.tells → RunsFronts (names_of names.entry) (W.shown world.old) (W.shown world.new) }
+    ensures refused { IsTrue W.tells → IsRefusal result → KeepsShown (W.shown world.old) (W.shown world.new) }
+    ensures words { result ≡ Status.BadWords → ⊥ }
+    ensures others { IsTrue W.tells → KeepsOthers (names_of names.entry).released (names_of names.entry).schedule (W.shown world.old) (W.shown world.new) }
+    ensures read_fault { result ≡ Status.ReadFault → Rose (W.ledger world.old).read_faults (W.ledger world.new).read_faults }
+    ensures write_fault { result ≡ Status.WriteFault → Rose (W.ledger world.old).write_faults (W.ledger world.new).write_faults }
+{
+    match read_inputs(alloc, world, names) {
+        Ok(inputs) => run_box(alloc, world, names, &inputs).status(),
+        Err(status) => status,
+    }
+}
+
+/// The top call: does what the words ask of the world, and answers what it came to.
+///
+/// The words are `run BOX CAPTURE SCRIPT RELEASED SCHEDULE`, five names of files of which the two outputs differ. The box is run
+/// on the packets of the capture, one after another. RELEASED is the capture of the packets that it sent out, SCHEDULE the list
+/// of the moves that it made, and the report has one line for the script's event and a last one.
+///
+/// An output is created only when all input files are accepted; the first that is refused, in the order of the words, decides
+/// the status. A world that has given fewer than 2^31 numbers has room for the files of any command.
+pub fn ftmb<W: World>(alloc: Global, words: &[Text], world: &mut W) -> Status
+    requires room { (W.ledger world.old).given < 2 ^ 31 }
+    ensures bad_words { result ≡ Status.BadWords ↔ run_names words.now ≡ None }
+    ensures nothing_asked { result ≡ Status.BadWords → world.new ≡ world.old }
+    ensures done { IsTrue W.tells → result ≡ Status.Done → IfSome (run_names words.now) (λ names. RunsWhole names (W.shown world.old) (W.shown world.new)) }
+    ensures judged { IsTrue W.tells → IfSome (run_names words.now) (λ names. Judges names result (W.shown world.old)) }
+    ensures fronts { IsTrue W.tells → IfSome (run_names words.now) (λ names. RunsFronts names (W.shown world.old) (W.shown world.new)) }
+    ensures refused { IsTrue W.tells → IsRefusal result → KeepsShown (W.shown world.old) (W.shown world.new) }
+    ensures others { IsTrue W.tells → IfSome (run_names words.now) (λ names. KeepsOthers names.released names.schedule (W.shown world.old) (W.shown world.new)) }
+    ensures read_fault { result ≡ Status.ReadFault → Rose (W.ledger world.old).read_faults (W.ledger world.new).read_faults }
+    ensures write_fault { result ≡ Status.WriteFault → Rose (W.ledger world.old).write_faults (W.ledger world.new).write_faults }
+{
+    match read_run_words(words) {
+        Some(names) => run(alloc, world, names),
+        None => Status::BadWords,
+    }
 }

@@ -1,0 +1,38 @@
+# The program ftmb, and what to do with it. RT is the command of the kit that proves and builds it.
+
+RT ?= rt
+SOURCES := crates.txt $(shell find crates -name out -prune -o -type f -print)
+
+.PHONY: all test example bench interop clean
+
+# The program, proved and built: build/ftmb.
+all: build/ftmb
+
+build/ftmb: $(SOURCES)
+	cd crates/ftmb && $(RT) run -- --version
+	mkdir -p build
+	install -m 755 crates/ftmb/out/ftmb $@
+
+build/bench_headers: $(SOURCES)
+	cd crates/bench_headers && $(RT) run -- 1 1
+	mkdir -p build
+	install -m 755 crates/bench_headers/out/bench_headers $@
+
+# Every proof, edit that must fail, test and stored run.
+test:
+	$(RT) ci
+
+# Runs a box on two packets, and shows what was written.
+example: build/ftmb
+	scripts/example build/ftmb build/example
+
+# The bytes summed and the frames rewritten in a second.
+bench: build/bench_headers
+	scripts/bench build/bench_headers
+
+# Runs the program on captures in all four forms, and has tcpdump and Wireshark's tools read what was released.
+interop: build/ftmb
+	scripts/interop build/ftmb build/interop
+
+clean:
+	rm -rf build

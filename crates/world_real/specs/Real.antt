@@ -1,0 +1,46 @@
+-- What the real world shows: the numbers that it gave and its counts of faults, and no bytes.
+use Rattle.std.specs.Prelude.{◌≡◌, ℕ, zero, suc, Bool, true, false, List, [], length, Option, Some, None, slice_get}
+use Rattle.world_real.specs.declared.real_file.RealFile.{RealFile}
+use Rattle.world_real.specs.declared.real_file.RealFile.TheVariants.{Reading, Writing}
+use Rattle.world_io.specs.World.{Shown, Ledger}
+
+-- the file that has this number, if it was given
+abbrev pub file_at : {F : Type 0} → List (RealFile F) → ℕ → Option (RealFile F)
+file_at files zero = None
+file_at files (suc place) = slice_get files place
+
+abbrev pub is_reading : {F : Type 0} → Option (RealFile F) → Bool
+is_reading None = false
+is_reading (Some (Reading f)) = true
+is_reading (Some (Writing f)) = false
+
+abbrev pub is_writing : {F : Type 0} → Option (RealFile F) → Bool
+is_writing None = false
+is_writing (Some (Reading f)) = false
+is_writing (Some (Writing f)) = true
+
+-- the files in the order of their numbers, which count from 1, and how often reading and writing failed
+pub record Real (F : Type 0) : Type 0 where
+  pub files : List (RealFile F)
+  pub read_faults : ℕ
+  pub write_faults : ℕ
+
+abbrev pub real_ledger : {F : Type 0} → Real F → Ledger
+real_ledger w = record {
+  opened = λ k. is_reading (file_at w.files k);
+  created = λ k. is_writing (file_at w.files k);
+  given = length w.files;
+  read_faults = w.read_faults;
+  write_faults = w.write_faults;
+}
+
+abbrev pub nothing_shown : Shown
+nothing_shown = record { names = λ _. None; left = λ _. []; sent = λ _. []; name_of = λ _. [] }
+
+-- no number was given, and nothing failed
+pub record IsUnused (ledger : Ledger) : Type 0 where
+  pub opened : (k : ℕ) → ledger.opened k ≡ false
+  pub created : (k : ℕ) → ledger.created k ≡ false
+  pub given : ledger.given ≡ 0
+  pub read_faults : ledger.read_faults ≡ 0
+  pub write_faults : ledger.write_faults ≡ 0

@@ -1,0 +1,35 @@
+use crate::RealWorld;
+use plain_text::Text;
+use std::test::Fail;
+use std::{env, fs, process};
+use world_io::{OpenFault, ReadAll, World, WorldSink, WorldSource, WriteAll, read_all, write_all};
+
+const TEXT: &[u8] = b"two lines\nof bytes \xff\x00";
+
+/// The name of a file that no other run of this test has.
+fn own_name(rt: &HostRuntime) -> Result<Text, Fail> {
+    let folder = env::temp_dir(rt)?;
+    let number = process::id(rt.process());
+    let path = format!(in rt.alloc(); "{}/world_real_{number}", folder.as_str())?;
+    Ok(Text::of(rt.alloc(), path.as_str())?)
+}
+
+#[test]
+fn a_file_reads_back_as_it_was_written(rt: HostRuntime) -> Result<(), Fail> {
+    let alloc = rt.alloc();
+    let name = own_name(&rt)?;
+    let mut world = RealWorld::new(alloc, rt.clone()?);
+    assert!(rt; matches!(world.open_file(&name), Err(OpenFault::Failed)));
+    let created = world.create_file(&name)?;
+    let wrote = write_all(&mut WorldSink::of(&mut world, created), TEXT);
+    assert_eq!(rt; wrote, WriteAll::All);
+    let opened = world.open_file(&name)?;
+    assert_eq!(rt; (created, opened), (1, 2));
+    let read = read_all(alloc, &mut WorldSource::of(&mut world, opened), 1_000);
+    fs::remove_file(&rt, name.as_str())?;
+    let ReadAll::All(bytes) = read else {
+        panic!(rt; "{read:?}");
+    };
+    assert_eq!(rt; bytes.as_slice(), TEXT);
+    Ok(())
+}
