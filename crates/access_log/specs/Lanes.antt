@@ -1,15 +1,8 @@
 -- What a lane keeps, and how one entry changes it.
-use Rattle.std.specs.Prelude.{◌≡◌, ◌≢◌, ℕ, ◌+◌, ◌^◌, ◌≤◌, ◌<◌, ◌↔◌, List, Some, None, IsSome, length, nat_le, if◌then◌else◌}
+use Rattle.std.specs.Prelude.{◌≡◌, ◌≢◌, ℕ, ◌+◌, ◌≤◌, ◌↔◌, List, Some, None, length, nat_le, if◌then◌else◌}
 use Rattle.thread_clock.specs.Clock.{AtMost}
 use Rattle.access_log.specs.declared.entry.Entry.{Entry}
-use Rattle.access_log.specs.Held.{Lane, lane, entry_at, IsFrontier}
-
--- the stored frontier is that of the lane, and what is held is not covered
-pub record IsSound (lane : Lane) (frontier : ℕ) : Type 0 where
-  pub frontier_is : IsFrontier lane frontier
-  pub above : (n : ℕ) → IsSome (entry_at lane n) → lane.covered < n
-  pub small : (n : ℕ) → IsSome (entry_at lane n) → n < 2 ^ 64
-  pub few : length lane.entries ≤ 2 ^ 56
+use Rattle.access_log.specs.Held.{Lane, lane, entry_at}
 
 -- the new lane holds this entry at this number, and else what the old one holds
 pub record PutsEntry (old new : Lane) (number : ℕ) (entry : Entry) : Type 0 where

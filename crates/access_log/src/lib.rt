@@ -4,6 +4,7 @@
 mod entry;
 mod held;
 mod lane;
+mod slots;
 
 pub use entry::{Added, Entry, Output, Outputs, Turn};
 pub use entry_order::What;
