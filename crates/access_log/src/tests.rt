@@ -2,6 +2,8 @@ ghost use Rattle.std.specs.Prelude.{◌≡◌, ℕ, length, IfOk};
 
 use crate::{Added, Entry, Held, Kept, What};
 use entry_order::{LogEntry, closed_part, contains, first_missing, stamp_component};
+use rand_core::utils::NextWord;
+use rand_pcg::Pcg32;
 use std::alloc::{AllocError, Global};
 use std::process::Abort;
 use std::test::Fail;
@@ -98,6 +100,73 @@ fn compare_parts(rt: &impl Abort, alloc: Global, log: &[LogEntry]) -> Result<(),
         }
     }
     compare(rt, alloc, log, log)
+}
+
+/// A log of three threads and two variables, newest first, with as many entries.
+fn random_log(
+    alloc: Global,
+    random: &mut Pcg32,
+    count: usize,
+) -> Result<Vec<LogEntry>, AllocError> {
+    let mut log: Vec<LogEntry> = Vec::with_capacity(alloc, count)?;
+    for _ in 0..count {
+        let thread = random.next_word() % 3;
+        let var = random.next_word() % 2;
+        let earlier = log.iter().filter(|entry| entry.thread == thread).count();
+        let touches = log
+            .iter()
+            .filter(|entry| matches!(entry.what, What::Access { var: other, .. } if other == var))
+            .count();
+        let what = match random.next_word() % 6 {
+            0 => What::Clock(7),
+            1 => What::Draw(7),
+            2 | 3 => What::Read {
+                var,
+                after: touches as u64,
+            },
+            _ => What::Access {
+                var,
+                place: touches as u64 + 1,
+            },
+        };
+        let number = earlier as u64 + 1;
+        log.insert(
+            0,
+            LogEntry {
+                thread,
+                number,
+                what,
+            },
+        )?;
+    }
+    Ok(log)
+}
+
+/// Some of the entries of a log, each with a chance of 3 in 4.
+fn random_part(
+    alloc: Global,
+    random: &mut Pcg32,
+    log: &[LogEntry],
+) -> Result<Vec<LogEntry>, AllocError> {
+    let mut part = Vec::with_capacity(alloc, log.len())?;
+    for entry in log {
+        if random.next_word() % 4 != 0 {
+            part.push(*entry)?;
+        }
+    }
+    Ok(part)
+}
+
+#[test]
+fn held_sets_of_random_logs_agree_with_the_definitions(rt: HostRuntime) -> Result<(), Fail> {
+    let alloc = rt.alloc();
+    let mut random = Pcg32::new(42, 54);
+    for turn in 0..300 {
+        let log = random_log(alloc, &mut random, turn % 10)?;
+        let part = random_part(alloc, &mut random, &log)?;
+        compare(&rt, alloc, &log, &part)?;
+    }
+    Ok(())
 }
 
 /// Logs of one variable, newest first.
