@@ -26,9 +26,10 @@ test:
 example: build/ftmb
 	scripts/example build/ftmb build/example
 
-# The bytes summed and the frames rewritten in a second.
-bench: build/bench_headers
+# The bytes summed and the frames rewritten in a second, and the packets run in a second beside cat of the same file.
+bench: build/bench_headers build/ftmb
 	scripts/bench build/bench_headers
+	scripts/bench_run build/ftmb build/bench
 
 # Runs the program on captures in all four forms, and has tcpdump and Wireshark's tools read what was released.
 interop: build/ftmb

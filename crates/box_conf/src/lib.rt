@@ -5,6 +5,8 @@ mod conf;
 mod keywords;
 mod kind;
 mod settings;
+#[cfg(test)]
+mod tests;
 
 pub use conf::{ConfError, read_box};
 pub use kind::{BoxConf, BoxKind};

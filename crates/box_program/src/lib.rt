@@ -5,6 +5,8 @@ mod count;
 mod numbered;
 mod peek;
 mod program;
+#[cfg(test)]
+mod tests;
 
 pub use count::CountBox;
 pub use peek::PeekBox;

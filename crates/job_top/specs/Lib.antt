@@ -9,4 +9,5 @@ pub mod Running
 pub mod Script
 pub mod Status
 pub mod Texts
+pub mod Verdict
 pub mod Words

@@ -2,6 +2,7 @@
 #![tactic(auto)]
 
 mod inputs;
+mod laws;
 mod outputs;
 mod programs;
 mod reading;
@@ -11,10 +12,13 @@ mod run_words;
 mod running;
 mod script;
 mod status;
+#[cfg(test)]
+mod tests;
 mod top;
 mod writing;
 
 pub use inputs::{Capture, read_box_file, read_capture_file, read_script_file};
+pub use laws::one_verdict;
 pub use outputs::{RunFiles, Written, write_outputs};
 pub use programs::run_program;
 pub use reading::{ReadFile, read_file};

@@ -5,6 +5,8 @@ mod hand;
 mod player;
 mod schedule;
 mod seat;
+#[cfg(test)]
+mod tests;
 
 pub use hand::{HandMove, MoveError};
 pub use player::Player;

@@ -1,5 +1,33 @@
-use crate::{Bytes, Sequence, Text, put_u64};
+use crate::{
+    Bytes, Field, LineCause, NoMemory, Sequence, Text, count_lines, end_of_line, lines, put_u64,
+    read_field, read_u64, words,
+};
+use std::alloc::Global;
 use std::test::Fail;
+
+/// The lines of a text that count, each by its number and its words.
+fn lines_told(alloc: Global, text: &[u8]) -> Result<Bytes, NoMemory> {
+    let mut told = Bytes::new(alloc);
+    for line in lines(text) {
+        put_u64(&mut told, line.number)?;
+        for word in words(line.bytes) {
+            told.push(b'|')?;
+            told.extend(word)?;
+        }
+        told.push(b';')?;
+    }
+    Ok(told)
+}
+
+/// The two numbers of a line `N = M`.
+fn two_numbers(line: &[u8]) -> Result<(u64, u64), LineCause> {
+    let mut left = words(line);
+    let first = read_field(&mut left, Field::Number)?;
+    let _ = read_field(&mut left, Field::Fixed(b"="))?;
+    let second = read_field(&mut left, Field::Number)?;
+    end_of_line(left)?;
+    Ok((first, second))
+}
 
 #[test]
 fn makes_plain_data(rt: HostRuntime) -> Result<(), Fail> {
@@ -25,4 +53,58 @@ fn grows_to_a_hundred_thousand_items(rt: HostRuntime) -> Result<(), Fail> {
     assert_eq!(rt; items.as_slice().first(), Some(&0));
     assert_eq!(rt; items.as_slice().last(), Some(&99_999));
     Ok(())
+}
+
+#[test]
+fn tells_lines_and_words(rt: HostRuntime) -> Result<(), Fail> {
+    for (text, count, told) in [
+        ("", 0, ""),
+        ("\n\r\n \t\n", 3, ""),
+        ("a", 1, "1|a;"),
+        ("a\n", 1, "1|a;"),
+        ("a\r\r\n", 1, "1|a\r;"),
+        (
+            "# a b\r\n\r\n\tc\td  e \r\n  #f\ng #h\r\n\n\ni\r",
+            8,
+            "3|c|d|e;5|g|#h;8|i\r;",
+        ),
+    ] {
+        assert_eq!(rt; count_lines(text.as_bytes()), count, "at {text:?}");
+        let lines = lines_told(rt.alloc(), text.as_bytes())?;
+        assert_eq!(rt; lines.as_slice(), told.as_bytes(), "at {text:?}");
+    }
+    Ok(())
+}
+
+#[test]
+fn reads_numbers(rt: HostRuntime) {
+    for (word, number) in [
+        ("", None),
+        ("0", Some(0)),
+        ("007", Some(7)),
+        ("18446744073709551615", Some(18_446_744_073_709_551_615)),
+        ("18446744073709551616", None),
+        ("99999999999999999999", None),
+        ("00000000000000000042", Some(42)),
+        ("000000000000000000042", None),
+        ("4a", None),
+        ("+4", None),
+        ("-4", None),
+    ] {
+        assert_eq!(rt; read_u64(word.as_bytes()), number, "at {word:?}");
+    }
+}
+
+#[test]
+fn names_the_first_fault_of_a_line(rt: HostRuntime) {
+    for (line, numbers) in [
+        ("1 = 5", Ok((1, 5))),
+        ("", Err(LineCause::MissingWord)),
+        ("1 =", Err(LineCause::MissingWord)),
+        ("one", Err(LineCause::BadNumber)),
+        ("1 == 5 6", Err(LineCause::UnknownWord)),
+        ("1 = 5 6", Err(LineCause::ExtraWord)),
+    ] {
+        assert_eq!(rt; two_numbers(line.as_bytes()), numbers, "at {line:?}");
+    }
 }

@@ -1,0 +1,3 @@
+pub mod Retaining
+pub mod LaneLemmas
+pub mod SlotLemmas

@@ -1,0 +1,16 @@
+use Rattle.std.proofs.Common.{rules, arith, refl, ◌≤◌, length, length-append}
+use Rattle.access_log.proofs.slots.Slots.retain_at_most.Goals as goal
+use Rattle.access_log.proofs.Retaining.{retained}
+use Rattle.access_log.proofs.SlotLemmas.{at-retained, length-in_slots-fewer}
+
+pub returns-clause-retained : goal.returns-clause-retained
+returns-clause-retained c =
+    let s = c.self.inside in
+    rw (← c.self.view_is) (record { covered = refl; held = at-retained s.covered s.run.items c.empty_above.new.run.items s.later.entries c.retain.new.self.entries c.args.frontiers.now c.self.invariant c.empty_above.ensures (retained _ (λ v. v.stamp) c.args.frontiers.now _ (λ k v b w f' t. search rules) _ _ c.retain.ensures.was_ordered c.retain.ensures.filtered) })
+
+pub returns-clause-fewer : goal.returns-clause-fewer
+returns-clause-fewer c =
+    let s = c.self.inside in
+    let slots = length-in_slots-fewer s.covered s.run.items c.empty_above.new.run.items c.empty_above.ensures.slots (λ i e h. ((c.empty_above.ensures.held i e).0 h).0) in
+    let later : length c.retain.new.self.entries ≤ length s.later.entries = c.retain.ensures.bound in
+    rw (← c.self.view_is) (simp length-append (omega arith))

@@ -1,0 +1,47 @@
+use entry_order::What;
+use plain_text::{Packet, Sequence};
+use thread_clock::Stamp;
+
+/// One log entry: the `number`-th logged move of `thread`, counted from 1, what it did, and its stamp.
+#[derive(Clone, Copy, Debug, PartialEq)]
+pub struct Entry {
+    pub thread: u32,
+    pub number: u64,
+    pub what: What,
+    /// For each thread, the greatest number of an entry of it that precedes this one or is it; 0 where there is none.
+    pub stamp: Stamp,
+}
+
+/// A packet that a thread sends out: its `number`-th, counted from 1, made of this input.
+#[derive(Debug, Drop)]
+pub struct Output {
+    pub thread: u32,
+    pub number: u64,
+    pub input: u64,
+    /// For each thread, the greatest number of an entry of it among the output's predecessors; 0 where there is none.
+    pub stamp: Stamp,
+    pub packet: Packet,
+}
+
+/// Outputs in order.
+pub type Outputs = Sequence<Output>;
+
+/// Whether a thread may make the touch that it wants.
+#[derive(Clone, Copy, Debug, PartialEq, Eq)]
+pub enum Turn {
+    /// Now, and as the log says.
+    Follow,
+    /// Now, since the log says nothing of it.
+    Free,
+    /// Only after the entry of this thread and number.
+    Wait { thread: u32, number: u64 },
+}
+
+/// What became of an entry that was added.
+#[derive(Clone, Copy, Debug, PartialEq, Eq)]
+pub enum Added {
+    /// It is held now.
+    New,
+    /// An entry of its thread and number was held or covered before, and nothing changed.
+    Known,
+}

@@ -1,0 +1,185 @@
+ghost use Rattle.std.specs.Prelude.{◌≡◌, ℕ, ◌+◌, ◌-◌, ◌^◌, ◌<◌, ◌≤◌, ◌↔◌, ◌≢◌, List, Option, Some, None, Ok, IsSome, IfOk, IfSome, MatchOption, length, option_copied, replicate, slice_index};
+ghost use Rattle.access_log.specs.Held.{lane, entry_at, fresh_lane, IsKnown, IsFrontier, IsWithin, IsFirstMissing, held_count};
+ghost use Rattle.access_log.specs.Lanes.{PutsEntry, CoversUpTo, RetainsAtMost};
+
+use crate::lane::Lane;
+use crate::{Added, Entry};
+use plain_text::NoMemory;
+use std::alloc::Global;
+use std::marker::Model;
+use thread_clock::Stamp;
+
+/// How many entries a call let stay and dropped.
+#[derive(Clone, Copy, Debug, PartialEq, Eq)]
+pub struct Kept {
+    pub kept: u64,
+    pub dropped: u64,
+}
+
+/// The log entries that a node holds, of at most 16 threads. Those that a snapshot stands for are covered, and dropped.
+#[derive(Debug, Drop)]
+pub struct Held {
+    lanes: Vec<Lane>,
+}
+
+impl Model for Held {
+    ghost use Rattle.std.specs.Prelude.{List};
+    ghost use Rattle.access_log.specs.Held.{Lane};
+
+    ghost Value = { List Lane };
+
+    ghost use Rattle.access_log.specs.Lanes.{IsHeldSet};
+
+    ghost view = { λ h. h.lanes.items };
+
+    ghost invariant = { λ h. IsHeldSet h.lanes.items };
+}
+
+/// Covers in each lane what the counts say.
+fn cover_each(lanes: &mut [Lane], counts: &Stamp)
+    requires few { length lanes.old ≤ 16 }
+    requires rising { (t : ℕ) → t < length lanes.old
+        → (lane lanes.old t).covered ≤ slice_index counts.now t }
+    ensures { (t : ℕ) → t < length lanes.old
+        → CoversUpTo (lane lanes.old t) (lane lanes.new t) (slice_index counts.now t) }
+{
+    for i in 0..lanes.len() {
+        let lane = &mut lanes[i];
+        lane.cover(counts.get(i as u32));
+    }
+}
+
+/// Drops in each lane the entries with a component of their stamps above this one's, and counts them.
+fn retain_in_each(lanes: &mut [Lane], frontiers: &Stamp) -> u64
+    requires { length lanes.old ≤ 16 }
+    ensures retained { (t : ℕ) → RetainsAtMost (lane lanes.old t) (lane lanes.new t) frontiers.now }
+    ensures dropped { held_count lanes.new + result ≡ held_count lanes.old }
+{
+    let mut dropped = 0;
+    for i in 0..lanes.len() {
+        let lane = &mut lanes[i];
+        let held = lane.len();
+        lane.retain_at_most(frontiers);
+        dropped += (held - lane.len()) as u64;
+    }
+    dropped
+}
+
+/// How many entries the lanes hold.
+fn count_held(lanes: &[Lane]) -> u64
+    requires { length lanes.now ≤ 16 }
+    ensures { result ≡ held_count lanes.now }
+{
+    let mut count = 0;
+    for lane in lanes {
+        count += lane.len() as u64;
+    }
+    count
+}
+
+impl Held {
+    /// Nothing covered and nothing held, for 1 to 16 threads.
+    pub fn new(alloc: Global, threads: u32) -> Result<Self, NoMemory>
+        requires some { 1 ≤ threads }
+        requires few { threads ≤ 16 }
+        ensures { IfOk result (λ held. held ≡ replicate threads fresh_lane) }
+    {
+        let mut lanes = Vec::with_capacity(alloc, threads as usize)?;
+        for _ in 0..threads {
+            lanes.push(Lane::new(alloc))?;
+        }
+        Ok(Held { lanes })
+    }
+
+    /// Holds this entry, unless one of its thread and number is held or covered: then nothing changes.
+    pub fn add(&mut self, entry: Entry) -> Result<Added, NoMemory>
+        requires thread_in { entry.thread < length self.old }
+        requires numbered { 1 ≤ entry.number }
+        ensures known { (result ≡ Ok Added.Known)
+            ↔ IsKnown (lane self.old entry.thread) entry.number }
+        ensures same { result ≢ Ok Added.New → self.new ≡ self.old }
+        ensures new { result ≡ Ok Added.New
+            → PutsEntry (lane self.old entry.thread) (lane self.new entry.thread) entry.number entry }
+        ensures others { (t : ℕ) → t ≢ entry.thread → lane self.new t ≡ lane self.old t }
+        ensures counted { result ≡ Ok Added.New → held_count self.new ≡ held_count self.old + 1 }
+        ensures threads { length self.new ≡ length self.old }
+    {
+        let number = entry.number;
+        let lane = &mut self.lanes[entry.thread as usize];
+        lane.add(number, entry)
+    }
+
+    /// The held entry of this thread and number, if there is one; a covered one is not held.
+    pub fn get(&self, thread: u32, number: u64) -> Option<&Entry>
+        ensures value { option_copied result ≡ entry_at (lane self.now thread) number }
+        ensures named { IfSome result (λ e. (e.now.thread ≡ thread) × (e.now.number ≡ number)) }
+        ensures above { IsSome result → (lane self.now thread).covered < number }
+    {
+        self.lanes.get(thread as usize)?.get(number)
+    }
+
+    /// Marks each thread's entries up to its count as covered, and drops those held of them. It takes no memory.
+    pub fn cover(&mut self, counts: &Stamp)
+        requires { (t : ℕ) → t < length self.old
+            → (lane self.old t).covered ≤ slice_index counts.now t }
+        ensures covers { (t : ℕ) → t < length self.old
+            → CoversUpTo (lane self.old t) (lane self.new t) (slice_index counts.now t) }
+        ensures threads { length self.new ≡ length self.old }
+    {
+        cover_each(&mut self.lanes, counts);
+    }
+
+    /// The greatest number such that each of the thread's entries from 1 to it is held or covered.
+    pub fn frontier(&self, thread: u32) -> u64
+        ensures { IsFrontier (lane self.now thread) result }
+    {
+        match self.lanes.get(thread as usize) {
+            Some(lane) => lane.frontier(),
+            None => 0,
+        }
+    }
+
+    /// The frontier of each thread, as a stamp.
+    fn frontiers(&self) -> Stamp
+        ensures { (t : ℕ) → IsFrontier (lane self.now t) (slice_index result t) }
+    {
+        let _few = &self.lanes;
+        let mut components = [0; 16];
+        for i in 0..16 {
+            components[i as usize] = self.frontier(i);
+        }
+        Stamp::new(components)
+    }
+
+    /// The first entry that is missing for this stamp: of the least thread whose component is above its frontier, the next
+    /// number after that. None exactly where no component is above. It takes no memory.
+    pub fn missing(&self, stamp: &Stamp) -> Option<(u32, u64)>
+        ensures { MatchOption result (IsWithin self.now stamp.now)
+            (λ first. IsFirstMissing self.now stamp.now first.0 first.1) }
+    {
+        let components = stamp.components();
+        for thread in 0..16 {
+            let frontier = self.frontier(thread);
+            if components[thread as usize] > frontier {
+                return Some((thread, frontier + 1));
+            }
+        }
+        None
+    }
+
+    /// Drops exactly the held entries that have a component of their stamp above the frontier of its thread, and counts
+    /// those that stay held and those that it dropped. It takes no memory.
+    pub fn closed_part(&mut self) -> Kept
+        ensures closed { (t n : ℕ) (e : Entry) → (entry_at (lane self.new t) n ≡ Some e)
+            ↔ ((entry_at (lane self.old t) n ≡ Some e) × IsWithin self.old e.stamp) }
+        ensures covered { (t : ℕ) → (lane self.new t).covered ≡ (lane self.old t).covered }
+        ensures threads { length self.new ≡ length self.old }
+        ensures kept { result.kept ≡ held_count self.new }
+        ensures dropped { result.kept + result.dropped ≡ held_count self.old }
+    {
+        let frontiers = self.frontiers();
+        let dropped = retain_in_each(&mut self.lanes, &frontiers);
+        let kept = count_held(&self.lanes);
+        Kept { kept, dropped }
+    }
+}

@@ -1,0 +1,14 @@
+//! Log entries with their stamps, outputs, and the set of entries that a node holds.
+#![tactic(auto)]
+
+mod entry;
+mod held;
+mod lane;
+mod slots;
+
+pub use entry::{Added, Entry, Output, Outputs, Turn};
+pub use entry_order::What;
+pub use held::{Held, Kept};
+
+#[cfg(test)]
+mod tests;

@@ -1,0 +1,5 @@
+use Rattle.job_top.proofs.Deciding.{one_verdict}
+use Rattle.job_top.proofs.laws.one_verdict.Goals as goal
+
+pub returns : goal.returns
+returns c = λ names s r shown. one_verdict names shown s r

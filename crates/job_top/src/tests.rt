@@ -1,0 +1,287 @@
+ghost use Rattle.std.specs.Prelude.{◌≡◌, IfOk, length};
+
+use crate::{InputFault, Status, ftmb};
+use pcap_io::{CaptureCause, CaptureFault};
+use plain_text::{Bytes, Limit, LineCause, LineFault, NoMemory, Sequence, Text};
+use std::alloc::Global;
+use std::test::Fail;
+use world_io::MemoryWorld;
+
+/// The header of a capture as tcpdump writes it, with no packet behind it.
+const HEADER: &[u8] = b"\xd4\xc3\xb2\xa1\x02\0\x04\0\0\0\0\0\0\0\0\0\xff\xff\0\0\x01\0\0\0";
+
+/// The header of a capture as it is written here.
+const WRITTEN_HEADER: &[u8] = b"\xd4\xc3\xb2\xa1\x02\0\x04\0\0\0\0\0\0\0\0\0\0\0\x04\0\x01\0\0\0";
+
+/// A capture of one packet: UDP from 10.0.0.5:5000 to 198.51.100.7:53, without data.
+const ONE_PACKET: &[u8] =
+    b"\xd4\xc3\xb2\xa1\x02\0\x04\0\0\0\0\0\0\0\0\0\xff\xff\0\0\x01\0\0\0d\0\0\0\x05\0\0\0*\0\0\0*\0\0\0\x02\0\xaa\xaa\xaa\xaa\x02\0\0\0\0\x01\x08\0E\0\0\x1c\0\x01\0\0@\x11F\x91\n\0\0\x05\xc63d\x07\x13\x88\05\0\x08\xb7\xe1";
+
+/// What the counting box releases of it: its bytes 2 to 5 are the number 1.
+const ONE_RELEASED: &[u8] =
+    b"\xd4\xc3\xb2\xa1\x02\0\x04\0\0\0\0\0\0\0\0\0\0\0\x04\0\x01\0\0\0d\0\0\0\x05\0\0\0*\0\0\0*\0\0\0\x02\0\0\0\0\x01\x02\0\0\0\0\x01\x08\0E\0\0\x1c\0\x01\0\0@\x11F\x91\n\0\0\x05\xc63d\x07\x13\x88\05\0\x08\xb7\xe1";
+
+/// A big-endian capture in nanoseconds, of the first 14 bytes of a packet of 60.
+const BIG_NANO: &[u8] =
+    b"\xa1\xb2<M\0\x02\0\x04\0\0\0\0\0\0\0\0\0\0\xff\xff\0\0\0\x01\0\0\0\x01\0\0\0\x07\0\0\0\x0e\0\0\0<\x02\0\xaa\xaa\xaa\xaa\x02\0\0\0\0\x01\x08\x06";
+
+/// What the counting box releases of it.
+const BIG_NANO_RELEASED: &[u8] =
+    b"M<\xb2\xa1\x02\0\x04\0\0\0\0\0\0\0\0\0\0\0\x04\0\x01\0\0\0\x01\0\0\0\x07\0\0\0\x0e\0\0\0<\0\0\0\x02\0\0\0\0\x01\x02\0\0\0\0\x01\x08\x06";
+
+const ONE_REPORT: &[u8] = b"settle moves 4 released 1 epoch 1\ndone fed 1 epoch 1 released 1\n";
+
+/// The input files of a run, and what it comes to: its status, its outputs, where they are there, and its report.
+#[derive(Clone, Copy)]
+struct Case<'a> {
+    box_file: &'a [u8],
+    capture: &'a [u8],
+    script: &'a [u8],
+    status: Status,
+    released: Option<&'a [u8]>,
+    schedule: Option<&'a [u8]>,
+    report: &'a [u8],
+}
+
+/// One packet through the counting box.
+const ONE: Case<'static> = Case {
+    box_file: b"box count",
+    capture: ONE_PACKET,
+    script: b"settle",
+    status: Status::Done,
+    released: Some(ONE_RELEASED),
+    schedule: Some(b"0\n0\n0\n0\n"),
+    report: ONE_REPORT,
+};
+
+/// The same, but it ends before anything is created.
+const REFUSED: Case<'static> = Case {
+    released: None,
+    schedule: None,
+    report: b"",
+    ..ONE
+};
+
+/// A world with the input files of a case.
+fn world_of(alloc: Global, case: Case<'_>) -> Result<MemoryWorld, NoMemory>
+    ensures { IfOk result (λ world. length world.files ≡ 0) }
+{
+    let mut world = MemoryWorld::new(alloc)?;
+    world.add(&Text::of(alloc, "box")?, Bytes::of(alloc, case.box_file)?)?;
+    world.add(&Text::of(alloc, "in")?, Bytes::of(alloc, case.capture)?)?;
+    world.add(&Text::of(alloc, "script")?, Bytes::of(alloc, case.script)?)?;
+    Ok(world)
+}
+
+/// Whether the run comes to what the case says.
+fn comes_to(alloc: Global, world: &mut MemoryWorld, case: Case<'_>) -> Result<bool, NoMemory>
+    requires { length world.old.files ≡ 0 }
+{
+    let released = Text::of(alloc, "out")?;
+    let schedule = Text::of(alloc, "moves")?;
+    let words = [
+        Text::of(alloc, "run")?,
+        Text::of(alloc, "box")?,
+        Text::of(alloc, "in")?,
+        Text::of(alloc, "script")?,
+        Text::of(alloc, "out")?,
+        Text::of(alloc, "moves")?,
+    ];
+    let status = ftmb(alloc, &words, world);
+    Ok(
+        status == case.status
+            && world.bytes(&released) == case.released
+            && world.bytes(&schedule) == case.schedule
+            && world.report() == case.report,
+    )
+}
+
+fn holds(alloc: Global, case: Case<'_>) -> Result<bool, NoMemory> {
+    let mut world = world_of(alloc, case)?;
+    comes_to(alloc, &mut world, case)
+}
+
+/// Whether a run whose calls of writing fail at this one comes to what the case says.
+fn holds_where_writing_fails(alloc: Global, nth: u64, case: Case<'_>) -> Result<bool, NoMemory> {
+    let mut world = world_of(alloc, case)?;
+    world.fail_write(nth)?;
+    comes_to(alloc, &mut world, case)
+}
+
+/// Whether a run whose calls of reading fail at this one comes to what the case says.
+fn holds_where_reading_fails(alloc: Global, nth: u64, case: Case<'_>) -> Result<bool, NoMemory> {
+    let mut world = world_of(alloc, case)?;
+    world.fail_read(nth)?;
+    comes_to(alloc, &mut world, case)
+}
+
+/// What words come to in a world without files.
+fn answers(alloc: Global, words: &[&str]) -> Result<Status, NoMemory> {
+    let mut world = MemoryWorld::new(alloc)?;
+    let mut texts = Sequence::new(alloc);
+    for word in words {
+        texts.push(Text::of(alloc, word)?)?;
+    }
+    Ok(ftmb(alloc, texts.as_slice(), &mut world))
+}
+
+#[test]
+fn runs_the_counting_box(rt: HostRuntime) -> Result<(), Fail> {
+    let alloc = rt.alloc();
+    let cases = [
+        ONE,
+        Case {
+            box_file: b"# the box\r\n\r\n box\tcount\r\n\t# it counts\r\nthreads 01\r\nseed 18446744073709551615\n",
+            script: b"settle\n",
+            ..ONE
+        },
+        Case {
+            capture: HEADER,
+            released: Some(WRITTEN_HEADER),
+            schedule: Some(b""),
+            report: b"settle moves 0 released 0 epoch 1\ndone fed 0 epoch 1 released 0\n",
+            ..ONE
+        },
+        Case {
+            capture: BIG_NANO,
+            released: Some(BIG_NANO_RELEASED),
+            ..ONE
+        },
+    ];
+    for case in cases {
+        assert!(rt; holds(alloc, case)?);
+    }
+    Ok(())
+}
+
+#[test]
+fn judges_the_inputs_in_their_order(rt: HostRuntime) -> Result<(), Fail> {
+    let alloc = rt.alloc();
+    let out_of_range = Status::BadInput(InputFault::BoxFile(LineFault {
+        line: 2,
+        cause: LineCause::OutOfRange,
+    }));
+    let short_record = Status::BadInput(InputFault::Capture(CaptureFault {
+        offset: 24,
+        cause: CaptureCause::ShortRecord,
+    }));
+    let cases = [
+        Case {
+            box_file: b"box count\nthreads 17",
+            capture: &ONE_PACKET[..30],
+            status: out_of_range,
+            ..REFUSED
+        },
+        Case {
+            capture: &ONE_PACKET[..30],
+            script: b"stop 1",
+            status: short_record,
+            ..REFUSED
+        },
+        Case {
+            script: b"stop 1",
+            status: Status::NotBuilt,
+            ..REFUSED
+        },
+        Case {
+            box_file: b"box count\nthreads 2",
+            status: Status::NotBuilt,
+            ..REFUSED
+        },
+    ];
+    for case in cases {
+        assert!(rt; holds(alloc, case)?);
+    }
+    Ok(())
+}
+
+#[test]
+fn names_what_failed(rt: HostRuntime) -> Result<(), Fail> {
+    let alloc = rt.alloc();
+    let read_fault = Case {
+        status: Status::ReadFault,
+        ..REFUSED
+    };
+    let write_fault = Case {
+        status: Status::WriteFault,
+        ..REFUSED
+    };
+    assert!(rt; holds_where_reading_fails(alloc, 1, read_fault)?);
+    assert!(rt; holds_where_reading_fails(alloc, 9, read_fault)?);
+    assert!(rt; holds_where_writing_fails(alloc, 1, write_fault)?);
+    let empty = Case {
+        released: Some(b""),
+        ..write_fault
+    };
+    assert!(rt; holds_where_writing_fails(alloc, 2, empty)?);
+    let unreported = Case {
+        status: Status::WriteFault,
+        report: b"",
+        ..ONE
+    };
+    assert!(rt; holds_where_writing_fails(alloc, 6, unreported)?);
+    Ok(())
+}
+
+#[test]
+fn refuses_other_words(rt: HostRuntime) -> Result<(), Fail> {
+    let alloc = rt.alloc();
+    assert_eq!(rt; answers(alloc, &[])?, Status::BadWords);
+    assert_eq!(rt; answers(alloc, &["run"])?, Status::BadWords);
+    assert_eq!(rt;
+        answers(alloc, &["run", "b", "c", "s", "o", "o"])?,
+        Status::BadWords
+    );
+    assert_eq!(rt;
+        answers(alloc, &["run", "b", "c", "s", "o", "m", "x"])?,
+        Status::BadWords
+    );
+    assert_eq!(rt;
+        answers(alloc, &["ran", "b", "c", "s", "o", "m"])?,
+        Status::BadWords
+    );
+    assert_eq!(rt;
+        answers(alloc, &["run", "b", "c", "s", "o", "m"])?,
+        Status::ReadFault
+    );
+    Ok(())
+}
+
+#[test]
+fn stops_at_too_many_packets(rt: HostRuntime) -> Result<(), Fail> {
+    let alloc = rt.alloc();
+    let mut capture = Bytes::of(alloc, HEADER)?;
+    for _ in 0..65_537 {
+        capture.extend(&[0; 16])?;
+    }
+    let case = Case {
+        capture: capture.as_slice(),
+        status: Status::TooLarge(Limit::Packets),
+        ..REFUSED
+    };
+    assert!(rt; holds(alloc, case)?);
+    Ok(())
+}
+
+#[test]
+fn says_its_status(rt: HostRuntime) -> Result<(), Fail> {
+    let fault = Status::BadInput(InputFault::Capture(CaptureFault {
+        offset: 24,
+        cause: CaptureCause::ShortRecord,
+    }));
+    let texts = [
+        (Status::Done, "done", 0),
+        (Status::BadWords, "bad words", 2),
+        (Status::ReadFault, "read fault", 3),
+        (Status::WriteFault, "write fault", 4),
+        (Status::NoMemory, "no memory", 5),
+        (fault, "bad input: capture: offset 24: short record", 6),
+        (Status::TooLarge(Limit::Packets), "too large: packets", 7),
+        (Status::NotBuilt, "not built", 8),
+    ];
+    for (status, text, code) in texts {
+        assert_eq!(rt; status.exit_code(), code);
+        assert_eq!(rt; format!(in rt.alloc(); "{status}")?.as_str(), text);
+    }
+    Ok(())
+}

@@ -1,0 +1,172 @@
+ghost use Rattle.std.specs.Prelude.{◌+◌, ◌<◌, ◌≤◌, ◌^◌};
+ghost use Rattle.plain_player.specs.Hands.{FitsProgram};
+
+use crate::{MoveError, Player, put_schedule};
+use box_program::{CountBox, PeekBox, Program};
+use plain_machine::{Emission, PlainMove, PlayCause, Schedule};
+use plain_text::{Bytes, NoMemory, Packet};
+use std::alloc::Global;
+use std::test::Fail;
+
+/// What a player tells of a move.
+#[derive(Clone, Copy, Debug, PartialEq, Eq)]
+enum Told {
+    Nothing,
+    /// The number of the packet that was sent out, that of its input, and the byte that ends the number written into it.
+    Sent(u64, u64, Option<u8>),
+    Illegal(PlayCause),
+    NoMemory,
+}
+
+/// A packet of so many bytes, each of them 9.
+fn packet_of(alloc: Global, length: usize) -> Result<Packet, NoMemory> {
+    Ok(Packet {
+        seconds: 1,
+        fraction: 2,
+        original: 60,
+        bytes: Bytes::from_vec(vec![in alloc; 9u8; length]?),
+    })
+}
+
+/// Makes a move of a thread, with the packet in hand or the next input.
+fn moves<P: Program>(
+    alloc: Global,
+    player: &mut Player<P::Value>,
+    program: &P,
+    plain: PlainMove,
+    input: &Packet,
+) -> Told
+    requires program { FitsProgram (P.meaning program.now) (P.fits program.now) player.old.values }
+    requires room { player.old.made + 1 < 2 ^ 64 }
+    ensures fits { FitsProgram (P.meaning program.now) (P.fits program.now) player.new.values }
+    ensures made { player.new.made ≤ player.old.made + 1 }
+{
+    told_of(player.step(alloc, program, plain, Some(input)))
+}
+
+/// Makes a move of a thread that has no packet in hand and no further input; None where it has one in hand.
+fn moves_without_input<P: Program>(
+    alloc: Global,
+    player: &mut Player<P::Value>,
+    program: &P,
+    plain: PlainMove,
+) -> Option<Told>
+    requires program { FitsProgram (P.meaning program.now) (P.fits program.now) player.old.values }
+    requires room { player.old.made + 1 < 2 ^ 64 }
+{
+    if player.in_hand(plain.thread) {
+        None
+    } else {
+        Some(told_of(player.step(alloc, program, plain, None)))
+    }
+}
+
+fn told_of(made: Result<Option<Emission>, MoveError>) -> Told {
+    match made {
+        Ok(None) => Told::Nothing,
+        Ok(Some(sent)) => Told::Sent(
+            sent.number,
+            sent.input,
+            sent.packet.bytes.as_slice().get(5).copied(),
+        ),
+        Err(MoveError::Illegal(cause)) => Told::Illegal(cause),
+        Err(MoveError::NoMemory) => Told::NoMemory,
+    }
+}
+
+/// A move that is told nothing.
+fn silent(thread: u32) -> PlainMove {
+    PlainMove {
+        thread,
+        answer: None,
+    }
+}
+
+#[test]
+fn two_threads_count(rt: HostRuntime) -> Result<(), Fail> {
+    let alloc = rt.alloc();
+    let program = CountBox::new();
+    let packet = packet_of(alloc, 42)?;
+    let mut player = Player::fresh(alloc, &program, 2)?;
+    let told = [
+        moves(alloc, &mut player, &program, silent(1), &packet),
+        moves(alloc, &mut player, &program, silent(1), &packet),
+        moves(alloc, &mut player, &program, silent(0), &packet),
+        moves(alloc, &mut player, &program, silent(0), &packet),
+    ];
+    assert_eq!(rt; told, [Told::Nothing; 4]);
+    let sent = [
+        moves(alloc, &mut player, &program, silent(0), &packet),
+        moves(alloc, &mut player, &program, silent(1), &packet),
+    ];
+    assert_eq!(rt;
+        sent,
+        [Told::Sent(1, 1, Some(2)), Told::Sent(1, 1, Some(1))]
+    );
+    assert!(rt; player.in_hand(0));
+    let _end = moves(alloc, &mut player, &program, silent(0), &packet);
+    assert!(rt; !player.in_hand(0));
+    Ok(())
+}
+
+#[test]
+fn a_read_finds_the_number(rt: HostRuntime) -> Result<(), Fail> {
+    let alloc = rt.alloc();
+    let program = PeekBox::new();
+    let even = packet_of(alloc, 6)?;
+    let odd = packet_of(alloc, 7)?;
+    let mut player = Player::fresh(alloc, &program, 2)?;
+    let told = [
+        moves(alloc, &mut player, &program, silent(0), &even),
+        moves(alloc, &mut player, &program, silent(0), &even),
+        moves(alloc, &mut player, &program, silent(1), &odd),
+        moves(alloc, &mut player, &program, silent(1), &odd),
+        moves(alloc, &mut player, &program, silent(1), &odd),
+    ];
+    assert_eq!(rt; told[4], Told::Sent(1, 1, Some(1)));
+    Ok(())
+}
+
+#[test]
+fn names_why_a_move_is_none(rt: HostRuntime) -> Result<(), Fail> {
+    let alloc = rt.alloc();
+    let program = CountBox::new();
+    let packet = packet_of(alloc, 42)?;
+    let mut player = Player::fresh(alloc, &program, 2)?;
+    let answered = PlainMove {
+        thread: 1,
+        answer: Some(7),
+    };
+    let told = [
+        moves(alloc, &mut player, &program, silent(2), &packet),
+        moves(alloc, &mut player, &program, answered, &packet),
+        moves(alloc, &mut player, &program, silent(1), &packet),
+        moves(alloc, &mut player, &program, answered, &packet),
+    ];
+    assert_eq!(rt;
+        told,
+        [
+            Told::Illegal(PlayCause::NoSuchThread),
+            Told::Illegal(PlayCause::UnwantedAnswer),
+            Told::Nothing,
+            Told::Illegal(PlayCause::UnwantedAnswer),
+        ]
+    );
+    let nothing = moves_without_input(alloc, &mut player, &program, silent(0));
+    assert_eq!(rt; nothing, Some(Told::Illegal(PlayCause::NothingToTake)));
+    Ok(())
+}
+
+#[test]
+fn puts_a_schedule(rt: HostRuntime) -> Result<(), Fail> {
+    let alloc = rt.alloc();
+    let mut schedule = Schedule::new(alloc);
+    schedule.push(silent(0))?;
+    schedule.push(PlainMove {
+        thread: 1,
+        answer: Some(5),
+    })?;
+    let text = put_schedule(alloc, &schedule)?;
+    assert_eq!(rt; text.as_slice(), b"0\n1 = 5\n".as_slice());
+    Ok(())
+}

@@ -1,0 +1,125 @@
+ghost use Rattle.std.specs.Prelude.{◌≡◌, ℕ, ◌+◌, ◌-◌, ◌^◌, ◌<◌, ◌≤◌, ◌↔◌, IsTrue, length, replicate, sum, slice_index, slice_set};
+ghost use Rattle.thread_clock.specs.Clock.{AtMost, IsJoin};
+
+use std::marker::Model;
+
+/// The most threads that a job may have, and so the components of a stamp.
+pub const THREADS: usize = 16;
+
+/// For each of 16 threads a count of its entries. Contracts see a stamp as the list of its 16 components.
+#[derive(Clone, Copy, Debug, PartialEq, Eq)]
+pub struct Stamp {
+    components: [u64; 16],
+}
+
+impl Model for Stamp {
+    ghost use Rattle.std.specs.Prelude.{List, ℕ};
+
+    ghost Value = { List ℕ };
+
+    ghost view = { λ s. s.components };
+
+    ghost inverse = { λ list. record { components = list } };
+}
+
+impl Stamp {
+    /// The stamp with these components.
+    pub fn new(components: [u64; 16]) -> Self
+        ensures { result ≡ components }
+    {
+        Stamp { components }
+    }
+
+    /// The stamp whose components all are 0.
+    pub fn zero() -> Self
+        ensures { result ≡ replicate 16 0 }
+    {
+        Stamp {
+            components: [0; 16],
+        }
+    }
+
+    /// The components, that of thread 0 first.
+    pub fn components(&self) -> &[u64; 16]
+        ensures value { result.now ≡ self.now }
+        ensures all { length self.now ≡ 16 }
+    {
+        &self.components
+    }
+
+    /// The component of one thread.
+    pub fn get(&self, thread: u32) -> u64
+        requires { thread < 16 }
+        ensures { result ≡ slice_index self.now thread }
+    {
+        self.components[thread as usize]
+    }
+
+    /// Raises each component to that of the other stamp, where that is greater.
+    pub fn join(&mut self, other: &Stamp)
+        ensures joined { IsJoin self.old other.now self.new }
+        ensures all { length self.new ≡ 16 }
+    {
+        for i in 0..THREADS {
+            self.components[i] = self.components[i].max(other.components[i]);
+        }
+    }
+
+    /// Whether no component is above that of the other stamp.
+    pub fn at_most(&self, other: &Stamp) -> bool
+        ensures { IsTrue result ↔ AtMost self.now other.now }
+    {
+        for i in 0..THREADS {
+            if self.components[i] > other.components[i] {
+                return false;
+            }
+        }
+        true
+    }
+
+    /// The sum of the components.
+    pub fn weight(&self) -> u128
+        ensures summed { result ≡ sum self.now }
+        ensures all { length self.now ≡ 16 }
+    {
+        let mut weight = 0;
+        for component in &self.components {
+            weight += u128::from(*component);
+        }
+        weight
+    }
+
+    /// Adds 1 to the component of one thread.
+    pub fn bump(&mut self, thread: u32)
+        requires thread_in { thread < 16 }
+        requires room { slice_index self.old thread < 2 ^ 64 - 1 }
+        ensures { self.new ≡ slice_set self.old thread (slice_index self.old thread + 1) }
+    {
+        self.components[thread as usize] += 1;
+    }
+}
+
+#[cfg(test)]
+mod tests {
+    use super::*;
+
+    /// Two threads count: thread 1 makes its touch, then thread 0.
+    #[test]
+    fn two_threads_count(rt: HostRuntime) {
+        let mut first = Stamp::zero();
+        first.bump(1);
+        let mut second = Stamp::zero();
+        second.join(&first);
+        second.bump(0);
+        let mut expected = [0; 16];
+        expected[1] = 1;
+        assert_eq!(rt; first.components().as_slice(), expected.as_slice());
+        expected[0] = 1;
+        assert_eq!(rt; second.components().as_slice(), expected.as_slice());
+        assert_eq!(rt; Stamp::new(expected), second);
+        assert_eq!(rt; second.weight(), 2);
+        assert_eq!(rt; second.get(2), 0);
+        assert!(rt; first.at_most(&second));
+        assert!(rt; !second.at_most(&first));
+    }
+}
