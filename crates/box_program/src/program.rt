@@ -1,6 +1,6 @@
-ghost use Rattle.std.specs.Prelude.{◌≡◌, ◌<◌, ◌⊎◌, ℕ, IfOk, OnOk, OnErr};
+ghost use Rattle.std.specs.Prelude.{◌≡◌, ◌<◌, ℕ, IfOk, OnOk, OnErr};
 ghost use Rattle.plain_machine.specs.Program.{Meaning, IsLawful};
-ghost use Rattle.plain_machine.specs.declared.local.Move.TheVariants.{Access, Read, Clock, Draw, Emit};
+ghost use Rattle.plain_machine.specs.declared.local.Move.TheVariants.{Access, Emit};
 
 use plain_machine::{Local, Move};
 use plain_text::{Bytes, NoMemory, Packet, Text};
@@ -51,15 +51,13 @@ pub trait Program: Drop {
         ensures value_stays { OnErr result (value.new ≡ value.old) }
         ensures local_stays { OnErr result (local.new ≡ local.old) };
 
-    /// Makes the read that is next. It takes no memory.
+    /// Makes a read, which takes no memory. A program that never reads is not asked for one.
     fn look(&self, var: u32, value: &Self::Value, local: &mut Local)
-        requires next { (meaning self.now).next local.old ≡ Read var }
         requires fits { fits self.now var value.now }
         ensures { local.new ≡ (meaning self.now).look var value.now local.old };
 
-    /// Tells the time, in microseconds, or the random word that is asked for.
+    /// Tells the time, in microseconds, or the random word that was asked for. A program that never asks is told nothing.
     fn told(&self, answer: u64, local: &mut Local)
-        requires { ((meaning self.now).next local.old ≡ Clock) ⊎ ((meaning self.now).next local.old ≡ Draw) }
         ensures { local.new ≡ (meaning self.now).told answer local.old };
 
     /// Goes on after the packet was sent out.
