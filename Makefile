@@ -22,9 +22,9 @@ build/bench_headers: $(SOURCES)
 test:
 	$(RT) ci
 
-# Runs a box on two packets, and shows what was written.
+# Runs a box on a packet, the one of the program's stored run, and shows what was written.
 example: build/ftmb
-	scripts/example build/ftmb build/example
+	scripts/example build/ftmb crates/ftmb/data build/example
 
 # The bytes summed and the frames rewritten in a second, and the packets run in a second beside cat of the same file.
 bench: build/bench_headers build/ftmb
