@@ -15,12 +15,12 @@ use Rattle.input_logger.specs.Inputs.{Fed, thread_of_view, thread_of, inputs_of,
 use Rattle.input_logger.specs.Places.{ArePlacesOf, IsIndexed}
 
 -- what is found in a list is found in a longer one
-slice_get-append : {X : Type 0} (xs more : List X) (k : ℕ) (x : X) → slice_get xs k ≡ Some x → slice_get (xs ++ more) k ≡ Some x
+pub slice_get-append : {X : Type 0} (xs more : List X) (k : ℕ) (x : X) → slice_get xs k ≡ Some x → slice_get (xs ++ more) k ≡ Some x
 slice_get-append [] more k x found = cc
 slice_get-append (y ∷ ys) more zero x found = found
 slice_get-append (y ∷ ys) more (suc k) x found = slice_get-append ys more k x found
 
-slice_get_last : {X : Type 0} (xs : List X) (x : X) → slice_get (xs ++ x ∷ []) (length xs) ≡ Some x
+pub slice_get_last : {X : Type 0} (xs : List X) (x : X) → slice_get (xs ++ x ∷ []) (length xs) ≡ Some x
 slice_get_last [] x = refl
 slice_get_last (y ∷ ys) x = slice_get_last ys x
 
@@ -47,12 +47,12 @@ other_number : (m n : ℕ) → n ≢ m → (m == n) ≡ false
 other_number m n other = grind (arith, nat_tests)
 
 -- the inputs of the packet's own thread, and of another
-own_inputs : (log : Fed) (packet : Packet) (thread : ℕ) → thread ≡ thread_of packet log.threads → inputs_of (with_packet log packet) thread ≡ inputs_of log thread ++ packet ∷ []
+pub own_inputs : (log : Fed) (packet : Packet) (thread : ℕ) → thread ≡ thread_of packet log.threads → inputs_of (with_packet log packet) thread ≡ inputs_of log thread ++ packet ∷ []
 own_inputs log packet thread own =
     filter-append (λ p. thread_of p log.threads == thread) log.packets (packet ∷ [])
     ∙ ap (λ (b : Bool). inputs_of log thread ++ cond b (packet ∷ []) []) (same_number (thread_of packet log.threads) thread own)
 
-other_inputs : (log : Fed) (packet : Packet) (thread : ℕ) → thread ≢ thread_of packet log.threads → inputs_of (with_packet log packet) thread ≡ inputs_of log thread
+pub other_inputs : (log : Fed) (packet : Packet) (thread : ℕ) → thread ≢ thread_of packet log.threads → inputs_of (with_packet log packet) thread ≡ inputs_of log thread
 other_inputs log packet thread other =
     filter-append (λ p. thread_of p log.threads == thread) log.packets (packet ∷ [])
     ∙ ap (λ (b : Bool). inputs_of log thread ++ cond b (packet ∷ []) []) (other_number (thread_of packet log.threads) thread other)

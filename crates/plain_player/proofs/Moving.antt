@@ -16,8 +16,9 @@ use Rattle.plain_machine.specs.declared.emission.Emission.{Emission}
 use Rattle.plain_player.specs.declared.hand.HandMove.{HandMove}
 use Rattle.plain_player.specs.declared.hand.MoveError.{MoveError}
 use Rattle.plain_player.specs.declared.hand.MoveError.TheVariants as error
-use Rattle.plain_player.specs.Hands.{HasValues, FitsProgram, place_of, values_after, sent_by, with_bytes, IsHandMove, MakesHandMove, PlaysHand, seat_after}
-use Rattle.plain_player.specs.Playing.{Playing, IsSeat, Stands, input_for, Follows}
+use Rattle.plain_player.specs.Hands.{HasValues, FitsProgram, values_after, sent_by, with_bytes, IsHandMove, MakesHandMove, PlaysHand, seat_after}
+use Rattle.plain_player.specs.Playing.{Playing, IsSeat, Stands, Follows}
+use Rattle.box_program.specs.Hands.{place_of, input_for}
 
 is_or : (a b : ℕ) → (a ≡ b) ⊎ (a ≢ b)
 is_or a b = go (eqb_tells a b)

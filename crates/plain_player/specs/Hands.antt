@@ -1,6 +1,7 @@
 -- What a player does with the packet in hand.
 use Rattle.std.specs.Prelude.{◌≡◌, ℕ, ◌+◌, ◌<◌, List, length, Option, Some, None, option_map, slice_index_or, slice_set, Result, Ok, Err}
 use Rattle.plain_text.specs.declared.packet.Packet.{Packet}
+use Rattle.box_program.specs.Hands.{place_of}
 use Rattle.plain_machine.specs.declared.local.Local.{Local}
 use Rattle.plain_machine.specs.Program.{Meaning}
 use Rattle.plain_machine.specs.Machine.{Hand, Thread, Deed, Takes, Touches, Looks, HearsClock, HearsDraw, Sends, Ends, Moved, Moves, Illegal}
@@ -18,11 +19,6 @@ HasValues {V} count values value = (v : ℕ) (d : V) → v < count → slice_ind
 pub record FitsProgram {V : Type 0} (m : Meaning V) (fits : ℕ → V → Type 0) (values : List V) : Type 0 where
   pub count : length values ≡ m.vars
   pub fit : (v : ℕ) (d : V) → v < m.vars → fits v (slice_index_or values v d)
-
--- the place of a thread's packet in hand
-abbrev pub place_of : Option Hand → Option Local
-place_of None = None
-place_of (Some h) = Some h.place
 
 abbrev pub values_after : {V : Type 0} → List V → Deed V → List V
 values_after values Takes = values

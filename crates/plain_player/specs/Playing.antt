@@ -11,7 +11,8 @@ use Rattle.plain_machine.specs.History.{Step, value_after, thread_after, sent_of
 use Rattle.plain_player.specs.declared.seat.Seat.{Seat}
 use Rattle.plain_player.specs.declared.hand.MoveError.{MoveError}
 use Rattle.plain_player.specs.declared.hand.MoveError.TheVariants as error
-use Rattle.plain_player.specs.Hands.{HasValues, FitsProgram, place_of}
+use Rattle.box_program.specs.Hands.{place_of, input_for}
+use Rattle.plain_player.specs.Hands.{HasValues, FitsProgram}
 
 -- what a player has: the values of the variables, the threads, and how many moves it made
 pub record Playing (V : Type 0) : Type 0 where
@@ -51,11 +52,6 @@ rank_of m (Some place) = m.rank place + 1
 -- how many moves the thread makes at most until it has ended the packet in hand
 abbrev pub moves_left : {V : Type 0} → Meaning V → Playing V → ℕ → ℕ
 moves_left m p t = rank_of m (hand_of (slice_get p.seats t))
-
--- the packet that a move of a thread with these inputs is made with: the one in hand, else the next input, if there is one
-abbrev pub input_for : List Packet → ℕ → Option Hand → Option Packet
-input_for packets taken None = slice_get packets taken
-input_for packets taken (Some h) = Some h.packet
 
 -- A call made the move of the definition and sent what it sends, or named the cause by which it is none.
 abbrev pub Follows : {V : Type 0} → Meaning V → (ℕ → List Packet) → ℕ → List (Step V) → PlainMove → Result (Option Emission) MoveError → Playing V → Type 0

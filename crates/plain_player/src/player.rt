@@ -3,7 +3,8 @@ ghost use Rattle.plain_text.specs.declared.packet.Packet as packet_of;
 ghost use Rattle.plain_machine.specs.History.{Step, thread_after};
 ghost use Rattle.plain_player.specs.Hands.{FitsProgram, HasValues, TakesInput, seat_after};
 ghost use Rattle.plain_machine.specs.Machine.{take_move};
-ghost use Rattle.plain_player.specs.Playing.{Stands, Follows, has_hand, moves_left, input_for};
+ghost use Rattle.box_program.specs.Hands.{input_for};
+ghost use Rattle.plain_player.specs.Playing.{Stands, Follows, has_hand, moves_left};
 
 use crate::hand::{HandMove, MoveError, play_hand};
 use crate::seat::Seat;
