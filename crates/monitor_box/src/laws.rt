@@ -1,0 +1,19 @@
+//! The laws of the box's runs. Each is proved, and does nothing: a caller has it by the call.
+ghost use Rattle.monitor_box.specs.Sums.{InEachRun, PacketsMatch, BytesMatch, PacketsAreSum, BytesAreSum, IsAtRest};
+ghost use Rattle.monitor_box.specs.Standing.{FlowsStand};
+
+/// After each move of each run, whatever its threads, its inputs and the order of its moves, the totals are the sum over all
+/// flows of all tables, but for the packets that have touched their flow's table and not yet the totals. So where no packet
+/// is in hand, they are that sum. All is modulo 2^64.
+pub fn totals_match_flows()
+    ensures packets { InEachRun PacketsMatch }
+    ensures bytes { InEachRun BytesMatch }
+    ensures packets_at_rest { InEachRun (λ tables threads steps. IsAtRest threads steps → PacketsAreSum tables steps) }
+    ensures bytes_at_rest { InEachRun (λ tables threads steps. IsAtRest threads steps → BytesAreSum tables steps) }
+{}
+
+/// After each move of each run on packets of bytes, each flow of a table is one whose own sum tells this table, so that no
+/// flow stands in two tables.
+pub fn flows_stand_by_their_sums()
+    ensures { FlowsStand }
+{}

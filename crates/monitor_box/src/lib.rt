@@ -1,0 +1,19 @@
+//! The box `monitor`, which counts packets and bytes by flow in tables that all threads share.
+#![tactic(auto)]
+
+mod counts;
+mod laws;
+mod monitor;
+mod program;
+mod showing;
+mod table;
+mod value;
+
+pub use counts::{FlowCount, FlowKey, Totals};
+pub use laws::{flows_stand_by_their_sums, totals_match_flows};
+pub use monitor::MonitorBox;
+pub use table::FlowTable;
+pub use value::MonitorValue;
+
+#[cfg(test)]
+mod tests;
