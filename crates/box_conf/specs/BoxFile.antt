@@ -1,4 +1,5 @@
--- The grammar of box files, line by line. The first line that counts names the kind; each later one sets a number, once.
+-- The grammar of box files, line by line. The first line that counts names the kind; each later one sets a number, once, and a line
+-- of another kind of box is unknown.
 use Rattle.std.specs.Prelude.{◌≡◌, ℕ, ◌+◌, ◌-◌, ◌^◌, List, [], ◌∷◌, length, codes, if◌then◌else◌, unwrap_or, is_some, Option, Some, None, Result, Ok, Err}
 use Rattle.std.specs.Str.{bytes_eq}
 use Rattle.std.specs.Str.Lines.{lines}
@@ -11,7 +12,10 @@ use Rattle.box_conf.specs.declared.conf.ConfError.{ConfError}
 use Rattle.box_conf.specs.declared.conf.ConfError.TheVariants as error
 use Rattle.box_conf.specs.declared.kind.BoxConf.{BoxConf}
 use Rattle.box_conf.specs.declared.kind.BoxKind.{BoxKind}
-use Rattle.box_conf.specs.declared.kind.BoxKind.TheVariants.{Count}
+use Rattle.box_conf.specs.declared.kind.BoxKind.TheVariants.{Count, Monitor}
+use Rattle.box_conf.specs.declared.kind_word.KindWord.{KindWord}
+use Rattle.box_conf.specs.declared.kind_word.KindWord.TheVariants as kind
+use Rattle.monitor_box.specs.Boxes.{box_with}
 use Rattle.box_conf.specs.declared.keywords.Keyword.{Keyword}
 use Rattle.box_conf.specs.declared.keywords.Keyword.TheVariants as keyword
 use Rattle.box_conf.specs.Keywords.{keyword_of}
@@ -19,27 +23,31 @@ use Rattle.box_conf.specs.declared.settings.Settings.{Settings}
 use Rattle.box_conf.specs.Settings.{number_line}
 
 -- the kinds of boxes
-abbrev pub kind_of : List ℕ → Option BoxKind
-kind_of word = if bytes_eq word (codes "count") then Some (Count (record {})) else None
+abbrev pub kind_of : List ℕ → Option KindWord
+kind_of word =
+    if bytes_eq word (codes "count") then Some kind.Count
+    else if bytes_eq word (codes "monitor") then Some kind.Monitor
+    else None
 
-abbrev pub and_end : Option BoxKind → Result (List ℕ) LineCause → Result BoxKind LineCause
+abbrev pub and_end : Option KindWord → Result (List ℕ) LineCause → Result KindWord LineCause
 and_end None end = Err UnknownWord
-and_end (Some kind) (Ok numbers) = Ok kind
-and_end (Some kind) (Err cause) = Err cause
+and_end (Some k) (Ok numbers) = Ok k
+and_end (Some k) (Err cause) = Err cause
 
 -- the words after `box`
-abbrev pub box_line : List (List ℕ) → Result BoxKind LineCause
+abbrev pub box_line : List (List ℕ) → Result KindWord LineCause
 box_line [] = Err MissingWord
 box_line (word ∷ words) = and_end (kind_of word) (fields_of [] words)
 
-abbrev pub first_by : Keyword → List (List ℕ) → Result BoxKind LineCause
+abbrev pub first_by : Keyword → List (List ℕ) → Result KindWord LineCause
 first_by keyword.Box words = box_line words
 first_by keyword.Threads words = Err UnknownWord
 first_by keyword.Seed words = Err UnknownWord
+first_by keyword.Shards words = Err UnknownWord
 first_by keyword.Unknown words = Err UnknownWord
 
 -- the first line names the kind
-abbrev pub first_line : List (List ℕ) → Result BoxKind LineCause
+abbrev pub first_line : List (List ℕ) → Result KindWord LineCause
 first_line [] = Err UnknownWord
 first_line (word ∷ words) = first_by (keyword_of word) words
 
@@ -51,45 +59,60 @@ abbrev pub set_seed : Settings → Result ℕ LineCause → Result Settings Line
 set_seed s (Ok n) = Ok (record s { seed = Some n })
 set_seed s (Err cause) = Err cause
 
+abbrev pub set_shards : Settings → Result ℕ LineCause → Result Settings LineCause
+set_shards s (Ok n) = Ok (record s { shards = Some n })
+set_shards s (Err cause) = Err cause
+
+-- the line `shards`, of the kinds that have tables
+abbrev pub shards_line : KindWord → Settings → List (List ℕ) → Result Settings LineCause
+shards_line kind.Count s words = Err UnknownWord
+shards_line kind.Monitor s words = set_shards s (number_line 1 64 (is_some s.shards) words)
+
 -- a second line that names a kind
-abbrev pub second_box : Result BoxKind LineCause → Result Settings LineCause
-second_box (Ok kind) = Err Twice
+abbrev pub second_box : Result KindWord LineCause → Result Settings LineCause
+second_box (Ok k) = Err Twice
 second_box (Err cause) = Err cause
 
 -- a row for each word that may begin a later line
-abbrev pub set_by : Settings → Keyword → List (List ℕ) → Result Settings LineCause
-set_by s keyword.Box words = second_box (box_line words)
-set_by s keyword.Threads words = set_threads s (number_line 1 16 (is_some s.threads) words)
-set_by s keyword.Seed words = set_seed s (number_line 0 (2 ^ 64 - 1) (is_some s.seed) words)
-set_by s keyword.Unknown words = Err UnknownWord
+abbrev pub set_by : KindWord → Settings → Keyword → List (List ℕ) → Result Settings LineCause
+set_by k s keyword.Box words = second_box (box_line words)
+set_by k s keyword.Threads words = set_threads s (number_line 1 16 (is_some s.threads) words)
+set_by k s keyword.Seed words = set_seed s (number_line 0 (2 ^ 64 - 1) (is_some s.seed) words)
+set_by k s keyword.Shards words = shards_line k s words
+set_by k s keyword.Unknown words = Err UnknownWord
 
 -- the settings after a later line with these words
-abbrev pub set_line : Settings → List (List ℕ) → Result Settings LineCause
-set_line s [] = Err UnknownWord
-set_line s (word ∷ words) = set_by s (keyword_of word) words
+abbrev pub set_line : KindWord → Settings → List (List ℕ) → Result Settings LineCause
+set_line k s [] = Err UnknownWord
+set_line k s (word ∷ words) = set_by k s (keyword_of word) words
 
 abbrev pub fault_at : ℕ → LineCause → LineFault
 fault_at line cause = record { line = line; cause = cause }
 
 -- the settings after these lines, each with its number, or the first fault
-abbrev pub set_lines : Settings → List (ℕ × List ℕ) → Result Settings LineFault
-set_lines s [] = Ok s
-set_lines s (line ∷ lines) = and_lines (set_line s (words_of line.1)) (λ next. set_lines next lines)
+abbrev pub set_lines : KindWord → Settings → List (ℕ × List ℕ) → Result Settings LineFault
+set_lines k s [] = Ok s
+set_lines k s (line ∷ lines) = and_lines (set_line k s (words_of line.1)) (λ next. set_lines k next lines)
   where
     and_lines : Result Settings LineCause → (Settings → Result Settings LineFault) → Result Settings LineFault
     and_lines (Ok next) more = more next
     and_lines (Err cause) more = Err (fault_at line.0 cause)
 
 abbrev pub no_settings : Settings
-no_settings = record { threads = None; seed = None }
+no_settings = record { threads = None; seed = None; shards = None }
+
+-- the box of a kind with these settings; it has 16 tables where none are set
+abbrev pub kind_with : KindWord → Settings → BoxKind
+kind_with kind.Count s = Count (record {})
+kind_with kind.Monitor s = Monitor (box_with (unwrap_or s.shards 16))
 
 -- what the settings come to; what is not set has its default
-abbrev pub conf_of : BoxKind → Result Settings LineFault → Result BoxConf LineFault
-conf_of kind (Ok s) = Ok (record { threads = unwrap_or s.threads 1; seed = unwrap_or s.seed 0; kind = kind })
-conf_of kind (Err fault) = Err fault
+abbrev pub conf_of : KindWord → Result Settings LineFault → Result BoxConf LineFault
+conf_of k (Ok s) = Ok (record { threads = unwrap_or s.threads 1; seed = unwrap_or s.seed 0; kind = kind_with k s })
+conf_of k (Err fault) = Err fault
 
-abbrev pub and_kind : ℕ → Result BoxKind LineCause → List (ℕ × List ℕ) → Result BoxConf LineFault
-and_kind line (Ok kind) lines = conf_of kind (set_lines no_settings lines)
+abbrev pub and_kind : ℕ → Result KindWord LineCause → List (ℕ × List ℕ) → Result BoxConf LineFault
+and_kind line (Ok k) lines = conf_of k (set_lines k no_settings lines)
 and_kind line (Err cause) lines = Err (fault_at line cause)
 
 -- the lines that count, of a file with so many lines

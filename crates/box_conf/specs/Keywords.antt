@@ -9,4 +9,5 @@ keyword_of word =
     if bytes_eq word (codes "box") then keyword.Box
     else if bytes_eq word (codes "threads") then keyword.Threads
     else if bytes_eq word (codes "seed") then keyword.Seed
+    else if bytes_eq word (codes "shards") then keyword.Shards
     else keyword.Unknown

@@ -1,11 +1,14 @@
-ghost use Rattle.std.specs.Prelude.{◌≡◌, Ok, Err, IfOk, IfErr, OnErr};
+ghost use Rattle.std.specs.Prelude.{◌≡◌, ◌≤◌, Ok, Err, IfOk, IfErr, OnErr};
 ghost use Rattle.plain_text.specs.Lines.{words_of};
-ghost use Rattle.box_conf.specs.BoxFile.{box_of, box_line, first_line, set_line, Faults};
+ghost use Rattle.box_conf.specs.BoxFile.{box_of, box_line, first_line, set_line, kind_with, Faults};
+ghost use Rattle.box_conf.specs.Settings.{AreInRange};
 
 use crate::keywords::{Keyword, read_keyword};
 use crate::kind::{BoxConf, BoxKind};
+use crate::kind_word::{KindWord, read_kind_word};
 use crate::settings::{Range, Settings, read_number_line};
 use box_program::CountBox;
+use monitor_box::MonitorBox;
 use plain_text::{
     LineCause, LineFault, NoMemory, WordIter, count_lines, end_of_line, lines, words,
 };
@@ -20,6 +23,12 @@ const SEEDS: Range = Range {
     low: 0,
     high: u64::MAX,
 };
+
+/// The numbers of the line `shards`.
+const SHARDS: Range = Range { low: 1, high: 64 };
+
+/// The tables of a box where the line `shards` is not there.
+const USUAL_SHARDS: u32 = 16;
 
 /// Why a box file was not read.
 #[derive(Clone, Copy, Debug, PartialEq, Eq, Error)]
@@ -45,9 +54,11 @@ impl From<NoMemory> for ConfError {
 /// Reads a box file.
 ///
 /// Its first line that counts is `box KIND`; the others come in any order, each at most once: `threads N` with 1 to 16
-/// threads (1 where it is not there), and `seed S` with any number (0 where it is not there). The kind is `count`.
+/// threads (1 where it is not there), `seed S` with any number (0 where it is not there), and for the kind `monitor` also `shards S`
+/// with 1 to 64 tables (16 where it is not there). The kind is `count` or `monitor`.
 pub fn read_box(alloc: Global, text: &[u8]) -> Result<BoxConf, ConfError>
     ensures value { IfOk result (λ conf. box_of text.now ≡ Ok conf) }
+    ensures threads { IfOk result (λ conf. (1 ≤ conf.threads) × (conf.threads ≤ 16)) }
     ensures fault { IfErr result (Faults (box_of text.now)) }
 {
     let _ = alloc;
@@ -62,9 +73,10 @@ pub fn read_box(alloc: Global, text: &[u8]) -> Result<BoxConf, ConfError>
     let mut settings = Settings {
         threads: None,
         seed: None,
+        shards: None,
     };
     for line in left {
-        match set_by_line(settings, words(line.bytes)) {
+        match set_by_line(kind, settings, words(line.bytes)) {
             Ok(next) => settings = next,
             Err(cause) => return Err(fault_at(line.number, cause)),
         }
@@ -72,8 +84,21 @@ pub fn read_box(alloc: Global, text: &[u8]) -> Result<BoxConf, ConfError>
     Ok(BoxConf {
         threads: settings.threads.unwrap_or(1),
         seed: settings.seed.unwrap_or(0),
-        kind,
+        kind: make_kind(kind, settings),
     })
+}
+
+/// The box of a kind with these settings.
+fn make_kind(kind: KindWord, settings: Settings) -> BoxKind
+    requires { AreInRange settings }
+    ensures { result ≡ kind_with kind settings }
+{
+    match kind {
+        KindWord::Count => BoxKind::Count(CountBox::new()),
+        KindWord::Monitor => {
+            BoxKind::Monitor(MonitorBox::new(settings.shards.unwrap_or(USUAL_SHARDS)))
+        }
+    }
 }
 
 fn fault_at(line: u64, cause: LineCause) -> ConfError
@@ -83,7 +108,7 @@ fn fault_at(line: u64, cause: LineCause) -> ConfError
 }
 
 /// The kind that the first line names.
-fn read_first_line(mut words: WordIter<'_>) -> Result<BoxKind, LineCause>
+fn read_first_line(mut words: WordIter<'_>) -> Result<KindWord, LineCause>
     ensures { result ≡ first_line words.entry }
 {
     let Some(word) = words.next() else {
@@ -91,29 +116,37 @@ fn read_first_line(mut words: WordIter<'_>) -> Result<BoxKind, LineCause>
     };
     match read_keyword(word) {
         Keyword::Box => read_kind(words),
-        Keyword::Threads | Keyword::Seed | Keyword::Unknown => Err(LineCause::UnknownWord),
+        Keyword::Threads | Keyword::Seed | Keyword::Shards | Keyword::Unknown => {
+            Err(LineCause::UnknownWord)
+        }
     }
 }
 
 /// The kind that a line names after the word `box`.
-fn read_kind(mut words: WordIter<'_>) -> Result<BoxKind, LineCause>
+fn read_kind(mut words: WordIter<'_>) -> Result<KindWord, LineCause>
     ensures { result ≡ box_line words.entry }
 {
     let Some(word) = words.next() else {
         return Err(LineCause::MissingWord);
     };
-    if word != b"count".as_slice() {
+    let Some(kind) = read_kind_word(word) else {
         return Err(LineCause::UnknownWord);
-    }
+    };
     match end_of_line(words) {
-        Ok(()) => Ok(BoxKind::Count(CountBox::new())),
+        Ok(()) => Ok(kind),
         Err(cause) => Err(cause),
     }
 }
 
-/// The settings after a line that follows the first.
-fn set_by_line(settings: Settings, mut words: WordIter<'_>) -> Result<Settings, LineCause>
-    ensures { result ≡ set_line settings words.entry }
+/// The settings after a line that follows the first, in the file of a box of this kind.
+fn set_by_line(
+    kind: KindWord,
+    settings: Settings,
+    mut words: WordIter<'_>,
+) -> Result<Settings, LineCause>
+    requires { AreInRange settings }
+    ensures value { result ≡ set_line kind settings words.entry }
+    ensures in_range { IfOk result AreInRange }
 {
     let Some(word) = words.next() else {
         return Err(LineCause::UnknownWord);
@@ -133,6 +166,16 @@ fn set_by_line(settings: Settings, mut words: WordIter<'_>) -> Result<Settings, 
                 ..settings
             })
         }
+        Keyword::Shards => match kind {
+            KindWord::Monitor => {
+                let shards = read_number_line(words, SHARDS, settings.shards.is_some())?;
+                Ok(Settings {
+                    shards: Some(shards as u32),
+                    ..settings
+                })
+            }
+            KindWord::Count => Err(LineCause::UnknownWord),
+        },
         Keyword::Box => match read_kind(words) {
             Ok(_) => Err(LineCause::Twice),
             Err(cause) => Err(cause),

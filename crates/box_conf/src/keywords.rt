@@ -7,6 +7,7 @@ pub enum Keyword {
     Box,
     Threads,
     Seed,
+    Shards,
     Unknown,
 }
 
@@ -19,6 +20,8 @@ pub fn read_keyword(word: &[u8]) -> Keyword
         Keyword::Threads
     } else if word == b"seed".as_slice() {
         Keyword::Seed
+    } else if word == b"shards".as_slice() {
+        Keyword::Shards
     } else {
         Keyword::Unknown
     }

@@ -1,9 +1,11 @@
 use box_program::CountBox;
+use monitor_box::MonitorBox;
 
 /// Which box runs.
 #[derive(Debug, Drop)]
 pub enum BoxKind {
     Count(CountBox),
+    Monitor(MonitorBox),
 }
 
 /// What a box file says.

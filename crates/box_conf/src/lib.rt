@@ -4,6 +4,7 @@
 mod conf;
 mod keywords;
 mod kind;
+mod kind_word;
 mod settings;
 #[cfg(test)]
 mod tests;

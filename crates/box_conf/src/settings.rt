@@ -8,6 +8,7 @@ use plain_text::{Field, LineCause, WordIter, end_of_line, read_field};
 pub struct Settings {
     pub threads: Option<u32>,
     pub seed: Option<u64>,
+    pub shards: Option<u32>,
 }
 
 /// The numbers that a line may set.

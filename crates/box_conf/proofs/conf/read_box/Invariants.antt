@@ -1,7 +1,11 @@
 use Rattle.std.proofs.Common.{◌≡◌}
 use Rattle.box_conf.specs.BoxFile.{box_of, conf_of, set_lines}
+use Rattle.box_conf.specs.Settings.{AreInRange}
 use Rattle.box_conf.proofs.conf.read_box.Given as goal
 
--- the text comes to what the settings so far and the lines left come to
+-- the text comes to what the settings so far and the lines left come to; what was set is in its range
 abbrev pub invariant-loop-line : goal.invariant-loop-line
-invariant-loop-line l = box_of l.text ≡ conf_of l.kind (set_lines l.settings l.line-iterator)
+invariant-loop-line l = record {
+  text : box_of l.text ≡ conf_of l.kind (set_lines l.kind l.settings l.line-iterator);
+  in_range : AreInRange l.settings;
+}
