@@ -1,0 +1,16 @@
+pub mod Joining
+pub mod Staying
+pub mod Threads
+pub mod Variables
+pub mod Standing
+pub mod Following
+pub mod Growing
+pub mod Bounding
+pub mod Doing
+pub mod Wanting
+pub mod Starting
+pub mod Answering
+pub mod HeldEntries
+pub mod Frontiers
+pub mod Moments
+pub mod Holdings

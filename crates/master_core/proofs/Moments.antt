@@ -1,0 +1,102 @@
+-- What was stored is an earlier moment of a history: its log is closed in the later one, and counts no more entries.
+use Rattle.std.proofs.Common.{◌≡◌, ℕ, ◌≤◌, ◌<◌, List, [], ◌∷◌, ◌++◌, sym, ap, ◌∙◌, subst, inl, inr, ◌⊎◌, arith, slice_index}
+use Rattle.std.proofs.lemmas.Bool.{cases_lt}
+use Rattle.plain_text.specs.declared.packet.Packet.{Packet}
+use Rattle.entry_order.specs.Log.{Entry, entries, IsLog, IsIn, StandsBefore, IsClosed}
+use Rattle.entry_order.specs.Stamps.{IsStamp}
+use Rattle.entry_order.proofs.Order.{entries_grow, newest, next_stands, before_in, entry_there}
+use Rattle.entry_order.proofs.Keeping.{in_right}
+use Rattle.entry_order.proofs.Parts.{stamp_stays}
+use Rattle.plain_machine.specs.Program.{Meaning}
+use Rattle.plain_machine.specs.History.{Act, Took, Did, Emitted, Ended, Step, log_more, log_of, IsHistory}
+use Rattle.plain_machine.specs.Agree.{IsEarlier}
+use Rattle.plain_machine.proofs.Histories.{history_log, earlier_history, earlier_log, did_entry}
+use Rattle.plain_machine.proofs.Logging.{in_log_at}
+use Rattle.access_log.specs.Held.{Lane}
+use Rattle.master_core.specs.Holding.{HoldsOf}
+use Rattle.master_core.specs.Stepping.{plain_entry}
+
+-- the log of an earlier moment is the end of the log
+pub later_log : {V : Type 0} (earlier steps : List (Step V)) → IsEarlier earlier steps → (later : List Entry) × (log_of steps ≡ later ++ log_of earlier)
+later_log {V} earlier [] e = ([], ap (λ (s : List (Step V)). log_of s) (sym e))
+later_log {V} earlier (x ∷ steps) (inl e) = ([], ap (λ (s : List (Step V)). log_of s) (sym e))
+later_log {V} earlier (x ∷ steps) (inr e) = go x.act (later_log earlier steps e)
+  where
+    go : (a : Act V) → (later : List Entry) × (log_of steps ≡ later ++ log_of earlier) → (later : List Entry) × (log_more a (log_of steps) ≡ later ++ log_of earlier)
+    go (Took k) r = r
+    go (Did entry left) (later, same) = (entry ∷ later, ap (λ (l : List Entry). entry ∷ l) same)
+    go (Emitted o) r = r
+    go (Ended k) r = r
+
+-- Over a log that goes on from a past
+
+before_past : (later past : List Entry) (e f : Entry) → IsLog (later ++ past) → StandsBefore (later ++ past) e f → IsIn f past → IsIn e past
+before_past [] past e f good h hf = (before_in past e f h).0
+before_past (x ∷ later) past e f good (inl h) hf =
+    absurd (newest (later ++ past) x good (in_right x later past (subst (λ (g : Entry). IsIn g past) (sym h.0) hf)))
+before_past (x ∷ later) past e f good (inr h) hf = before_past later past e f good.2 h hf
+
+closed_past : (later past : List Entry) → IsLog (later ++ past) → IsClosed (later ++ past) past
+closed_past later past good e f he hf n =
+    before_past later past e f good (next_stands (later ++ past) e f good he (in_right f later past hf) n) hf
+
+entries_past : (t : ℕ) (later past : List Entry) → entries t past ≤ entries t (later ++ past)
+entries_past t [] past = omega arith
+entries_past t (x ∷ later) past =
+    let older : entries t past ≤ entries t (later ++ past) = entries_past t later past in
+    let more : entries t (later ++ past) ≤ entries t (x ∷ (later ++ past)) = entries_grow t x (later ++ past) in
+    omega arith
+
+stamp_past : (later past : List Entry) (e : Entry) (s : ℕ → ℕ) → IsLog (later ++ past) → IsIn e past → IsStamp past e s → IsStamp (later ++ past) e s
+stamp_past [] past e s good here st = st
+stamp_past (x ∷ later) past e s good here st =
+    stamp_stays x (later ++ past) e s good (in_right e later past here) (stamp_past later past e s good.2 here st)
+
+-- Over a history
+
+pub moment_log : {V : Type 0} (m : Meaning V) (inputs : ℕ → List Packet) (threads : ℕ) (steps earlier : List (Step V)) → IsHistory m inputs threads steps → IsEarlier earlier steps → IsLog (log_of earlier)
+moment_log m inputs threads steps earlier h e = history_log m inputs threads earlier (earlier_history m inputs threads earlier steps e h)
+
+pub moment_closed : {V : Type 0} (m : Meaning V) (inputs : ℕ → List Packet) (threads : ℕ) (steps earlier : List (Step V)) → IsHistory m inputs threads steps → IsEarlier earlier steps → IsClosed (log_of steps) (log_of earlier)
+moment_closed m inputs threads steps earlier h e =
+    let split = later_log earlier steps e in
+    let good = subst (λ (l : List Entry). IsLog l) split.1 (history_log m inputs threads steps h) in
+    subst (λ (l : List Entry). IsClosed l (log_of earlier)) (sym split.1) (closed_past split.0 (log_of earlier) good)
+
+pub moment_entries : {V : Type 0} (t : ℕ) (steps earlier : List (Step V)) → IsEarlier earlier steps → entries t (log_of earlier) ≤ entries t (log_of steps)
+moment_entries t steps earlier e =
+    let split = later_log earlier steps e in
+    subst (λ (l : List Entry). entries t (log_of earlier) ≤ entries t l) (sym split.1) (entries_past t split.0 (log_of earlier))
+
+pub moment_stamp : {V : Type 0} (m : Meaning V) (inputs : ℕ → List Packet) (threads : ℕ) (steps earlier : List (Step V)) (e : Entry) (s : ℕ → ℕ) → IsHistory m inputs threads steps → IsEarlier earlier steps → IsIn e (log_of earlier) → IsStamp (log_of earlier) e s → IsStamp (log_of steps) e s
+moment_stamp m inputs threads steps earlier e s h before here st =
+    let split = later_log earlier steps before in
+    let good = subst (λ (l : List Entry). IsLog l) split.1 (history_log m inputs threads steps h) in
+    subst (λ (l : List Entry). IsStamp l e s) (sym split.1) (stamp_past split.0 (log_of earlier) e s good here st)
+
+-- each entry is of a thread that there is
+entry_thread : {V : Type 0} (m : Meaning V) (inputs : ℕ → List Packet) (threads : ℕ) (steps : List (Step V)) (e : Entry) → IsHistory m inputs threads steps → IsIn e (log_of steps) → e.thread < threads
+entry_thread m inputs threads steps e h here =
+    let r = in_log_at steps e here in
+    let made = (earlier_history m inputs threads (r.0 ∷ r.1) steps r.3 h).0 in
+    let thread = (did_entry r.0.thread r.0.after.taken r.1 made.2 e r.2 (sym made.4 ∙ r.4)).0 in
+    subst (λ (t : ℕ). t < threads) (sym thread) made.0
+
+-- no other thread has entries
+pub none_past_threads : {V : Type 0} (m : Meaning V) (inputs : ℕ → List Packet) (threads : ℕ) (steps : List (Step V)) (t : ℕ) → IsHistory m inputs threads steps → threads ≤ t → entries t (log_of steps) ≡ 0
+none_past_threads m inputs threads steps t h past = go (cases_lt 0 (entries t (log_of steps)))
+  where
+    go : (0 < entries t (log_of steps)) ⊎ (entries t (log_of steps) ≤ 0) → entries t (log_of steps) ≡ 0
+    go (inl some) =
+        let r = entry_there (log_of steps) t 1 (history_log m inputs threads steps h) (omega arith) (omega arith) in
+        let low : r.0.thread < threads = entry_thread m inputs threads steps r.0 h r.1 in
+        let of : r.0.thread ≡ t = r.2 in
+        absurd (omega arith)
+    go (inr none) = omega arith
+
+-- what is held of a log is held of it as it grows
+pub holds_later : {V : Type 0} (m : Meaning V) (inputs : ℕ → List Packet) (threads : ℕ) (steps now : List (Step V)) (stored : List Entry) (held : List Lane) → IsHistory m inputs threads steps → IsEarlier now steps → HoldsOf (log_of now) stored held → HoldsOf (log_of steps) stored held
+holds_later m inputs threads steps now stored held h before holds = record {
+  covered = holds.covered;
+  of_log = λ t n e q. let of = holds.of_log t n e q in (of.0, of.1, earlier_log now steps (plain_entry e) before of.2, moment_stamp m inputs threads steps now (plain_entry e) (λ u. slice_index e.stamp u) h before of.2 of.3);
+}

@@ -1,0 +1,12 @@
+use Rattle.std.proofs.Common.{◌≡◌, length}
+use Rattle.box_program.specs.Count.{IsCounter}
+use Rattle.master_core.specs.Mastered.{FitsProgram}
+use Rattle.master_core.specs.Mixed.{mixed_meaning}
+use Rattle.master_core.proofs.tests.random_run.Given as goal
+
+-- the program's values stay values of it, and the threads stay
+abbrev pub invariant-loop : goal.invariant-loop
+invariant-loop l = record {
+  fits : FitsProgram mixed_meaning (λ _ n. IsCounter n) l.master;
+  threads : length l.master.threads ≡ 3;
+}

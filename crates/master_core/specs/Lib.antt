@@ -1,0 +1,8 @@
+pub mod Mastered
+pub mod Stamped
+pub mod Standing
+pub mod Stepping
+pub mod Deeds
+pub mod Lists
+pub mod Mixed
+pub mod Holding

@@ -1,0 +1,26 @@
+//! One master: it runs a box program one move at a time, and logs every access with its place and its stamp. And the laws of what
+//! is held of its log: what is missing, and the closed part, are those that the order of entries defines.
+#![tactic(auto)]
+
+mod deeds;
+mod laws;
+mod lists;
+mod master;
+#[cfg(test)]
+mod mixed;
+mod parts;
+mod step;
+#[cfg(test)]
+mod tests;
+mod wants;
+
+pub use access_log::Turn;
+pub use laws::{
+    closed_part_is_defined, covering_a_later_moment, fresh_lanes_hold_nothing,
+    held_entries_are_looked_up, holding_one_more, known_is_held_or_stored, missing_is_defined,
+};
+pub use lists::lists_are_followed;
+pub use master::Master;
+pub use parts::{Counts, ThreadPart, VarPart};
+pub use step::{Stepped, Trace, Woven, WovenStep};
+pub use wants::Wants;

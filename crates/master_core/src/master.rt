@@ -1,0 +1,392 @@
+ghost use Rattle.std.specs.Prelude.{◌≡◌, ℕ, ◌+◌, ◌^◌, ◌<◌, ◌≤◌, ◌↔◌, List, [], length, false, slice_index_or, IsTrue, IsSome, IfOk, Some, None, option_copied};
+ghost use Rattle.plain_text.specs.declared.packet.Packet as packet_of;
+ghost use Rattle.entry_order.specs.declared.what.What as what_of;
+ghost use Rattle.box_program.specs.Hands.{input_for};
+ghost use Rattle.plain_machine.specs.History.{Step, thread_after};
+ghost use Rattle.plain_machine.specs.declared.local.Move.TheVariants as move_is;
+ghost use Rattle.access_log.specs.declared.entry.Output as output_of;
+ghost use Rattle.access_log.specs.declared.entry.Turn.TheVariants as turn_of;
+ghost use Rattle.master_core.specs.declared.parts.ThreadPart as thread_of;
+ghost use Rattle.master_core.specs.declared.parts.VarPart as var_of;
+ghost use Rattle.master_core.specs.Mastered.{FitsProgram, moves_made, has_hand, place_in_hand, moves_left, input_in_hand, WantsVariable};
+ghost use Rattle.master_core.specs.Standing.{Stands};
+ghost use Rattle.master_core.specs.Stepping.{wanted, move_of, Follows, MadeNone, MadeOne};
+ghost use Rattle.master_core.specs.Deeds.{HasFresh, DoneTake, DoneTouch, DoneLook, DoneHear, DoneEmit, DoneEnd, Played};
+
+use crate::deeds::{after_entry, stamped};
+use crate::{Counts, Stepped, ThreadPart, VarPart, Wants};
+use access_log::{Entry, Output, Turn, What};
+use box_program::Program;
+use plain_machine::{Local, Move};
+use plain_text::{NoMemory, Packet};
+use std::alloc::Global;
+use std::marker::Model;
+use thread_clock::Stamp;
+
+/// A box program that runs: the values of the shared variables and where each thread is, with the places and the stamps by
+/// which its log entries are ordered.
+///
+/// A master stands for a list of moves, that of the plain machine which it made since it was fresh. It keeps no such list:
+/// contracts say which lists it stands for, and each step costs the same however long they are.
+#[derive(Drop)]
+pub struct Master<P: Program> {
+    vars: Vec<VarPart<P::Value>>,
+    threads: Vec<ThreadPart>,
+}
+
+impl<P: Program> Model for Master<P> {
+    ghost use Rattle.master_core.specs.Mastered.{Mastered, IsBounded};
+
+    ghost Value = { Mastered P.Value };
+
+    ghost view = { λ p. record { vars = p.vars.items; threads = p.threads.items } };
+
+    ghost invariant = { λ p. IsBounded p.vars.items p.threads.items };
+}
+
+impl<P: Program> Master<P> {
+    /// A master that made no move: each variable has its fresh value, and no thread has taken anything.
+    pub fn fresh(alloc: Global, program: &P, threads: u32) -> Result<Self, NoMemory>
+        requires some { 1 ≤ threads }
+        requires few { threads ≤ 16 }
+        ensures stands { IfOk result (λ master. Stands (P.meaning program.now) threads [] master) }
+        ensures fits { IfOk result (λ master. FitsProgram (P.meaning program.now) (P.fits program.now) master) }
+    {
+        let vars = fresh_vars(alloc, program)?;
+        let part = ThreadPart {
+            counts: Counts {
+                taken: 0,
+                entries: 0,
+                outputs: 0,
+            },
+            hand: None,
+            stamp: Stamp::zero(),
+        };
+        let threads = vec![in alloc; part; threads as usize]?;
+        Ok(Master { vars, threads })
+    }
+
+    /// What the thread does next.
+    pub fn wants(&self, program: &P, thread: u32) -> Wants
+        requires program { FitsProgram (P.meaning program.now) (P.fits program.now) self.now }
+        requires thread_in { thread < length self.now.threads }
+        ensures wanted { (threads : ℕ) (steps : List (Step P.Value)) →
+            Stands (P.meaning program.now) threads steps self.now → result ≡ wanted (P.meaning program.now) steps thread }
+    {
+        let part = self.threads[thread as usize];
+        let Some(place) = part.hand else {
+            return Wants::Take(part.counts.taken + 1);
+        };
+        let number = part.counts.entries + 1;
+        match program.next(&place) {
+            Move::Access(var) => Wants::Touch {
+                number,
+                var,
+                places: self.places(var),
+            },
+            Move::Read(var) => Wants::Read {
+                number,
+                var,
+                places: self.places(var),
+            },
+            Move::Clock => Wants::Clock(number),
+            Move::Draw => Wants::Draw(number),
+            Move::Emit => Wants::Emit,
+            Move::End => Wants::End,
+        }
+    }
+
+    /// How much the thread did.
+    pub fn counts(&self, thread: u32) -> Counts
+        requires { thread < length self.now.threads }
+        ensures { (d : thread_of.ThreadPart) → result ≡ (slice_index_or self.now.threads thread d).counts }
+    {
+        self.threads[thread as usize].counts
+    }
+
+    /// The number of the input that the thread has in hand; `None` exactly where it has none.
+    pub fn in_hand(&self, thread: u32) -> Option<u64>
+        requires { thread < length self.now.threads }
+        ensures { (d : thread_of.ThreadPart) → result ≡ input_in_hand (slice_index_or self.now.threads thread d) }
+    {
+        let part = self.threads[thread as usize];
+        match part.hand {
+            Some(_) => Some(part.counts.taken),
+            None => None,
+        }
+    }
+
+    /// The value of a variable.
+    pub fn value(&self, var: u32) -> &P::Value
+        requires { var < length self.now.vars }
+        ensures { (d : var_of.VarPart P.Value) → result.now ≡ (slice_index_or self.now.vars var d).value }
+    {
+        &self.vars[var as usize].value
+    }
+
+    /// How often the variable was touched.
+    pub fn places(&self, var: u32) -> u64
+        requires { var < length self.now.vars }
+        ensures { (d : var_of.VarPart P.Value) → result ≡ (slice_index_or self.now.vars var d).places }
+    {
+        self.vars[var as usize].places
+    }
+
+    /// The join of the stamps of the reads of the variable after its last touch.
+    pub fn readers(&self, var: u32) -> &Stamp
+        requires { var < length self.now.vars }
+        ensures { (d : var_of.VarPart P.Value) → result.now ≡ (slice_index_or self.now.vars var d).readers }
+    {
+        &self.vars[var as usize].readers
+    }
+
+    /// Makes one move of the thread: the one that it wants, with this answer where it is told one.
+    ///
+    /// `input` is the packet in hand, else the next input of the thread, else `None`. `turn` says whether a touch or a read may be made
+    /// now. Idle comes exactly where the thread wants an input and gets none, and NotTurn exactly where it wants a touch or a read and
+    /// the turn is to wait; after these, and after NoMemory, the master is unchanged.
+    pub fn step(
+        &mut self,
+        alloc: Global,
+        program: &P,
+        thread: u32,
+        turn: Turn,
+        answer: u64,
+        input: Option<&Packet>,
+    ) -> Stepped
+        requires program { FitsProgram (P.meaning program.now) (P.fits program.now) self.old }
+        requires thread_in { thread < length self.old.threads }
+        requires room { (d : thread_of.ThreadPart) → moves_made (slice_index_or self.old.threads thread d) < 2 ^ 56 }
+        requires input { IsTrue (has_hand self.old thread) → IsSome input }
+        ensures follows { (inputs : ℕ → List packet_of.Packet) (threads : ℕ) (steps : List (Step P.Value)) →
+            Stands (P.meaning program.now) threads steps self.old →
+            (option_copied input.entry ≡ input_for (inputs thread) (thread_after steps thread).taken (thread_after steps thread).hand) →
+            Follows (P.meaning program.now) inputs threads steps (move_of (P.meaning program.now) steps thread answer) result self.new }
+        ensures idle { (result ≡ Stepped.Idle) ↔ ((has_hand self.old thread ≡ false) × (option_copied input.entry ≡ None)) }
+        ensures not_turn { (u n : ℕ) → (result ≡ Stepped.NotTurn u n) ↔ (WantsVariable (P.meaning program.now) (place_in_hand self.old thread) × (turn ≡ turn_of.Wait u n)) }
+        ensures unchanged { MadeNone result → self.new ≡ self.old }
+        ensures threads { length self.new.threads ≡ length self.old.threads }
+        ensures fits { FitsProgram (P.meaning program.now) (P.fits program.now) self.new }
+        ensures begins { has_hand self.old thread ≡ false → MadeOne result → moves_left (P.meaning program.now) (place_in_hand self.new thread) ≤ 63 }
+        ensures falls { IsTrue (has_hand self.old thread) → MadeOne result → moves_left (P.meaning program.now) (place_in_hand self.new thread) < moves_left (P.meaning program.now) (place_in_hand self.old thread) }
+        ensures as_long { (output : output_of.Output) (packet : packet_of.Packet) → result ≡ Stepped.Emitted output → option_copied input.entry ≡ Some packet → length output.packet.bytes ≡ length packet.bytes }
+    {
+        let Some(place) = self.threads[thread as usize].hand else {
+            let Some(packet) = input else {
+                return Stepped::Idle;
+            };
+            return self.take(program, thread, packet);
+        };
+        let packet = input.unwrap();
+        self.play(alloc, program, thread, place, turn, answer, packet)
+    }
+
+    /// Makes the move that is next with the packet in hand.
+    fn play(
+        &mut self,
+        alloc: Global,
+        program: &P,
+        thread: u32,
+        place: Local,
+        turn: Turn,
+        answer: u64,
+        packet: &Packet,
+    ) -> Stepped
+        requires program { FitsProgram (P.meaning program.now) (P.fits program.now) self.old }
+        requires thread_in { thread < length self.old.threads }
+        requires room { (d : thread_of.ThreadPart) → moves_made (slice_index_or self.old.threads thread d) < 2 ^ 56 }
+        requires hand { (d : thread_of.ThreadPart) → (slice_index_or self.old.threads thread d).hand ≡ Some place }
+        ensures { (d : thread_of.ThreadPart) (x : var_of.VarPart P.Value) → Played (P.meaning program.now) thread turn answer packet.now place (slice_index_or self.old.threads thread d) x self.old result self.new ((P.meaning program.now).next place) }
+    {
+        match program.next(&place) {
+            Move::Access(var) => match turn {
+                Turn::Wait { thread, number } => Stepped::NotTurn { thread, number },
+                Turn::Follow | Turn::Free => self.touch(alloc, program, thread, place, var),
+            },
+            Move::Read(var) => match turn {
+                Turn::Wait { thread, number } => Stepped::NotTurn { thread, number },
+                Turn::Follow | Turn::Free => self.look(program, thread, place, var),
+            },
+            Move::Clock => self.hear(program, thread, place, What::Clock(answer), answer),
+            Move::Draw => self.hear(program, thread, place, What::Draw(answer), answer),
+            Move::Emit => self.emit(alloc, program, thread, place, packet),
+            Move::End => self.end(thread),
+        }
+    }
+
+    /// Takes the thread's next input.
+    fn take(&mut self, program: &P, thread: u32, packet: &Packet) -> Stepped
+        requires thread_in { thread < length self.old.threads }
+        requires room { (d : thread_of.ThreadPart) → moves_made (slice_index_or self.old.threads thread d) < 2 ^ 56 }
+        requires hand { (d : thread_of.ThreadPart) → (slice_index_or self.old.threads thread d).hand ≡ None }
+        ensures { (d : thread_of.ThreadPart) → DoneTake (P.meaning program.now) thread packet.now (slice_index_or self.old.threads thread d) self.old result self.new }
+    {
+        let place = program.begin(packet);
+        let part = &mut self.threads[thread as usize];
+        part.counts.taken += 1;
+        part.hand = Some(place);
+        Stepped::Took(part.counts.taken)
+    }
+
+    /// Makes the touch that is next.
+    fn touch(
+        &mut self,
+        alloc: Global,
+        program: &P,
+        thread: u32,
+        mut place: Local,
+        var: u32,
+    ) -> Stepped
+        requires program { FitsProgram (P.meaning program.now) (P.fits program.now) self.old }
+        requires thread_in { thread < length self.old.threads }
+        requires room { (d : thread_of.ThreadPart) → moves_made (slice_index_or self.old.threads thread d) < 2 ^ 56 }
+        requires hand { (d : thread_of.ThreadPart) → (slice_index_or self.old.threads thread d).hand ≡ Some place }
+        requires next { (P.meaning program.now).next place ≡ move_is.Access var }
+        ensures { (d : thread_of.ThreadPart) (x : var_of.VarPart P.Value) → DoneTouch (P.meaning program.now) thread var place (slice_index_or self.old.threads thread d) (slice_index_or self.old.vars var x) self.old result self.new }
+    {
+        let part = self.threads[thread as usize];
+        let variable = &mut self.vars[var as usize];
+        let Ok(()) = program.touch(alloc, var, &mut variable.value, &mut place) else {
+            return Stepped::NoMemory;
+        };
+        let mut join = part.stamp;
+        join.join(&variable.stamp);
+        join.join(&variable.readers);
+        let number = part.counts.entries + 1;
+        let stamp = stamped(join, thread, number);
+        variable.places += 1;
+        variable.stamp = stamp;
+        variable.readers = Stamp::zero();
+        let what = What::Access {
+            var,
+            place: variable.places,
+        };
+        self.threads[thread as usize] = after_entry(part, place, stamp);
+        Stepped::Did(Entry {
+            thread,
+            number,
+            what,
+            stamp,
+        })
+    }
+
+    /// Makes the read that is next.
+    fn look(&mut self, program: &P, thread: u32, mut place: Local, var: u32) -> Stepped
+        requires program { FitsProgram (P.meaning program.now) (P.fits program.now) self.old }
+        requires thread_in { thread < length self.old.threads }
+        requires room { (d : thread_of.ThreadPart) → moves_made (slice_index_or self.old.threads thread d) < 2 ^ 56 }
+        requires hand { (d : thread_of.ThreadPart) → (slice_index_or self.old.threads thread d).hand ≡ Some place }
+        requires next { (P.meaning program.now).next place ≡ move_is.Read var }
+        ensures { (d : thread_of.ThreadPart) (x : var_of.VarPart P.Value) → DoneLook (P.meaning program.now) thread var place (slice_index_or self.old.threads thread d) (slice_index_or self.old.vars var x) self.old result self.new }
+    {
+        let part = self.threads[thread as usize];
+        let variable = &mut self.vars[var as usize];
+        program.look(var, &variable.value, &mut place);
+        let mut join = part.stamp;
+        join.join(&variable.stamp);
+        let number = part.counts.entries + 1;
+        let stamp = stamped(join, thread, number);
+        variable.readers.join(&stamp);
+        let what = What::Read {
+            var,
+            after: variable.places,
+        };
+        self.threads[thread as usize] = after_entry(part, place, stamp);
+        Stepped::Did(Entry {
+            thread,
+            number,
+            what,
+            stamp,
+        })
+    }
+
+    /// Is told this answer, which the entry has as its content.
+    fn hear(
+        &mut self,
+        program: &P,
+        thread: u32,
+        mut place: Local,
+        what: What,
+        answer: u64,
+    ) -> Stepped
+        requires thread_in { thread < length self.old.threads }
+        requires room { (d : thread_of.ThreadPart) → moves_made (slice_index_or self.old.threads thread d) < 2 ^ 56 }
+        requires hand { (d : thread_of.ThreadPart) → (slice_index_or self.old.threads thread d).hand ≡ Some place }
+        ensures { (d : thread_of.ThreadPart) → DoneHear (P.meaning program.now) thread what answer place (slice_index_or self.old.threads thread d) self.old result self.new }
+    {
+        let part = self.threads[thread as usize];
+        program.told(answer, &mut place);
+        let number = part.counts.entries + 1;
+        let stamp = stamped(part.stamp, thread, number);
+        self.threads[thread as usize] = after_entry(part, place, stamp);
+        Stepped::Did(Entry {
+            thread,
+            number,
+            what,
+            stamp,
+        })
+    }
+
+    /// Sends out what the program makes of the packet in hand.
+    fn emit(
+        &mut self,
+        alloc: Global,
+        program: &P,
+        thread: u32,
+        mut place: Local,
+        packet: &Packet,
+    ) -> Stepped
+        requires thread_in { thread < length self.old.threads }
+        requires room { (d : thread_of.ThreadPart) → moves_made (slice_index_or self.old.threads thread d) < 2 ^ 56 }
+        requires hand { (d : thread_of.ThreadPart) → (slice_index_or self.old.threads thread d).hand ≡ Some place }
+        requires next { (P.meaning program.now).next place ≡ move_is.Emit }
+        ensures { (d : thread_of.ThreadPart) → DoneEmit (P.meaning program.now) thread packet.now place (slice_index_or self.old.threads thread d) self.old result self.new }
+    {
+        let Ok(bytes) = program.packet_out(alloc, packet, &place) else {
+            return Stepped::NoMemory;
+        };
+        program.emitted(&mut place);
+        let part = &mut self.threads[thread as usize];
+        part.counts.outputs += 1;
+        part.hand = Some(place);
+        Stepped::Emitted(Output {
+            thread,
+            number: part.counts.outputs,
+            input: part.counts.taken,
+            stamp: part.stamp,
+            packet: Packet {
+                seconds: packet.seconds,
+                fraction: packet.fraction,
+                original: packet.original,
+                bytes,
+            },
+        })
+    }
+
+    /// Ends the packet in hand.
+    fn end(&mut self, thread: u32) -> Stepped
+        requires thread_in { thread < length self.old.threads }
+        requires room { (d : thread_of.ThreadPart) → moves_made (slice_index_or self.old.threads thread d) < 2 ^ 56 }
+        ensures { (d : thread_of.ThreadPart) → DoneEnd thread (slice_index_or self.old.threads thread d) self.old result self.new }
+    {
+        let part = &mut self.threads[thread as usize];
+        part.hand = None;
+        Stepped::Ended(part.counts.taken)
+    }
+}
+
+/// The fresh parts of a program's variables.
+fn fresh_vars<P: Program>(alloc: Global, program: &P) -> Result<Vec<VarPart<P::Value>>, NoMemory>
+    ensures { IfOk result (λ vars. HasFresh (P.meaning program.now) vars.items) }
+{
+    let mut vars = Vec::new(alloc);
+    for var in 0..program.vars() {
+        vars.push(VarPart {
+            value: program.fresh(alloc, var)?,
+            places: 0,
+            stamp: Stamp::zero(),
+            readers: Stamp::zero(),
+        })?;
+    }
+    Ok(vars)
+}
