@@ -1,6 +1,6 @@
 -- The input files decide the status: each of them has one answer, and these have one status.
 use Rattle.std.proofs.Common.{◌≡◌, ℕ, ◌<◌, ◌≤◌, Bool, true, false, List, length, refl, sym, ap, ◌∙◌, subst, inl, inr, ◌⊎◌, arith, Result, Ok, Err}
-use Rattle.std.specs.Prelude.{Option, Some, nat_eq, nat_lt, cond, ◌&&◌}
+use Rattle.std.specs.Prelude.{Some, nat_lt, cond}
 use Rattle.std.proofs.lemmas.Bool.Decides.{nat_tests}
 use Rattle.plain_text.specs.declared.fault.LineFault.{LineFault}
 use Rattle.plain_text.specs.declared.limit.Limit.{Limit}
@@ -123,13 +123,13 @@ module _ (name : List ℕ) (shown : Shown) where
       a.5 ∙ ap capture_answer alike ∙ sym b.5
 
 -- what the inputs come to, once all are read
-abbrev read_all : BoxConf → Bool → Status
-read_all conf settle = cond (nat_eq conf.threads 1 && settle) status.Done status.NotBuilt
+abbrev read_all : Bool → Status
+read_all settle = cond settle status.Done status.NotBuilt
 
 module _ (names : RunNames) (shown : Shown) where
   abbrev BehindScript : BoxConf → Result Bool Status → Status → Type 0
   BehindScript conf (Err r) s = r ≡ s
-  BehindScript conf (Ok settle) s = read_all conf settle ≡ s
+  BehindScript conf (Ok settle) s = read_all settle ≡ s
 
   abbrev AtScript : BoxConf → Status → Type 0
   AtScript conf s = (r : Result Bool Status) × Decides r × JudgesScript names.script r shown × BehindScript conf r s
@@ -149,23 +149,12 @@ module _ (names : RunNames) (shown : Shown) where
   abbrev Answers : Status → Type 0
   Answers s = (r : Result BoxConf Status) × Decides r × JudgesBox names.box_file r shown × BehindBox r s
 
-  done : (conf : BoxConf) → conf.threads ≡ 1 → read_all conf true ≡ status.Done
-  done conf one = let k : nat_eq conf.threads 1 ≡ true = grind (arith, nat_tests) in rw k refl
-
-  more : (conf : BoxConf) (settle : Bool) → (conf.threads ≡ 1 → ⊥) ⊎ (settle ≡ false) → read_all conf settle ≡ status.NotBuilt
-  more conf settle (inl several) = let k : nat_eq conf.threads 1 ≡ false = grind (arith, nat_tests) in rw k refl
-  more conf settle (inr other) = by_threads (nat_eq conf.threads 1)
-    where
-      by_threads : (b : Bool) → cond (b && settle) status.Done status.NotBuilt ≡ status.NotBuilt
-      by_threads true = rw other refl
-      by_threads false = refl
-
   answers : (s : Status) → IsDecided s → Judges names s shown → Answers s
   answers status.Done d h =
       let a = h.3 in
-      (Ok h.0, tt, a.box_accepted, (Ok (record { unit = h.1; packets = h.2 }), tt, a.capture_accepted, (Ok true, tt, a.script_accepted, done h.0 a.one_thread)))
+      (Ok h.0, tt, a.box_accepted, (Ok (record { unit = h.1; packets = h.2 }), tt, a.capture_accepted, (Ok true, tt, a.script_accepted, refl)))
   answers status.NotBuilt d h =
-      (Ok h.conf, tt, h.box_accepted, (Ok (record { unit = h.unit; packets = h.packets }), tt, h.capture_accepted, (Ok h.settle, tt, h.script_read, more h.conf h.settle h.more)))
+      (Ok h.conf, tt, h.box_accepted, (Ok (record { unit = h.unit; packets = h.packets }), tt, h.capture_accepted, (Ok false, tt, h.script_read, refl)))
   answers (status.BadInput (input.BoxFile fault)) d h = (Err (status.BadInput (input.BoxFile fault)), tt, h, refl)
   answers (status.BadInput (input.Capture fault)) d h = (Ok h.0, tt, h.1, (Err (status.BadInput (input.Capture fault)), tt, h.2, refl))
   answers (status.TooLarge limit) d (inl h) = (Err (status.TooLarge limit), tt, h, refl)

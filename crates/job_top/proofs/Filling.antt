@@ -1,5 +1,5 @@
 -- The outputs while they are filled.
-use Rattle.std.proofs.Common.{◌≡◌, ℕ, List, [], ◌++◌, refl, sym, ap, ◌∙◌, append-nil, Some}
+use Rattle.std.proofs.Common.{◌≡◌, ℕ, List, [], ◌++◌, refl, sym, ap, ◌∙◌, append-nil}
 use Rattle.world_io.specs.World.{Shown}
 use Rattle.world_io.specs.declared.all.WriteAll.{WriteAll}
 use Rattle.world_io.specs.declared.all.WriteAll.TheVariants as write

@@ -1,9 +1,9 @@
 -- The outputs after they were created and filled.
-use Rattle.std.proofs.Common.{◌≡◌, ℕ, List, [], ◌++◌, refl, sym, ap, ◌∙◌, append-nil, append_assoc, Some, inl, inr, ◌⊎◌, Option}
+use Rattle.std.proofs.Common.{ℕ, List, [], ◌++◌, refl, sym, ap, ◌∙◌, append-nil, append_assoc, Some, inl, inr, Option}
 use Rattle.world_io.specs.World.{Shown}
 use Rattle.world_io.specs.declared.all.WriteAll.{WriteAll}
 use Rattle.world_io.specs.declared.all.WriteAll.TheVariants as write
-use Rattle.job_top.specs.Files.{IsFile, IsFront, HasFront}
+use Rattle.job_top.specs.Files.{IsFront, HasFront}
 use Rattle.job_top.specs.Outputs.{OpensOutputs, OpensFronts, FillsOutputs, WritesFronts, WritesWhole}
 
 -- a front of a front

@@ -1,8 +1,8 @@
 -- The outputs while they are created.
-use Rattle.std.proofs.Common.{◌≡◌, ℕ, List, [], ◌++◌, refl, sym, ap, ◌∙◌, inl, inr, ◌⊎◌}
+use Rattle.std.proofs.Common.{◌≡◌, ℕ, List, [], sym, ◌∙◌, inl, inr}
 use Rattle.world_io.specs.World.{Shown, CreatesFile}
 use Rattle.world_io.specs.declared.all.WriteAll.{WriteAll}
-use Rattle.job_top.specs.Files.{IsFile, AppendsTo, IsFront, Appended}
+use Rattle.job_top.specs.Files.{IsFile, AppendsTo, Appended}
 use Rattle.job_top.specs.Outputs.{OpensFronts}
 use Rattle.job_top.proofs.Appending.{appended}
 

@@ -1,6 +1,6 @@
 -- The packets of a capture are ones that records can have.
-use Rattle.std.proofs.Common.{◌≡◌, ℕ, zero, suc, ◌<◌, List, [], ◌∷◌, length, arith}
-use Rattle.std.specs.Prelude.{All, slice_index_or}
+use Rattle.std.proofs.Common.{ℕ, zero, suc, List, [], ◌∷◌, arith}
+use Rattle.std.specs.Prelude.{All}
 use Rattle.plain_text.specs.declared.packet.Packet.{Packet}
 use Rattle.plain_text.specs.declared.packet.Unit.{Unit as TimeUnit}
 use Rattle.pcap_io.specs.Capture.{AreRecorded}

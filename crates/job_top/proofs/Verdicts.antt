@@ -1,17 +1,16 @@
 -- The verdict on all inputs, from those on each of them.
-use Rattle.std.proofs.Common.{◌≡◌, ℕ, List, Bool, true, false, refl, sym, ap, ◌∙◌, inl, inr, ◌⊎◌, Result, Ok, Err}
+use Rattle.std.proofs.Common.{◌≡◌, ℕ, List, Bool, sym, ap, ◌∙◌, inl, inr, Err}
 use Rattle.plain_text.specs.declared.packet.Packet.{Packet}
 use Rattle.plain_text.specs.declared.packet.Unit.{Unit as TimeUnit}
 use Rattle.plain_text.specs.declared.limit.Limit.{Limit}
 use Rattle.box_conf.specs.declared.kind.BoxConf.{BoxConf}
 use Rattle.world_io.specs.World.{Shown}
-use Rattle.job_top.specs.declared.inputs.Capture as capture_of
 use Rattle.job_top.specs.declared.status.Status.{Status}
 use Rattle.job_top.specs.declared.status.Status.TheVariants as status
 use Rattle.job_top.specs.declared.status.InputFault.TheVariants as input
 use Rattle.job_top.specs.Words.{RunNames}
-use Rattle.job_top.specs.Inputs.{HasBytes, HasTooMany, AcceptsBox, AcceptsCapture, FaultsCapture, PassesCapture, ReadsScript}
-use Rattle.job_top.specs.Judging.{JudgesBox, JudgesCapture, JudgesScript, CaptureTooLarge, AcceptsInputs, AsksForMore, Judges, IsRefusalOrMemory}
+use Rattle.job_top.specs.Inputs.{HasBytes, HasTooMany, AcceptsBox, AcceptsCapture, ReadsScript}
+use Rattle.job_top.specs.Judging.{JudgesCapture, JudgesScript, CaptureTooLarge, Judges, IsRefusalOrMemory}
 
 -- what stands under a name in one moment stands there in another, where the names are as they were
 module _ (a b : Shown) (same : b.names ≡ a.names) where

@@ -1,5 +1,5 @@
 -- Whole files of a world: what reading one gives, and what writing one does.
-use Rattle.std.specs.Prelude.{◌≡◌, ◌⊎◌, ℕ, ◌+◌, ◌<◌, ◌≤◌, Bool, true, List, [], ◌++◌, length, take, Option, Some, None}
+use Rattle.std.specs.Prelude.{◌≡◌, ◌⊎◌, ℕ, ◌+◌, ◌<◌, ◌≤◌, List, ◌++◌, length, take, Option, Some}
 use Rattle.world_io.specs.World.{Shown, Ledger, WritesFile}
 use Rattle.world_io.specs.declared.all.WriteAll.{WriteAll}
 use Rattle.world_io.specs.declared.all.WriteAll.TheVariants as write

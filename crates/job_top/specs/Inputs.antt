@@ -1,8 +1,7 @@
 -- The input files of a run, and what each comes to.
-use Rattle.std.specs.Prelude.{◌≡◌, ℕ, ◌<◌, ◌≤◌, Bool, true, false, List, length, Option, Some, Result, Ok, Err}
+use Rattle.std.specs.Prelude.{◌≡◌, ℕ, ◌<◌, ◌≤◌, Bool, List, length, Some, Ok, Err}
 use Rattle.plain_text.specs.declared.fault.LineFault.{LineFault}
 use Rattle.plain_text.specs.declared.limit.Limit.{Limit}
-use Rattle.plain_text.specs.declared.limit.Limit.TheVariants.{File}
 use Rattle.plain_text.specs.declared.packet.Packet.{Packet}
 use Rattle.plain_text.specs.declared.packet.Unit.{Unit as TimeUnit}
 use Rattle.pcap_io.specs.declared.capture.Captured.TheVariants as captured

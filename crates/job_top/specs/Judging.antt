@@ -57,23 +57,20 @@ JudgesScript name (Err status.BadWords) shown = ⊥
 JudgesScript name (Err status.WriteFault) shown = ⊥
 JudgesScript name (Err status.NotBuilt) shown = ⊥
 
--- all inputs are accepted, for one thread and the script `settle`
+-- all inputs are accepted, and the script is `settle`
 pub record AcceptsInputs (names : RunNames) (conf : BoxConf) (unit : TimeUnit) (packets : List Packet) (shown : Shown) : Type 0 where
   pub box_accepted : AcceptsBox names.box_file conf shown
-  pub one_thread : conf.threads ≡ 1
   pub capture_accepted : AcceptsCapture names.capture unit packets shown
   pub script_accepted : ReadsScript names.script true shown
 
--- the inputs are read, and ask for several threads or for another script
-pub record AsksForMore (names : RunNames) (shown : Shown) : Type 0 where
+-- the inputs are read, and ask for another script
+pub record AsksForAnother (names : RunNames) (shown : Shown) : Type 0 where
   pub conf : BoxConf
   pub unit : TimeUnit
   pub packets : List Packet
-  pub settle : Bool
   pub box_accepted : AcceptsBox names.box_file conf shown
   pub capture_accepted : AcceptsCapture names.capture unit packets shown
-  pub script_read : ReadsScript names.script settle shown
-  pub more : ¬ (conf.threads ≡ 1) ⊎ (settle ≡ false)
+  pub script_read : ReadsScript names.script false shown
 
 -- the box file is accepted, and this stands behind it
 abbrev pub BehindBox : RunNames → Shown → Type 0 → Type 0
@@ -95,7 +92,7 @@ Judges names (status.BadInput (input.Capture fault)) shown = BehindBox names sho
 Judges names (status.TooLarge limit) shown =
     ((limit ≡ File) × HasTooMany names.box_file shown) ⊎ (BehindBox names shown (CaptureTooLarge names.capture limit shown)
     ⊎ BehindCapture names shown ((limit ≡ File) × HasTooMany names.script shown))
-Judges names status.NotBuilt shown = AsksForMore names shown
+Judges names status.NotBuilt shown = AsksForAnother names shown
 
 -- the statuses that come before anything is written
 abbrev pub IsRefusal : Status → Type 0
@@ -131,5 +128,5 @@ IsRefusalOrMemory status.NotBuilt = Unit {0}
 
 -- what reading all inputs answers: they are accepted, or the status that ends the command
 abbrev pub JudgesInputs : RunNames → Result accepted_of.Inputs Status → Shown → Type 0
-JudgesInputs names (Ok inputs) shown = (conf : BoxConf) × (conf.kind ≡ inputs.kind) × AcceptsInputs names conf inputs.capture.unit inputs.capture.packets shown
+JudgesInputs names (Ok inputs) shown = (conf : BoxConf) × (conf.kind ≡ inputs.kind) × (conf.threads ≡ inputs.threads) × AcceptsInputs names conf inputs.capture.unit inputs.capture.packets shown
 JudgesInputs names (Err status) shown = Judges names status shown × IsRefusalOrMemory status

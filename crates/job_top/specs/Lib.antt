@@ -1,6 +1,9 @@
+pub mod Commands
 pub mod Files
 pub mod Inputs
 pub mod Judging
+pub mod Making
+pub mod Midst
 pub mod Outputs
 pub mod Reading
 pub mod Report

@@ -1,5 +1,5 @@
 -- The outputs of a run: the released capture and the schedule under their names, and the report.
-use Rattle.std.specs.Prelude.{◌≡◌, ◌⊎◌, ℕ, ◌+◌, ◌≤◌, List, [], ◌++◌, Option, Some}
+use Rattle.std.specs.Prelude.{◌≡◌, ℕ, ◌≤◌, List, [], ◌++◌, Some}
 use Rattle.world_io.specs.World.{Shown, Ledger}
 use Rattle.world_io.specs.declared.all.WriteAll.{WriteAll}
 use Rattle.world_io.specs.declared.all.WriteAll.TheVariants as write

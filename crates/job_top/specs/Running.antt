@@ -1,62 +1,61 @@
--- One packet after another is played to its end on one thread.
-use Rattle.std.specs.Prelude.{◌≡◌, ℕ, ◌+◌, ◌*◌, ◌<◌, ◌≤◌, ◌⊎◌, Bool, true, false, List, [], length, Option, Some, None, slice_get, nat_eq, if◌then◌else◌, Ok, map}
+-- One packet after another is played to its end, each on the thread that it is steered to.
+use Rattle.std.specs.Prelude.{◌≡◌, ℕ, ◌+◌, ◌<◌, ◌≤◌, List, length, take, replicate, None, Ok, map}
+use Rattle.std.specs.List.{flat_map}
 use Rattle.plain_text.specs.declared.packet.Packet.{Packet}
+use Rattle.input_logger.specs.Inputs.{thread_of, inputs_of}
 use Rattle.plain_machine.specs.declared.local.Local.{Local}
-use Rattle.plain_machine.specs.declared.local.Move.TheVariants.{Clock, Draw}
+use Rattle.plain_machine.specs.declared.local.Move.TheVariants.{Access, Read, Clock, Draw, Emit, End}
 use Rattle.plain_machine.specs.declared.emission.Emission.{Emission}
 use Rattle.plain_machine.specs.declared.plain_move.PlainMove.{PlainMove}
 use Rattle.plain_machine.specs.Program.{Meaning}
-use Rattle.plain_machine.specs.Machine.{Hand}
 use Rattle.plain_machine.specs.History.{Step, play, thread_after, emissions}
-use Rattle.plain_player.specs.Playing.{Playing, Stands, has_hand, moves_left}
-use Rattle.job_top.specs.declared.running.Running.{Running}
 
--- the program asks for no time and no random word
-abbrev pub AsksNothing : {V : Type 0} → Meaning V → Type 0
-AsksNothing m = (l : Local) → (m.next l ≡ Clock → ⊥) × (m.next l ≡ Draw → ⊥)
+-- A program that goes straight on: it asks for no time and no random word, each of its moves lowers its rank by one, and
+-- it sends each packet out once, by the last move before the end.
+pub record IsStraight {V : Type 0} (m : Meaning V) (fits : ℕ → V → Type 0) : Type 0 where
+  pub no_clock : (l : Local) → m.next l ≡ Clock → ⊥
+  pub no_draw : (l : Local) → m.next l ≡ Draw → ⊥
+  pub begin : (p : Packet) → 1 ≤ m.rank (m.begin p)
+  pub touch : (v : ℕ) (x : V) (l : Local) → m.next l ≡ Access v → fits v x → (2 ≤ m.rank l) × (m.rank (m.touch v x l).1 + 1 ≡ m.rank l)
+  pub look : (v : ℕ) (x : V) (l : Local) → m.next l ≡ Read v → fits v x → (2 ≤ m.rank l) × (m.rank (m.look v x l) + 1 ≡ m.rank l)
+  pub emit : (l : Local) → m.next l ≡ Emit → (m.rank l ≡ 1) × (m.rank (m.emitted l) ≡ 0)
+  pub end : (l : Local) → m.next l ≡ End → m.rank l ≡ 0
 
 -- a packet that a record can have
 abbrev pub IsShort : Packet → Type 0
 IsShort p = length p.bytes ≤ 262144
 
-abbrev pub IsShortEmission : Emission → Type 0
-IsShortEmission e = length e.packet.bytes ≤ 262144
-
--- all packets are inputs of thread 0
-abbrev pub on_one_thread : List Packet → ℕ → List Packet
-on_one_thread packets t = if nat_eq t 0 then packets else []
-
--- the packet in hand is the last input that was taken
-abbrev pub HasTaken : List Packet → ℕ → Option Hand → Type 0
-HasTaken packets taken None = Unit {0}
-HasTaken packets taken (Some h) = (k : ℕ) × (taken ≡ k + 1) × (slice_get packets k ≡ Some h.packet)
-
--- The moves so far are a legal list, the player stands for it, and its packets were sent out. So many inputs were taken.
-pub record Goes {V : Type 0} (m : Meaning V) (packets : List Packet) (taken : ℕ) (moves : List PlainMove) (sent : List Emission) (player : Playing V) : Type 0 where
-  pub steps : List (Step V)
-  pub legal : play m (on_one_thread packets) 1 moves ≡ Ok steps
-  pub stands : Stands m 1 steps player
-  pub sent_is : sent ≡ emissions steps
-  pub taken_is : (thread_after steps 0).taken ≡ taken
-  pub hand_is : HasTaken packets taken (thread_after steps 0).hand
-
--- the moves made and those left of the packet in hand are at most 64 for each input
-abbrev pub IsWithin : {V : Type 0} → Meaning V → ℕ → Playing V → Type 0
-IsWithin m taken player = player.made + moves_left m player 0 ≤ 64 * taken
-
--- a run goes on with the packet at this place: it is the next input, or the one in hand
-abbrev pub CanMove : {V : Type 0} → Meaning V → List Packet → ℕ → List PlainMove → List Emission → Playing V → Type 0
-CanMove m packets at moves sent player =
-    (Goes m packets at moves sent player × (has_hand player 0 ≡ false)) ⊎ (Goes m packets (at + 1) moves sent player × (has_hand player 0 ≡ true))
-
--- Played one after another to their ends: the moves are a legal list on these packets, after which the thread has taken each
--- packet and has none in hand, and these packets were sent out, in order.
-pub record IsSettled {V : Type 0} (m : Meaning V) (packets : List Packet) (moves : List PlainMove) (sent : List Emission) : Type 0 where
-  pub steps : List (Step V)
-  pub legal : play m (on_one_thread packets) 1 moves ≡ Ok steps
-  pub sent_is : sent ≡ emissions steps
-  pub taken : (thread_after steps 0).taken ≡ length packets
-  pub ended : (thread_after steps 0).hand ≡ None
-
 abbrev pub packets_of : List Emission → List Packet
 packets_of sent = map (λ emission. emission.packet) sent
+
+-- the inputs of each of so many threads: of these packets, those that are steered to it
+abbrev pub inputs_on : ℕ → List Packet → ℕ → List Packet
+inputs_on threads packets t = inputs_of (record { threads = threads; packets = packets }) t
+
+-- how many moves a packet takes: its take, as many as its rank, and its end
+abbrev pub moves_for : {V : Type 0} → Meaning V → Packet → ℕ
+moves_for m p = m.rank (m.begin p) + 2
+
+-- so many moves of a packet's thread
+abbrev pub moves_on : ℕ → Packet → ℕ → List PlainMove
+moves_on threads p count = replicate count (record { thread = thread_of p threads; answer = None })
+
+-- all moves of these packets, one packet after another
+abbrev pub moves_in_turn : {V : Type 0} → Meaning V → ℕ → List Packet → List PlainMove
+moves_in_turn m threads packets = flat_map (λ p. moves_on threads p (moves_for m p)) packets
+
+-- The first packets, so many, were played one after another to their ends: the moves are those of the packets in turn. They are a
+-- legal list on the inputs of all packets, which sent these packets out, one for each of the first, and after which each thread
+-- has taken its inputs among the first and has none in hand.
+pub record HasPlayed {V : Type 0} (m : Meaning V) (threads : ℕ) (packets : List Packet) (count : ℕ) (moves : List PlainMove) (sent : List Packet) (steps : List (Step V)) : Type 0 where
+  pub in_turn : moves ≡ moves_in_turn m threads (take count packets)
+  pub legal : play m (inputs_on threads packets) threads moves ≡ Ok steps
+  pub sent_is : sent ≡ packets_of (emissions steps)
+  pub one_each : length sent ≡ count
+  pub taken : (t : ℕ) → t < threads → (thread_after steps t).taken ≡ length (inputs_on threads (take count packets) t)
+  pub ended : (t : ℕ) → t < threads → (thread_after steps t).hand ≡ None
+
+-- all were played to their ends
+pub record IsSettled {V : Type 0} (m : Meaning V) (threads : ℕ) (packets : List Packet) (moves : List PlainMove) (sent : List Packet) : Type 0 where
+  pub steps : List (Step V)
+  pub played : HasPlayed m threads packets (length packets) moves sent steps

@@ -22,6 +22,7 @@ pub struct Capture {
 pub fn read_box_file<W: World>(alloc: Global, world: &mut W, name: &Text) -> Result<BoxConf, Status>
     requires { (W.ledger world.old).given < 2 ^ 32 - 1 }
     ensures judged { IsTrue W.tells → JudgesBox name.now result (W.shown world.old) }
+    ensures threads { IfOk result (λ conf. (1 ≤ conf.threads) × (conf.threads ≤ 16)) }
     ensures refused { IfErr result IsRefusalOrMemory }
     ensures outputs { IsTrue W.tells → KeepsOutputs (W.shown world.old) (W.shown world.new) }
     ensures ledger { AfterReading (W.ledger world.old) (W.ledger world.new) }

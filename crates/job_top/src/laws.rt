@@ -1,8 +1,15 @@
-//! The law of the verdict. It is proved, and does nothing: a caller has it by the call.
-ghost use Rattle.std.specs.Prelude.{◌≡◌};
+//! Laws of the commands. Each is proved, and does nothing: a caller has it by the call.
+ghost use Rattle.std.specs.Prelude.{◌≡◌, ℕ, Ok, Err};
+ghost use Rattle.plain_text.specs.declared.packet.Packet.{Packet};
+ghost use Rattle.packet_headers.specs.declared.flow.Flow.{Flow};
+ghost use Rattle.packet_headers.specs.declared.flow.NotFlow.{NotFlow};
+ghost use Rattle.packet_headers.specs.View.{viewed};
+ghost use Rattle.box_program.specs.Count.{count_meaning};
+ghost use Rattle.monitor_box.specs.Monitor.{monitor_meaning};
 ghost use Rattle.world_io.specs.World.{Shown};
 ghost use Rattle.job_top.specs.declared.status.Status.{Status};
 ghost use Rattle.job_top.specs.Judging.{Judges};
+ghost use Rattle.job_top.specs.Running.{moves_for};
 ghost use Rattle.job_top.specs.Verdict.{IsDecided};
 ghost use Rattle.job_top.specs.Words.{RunNames};
 
@@ -11,4 +18,13 @@ ghost use Rattle.job_top.specs.Words.{RunNames};
 pub fn one_verdict()
     ensures { (names : RunNames) (s r : Status) (shown : Shown)
         → IsDecided s → IsDecided r → Judges names s shown → Judges names r shown → s ≡ r }
+{}
+
+/// How many moves each box makes of a packet: the counting box four, and the monitor five of a flow and four of another packet.
+pub fn boxes_make_so_many_moves()
+    ensures count { (p : Packet) → moves_for count_meaning p ≡ 4 }
+    ensures monitor_flow { (tables : ℕ) (p : Packet) (flow : Flow)
+        → viewed p.bytes p.original ≡ Ok flow → moves_for (monitor_meaning tables) p ≡ 5 }
+    ensures monitor_other { (tables : ℕ) (p : Packet) (answer : NotFlow)
+        → viewed p.bytes p.original ≡ Err answer → moves_for (monitor_meaning tables) p ≡ 4 }
 {}

@@ -1,8 +1,11 @@
 //! The commands of FTMB.
 #![tactic(auto)]
 
+mod command;
 mod inputs;
 mod laws;
+mod make_words;
+mod making;
 mod outputs;
 mod programs;
 mod reading;
@@ -17,8 +20,11 @@ mod tests;
 mod top;
 mod writing;
 
+pub use command::{Command, read_command};
 pub use inputs::{Capture, read_box_file, read_capture_file, read_script_file};
-pub use laws::one_verdict;
+pub use laws::{boxes_make_so_many_moves, one_verdict};
+pub use make_words::{MakeWords, read_make_words};
+pub use making::make_capture;
 pub use outputs::{RunFiles, Written, write_outputs};
 pub use programs::run_program;
 pub use reading::{ReadFile, read_file};

@@ -2,7 +2,7 @@ ghost use Rattle.std.specs.Prelude.{◌≡◌, ◌<◌, ◌≤◌, ◌-◌, ◌^
 ghost use Rattle.world_io.specs.Stream.{Rose};
 ghost use Rattle.job_top.specs.Outputs.{AfterWriting, WritesFronts, WritesWhole};
 ghost use Rattle.job_top.specs.Run.{KeepsShown, Runs};
-ghost use Rattle.job_top.specs.Running.{AsksNothing, IsShort};
+ghost use Rattle.job_top.specs.Running.{IsStraight, IsShort};
 ghost use Rattle.job_top.specs.Texts.{IsTexts};
 ghost use Rattle.plain_text.specs.declared.packet.Unit.{Unit as TimeUnit};
 
@@ -26,14 +26,17 @@ struct RunTexts {
 fn run_texts<P: Program>(
     alloc: Global,
     program: &P,
+    threads: u32,
     packets: &[Packet],
 ) -> Result<RunTexts, NoMemory>
-    requires asks { AsksNothing (P.meaning program.now) }
+    requires straight { IsStraight (P.meaning program.now) (P.fits program.now) }
+    requires some_threads { 1 ≤ threads }
+    requires few_threads { threads ≤ 16 }
     requires few { length packets.now ≤ 65536 }
     requires short { All IsShort packets.now }
-    ensures { IfOk result (λ texts. (unit : TimeUnit) → Runs (P.meaning program.now) packets.now unit (λ released schedule report. IsTexts unit released schedule report texts)) }
+    ensures { IfOk result (λ texts. (unit : TimeUnit) → Runs (P.meaning program.now) threads packets.now unit (λ released schedule report. IsTexts unit released schedule report texts)) }
 {
-    let run = play_packets(alloc, program, packets)?;
+    let run = play_packets(alloc, program, threads, packets)?;
     let records = put_records(alloc, run.sent.as_slice())?;
     let schedule = put_schedule(alloc, &run.schedule)?;
     let moves = run.schedule.len() as u64;
@@ -46,29 +49,32 @@ fn run_texts<P: Program>(
     })
 }
 
-/// Runs a program on all packets, and writes the outputs.
+/// Runs a program on all packets, on so many threads, and writes the outputs.
 pub fn run_program<P: Program, W: World>(
     alloc: Global,
     program: &P,
+    threads: u32,
     unit: Unit,
     packets: &[Packet],
     world: &mut W,
     released: &Text,
     schedule: &Text,
 ) -> Written
-    requires asks { AsksNothing (P.meaning program.now) }
+    requires straight { IsStraight (P.meaning program.now) (P.fits program.now) }
+    requires some_threads { 1 ≤ threads }
+    requires few_threads { threads ≤ 16 }
     requires few { length packets.now ≤ 65536 }
     requires short { All IsShort packets.now }
     requires room { (W.ledger world.old).given < 2 ^ 32 - 2 }
     requires apart { released.now ≡ schedule.now → ⊥ }
-    ensures whole { IsTrue W.tells → result ≡ Written.All → Runs (P.meaning program.now) packets.now unit
+    ensures whole { IsTrue W.tells → result ≡ Written.All → Runs (P.meaning program.now) threads packets.now unit
         (λ captured moves report. WritesWhole released.now schedule.now captured moves report (W.shown world.old) (W.shown world.new)) }
-    ensures fronts { IsTrue W.tells → KeepsShown (W.shown world.old) (W.shown world.new) ⊎ Runs (P.meaning program.now) packets.now unit
+    ensures fronts { IsTrue W.tells → KeepsShown (W.shown world.old) (W.shown world.new) ⊎ Runs (P.meaning program.now) threads packets.now unit
         (λ captured moves report. WritesFronts released.now schedule.now captured moves report (W.shown world.old) (W.shown world.new)) }
     ensures ledger { AfterWriting (W.ledger world.old) (W.ledger world.new) }
     ensures cause { result ≡ Written.Failed → Rose (W.ledger world.old).write_faults (W.ledger world.new).write_faults }
 {
-    let Ok(texts) = run_texts(alloc, program, packets) else {
+    let Ok(texts) = run_texts(alloc, program, threads, packets) else {
         return Written::NoMemory;
     };
     let header = put_header(unit);

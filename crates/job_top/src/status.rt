@@ -35,7 +35,7 @@ pub enum Status {
     BadInput(InputFault),
     #[error("too large: {0}")]
     TooLarge(Limit),
-    /// The inputs are accepted, and ask for what is not there: a script other than `settle`, or several threads.
+    /// The inputs are accepted, and ask for what is not there: a script other than `settle`.
     #[error("not built")]
     NotBuilt,
 }

@@ -4,6 +4,7 @@ use crate::{InputFault, Status, ftmb};
 use pcap_io::{CaptureCause, CaptureFault};
 use plain_text::{Bytes, Limit, LineCause, LineFault, NoMemory, Sequence, Text};
 use std::alloc::Global;
+use std::process::Abort;
 use std::test::Fail;
 use world_io::MemoryWorld;
 
@@ -154,6 +155,85 @@ fn runs_the_counting_box(rt: HostRuntime) -> Result<(), Fail> {
     Ok(())
 }
 
+/// Two packets: that of `ONE_PACKET`, and the same from port 5001, a microsecond later.
+const TWO_PACKETS: &[u8] =
+    b"\xd4\xc3\xb2\xa1\x02\0\x04\0\0\0\0\0\0\0\0\0\xff\xff\0\0\x01\0\0\0d\0\0\0\x05\0\0\0*\0\0\0*\0\0\0\x02\0\xaa\xaa\xaa\xaa\x02\0\0\0\0\x01\x08\0E\0\0\x1c\0\x01\0\0@\x11F\x91\n\0\0\x05\xc63d\x07\x13\x88\05\0\x08\xb7\xe1d\0\0\0\x06\0\0\0*\0\0\0*\0\0\0\x02\0\xaa\xaa\xaa\xaa\x02\0\0\0\0\x01\x08\0E\0\0\x1c\0\x02\0\0@\x11F\x90\n\0\0\x05\xc63d\x07\x13\x89\05\0\x08\xb7\xe0";
+
+/// They as the counting box releases them, with the numbers 1 and 2 in bytes 2 to 5.
+const TWO_COUNTED: &[u8] =
+    b"\xd4\xc3\xb2\xa1\x02\0\x04\0\0\0\0\0\0\0\0\0\0\0\x04\0\x01\0\0\0d\0\0\0\x05\0\0\0*\0\0\0*\0\0\0\x02\0\0\0\0\x01\x02\0\0\0\0\x01\x08\0E\0\0\x1c\0\x01\0\0@\x11F\x91\n\0\0\x05\xc63d\x07\x13\x88\05\0\x08\xb7\xe1d\0\0\0\x06\0\0\0*\0\0\0*\0\0\0\x02\0\0\0\0\x02\x02\0\0\0\0\x01\x08\0E\0\0\x1c\0\x02\0\0@\x11F\x90\n\0\0\x05\xc63d\x07\x13\x89\05\0\x08\xb7\xe0";
+
+#[test]
+fn runs_on_several_threads(rt: HostRuntime) -> Result<(), Fail> {
+    let case = Case {
+        box_file: b"box count\nthreads 2",
+        capture: TWO_PACKETS,
+        released: Some(TWO_COUNTED),
+        schedule: Some(b"0\n0\n0\n0\n1\n1\n1\n1\n"),
+        report: b"settle moves 8 released 2 epoch 1\ndone fed 2 epoch 1 released 2\n",
+        ..ONE
+    };
+    assert!(rt; holds(rt.alloc(), case)?);
+    Ok(())
+}
+
+/// The packet of `ONE_PACKET` as the monitor releases it: unchanged.
+const ONE_UNCHANGED: &[u8] =
+    b"\xd4\xc3\xb2\xa1\x02\0\x04\0\0\0\0\0\0\0\0\0\0\0\x04\0\x01\0\0\0d\0\0\0\x05\0\0\0*\0\0\0*\0\0\0\x02\0\xaa\xaa\xaa\xaa\x02\0\0\0\0\x01\x08\0E\0\0\x1c\0\x01\0\0@\x11F\x91\n\0\0\x05\xc63d\x07\x13\x88\05\0\x08\xb7\xe1";
+
+#[test]
+fn runs_the_monitor(rt: HostRuntime) -> Result<(), Fail> {
+    let case = Case {
+        box_file: b"box monitor\nshards 2",
+        released: Some(ONE_UNCHANGED),
+        schedule: Some(b"0\n0\n0\n0\n0\n"),
+        report: b"settle moves 5 released 1 epoch 1\ndone fed 1 epoch 1 released 1\n",
+        ..ONE
+    };
+    assert!(rt; holds(rt.alloc(), case)?);
+    Ok(())
+}
+
+/// What the command `make` with these numbers comes to: its status, its report and the capture.
+fn makes(
+    rt: &impl Abort,
+    alloc: Global,
+    numbers: [&str; 2],
+    want: (Status, &[u8], Option<&[u8]>),
+) -> Result<(), NoMemory> {
+    let mut world = MemoryWorld::new(alloc)?;
+    let capture = Text::of(alloc, "c")?;
+    let words = [
+        Text::of(alloc, "make")?,
+        Text::of(alloc, numbers[0])?,
+        Text::of(alloc, numbers[1])?,
+        Text::of(alloc, "c")?,
+    ];
+    let status = ftmb(alloc, &words, &mut world);
+    assert_eq!(rt; status, want.0);
+    assert!(rt; world.report() == want.1);
+    assert!(rt; world.bytes(&capture) == want.2);
+    Ok(())
+}
+
+#[test]
+fn makes_captures(rt: HostRuntime) -> Result<(), Fail> {
+    let alloc = rt.alloc();
+    let none = (Status::Done, b"made 0\n".as_slice(), Some(WRITTEN_HEADER));
+    makes(&rt, alloc, ["7", "0"], none)?;
+    let refused = (Status::BadWords, b"".as_slice(), None);
+    for numbers in [
+        ["7", "65537"],
+        ["x", "1"],
+        ["7", "-1"],
+        ["7", ""],
+        ["18446744073709551616", "1"],
+    ] {
+        makes(&rt, alloc, numbers, refused)?;
+    }
+    Ok(())
+}
+
 #[test]
 fn judges_the_inputs_in_their_order(rt: HostRuntime) -> Result<(), Fail> {
     let alloc = rt.alloc();
@@ -180,11 +260,6 @@ fn judges_the_inputs_in_their_order(rt: HostRuntime) -> Result<(), Fail> {
         },
         Case {
             script: b"stop 1",
-            status: Status::NotBuilt,
-            ..REFUSED
-        },
-        Case {
-            box_file: b"box count\nthreads 2",
             status: Status::NotBuilt,
             ..REFUSED
         },

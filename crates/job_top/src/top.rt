@@ -6,11 +6,12 @@ ghost use Rattle.job_top.specs.Outputs.{AfterWriting, WritesFronts, WritesWhole}
 ghost use Rattle.job_top.specs.Reading.{AfterInputs};
 ghost use Rattle.job_top.specs.Run.{KeepsShown, RunsFronts, RunsKind, RunsWhole};
 ghost use Rattle.job_top.specs.Running.{IsShort};
-ghost use Rattle.job_top.specs.Words.{run_names, names_of};
+ghost use Rattle.job_top.specs.Commands.{Leaves, LeavesFronts, JudgesInputsOf, KeepsNames};
+ghost use Rattle.job_top.specs.Words.{asked, names_of};
 
 use crate::{
-    Capture, RunWords, Status, Written, read_box_file, read_capture_file, read_run_words,
-    read_script_file, run_program,
+    Capture, Command, RunWords, Status, Written, make_capture, read_box_file, read_capture_file,
+    read_command, read_script_file, run_program,
 };
 use box_conf::BoxKind;
 use plain_text::Text;
@@ -21,6 +22,8 @@ use world_io::World;
 #[derive(Debug, Drop)]
 pub struct Inputs {
     pub kind: BoxKind,
+    /// The threads of the box, 1 to 16.
+    pub threads: u32,
     pub capture: Capture,
 }
 
@@ -33,6 +36,7 @@ fn read_inputs<W: World>(
     requires { (W.ledger world.old).given < 2 ^ 31 }
     ensures judged { IsTrue W.tells → JudgesInputs (names_of names.entry) result (W.shown world.old) }
     ensures refused { IfErr result IsRefusalOrMemory }
+    ensures threads { IfOk result (λ inputs. (1 ≤ inputs.threads) × (inputs.threads ≤ 16)) }
     ensures few { IfOk result (λ inputs. length inputs.capture.packets ≤ 65536) }
     ensures short { IfOk result (λ inputs. All IsShort inputs.capture.packets) }
     ensures outputs { IsTrue W.tells → KeepsOutputs (W.shown world.old) (W.shown world.new) }
@@ -42,14 +46,12 @@ fn read_inputs<W: World>(
     let conf = read_box_file(alloc, world, names.box_file)?;
     let capture = read_capture_file(alloc, world, names.capture)?;
     let settle = read_script_file(alloc, world, names.script)?;
-    if conf.threads != 1 {
-        return Err(Status::NotBuilt);
-    }
     if !settle {
         return Err(Status::NotBuilt);
     }
     Ok(Inputs {
         kind: conf.kind,
+        threads: conf.threads,
         capture,
     })
 }
@@ -71,13 +73,15 @@ impl Written {
 
 /// Runs the box on the packets, and writes the outputs.
 fn run_box<W: World>(alloc: Global, world: &mut W, names: RunWords<'_>, inputs: &Inputs) -> Written
+    requires some_threads { 1 ≤ inputs.now.threads }
+    requires few_threads { inputs.now.threads ≤ 16 }
     requires few { length inputs.now.capture.packets ≤ 65536 }
     requires short { All IsShort inputs.now.capture.packets }
     requires room { (W.ledger world.old).given < 2 ^ 32 - 2 }
     requires apart { names.released.now ≡ names.schedule.now → ⊥ }
-    ensures whole { IsTrue W.tells → result ≡ Written.All → RunsKind inputs.now.kind inputs.now.capture.packets inputs.now.capture.unit
+    ensures whole { IsTrue W.tells → result ≡ Written.All → RunsKind inputs.now.kind inputs.now.threads inputs.now.capture.packets inputs.now.capture.unit
         (λ released schedule report. WritesWhole (names_of names.entry).released (names_of names.entry).schedule released schedule report (W.shown world.old) (W.shown world.new)) }
-    ensures fronts { IsTrue W.tells → KeepsShown (W.shown world.old) (W.shown world.new) ⊎ RunsKind inputs.now.kind inputs.now.capture.packets inputs.now.capture.unit
+    ensures fronts { IsTrue W.tells → KeepsShown (W.shown world.old) (W.shown world.new) ⊎ RunsKind inputs.now.kind inputs.now.threads inputs.now.capture.packets inputs.now.capture.unit
         (λ released schedule report. WritesFronts (names_of names.entry).released (names_of names.entry).schedule released schedule report (W.shown world.old) (W.shown world.new)) }
     ensures ledger { AfterWriting (W.ledger world.old) (W.ledger world.new) }
     ensures cause { result ≡ Written.Failed → Rose (W.ledger world.old).write_faults (W.ledger world.new).write_faults }
@@ -88,6 +92,17 @@ fn run_box<W: World>(alloc: Global, world: &mut W, names: RunWords<'_>, inputs: 
         BoxKind::Count(count) => run_program(
             alloc,
             count,
+            inputs.threads,
+            unit,
+            packets,
+            world,
+            names.released,
+            names.schedule,
+        ),
+        BoxKind::Monitor(monitor) => run_program(
+            alloc,
+            monitor,
+            inputs.threads,
             unit,
             packets,
             world,
@@ -118,26 +133,30 @@ fn run<W: World>(alloc: Global, world: &mut W, names: RunWords<'_>) -> Status
 
 /// The top call: does what the words ask of the world, and answers what it came to.
 ///
-/// The words are `run BOX CAPTURE SCRIPT RELEASED SCHEDULE`, five names of files of which the two outputs differ. The box is run
-/// on the packets of the capture, one after another. RELEASED is the capture of the packets that it sent out, SCHEDULE the list
-/// of the moves that it made, and the report has one line for the script's event and a last one.
+/// `run BOX CAPTURE SCRIPT RELEASED SCHEDULE`, five names of files of which the two outputs differ: the box is run on the packets of
+/// the capture, one after another, each on the thread that it is steered to. RELEASED is the capture of the packets that it sent
+/// out, SCHEDULE the list of the moves that it made, and the report has one line for the script's event and a last one. An output
+/// is created only when all input files are accepted; the first that is refused, in the order of the words, decides the status.
 ///
-/// An output is created only when all input files are accepted; the first that is refused, in the order of the words, decides
-/// the status. A world that has given fewer than 2^31 numbers has room for the files of any command.
+/// `make SEED N CAPTURE`, two numbers of which N is at most 65,536, and the name of a file: N packets are made from the seed and
+/// written to CAPTURE, and the report says how many.
+///
+/// A world that has given fewer than 2^31 numbers has room for the files of any command.
 pub fn ftmb<W: World>(alloc: Global, words: &[Text], world: &mut W) -> Status
     requires room { (W.ledger world.old).given < 2 ^ 31 }
-    ensures bad_words { result ≡ Status.BadWords ↔ run_names words.now ≡ None }
+    ensures bad_words { result ≡ Status.BadWords ↔ asked words.now ≡ None }
     ensures nothing_asked { result ≡ Status.BadWords → world.new ≡ world.old }
-    ensures done { IsTrue W.tells → result ≡ Status.Done → IfSome (run_names words.now) (λ names. RunsWhole names (W.shown world.old) (W.shown world.new)) }
-    ensures judged { IsTrue W.tells → IfSome (run_names words.now) (λ names. Judges names result (W.shown world.old)) }
-    ensures fronts { IsTrue W.tells → IfSome (run_names words.now) (λ names. RunsFronts names (W.shown world.old) (W.shown world.new)) }
+    ensures done { IsTrue W.tells → result ≡ Status.Done → IfSome (asked words.now) (λ command. Leaves command (W.shown world.old) (W.shown world.new)) }
+    ensures judged { IsTrue W.tells → IfSome (asked words.now) (λ command. JudgesInputsOf command result (W.shown world.old)) }
+    ensures fronts { IsTrue W.tells → IfSome (asked words.now) (λ command. LeavesFronts command (W.shown world.old) (W.shown world.new)) }
     ensures refused { IsTrue W.tells → IsRefusal result → KeepsShown (W.shown world.old) (W.shown world.new) }
-    ensures others { IsTrue W.tells → IfSome (run_names words.now) (λ names. KeepsOthers names.released names.schedule (W.shown world.old) (W.shown world.new)) }
+    ensures others { IsTrue W.tells → IfSome (asked words.now) (λ command. KeepsNames command (W.shown world.old) (W.shown world.new)) }
     ensures read_fault { result ≡ Status.ReadFault → Rose (W.ledger world.old).read_faults (W.ledger world.new).read_faults }
     ensures write_fault { result ≡ Status.WriteFault → Rose (W.ledger world.old).write_faults (W.ledger world.new).write_faults }
 {
-    match read_run_words(words) {
-        Some(names) => run(alloc, world, names),
+    match read_command(words) {
+        Some(Command::Run(names)) => run(alloc, world, names),
+        Some(Command::Make(words)) => make_capture(alloc, world, words).status(),
         None => Status::BadWords,
     }
 }

@@ -1,4 +1,3 @@
-use Rattle.world_io.specs.declared.all.WriteAll.TheVariants as write
 use Rattle.job_top.proofs.Filling.{filled_records, filled_schedule, filled_report}
 use Rattle.job_top.proofs.outputs.fill_outputs.Goals as goal
 

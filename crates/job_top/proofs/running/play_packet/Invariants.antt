@@ -1,7 +1,7 @@
-use Rattle.std.proofs.Common.{◌+◌, All}
-use Rattle.plain_player.specs.Hands.{FitsProgram}
-use Rattle.plain_player.specs.Playing.{moves_left}
-use Rattle.job_top.specs.Running.{Goes, IsWithin, IsShortEmission}
+use Rattle.std.proofs.Common.{All}
+use Rattle.master_core.specs.Mastered.{FitsProgram, moves_left, place_in_hand}
+use Rattle.job_top.specs.Running.{IsShort}
+use Rattle.job_top.specs.Midst.{HasMoved}
 use Rattle.job_top.proofs.running.play_packet.Given as goal
 
 -- the packet was taken, and the moves left of it fall
@@ -9,11 +9,10 @@ abbrev pub invariant-moves : goal.invariant-moves
 invariant-moves g l =
     let m = g.P.Program.meaning l.program in
     record {
-      goes : Goes m l.packets (l.at + 1) l.run.schedule l.run.sent l.run.player;
-      fits : FitsProgram m (g.P.Program.fits l.program) l.run.player.values;
-      within : IsWithin m (l.at + 1) l.run.player;
-      sent : All IsShortEmission l.run.sent;
+      moved : HasMoved m l.threads l.packets l.at l.thread l.run.schedule l.run.sent l.run.master;
+      fits : FitsProgram m (g.P.Program.fits l.program) l.run.master;
+      sent : All IsShort l.run.sent;
     }
 
 abbrev pub decreases-moves : goal.decreases-moves
-decreases-moves g l = moves_left (g.P.Program.meaning l.program) l.run.player 0
+decreases-moves g l = moves_left (g.P.Program.meaning l.program) (place_in_hand l.run.master l.thread)

@@ -1,0 +1,23 @@
+ghost use Rattle.std.specs.Prelude.{◌≡◌, MatchOption, None, Some};
+ghost use Rattle.job_top.specs.Words.{asked, asked_of};
+
+use crate::{MakeWords, RunWords, read_make_words, read_run_words};
+use plain_text::Text;
+
+/// A command, with what its words name.
+#[derive(Clone, Copy, Debug)]
+pub enum Command<'a> {
+    Run(RunWords<'a>),
+    Make(MakeWords<'a>),
+}
+
+/// The command that the words ask for. None where they are no command's.
+pub fn read_command(words: &[Text]) -> Option<Command<'_>>
+    ensures { MatchOption result (asked words.now ≡ None) (λ command. asked words.now ≡ Some (asked_of command)) }
+{
+    if let Some(names) = read_run_words(words) {
+        return Some(Command::Run(names));
+    }
+    let names = read_make_words(words)?;
+    Some(Command::Make(names))
+}
