@@ -18,6 +18,11 @@ build/bench_headers: $(SOURCES)
 	mkdir -p build
 	install -m 755 crates/bench_headers/out/bench_headers $@
 
+build/bench_moves: $(SOURCES)
+	cd crates/bench_moves && $(RT) run -- master 1 1
+	mkdir -p build
+	install -m 755 crates/bench_moves/out/bench_moves $@
+
 # Every proof, edit that must fail, test and stored run.
 test:
 	$(RT) ci
@@ -26,12 +31,14 @@ test:
 example: build/ftmb
 	scripts/example build/ftmb crates/ftmb/data build/example
 
-# The bytes summed and the frames rewritten in a second, and the packets run in a second beside cat of the same file.
-bench: build/bench_headers build/ftmb
+# The bytes summed and the frames rewritten in a second; the packets made and run in a second; and the moves that a master makes in a
+# second, beside those of the plain player.
+bench: build/bench_headers build/bench_moves build/ftmb
 	scripts/bench build/bench_headers
-	scripts/bench_run build/ftmb build/bench
+	scripts/bench_run build/ftmb build/bench_moves build/bench
 
-# Runs the program on captures in all four forms, and has tcpdump and Wireshark's tools read what was released.
+# Runs the program on captures in all four forms, and has tcpdump and Wireshark's tools read what was released; and has tshark verify
+# the checksums of generated packets.
 interop: build/ftmb
 	scripts/interop build/ftmb build/interop
 
