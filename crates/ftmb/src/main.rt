@@ -2,9 +2,11 @@
 #![tactic(auto)]
 
 ghost use Rattle.std.specs.Prelude.{◌≡◌, ◌⊎◌, None};
-ghost use Rattle.job_top.specs.Words.{run_names};
+ghost use Rattle.job_top.specs.Words.{asked};
 
 mod asked;
+#[cfg(test)]
+mod tests;
 mod words;
 
 use asked::{Request, read_request};
@@ -19,13 +21,20 @@ const VERSION: &str = "ftmb 0.1.0\n";
 const HELP: &str = "\
 ftmb run BOX CAPTURE SCRIPT RELEASED SCHEDULE
 
-Runs a box on the packets of a capture.
+Runs a box on the packets of a capture, one after another, each on the
+thread that its flow is steered to.
 
   BOX       text that names the box, read
   CAPTURE   libpcap savefile of the packets to play, read
   SCRIPT    text of what is to happen, `settle` so far, read
   RELEASED  capture of the packets that were released, written
   SCHEDULE  text of the moves that were made, written
+
+ftmb make SEED N CAPTURE
+
+Makes N packets, at most 65,536, from a number, always the same ones.
+
+  CAPTURE   libpcap savefile of the packets, written
 
 The report is written on standard output.
 
@@ -58,8 +67,8 @@ fn run(rt: &HostRuntime) -> Status {
 
 /// Runs a command over the files of the system.
 fn run_command(rt: &HostRuntime, words: &[Text]) -> Status
-    ensures bad_words { result ≡ Status.BadWords → run_names words.now ≡ None }
-    ensures no_names { run_names words.now ≡ None → (result ≡ Status.BadWords) ⊎ (result ≡ Status.NoMemory) }
+    ensures bad_words { result ≡ Status.BadWords → asked words.now ≡ None }
+    ensures no_command { asked words.now ≡ None → (result ≡ Status.BadWords) ⊎ (result ≡ Status.NoMemory) }
 {
     let Ok(host) = rt.clone() else {
         return Status::NoMemory;
