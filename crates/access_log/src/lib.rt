@@ -10,5 +10,3 @@ pub use entry::{Added, Entry, Output, Outputs, Turn};
 pub use entry_order::What;
 pub use held::{Held, Kept};
 
-#[cfg(test)]
-mod tests;

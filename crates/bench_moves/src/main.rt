@@ -7,7 +7,7 @@
 ghost use Rattle.std.specs.Prelude.{◌≤◌, All, length, IfOk};
 ghost use Rattle.job_top.specs.Running.{IsShort};
 
-use anyhow::{Context, anyhow, ensure};
+use anyhow::{Context, anyhow, bail, ensure};
 use box_program::{CountBox, Program};
 use job_top::play_packets;
 use plain_machine::{PlainMove, Schedule};
@@ -88,9 +88,9 @@ fn main(rt: HostRuntime) -> anyhow::Result<()> {
     for _ in 0..rounds {
         let done = match who.as_str() {
             "master" => play_with_master(rt.alloc(), &packets)?,
-            _ => play_plainly(rt.alloc(), &CountBox::new(), packets.as_slice()).map_err(
-                |error| anyhow!("{error:?}"),
-            )?,
+            "player" => play_plainly(rt.alloc(), &CountBox::new(), packets.as_slice())
+                .map_err(|error| anyhow!("{error:?}"))?,
+            _ => bail!("{who} is neither player nor master"),
         };
         moves = moves.saturating_add(done.moves);
         sent = sent.saturating_add(done.sent);

@@ -58,7 +58,7 @@ fn a_run_reads_and_writes_the_named_files(rt: HostRuntime) -> Result<(), Fail> {
     fs::remove_dir_all(&rt, folder.as_str())?;
     assert_eq!(rt; status, Status::Done);
     assert_eq!(rt; released.as_slice(), RELEASED);
-    assert_eq!(rt; schedule.as_slice(), b"0\n0\n0\n0\n");
+    assert_eq!(rt; schedule.as_slice(), b"0\n0\n0\n0\n".as_slice());
     assert_eq!(rt; capture.as_slice(), CAPTURE);
     Ok(())
 }

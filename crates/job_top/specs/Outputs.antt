@@ -1,12 +1,13 @@
 -- The outputs of a run: the released capture and the schedule under their names, and the report.
-use Rattle.std.specs.Prelude.{◌≡◌, ℕ, ◌≤◌, List, [], ◌++◌, Some}
+use Rattle.std.specs.Prelude.{◌≡◌, ℕ, ◌+◌, ◌≤◌, List, [], ◌++◌, Some}
 use Rattle.world_io.specs.World.{Shown, Ledger}
 use Rattle.world_io.specs.declared.all.WriteAll.{WriteAll}
 use Rattle.world_io.specs.declared.all.WriteAll.TheVariants as write
 use Rattle.job_top.specs.Files.{IsFile, IsFront, HasFront, KeepsOthers}
 
--- only writing has gone on
+-- only writing has gone on, to at most two more files
 pub record AfterWriting (old new : Ledger) : Type 0 where
+  pub given : new.given ≤ old.given + 2
   pub read_faults : new.read_faults ≡ old.read_faults
   pub write_faults : old.write_faults ≤ new.write_faults
 

@@ -1,4 +1,4 @@
--- The numbers that a world gave while a command read its inputs.
+-- What a command does to the ledger of its world while it reads its inputs: only reading goes on, of at most three files.
 use Rattle.std.specs.Prelude.{◌≡◌, ◌+◌, ◌≤◌}
 use Rattle.world_io.specs.World.{Ledger}
 

@@ -15,8 +15,6 @@ mod run_words;
 mod running;
 mod script;
 mod status;
-#[cfg(test)]
-mod tests;
 mod top;
 mod writing;
 

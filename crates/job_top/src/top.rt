@@ -1,4 +1,4 @@
-ghost use Rattle.std.specs.Prelude.{◌≡◌, ◌<◌, ◌≤◌, ◌-◌, ◌^◌, ◌⊎◌, ◌↔◌, All, length, None, IsTrue, IfErr, IfOk, IfSome, IsErrOf};
+ghost use Rattle.std.specs.Prelude.{◌≡◌, ◌+◌, ◌<◌, ◌≤◌, ◌-◌, ◌^◌, ◌⊎◌, ◌↔◌, All, length, None, IsTrue, IfErr, IfOk, IfSome, IsErrOf};
 ghost use Rattle.world_io.specs.Stream.{Rose};
 ghost use Rattle.job_top.specs.Files.{KeepsOutputs, KeepsOthers};
 ghost use Rattle.job_top.specs.Judging.{IsOutcome, IsRefusal, IsRefusalOrMemory, Judges, JudgesInputs};
@@ -122,6 +122,7 @@ fn run<W: World>(alloc: Global, world: &mut W, names: RunWords<'_>) -> Status
     ensures refused { IsTrue W.tells → IsRefusal result → KeepsShown (W.shown world.old) (W.shown world.new) }
     ensures words { result ≡ Status.BadWords → ⊥ }
     ensures others { IsTrue W.tells → KeepsOthers (names_of names.entry).released (names_of names.entry).schedule (W.shown world.old) (W.shown world.new) }
+    ensures given { (W.ledger world.new).given ≤ (W.ledger world.old).given + 5 }
     ensures read_fault { result ≡ Status.ReadFault → Rose (W.ledger world.old).read_faults (W.ledger world.new).read_faults }
     ensures write_fault { result ≡ Status.WriteFault → Rose (W.ledger world.old).write_faults (W.ledger world.new).write_faults }
 {
@@ -141,7 +142,7 @@ fn run<W: World>(alloc: Global, world: &mut W, names: RunWords<'_>) -> Status
 /// `make SEED N CAPTURE`, two numbers of which N is at most 65,536, and the name of a file: N packets are made from the seed and
 /// written to CAPTURE, and the report says how many.
 ///
-/// A world that has given fewer than 2^31 numbers has room for the files of any command.
+/// A world that has given fewer than 2^31 numbers has room for the files of any command, which are five at most.
 pub fn ftmb<W: World>(alloc: Global, words: &[Text], world: &mut W) -> Status
     requires room { (W.ledger world.old).given < 2 ^ 31 }
     ensures bad_words { result ≡ Status.BadWords ↔ asked words.now ≡ None }
@@ -151,6 +152,7 @@ pub fn ftmb<W: World>(alloc: Global, words: &[Text], world: &mut W) -> Status
     ensures fronts { IsTrue W.tells → IfSome (asked words.now) (λ command. LeavesFronts command (W.shown world.old) (W.shown world.new)) }
     ensures refused { IsTrue W.tells → IsRefusal result → KeepsShown (W.shown world.old) (W.shown world.new) }
     ensures others { IsTrue W.tells → IfSome (asked words.now) (λ command. KeepsNames command (W.shown world.old) (W.shown world.new)) }
+    ensures given { (W.ledger world.new).given ≤ (W.ledger world.old).given + 5 }
     ensures read_fault { result ≡ Status.ReadFault → Rose (W.ledger world.old).read_faults (W.ledger world.new).read_faults }
     ensures write_fault { result ≡ Status.WriteFault → Rose (W.ledger world.old).write_faults (W.ledger world.new).write_faults }
 {

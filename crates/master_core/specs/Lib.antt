@@ -4,5 +4,4 @@ pub mod Standing
 pub mod Stepping
 pub mod Deeds
 pub mod Lists
-pub mod Mixed
 pub mod Holding

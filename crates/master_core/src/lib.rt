@@ -6,12 +6,8 @@ mod deeds;
 mod laws;
 mod lists;
 mod master;
-#[cfg(test)]
-mod mixed;
 mod parts;
 mod step;
-#[cfg(test)]
-mod tests;
 mod wants;
 
 pub use access_log::Turn;

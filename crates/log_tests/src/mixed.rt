@@ -1,6 +1,6 @@
 ghost use Rattle.std.specs.Prelude.{◌≡◌, ℕ, ◌<◌, ◌^◌};
 ghost use Rattle.box_program.specs.Count.{IsCounter};
-ghost use Rattle.master_core.specs.Mixed.{mixed_meaning, mixed_lawful};
+ghost use Rattle.log_tests.specs.Mixed.{mixed_meaning, mixed_lawful};
 
 use box_program::Program;
 use plain_machine::{Local, Move};

@@ -1,5 +1,5 @@
 use Rattle.std.proofs.Common.{◌≡◌, length}
-use Rattle.access_log.proofs.tests.hold.Given as goal
+use Rattle.log_tests.proofs.held.hold.Given as goal
 
 abbrev pub invariant-loop-entry : goal.invariant-loop-entry
 invariant-loop-entry l = length l.held ≡ 3

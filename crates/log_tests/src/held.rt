@@ -1,6 +1,6 @@
 ghost use Rattle.std.specs.Prelude.{◌≡◌, ℕ, length, IfOk};
 
-use crate::{Added, Entry, Held, Kept, What};
+use access_log::{Added, Entry, Held, Kept, What};
 use entry_order::{LogEntry, closed_part, contains, first_missing, stamp_component};
 use rand_core::utils::NextWord;
 use rand_pcg::Pcg32;

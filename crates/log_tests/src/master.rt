@@ -2,10 +2,10 @@ ghost use Rattle.std.specs.Prelude.{◌≡◌, ℕ, ◌<◌, length, IfOk};
 ghost use Rattle.master_core.specs.Mastered.{FitsProgram};
 
 use crate::mixed::MixedBox;
-use crate::{Master, Stepped, Turn, Wants};
-use access_log::{Entry, Held, What};
+use access_log::{Entry, Held, Turn, What};
 use box_program::{CountBox, PeekBox, Program};
 use entry_order::{LogEntry, precedes, precedes_output, stamp_component, weight};
+use master_core::{Master, Stepped, Wants};
 use plain_text::{Bytes, NoMemory, Packet};
 use rand_core::utils::NextWord;
 use rand_pcg::Pcg32;

@@ -1,10 +1,9 @@
-ghost use Rattle.std.specs.Prelude.{◌≡◌, IfOk, length};
+ghost use Rattle.std.specs.Prelude.{◌≡◌, ◌+◌, ◌≤◌, length};
 
-use crate::{InputFault, Status, ftmb};
+use job_top::{InputFault, Status, ftmb};
 use pcap_io::{CaptureCause, CaptureFault};
 use plain_text::{Bytes, Limit, LineCause, LineFault, NoMemory, Sequence, Text};
 use std::alloc::Global;
-use std::process::Abort;
 use std::test::Fail;
 use world_io::MemoryWorld;
 
@@ -63,67 +62,81 @@ const REFUSED: Case<'static> = Case {
     ..ONE
 };
 
-/// A world with the input files of a case.
-fn world_of(alloc: Global, case: Case<'_>) -> Result<MemoryWorld, NoMemory>
-    ensures { IfOk result (λ world. length world.files ≡ 0) }
+/// The words of a run on the files of a case.
+const RUN: [&str; 6] = ["run", "box", "in", "script", "out", "moves"];
+
+/// Sets the bytes of a name.
+fn add_file(
+    alloc: Global,
+    world: &mut MemoryWorld,
+    name: &str,
+    bytes: &[u8],
+) -> Result<(), NoMemory>
+    ensures { length world.new.files ≡ length world.old.files }
 {
-    let mut world = MemoryWorld::new(alloc)?;
-    world.add(&Text::of(alloc, "box")?, Bytes::of(alloc, case.box_file)?)?;
-    world.add(&Text::of(alloc, "in")?, Bytes::of(alloc, case.capture)?)?;
-    world.add(&Text::of(alloc, "script")?, Bytes::of(alloc, case.script)?)?;
-    Ok(world)
+    let name = Text::of(alloc, name)?;
+    world.add(&name, Bytes::of(alloc, bytes)?)
 }
 
-/// Whether the run comes to what the case says.
+/// What words come to.
+fn give_words(alloc: Global, world: &mut MemoryWorld, words: &[&str]) -> Result<Status, NoMemory>
+    requires { length world.old.files ≤ 1000 }
+    ensures { length world.new.files ≤ length world.old.files + 5 }
+{
+    let mut texts = Sequence::new(alloc);
+    for word in words {
+        texts.push(Text::of(alloc, word)?)?;
+    }
+    Ok(ftmb(alloc, texts.as_slice(), world))
+}
+
+/// Whether a name has these bytes, or is not there.
+fn has_file(
+    alloc: Global,
+    world: &MemoryWorld,
+    name: &str,
+    bytes: Option<&[u8]>,
+) -> Result<bool, NoMemory> {
+    let name = Text::of(alloc, name)?;
+    Ok(world.bytes(&name) == bytes)
+}
+
+/// Whether the run of a case comes to what the case says, in a world that has given no numbers.
 fn comes_to(alloc: Global, world: &mut MemoryWorld, case: Case<'_>) -> Result<bool, NoMemory>
     requires { length world.old.files ≡ 0 }
 {
-    let released = Text::of(alloc, "out")?;
-    let schedule = Text::of(alloc, "moves")?;
-    let words = [
-        Text::of(alloc, "run")?,
-        Text::of(alloc, "box")?,
-        Text::of(alloc, "in")?,
-        Text::of(alloc, "script")?,
-        Text::of(alloc, "out")?,
-        Text::of(alloc, "moves")?,
-    ];
-    let status = ftmb(alloc, &words, world);
-    Ok(
-        status == case.status
-            && world.bytes(&released) == case.released
-            && world.bytes(&schedule) == case.schedule
-            && world.report() == case.report,
-    )
+    add_file(alloc, world, "box", case.box_file)?;
+    add_file(alloc, world, "in", case.capture)?;
+    add_file(alloc, world, "script", case.script)?;
+    let status = give_words(alloc, world, &RUN)?;
+    let released = has_file(alloc, world, "out", case.released)?;
+    let schedule = has_file(alloc, world, "moves", case.schedule)?;
+    Ok(status == case.status && released && schedule && world.report() == case.report)
 }
 
 fn holds(alloc: Global, case: Case<'_>) -> Result<bool, NoMemory> {
-    let mut world = world_of(alloc, case)?;
+    let mut world = MemoryWorld::new(alloc)?;
     comes_to(alloc, &mut world, case)
 }
 
 /// Whether a run whose calls of writing fail at this one comes to what the case says.
 fn holds_where_writing_fails(alloc: Global, nth: u64, case: Case<'_>) -> Result<bool, NoMemory> {
-    let mut world = world_of(alloc, case)?;
+    let mut world = MemoryWorld::new(alloc)?;
     world.fail_write(nth)?;
     comes_to(alloc, &mut world, case)
 }
 
 /// Whether a run whose calls of reading fail at this one comes to what the case says.
 fn holds_where_reading_fails(alloc: Global, nth: u64, case: Case<'_>) -> Result<bool, NoMemory> {
-    let mut world = world_of(alloc, case)?;
+    let mut world = MemoryWorld::new(alloc)?;
     world.fail_read(nth)?;
     comes_to(alloc, &mut world, case)
 }
 
 /// What words come to in a world without files.
-fn answers(alloc: Global, words: &[&str]) -> Result<Status, NoMemory> {
+fn answer(alloc: Global, words: &[&str]) -> Result<Status, NoMemory> {
     let mut world = MemoryWorld::new(alloc)?;
-    let mut texts = Sequence::new(alloc);
-    for word in words {
-        texts.push(Text::of(alloc, word)?)?;
-    }
-    Ok(ftmb(alloc, texts.as_slice(), &mut world))
+    give_words(alloc, &mut world, words)
 }
 
 #[test]
@@ -149,8 +162,8 @@ fn runs_the_counting_box(rt: HostRuntime) -> Result<(), Fail> {
             ..ONE
         },
     ];
-    for case in cases {
-        assert!(rt; holds(alloc, case)?);
+    for case in &cases {
+        assert!(rt; holds(alloc, *case)?);
     }
     Ok(())
 }
@@ -194,43 +207,68 @@ fn runs_the_monitor(rt: HostRuntime) -> Result<(), Fail> {
     Ok(())
 }
 
-/// What the command `make` with these numbers comes to: its status, its report and the capture.
+/// Whether `make` with these numbers comes to this status, this report and this capture.
+fn makes_in(
+    alloc: Global,
+    world: &mut MemoryWorld,
+    numbers: [&str; 2],
+    want: (Status, &[u8], Option<&[u8]>),
+) -> Result<bool, NoMemory>
+    requires { length world.old.files ≡ 0 }
+{
+    let status = give_words(alloc, world, &["make", numbers[0], numbers[1], "c"])?;
+    let made = has_file(alloc, world, "c", want.2)?;
+    Ok(status == want.0 && world.report() == want.1 && made)
+}
+
 fn makes(
-    rt: &impl Abort,
     alloc: Global,
     numbers: [&str; 2],
     want: (Status, &[u8], Option<&[u8]>),
-) -> Result<(), NoMemory> {
+) -> Result<bool, NoMemory> {
     let mut world = MemoryWorld::new(alloc)?;
-    let capture = Text::of(alloc, "c")?;
-    let words = [
-        Text::of(alloc, "make")?,
-        Text::of(alloc, numbers[0])?,
-        Text::of(alloc, numbers[1])?,
-        Text::of(alloc, "c")?,
-    ];
-    let status = ftmb(alloc, &words, &mut world);
-    assert_eq!(rt; status, want.0);
-    assert!(rt; world.report() == want.1);
-    assert!(rt; world.bytes(&capture) == want.2);
-    Ok(())
+    makes_in(alloc, &mut world, numbers, want)
 }
 
 #[test]
 fn makes_captures(rt: HostRuntime) -> Result<(), Fail> {
     let alloc = rt.alloc();
     let none = (Status::Done, b"made 0\n".as_slice(), Some(WRITTEN_HEADER));
-    makes(&rt, alloc, ["7", "0"], none)?;
+    assert!(rt; makes(alloc, ["7", "0"], none)?);
     let refused = (Status::BadWords, b"".as_slice(), None);
-    for numbers in [
+    let bad = [
         ["7", "65537"],
         ["x", "1"],
         ["7", "-1"],
         ["7", ""],
         ["18446744073709551616", "1"],
-    ] {
-        makes(&rt, alloc, numbers, refused)?;
+    ];
+    for numbers in &bad {
+        assert!(rt; makes(alloc, *numbers, refused)?);
     }
+    Ok(())
+}
+
+const MADE_REPORT: &[u8] =
+    b"made 1000\nsettle moves 5000 released 1000 epoch 1\ndone fed 1000 epoch 1 released 1000\n";
+
+/// Whether the monitor releases a capture as it was made, in the same world and as the same bytes.
+fn releases_what_was_made(alloc: Global, world: &mut MemoryWorld) -> Result<bool, NoMemory>
+    requires { length world.old.files ≡ 0 }
+{
+    add_file(alloc, world, "box", b"box monitor\nthreads 4")?;
+    add_file(alloc, world, "script", b"settle")?;
+    let made = give_words(alloc, world, &["make", "7", "1000", "in"])?;
+    let ran = give_words(alloc, world, &RUN)?;
+    let capture = Text::of(alloc, "in")?;
+    let released = has_file(alloc, world, "out", world.bytes(&capture))?;
+    Ok(made == Status::Done && ran == Status::Done && released && world.report() == MADE_REPORT)
+}
+
+#[test]
+fn runs_on_a_capture_that_was_made(rt: HostRuntime) -> Result<(), Fail> {
+    let mut world = MemoryWorld::new(rt.alloc())?;
+    assert!(rt; releases_what_was_made(rt.alloc(), &mut world)?);
     Ok(())
 }
 
@@ -264,8 +302,8 @@ fn judges_the_inputs_in_their_order(rt: HostRuntime) -> Result<(), Fail> {
             ..REFUSED
         },
     ];
-    for case in cases {
-        assert!(rt; holds(alloc, case)?);
+    for case in &cases {
+        assert!(rt; holds(alloc, *case)?);
     }
     Ok(())
 }
@@ -301,24 +339,17 @@ fn names_what_failed(rt: HostRuntime) -> Result<(), Fail> {
 #[test]
 fn refuses_other_words(rt: HostRuntime) -> Result<(), Fail> {
     let alloc = rt.alloc();
-    assert_eq!(rt; answers(alloc, &[])?, Status::BadWords);
-    assert_eq!(rt; answers(alloc, &["run"])?, Status::BadWords);
-    assert_eq!(rt;
-        answers(alloc, &["run", "b", "c", "s", "o", "o"])?,
-        Status::BadWords
-    );
-    assert_eq!(rt;
-        answers(alloc, &["run", "b", "c", "s", "o", "m", "x"])?,
-        Status::BadWords
-    );
-    assert_eq!(rt;
-        answers(alloc, &["ran", "b", "c", "s", "o", "m"])?,
-        Status::BadWords
-    );
-    assert_eq!(rt;
-        answers(alloc, &["run", "b", "c", "s", "o", "m"])?,
-        Status::ReadFault
-    );
+    let bad: [&[&str]; 5] = [
+        &[],
+        &["run"],
+        &["run", "b", "c", "s", "o", "o"],
+        &["run", "b", "c", "s", "o", "m", "x"],
+        &["ran", "b", "c", "s", "o", "m"],
+    ];
+    for words in &bad {
+        assert_eq!(rt; answer(alloc, words)?, Status::BadWords);
+    }
+    assert_eq!(rt; answer(alloc, &RUN)?, Status::ReadFault);
     Ok(())
 }
 

@@ -1,8 +1,8 @@
 use Rattle.std.proofs.Common.{◌≡◌, length}
 use Rattle.box_program.specs.Count.{IsCounter}
 use Rattle.master_core.specs.Mastered.{FitsProgram}
-use Rattle.master_core.specs.Mixed.{mixed_meaning}
-use Rattle.master_core.proofs.tests.random_run.Given as goal
+use Rattle.log_tests.specs.Mixed.{mixed_meaning}
+use Rattle.log_tests.proofs.master.random_run.Given as goal
 
 -- the program's values stay values of it, and the threads stay
 abbrev pub invariant-loop : goal.invariant-loop

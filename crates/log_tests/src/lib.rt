@@ -1,0 +1,10 @@
+//! Tests of logs: the stamps that a master makes, and what a held set answers, against the slow programs of the order's definitions
+//! on random logs; and the worked examples of both. They stand apart, so that what they test is proved once.
+#![tactic(auto)]
+
+#[cfg(test)]
+mod held;
+#[cfg(test)]
+mod master;
+#[cfg(test)]
+mod mixed;
