@@ -88,8 +88,9 @@ fn main(rt: HostRuntime) -> anyhow::Result<()> {
     for _ in 0..rounds {
         let done = match who.as_str() {
             "master" => play_with_master(rt.alloc(), &packets)?,
-            "player" => play_plainly(rt.alloc(), &CountBox::new(), packets.as_slice())
-                .map_err(|error| anyhow!("{error:?}"))?,
+            "player" => play_plainly(rt.alloc(), &CountBox::new(), packets.as_slice()).map_err(
+                |error| anyhow!("{error:?}"),
+            )?,
             _ => bail!("{who} is neither player nor master"),
         };
         moves = moves.saturating_add(done.moves);
