@@ -9,4 +9,3 @@ mod slots;
 pub use entry::{Added, Entry, Output, Outputs, Turn};
 pub use entry_order::What;
 pub use held::{Held, Kept};
-
