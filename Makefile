@@ -23,6 +23,11 @@ build/bench_moves: $(SOURCES)
 	mkdir -p build
 	install -m 755 crates/bench_moves/out/bench_moves $@
 
+build/bench_held: $(SOURCES)
+	cd crates/bench_held && $(RT) run -- 1
+	mkdir -p build
+	install -m 755 crates/bench_held/out/bench_held $@
+
 # Every proof, edit that must fail, test and stored run.
 test:
 	$(RT) ci
@@ -31,11 +36,11 @@ test:
 example: build/ftmb
 	scripts/example build/ftmb crates/ftmb/data build/example
 
-# The bytes summed and the frames rewritten in a second; the packets made and run in a second; and the moves that a master makes in a
-# second, beside those of the plain player.
-bench: build/bench_headers build/bench_moves build/ftmb
+# The bytes summed and the frames rewritten in a second; the packets made and run in a second; the moves that a master makes in a
+# second, beside those of the plain player; and the log entries held in a second.
+bench: build/bench_headers build/bench_moves build/bench_held build/ftmb
 	scripts/bench build/bench_headers
-	scripts/bench_run build/ftmb build/bench_moves build/bench
+	scripts/bench_run build/ftmb build/bench_moves build/bench_held build/bench
 
 # Runs the program on captures in all four forms, and has tcpdump and Wireshark's tools read what was released; and has tshark verify
 # the checksums of generated packets.

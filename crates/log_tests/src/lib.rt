@@ -1,5 +1,6 @@
 //! Tests of logs: the stamps that a master makes, and what a held set answers, against the slow programs of the order's definitions
-//! on random logs; and the worked examples of both. They stand apart, so that what they test is proved once.
+//! on random logs; the worked examples of both; and a program for tests that makes moves of all kinds. They stand apart, so that what
+//! they test is proved once.
 #![tactic(auto)]
 
 #[cfg(test)]
@@ -8,3 +9,5 @@ mod held;
 mod master;
 #[cfg(test)]
 mod mixed;
+#[cfg(test)]
+mod player;
