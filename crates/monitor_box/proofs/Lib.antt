@@ -4,3 +4,4 @@ pub mod Moving
 pub mod Balancing
 pub mod Summing
 pub mod Standing
+pub mod Arriving

@@ -6,7 +6,7 @@ use Rattle.packet_headers.specs.View.{viewed}
 use Rattle.plain_machine.specs.declared.local.Local.{Local}
 use Rattle.plain_machine.specs.declared.local.Move.{Move}
 use Rattle.plain_machine.specs.declared.local.Move.TheVariants.{Access, Read, Clock, Draw, Emit, End}
-use Rattle.plain_machine.specs.Machine.{Hand, Thread, Deed, Takes, Touches, Sends, Ends, Moves, holding, sent_packet, take_move, hand_move, held_move}
+use Rattle.plain_machine.specs.Machine.{Hand, Thread, Deed, Takes, Touches, Looks, HearsClock, HearsDraw, Sends, Ends, Moves, holding, sent_packet, take_move, hand_move, held_move}
 use Rattle.monitor_box.specs.declared.value.MonitorValue.{MonitorValue}
 use Rattle.monitor_box.specs.Monitor.{next_move, begun, touched, monitor_meaning}
 use Rattle.monitor_box.specs.Lawful.{reads, asks_no_time, asks_no_word}
@@ -65,3 +65,40 @@ module _ (tables : ℕ) (packets : List Packet) (value : ℕ → MonitorValue) (
       of_any : (hand : Option Hand) → held_move (monitor_meaning tables) packets value taken a hand ≡ Moves after d → P hand after.hand d
       of_any None e = of_none a (slice_get packets taken) refl e
       of_any (Some h) e = of_hand h a (next_move tables h.place.at (slice_index h.place.regs 0)) refl e
+
+-- how many inputs a thread has taken after a deed
+abbrev pub taken_by : Deed MonitorValue → ℕ → ℕ
+taken_by Takes n = suc n
+taken_by (Touches v left) n = n
+taken_by (Looks v) n = n
+taken_by (HearsClock a) n = n
+taken_by (HearsDraw a) n = n
+taken_by (Sends p) n = n
+taken_by Ends n = n
+
+module _ (tables : ℕ) (packets : List Packet) (value : ℕ → MonitorValue) (taken : ℕ) (a : Option ℕ) (after : Thread) (d : Deed MonitorValue) where
+  told : (th : Thread) (u : Deed MonitorValue) → th ≡ after → u ≡ d → th.taken ≡ taken_by u taken → after.taken ≡ taken_by d taken
+  told th u q r h = subst (λ (x : Deed MonitorValue). after.taken ≡ taken_by x taken) r (subst (λ (x : Thread). x.taken ≡ taken_by u taken) q h)
+
+  taken_in_hand : (h : Hand) (a : Option ℕ) (w : Move) → hand_move (monitor_meaning tables) value taken h a w ≡ Moves after d → after.taken ≡ taken_by d taken
+  taken_in_hand h None (Access v) e = told (holding taken h.packet (touched (value v) h.place).1) (Touches v (touched (value v) h.place).0) (cc) (cc) refl
+  taken_in_hand h None (Read v) e = told (holding taken h.packet ((monitor_meaning tables).look v (value v) h.place)) (Looks v) (cc) (cc) refl
+  taken_in_hand h (Some x) Clock e = told (holding taken h.packet ((monitor_meaning tables).told x h.place)) (HearsClock x) (cc) (cc) refl
+  taken_in_hand h (Some x) Draw e = told (holding taken h.packet ((monitor_meaning tables).told x h.place)) (HearsDraw x) (cc) (cc) refl
+  taken_in_hand h None Emit e = told (holding taken h.packet (record h.place { at = 4 })) (Sends (sent_packet (monitor_meaning tables) h)) (cc) (cc) refl
+  taken_in_hand h None End e = told (record { taken = taken; hand = None }) Ends (cc) (cc) refl
+  taken_in_hand h (Some x) (Access v) e = absurd (cc)
+  taken_in_hand h (Some x) (Read v) e = absurd (cc)
+  taken_in_hand h (Some x) Emit e = absurd (cc)
+  taken_in_hand h (Some x) End e = absurd (cc)
+  taken_in_hand h None Clock e = absurd (cc)
+  taken_in_hand h None Draw e = absurd (cc)
+
+  taken_next : (a : Option ℕ) (i : Option Packet) → take_move (monitor_meaning tables) taken a i ≡ Moves after d → after.taken ≡ taken_by d taken
+  taken_next (Some x) i e = absurd (cc)
+  taken_next None None e = absurd (cc)
+  taken_next None (Some p) e = told (holding (taken + 1) p (begun (viewed p.bytes p.original) p.original)) Takes (cc) (cc) (omega arith)
+
+  pub moved_taken : (hand : Option Hand) → held_move (monitor_meaning tables) packets value taken a hand ≡ Moves after d → after.taken ≡ taken_by d taken
+  moved_taken None e = taken_next a (slice_get packets taken) e
+  moved_taken (Some h) e = taken_in_hand h a (next_move tables h.place.at (slice_index h.place.regs 0)) e

@@ -28,12 +28,12 @@ Ready None = Unit {0}
 Ready (Some h) = h.place.at ≡ 0 → slice_index h.place.regs 0 ≡ key_sum (noted_flow h.place)
 
 -- numbers of 8, 16 and 32 bits
-record IsWhole (flow : Flow) : Type 0 where
-  protocol : flow.protocol < 2 ^ 8
-  source : flow.source < 2 ^ 32
-  source_port : flow.source_port < 2 ^ 16
-  dest : flow.dest < 2 ^ 32
-  dest_port : flow.dest_port < 2 ^ 16
+pub record IsWhole (flow : Flow) : Type 0 where
+  pub protocol : flow.protocol < 2 ^ 8
+  pub source : flow.source < 2 ^ 32
+  pub source_port : flow.source_port < 2 ^ 16
+  pub dest : flow.dest < 2 ^ 32
+  pub dest_port : flow.dest_port < 2 ^ 16
 
 word_fits : (frame : List ℕ) (place : ℕ) → AreBytes frame → word_at frame place < 2 ^ 16
 word_fits frame place bytes = let a = bytes place in let b = bytes (place + 1) in omega arith
@@ -41,7 +41,7 @@ word_fits frame place bytes = let a = bytes place in let b = bytes (place + 1) i
 long_fits : (frame : List ℕ) (place : ℕ) → AreBytes frame → long_at frame place < 2 ^ 32
 long_fits frame place bytes = let a = word_fits frame place bytes in let b = word_fits frame (place + 2) bytes in omega arith
 
-whole : (frame : List ℕ) → AreBytes frame → IsWhole (flow_of frame)
+pub whole : (frame : List ℕ) → AreBytes frame → IsWhole (flow_of frame)
 whole frame bytes = record {
   protocol = bytes 23;
   source = long_fits frame 26 bytes;

@@ -5,3 +5,4 @@ pub mod Lawful
 pub mod Boxes
 pub mod Sums
 pub mod Standing
+pub mod Arrivals

@@ -1,4 +1,5 @@
 //! The laws of the box's runs. Each is proved, and does nothing: a caller has it by the call.
+ghost use Rattle.monitor_box.specs.Arrivals.{CountsFlow, CountsFlowAtRest, CountsOthers, CountsOthersAtRest};
 ghost use Rattle.monitor_box.specs.Sums.{InEachRun, PacketsMatch, BytesMatch, PacketsAreSum, BytesAreSum, IsAtRest};
 ghost use Rattle.monitor_box.specs.Standing.{FlowsStand};
 
@@ -16,4 +17,20 @@ pub fn totals_match_flows()
 /// flow stands in two tables.
 pub fn flows_stand_by_their_sums()
     ensures { FlowsStand }
+{}
+
+/// After each move of each run on packets of bytes, a flow's own table has exactly the flow's packets that were taken, but for those
+/// in hand that have not come to the table yet: as many, and their bytes on the wire. So where no packet is in hand, it has all
+/// of them. All is modulo 2^64.
+pub fn flows_count_their_packets()
+    ensures packets { CountsFlow (λ packet. 1) (λ count. count.packets) }
+    ensures bytes { CountsFlow (λ packet. packet.original) (λ count. count.bytes) }
+    ensures packets_at_rest { CountsFlowAtRest (λ packet. 1) (λ count. count.packets) }
+    ensures bytes_at_rest { CountsFlowAtRest (λ packet. packet.original) (λ count. count.bytes) }
+{}
+
+/// The same of the packets that are no flow, which the totals count.
+pub fn others_are_counted()
+    ensures others { CountsOthers }
+    ensures others_at_rest { CountsOthersAtRest }
 {}

@@ -10,7 +10,9 @@ mod table;
 mod value;
 
 pub use counts::{FlowCount, FlowKey, Totals};
-pub use laws::{flows_stand_by_their_sums, totals_match_flows};
+pub use laws::{
+    flows_count_their_packets, flows_stand_by_their_sums, others_are_counted, totals_match_flows,
+};
 pub use monitor::MonitorBox;
 pub use table::FlowTable;
 pub use value::MonitorValue;

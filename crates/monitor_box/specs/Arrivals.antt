@@ -1,0 +1,107 @@
+-- What the tables and the totals have after each move of each run, by the packets that were taken: of each flow its packets, and
+-- of packets that are no flow their number, but for those in hand that have not come to their variable yet.
+use Rattle.std.specs.Prelude.{◌≡◌, ℕ, ◌+◌, ◌%◌, ◌^◌, ◌≤◌, ◌==◌, if◌then◌else◌, List, [], ◌∷◌, take, Option, Some, None, Result, Ok, Err}
+use Rattle.plain_text.specs.declared.packet.Packet.{Packet}
+use Rattle.entry_order.specs.Stamps.{sum_below}
+use Rattle.packet_headers.specs.declared.flow.Flow.{Flow}
+use Rattle.packet_headers.specs.declared.flow.NotFlow.{NotFlow}
+use Rattle.packet_headers.specs.View.{viewed}
+use Rattle.plain_machine.specs.Machine.{Hand, Thread}
+use Rattle.plain_machine.specs.History.{Step, thread_after, value_after, IsHistory}
+use Rattle.monitor_box.specs.declared.counts.FlowKey.{FlowKey}
+use Rattle.monitor_box.specs.declared.counts.FlowCount.{FlowCount}
+use Rattle.monitor_box.specs.declared.value.MonitorValue.{MonitorValue}
+use Rattle.monitor_box.specs.declared.value.MonitorValue.TheVariants.{Totals, Table}
+use Rattle.monitor_box.specs.Flows.{Flows, same_flow}
+use Rattle.monitor_box.specs.Monitor.{monitor_meaning}
+use Rattle.monitor_box.specs.Standing.{key_sum, HaveBytes}
+use Rattle.monitor_box.specs.Sums.{totals_of, IsAtRest}
+
+-- what tells a packet's flow from others, where its headers are those of a flow
+abbrev pub key_of : Result Flow NotFlow → Option FlowKey
+key_of (Ok flow) = Some (record { protocol = flow.protocol; source = flow.source; source_port = flow.source_port; dest = flow.dest; dest_port = flow.dest_port })
+key_of (Err answer) = None
+
+abbrev pub flow_of_packet : Packet → Option FlowKey
+flow_of_packet p = key_of (viewed p.bytes p.original)
+
+abbrev pub if_same : FlowKey → Option FlowKey → ℕ → ℕ
+if_same flow None n = 0
+if_same flow (Some key) n = if same_flow flow key then n else 0
+
+-- a number of a packet, where it is one of the flow
+abbrev pub share : (Packet → ℕ) → FlowKey → Packet → ℕ
+share number flow p = if_same flow (flow_of_packet p) (number p)
+
+abbrev pub if_none : Option FlowKey → ℕ
+if_none None = 1
+if_none (Some key) = 0
+
+-- 1 for a packet that is no flow
+abbrev pub other_share : Packet → ℕ
+other_share p = if_none (flow_of_packet p)
+
+-- the sum of a number over packets
+abbrev pub shares : (Packet → ℕ) → List Packet → ℕ
+shares number [] = 0
+shares number (p ∷ packets) = number p + shares number packets
+
+-- and over those that the threads took
+abbrev pub taken_sum : (Packet → ℕ) → ℕ → (ℕ → List Packet) → (ℕ → Thread) → ℕ
+taken_sum number threads inputs thread = sum_below threads (λ t. shares number (take (thread t).taken (inputs t)))
+
+-- and over those in hand at this place
+abbrev pub coming_by : ℕ → (Packet → ℕ) → Option Hand → ℕ
+coming_by place number None = 0
+coming_by place number (Some h) = if h.place.at == place then number h.packet else 0
+
+abbrev pub coming_sum : ℕ → (Packet → ℕ) → ℕ → (ℕ → Thread) → ℕ
+coming_sum place number threads thread = sum_below threads (λ t. coming_by place number (thread t).hand)
+
+-- what a table has of a flow, 0 where it does not have it
+abbrev pub count_in : (FlowCount → ℕ) → FlowKey → Flows → ℕ
+count_in number flow [] = 0
+count_in number flow (e ∷ es) = if same_flow flow e.0 then number e.1 else count_in number flow es
+
+abbrev pub flows_in : MonitorValue → Flows
+flows_in (Totals totals) = []
+flows_in (Table flows) = flows
+
+-- what the flow's own table has of it
+abbrev pub count_of : (FlowCount → ℕ) → FlowKey → ℕ → (ℕ → MonitorValue) → ℕ
+count_of number flow tables value = count_in number flow (flows_in (value (1 + key_sum flow % tables)))
+
+abbrev pub others_of : (ℕ → MonitorValue) → ℕ
+others_of value = (totals_of (value 0)).other
+
+-- What was counted and what comes next are, modulo 2 ^ 64, what was taken: a number of packets, which come at this place.
+abbrev pub Counts : (Packet → ℕ) → ℕ → ((ℕ → MonitorValue) → ℕ) → ℕ → (ℕ → List Packet) → (ℕ → MonitorValue) → (ℕ → Thread) → Type 0
+Counts number place count threads inputs value thread =
+    (count value + coming_sum place number threads thread) % 2 ^ 64 ≡ taken_sum number threads inputs thread % 2 ^ 64
+
+-- Of each flow, in each run on packets of bytes, with 1 to 64 tables; its packets in hand come at place 0
+abbrev pub CountsFlow : (Packet → ℕ) → (FlowCount → ℕ) → Type 0
+CountsFlow of_packet of_flow =
+    (tables threads : ℕ) (inputs : ℕ → List Packet) (steps : List (Step MonitorValue))
+    → 1 ≤ tables → tables ≤ 64 → HaveBytes inputs → IsHistory (monitor_meaning tables) inputs threads steps
+    → (flow : FlowKey) → Counts (share of_packet flow) 0 (count_of of_flow flow tables) threads inputs (value_after (monitor_meaning tables) steps) (thread_after steps)
+
+-- where no packet is in hand, the table has all of them
+abbrev pub CountsFlowAtRest : (Packet → ℕ) → (FlowCount → ℕ) → Type 0
+CountsFlowAtRest of_packet of_flow =
+    (tables threads : ℕ) (inputs : ℕ → List Packet) (steps : List (Step MonitorValue))
+    → 1 ≤ tables → tables ≤ 64 → HaveBytes inputs → IsHistory (monitor_meaning tables) inputs threads steps → IsAtRest threads steps
+    → (flow : FlowKey) → count_of of_flow flow tables (value_after (monitor_meaning tables) steps) ≡ taken_sum (share of_packet flow) threads inputs (thread_after steps) % 2 ^ 64
+
+-- and of packets that are no flow, which come at place 2
+abbrev pub CountsOthers : Type 0
+CountsOthers =
+    (tables threads : ℕ) (inputs : ℕ → List Packet) (steps : List (Step MonitorValue))
+    → 1 ≤ tables → tables ≤ 64 → IsHistory (monitor_meaning tables) inputs threads steps
+    → Counts other_share 2 others_of threads inputs (value_after (monitor_meaning tables) steps) (thread_after steps)
+
+abbrev pub CountsOthersAtRest : Type 0
+CountsOthersAtRest =
+    (tables threads : ℕ) (inputs : ℕ → List Packet) (steps : List (Step MonitorValue))
+    → 1 ≤ tables → tables ≤ 64 → IsHistory (monitor_meaning tables) inputs threads steps → IsAtRest threads steps
+    → others_of (value_after (monitor_meaning tables) steps) ≡ taken_sum other_share threads inputs (thread_after steps) % 2 ^ 64
