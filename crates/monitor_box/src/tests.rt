@@ -5,7 +5,6 @@ use super::*;
 use box_program::{Local, Move, Program};
 use plain_text::{Bytes, NoMemory, Packet};
 use std::alloc::Global;
-use std::process::Abort;
 use std::test::Fail;
 
 /// A DNS query from 10.0.0.5:5000 to 198.51.100.7:53.
@@ -67,15 +66,28 @@ fn touch_table(
     Ok(())
 }
 
-/// Takes a packet to its end, where its table is that of variable 1, and answers what went out.
+/// Whether the packet goes out next, as it is.
+fn passes(
+    alloc: Global,
+    program: &MonitorBox,
+    packet: &Packet,
+    local: &Local,
+) -> Result<bool, NoMemory> {
+    if program.next(local) != Move::Emit {
+        return Ok(false);
+    }
+    let sent = program.packet_out(alloc, packet, local)?;
+    Ok(sent.as_slice() == packet.bytes.as_slice())
+}
+
+/// Takes a packet to its end, where its table is that of variable 1, and answers whether its moves are as they should be.
 fn count_packet(
-    rt: &impl Abort,
     alloc: Global,
     program: &MonitorBox,
     totals: &mut MonitorValue,
     table: &mut MonitorValue,
     packet: &Packet,
-) -> Result<Bytes, NoMemory>
+) -> Result<bool, NoMemory>
     requires totals { Fits 0 totals.old }
     requires table { Fits 1 table.old }
     ensures totals_fit { Fits 0 totals.new }
@@ -83,57 +95,74 @@ fn count_packet(
 {
     let mut local = program.begin(packet);
     touch_table(alloc, program, table, &mut local)?;
-    assert_eq!(rt; program.next(&local), Move::Access(0));
+    if program.next(&local) != Move::Access(0) {
+        return Ok(false);
+    }
     program.touch(alloc, 0, totals, &mut local)?;
-    assert_eq!(rt; program.next(&local), Move::Emit);
-    let sent = program.packet_out(alloc, packet, &local)?;
+    let passes = passes(alloc, program, packet, &local)?;
     program.emitted(&mut local);
-    assert_eq!(rt; program.next(&local), Move::End);
-    Ok(sent)
+    Ok(passes && program.next(&local) == Move::End)
 }
 
-/// Looks at the texts of the totals and of the table, and of copies of them.
-fn check_texts(
-    rt: &impl Abort,
+/// Whether a value and a copy of it have this text.
+fn shows(
     alloc: Global,
     program: &MonitorBox,
-    values: (&MonitorValue, &MonitorValue),
-    texts: (&str, &str),
-) -> Result<(), NoMemory>
-    requires totals { Fits 0 values.0.now }
-    requires table { Fits 1 values.1.now }
+    var: u32,
+    value: &MonitorValue,
+    text: &str,
+) -> Result<bool, NoMemory>
+    requires { Fits var value.now }
 {
-    let (totals, table) = values;
-    let (of_totals, of_table) = texts;
-    assert_eq!(rt; program.show(alloc, 0, totals)?.as_str(), of_totals);
-    assert_eq!(rt; program.show(alloc, 1, table)?.as_str(), of_table);
-    let totals_copy = program.copy_value(alloc, 0, totals)?;
-    let table_copy = program.copy_value(alloc, 1, table)?;
-    assert_eq!(rt; program.show(alloc, 0, &totals_copy)?.as_str(), of_totals);
-    assert_eq!(rt; program.show(alloc, 1, &table_copy)?.as_str(), of_table);
-    Ok(())
+    let copy = program.copy_value(alloc, var, value)?;
+    let of_value = has_text(alloc, program, var, value, text)?;
+    Ok(of_value && has_text(alloc, program, var, &copy, text)?)
 }
 
-/// Counts these packets in one table, each with its length on the wire, and looks at the texts and at what goes out.
-fn check_packets(
-    rt: &impl Abort,
+fn has_text(
     alloc: Global,
+    program: &MonitorBox,
+    var: u32,
+    value: &MonitorValue,
+    text: &str,
+) -> Result<bool, NoMemory>
+    requires { Fits var value.now }
+{
+    Ok(program.show(alloc, var, value)?.as_str() == text)
+}
+
+/// Whether these packets, each with its length on the wire, are counted so in these values.
+fn counts_in(
+    alloc: Global,
+    program: &MonitorBox,
+    totals: &mut MonitorValue,
+    table: &mut MonitorValue,
     packets: &[(&[u8], u32)],
     texts: (&str, &str),
-) -> Result<(), NoMemory> {
-    let program = MonitorBox::new(1);
-    let (mut totals, mut table) = fresh_values(alloc, &program)?;
+) -> Result<bool, NoMemory>
+    requires totals { Fits 0 totals.old }
+    requires table { Fits 1 table.old }
+{
     for (bytes, original) in packets {
         let packet = packet(alloc, bytes, *original)?;
-        let sent = count_packet(rt, alloc, &program, &mut totals, &mut table, &packet)?;
-        assert_eq!(rt; sent.as_slice(), *bytes);
+        if !count_packet(alloc, program, totals, table, &packet)? {
+            return Ok(false);
+        }
     }
-    check_texts(rt, alloc, &program, (&totals, &table), texts)
+    let of_totals = shows(alloc, program, 0, totals, texts.0)?;
+    Ok(of_totals && shows(alloc, program, 1, table, texts.1)?)
+}
+
+/// Whether these packets are counted so, in one table.
+fn counts(alloc: Global, packets: &[(&[u8], u32)], texts: (&str, &str)) -> Result<bool, NoMemory> {
+    let program = MonitorBox::new(1);
+    let (mut totals, mut table) = fresh_values(alloc, &program)?;
+    counts_in(alloc, &program, &mut totals, &mut table, packets, texts)
 }
 
 #[test]
 fn shows_nothing_counted(rt: HostRuntime) -> Result<(), Fail> {
-    check_packets(&rt, rt.alloc(), &[], ("packets 0 bytes 0 other 0", "-"))?;
+    assert!(rt; counts(rt.alloc(), &[], ("packets 0 bytes 0 other 0", "-"))?);
     Ok(())
 }
 
@@ -141,53 +170,57 @@ fn shows_nothing_counted(rt: HostRuntime) -> Result<(), Fail> {
 fn counts_a_flow(rt: HostRuntime) -> Result<(), Fail> {
     let alloc = rt.alloc();
     let query = QUERY.as_slice();
-    check_packets(
-        &rt,
-        alloc,
-        &[(query, 42)],
-        (
-            "packets 1 bytes 42 other 0",
-            "udp 10.0.0.5:5000 198.51.100.7:53 packets 1 bytes 42",
-        ),
-    )?;
-    check_packets(
-        &rt,
-        alloc,
-        &[(query, 60), (query, 42)],
-        (
-            "packets 2 bytes 102 other 0",
-            "udp 10.0.0.5:5000 198.51.100.7:53 packets 2 bytes 102",
-        ),
-    )?;
+    assert!(rt;
+        counts(
+            alloc,
+            &[(query, 42)],
+            (
+                "packets 1 bytes 42 other 0",
+                "udp 10.0.0.5:5000 198.51.100.7:53 packets 1 bytes 42",
+            ),
+        )?
+    );
+    assert!(rt;
+        counts(
+            alloc,
+            &[(query, 60), (query, 42)],
+            (
+                "packets 2 bytes 102 other 0",
+                "udp 10.0.0.5:5000 198.51.100.7:53 packets 2 bytes 102",
+            ),
+        )?
+    );
     Ok(())
 }
 
 #[test]
 fn keeps_flows_in_first_seen_order(rt: HostRuntime) -> Result<(), Fail> {
     let (query, next, syn) = (QUERY.as_slice(), NEXT_QUERY.as_slice(), SYN.as_slice());
-    check_packets(
-        &rt,
-        rt.alloc(),
-        &[(next, 42), (query, 42), (syn, 54), (next, 42)],
-        (
-            "packets 4 bytes 180 other 0",
-            "udp 10.0.0.5:5001 198.51.100.7:53 packets 2 bytes 84; udp 10.0.0.5:5000 198.51.100.7:53 packets 1 bytes 42; tcp 10.0.0.5:5000 198.51.100.7:80 packets 1 bytes 54",
-        ),
-    )?;
+    assert!(rt;
+        counts(
+            rt.alloc(),
+            &[(next, 42), (query, 42), (syn, 54), (next, 42)],
+            (
+                "packets 4 bytes 180 other 0",
+                "udp 10.0.0.5:5001 198.51.100.7:53 packets 2 bytes 84; udp 10.0.0.5:5000 198.51.100.7:53 packets 1 bytes 42; tcp 10.0.0.5:5000 198.51.100.7:80 packets 1 bytes 54",
+            ),
+        )?
+    );
     Ok(())
 }
 
 #[test]
 fn counts_what_is_no_flow_apart(rt: HostRuntime) -> Result<(), Fail> {
-    check_packets(
-        &rt,
-        rt.alloc(),
-        &[(&[9; 42], 42), (&[], 42), (QUERY.as_slice(), 42)],
-        (
-            "packets 1 bytes 42 other 2",
-            "udp 10.0.0.5:5000 198.51.100.7:53 packets 1 bytes 42",
-        ),
-    )?;
+    assert!(rt;
+        counts(
+            rt.alloc(),
+            &[(&[9; 42], 42), (&[], 42), (QUERY.as_slice(), 42)],
+            (
+                "packets 1 bytes 42 other 2",
+                "udp 10.0.0.5:5000 198.51.100.7:53 packets 1 bytes 42",
+            ),
+        )?
+    );
     Ok(())
 }
 

@@ -1,8 +1,8 @@
 use Rattle.monitor_box.specs.Monitor.{Fits}
-use Rattle.monitor_box.proofs.tests.check_packets.Given as goal
+use Rattle.monitor_box.proofs.tests.counts_in.Given as goal
 
 abbrev pub invariant-loop-bytes : goal.invariant-loop-bytes
-invariant-loop-bytes g l = record {
+invariant-loop-bytes l = record {
   totals : Fits 0 l.totals;
   table : Fits 1 l.table;
 }
