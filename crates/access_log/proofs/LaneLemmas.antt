@@ -1,6 +1,6 @@
 -- Frontiers and lanes that are fresh.
 use Rattle.std.proofs.Common.{◌≡◌, ℕ, zero, suc, ◌+◌, ◌≤◌, ◌<◌, List, [], ◌∷◌, Option, Some, None, IfSome, replicate, length, option_copied, slice_index, slice_set, ◌≢◌, ◌↔◌, refl, sym, inl, inr, ⊎_elim, arith, Bor}
-use Rattle.access_log.specs.declared.entry.Entry.{Entry}
+use Rattle.access_log.specs.declared.entry.StampedEntry.{StampedEntry}
 use Rattle.access_log.specs.Held.{Lane, lane, fresh_lane, entry_at, IsKnown, IsFrontier, IsWithin, held_count}
 use Rattle.access_log.specs.Lanes.{RetainsAtMost, IsHeldSet}
 use Rattle.thread_clock.specs.Clock.{AtMost}
@@ -58,7 +58,7 @@ pub AtMost-IsWithin : (held : List Lane) (frontiers stamp : List ℕ) → ((t : 
 AtMost-IsWithin held frontiers stamp are =
     (λ h u f p. let same = one_frontier (lane held u) (slice_index frontiers u) f (are u) p in let at = h u in omega arith, λ h u. h u (slice_index frontiers u) (are u))
 
-pub closed_from_retained : (old new : List Lane) (frontiers : List ℕ) → ((t : ℕ) → RetainsAtMost (lane old t) (lane new t) frontiers) → ((t : ℕ) → IsFrontier (lane old t) (slice_index frontiers t)) → (t n : ℕ) (e : Entry) → (entry_at (lane new t) n ≡ Some e) ↔ ((entry_at (lane old t) n ≡ Some e) × IsWithin old e.stamp)
+pub closed_from_retained : (old new : List Lane) (frontiers : List ℕ) → ((t : ℕ) → RetainsAtMost (lane old t) (lane new t) frontiers) → ((t : ℕ) → IsFrontier (lane old t) (slice_index frontiers t)) → (t n : ℕ) (e : StampedEntry) → (entry_at (lane new t) n ≡ Some e) ↔ ((entry_at (lane old t) n ≡ Some e) × IsWithin old e.stamp)
 closed_from_retained old new frontiers kept are t n e =
     let both = (kept t).held n e in
     let within = AtMost-IsWithin old frontiers e.stamp are in
@@ -68,6 +68,6 @@ pub IsHeldSet-retained : (old new : List Lane) (frontiers : List ℕ) → IsHeld
 IsHeldSet-retained old new frontiers is kept same =
     record { few = let few = is.few in omega arith; named = λ t n e h. is.named t n e (((kept t).held n e).0 h).0 }
 
-pub entry_named : (held : List Lane) (t n : ℕ) (o : Option (Bor Entry)) → IsHeldSet held → option_copied o ≡ entry_at (lane held t) n → IfSome o (λ e. (e.now.thread ≡ t) × (e.now.number ≡ n))
+pub entry_named : (held : List Lane) (t n : ℕ) (o : Option (Bor StampedEntry)) → IsHeldSet held → option_copied o ≡ entry_at (lane held t) n → IfSome o (λ e. (e.now.thread ≡ t) × (e.now.number ≡ n))
 entry_named held t n None is h = tt
 entry_named held t n (Some e) is h = is.named t n e.now (sym h)

@@ -3,12 +3,12 @@ use Rattle.std.specs.Prelude.{◌≡◌, ℕ, ◌+◌, ◌≤◌, ◌<◌, ◌�
 use Rattle.std.specs.Map.{lookup}
 use Rattle.std.specs.BTreeMap.{is_at}
 use Rattle.std.specs.Ordering.{nat_cmp}
-use Rattle.access_log.specs.declared.entry.Entry.{Entry}
+use Rattle.access_log.specs.declared.entry.StampedEntry.{StampedEntry}
 
 -- What is held of one thread: the entries 1 to `covered` are covered, and not held; the others held stand by number.
 pub record Lane : Type 0 where
   pub covered : ℕ
-  pub entries : List (ℕ × Entry)
+  pub entries : List (ℕ × StampedEntry)
 
 -- a lane with nothing covered and nothing held
 abbrev pub fresh_lane : Lane
@@ -19,7 +19,7 @@ abbrev pub lane : List Lane → ℕ → Lane
 lane held thread = slice_index_or held thread fresh_lane
 
 -- the held entry of this number
-abbrev pub entry_at : Lane → ℕ → Option Entry
+abbrev pub entry_at : Lane → ℕ → Option StampedEntry
 entry_at lane number = lookup (is_at (nat_cmp number)) lane.entries
 
 -- the entry of this number is covered or held

@@ -1,11 +1,11 @@
 -- What a lane keeps, and how one entry changes it.
 use Rattle.std.specs.Prelude.{◌≡◌, ◌≢◌, ℕ, ◌+◌, ◌≤◌, ◌↔◌, List, Some, None, length, nat_le, if◌then◌else◌}
 use Rattle.thread_clock.specs.Clock.{AtMost}
-use Rattle.access_log.specs.declared.entry.Entry.{Entry}
+use Rattle.access_log.specs.declared.entry.StampedEntry.{StampedEntry}
 use Rattle.access_log.specs.Held.{Lane, lane, entry_at}
 
 -- the new lane holds this entry at this number, and else what the old one holds
-pub record PutsEntry (old new : Lane) (number : ℕ) (entry : Entry) : Type 0 where
+pub record PutsEntry (old new : Lane) (number : ℕ) (entry : StampedEntry) : Type 0 where
   pub put : entry_at new number ≡ Some entry
   pub others : (n : ℕ) → n ≢ number → entry_at new n ≡ entry_at old n
   pub covered : new.covered ≡ old.covered
@@ -19,9 +19,9 @@ pub record CoversUpTo (old new : Lane) (count : ℕ) : Type 0 where
 -- the new lane holds exactly those entries of the old one whose stamps have no component above these
 pub record RetainsAtMost (old new : Lane) (frontiers : List ℕ) : Type 0 where
   pub covered : new.covered ≡ old.covered
-  pub held : (n : ℕ) (e : Entry) → (entry_at new n ≡ Some e) ↔ ((entry_at old n ≡ Some e) × AtMost e.stamp frontiers)
+  pub held : (n : ℕ) (e : StampedEntry) → (entry_at new n ≡ Some e) ↔ ((entry_at old n ≡ Some e) × AtMost e.stamp frontiers)
 
 -- what every held set keeps: a lane for each of at most 16 threads, and each entry in the lane of its thread, by its number
 pub record IsHeldSet (held : List Lane) : Type 0 where
   pub few : length held ≤ 16
-  pub named : (t n : ℕ) (e : Entry) → entry_at (lane held t) n ≡ Some e → (e.thread ≡ t) × (e.number ≡ n)
+  pub named : (t n : ℕ) (e : StampedEntry) → entry_at (lane held t) n ≡ Some e → (e.thread ≡ t) × (e.number ≡ n)

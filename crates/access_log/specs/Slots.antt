@@ -4,22 +4,22 @@ use Rattle.std.specs.Map.{lookup}
 use Rattle.std.specs.BTreeMap.{is_at}
 use Rattle.std.specs.Ordering.{nat_cmp}
 use Rattle.thread_clock.specs.Clock.{AtMost}
-use Rattle.access_log.specs.declared.entry.Entry.{Entry}
+use Rattle.access_log.specs.declared.entry.StampedEntry.{StampedEntry}
 
 -- the entries in slots whose first is that of the number after `from`
-abbrev pub in_slots : ℕ → List (Option Entry) → List (ℕ × Entry)
+abbrev pub in_slots : ℕ → List (Option StampedEntry) → List (ℕ × StampedEntry)
 in_slots from [] = []
 in_slots from (None ∷ rest) = in_slots (from + 1) rest
 in_slots from (Some e ∷ rest) = (from + 1, e) ∷ in_slots (from + 1) rest
 
 -- the later entries stand past the slots, and all numbers and counts are in their limits
-pub record IsSlotted (covered : ℕ) (run : List (Option Entry)) (later : List (ℕ × Entry)) : Type 0 where
-  pub past : (n : ℕ) → IsSome (lookup (is_at (nat_cmp n)) later) → covered + length run < n
-  pub small : (n : ℕ) → IsSome (lookup (is_at (nat_cmp n)) later) → n < 2 ^ 64
-  pub fits : covered + length run < 2 ^ 64
-  pub few : length run + length later ≤ 2 ^ 56
+pub record IsSlotted (covered : ℕ) (contiguous : List (Option StampedEntry)) (out_of_order : List (ℕ × StampedEntry)) : Type 0 where
+  pub past : (n : ℕ) → IsSome (lookup (is_at (nat_cmp n)) out_of_order) → covered + length contiguous < n
+  pub small : (n : ℕ) → IsSome (lookup (is_at (nat_cmp n)) out_of_order) → n < 2 ^ 64
+  pub fits : covered + length contiguous < 2 ^ 64
+  pub few : length contiguous + length out_of_order ≤ 2 ^ 56
 
 -- the new slots have exactly those entries of the old ones whose stamps have no component above these
-pub record RetainsSlots (old new : List (Option Entry)) (frontiers : List ℕ) : Type 0 where
+pub record RetainsSlots (old new : List (Option StampedEntry)) (frontiers : List ℕ) : Type 0 where
   pub slots : length new ≡ length old
-  pub held : (i : ℕ) (e : Entry) → (slice_index_or new i None ≡ Some e) ↔ ((slice_index_or old i None ≡ Some e) × AtMost e.stamp frontiers)
+  pub held : (i : ℕ) (e : StampedEntry) → (slice_index_or new i None ≡ Some e) ↔ ((slice_index_or old i None ≡ Some e) × AtMost e.stamp frontiers)

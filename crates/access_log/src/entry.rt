@@ -4,7 +4,7 @@ use thread_clock::Stamp;
 
 /// One log entry: the `number`-th logged move of `thread`, counted from 1, what it did, and its stamp.
 #[derive(Clone, Copy, Debug, PartialEq)]
-pub struct Entry {
+pub struct StampedEntry {
     pub thread: u32,
     pub number: u64,
     pub what: What,

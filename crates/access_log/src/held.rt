@@ -3,7 +3,7 @@ ghost use Rattle.access_log.specs.Held.{lane, entry_at, fresh_lane, IsKnown, IsF
 ghost use Rattle.access_log.specs.Lanes.{PutsEntry, CoversUpTo, RetainsAtMost};
 
 use crate::lane::Lane;
-use crate::{Added, Entry};
+use crate::{Added, StampedEntry};
 use plain_text::NoMemory;
 use std::alloc::Global;
 use std::marker::Model;
@@ -92,7 +92,7 @@ impl Held {
     }
 
     /// Holds this entry, unless one of its thread and number is held or covered: then nothing changes.
-    pub fn add(&mut self, entry: Entry) -> Result<Added, NoMemory>
+    pub fn add(&mut self, entry: StampedEntry) -> Result<Added, NoMemory>
         requires thread_in { entry.thread < length self.old }
         requires numbered { 1 ≤ entry.number }
         ensures known { (result ≡ Ok Added.Known)
@@ -110,7 +110,7 @@ impl Held {
     }
 
     /// The held entry of this thread and number, if there is one; a covered one is not held.
-    pub fn get(&self, thread: u32, number: u64) -> Option<&Entry>
+    pub fn get(&self, thread: u32, number: u64) -> Option<&StampedEntry>
         ensures value { option_copied result ≡ entry_at (lane self.now thread) number }
         ensures named { IfSome result (λ e. (e.now.thread ≡ thread) × (e.now.number ≡ number)) }
         ensures above { IsSome result → (lane self.now thread).covered < number }
@@ -170,7 +170,7 @@ impl Held {
     /// Drops exactly the held entries that have a component of their stamp above the frontier of its thread, and counts
     /// those that stay held and those that it dropped. It takes no memory.
     pub fn closed_part(&mut self) -> Kept
-        ensures closed { (t n : ℕ) (e : Entry) → (entry_at (lane self.new t) n ≡ Some e)
+        ensures closed { (t n : ℕ) (e : StampedEntry) → (entry_at (lane self.new t) n ≡ Some e)
             ↔ ((entry_at (lane self.old t) n ≡ Some e) × IsWithin self.old e.stamp) }
         ensures covered { (t : ℕ) → (lane self.new t).covered ≡ (lane self.old t).covered }
         ensures threads { length self.new ≡ length self.old }

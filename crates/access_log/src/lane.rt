@@ -4,7 +4,7 @@ ghost use Rattle.access_log.specs.Held.{entry_at, fresh_lane, IsKnown, IsFrontie
 ghost use Rattle.access_log.specs.Lanes.{PutsEntry, CoversUpTo, RetainsAtMost};
 
 use crate::slots::Slots;
-use crate::{Added, Entry};
+use crate::{Added, StampedEntry};
 use plain_text::NoMemory;
 use std::alloc::Global;
 use std::marker::Model;
@@ -62,7 +62,7 @@ impl Lane {
     }
 
     /// The held entry of this number.
-    pub fn get(&self, number: u64) -> Option<&Entry>
+    pub fn get(&self, number: u64) -> Option<&StampedEntry>
         ensures value { option_copied result ≡ entry_at self.now number }
         ensures above { IsSome result → self.now.covered < number }
     {
@@ -79,7 +79,7 @@ impl Lane {
     }
 
     /// Holds this entry as the one of this number, unless that is held or covered.
-    pub fn add(&mut self, number: u64, entry: Entry) -> Result<Added, NoMemory>
+    pub fn add(&mut self, number: u64, entry: StampedEntry) -> Result<Added, NoMemory>
         ensures known { (result ≡ Ok Added.Known) ↔ IsKnown self.old number }
         ensures same { result ≢ Ok Added.New → self.new ≡ self.old }
         ensures new { result ≡ Ok Added.New → PutsEntry self.old self.new number entry }

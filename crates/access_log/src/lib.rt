@@ -6,6 +6,6 @@ mod held;
 mod lane;
 mod slots;
 
-pub use entry::{Added, Entry, Output, Outputs, Turn};
+pub use entry::{Added, Output, Outputs, StampedEntry, Turn};
 pub use entry_order::What;
 pub use held::{Held, Kept};

@@ -7,7 +7,7 @@ ghost use Rattle.access_log.specs.Held.{entry_at, fresh_lane};
 ghost use Rattle.access_log.specs.Lanes.{PutsEntry, CoversUpTo, RetainsAtMost};
 ghost use Rattle.access_log.specs.Slots.{in_slots, IsSlotted, RetainsSlots};
 
-use crate::Entry;
+use crate::StampedEntry;
 use plain_text::NoMemory;
 use std::alloc::Global;
 use std::collections::{BTreeMap, VecDeque};
@@ -19,15 +19,15 @@ use thread_clock::Stamp;
 const LIMIT: usize = 0x100_0000_0000_0000;
 
 // An entry takes at most 200 bytes.
-const _: () = prove!(size_of::<Option<Entry>>() <= 200);
+const _: () = prove!(size_of::<Option<StampedEntry>>() <= 200);
 
 /// The entries of one thread by number, after those covered: at once in slots that follow one another, and in a map where
 /// they come before those in between.
 #[derive(Debug, Drop)]
 pub struct Slots {
     covered: u64,
-    run: VecDeque<Option<Entry>>,
-    later: BTreeMap<u64, Entry>,
+    contiguous: VecDeque<Option<StampedEntry>>,
+    out_of_order: BTreeMap<u64, StampedEntry>,
 }
 
 impl Model for Slots {
@@ -38,53 +38,59 @@ impl Model for Slots {
 
     ghost use Rattle.access_log.specs.Slots.{in_slots, IsSlotted};
 
-    ghost view = { λ s. record { covered = s.covered; entries = in_slots s.covered s.run.items ++ s.later.entries } };
+    ghost view = { λ s. record { covered = s.covered; entries = in_slots s.covered s.contiguous.items ++ s.out_of_order.entries } };
 
-    ghost invariant = { λ s. IsSlotted s.covered s.run.items s.later.entries };
+    ghost invariant = { λ s. IsSlotted s.covered s.contiguous.items s.out_of_order.entries };
 }
 
 /// Drops the entries up to this number.
-fn drop_later_up_to(later: &mut BTreeMap<u64, Entry>, count: u64)
-    ensures held { (n : ℕ) → get nat_cmp later.new n
-        ≡ (if nat_le n count then None else get nat_cmp later.old n) }
-    ensures fewer { btree_map_len later.new ≤ btree_map_len later.old }
+fn drop_out_of_order_up_to(out_of_order: &mut BTreeMap<u64, StampedEntry>, count: u64)
+    ensures held { (n : ℕ) → get nat_cmp out_of_order.new n
+        ≡ (if nat_le n count then None else get nat_cmp out_of_order.old n) }
+    ensures fewer { btree_map_len out_of_order.new ≤ btree_map_len out_of_order.old }
 {
-    while let Some((number, _)) = later.first_key_value() {
+    while let Some((number, _)) = out_of_order.first_key_value() {
         if *number > count {
             break;
         }
-        later.pop_first();
+        out_of_order.pop_first();
     }
 }
 
 /// Drops the first slots.
-fn drop_first(run: &mut VecDeque<Option<Entry>>, count: usize)
-    requires { count ≤ deque_len run.old }
-    ensures { run.new.items ≡ drop count run.old.items }
+fn drop_first(contiguous: &mut VecDeque<Option<StampedEntry>>, count: usize)
+    requires { count ≤ deque_len contiguous.old }
+    ensures { contiguous.new.items ≡ drop count contiguous.old.items }
 {
     for _ in 0..count {
-        run.pop_front();
+        contiguous.pop_front();
     }
 }
 
 /// Moves the later entries that follow the slots into new slots, as far as memory is there.
-fn gather(covered: u64, run: &mut VecDeque<Option<Entry>>, later: &mut BTreeMap<u64, Entry>)
-    requires { IsSlotted covered run.old.items later.old.entries }
-    ensures slotted { IsSlotted covered run.new.items later.new.entries }
-    ensures same { in_slots covered run.new.items ++ later.new.entries
-        ≡ in_slots covered run.old.items ++ later.old.entries }
+fn gather(
+    covered: u64,
+    contiguous: &mut VecDeque<Option<StampedEntry>>,
+    out_of_order: &mut BTreeMap<u64, StampedEntry>,
+)
+    requires { IsSlotted covered contiguous.old.items out_of_order.old.entries }
+    ensures slotted { IsSlotted covered contiguous.new.items out_of_order.new.entries }
+    ensures same { in_slots covered contiguous.new.items ++ out_of_order.new.entries
+        ≡ in_slots covered contiguous.old.items ++ out_of_order.old.entries }
 {
-    while let Some((number, entry)) = later.first_key_value() {
-        if *number - 1 != covered + run.len() as u64 || run.push_back(Some(*entry)).is_err() {
+    while let Some((number, entry)) = out_of_order.first_key_value() {
+        if *number - 1 != covered + contiguous.len() as u64
+            || contiguous.push_back(Some(*entry)).is_err()
+        {
             break;
         }
-        later.pop_first();
+        out_of_order.pop_first();
     }
 }
 
 /// Empties the slot if its entry has a component of its stamp above this one's.
-fn empty_if_above(slot: &mut Option<Entry>, frontiers: &Stamp)
-    ensures { (e : Entry) → (slot.new ≡ Some e) ↔ ((slot.old ≡ Some e) × AtMost e.stamp frontiers.now) }
+fn empty_if_above(slot: &mut Option<StampedEntry>, frontiers: &Stamp)
+    ensures { (e : StampedEntry) → (slot.new ≡ Some e) ↔ ((slot.old ≡ Some e) × AtMost e.stamp frontiers.now) }
 {
     if let Some(entry) = slot
         && !entry.stamp.at_most(frontiers)
@@ -94,16 +100,16 @@ fn empty_if_above(slot: &mut Option<Entry>, frontiers: &Stamp)
 }
 
 /// Empties each slot whose entry has a component of its stamp above this one's.
-fn empty_above(run: &mut VecDeque<Option<Entry>>, frontiers: &Stamp)
-    ensures { RetainsSlots run.old.items run.new.items frontiers.now }
+fn empty_above(contiguous: &mut VecDeque<Option<StampedEntry>>, frontiers: &Stamp)
+    ensures { RetainsSlots contiguous.old.items contiguous.new.items frontiers.now }
 {
-    for i in 0..run.len() {
-        empty_if_above(&mut run[i], frontiers);
+    for i in 0..contiguous.len() {
+        empty_if_above(&mut contiguous[i], frontiers);
     }
 }
 
 /// How many entries the slot has: one or none.
-fn count_in(slot: &Option<Entry>) -> usize
+fn count_in(slot: &Option<StampedEntry>) -> usize
     ensures count { result ≡ length (option_to_list slot.now) }
     ensures small { result ≤ 1 }
 {
@@ -114,12 +120,12 @@ fn count_in(slot: &Option<Entry>) -> usize
 }
 
 /// How many slots are not empty.
-fn count_full(run: &VecDeque<Option<Entry>>) -> usize
-    ensures { (from : ℕ) → result ≡ length (in_slots from run.now.items) }
+fn count_full(contiguous: &VecDeque<Option<StampedEntry>>) -> usize
+    ensures { (from : ℕ) → result ≡ length (in_slots from contiguous.now.items) }
 {
     let mut count = 0;
-    for i in 0..run.len() {
-        count += count_in(&run[i]);
+    for i in 0..contiguous.len() {
+        count += count_in(&contiguous[i]);
     }
     count
 }
@@ -131,8 +137,8 @@ impl Slots {
     {
         Slots {
             covered: 0,
-            run: VecDeque::new(alloc),
-            later: BTreeMap::new(alloc),
+            contiguous: VecDeque::new(alloc),
+            out_of_order: BTreeMap::new(alloc),
         }
     }
 
@@ -146,13 +152,13 @@ impl Slots {
     }
 
     /// The held entry of this number.
-    pub fn get(&self, number: u64) -> Option<&Entry>
+    pub fn get(&self, number: u64) -> Option<&StampedEntry>
         ensures { option_copied result ≡ entry_at self.now number }
     {
-        if number <= self.covered || number - self.covered > self.run.len() as u64 {
-            return self.later.get(&number);
+        if number <= self.covered || number - self.covered > self.contiguous.len() as u64 {
+            return self.out_of_order.get(&number);
         }
-        self.run[(number - self.covered - 1) as usize].as_ref()
+        self.contiguous[(number - self.covered - 1) as usize].as_ref()
     }
 
     /// How many entries are held.
@@ -160,31 +166,31 @@ impl Slots {
         ensures len { result ≡ length self.now.entries }
         ensures small { result ≤ 2 ^ 56 }
     {
-        count_full(&self.run) + self.later.len()
+        count_full(&self.contiguous) + self.out_of_order.len()
     }
 
     /// Holds this entry as the one of this number.
-    pub fn put(&mut self, number: u64, entry: Entry) -> Result<(), NoMemory>
+    pub fn put(&mut self, number: u64, entry: StampedEntry) -> Result<(), NoMemory>
         requires past { self.old.covered < number }
         requires free { entry_at self.old number ≡ None }
         ensures ok { OnOk result (PutsEntry self.old self.new number entry) }
         ensures err { OnErr result (self.new ≡ self.old) }
     {
         let place = number - self.covered - 1;
-        let slots = self.run.len() as u64;
+        let slots = self.contiguous.len() as u64;
         if place < slots {
-            self.run[place as usize] = Some(entry);
+            self.contiguous[place as usize] = Some(entry);
             return Ok(());
         }
-        if self.run.len() >= LIMIT - self.later.len() {
+        if self.contiguous.len() >= LIMIT - self.out_of_order.len() {
             return Err(NoMemory);
         }
         if place == slots {
-            self.run.push_back(Some(entry))?;
-            gather(self.covered, &mut self.run, &mut self.later);
+            self.contiguous.push_back(Some(entry))?;
+            gather(self.covered, &mut self.contiguous, &mut self.out_of_order);
             return Ok(());
         }
-        self.later.insert(number, entry)?;
+        self.out_of_order.insert(number, entry)?;
         Ok(())
     }
 
@@ -193,9 +199,12 @@ impl Slots {
         requires { self.old.covered ≤ count }
         ensures { CoversUpTo self.old self.new count }
     {
-        let slots = self.run.len() as u64;
-        drop_first(&mut self.run, slots.min(count - self.covered) as usize);
-        drop_later_up_to(&mut self.later, count);
+        let slots = self.contiguous.len() as u64;
+        drop_first(
+            &mut self.contiguous,
+            slots.min(count - self.covered) as usize,
+        );
+        drop_out_of_order_up_to(&mut self.out_of_order, count);
         self.covered = count;
     }
 
@@ -204,7 +213,8 @@ impl Slots {
         ensures retained { RetainsAtMost self.old self.new frontiers.now }
         ensures fewer { length self.new.entries ≤ length self.old.entries }
     {
-        empty_above(&mut self.run, frontiers);
-        self.later.retain(|_, entry| entry.stamp.at_most(frontiers));
+        empty_above(&mut self.contiguous, frontiers);
+        self.out_of_order
+            .retain(|_, entry| entry.stamp.at_most(frontiers));
     }
 }

@@ -5,7 +5,7 @@
 
 ghost use Rattle.std.specs.Prelude.{◌≡◌, ◌<◌, ◌≤◌, ◌^◌};
 
-use access_log::{Entry, Held, Kept, What};
+use access_log::{Held, Kept, StampedEntry, What};
 use anyhow::Context;
 use plain_text::NoMemory;
 use std::alloc::Global;
@@ -13,7 +13,7 @@ use std::env;
 use thread_clock::Stamp;
 
 /// The entry of this number of thread 0 or 1, where the two take turns and each entry comes after all earlier ones of both.
-fn entry_of(thread: u32, number: u64) -> Entry
+fn entry_of(thread: u32, number: u64) -> StampedEntry
     requires { 1 ≤ number }
     ensures thread { result.thread ≡ thread }
     ensures number { result.number ≡ number }
@@ -21,7 +21,7 @@ fn entry_of(thread: u32, number: u64) -> Entry
     let mut components = [0; 16];
     components[0] = number;
     components[1] = if thread == 0 { number - 1 } else { number };
-    Entry {
+    StampedEntry {
         thread,
         number,
         what: What::Clock(0),

@@ -12,7 +12,7 @@ use Rattle.plain_machine.specs.declared.local.Move.TheVariants.{Access, Read, Cl
 use Rattle.plain_machine.specs.declared.emission.Emission.{Emission}
 use Rattle.plain_machine.specs.declared.plain_move.PlainMove.{PlainMove}
 use Rattle.plain_machine.specs.Program.{Meaning, IsLawful}
-use Rattle.plain_machine.specs.Machine.{Hand, Thread, Deed, Takes, Touches, Looks, HearsClock, HearsDraw, Sends, Ends, holding, Moves, hand_move, sent_packet}
+use Rattle.plain_machine.specs.Machine.{Hand, Thread, Effect, Takes, Touches, Looks, HearsClock, HearsDraw, Sends, Ends, holding, Moves, hand_move, sent_packet}
 use Rattle.plain_machine.specs.History.{Step, plain_move, step_of, value_after, thread_after, sent_of, emissions}
 use Rattle.plain_machine.proofs.Playing as playing
 use Rattle.job_top.specs.Running.{IsStraight, packets_of, inputs_on, moves_for, moves_on, moves_in_turn, HasPlayed}
@@ -20,7 +20,7 @@ use Rattle.job_top.specs.Midst.{HasCome, NotYet, Holds, Ended, IsAmid}
 use Rattle.job_top.proofs.Turns.{turn_of, turn_more, move_more, own_more, other_more, next_input}
 
 -- how many packets a move sends out
-abbrev pub sends_by : {V : Type 0} → Deed V → ℕ
+abbrev pub sends_by : {V : Type 0} → Effect V → ℕ
 sends_by Takes = 0
 sends_by (Touches v left) = 0
 sends_by (Looks v) = 0
@@ -32,9 +32,9 @@ sends_by Ends = 0
 -- the next move with the packet in hand, and how far it has come after it
 record HandGoes {V : Type 0} (m : Meaning V) (value : ℕ → V) (packet : Packet) (before at made sent taken : ℕ) (h : Hand) : Type 0 where
   after : Thread
-  deed : Deed V
-  moves : hand_move m value taken h None (m.next h.place) ≡ Moves after deed
-  come : HasCome m packet before at (made + 1) (sent + sends_by deed) after
+  effect : Effect V
+  moves : hand_move m value taken h None (m.next h.place) ≡ Moves after effect
+  come : HasCome m packet before at (made + 1) (sent + sends_by effect) after
 
 module _ {V : Type 0} (m : Meaning V) (fits : ℕ → V → Type 0) (straight : IsStraight m fits) (lawful : IsLawful m fits) (value : ℕ → V) (fit : (v : ℕ) → v < m.vars → fits v (value v)) where
   hand_goes : (packet : Packet) (before at made sent taken : ℕ) (h : Hand) → h.packet ≡ packet → taken ≡ before + 1 → 1 ≤ made → m.rank h.place + made ≡ m.rank (m.begin packet) + 1
@@ -46,7 +46,7 @@ module _ {V : Type 0} (m : Meaning V) (fits : ℕ → V → Type 0) (straight : 
           let falls = straight.touch v (value v) h.place e (fit v (lawful.touches_var h.place v e)) in
           record {
             after = holding taken h.packet (m.touch v (value v) h.place).1;
-            deed = Touches v (m.touch v (value v) h.place).0;
+            effect = Touches v (m.touch v (value v) h.place).0;
             moves = rw e refl;
             come = Holds _ refl same took (omega arith) (omega (arith, falls.1, far)) (λ _. add-zero sent ∙ early (omega (arith, falls.0))) (λ k. absurd (omega (arith, falls.0, falls.1, k)));
           }
@@ -54,7 +54,7 @@ module _ {V : Type 0} (m : Meaning V) (fits : ℕ → V → Type 0) (straight : 
           let falls = straight.look v (value v) h.place e (fit v (lawful.reads_var h.place v e)) in
           record {
             after = holding taken h.packet (m.look v (value v) h.place);
-            deed = Looks v;
+            effect = Looks v;
             moves = rw e refl;
             come = Holds _ refl same took (omega arith) (omega (arith, falls.1, far)) (λ _. add-zero sent ∙ early (omega (arith, falls.0))) (λ k. absurd (omega (arith, falls.0, falls.1, k)));
           }
@@ -64,21 +64,21 @@ module _ {V : Type 0} (m : Meaning V) (fits : ℕ → V → Type 0) (straight : 
           let falls = straight.emit h.place e in
           record {
             after = holding taken h.packet (m.emitted h.place);
-            deed = Sends (sent_packet m h);
+            effect = Sends (sent_packet m h);
             moves = rw e refl;
             come = Holds _ refl same took (omega arith) (omega (arith, falls.0, falls.1, far)) (λ k. absurd (omega (arith, falls.1, k))) (λ _. ap (λ n. n + 1) (early (omega (arith, falls.0))));
           }
       go End e =
           let none = straight.end h.place e in
-          record { after = record { taken = taken; hand = None }; deed = Ends; moves = rw e refl; come = Ended (omega (arith, none, far)) took refl (add-zero sent ∙ late none) }
+          record { after = record { taken = taken; hand = None }; effect = Ends; moves = rw e refl; come = Ended (omega (arith, none, far)) took refl (add-zero sent ∙ late none) }
 
 -- The packet's next move of its thread, and how far the packet has come after it.
 pub record GoesOn {V : Type 0} (m : Meaning V) (threads : ℕ) (packets : List Packet) (at : ℕ) (packet : Packet) (made sent : ℕ) (steps : List (Step V)) : Type 0 where
   pub after : Thread
-  pub deed : Deed V
-  pub moves : plain_move m (inputs_on threads packets) threads steps (turn_of threads packet) ≡ Ok (step_of (thread_of packet threads) steps after deed ∷ steps)
+  pub effect : Effect V
+  pub moves : plain_move m (inputs_on threads packets) threads steps (turn_of threads packet) ≡ Ok (step_of (thread_of packet threads) steps after effect ∷ steps)
   pub given : Some packet ≡ input_for (inputs_on threads packets (thread_of packet threads)) (thread_after steps (thread_of packet threads)).taken (thread_after steps (thread_of packet threads)).hand
-  pub come : HasCome m packet (length (inputs_on threads (take at packets) (thread_of packet threads))) at (made + 1) (sent + sends_by deed) after
+  pub come : HasCome m packet (length (inputs_on threads (take at packets) (thread_of packet threads))) at (made + 1) (sent + sends_by effect) after
 
 pub goes_on : {V : Type 0} (m : Meaning V) (fits : ℕ → V → Type 0) (threads : ℕ) (packets : List Packet) (at : ℕ) (packet : Packet) (made sent : ℕ) (steps : List (Step V))
     → IsStraight m fits → IsLawful m fits → ((v : ℕ) → v < m.vars → fits v (value_after m steps v)) → slice_get packets at ≡ Some packet → thread_of packet threads < threads → ¬ (made ≡ moves_for m packet)
@@ -100,7 +100,7 @@ goes_on {V} m fits threads packets at packet made sent steps straight lawful fit
         let some = straight.begin packet in
         record {
           after = holding ((thread_after steps t).taken + 1) packet (m.begin packet);
-          deed = Takes;
+          effect = Takes;
           moves = rw (there_is, no_hand, found) refl;
           given = rw no_hand (sym found);
           come = Holds _ refl refl (ap (λ n. n + 1) took) (omega arith) (omega (arith, none)) (λ _. add-zero sent ∙ as_many) (λ k. absurd (omega (arith, k, some)));
@@ -109,7 +109,7 @@ goes_on {V} m fits threads packets at packet made sent steps straight lawful fit
         let on = hand_goes m fits straight lawful (value_after m steps) fit packet before at made sent (thread_after steps t).taken h same took some far early late in
         record {
           after = on.after;
-          deed = on.deed;
+          effect = on.effect;
           moves = rw (there_is, hand, on.moves) refl;
           given = rw hand (ap Some (sym same));
           come = on.come;
@@ -120,7 +120,7 @@ goes_on {V} m fits threads packets at packet made sent steps straight lawful fit
 sent_length : {V : Type 0} (steps : List (Step V)) → length (packets_of (emissions steps)) ≡ length (sent_of steps)
 sent_length steps = length-map (reverse (sent_of steps)) (λ (e : Emission). e.packet) ∙ length-reverse (sent_of steps)
 
-sent_more_by : {V : Type 0} (t : ℕ) (steps : List (Step V)) (after : Thread) (deed : Deed V) → length (sent_of (step_of t steps after deed ∷ steps)) ≡ length (sent_of steps) + sends_by deed
+sent_more_by : {V : Type 0} (t : ℕ) (steps : List (Step V)) (after : Thread) (effect : Effect V) → length (sent_of (step_of t steps after effect ∷ steps)) ≡ length (sent_of steps) + sends_by effect
 sent_more_by t steps after Takes = sym (add-zero _)
 sent_more_by t steps after (Touches v left) = sym (add-zero _)
 sent_more_by t steps after (Looks v) = sym (add-zero _)
@@ -130,34 +130,34 @@ sent_more_by t steps after (Sends packet) = sym (add-one _)
 sent_more_by t steps after Ends = sym (add-zero _)
 
 -- the thread that moved, and the others
-moved_thread : {V : Type 0} (t : ℕ) (steps : List (Step V)) (after : Thread) (deed : Deed V) → thread_after (step_of t steps after deed ∷ steps) t ≡ after
-moved_thread t steps after deed = let same : nat_eq t t ≡ true = grind (arith, nat_tests) in rw same refl
+moved_thread : {V : Type 0} (t : ℕ) (steps : List (Step V)) (after : Thread) (effect : Effect V) → thread_after (step_of t steps after effect ∷ steps) t ≡ after
+moved_thread t steps after effect = let same : nat_eq t t ≡ true = grind (arith, nat_tests) in rw same refl
 
-other_thread : {V : Type 0} (t u : ℕ) (steps : List (Step V)) (after : Thread) (deed : Deed V) → t ≢ u → thread_after (step_of t steps after deed ∷ steps) u ≡ thread_after steps u
-other_thread t u steps after deed other = let no : nat_eq t u ≡ false = grind (arith, nat_tests) in rw no refl
+other_thread : {V : Type 0} (t u : ℕ) (steps : List (Step V)) (after : Thread) (effect : Effect V) → t ≢ u → thread_after (step_of t steps after effect ∷ steps) u ≡ thread_after steps u
+other_thread t u steps after effect other = let no : nat_eq t u ≡ false = grind (arith, nat_tests) in rw no refl
 
 -- the run after the move
 pub amid_more : {V : Type 0} (m : Meaning V) (threads : ℕ) (packets : List Packet) (at : ℕ) (packet : Packet) (made : ℕ) (moves : List PlainMove) (sent : List Packet) (steps : List (Step V))
     → IsAmid m threads packets at packet made moves sent steps → (on : GoesOn m threads packets at packet made (length sent) steps)
-    → IsAmid m threads packets at packet (made + 1) (moves ++ turn_of threads packet ∷ []) (packets_of (emissions (step_of (thread_of packet threads) steps on.after on.deed ∷ steps))) (step_of (thread_of packet threads) steps on.after on.deed ∷ steps)
+    → IsAmid m threads packets at packet (made + 1) (moves ++ turn_of threads packet ∷ []) (packets_of (emissions (step_of (thread_of packet threads) steps on.after on.effect ∷ steps))) (step_of (thread_of packet threads) steps on.after on.effect ∷ steps)
 amid_more {V} m threads packets at packet made moves sent steps amid on = record {
   in_turn = ap (λ l. l ++ turn_of threads packet ∷ []) amid.in_turn ∙ append_assoc (moves_in_turn m threads (take at packets)) (moves_on threads packet made) (turn_of threads packet ∷ []) ∙ ap (λ l. moves_in_turn m threads (take at packets) ++ l) (move_more threads packet made);
   legal = playing.play_append m (inputs_on threads packets) threads (Ok []) moves (turn_of threads packet ∷ []) ∙ rw (amid.legal, on.moves) refl;
   sent_is = refl;
   come = subst (λ (n : ℕ). HasCome m packet (length (inputs_on threads (take at packets) t)) at (made + 1) n (thread_after next t)) (sym many)
-      (subst (λ (th : Thread). HasCome m packet (length (inputs_on threads (take at packets) t)) at (made + 1) (length sent + sends_by on.deed) th) (sym (moved_thread t steps on.after on.deed)) on.come);
-  taken = λ u below other. ap (λ (th : Thread). th.taken) (other_thread t u steps on.after on.deed other) ∙ amid.taken u below other;
-  ended = λ u below other. ap (λ (th : Thread). th.hand) (other_thread t u steps on.after on.deed other) ∙ amid.ended u below other;
+      (subst (λ (th : Thread). HasCome m packet (length (inputs_on threads (take at packets) t)) at (made + 1) (length sent + sends_by on.effect) th) (sym (moved_thread t steps on.after on.effect)) on.come);
+  taken = λ u below other. ap (λ (th : Thread). th.taken) (other_thread t u steps on.after on.effect other) ∙ amid.taken u below other;
+  ended = λ u below other. ap (λ (th : Thread). th.hand) (other_thread t u steps on.after on.effect other) ∙ amid.ended u below other;
 }
   where
     t : ℕ
     t = thread_of packet threads
 
     next : List (Step V)
-    next = step_of t steps on.after on.deed ∷ steps
+    next = step_of t steps on.after on.effect ∷ steps
 
-    many : length (packets_of (emissions next)) ≡ length sent + sends_by on.deed
-    many = sent_length next ∙ sent_more_by t steps on.after on.deed ∙ ap (λ n. n + sends_by on.deed) (sym (ap length amid.sent_is ∙ sent_length steps))
+    many : length (packets_of (emissions next)) ≡ length sent + sends_by on.effect
+    many = sent_length next ∙ sent_more_by t steps on.after on.effect ∙ ap (λ n. n + sends_by on.effect) (sym (ap length amid.sent_is ∙ sent_length steps))
 
 -- a packet is begun after those before it
 pub amid_begin : {V : Type 0} (m : Meaning V) (threads : ℕ) (packets : List Packet) (at : ℕ) (packet : Packet) (moves : List PlainMove) (sent : List Packet) (steps : List (Step V))

@@ -214,7 +214,7 @@ has_moved {V} m fits threads packets at packet thread moves more sent out p q di
     steps = ready.so_far.steps
 
     next : List (Step V)
-    next = step_of (thread_of packet threads) steps ready.on.after ready.on.deed ∷ steps
+    next = step_of (thread_of packet threads) steps ready.on.after ready.on.effect ∷ steps
 
     -- the move is one of the packet's own thread, which is told nothing
     move_is : move_of m steps thread 0 ≡ turn_of threads packet

@@ -1,6 +1,6 @@
 ghost use Rattle.std.specs.Prelude.{◌≡◌, ℕ, length, IfOk};
 
-use access_log::{Added, Entry, Held, Kept, What};
+use access_log::{Added, Held, Kept, StampedEntry, What};
 use entry_order::{LogEntry, closed_part, contains, first_missing, stamp_component};
 use rand_core::utils::NextWord;
 use rand_pcg::Pcg32;
@@ -52,7 +52,7 @@ fn hold(alloc: Global, log: &[LogEntry], entries: &[LogEntry]) -> Result<Held, F
             continue;
         }
         let stamp = stamp_of(alloc, log, entry)?;
-        held.add(Entry {
+        held.add(StampedEntry {
             thread: entry.thread,
             number: entry.number,
             what: entry.what,
@@ -200,14 +200,14 @@ fn two_threads_count(rt: HostRuntime) -> Result<(), Fail> {
     let alloc = rt.alloc();
     let mut stamp = Stamp::zero();
     stamp.bump(1);
-    let first = Entry {
+    let first = StampedEntry {
         thread: 1,
         number: 1,
         what: What::Access { var: 0, place: 1 },
         stamp,
     };
     stamp.bump(0);
-    let second = Entry {
+    let second = StampedEntry {
         thread: 0,
         number: 1,
         what: What::Access { var: 0, place: 2 },

@@ -2,7 +2,7 @@ ghost use Rattle.std.specs.Prelude.{◌≡◌, ℕ, ◌<◌, length, IfOk};
 ghost use Rattle.master_core.specs.Mastered.{FitsProgram};
 
 use crate::mixed::MixedBox;
-use access_log::{Entry, Held, Turn, What};
+use access_log::{Held, StampedEntry, Turn, What};
 use box_program::{CountBox, PeekBox, Program};
 use entry_order::{LogEntry, precedes, precedes_output, stamp_component, weight};
 use master_core::{Master, Stepped, Wants};
@@ -32,7 +32,7 @@ const NEXT_QUERY: [u8; 42] = [
 #[derive(Clone, Copy, Debug, PartialEq)]
 enum Told {
     Took(u64),
-    Did(Entry),
+    Did(StampedEntry),
     Sent(u64, u64, Stamp),
     Ended(u64),
     Idle,
@@ -72,11 +72,11 @@ fn stamp(first: u64, second: u64) -> Stamp {
 }
 
 /// The first entry of a thread, a touch of variable 0.
-fn first_touch(thread: u32, place: u64, stamp: Stamp) -> Entry
+fn first_touch(thread: u32, place: u64, stamp: Stamp) -> StampedEntry
     ensures thread { result.thread ≡ thread }
     ensures first { result.number ≡ 1 }
 {
-    Entry {
+    StampedEntry {
         thread,
         number: 1,
         what: What::Access { var: 0, place },
@@ -206,7 +206,7 @@ fn a_touch_comes_after_a_read(rt: HostRuntime) -> Result<(), Fail> {
         make(alloc, &mut master, &program, 1, Turn::Free, &odd),
         Told::Took(1)
     );
-    let read = Entry {
+    let read = StampedEntry {
         thread: 1,
         number: 1,
         what: What::Read { var: 0, after: 0 },
@@ -219,7 +219,7 @@ fn a_touch_comes_after_a_read(rt: HostRuntime) -> Result<(), Fail> {
         make(alloc, &mut master, &program, 0, Turn::Free, &even),
         Told::Took(1)
     );
-    let touch = Entry {
+    let touch = StampedEntry {
         thread: 0,
         number: 1,
         what: What::Access { var: 0, place: 1 },

@@ -21,7 +21,7 @@ use Rattle.master_core.specs.declared.step.Stepped.TheVariants as stepped
 use Rattle.master_core.specs.Mastered.{Mastered, FitsProgram, hand_of, place_in_hand, has_hand, moves_left, in_hand_count, IsOnVariable, WantsVariable, IsBounded}
 use Rattle.master_core.specs.Standing.{IsThread, Stands}
 use Rattle.master_core.specs.Stepping.{move_of, Follows, MadeNone, MadeOne}
-use Rattle.master_core.specs.Deeds.{InTurn, Played, next_output, after_take, DoneTake, DoneTouch, DoneLook}
+use Rattle.master_core.specs.Effects.{InTurn, Played, next_output, after_take, DoneTake, DoneTouch, DoneLook}
 use Rattle.master_core.proofs.Following.{Ready, in_hand, touch_follows, look_follows, clock_follows, draw_follows, emit_follows, end_follows}
 
 -- the place in hand of a thread whose part is known

@@ -8,7 +8,7 @@ use Rattle.plain_machine.specs.declared.local.Local.{Local}
 use Rattle.master_core.specs.declared.parts.VarPart.{VarPart}
 use Rattle.master_core.specs.declared.parts.ThreadPart.{ThreadPart}
 use Rattle.master_core.specs.Mastered.{IsBounded, in_hand_count, moves_made}
-use Rattle.master_core.specs.Deeds.{after_entry, after_emit}
+use Rattle.master_core.specs.Effects.{after_entry, after_emit}
 
 -- no variable has more than so many places more
 abbrev pub AddsPlaces : {V : Type 0} → List (VarPart V) → List (VarPart V) → ℕ → Type 0

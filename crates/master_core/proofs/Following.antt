@@ -7,14 +7,14 @@ use Rattle.entry_order.specs.declared.what.What.{What}
 use Rattle.entry_order.specs.declared.what.What.TheVariants.{Access as Touch, Read as Look, Clock as Time, Draw as Word}
 use Rattle.entry_order.specs.Log.{Entry, places, IsLog}
 use Rattle.entry_order.specs.Stamps.{IsStamp}
-use Rattle.access_log.specs.declared.entry.Entry.{Entry as StampedEntry}
+use Rattle.access_log.specs.declared.entry.StampedEntry.{StampedEntry}
 use Rattle.box_program.specs.Hands.{place_of, input_for}
 use Rattle.plain_machine.specs.declared.local.Local.{Local}
 use Rattle.plain_machine.specs.declared.local.Move.{Move}
 use Rattle.plain_machine.specs.declared.local.Move.TheVariants as move
 use Rattle.plain_machine.specs.declared.emission.Emission.{Emission}
 use Rattle.plain_machine.specs.Program.{Meaning}
-use Rattle.plain_machine.specs.Machine.{Hand, Thread, Deed, Takes, Touches, Looks, HearsClock, HearsDraw, Sends, Ends, holding, hand_move, sent_packet}
+use Rattle.plain_machine.specs.Machine.{Hand, Thread, Effect, Takes, Touches, Looks, HearsClock, HearsDraw, Sends, Ends, holding, hand_move, sent_packet}
 use Rattle.plain_machine.specs.History.{Act, Took, Did, Emitted, Ended, Step, log_of, value_after, thread_after, entry_of, step_of, after_moved, plain_move}
 use Rattle.master_core.specs.declared.parts.VarPart.{VarPart}
 use Rattle.master_core.specs.declared.parts.ThreadPart.{ThreadPart}
@@ -23,7 +23,7 @@ use Rattle.master_core.specs.declared.step.Stepped.TheVariants as stepped
 use Rattle.master_core.specs.Mastered.{Mastered}
 use Rattle.master_core.specs.Standing.{IsVariable, IsThread, Stands}
 use Rattle.master_core.specs.Stepping.{told_for, move_of, plain_entry, DidEntry, Follows}
-use Rattle.master_core.specs.Deeds.{next_output, DoneTake, DoneTouch, DoneLook, DoneHear, DoneEmit, DoneEnd, after_take, after_entry, after_emit, after_end}
+use Rattle.master_core.specs.Effects.{next_output, DoneTake, DoneTouch, DoneLook, DoneHear, DoneEmit, DoneEnd, after_take, after_entry, after_emit, after_end}
 use Rattle.master_core.proofs.Threads.{take_on, emit_on, end_on, entry_on}
 use Rattle.master_core.proofs.Variables.{touch_is_log, look_is_log, clock_is_log, draw_is_log, take_vars, emit_vars, end_vars, clock_vars, draw_vars, touch_vars, look_vars}
 use Rattle.master_core.proofs.Standing.{stands_on, Logs, touch_logs, look_logs, clock_logs, draw_logs}
@@ -114,9 +114,9 @@ touch_follows {V} m inputs threads steps t answer v packet place part x p q r re
     made m inputs threads steps t answer (record { vars = slice_set p.vars v y; threads = slice_set p.threads t (after_entry part place' e.stamp) }) q r (stepped.Did e) r_is done.master (record {
       step = step;
       plain_is = hand_plays m inputs threads steps t answer packet place (move.Access v) ready.below ready.hand next ∙ ap (λ (w : V). Ok (step_of t steps (holding taken packet (m.touch v w place).1) (Touches v (m.touch v w place).0) ∷ steps)) (sym is.value);
-      stands = stands_on m threads steps p t after deed (slice_set p.vars v y) (after_entry part place' e.stamp) ready.stands ready.below good
+      stands = stands_on m threads steps p t after effect (slice_set p.vars v y) (after_entry part place' e.stamp) ready.stands ready.below good
           (touch_vars m steps t v after (m.touch v x.value place).0 e.stamp x p.vars ready.stands.log below len is logs.stamp ready.stands.var)
-          (entry_on steps t packet place place' deed what e.stamp part refl refl good logs.stamp ready.at ready.part_is);
+          (entry_on steps t packet place place' effect what e.stamp part refl refl good logs.stamp ready.at ready.part_is);
       does = did_entry steps t what (Some (m.touch v x.value place).0) e step logs refl refl;
     })
   where
@@ -132,14 +132,14 @@ touch_follows {V} m inputs threads steps t answer v packet place part x p q r re
     after : Thread
     after = holding taken packet place'
 
-    deed : Deed V
-    deed = Touches v (m.touch v x.value place).0
+    effect : Effect V
+    effect = Touches v (m.touch v x.value place).0
 
     what : What
     what = Touch v (places v (log_of steps) + 1)
 
     step : Step V
-    step = step_of t steps after deed
+    step = step_of t steps after effect
 
     good : IsLog (log_of (step ∷ steps))
     good = touch_is_log (log_of steps) t v ready.stands.log

@@ -7,7 +7,7 @@ use Rattle.std.specs.Ordering.{nat_cmp}
 use Rattle.entry_order.specs.Log.{Entry, entries, IsLog, IsIn}
 use Rattle.entry_order.specs.Closed.{IsFrontier as IsFrontierOf}
 use Rattle.entry_order.proofs.Order.{number_within, entry_there, same_number}
-use Rattle.access_log.specs.declared.entry.Entry.{Entry as StampedEntry}
+use Rattle.access_log.specs.declared.entry.StampedEntry.{StampedEntry}
 use Rattle.access_log.specs.Held.{Lane, lane, entry_at, IsKnown, IsFrontier, IsWithin}
 use Rattle.access_log.proofs.LaneLemmas.{one_frontier}
 use Rattle.master_core.specs.Holding.{held_entries, HoldsOf}

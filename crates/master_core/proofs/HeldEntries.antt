@@ -8,7 +8,7 @@ use Rattle.std.proofs.lemmas.Bool.Decides.{nat_tests}
 use Rattle.entry_order.specs.Log.{Entry, IsIn}
 use Rattle.entry_order.proofs.Order.{is_or}
 use Rattle.entry_order.proofs.Keeping.{in_left, in_right, in_either}
-use Rattle.access_log.specs.declared.entry.Entry.{Entry as StampedEntry}
+use Rattle.access_log.specs.declared.entry.StampedEntry.{StampedEntry}
 use Rattle.access_log.specs.Held.{Lane, lane, fresh_lane, entry_at}
 use Rattle.master_core.specs.Holding.{and_found, found, held_entries, HoldsOf}
 use Rattle.master_core.specs.Stepping.{plain_entry}

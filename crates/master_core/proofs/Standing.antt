@@ -7,26 +7,26 @@ use Rattle.entry_order.specs.declared.what.What.TheVariants.{Access, Read, Clock
 use Rattle.entry_order.specs.Log.{Entry, entries, places, IsLog}
 use Rattle.entry_order.specs.Stamps.{IsStamp, bumped}
 use Rattle.entry_order.proofs.Order.{is_or}
-use Rattle.access_log.specs.declared.entry.Entry.{Entry as StampedEntry}
+use Rattle.access_log.specs.declared.entry.StampedEntry.{StampedEntry}
 use Rattle.plain_machine.specs.Program.{Meaning}
-use Rattle.plain_machine.specs.Machine.{Thread, Deed}
+use Rattle.plain_machine.specs.Machine.{Thread, Effect}
 use Rattle.plain_machine.specs.History.{Step, log_of, entry_of, step_of}
 use Rattle.master_core.specs.declared.parts.VarPart.{VarPart}
 use Rattle.master_core.specs.declared.parts.ThreadPart.{ThreadPart}
 use Rattle.master_core.specs.Mastered.{Mastered}
 use Rattle.master_core.specs.Standing.{IsVariable, IsThread, Stands}
 use Rattle.master_core.specs.Stepping.{plain_entry}
-use Rattle.master_core.specs.Deeds.{next_entry, HasStamp, before_touch, before_read}
+use Rattle.master_core.specs.Effects.{next_entry, HasStamp, before_touch, before_read}
 use Rattle.master_core.proofs.Joining.{touch_stamp, read_stamp, own_stamp, stamp_by}
 use Rattle.master_core.proofs.Threads.{other_on}
 use Rattle.master_core.proofs.Variables.{HasVariables, touch_is_log, look_is_log, clock_is_log, draw_is_log}
 
 -- a master stands on: its variables and the thread that moved are as the step says, and the other threads stay
-pub stands_on : {V : Type 0} (m : Meaning V) (threads : ℕ) (steps : List (Step V)) (p : Mastered V) (t : ℕ) (after : Thread) (deed : Deed V) (vars : List (VarPart V)) (part : ThreadPart)
-    → Stands m threads steps p → t < threads → IsLog (log_of (step_of t steps after deed ∷ steps))
-    → HasVariables m (step_of t steps after deed ∷ steps) vars → IsThread (step_of t steps after deed ∷ steps) t part
-    → Stands m threads (step_of t steps after deed ∷ steps) (record { vars = vars; threads = slice_set p.threads t part })
-stands_on {V} m threads steps p t after deed vars part is below good has own = record {
+pub stands_on : {V : Type 0} (m : Meaning V) (threads : ℕ) (steps : List (Step V)) (p : Mastered V) (t : ℕ) (after : Thread) (effect : Effect V) (vars : List (VarPart V)) (part : ThreadPart)
+    → Stands m threads steps p → t < threads → IsLog (log_of (step_of t steps after effect ∷ steps))
+    → HasVariables m (step_of t steps after effect ∷ steps) vars → IsThread (step_of t steps after effect ∷ steps) t part
+    → Stands m threads (step_of t steps after effect ∷ steps) (record { vars = vars; threads = slice_set p.threads t part })
+stands_on {V} m threads steps p t after effect vars part is below good has own = record {
   log = good;
   var = has;
   threads_are = simp length-set is.threads_are;
@@ -34,13 +34,13 @@ stands_on {V} m threads steps p t after deed vars part is below good has own = r
 }
   where
     next : List (Step V)
-    next = step_of t steps after deed ∷ steps
+    next = step_of t steps after effect ∷ steps
 
     go : (u : ℕ) (d : ThreadPart) → u < threads → (t ≡ u) ⊎ (t ≢ u) → IsThread next u (slice_index_or (slice_set p.threads t part) u d)
     go u d low (inl same) = subst (λ (w : ℕ). IsThread next w (slice_index_or (slice_set p.threads t part) w d)) same
         (subst (λ (x : ThreadPart). IsThread next t x) (sym (get_or-set_same p.threads t part d (omega (arith, is.threads_are)))) own)
     go u d low (inr apart) = subst (λ (x : ThreadPart). IsThread next u x) (sym (get_or-set_other p.threads t u part d (λ w. apart (sym w))))
-        (other_on steps t u after deed (slice_index_or p.threads u d) apart good (is.thread u d low))
+        (other_on steps t u after effect (slice_index_or p.threads u d) apart good (is.thread u d low))
 
 -- the entry of a log that a stamped entry is
 entry_is : (log : List Entry) (t : ℕ) (part : ThreadPart) (what other : What) (e : StampedEntry) → e ≡ next_entry t part what e.stamp → part.counts.entries ≡ entries t log → what ≡ other

@@ -9,12 +9,12 @@ use Rattle.entry_order.specs.Log.{Entry, entries, places, IsLog}
 use Rattle.entry_order.specs.Stamps.{IsStamp, IsOutputStamp}
 use Rattle.box_program.specs.Hands.{place_of}
 use Rattle.plain_machine.specs.declared.local.Local.{Local}
-use Rattle.plain_machine.specs.Machine.{Thread, Deed, Takes, Touches, Looks, HearsClock, HearsDraw, Sends, Ends, holding}
+use Rattle.plain_machine.specs.Machine.{Thread, Effect, Takes, Touches, Looks, HearsClock, HearsDraw, Sends, Ends, holding}
 use Rattle.plain_machine.specs.History.{Step, log_of, sent_of, outputs, moves_of, thread_after, entry_of, step_of}
 use Rattle.master_core.specs.declared.parts.ThreadPart.{ThreadPart}
 use Rattle.master_core.specs.Mastered.{in_hand_count}
 use Rattle.master_core.specs.Standing.{IsThread}
-use Rattle.master_core.specs.Deeds.{after_take, after_entry, after_emit, after_end}
+use Rattle.master_core.specs.Effects.{after_take, after_entry, after_emit, after_end}
 use Rattle.master_core.proofs.Staying.{own_output, other_output}
 
 -- The thread that moved
@@ -23,12 +23,12 @@ mine : (t : ℕ) → nat_eq t t ≡ true
 mine t = grind (arith, nat_tests)
 
 -- it is where the move left it
-pub moved_thread : {V : Type 0} (steps : List (Step V)) (t : ℕ) (after : Thread) (deed : Deed V) → thread_after (step_of t steps after deed ∷ steps) t ≡ after
-moved_thread steps t after deed = rw (mine t) refl
+pub moved_thread : {V : Type 0} (steps : List (Step V)) (t : ℕ) (after : Thread) (effect : Effect V) → thread_after (step_of t steps after effect ∷ steps) t ≡ after
+moved_thread steps t after effect = rw (mine t) refl
 
 -- and made one move more
-moved_more : {V : Type 0} (steps : List (Step V)) (t : ℕ) (after : Thread) (deed : Deed V) → moves_of t (step_of t steps after deed ∷ steps) ≡ moves_of t steps + 1
-moved_more steps t after deed = rw (mine t) refl
+moved_more : {V : Type 0} (steps : List (Step V)) (t : ℕ) (after : Thread) (effect : Effect V) → moves_of t (step_of t steps after effect ∷ steps) ≡ moves_of t steps + 1
+moved_more steps t after effect = rw (mine t) refl
 
 -- a thread that took its next input
 pub take_on : {V : Type 0} (steps : List (Step V)) (t : ℕ) (packet : Packet) (place : Local) (part : ThreadPart) → part.hand ≡ None → IsThread steps t part
@@ -103,13 +103,13 @@ end_on {V} steps t place part some low is = record {
     more = moved_more steps t after Ends
 
 -- a thread that made an entry of this content, with this stamp
-pub entry_on : {V : Type 0} (steps : List (Step V)) (t : ℕ) (packet : Packet) (place place' : Local) (deed : Deed V) (what : What) (stamp : List ℕ) (part : ThreadPart)
-    → log_of (step_of t steps (holding (thread_after steps t).taken packet place') deed ∷ steps) ≡ entry_of t (log_of steps) what ∷ log_of steps
-    → sent_of (step_of t steps (holding (thread_after steps t).taken packet place') deed ∷ steps) ≡ sent_of steps
+pub entry_on : {V : Type 0} (steps : List (Step V)) (t : ℕ) (packet : Packet) (place place' : Local) (effect : Effect V) (what : What) (stamp : List ℕ) (part : ThreadPart)
+    → log_of (step_of t steps (holding (thread_after steps t).taken packet place') effect ∷ steps) ≡ entry_of t (log_of steps) what ∷ log_of steps
+    → sent_of (step_of t steps (holding (thread_after steps t).taken packet place') effect ∷ steps) ≡ sent_of steps
     → IsLog (entry_of t (log_of steps) what ∷ log_of steps) → IsStamp (entry_of t (log_of steps) what ∷ log_of steps) (entry_of t (log_of steps) what) (λ u. slice_index stamp u)
     → part.hand ≡ Some place → IsThread steps t part
-    → IsThread (step_of t steps (holding (thread_after steps t).taken packet place') deed ∷ steps) t (after_entry part place' stamp)
-entry_on {V} steps t packet place place' deed what stamp part log_is sent_is good st some is = record {
+    → IsThread (step_of t steps (holding (thread_after steps t).taken packet place') effect ∷ steps) t (after_entry part place' stamp)
+entry_on {V} steps t packet place place' effect what stamp part log_is sent_is good st some is = record {
   taken = is.taken ∙ ap (λ (th : Thread). th.taken) (sym here);
   logged = ap (λ n. n + 1) is.logged ∙ (sym counted ∙ ap (entries t) (sym log_is));
   outputs = is.outputs ∙ ap (outputs t) (sym sent_is);
@@ -122,13 +122,13 @@ entry_on {V} steps t packet place place' deed what stamp part log_is sent_is goo
     after = holding (thread_after steps t).taken packet place'
 
     x : Step V
-    x = step_of t steps after deed
+    x = step_of t steps after effect
 
     here : thread_after (x ∷ steps) t ≡ after
-    here = moved_thread steps t after deed
+    here = moved_thread steps t after effect
 
     more : moves_of t (x ∷ steps) ≡ moves_of t steps + 1
-    more = moved_more steps t after deed
+    more = moved_more steps t after effect
 
     counted : entries t (entry_of t (log_of steps) what ∷ log_of steps) ≡ entries t (log_of steps) + 1
     counted = rw (mine t) refl
@@ -136,7 +136,7 @@ entry_on {V} steps t packet place place' deed what stamp part log_is sent_is goo
 -- The other threads
 
 -- a move leaves what another thread logged and sent
-other_logged : {V : Type 0} (steps : List (Step V)) (t u : ℕ) (after : Thread) (deed : Deed V) → nat_eq t u ≡ false → entries u (log_of (step_of t steps after deed ∷ steps)) ≡ entries u (log_of steps)
+other_logged : {V : Type 0} (steps : List (Step V)) (t u : ℕ) (after : Thread) (effect : Effect V) → nat_eq t u ≡ false → entries u (log_of (step_of t steps after effect ∷ steps)) ≡ entries u (log_of steps)
 other_logged steps t u after Takes never = refl
 other_logged steps t u after (Touches v left) never = rw never refl
 other_logged steps t u after (Looks v) never = rw never refl
@@ -145,7 +145,7 @@ other_logged steps t u after (HearsDraw a) never = rw never refl
 other_logged steps t u after (Sends packet) never = refl
 other_logged steps t u after Ends never = refl
 
-other_outputs : {V : Type 0} (steps : List (Step V)) (t u : ℕ) (after : Thread) (deed : Deed V) → nat_eq t u ≡ false → outputs u (sent_of (step_of t steps after deed ∷ steps)) ≡ outputs u (sent_of steps)
+other_outputs : {V : Type 0} (steps : List (Step V)) (t u : ℕ) (after : Thread) (effect : Effect V) → nat_eq t u ≡ false → outputs u (sent_of (step_of t steps after effect ∷ steps)) ≡ outputs u (sent_of steps)
 other_outputs steps t u after Takes never = refl
 other_outputs steps t u after (Touches v left) never = refl
 other_outputs steps t u after (Looks v) never = refl
@@ -155,8 +155,8 @@ other_outputs steps t u after (Sends packet) never = rw never refl
 other_outputs steps t u after Ends never = refl
 
 -- and the stamp of what it sends out next
-other_stamp : {V : Type 0} (steps : List (Step V)) (t u n : ℕ) (after : Thread) (deed : Deed V) (s : ℕ → ℕ) → IsLog (log_of (step_of t steps after deed ∷ steps)) → n ≤ entries u (log_of steps)
-    → IsOutputStamp (log_of steps) u n s → IsOutputStamp (log_of (step_of t steps after deed ∷ steps)) u n s
+other_stamp : {V : Type 0} (steps : List (Step V)) (t u n : ℕ) (after : Thread) (effect : Effect V) (s : ℕ → ℕ) → IsLog (log_of (step_of t steps after effect ∷ steps)) → n ≤ entries u (log_of steps)
+    → IsOutputStamp (log_of steps) u n s → IsOutputStamp (log_of (step_of t steps after effect ∷ steps)) u n s
 other_stamp steps t u n after Takes s good low is = is
 other_stamp steps t u n after (Touches v left) s good low is = other_output (log_of steps) (entry_of t (log_of steps) (Access v (places v (log_of steps) + 1))) u n s good low is
 other_stamp steps t u n after (Looks v) s good low is = other_output (log_of steps) (entry_of t (log_of steps) (Read v (places v (log_of steps)))) u n s good low is
@@ -165,23 +165,23 @@ other_stamp steps t u n after (HearsDraw a) s good low is = other_output (log_of
 other_stamp steps t u n after (Sends packet) s good low is = is
 other_stamp steps t u n after Ends s good low is = is
 
-pub other_on : {V : Type 0} (steps : List (Step V)) (t u : ℕ) (after : Thread) (deed : Deed V) (part : ThreadPart) → t ≢ u → IsLog (log_of (step_of t steps after deed ∷ steps)) → IsThread steps u part
-    → IsThread (step_of t steps after deed ∷ steps) u part
-other_on {V} steps t u after deed part other good is = record {
+pub other_on : {V : Type 0} (steps : List (Step V)) (t u : ℕ) (after : Thread) (effect : Effect V) (part : ThreadPart) → t ≢ u → IsLog (log_of (step_of t steps after effect ∷ steps)) → IsThread steps u part
+    → IsThread (step_of t steps after effect ∷ steps) u part
+other_on {V} steps t u after effect part other good is = record {
   taken = is.taken ∙ ap (λ (th : Thread). th.taken) (sym here);
   logged = is.logged ∙ sym logged;
-  outputs = is.outputs ∙ sym (other_outputs steps t u after deed never);
+  outputs = is.outputs ∙ sym (other_outputs steps t u after effect never);
   hand = is.hand ∙ ap (λ (th : Thread). place_of th.hand) (sym here);
   made = is.made ∙ sym (rw never refl);
-  stamp = subst (λ (n : ℕ). IsOutputStamp (log_of (step_of t steps after deed ∷ steps)) u n (λ w. slice_index part.stamp w)) (sym logged)
-      (other_stamp steps t u (entries u (log_of steps)) after deed (λ w. slice_index part.stamp w) good (omega arith) is.stamp);
+  stamp = subst (λ (n : ℕ). IsOutputStamp (log_of (step_of t steps after effect ∷ steps)) u n (λ w. slice_index part.stamp w)) (sym logged)
+      (other_stamp steps t u (entries u (log_of steps)) after effect (λ w. slice_index part.stamp w) good (omega arith) is.stamp);
 }
   where
     never : nat_eq t u ≡ false
     never = grind (arith, nat_tests)
 
-    here : thread_after (step_of t steps after deed ∷ steps) u ≡ thread_after steps u
+    here : thread_after (step_of t steps after effect ∷ steps) u ≡ thread_after steps u
     here = rw never refl
 
-    logged : entries u (log_of (step_of t steps after deed ∷ steps)) ≡ entries u (log_of steps)
-    logged = other_logged steps t u after deed never
+    logged : entries u (log_of (step_of t steps after effect ∷ steps)) ≡ entries u (log_of steps)
+    logged = other_logged steps t u after effect never

@@ -15,7 +15,7 @@ use Rattle.master_core.specs.declared.wants.Wants.TheVariants as wants
 use Rattle.master_core.specs.Mastered.{Mastered}
 use Rattle.master_core.specs.Standing.{IsThread, Stands}
 use Rattle.master_core.specs.Stepping.{wanted_by, wanted_in, wanted}
-use Rattle.master_core.specs.Deeds.{fresh_var}
+use Rattle.master_core.specs.Effects.{fresh_var}
 
 -- what a thread wants with its packet at this place
 wanted_here : {V : Type 0} (m : Meaning V) (steps : List (Step V)) (t : ℕ) (part : ThreadPart) (place : Local) (next : Move) → IsThread steps t part → part.hand ≡ Some place → m.next place ≡ next

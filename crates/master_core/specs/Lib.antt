@@ -2,6 +2,6 @@ pub mod Mastered
 pub mod Stamped
 pub mod Standing
 pub mod Stepping
-pub mod Deeds
+pub mod Effects
 pub mod Lists
 pub mod Holding

@@ -8,7 +8,7 @@ ghost use Rattle.entry_order.specs.Closed.{IsClosedPart, IsDue, IsFirstMissing a
 ghost use Rattle.plain_machine.specs.Program.{Meaning};
 ghost use Rattle.plain_machine.specs.History.{Step, log_of, IsHistory};
 ghost use Rattle.plain_machine.specs.Agree.{IsEarlier};
-ghost use Rattle.access_log.specs.declared.entry.Entry.{Entry as StampedEntry};
+ghost use Rattle.access_log.specs.declared.entry.StampedEntry.{StampedEntry};
 ghost use Rattle.access_log.specs.Held.{Lane, lane, entry_at, fresh_lane, IsKnown, IsWithin, IsFirstMissing};
 ghost use Rattle.access_log.specs.Lanes.{PutsEntry, CoversUpTo};
 ghost use Rattle.master_core.specs.Holding.{held_entries, HoldsOf};

@@ -2,7 +2,7 @@
 //! is held of its log: what is missing, and the closed part, are those that the order of entries defines.
 #![tactic(auto)]
 
-mod deeds;
+mod effects;
 mod laws;
 mod lists;
 mod master;

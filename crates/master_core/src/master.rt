@@ -11,11 +11,11 @@ ghost use Rattle.master_core.specs.declared.parts.VarPart as var_of;
 ghost use Rattle.master_core.specs.Mastered.{FitsProgram, moves_made, has_hand, place_in_hand, moves_left, input_in_hand, WantsVariable};
 ghost use Rattle.master_core.specs.Standing.{Stands};
 ghost use Rattle.master_core.specs.Stepping.{wanted, move_of, Follows, MadeNone, MadeOne};
-ghost use Rattle.master_core.specs.Deeds.{HasFresh, DoneTake, DoneTouch, DoneLook, DoneHear, DoneEmit, DoneEnd, Played};
+ghost use Rattle.master_core.specs.Effects.{HasFresh, DoneTake, DoneTouch, DoneLook, DoneHear, DoneEmit, DoneEnd, Played};
 
-use crate::deeds::{after_entry, stamped};
+use crate::effects::{after_entry, stamped};
 use crate::{Counts, Stepped, ThreadPart, VarPart, Wants};
-use access_log::{Entry, Output, Turn, What};
+use access_log::{Output, StampedEntry, Turn, What};
 use box_program::Program;
 use plain_machine::{Local, Move};
 use plain_text::{NoMemory, Packet};
@@ -262,7 +262,7 @@ impl<P: Program> Master<P> {
             place: variable.places,
         };
         self.threads[thread as usize] = after_entry(part, place, stamp);
-        Stepped::Did(Entry {
+        Stepped::Did(StampedEntry {
             thread,
             number,
             what,
@@ -292,7 +292,7 @@ impl<P: Program> Master<P> {
             after: variable.places,
         };
         self.threads[thread as usize] = after_entry(part, place, stamp);
-        Stepped::Did(Entry {
+        Stepped::Did(StampedEntry {
             thread,
             number,
             what,
@@ -319,7 +319,7 @@ impl<P: Program> Master<P> {
         let number = part.counts.entries + 1;
         let stamp = stamped(part.stamp, thread, number);
         self.threads[thread as usize] = after_entry(part, place, stamp);
-        Stepped::Did(Entry {
+        Stepped::Did(StampedEntry {
             thread,
             number,
             what,

@@ -1,4 +1,4 @@
-use access_log::{Entry, Output};
+use access_log::{Output, StampedEntry};
 use plain_machine::PlainMove;
 use plain_text::Sequence;
 
@@ -8,7 +8,7 @@ pub enum Stepped {
     /// It took its input of this number.
     Took(u64),
     /// It made a logged move, which is this entry.
-    Did(Entry),
+    Did(StampedEntry),
     /// It sent a packet out.
     Emitted(Output),
     /// It ended its input of this number.
@@ -27,7 +27,7 @@ pub enum Trace {
     /// Took the input of this number.
     Took(u64),
     /// Made this entry.
-    Did(Entry),
+    Did(StampedEntry),
     /// Sent out the output of this number.
     Emitted(u64),
     /// Ended the input of this number.

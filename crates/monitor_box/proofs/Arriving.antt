@@ -14,7 +14,7 @@ use Rattle.packet_headers.specs.View.{viewed, flow_of, failures}
 use Rattle.packet_headers.proofs.FirstFailure.{pass_from_ok}
 use Rattle.plain_machine.specs.declared.local.Local.{Local}
 use Rattle.plain_machine.specs.declared.local.Move.TheVariants.{End}
-use Rattle.plain_machine.specs.Machine.{Hand, Thread, Deed, Takes, Touches, Looks, HearsClock, HearsDraw, Sends, Ends, Moves, held_move}
+use Rattle.plain_machine.specs.Machine.{Hand, Thread, Effect, Takes, Touches, Looks, HearsClock, HearsDraw, Sends, Ends, Moves, held_move}
 use Rattle.plain_machine.specs.History.{Step, act_of, left_by, thread_after, value_after, IsHistory}
 use Rattle.plain_machine.proofs.Histories.{not_eq, is_eq}
 use Rattle.plain_machine.proofs.Bounds.{values_fit}
@@ -50,7 +50,7 @@ module _ (tables : ℕ) (number : Packet → ℕ) (place : ℕ) (count : (ℕ �
 
   -- What a move adds to what is counted, taken and on its way alike, where the variables have these values and the thread took
   -- so many of its inputs.
-  abbrev pub Adds : List Packet → ℕ → (ℕ → MonitorValue) → Option Hand → Option Hand → Deed MonitorValue → Type 0
+  abbrev pub Adds : List Packet → ℕ → (ℕ → MonitorValue) → Option Hand → Option Hand → Effect MonitorValue → Type 0
   Adds packets taken value before after Takes =
       coming_by place number after + shares number (take taken packets) ≡ coming_by place number before + shares number (take (suc taken) packets)
   Adds packets taken value before after (Touches v left) =
@@ -92,28 +92,28 @@ module _ (tables : ℕ) (number : Packet → ℕ) (place : ℕ) (count : (ℕ �
     same_taken : after.taken ≡ before.taken → shares number (take after.taken (inputs t)) ≡ shares number (take before.taken (inputs t))
     same_taken e = ap (λ n. shares number (take n (inputs t))) e
 
-    deed_counts : (d : Deed MonitorValue) → after.taken ≡ taken_by d before.taken → Adds (inputs t) before.taken value before.hand after.hand d
+    effect_counts : (d : Effect MonitorValue) → after.taken ≡ taken_by d before.taken → Adds (inputs t) before.taken value before.hand after.hand d
         → Counts number place count threads inputs value (thread_after earlier)
         → Counts number place count threads inputs (λ v. left_by v (act_of t earlier after.taken d) (value v)) (λ u. cond (nat_eq t u) after (thread_after earlier u))
-    deed_counts Takes taken adds old =
+    effect_counts Takes taken adds old =
         let a = coming_step threads t after (thread_after earlier) low in
         let b = taken_step threads t inputs after (thread_after earlier) low in
         let c : shares number (take after.taken (inputs t)) ≡ shares number (take (suc before.taken) (inputs t)) = ap (λ n. shares number (take n (inputs t))) taken in
         omega arith
-    deed_counts (Touches v left) taken adds old =
+    effect_counts (Touches v left) taken adds old =
         let a = coming_step threads t after (thread_after earlier) low in
         let b = taken_step threads t inputs after (thread_after earlier) low in
         let c = same_taken taken in
         omega arith
-    deed_counts (Looks v) taken adds old = absurd adds
-    deed_counts (HearsClock x) taken adds old = absurd adds
-    deed_counts (HearsDraw x) taken adds old = absurd adds
-    deed_counts (Sends p) taken adds old =
+    effect_counts (Looks v) taken adds old = absurd adds
+    effect_counts (HearsClock x) taken adds old = absurd adds
+    effect_counts (HearsDraw x) taken adds old = absurd adds
+    effect_counts (Sends p) taken adds old =
         let a = coming_step threads t after (thread_after earlier) low in
         let b = taken_step threads t inputs after (thread_after earlier) low in
         let c = same_taken taken in
         omega arith
-    deed_counts Ends taken adds old =
+    effect_counts Ends taken adds old =
         let a = coming_step threads t after (thread_after earlier) low in
         let b = taken_step threads t inputs after (thread_after earlier) low in
         let c = same_taken taken in
@@ -121,7 +121,7 @@ module _ (tables : ℕ) (number : Packet → ℕ) (place : ℕ) (count : (ℕ �
 
   -- So it is after each move of a run, where each move of a thread adds alike and keeps what is known of the packet in hand.
   module _ (Known : Option Hand → Type 0) (nothing : Known None) (Input : List Packet → Type 0) (fresh : count fresh_value ≡ 0)
-      (adds : (packets : List Packet) (value : ℕ → MonitorValue) (taken : ℕ) (a : Option ℕ) (hand : Option Hand) (after : Thread) (d : Deed MonitorValue) → ((v : ℕ) → v < tables + 1 → Fits v (value v))
+      (adds : (packets : List Packet) (value : ℕ → MonitorValue) (taken : ℕ) (a : Option ℕ) (hand : Option Hand) (after : Thread) (d : Effect MonitorValue) → ((v : ℕ) → v < tables + 1 → Fits v (value v))
       → Input packets → Known hand → held_move (monitor_meaning tables) packets value taken a hand ≡ Moves after d → Known after.hand × Adds packets taken value hand after.hand d) where
     pub run_counts : (threads : ℕ) (inputs : ℕ → List Packet) (steps : List (Step MonitorValue)) → 1 ≤ tables → tables ≤ 64 → ((t : ℕ) → Input (inputs t)) → IsHistory (monitor_meaning tables) inputs threads steps
         → ((t : ℕ) → Known (thread_after steps t).hand) × Counts number place count threads inputs (value_after (monitor_meaning tables) steps) (thread_after steps)
@@ -136,7 +136,7 @@ module _ (tables : ℕ) (number : Packet → ℕ) (place : ℕ) (count : (ℕ �
         let b = adds (inputs x.thread) value before.taken h.0.1 before.hand x.after h.0.2
         (values_fit (monitor_meaning tables) Fits (monitor_lawful tables some few) inputs threads earlier h.1) (input x.thread) (old.0 x.thread) h.0.3 in
         let taken = moved_taken tables (inputs x.thread) value before.taken h.0.1 x.after h.0.2 before.hand h.0.3 in
-        (λ t. known_step t old.0 b.0 (is_or x.thread t), rw h.0.4 (deed_counts threads x.thread inputs earlier value x.after h.0.0 h.0.2 taken b.1 old.1))
+        (λ t. known_step t old.0 b.0 (is_or x.thread t), rw h.0.4 (effect_counts threads x.thread inputs earlier value x.after h.0.0 h.0.2 taken b.1 old.1))
       where
         known_step : (t : ℕ) → ((u : ℕ) → Known (thread_after earlier u).hand) → Known x.after.hand → (x.thread ≡ t) ⊎ (x.thread ≢ t) → Known (thread_after (x ∷ earlier) t).hand
         known_step t before after (inl e) = rw (is_eq x.thread t e) after
@@ -215,7 +215,7 @@ module _ (of_totals : TotalCounts → ℕ) (of_length : ℕ → ℕ) (of_flow : 
   abbrev own : ℕ
   own = 1 + key_sum flow % tables
 
-  abbrev FlowAdds : List Packet → ℕ → (ℕ → MonitorValue) → Option Hand → Option Hand → Deed MonitorValue → Type 0
+  abbrev FlowAdds : List Packet → ℕ → (ℕ → MonitorValue) → Option Hand → Option Hand → Effect MonitorValue → Type 0
   FlowAdds = Adds tables number 0 count
 
   -- a packet of a flow adds its number to that flow's count, and to no other
@@ -296,7 +296,7 @@ module _ (of_totals : TotalCounts → ℕ) (of_length : ℕ → ℕ) (of_flow : 
   touch_adds taken packets value p l (suc k) (Table es) is fits seen (inr (inl at)) = absurd (omega arith)
   touch_adds taken packets value p l (suc k) (Table es) is fits seen (inr (inr at)) = absurd (omega arith)
 
-  flow_adds : 1 ≤ tables → (packets : List Packet) (value : ℕ → MonitorValue) (taken : ℕ) (a : Option ℕ) (hand : Option Hand) (after : Thread) (d : Deed MonitorValue) → ((v : ℕ) → v < tables + 1 → Fits v (value v))
+  flow_adds : 1 ≤ tables → (packets : List Packet) (value : ℕ → MonitorValue) (taken : ℕ) (a : Option ℕ) (hand : Option Hand) (after : Thread) (d : Effect MonitorValue) → ((v : ℕ) → v < tables + 1 → Fits v (value v))
       → HaveBytesIn packets → Seen hand → held_move (monitor_meaning tables) packets value taken a hand ≡ Moves after d → Seen after.hand × FlowAdds packets taken value hand after.hand d
   flow_adds some packets value taken a hand after d fits bytes seen e =
       by_move tables packets value taken a hand after d (λ before later u. Seen before → Seen later × FlowAdds packets taken value before later u)
@@ -359,7 +359,7 @@ begun_other p (Ok flow) is = (λ at. absurd (omega arith), rw is refl)
 begun_other p (Err answer) is = (λ at. ap key_of is, refl)
 
 module _ (tables : ℕ) where
-  abbrev OtherAdds : List Packet → ℕ → (ℕ → MonitorValue) → Option Hand → Option Hand → Deed MonitorValue → Type 0
+  abbrev OtherAdds : List Packet → ℕ → (ℕ → MonitorValue) → Option Hand → Option Hand → Effect MonitorValue → Type 0
   OtherAdds = Adds tables other_share 2 others_of
 
   touch_other : (taken : ℕ) (packets : List Packet) (value : ℕ → MonitorValue) (p : Packet) (l : Local) (v : ℕ) (x : MonitorValue) → value v ≡ x → Fits v x → Other (hand_of p l)
@@ -382,7 +382,7 @@ module _ (tables : ℕ) where
   touch_other taken packets value p l (suc k) (Table es) is fits other (inr (inl at)) = absurd (omega arith)
   touch_other taken packets value p l (suc k) (Table es) is fits other (inr (inr at)) = absurd (omega arith)
 
-  other_adds : 1 ≤ tables → (packets : List Packet) (value : ℕ → MonitorValue) (taken : ℕ) (a : Option ℕ) (hand : Option Hand) (after : Thread) (d : Deed MonitorValue) → ((v : ℕ) → v < tables + 1 → Fits v (value v))
+  other_adds : 1 ≤ tables → (packets : List Packet) (value : ℕ → MonitorValue) (taken : ℕ) (a : Option ℕ) (hand : Option Hand) (after : Thread) (d : Effect MonitorValue) → ((v : ℕ) → v < tables + 1 → Fits v (value v))
       → Unit {0} → Other hand → held_move (monitor_meaning tables) packets value taken a hand ≡ Moves after d → Other after.hand × OtherAdds packets taken value hand after.hand d
   other_adds some packets value taken a hand after d fits any other e =
       by_move tables packets value taken a hand after d (λ before later u. Other before → Other later × OtherAdds packets taken value before later u)

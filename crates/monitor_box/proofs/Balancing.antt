@@ -7,7 +7,7 @@ use Rattle.packet_headers.specs.declared.flow.Flow.{Flow}
 use Rattle.packet_headers.specs.declared.flow.NotFlow.{NotFlow}
 use Rattle.packet_headers.specs.View.{viewed}
 use Rattle.plain_machine.specs.declared.local.Local.{Local}
-use Rattle.plain_machine.specs.Machine.{Hand, Thread, Deed, Takes, Touches, Looks, HearsClock, HearsDraw, Sends, Ends, Moves, held_move}
+use Rattle.plain_machine.specs.Machine.{Hand, Thread, Effect, Takes, Touches, Looks, HearsClock, HearsDraw, Sends, Ends, Moves, held_move}
 use Rattle.monitor_box.specs.declared.counts.FlowKey.{FlowKey}
 use Rattle.monitor_box.specs.declared.counts.FlowCount.{FlowCount}
 use Rattle.monitor_box.specs.declared.counts.Totals.{Totals as TotalCounts}
@@ -58,7 +58,7 @@ module _ (of_totals : TotalCounts → ℕ) (of_length : ℕ → ℕ) (of_flow : 
 
   -- What a move changes, where the variables have these values: the totals and what its thread owes them, by as much as the
   -- sum of the value that it leaves.
-  abbrev pub Balance : ℕ → (ℕ → MonitorValue) → Option Hand → Option Hand → Deed MonitorValue → Type 0
+  abbrev pub Balance : ℕ → (ℕ → MonitorValue) → Option Hand → Option Hand → Effect MonitorValue → Type 0
   Balance tables value before after (Touches v left) =
       (v < tables + 1)
       × ((of_totals (totals_of (cond (nat_eq v 0) left (value 0))) + owed_by of_packet after + value_sum of_flow (value v)) % 2 ^ 64
@@ -70,7 +70,7 @@ module _ (of_totals : TotalCounts → ℕ) (of_length : ℕ → ℕ) (of_flow : 
   Balance tables value before after (Sends p) = owed_by of_packet after ≡ owed_by of_packet before
   Balance tables value before after Ends = owed_by of_packet after ≡ owed_by of_packet before
 
-  pub record IsBalanced (tables : ℕ) (value : ℕ → MonitorValue) (before after : Option Hand) (d : Deed MonitorValue) : Type 0 where
+  pub record IsBalanced (tables : ℕ) (value : ℕ → MonitorValue) (before after : Option Hand) (d : Effect MonitorValue) : Type 0 where
     pub balance : Balance tables value before after d
     pub noted : Noted after
 
@@ -102,7 +102,7 @@ module _ (of_totals : TotalCounts → ℕ) (of_length : ℕ → ℕ) (of_flow : 
   begun_owes p (Err answer) = refl
 
   -- each move of a thread is balanced
-  pub move_balance : (tables : ℕ) (packets : List Packet) (value : ℕ → MonitorValue) (taken : ℕ) (a : Option ℕ) (hand : Option Hand) (after : Thread) (d : Deed MonitorValue) → 1 ≤ tables → ((v : ℕ) → v < tables + 1 → Fits v (value v)) → Noted hand
+  pub move_balance : (tables : ℕ) (packets : List Packet) (value : ℕ → MonitorValue) (taken : ℕ) (a : Option ℕ) (hand : Option Hand) (after : Thread) (d : Effect MonitorValue) → 1 ≤ tables → ((v : ℕ) → v < tables + 1 → Fits v (value v)) → Noted hand
       → held_move (monitor_meaning tables) packets value taken a hand ≡ Moves after d → IsBalanced tables value hand after.hand d
   move_balance tables packets value taken a hand after d some fits noted e =
       by_move tables packets value taken a hand after d (λ before later u. Noted before → IsBalanced tables value before later u)

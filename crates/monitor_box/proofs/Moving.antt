@@ -6,7 +6,7 @@ use Rattle.packet_headers.specs.View.{viewed}
 use Rattle.plain_machine.specs.declared.local.Local.{Local}
 use Rattle.plain_machine.specs.declared.local.Move.{Move}
 use Rattle.plain_machine.specs.declared.local.Move.TheVariants.{Access, Read, Clock, Draw, Emit, End}
-use Rattle.plain_machine.specs.Machine.{Hand, Thread, Deed, Takes, Touches, Looks, HearsClock, HearsDraw, Sends, Ends, Moves, holding, sent_packet, take_move, hand_move, held_move}
+use Rattle.plain_machine.specs.Machine.{Hand, Thread, Effect, Takes, Touches, Looks, HearsClock, HearsDraw, Sends, Ends, Moves, holding, sent_packet, take_move, hand_move, held_move}
 use Rattle.monitor_box.specs.declared.value.MonitorValue.{MonitorValue}
 use Rattle.monitor_box.specs.Monitor.{next_move, begun, touched, monitor_meaning}
 use Rattle.monitor_box.specs.Lawful.{reads, asks_no_time, asks_no_word}
@@ -35,13 +35,13 @@ abbrev pub hand_of : Packet → Local → Option Hand
 hand_of p l = Some (record { packet = p; place = l })
 
 -- What holds of taking a packet, of a touch, of sending out and of the end holds of each move.
-module _ (tables : ℕ) (packets : List Packet) (value : ℕ → MonitorValue) (taken : ℕ) (a : Option ℕ) (hand : Option Hand) (after : Thread) (d : Deed MonitorValue) (P : Option Hand → Option Hand → Deed MonitorValue → Type 0)
+module _ (tables : ℕ) (packets : List Packet) (value : ℕ → MonitorValue) (taken : ℕ) (a : Option ℕ) (hand : Option Hand) (after : Thread) (d : Effect MonitorValue) (P : Option Hand → Option Hand → Effect MonitorValue → Type 0)
     (takes : (p : Packet) → slice_get packets taken ≡ Some p → P None (hand_of p (begun (viewed p.bytes p.original) p.original)) Takes)
     (touching : (p : Packet) (l : Local) (v : ℕ) → next_move tables l.at (slice_index l.regs 0) ≡ Access v → P (hand_of p l) (hand_of p (touched (value v) l).1) (Touches v (touched (value v) l).0))
     (sending : (p : Packet) (l : Local) (sent : Packet) → next_move tables l.at (slice_index l.regs 0) ≡ Emit → P (hand_of p l) (hand_of p (record l { at = 4 })) (Sends sent))
     (ending : (p : Packet) (l : Local) → next_move tables l.at (slice_index l.regs 0) ≡ End → P (hand_of p l) None Ends) where
-  along : (before : Option Hand) (th : Thread) (u : Deed MonitorValue) → th ≡ after → u ≡ d → P before th.hand u → P before after.hand d
-  along before th u q r h = subst (λ (x : Deed MonitorValue). P before after.hand x) r (subst (λ (x : Thread). P before x.hand u) q h)
+  along : (before : Option Hand) (th : Thread) (u : Effect MonitorValue) → th ≡ after → u ≡ d → P before th.hand u → P before after.hand d
+  along before th u q r h = subst (λ (x : Effect MonitorValue). P before after.hand x) r (subst (λ (x : Thread). P before x.hand u) q h)
 
   of_hand : (h : Hand) (a : Option ℕ) (w : Move) → next_move tables h.place.at (slice_index h.place.regs 0) ≡ w → hand_move (monitor_meaning tables) value taken h a w ≡ Moves after d → P (Some h) after.hand d
   of_hand h None (Access v) w e = along (Some h) (holding taken h.packet (touched (value v) h.place).1) (Touches v (touched (value v) h.place).0) (cc) (cc) (touching h.packet h.place v w)
@@ -66,8 +66,8 @@ module _ (tables : ℕ) (packets : List Packet) (value : ℕ → MonitorValue) (
       of_any None e = of_none a (slice_get packets taken) refl e
       of_any (Some h) e = of_hand h a (next_move tables h.place.at (slice_index h.place.regs 0)) refl e
 
--- how many inputs a thread has taken after a deed
-abbrev pub taken_by : Deed MonitorValue → ℕ → ℕ
+-- how many inputs a thread has taken after an effect
+abbrev pub taken_by : Effect MonitorValue → ℕ → ℕ
 taken_by Takes n = suc n
 taken_by (Touches v left) n = n
 taken_by (Looks v) n = n
@@ -76,9 +76,9 @@ taken_by (HearsDraw a) n = n
 taken_by (Sends p) n = n
 taken_by Ends n = n
 
-module _ (tables : ℕ) (packets : List Packet) (value : ℕ → MonitorValue) (taken : ℕ) (a : Option ℕ) (after : Thread) (d : Deed MonitorValue) where
-  told : (th : Thread) (u : Deed MonitorValue) → th ≡ after → u ≡ d → th.taken ≡ taken_by u taken → after.taken ≡ taken_by d taken
-  told th u q r h = subst (λ (x : Deed MonitorValue). after.taken ≡ taken_by x taken) r (subst (λ (x : Thread). x.taken ≡ taken_by u taken) q h)
+module _ (tables : ℕ) (packets : List Packet) (value : ℕ → MonitorValue) (taken : ℕ) (a : Option ℕ) (after : Thread) (d : Effect MonitorValue) where
+  told : (th : Thread) (u : Effect MonitorValue) → th ≡ after → u ≡ d → th.taken ≡ taken_by u taken → after.taken ≡ taken_by d taken
+  told th u q r h = subst (λ (x : Effect MonitorValue). after.taken ≡ taken_by x taken) r (subst (λ (x : Thread). x.taken ≡ taken_by u taken) q h)
 
   taken_in_hand : (h : Hand) (a : Option ℕ) (w : Move) → hand_move (monitor_meaning tables) value taken h a w ≡ Moves after d → after.taken ≡ taken_by d taken
   taken_in_hand h None (Access v) e = told (holding taken h.packet (touched (value v) h.place).1) (Touches v (touched (value v) h.place).0) (cc) (cc) refl

@@ -9,7 +9,7 @@ use Rattle.packet_headers.specs.Fields.{AreBytes, word_at, long_at, header_end}
 use Rattle.packet_headers.specs.View.{viewed, flow_of, failures}
 use Rattle.packet_headers.proofs.FirstFailure.{pass_from_ok}
 use Rattle.plain_machine.specs.declared.local.Local.{Local}
-use Rattle.plain_machine.specs.Machine.{Hand, Thread, Deed, Takes, Touches, Looks, HearsClock, HearsDraw, Sends, Ends, Moves, held_move}
+use Rattle.plain_machine.specs.Machine.{Hand, Thread, Effect, Takes, Touches, Looks, HearsClock, HearsDraw, Sends, Ends, Moves, held_move}
 use Rattle.plain_machine.specs.History.{Step, act_of, left_by, thread_after, value_after, IsHistory}
 use Rattle.plain_machine.proofs.Histories.{not_eq, is_eq}
 use Rattle.plain_machine.proofs.Bounds.{values_fit}
@@ -66,7 +66,7 @@ stand_more tables v flow n (e ∷ es) new old = by (same_flow flow e.0) refl (st
     by false q behind = rw q (old.0, behind)
 
 -- a move leaves its thread ready, and its variable's flows where they belong
-abbrev Keeps : ℕ → (ℕ → MonitorValue) → Deed MonitorValue → Type 0
+abbrev Keeps : ℕ → (ℕ → MonitorValue) → Effect MonitorValue → Type 0
 Keeps tables value Takes = Unit {0}
 Keeps tables value (Touches v left) = ValueStands tables v (value v) → ValueStands tables v left
 Keeps tables value (Looks v) = Unit {0}
@@ -87,7 +87,7 @@ touch_keeps tables (suc k) p l (Table es) fits ready (inl at) =
 touch_keeps tables (suc k) p l (Table es) fits ready (inr (inl at)) = absurd (omega arith)
 touch_keeps tables (suc k) p l (Table es) fits ready (inr (inr at)) = absurd (omega arith)
 
-move_keeps : (tables : ℕ) (packets : List Packet) (value : ℕ → MonitorValue) (taken : ℕ) (a : Option ℕ) (hand : Option Hand) (after : Thread) (d : Deed MonitorValue) → 1 ≤ tables → ((v : ℕ) → v < tables + 1 → Fits v (value v))
+move_keeps : (tables : ℕ) (packets : List Packet) (value : ℕ → MonitorValue) (taken : ℕ) (a : Option ℕ) (hand : Option Hand) (after : Thread) (d : Effect MonitorValue) → 1 ≤ tables → ((v : ℕ) → v < tables + 1 → Fits v (value v))
     → ((k : ℕ) (p : Packet) → slice_get packets k ≡ Some p → AreBytes p.bytes) → Ready hand
     → held_move (monitor_meaning tables) packets value taken a hand ≡ Moves after d → Ready after.hand × Keeps tables value d
 move_keeps tables packets value taken a hand after d some fits bytes ready e =
@@ -100,7 +100,7 @@ move_keeps tables packets value taken a hand after d some fits bytes ready e =
     (λ p l w ready. (tt, tt))
     e ready
 
-value_keeps : (tables t taken : ℕ) (earlier : List (Step MonitorValue)) (value : ℕ → MonitorValue) (d : Deed MonitorValue) → Keeps tables value d → (v : ℕ) → ValueStands tables v (value v) → ValueStands tables v (left_by v (act_of t earlier taken d) (value v))
+value_keeps : (tables t taken : ℕ) (earlier : List (Step MonitorValue)) (value : ℕ → MonitorValue) (d : Effect MonitorValue) → Keeps tables value d → (v : ℕ) → ValueStands tables v (value v) → ValueStands tables v (left_by v (act_of t earlier taken d) (value v))
 value_keeps tables t taken earlier value Takes keeps v old = old
 value_keeps tables t taken earlier value (Touches u left) keeps v old = by (is_or u v)
   where

@@ -4,7 +4,7 @@ use Rattle.std.specs.Prelude.{nat_eq, cond, suc, zero}
 use Rattle.plain_text.specs.declared.packet.Packet.{Packet}
 use Rattle.entry_order.specs.Stamps.{sum_below}
 use Rattle.entry_order.proofs.Order.{is_or}
-use Rattle.plain_machine.specs.Machine.{Thread, Deed, Takes, Touches, Looks, HearsClock, HearsDraw, Sends, Ends}
+use Rattle.plain_machine.specs.Machine.{Thread, Effect, Takes, Touches, Looks, HearsClock, HearsDraw, Sends, Ends}
 use Rattle.plain_machine.specs.History.{Step, act_of, left_by, thread_after, value_after, IsHistory}
 use Rattle.plain_machine.proofs.Histories.{not_eq, is_eq}
 use Rattle.plain_machine.proofs.Bounds.{values_fit}
@@ -42,20 +42,20 @@ module _ (of_totals : TotalCounts → ℕ) (of_length : ℕ → ℕ) (of_flow : 
       let new : f v ≡ value_sum of_flow left = rw (is_eq v v refl) refl in
       omega arith
 
-  deed_matches : (tables threads t taken : ℕ) (earlier : List (Step MonitorValue)) (after : Thread) (d : Deed MonitorValue) → t < threads
+  effect_matches : (tables threads t taken : ℕ) (earlier : List (Step MonitorValue)) (after : Thread) (d : Effect MonitorValue) → t < threads
       → IsBalanced of_totals of_length of_flow counted tables (value_after (monitor_meaning tables) earlier) (thread_after earlier t).hand after.hand d
       → Matches of_totals of_packet of_flow tables threads earlier
       → (of_totals (totals_of (left_by 0 (act_of t earlier taken d) (value_after (monitor_meaning tables) earlier 0))) + owed of_packet threads (λ u. cond (nat_eq t u) after (thread_after earlier u))) % 2 ^ 64
       ≡ tables_sum of_flow tables (λ v. left_by v (act_of t earlier taken d) (value_after (monitor_meaning tables) earlier v)) % 2 ^ 64
-  deed_matches tables threads t taken earlier after Takes low b old = let a = owed_step threads t after (thread_after earlier) low in let e = b.balance in omega arith
-  deed_matches tables threads t taken earlier after (Touches v left) low b old =
+  effect_matches tables threads t taken earlier after Takes low b old = let a = owed_step threads t after (thread_after earlier) low in let e = b.balance in omega arith
+  effect_matches tables threads t taken earlier after (Touches v left) low b old =
       let value : ℕ → MonitorValue = value_after (monitor_meaning tables) earlier in
       matched_again _ _ _ _ _ _ _ _ _ _ old (owed_step threads t after (thread_after earlier) low) (tables_step tables v left value b.balance.0) b.balance.1
-  deed_matches tables threads t taken earlier after (Looks v) low b old = absurd b.balance
-  deed_matches tables threads t taken earlier after (HearsClock a) low b old = absurd b.balance
-  deed_matches tables threads t taken earlier after (HearsDraw a) low b old = absurd b.balance
-  deed_matches tables threads t taken earlier after (Sends p) low b old = let a = owed_step threads t after (thread_after earlier) low in let e = b.balance in omega arith
-  deed_matches tables threads t taken earlier after Ends low b old = let a = owed_step threads t after (thread_after earlier) low in let e = b.balance in omega arith
+  effect_matches tables threads t taken earlier after (Looks v) low b old = absurd b.balance
+  effect_matches tables threads t taken earlier after (HearsClock a) low b old = absurd b.balance
+  effect_matches tables threads t taken earlier after (HearsDraw a) low b old = absurd b.balance
+  effect_matches tables threads t taken earlier after (Sends p) low b old = let a = owed_step threads t after (thread_after earlier) low in let e = b.balance in omega arith
+  effect_matches tables threads t taken earlier after Ends low b old = let a = owed_step threads t after (thread_after earlier) low in let e = b.balance in omega arith
 
   fresh_sum : (v : ℕ) → value_sum of_flow (fresh_value v) ≡ 0
   fresh_sum zero = refl
@@ -72,7 +72,7 @@ module _ (of_totals : TotalCounts → ℕ) (of_length : ℕ → ℕ) (of_flow : 
       let old = run_matches tables threads inputs earlier some few h.1 in
       let b = move_balance of_totals of_length of_flow counted tables (inputs x.thread) (value_after (monitor_meaning tables) earlier) (thread_after earlier x.thread).taken h.0.1 (thread_after earlier x.thread).hand x.after h.0.2 some
       (values_fit (monitor_meaning tables) Fits (monitor_lawful tables some few) inputs threads earlier h.1) (old.0 x.thread) h.0.3 in
-      (λ t. noted_step t old.0 b.noted (is_or x.thread t), rw h.0.4 (deed_matches tables threads x.thread x.after.taken earlier x.after h.0.2 h.0.0 b old.1))
+      (λ t. noted_step t old.0 b.noted (is_or x.thread t), rw h.0.4 (effect_matches tables threads x.thread x.after.taken earlier x.after h.0.2 h.0.0 b old.1))
     where
       noted_step : (t : ℕ) → ((u : ℕ) → Noted (thread_after earlier u).hand) → Noted x.after.hand → (x.thread ≡ t) ⊎ (x.thread ≢ t) → Noted (thread_after (x ∷ earlier) t).hand
       noted_step t before after (inl e) = rw (is_eq x.thread t e) after

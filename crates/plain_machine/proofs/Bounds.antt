@@ -8,7 +8,7 @@ use Rattle.entry_order.proofs.Weights.{sum_below_more}
 use Rattle.plain_machine.specs.declared.local.Move.{Move}
 use Rattle.plain_machine.specs.declared.local.Move.TheVariants.{Access, Read, Clock, Draw, Emit, End}
 use Rattle.plain_machine.specs.Program.{Meaning, IsLawful}
-use Rattle.plain_machine.specs.Machine.{Hand, Thread, Deed, Takes, Touches, Looks, HearsClock, HearsDraw, Sends, Ends, Moves, holding, take_move, hand_move, held_move, thread_move}
+use Rattle.plain_machine.specs.Machine.{Hand, Thread, Effect, Takes, Touches, Looks, HearsClock, HearsDraw, Sends, Ends, Moves, holding, take_move, hand_move, held_move, thread_move}
 use Rattle.plain_machine.specs.History.{Step, act_of, left_by, moves_of, thread_after, value_after, IsHistory}
 use Rattle.plain_machine.proofs.Histories.{is_eq, not_eq, moves_step}
 
@@ -19,7 +19,7 @@ IsWithinBudget m (Some h) moves taken = moves + m.rank h.place + 1 ≤ 64 * take
 
 module _ {X : Type 0} (m : Meaning X) (fits : ℕ → X → Type 0) (lawful : IsLawful m fits) where
   -- a move with a packet in hand lowers what is left
-  hand_spends : (value : ℕ → X) (taken n : ℕ) (h : Hand) (a : Option ℕ) (w : Move) (after : Thread) (d : Deed X) → ((v : ℕ) → v < m.vars → fits v (value v)) → m.next h.place ≡ w → IsWithinBudget m (Some h) n taken → hand_move m value taken h a w ≡ Moves after d → IsWithinBudget m after.hand (n + 1) after.taken
+  hand_spends : (value : ℕ → X) (taken n : ℕ) (h : Hand) (a : Option ℕ) (w : Move) (after : Thread) (d : Effect X) → ((v : ℕ) → v < m.vars → fits v (value v)) → m.next h.place ≡ w → IsWithinBudget m (Some h) n taken → hand_move m value taken h a w ≡ Moves after d → IsWithinBudget m after.hand (n + 1) after.taken
   hand_spends value taken n h None (Access v) after d fit w low e =
       let q : holding taken h.packet (m.touch v (value v) h.place).1 ≡ after = cc in
       let falls : m.rank (m.touch v (value v) h.place).1 < m.rank h.place = lawful.touch_falls v (value v) h.place w (fit v (lawful.touches_var h.place v w)) in
@@ -51,7 +51,7 @@ module _ {X : Type 0} (m : Meaning X) (fits : ℕ → X → Type 0) (lawful : Is
   hand_spends value taken n h (Some a) End after d fit w low e = absurd (cc)
 
   -- and a packet taken is one of 64 moves at most
-  held_spends : (packets : List Packet) (value : ℕ → X) (taken n : ℕ) (a : Option ℕ) (hand : Option Hand) (after : Thread) (d : Deed X) → ((v : ℕ) → v < m.vars → fits v (value v)) → IsWithinBudget m hand n taken → held_move m packets value taken a hand ≡ Moves after d → IsWithinBudget m after.hand (n + 1) after.taken
+  held_spends : (packets : List Packet) (value : ℕ → X) (taken n : ℕ) (a : Option ℕ) (hand : Option Hand) (after : Thread) (d : Effect X) → ((v : ℕ) → v < m.vars → fits v (value v)) → IsWithinBudget m hand n taken → held_move m packets value taken a hand ≡ Moves after d → IsWithinBudget m after.hand (n + 1) after.taken
   held_spends packets value taken n a (Some h) after d fit low e = hand_spends value taken n h a (m.next h.place) after d fit refl low e
   held_spends packets value taken n a None after d fit low e = go a (slice_get packets taken) e
     where
@@ -92,7 +92,7 @@ module _ {X : Type 0} (m : Meaning X) (fits : ℕ → X → Type 0) (lawful : Is
       go None (Some p) e = absurd (cc)
 
   -- the value of each variable fits after a step
-  step_fits : (t taken : ℕ) (earlier : List (Step X)) (d : Deed X) → ((v : ℕ) (left : X) → d ≡ Touches v left → fits v left) → (v : ℕ) (x : X) → fits v x → fits v (left_by v (act_of t earlier taken d) x)
+  step_fits : (t taken : ℕ) (earlier : List (Step X)) (d : Effect X) → ((v : ℕ) (left : X) → d ≡ Touches v left → fits v left) → (v : ℕ) (x : X) → fits v x → fits v (left_by v (act_of t earlier taken d) x)
   step_fits t taken earlier Takes new v x fit = fit
   step_fits t taken earlier (Touches u left) new v x fit = go (is_or u v)
     where
@@ -110,7 +110,7 @@ module _ {X : Type 0} (m : Meaning X) (fits : ℕ → X → Type 0) (lawful : Is
   values_fit inputs threads [] h v low = lawful.fresh_fits v low
   values_fit inputs threads (x ∷ earlier) h v low =
       let old : (v : ℕ) → v < m.vars → fits v (value_after m earlier v) = values_fit inputs threads earlier h.1 in
-      rw h.0.4 (step_fits x.thread x.after.taken earlier h.0.2 (λ u left same. held_fits (inputs x.thread) (value_after m earlier) (thread_after earlier x.thread).taken h.0.1 (thread_after earlier x.thread).hand x.after u left old (subst (λ (d : Deed X). thread_move m (inputs x.thread) (value_after m earlier) (thread_after earlier x.thread) h.0.1 ≡ Moves x.after d) same h.0.3)) v (value_after m earlier v) (old v low))
+      rw h.0.4 (step_fits x.thread x.after.taken earlier h.0.2 (λ u left same. held_fits (inputs x.thread) (value_after m earlier) (thread_after earlier x.thread).taken h.0.1 (thread_after earlier x.thread).hand x.after u left old (subst (λ (d : Effect X). thread_move m (inputs x.thread) (value_after m earlier) (thread_after earlier x.thread) h.0.1 ≡ Moves x.after d) same h.0.3)) v (value_after m earlier v) (old v low))
 
   thread_spent : (inputs : ℕ → List Packet) (threads : ℕ) (steps : List (Step X)) → IsHistory m inputs threads steps → (t : ℕ) → IsWithinBudget m (thread_after steps t).hand (moves_of t steps) (thread_after steps t).taken
   thread_spent inputs threads [] h t = omega arith

@@ -7,7 +7,7 @@ use Rattle.entry_order.specs.Log.{Entry, entries, places, IsLog, IsIn, IsNext, I
 use Rattle.entry_order.proofs.Order.{is_or, number_within, place_within, same_number, same_place, entries_same, entry_there, closed_thread}
 use Rattle.entry_order.proofs.Keeping.{in_left, in_right, in_either}
 use Rattle.plain_machine.specs.Program.{Meaning}
-use Rattle.plain_machine.specs.Machine.{Thread, Deed, Takes, Touches, Looks, HearsClock, HearsDraw, Sends, Ends, Moves, thread_move}
+use Rattle.plain_machine.specs.Machine.{Thread, Effect, Takes, Touches, Looks, HearsClock, HearsDraw, Sends, Ends, Moves, thread_move}
 use Rattle.plain_machine.specs.History.{Did, Step, log_of, moves_of, act_of, thread_after, value_after, IsStep, IsHistory}
 use Rattle.plain_machine.specs.Agree.{IsEarlier}
 use Rattle.plain_machine.specs.Continue.{IsGrounded}
@@ -84,7 +84,7 @@ module _ {X : Type 0} (m : Meaning X) (inputs : ℕ → List Packet) (threads : 
       let b : thread_move m (inputs t) (value_after m H2) (thread_after M t) h.1 ≡ Moves y.after h.2 = subst (λ (th : Thread). thread_move m (inputs t) (value_after m H2) th h.1 ≡ Moves y.after h.2) (sym same) a in
       held_again m (inputs t) (value_after m H2) (value_after m M) (thread_after M t).taken h.1 (thread_after M t).hand y.after h.2 b s
 
-  off_variables : (d : Deed X) → is_logged d ≡ false → (v : ℕ) → IsOn v d → ⊥
+  off_variables : (d : Effect X) → is_logged d ≡ false → (v : ℕ) → IsOn v d → ⊥
   off_variables Takes off v on = on
   off_variables (Touches u left) off v on = cc
   off_variables (Looks u) off v on = cc

@@ -8,7 +8,7 @@ use Rattle.entry_order.specs.Log.{Entry, entries, places, IsLog, IsIn}
 use Rattle.entry_order.proofs.Order.{is_or}
 use Rattle.plain_machine.specs.declared.emission.Emission.{Emission}
 use Rattle.plain_machine.specs.Program.{Meaning}
-use Rattle.plain_machine.specs.Machine.{Thread, Deed, Takes, Touches, Looks, HearsClock, HearsDraw, Sends, Ends}
+use Rattle.plain_machine.specs.Machine.{Thread, Effect, Takes, Touches, Looks, HearsClock, HearsDraw, Sends, Ends}
 use Rattle.plain_machine.specs.History.{Act, Took, Did, Emitted, Ended, Step, log_more, log_of, sent_more, sent_of, outputs, moves_of, entry_of, emission_of, act_of, IsHistory}
 use Rattle.plain_machine.specs.Agree.{IsEarlier, Makes}
 
@@ -19,7 +19,7 @@ read_only : (v s w r : ℕ) → Read v s ≡ Read w r → (v ≡ w) × (s ≡ r)
 read_only v s w r e = (cc, cc)
 
 -- a step keeps the log a log
-more_is_log : {V : Type 0} (t taken : ℕ) (earlier : List (Step V)) (deed : Deed V) → IsLog (log_of earlier) → IsLog (log_more (act_of t earlier taken deed) (log_of earlier))
+more_is_log : {V : Type 0} (t taken : ℕ) (earlier : List (Step V)) (effect : Effect V) → IsLog (log_of earlier) → IsLog (log_more (act_of t earlier taken effect) (log_of earlier))
 more_is_log t taken earlier Takes good = good
 more_is_log t taken earlier (Touches v left) good = (refl, ((λ w s e. grind (arith, touch_only)), (λ w s e. absurd (cc))), good)
 more_is_log t taken earlier (Looks v) good = (refl, ((λ w s e. absurd (cc)), (λ w s e. grind (arith, read_only))), good)
@@ -135,7 +135,7 @@ find_move {V} t k (x ∷ xs) h = go (moves_step t x xs) (is_or (moves_of t xs) k
 -- The numbers of a step
 
 -- the thread and the number of a logged step's entry
-pub did_entry : {V : Type 0} (t taken : ℕ) (A : List (Step V)) (d : Deed V) (e : Entry) (left : Option V) → act_of t A taken d ≡ Did e left → (e.thread ≡ t) × (e.number ≡ entries t (log_of A) + 1)
+pub did_entry : {V : Type 0} (t taken : ℕ) (A : List (Step V)) (d : Effect V) (e : Entry) (left : Option V) → act_of t A taken d ≡ Did e left → (e.thread ≡ t) × (e.number ≡ entries t (log_of A) + 1)
 did_entry t taken A Takes e left h = absurd (cc)
 did_entry t taken A (Touches v x) e left h =
     let k : entry_of t (log_of A) (Access v (places v (log_of A) + 1)) ≡ e = cc in (ap (λ (f : Entry). f.thread) (sym k), ap (λ (f : Entry). f.number) (sym k))
@@ -149,7 +149,7 @@ did_entry t taken A (Sends p) e left h = absurd (cc)
 did_entry t taken A Ends e left h = absurd (cc)
 
 -- the place of a touch
-pub did_place : {V : Type 0} (t taken : ℕ) (A : List (Step V)) (d : Deed V) (e : Entry) (left : Option V) (v s : ℕ) → act_of t A taken d ≡ Did e left → e.what ≡ Access v s → s ≡ places v (log_of A) + 1
+pub did_place : {V : Type 0} (t taken : ℕ) (A : List (Step V)) (d : Effect V) (e : Entry) (left : Option V) (v s : ℕ) → act_of t A taken d ≡ Did e left → e.what ≡ Access v s → s ≡ places v (log_of A) + 1
 did_place t taken A Takes e left v s h w = absurd (cc)
 did_place t taken A (Touches u x) e left v s h w =
     let k : entry_of t (log_of A) (Access u (places u (log_of A) + 1)) ≡ e = cc in
@@ -170,7 +170,7 @@ did_place t taken A (Sends p) e left v s h w = absurd (cc)
 did_place t taken A Ends e left v s h w = absurd (cc)
 
 -- how many touches stand before a read
-pub did_read : {V : Type 0} (t taken : ℕ) (A : List (Step V)) (d : Deed V) (e : Entry) (left : Option V) (v s : ℕ) → act_of t A taken d ≡ Did e left → e.what ≡ Read v s → s ≡ places v (log_of A)
+pub did_read : {V : Type 0} (t taken : ℕ) (A : List (Step V)) (d : Effect V) (e : Entry) (left : Option V) (v s : ℕ) → act_of t A taken d ≡ Did e left → e.what ≡ Read v s → s ≡ places v (log_of A)
 did_read t taken A Takes e left v s h w = absurd (cc)
 did_read t taken A (Touches u x) e left v s h w =
     let k : entry_of t (log_of A) (Access u (places u (log_of A) + 1)) ≡ e = cc in
@@ -191,7 +191,7 @@ did_read t taken A (Sends p) e left v s h w = absurd (cc)
 did_read t taken A Ends e left v s h w = absurd (cc)
 
 -- the thread and the number of a packet sent out
-pub did_emission : {V : Type 0} (t taken : ℕ) (A : List (Step V)) (d : Deed V) (o : Emission) → act_of t A taken d ≡ Emitted o → (o.thread ≡ t) × (o.number ≡ outputs t (sent_of A) + 1)
+pub did_emission : {V : Type 0} (t taken : ℕ) (A : List (Step V)) (d : Effect V) (o : Emission) → act_of t A taken d ≡ Emitted o → (o.thread ≡ t) × (o.number ≡ outputs t (sent_of A) + 1)
 did_emission t taken A Takes o h = absurd (cc)
 did_emission t taken A (Touches v x) o h = absurd (cc)
 did_emission t taken A (Looks v) o h = absurd (cc)

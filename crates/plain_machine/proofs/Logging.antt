@@ -1,14 +1,14 @@
--- Which deeds are logged, and the entries that they make.
+-- Which effects are logged, and the entries that they make.
 use Rattle.std.proofs.Common.{◌≡◌, ℕ, ◌+◌, true, false, List, [], ◌∷◌, refl, sym, ap, ◌∙◌, inl, inr, ◌⊎◌, Option}
 use Rattle.entry_order.specs.declared.what.What.TheVariants.{Access, Read}
 use Rattle.entry_order.specs.Log.{Entry, entries, places, IsIn}
-use Rattle.plain_machine.specs.Machine.{Deed, Takes, Touches, Looks, HearsClock, HearsDraw, Sends, Ends}
+use Rattle.plain_machine.specs.Machine.{Effect, Takes, Touches, Looks, HearsClock, HearsDraw, Sends, Ends}
 use Rattle.plain_machine.specs.History.{Act, Took, Did, Emitted, Ended, Step, log_more, log_of, entry_of, act_of}
 use Rattle.plain_machine.specs.Agree.{IsEarlier}
 use Rattle.plain_machine.proofs.Moving.{is_logged, IsOn}
 
--- a logged deed makes an entry
-pub logged_makes : {V : Type 0} (t taken : ℕ) (A : List (Step V)) (d : Deed V) → is_logged d ≡ true → (e : Entry) × (left : Option V) × (act_of t A taken d ≡ Did e left)
+-- a logged effect makes an entry
+pub logged_makes : {V : Type 0} (t taken : ℕ) (A : List (Step V)) (d : Effect V) → is_logged d ≡ true → (e : Entry) × (left : Option V) × (act_of t A taken d ≡ Did e left)
 logged_makes t taken A Takes h = absurd (cc)
 logged_makes t taken A (Touches v left) h = (_, _, refl)
 logged_makes t taken A (Looks v) h = (_, _, refl)
@@ -17,8 +17,8 @@ logged_makes t taken A (HearsDraw a) h = (_, _, refl)
 logged_makes t taken A (Sends p) h = absurd (cc)
 logged_makes t taken A Ends h = absurd (cc)
 
--- a deed that makes an entry is logged
-pub makes_logged : {V : Type 0} (t taken : ℕ) (A : List (Step V)) (d : Deed V) (e : Entry) (left : Option V) → act_of t A taken d ≡ Did e left → is_logged d ≡ true
+-- an effect that makes an entry is logged
+pub makes_logged : {V : Type 0} (t taken : ℕ) (A : List (Step V)) (d : Effect V) (e : Entry) (left : Option V) → act_of t A taken d ≡ Did e left → is_logged d ≡ true
 makes_logged t taken A Takes e left h = absurd (cc)
 makes_logged t taken A (Touches v x) e left h = refl
 makes_logged t taken A (Looks v) e left h = refl
@@ -27,8 +27,8 @@ makes_logged t taken A (HearsDraw a) e left h = refl
 makes_logged t taken A (Sends p) e left h = absurd (cc)
 makes_logged t taken A Ends e left h = absurd (cc)
 
--- a deed that is not logged leaves the log
-pub quiet_log : {V : Type 0} (t taken : ℕ) (A : List (Step V)) (log : List Entry) (d : Deed V) → is_logged d ≡ false → log_more (act_of t A taken d) log ≡ log
+-- an effect that is not logged leaves the log
+pub quiet_log : {V : Type 0} (t taken : ℕ) (A : List (Step V)) (log : List Entry) (d : Effect V) → is_logged d ≡ false → log_more (act_of t A taken d) log ≡ log
 quiet_log t taken A log Takes h = refl
 quiet_log t taken A log (Touches v x) h = absurd (cc)
 quiet_log t taken A log (Looks v) h = absurd (cc)
@@ -37,7 +37,7 @@ quiet_log t taken A log (HearsDraw a) h = absurd (cc)
 quiet_log t taken A log (Sends p) h = refl
 quiet_log t taken A log Ends h = refl
 
-pub logged_or : {V : Type 0} (d : Deed V) → (is_logged d ≡ true) ⊎ (is_logged d ≡ false)
+pub logged_or : {V : Type 0} (d : Effect V) → (is_logged d ≡ true) ⊎ (is_logged d ≡ false)
 logged_or Takes = inr refl
 logged_or (Touches v x) = inl refl
 logged_or (Looks v) = inl refl
@@ -46,8 +46,8 @@ logged_or (HearsDraw a) = inl refl
 logged_or (Sends p) = inr refl
 logged_or Ends = inr refl
 
--- the place in the entry of a deed on a variable
-pub did_on : {V : Type 0} (t taken : ℕ) (A : List (Step V)) (d : Deed V) (e : Entry) (left : Option V) (v : ℕ) → IsOn v d → act_of t A taken d ≡ Did e left → (e.what ≡ Access v (places v (log_of A) + 1)) ⊎ (e.what ≡ Read v (places v (log_of A)))
+-- the place in the entry of an effect on a variable
+pub did_on : {V : Type 0} (t taken : ℕ) (A : List (Step V)) (d : Effect V) (e : Entry) (left : Option V) (v : ℕ) → IsOn v d → act_of t A taken d ≡ Did e left → (e.what ≡ Access v (places v (log_of A) + 1)) ⊎ (e.what ≡ Read v (places v (log_of A)))
 did_on t taken A Takes e left v on h = absurd on
 did_on t taken A (Touches u x) e left v on h =
     let k : entry_of t (log_of A) (Access u (places u (log_of A) + 1)) ≡ e = cc in
@@ -60,8 +60,8 @@ did_on t taken A (HearsDraw a) e left v on h = absurd on
 did_on t taken A (Sends p) e left v on h = absurd on
 did_on t taken A Ends e left v on h = absurd on
 
--- A deed makes the same entry after another history, where the counts that it takes are the same.
-pub act_again : {V : Type 0} (t taken : ℕ) (A B : List (Step V)) (d : Deed V) (e : Entry) (left : Option V) → act_of t A taken d ≡ Did e left → entries t (log_of A) ≡ entries t (log_of B) → ((v : ℕ) → IsOn v d → places v (log_of A) ≡ places v (log_of B)) → act_of t B taken d ≡ Did e left
+-- An effect makes the same entry after another history, where the counts that it takes are the same.
+pub act_again : {V : Type 0} (t taken : ℕ) (A B : List (Step V)) (d : Effect V) (e : Entry) (left : Option V) → act_of t A taken d ≡ Did e left → entries t (log_of A) ≡ entries t (log_of B) → ((v : ℕ) → IsOn v d → places v (log_of A) ≡ places v (log_of B)) → act_of t B taken d ≡ Did e left
 act_again t taken A B Takes e left h n s = absurd (cc)
 act_again t taken A B (Touches v x) e left h n s = let q : places v (log_of A) ≡ places v (log_of B) = s v refl in rw (sym n, sym q) h
 act_again t taken A B (Looks v) e left h n s = let q : places v (log_of A) ≡ places v (log_of B) = s v refl in rw (sym n, sym q) h

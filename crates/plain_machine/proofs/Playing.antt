@@ -21,8 +21,8 @@ module _ {X : Type 0} (m : Meaning X) (inputs : ℕ → List Packet) (threads : 
     where
       moved : move.thread < threads → (w : Moved X) → thread_move m (inputs move.thread) (value_after m steps) (thread_after steps move.thread) move.answer ≡ w → after_moved steps move.thread w ≡ Ok next → (x : Step X) × IsStep m inputs threads steps x × (next ≡ x ∷ steps)
       moved low (Illegal cause) k e = absurd (cc)
-      moved low (Moves after deed) k e =
-          (step_of move.thread steps after deed, (low, move.answer, deed, k, refl), (let same : step_of move.thread steps after deed ∷ steps ≡ next = cc in sym same))
+      moved low (Moves after effect) k e =
+          (step_of move.thread steps after effect, (low, move.answer, effect, k, refl), (let same : step_of move.thread steps after effect ∷ steps ≡ next = cc in sym same))
 
       go : (move.thread < threads) ⊎ (threads ≤ move.thread) → (x : Step X) × IsStep m inputs threads steps x × (next ≡ x ∷ steps)
       go (inl low) = let t : nat_lt move.thread threads ≡ true = grind (arith, nat_tests) in moved low _ refl (rw t at e)

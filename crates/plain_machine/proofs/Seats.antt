@@ -5,7 +5,7 @@ use Rattle.plain_text.specs.declared.packet.Packet.{Packet}
 use Rattle.entry_order.specs.declared.what.What.TheVariants.{Access, Read, Clock, Draw}
 use Rattle.entry_order.specs.Log.{Entry, entries, places}
 use Rattle.plain_machine.specs.Program.{Meaning}
-use Rattle.plain_machine.specs.Machine.{Thread, Deed, Takes, Touches, Looks, HearsClock, HearsDraw, Sends, Ends, Moves, thread_move}
+use Rattle.plain_machine.specs.Machine.{Thread, Effect, Takes, Touches, Looks, HearsClock, HearsDraw, Sends, Ends, Moves, thread_move}
 use Rattle.plain_machine.specs.declared.emission.Emission.{Emission}
 use Rattle.plain_machine.specs.History.{Act, Took, Did, Emitted, Ended, Step, log_more, log_of, sent_more, sent_of, outputs, entry_of, act_of, thread_after, value_after, IsStep}
 use Rattle.plain_machine.proofs.Histories.{not_eq}
@@ -17,8 +17,8 @@ pub record SameSeat {V : Type 0} (t : ℕ) (A B : List (Step V)) : Type 0 where
   pub entries : entries t (log_of A) ≡ entries t (log_of B)
   pub outputs : outputs t (sent_of A) ≡ outputs t (sent_of B)
 
--- One deed from one seat is one act, where it makes one entry.
-act_same : {V : Type 0} (t taken : ℕ) (A B : List (Step V)) (d : Deed V) → SameSeat t A B → ((e f : Entry) (lx ly : Option V) → act_of t A taken d ≡ Did e lx → act_of t B taken d ≡ Did f ly → e ≡ f) → act_of t A taken d ≡ act_of t B taken d
+-- One effect from one seat is one act, where it makes one entry.
+act_same : {V : Type 0} (t taken : ℕ) (A B : List (Step V)) (d : Effect V) → SameSeat t A B → ((e f : Entry) (lx ly : Option V) → act_of t A taken d ≡ Did e lx → act_of t B taken d ≡ Did f ly → e ≡ f) → act_of t A taken d ≡ act_of t B taken d
 act_same t taken A B Takes same s = refl
 act_same t taken A B (Touches v left) same s = ap (λ (e : Entry). Did e (Some left)) (s _ _ _ _ refl refl)
 act_same t taken A B (Looks v) same s = ap (λ (e : Entry). Did e None) (s _ _ _ _ refl refl)
@@ -31,8 +31,8 @@ act_same t taken A B Ends same s = refl
 abbrev pub SameLogged : {V : Type 0} → Meaning V → List (Step V) → List (Step V) → Act V → Act V → Type 0
 SameLogged {V} m A B x y = (e f : Entry) (lx ly : Option V) → x ≡ Did e lx → y ≡ Did f ly → (e ≡ f) × ((v s : ℕ) → (e.what ≡ Access v s) ⊎ (e.what ≡ Read v s) → value_after m A v ≡ value_after m B v)
 
--- So their deeds are alike.
-alike : {V : Type 0} (m : Meaning V) (t taken late : ℕ) (A B : List (Step V)) (dx dy : Deed V) → SameLogged m A B (act_of t A taken dx) (act_of t B late dy) → Alike (value_after m A) (value_after m B) dx dy
+-- So their effects are alike.
+alike : {V : Type 0} (m : Meaning V) (t taken late : ℕ) (A B : List (Step V)) (dx dy : Effect V) → SameLogged m A B (act_of t A taken dx) (act_of t B late dy) → Alike (value_after m A) (value_after m B) dx dy
 alike {V} m t taken late A B dx dy s = record {
   clock = λ p q ex ey.
       let a : act_of t A taken dx ≡ Did (entry_of t (log_of A) (Clock p)) None = rw ex refl in
@@ -68,7 +68,7 @@ same_step {V} m inputs threads A B x y hx hy t seat s = join x.thread y.thread t
         let s3 = subst (λ (a : Act V). SameLogged m A B (act_of u A x.after.taken hx.2) a) ay2 s2 in
         let r : (x.after ≡ y.after) × (hx.2 ≡ hy.2) = held_same m (inputs u) (value_after m A) (value_after m B) (thread_after A u).taken (thread_after A u).hand hx.1 hy.1 x.after y.after hx.2 hy.2 mx my3 (alike m u x.after.taken y.after.taken A B hx.2 hy.2 s3) in
         let ay3 : y.act ≡ act_of u B x.after.taken hy.2 = subst (λ (th : Thread). y.act ≡ act_of u B th.taken hy.2) (sym r.0) ay2 in
-        let ay4 : y.act ≡ act_of u B x.after.taken hx.2 = subst (λ (d : Deed V). y.act ≡ act_of u B x.after.taken d) (sym r.1) ay3 in
+        let ay4 : y.act ≡ act_of u B x.after.taken hx.2 = subst (λ (d : Effect V). y.act ≡ act_of u B x.after.taken d) (sym r.1) ay3 in
         let k : act_of u A x.after.taken hx.2 ≡ act_of u B x.after.taken hx.2 = act_same u x.after.taken A B hx.2 seat (λ e f lx ly p q. (s e f lx ly (ax ∙ p) (ay4 ∙ q)).0) in
         ap (λ (n : ℕ). make n x.act x.after) t ∙ (ap (λ (a : Act V). make y.thread a x.after) (ax ∙ (k ∙ sym ay4)) ∙ ap (λ (th : Thread). make y.thread y.act th) r.0)
 
@@ -94,7 +94,7 @@ seat_next t A B x y e s = subst (λ (z : Step _). SameSeat t (x ∷ A) (z ∷ B)
   outputs = outputs_act t x.act (sent_of A) (sent_of B) s.outputs;
 })
 
-entries_other : {V : Type 0} (t u taken : ℕ) (A : List (Step V)) (d : Deed V) → u ≢ t → entries t (log_more (act_of u A taken d) (log_of A)) ≡ entries t (log_of A)
+entries_other : {V : Type 0} (t u taken : ℕ) (A : List (Step V)) (d : Effect V) → u ≢ t → entries t (log_more (act_of u A taken d) (log_of A)) ≡ entries t (log_of A)
 entries_other t u taken A Takes h = refl
 entries_other t u taken A (Touches v left) h = rw (not_eq u t h) refl
 entries_other t u taken A (Looks v) h = rw (not_eq u t h) refl
@@ -103,7 +103,7 @@ entries_other t u taken A (HearsDraw a) h = rw (not_eq u t h) refl
 entries_other t u taken A (Sends p) h = refl
 entries_other t u taken A Ends h = refl
 
-outputs_other : {V : Type 0} (t u taken : ℕ) (A : List (Step V)) (d : Deed V) → u ≢ t → outputs t (sent_more (act_of u A taken d) (sent_of A)) ≡ outputs t (sent_of A)
+outputs_other : {V : Type 0} (t u taken : ℕ) (A : List (Step V)) (d : Effect V) → u ≢ t → outputs t (sent_more (act_of u A taken d) (sent_of A)) ≡ outputs t (sent_of A)
 outputs_other t u taken A Takes h = refl
 outputs_other t u taken A (Touches v left) h = refl
 outputs_other t u taken A (Looks v) h = refl

@@ -5,7 +5,7 @@ use Rattle.entry_order.specs.declared.what.What.TheVariants.{Access}
 use Rattle.entry_order.specs.Log.{Entry, places}
 use Rattle.entry_order.proofs.Order.{is_or}
 use Rattle.plain_machine.specs.Program.{Meaning}
-use Rattle.plain_machine.specs.Machine.{Deed, Takes, Touches, Looks, HearsClock, HearsDraw, Sends, Ends}
+use Rattle.plain_machine.specs.Machine.{Effect, Takes, Touches, Looks, HearsClock, HearsDraw, Sends, Ends}
 use Rattle.plain_machine.specs.History.{Act, Did, Step, log_more, log_of, entry_of, act_of, left_by, value_after, IsHistory}
 use Rattle.plain_machine.proofs.Histories.{Leaves, is_eq, not_eq}
 
@@ -13,7 +13,7 @@ use Rattle.plain_machine.proofs.Histories.{Leaves, is_eq, not_eq}
 abbrev pub IsValue : {V : Type 0} → Meaning V → ℕ → List (Step V) → Type 0
 IsValue {V} m v xs = ((places v (log_of xs) ≡ 0) × (value_after m xs v ≡ m.fresh v)) ⊎ ((g : Entry) × Leaves xs g (Some (value_after m xs v)) × (g.what ≡ Access v (places v (log_of xs))))
 
-is_value_act : {V : Type 0} (m : Meaning V) (v t taken : ℕ) (x : Step V) (A : List (Step V)) (d : Deed V) → x.act ≡ act_of t A taken d → IsValue m v A → IsValue m v (x ∷ A)
+is_value_act : {V : Type 0} (m : Meaning V) (v t taken : ℕ) (x : Step V) (A : List (Step V)) (d : Effect V) → x.act ≡ act_of t A taken d → IsValue m v A → IsValue m v (x ∷ A)
 is_value_act {V} m v t taken x A d e old = subst (λ (a : Act V). ((places v (log_more a (log_of A)) ≡ 0) × (left_by v a (value_after m A v) ≡ m.fresh v)) ⊎ ((g : Entry) × ((x.act ≡ Did g (Some (left_by v a (value_after m A v)))) ⊎ Leaves A g (Some (left_by v a (value_after m A v)))) × (g.what ≡ Access v (places v (log_more a (log_of A)))))) (sym e) (go d e old)
   where
     keep : IsValue m v A → ((places v (log_of A) ≡ 0) × (value_after m A v ≡ m.fresh v)) ⊎ ((g : Entry) × ((x.act ≡ Did g (Some (value_after m A v))) ⊎ Leaves A g (Some (value_after m A v))) × (g.what ≡ Access v (places v (log_of A))))
@@ -24,7 +24,7 @@ is_value_act {V} m v t taken x A d e old = subst (λ (a : Act V). ((places v (lo
     touch u left e old (inl h) = rw (is_eq u v h) (inr (entry_of t (log_of A) (Access u (places u (log_of A) + 1)), inl e, ap (λ (n : ℕ). Access n (places n (log_of A) + 1)) h))
     touch u left e old (inr h) = rw (not_eq u v h) (keep old)
 
-    go : (d : Deed V) → x.act ≡ act_of t A taken d → IsValue m v A → ((places v (log_more (act_of t A taken d) (log_of A)) ≡ 0) × (left_by v (act_of t A taken d) (value_after m A v) ≡ m.fresh v)) ⊎ ((g : Entry) × ((x.act ≡ Did g (Some (left_by v (act_of t A taken d) (value_after m A v)))) ⊎ Leaves A g (Some (left_by v (act_of t A taken d) (value_after m A v)))) × (g.what ≡ Access v (places v (log_more (act_of t A taken d) (log_of A)))))
+    go : (d : Effect V) → x.act ≡ act_of t A taken d → IsValue m v A → ((places v (log_more (act_of t A taken d) (log_of A)) ≡ 0) × (left_by v (act_of t A taken d) (value_after m A v) ≡ m.fresh v)) ⊎ ((g : Entry) × ((x.act ≡ Did g (Some (left_by v (act_of t A taken d) (value_after m A v)))) ⊎ Leaves A g (Some (left_by v (act_of t A taken d) (value_after m A v)))) × (g.what ≡ Access v (places v (log_more (act_of t A taken d) (log_of A)))))
     go Takes e old = keep old
     go (Touches u left) e old = touch u left e old (is_or u v)
     go (Looks u) e old = keep old

@@ -11,7 +11,7 @@ use Rattle.plain_machine.specs.declared.plain_move.PlayCause.{PlayCause}
 use Rattle.plain_machine.specs.declared.plain_move.PlayCause.TheVariants.{NoSuchThread}
 use Rattle.plain_machine.specs.declared.plain_move.PlayFault.{PlayFault}
 use Rattle.plain_machine.specs.Program.{Meaning}
-use Rattle.plain_machine.specs.Machine.{Thread, Deed, Takes, Touches, Looks, HearsClock, HearsDraw, Sends, Ends, Moved, Moves, Illegal, thread_move}
+use Rattle.plain_machine.specs.Machine.{Thread, Effect, Takes, Touches, Looks, HearsClock, HearsDraw, Sends, Ends, Moved, Moves, Illegal, thread_move}
 
 -- what a move did, with its numbers
 pub data Act (V : Type 0) : Type 0 where
@@ -100,8 +100,8 @@ entry_of t log what = record { thread = t; number = entries t log + 1; what = wh
 abbrev pub emission_of : ℕ → List Emission → ℕ → Packet → Emission
 emission_of t sent input packet = record { thread = t; number = outputs t sent + 1; input = input; packet = packet }
 
--- a deed of the thread, which has so many inputs taken now, with the numbers that it gets after the earlier steps
-abbrev pub act_of : {V : Type 0} → ℕ → List (Step V) → ℕ → Deed V → Act V
+-- an effect of the thread, which has so many inputs taken now, with the numbers that it gets after the earlier steps
+abbrev pub act_of : {V : Type 0} → ℕ → List (Step V) → ℕ → Effect V → Act V
 act_of t earlier taken Takes = Took taken
 act_of t earlier taken (Touches v left) = Did (entry_of t (log_of earlier) (Access v (places v (log_of earlier) + 1))) (Some left)
 act_of t earlier taken (Looks v) = Did (entry_of t (log_of earlier) (Read v (places v (log_of earlier)))) None
@@ -110,12 +110,12 @@ act_of t earlier taken (HearsDraw a) = Did (entry_of t (log_of earlier) (Draw a)
 act_of t earlier taken (Sends packet) = Emitted (emission_of t (sent_of earlier) taken packet)
 act_of t earlier taken Ends = Ended taken
 
-abbrev pub step_of : {V : Type 0} → ℕ → List (Step V) → Thread → Deed V → Step V
-step_of t earlier after deed = record { thread = t; act = act_of t earlier after.taken deed; after = after }
+abbrev pub step_of : {V : Type 0} → ℕ → List (Step V) → Thread → Effect V → Step V
+step_of t earlier after effect = record { thread = t; act = act_of t earlier after.taken effect; after = after }
 
 abbrev pub after_moved : {V : Type 0} → List (Step V) → ℕ → Moved V → Result (List (Step V)) PlayCause
 after_moved steps t (Illegal cause) = Err cause
-after_moved steps t (Moves after deed) = Ok (step_of t steps after deed ∷ steps)
+after_moved steps t (Moves after effect) = Ok (step_of t steps after effect ∷ steps)
 
 -- one move after a history, of a machine with so many threads, where each thread has its inputs
 abbrev pub plain_move : {V : Type 0} → Meaning V → (ℕ → List Packet) → ℕ → List (Step V) → PlainMove → Result (List (Step V)) PlayCause
@@ -145,9 +145,9 @@ play m inputs threads moves = and_moves m inputs threads (Ok []) moves
 -- The step is a legal one after the earlier steps.
 abbrev pub IsStep : {V : Type 0} → Meaning V → (ℕ → List Packet) → ℕ → List (Step V) → Step V → Type 0
 IsStep {V} m inputs threads earlier x =
-    (x.thread < threads) × (answer : Option ℕ) × (deed : Deed V)
-    × (thread_move m (inputs x.thread) (value_after m earlier) (thread_after earlier x.thread) answer ≡ Moves x.after deed)
-    × (x.act ≡ act_of x.thread earlier x.after.taken deed)
+    (x.thread < threads) × (answer : Option ℕ) × (effect : Effect V)
+    × (thread_move m (inputs x.thread) (value_after m earlier) (thread_after earlier x.thread) answer ≡ Moves x.after effect)
+    × (x.act ≡ act_of x.thread earlier x.after.taken effect)
 
 -- Each step is a legal one after those behind it.
 abbrev pub IsHistory : {V : Type 0} → Meaning V → (ℕ → List Packet) → ℕ → List (Step V) → Type 0

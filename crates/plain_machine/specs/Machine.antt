@@ -19,19 +19,19 @@ pub record Thread : Type 0 where
   pub hand : Option Hand
 
 -- what a move does, beside where it leaves its thread
-pub data Deed (V : Type 0) : Type 0 where
-  Takes : Deed V
+pub data Effect (V : Type 0) : Type 0 where
+  Takes : Effect V
   -- the value that it leaves
-  Touches : (var : ℕ) (left : V) → Deed V
-  Looks : (var : ℕ) → Deed V
-  HearsClock : (answer : ℕ) → Deed V
-  HearsDraw : (answer : ℕ) → Deed V
-  Sends : (packet : Packet) → Deed V
-  Ends : Deed V
+  Touches : (var : ℕ) (left : V) → Effect V
+  Looks : (var : ℕ) → Effect V
+  HearsClock : (answer : ℕ) → Effect V
+  HearsDraw : (answer : ℕ) → Effect V
+  Sends : (packet : Packet) → Effect V
+  Ends : Effect V
 
--- what a move leads to: the thread after it and its deed, or the cause by which it is none
+-- what a move leads to: the thread after it and its effect, or the cause by which it is none
 pub data Moved (V : Type 0) : Type 0 where
-  Moves : (after : Thread) (deed : Deed V) → Moved V
+  Moves : (after : Thread) (effect : Effect V) → Moved V
   Illegal : (cause : PlayCause) → Moved V
 
 abbrev pub holding : ℕ → Packet → Local → Thread

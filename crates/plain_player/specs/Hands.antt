@@ -4,7 +4,7 @@ use Rattle.plain_text.specs.declared.packet.Packet.{Packet}
 use Rattle.box_program.specs.Hands.{place_of}
 use Rattle.plain_machine.specs.declared.local.Local.{Local}
 use Rattle.plain_machine.specs.Program.{Meaning}
-use Rattle.plain_machine.specs.Machine.{Hand, Thread, Deed, Takes, Touches, Looks, HearsClock, HearsDraw, Sends, Ends, Moved, Moves, Illegal}
+use Rattle.plain_machine.specs.Machine.{Hand, Thread, Effect, Takes, Touches, Looks, HearsClock, HearsDraw, Sends, Ends, Moved, Moves, Illegal}
 use Rattle.plain_machine.specs.declared.emission.Emission.{Emission}
 use Rattle.plain_player.specs.declared.seat.Seat.{Seat}
 use Rattle.plain_player.specs.declared.hand.HandMove.{HandMove}
@@ -20,7 +20,7 @@ pub record FitsProgram {V : Type 0} (m : Meaning V) (fits : ℕ → V → Type 0
   pub count : length values ≡ m.vars
   pub fit : (v : ℕ) (d : V) → v < m.vars → fits v (slice_index_or values v d)
 
-abbrev pub values_after : {V : Type 0} → List V → Deed V → List V
+abbrev pub values_after : {V : Type 0} → List V → Effect V → List V
 values_after values Takes = values
 values_after values (Touches v left) = slice_set values v left
 values_after values (Looks v) = values
@@ -29,8 +29,8 @@ values_after values (HearsDraw a) = values
 values_after values (Sends packet) = values
 values_after values Ends = values
 
--- the packet that a deed sends out
-abbrev pub sent_by : {V : Type 0} → Deed V → Option Packet
+-- the packet that an effect sends out
+abbrev pub sent_by : {V : Type 0} → Effect V → Option Packet
 sent_by Takes = None
 sent_by (Touches v left) = None
 sent_by (Looks v) = None
@@ -42,15 +42,15 @@ sent_by Ends = None
 abbrev pub with_bytes : Packet → List ℕ → Packet
 with_bytes packet bytes = record packet { bytes = bytes }
 
--- What was done with the packet in hand is the move that leads to this thread by this deed.
-pub record IsHandMove {V : Type 0} (after : Thread) (deed : Deed V) (taken : ℕ) (packet : Packet) (made : HandMove) (old new : List V) : Type 0 where
+-- What was done with the packet in hand is the move that leads to this thread by this effect.
+pub record IsHandMove {V : Type 0} (after : Thread) (effect : Effect V) (taken : ℕ) (packet : Packet) (made : HandMove) (old new : List V) : Type 0 where
   pub taken_stays : after.taken ≡ taken
   pub place : made.place ≡ place_of after.hand
-  pub sent : option_map (with_bytes packet) made.sent ≡ sent_by deed
-  pub values : new ≡ values_after old deed
+  pub sent : option_map (with_bytes packet) made.sent ≡ sent_by effect
+  pub values : new ≡ values_after old effect
 
 abbrev pub MakesHandMove : {V : Type 0} → Moved V → ℕ → Packet → HandMove → List V → List V → Type 0
-MakesHandMove (Moves after deed) taken packet made old new = IsHandMove after deed taken packet made old new
+MakesHandMove (Moves after effect) taken packet made old new = IsHandMove after effect taken packet made old new
 MakesHandMove (Illegal cause) taken packet made old new = ⊥
 
 abbrev pub PlaysHand : {V : Type 0} → Moved V → ℕ → Packet → Result HandMove MoveError → List V → List V → Type 0
@@ -71,7 +71,7 @@ seat_after thread seat packet made = sent_after made.sent
 
 -- a thread without a packet in hand takes its next input
 abbrev pub TakesInput : {V : Type 0} → Moved V → Seat → Result Seat MoveError → Type 0
-TakesInput (Moves after deed) seat (Ok s) = (s.taken ≡ after.taken) × (s.outputs ≡ seat.outputs) × (s.hand ≡ place_of after.hand)
-TakesInput (Moves after deed) seat (Err e) = ⊥
+TakesInput (Moves after effect) seat (Ok s) = (s.taken ≡ after.taken) × (s.outputs ≡ seat.outputs) × (s.hand ≡ place_of after.hand)
+TakesInput (Moves after effect) seat (Err e) = ⊥
 TakesInput (Illegal cause) seat (Ok s) = ⊥
 TakesInput (Illegal cause) seat (Err e) = e ≡ error.Illegal cause

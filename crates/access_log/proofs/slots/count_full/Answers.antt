@@ -6,7 +6,7 @@ use Rattle.access_log.proofs.SlotLemmas.{length-in_slots-push, length-in_slots}
 
 pub overflow_add-count : goal.overflow_add-count
 overflow_add-count c =
-    let items = c.args.run.now.items in
+    let items = c.args.contiguous.now.items in
     let most = length-in_slots 0 (take c.loop-i.i items) in
     let counted = c.loop-i.invariant 0 in
     let cut = length-take c.loop-i.i items in
@@ -15,9 +15,9 @@ overflow_add-count c =
 
 pub loop-i-preserved : goal.loop-i-preserved
 loop-i-preserved c = λ from.
-    let items = c.args.run.now.items in
+    let items = c.args.contiguous.now.items in
     let i = c.loop-i.i in
-    let len = c.args.run.now.ok.0 in
+    let len = c.args.contiguous.now.ok.0 in
     let within : i < length items = omega (arith, c.len-i-end.ensures, c.loop-i-test.true) in
     let t = rw (← add-one) at (take-suc items i None within) in
     let read = get_or_read items i _ within c.index.ensures None in

@@ -3,4 +3,4 @@ use Rattle.access_log.specs.Slots.{in_slots}
 use Rattle.access_log.proofs.slots.count_full.Given as goal
 
 abbrev pub invariant-loop-i : goal.invariant-loop-i
-invariant-loop-i l = (from : ℕ) → l.count ≡ length (in_slots from (take l.i l.run.items))
+invariant-loop-i l = (from : ℕ) → l.count ≡ length (in_slots from (take l.i l.contiguous.items))

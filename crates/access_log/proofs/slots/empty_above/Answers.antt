@@ -2,15 +2,15 @@ use Rattle.std.proofs.Common.{arith, ◌∙◌, ◌≡◌, ◌<◌, ◌≢◌, �
 use Rattle.access_log.proofs.slots.empty_above.Goals as goal
 use Rattle.std.proofs.lemmas.List.{get_or_read, get_or-set_same, get_or-set_other}
 use Rattle.thread_clock.specs.Clock.{AtMost}
-use Rattle.access_log.specs.declared.entry.Entry.{Entry}
+use Rattle.access_log.specs.declared.entry.StampedEntry.{StampedEntry}
 use Rattle.access_log.proofs.SlotLemmas.{RetainsSlots-all}
 
 pub loop-i-preserved : goal.loop-i-preserved
 loop-i-preserved c =
-    let items = c.loop-i.run.items in
+    let items = c.loop-i.contiguous.items in
     let i = c.loop-i.i in
     let slot = c.empty_if_above.new.slot in
-    let len = c.args.run.now.ok.0 in
+    let len = c.args.contiguous.now.ok.0 in
     let slots = c.loop-i.invariant.slots in
     let within : i < length items = omega (arith, c.loop-i-test.true, c.len-i-end.ensures) in
     let read = get_or_read items i _ within c.index_mut.ensures.value None in
@@ -18,11 +18,11 @@ loop-i-preserved c =
     let same = get_or-set_same items i slot None within in
     record {
       slots = length-set items i slot ∙ slots;
-      held = λ k e h. below_more (λ k. (e : Entry) → (slice_index_or (slice_set items i slot) k None ≡ Some e) ↔ ((slice_index_or c.args.run.now.items k None ≡ Some e) × AtMost e.stamp c.args.frontiers.now)) i (λ k h e. let apart : k ≢ i = λ q. omega arith in rw (get_or-set_other items i k slot None apart) (c.loop-i.invariant.held k e h)) (λ e. rw (same, ← first, ← read) (c.empty_if_above.ensures e)) k h e;
+      held = λ k e h. below_more (λ k. (e : StampedEntry) → (slice_index_or (slice_set items i slot) k None ≡ Some e) ↔ ((slice_index_or c.args.contiguous.now.items k None ≡ Some e) × AtMost e.stamp c.args.frontiers.now)) i (λ k h e. let apart : k ≢ i = λ q. omega arith in rw (get_or-set_other items i k slot None apart) (c.loop-i.invariant.held k e h)) (λ e. rw (same, ← first, ← read) (c.empty_if_above.ensures e)) k h e;
       ahead = λ k h. let apart : k ≢ i = λ q. omega arith in get_or-set_other items i k slot None apart ∙ c.loop-i.invariant.ahead k (omega arith);
     }
 
 pub returns : goal.returns
 returns c =
-    let len = c.args.run.now.ok.0 in
-    RetainsSlots-all c.args.run.now.items c.loop-i.run.items c.args.frontiers.now c.loop-i.i (omega (arith, c.loop-i-test.false, c.len-i-end.ensures)) c.loop-i.invariant.slots c.loop-i.invariant.held
+    let len = c.args.contiguous.now.ok.0 in
+    RetainsSlots-all c.args.contiguous.now.items c.loop-i.contiguous.items c.args.frontiers.now c.loop-i.i (omega (arith, c.loop-i-test.false, c.len-i-end.ensures)) c.loop-i.invariant.slots c.loop-i.invariant.held

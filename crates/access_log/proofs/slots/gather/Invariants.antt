@@ -5,9 +5,9 @@ use Rattle.access_log.proofs.slots.gather.Given as goal
 
 abbrev pub invariant-loop-number : goal.invariant-loop-number
 invariant-loop-number l = record {
-  slotted : IsSlotted l.covered l.run.items l.later.entries;
-  same : in_slots l.covered l.run.items ++ l.later.entries ≡ in_slots l.covered l.initial.run.items ++ l.initial.later.entries;
+  slotted : IsSlotted l.covered l.contiguous.items l.out_of_order.entries;
+  same : in_slots l.covered l.contiguous.items ++ l.out_of_order.entries ≡ in_slots l.covered l.initial.contiguous.items ++ l.initial.out_of_order.entries;
 }
 
 abbrev pub decreases-loop-number : goal.decreases-loop-number
-decreases-loop-number l = btree_map_len l.later
+decreases-loop-number l = btree_map_len l.out_of_order

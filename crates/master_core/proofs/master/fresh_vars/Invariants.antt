@@ -1,7 +1,7 @@
 use Rattle.std.proofs.Common.{◌≡◌, ◌<◌, ℕ, length}
 use Rattle.std.specs.Prelude.{slice_index_or}
 use Rattle.master_core.specs.declared.parts.VarPart.{VarPart}
-use Rattle.master_core.specs.Deeds.{fresh_var}
+use Rattle.master_core.specs.Effects.{fresh_var}
 use Rattle.master_core.proofs.master.fresh_vars.Given as goal
 
 -- the first variables have their fresh values

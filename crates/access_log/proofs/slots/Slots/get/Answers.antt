@@ -7,18 +7,18 @@ use Rattle.access_log.proofs.slots.Slots.get.Goals.{then-number-self-via-then-nu
 pub returns-then-number-self : goal.returns-then-number-self
 returns-then-number-self c =
     let s = c.self.inside in
-    let len = s.run.ok.0 in
-    let outside : s.covered < c.args.number → c.args.number ≤ s.covered + length s.run.items → ⊥ = λ above within. elim c.then-number-self.branch [ then-number-self-via-then-number-self w ↦ omega arith | then-number-self-via-else-number-self+then-number-self-2 w ↦ omega (arith, w.if-number-self-2.true, w.len.ensures) ] in
-    rw (← c.self.view_is) (c.get.ensures.value ∙ sym (at-outside s.covered s.run.items s.later.entries c.args.number outside))
+    let len = s.contiguous.ok.0 in
+    let outside : s.covered < c.args.number → c.args.number ≤ s.covered + length s.contiguous.items → ⊥ = λ above within. elim c.then-number-self.branch [ then-number-self-via-then-number-self w ↦ omega arith | then-number-self-via-else-number-self+then-number-self-2 w ↦ omega (arith, w.if-number-self-2.true, w.len.ensures) ] in
+    rw (← c.self.view_is) (c.get.ensures.value ∙ sym (at-outside s.covered s.contiguous.items s.out_of_order.entries c.args.number outside))
 
 pub returns : goal.returns
 returns c =
     let s = c.self.inside in
     let i : ℕ = c.args.number - s.covered - 1 in
-    let len = s.run.ok.0 in
+    let len = s.contiguous.ok.0 in
     let above : s.covered < c.args.number = omega (arith, c.if-number-self.false) in
-    let within : i < length s.run.items = omega (arith, c.if-number-self-2.false, c.len.ensures) in
-    let read = get_or_read s.run.items i _ within c.index.ensures None in
+    let within : i < length s.contiguous.items = omega (arith, c.if-number-self-2.false, c.len.ensures) in
+    let read = get_or_read s.contiguous.items i _ within c.index.ensures None in
     let place : c.args.number ≡ s.covered + i + 1 = omega arith in
-    let none = no_later s.covered s.run.items s.later.entries c.self.invariant c.args.number (omega arith) in
-    rw (← c.self.view_is) (c.as_ref.ensures.value ∙ read ∙ sym (at-inside s.covered s.run.items s.later.entries c.args.number i place within none))
+    let none = no_later s.covered s.contiguous.items s.out_of_order.entries c.self.invariant c.args.number (omega arith) in
+    rw (← c.self.view_is) (c.as_ref.ensures.value ∙ read ∙ sym (at-inside s.covered s.contiguous.items s.out_of_order.entries c.args.number i place within none))

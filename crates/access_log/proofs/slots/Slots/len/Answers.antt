@@ -4,16 +4,16 @@ use Rattle.access_log.proofs.SlotLemmas.{length-in_slots}
 
 pub overflow_add-result : goal.overflow_add-result
 overflow_add-result c =
-    let slots = length-in_slots c.self.inside.covered c.self.inside.run.items in
+    let slots = length-in_slots c.self.inside.covered c.self.inside.contiguous.items in
     let counted = c.count_full.ensures c.self.inside.covered in
     let few = c.self.invariant.few in
-    let len : c.len.result ≡ length c.self.inside.later.entries = c.len.ensures.len in
+    let len : c.len.result ≡ length c.self.inside.out_of_order.entries = c.len.ensures.len in
     omega arith
 
 pub returns-clause-small : goal.returns-clause-small
 returns-clause-small c =
-    let slots = length-in_slots c.self.inside.covered c.self.inside.run.items in
+    let slots = length-in_slots c.self.inside.covered c.self.inside.contiguous.items in
     let counted = c.count_full.ensures c.self.inside.covered in
     let few = c.self.invariant.few in
-    let len : c.len.result ≡ length c.self.inside.later.entries = c.len.ensures.len in
+    let len : c.len.result ≡ length c.self.inside.out_of_order.entries = c.len.ensures.len in
     omega arith

@@ -1,11 +1,11 @@
 use Rattle.std.proofs.Common.{rules, arith, refl, ap, ◌∙◌, length-set, ◌≡◌, ◌+◌, ◌<◌, ◌^◌, inl}
 use Rattle.std.specs.Prelude.{slice_index, slice_index_or, slice_set, replicate, max}
-use Rattle.access_log.specs.declared.entry.Entry.{Entry as StampedEntry}
+use Rattle.access_log.specs.declared.entry.StampedEntry.{StampedEntry}
 use Rattle.entry_order.specs.declared.what.What.TheVariants as what
 use Rattle.master_core.specs.declared.step.Stepped.TheVariants as stepped
 use Rattle.plain_machine.specs.declared.local.Local.{Local}
 use Rattle.master_core.specs.Mastered.{Mastered}
-use Rattle.master_core.specs.Deeds.{after_entry, before_touch, DoneTouch}
+use Rattle.master_core.specs.Effects.{after_entry, before_touch, DoneTouch}
 use Rattle.master_core.proofs.Bounding.{place_fits, entry_bounded, adds_set}
 use Rattle.master_core.proofs.Doing.{of_items, stamped_is, master_is}
 use Rattle.master_core.proofs.master.Master.touch.Goals as goal

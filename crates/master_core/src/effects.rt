@@ -1,6 +1,6 @@
 //! What each kind of move does to a thread and a variable of a master.
 ghost use Rattle.std.specs.Prelude.{◌≡◌, ℕ, ◌+◌, ◌^◌, ◌<◌, length, slice_set};
-ghost use Rattle.master_core.specs.Deeds.{after_entry as after_entry_of};
+ghost use Rattle.master_core.specs.Effects.{after_entry as after_entry_of};
 
 use crate::{Counts, ThreadPart};
 use plain_machine::Local;
