@@ -1,2 +1,4 @@
 pub mod Fields
+pub mod Limits
 pub mod Lines
+pub mod Octets

@@ -19,7 +19,7 @@ mod word;
 pub use bytes::Bytes;
 pub use fault::{LineCause, LineFault, ReadError};
 pub use field::{Field, end_of_line, read_field};
-pub use limit::Limit;
+pub use limit::{Limit, MOST_CAPTURED, MOST_FILE_BYTES, MOST_PACKETS};
 pub use line::{Line, LineIter, count_lines, lines};
 pub use memory::NoMemory;
 pub use number::{put_u64, read_u64};

@@ -1,12 +1,21 @@
 use thiserror::Error;
 
+/// The most bytes of a file.
+pub const MOST_FILE_BYTES: u64 = 67_108_864;
+
+/// The most packets of a capture.
+pub const MOST_PACKETS: u32 = 65_536;
+
+/// The most bytes that are captured of a packet.
+pub const MOST_CAPTURED: u32 = 262_144;
+
 /// A bound on what a run may take or make.
 #[derive(Clone, Copy, Debug, PartialEq, Eq, Error)]
 pub enum Limit {
-    /// The bytes of a file: 67,108,864.
+    /// The bytes of a file: `MOST_FILE_BYTES`.
     #[error("file")]
     File,
-    /// The packets of a capture: 65,536.
+    /// The packets of a capture: `MOST_PACKETS`.
     #[error("packets")]
     Packets,
     /// The events of a script, and the counted lines of a schedule or a plan: 4,000,000.

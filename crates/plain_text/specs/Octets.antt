@@ -1,0 +1,6 @@
+-- Numbers that are bytes.
+use Rattle.std.specs.Prelude.{ℕ, ◌<◌, List, slice_index}
+
+-- each of these numbers is below 256; past the end a list reads as 0
+abbrev pub AreBytes : List ℕ → Type 0
+AreBytes numbers = (k : ℕ) → slice_index numbers k < 256
