@@ -1,3 +1,4 @@
 pub mod BoxFile
 pub mod Keywords
+pub mod Kinds
 pub mod Settings
