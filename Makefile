@@ -1,32 +1,32 @@
-# The program ftmb, and what to do with it. RT is the command of the kit that proves and builds it.
+# The program ftmb, and what to do with it.
 
+# The command of the kit that proves and builds, and how many crates it proves at a time.
 RT ?= rt
-SOURCES := crates.txt $(shell find crates -name out -prune -o -type f -print)
+JOBS ?= $(shell nproc)
 
-.PHONY: all test example bench interop clean
+# Where the program and its manual page go: PREFIX/bin and PREFIX/share/man.
+PREFIX ?= /usr/local
 
-# The program, proved and built: build/ftmb.
+SOURCES := crates.txt scripts/build $(shell find crates -name out -prune -o -type f -print)
+
+.PHONY: all try test example bench interop install clean distclean
+
+# The program, proved and built.
 all: build/ftmb
 
-build/ftmb: $(SOURCES)
-	cd crates/ftmb && $(RT) run -- --version
-	mkdir -p build
-	install -m 755 crates/ftmb/out/ftmb $@
+# Words on which each program ends at once: the kit links a program only to run it.
+build/ftmb: words := --version
+build/bench_headers: words := 1 1
+build/bench_moves: words := master 1 1
+build/bench_held: words := 1
 
-build/bench_headers: $(SOURCES)
-	cd crates/bench_headers && $(RT) run -- 1 1
-	mkdir -p build
-	install -m 755 crates/bench_headers/out/bench_headers $@
+# All crates that the program stands on are proved, side by side, before it is linked. The prover's output goes to build/proof.log.
+build/ftmb build/bench_headers build/bench_moves build/bench_held: build/%: $(SOURCES)
+	scripts/build $(RT) $(JOBS) $* $(words)
 
-build/bench_moves: $(SOURCES)
-	cd crates/bench_moves && $(RT) run -- master 1 1
-	mkdir -p build
-	install -m 755 crates/bench_moves/out/bench_moves $@
-
-build/bench_held: $(SOURCES)
-	cd crates/bench_held && $(RT) run -- 1
-	mkdir -p build
-	install -m 755 crates/bench_held/out/bench_held $@
+# The example at once, by the kit's unproved run: nothing is proved.
+try:
+	scripts/try $(RT) build/try
 
 # Every proof, edit that must fail, test and stored run.
 test:
@@ -47,5 +47,15 @@ bench: build/bench_headers build/bench_moves build/bench_held build/ftmb
 interop: build/ftmb
 	scripts/interop build/ftmb build/interop
 
+# The program and its manual page, for all users.
+install: build/ftmb
+	install -d $(DESTDIR)$(PREFIX)/bin $(DESTDIR)$(PREFIX)/share/man/man1
+	install -m 755 build/ftmb $(DESTDIR)$(PREFIX)/bin/ftmb
+	install -m 644 docs/ftmb.1 $(DESTDIR)$(PREFIX)/share/man/man1/ftmb.1
+
 clean:
 	rm -rf build
+
+# Also what the kit keeps of its proofs, so that the next make proves from nothing.
+distclean: clean
+	rm -rf crates/*/out
