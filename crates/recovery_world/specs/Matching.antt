@@ -1,0 +1,32 @@
+-- When a released capture is matched by what a run sent out: each of its packets has an emission of its own.
+use Rattle.std.specs.Prelude.{◌≡◌, ℕ, ◌+◌, ◌*◌, ◌≤◌, ◌⊎◌, List, [], ◌∷◌}
+use Rattle.plain_text.specs.declared.packet.Packet.{Packet}
+use Rattle.plain_text.specs.declared.packet.Unit.{Unit as FractionUnit}
+use Rattle.plain_text.specs.declared.packet.Unit.TheVariants as unit
+use Rattle.plain_machine.specs.declared.emission.Emission.{Emission}
+
+-- the fraction of a second, in nanoseconds
+abbrev pub nanoseconds : FractionUnit → Packet → ℕ
+nanoseconds unit.Micro p = p.fraction * 1000
+nanoseconds unit.Nano p = p.fraction
+
+-- Two packets, with fractions in these units, have the same time, original length and bytes.
+pub record IsSame (u : FractionUnit) (p : Packet) (v : FractionUnit) (q : Packet) : Type 0 where
+  pub seconds : p.seconds ≡ q.seconds
+  pub fraction : nanoseconds u p ≡ nanoseconds v q
+  pub original : p.original ≡ q.original
+  pub bytes : p.bytes ≡ q.bytes
+
+-- so many of the packets, and of the emissions, are the same as this packet
+abbrev pub IsPacketCount : FractionUnit → Packet → List Packet → ℕ → Type 0
+IsPacketCount u p [] n = n ≡ 0
+IsPacketCount u p (q ∷ packets) n = (IsSame u p u q × (k : ℕ) × (n ≡ k + 1) × IsPacketCount u p packets k) ⊎ ((IsSame u p u q → ⊥) × IsPacketCount u p packets n)
+
+abbrev pub IsEmissionCount : FractionUnit → Packet → FractionUnit → List Emission → ℕ → Type 0
+IsEmissionCount u p v [] n = n ≡ 0
+IsEmissionCount u p v (o ∷ sent) n =
+    (IsSame u p v o.packet × (k : ℕ) × (n ≡ k + 1) × IsEmissionCount u p v sent k) ⊎ ((IsSame u p v o.packet → ⊥) × IsEmissionCount u p v sent n)
+
+-- no packet stands more often in the capture than among the emissions
+abbrev pub IsMatched : FractionUnit → List Packet → FractionUnit → List Emission → Type 0
+IsMatched u packets v sent = (p : Packet) (k n : ℕ) → IsPacketCount u p packets k → IsEmissionCount u p v sent n → k ≤ n
