@@ -12,10 +12,10 @@ use Rattle.world_io.specs.declared.world.OpenFault.{OpenFault}
 use Rattle.world_io.specs.declared.world.OpenFault.TheVariants as fault
 use Rattle.world_io.specs.Stream.{filled_bytes, EndsAtEnd, put_bytes}
 use Rattle.world_io.specs.Files.{file_of, is_opened, is_created, left_in, sent_to, name_in, TakesFromFile}
-use Rattle.world_io.specs.Calls.{next_fails, counted}
+use Rattle.world_io.specs.Calls.{CallCount, next_fails, counted, after_call, NoneIsToFail}
 use Rattle.world_io.specs.World.{Shown, KeepsLedgerReading, KeepsLedgerWriting, WritesFile}
 use Rattle.world_io.specs.OneFile.{WritesFile-nothing}
-use Rattle.world_io.specs.Memory.{Memory, Opens, Fills, Creates, Puts, after_read, after_read_fault, after_write, after_write_fault, shown_of, ledger_of}
+use Rattle.world_io.specs.Memory.{Memory, IsHealthy, Opens, Fills, Creates, Puts, after_read, after_read_fault, after_write, after_write_fault, shown_of, ledger_of}
 use Rattle.world_io.proofs.FilesLemmas.{TakesFromFile-nothing, seen_alike-set, file_of-set_same, file_of-set_other}
 
 pub Fills-passed : (old : Memory) (file : ℕ) (r : Filled) (piece : List ℕ) (files : List MemoryFile) → next_fails old.reading ≡ false → r ≢ Failed
@@ -32,7 +32,22 @@ suc-eqb k = grind (arith, nat_tests)
 le-counted : (n : ℕ) → n ≤ counted n
 le-counted n = elim (eqb n (2 ^ 64 - 1)) as (λ b. n ≤ cond b n (n + 1)) [ true ↦ omega arith | false ↦ omega arith ]
 
+-- after one more call fewer are still to come
+NoneIsToFail-after : (calls : CallCount) → NoneIsToFail calls → NoneIsToFail (after_call calls)
+NoneIsToFail-after calls none made later = none made (omega (arith, le-counted calls.made, later))
+
 module _ (old new : Memory) where
+  after_read-healthy : new ≡ after_read old → IsHealthy old → IsHealthy new
+  after_read-healthy e well = subst IsHealthy (sym e) (NoneIsToFail-after old.reading well.0, well.1)
+
+  after_read_fault-healthy : new ≡ after_read_fault old → IsHealthy old → IsHealthy new
+  after_read_fault-healthy e well = subst IsHealthy (sym e) (NoneIsToFail-after old.reading well.0, well.1)
+
+  pub Opens-healthy : (name : List ℕ) (r : Result ℕ OpenFault) → Opens old name r new → IsHealthy old → IsHealthy new
+  Opens-healthy name (Ok file) h well = subst IsHealthy (sym h.2.2) (NoneIsToFail-after old.reading well.0, well.1)
+  Opens-healthy name (Err fault.Failed) h well = after_read_fault-healthy h.1 well
+  Opens-healthy name (Err fault.NoMemory) h well = after_read-healthy h.1 well
+
   after_read-keeps : new ≡ after_read old → KeepsLedgerReading (ledger_of old) (ledger_of new)
   after_read-keeps e =
       let P : Memory → Type 0 = λ m. KeepsLedgerReading (ledger_of old) (ledger_of m) in

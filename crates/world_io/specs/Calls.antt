@@ -1,5 +1,5 @@
 -- The calls of one kind, reading or writing, that a world in memory had.
-use Rattle.std.specs.Prelude.{ℕ, ◌+◌, ◌-◌, ◌^◌, ◌==◌, if◌then◌else◌, Bool, List}
+use Rattle.std.specs.Prelude.{◌≡◌, ℕ, ◌+◌, ◌-◌, ◌^◌, ◌≤◌, ◌==◌, if◌then◌else◌, Bool, false, List, [], ◌∷◌, ◌++◌}
 use Rattle.std.specs.List.{list_any}
 
 -- how many were made, the numbers of those that fail, and how many failed
@@ -21,3 +21,11 @@ after_call calls = record calls { made = counted calls.made }
 
 abbrev pub after_fault : CallCount → CallCount
 after_fault calls = record calls { made = counted calls.made; faults = counted calls.faults }
+
+-- the call of this number fails too
+abbrev pub with_failing : ℕ → CallCount → CallCount
+with_failing nth calls = record calls { failing = calls.failing ++ nth ∷ [] }
+
+-- none of the calls that are still to come is one that fails, however many will have been made before it
+abbrev pub NoneIsToFail : CallCount → Type 0
+NoneIsToFail calls = (made : ℕ) → calls.made ≤ made → next_fails (record calls { made = made }) ≡ false

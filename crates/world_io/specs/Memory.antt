@@ -12,7 +12,7 @@ use Rattle.world_io.specs.declared.world.OpenFault.TheVariants.{Failed, NoMemory
 use Rattle.world_io.specs.Stream.{filled_bytes, EndsAtEnd}
 use Rattle.world_io.specs.Names.{bytes_under, SetsName, AppendsToName}
 use Rattle.world_io.specs.Files.{file_of, is_opened, is_created, left_in, sent_to, name_in, TakesFromFile, SendsToFile}
-use Rattle.world_io.specs.Calls.{CallCount, next_fails, after_call, after_fault}
+use Rattle.world_io.specs.Calls.{CallCount, next_fails, after_call, after_fault, NoneIsToFail}
 use Rattle.world_io.specs.World.{Shown, Ledger}
 
 -- the names with their bytes, the files in the order of their numbers, the report, and the calls of reading and of writing
@@ -28,6 +28,10 @@ no_calls = record { made = 0; failing = []; faults = 0 }
 
 abbrev pub empty_memory : Memory
 empty_memory = record { names = []; files = []; report = []; reading = no_calls; writing = no_calls }
+
+-- no call that is still to come was told to fail
+abbrev pub IsHealthy : Memory → Type 0
+IsHealthy m = NoneIsToFail m.reading × NoneIsToFail m.writing
 
 abbrev pub shown_of : Memory → Shown
 shown_of m = record {

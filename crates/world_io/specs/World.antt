@@ -1,7 +1,4 @@
 -- What a world of files shows, and what its calls do to it.
---
--- A told byte is a bare number: no law says that it is below 256. It is known to be a byte where code has held it,
--- as in the piece of a fill.
 use Rattle.std.specs.Prelude.{◌≡◌, ◌⊎◌, ◌||◌, nat_eq, ℕ, ◌+◌, ◌≤◌, Bool, true, false, List, [], ◌++◌, Option, Some}
 use Rattle.world_io.specs.declared.stream.Filled.{Filled}
 use Rattle.world_io.specs.declared.stream.Filled.TheVariants.{Got, End, Failed}
@@ -78,7 +75,7 @@ pub record OpensFile (name : List ℕ) (file : ℕ) (old new : Shown) : Type 0 w
   pub sent : new.sent ≡ old.sent
   pub name_of : new.name_of ≡ old.name_of
 
--- these bytes were taken from the front of what this file had left
+-- these were the next bytes of what this file had left, and were taken
 pub record ReadsFile (file : ℕ) (taken : List ℕ) (old new : Shown) : Type 0 where
   pub left : old.left file ≡ taken ++ new.left file
   pub other_left : (k : ℕ) → ¬ (k ≡ file) → new.left k ≡ old.left k

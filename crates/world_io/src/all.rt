@@ -1,45 +1,65 @@
-ghost use Rattle.std.specs.Prelude.{◌≡◌, ◌≤◌, IsTrue};
+ghost use Rattle.std.specs.Prelude.{◌≡◌, ◌≤◌, ◌++◌, IsTrue, IsErrOf, IfOk, OnOk};
+ghost use Rattle.plain_text.specs.Octets.{AreBytes};
 ghost use Rattle.world_io.specs.Stream.{Rose};
 ghost use Rattle.world_io.specs.All.{ReadsAll, ReadsToEnd, WritesAll, WriteFailed};
 
 use crate::{Filled, Put, Sink, Source};
-use plain_text::Bytes;
+use plain_text::{Bytes, NoMemory};
 use std::alloc::Global;
+use thiserror::Error;
 
 /// The bytes that are asked of a source at once.
 const PIECE: usize = 8_192;
 
-/// What reading all of a source gave.
-#[derive(Debug, Drop)]
-pub enum ReadAll {
-    /// All that was left.
-    All(Bytes),
+/// Why not all of a source was read.
+#[derive(Clone, Copy, Debug, PartialEq, Eq, Error)]
+pub enum ReadError {
     /// More than the limit was left.
+    #[error("too large")]
     TooLarge,
-    /// Reading failed.
+    /// Reading failed, and the source's count of faults rose.
+    #[error("read fault")]
     Failed,
+    #[error("no memory")]
     NoMemory,
 }
 
-/// What writing all of some bytes did.
-#[derive(Clone, Copy, Debug, PartialEq, Eq)]
-pub enum WriteAll {
-    /// All were appended.
-    All,
-    /// Writing failed after so many of them, which were appended.
+impl From<NoMemory> for ReadError {
+    ghost use Rattle.std.specs.Prelude.{◌≡◌};
+    ghost use Rattle.world_io.specs.declared.all.ReadError.TheVariants as error;
+
+    ghost from_gives = { λ _ e. e ≡ error.NoMemory };
+
+    fn from(_: NoMemory) -> Self {
+        ReadError::NoMemory
+    }
+}
+
+/// Why not all of some bytes were written.
+#[derive(Clone, Copy, Debug, PartialEq, Eq, Error)]
+pub enum WriteError {
+    /// Writing failed, and the sink's count of faults rose. This number of the first bytes was appended.
+    #[error("write fault after {0} bytes")]
     Failed(usize),
-    /// There was no memory after so many of them, which were appended.
+    /// This number of the first bytes was appended.
+    #[error("no memory after {0} bytes")]
     NoMemory(usize),
 }
 
-/// Reads all that is left, if that is at most so many bytes.
+/// Reads all that is left, if that is at most the limit.
 ///
-/// Where more is left, it has taken the limit and one byte more, which shows that there is more.
-pub fn read_all<S: Source>(alloc: Global, source: &mut S, limit: u64) -> ReadAll
+/// Where more is left, it has taken the limit and one byte more, which shows that there is more. After any other error
+/// some bytes may have been taken, and these are lost.
+pub fn read_all<S: Source>(alloc: Global, source: &mut S, limit: u64) -> Result<Bytes, ReadError>
     ensures reads { ReadsAll S.reads result limit source.old source.new }
-    ensures end { IsTrue S.tells → ReadsToEnd result limit (S.left source.old) (S.left source.new) }
+    ensures end { IsTrue S.tells
+        → ReadsToEnd result limit (S.left source.old) (S.left source.new) }
+    ensures bytes { IfOk result AreBytes }
     ensures later { S.faults source.old ≤ S.faults source.new }
-    ensures cause { result ≡ ReadAll.Failed → Rose (S.faults source.old) (S.faults source.new) }
+    ensures cause { IsErrOf result ReadError.Failed
+        → Rose (S.faults source.old) (S.faults source.new) }
+    ensures never_fails { S.healthy source.old → ¬ IsErrOf result ReadError.Failed }
+    ensures stays_healthy { S.healthy source.old → S.healthy source.new }
 {
     let mut bytes = Bytes::new(alloc);
     let mut room = limit;
@@ -47,34 +67,42 @@ pub fn read_all<S: Source>(alloc: Global, source: &mut S, limit: u64) -> ReadAll
     loop {
         let want = room.saturating_add(1).min(PIECE as u64) as usize;
         match source.fill(&mut piece[..want]) {
-            Filled::End => return ReadAll::All(bytes),
-            Filled::Failed => return ReadAll::Failed,
+            Filled::End => return Ok(bytes),
+            Filled::Failed => return Err(ReadError::Failed),
             Filled::Got(count) => {
                 if count as u64 > room {
-                    return ReadAll::TooLarge;
+                    return Err(ReadError::TooLarge);
                 }
-                if bytes.extend(&piece[..count]).is_err() {
-                    return ReadAll::NoMemory;
-                }
+                keep(&mut bytes, &piece[..count])?;
                 room -= count as u64;
             }
         }
     }
 }
 
+/// Appends what was read.
+fn keep(bytes: &mut Bytes, piece: &[u8]) -> Result<(), NoMemory>
+    ensures ok { OnOk result (bytes.new ≡ bytes.old ++ piece.now) }
+    ensures octets { AreBytes piece.now }
+{
+    bytes.extend(piece)
+}
+
 /// Appends all these bytes, or tells how many of them were appended.
-pub fn write_all<K: Sink>(sink: &mut K, bytes: &[u8]) -> WriteAll
+pub fn write_all<K: Sink>(sink: &mut K, bytes: &[u8]) -> Result<(), WriteError>
     ensures writes { WritesAll K.writes result bytes.now sink.old sink.new }
     ensures later { K.faults sink.old ≤ K.faults sink.new }
     ensures cause { WriteFailed result → Rose (K.faults sink.old) (K.faults sink.new) }
+    ensures never_fails { K.healthy sink.old → ¬ WriteFailed result }
+    ensures stays_healthy { K.healthy sink.old → K.healthy sink.new }
 {
     let mut done = 0;
     while done < bytes.len() {
         match sink.put(&bytes[done..]) {
             Put::Took(count) => done += count,
-            Put::Failed => return WriteAll::Failed(done),
-            Put::NoMemory => return WriteAll::NoMemory(done),
+            Put::Failed => return Err(WriteError::Failed(done)),
+            Put::NoMemory => return Err(WriteError::NoMemory(done)),
         }
     }
-    WriteAll::All
+    Ok(())
 }

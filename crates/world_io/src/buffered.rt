@@ -1,4 +1,4 @@
-ghost use Rattle.std.specs.Prelude.{◌≡◌, ◌≤◌, ◌<◌, ◌++◌, [], length, min, take, vec_len, IsTrue};
+ghost use Rattle.std.specs.Prelude.{◌≡◌, ◌≢◌, ◌≤◌, ◌<◌, ◌++◌, [], length, min, take, vec_len, IsTrue};
 ghost use Rattle.world_io.specs.Stream.{Rose, EndsAtEnd};
 ghost use Rattle.world_io.specs.Buffered.{HoldsSome};
 
@@ -79,6 +79,8 @@ impl<S: Source> BufferedSource<S> {
         ensures end { IsTrue S.tells → EndsAtEnd result (S.left self.old.0) }
         ensures later { S.faults self.old.0 ≤ S.faults self.new.0 }
         ensures cause { result ≡ Filled.Failed → Rose (S.faults self.old.0) (S.faults self.new.0) }
+        ensures never_fails { S.healthy self.old.0 → result ≢ Filled.Failed }
+        ensures stays_healthy { S.healthy self.old.0 → S.healthy self.new.0 }
     {
         let filled = self.source.fill(self.buffer.as_mut_slice());
         self.given = 0;
@@ -100,13 +102,17 @@ impl<S: Source> Source for BufferedSource<S> {
 
     ghost faults = { λ b. S.faults b.0 };
 
+    ghost healthy = { λ b. S.healthy b.0 };
+
     ghost reads = { λ a taken b. TakesThrough S.reads taken a b };
 
     ghost reads_nothing = { λ b. TakesThrough-nothing S.reads S.reads_nothing b };
 
-    ghost reads_more = { λ a b c front more r s. TakesThrough-more S.reads S.reads_more front more a b c r s };
+    ghost reads_more = { λ a b c first more r s.
+        TakesThrough-more S.reads S.reads_more first more a b c r s };
 
-    ghost reads_told = { λ a b taken told r. TakesThrough-told S.reads S.left (λ s t bytes. S.reads_told s t bytes told) taken a b r };
+    ghost reads_told = { λ a b taken told r.
+        TakesThrough-told S.reads S.left (λ s t bytes. S.reads_told s t bytes told) taken a b r };
 
     fn fill(&mut self, piece: &mut [u8]) -> Filled {
         if self.held() > 0 {

@@ -1,5 +1,5 @@
-ghost use Rattle.std.specs.Prelude.{◌≡◌, ◌++◌, ◌∷◌, [], IsTrue, OnOk, OnErr, false};
-ghost use Rattle.world_io.specs.Calls.{counted, next_fails, after_call, after_fault};
+ghost use Rattle.std.specs.Prelude.{◌≡◌, IsTrue, OnOk, OnErr, false};
+ghost use Rattle.world_io.specs.Calls.{counted, next_fails, after_call, after_fault, with_failing};
 ghost use Rattle.world_io.specs.Memory.{no_calls};
 
 use plain_text::NoMemory;
@@ -35,7 +35,7 @@ impl Calls {
 
     /// Makes the nth call fail.
     pub fn fail(&mut self, nth: u64) -> Result<(), NoMemory>
-        ensures ok { OnOk result (self.new ≡ record self.old { failing = self.old.failing ++ nth ∷ [] }) }
+        ensures ok { OnOk result (self.new ≡ with_failing nth self.old) }
         ensures err { OnErr result (self.new ≡ self.old) }
     {
         self.failing.push(nth)?;

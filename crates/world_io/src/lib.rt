@@ -14,7 +14,7 @@ mod tests;
 mod world;
 mod world_stream;
 
-pub use all::{ReadAll, WriteAll, read_all, write_all};
+pub use all::{ReadError, WriteError, read_all, write_all};
 pub use buffered::BufferedSource;
 pub use memory_world::MemoryWorld;
 pub use stream::{Filled, Put, Sink, SliceSource, Source};

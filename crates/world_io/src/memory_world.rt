@@ -1,10 +1,11 @@
-ghost use Rattle.std.specs.Prelude.{◌≡◌, ◌<◌, ◌-◌, ◌^◌, ◌⊎◌, ◌++◌, ◌∷◌, [], length, true, IsTrue, IfOk, OnOk, OnErr, IsErrOf};
+ghost use Rattle.std.specs.Prelude.{◌≡◌, ◌≢◌, ◌<◌, ◌-◌, ◌^◌, ◌⊎◌, ◌++◌, ◌∷◌, [], length, true, IsTrue, IfOk, OnOk, OnErr, IsErrOf, None};
 ghost use Rattle.std.specs.Option.{option_copied};
 ghost use Rattle.world_io.specs.Stream.{Rose, FillCount, filled_bytes, EndsAtEnd, PutCount, put_bytes};
 ghost use Rattle.world_io.specs.World.{KeepsLedgerReading, KeepsLedgerWriting, GivesOpened, GivesCreated, OpensFile, ReadsFile, CreatesFile, CreatesNothing, WritesFile, FilledNothing, PutNothing, is_writable};
 ghost use Rattle.world_io.specs.Names.{bytes_under, SetsName};
+ghost use Rattle.world_io.specs.Calls.{with_failing};
 ghost use Rattle.world_io.specs.Files.{file_of, is_opened, is_created};
-ghost use Rattle.world_io.specs.Memory.{empty_memory, shown_of, ledger_of, Opens, Fills, Creates, Sends, Puts};
+ghost use Rattle.world_io.specs.Memory.{empty_memory, IsHealthy, shown_of, ledger_of, Opens, Fills, Creates, Sends, Puts};
 
 use crate::calls::Calls;
 use crate::files::Files;
@@ -19,7 +20,7 @@ use std::marker::Model;
 /// Calls of `open_file` and `fill` are numbered together from 1, and so are those of `create_file` and `put`, over
 /// the world's life and whatever they answered. Numbers go up to 2^64 - 1, and every later call has this last
 /// number too. Opening a name that is not there fails. A file that was opened goes on with the bytes that its
-/// name had then.
+/// name had then. The world is healthy where none of the calls still to come is told to fail.
 #[derive(Debug, Drop)]
 pub struct MemoryWorld {
     alloc: Global,
@@ -41,7 +42,8 @@ impl Model for MemoryWorld {
 impl MemoryWorld {
     /// No names, an empty report, no calls and no faults.
     pub fn new(alloc: Global) -> Result<MemoryWorld, NoMemory>
-        ensures { IfOk result (λ world. world ≡ empty_memory) }
+        ensures empty { IfOk result (λ world. world ≡ empty_memory) }
+        ensures healthy { IfOk result IsHealthy }
     {
         Ok(MemoryWorld {
             alloc,
@@ -57,6 +59,7 @@ impl MemoryWorld {
     pub fn add(&mut self, name: &Text, bytes: Bytes) -> Result<(), NoMemory>
         ensures ok { OnOk result (SetsName name.now bytes self.old.names self.new.names) }
         ensures others { self.new ≡ record self.old { names = self.new.names } }
+        ensures stays_healthy { IsHealthy self.old → IsHealthy self.new }
         ensures err { OnErr result (self.new ≡ self.old) }
     {
         self.names.set(self.alloc, name, bytes)
@@ -64,7 +67,8 @@ impl MemoryWorld {
 
     /// Makes the nth call of `open_file` or `fill` fail.
     pub fn fail_read(&mut self, nth: u64) -> Result<(), NoMemory>
-        ensures ok { OnOk result (self.new ≡ record self.old { reading = record self.old.reading { failing = self.old.reading.failing ++ nth ∷ [] } }) }
+        ensures ok { OnOk result
+            (self.new ≡ record self.old { reading = with_failing nth self.old.reading }) }
         ensures err { OnErr result (self.new ≡ self.old) }
     {
         self.reading.fail(nth)
@@ -72,7 +76,8 @@ impl MemoryWorld {
 
     /// Makes the nth call of `create_file` or `put` fail.
     pub fn fail_write(&mut self, nth: u64) -> Result<(), NoMemory>
-        ensures ok { OnOk result (self.new ≡ record self.old { writing = record self.old.writing { failing = self.old.writing.failing ++ nth ∷ [] } }) }
+        ensures ok { OnOk result
+            (self.new ≡ record self.old { writing = with_failing nth self.old.writing }) }
         ensures err { OnErr result (self.new ≡ self.old) }
     {
         self.writing.fail(nth)
@@ -177,7 +182,7 @@ impl MemoryWorld {
 
 impl World for MemoryWorld {
     ghost use Rattle.std.specs.Prelude.{true};
-    ghost use Rattle.world_io.specs.Memory.{shown_of, ledger_of};
+    ghost use Rattle.world_io.specs.Memory.{IsHealthy, shown_of, ledger_of};
 
     ghost tells = { true };
 
@@ -185,13 +190,22 @@ impl World for MemoryWorld {
 
     ghost ledger = { ledger_of };
 
+    ghost healthy = { IsHealthy };
+
     fn open_file(&mut self, name: &Text) -> Result<u32, OpenFault>
         requires { (ledger_of self.old).given < 2 ^ 32 - 1 }
-        ensures told { IsTrue true → IfOk result (λ file. OpensFile name.now file (shown_of self.old) (shown_of self.new)) }
+        ensures told { IsTrue true
+            → IfOk result (λ file. OpensFile name.now file (shown_of self.old) (shown_of self.new)) }
         ensures told_err { IsTrue true → OnErr result (shown_of self.new ≡ shown_of self.old) }
-        ensures given { IfOk result (λ file. GivesOpened file (ledger_of self.old) (ledger_of self.new)) }
-        ensures not_given { OnErr result (KeepsLedgerReading (ledger_of self.old) (ledger_of self.new)) }
-        ensures cause { IsErrOf result OpenFault.Failed → Rose (ledger_of self.old).read_faults (ledger_of self.new).read_faults }
+        ensures given { IfOk result
+            (λ file. GivesOpened file (ledger_of self.old) (ledger_of self.new)) }
+        ensures not_given { OnErr result
+            (KeepsLedgerReading (ledger_of self.old) (ledger_of self.new)) }
+        ensures cause { IsErrOf result OpenFault.Failed
+            → Rose (ledger_of self.old).read_faults (ledger_of self.new).read_faults }
+        ensures there { IsHealthy self.old → IsTrue true
+            → IsErrOf result OpenFault.Failed → (shown_of self.old).names name.now ≡ None }
+        ensures stays_healthy { IsHealthy self.old → IsHealthy self.new }
 
         // Beyond any world: when it fails, and what it does to the plain data.
         ensures opens { Opens self.old name.now result self.new }
@@ -202,11 +216,16 @@ impl World for MemoryWorld {
     fn fill(&mut self, file: u32, piece: &mut [u8]) -> Filled
         requires { IsTrue ((ledger_of self.old).opened file) }
         ensures count { FillCount result (length piece.old) }
-        ensures told { IsTrue true → ReadsFile file (filled_bytes result piece.new) (shown_of self.old) (shown_of self.new) }
-        ensures told_nothing { IsTrue true → FilledNothing result → shown_of self.new ≡ shown_of self.old }
+        ensures told { IsTrue true
+            → ReadsFile file (filled_bytes result piece.new) (shown_of self.old) (shown_of self.new) }
+        ensures told_nothing { IsTrue true
+            → FilledNothing result → shown_of self.new ≡ shown_of self.old }
         ensures end { IsTrue true → EndsAtEnd result ((shown_of self.old).left file) }
         ensures ledger { KeepsLedgerReading (ledger_of self.old) (ledger_of self.new) }
-        ensures cause { result ≡ Filled.Failed → Rose (ledger_of self.old).read_faults (ledger_of self.new).read_faults }
+        ensures cause { result ≡ Filled.Failed
+            → Rose (ledger_of self.old).read_faults (ledger_of self.new).read_faults }
+        ensures never_fails { IsHealthy self.old → result ≢ Filled.Failed }
+        ensures stays_healthy { IsHealthy self.old → IsHealthy self.new }
 
         // Beyond any world: when it fails, and what it does to the plain data.
         ensures fills { Fills self.old file result piece.new self.new }
@@ -216,11 +235,18 @@ impl World for MemoryWorld {
 
     fn create_file(&mut self, name: &Text) -> Result<u32, OpenFault>
         requires { (ledger_of self.old).given < 2 ^ 32 - 1 }
-        ensures told { IsTrue true → IfOk result (λ file. CreatesFile name.now file (shown_of self.old) (shown_of self.new)) }
-        ensures told_err { IsTrue true → OnErr result (CreatesNothing name.now (shown_of self.old) (shown_of self.new)) }
-        ensures given { IfOk result (λ file. GivesCreated file (ledger_of self.old) (ledger_of self.new)) }
-        ensures not_given { OnErr result (KeepsLedgerWriting (ledger_of self.old) (ledger_of self.new)) }
-        ensures cause { IsErrOf result OpenFault.Failed → Rose (ledger_of self.old).write_faults (ledger_of self.new).write_faults }
+        ensures told { IsTrue true
+            → IfOk result (λ file. CreatesFile name.now file (shown_of self.old) (shown_of self.new)) }
+        ensures told_err { IsTrue true
+            → OnErr result (CreatesNothing name.now (shown_of self.old) (shown_of self.new)) }
+        ensures given { IfOk result
+            (λ file. GivesCreated file (ledger_of self.old) (ledger_of self.new)) }
+        ensures not_given { OnErr result
+            (KeepsLedgerWriting (ledger_of self.old) (ledger_of self.new)) }
+        ensures cause { IsErrOf result OpenFault.Failed
+            → Rose (ledger_of self.old).write_faults (ledger_of self.new).write_faults }
+        ensures never_fails { IsHealthy self.old → ¬ IsErrOf result OpenFault.Failed }
+        ensures stays_healthy { IsHealthy self.old → IsHealthy self.new }
 
         // Beyond any world: when it fails, and what it does to the plain data.
         ensures creates { Creates self.old name.now result self.new }
@@ -231,10 +257,15 @@ impl World for MemoryWorld {
     fn put(&mut self, file: u32, piece: &[u8]) -> Put
         requires { IsTrue (is_writable (ledger_of self.old) file) }
         ensures count { PutCount result (length piece.now) }
-        ensures told { IsTrue true → WritesFile file (put_bytes result piece.now) (shown_of self.old) (shown_of self.new) }
-        ensures told_nothing { IsTrue true → PutNothing result → shown_of self.new ≡ shown_of self.old }
+        ensures told { IsTrue true
+            → WritesFile file (put_bytes result piece.now) (shown_of self.old) (shown_of self.new) }
+        ensures told_nothing { IsTrue true
+            → PutNothing result → shown_of self.new ≡ shown_of self.old }
         ensures ledger { KeepsLedgerWriting (ledger_of self.old) (ledger_of self.new) }
-        ensures cause { result ≡ Put.Failed → Rose (ledger_of self.old).write_faults (ledger_of self.new).write_faults }
+        ensures cause { result ≡ Put.Failed
+            → Rose (ledger_of self.old).write_faults (ledger_of self.new).write_faults }
+        ensures never_fails { IsHealthy self.old → result ≢ Put.Failed }
+        ensures stays_healthy { IsHealthy self.old → IsHealthy self.new }
 
         // Beyond any world: when it fails, and what it does to the plain data.
         ensures puts { Puts self.old file result piece.now self.new }

@@ -1,4 +1,4 @@
-ghost use Rattle.std.specs.Prelude.{◌≡◌, ◌≤◌, ◌++◌, [], Bool, true, IsTrue, List, ℕ, length};
+ghost use Rattle.std.specs.Prelude.{◌≡◌, ◌≢◌, ◌≤◌, ◌++◌, [], Bool, true, IsTrue, List, ℕ, length};
 ghost use Rattle.world_io.specs.Stream.{Rose, FillCount, filled_bytes, EndsAtEnd, PutCount, put_bytes};
 
 use std::marker::Model;
@@ -6,7 +6,8 @@ use std::marker::Model;
 /// What a fill did.
 #[derive(Clone, Copy, Debug, PartialEq, Eq)]
 pub enum Filled {
-    /// So many bytes stand at the front of the piece; at least one, unless the piece is empty.
+    /// The number of bytes that were put into the piece, from its first byte on; at least one, unless the piece is
+    /// empty.
     Got(usize),
     /// Nothing was left.
     End,
@@ -17,7 +18,7 @@ pub enum Filled {
 /// What a put did.
 #[derive(Clone, Copy, Debug, PartialEq, Eq)]
 pub enum Put {
-    /// So many bytes from the front of the piece were appended; at least one, unless the piece is empty.
+    /// The number of the piece's first bytes that were appended; at least one, unless the piece is empty.
     Took(usize),
     /// Writing failed, and appended nothing.
     Failed,
@@ -25,10 +26,11 @@ pub enum Put {
     NoMemory,
 }
 
-/// Bytes to be read from the front, in pieces of any size.
+/// Bytes to be read in order, in pieces of any size.
 ///
 /// A source may tell its bytes or not, as a real file. What a call took is known either way, since it stands in
-/// the piece; what is left is known only where it is told.
+/// the piece; what is left is known only where it is told. A source may say that it is healthy: then no call fails,
+/// and it stays healthy.
 pub trait Source {
     /// Whether it tells its bytes.
     ghost tells: { Bool };
@@ -42,22 +44,29 @@ pub trait Source {
     /// From the one state to the other these bytes were taken, and all else but the count of faults stays.
     ghost reads: { Self → List ℕ → Self → Type 0 };
 
-    /// Takes the next bytes into the front of the piece.
+    /// That no call fails from here on.
+    ghost healthy: { Self → Type 0 };
+
+    /// Takes the next bytes into the piece, from its first byte on.
     fn fill(&mut self, piece: &mut [u8]) -> Filled
         ensures count { FillCount result (length piece.old) }
         ensures reads { reads self.old (filled_bytes result piece.new) self.new }
         ensures end { IsTrue tells → EndsAtEnd result (left self.old) }
         ensures later { faults self.old ≤ faults self.new }
-        ensures cause { result ≡ Filled.Failed → Rose (faults self.old) (faults self.new) };
+        ensures cause { result ≡ Filled.Failed → Rose (faults self.old) (faults self.new) }
+        ensures never_fails { healthy self.old → result ≢ Filled.Failed }
+        ensures stays_healthy { healthy self.old → healthy self.new };
 
     ghost reads_nothing: { (s : Self) → reads s [] s };
 
-    ghost reads_more: { (a b c : Self) (front more : List ℕ) → reads a front b → reads b more c → reads a (front ++ more) c };
+    ghost reads_more: { (a b c : Self) (first more : List ℕ)
+        → reads a first b → reads b more c → reads a (first ++ more) c };
 
-    ghost reads_told: { (a b : Self) (taken : List ℕ) → IsTrue tells → reads a taken b → left a ≡ taken ++ left b };
+    ghost reads_told: { (a b : Self) (taken : List ℕ)
+        → IsTrue tells → reads a taken b → left a ≡ taken ++ left b };
 }
 
-/// A place to append bytes to.
+/// A place to append bytes to. A sink may say that it is healthy: then no call fails, and it stays healthy.
 pub trait Sink {
     /// Whether it tells its bytes.
     ghost tells: { Bool };
@@ -71,18 +80,25 @@ pub trait Sink {
     /// From the one state to the other these bytes were appended, and all else but the count of faults stays.
     ghost writes: { Self → List ℕ → Self → Type 0 };
 
-    /// Appends the front of the piece.
+    /// That no call fails from here on.
+    ghost healthy: { Self → Type 0 };
+
+    /// Appends the first bytes of the piece.
     fn put(&mut self, piece: &[u8]) -> Put
         ensures count { PutCount result (length piece.now) }
         ensures writes { writes self.old (put_bytes result piece.now) self.new }
         ensures later { faults self.old ≤ faults self.new }
-        ensures cause { result ≡ Put.Failed → Rose (faults self.old) (faults self.new) };
+        ensures cause { result ≡ Put.Failed → Rose (faults self.old) (faults self.new) }
+        ensures never_fails { healthy self.old → result ≢ Put.Failed }
+        ensures stays_healthy { healthy self.old → healthy self.new };
 
     ghost writes_nothing: { (s : Self) → writes s [] s };
 
-    ghost writes_more: { (a b c : Self) (front more : List ℕ) → writes a front b → writes b more c → writes a (front ++ more) c };
+    ghost writes_more: { (a b c : Self) (first more : List ℕ)
+        → writes a first b → writes b more c → writes a (first ++ more) c };
 
-    ghost writes_told: { (a b : Self) (added : List ℕ) → IsTrue tells → writes a added b → written b ≡ written a ++ added };
+    ghost writes_told: { (a b : Self) (added : List ℕ)
+        → IsTrue tells → writes a added b → written b ≡ written a ++ added };
 }
 
 /// A source that is lent is a source. What it read is known of the source afterwards.
@@ -96,11 +112,13 @@ impl<'a, S: Source> Source for &'a mut S {
 
     ghost faults = { λ s. S.faults s.now };
 
+    ghost healthy = { λ s. S.healthy s.now };
+
     ghost reads = { λ a taken b. (b.ghost_name ≡ a.ghost_name) × S.reads a.now taken b.now };
 
     ghost reads_nothing = { λ s. (refl, S.reads_nothing s.now) };
 
-    ghost reads_more = { λ a b c front more r s. (s.0 ∙ r.0, S.reads_more a.now b.now c.now front more r.1 s.1) };
+    ghost reads_more = { λ a b c first more r s. (s.0 ∙ r.0, S.reads_more a.now b.now c.now first more r.1 s.1) };
 
     ghost reads_told = { λ a b taken told r. S.reads_told a.now b.now taken told r.1 };
 
@@ -120,11 +138,13 @@ impl<'a, K: Sink> Sink for &'a mut K {
 
     ghost faults = { λ s. K.faults s.now };
 
+    ghost healthy = { λ s. K.healthy s.now };
+
     ghost writes = { λ a added b. (b.ghost_name ≡ a.ghost_name) × K.writes a.now added b.now };
 
     ghost writes_nothing = { λ s. (refl, K.writes_nothing s.now) };
 
-    ghost writes_more = { λ a b c front more r s. (s.0 ∙ r.0, K.writes_more a.now b.now c.now front more r.1 s.1) };
+    ghost writes_more = { λ a b c first more r s. (s.0 ∙ r.0, K.writes_more a.now b.now c.now first more r.1 s.1) };
 
     ghost writes_told = { λ a b added told r. K.writes_told a.now b.now added told r.1 };
 
@@ -157,7 +177,7 @@ impl<'a> SliceSource<'a> {
 }
 
 impl<'a> Source for SliceSource<'a> {
-    ghost use Rattle.std.specs.Prelude.{◌≡◌, ◌++◌, true, refl};
+    ghost use Rattle.std.specs.Prelude.{◌≡◌, ◌++◌, true, ⊤, refl};
     ghost use Rattle.std.proofs.Common.{◌∙◌, sym, ap, append_assoc};
 
     ghost tells = { true };
@@ -166,11 +186,14 @@ impl<'a> Source for SliceSource<'a> {
 
     ghost faults = { λ _. 0 };
 
+    ghost healthy = { λ _. ⊤ };
+
     ghost reads = { λ a taken b. a ≡ taken ++ b };
 
     ghost reads_nothing = { λ _. refl };
 
-    ghost reads_more = { λ a b c front more first second. first ∙ ap (λ l. front ++ l) second ∙ sym (append_assoc front more c) };
+    ghost reads_more = { λ a b c first more r s.
+        r ∙ ap (λ l. first ++ l) s ∙ sym (append_assoc first more c) };
 
     ghost reads_told = { λ a b taken _ r. r };
 

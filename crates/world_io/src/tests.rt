@@ -1,8 +1,8 @@
 ghost use Rattle.std.specs.Prelude.{◌≡◌, ◌+◌, ◌<◌, ◌≤◌, IfOk, List, ℕ, length, vec_len};
 
 use crate::{
-    BufferedSource, Filled, MemoryWorld, OpenFault, ReadAll, SliceSource, Source, World, WorldSink,
-    WorldSource, WriteAll, read_all, write_all,
+    BufferedSource, Filled, MemoryWorld, OpenFault, ReadError, SliceSource, Source, World,
+    WorldSink, WorldSource, WriteError, read_all, write_all,
 };
 use plain_text::{Bytes, NoMemory, Text};
 use std::alloc::Global;
@@ -16,7 +16,7 @@ struct Counting<'a> {
 }
 
 impl<'a> Source for Counting<'a> {
-    ghost use Rattle.std.specs.Prelude.{◌≡◌, ◌++◌, true, refl};
+    ghost use Rattle.std.specs.Prelude.{◌≡◌, ◌++◌, true, ⊤, refl};
     ghost use Rattle.std.proofs.Common.{◌∙◌, sym, ap, append_assoc};
 
     ghost tells = { true };
@@ -25,11 +25,14 @@ impl<'a> Source for Counting<'a> {
 
     ghost faults = { λ _. 0 };
 
+    ghost healthy = { λ _. ⊤ };
+
     ghost reads = { λ a taken b. a.below ≡ taken ++ b.below };
 
     ghost reads_nothing = { λ _. refl };
 
-    ghost reads_more = { λ a b c front more first second. first ∙ ap (λ l. front ++ l) second ∙ sym (append_assoc front more c.below) };
+    ghost reads_more = { λ a b c first more r s.
+        r ∙ ap (λ l. first ++ l) s ∙ sym (append_assoc first more c.below) };
 
     ghost reads_told = { λ a b taken _ r. r };
 
@@ -40,7 +43,11 @@ impl<'a> Source for Counting<'a> {
 }
 
 /// Reads what is left of a source that is lent, through a buffer: what was taken is known of the source.
-fn read_through<S: Source>(alloc: Global, source: &mut S, buffer: Vec<u8>) -> ReadAll
+fn read_through<S: Source>(
+    alloc: Global,
+    source: &mut S,
+    buffer: Vec<u8>,
+) -> Result<Bytes, ReadError>
     requires { 0 < vec_len buffer }
     ensures { (taken : List ℕ) × S.reads source.old taken source.new }
 {
@@ -50,25 +57,30 @@ fn read_through<S: Source>(alloc: Global, source: &mut S, buffer: Vec<u8>) -> Re
     all
 }
 
-fn read_name<W: World>(alloc: Global, world: &mut W, name: &Text, limit: u64) -> ReadAll
+fn read_name<W: World>(
+    alloc: Global,
+    world: &mut W,
+    name: &Text,
+    limit: u64,
+) -> Result<Bytes, ReadError>
     requires { (W.ledger world.old).given < 1000 }
     ensures { (W.ledger world.new).given ≤ (W.ledger world.old).given + 1 }
 {
     match world.open_file(name) {
         Ok(file) => read_all(alloc, &mut WorldSource::of(world, file), limit),
-        Err(OpenFault::Failed) => ReadAll::Failed,
-        Err(OpenFault::NoMemory) => ReadAll::NoMemory,
+        Err(OpenFault::Failed) => Err(ReadError::Failed),
+        Err(OpenFault::NoMemory) => Err(ReadError::NoMemory),
     }
 }
 
-fn write_name<W: World>(world: &mut W, name: &Text, bytes: &[u8]) -> WriteAll
+fn write_name<W: World>(world: &mut W, name: &Text, bytes: &[u8]) -> Result<(), WriteError>
     requires { (W.ledger world.old).given < 1000 }
     ensures { (W.ledger world.new).given ≤ (W.ledger world.old).given + 1 }
 {
     match world.create_file(name) {
         Ok(file) => write_all(&mut WorldSink::of(world, file), bytes),
-        Err(OpenFault::Failed) => WriteAll::Failed(0),
-        Err(OpenFault::NoMemory) => WriteAll::NoMemory(0),
+        Err(OpenFault::Failed) => Err(WriteError::Failed(0)),
+        Err(OpenFault::NoMemory) => Err(WriteError::NoMemory(0)),
     }
 }
 
@@ -87,7 +99,10 @@ fn reading_fails(alloc: Global, nth: u64) -> Result<bool, NoMemory> {
     let mut world = world_of_one(alloc)?;
     world.fail_read(nth)?;
     let name = Text::of(alloc, "in")?;
-    Ok(matches!(read_name(alloc, &mut world, &name, 10), ReadAll::Failed))
+    Ok(matches!(
+        read_name(alloc, &mut world, &name, 10),
+        Err(ReadError::Failed)
+    ))
 }
 
 /// How many bytes "out" has after it was written, where this call of writing is told to fail.
@@ -104,8 +119,8 @@ fn read_length(alloc: Global, limit: u64) -> Result<Option<usize>, NoMemory> {
     let mut world = world_of_one(alloc)?;
     let name = Text::of(alloc, "in")?;
     match read_name(alloc, &mut world, &name, limit) {
-        ReadAll::All(bytes) => Ok(Some(bytes.len())),
-        ReadAll::TooLarge | ReadAll::Failed | ReadAll::NoMemory => Ok(None),
+        Ok(bytes) => Ok(Some(bytes.len())),
+        Err(_) => Ok(None),
     }
 }
 
@@ -137,7 +152,7 @@ fn fails_where_writing_is_told_to(rt: HostRuntime) -> Result<(), Fail> {
 fn writes_the_report(rt: HostRuntime) -> Result<(), Fail> {
     let mut world = MemoryWorld::new(rt.alloc())?;
     let answer = write_all(&mut WorldSink::of(&mut world, 0), b"done");
-    assert_eq!(rt; answer, WriteAll::All);
+    assert_eq!(rt; answer, Ok(()));
     assert_eq!(rt; world.report(), b"done".as_slice());
     Ok(())
 }
@@ -166,7 +181,7 @@ fn asks_for_large_pieces(rt: HostRuntime) -> Result<(), Fail> {
     assert!(rt;
         matches!(
             read_through(alloc, &mut rest, vec![in alloc; 0u8; 64]?),
-            ReadAll::All(_)
+            Ok(_)
         )
     );
     Ok(())

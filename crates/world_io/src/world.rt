@@ -1,4 +1,4 @@
-ghost use Rattle.std.specs.Prelude.{◌≡◌, ◌<◌, ◌-◌, ◌^◌, Bool, IsTrue, length, IfOk, OnErr, IsErrOf};
+ghost use Rattle.std.specs.Prelude.{◌≡◌, ◌≢◌, ◌<◌, ◌-◌, ◌^◌, Bool, IsTrue, length, IfOk, OnErr, IsErrOf, None};
 ghost use Rattle.world_io.specs.Stream.{Rose, FillCount, filled_bytes, EndsAtEnd, PutCount, put_bytes};
 ghost use Rattle.world_io.specs.World.{Shown, Ledger, KeepsLedgerReading, KeepsLedgerWriting, GivesOpened, GivesCreated, OpensFile, ReadsFile, CreatesFile, CreatesNothing, WritesFile, FilledNothing, PutNothing, is_writable};
 
@@ -29,6 +29,9 @@ impl From<NoMemory> for OpenFault {
 /// A world may tell its bytes or not, as that of the real files. Whether it does or not, it shows which numbers
 /// it gave to files that it opened and created, and how often reading and writing failed. A count that stands at
 /// 2^64 - 1 stays there.
+///
+/// A world may say that it is healthy: then no call fails, but for opening a name that is not there, and it stays
+/// healthy. The world of the real files never says so.
 pub trait World {
     /// Whether it tells its bytes.
     ghost tells: { Bool };
@@ -39,40 +42,61 @@ pub trait World {
     /// The numbers that it gave, and the counts of its faults.
     ghost ledger: { Self → Ledger };
 
+    /// That no call fails from here on, but for opening a name that is not there.
+    ghost healthy: { Self → Type 0 };
+
     /// Starts reading a name at its first byte. The file has a number of its own, which is not 0.
     fn open_file(&mut self, name: &Text) -> Result<u32, OpenFault>
         requires { (ledger self.old).given < 2 ^ 32 - 1 }
-        ensures told { IsTrue tells → IfOk result (λ file. OpensFile name.now file (shown self.old) (shown self.new)) }
+        ensures told { IsTrue tells
+            → IfOk result (λ file. OpensFile name.now file (shown self.old) (shown self.new)) }
         ensures told_err { IsTrue tells → OnErr result (shown self.new ≡ shown self.old) }
         ensures given { IfOk result (λ file. GivesOpened file (ledger self.old) (ledger self.new)) }
         ensures not_given { OnErr result (KeepsLedgerReading (ledger self.old) (ledger self.new)) }
-        ensures cause { IsErrOf result OpenFault.Failed → Rose (ledger self.old).read_faults (ledger self.new).read_faults };
+        ensures cause { IsErrOf result OpenFault.Failed
+            → Rose (ledger self.old).read_faults (ledger self.new).read_faults }
+        ensures there { healthy self.old → IsTrue tells
+            → IsErrOf result OpenFault.Failed → (shown self.old).names name.now ≡ None }
+        ensures stays_healthy { healthy self.old → healthy self.new };
 
-    /// Takes the next bytes of an opened file into the front of the piece.
+    /// Takes the next bytes of an opened file into the piece, from its first byte on.
     fn fill(&mut self, file: u32, piece: &mut [u8]) -> Filled
         requires { IsTrue ((ledger self.old).opened file) }
         ensures count { FillCount result (length piece.old) }
-        ensures told { IsTrue tells → ReadsFile file (filled_bytes result piece.new) (shown self.old) (shown self.new) }
+        ensures told { IsTrue tells
+            → ReadsFile file (filled_bytes result piece.new) (shown self.old) (shown self.new) }
         ensures told_nothing { IsTrue tells → FilledNothing result → shown self.new ≡ shown self.old }
         ensures end { IsTrue tells → EndsAtEnd result ((shown self.old).left file) }
         ensures ledger { KeepsLedgerReading (ledger self.old) (ledger self.new) }
-        ensures cause { result ≡ Filled.Failed → Rose (ledger self.old).read_faults (ledger self.new).read_faults };
+        ensures cause { result ≡ Filled.Failed
+            → Rose (ledger self.old).read_faults (ledger self.new).read_faults }
+        ensures never_fails { healthy self.old → result ≢ Filled.Failed }
+        ensures stays_healthy { healthy self.old → healthy self.new };
 
     /// Makes the name's bytes empty, and starts writing them. The file has a number of its own, which is not 0.
     fn create_file(&mut self, name: &Text) -> Result<u32, OpenFault>
         requires { (ledger self.old).given < 2 ^ 32 - 1 }
-        ensures told { IsTrue tells → IfOk result (λ file. CreatesFile name.now file (shown self.old) (shown self.new)) }
-        ensures told_err { IsTrue tells → OnErr result (CreatesNothing name.now (shown self.old) (shown self.new)) }
+        ensures told { IsTrue tells
+            → IfOk result (λ file. CreatesFile name.now file (shown self.old) (shown self.new)) }
+        ensures told_err { IsTrue tells
+            → OnErr result (CreatesNothing name.now (shown self.old) (shown self.new)) }
         ensures given { IfOk result (λ file. GivesCreated file (ledger self.old) (ledger self.new)) }
         ensures not_given { OnErr result (KeepsLedgerWriting (ledger self.old) (ledger self.new)) }
-        ensures cause { IsErrOf result OpenFault.Failed → Rose (ledger self.old).write_faults (ledger self.new).write_faults };
+        ensures cause { IsErrOf result OpenFault.Failed
+            → Rose (ledger self.old).write_faults (ledger self.new).write_faults }
+        ensures never_fails { healthy self.old → ¬ IsErrOf result OpenFault.Failed }
+        ensures stays_healthy { healthy self.old → healthy self.new };
 
-    /// Appends the front of the piece to a created file, or to the report.
+    /// Appends the first bytes of the piece to a created file, or to the report.
     fn put(&mut self, file: u32, piece: &[u8]) -> Put
         requires { IsTrue (is_writable (ledger self.old) file) }
         ensures count { PutCount result (length piece.now) }
-        ensures told { IsTrue tells → WritesFile file (put_bytes result piece.now) (shown self.old) (shown self.new) }
+        ensures told { IsTrue tells
+            → WritesFile file (put_bytes result piece.now) (shown self.old) (shown self.new) }
         ensures told_nothing { IsTrue tells → PutNothing result → shown self.new ≡ shown self.old }
         ensures ledger { KeepsLedgerWriting (ledger self.old) (ledger self.new) }
-        ensures cause { result ≡ Put.Failed → Rose (ledger self.old).write_faults (ledger self.new).write_faults };
+        ensures cause { result ≡ Put.Failed
+            → Rose (ledger self.old).write_faults (ledger self.new).write_faults }
+        ensures never_fails { healthy self.old → result ≢ Put.Failed }
+        ensures stays_healthy { healthy self.old → healthy self.new };
 }

@@ -34,16 +34,18 @@ impl<'a, W: World> Source for WorldSource<'a, W> {
 
     ghost faults = { λ s. (W.ledger s.world.now).read_faults };
 
+    ghost healthy = { λ s. W.healthy s.world.now };
+
     ghost reads = { λ a taken b. (b.world.ghost_name ≡ a.world.ghost_name) × ((b.file ≡ a.file)
         × ReadsOneFile W.tells W.shown W.ledger a.file taken a.world.now b.world.now) };
 
     ghost reads_nothing = { λ s. (refl, (refl, ReadsOneFile-nothing W.tells W.shown W.ledger s.file s.world.now)) };
 
-    ghost reads_more = { λ a b c front more r s. (
+    ghost reads_more = { λ a b c first more r s. (
       s.0 ∙ r.0,
       (
         s.1.0 ∙ r.1.0,
-        ReadsOneFile-more W.tells W.shown W.ledger a.file b.file front more a.world.now b.world.now c.world.now r.1.0 r.1.1 s.1.1,
+        ReadsOneFile-more W.tells W.shown W.ledger a.file b.file first more a.world.now b.world.now c.world.now r.1.0 r.1.1 s.1.1,
       ),
     ) };
 
@@ -83,16 +85,18 @@ impl<'a, W: World> Sink for WorldSink<'a, W> {
 
     ghost faults = { λ s. (W.ledger s.world.now).write_faults };
 
+    ghost healthy = { λ s. W.healthy s.world.now };
+
     ghost writes = { λ a added b. (b.world.ghost_name ≡ a.world.ghost_name) × ((b.file ≡ a.file)
         × WritesOneFile W.tells W.shown W.ledger a.file added a.world.now b.world.now) };
 
     ghost writes_nothing = { λ s. (refl, (refl, WritesOneFile-nothing W.tells W.shown W.ledger s.file s.world.now)) };
 
-    ghost writes_more = { λ a b c front more r s. (
+    ghost writes_more = { λ a b c first more r s. (
       s.0 ∙ r.0,
       (
         s.1.0 ∙ r.1.0,
-        WritesOneFile-more W.tells W.shown W.ledger a.file b.file front more a.world.now b.world.now c.world.now r.1.0 r.1.1 s.1.1,
+        WritesOneFile-more W.tells W.shown W.ledger a.file b.file first more a.world.now b.world.now c.world.now r.1.0 r.1.1 s.1.1,
       ),
     ) };
 

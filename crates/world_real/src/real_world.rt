@@ -16,8 +16,8 @@ use world_io::{Filled, OpenFault, Put, World};
 
 /// The files of the system, by their paths, and standard output as the report.
 ///
-/// It tells no bytes: contracts see the numbers that it gave, which count from 1 and are given once, and how often
-/// reading and writing failed.
+/// It tells no bytes: contracts see the numbers that it gave, which count from 1 and are given once,
+/// and how often reading and writing failed. It never says that it is healthy: any call may fail.
 #[derive(Drop)]
 pub struct RealWorld<R: Files + Print + Drop> {
     rt: R,
@@ -31,7 +31,11 @@ impl<R: Files + Print + Drop> Model for RealWorld<R> {
 
     ghost Value = { Real R.File };
 
-    ghost view = { λ w. record { files = w.files.items; read_faults = w.read_faults; write_faults = w.write_faults } };
+    ghost view = { λ w. record {
+      files = w.files.items;
+      read_faults = w.read_faults;
+      write_faults = w.write_faults;
+    } };
 }
 
 impl<R: Files + Print + Drop> RealWorld<R> {
@@ -50,7 +54,8 @@ impl<R: Files + Print + Drop> RealWorld<R> {
     /// Counts a fault of writing.
     fn write_fault(&mut self) -> Put
         ensures failed { result ≡ Put.Failed }
-        ensures counted { self.new ≡ record self.old { write_faults = counted self.old.write_faults } }
+        ensures counted { self.new
+            ≡ record self.old { write_faults = counted self.old.write_faults } }
     {
         self.write_faults = self.write_faults.saturating_add(1);
         Put::Failed
@@ -59,7 +64,8 @@ impl<R: Files + Print + Drop> RealWorld<R> {
     /// Counts a fault of reading.
     fn read_fault(&mut self) -> Filled
         ensures failed { result ≡ Filled.Failed }
-        ensures counted { self.new ≡ record self.old { read_faults = counted self.old.read_faults } }
+        ensures counted { self.new
+            ≡ record self.old { read_faults = counted self.old.read_faults } }
     {
         self.read_faults = self.read_faults.saturating_add(1);
         Filled::Failed
@@ -76,11 +82,16 @@ impl<R: Files + Print + Drop> World for RealWorld<R> {
 
     ghost ledger = { real_ledger };
 
+    ghost healthy = { λ _. ⊥ };
+
     fn open_file(&mut self, name: &Text) -> Result<u32, OpenFault>
         requires { (real_ledger self.old).given < 2 ^ 32 - 1 }
-        ensures given { IfOk result (λ file. GivesOpened file (real_ledger self.old) (real_ledger self.new)) }
-        ensures not_given { OnErr result (KeepsLedgerReading (real_ledger self.old) (real_ledger self.new)) }
-        ensures cause { IsErrOf result OpenFault.Failed → Rose self.old.read_faults self.new.read_faults }
+        ensures given { IfOk result
+            (λ file. GivesOpened file (real_ledger self.old) (real_ledger self.new)) }
+        ensures not_given { OnErr result
+            (KeepsLedgerReading (real_ledger self.old) (real_ledger self.new)) }
+        ensures cause { IsErrOf result OpenFault.Failed
+            → Rose self.old.read_faults self.new.read_faults }
 
         // Beyond any world: the number is the next.
         ensures number { IfOk result (λ file. file ≡ length self.new.files) }
@@ -103,7 +114,8 @@ impl<R: Files + Print + Drop> World for RealWorld<R> {
         ensures cause { result ≡ Filled.Failed → Rose self.old.read_faults self.new.read_faults }
 
         // Beyond any world: what it takes of a file that tells its bytes.
-        ensures takes { Consumes (left_at R.File.remaining self.old file) (left_at R.File.remaining self.new file) (filled_bytes result piece.new) }
+        ensures takes { Consumes (left_at R.File.remaining self.old file)
+            (left_at R.File.remaining self.new file) (filled_bytes result piece.new) }
         ensures others { (k : ℕ) → k ≢ file → file_at self.new.files k ≡ file_at self.old.files k }
         ensures at_end { result ≡ Filled.End → IsAtEnd (left_at R.File.remaining self.old file) }
     {
@@ -118,9 +130,12 @@ impl<R: Files + Print + Drop> World for RealWorld<R> {
 
     fn create_file(&mut self, name: &Text) -> Result<u32, OpenFault>
         requires { (real_ledger self.old).given < 2 ^ 32 - 1 }
-        ensures given { IfOk result (λ file. GivesCreated file (real_ledger self.old) (real_ledger self.new)) }
-        ensures not_given { OnErr result (KeepsLedgerWriting (real_ledger self.old) (real_ledger self.new)) }
-        ensures cause { IsErrOf result OpenFault.Failed → Rose self.old.write_faults self.new.write_faults }
+        ensures given { IfOk result
+            (λ file. GivesCreated file (real_ledger self.old) (real_ledger self.new)) }
+        ensures not_given { OnErr result
+            (KeepsLedgerWriting (real_ledger self.old) (real_ledger self.new)) }
+        ensures cause { IsErrOf result OpenFault.Failed
+            → Rose self.old.write_faults self.new.write_faults }
 
         // Beyond any world: the number is the next.
         ensures number { IfOk result (λ file. file ≡ length self.new.files) }
@@ -143,7 +158,8 @@ impl<R: Files + Print + Drop> World for RealWorld<R> {
         ensures cause { result ≡ Put.Failed → Rose self.old.write_faults self.new.write_faults }
 
         // Beyond any world: what it appends to a file that tells its bytes. It asks for no memory.
-        ensures appends { Appends (held_at R.File.contents self.old file) (held_at R.File.contents self.new file) (put_bytes result piece.now) }
+        ensures appends { Appends (held_at R.File.contents self.old file)
+            (held_at R.File.contents self.new file) (put_bytes result piece.now) }
         ensures others { (k : ℕ) → k ≢ file → file_at self.new.files k ≡ file_at self.old.files k }
         ensures memory { result ≢ Put.NoMemory }
     {

@@ -1,5 +1,8 @@
-use Rattle.std.proofs.Common.{◌++◌, [], take, arith, append-nil}
+use Rattle.std.proofs.Common.{◌≡◌, ◌≤◌, ◌++◌, [], length, take, drop, arith, append-nil, ap, ◌∙◌}
+use Rattle.std.proofs.lemmas.List.{take-append-le}
 use Rattle.std.proofs.lemmas.Grind.{common_steps}
+use Rattle.plain_text.proofs.Octets.{AreBytes-append}
+use Rattle.world_io.proofs.ReadingAll.{no_memory}
 use Rattle.world_io.proofs.all.read_all.Goals as goal
 
 pub returns-in-End-clause-reads : goal.returns-in-End-clause-reads
@@ -20,7 +23,24 @@ returns-then-count-room-clause-reads g c =
       grind (arith, common_steps),
     )
 
-pub returns-then-is_err-clause-reads : goal.returns-then-is_err-clause-reads
-returns-then-is_err-clause-reads g c =
+pub returns-in_err-keep-in-Got-clause-reads : goal.returns-in_err-keep-in-Got-clause-reads
+returns-in_err-keep-in-Got-clause-reads g c =
     let taken = take c.in-Got.count c.fill.new.piece in
+    no_memory g.S.Source.reads c.from_residual.result c.args.limit _ _ c.from_residual.ensures.1
     (c.loop-bytes.bytes ++ taken, g.met.S.Source.reads_more _ _ _ _ _ c.loop-bytes.invariant.reads c.in-Got.ensures.reads)
+
+pub loop-bytes-preserved : goal.loop-bytes-preserved
+loop-bytes-preserved g c =
+    let inv = c.loop-bytes.invariant in
+    let got = c.in-Got.ensures in
+    let kept = c.in_ok-keep-in-Got.ensures in
+    let size : c.in-Got.count ≤ length c.fill.new.piece = omega (arith, got.count.0, c.fill.auto.piece) in
+    let piece = take-append-le c.in-Got.count c.fill.new.piece (drop c.min-want.result c.loop-bytes.piece) size in
+    let now : c.keep.new.bytes ≡ c.loop-bytes.bytes ++ take c.in-Got.count c.fill.new.piece = kept.ok ∙ ap (λ l. c.loop-bytes.bytes ++ l) piece in
+    record {
+      reads = rw now (g.met.S.Source.reads_more _ _ _ _ _ inv.reads got.reads);
+      bytes = rw kept.ok (AreBytes-append c.loop-bytes.bytes _ inv.bytes kept.octets);
+      room = grind (arith, common_steps);
+      later = omega (arith, inv.later, got.later);
+      healthy = λ well. got.stays_healthy (inv.healthy well);
+    }

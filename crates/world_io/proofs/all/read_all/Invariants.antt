@@ -1,4 +1,5 @@
 use Rattle.std.proofs.Common.{◌≡◌, ◌≤◌, ◌+◌, length}
+use Rattle.plain_text.specs.Octets.{AreBytes}
 use Rattle.world_io.proofs.all.read_all.Given as goal
 
 -- the bytes so far were taken, and the room is what the limit leaves
@@ -7,8 +8,10 @@ invariant-loop-bytes g l =
     let source = g.S.Source in
     record {
       reads : source.reads l.fn.source l.bytes l.source;
+      bytes : AreBytes l.bytes;
       room : l.room + length l.bytes ≡ l.limit;
       later : source.faults l.fn.source ≤ source.faults l.source;
+      healthy : source.healthy l.fn.source → source.healthy l.source;
     }
 
 abbrev pub decreases-loop-bytes : goal.decreases-loop-bytes

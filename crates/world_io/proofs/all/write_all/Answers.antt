@@ -15,6 +15,7 @@ loop-done-preserved g c =
       writes = rw take-add (g.met.K.Sink.writes_more _ _ _ _ _ c.loop-done.invariant.writes writes);
       within = omega (arith, count.0, length-drop done bytes);
       later = omega (arith, c.loop-done.invariant.later, c.put.ensures.later);
+      healthy = λ well. c.put.ensures.stays_healthy (c.loop-done.invariant.healthy well);
     }
 
 pub returns-in-Failed-clause-writes : goal.returns-in-Failed-clause-writes

@@ -9,6 +9,7 @@ invariant-loop-done g l =
       writes : sink.writes l.fn.sink (take l.done l.bytes) l.sink;
       within : l.done ≤ length l.bytes;
       later : sink.faults l.fn.sink ≤ sink.faults l.sink;
+      healthy : sink.healthy l.fn.sink → sink.healthy l.sink;
     }
 
 abbrev pub decreases-loop-done : goal.decreases-loop-done
