@@ -1,9 +1,13 @@
--- When a released capture is matched by what a run sent out: each of its packets has an emission of its own.
-use Rattle.std.specs.Prelude.{◌≡◌, ℕ, ◌+◌, ◌*◌, ◌≤◌, ◌⊎◌, List, [], ◌∷◌}
+-- When a schedule and a released capture are accepted: the schedule is a legal run of the plain machine on the whole capture,
+-- and each released packet has an emission of its own in it.
+use Rattle.std.specs.Prelude.{◌≡◌, ℕ, ◌+◌, ◌*◌, ◌≤◌, ◌⊎◌, List, [], ◌∷◌, Ok}
 use Rattle.plain_text.specs.declared.packet.Packet.{Packet}
 use Rattle.plain_text.specs.declared.packet.Unit.{Unit as FractionUnit}
 use Rattle.plain_text.specs.declared.packet.Unit.TheVariants as unit
 use Rattle.plain_machine.specs.declared.emission.Emission.{Emission}
+use Rattle.plain_machine.specs.declared.plain_move.PlainMove.{PlainMove}
+use Rattle.plain_machine.specs.History.{Step, emissions, play}
+use Rattle.recovery_world.specs.World.{Setting, all_inputs}
 
 -- the fraction of a second, in nanoseconds
 abbrev pub nanoseconds : FractionUnit → Packet → ℕ
@@ -30,3 +34,8 @@ IsEmissionCount u p v (o ∷ sent) n =
 -- no packet stands more often in the capture than among the emissions
 abbrev pub IsMatched : FractionUnit → List Packet → FractionUnit → List Emission → Type 0
 IsMatched u packets v sent = (p : Packet) (k n : ℕ) → IsPacketCount u p packets k → IsEmissionCount u p v sent n → k ≤ n
+
+pub record IsAccepted {V : Type 0} (s : Setting V) (released : List Packet) (schedule : List PlainMove) : Type 0 where
+  pub steps : List (Step V)
+  pub plays : play s.meaning (all_inputs s) s.threads schedule ≡ Ok steps
+  pub matched : IsMatched s.fractions released s.fractions (emissions steps)
