@@ -11,7 +11,7 @@ use Rattle.plain_machine.specs.declared.emission.Emission.{Emission}
 use Rattle.plain_machine.specs.declared.plain_move.PlainMove.{PlainMove}
 use Rattle.plain_machine.specs.declared.plain_move.PlayFault.{PlayFault}
 use Rattle.plain_machine.specs.Program.{Meaning}
-use Rattle.plain_machine.specs.Machine.{Hand, Thread, Deed, Takes, Touches, Looks, HearsClock, HearsDraw, Sends, Ends, Moves, sent_packet, take_move, hand_move, held_move, thread_move}
+use Rattle.plain_machine.specs.Machine.{Hand, Thread, Effect, Takes, Touches, Looks, HearsClock, HearsDraw, Sends, Ends, Moves, sent_packet, take_move, hand_move, held_move, thread_move}
 use Rattle.plain_machine.specs.History.{Act, Took, Did, Emitted, Ended, Step, sent_more, sent_of, emissions, act_of, thread_after, value_after, and_move, play, IsStep, IsHistory}
 use Rattle.plain_machine.specs.Agree.{SendsAfter}
 use Rattle.plain_machine.proofs.Playing.{step_is_move, play_append}
@@ -23,8 +23,8 @@ use Rattle.recovery_laws.specs.Sound.{times}
 
 -- The schedule plays
 
--- a deed tells the answer of its move
-abbrev deed_answer : {V : Type 0} → Deed V → Option ℕ
+-- an effect tells the answer of its move
+abbrev deed_answer : {V : Type 0} → Effect V → Option ℕ
 deed_answer Takes = None
 deed_answer (Touches v left) = None
 deed_answer (Looks v) = None
@@ -33,7 +33,7 @@ deed_answer (HearsDraw a) = Some a
 deed_answer (Sends packet) = None
 deed_answer Ends = None
 
-act_answer : {V : Type 0} (t taken : ℕ) (A : List (Step V)) (d : Deed V) → answer_of (act_of t A taken d) ≡ deed_answer d
+act_answer : {V : Type 0} (t taken : ℕ) (A : List (Step V)) (d : Effect V) → answer_of (act_of t A taken d) ≡ deed_answer d
 act_answer t taken A Takes = refl
 act_answer t taken A (Touches v left) = refl
 act_answer t taken A (Looks v) = refl
@@ -42,10 +42,10 @@ act_answer t taken A (HearsDraw a) = refl
 act_answer t taken A (Sends packet) = refl
 act_answer t taken A Ends = refl
 
-of_deed : {V : Type 0} (d e : Deed V) (a : Option ℕ) → d ≡ e → deed_answer d ≡ a → a ≡ deed_answer e
-of_deed {V} d e a same is = sym is ∙ ap (λ (x : Deed V). deed_answer x) same
+of_deed : {V : Type 0} (d e : Effect V) (a : Option ℕ) → d ≡ e → deed_answer d ≡ a → a ≡ deed_answer e
+of_deed {V} d e a same is = sym is ∙ ap (λ (x : Effect V). deed_answer x) same
 
-hand_answer : {V : Type 0} (m : Meaning V) (value : ℕ → V) (taken : ℕ) (h : Hand) (a : Option ℕ) (w : Move) (after : Thread) (d : Deed V) → hand_move m value taken h a w ≡ Moves after d → a ≡ deed_answer d
+hand_answer : {V : Type 0} (m : Meaning V) (value : ℕ → V) (taken : ℕ) (h : Hand) (a : Option ℕ) (w : Move) (after : Thread) (d : Effect V) → hand_move m value taken h a w ≡ Moves after d → a ≡ deed_answer d
 hand_answer m value taken h None (Access v) after d e = of_deed (Touches v (m.touch v (value v) h.place).0) d None (cc) refl
 hand_answer m value taken h None (Read v) after d e = of_deed (Looks v) d None (cc) refl
 hand_answer m value taken h (Some a) Clock after d e = of_deed (HearsClock a) d (Some a) (cc) refl
@@ -59,7 +59,7 @@ hand_answer m value taken h (Some a) End after d e = absurd (cc)
 hand_answer m value taken h None Clock after d e = absurd (cc)
 hand_answer m value taken h None Draw after d e = absurd (cc)
 
-held_answer : {V : Type 0} (m : Meaning V) (packets : List Packet) (value : ℕ → V) (taken : ℕ) (a : Option ℕ) (hand : Option Hand) (after : Thread) (d : Deed V) → held_move m packets value taken a hand ≡ Moves after d → a ≡ deed_answer d
+held_answer : {V : Type 0} (m : Meaning V) (packets : List Packet) (value : ℕ → V) (taken : ℕ) (a : Option ℕ) (hand : Option Hand) (after : Thread) (d : Effect V) → held_move m packets value taken a hand ≡ Moves after d → a ≡ deed_answer d
 held_answer m packets value taken a (Some h) after d e = hand_answer m value taken h a (m.next h.place) after d e
 held_answer {V} m packets value taken a None after d e = go a (slice_get packets taken) e
   where
