@@ -9,7 +9,9 @@ use Rattle.pcap_io.specs.declared.order.Order.TheVariants.{Little, Big}
 use Rattle.pcap_io.specs.declared.fault.CaptureFault.{CaptureFault}
 use Rattle.pcap_io.specs.Capture.{spelled, number, magic, header_of}
 use Rattle.pcap_io.specs.Faults.{form_of, form_fault, later_fault, header_fault}
-use Rattle.pcap_io.proofs.Spelled.{IsBytes, IsBytes-drop, length-spelled, number-spelled, number-append, number-drop, spelled_2, spelled_4}
+use Rattle.plain_text.specs.Octets.{AreBytes}
+use Rattle.plain_text.proofs.Octets.{AreBytes-drop}
+use Rattle.pcap_io.proofs.Spelled.{length-spelled, number-spelled, number-append, number-drop, spelled_2, spelled_4}
 
 pub form_of-header_of : (o : Order) (u : TimeUnit) (unused more : List ℕ) → form_of (header_of o u unused ++ more) ≡ Some (o, u)
 form_of-header_of Little Micro unused more = refl
@@ -79,15 +81,15 @@ later_numbers true false c link version none = cc
 later_numbers false b c link version none = cc
 
 -- bytes that have the magic and no fault of the later numbers are a header
-pub spelled_header : (o : Order) (u : TimeUnit) (head : List ℕ) → length head ≡ 24 → IsBytes head → number o 4 head ≡ magic u → later_fault o head ≡ None
+pub spelled_header : (o : Order) (u : TimeUnit) (head : List ℕ) → length head ≡ 24 → AreBytes head → number o 4 head ≡ magic u → later_fault o head ≡ None
     → (unused : List ℕ) × (length unused ≡ 12) × (head ≡ header_of o u unused)
 spelled_header o u head long bytes magic_is faultless =
     let numbers = later_numbers (number o 2 (drop 4 head) == 2) (number o 2 (drop 6 head) == 4) (number o 4 (drop 20 head) == 1) _ _ faultless in
     let first : spelled o 4 (magic u) ≡ take 4 head = ap (spelled o 4) (sym magic_is) ∙ spelled_4 o head (omega arith) bytes in
     let two : (k x : ℕ) → k + 2 ≤ 24 → number o 2 (drop k head) ≡ x → spelled o 2 x ≡ take 2 (drop k head) =
-    λ k x room is. ap (spelled o 2) (sym is) ∙ spelled_2 o (drop k head) (omega (arith, length-drop k head)) (IsBytes-drop k head bytes) in
+    λ k x room is. ap (spelled o 2) (sym is) ∙ spelled_2 o (drop k head) (omega (arith, length-drop k head)) (AreBytes-drop k head bytes) in
     let last : spelled o 4 1 ≡ take 4 (drop 20 head) =
-    ap (spelled o 4) (sym (eqb-true _ _ numbers.2)) ∙ spelled_4 o (drop 20 head) (omega (arith, length-drop 20 head)) (IsBytes-drop 20 head bytes) in (
+    ap (spelled o 4) (sym (eqb-true _ _ numbers.2)) ∙ spelled_4 o (drop 20 head) (omega (arith, length-drop 20 head)) (AreBytes-drop 20 head bytes) in (
       take 12 (drop 8 head),
       omega (arith, length-take 12 (drop 8 head), length-drop 8 head),
       sym (rw (first, two 4 2 (omega arith) (eqb-true _ _ numbers.0), two 6 4 (omega arith) (eqb-true _ _ numbers.1), last) (header_parts head long)),

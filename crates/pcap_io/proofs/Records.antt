@@ -6,7 +6,9 @@ use Rattle.plain_text.specs.declared.packet.Packet.{Packet}
 use Rattle.pcap_io.specs.declared.order.Order.{Order}
 use Rattle.pcap_io.specs.Capture.{spelled, number, record_of, IsRecorded}
 use Rattle.pcap_io.specs.Faults.{captured, record_fault}
-use Rattle.pcap_io.proofs.Spelled.{IsBytes, IsBytes-drop, spelled_4, length-spelled, number-spelled, drop-spelled}
+use Rattle.plain_text.specs.Octets.{AreBytes}
+use Rattle.plain_text.proofs.Octets.{AreBytes-drop}
+use Rattle.pcap_io.proofs.Spelled.{spelled_4, length-spelled, number-spelled, drop-spelled}
 
 -- the packet of the whole record at the front
 abbrev pub packet_at : Order → List ℕ → Packet
@@ -72,14 +74,14 @@ in_fours xs sixteen =
     rw (last, append_assoc (take 4 xs ++ take 4 (drop 4 xs)) (take 4 (drop 8 xs)) (drop 12 xs), third, append_assoc (take 4 xs) (take 4 (drop 4 xs)) (drop 8 xs), second) (take-append-drop 4 xs)
 
 -- a header's numbers, read from its slices, and as many bytes as it says make a record
-pub spelled_record : (o : Order) (head body out : List ℕ) (seconds fraction cap original : ℕ) → length head ≡ 16 → IsBytes head
+pub spelled_record : (o : Order) (head body out : List ℕ) (seconds fraction cap original : ℕ) → length head ≡ 16 → AreBytes head
     → seconds ≡ number o 4 head → fraction ≡ number o 4 (take (length head - 4) (drop 4 head))
     → cap ≡ number o 4 (take (length head - 8) (drop 8 head)) → original ≡ number o 4 (take (length head - 12) (drop 12 head))
     → length body ≡ cap → out ≡ body
     → record_of o (record { seconds = seconds; fraction = fraction; original = original; bytes = out }) ≡ head ++ body
 spelled_record o head body out seconds fraction cap original sixteen bytes seconds_is fraction_is cap_is original_is size_is out_is =
     let part : (k : ℕ) → k + 4 ≤ 16 → (n : ℕ) → n ≡ number o 4 (take (length head - k) (drop k head)) → spelled o 4 n ≡ take 4 (drop k head) =
-    λ k room n is. ap (spelled o 4) (is ∙ ap (number o 4) (take_rest head k)) ∙ spelled_4 o (drop k head) (omega (arith, length-drop k head)) (IsBytes-drop k head bytes) in
+    λ k room n is. ap (spelled o 4) (is ∙ ap (number o 4) (take_rest head k)) ∙ spelled_4 o (drop k head) (omega (arith, length-drop k head)) (AreBytes-drop k head bytes) in
     let first : spelled o 4 seconds ≡ take 4 head = ap (spelled o 4) seconds_is ∙ spelled_4 o head (omega arith) bytes in
     let size : length out ≡ cap = ap length out_is ∙ size_is in
     rw (first, part 4 (omega arith) fraction fraction_is, size, part 8 (omega arith) cap cap_is, part 12 (omega arith) original original_is, out_is, in_fours head sixteen) refl

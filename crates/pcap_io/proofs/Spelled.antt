@@ -1,24 +1,13 @@
 -- Numbers spelled as bytes, in either order.
-use Rattle.std.proofs.Common.{◌≡◌, ℕ, ◌+◌, ◌^◌, ◌<◌, ◌≤◌, List, ◌++◌, length, take, drop, get_or, sym, ap, ◌∙◌, arith, inl, inr}
-use Rattle.std.proofs.lemmas.List.{length-take, get_or-take, get_or-drop, get_or_past, drop_at, drop-append-le, length-drop}
-use Rattle.std.proofs.lemmas.Bool.{cases_lt}
+use Rattle.std.proofs.Common.{◌≡◌, ℕ, ◌+◌, ◌^◌, ◌<◌, ◌≤◌, List, ◌++◌, length, take, drop, sym, ap, ◌∙◌, arith}
+use Rattle.std.proofs.lemmas.List.{length-take, drop_at, drop-append-le, length-drop}
 use Rattle.std.proofs.lemmas.Nat.{le_bytes_2, be_bytes_2, le_bytes_4, be_bytes_4}
 use Rattle.byteorder.specs.Numbers.{big_from-take, little_from-take, big_from-append, little_from-append, big_number-reads_back, little_number-reads_back, length-bytes_high_first, length-bytes_low_first}
+use Rattle.plain_text.specs.Octets.{AreBytes}
+use Rattle.plain_text.proofs.Octets.{AreBytes-take, AreBytes-drop}
 use Rattle.pcap_io.specs.declared.order.Order.{Order}
 use Rattle.pcap_io.specs.declared.order.Order.TheVariants.{Little, Big}
 use Rattle.pcap_io.specs.Capture.{spelled, number}
-
-abbrev pub IsBytes : List ℕ → Type 0
-IsBytes xs = (i : ℕ) → get_or xs i 0 < 256
-
-pub IsBytes-take : (n : ℕ) (xs : List ℕ) → IsBytes xs → IsBytes (take n xs)
-IsBytes-take n xs bytes i = elim (cases_lt i n) [
-  | inl inside ↦ rw (get_or-take n xs i 0 inside) (bytes i)
-  | inr past ↦ rw (get_or_past (take n xs) i 0 (omega (arith, length-take n xs))) (omega arith)
-]
-
-pub IsBytes-drop : (n : ℕ) (xs : List ℕ) → IsBytes xs → IsBytes (drop n xs)
-IsBytes-drop n xs bytes i = rw (get_or-drop n xs i 0) (bytes (n + i))
 
 pub length-spelled : (o : Order) (n x : ℕ) → length (spelled o n x) ≡ n
 length-spelled Little n x = length-bytes_low_first 0 n x
@@ -42,14 +31,14 @@ pub drop-spelled : (o : Order) (x : ℕ) (rest : List ℕ) → drop 4 (spelled o
 drop-spelled o x rest = drop_at (spelled o 4 x) rest 4 (length-spelled o 4 x)
 
 -- four bytes are what spells the number in them
-pub spelled_4 : (o : Order) (xs : List ℕ) → 4 ≤ length xs → IsBytes xs → spelled o 4 (number o 4 xs) ≡ take 4 xs
+pub spelled_4 : (o : Order) (xs : List ℕ) → 4 ≤ length xs → AreBytes xs → spelled o 4 (number o 4 xs) ≡ take 4 xs
 spelled_4 Little xs long bytes =
-    le_bytes_4 (take 4 xs) _ (omega (arith, length-take 4 xs)) (IsBytes-take 4 xs bytes) (sym (little_from-take 0 4 4 xs (omega arith)) ∙ omega arith)
+    le_bytes_4 (take 4 xs) _ (omega (arith, length-take 4 xs)) (AreBytes-take 4 xs bytes) (sym (little_from-take 0 4 4 xs (omega arith)) ∙ omega arith)
 spelled_4 Big xs long bytes =
-    be_bytes_4 (take 4 xs) _ (omega (arith, length-take 4 xs)) (IsBytes-take 4 xs bytes) (sym (big_from-take 0 4 4 xs (omega arith)) ∙ omega arith)
+    be_bytes_4 (take 4 xs) _ (omega (arith, length-take 4 xs)) (AreBytes-take 4 xs bytes) (sym (big_from-take 0 4 4 xs (omega arith)) ∙ omega arith)
 
-pub spelled_2 : (o : Order) (xs : List ℕ) → 2 ≤ length xs → IsBytes xs → spelled o 2 (number o 2 xs) ≡ take 2 xs
+pub spelled_2 : (o : Order) (xs : List ℕ) → 2 ≤ length xs → AreBytes xs → spelled o 2 (number o 2 xs) ≡ take 2 xs
 spelled_2 Little xs long bytes =
-    le_bytes_2 (take 2 xs) _ (omega (arith, length-take 2 xs)) (IsBytes-take 2 xs bytes) (sym (little_from-take 0 2 2 xs (omega arith)) ∙ omega arith)
+    le_bytes_2 (take 2 xs) _ (omega (arith, length-take 2 xs)) (AreBytes-take 2 xs bytes) (sym (little_from-take 0 2 2 xs (omega arith)) ∙ omega arith)
 spelled_2 Big xs long bytes =
-    be_bytes_2 (take 2 xs) _ (omega (arith, length-take 2 xs)) (IsBytes-take 2 xs bytes) (sym (big_from-take 0 2 2 xs (omega arith)) ∙ omega arith)
+    be_bytes_2 (take 2 xs) _ (omega (arith, length-take 2 xs)) (AreBytes-take 2 xs bytes) (sym (big_from-take 0 2 2 xs (omega arith)) ∙ omega arith)

@@ -3,6 +3,7 @@
 use Rattle.std.specs.Prelude.{◌≡◌, ℕ, ◌^◌, ◌<◌, ◌≤◌, List, [], ◌∷◌, ◌++◌, length, replicate}
 use Rattle.std.specs.List.{flat_map}
 use Rattle.byteorder.specs.Endian.{big_bytes, big_number, little_bytes, little_number}
+use Rattle.plain_text.specs.declared.limit.TheConstants.{MOST_CAPTURED}
 use Rattle.plain_text.specs.declared.packet.Packet.{Packet}
 use Rattle.plain_text.specs.declared.packet.Unit.{Unit as TimeUnit}
 use Rattle.plain_text.specs.declared.packet.Unit.TheVariants.{Micro, Nano}
@@ -39,7 +40,7 @@ pub record IsRecorded (p : Packet) : Type 0 where
   pub seconds : p.seconds < 2 ^ 32
   pub fraction : p.fraction < 2 ^ 32
   pub original : p.original < 2 ^ 32
-  pub captured : length p.bytes ≤ 262144
+  pub captured : length p.bytes ≤ MOST_CAPTURED
 
 abbrev pub AreRecorded : List Packet → Type 0
 AreRecorded [] = Unit {0}
@@ -56,9 +57,9 @@ pub record Begins (bytes : List ℕ) (o : Order) (u : TimeUnit) (packets : List 
 abbrev pub IsCapture : List ℕ → TimeUnit → List Packet → Type 0
 IsCapture bytes u packets = (o : Order) × Begins bytes o u packets []
 
--- the one written form: little-endian, with the time zone and sigfigs 0 and snaplen 262,144
+-- the one written form: little-endian, with the time zone and sigfigs 0, and the most captured bytes as snaplen
 abbrev pub written_header : TimeUnit → List ℕ
-written_header u = header_of Little u (replicate 8 0 ++ spelled Little 4 262144)
+written_header u = header_of Little u (replicate 8 0 ++ spelled Little 4 MOST_CAPTURED)
 
 abbrev pub written : TimeUnit → List Packet → List ℕ
 written u packets = written_header u ++ records_of Little packets

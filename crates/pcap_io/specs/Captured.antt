@@ -1,5 +1,7 @@
 -- What reading a whole capture answers and takes.
-use Rattle.std.specs.Prelude.{◌≡◌, ℕ, ◌≤◌, List, [], length}
+use Rattle.std.specs.Prelude.{◌≡◌, ℕ, ◌≤◌, List, [], length, All}
+use Rattle.plain_text.specs.declared.limit.TheConstants.{MOST_FILE_BYTES, MOST_PACKETS}
+use Rattle.plain_text.specs.Octets.{HasBytes}
 use Rattle.plain_text.specs.declared.limit.Limit.{Limit}
 use Rattle.plain_text.specs.declared.packet.Packet.{Packet}
 use Rattle.plain_text.specs.declared.packet.Unit.{Unit as TimeUnit}
@@ -12,8 +14,8 @@ use Rattle.pcap_io.specs.Limits.{PassesLimit}
 -- the bytes are a capture of these packets, and within the limits
 pub record IsCaptureWithin (bytes : List ℕ) (u : TimeUnit) (packets : List Packet) : Type 0 where
   pub capture : IsCapture bytes u packets
-  pub count : length packets ≤ 65536
-  pub size : length bytes ≤ 67108864
+  pub count : length packets ≤ MOST_PACKETS
+  pub size : length bytes ≤ MOST_FILE_BYTES
 
 -- What an answer says of the bytes. A limit that is passed goes before a fault behind it.
 abbrev pub Says : List ℕ → Captured → Type 0
@@ -38,6 +40,14 @@ TakesCapture reads (Refused fault) old new = (taken : List ℕ) × reads old tak
 TakesCapture reads (TooLarge limit) old new = (taken : List ℕ) × reads old taken new
 TakesCapture reads ReadFault old new = (taken : List ℕ) × reads old taken new
 TakesCapture reads NoMemory old new = (taken : List ℕ) × reads old taken new
+
+-- each captured byte is below 256
+abbrev pub HaveBytes : Captured → Type 0
+HaveBytes (Capture u packets) = All HasBytes packets
+HaveBytes (Refused fault) = Unit {0}
+HaveBytes (TooLarge limit) = Unit {0}
+HaveBytes ReadFault = Unit {0}
+HaveBytes NoMemory = Unit {0}
 
 -- after a capture nothing is left
 abbrev pub EndsAt : Captured → List ℕ → Type 0

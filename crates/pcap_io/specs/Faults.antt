@@ -1,5 +1,6 @@
 -- Where bytes are no capture: the first place at which they leave the format, and why.
 use Rattle.std.specs.Prelude.{◌≡◌, ℕ, ◌+◌, ◌<◌, List, length, drop, ◌==◌, nat_lt, if◌then◌else◌, ◌&&◌, Option, Some, None, ◌⊎◌}
+use Rattle.plain_text.specs.declared.limit.TheConstants.{MOST_CAPTURED}
 use Rattle.plain_text.specs.declared.packet.Packet.{Packet}
 use Rattle.plain_text.specs.declared.packet.Unit.{Unit as TimeUnit}
 use Rattle.plain_text.specs.declared.packet.Unit.TheVariants.{Micro, Nano}
@@ -46,7 +47,7 @@ captured o bytes = number o 4 (drop 8 bytes)
 abbrev pub record_fault : Order → List ℕ → Option CaptureCause
 record_fault o bytes =
     if nat_lt (length bytes) 16 then Some ShortRecord
-    else if nat_lt 262144 (captured o bytes) then Some TooLong
+    else if nat_lt MOST_CAPTURED (captured o bytes) then Some TooLong
     else if nat_lt (length bytes) (16 + captured o bytes) then Some ShortRecord
     else None
 

@@ -1,5 +1,6 @@
--- The limits of a capture: 65,536 packets and 67,108,864 bytes.
+-- The limits of a capture: its packets and its bytes.
 use Rattle.std.specs.Prelude.{◌≡◌, ℕ, ◌-◌, ◌<◌, ◌≤◌, List, length, take, ◌==◌, if◌then◌else◌, Some}
+use Rattle.plain_text.specs.declared.limit.TheConstants.{MOST_FILE_BYTES, MOST_PACKETS}
 use Rattle.plain_text.specs.declared.packet.Packet.{Packet}
 use Rattle.plain_text.specs.declared.packet.Unit.{Unit as TimeUnit}
 use Rattle.plain_text.specs.declared.limit.Limit.{Limit}
@@ -11,11 +12,11 @@ use Rattle.pcap_io.specs.Faults.{record_fault, offset_after}
 
 -- how many bytes the record at this offset may take, after so many packets
 abbrev pub room_at : ℕ → ℕ → ℕ
-room_at count offset = if count == 65536 then 0 else 67108864 - offset
+room_at count offset = if count == MOST_PACKETS then 0 else MOST_FILE_BYTES - offset
 
 -- the limit that a record passes which needs more
 abbrev pub limit_at : ℕ → Limit
-limit_at count = if count == 65536 then Packets else File
+limit_at count = if count == MOST_PACKETS then Packets else File
 
 -- the record at the front needs more bytes than it may take, and more are there
 abbrev pub IsCut : Order → ℕ → List ℕ → Type 0
@@ -23,7 +24,7 @@ IsCut o room bytes = (room < length bytes) × (record_fault o (take room bytes) 
 
 -- a capture of these packets is within the limits
 abbrev pub IsWithinLimits : Order → List Packet → Type 0
-IsWithinLimits o packets = (length packets ≤ 65536) × (offset_after o packets ≤ 67108864)
+IsWithinLimits o packets = (length packets ≤ MOST_PACKETS) × (offset_after o packets ≤ MOST_FILE_BYTES)
 
 -- whole records within the limits, and then one that passes this limit
 pub record PassesLimit (bytes : List ℕ) (limit : Limit) : Type 0 where

@@ -1,6 +1,7 @@
 -- What a call of a reader answers, takes and leaves.
 use Rattle.std.specs.Prelude.{◌≡◌, ℕ, ◌+◌, ◌<◌, ◌≤◌, true, List, [], length, Some}
 use Rattle.plain_text.specs.declared.limit.Limit.{Limit}
+use Rattle.plain_text.specs.Octets.{HasBytes}
 use Rattle.pcap_io.specs.declared.order.Order.{Order}
 use Rattle.pcap_io.specs.declared.next.Next.{Next}
 use Rattle.pcap_io.specs.declared.next.Next.TheVariants as next
@@ -38,6 +39,16 @@ IsGiven room (next.TooLarge limit) = Unit {0}
 IsGiven room next.ReadFault = Unit {0}
 IsGiven room next.NoMemory = Unit {0}
 IsGiven room next.Over = Unit {0}
+
+-- each byte of a packet is below 256
+abbrev pub GivesBytes : Next → Type 0
+GivesBytes (next.Packet p) = HasBytes p
+GivesBytes next.End = Unit {0}
+GivesBytes (next.Refused fault) = Unit {0}
+GivesBytes (next.TooLarge limit) = Unit {0}
+GivesBytes next.ReadFault = Unit {0}
+GivesBytes next.NoMemory = Unit {0}
+GivesBytes next.Over = Unit {0}
 
 -- Where the bytes left are told: what each answer says of them, at an offset where a record may take so many
 -- bytes, or pass this limit.

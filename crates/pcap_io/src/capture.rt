@@ -1,6 +1,6 @@
-ghost use Rattle.std.specs.Prelude.{◌≡◌, ◌≤◌, IsTrue};
+ghost use Rattle.std.specs.Prelude.{◌≡◌, ◌≢◌, ◌≤◌, IsTrue};
 ghost use Rattle.world_io.specs.Stream.{Rose};
-ghost use Rattle.pcap_io.specs.Captured.{Says, TakesCapture, EndsAt};
+ghost use Rattle.pcap_io.specs.Captured.{Says, TakesCapture, EndsAt, HaveBytes};
 
 use crate::{CaptureFault, Next, Reader, Started};
 use plain_text::{Limit, Packets, Unit};
@@ -26,8 +26,12 @@ pub fn read_capture<S: Source>(alloc: Global, source: &mut S) -> Captured
     ensures told { IsTrue S.tells → Says (S.left source.old) result }
     ensures taken { TakesCapture S.reads result source.old source.new }
     ensures whole { IsTrue S.tells → EndsAt result (S.left source.new) }
+    ensures bytes { HaveBytes result }
     ensures later { S.faults source.old ≤ S.faults source.new }
-    ensures cause { result ≡ Captured.ReadFault → Rose (S.faults source.old) (S.faults source.new) }
+    ensures cause { result ≡ Captured.ReadFault
+        → Rose (S.faults source.old) (S.faults source.new) }
+    ensures never_fails { S.healthy source.old → result ≢ Captured.ReadFault }
+    ensures stays_healthy { S.healthy source.old → S.healthy source.new }
 {
     let mut reader = match Reader::start(source) {
         Started::Reader(reader) => reader,

@@ -4,7 +4,7 @@ ghost use Rattle.pcap_io.specs.Faults.{form_of, later_fault, header_fault};
 
 use crate::{CaptureCause, CaptureFault, Order};
 use byteorder::{ByteOrder, LittleEndian};
-use plain_text::Unit;
+use plain_text::{MOST_CAPTURED, Unit};
 
 pub(crate) const FILE_HEADER: usize = 24;
 
@@ -18,13 +18,12 @@ const MINOR: u16 = 4;
 
 const ETHERNET: u32 = 1;
 
-const SNAPLEN: u32 = 262_144;
-
 /// The byte order and the unit that a file header tells, or its first fault.
 pub(crate) fn read_header(head: &[u8]) -> Result<(Order, Unit), CaptureFault>
     requires { length head.now ≡ 24 }
     ensures { MatchResult result
-        (λ form. (unused : List ℕ) × (length unused ≡ 12) × (head.now ≡ header_of form.0 form.1 unused))
+        (λ form. (unused : List ℕ) × (length unused ≡ 12)
+        × (head.now ≡ header_of form.0 form.1 unused))
         (λ fault. header_fault head.now ≡ Some fault) }
 {
     let Some((order, unit)) = read_form(head) else {
@@ -50,7 +49,7 @@ fn later_fault(order: Order, head: &[u8]) -> Option<CaptureFault>
     None
 }
 
-/// The byte order and the unit that the magic at the front tells.
+/// The byte order and the unit that the magic in the first four bytes tells.
 fn read_form(head: &[u8]) -> Option<(Order, Unit)>
     requires { 4 ≤ length head.now }
     ensures form { result ≡ form_of head.now }
@@ -71,8 +70,8 @@ fn fault_at(offset: u64, cause: CaptureCause) -> CaptureFault
     CaptureFault { offset, cause }
 }
 
-/// The file header that is written: little-endian, version 2.4, time zone 0, sigfigs 0, snaplen 262,144, and
-/// link type 1, with the magic of this unit.
+/// The file header that is written: little-endian, version 2.4, time zone 0, sigfigs 0, snaplen
+/// `MOST_CAPTURED`, and link type 1, with the magic of this unit.
 pub fn put_header(unit: Unit) -> [u8; 24]
     ensures { result ≡ written_header unit }
 {
@@ -80,7 +79,7 @@ pub fn put_header(unit: Unit) -> [u8; 24]
     LittleEndian::write_u32(&mut header, magic_of(unit));
     LittleEndian::write_u16(&mut header[4..], MAJOR);
     LittleEndian::write_u16(&mut header[6..], MINOR);
-    LittleEndian::write_u32(&mut header[16..], SNAPLEN);
+    LittleEndian::write_u32(&mut header[16..], MOST_CAPTURED);
     LittleEndian::write_u32(&mut header[20..], ETHERNET);
     header
 }

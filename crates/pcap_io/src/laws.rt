@@ -1,5 +1,6 @@
 //! The laws of captures. Each is proved, and does nothing.
 ghost use Rattle.std.specs.Prelude.{◌≡◌, ◌≤◌, ℕ, List, length};
+ghost use Rattle.plain_text.specs.declared.limit.TheConstants.{MOST_FILE_BYTES, MOST_PACKETS};
 ghost use Rattle.plain_text.specs.declared.limit.Limit.{Limit};
 ghost use Rattle.plain_text.specs.declared.packet.Packet.{Packet};
 ghost use Rattle.plain_text.specs.declared.packet.Unit.{Unit as TimeUnit};
@@ -19,7 +20,8 @@ pub fn one_capture()
 
 /// Bytes have at most one first fault, and a capture has none.
 pub fn one_fault()
-    ensures one { (bytes : List ℕ) (f g : CaptureFault) → IsFaultOf bytes f → IsFaultOf bytes g → f ≡ g }
+    ensures one { (bytes : List ℕ) (f g : CaptureFault)
+        → IsFaultOf bytes f → IsFaultOf bytes g → f ≡ g }
     ensures none { (bytes : List ℕ) (u : TimeUnit) (ps : List Packet) (f : CaptureFault)
         → IsCapture bytes u ps → IsFaultOf bytes f → ⊥ }
 {}
@@ -32,7 +34,7 @@ pub fn written_is_capture()
 /// What is written is read again, where it is within the limits.
 pub fn written_is_read()
     ensures { (u : TimeUnit) (ps : List Packet) (answer : Captured)
-        → AreRecorded ps → length ps ≤ 65536 → length (written u ps) ≤ 67108864
+        → AreRecorded ps → length ps ≤ MOST_PACKETS → length (written u ps) ≤ MOST_FILE_BYTES
         → IsDecided answer → Says (written u ps) answer → answer ≡ Capture u ps }
 {}
 

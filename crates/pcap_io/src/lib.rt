@@ -3,11 +3,11 @@
 
 mod capture;
 mod fault;
-mod front;
 mod header;
 pub mod laws;
 mod next;
 mod order;
+mod piece;
 mod reader;
 mod record;
 mod started;

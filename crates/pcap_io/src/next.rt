@@ -10,8 +10,8 @@ pub enum Next {
     End,
     /// The record that begins here is faulty.
     Refused(CaptureFault),
-    /// The record that begins here is the 65,537th, or needs a byte past the 67,108,864th that is there. The
-    /// packets' limit goes before the file's.
+    /// The record that begins here follows `MOST_PACKETS` packets, or needs a byte past the first
+    /// `MOST_FILE_BYTES` of the file, and that byte is there. The packets' limit goes before the file's.
     TooLarge(Limit),
     /// Reading failed.
     ReadFault,

@@ -11,7 +11,7 @@ pub enum Order {
 }
 
 impl Order {
-    /// The 16-bit number at the front of these bytes.
+    /// The 16-bit number in the first two bytes.
     pub(crate) fn read_u16(self, bytes: &[u8]) -> u16
         requires { 2 ≤ length bytes.now }
         ensures { result ≡ number self 2 bytes.now }
@@ -22,7 +22,7 @@ impl Order {
         }
     }
 
-    /// The 32-bit number at the front of these bytes.
+    /// The 32-bit number in the first four bytes.
     pub(crate) fn read_u32(self, bytes: &[u8]) -> u32
         requires { 4 ≤ length bytes.now }
         ensures { result ≡ number self 4 bytes.now }

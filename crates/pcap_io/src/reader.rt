@@ -1,23 +1,17 @@
 ghost use Rattle.std.specs.Prelude.{◌≡◌, ◌≢◌, ◌≤◌, ◌↔◌, true, IsTrue};
 ghost use Rattle.world_io.specs.Stream.{Rose};
 ghost use Rattle.pcap_io.specs.Limits.{room_at, limit_at};
-ghost use Rattle.pcap_io.specs.Reader.{AnswersAt, Takes, IsGiven, after};
+ghost use Rattle.pcap_io.specs.Reader.{AnswersAt, Takes, IsGiven, GivesBytes, after};
 ghost use Rattle.pcap_io.specs.Started.{Starts, TakesHeader, IsFresh};
 
-use crate::front::read_front;
 use crate::header::{FILE_HEADER, read_header};
+use crate::piece::fill_piece;
 use crate::record::{Place, RECORD_HEADER};
 use crate::{CaptureCause, CaptureFault, Next, Order, Started};
-use plain_text::{Limit, Unit};
+use plain_text::{Limit, MOST_FILE_BYTES, MOST_PACKETS, Unit};
 use std::alloc::Global;
 use std::marker::Model;
 use world_io::Source;
-
-/// The most packets of a capture.
-const MOST_PACKETS: u32 = 65_536;
-
-/// The most bytes of a file.
-const MOST_BYTES: u64 = 67_108_864;
 
 /// Reads a capture's packets, one at a time, from the source that is lent to each call.
 ///
@@ -36,13 +30,20 @@ pub struct Reader {
 
 impl Model for Reader {
     ghost use Rattle.std.specs.Prelude.{◌≤◌};
+    ghost use Rattle.plain_text.specs.declared.limit.TheConstants.{MOST_FILE_BYTES, MOST_PACKETS};
     ghost use Rattle.pcap_io.specs.Reading.{Reading};
 
     ghost Value = { Reading };
 
-    ghost view = { λ r. record { unit = r.unit; order = r.order; offset = r.offset; count = r.count; over = r.over } };
+    ghost view = { λ r. record {
+      unit = r.unit;
+      order = r.order;
+      offset = r.offset;
+      count = r.count;
+      over = r.over;
+    } };
 
-    ghost invariant = { λ r. (r.offset ≤ 67108864) × (r.count ≤ 65536) };
+    ghost invariant = { λ r. (r.offset ≤ MOST_FILE_BYTES) × (r.count ≤ MOST_PACKETS) };
 }
 
 impl Reader {
@@ -52,11 +53,14 @@ impl Reader {
         ensures taken { TakesHeader S.reads result source.old source.new }
         ensures fresh { IsFresh result }
         ensures later { S.faults source.old ≤ S.faults source.new }
-        ensures cause { result ≡ Started.ReadFault → Rose (S.faults source.old) (S.faults source.new) }
+        ensures cause { result ≡ Started.ReadFault
+            → Rose (S.faults source.old) (S.faults source.new) }
+        ensures never_fails { S.healthy source.old → result ≢ Started.ReadFault }
+        ensures stays_healthy { S.healthy source.old → S.healthy source.new }
         ensures memory { result ≢ Started.NoMemory }
     {
         let mut head = [0u8; FILE_HEADER];
-        let Some(had) = read_front(source, &mut head) else {
+        let Some(had) = fill_piece(source, &mut head) else {
             return Started::ReadFault;
         };
         if had < FILE_HEADER {
@@ -91,8 +95,11 @@ impl Reader {
         ensures told { IsTrue S.tells → AnswersAt self.old (S.left source.old) result }
         ensures taken { Takes S.reads self.old.order result source.old source.new }
         ensures given { IsGiven (room_at self.old.count self.old.offset) result }
+        ensures bytes { GivesBytes result }
         ensures later { S.faults source.old ≤ S.faults source.new }
         ensures cause { result ≡ Next.ReadFault → Rose (S.faults source.old) (S.faults source.new) }
+        ensures never_fails { S.healthy source.old → result ≢ Next.ReadFault }
+        ensures stays_healthy { S.healthy source.old → S.healthy source.new }
     {
         if self.over {
             return Next::Over;
@@ -117,7 +124,7 @@ impl Reader {
         let (room, limit) = if self.count == MOST_PACKETS {
             (0, Limit::Packets)
         } else {
-            (MOST_BYTES - self.offset, Limit::File)
+            (MOST_FILE_BYTES - self.offset, Limit::File)
         };
         Place {
             order: self.order,

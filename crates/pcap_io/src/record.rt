@@ -1,20 +1,17 @@
 ghost use Rattle.std.specs.Prelude.{◌≡◌, ◌≢◌, ◌≤◌, ◌+◌, ◌++◌, IsTrue, IfOk, length};
 ghost use Rattle.world_io.specs.Stream.{Rose};
 ghost use Rattle.pcap_io.specs.Capture.{record_of};
-ghost use Rattle.pcap_io.specs.Reader.{Answers, Takes, IsGiven};
+ghost use Rattle.pcap_io.specs.Reader.{Answers, Takes, IsGiven, GivesBytes};
 ghost use Rattle.pcap_io.specs.Record.{TakesBody};
 
-use crate::front::read_front;
+use crate::piece::fill_piece;
 use crate::{CaptureCause, CaptureFault, Next, Order};
 use byteorder::{ByteOrder, LittleEndian};
-use plain_text::{Bytes, Limit, NoMemory, Packet};
+use plain_text::{Bytes, Limit, MOST_CAPTURED, NoMemory, Packet};
 use std::alloc::Global;
 use world_io::Source;
 
 pub(crate) const RECORD_HEADER: usize = 16;
-
-/// The most captured bytes that a packet may have.
-const LONGEST: u32 = 262_144;
 
 /// Where a record begins, how many bytes it may take, and the limit that it passes which needs more.
 #[derive(Clone, Copy, Debug)]
@@ -28,15 +25,19 @@ pub(crate) struct Place {
 impl Place {
     /// Reads the record that begins here.
     pub(crate) fn read_record<S: Source>(self, alloc: Global, source: &mut S) -> Next
-        ensures told { IsTrue S.tells → Answers self.order self.offset self.room self.limit (S.left source.old) result }
+        ensures told { IsTrue S.tells
+            → Answers self.order self.offset self.room self.limit (S.left source.old) result }
         ensures taken { Takes S.reads self.order result source.old source.new }
         ensures given { IsGiven self.room result }
+        ensures bytes { GivesBytes result }
         ensures running { result ≢ Next.Over }
         ensures later { S.faults source.old ≤ S.faults source.new }
         ensures cause { result ≡ Next.ReadFault → Rose (S.faults source.old) (S.faults source.new) }
+        ensures never_fails { S.healthy source.old → result ≢ Next.ReadFault }
+        ensures stays_healthy { S.healthy source.old → S.healthy source.new }
     {
         let mut head = [0u8; RECORD_HEADER];
-        let Some(had) = read_front(source, &mut head) else {
+        let Some(had) = fill_piece(source, &mut head) else {
             return Next::ReadFault;
         };
         if had == 0 {
@@ -55,21 +56,24 @@ impl Place {
     fn read_body<S: Source>(self, alloc: Global, head: &[u8], source: &mut S) -> Next
         requires head { length head.now ≡ 16 }
         requires room { 16 ≤ self.room }
-        ensures told { IsTrue S.tells
-            → Answers self.order self.offset self.room self.limit (head.now ++ S.left source.old) result }
+        ensures told { IsTrue S.tells → Answers self.order self.offset self.room self.limit
+            (head.now ++ S.left source.old) result }
         ensures taken { TakesBody S.reads self.order head.now result source.old source.new }
         ensures given { IsGiven self.room result }
+        ensures bytes { GivesBytes result }
         ensures later { S.faults source.old ≤ S.faults source.new }
         ensures cause { result ≡ Next.ReadFault → Rose (S.faults source.old) (S.faults source.new) }
+        ensures never_fails { S.healthy source.old → result ≢ Next.ReadFault }
+        ensures stays_healthy { S.healthy source.old → S.healthy source.new }
     {
         let captured = self.order.read_u32(&head[8..]);
-        if captured > LONGEST {
+        if captured > MOST_CAPTURED {
             return self.refused(CaptureCause::TooLong);
         }
         let Ok(mut bytes) = vec![in alloc; 0u8; captured as usize] else {
             return Next::NoMemory;
         };
-        let Some(had) = read_front(source, &mut bytes) else {
+        let Some(had) = fill_piece(source, &mut bytes) else {
             return Next::ReadFault;
         };
         if (RECORD_HEADER + had) as u64 > self.room {
@@ -100,7 +104,7 @@ impl Place {
 /// A packet's record, as it is written after the header of `put_header`: seconds, fraction, captured length and
 /// original length in 32 bits each, little-endian, and the captured bytes.
 pub fn put_packet(alloc: Global, packet: &Packet) -> Result<Bytes, NoMemory>
-    requires { length packet.now.bytes ≤ 262144 }
+    requires { length packet.now.bytes ≤ MOST_CAPTURED }
     ensures { IfOk result (λ bytes. bytes ≡ record_of Order.Little packet.now) }
 {
     let mut head = [0; RECORD_HEADER];

@@ -49,6 +49,8 @@ impl<'a> Source for Pieces<'a> {
 
     ghost faults = { λ s. s.faults };
 
+    ghost healthy = { λ _. ⊥ };
+
     ghost reads = { λ _ _ _. Unit {0} };
 
     ghost reads_nothing = { λ _. tt };

@@ -1,4 +1,3 @@
 pub mod Fields
-pub mod Limits
 pub mod Lines
 pub mod Octets

@@ -1,4 +1,7 @@
 use Rattle.std.proofs.Common.{◌-◌, ◌≤◌}
+use Rattle.std.specs.Prelude.{All}
+use Rattle.plain_text.specs.declared.limit.TheConstants.{MOST_PACKETS}
+use Rattle.plain_text.specs.Octets.{HasBytes}
 use Rattle.pcap_io.proofs.Captures.{HasRead, StandsAt}
 use Rattle.pcap_io.proofs.capture.read_capture.Given as goal
 
@@ -9,8 +12,10 @@ invariant-records g l =
     record {
       stands : StandsAt l.reader l.packets;
       taken : HasRead source.reads l.fn.source l.source l.reader.order l.reader.unit l.packets;
+      bytes : All HasBytes l.packets;
       later : source.faults l.fn.source ≤ source.faults l.source;
+      healthy : source.healthy l.fn.source → source.healthy l.source;
     }
 
 abbrev pub decreases-records : goal.decreases-records
-decreases-records g l = 65536 - l.reader.count
+decreases-records g l = MOST_PACKETS - l.reader.count

@@ -1,5 +1,6 @@
 use Rattle.std.proofs.Common.{length, ◌-◌, ◌≤◌, take}
-use Rattle.pcap_io.proofs.front.read_front.Given as goal
+use Rattle.plain_text.specs.Octets.{AreBytes}
+use Rattle.pcap_io.proofs.piece.fill_piece.Given as goal
 
 -- the first `done` bytes of the piece are those that were taken
 abbrev pub invariant-loop-done : goal.invariant-loop-done
@@ -8,7 +9,9 @@ invariant-loop-done g l =
     record {
       taken : source.reads l.fn.source (take l.done l.piece) l.source;
       within : l.done ≤ length l.piece;
+      bytes : AreBytes l.piece;
       later : source.faults l.fn.source ≤ source.faults l.source;
+      healthy : source.healthy l.fn.source → source.healthy l.source;
     }
 
 abbrev pub decreases-loop-done : goal.decreases-loop-done

@@ -1,7 +1,7 @@
 use Rattle.std.proofs.Common.{List, ℕ, sym, subst, arith}
 use Rattle.std.proofs.lemmas.Grind.{common_steps}
 use Rattle.pcap_io.proofs.Pieces.{take-put_mid_more, take-put_mid}
-use Rattle.pcap_io.proofs.front.read_front.Goals as goal
+use Rattle.pcap_io.proofs.piece.fill_piece.Goals as goal
 
 pub loop-done-preserved : goal.loop-done-preserved
 loop-done-preserved g c =
@@ -12,7 +12,9 @@ loop-done-preserved g c =
           rw (take-put_mid_more c.loop-done.done _ c.in-Got.count c.loop-done.piece c.fill.new.piece inv.within (grind (arith, common_steps, c.fill.auto.piece, c.in-Got.ensures.count)))
           (g.met.S.Source.reads_more _ _ _ _ _ inv.taken c.in-Got.ensures.reads);
       within = grind (arith, common_steps, c.fill.auto.piece, c.in-Got.ensures.count);
+      bytes = λ k. omega (arith, c.type_inv.piece k);
       later = omega (arith, inv.later, c.in-Got.ensures.later);
+      healthy = λ well. c.in-Got.ensures.stays_healthy (inv.healthy well);
     }
 
 pub returns-in-End-clause-taken : goal.returns-in-End-clause-taken
