@@ -1,7 +1,7 @@
 -- Frontiers and lanes that are fresh.
 use Rattle.std.proofs.Common.{◌≡◌, ℕ, zero, suc, ◌+◌, ◌≤◌, ◌<◌, List, [], ◌∷◌, Option, Some, None, IfSome, replicate, length, option_copied, slice_index, slice_set, ◌≢◌, ◌↔◌, refl, sym, inl, inr, ⊎_elim, arith, Bor}
 use Rattle.access_log.specs.declared.entry.StampedEntry.{StampedEntry}
-use Rattle.access_log.specs.Held.{Lane, lane, fresh_lane, entry_at, IsKnown, IsFrontier, IsWithin, held_count}
+use Rattle.access_log.specs.Held.{Lane, lane, fresh_lane, entry_at, IsKnown, IsFrontier, IsWithin, IsRising, held_count}
 use Rattle.access_log.specs.Lanes.{RetainsAtMost, IsHeldSet}
 use Rattle.thread_clock.specs.Clock.{AtMost}
 use Rattle.std.proofs.lemmas.Bool.{cases_lt}
@@ -64,9 +64,14 @@ closed_from_retained old new frontiers kept are t n e =
     let within = AtMost-IsWithin old frontiers e.stamp are in
     (λ h. let p = both.0 h in (p.0, within.0 p.1), λ h. both.1 (h.0, within.1 h.1))
 
-pub IsHeldSet-retained : (old new : List Lane) (frontiers : List ℕ) → IsHeldSet old → ((t : ℕ) → RetainsAtMost (lane old t) (lane new t) frontiers) → length new ≡ length old → IsHeldSet new
-IsHeldSet-retained old new frontiers is kept same =
-    record { few = let few = is.few in omega arith; named = λ t n e h. is.named t n e (((kept t).held n e).0 h).0 }
+-- lanes past the last are fresh, and hold nothing
+pub rising_all : (held : List Lane) → ((t : ℕ) → t < length held → IsRising (lane held t).covered (lane held t).entries) → (t : ℕ) → IsRising (lane held t).covered (lane held t).entries
+rising_all held rising t =
+    ⊎_elim (λ h. rising t h) (λ h. let fresh = lane_past held t h in rw fresh tt) (cases_lt t (length held))
+
+pub IsHeldSet-retained : (old new : List Lane) (frontiers : List ℕ) → IsHeldSet old → ((t : ℕ) → RetainsAtMost (lane old t) (lane new t) frontiers) → length new ≡ length old → ((t : ℕ) → t < length old → IsRising (lane new t).covered (lane new t).entries) → IsHeldSet new
+IsHeldSet-retained old new frontiers is kept same rising =
+    record { few = let few = is.few in omega arith; named = λ t n e h. is.named t n e (((kept t).held n e).0 h).0; rising = rising_all new (λ t h. rising t (omega arith)) }
 
 pub entry_named : (held : List Lane) (t n : ℕ) (o : Option (Bor StampedEntry)) → IsHeldSet held → option_copied o ≡ entry_at (lane held t) n → IfSome o (λ e. (e.now.thread ≡ t) × (e.now.number ≡ n))
 entry_named held t n None is h = tt

@@ -1,3 +1,4 @@
 pub mod Retaining
 pub mod LaneLemmas
 pub mod SlotLemmas
+pub mod MemberLemmas

@@ -26,16 +26,16 @@ none_of_some (Some x) some h = h x refl
 abbrev pub at : List (ℕ × StampedEntry) → ℕ → Option StampedEntry
 at entries n = lookup (is_at (nat_cmp n)) entries
 
-is_at-apart : (a b : ℕ) → a ≢ b → is_at (nat_cmp a) b ≡ false
+pub is_at-apart : (a b : ℕ) → a ≢ b → is_at (nat_cmp a) b ≡ false
 is_at-apart a b h = grind (arith, common_steps, nat_tests)
 
-is_at-same : (a b : ℕ) → a ≡ b → is_at (nat_cmp a) b ≡ true
+pub is_at-same : (a b : ℕ) → a ≡ b → is_at (nat_cmp a) b ≡ true
 is_at-same a b h = grind (arith, common_steps, nat_tests)
 
 at-apart : (k n : ℕ) (e : StampedEntry) (entries : List (ℕ × StampedEntry)) → n ≢ k → at ((k, e) ∷ entries) n ≡ at entries n
 at-apart k n e entries h = ap (λ b. cond b (Some e) (at entries n)) (is_at-apart n k h)
 
-at-same : (k n : ℕ) (e : StampedEntry) (entries : List (ℕ × StampedEntry)) → n ≡ k → at ((k, e) ∷ entries) n ≡ Some e
+pub at-same : (k n : ℕ) (e : StampedEntry) (entries : List (ℕ × StampedEntry)) → n ≡ k → at ((k, e) ∷ entries) n ≡ Some e
 at-same k n e entries h = ap (λ b. cond b (Some e) (at entries n)) (is_at-same n k h)
 
 -- a number up to the first is not in the slots

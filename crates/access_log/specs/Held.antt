@@ -1,5 +1,5 @@
 -- A held set, as the list of its lanes: for each thread, how many of its entries are covered, and which are held.
-use Rattle.std.specs.Prelude.{◌≡◌, ℕ, ◌+◌, ◌≤◌, ◌<◌, ◌⊎◌, List, [], Option, IsSome, length, sum_by, slice_index, slice_index_or}
+use Rattle.std.specs.Prelude.{◌≡◌, ℕ, ◌+◌, ◌≤◌, ◌<◌, ◌⊎◌, List, [], ◌∷◌, Option, IsSome, length, sum_by, slice_index, slice_index_or}
 use Rattle.std.specs.Map.{lookup}
 use Rattle.std.specs.BTreeMap.{is_at}
 use Rattle.std.specs.Ordering.{nat_cmp}
@@ -39,6 +39,11 @@ IsWithin held stamp = (u f : ℕ) → IsFrontier (lane held u) f → slice_index
 pub record IsFirstMissing (held : List Lane) (stamp : List ℕ) (u n : ℕ) : Type 0 where
   pub above : (f : ℕ) → IsFrontier (lane held u) f → (f < slice_index stamp u) × (n ≡ f + 1)
   pub least : (w f : ℕ) → w < u → IsFrontier (lane held w) f → slice_index stamp w ≤ f
+
+-- the entries stand by strictly rising numbers, all of them above the least
+abbrev pub IsRising : ℕ → List (ℕ × StampedEntry) → Type 0
+IsRising least [] = Unit {0}
+IsRising least (x ∷ rest) = (least < x.0) × IsRising x.0 rest
 
 -- how many entries are held
 abbrev pub held_count : List Lane → ℕ

@@ -2,7 +2,7 @@
 use Rattle.std.specs.Prelude.{◌≡◌, ◌≢◌, ℕ, ◌+◌, ◌≤◌, ◌↔◌, List, Some, None, length, nat_le, if◌then◌else◌}
 use Rattle.thread_clock.specs.Clock.{AtMost}
 use Rattle.access_log.specs.declared.entry.StampedEntry.{StampedEntry}
-use Rattle.access_log.specs.Held.{Lane, lane, entry_at}
+use Rattle.access_log.specs.Held.{Lane, lane, entry_at, IsRising}
 
 -- the new lane holds this entry at this number, and else what the old one holds
 pub record PutsEntry (old new : Lane) (number : ℕ) (entry : StampedEntry) : Type 0 where
@@ -21,7 +21,9 @@ pub record RetainsAtMost (old new : Lane) (frontiers : List ℕ) : Type 0 where
   pub covered : new.covered ≡ old.covered
   pub held : (n : ℕ) (e : StampedEntry) → (entry_at new n ≡ Some e) ↔ ((entry_at old n ≡ Some e) × AtMost e.stamp frontiers)
 
--- what every held set keeps: a lane for each of at most 16 threads, and each entry in the lane of its thread, by its number
+-- What every held set keeps: a lane for each of at most 16 threads, and each entry in the lane of its thread, by its number.
+-- The numbers in a lane rise strictly, from above those covered: no entry stands twice.
 pub record IsHeldSet (held : List Lane) : Type 0 where
   pub few : length held ≤ 16
   pub named : (t n : ℕ) (e : StampedEntry) → entry_at (lane held t) n ≡ Some e → (e.thread ≡ t) × (e.number ≡ n)
+  pub rising : (t : ℕ) → IsRising (lane held t).covered (lane held t).entries

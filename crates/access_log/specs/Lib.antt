@@ -1,3 +1,4 @@
 pub mod Held
 pub mod Lanes
+pub mod Members
 pub mod Slots

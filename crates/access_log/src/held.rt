@@ -1,6 +1,7 @@
 ghost use Rattle.std.specs.Prelude.{◌≡◌, ℕ, ◌+◌, ◌-◌, ◌^◌, ◌<◌, ◌≤◌, ◌↔◌, ◌≢◌, List, Option, Some, None, Ok, IsSome, IfOk, IfSome, MatchOption, length, option_copied, replicate, slice_index};
-ghost use Rattle.access_log.specs.Held.{lane, entry_at, fresh_lane, IsKnown, IsFrontier, IsWithin, IsFirstMissing, held_count};
-ghost use Rattle.access_log.specs.Lanes.{PutsEntry, CoversUpTo, RetainsAtMost};
+ghost use Rattle.access_log.specs.Held.{lane, entry_at, fresh_lane, IsKnown, IsFrontier, IsWithin, IsFirstMissing, IsRising, held_count};
+ghost use Rattle.access_log.specs.Lanes.{PutsEntry, CoversUpTo, RetainsAtMost, IsHeldSet};
+ghost use Rattle.access_log.specs.Members.{IsMember, IsDropped, IsMemberAbove, IsNumberOf};
 
 use crate::lane::Lane;
 use crate::{Added, StampedEntry};
@@ -40,8 +41,10 @@ fn cover_each(lanes: &mut [Lane], counts: &Stamp)
     requires few { length lanes.old ≤ 16 }
     requires rising { (t : ℕ) → t < length lanes.old
         → (lane lanes.old t).covered ≤ slice_index counts.now t }
-    ensures { (t : ℕ) → t < length lanes.old
+    ensures covers { (t : ℕ) → t < length lanes.old
         → CoversUpTo (lane lanes.old t) (lane lanes.new t) (slice_index counts.now t) }
+    ensures rising { (t : ℕ) → t < length lanes.old
+        → IsRising (lane lanes.new t).covered (lane lanes.new t).entries }
 {
     for i in 0..lanes.len() {
         let lane = &mut lanes[i];
@@ -54,6 +57,8 @@ fn retain_in_each(lanes: &mut [Lane], frontiers: &Stamp) -> u64
     requires { length lanes.old ≤ 16 }
     ensures retained { (t : ℕ) → RetainsAtMost (lane lanes.old t) (lane lanes.new t) frontiers.now }
     ensures dropped { held_count lanes.new + result ≡ held_count lanes.old }
+    ensures rising { (t : ℕ) → t < length lanes.old
+        → IsRising (lane lanes.new t).covered (lane lanes.new t).entries }
 {
     let mut dropped = 0;
     for i in 0..lanes.len() {
@@ -91,6 +96,13 @@ impl Held {
         Ok(Held { lanes })
     }
 
+    /// What is true of every held set. It does nothing: a caller has it by the call.
+    pub fn is_held_set(&self)
+        ensures { IsHeldSet self.now }
+    {
+        let _lanes = &self.lanes;
+    }
+
     /// Holds this entry, unless one of its thread and number is held or covered: then nothing changes.
     pub fn add(&mut self, entry: StampedEntry) -> Result<Added, NoMemory>
         requires thread_in { entry.thread < length self.old }
@@ -118,12 +130,14 @@ impl Held {
         self.lanes.get(thread as usize)?.get(number)
     }
 
-    /// Marks each thread's entries up to its count as covered, and drops those held of them. It takes no memory.
+    /// Marks each thread's entries up to its count as covered, and drops those held of them: the held entries with numbers
+    /// above the counts are left. It takes no memory.
     pub fn cover(&mut self, counts: &Stamp)
         requires { (t : ℕ) → t < length self.old
             → (lane self.old t).covered ≤ slice_index counts.now t }
         ensures covers { (t : ℕ) → t < length self.old
             → CoversUpTo (lane self.old t) (lane self.new t) (slice_index counts.now t) }
+        ensures counted { IsNumberOf (IsMemberAbove self.old counts.now) (held_count self.new) }
         ensures threads { length self.new ≡ length self.old }
     {
         cover_each(&mut self.lanes, counts);
@@ -174,8 +188,10 @@ impl Held {
             ↔ ((entry_at (lane self.old t) n ≡ Some e) × IsWithin self.old e.stamp) }
         ensures covered { (t : ℕ) → (lane self.new t).covered ≡ (lane self.old t).covered }
         ensures threads { length self.new ≡ length self.old }
-        ensures kept { result.kept ≡ held_count self.new }
-        ensures dropped { result.kept + result.dropped ≡ held_count self.old }
+        ensures kept { IsNumberOf (IsMember self.new) result.kept }
+        ensures dropped { IsNumberOf (IsDropped self.old self.new) result.dropped }
+        ensures counted { result.kept ≡ held_count self.new }
+        ensures summed { result.kept + result.dropped ≡ held_count self.old }
     {
         let frontiers = self.frontiers();
         let dropped = retain_in_each(&mut self.lanes, &frontiers);

@@ -1,6 +1,6 @@
 ghost use Rattle.std.specs.Prelude.{◌≡◌, ℕ, ◌+◌, ◌-◌, ◌^◌, ◌<◌, ◌≤◌, ◌↔◌, ◌≢◌, List, Option, Some, None, Ok, IsSome, length, option_copied, nat_le, if◌then◌else◌, slice_index};
 ghost use Rattle.thread_clock.specs.Clock.{AtMost};
-ghost use Rattle.access_log.specs.Held.{entry_at, fresh_lane, IsKnown, IsFrontier};
+ghost use Rattle.access_log.specs.Held.{entry_at, fresh_lane, IsKnown, IsFrontier, IsRising};
 ghost use Rattle.access_log.specs.Lanes.{PutsEntry, CoversUpTo, RetainsAtMost};
 
 use crate::slots::Slots;
@@ -34,6 +34,7 @@ fn frontier_after(entries: &Slots, from: u64) -> u64
     ensures from { from ≤ result }
     ensures held { (n : ℕ) → from < n → n ≤ result → IsSome (entry_at entries.now n) }
     ensures ends { entry_at entries.now (result + 1) ≡ None }
+    ensures rising { IsRising entries.now.covered entries.now.entries }
 {
     let _numbers = entries.covered();
     let mut frontier = from;
@@ -83,6 +84,7 @@ impl Lane {
         ensures known { (result ≡ Ok Added.Known) ↔ IsKnown self.old number }
         ensures same { result ≢ Ok Added.New → self.new ≡ self.old }
         ensures new { result ≡ Ok Added.New → PutsEntry self.old self.new number entry }
+        ensures rising { IsRising self.new.covered self.new.entries }
     {
         if number <= self.entries.covered() || self.entries.get(number).is_some() {
             return Ok(Added::Known);
@@ -95,7 +97,8 @@ impl Lane {
     /// Marks the entries up to this count as covered, and drops those held of them. It takes no memory.
     pub fn cover(&mut self, count: u64)
         requires { self.old.covered ≤ count }
-        ensures { CoversUpTo self.old self.new count }
+        ensures covers { CoversUpTo self.old self.new count }
+        ensures rising { IsRising self.new.covered self.new.entries }
     {
         self.entries.cover(count);
         self.frontier = frontier_after(&self.entries, self.frontier.max(count));
@@ -105,6 +108,7 @@ impl Lane {
     pub fn retain_at_most(&mut self, frontiers: &Stamp)
         ensures retained { RetainsAtMost self.old self.new frontiers.now }
         ensures fewer { length self.new.entries ≤ length self.old.entries }
+        ensures rising { IsRising self.new.covered self.new.entries }
     {
         self.entries.retain_at_most(frontiers);
         self.frontier = frontier_after(&self.entries, self.entries.covered());

@@ -4,8 +4,10 @@
 mod entry;
 mod held;
 mod lane;
+mod laws;
 mod slots;
 
 pub use entry::{Added, Output, Outputs, StampedEntry, Turn};
 pub use entry_order::What;
 pub use held::{Held, Kept};
+pub use laws::held_sets_are_counted;

@@ -3,7 +3,7 @@ ghost use Rattle.std.specs.BTreeMap.{get, btree_map_len};
 ghost use Rattle.std.specs.VecDeque.{deque_len};
 ghost use Rattle.std.specs.Ordering.{nat_cmp};
 ghost use Rattle.thread_clock.specs.Clock.{AtMost};
-ghost use Rattle.access_log.specs.Held.{entry_at, fresh_lane};
+ghost use Rattle.access_log.specs.Held.{entry_at, fresh_lane, IsRising};
 ghost use Rattle.access_log.specs.Lanes.{PutsEntry, CoversUpTo, RetainsAtMost};
 ghost use Rattle.access_log.specs.Slots.{in_slots, IsSlotted, RetainsSlots};
 
@@ -147,7 +147,9 @@ impl Slots {
         ensures value { result ≡ self.now.covered }
         ensures numbers { (n : ℕ) → IsSome (entry_at self.now n)
             → (self.now.covered < n) × (n < 2 ^ 64) }
+        ensures rising { IsRising self.now.covered self.now.entries }
     {
+        let _ordered = self.out_of_order.len();
         self.covered
     }
 

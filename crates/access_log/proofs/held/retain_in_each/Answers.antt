@@ -1,6 +1,6 @@
 use Rattle.std.proofs.Common.{arith, sym, ap, subst, length, below_more, ◌≡◌, ◌∙◌, ◌≤◌, ◌<◌, ◌≢◌, slice_set}
 use Rattle.std.proofs.lemmas.List.{get_or_read}
-use Rattle.access_log.specs.Held.{Lane, lane, fresh_lane}
+use Rattle.access_log.specs.Held.{Lane, lane, fresh_lane, IsRising}
 use Rattle.access_log.specs.Lanes.{RetainsAtMost}
 use Rattle.access_log.proofs.LaneLemmas.{lane-slice_set, lane-slice_set_other, held_count-slice_set, RetainsAtMost-all}
 use Rattle.access_log.proofs.held.retain_in_each.Goals as goal
@@ -21,6 +21,7 @@ loop-i-preserved c =
     let counted = held_count-slice_set lanes i after within in
     record {
       retained = below_more (λ t. RetainsAtMost (lane c.args.lanes.now t) (lane (slice_set lanes i after) t) c.args.frontiers.now) i (λ t h. let apart : t ≢ i = λ e. omega arith in rw (lane-slice_set_other lanes i after t apart) (c.loop-i.invariant.retained t h)) (rw (same, ← first) retained);
+      rising = below_more (λ t. IsRising (lane (slice_set lanes i after) t).covered (lane (slice_set lanes i after) t).entries) i (λ t h. let apart : t ≢ i = λ e. omega arith in rw (lane-slice_set_other lanes i after t apart) (c.loop-i.invariant.rising t h)) (rw same c.retain_at_most.ensures.rising);
       ahead = λ t h. let apart : t ≢ i = λ e. omega arith in rw (lane-slice_set_other lanes i after t apart) (c.loop-i.invariant.ahead t (omega arith));
       dropped = omega arith;
       small = omega arith;
