@@ -24,16 +24,16 @@ use Rattle.recovery_laws.specs.Sound.{times}
 -- The schedule plays
 
 -- an effect tells the answer of its move
-abbrev deed_answer : {V : Type 0} → Effect V → Option ℕ
-deed_answer Takes = None
-deed_answer (Touches v left) = None
-deed_answer (Looks v) = None
-deed_answer (HearsClock a) = Some a
-deed_answer (HearsDraw a) = Some a
-deed_answer (Sends packet) = None
-deed_answer Ends = None
+abbrev effect_answer : {V : Type 0} → Effect V → Option ℕ
+effect_answer Takes = None
+effect_answer (Touches v left) = None
+effect_answer (Looks v) = None
+effect_answer (HearsClock a) = Some a
+effect_answer (HearsDraw a) = Some a
+effect_answer (Sends packet) = None
+effect_answer Ends = None
 
-act_answer : {V : Type 0} (t taken : ℕ) (A : List (Step V)) (d : Effect V) → answer_of (act_of t A taken d) ≡ deed_answer d
+act_answer : {V : Type 0} (t taken : ℕ) (A : List (Step V)) (d : Effect V) → answer_of (act_of t A taken d) ≡ effect_answer d
 act_answer t taken A Takes = refl
 act_answer t taken A (Touches v left) = refl
 act_answer t taken A (Looks v) = refl
@@ -42,10 +42,10 @@ act_answer t taken A (HearsDraw a) = refl
 act_answer t taken A (Sends packet) = refl
 act_answer t taken A Ends = refl
 
-of_deed : {V : Type 0} (d e : Effect V) (a : Option ℕ) → d ≡ e → deed_answer d ≡ a → a ≡ deed_answer e
-of_deed {V} d e a same is = sym is ∙ ap (λ (x : Effect V). deed_answer x) same
+of_deed : {V : Type 0} (d e : Effect V) (a : Option ℕ) → d ≡ e → effect_answer d ≡ a → a ≡ effect_answer e
+of_deed {V} d e a same is = sym is ∙ ap (λ (x : Effect V). effect_answer x) same
 
-hand_answer : {V : Type 0} (m : Meaning V) (value : ℕ → V) (taken : ℕ) (h : Hand) (a : Option ℕ) (w : Move) (after : Thread) (d : Effect V) → hand_move m value taken h a w ≡ Moves after d → a ≡ deed_answer d
+hand_answer : {V : Type 0} (m : Meaning V) (value : ℕ → V) (taken : ℕ) (h : Hand) (a : Option ℕ) (w : Move) (after : Thread) (d : Effect V) → hand_move m value taken h a w ≡ Moves after d → a ≡ effect_answer d
 hand_answer m value taken h None (Access v) after d e = of_deed (Touches v (m.touch v (value v) h.place).0) d None (cc) refl
 hand_answer m value taken h None (Read v) after d e = of_deed (Looks v) d None (cc) refl
 hand_answer m value taken h (Some a) Clock after d e = of_deed (HearsClock a) d (Some a) (cc) refl
@@ -59,11 +59,11 @@ hand_answer m value taken h (Some a) End after d e = absurd (cc)
 hand_answer m value taken h None Clock after d e = absurd (cc)
 hand_answer m value taken h None Draw after d e = absurd (cc)
 
-held_answer : {V : Type 0} (m : Meaning V) (packets : List Packet) (value : ℕ → V) (taken : ℕ) (a : Option ℕ) (hand : Option Hand) (after : Thread) (d : Effect V) → held_move m packets value taken a hand ≡ Moves after d → a ≡ deed_answer d
+held_answer : {V : Type 0} (m : Meaning V) (packets : List Packet) (value : ℕ → V) (taken : ℕ) (a : Option ℕ) (hand : Option Hand) (after : Thread) (d : Effect V) → held_move m packets value taken a hand ≡ Moves after d → a ≡ effect_answer d
 held_answer m packets value taken a (Some h) after d e = hand_answer m value taken h a (m.next h.place) after d e
 held_answer {V} m packets value taken a None after d e = go a (slice_get packets taken) e
   where
-    go : (a : Option ℕ) (i : Option Packet) → take_move m taken a i ≡ Moves after d → a ≡ deed_answer d
+    go : (a : Option ℕ) (i : Option Packet) → take_move m taken a i ≡ Moves after d → a ≡ effect_answer d
     go (Some a) i e = absurd (cc)
     go None None e = absurd (cc)
     go None (Some p) e = of_deed Takes d None (cc) refl
