@@ -1,2 +1,4 @@
 pub mod Cutting
+pub mod Faults
 pub mod Numbers
+pub mod Rows
