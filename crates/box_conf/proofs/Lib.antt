@@ -1,0 +1,3 @@
+pub mod OneFile
+pub mod OneLine
+pub mod WholeFile

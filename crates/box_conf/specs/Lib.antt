@@ -1,4 +1,5 @@
 pub mod BoxFile
-pub mod Keywords
 pub mod Kinds
+pub mod Reading
 pub mod Settings
+pub mod Table

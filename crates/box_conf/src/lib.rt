@@ -2,12 +2,13 @@
 #![tactic(auto)]
 
 mod conf;
-mod keywords;
 mod kind;
-mod kind_word;
+mod laws;
 mod settings;
+mod table;
 #[cfg(test)]
 mod tests;
 
-pub use conf::{ConfError, read_box};
+pub use conf::read_box;
 pub use kind::{BoxConf, BoxKind};
+pub use laws::a_text_is_one_box_file_or_has_a_fault;

@@ -4,7 +4,7 @@ use std::test::Fail;
 
 /// What a box file comes to: its threads, its seed and its tables, or the text of its error.
 fn told(alloc: Global, text: &str) -> Result<String, Fail> {
-    match read_box(alloc, text.as_bytes()) {
+    match read_box(text.as_bytes()) {
         Ok(conf) => match conf.kind {
             BoxKind::Count(_) => Ok(format!(in alloc; "{} {}", conf.threads, conf.seed)?),
             BoxKind::Monitor(monitor) => Ok(format!(in alloc;
@@ -12,7 +12,7 @@ fn told(alloc: Global, text: &str) -> Result<String, Fail> {
                 conf.threads, conf.seed, monitor.shards
             )?),
         },
-        Err(error) => Ok(format!(in alloc; "{error}")?),
+        Err(fault) => Ok(format!(in alloc; "{fault}")?),
     }
 }
 

@@ -1,3 +1,4 @@
 pub mod Fields
+pub mod Grammar
 pub mod Lines
 pub mod Octets

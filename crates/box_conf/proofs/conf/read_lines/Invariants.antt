@@ -1,7 +1,7 @@
 use Rattle.std.proofs.Common.{◌≡◌}
-use Rattle.box_conf.specs.BoxFile.{box_of, conf_of, set_lines}
+use Rattle.box_conf.specs.Reading.{box_of, conf_of, set_lines}
 use Rattle.box_conf.specs.Settings.{AreInRange}
-use Rattle.box_conf.proofs.conf.read_box.Given as goal
+use Rattle.box_conf.proofs.conf.read_lines.Given as goal
 
 -- the text comes to what the settings so far and the lines left come to; what was set is in its range
 abbrev pub invariant-loop-line : goal.invariant-loop-line

@@ -1,0 +1,199 @@
+-- What the reader does with one line is what the table of the kind says of it.
+use Rattle.std.proofs.Common.{◌≡◌, ℕ, ◌⊎◌, inl, inr, List, [], ◌∷◌, refl, sym, ap, ◌∙◌, subst, Option, Some, None, true, false, Bool, cond, Ok, Err}
+use Rattle.std.specs.Prelude.{Result, codes, is_some, option_map}
+use Rattle.std.specs.Str.{bytes_eq}
+use Rattle.plain_text.specs.declared.fault.LineCause.{LineCause}
+use Rattle.plain_text.specs.declared.fault.LineCause.TheVariants.{UnknownWord, MissingWord, ExtraWord, BadNumber, OutOfRange, Twice}
+use Rattle.plain_text.specs.Fields.{number_or_bad, with_rest, and_fields, fields_of}
+use Rattle.plain_text.specs.Grammar.{Place, Number, OneOf, Row, value_at, is_within, row_named, PlacesSay, LineSays, form_at, form_fault, range_at, range_fault, row_fault, or_else, line_fault}
+use Rattle.plain_text.specs.Lines.{number_of}
+use Rattle.box_conf.specs.declared.settings.Settings.{Settings}
+use Rattle.box_conf.specs.declared.table.KindWord.{KindWord}
+use Rattle.box_conf.specs.declared.table.KindWord.TheVariants.{Count, Monitor}
+use Rattle.box_conf.specs.declared.table.NumberLine.{NumberLine}
+use Rattle.box_conf.specs.declared.table.NumberLine.TheVariants.{Threads, Seed, Shards}
+use Rattle.box_conf.specs.Reading.{and_end, box_line, first_line, second_box, set_by, set_line}
+use Rattle.box_conf.specs.Settings.{setting, with_setting, once, in_range, number_line, set_number}
+use Rattle.box_conf.specs.Table.{kind_words, kind_index, kind_named, line_named, numbers_of, has_line, box_row, row_of, rows_of}
+
+abbrev places_fault : List Place → List (List ℕ) → Option LineCause
+places_fault places words = or_else (form_fault places words) (range_fault places words)
+
+-- The row that a word begins
+
+abbrev row_if : KindWord → Option NumberLine → Option Row
+row_if kind None = None
+row_if kind (Some line) = cond (has_line kind line) (Some (row_of line)) None
+
+row_of_word : (kind : KindWord) (word : List ℕ) → row_named word (rows_of kind) ≡ cond (bytes_eq word (codes "box")) (Some box_row) (row_if kind (line_named word))
+row_of_word Count word = go (bytes_eq word (codes "box")) (bytes_eq word (codes "threads")) (bytes_eq word (codes "seed")) (bytes_eq word (codes "shards"))
+  where
+    go : (b t s h : Bool) → cond b (Some box_row) (cond t (Some (row_of Threads)) (cond s (Some (row_of Seed)) None))
+        ≡ cond b (Some box_row) (row_if Count (cond t (Some Threads) (cond s (Some Seed) (cond h (Some Shards) None))))
+    go true t s h = refl
+    go false true s h = refl
+    go false false true h = refl
+    go false false false true = refl
+    go false false false false = refl
+row_of_word Monitor word = go (bytes_eq word (codes "box")) (bytes_eq word (codes "threads")) (bytes_eq word (codes "seed")) (bytes_eq word (codes "shards"))
+  where
+    go : (b t s h : Bool) → cond b (Some box_row) (cond t (Some (row_of Threads)) (cond s (Some (row_of Seed)) (cond h (Some (row_of Shards)) None)))
+        ≡ cond b (Some box_row) (row_if Monitor (cond t (Some Threads) (cond s (Some Seed) (cond h (Some Shards) None))))
+    go true t s h = refl
+    go false true s h = refl
+    go false false true h = refl
+    go false false false true = refl
+    go false false false false = refl
+
+-- the row `box` is one of each kind
+pub box_is_a_row : (kind : KindWord) (words : List (List ℕ)) (values : List ℕ) → LineSays (box_row ∷ []) words box_row values → LineSays (rows_of kind) words box_row values
+box_is_a_row kind [] values says = absurd says
+box_is_a_row kind (word ∷ words) values says = (go (bytes_eq word (codes "box")) _ says.0, says.1)
+  where
+    go : (b : Bool) (more : Option Row) → cond b (Some box_row) None ≡ Some box_row → cond b (Some box_row) more ≡ Some box_row
+    go true more e = refl
+    go false more e = absurd (cc)
+
+-- A line with one number
+
+abbrev NumberSays : ℕ → ℕ → Bool → List (List ℕ) → Result ℕ LineCause → Type 0
+NumberSays low high had words (Ok n) = PlacesSay (Number low high ∷ []) words (n ∷ []) × (had ≡ false)
+NumberSays low high had words (Err cause) =
+    (places_fault (Number low high ∷ []) words ≡ Some cause)
+    ⊎ ((n : ℕ) × PlacesSay (Number low high ∷ []) words (n ∷ []) × (had ≡ true) × (cause ≡ Twice))
+
+abbrev reading : ℕ → ℕ → Bool → Option ℕ → List (List ℕ) → Result ℕ LineCause
+reading low high had value words = in_range low high had (and_fields (with_rest (number_or_bad value) words) (λ rest. fields_of [] rest))
+
+abbrev fault_by : Place → Option ℕ → List (List ℕ) → Option LineCause
+fault_by place value words = or_else (form_at place value (form_fault [] words)) (range_at place value (range_fault [] words))
+
+number_says : (low high : ℕ) (had : Bool) (words : List (List ℕ)) → NumberSays low high had words (number_line low high had words)
+number_says low high had [] = inl refl
+number_says low high had (word ∷ []) = by_number had (number_of word) refl
+  where
+    place : Place
+    place = Number low high
+
+    by_range : (h b : Bool) (n : ℕ) → number_of word ≡ Some n → is_within place n ≡ b → NumberSays low high h (word ∷ []) (cond b (once h n) (Err OutOfRange))
+    by_range h false n e w =
+        inl (subst (λ (o : Option ℕ). fault_by place o [] ≡ Some OutOfRange) (sym e)
+        (subst (λ (b : Bool). cond b None (Some OutOfRange) ≡ Some OutOfRange) (sym w) refl))
+    by_range false true n e w = ((e, w, tt), refl)
+    by_range true true n e w = inr (n, (e, w, tt), refl, refl)
+
+    by_number : (h : Bool) (o : Option ℕ) → number_of word ≡ o → NumberSays low high h (word ∷ []) (reading low high h o [])
+    by_number h None e = inl (subst (λ (o : Option ℕ). fault_by place o [] ≡ Some BadNumber) (sym e) refl)
+    by_number h (Some n) e = by_range h (is_within place n) n e refl
+number_says low high had (word ∷ extra ∷ words) = by_number (number_of word) refl
+  where
+    place : Place
+    place = Number low high
+
+    by_number : (o : Option ℕ) → number_of word ≡ o → NumberSays low high had (word ∷ extra ∷ words) (reading low high had o (extra ∷ words))
+    by_number None e = inl (subst (λ (o : Option ℕ). fault_by place o (extra ∷ words) ≡ Some BadNumber) (sym e) refl)
+    by_number (Some n) e = inl (subst (λ (o : Option ℕ). fault_by place o (extra ∷ words) ≡ Some ExtraWord) (sym e) refl)
+
+-- The line that names the kind
+
+abbrev BoxSays : List (List ℕ) → Result KindWord LineCause → Type 0
+BoxSays words (Ok kind) = PlacesSay (OneOf kind_words ∷ []) words (kind_index kind ∷ [])
+BoxSays words (Err cause) = places_fault (OneOf kind_words ∷ []) words ≡ Some cause
+
+kind_value : (word : List ℕ) → value_at (OneOf kind_words) word ≡ option_map kind_index (kind_named word)
+kind_value word = go (bytes_eq word (codes "count")) (bytes_eq word (codes "monitor")) refl refl
+  where
+    go : (c m : Bool) → bytes_eq word (codes "count") ≡ c → bytes_eq word (codes "monitor") ≡ m → value_at (OneOf kind_words) word ≡ option_map kind_index (kind_named word)
+    go true m e f = rw (e) refl
+    go false true e f = rw (e, f) refl
+    go false false e f = rw (e, f) refl
+
+box_says : (words : List (List ℕ)) → BoxSays words (box_line words)
+box_says [] = refl
+box_says (word ∷ words) = by_kind (kind_named word) words (kind_value word)
+  where
+    place : Place
+    place = OneOf kind_words
+
+    by_kind : (o : Option KindWord) (rest : List (List ℕ)) → value_at place word ≡ option_map kind_index o → BoxSays (word ∷ rest) (and_end o (fields_of [] rest))
+    by_kind None rest e = subst (λ (o : Option ℕ). fault_by place o rest ≡ Some UnknownWord) (sym e) refl
+    by_kind (Some kind) [] e = (e, refl, tt)
+    by_kind (Some kind) (extra ∷ rest) e = subst (λ (o : Option ℕ). fault_by place o (extra ∷ rest) ≡ Some ExtraWord) (sym e) refl
+
+abbrev pub FirstSays : List (List ℕ) → Result KindWord LineCause → Type 0
+FirstSays words (Ok kind) = LineSays (box_row ∷ []) words box_row (kind_index kind ∷ [])
+FirstSays words (Err cause) = line_fault (box_row ∷ []) words ≡ Some cause
+
+pub first_says : (words : List (List ℕ)) → FirstSays words (first_line words)
+first_says [] = refl
+first_says (word ∷ words) = by_box (bytes_eq word (codes "box")) refl
+  where
+    by_line : (r : Result KindWord LineCause) → row_named word (box_row ∷ []) ≡ Some box_row → BoxSays words r → FirstSays (word ∷ words) r
+    by_line (Ok kind) row says = (row, says)
+    by_line (Err cause) row fault = subst (λ (o : Option Row). row_fault o words ≡ Some cause) (sym row) fault
+
+    by_box : (b : Bool) → bytes_eq word (codes "box") ≡ b → FirstSays (word ∷ words) (cond b (box_line words) (Err UnknownWord))
+    by_box true e = by_line (box_line words) (ap (λ (b : Bool). cond b (Some box_row) None) e) (box_says words)
+    by_box false e =
+        let row : row_named word (box_row ∷ []) ≡ None = ap (λ (b : Bool). cond b (Some box_row) None) e in
+        subst (λ (o : Option Row). row_fault o words ≡ Some UnknownWord) (sym row) refl
+
+-- A later line
+
+-- the row stood before, by the settings
+abbrev pub Stood : Settings → Row → Type 0
+Stood s row = (row ≡ box_row) ⊎ ((line : NumberLine) × (n : ℕ) × (row ≡ row_of line) × (setting s line ≡ Some n))
+
+-- a line sets a number that was not set; or it has a fault; or its row stood before
+abbrev pub StepSays : KindWord → Settings → List (List ℕ) → Result Settings LineCause → Type 0
+StepSays kind s words (Ok next) = (line : NumberLine) × (n : ℕ) × LineSays (rows_of kind) words (row_of line) (n ∷ []) × (setting s line ≡ None) × (next ≡ with_setting s line n)
+StepSays kind s words (Err cause) =
+    (line_fault (rows_of kind) words ≡ Some cause)
+    ⊎ ((row : Row) × (values : List ℕ) × LineSays (rows_of kind) words row values × (row.again ≡ false) × Stood s row × (cause ≡ Twice))
+
+unset : (o : Option ℕ) → is_some o ≡ false → o ≡ None
+unset None e = refl
+unset (Some n) e = absurd (cc)
+
+was_set : (o : Option ℕ) → is_some o ≡ true → (n : ℕ) × (o ≡ Some n)
+was_set None e = absurd (cc)
+was_set (Some n) e = (n, refl)
+
+pub step_says : (kind : KindWord) (s : Settings) (words : List (List ℕ)) → StepSays kind s words (set_line kind s words)
+step_says kind s [] = inl refl
+step_says kind s (word ∷ words) = by_box (bytes_eq word (codes "box")) refl
+  where
+    Row_is : Option Row → Type 0
+    Row_is o = row_named word (rows_of kind) ≡ o
+
+    faulty : (o : Option Row) (cause : LineCause) → Row_is o → row_fault o words ≡ Some cause → StepSays kind s (word ∷ words) (Err cause)
+    faulty o cause row fault = inl (subst (λ (o : Option Row). row_fault o words ≡ Some cause) (sym row) fault)
+
+    by_kind : (r : Result KindWord LineCause) → Row_is (Some box_row) → BoxSays words r → StepSays kind s (word ∷ words) (second_box r)
+    by_kind (Ok named) row says = inr (box_row, kind_index named ∷ [], (row, says), refl, inl refl, refl)
+    by_kind (Err cause) row fault = faulty (Some box_row) cause row fault
+
+    by_number : (line : NumberLine) (r : Result ℕ LineCause) → Row_is (Some (row_of line)) → NumberSays (numbers_of line).low (numbers_of line).high (is_some (setting s line)) words r
+        → StepSays kind s (word ∷ words) (set_number s line r)
+    by_number line (Ok n) row says = (line, n, (row, says.0), unset (setting s line) says.1, refl)
+    by_number line (Err cause) row (inl fault) = faulty (Some (row_of line)) cause row fault
+    by_number line (Err cause) row (inr twice) =
+        let before = was_set (setting s line) twice.2 in
+        inr (row_of line, twice.0 ∷ [], (row, twice.1), refl, inr (line, before.0, refl, before.1), twice.3)
+
+    by_has : (line : NumberLine) (b : Bool) → Row_is (cond b (Some (row_of line)) None)
+        → StepSays kind s (word ∷ words) (cond b (set_number s line (number_line (numbers_of line).low (numbers_of line).high (is_some (setting s line)) words)) (Err UnknownWord))
+    by_has line true row = by_number line _ row (number_says (numbers_of line).low (numbers_of line).high (is_some (setting s line)) words)
+    by_has line false row = faulty None UnknownWord row refl
+
+    by_line : (o : Option NumberLine) → Row_is (row_if kind o) → StepSays kind s (word ∷ words) (set_by kind s o words)
+    by_line None row = faulty None UnknownWord row refl
+    by_line (Some line) row = by_has line (has_line kind line) row
+
+    by_box : (b : Bool) → bytes_eq word (codes "box") ≡ b → StepSays kind s (word ∷ words) (cond b (second_box (box_line words)) (set_by kind s (line_named word) words))
+    by_box true e =
+        let row = row_of_word kind word ∙ ap (λ (b : Bool). cond b (Some box_row) (row_if kind (line_named word))) e in
+        by_kind (box_line words) row (box_says words)
+    by_box false e =
+        let row = row_of_word kind word ∙ ap (λ (b : Bool). cond b (Some box_row) (row_if kind (line_named word))) e in
+        by_line (line_named word) row

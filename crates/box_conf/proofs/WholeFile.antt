@@ -1,0 +1,335 @@
+-- What the reader does with all lines is what the relation of box files says: it goes along the lines, and its settings are what
+-- the lines so far set.
+use Rattle.std.proofs.Common.{◌≡◌, ◌≢◌, ℕ, ◌+◌, ◌<◌, ◌≤◌, ◌⊎◌, inl, inr, List, [], ◌∷◌, length, refl, sym, ap, ◌∙◌, subst, arith, Option, Some, None, true, false, Bool, Ok, Err}
+use Rattle.std.specs.Prelude.{Result, unwrap_or}
+use Rattle.std.specs.Str.Lines.{lines as lines_of}
+use Rattle.plain_text.specs.declared.fault.LineCause.{LineCause}
+use Rattle.plain_text.specs.declared.fault.LineCause.TheVariants.{MissingLine, Twice}
+use Rattle.plain_text.specs.declared.fault.LineFault.{LineFault}
+use Rattle.plain_text.specs.Grammar.{Row, LineSays, Has as HasLine, Says, Leaves, Repeats, AreLines, FirstToLeave, Sets, line_fault}
+use Rattle.plain_text.specs.Lines.{words_of, words_count, counted_lines}
+use Rattle.plain_text.proofs.Rows.{one_row}
+use Rattle.plain_text.proofs.Faults.{Rising, counted_rise, from_rising, only_repeats, all_of_table}
+use Rattle.monitor_box.specs.Boxes.{box_with}
+use Rattle.box_conf.specs.declared.kind.BoxConf.{BoxConf}
+use Rattle.box_conf.specs.declared.settings.Settings.{Settings}
+use Rattle.box_conf.specs.declared.table.KindWord.{KindWord}
+use Rattle.box_conf.specs.declared.table.KindWord.TheVariants.{Count, Monitor}
+use Rattle.box_conf.specs.declared.table.NumberLine.{NumberLine}
+use Rattle.box_conf.specs.declared.table.NumberLine.TheVariants.{Threads, Seed, Shards}
+use Rattle.box_conf.specs.BoxFile.{AreOfKind, IsBoxFile, IsKind, Names, NamesNone, FirstFault, Has as HasNumber}
+use Rattle.box_conf.specs.Reading.{and_kind, and_lines, box_of, box_of_lines, conf_of, fault_at, first_line, kind_with, no_settings, set_line, set_lines}
+use Rattle.box_conf.specs.Settings.{setting, with_setting, number_in}
+use Rattle.box_conf.specs.Table.{box_row, row_of, rows_of, kind_index, numbers_of}
+use Rattle.box_conf.proofs.OneLine.{StepSays, Stood, step_says, FirstSays, first_says, box_is_a_row}
+
+abbrev Line : Type 0
+Line = ℕ × List ℕ
+
+-- Rows differ by their words
+
+apart : (m n : ℕ) → (m < n) ⊎ (n < m) → m ≡ n → ⊥
+apart m n (inl less) e = absurd (omega arith)
+apart m n (inr more) e = absurd (omega arith)
+
+not_box : (line : NumberLine) → box_row ≡ row_of line → ⊥
+not_box Threads e = apart 3 7 (inl (omega arith)) (ap (λ (r : Row). length r.word) e)
+not_box Seed e = apart 3 4 (inl (omega arith)) (ap (λ (r : Row). length r.word) e)
+not_box Shards e = apart 3 6 (inl (omega arith)) (ap (λ (r : Row). length r.word) e)
+
+same_line : (a b : NumberLine) → row_of a ≡ row_of b → a ≡ b
+same_line Threads Threads e = refl
+same_line Seed Seed e = refl
+same_line Shards Shards e = refl
+same_line Threads Seed e = absurd (apart 7 4 (inr (omega arith)) (ap (λ (r : Row). length r.word) e))
+same_line Threads Shards e = absurd (apart 7 6 (inr (omega arith)) (ap (λ (r : Row). length r.word) e))
+same_line Seed Threads e = absurd (apart 4 7 (inl (omega arith)) (ap (λ (r : Row). length r.word) e))
+same_line Seed Shards e = absurd (apart 4 6 (inl (omega arith)) (ap (λ (r : Row). length r.word) e))
+same_line Shards Threads e = absurd (apart 6 7 (inl (omega arith)) (ap (λ (r : Row). length r.word) e))
+same_line Shards Seed e = absurd (apart 6 4 (inr (omega arith)) (ap (λ (r : Row). length r.word) e))
+
+-- a line is another, or the number that was set is its own
+set_or : (s : Settings) (a b : NumberLine) (n : ℕ) → (a ≢ b × (setting (with_setting s a n) b ≡ setting s b)) ⊎ ((a ≡ b) × (setting (with_setting s a n) b ≡ Some n))
+set_or s Threads Threads n = inr (refl, refl)
+set_or s Seed Seed n = inr (refl, refl)
+set_or s Shards Shards n = inr (refl, refl)
+set_or s Threads Seed n = inl ((λ e. cc), refl)
+set_or s Threads Shards n = inl ((λ e. cc), refl)
+set_or s Seed Threads n = inl ((λ e. cc), refl)
+set_or s Seed Shards n = inl ((λ e. cc), refl)
+set_or s Shards Threads n = inl ((λ e. cc), refl)
+set_or s Shards Seed n = inl ((λ e. cc), refl)
+
+-- What the lines so far have set
+
+abbrev IsSet : KindWord → List Line → NumberLine → Option ℕ → Type 0
+IsSet kind lines line None = (x : Line) (values : List ℕ) → HasLine lines x → Says (rows_of kind) x (row_of line) values → ⊥
+IsSet kind lines line (Some n) = (x : Line) × HasLine lines x × Says (rows_of kind) x (row_of line) (n ∷ [])
+
+record Stands (kind : KindWord) (s : Settings) (lines : List Line) : Type 0 where
+  pub named : (x : Line) × (values : List ℕ) × HasLine lines x × Says (rows_of kind) x box_row values
+  pub set : (line : NumberLine) → IsSet kind lines line (setting s line)
+
+-- one more line
+stands_more : (kind : KindWord) (s : Settings) (before : List Line) (x : Line) (line : NumberLine) (n : ℕ) → Stands kind s before → Says (rows_of kind) x (row_of line) (n ∷ [])
+    → Stands kind (with_setting s line n) (x ∷ before)
+stands_more kind s before x line n stands says = record {
+  named = (stands.named.0, stands.named.1, inr stands.named.2, stands.named.3);
+  set = set_of;
+}
+  where
+    older : (other : NumberLine) (o : Option ℕ) → line ≢ other → IsSet kind before other o → IsSet kind (x ∷ before) other o
+    older other None differs none = λ y values there other_says. by_place y values other_says there
+      where
+        by_place : (y : Line) (values : List ℕ) → Says (rows_of kind) y (row_of other) values → HasLine (x ∷ before) y → ⊥
+        by_place y values other_says (inl e) =
+            let here : Says (rows_of kind) x (row_of other) values = subst (λ (l : Line). Says (rows_of kind) l (row_of other) values) e other_says in
+            let row = one_row (rows_of kind) (words_of x.1) (row_of line) (row_of other) (n ∷ []) values says here in
+            differs (same_line line other row)
+        by_place y values other_says (inr there) = none y values there other_says
+    older other (Some m) differs some = (some.0, inr some.1, some.2)
+
+    set_of : (other : NumberLine) → IsSet kind (x ∷ before) other (setting (with_setting s line n) other)
+    set_of other = by_set (set_or s line other n)
+      where
+        by_set : (line ≢ other × (setting (with_setting s line n) other ≡ setting s other)) ⊎ ((line ≡ other) × (setting (with_setting s line n) other ≡ Some n))
+            → IsSet kind (x ∷ before) other (setting (with_setting s line n) other)
+        by_set (inl differs) = subst (IsSet kind (x ∷ before) other) (sym differs.1) (older other (setting s other) differs.0 (stands.set other))
+        by_set (inr same) =
+            let here : Says (rows_of kind) x (row_of other) (n ∷ []) = subst (λ (l : NumberLine). Says (rows_of kind) x (row_of l) (n ∷ [])) same.0 says in
+            subst (IsSet kind (x ∷ before) other) (sym same.1) (x, inl refl, here)
+
+-- Along the lines
+
+-- of all lines those so far are in the table, and the settings are what they set; the others have greater numbers
+record Amid (kind : KindWord) (all : List Line) (s : Settings) (n : ℕ) (before rest : List Line) : Type 0 where
+  pub split : (x : Line) → HasLine all x → HasLine before x ⊎ HasLine rest x
+  pub from_before : (x : Line) → HasLine before x → HasLine all x
+  pub from_rest : (x : Line) → HasLine rest x → HasLine all x
+  pub rising : Rising n rest
+  pub below : (x : Line) → HasLine before x → x.0 < n
+  pub stands : Stands kind s before
+  pub stays : (x : Line) (cause : LineCause) → HasLine before x → Leaves (rows_of kind) all x cause → ⊥
+
+abbrev Comes : KindWord → List Line → Result Settings LineFault → Type 0
+Comes kind all (Ok s) = Stands kind s all × AreLines (rows_of kind) all
+Comes kind all (Err fault) = FirstToLeave (rows_of kind) all fault.line fault.cause
+
+stands_all : (kind : KindWord) (all : List Line) (s : Settings) (n : ℕ) (before : List Line) → Amid kind all s n before [] → Comes kind all (Ok s)
+stands_all kind all s n before a = (
+  record {
+    named = (a.stands.named.0, a.stands.named.1, a.from_before a.stands.named.0 a.stands.named.2, a.stands.named.3);
+    set = λ line. set_of line (setting s line) (a.stands.set line);
+  },
+  all_of_table (rows_of kind) all (λ x cause there leaves. a.stays x cause (only_before x (a.split x there)) leaves),
+)
+  where
+    only_before : (x : Line) → HasLine before x ⊎ HasLine [] x → HasLine before x
+    only_before x (inl there) = there
+    only_before x (inr none) = absurd none
+
+    set_of : (line : NumberLine) (o : Option ℕ) → IsSet kind before line o → IsSet kind all line o
+    set_of line None none = λ x values there says. none x values (only_before x (a.split x there)) says
+    set_of line (Some m) some = (some.0, a.from_before some.0 some.1, some.2)
+
+along : (kind : KindWord) (all rest before : List Line) (s : Settings) (n : ℕ) → Amid kind all s n before rest → Comes kind all (set_lines kind s rest)
+along kind all [] before s n a = stands_all kind all s n before a
+along kind all (line ∷ rest) before s n a = by_step (set_line kind s (words_of line.1)) (step_says kind s (words_of line.1)) (along kind all rest (line ∷ before))
+  where
+    High : ℕ → Type 0
+    High m = line.0 ≤ m
+
+    from_here : (x : Line) → HasLine (line ∷ rest) x → line.0 ≤ x.0
+    from_here x there = from_rising line.0 (line ∷ rest) x (omega arith, a.rising.1) there
+
+    earlier : (x : Line) → HasLine all x → x.0 < line.0 → HasLine before x
+    earlier x there less = by_split (a.split x there)
+      where
+        by_split : HasLine before x ⊎ HasLine (line ∷ rest) x → HasLine before x
+        by_split (inl there) = there
+        by_split (inr later) = let high = from_here x later in absurd (omega arith)
+
+    goes_on : (next : Settings) → StepSays kind s (words_of line.1) (Ok next) → Amid kind all next (line.0 + 1) (line ∷ before) rest
+    goes_on next says = record {
+      split = λ x there. by_split x (a.split x there);
+      from_before = λ x there. by_place x there;
+      from_rest = λ x there. a.from_rest x (inr there);
+      rising = a.rising.1;
+      below = λ x there. by_number x there;
+      stands = subst (λ (t : Settings). Stands kind t (line ∷ before)) (sym says.4) (stands_more kind s before line says.0 says.1 a.stands says.2);
+      stays = λ x cause there leaves. by_leaving x cause there leaves;
+    }
+      where
+        by_split : (x : Line) → HasLine before x ⊎ HasLine (line ∷ rest) x → HasLine (line ∷ before) x ⊎ HasLine rest x
+        by_split x (inl there) = inl (inr there)
+        by_split x (inr (inl e)) = inl (inl e)
+        by_split x (inr (inr there)) = inr there
+
+        by_place : (x : Line) → HasLine (line ∷ before) x → HasLine all x
+        by_place x (inl e) = a.from_rest x (inl e)
+        by_place x (inr there) = a.from_before x there
+
+        by_number : (x : Line) → HasLine (line ∷ before) x → x.0 < line.0 + 1
+        by_number x (inl e) = let k : x.0 ≡ line.0 = ap (λ (l : Line). l.0) e in omega arith
+        by_number x (inr there) = let k = a.below x there in let low = a.rising.0 in omega arith
+
+        here_stays : (cause : LineCause) → Leaves (rows_of kind) all line cause → ⊥
+        here_stays cause leaves =
+            let again = (only_repeats (rows_of kind) all line (row_of says.0) (says.1 ∷ []) cause says.2 leaves).0 in
+            let stood = again.stood in
+            let row = one_row (rows_of kind) (words_of line.1) again.row (row_of says.0) again.values (says.1 ∷ []) again.says says.2 in
+            let there = earlier stood.earlier stood.stands stood.before in
+            let said : Says (rows_of kind) stood.earlier (row_of says.0) stood.values = subst (λ (r : Row). Says (rows_of kind) stood.earlier r stood.values) row stood.says in
+            let none : IsSet kind before says.0 None = subst (IsSet kind before says.0) says.3 (a.stands.set says.0) in
+            none stood.earlier stood.values there said
+
+        by_leaving : (x : Line) (cause : LineCause) → HasLine (line ∷ before) x → Leaves (rows_of kind) all x cause → ⊥
+        by_leaving x cause (inl e) leaves = here_stays cause (subst (λ (l : Line). Leaves (rows_of kind) all l cause) e leaves)
+        by_leaving x cause (inr there) leaves = a.stays x cause there leaves
+
+    stood_before : (row : Row) → Stood s row → (x : Line) × (values : List ℕ) × HasLine before x × Says (rows_of kind) x row values
+    stood_before row (inl e) =
+        let named = a.stands.named in
+        (named.0, named.1, named.2, subst (λ (r : Row). Says (rows_of kind) named.0 r named.1) (sym e) named.3)
+    stood_before row (inr set) =
+        let some : IsSet kind before set.0 (Some set.1) = subst (IsSet kind before set.0) set.3 (a.stands.set set.0) in
+        (some.0, set.1 ∷ [], some.1, subst (λ (r : Row). Says (rows_of kind) some.0 r (set.1 ∷ [])) (sym set.2) some.2)
+
+    leaves_here : (cause : LineCause) → StepSays kind s (words_of line.1) (Err cause) → Leaves (rows_of kind) all line cause
+    leaves_here cause (inl fault) = inl fault
+    leaves_here cause (inr again) =
+        let stood = stood_before again.0 again.4 in
+        let low = a.below stood.0 stood.2 in
+        let high = a.rising.0 in
+        inr (
+          record {
+            row = again.0;
+            values = again.1;
+            says = again.2;
+            once = again.3;
+            stood = record {
+              earlier = stood.0;
+              values = stood.1;
+              stands = a.from_before stood.0 stood.2;
+              before = omega arith;
+              says = stood.3;
+            };
+          },
+          again.5,
+        )
+
+    least : (other : Line) (why : LineCause) → HasLine all other → Leaves (rows_of kind) all other why → line.0 ≤ other.0
+    least other why there leaves = by_split (a.split other there)
+      where
+        by_split : HasLine before other ⊎ HasLine (line ∷ rest) other → line.0 ≤ other.0
+        by_split (inl earlier) = absurd (a.stays other why earlier leaves)
+        by_split (inr later) = from_here other later
+
+    by_step : (r : Result Settings LineCause) → StepSays kind s (words_of line.1) r
+        → ((t : Settings) (m : ℕ) → Amid kind all t m (line ∷ before) rest → Comes kind all (set_lines kind t rest))
+        → Comes kind all (and_lines line.0 r (λ next. set_lines kind next rest))
+    by_step (Ok next) says more = more next (line.0 + 1) (goes_on next says)
+    by_step (Err cause) says more = record {
+      line = line;
+      numbered = refl;
+      stands = a.from_rest line (inl refl);
+      leaves = leaves_here cause says;
+      least = least;
+    }
+
+-- The whole text
+
+-- behind the first line
+begins : (kind : KindWord) (first : Line) (rest : List Line) (n : ℕ) → Rising n (first ∷ rest) → LineSays (box_row ∷ []) (words_of first.1) box_row (kind_index kind ∷ [])
+    → Amid kind (first ∷ rest) no_settings (first.0 + 1) (first ∷ []) rest
+begins kind first rest n rising names = record {
+  split = λ x there. by_split x there;
+  from_before = λ x there. by_place x there;
+  from_rest = λ x there. inr there;
+  rising = rising.1;
+  below = λ x there. by_number x there;
+  stands = record { named = (first, kind_index kind ∷ [], inl refl, says); set = unset };
+  stays = λ x cause there leaves. by_leaving x cause there leaves;
+}
+  where
+    says : Says (rows_of kind) first box_row (kind_index kind ∷ [])
+    says = box_is_a_row kind (words_of first.1) (kind_index kind ∷ []) names
+
+    by_split : (x : Line) → HasLine (first ∷ rest) x → HasLine (first ∷ []) x ⊎ HasLine rest x
+    by_split x (inl e) = inl (inl e)
+    by_split x (inr there) = inr there
+
+    by_place : (x : Line) → HasLine (first ∷ []) x → HasLine (first ∷ rest) x
+    by_place x (inl e) = inl e
+    by_place x (inr none) = absurd none
+
+    by_number : (x : Line) → HasLine (first ∷ []) x → x.0 < first.0 + 1
+    by_number x (inl e) = let k : x.0 ≡ first.0 = ap (λ (l : Line). l.0) e in omega arith
+    by_number x (inr none) = absurd none
+
+    none_of : (line : NumberLine) (x : Line) (values : List ℕ) → HasLine (first ∷ []) x → Says (rows_of kind) x (row_of line) values → ⊥
+    none_of line x values (inl e) other =
+        let here : Says (rows_of kind) first (row_of line) values = subst (λ (l : Line). Says (rows_of kind) l (row_of line) values) e other in
+        not_box line (one_row (rows_of kind) (words_of first.1) box_row (row_of line) (kind_index kind ∷ []) values says here)
+    none_of line x values (inr none) other = absurd none
+
+    unset : (line : NumberLine) → IsSet kind (first ∷ []) line (setting no_settings line)
+    unset Threads = none_of Threads
+    unset Seed = none_of Seed
+    unset Shards = none_of Shards
+
+    here_stays : (cause : LineCause) → Leaves (rows_of kind) (first ∷ rest) first cause → ⊥
+    here_stays cause leaves =
+        let again = (only_repeats (rows_of kind) (first ∷ rest) first box_row (kind_index kind ∷ []) cause says leaves).0 in
+        let stood = again.stood in
+        let high = from_rising first.0 (first ∷ rest) stood.earlier (omega arith, rising.1) stood.stands in
+        let low = stood.before in
+        absurd (omega arith)
+
+    by_leaving : (x : Line) (cause : LineCause) → HasLine (first ∷ []) x → Leaves (rows_of kind) (first ∷ rest) x cause → ⊥
+    by_leaving x cause (inl e) leaves = here_stays cause (subst (λ (l : Line). Leaves (rows_of kind) (first ∷ rest) l cause) e leaves)
+    by_leaving x cause (inr none) leaves = absurd none
+
+number_of_line : (kind : KindWord) (lines : List Line) (s : Settings) (line : NumberLine) → Stands kind s lines → HasNumber kind lines line (number_in s line)
+number_of_line kind lines s line stands = by_set (setting s line) (stands.set line)
+  where
+    by_set : (o : Option ℕ) → IsSet kind lines line o → HasNumber kind lines line (unwrap_or o (numbers_of line).usual)
+    by_set None none = inr (refl, none)
+    by_set (Some n) some = inl some
+
+is_kind : (kind : KindWord) (lines : List Line) (s : Settings) → Stands kind s lines → IsKind kind lines (kind_with kind s)
+is_kind Count lines s stands = refl
+is_kind Monitor lines s stands = (number_in s Shards, number_of_line Monitor lines s Shards stands, refl)
+
+-- what the reader comes to
+abbrev pub Reads : List Line → ℕ → Result BoxConf LineFault → Type 0
+Reads lines count (Ok conf) = (kind : KindWord) × AreOfKind kind lines conf
+Reads lines count (Err fault) =
+    ((lines ≡ []) × (fault.line ≡ count + 1) × (fault.cause ≡ MissingLine))
+    ⊎ NamesNone lines fault.line fault.cause
+    ⊎ (kind : KindWord) × Names lines kind × FirstToLeave (rows_of kind) lines fault.line fault.cause
+
+reads_lines : (lines : List Line) (count n : ℕ) → Rising n lines → Reads lines count (box_of_lines count lines)
+reads_lines [] count n rising = inl (refl, refl, refl)
+reads_lines (first ∷ rest) count n rising = by_first (first_line (words_of first.1)) (first_says (words_of first.1))
+  where
+    by_lines : (kind : KindWord) (r : Result Settings LineFault) → LineSays (box_row ∷ []) (words_of first.1) box_row (kind_index kind ∷ []) → Comes kind (first ∷ rest) r
+        → Reads (first ∷ rest) count (conf_of kind r)
+    by_lines kind (Ok s) names comes = (
+      kind,
+      record {
+        names = names;
+        rows = comes.1;
+        threads = number_of_line kind (first ∷ rest) s Threads comes.0;
+        seed = number_of_line kind (first ∷ rest) s Seed comes.0;
+        box = is_kind kind (first ∷ rest) s comes.0;
+      },
+    )
+    by_lines kind (Err fault) names comes = inr (inr (kind, names, comes))
+
+    by_first : (r : Result KindWord LineCause) → FirstSays (words_of first.1) r → Reads (first ∷ rest) count (and_kind first.0 r rest)
+    by_first (Ok kind) names = by_lines kind (set_lines kind no_settings rest) names (along kind (first ∷ rest) rest (first ∷ []) no_settings (first.0 + 1) (begins kind first rest n rising names))
+    by_first (Err cause) fault = inr (inl (refl, fault))
+
+pub reads_text : (text : List ℕ) → Reads (counted_lines text) (length (lines_of text)) (box_of text)
+reads_text text = reads_lines (counted_lines text) (length (lines_of text)) 1 (counted_rise 1 (λ line. words_count (words_of line.1)) (lines_of text))

@@ -1,0 +1,90 @@
+-- What the reader of box files does with each line. The law `a_text_is_one_box_file_or_has_a_fault` says that it comes to what
+-- the relation of box files says.
+use Rattle.std.specs.Prelude.{ℕ, ◌+◌, List, [], ◌∷◌, length, codes, if◌then◌else◌, is_some, Option, Some, None, Result, Ok, Err}
+use Rattle.std.specs.Str.{bytes_eq}
+use Rattle.std.specs.Str.Lines.{lines}
+use Rattle.plain_text.specs.declared.fault.LineCause.{LineCause}
+use Rattle.plain_text.specs.declared.fault.LineCause.TheVariants.{UnknownWord, MissingWord, Twice, MissingLine}
+use Rattle.plain_text.specs.declared.fault.LineFault.{LineFault}
+use Rattle.plain_text.specs.Fields.{fields_of}
+use Rattle.plain_text.specs.Lines.{words_of, counted_lines}
+use Rattle.box_conf.specs.declared.kind.BoxConf.{BoxConf}
+use Rattle.box_conf.specs.declared.kind.BoxKind.{BoxKind}
+use Rattle.box_conf.specs.declared.kind.BoxKind.TheVariants as box
+use Rattle.monitor_box.specs.Boxes.{box_with}
+use Rattle.box_conf.specs.declared.settings.Settings.{Settings}
+use Rattle.box_conf.specs.declared.table.KindWord.{KindWord}
+use Rattle.box_conf.specs.declared.table.KindWord.TheVariants.{Count, Monitor}
+use Rattle.box_conf.specs.declared.table.NumberLine.{NumberLine}
+use Rattle.box_conf.specs.declared.table.NumberLine.TheVariants.{Threads, Seed, Shards}
+use Rattle.box_conf.specs.Settings.{setting, number_in, number_line, set_number}
+use Rattle.box_conf.specs.Table.{kind_named, line_named, numbers_of, has_line}
+
+abbrev pub and_end : Option KindWord → Result (List ℕ) LineCause → Result KindWord LineCause
+and_end None end = Err UnknownWord
+and_end (Some k) (Ok numbers) = Ok k
+and_end (Some k) (Err cause) = Err cause
+
+-- the words after `box`
+abbrev pub box_line : List (List ℕ) → Result KindWord LineCause
+box_line [] = Err MissingWord
+box_line (word ∷ words) = and_end (kind_named word) (fields_of [] words)
+
+-- the first line names the kind
+abbrev pub first_line : List (List ℕ) → Result KindWord LineCause
+first_line [] = Err UnknownWord
+first_line (word ∷ words) = if bytes_eq word (codes "box") then box_line words else Err UnknownWord
+
+-- a second line that names a kind
+abbrev pub second_box : Result KindWord LineCause → Result Settings LineCause
+second_box (Ok k) = Err Twice
+second_box (Err cause) = Err cause
+
+-- a line that sets a number, if the kind has it
+abbrev pub set_by : KindWord → Settings → Option NumberLine → List (List ℕ) → Result Settings LineCause
+set_by k s None words = Err UnknownWord
+set_by k s (Some line) words =
+    if has_line k line then set_number s line (number_line (numbers_of line).low (numbers_of line).high (is_some (setting s line)) words)
+    else Err UnknownWord
+
+-- the settings after a later line with these words
+abbrev pub set_line : KindWord → Settings → List (List ℕ) → Result Settings LineCause
+set_line k s [] = Err UnknownWord
+set_line k s (word ∷ words) = if bytes_eq word (codes "box") then second_box (box_line words) else set_by k s (line_named word) words
+
+abbrev pub fault_at : ℕ → LineCause → LineFault
+fault_at line cause = record { line = line; cause = cause }
+
+abbrev pub and_lines : ℕ → Result Settings LineCause → (Settings → Result Settings LineFault) → Result Settings LineFault
+and_lines number (Ok next) more = more next
+and_lines number (Err cause) more = Err (fault_at number cause)
+
+-- the settings after these lines, each with its number, or the first fault
+abbrev pub set_lines : KindWord → Settings → List (ℕ × List ℕ) → Result Settings LineFault
+set_lines k s [] = Ok s
+set_lines k s (line ∷ lines) = and_lines line.0 (set_line k s (words_of line.1)) (λ next. set_lines k next lines)
+
+abbrev pub no_settings : Settings
+no_settings = record { threads = None; seed = None; shards = None }
+
+-- the box of a kind with these settings
+abbrev pub kind_with : KindWord → Settings → BoxKind
+kind_with Count s = box.Count (record {})
+kind_with Monitor s = box.Monitor (box_with (number_in s Shards))
+
+abbrev pub conf_of : KindWord → Result Settings LineFault → Result BoxConf LineFault
+conf_of k (Ok s) = Ok (record { threads = number_in s Threads; seed = number_in s Seed; kind = kind_with k s })
+conf_of k (Err fault) = Err fault
+
+abbrev pub and_kind : ℕ → Result KindWord LineCause → List (ℕ × List ℕ) → Result BoxConf LineFault
+and_kind line (Ok k) lines = conf_of k (set_lines k no_settings lines)
+and_kind line (Err cause) lines = Err (fault_at line cause)
+
+-- the lines that count, of a file with this number of lines
+abbrev pub box_of_lines : ℕ → List (ℕ × List ℕ) → Result BoxConf LineFault
+box_of_lines count [] = Err (fault_at (count + 1) MissingLine)
+box_of_lines count (line ∷ lines) = and_kind line.0 (first_line (words_of line.1)) lines
+
+-- the box that a file describes, or its first fault
+abbrev pub box_of : List ℕ → Result BoxConf LineFault
+box_of text = box_of_lines (length (lines text)) (counted_lines text)
