@@ -100,7 +100,7 @@ module _ {V : Type 0} (s : Setting V) (w : World V) (h : Sound s w) where
   output_one : (t j : ℕ) (o p : Sent) → IsOutputOf w t j o → IsOutputOf w t j p → o ≡ p
   output_one t j o p a b =
       let r = (histories_agree s.meaning (inputs_fed s w.fed) s.threads w.past w.past (log_of w.past) h.firm.legal h.firm.legal (λ e f he hf n. he) (λ e i. i) (λ e i. i)).1
-          o.emission p.emission o.after p.after a.0 b.0 (a.1.0 ∙ sym b.1.0) (a.1.1 ∙ sym b.1.1) (λ e q. output_in (log_of w.past) o.emission.thread o.after e q) in
+      o.emission p.emission o.after p.after a.0 b.0 (a.1.0 ∙ sym b.1.0) (a.1.1 ∙ sym b.1.1) (λ e q. output_in (log_of w.past) o.emission.thread o.after e q) in
       sent_eq o p r.0 r.1
 
   -- Steps
@@ -276,7 +276,7 @@ module _ {V : Type 0} (s : Setting V) (w : World V) (h : Sound s w) where
   out_one t j to other new next (inr (inr (inr a))) (inr (inr (inr b))) =
       let q : a.0 ≡ b.0 = output_one t j a.0 b.0 a.1 b.1 in
       let e : a.3 ≡ b.3 = first_unique (log_of w.past) (log_of w.stored) w.held b.0.emission.thread b.0.after a.3 b.3 past_log
-          (subst (λ (o : Sent). IsFirstMissing (log_of w.past) (log_of w.stored) w.held o.emission.thread o.after a.3) q a.4) b.4 in
+      (subst (λ (o : Sent). IsFirstMissing (log_of w.past) (log_of w.stored) w.held o.emission.thread o.after a.3) q a.4) b.4 in
       (a.5 ∙ (ap (λ (z : Entry). outcome.Waits z.thread z.number) e ∙ sym b.5), a.6 ∙ (ap (λ (o : Sent). let z : World V = record w { waiting = w.waiting ++ o ∷ [] } in z) q ∙ sym b.6))
 
   arrives_one : (k : Kind) (t n : ℕ) (to other : Outcome) (freed rest : List Sent) (new next : World V) → Arrives w k t n to freed new → Arrives w k t n other rest next → Same to other freed rest new next

@@ -1,0 +1,18 @@
+use Rattle.recovery_laws.proofs.Scripts.{any_one, any_within, stops_one, stops_not, leaves_one}
+use Rattle.recovery_laws.proofs.scripts_come_to_one_thing.Goals as goal
+
+pub returns-clause-performed : goal.returns-clause-performed
+returns-clause-performed g c = λ s w ev to other freed rest new next h low a b.
+    let r = any_one s w ev to other freed rest new next h low a b in (r.outcome_is, r.freed_is, r.new_is)
+
+pub returns-clause-stopped : goal.returns-clause-stopped
+returns-clause-stopped g c = stops_one
+
+pub returns-clause-not_both : goal.returns-clause-not_both
+returns-clause-not_both g c = stops_not
+
+pub returns-clause-within : goal.returns-clause-within
+returns-clause-within g c = any_within
+
+pub returns-clause-files : goal.returns-clause-files
+returns-clause-files g c = leaves_one
