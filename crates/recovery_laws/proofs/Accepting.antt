@@ -42,16 +42,16 @@ act_answer t taken A (HearsDraw a) = refl
 act_answer t taken A (Sends packet) = refl
 act_answer t taken A Ends = refl
 
-of_deed : {V : Type 0} (d e : Effect V) (a : Option ℕ) → d ≡ e → effect_answer d ≡ a → a ≡ effect_answer e
-of_deed {V} d e a same is = sym is ∙ ap (λ (x : Effect V). effect_answer x) same
+of_effect : {V : Type 0} (d e : Effect V) (a : Option ℕ) → d ≡ e → effect_answer d ≡ a → a ≡ effect_answer e
+of_effect {V} d e a same is = sym is ∙ ap (λ (x : Effect V). effect_answer x) same
 
 hand_answer : {V : Type 0} (m : Meaning V) (value : ℕ → V) (taken : ℕ) (h : Hand) (a : Option ℕ) (w : Move) (after : Thread) (d : Effect V) → hand_move m value taken h a w ≡ Moves after d → a ≡ effect_answer d
-hand_answer m value taken h None (Access v) after d e = of_deed (Touches v (m.touch v (value v) h.place).0) d None (cc) refl
-hand_answer m value taken h None (Read v) after d e = of_deed (Looks v) d None (cc) refl
-hand_answer m value taken h (Some a) Clock after d e = of_deed (HearsClock a) d (Some a) (cc) refl
-hand_answer m value taken h (Some a) Draw after d e = of_deed (HearsDraw a) d (Some a) (cc) refl
-hand_answer m value taken h None Emit after d e = of_deed (Sends (sent_packet m h)) d None (cc) refl
-hand_answer m value taken h None End after d e = of_deed Ends d None (cc) refl
+hand_answer m value taken h None (Access v) after d e = of_effect (Touches v (m.touch v (value v) h.place).0) d None (cc) refl
+hand_answer m value taken h None (Read v) after d e = of_effect (Looks v) d None (cc) refl
+hand_answer m value taken h (Some a) Clock after d e = of_effect (HearsClock a) d (Some a) (cc) refl
+hand_answer m value taken h (Some a) Draw after d e = of_effect (HearsDraw a) d (Some a) (cc) refl
+hand_answer m value taken h None Emit after d e = of_effect (Sends (sent_packet m h)) d None (cc) refl
+hand_answer m value taken h None End after d e = of_effect Ends d None (cc) refl
 hand_answer m value taken h (Some a) (Access v) after d e = absurd (cc)
 hand_answer m value taken h (Some a) (Read v) after d e = absurd (cc)
 hand_answer m value taken h (Some a) Emit after d e = absurd (cc)
@@ -66,7 +66,7 @@ held_answer {V} m packets value taken a None after d e = go a (slice_get packets
     go : (a : Option ℕ) (i : Option Packet) → take_move m taken a i ≡ Moves after d → a ≡ effect_answer d
     go (Some a) i e = absurd (cc)
     go None None e = absurd (cc)
-    go None (Some p) e = of_deed Takes d None (cc) refl
+    go None (Some p) e = of_effect Takes d None (cc) refl
 
 step_answer : {V : Type 0} (m : Meaning V) (inputs : ℕ → List Packet) (threads : ℕ) (A : List (Step V)) (x : Step V) → (h : IsStep m inputs threads A x) → h.1 ≡ answer_of x.act
 step_answer {V} m inputs threads A x h =
