@@ -157,7 +157,7 @@ fewer u p v o (x ∷ xs) less n (inr (rest, is, w)) (inr (s, c)) = subst (λ (l 
     go (inr (t, d)) = inr (t, inr (s, d))
 
 -- what is in a list is counted there
-among_times : (o : Sent) (xs : List Sent) → IsAmong o xs → 1 ≤ times o.emission.thread o.emission.number xs
+pub among_times : (o : Sent) (xs : List Sent) → IsAmong o xs → 1 ≤ times o.emission.thread o.emission.number xs
 among_times o [] h = absurd h
 among_times o (x ∷ xs) (inl same) =
     let t : x.emission.thread ≡ o.emission.thread = ap (λ (y : Sent). y.emission.thread) same in

@@ -40,7 +40,7 @@ pub record Same {V : Type 0} (to other : Outcome) (freed rest : List Sent) (new 
   pub freed_is : freed ≡ rest
   pub new_is : new ≡ next
 
-sent_eq : (o p : Sent) → o.emission ≡ p.emission → o.after ≡ p.after → o ≡ p
+pub sent_eq : (o p : Sent) → o.emission ≡ p.emission → o.after ≡ p.after → o ≡ p
 sent_eq o p a b = ap (λ (e : Emission). let r : Sent = record { emission = e; after = o.after } in r) a ∙ ap (λ (n : ℕ). let r : Sent = record { emission = p.emission; after = n } in r) b
 
 parts_one : (P : Sent → Type 0) (xs go stay other rest : List Sent) → Parts P xs go stay → Parts P xs other rest → (go ≡ other) × (stay ≡ rest)
@@ -94,10 +94,10 @@ module _ {V : Type 0} (s : Setting V) (w : World V) (h : Sound s w) where
   past_log : IsLog (log_of w.past)
   past_log = history_log s.meaning (inputs_fed s w.fed) s.threads w.past h.firm.legal
 
-  entry_one : (t n : ℕ) (e f : Entry) → IsEntryOf w t n e → IsEntryOf w t n f → e ≡ f
+  pub entry_one : (t n : ℕ) (e f : Entry) → IsEntryOf w t n e → IsEntryOf w t n f → e ≡ f
   entry_one t n e f a b = same_number (log_of w.past) e f past_log a.0 b.0 (a.1 ∙ sym b.1) (a.2 ∙ sym b.2)
 
-  output_one : (t j : ℕ) (o p : Sent) → IsOutputOf w t j o → IsOutputOf w t j p → o ≡ p
+  pub output_one : (t j : ℕ) (o p : Sent) → IsOutputOf w t j o → IsOutputOf w t j p → o ≡ p
   output_one t j o p a b =
       let r = (histories_agree s.meaning (inputs_fed s w.fed) s.threads w.past w.past (log_of w.past) h.firm.legal h.firm.legal (λ e f he hf n. he) (λ e i. i) (λ e i. i)).1
       o.emission p.emission o.after p.after a.0 b.0 (a.1.0 ∙ sym b.1.0) (a.1.1 ∙ sym b.1.1) (λ e q. output_in (log_of w.past) o.emission.thread o.after e q) in
@@ -176,7 +176,7 @@ module _ {V : Type 0} (s : Setting V) (w : World V) (h : Sound s w) where
       let step : a.step ≡ b.step = cc in
       (a.to_is ∙ (ap (λ (z : Step V). move_outcome z.act) step ∙ sym b.to_is), a.new_is ∙ (ap (λ (z : Step V). moved z a.drawn) step ∙ (ap (λ (z : ℕ). moved b.step z) told.1 ∙ sym b.new_is)))
 
-  not_idle : (t : ℕ) (given : Option ℕ) (to : Outcome) (new : World V) → WantsMore s w t → MakesMove s w t given to new → ⊥
+  pub not_idle : (t : ℕ) (given : Option ℕ) (to : Outcome) (new : World V) → WantsMore s w t → MakesMove s w t given to new → ⊥
   not_idle t given to new idle k = no_step s.meaning (inputs_fed s w.fed) s.threads w.past t k.step (made_step s.meaning (inputs_fed s w.fed) s.threads w.past t k.answer k.step made) made.thread idle.0 idle.1
     where
       made : Made s.meaning (inputs_fed s w.fed) s.threads w.past t k.answer k.step

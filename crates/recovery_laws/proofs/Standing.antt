@@ -148,10 +148,12 @@ to_come_first s w h f come =
     let r = first_there h.firm.more (log_of w.past) h.firm.log f ((h.firm.to_come f).1 come) in
     (r.0, (h.firm.to_come r.0).0 r.1, λ e c n. r.2 e ((h.firm.to_come e).1 c) n)
 
+-- an entry to come is of a thread that there is
+pub to_come_thread : {V : Type 0} (s : Setting V) (w : World V) → Sound s w → (f : Entry) → IsToCome w f → f.thread < s.threads
+to_come_thread s w h f come =
+    let l = line_of s w h.firm h.firm.more h.firm.log (λ e i. i) in
+    entry_thread s.meaning (inputs_fed s w.fed) s.threads l.line f l.history (subst (λ (x : List Entry). IsIn f x) (sym l.log_is) (in_left f h.firm.more (log_of w.past) ((h.firm.to_come f).1 come)))
+
 pub followed_moves : {V : Type 0} (s : Setting V) (w : World V) (f : Entry) → Sound s w → IsToCome w f → ((g : Entry) → IsToCome w g → IsNext g f → ⊥) → w.up ≡ true
     → (given : Option ℕ) (to : Outcome) (new : World V) → OnStep s w f.thread given to new → MakesMove s w f.thread given to new
-followed_moves s w f h come first up given to new on = never_stuck s w h.firm f come first up low given to new on
-  where
-    low : f.thread < s.threads
-    low = let l = line_of s w h.firm h.firm.more h.firm.log (λ e i. i) in
-        entry_thread s.meaning (inputs_fed s w.fed) s.threads l.line f l.history (subst (λ (x : List Entry). IsIn f x) (sym l.log_is) (in_left f h.firm.more (log_of w.past) ((h.firm.to_come f).1 come)))
+followed_moves s w f h come first up given to new on = never_stuck s w h.firm f come first up (to_come_thread s w h f come) given to new on
