@@ -86,7 +86,7 @@ pub begins_read : (o : Order) (u : TimeUnit) (ps : List Packet) (unused all left
 begins_read o u ps unused all left twelve each parts =
     record { unused = unused; unused_length = twelve; parts = parts ∙ append_assoc (header_of o u unused) (records_of o ps) left; each = each }
 
-module _ {S : Type 0} (reads : S → List ℕ → S → Type 0) (reads_more : (a b c : S) (front more : List ℕ) → reads a front b → reads b more c → reads a (front ++ more) c) (old now new : S) where
+module _ {S : Type 0} (reads : S → List ℕ → S → Type 0) (reads_more : (a b c : S) (first more : List ℕ) → reads a first b → reads b more c → reads a (first ++ more) c) (old now new : S) where
   pub has_read_on : (r further : Reading) (ps qs : List Packet) (p : Packet) → HasRead reads old now r.order r.unit ps → further ≡ after r (next.Packet p) → qs ≡ ps ++ p ∷ []
       → reads now (record_of r.order p) new → HasRead reads old new further.order further.unit qs
   has_read_on r further ps qs p has further_is qs_is more =

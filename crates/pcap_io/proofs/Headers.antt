@@ -35,9 +35,9 @@ module _ (o : Order) (u : TimeUnit) (unused more : List ℕ) (twelve : length un
 
   link_type : number o 4 (drop 20 (header_of o u unused ++ more)) ≡ 1
   link_type =
-      let front = spelled o 4 (magic u) ++ spelled o 2 2 ++ spelled o 2 4 ++ unused in
-      let len : length front ≡ 20 = simp (length-append, length-spelled) (omega (arith, twelve)) in
-      ap (λ l. number o 4 (drop 20 l)) (append_assoc front (spelled o 4 1) more) ∙ ap (number o 4) (drop_at front (spelled o 4 1 ++ more) 20 len) ∙ number-spelled o 4 1 more (omega arith)
+      let first = spelled o 4 (magic u) ++ spelled o 2 2 ++ spelled o 2 4 ++ unused in
+      let len : length first ≡ 20 = simp (length-append, length-spelled) (omega (arith, twelve)) in
+      ap (λ l. number o 4 (drop 20 l)) (append_assoc first (spelled o 4 1) more) ∙ ap (number o 4) (drop_at first (spelled o 4 1 ++ more) 20 len) ∙ number-spelled o 4 1 more (omega arith)
 
   -- a whole header has no fault
   pub header_fault-header_of : header_fault (header_of o u unused ++ more) ≡ None
@@ -107,7 +107,7 @@ header_fault-append head more long =
     rw (le-ltb (length (head ++ more)) 24 (omega arith), le-ltb (length head) 24 (omega arith), number-append Little 4 head more (omega arith), number-append Big 4 head more (omega arith))
     (form_fault-append (form_of head) head more long)
 
--- a header that was read whole from the front of what is left
+-- a header that was read whole from what is left
 module _ (had : ℕ) (head left rest : List ℕ) (long : length head ≡ 24) (whole : 24 ≤ had) (parts : left ≡ take had head ++ rest) where
   behind : left ≡ head ++ rest
   behind = parts ∙ ap (λ l. l ++ rest) (take_all had head (omega arith))

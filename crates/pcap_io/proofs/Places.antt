@@ -5,7 +5,7 @@ use Rattle.pcap_io.specs.declared.order.Order.{Order}
 use Rattle.pcap_io.specs.Capture.{record_of, records_of, IsRecorded, AreRecorded}
 use Rattle.pcap_io.proofs.Records.{same_record}
 
--- no record of at most so many bytes stands here, where at most so many may follow
+-- no record of at most `bytes` bytes stands here, where at most `packets` may follow
 abbrev pub Stops : Order → ℕ → ℕ → List ℕ → Type 0
 Stops o packets bytes rest = (p : Packet) (more : List ℕ) → IsRecorded p → rest ≡ record_of o p ++ more → 0 < packets → length (record_of o p) ≤ bytes → ⊥
 
@@ -24,8 +24,8 @@ same_place o packets bytes (p ∷ ps) [] x y of_ps of_qs ps_count qs_count ps_si
 same_place o packets bytes (p ∷ ps) (q ∷ qs) x y of_ps of_qs ps_count qs_count ps_size qs_size x_stops y_stops same =
     let of_p = length-append (record_of o p) (records_of o ps) in
     let of_q = length-append (record_of o q) (records_of o qs) in
-    let front = same_record o p q _ _ of_ps.0 of_qs.0 (sym (append_assoc (record_of o p) (records_of o ps) x) ∙ same ∙ append_assoc (record_of o q) (records_of o qs) y) in
-    let heads : length (record_of o p) ≡ length (record_of o q) = ap (λ r. length (record_of o r)) front.0 in
+    let first = same_record o p q _ _ of_ps.0 of_qs.0 (sym (append_assoc (record_of o p) (records_of o ps) x) ∙ same ∙ append_assoc (record_of o q) (records_of o qs) y) in
+    let heads : length (record_of o p) ≡ length (record_of o q) = ap (λ r. length (record_of o r)) first.0 in
     let rest = same_place o (packets - 1) (bytes - length (record_of o p)) ps qs x y of_ps.1 of_qs.1 (omega arith) (omega arith) (omega arith) (omega arith)
-    (λ r more is at some fits. x_stops r more is at (omega arith) (omega arith)) (λ r more is at some fits. y_stops r more is at (omega arith) (omega arith)) front.1 in
+    (λ r more is at some fits. x_stops r more is at (omega arith) (omega arith)) (λ r more is at some fits. y_stops r more is at (omega arith) (omega arith)) first.1 in
     (cc, rest.1)

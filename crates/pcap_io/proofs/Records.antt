@@ -10,7 +10,7 @@ use Rattle.plain_text.specs.Octets.{AreBytes}
 use Rattle.plain_text.proofs.Octets.{AreBytes-drop}
 use Rattle.pcap_io.proofs.Spelled.{spelled_4, length-spelled, number-spelled, drop-spelled}
 
--- the packet of the whole record at the front
+-- the packet of the whole record that the bytes begin with
 abbrev pub packet_at : Order → List ℕ → Packet
 packet_at o bytes = record { seconds = number o 4 bytes; fraction = number o 4 (drop 4 bytes); original = number o 4 (drop 12 bytes); bytes = take (captured o bytes) (drop 16 bytes) }
 

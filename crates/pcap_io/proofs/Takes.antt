@@ -6,7 +6,7 @@ use Rattle.pcap_io.specs.declared.next.Next.TheVariants as next
 use Rattle.pcap_io.specs.Reader.{Takes}
 use Rattle.pcap_io.specs.Record.{TakesBody}
 
-module _ {S : Type 0} (reads : S → List ℕ → S → Type 0) (reads_more : (a b c : S) (front more : List ℕ) → reads a front b → reads b more c → reads a (front ++ more) c) where
+module _ {S : Type 0} (reads : S → List ℕ → S → Type 0) (reads_more : (a b c : S) (first more : List ℕ) → reads a first b → reads b more c → reads a (first ++ more) c) where
   pub takes_whole : (o : Order) (head : List ℕ) (answer : Next) (a b c : S) → reads a head b → TakesBody reads o head answer b c → Takes reads o answer a c
   takes_whole o head (next.Packet p) a b c first (taken, second, parts) =
       let Taken : List ℕ → Type 0 = λ bytes. reads a bytes c in

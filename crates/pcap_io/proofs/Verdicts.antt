@@ -36,13 +36,13 @@ stops_cut : (o : Order) (packets bytes room : ℕ) (rest : List ℕ) → (0 < pa
 stops_cut o packets bytes room rest enough cut p more of_p is some fits =
     let size = length (record_of o p) in
     let reach : size + (room - size) ≡ room = omega (arith, enough some) in
-    let front : take room rest ≡ record_of o p ++ take (room - size) more =
+    let first : take room rest ≡ record_of o p ++ take (room - size) more =
     ap (take room) is ∙ ap (λ n. take n (record_of o p ++ more)) (sym reach) ∙ take-append-add (record_of o p) more (room - size) in
-    let none : record_fault o (take room rest) ≡ None = ap (record_fault o) front ∙ record_fault-record_of o p (take (room - size) more) of_p in
+    let none : record_fault o (take room rest) ≡ None = ap (record_fault o) first ∙ record_fault-record_of o p (take (room - size) more) of_p in
     let short = cut.1 in
     cc
 
--- a reading of at most so many packets and bytes of records, which stops where no other record within these limits stands
+-- a reading of at most this number of packets, and of bytes of records, which stops where no other record within these limits stands
 pub record Reads (packets bytes : ℕ) (o : Order) (ps : List Packet) (rest : List ℕ) : Type 0 where
   pub count : length ps ≤ packets
   pub size : length (records_of o ps) ≤ bytes

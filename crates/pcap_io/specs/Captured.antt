@@ -1,7 +1,7 @@
 -- What reading a whole capture answers and takes.
 use Rattle.std.specs.Prelude.{◌≡◌, ℕ, ◌≤◌, List, [], length, All}
 use Rattle.plain_text.specs.declared.limit.TheConstants.{MOST_FILE_BYTES, MOST_PACKETS}
-use Rattle.plain_text.specs.Octets.{HasBytes}
+use Rattle.plain_text.specs.Octets.{IsOfBytes}
 use Rattle.plain_text.specs.declared.limit.Limit.{Limit}
 use Rattle.plain_text.specs.declared.packet.Packet.{Packet}
 use Rattle.plain_text.specs.declared.packet.Unit.{Unit as TimeUnit}
@@ -42,12 +42,12 @@ TakesCapture reads ReadFault old new = (taken : List ℕ) × reads old taken new
 TakesCapture reads NoMemory old new = (taken : List ℕ) × reads old taken new
 
 -- each captured byte is below 256
-abbrev pub HaveBytes : Captured → Type 0
-HaveBytes (Capture u packets) = All HasBytes packets
-HaveBytes (Refused fault) = Unit {0}
-HaveBytes (TooLarge limit) = Unit {0}
-HaveBytes ReadFault = Unit {0}
-HaveBytes NoMemory = Unit {0}
+abbrev pub CapturesBytes : Captured → Type 0
+CapturesBytes (Capture u packets) = All IsOfBytes packets
+CapturesBytes (Refused fault) = Unit {0}
+CapturesBytes (TooLarge limit) = Unit {0}
+CapturesBytes ReadFault = Unit {0}
+CapturesBytes NoMemory = Unit {0}
 
 -- after a capture nothing is left
 abbrev pub EndsAt : Captured → List ℕ → Type 0

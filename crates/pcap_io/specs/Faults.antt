@@ -14,7 +14,7 @@ use Rattle.pcap_io.specs.Capture.{number, magic, records_of, Begins}
 abbrev pub fault_at : ℕ → CaptureCause → CaptureFault
 fault_at offset cause = record { offset = offset; cause = cause }
 
--- the byte order and the unit that the magic at the front tells, if it is one
+-- the byte order and the unit that the magic in the first four bytes tells, if it is one
 abbrev pub form_of : List ℕ → Option (Order × TimeUnit)
 form_of bytes =
     if number Little 4 bytes == magic Micro then Some (Little, Micro)
@@ -43,7 +43,7 @@ header_fault bytes =
 abbrev pub captured : Order → List ℕ → ℕ
 captured o bytes = number o 4 (drop 8 bytes)
 
--- the first test that fails of the record at the front, of which at least one byte is there
+-- the first test that fails of the record that begins here, of which at least one byte is there
 abbrev pub record_fault : Order → List ℕ → Option CaptureCause
 record_fault o bytes =
     if nat_lt (length bytes) 16 then Some ShortRecord

@@ -10,7 +10,7 @@ use Rattle.pcap_io.specs.declared.fault.CaptureCause.TheVariants.{ShortRecord}
 use Rattle.pcap_io.specs.Capture.{Begins}
 use Rattle.pcap_io.specs.Faults.{record_fault, offset_after}
 
--- how many bytes the record at this offset may take, after so many packets
+-- how many bytes the record at this offset may take, after this number of packets
 abbrev pub room_at : ℕ → ℕ → ℕ
 room_at count offset = if count == MOST_PACKETS then 0 else MOST_FILE_BYTES - offset
 
@@ -18,7 +18,7 @@ room_at count offset = if count == MOST_PACKETS then 0 else MOST_FILE_BYTES - of
 abbrev pub limit_at : ℕ → Limit
 limit_at count = if count == MOST_PACKETS then Packets else File
 
--- the record at the front needs more bytes than it may take, and more are there
+-- the record that begins here needs more bytes than it may take, and more are there
 abbrev pub IsCut : Order → ℕ → List ℕ → Type 0
 IsCut o room bytes = (room < length bytes) × (record_fault o (take room bytes) ≡ Some ShortRecord)
 

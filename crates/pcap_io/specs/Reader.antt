@@ -1,7 +1,7 @@
 -- What a call of a reader answers, takes and leaves.
 use Rattle.std.specs.Prelude.{◌≡◌, ℕ, ◌+◌, ◌<◌, ◌≤◌, true, List, [], length, Some}
 use Rattle.plain_text.specs.declared.limit.Limit.{Limit}
-use Rattle.plain_text.specs.Octets.{HasBytes}
+use Rattle.plain_text.specs.Octets.{IsOfBytes}
 use Rattle.pcap_io.specs.declared.order.Order.{Order}
 use Rattle.pcap_io.specs.declared.next.Next.{Next}
 use Rattle.pcap_io.specs.declared.next.Next.TheVariants as next
@@ -42,7 +42,7 @@ IsGiven room next.Over = Unit {0}
 
 -- each byte of a packet is below 256
 abbrev pub GivesBytes : Next → Type 0
-GivesBytes (next.Packet p) = HasBytes p
+GivesBytes (next.Packet p) = IsOfBytes p
 GivesBytes next.End = Unit {0}
 GivesBytes (next.Refused fault) = Unit {0}
 GivesBytes (next.TooLarge limit) = Unit {0}
@@ -50,8 +50,8 @@ GivesBytes next.ReadFault = Unit {0}
 GivesBytes next.NoMemory = Unit {0}
 GivesBytes next.Over = Unit {0}
 
--- Where the bytes left are told: what each answer says of them, at an offset where a record may take so many
--- bytes, or pass this limit.
+-- Where the bytes left are told: what each answer says of them, at an offset where a record may take the bytes of
+-- the room, or pass this limit.
 abbrev pub Answers : Order → ℕ → ℕ → Limit → List ℕ → Next → Type 0
 Answers o offset room limit left (next.Packet p) = Unit {0}
 Answers o offset room limit left next.End = left ≡ []

@@ -1,6 +1,6 @@
 ghost use Rattle.std.specs.Prelude.{◌≡◌, ◌≢◌, ◌≤◌, IsTrue};
 ghost use Rattle.world_io.specs.Stream.{Rose};
-ghost use Rattle.pcap_io.specs.Captured.{Says, TakesCapture, EndsAt, HaveBytes};
+ghost use Rattle.pcap_io.specs.Captured.{Says, TakesCapture, EndsAt, CapturesBytes};
 
 use crate::{CaptureFault, Next, Reader, Started};
 use plain_text::{Limit, Packets, Unit};
@@ -26,7 +26,7 @@ pub fn read_capture<S: Source>(alloc: Global, source: &mut S) -> Captured
     ensures told { IsTrue S.tells → Says (S.left source.old) result }
     ensures taken { TakesCapture S.reads result source.old source.new }
     ensures whole { IsTrue S.tells → EndsAt result (S.left source.new) }
-    ensures bytes { HaveBytes result }
+    ensures bytes { CapturesBytes result }
     ensures later { S.faults source.old ≤ S.faults source.new }
     ensures cause { result ≡ Captured.ReadFault
         → Rose (S.faults source.old) (S.faults source.new) }

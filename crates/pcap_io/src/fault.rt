@@ -18,13 +18,13 @@ pub enum CaptureCause {
     /// A record has begun, and the file ends before its last byte.
     #[error("short record")]
     ShortRecord = 5,
-    /// A record has a captured length of more than 262,144 bytes.
+    /// A record has a captured length of more than `MOST_CAPTURED` bytes, 262,144.
     #[error("too long")]
     TooLong = 6,
 }
 
-/// The first place where bytes are no capture: the file's length where its header is short, 0, 4 or 20 where a
-/// part of the header is bad, and else where the faulty record's header begins.
+/// The first place where bytes are no capture: the file's length where its header is short, 0, 4 or
+/// 20 where a part of the header is bad, and else where the faulty record's header begins.
 #[derive(Clone, Copy, Debug, PartialEq, Eq, Error)]
 #[error("offset {offset}: {cause}")]
 pub struct CaptureFault {

@@ -1,4 +1,5 @@
-//! Captures: libpcap savefiles of version 2.4 with Ethernet frames, by pcap-savefile(5), read in pieces and written.
+//! Captures: libpcap savefiles of version 2.4 with Ethernet frames, by pcap-savefile(5), read in
+//! pieces and written.
 #![tactic(auto)]
 
 mod capture;

@@ -11,7 +11,8 @@ pub enum Next {
     /// The record that begins here is faulty.
     Refused(CaptureFault),
     /// The record that begins here follows `MOST_PACKETS` packets, or needs a byte past the first
-    /// `MOST_FILE_BYTES` of the file, and that byte is there. The packets' limit goes before the file's.
+    /// `MOST_FILE_BYTES` of the file, and that byte is there. The packets' limit goes before the
+    /// file's.
     TooLarge(Limit),
     /// Reading failed.
     ReadFault,

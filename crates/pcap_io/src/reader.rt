@@ -15,10 +15,12 @@ use world_io::Source;
 
 /// Reads a capture's packets, one at a time, from the source that is lent to each call.
 ///
-/// It takes from the source exactly the bytes that it uses, and asks for a record's header and for its captured
-/// bytes in one piece each: a source of small pieces, as a file, wants a buffer around it.
+/// It takes from the source exactly the bytes that it uses, and asks for a record's header and for
+/// its captured bytes in one piece each: a source of small pieces, as a file, wants a buffer around
+/// it.
 ///
-/// Contracts see what the header told, the bytes used and the packets given, and whether the reader is over.
+/// Contracts see what the header told, the bytes used and the packets given, and whether the reader
+/// is over.
 #[derive(Debug, Drop)]
 pub struct Reader {
     unit: Unit,
@@ -88,7 +90,8 @@ impl Reader {
         self.unit
     }
 
-    /// The next packet, or why there is none. After anything but a packet, NoMemory too, the reader is over.
+    /// The next packet, or why there is none. After anything but a packet, NoMemory too, the reader
+    /// is over.
     pub fn next_packet<S: Source>(&mut self, alloc: Global, source: &mut S) -> Next
         ensures over { (result ≡ Next.Over) ↔ (self.old.over ≡ true) }
         ensures after { self.new ≡ after self.old result }

@@ -13,7 +13,8 @@ use world_io::Source;
 
 pub(crate) const RECORD_HEADER: usize = 16;
 
-/// Where a record begins, how many bytes it may take, and the limit that it passes which needs more.
+/// Where a record begins, how many bytes it may take, and the limit that is passed where it needs
+/// more.
 #[derive(Clone, Copy, Debug)]
 pub(crate) struct Place {
     pub(crate) order: Order,
@@ -101,8 +102,8 @@ impl Place {
     }
 }
 
-/// A packet's record, as it is written after the header of `put_header`: seconds, fraction, captured length and
-/// original length in 32 bits each, little-endian, and the captured bytes.
+/// A packet's record, as it is written after the header of `put_header`: seconds, fraction,
+/// captured length and original length in 32 bits each, little-endian, and the captured bytes.
 pub fn put_packet(alloc: Global, packet: &Packet) -> Result<Bytes, NoMemory>
     requires { length packet.now.bytes ≤ MOST_CAPTURED }
     ensures { IfOk result (λ bytes. bytes ≡ record_of Order.Little packet.now) }

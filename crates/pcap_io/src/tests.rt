@@ -30,7 +30,7 @@ const BIG_FIRST: &[u8] = b"\0\0\0\x64\0\0\0\x05\0\0\0\x2a\0\0\0\x2a";
 
 const BIG_SECOND: &[u8] = b"\0\0\0\x64\0\0\0\x06\0\0\0\x0e\0\0\0\x3c";
 
-/// The bytes of a slice, at most so many at a call; one call may fail.
+/// The bytes of a slice, at most `most` at a call; one call may fail.
 #[derive(Drop)]
 struct Pieces<'a> {
     rest: SliceSource<'a>,
@@ -219,7 +219,8 @@ fn a_reader_is_over_after_anything_but_a_packet(rt: HostRuntime) -> Result<(), F
         alloc,
         &[LITTLE_MICRO, LITTLE_FIRST, WHOLE, LITTLE_SECOND, CUT],
     )?;
-    // Reading fails in the second record's bytes: the header and two parts of the first record go before.
+    // Reading fails in the second record's bytes: the header and two parts of the first record go
+    // before.
     let mut source = Pieces {
         rest: SliceSource::of(bytes.as_slice()),
         most: 100,

@@ -7,5 +7,5 @@ abbrev pub AreBytes : List ℕ → Type 0
 AreBytes numbers = (k : ℕ) → slice_index numbers k < 256
 
 -- a packet is one of bytes
-abbrev pub HasBytes : Packet → Type 0
-HasBytes p = AreBytes p.bytes
+abbrev pub IsOfBytes : Packet → Type 0
+IsOfBytes p = AreBytes p.bytes

@@ -1,10 +1,10 @@
--- What is copied from the front of some bytes to the front of a piece.
+-- What is copied of the first of some bytes to the first places of a piece.
 use Rattle.std.proofs.Common.{◌≡◌, ◌+◌, ◌-◌, ◌≤◌, ℕ, List, ◌++◌, length, take, drop, arith, sym, ap, ◌∙◌, length-take, length-drop}
 use Rattle.std.proofs.lemmas.List.{take-append-drop, drop-take, drop-drop, take-take, take_at}
 
 -- the bytes are those in the piece and those behind them
-pub front_copied : (left : List ℕ) (n : ℕ) (copied rest : List ℕ) → n ≤ length left → copied ≡ take n left → left ≡ take n (copied ++ rest) ++ drop n left
-front_copied left n copied rest within same =
+pub first_copied : (left : List ℕ) (n : ℕ) (copied rest : List ℕ) → n ≤ length left → copied ≡ take n left → left ≡ take n (copied ++ rest) ++ drop n left
+first_copied left n copied rest within same =
     let len : length copied ≡ n = ap length same ∙ simp length-take (omega arith) in
     sym (take-append-drop n left) ∙ ap (λ l. l ++ drop n left) (sym same ∙ sym (take_at copied rest n len))
 
@@ -12,7 +12,7 @@ front_copied left n copied rest within same =
 pub rest_copied : (bytes : List ℕ) (given n : ℕ) (copied rest : List ℕ) → given + n ≤ length bytes → copied ≡ take n (drop given bytes)
     → drop given bytes ≡ take n (copied ++ rest) ++ drop (given + n) bytes
 rest_copied bytes given n copied rest within same =
-    front_copied (drop given bytes) n copied rest (simp length-drop (omega arith)) same ∙ ap (λ l. take n (copied ++ rest) ++ l) (drop-drop n given bytes)
+    first_copied (drop given bytes) n copied rest (simp length-drop (omega arith)) same ∙ ap (λ l. take n (copied ++ rest) ++ l) (drop-drop n given bytes)
 
 -- the same of the filled part of a buffer
 pub held_copied : (buffer : List ℕ) (given filled n : ℕ) (copied rest : List ℕ) → given + n ≤ filled → filled ≤ length buffer

@@ -21,13 +21,13 @@ module _ {S : Type 0} (reads : S → List ℕ → S → Type 0) where
   TakesThrough-nothing reads_nothing b =
       record { fetched = []; below = reads_nothing b.0; held = append-nil b.1 }
 
-  pub TakesThrough-more : (reads_more : (a b c : S) (front more : List ℕ) → reads a front b → reads b more c → reads a (front ++ more) c)
-      (front more : List ℕ) (a b c : S × List ℕ) → TakesThrough reads front a b → TakesThrough reads more b c → TakesThrough reads (front ++ more) a c
-  TakesThrough-more reads_more front more a b c r s = record {
+  pub TakesThrough-more : (reads_more : (a b c : S) (first more : List ℕ) → reads a first b → reads b more c → reads a (first ++ more) c)
+      (first more : List ℕ) (a b c : S × List ℕ) → TakesThrough reads first a b → TakesThrough reads more b c → TakesThrough reads (first ++ more) a c
+  TakesThrough-more reads_more first more a b c r s = record {
     fetched = r.fetched ++ s.fetched;
     below = reads_more a.0 b.0 c.0 r.fetched s.fetched r.below s.below;
-    held = sym (append_assoc a.1 r.fetched s.fetched) ∙ ap (λ l. l ++ s.fetched) r.held ∙ append_assoc front b.1 s.fetched
-        ∙ ap (λ l. front ++ l) s.held ∙ sym (append_assoc front more c.1);
+    held = sym (append_assoc a.1 r.fetched s.fetched) ∙ ap (λ l. l ++ s.fetched) r.held ∙ append_assoc first b.1 s.fetched
+        ∙ ap (λ l. first ++ l) s.held ∙ sym (append_assoc first more c.1);
   }
 
   pub TakesThrough-told : (left : S → List ℕ) (reads_told : (a b : S) (taken : List ℕ) → reads a taken b → left a ≡ taken ++ left b)

@@ -34,7 +34,7 @@ name_in None = []
 name_in (Some (Opened left)) = []
 name_in (Some (Created f)) = f.name
 
--- these bytes were taken from the front of the opened file of this number
+-- these bytes, the next that the opened file of this number had, were taken
 pub record TakesFromFile (number : ℕ) (taken : List ℕ) (old new : List MemoryFile) : Type 0 where
   pub rest : List ℕ
   pub had : file_of old number ≡ Some (Opened (taken ++ rest))
@@ -46,7 +46,7 @@ pub record SendsToFile (number : ℕ) (bytes : List ℕ) (old new : List MemoryF
   pub had : file_of old number ≡ Some (Created file)
   pub after : new ≡ slice_set old (number - 1) (Created (record file { sent = file.sent ++ bytes }))
 
--- what was sent to the created file of this number was cut to so many bytes
+-- of what was sent to the created file of this number the first bytes were kept, as many as the count
 pub record CutsFile (number count : ℕ) (old new : List MemoryFile) : Type 0 where
   pub file : CreatedFile
   pub had : file_of old number ≡ Some (Created file)

@@ -9,7 +9,7 @@ use Rattle.world_io.specs.declared.stream.Put.TheVariants as put
 abbrev pub Rose : ℕ → ℕ → Type 0
 Rose before now = min (before + 1) (2 ^ 64 - 1) ≤ now
 
--- so many bytes of a piece of this length were moved: at least one, where the piece has one
+-- a number of bytes moved of a piece of this length: at least one, where the piece has one
 abbrev pub IsCountOf : ℕ → ℕ → Type 0
 IsCountOf n len = (n ≤ len) × (0 < len → 0 < n)
 
@@ -18,7 +18,7 @@ FillCount (Got n) len = IsCountOf n len
 FillCount End len = Unit {0}
 FillCount Failed len = Unit {0}
 
--- the bytes that a fill took, which stand at the front of the piece
+-- the bytes that a fill took, which are the first of the piece
 abbrev pub filled_bytes : Filled → List ℕ → List ℕ
 filled_bytes (Got n) piece = take n piece
 filled_bytes End piece = []
@@ -35,7 +35,7 @@ PutCount (put.Took n) len = IsCountOf n len
 PutCount put.Failed len = Unit {0}
 PutCount put.NoMemory len = Unit {0}
 
--- the bytes that a put took, which stand at the front of the piece
+-- the bytes that a put took, which are the first of the piece
 abbrev pub put_bytes : Put → List ℕ → List ℕ
 put_bytes (put.Took n) piece = take n piece
 put_bytes put.Failed piece = []

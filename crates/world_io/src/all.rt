@@ -38,7 +38,8 @@ impl From<NoMemory> for ReadError {
 /// Why not all of some bytes were written.
 #[derive(Clone, Copy, Debug, PartialEq, Eq, Error)]
 pub enum WriteError {
-    /// Writing failed, and the sink's count of faults rose. This number of the first bytes was appended.
+    /// Writing failed, and the sink's count of faults rose. This number of the first bytes was
+    /// appended.
     #[error("write fault after {0} bytes")]
     Failed(usize),
     /// This number of the first bytes was appended.
@@ -48,8 +49,8 @@ pub enum WriteError {
 
 /// Reads all that is left, if that is at most the limit.
 ///
-/// Where more is left, it has taken the limit and one byte more, which shows that there is more. After any other error
-/// some bytes may have been taken, and these are lost.
+/// Where more is left, it has taken the limit and one byte more, which shows that there is more.
+/// After any other error some bytes may have been taken, and these are lost.
 pub fn read_all<S: Source>(alloc: Global, source: &mut S, limit: u64) -> Result<Bytes, ReadError>
     ensures reads { ReadsAll S.reads result limit source.old source.new }
     ensures end { IsTrue S.tells

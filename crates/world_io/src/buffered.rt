@@ -5,10 +5,11 @@ ghost use Rattle.world_io.specs.Buffered.{HoldsSome};
 use crate::{Filled, Source};
 use std::marker::Model;
 
-/// A source that asks the source below it for large pieces, so that small fills make few calls there.
+/// A source that asks the source below it for large pieces, so that small fills make few calls
+/// there.
 ///
-/// Contracts see the source below and the bytes that are held, in the order in which they will be given. When
-/// it is let go, the bytes held are lost: the source below has given them already.
+/// Contracts see the source below and the bytes that are held, in the order in which they will be
+/// given. When it is let go, the bytes held are lost: the source below has given them already.
 #[derive(Drop)]
 pub struct BufferedSource<S> {
     source: S,
@@ -24,11 +25,13 @@ impl<S> Model for BufferedSource<S> {
 
     ghost view = { λ b. (b.source, drop b.given (take b.filled b.buffer.items)) };
 
-    ghost invariant = { λ b. (b.given ≤ b.filled) × (b.filled ≤ vec_len b.buffer) × (0 < vec_len b.buffer) };
+    ghost invariant = { λ b.
+        (b.given ≤ b.filled) × (b.filled ≤ vec_len b.buffer) × (0 < vec_len b.buffer) };
 }
 
 impl<S> BufferedSource<S> {
-    /// Holds no bytes yet. The source below is asked for as many bytes at once as the buffer has room for.
+    /// Holds no bytes yet. The source below is asked for as many bytes at once as the buffer has
+    /// room for.
     pub fn of(source: S, buffer: Vec<u8>) -> BufferedSource<S>
         requires { 0 < vec_len buffer }
         ensures { result ≡ (source, []) }

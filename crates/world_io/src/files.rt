@@ -9,7 +9,8 @@ use plain_text::{Bytes, NoMemory, Text};
 use std::alloc::Global;
 use std::marker::Model;
 
-/// The files that a world in memory opened and created, in the order of their numbers, which count from 1.
+/// The files that a world in memory opened and created, in the order of their numbers, which count
+/// from 1.
 #[derive(Debug, Drop)]
 pub struct Files {
     files: Vec<MemoryFile>,
@@ -50,7 +51,8 @@ impl Files {
 
     /// Adds a file to be written, under this name.
     pub fn create(&mut self, name: Text, sent: Bytes) -> Result<(), NoMemory>
-        ensures ok { OnOk result (self.new ≡ self.old ++ Created (record { name = name; sent = sent }) ∷ []) }
+        ensures ok { OnOk result
+            (self.new ≡ self.old ++ Created (record { name = name; sent = sent }) ∷ []) }
         ensures err { OnErr result (self.new ≡ self.old) }
     {
         self.files
@@ -58,14 +60,15 @@ impl Files {
         Ok(())
     }
 
-    /// Drops the files added last, so that so many stay.
+    /// Keeps this number of the first files, and drops the others.
     pub fn truncate(&mut self, count: usize)
         ensures { self.new ≡ take count self.old }
     {
         self.files.truncate(count);
     }
 
-    /// Takes the next bytes of an opened file into the front of the piece. It never fails.
+    /// Takes the next bytes of an opened file into the piece, from its first byte on. It never
+    /// fails.
     pub fn fill(&mut self, number: u32, piece: &mut [u8]) -> Filled
         requires { IsTrue (is_opened (file_of self.old number)) }
         ensures count { FillCount result (length piece.old) }
@@ -102,7 +105,7 @@ impl Files {
         }
     }
 
-    /// Keeps the first bytes that a created file was sent, at most so many.
+    /// Keeps this number of the first bytes that a created file was sent.
     pub fn cut(&mut self, number: u32, count: usize)
         requires { IsTrue (is_created (file_of self.old number)) }
         ensures { CutsFile number count self.old self.new }

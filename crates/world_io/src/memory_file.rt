@@ -43,7 +43,7 @@ impl OpenedFile {
         OpenedFile { bytes, taken: 0 }
     }
 
-    /// Takes the next bytes into the front of the piece. It never fails.
+    /// Takes the next bytes into the piece, from its first byte on. It never fails.
     pub fn fill(&mut self, piece: &mut [u8]) -> Filled
         ensures count { FillCount result (length piece.old) }
         ensures reads { self.old ≡ filled_bytes result piece.new ++ self.new }

@@ -15,12 +15,14 @@ use plain_text::{Bytes, NoMemory, Text};
 use std::alloc::Global;
 use std::marker::Model;
 
-/// A world in memory, for tests: names with their bytes, the report, and calls that fail where they are told to.
+/// A world in memory, for tests: names with their bytes, the report, and calls that fail where they
+/// are told to.
 ///
-/// Calls of `open_file` and `fill` are numbered together from 1, and so are those of `create_file` and `put`, over
-/// the world's life and whatever they answered. Numbers go up to 2^64 - 1, and every later call has this last
-/// number too. Opening a name that is not there fails. A file that was opened goes on with the bytes that its
-/// name had then. The world is healthy where none of the calls still to come is told to fail.
+/// Calls of `open_file` and `fill` are numbered together from 1, and so are those of `create_file`
+/// and `put`, over the world's life and whatever they answered. Numbers go up to 2^64 - 1, and
+/// every later call has this last number too. Opening a name that is not there fails. A file that
+/// was opened goes on with the bytes that its name had then. The world is healthy where none of the
+/// calls still to come is told to fail.
 #[derive(Debug, Drop)]
 pub struct MemoryWorld {
     alloc: Global,
@@ -36,7 +38,13 @@ impl Model for MemoryWorld {
 
     ghost Value = { Memory };
 
-    ghost view = { λ w. record { names = w.names; files = w.files; report = w.report; reading = w.reading; writing = w.writing } };
+    ghost view = { λ w. record {
+      names = w.names;
+      files = w.files;
+      report = w.report;
+      reading = w.reading;
+      writing = w.writing;
+    } };
 }
 
 impl MemoryWorld {
@@ -194,8 +202,8 @@ impl World for MemoryWorld {
 
     fn open_file(&mut self, name: &Text) -> Result<u32, OpenFault>
         requires { (ledger_of self.old).given < 2 ^ 32 - 1 }
-        ensures told { IsTrue true
-            → IfOk result (λ file. OpensFile name.now file (shown_of self.old) (shown_of self.new)) }
+        ensures told { IsTrue true → IfOk result
+            (λ file. OpensFile name.now file (shown_of self.old) (shown_of self.new)) }
         ensures told_err { IsTrue true → OnErr result (shown_of self.new ≡ shown_of self.old) }
         ensures given { IfOk result
             (λ file. GivesOpened file (ledger_of self.old) (ledger_of self.new)) }
@@ -216,8 +224,8 @@ impl World for MemoryWorld {
     fn fill(&mut self, file: u32, piece: &mut [u8]) -> Filled
         requires { IsTrue ((ledger_of self.old).opened file) }
         ensures count { FillCount result (length piece.old) }
-        ensures told { IsTrue true
-            → ReadsFile file (filled_bytes result piece.new) (shown_of self.old) (shown_of self.new) }
+        ensures told { IsTrue true → ReadsFile file (filled_bytes result piece.new)
+            (shown_of self.old) (shown_of self.new) }
         ensures told_nothing { IsTrue true
             → FilledNothing result → shown_of self.new ≡ shown_of self.old }
         ensures end { IsTrue true → EndsAtEnd result ((shown_of self.old).left file) }
@@ -235,8 +243,8 @@ impl World for MemoryWorld {
 
     fn create_file(&mut self, name: &Text) -> Result<u32, OpenFault>
         requires { (ledger_of self.old).given < 2 ^ 32 - 1 }
-        ensures told { IsTrue true
-            → IfOk result (λ file. CreatesFile name.now file (shown_of self.old) (shown_of self.new)) }
+        ensures told { IsTrue true → IfOk result
+            (λ file. CreatesFile name.now file (shown_of self.old) (shown_of self.new)) }
         ensures told_err { IsTrue true
             → OnErr result (CreatesNothing name.now (shown_of self.old) (shown_of self.new)) }
         ensures given { IfOk result

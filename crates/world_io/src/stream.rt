@@ -6,8 +6,8 @@ use std::marker::Model;
 /// What a fill did.
 #[derive(Clone, Copy, Debug, PartialEq, Eq)]
 pub enum Filled {
-    /// The number of bytes that were put into the piece, from its first byte on; at least one, unless the piece is
-    /// empty.
+    /// The number of bytes that were put into the piece, from its first byte on; at least one,
+    /// unless the piece is empty.
     Got(usize),
     /// Nothing was left.
     End,
@@ -18,7 +18,8 @@ pub enum Filled {
 /// What a put did.
 #[derive(Clone, Copy, Debug, PartialEq, Eq)]
 pub enum Put {
-    /// The number of the piece's first bytes that were appended; at least one, unless the piece is empty.
+    /// The number of the piece's first bytes that were appended; at least one, unless the piece is
+    /// empty.
     Took(usize),
     /// Writing failed, and appended nothing.
     Failed,
@@ -28,9 +29,9 @@ pub enum Put {
 
 /// Bytes to be read in order, in pieces of any size.
 ///
-/// A source may tell its bytes or not, as a real file. What a call took is known either way, since it stands in
-/// the piece; what is left is known only where it is told. A source may say that it is healthy: then no call fails,
-/// and it stays healthy.
+/// A source may tell its bytes or not, as a real file. What a call took is known either way, since
+/// it stands in the piece; what is left is known only where it is told. A source may say that it is
+/// healthy: then no call fails, and it stays healthy.
 pub trait Source {
     /// Whether it tells its bytes.
     ghost tells: { Bool };
@@ -41,7 +42,8 @@ pub trait Source {
     /// How often reading failed. A count at 2^64 - 1 stays there.
     ghost faults: { Self → ℕ };
 
-    /// From the one state to the other these bytes were taken, and all else but the count of faults stays.
+    /// From the one state to the other these bytes were taken, and all else but the count of faults
+    /// stays.
     ghost reads: { Self → List ℕ → Self → Type 0 };
 
     /// That no call fails from here on.
@@ -66,7 +68,8 @@ pub trait Source {
         → IsTrue tells → reads a taken b → left a ≡ taken ++ left b };
 }
 
-/// A place to append bytes to. A sink may say that it is healthy: then no call fails, and it stays healthy.
+/// A place to append bytes to. A sink may say that it is healthy: then no call fails, and it stays
+/// healthy.
 pub trait Sink {
     /// Whether it tells its bytes.
     ghost tells: { Bool };
@@ -77,7 +80,8 @@ pub trait Sink {
     /// How often writing failed. A count at 2^64 - 1 stays there.
     ghost faults: { Self → ℕ };
 
-    /// From the one state to the other these bytes were appended, and all else but the count of faults stays.
+    /// From the one state to the other these bytes were appended, and all else but the count of
+    /// faults stays.
     ghost writes: { Self → List ℕ → Self → Type 0 };
 
     /// That no call fails from here on.
@@ -118,7 +122,8 @@ impl<'a, S: Source> Source for &'a mut S {
 
     ghost reads_nothing = { λ s. (refl, S.reads_nothing s.now) };
 
-    ghost reads_more = { λ a b c first more r s. (s.0 ∙ r.0, S.reads_more a.now b.now c.now first more r.1 s.1) };
+    ghost reads_more = { λ a b c first more r s.
+        (s.0 ∙ r.0, S.reads_more a.now b.now c.now first more r.1 s.1) };
 
     ghost reads_told = { λ a b taken told r. S.reads_told a.now b.now taken told r.1 };
 
@@ -144,7 +149,8 @@ impl<'a, K: Sink> Sink for &'a mut K {
 
     ghost writes_nothing = { λ s. (refl, K.writes_nothing s.now) };
 
-    ghost writes_more = { λ a b c first more r s. (s.0 ∙ r.0, K.writes_more a.now b.now c.now first more r.1 s.1) };
+    ghost writes_more = { λ a b c first more r s.
+        (s.0 ∙ r.0, K.writes_more a.now b.now c.now first more r.1 s.1) };
 
     ghost writes_told = { λ a b added told r. K.writes_told a.now b.now added told r.1 };
 
@@ -202,8 +208,8 @@ impl<'a> Source for SliceSource<'a> {
             return Filled::End;
         }
         let count = piece.len().min(self.rest.len());
-        let (front, rest) = self.rest.split_at(count);
-        piece[..count].copy_from_slice(front);
+        let (taken, rest) = self.rest.split_at(count);
+        piece[..count].copy_from_slice(taken);
         self.rest = rest;
         Filled::Got(count)
     }

@@ -1,4 +1,6 @@
 ghost use Rattle.std.specs.Prelude.{◌≡◌, ◌+◌, ◌<◌, ◌≤◌, IfOk, List, ℕ, length, vec_len};
+ghost use Rattle.world_io.specs.All.{WriteFailed};
+ghost use Rattle.world_io.specs.Memory.{IsHealthy};
 
 use crate::{
     BufferedSource, Filled, MemoryWorld, OpenFault, ReadError, SliceSource, Source, World,
@@ -42,7 +44,8 @@ impl<'a> Source for Counting<'a> {
     }
 }
 
-/// Reads what is left of a source that is lent, through a buffer: what was taken is known of the source.
+/// Reads what is left of a source that is lent, through a buffer: what was taken is known of the
+/// source.
 fn read_through<S: Source>(
     alloc: Global,
     source: &mut S,
@@ -64,7 +67,8 @@ fn read_name<W: World>(
     limit: u64,
 ) -> Result<Bytes, ReadError>
     requires { (W.ledger world.old).given < 1000 }
-    ensures { (W.ledger world.new).given ≤ (W.ledger world.old).given + 1 }
+    ensures given { (W.ledger world.new).given ≤ (W.ledger world.old).given + 1 }
+    ensures stays_healthy { W.healthy world.old → W.healthy world.new }
 {
     match world.open_file(name) {
         Ok(file) => read_all(alloc, &mut WorldSource::of(world, file), limit),
@@ -75,7 +79,9 @@ fn read_name<W: World>(
 
 fn write_name<W: World>(world: &mut W, name: &Text, bytes: &[u8]) -> Result<(), WriteError>
     requires { (W.ledger world.old).given < 1000 }
-    ensures { (W.ledger world.new).given ≤ (W.ledger world.old).given + 1 }
+    ensures given { (W.ledger world.new).given ≤ (W.ledger world.old).given + 1 }
+    ensures never_fails { W.healthy world.old → ¬ WriteFailed result }
+    ensures stays_healthy { W.healthy world.old → W.healthy world.new }
 {
     match world.create_file(name) {
         Ok(file) => write_all(&mut WorldSink::of(world, file), bytes),
@@ -86,7 +92,8 @@ fn write_name<W: World>(world: &mut W, name: &Text, bytes: &[u8]) -> Result<(), 
 
 /// A world with the one name "in", which has the bytes "hello".
 fn world_of_one(alloc: Global) -> Result<MemoryWorld, NoMemory>
-    ensures { IfOk result (λ world. length world.files ≡ 0) }
+    ensures unused { IfOk result (λ world. length world.files ≡ 0) }
+    ensures healthy { IfOk result IsHealthy }
 {
     let mut world = MemoryWorld::new(alloc)?;
     let name = Text::of(alloc, "in")?;

@@ -26,12 +26,12 @@ impl From<NoMemory> for OpenFault {
 
 /// The outside: named files, and the report, which is file 0 and is always there.
 ///
-/// A world may tell its bytes or not, as that of the real files. Whether it does or not, it shows which numbers
-/// it gave to files that it opened and created, and how often reading and writing failed. A count that stands at
-/// 2^64 - 1 stays there.
+/// A world may tell its bytes or not, as that of the real files. Whether it does or not, it shows
+/// which numbers it gave to files that it opened and created, and how often reading and writing
+/// failed. A count that stands at 2^64 - 1 stays there.
 ///
-/// A world may say that it is healthy: then no call fails, but for opening a name that is not there, and it stays
-/// healthy. The world of the real files never says so.
+/// A world may say that it is healthy: then no call fails, but for opening a name that is not
+/// there, and it stays healthy. The world of the real files never says so.
 pub trait World {
     /// Whether it tells its bytes.
     ghost tells: { Bool };
@@ -65,7 +65,8 @@ pub trait World {
         ensures count { FillCount result (length piece.old) }
         ensures told { IsTrue tells
             → ReadsFile file (filled_bytes result piece.new) (shown self.old) (shown self.new) }
-        ensures told_nothing { IsTrue tells → FilledNothing result → shown self.new ≡ shown self.old }
+        ensures told_nothing { IsTrue tells
+            → FilledNothing result → shown self.new ≡ shown self.old }
         ensures end { IsTrue tells → EndsAtEnd result ((shown self.old).left file) }
         ensures ledger { KeepsLedgerReading (ledger self.old) (ledger self.new) }
         ensures cause { result ≡ Filled.Failed
@@ -73,14 +74,16 @@ pub trait World {
         ensures never_fails { healthy self.old → result ≢ Filled.Failed }
         ensures stays_healthy { healthy self.old → healthy self.new };
 
-    /// Makes the name's bytes empty, and starts writing them. The file has a number of its own, which is not 0.
+    /// Makes the name's bytes empty, and starts writing them. The file has a number of its own,
+    /// which is not 0.
     fn create_file(&mut self, name: &Text) -> Result<u32, OpenFault>
         requires { (ledger self.old).given < 2 ^ 32 - 1 }
         ensures told { IsTrue tells
             → IfOk result (λ file. CreatesFile name.now file (shown self.old) (shown self.new)) }
         ensures told_err { IsTrue tells
             → OnErr result (CreatesNothing name.now (shown self.old) (shown self.new)) }
-        ensures given { IfOk result (λ file. GivesCreated file (ledger self.old) (ledger self.new)) }
+        ensures given { IfOk result
+            (λ file. GivesCreated file (ledger self.old) (ledger self.new)) }
         ensures not_given { OnErr result (KeepsLedgerWriting (ledger self.old) (ledger self.new)) }
         ensures cause { IsErrOf result OpenFault.Failed
             → Rose (ledger self.old).write_faults (ledger self.new).write_faults }

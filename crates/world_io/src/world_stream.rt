@@ -39,17 +39,20 @@ impl<'a, W: World> Source for WorldSource<'a, W> {
     ghost reads = { λ a taken b. (b.world.ghost_name ≡ a.world.ghost_name) × ((b.file ≡ a.file)
         × ReadsOneFile W.tells W.shown W.ledger a.file taken a.world.now b.world.now) };
 
-    ghost reads_nothing = { λ s. (refl, (refl, ReadsOneFile-nothing W.tells W.shown W.ledger s.file s.world.now)) };
+    ghost reads_nothing = { λ s.
+        (refl, (refl, ReadsOneFile-nothing W.tells W.shown W.ledger s.file s.world.now)) };
 
     ghost reads_more = { λ a b c first more r s. (
       s.0 ∙ r.0,
       (
         s.1.0 ∙ r.1.0,
-        ReadsOneFile-more W.tells W.shown W.ledger a.file b.file first more a.world.now b.world.now c.world.now r.1.0 r.1.1 s.1.1,
+        ReadsOneFile-more W.tells W.shown W.ledger a.file b.file first more
+            a.world.now b.world.now c.world.now r.1.0 r.1.1 s.1.1,
       ),
     ) };
 
-    ghost reads_told = { λ a b taken told r. (r.1.1.shown_read told).left ∙ ap (λ k. taken ++ (W.shown b.world.now).left k) (sym r.1.0) };
+    ghost reads_told = { λ a b taken told r. (r.1.1.shown_read told).left
+        ∙ ap (λ k. taken ++ (W.shown b.world.now).left k) (sym r.1.0) };
 
     fn fill(&mut self, piece: &mut [u8]) -> Filled {
         self.world.fill(self.file, piece)
@@ -90,17 +93,20 @@ impl<'a, W: World> Sink for WorldSink<'a, W> {
     ghost writes = { λ a added b. (b.world.ghost_name ≡ a.world.ghost_name) × ((b.file ≡ a.file)
         × WritesOneFile W.tells W.shown W.ledger a.file added a.world.now b.world.now) };
 
-    ghost writes_nothing = { λ s. (refl, (refl, WritesOneFile-nothing W.tells W.shown W.ledger s.file s.world.now)) };
+    ghost writes_nothing = { λ s.
+        (refl, (refl, WritesOneFile-nothing W.tells W.shown W.ledger s.file s.world.now)) };
 
     ghost writes_more = { λ a b c first more r s. (
       s.0 ∙ r.0,
       (
         s.1.0 ∙ r.1.0,
-        WritesOneFile-more W.tells W.shown W.ledger a.file b.file first more a.world.now b.world.now c.world.now r.1.0 r.1.1 s.1.1,
+        WritesOneFile-more W.tells W.shown W.ledger a.file b.file first more
+            a.world.now b.world.now c.world.now r.1.0 r.1.1 s.1.1,
       ),
     ) };
 
-    ghost writes_told = { λ a b added told r. ap (λ k. (W.shown b.world.now).sent k) r.1.0 ∙ (r.1.1.shown_written told).sent };
+    ghost writes_told = { λ a b added told r.
+        ap (λ k. (W.shown b.world.now).sent k) r.1.0 ∙ (r.1.1.shown_written told).sent };
 
     fn put(&mut self, piece: &[u8]) -> Put {
         self.world.put(self.file, piece)

@@ -1,9 +1,10 @@
 //! The outside of the program: the files of the system, and standard output as the report.
 //!
-//! This is the trusted edge. What a call answers, which numbers it gives and how it counts faults is proved. That
-//! the bytes a call moved are those of the named file is not, and no proof can reach it: it is trusted that std's
-//! files and the system's do what they say, that `open` reads a name from its first byte, that `create` makes a
-//! name's bytes empty or adds the name, that `read` takes what follows, and that `write` appends what it says it took.
+//! This is the trusted edge. What a call answers, which numbers it gives and how it counts faults
+//! is proved. That the bytes a call moved are those of the named file is not, and no proof can
+//! reach it: it is trusted that std's files and the system's do what they say, that `open` reads a
+//! name from its first byte, that `create` makes a name's bytes empty or adds the name, that `read`
+//! takes what follows, and that `write` appends what it says it took.
 #![tactic(auto)]
 
 mod pieces;

@@ -5,8 +5,8 @@ ghost use Rattle.world_io.specs.Stream.{FillCount, filled_bytes, PutCount, put_b
 use std::io::{Read, Write};
 use world_io::{Filled, Put};
 
-/// Reads the next bytes into the piece, from its first byte on. A read that moves nothing is the end,
-/// unless the piece is empty.
+/// Reads the next bytes into the piece, from its first byte on. A read that moves nothing is the
+/// end, unless the piece is empty.
 pub fn read_some<F: Read>(from: &mut F, piece: &mut [u8]) -> Filled
     ensures count { FillCount result (length piece.old) }
     ensures takes { Consumes (F.remaining from.old) (F.remaining from.new)
@@ -20,7 +20,8 @@ pub fn read_some<F: Read>(from: &mut F, piece: &mut [u8]) -> Filled
     }
 }
 
-/// Writes the first bytes of the piece. A write that moves nothing is a fault, unless the piece is empty.
+/// Writes the first bytes of the piece. A write that moves nothing is a fault, unless the piece is
+/// empty.
 pub fn write_some<F: Write>(to: &mut F, piece: &[u8]) -> Put
     ensures count { PutCount result (length piece.now) }
     ensures appends { Appends (F.contents to.old) (F.contents to.new) (put_bytes result piece.now) }

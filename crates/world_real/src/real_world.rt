@@ -16,8 +16,9 @@ use world_io::{Filled, OpenFault, Put, World};
 
 /// The files of the system, by their paths, and standard output as the report.
 ///
-/// It tells no bytes: contracts see the numbers that it gave, which count from 1 and are given once,
-/// and how often reading and writing failed. It never says that it is healthy: any call may fail.
+/// It tells no bytes: contracts see the numbers that it gave, which count from 1 and are given
+/// once, and how often reading and writing failed. It never says that it is healthy: any call may
+/// fail.
 #[derive(Drop)]
 pub struct RealWorld<R: Files + Print + Drop> {
     rt: R,

@@ -1,6 +1,6 @@
 use Rattle.std.proofs.Common.{◌≡◌, inl, ap, ◌∙◌, arith}
 use Rattle.std.proofs.lemmas.List.Elements.{All-push}
-use Rattle.plain_text.specs.Octets.{HasBytes}
+use Rattle.plain_text.specs.Octets.{IsOfBytes}
 use Rattle.pcap_io.specs.Reading.{Reading}
 use Rattle.pcap_io.proofs.Captures.{stands_on, has_read_on, refused_says, too_large_says, taken_more, taken_capture, begun_capture, begins_read}
 use Rattle.pcap_io.proofs.Verdicts.{header_passes_none}
@@ -18,7 +18,7 @@ records-preserved g c =
     record {
       stands = stands_on _ _ _ _ c.in-Packet.packet inv.stands packet.after c.in-Ok.ensures.ok packet.given;
       taken = has_read_on g.S.Source.reads g.met.S.Source.reads_more c.args.source.now c.records.source c.next_packet.new.source c.records.reader c.next_packet.new.self c.records.packets c.push.new.self c.in-Packet.packet inv.taken packet.after c.in-Ok.ensures.ok packet.taken;
-      bytes = rw c.in-Ok.ensures.ok (All-push HasBytes c.records.packets c.in-Packet.packet inv.bytes packet.bytes);
+      bytes = rw c.in-Ok.ensures.ok (All-push IsOfBytes c.records.packets c.in-Packet.packet inv.bytes packet.bytes);
       later = omega (arith, inv.later, packet.later);
       healthy = λ well. packet.stays_healthy (inv.healthy well);
     }

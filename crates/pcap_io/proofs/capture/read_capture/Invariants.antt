@@ -1,7 +1,7 @@
 use Rattle.std.proofs.Common.{◌-◌, ◌≤◌}
 use Rattle.std.specs.Prelude.{All}
 use Rattle.plain_text.specs.declared.limit.TheConstants.{MOST_PACKETS}
-use Rattle.plain_text.specs.Octets.{HasBytes}
+use Rattle.plain_text.specs.Octets.{IsOfBytes}
 use Rattle.pcap_io.proofs.Captures.{HasRead, StandsAt}
 use Rattle.pcap_io.proofs.capture.read_capture.Given as goal
 
@@ -12,7 +12,7 @@ invariant-records g l =
     record {
       stands : StandsAt l.reader l.packets;
       taken : HasRead source.reads l.fn.source l.source l.reader.order l.reader.unit l.packets;
-      bytes : All HasBytes l.packets;
+      bytes : All IsOfBytes l.packets;
       later : source.faults l.fn.source ≤ source.faults l.source;
       healthy : source.healthy l.fn.source → source.healthy l.source;
     }
