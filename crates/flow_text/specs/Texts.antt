@@ -1,9 +1,12 @@
 -- How protocols (RFC 790), IPv4 addresses (four decimal numbers, as in RFC 1123, section 2.1) and endpoints are written.
 use Rattle.std.specs.Prelude.{ℕ, ◌/◌, ◌%◌, ◌^◌, ◌==◌, if◌then◌else◌, List, ◌++◌, codes, decimal}
 
--- of the two protocols that have ports, TCP is 6
+-- the two protocols that have ports by name, TCP (6) and UDP (17), and any other by its number
 abbrev pub protocol_text : ℕ → List ℕ
-protocol_text protocol = if protocol == 6 then codes "tcp" else codes "udp"
+protocol_text protocol =
+    if protocol == 6 then codes "tcp"
+    else if protocol == 17 then codes "udp"
+    else decimal protocol
 
 -- the four bytes of an address, the high one first, with dots between
 abbrev pub address_text : ℕ → List ℕ

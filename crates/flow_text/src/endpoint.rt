@@ -1,9 +1,8 @@
-ghost use Rattle.std.specs.Prelude.{◌≡◌, ◌++◌, decimal, IfOk, OnOk};
+ghost use Rattle.std.specs.Prelude.{◌≡◌, ◌++◌, IfOk, OnOk};
 ghost use Rattle.std.specs.String.{string_bytes};
 ghost use Rattle.flow_text.specs.Texts.{address_text, endpoint_text};
 
-use itoa::Buffer;
-use plain_text::{NoMemory, Text};
+use plain_text::{NoMemory, Text, put_decimal};
 use std::alloc::Global;
 
 /// An IPv4 address as four decimal numbers, such as `10.0.0.5`.
@@ -22,7 +21,7 @@ pub fn endpoint_text(alloc: Global, address: u32, port: u16) -> Result<Text, NoM
     let mut text = String::new(alloc);
     put_address(&mut text, address)?;
     text.push_str(":")?;
-    put_number(&mut text, u32::from(port))?;
+    put_decimal(&mut text, u64::from(port))?;
     Text::of(alloc, text.as_str())
 }
 
@@ -30,19 +29,11 @@ pub fn endpoint_text(alloc: Global, address: u32, port: u16) -> Result<Text, NoM
 fn put_address(text: &mut String, address: u32) -> Result<(), NoMemory>
     ensures { OnOk result (string_bytes text.new ≡ string_bytes text.old ++ address_text address) }
 {
-    put_number(text, address >> 24)?;
+    put_decimal(text, u64::from(address >> 24))?;
     text.push_str(".")?;
-    put_number(text, (address >> 16) % 256)?;
+    put_decimal(text, u64::from((address >> 16) % 256))?;
     text.push_str(".")?;
-    put_number(text, (address >> 8) % 256)?;
+    put_decimal(text, u64::from((address >> 8) % 256))?;
     text.push_str(".")?;
-    put_number(text, address % 256)
-}
-
-/// Appends the decimal digits of a number to a text.
-fn put_number(text: &mut String, number: u32) -> Result<(), NoMemory>
-    ensures { OnOk result (string_bytes text.new ≡ string_bytes text.old ++ decimal number) }
-{
-    text.push_str(Buffer::new().format(number))?;
-    Ok(())
+    put_decimal(text, u64::from(address % 256))
 }

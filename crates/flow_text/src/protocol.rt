@@ -1,12 +1,25 @@
-ghost use Rattle.std.specs.Prelude.{◌≡◌};
+ghost use Rattle.std.specs.Prelude.{◌≡◌, IfOk};
 ghost use Rattle.flow_text.specs.Texts.{protocol_text};
 
-/// The number of TCP in an IPv4 header (RFC 790).
+use plain_text::{NoMemory, Text, put_decimal};
+use std::alloc::Global;
+
+/// The numbers of the protocols that have ports, in an IPv4 header (RFC 790).
 const TCP: u8 = 6;
 
-/// The name of a protocol that has ports, by its number in the IPv4 header: `tcp` for 6, and `udp` for 17 and for any other.
-pub fn protocol_text(protocol: u8) -> &'static str
-    ensures { result.now ≡ protocol_text protocol }
+const UDP: u8 = 17;
+
+/// The text of a protocol by its number in the IPv4 header: `tcp` for 6, `udp` for 17, and the number for any other.
+pub fn protocol_text(alloc: Global, protocol: u8) -> Result<Text, NoMemory>
+    ensures { IfOk result (λ text. text ≡ protocol_text protocol) }
 {
-    if protocol == TCP { "tcp" } else { "udp" }
+    match protocol {
+        TCP => Text::of(alloc, "tcp"),
+        UDP => Text::of(alloc, "udp"),
+        _ => {
+            let mut text = String::new(alloc);
+            put_decimal(&mut text, u64::from(protocol))?;
+            Text::of(alloc, text.as_str())
+        }
+    }
 }

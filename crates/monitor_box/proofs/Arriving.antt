@@ -10,6 +10,7 @@ use Rattle.entry_order.proofs.Order.{is_or}
 use Rattle.packet_headers.specs.declared.flow.Flow.{Flow}
 use Rattle.packet_headers.specs.declared.flow.NotFlow.{NotFlow}
 use Rattle.packet_headers.specs.Fields.{AreBytes}
+use Rattle.packet_headers.specs.Steering.{steering_sum}
 use Rattle.packet_headers.specs.View.{viewed, flow_of, failures}
 use Rattle.packet_headers.proofs.FirstFailure.{pass_from_ok}
 use Rattle.plain_machine.specs.declared.local.Local.{Local}
@@ -26,10 +27,12 @@ use Rattle.monitor_box.specs.declared.value.MonitorValue.TheVariants.{Totals, Ta
 use Rattle.monitor_box.specs.Flows.{Flows, same_flow, no_packets, with_packet, IsCount, AreFlows}
 use Rattle.monitor_box.specs.Monitor.{next_move, begun, noted_flow, noted_length, touched, fresh_value, monitor_meaning, Fits}
 use Rattle.monitor_box.specs.Lawful.{touches, monitor_lawful}
-use Rattle.monitor_box.specs.Standing.{key_sum}
+use Rattle.monitor_box.specs.Standing.{as_flow}
 use Rattle.monitor_box.specs.Sums.{totals_of, IsAtRest}
-use Rattle.monitor_box.specs.Arrivals.{key_of, flow_of_packet, if_same, share, other_share, shares, taken_sum, coming_by, coming_sum, count_in, flows_in, count_of, others_of, Counts, CountsFlow, CountsFlowAtRest, CountsOthers, CountsOthersAtRest}
+use Rattle.monitor_box.specs.Arrivals.{key_of, flow_of_packet, if_same, share, other_share, shares, taken_sum, count_in, flows_in, count_of, others_of, Counts, CountsFlow, CountsFlowAtRest, CountsOthers, CountsOthersAtRest}
+use Rattle.monitor_box.specs.Coming.{coming_by, coming_sum}
 use Rattle.monitor_box.proofs.Changing.{one_changes, sum_of_none}
+use Rattle.monitor_box.proofs.Coming.{comes_none, coming_step, comes_nothing}
 use Rattle.monitor_box.proofs.Moving.{hand_of, at_access, at_emit, by_move, moved_taken, taken_by}
 use Rattle.monitor_box.proofs.Balancing.{IsCounted}
 use Rattle.monitor_box.proofs.Standing.{IsWhole, whole}
@@ -41,12 +44,6 @@ module _ (tables : ℕ) (number : Packet → ℕ) (place : ℕ) (count : (ℕ �
   shares_taken [] n p e = absurd (cc)
   shares_taken (x ∷ xs) zero p e = let q : x ≡ p = cc in rw q (omega arith)
   shares_taken (x ∷ xs) (suc n) p e = let a = shares_taken xs n p e in omega arith
-
-  not_there : (at : ℕ) → at ≢ place → (at == place) ≡ false
-  not_there at h = grind (arith, nat_tests)
-
-  comes_none : (p : Packet) (l : Local) → l.at ≢ place → coming_by place number (hand_of p l) ≡ 0
-  comes_none p l h = rw (not_there l.at h) refl
 
   -- What a move adds to what is counted, taken and on its way alike, where the variables have these values and the thread took
   -- so many of its inputs.
@@ -65,17 +62,7 @@ module _ (tables : ℕ) (number : Packet → ℕ) (place : ℕ) (count : (ℕ �
       → coming_by place number (hand_of p l) ≡ number p → Adds packets taken value None (hand_of p l) Takes
   take_adds packets taken value p l input comes = let a = shares_taken packets taken p input in omega arith
 
-  -- what comes next, after a move of one thread
-  coming_step : (threads t : ℕ) (after : Thread) (thread : ℕ → Thread) → t < threads
-      → coming_sum place number threads (λ u. cond (nat_eq t u) after (thread u)) + coming_by place number (thread t).hand ≡ coming_sum place number threads thread + coming_by place number after.hand
-  coming_step threads t after thread low =
-      let f : ℕ → ℕ = λ u. coming_by place number (cond (nat_eq t u) after (thread u)).hand in
-      let g : ℕ → ℕ = λ u. coming_by place number (thread u).hand in
-      let one : sum_below threads f + g t ≡ sum_below threads g + f t = one_changes threads t f g low (λ u h. rw (not_eq t u (λ k. h (sym k))) refl) in
-      let new : f t ≡ coming_by place number after.hand = rw (is_eq t t refl) refl in
-      omega arith
-
-  -- and what was taken
+  -- what was taken, after a move of one thread
   taken_step : (threads t : ℕ) (inputs : ℕ → List Packet) (after : Thread) (thread : ℕ → Thread) → t < threads
       → taken_sum number threads inputs (λ u. cond (nat_eq t u) after (thread u)) + shares number (take (thread t).taken (inputs t)) ≡ taken_sum number threads inputs thread + shares number (take after.taken (inputs t))
   taken_step threads t inputs after thread low =
@@ -96,12 +83,12 @@ module _ (tables : ℕ) (number : Packet → ℕ) (place : ℕ) (count : (ℕ �
         → Counts number place count threads inputs value (thread_after earlier)
         → Counts number place count threads inputs (λ v. left_by v (act_of t earlier after.taken d) (value v)) (λ u. cond (nat_eq t u) after (thread_after earlier u))
     effect_counts Takes taken adds old =
-        let a = coming_step threads t after (thread_after earlier) low in
+        let a = coming_step place number threads t after (thread_after earlier) low in
         let b = taken_step threads t inputs after (thread_after earlier) low in
         let c : shares number (take after.taken (inputs t)) ≡ shares number (take (suc before.taken) (inputs t)) = ap (λ n. shares number (take n (inputs t))) taken in
         omega arith
     effect_counts (Touches v left) taken adds old =
-        let a = coming_step threads t after (thread_after earlier) low in
+        let a = coming_step place number threads t after (thread_after earlier) low in
         let b = taken_step threads t inputs after (thread_after earlier) low in
         let c = same_taken taken in
         omega arith
@@ -109,12 +96,12 @@ module _ (tables : ℕ) (number : Packet → ℕ) (place : ℕ) (count : (ℕ �
     effect_counts (HearsClock x) taken adds old = absurd adds
     effect_counts (HearsDraw x) taken adds old = absurd adds
     effect_counts (Sends p) taken adds old =
-        let a = coming_step threads t after (thread_after earlier) low in
+        let a = coming_step place number threads t after (thread_after earlier) low in
         let b = taken_step threads t inputs after (thread_after earlier) low in
         let c = same_taken taken in
         omega arith
     effect_counts Ends taken adds old =
-        let a = coming_step threads t after (thread_after earlier) low in
+        let a = coming_step place number threads t after (thread_after earlier) low in
         let b = taken_step threads t inputs after (thread_after earlier) low in
         let c = same_taken taken in
         omega arith
@@ -141,10 +128,6 @@ module _ (tables : ℕ) (number : Packet → ℕ) (place : ℕ) (count : (ℕ �
         known_step : (t : ℕ) → ((u : ℕ) → Known (thread_after earlier u).hand) → Known x.after.hand → (x.thread ≡ t) ⊎ (x.thread ≢ t) → Known (thread_after (x ∷ earlier) t).hand
         known_step t before after (inl e) = rw (is_eq x.thread t e) after
         known_step t before after (inr e) = rw (not_eq x.thread t e) (before t)
-
-  -- where no packet is in hand, nothing comes
-  pub comes_nothing : (threads : ℕ) (steps : List (Step MonitorValue)) → IsAtRest threads steps → coming_sum place number threads (thread_after steps) ≡ 0
-  comes_nothing threads steps rest = sum_of_none threads _ (λ t low. ap (coming_by place number) (rest t low))
 
 -- Flows are the same where their fields are
 
@@ -175,7 +158,7 @@ HaveBytesIn packets = (k : ℕ) (p : Packet) → slice_get packets k ≡ Some p 
 -- a packet on its way to its flow's table has noted its flow, the sum of it and its length on the wire
 record IsNoted (p : Packet) (l : Local) : Type 0 where
   flow : flow_of_packet p ≡ Some (noted_flow l)
-  sum : slice_index l.regs 0 ≡ key_sum (noted_flow l)
+  sum : slice_index l.regs 0 ≡ steering_sum (as_flow (noted_flow l))
   length : noted_length l ≡ p.original
 
 abbrev Seen : Option Hand → Type 0
@@ -213,7 +196,7 @@ module _ (of_totals : TotalCounts → ℕ) (of_length : ℕ → ℕ) (of_flow : 
   count = count_of of_flow flow tables
 
   abbrev own : ℕ
-  own = 1 + key_sum flow % tables
+  own = 1 + steering_sum (as_flow flow) % tables
 
   abbrev FlowAdds : List Packet → ℕ → (ℕ → MonitorValue) → Option Hand → Option Hand → Effect MonitorValue → Type 0
   FlowAdds = Adds tables number 0 count
@@ -247,8 +230,8 @@ module _ (of_totals : TotalCounts → ℕ) (of_length : ℕ → ℕ) (of_flow : 
   passes : (v taken : ℕ) (packets : List Packet) (value : ℕ → MonitorValue) (left : MonitorValue) (p : Packet) (l k : Local)
       → v ≢ own → l.at ≢ 0 → k.at ≢ 0 → FlowAdds packets taken value (hand_of p l) (hand_of p k) (Touches v left)
   passes v taken packets value left p l k other before after =
-      let a = comes_none tables number 0 count p l before in
-      let b = comes_none tables number 0 count p k after in
+      let a = comes_none 0 number p l before in
+      let b = comes_none 0 number p k after in
       rw (not_eq v own other) (omega arith)
 
   -- a touch of a table by a packet of a flow
@@ -260,7 +243,7 @@ module _ (of_totals : TotalCounts → ℕ) (of_length : ℕ → ℕ) (of_flow : 
       key : FlowKey
       key = noted_flow l
 
-      there : v ≡ 1 + key_sum key % tables
+      there : v ≡ 1 + steering_sum (as_flow key) % tables
       there = place ∙ ap (λ n. 1 + n % tables) noted.sum
 
       comes : coming_by 0 number (hand_of p l) ≡ if_same flow (Some key) (of_length (noted_length l))
@@ -270,7 +253,7 @@ module _ (of_totals : TotalCounts → ℕ) (of_length : ℕ → ℕ) (of_flow : 
       more = count_more key (noted_length l) es
 
       none : v ≢ own → (b : Bool) → same_flow flow key ≡ b → if_same flow (Some key) (of_length (noted_length l)) ≡ 0
-      none other true s = absurd (other (there ∙ ap (λ (f : FlowKey). 1 + key_sum f % tables) (sym (same_is flow key s))))
+      none other true s = absurd (other (there ∙ ap (λ (f : FlowKey). 1 + steering_sum (as_flow f) % tables) (sym (same_is flow key s))))
       none other false s = rw s refl
 
       by : (v ≡ own) ⊎ (v ≢ own) → FlowAdds packets taken value (hand_of p l) (hand_of p (touched (Table es) l).1) (Touches v (touched (Table es) l).0)
@@ -306,8 +289,8 @@ module _ (of_totals : TotalCounts → ℕ) (of_length : ℕ → ℕ) (of_flow : 
       touch_adds taken packets value p l v (value v) refl (fits v low) seen (at_access tables l.at (slice_index l.regs 0) v w))
       (λ p l sent w seen.
       let at : l.at ≡ 3 = at_emit tables l.at (slice_index l.regs 0) w in
-      (λ k. absurd (omega arith), sym (comes_none tables number 0 count p l (λ k. absurd (omega arith)))))
-      (λ p l w seen. (tt, sym (comes_none tables number 0 count p l (at_end_past tables l.at (slice_index l.regs 0) w).0)))
+      (λ k. absurd (omega arith), sym (comes_none 0 number p l (λ k. absurd (omega arith)))))
+      (λ p l w seen. (tt, sym (comes_none 0 number p l (at_end_past tables l.at (slice_index l.regs 0) w).0)))
       e seen
 
   fresh_count : (v : ℕ) → count_in of_flow flow (flows_in (fresh_value v)) ≡ 0
@@ -330,16 +313,16 @@ module _ (of_totals : TotalCounts → ℕ) (of_length : ℕ → ℕ) (of_flow : 
 
 pub counts_flow : (of_totals : TotalCounts → ℕ) (of_length : ℕ → ℕ) (of_flow : FlowCount → ℕ) → IsCounted of_totals of_length of_flow → CountsFlow (λ p. of_length p.original) of_flow
 counts_flow of_totals of_length of_flow counted tables threads inputs steps some few bytes h flow =
-    (run_counts tables (share (λ p. of_length p.original) flow) 0 (count_of of_flow flow tables) Seen tt HaveBytesIn (fresh_count of_totals of_length of_flow counted flow tables (1 + key_sum flow % tables))
+    (run_counts tables (share (λ p. of_length p.original) flow) 0 (count_of of_flow flow tables) Seen tt HaveBytesIn (fresh_count of_totals of_length of_flow counted flow tables (1 + steering_sum (as_flow flow) % tables))
     (flow_adds of_totals of_length of_flow counted flow tables some) threads inputs steps some few bytes h).1
 
 pub counts_flow_at_rest : (of_totals : TotalCounts → ℕ) (of_length : ℕ → ℕ) (of_flow : FlowCount → ℕ) → IsCounted of_totals of_length of_flow → ((c : FlowCount) → IsCount c → of_flow c < 2 ^ 64)
     → CountsFlowAtRest (λ p. of_length p.original) of_flow
 counts_flow_at_rest of_totals of_length of_flow counted small tables threads inputs steps some few bytes h rest flow =
-    let own : ℕ = 1 + key_sum flow % tables in
-    let a = comes_nothing tables (share (λ p. of_length p.original) flow) 0 (count_of of_flow flow tables) threads steps rest in
+    let own : ℕ = 1 + steering_sum (as_flow flow) % tables in
+    let a = comes_nothing 0 (share (λ p. of_length p.original) flow) threads steps rest in
     let b = counts_flow of_totals of_length of_flow counted tables threads inputs steps some few bytes h flow in
-    let low : own < tables + 1 = in_range (key_sum flow) tables some in
+    let low : own < tables + 1 = in_range (steering_sum (as_flow flow)) tables some in
     let c = small_value of_totals of_length of_flow counted flow tables own (value_after (monitor_meaning tables) steps own) small
     (values_fit (monitor_meaning tables) Fits (monitor_lawful tables some few) inputs threads steps h own low) in
     omega arith
@@ -392,8 +375,8 @@ module _ (tables : ℕ) where
       touch_other taken packets value p l v (value v) refl (fits v low) other (at_access tables l.at (slice_index l.regs 0) v w))
       (λ p l sent w other.
       let at : l.at ≡ 3 = at_emit tables l.at (slice_index l.regs 0) w in
-      (λ k. absurd (omega arith), sym (comes_none tables other_share 2 others_of p l (λ k. absurd (omega arith)))))
-      (λ p l w other. (tt, sym (comes_none tables other_share 2 others_of p l (at_end_past tables l.at (slice_index l.regs 0) w).1)))
+      (λ k. absurd (omega arith), sym (comes_none 2 other_share p l (λ k. absurd (omega arith)))))
+      (λ p l w other. (tt, sym (comes_none 2 other_share p l (at_end_past tables l.at (slice_index l.regs 0) w).1)))
       e other
 
 pub counts_others : CountsOthers
@@ -402,7 +385,7 @@ counts_others tables threads inputs steps some few h =
 
 pub counts_others_at_rest : CountsOthersAtRest
 counts_others_at_rest tables threads inputs steps some few h rest =
-    let a = comes_nothing tables other_share 2 others_of threads steps rest in
+    let a = comes_nothing 2 other_share threads steps rest in
     let b = counts_others tables threads inputs steps some few h in
     let c = small (value_after (monitor_meaning tables) steps 0) (values_fit (monitor_meaning tables) Fits (monitor_lawful tables some few) inputs threads steps h 0 (omega arith)) in
     omega arith

@@ -18,15 +18,14 @@ use Rattle.monitor_box.specs.Monitor.{begun, noted_flow, noted_length, touched, 
 use Rattle.plain_machine.proofs.Histories.{not_eq}
 use Rattle.monitor_box.specs.Lawful.{touches}
 use Rattle.monitor_box.proofs.Moving.{hand_of, at_access, at_emit, at_end, by_move}
-use Rattle.monitor_box.specs.Sums.{flows_sum, value_sum, totals_of, owed_by}
+use Rattle.monitor_box.specs.Sums.{flows_sum, value_sum, totals_of}
+use Rattle.monitor_box.specs.Coming.{coming_by}
+use Rattle.monitor_box.proofs.Coming.{comes_none}
 
 -- a packet on its way to the totals by a table has noted its length on the wire
 abbrev pub Noted : Option Hand → Type 0
 Noted None = Unit {0}
 Noted (Some h) = h.place.at ≤ 1 → noted_length h.place ≡ h.packet.original
-
-not_one : (at : ℕ) → at ≢ 1 → (at == 1) ≡ false
-not_one at h = grind (arith, nat_tests)
 
 begun_notes : (p : Packet) (seen : Result Flow NotFlow) → Noted (Some (record { packet = p; place = begun seen p.original }))
 begun_notes p (Ok flow) = λ _. refl
@@ -61,21 +60,18 @@ module _ (of_totals : TotalCounts → ℕ) (of_length : ℕ → ℕ) (of_flow : 
   abbrev pub Balance : ℕ → (ℕ → MonitorValue) → Option Hand → Option Hand → Effect MonitorValue → Type 0
   Balance tables value before after (Touches v left) =
       (v < tables + 1)
-      × ((of_totals (totals_of (cond (nat_eq v 0) left (value 0))) + owed_by of_packet after + value_sum of_flow (value v)) % 2 ^ 64
-      ≡ (of_totals (totals_of (value 0)) + owed_by of_packet before + value_sum of_flow left) % 2 ^ 64)
-  Balance tables value before after Takes = owed_by of_packet after ≡ owed_by of_packet before
+      × ((of_totals (totals_of (cond (nat_eq v 0) left (value 0))) + coming_by 1 of_packet after + value_sum of_flow (value v)) % 2 ^ 64
+      ≡ (of_totals (totals_of (value 0)) + coming_by 1 of_packet before + value_sum of_flow left) % 2 ^ 64)
+  Balance tables value before after Takes = coming_by 1 of_packet after ≡ coming_by 1 of_packet before
   Balance tables value before after (Looks v) = ⊥
   Balance tables value before after (HearsClock a) = ⊥
   Balance tables value before after (HearsDraw a) = ⊥
-  Balance tables value before after (Sends p) = owed_by of_packet after ≡ owed_by of_packet before
-  Balance tables value before after Ends = owed_by of_packet after ≡ owed_by of_packet before
+  Balance tables value before after (Sends p) = coming_by 1 of_packet after ≡ coming_by 1 of_packet before
+  Balance tables value before after Ends = coming_by 1 of_packet after ≡ coming_by 1 of_packet before
 
   pub record IsBalanced (tables : ℕ) (value : ℕ → MonitorValue) (before after : Option Hand) (d : Effect MonitorValue) : Type 0 where
     pub balance : Balance tables value before after d
     pub noted : Noted after
-
-  owes_none : (p : Packet) (l : Local) → l.at ≢ 1 → owed_by of_packet (hand_of p l) ≡ 0
-  owes_none p l h = rw (not_one l.at h) refl
 
   touch_balance : (tables : ℕ) (value : ℕ → MonitorValue) (p : Packet) (l : Local) (v : ℕ) (x : MonitorValue) → v < tables + 1 → value v ≡ x → Fits v x → Noted (hand_of p l)
       → ((l.at ≡ 0) × (v ≡ 1 + slice_index l.regs 0 % tables)) ⊎ (((l.at ≡ 1) × (v ≡ 0)) ⊎ ((l.at ≡ 2) × (v ≡ 0)))
@@ -97,7 +93,7 @@ module _ (of_totals : TotalCounts → ℕ) (of_length : ℕ → ℕ) (of_flow : 
   touch_balance tables value p l (suc k) (Table es) low is fits noted (inr (inl at)) = absurd (omega arith)
   touch_balance tables value p l (suc k) (Table es) low is fits noted (inr (inr at)) = absurd (omega arith)
 
-  begun_owes : (p : Packet) (seen : Result Flow NotFlow) → owed_by of_packet (hand_of p (begun seen p.original)) ≡ 0
+  begun_owes : (p : Packet) (seen : Result Flow NotFlow) → coming_by 1 of_packet (hand_of p (begun seen p.original)) ≡ 0
   begun_owes p (Ok flow) = refl
   begun_owes p (Err answer) = refl
 
@@ -112,6 +108,6 @@ module _ (of_totals : TotalCounts → ℕ) (of_length : ℕ → ℕ) (of_flow : 
       touch_balance tables value p l v (value v) low refl (fits v low) noted (at_access tables l.at (slice_index l.regs 0) v w))
       (λ p l sent w noted.
       let at : l.at ≡ 3 = at_emit tables l.at (slice_index l.regs 0) w in
-      record { balance = sym (owes_none p l (λ k. absurd (omega arith))); noted = λ late. absurd (omega arith) })
-      (λ p l w noted. record { balance = sym (owes_none p l (at_end tables l.at (slice_index l.regs 0) w)); noted = tt })
+      record { balance = sym (comes_none 1 of_packet p l (λ k. absurd (omega arith))); noted = λ late. absurd (omega arith) })
+      (λ p l w noted. record { balance = sym (comes_none 1 of_packet p l (at_end tables l.at (slice_index l.regs 0) w)); noted = tt })
       e noted

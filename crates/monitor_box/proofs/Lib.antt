@@ -1,7 +1,8 @@
-pub mod Counting
-pub mod Changing
-pub mod Moving
-pub mod Balancing
-pub mod Summing
-pub mod Standing
 pub mod Arriving
+pub mod Balancing
+pub mod Changing
+pub mod Coming
+pub mod Counting
+pub mod Moving
+pub mod Standing
+pub mod Summing

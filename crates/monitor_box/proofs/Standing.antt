@@ -6,6 +6,7 @@ use Rattle.entry_order.proofs.Order.{is_or}
 use Rattle.packet_headers.specs.declared.flow.Flow.{Flow}
 use Rattle.packet_headers.specs.declared.flow.NotFlow.{NotFlow}
 use Rattle.packet_headers.specs.Fields.{AreBytes, word_at, long_at, header_end}
+use Rattle.packet_headers.specs.Steering.{steering_sum}
 use Rattle.packet_headers.specs.View.{viewed, flow_of, failures}
 use Rattle.packet_headers.proofs.FirstFailure.{pass_from_ok}
 use Rattle.plain_machine.specs.declared.local.Local.{Local}
@@ -19,13 +20,13 @@ use Rattle.monitor_box.specs.declared.value.MonitorValue.TheVariants.{Totals, Ta
 use Rattle.monitor_box.specs.Flows.{Flows, same_flow, with_packet}
 use Rattle.monitor_box.specs.Monitor.{begun, noted_flow, noted_length, touched, fresh_value, monitor_meaning, Fits}
 use Rattle.monitor_box.specs.Lawful.{touches, monitor_lawful}
-use Rattle.monitor_box.specs.Standing.{key_sum, StandIn, ValueStands, HaveBytes}
+use Rattle.monitor_box.specs.Standing.{as_flow, StandIn, ValueStands, HaveBytes}
 use Rattle.monitor_box.proofs.Moving.{hand_of, at_access, by_move}
 
 -- a packet that is on its way to its flow's table has noted the sum of its flow
 abbrev Ready : Option Hand → Type 0
 Ready None = Unit {0}
-Ready (Some h) = h.place.at ≡ 0 → slice_index h.place.regs 0 ≡ key_sum (noted_flow h.place)
+Ready (Some h) = h.place.at ≡ 0 → slice_index h.place.regs 0 ≡ steering_sum (as_flow (noted_flow h.place))
 
 -- numbers of 8, 16 and 32 bits
 pub record IsWhole (flow : Flow) : Type 0 where
@@ -57,7 +58,7 @@ begun_ready p bytes (Ok flow) is =
     let w : IsWhole flow = subst IsWhole same (whole p.bytes bytes) in
     λ at. omega arith
 
-stand_more : (tables v : ℕ) (flow : FlowKey) (n : ℕ) (es : Flows) → v ≡ 1 + key_sum flow % tables → StandIn tables v es → StandIn tables v (with_packet flow n es)
+stand_more : (tables v : ℕ) (flow : FlowKey) (n : ℕ) (es : Flows) → v ≡ 1 + steering_sum (as_flow flow) % tables → StandIn tables v es → StandIn tables v (with_packet flow n es)
 stand_more tables v flow n [] new old = (new, tt)
 stand_more tables v flow n (e ∷ es) new old = by (same_flow flow e.0) refl (stand_more tables v flow n es new old.1)
   where
@@ -82,7 +83,7 @@ touch_keeps tables zero p l (Totals t) fits ready at = (λ k. absurd (omega arit
 touch_keeps tables zero p l (Table es) fits ready at = absurd fits
 touch_keeps tables (suc k) p l (Totals t) fits ready at = absurd fits
 touch_keeps tables (suc k) p l (Table es) fits ready (inl at) =
-    let sum : slice_index l.regs 0 ≡ key_sum (noted_flow l) = ready at.0 in
+    let sum : slice_index l.regs 0 ≡ steering_sum (as_flow (noted_flow l)) = ready at.0 in
     (λ k. absurd (omega arith), λ old. stand_more tables (suc k) (noted_flow l) (noted_length l) es (at.1 ∙ ap (λ n. 1 + n % tables) sum) old)
 touch_keeps tables (suc k) p l (Table es) fits ready (inr (inl at)) = absurd (omega arith)
 touch_keeps tables (suc k) p l (Table es) fits ready (inr (inr at)) = absurd (omega arith)

@@ -14,23 +14,15 @@ use Rattle.monitor_box.specs.declared.value.MonitorValue.{MonitorValue}
 use Rattle.monitor_box.specs.declared.value.MonitorValue.TheVariants.{Totals, Table}
 use Rattle.monitor_box.specs.Monitor.{fresh_value, monitor_meaning, Fits}
 use Rattle.monitor_box.specs.Lawful.{monitor_lawful}
-use Rattle.monitor_box.specs.Sums.{value_sum, tables_sum, totals_of, owed_by, owed, Matches, IsAtRest, IsSum}
+use Rattle.monitor_box.specs.Sums.{value_sum, tables_sum, totals_of, Matches, IsAtRest, IsSum}
+use Rattle.monitor_box.specs.Coming.{coming_sum}
+use Rattle.monitor_box.proofs.Coming.{coming_step, comes_nothing}
 use Rattle.monitor_box.proofs.Changing.{one_changes, sum_of_none, matched_again}
 use Rattle.monitor_box.proofs.Balancing.{Noted, IsCounted, IsBalanced, move_balance}
 
 module _ (of_totals : TotalCounts → ℕ) (of_length : ℕ → ℕ) (of_flow : FlowCount → ℕ) (counted : IsCounted of_totals of_length of_flow) where
   abbrev of_packet : Packet → ℕ
   of_packet p = of_length p.original
-
-  -- what is owed after a move of one thread
-  owed_step : (threads t : ℕ) (after : Thread) (thread : ℕ → Thread) → t < threads
-      → owed of_packet threads (λ u. cond (nat_eq t u) after (thread u)) + owed_by of_packet (thread t).hand ≡ owed of_packet threads thread + owed_by of_packet after.hand
-  owed_step threads t after thread low =
-      let f : ℕ → ℕ = λ u. owed_by of_packet (cond (nat_eq t u) after (thread u)).hand in
-      let g : ℕ → ℕ = λ u. owed_by of_packet (thread u).hand in
-      let one : sum_below threads f + g t ≡ sum_below threads g + f t = one_changes threads t f g low (λ u h. rw (not_eq t u (λ k. h (sym k))) refl) in
-      let new : f t ≡ owed_by of_packet after.hand = rw (is_eq t t refl) refl in
-      omega arith
 
   -- the sum over the tables after a touch
   tables_step : (tables v : ℕ) (left : MonitorValue) (value : ℕ → MonitorValue) → v < tables + 1
@@ -45,17 +37,17 @@ module _ (of_totals : TotalCounts → ℕ) (of_length : ℕ → ℕ) (of_flow : 
   effect_matches : (tables threads t taken : ℕ) (earlier : List (Step MonitorValue)) (after : Thread) (d : Effect MonitorValue) → t < threads
       → IsBalanced of_totals of_length of_flow counted tables (value_after (monitor_meaning tables) earlier) (thread_after earlier t).hand after.hand d
       → Matches of_totals of_packet of_flow tables threads earlier
-      → (of_totals (totals_of (left_by 0 (act_of t earlier taken d) (value_after (monitor_meaning tables) earlier 0))) + owed of_packet threads (λ u. cond (nat_eq t u) after (thread_after earlier u))) % 2 ^ 64
+      → (of_totals (totals_of (left_by 0 (act_of t earlier taken d) (value_after (monitor_meaning tables) earlier 0))) + coming_sum 1 of_packet threads (λ u. cond (nat_eq t u) after (thread_after earlier u))) % 2 ^ 64
       ≡ tables_sum of_flow tables (λ v. left_by v (act_of t earlier taken d) (value_after (monitor_meaning tables) earlier v)) % 2 ^ 64
-  effect_matches tables threads t taken earlier after Takes low b old = let a = owed_step threads t after (thread_after earlier) low in let e = b.balance in omega arith
+  effect_matches tables threads t taken earlier after Takes low b old = let a = coming_step 1 of_packet threads t after (thread_after earlier) low in let e = b.balance in omega arith
   effect_matches tables threads t taken earlier after (Touches v left) low b old =
       let value : ℕ → MonitorValue = value_after (monitor_meaning tables) earlier in
-      matched_again _ _ _ _ _ _ _ _ _ _ old (owed_step threads t after (thread_after earlier) low) (tables_step tables v left value b.balance.0) b.balance.1
+      matched_again _ _ _ _ _ _ _ _ _ _ old (coming_step 1 of_packet threads t after (thread_after earlier) low) (tables_step tables v left value b.balance.0) b.balance.1
   effect_matches tables threads t taken earlier after (Looks v) low b old = absurd b.balance
   effect_matches tables threads t taken earlier after (HearsClock a) low b old = absurd b.balance
   effect_matches tables threads t taken earlier after (HearsDraw a) low b old = absurd b.balance
-  effect_matches tables threads t taken earlier after (Sends p) low b old = let a = owed_step threads t after (thread_after earlier) low in let e = b.balance in omega arith
-  effect_matches tables threads t taken earlier after Ends low b old = let a = owed_step threads t after (thread_after earlier) low in let e = b.balance in omega arith
+  effect_matches tables threads t taken earlier after (Sends p) low b old = let a = coming_step 1 of_packet threads t after (thread_after earlier) low in let e = b.balance in omega arith
+  effect_matches tables threads t taken earlier after Ends low b old = let a = coming_step 1 of_packet threads t after (thread_after earlier) low in let e = b.balance in omega arith
 
   fresh_sum : (v : ℕ) → value_sum of_flow (fresh_value v) ≡ 0
   fresh_sum zero = refl
@@ -64,7 +56,7 @@ module _ (of_totals : TotalCounts → ℕ) (of_length : ℕ → ℕ) (of_flow : 
   pub run_matches : (tables threads : ℕ) (inputs : ℕ → List Packet) (steps : List (Step MonitorValue)) → 1 ≤ tables → tables ≤ 64 → IsHistory (monitor_meaning tables) inputs threads steps
       → ((t : ℕ) → Noted (thread_after steps t).hand) × Matches of_totals of_packet of_flow tables threads steps
   run_matches tables threads inputs [] some few h =
-      let a : owed of_packet threads (thread_after {V = MonitorValue} []) ≡ 0 = sum_of_none threads _ (λ t low. refl) in
+      let a : coming_sum 1 of_packet threads (thread_after {V = MonitorValue} []) ≡ 0 = sum_of_none threads _ (λ t low. refl) in
       let b : tables_sum of_flow tables fresh_value ≡ 0 = sum_of_none (tables + 1) _ (λ v low. fresh_sum v) in
       let c = counted.none in
       (λ t. tt, omega arith)
@@ -85,7 +77,7 @@ module _ (of_totals : TotalCounts → ℕ) (of_length : ℕ → ℕ) (of_flow : 
   pub rest_is_sum : (tables threads : ℕ) (inputs : ℕ → List Packet) (steps : List (Step MonitorValue)) → 1 ≤ tables → tables ≤ 64 → IsHistory (monitor_meaning tables) inputs threads steps
       → IsAtRest threads steps → IsSum of_totals of_flow tables steps
   rest_is_sum tables threads inputs steps some few h rest =
-      let a : owed of_packet threads (thread_after steps) ≡ 0 = sum_of_none threads _ (λ t low. ap (owed_by of_packet) (rest t low)) in
+      let a : coming_sum 1 of_packet threads (thread_after steps) ≡ 0 = comes_nothing 1 of_packet threads steps rest in
       let b = (run_matches tables threads inputs steps some few h).1 in
       let c = totals_small _ (values_fit (monitor_meaning tables) Fits (monitor_lawful tables some few) inputs threads steps h 0 (omega arith)) in
       omega arith

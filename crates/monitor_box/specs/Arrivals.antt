@@ -5,6 +5,7 @@ use Rattle.plain_text.specs.declared.packet.Packet.{Packet}
 use Rattle.entry_order.specs.Stamps.{sum_below}
 use Rattle.packet_headers.specs.declared.flow.Flow.{Flow}
 use Rattle.packet_headers.specs.declared.flow.NotFlow.{NotFlow}
+use Rattle.packet_headers.specs.Steering.{steering_sum}
 use Rattle.packet_headers.specs.View.{viewed}
 use Rattle.plain_machine.specs.Machine.{Hand, Thread}
 use Rattle.plain_machine.specs.History.{Step, thread_after, value_after, IsHistory}
@@ -13,8 +14,9 @@ use Rattle.monitor_box.specs.declared.counts.FlowCount.{FlowCount}
 use Rattle.monitor_box.specs.declared.value.MonitorValue.{MonitorValue}
 use Rattle.monitor_box.specs.declared.value.MonitorValue.TheVariants.{Totals, Table}
 use Rattle.monitor_box.specs.Flows.{Flows, same_flow}
-use Rattle.monitor_box.specs.Monitor.{monitor_meaning}
-use Rattle.monitor_box.specs.Standing.{key_sum, HaveBytes}
+use Rattle.monitor_box.specs.Coming.{coming_sum}
+use Rattle.monitor_box.specs.Monitor.{monitor_meaning, counts_flow_at, adds_other_at, totals_var, table_var}
+use Rattle.monitor_box.specs.Standing.{as_flow, HaveBytes}
 use Rattle.monitor_box.specs.Sums.{totals_of, IsAtRest}
 
 -- what tells a packet's flow from others, where its headers are those of a flow
@@ -50,14 +52,6 @@ shares number (p ∷ packets) = number p + shares number packets
 abbrev pub taken_sum : (Packet → ℕ) → ℕ → (ℕ → List Packet) → (ℕ → Thread) → ℕ
 taken_sum number threads inputs thread = sum_below threads (λ t. shares number (take (thread t).taken (inputs t)))
 
--- and over those in hand at this place
-abbrev pub coming_by : ℕ → (Packet → ℕ) → Option Hand → ℕ
-coming_by place number None = 0
-coming_by place number (Some h) = if h.place.at == place then number h.packet else 0
-
-abbrev pub coming_sum : ℕ → (Packet → ℕ) → ℕ → (ℕ → Thread) → ℕ
-coming_sum place number threads thread = sum_below threads (λ t. coming_by place number (thread t).hand)
-
 -- what a table has of a flow, 0 where it does not have it
 abbrev pub count_in : (FlowCount → ℕ) → FlowKey → Flows → ℕ
 count_in number flow [] = 0
@@ -69,22 +63,22 @@ flows_in (Table flows) = flows
 
 -- what the flow's own table has of it
 abbrev pub count_of : (FlowCount → ℕ) → FlowKey → ℕ → (ℕ → MonitorValue) → ℕ
-count_of number flow tables value = count_in number flow (flows_in (value (1 + key_sum flow % tables)))
+count_of number flow tables value = count_in number flow (flows_in (value (table_var tables (steering_sum (as_flow flow)))))
 
 abbrev pub others_of : (ℕ → MonitorValue) → ℕ
-others_of value = (totals_of (value 0)).other
+others_of value = (totals_of (value totals_var)).other
 
 -- What was counted and what comes next are, modulo 2 ^ 64, what was taken: a number of packets, which come at this place.
 abbrev pub Counts : (Packet → ℕ) → ℕ → ((ℕ → MonitorValue) → ℕ) → ℕ → (ℕ → List Packet) → (ℕ → MonitorValue) → (ℕ → Thread) → Type 0
 Counts number place count threads inputs value thread =
     (count value + coming_sum place number threads thread) % 2 ^ 64 ≡ taken_sum number threads inputs thread % 2 ^ 64
 
--- Of each flow, in each run on packets of bytes, with 1 to 64 tables; its packets in hand come at place 0
+-- Of each flow, in each run on packets of bytes, with 1 to 64 tables; its packets in hand come where its table is next
 abbrev pub CountsFlow : (Packet → ℕ) → (FlowCount → ℕ) → Type 0
 CountsFlow of_packet of_flow =
     (tables threads : ℕ) (inputs : ℕ → List Packet) (steps : List (Step MonitorValue))
     → 1 ≤ tables → tables ≤ 64 → HaveBytes inputs → IsHistory (monitor_meaning tables) inputs threads steps
-    → (flow : FlowKey) → Counts (share of_packet flow) 0 (count_of of_flow flow tables) threads inputs (value_after (monitor_meaning tables) steps) (thread_after steps)
+    → (flow : FlowKey) → Counts (share of_packet flow) counts_flow_at (count_of of_flow flow tables) threads inputs (value_after (monitor_meaning tables) steps) (thread_after steps)
 
 -- where no packet is in hand, the table has all of them
 abbrev pub CountsFlowAtRest : (Packet → ℕ) → (FlowCount → ℕ) → Type 0
@@ -93,12 +87,12 @@ CountsFlowAtRest of_packet of_flow =
     → 1 ≤ tables → tables ≤ 64 → HaveBytes inputs → IsHistory (monitor_meaning tables) inputs threads steps → IsAtRest threads steps
     → (flow : FlowKey) → count_of of_flow flow tables (value_after (monitor_meaning tables) steps) ≡ taken_sum (share of_packet flow) threads inputs (thread_after steps) % 2 ^ 64
 
--- and of packets that are no flow, which come at place 2
+-- and of packets that are no flow, which come where the totals are next
 abbrev pub CountsOthers : Type 0
 CountsOthers =
     (tables threads : ℕ) (inputs : ℕ → List Packet) (steps : List (Step MonitorValue))
     → 1 ≤ tables → tables ≤ 64 → IsHistory (monitor_meaning tables) inputs threads steps
-    → Counts other_share 2 others_of threads inputs (value_after (monitor_meaning tables) steps) (thread_after steps)
+    → Counts other_share adds_other_at others_of threads inputs (value_after (monitor_meaning tables) steps) (thread_after steps)
 
 abbrev pub CountsOthersAtRest : Type 0
 CountsOthersAtRest =

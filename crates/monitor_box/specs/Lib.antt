@@ -1,8 +1,9 @@
-pub mod Flows
-pub mod Shown
-pub mod Monitor
-pub mod Lawful
-pub mod Boxes
-pub mod Sums
-pub mod Standing
 pub mod Arrivals
+pub mod Boxes
+pub mod Coming
+pub mod Flows
+pub mod Lawful
+pub mod Monitor
+pub mod Shown
+pub mod Standing
+pub mod Sums

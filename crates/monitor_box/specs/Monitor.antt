@@ -16,25 +16,54 @@ use Rattle.monitor_box.specs.declared.value.MonitorValue.TheVariants.{Totals, Ta
 use Rattle.monitor_box.specs.Flows.{no_totals, with_packet, with_flow_packet, with_other_packet, AreTotals, AreFlows}
 use Rattle.monitor_box.specs.Shown.{totals_text, flows_text}
 
--- the flow's table is next; the totals are next, for a flow or for another packet; the packet goes out; the end
+-- The places of the program: the flow's table is next; the totals are next, for a flow's packet or for another; the packet goes
+-- out; the end.
+
+abbrev pub counts_flow_at : ℕ
+counts_flow_at = 0
+
+abbrev pub adds_flow_at : ℕ
+adds_flow_at = 1
+
+abbrev pub adds_other_at : ℕ
+adds_other_at = 2
+
+abbrev pub emits_at : ℕ
+emits_at = 3
+
+abbrev pub ends_at : ℕ
+ends_at = 4
+
+-- the variable of the totals, and that of a flow's table, by its steering sum
+abbrev pub totals_var : ℕ
+totals_var = 0
+
+abbrev pub table_var : ℕ → ℕ → ℕ
+table_var tables sum = 1 + sum % tables
+
 abbrev pub next_move : ℕ → ℕ → ℕ → Move
 next_move tables at sum =
-    if at == 0 then Access (1 + sum % tables)
-    else if at == 1 then Access 0
-    else if at == 2 then Access 0
-    else if at == 3 then Emit
+    if at == counts_flow_at then Access (table_var tables sum)
+    else if at == adds_flow_at then Access totals_var
+    else if at == adds_other_at then Access totals_var
+    else if at == emits_at then Emit
     else End
 
 abbrev pub moves_left : ℕ → ℕ
-moves_left at = if at == 0 then 3 else if at == 1 then 2 else if at == 2 then 2 else if at == 3 then 1 else 0
+moves_left at =
+    if at == counts_flow_at then 3
+    else if at == adds_flow_at then 2
+    else if at == adds_other_at then 2
+    else if at == emits_at then 1
+    else 0
 
 -- what a packet notes: of a flow its sum, its five fields and the length on the wire
 abbrev pub begun : Result Flow NotFlow → ℕ → Local
 begun (Ok flow) length = record {
-  at = 0;
+  at = counts_flow_at;
   regs = steering_sum flow ∷ flow.protocol ∷ flow.source ∷ flow.source_port ∷ flow.dest ∷ flow.dest_port ∷ length ∷ 0 ∷ 0 ∷ 0 ∷ 0 ∷ 0 ∷ [];
 }
-begun (Err answer) length = record { at = 2; regs = replicate 12 0 }
+begun (Err answer) length = record { at = adds_other_at; regs = replicate 12 0 }
 
 -- the flow and the length that were noted
 abbrev pub noted_flow : Local → FlowKey
@@ -50,9 +79,9 @@ abbrev pub noted_length : Local → ℕ
 noted_length l = slice_index l.regs 6
 
 abbrev pub touched : MonitorValue → Local → MonitorValue × Local
-touched (Table flows) l = (Table (with_packet (noted_flow l) (noted_length l) flows), record l { at = 1 })
+touched (Table flows) l = (Table (with_packet (noted_flow l) (noted_length l) flows), record l { at = adds_flow_at })
 touched (Totals totals) l =
-    (Totals (if l.at == 1 then with_flow_packet (noted_length l) totals else with_other_packet totals), record l { at = 3 })
+    (Totals (if l.at == adds_flow_at then with_flow_packet (noted_length l) totals else with_other_packet totals), record l { at = emits_at })
 
 abbrev pub fresh_value : ℕ → MonitorValue
 fresh_value zero = Totals no_totals
@@ -72,7 +101,7 @@ monitor_meaning tables = record {
   touch = λ _ x l. touched x l;
   look = λ _ _ l. l;
   told = λ _ l. l;
-  emitted = λ l. record l { at = 4 };
+  emitted = λ l. record l { at = ends_at };
   out = λ p _. p.bytes;
   shown = λ _ x. value_text x;
   rank = λ l. moves_left l.at;

@@ -10,10 +10,10 @@ use Rattle.monitor_box.specs.declared.counts.FlowCount.{FlowCount}
 use Rattle.monitor_box.specs.declared.value.MonitorValue.{MonitorValue}
 use Rattle.monitor_box.specs.declared.value.MonitorValue.TheVariants.{Totals, Table}
 use Rattle.monitor_box.specs.Flows.{Flows, no_totals}
-use Rattle.monitor_box.specs.Monitor.{monitor_meaning}
+use Rattle.monitor_box.specs.Coming.{coming_sum}
+use Rattle.monitor_box.specs.Monitor.{monitor_meaning, adds_flow_at, totals_var}
 
 -- the sum of a number of each flow
-
 abbrev pub flows_sum : (FlowCount → ℕ) → Flows → ℕ
 flows_sum number [] = 0
 flows_sum number (e ∷ es) = number e.1 + flows_sum number es
@@ -30,19 +30,13 @@ abbrev pub totals_of : MonitorValue → TotalCounts
 totals_of (Totals totals) = totals
 totals_of (Table flows) = no_totals
 
--- a packet that has touched its flow's table, and not yet the totals, owes them a number
-abbrev pub owed_by : (Packet → ℕ) → Option Hand → ℕ
-owed_by number None = 0
-owed_by number (Some h) = if h.place.at == 1 then number h.packet else 0
-
-abbrev pub owed : (Packet → ℕ) → ℕ → (ℕ → Thread) → ℕ
-owed number threads thread = sum_below threads (λ t. owed_by number (thread t).hand)
-
--- a number of the totals and what is owed to it are, modulo 2 ^ 64, the sum of the number over all flows
+-- a number of the totals and what is owed to it, by packets in hand that have touched their flow's table and not yet the
+-- totals, are, modulo 2 ^ 64, the sum of the number over all flows
 abbrev pub Matches : (TotalCounts → ℕ) → (Packet → ℕ) → (FlowCount → ℕ) → ℕ → ℕ → List (Step MonitorValue) → Type 0
 Matches of_totals of_packet of_flow tables threads steps =
     let value = value_after (monitor_meaning tables) steps in
-    (of_totals (totals_of (value 0)) + owed of_packet threads (thread_after steps)) % 2 ^ 64 ≡ tables_sum of_flow tables value % 2 ^ 64
+    (of_totals (totals_of (value totals_var)) + coming_sum adds_flow_at of_packet threads (thread_after steps)) % 2 ^ 64
+    ≡ tables_sum of_flow tables value % 2 ^ 64
 
 abbrev pub PacketsMatch : ℕ → ℕ → List (Step MonitorValue) → Type 0
 PacketsMatch = Matches (λ totals. totals.packets) (λ packet. 1) (λ count. count.packets)
@@ -59,7 +53,7 @@ IsAtRest threads steps = (t : ℕ) → t < threads → (thread_after steps t).ha
 abbrev pub IsSum : (TotalCounts → ℕ) → (FlowCount → ℕ) → ℕ → List (Step MonitorValue) → Type 0
 IsSum of_totals of_flow tables steps =
     let value = value_after (monitor_meaning tables) steps in
-    of_totals (totals_of (value 0)) ≡ tables_sum of_flow tables value % 2 ^ 64
+    of_totals (totals_of (value totals_var)) ≡ tables_sum of_flow tables value % 2 ^ 64
 
 abbrev pub PacketsAreSum : ℕ → List (Step MonitorValue) → Type 0
 PacketsAreSum = IsSum (λ totals. totals.packets) (λ count. count.packets)

@@ -4,7 +4,7 @@ ghost use Rattle.monitor_box.specs.Monitor.{noted_flow, noted_length};
 use crate::showing::text_of_totals;
 use crate::{FlowKey, FlowTable, MonitorBox, MonitorValue, Totals};
 use box_program::{Local, Move, Program};
-use packet_headers::{flow_sum, view};
+use packet_headers::{steering_sum, view};
 use plain_text::{Bytes, NoMemory, Packet, Text};
 use std::alloc::Global;
 
@@ -55,7 +55,7 @@ impl Program for MonitorBox {
         Local {
             at: COUNTS_FLOW,
             regs: [
-                flow_sum(&flow),
+                steering_sum(&flow),
                 u64::from(flow.protocol),
                 u64::from(flow.source),
                 u64::from(flow.source_port),

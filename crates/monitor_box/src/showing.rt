@@ -1,11 +1,9 @@
-ghost use Rattle.std.specs.Prelude.{◌≡◌, ◌++◌, decimal, IfOk, OnOk};
-ghost use Rattle.std.specs.String.{string_bytes};
+ghost use Rattle.std.specs.Prelude.{◌≡◌, IfOk};
 ghost use Rattle.monitor_box.specs.Shown.{totals_text, flow_text};
 
 use crate::{FlowCount, FlowKey, Totals};
 use flow_text::{endpoint_text, protocol_text};
-use itoa::Buffer;
-use plain_text::{NoMemory, Text};
+use plain_text::{NoMemory, Text, put_decimal};
 use std::alloc::Global;
 
 /// The text of the totals.
@@ -14,11 +12,11 @@ pub(crate) fn text_of_totals(alloc: Global, totals: &Totals) -> Result<Text, NoM
 {
     let mut text = String::new(alloc);
     text.push_str("packets ")?;
-    put_number(&mut text, totals.packets)?;
+    put_decimal(&mut text, totals.packets)?;
     text.push_str(" bytes ")?;
-    put_number(&mut text, totals.bytes)?;
+    put_decimal(&mut text, totals.bytes)?;
     text.push_str(" other ")?;
-    put_number(&mut text, totals.other)?;
+    put_decimal(&mut text, totals.other)?;
     Text::of(alloc, text.as_str())
 }
 
@@ -31,22 +29,14 @@ pub(crate) fn text_of_flow(
     ensures { IfOk result (λ text. text ≡ flow_text (flow.now, count.now)) }
 {
     let mut text = String::new(alloc);
-    text.push_str(protocol_text(flow.protocol))?;
+    text.push_str(protocol_text(alloc, flow.protocol)?.as_str())?;
     text.push_str(" ")?;
     text.push_str(endpoint_text(alloc, flow.source, flow.source_port)?.as_str())?;
     text.push_str(" ")?;
     text.push_str(endpoint_text(alloc, flow.dest, flow.dest_port)?.as_str())?;
     text.push_str(" packets ")?;
-    put_number(&mut text, count.packets)?;
+    put_decimal(&mut text, count.packets)?;
     text.push_str(" bytes ")?;
-    put_number(&mut text, count.bytes)?;
+    put_decimal(&mut text, count.bytes)?;
     Text::of(alloc, text.as_str())
-}
-
-/// Appends the decimal digits of a number to a text.
-fn put_number(text: &mut String, number: u64) -> Result<(), NoMemory>
-    ensures { OnOk result (string_bytes text.new ≡ string_bytes text.old ++ decimal number) }
-{
-    text.push_str(Buffer::new().format(number))?;
-    Ok(())
 }

@@ -14,7 +14,8 @@ CanRewrite frame flow =
 abbrev pub checksum_place : Flow → ℕ
 checksum_place flow = flow.transport_at + (if is_tcp flow.protocol then 16 else 6)
 
--- a UDP checksum of 0 says that there is none, so it stays, and one that becomes 0 is written as all ones (RFC 768)
+-- a UDP checksum of 0 says that there is none, so it stays, and one that becomes 0 is written as all ones (RFC 768; RFC 3022,
+-- section 4.1)
 abbrev pub written_checksum : ℕ → ℕ → ℕ → ℕ
 written_checksum number old adjusted =
     if is_tcp number then adjusted
@@ -45,8 +46,8 @@ abbrev pub KeepsHeader : List ℕ → List ℕ → Flow → Type 0
 KeepsHeader old new flow =
     AreAsRight (words (slice_range old 14 flow.transport_at)) (words (slice_range new 14 flow.transport_at))
 
--- what a TCP or UDP checksum is of: the pseudo-header, which has both addresses, the protocol and the length of the
--- transport, and then the transport
+-- what a TCP or UDP checksum is of: the pseudo-header (RFC 768; RFC 9293, section 3.1), which has both addresses, the protocol
+-- and the length of the transport, and then the transport
 abbrev pub covered_words : List ℕ → List ℕ → List ℕ
 covered_words frame transport =
     (word_at frame 26 ∷ word_at frame 28 ∷ word_at frame 30 ∷ word_at frame 32 ∷ protocol frame ∷ length transport ∷ []) ++ words transport

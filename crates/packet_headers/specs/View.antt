@@ -1,4 +1,5 @@
--- What a frame is seen as: a flow, or the first test that it fails.
+-- What a frame is seen as: a flow, or the first test that it fails. The tests are of the headers of IPv4 (RFC 791, section
+-- 3.1), UDP (RFC 768) and TCP (RFC 9293, section 3.1).
 use Rattle.std.specs.Prelude.{ℕ, ◌+◌, ◌-◌, ◌*◌, max, Bool, not, ◌&&◌, ◌||◌, ◌==◌, nat_lt, if◌then◌else◌, List, [], ◌∷◌, ◌++◌, length, Result, Ok, Err}
 use Rattle.packet_headers.specs.declared.flow.Flow.{Flow}
 use Rattle.packet_headers.specs.declared.flow.NotFlow.{NotFlow}

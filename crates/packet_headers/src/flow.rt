@@ -38,9 +38,9 @@ pub enum NotFlow {
     BadTotalLength = 6,
 }
 
-/// The sum of a flow's addresses, ports and protocol, as whole numbers: one number for both of its directions, by
-/// which its packets are kept together.
-pub fn flow_sum(flow: &Flow) -> u64
+/// The steering sum: the sum of a flow's addresses, ports and protocol, as whole numbers. Both directions of a flow have one
+/// sum, by which its packets are kept together.
+pub fn steering_sum(flow: &Flow) -> u64
     ensures { result ≡ steering_sum flow.now }
 {
     u64::from(flow.source)

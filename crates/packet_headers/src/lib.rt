@@ -9,7 +9,7 @@ mod flow;
 mod rewriting;
 mod viewing;
 
-pub use flow::{Flow, NotFlow, flow_sum};
+pub use flow::{Flow, NotFlow, steering_sum};
 pub use rewriting::{set_dest, set_source};
 pub use viewing::view;
 

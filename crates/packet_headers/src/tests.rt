@@ -95,13 +95,13 @@ fn sees_flows(rt: HostRuntime) -> Result<(), Fail> {
         transport_at: 34,
     };
     assert_eq!(rt; view(&QUERY, 42)?, query);
-    assert_eq!(rt; flow_sum(&query), 3_493_033_946);
+    assert_eq!(rt; steering_sum(&query), 3_493_033_946);
     let last = Flow {
         source: u32::MAX,
         dest: u32::MAX,
         ..query
     };
-    assert_eq!(rt; flow_sum(&last), 8_589_939_660);
+    assert_eq!(rt; steering_sum(&last), 8_589_939_660);
     assert_eq!(rt; view(&OPTIONS, 46)?.transport_at, 38);
     let syn = view(&SYN, 54)?;
     assert_eq!(rt; (syn.protocol, syn.dest_port, syn.flags), (6, 80, 2));

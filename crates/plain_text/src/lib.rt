@@ -24,7 +24,7 @@ pub use laws::{a_line_is_one_thing, a_text_has_one_first_fault};
 pub use limit::{Limit, MOST_CAPTURED, MOST_FILE_BYTES, MOST_PACKETS};
 pub use line::{Line, LineIter, count_lines, lines};
 pub use memory::NoMemory;
-pub use number::{put_u64, read_u64};
+pub use number::{put_decimal, put_u64, read_u64};
 pub use packet::{Packet, Packets, Unit};
 pub use sequence::Sequence;
 pub use text::Text;

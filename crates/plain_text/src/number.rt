@@ -1,4 +1,5 @@
 ghost use Rattle.std.specs.Prelude.{◌≡◌, ◌++◌, decimal, OnOk, OnErr};
+ghost use Rattle.std.specs.String.{string_bytes};
 ghost use Rattle.plain_text.specs.Lines.{number_of};
 
 use crate::{Bytes, NoMemory};
@@ -10,6 +11,15 @@ pub fn put_u64(out: &mut Bytes, number: u64) -> Result<(), NoMemory>
     ensures err { OnErr result (out.new ≡ out.old) }
 {
     out.extend(Buffer::new().format(number).as_bytes())
+}
+
+/// The same at the end of a string.
+pub fn put_decimal(text: &mut String, number: u64) -> Result<(), NoMemory>
+    ensures ok { OnOk result (string_bytes text.new ≡ string_bytes text.old ++ decimal number) }
+    ensures err { OnErr result (string_bytes text.new ≡ string_bytes text.old) }
+{
+    text.push_str(Buffer::new().format(number))?;
+    Ok(())
 }
 
 /// The most digits of a number in a text file.
