@@ -1,11 +1,11 @@
 -- What a script leaves.
-use Rattle.std.proofs.Common.{◌≡◌, ℕ, List, subst, ap, sym, ◌∙◌, Result, Ok}
+use Rattle.std.proofs.Common.{◌≡◌, ℕ, List, subst, ap, sym, ◌∙◌, Ok}
 use Rattle.plain_text.specs.declared.packet.Packet.{Packet}
 use Rattle.plain_machine.specs.declared.plain_move.PlainMove.{PlainMove}
 use Rattle.plain_machine.specs.History.{emissions, play}
 use Rattle.recovery_world.specs.declared.event.Event.{Event}
 use Rattle.recovery_world.specs.World.{Setting, opening, all_inputs}
-use Rattle.recovery_world.specs.Files.{Leaves, packets_of}
+use Rattle.recovery_world.specs.Files.{Leaves}
 use Rattle.recovery_world.specs.Matching.{IsMatched, IsAccepted}
 use Rattle.recovery_laws.specs.Sound.{Sound}
 use Rattle.recovery_laws.specs.Ends.{Ends}

@@ -1,6 +1,6 @@
 -- Each event comes to one thing: from a sound world it has one outcome, releases the same outputs, and leaves one world.
 use Rattle.std.proofs.Common.{◌≡◌, ℕ, zero, suc, ◌+◌, ◌≤◌, ◌<◌, Bool, true, false, List, [], ◌∷◌, ◌++◌, length, refl, sym, ap, ◌∙◌, subst, inl, inr, ◌⊎◌, arith, Option, Some, None}
-use Rattle.std.specs.Prelude.{Result, Ok, slice_get}
+use Rattle.std.specs.Prelude.{Ok}
 use Rattle.entry_order.specs.declared.what.What.{What}
 use Rattle.entry_order.specs.declared.what.What.TheVariants as what
 use Rattle.entry_order.specs.Log.{Entry, entries, places, IsLog, IsIn}
@@ -13,8 +13,6 @@ use Rattle.entry_order.proofs.Parts.{part_unique}
 use Rattle.plain_machine.specs.declared.local.Move.{Move}
 use Rattle.plain_machine.specs.declared.local.Move.TheVariants.{Access, Read, Clock, Draw, Emit, End}
 use Rattle.plain_machine.specs.declared.emission.Emission.{Emission}
-use Rattle.plain_machine.specs.declared.plain_move.PlainMove.{PlainMove}
-use Rattle.plain_machine.specs.declared.plain_move.PlayCause.{PlayCause}
 use Rattle.plain_machine.specs.Machine.{Hand}
 use Rattle.plain_machine.specs.History.{Step, log_of, entry_of, thread_after, plain_move}
 use Rattle.plain_machine.proofs.Histories.{history_log}
@@ -27,9 +25,9 @@ use Rattle.recovery_world.specs.declared.event.Kind.TheVariants as kind
 use Rattle.recovery_world.specs.declared.event.Outcome.{Outcome}
 use Rattle.recovery_world.specs.declared.event.Outcome.TheVariants as outcome
 use Rattle.recovery_world.specs.World.{Setting, Sent, World, inputs_fed}
-use Rattle.recovery_world.specs.Turns.{IsReadToCome, IsTouchToCome, IsAwaited, Awaits, HasTurn, HandHasTurn, TellsClock, TellsDraw}
+use Rattle.recovery_world.specs.Turns.{IsReadToCome, IsTouchToCome, IsAwaited, Awaits, HandHasTurn, TellsClock, TellsDraw}
 use Rattle.recovery_world.specs.Frames.{IsThreadCount, HasComponent, HasOutputComponent, IsEntryLength, IsOutputLength}
-use Rattle.recovery_world.specs.Events.{move_outcome, bytes_sent, Tells, TellsHand, MakesMove, WaitsFor, WantsMore, OnStep, IsKnown, MayGo, Parts, Releases, IsEntryOf, OnLog, HasNumber, IsOutputOf, HasArrived, OnOut, Arrives, WasSent, OnLate, IsFrameLength, HasNone, OnCut, OnSnap, OnStore, OnCrash, IsPartOf, Recovers, Wakes, OnRecover, entries_of_line, ended_now, OnShow, OfThread, On}
+use Rattle.recovery_world.specs.Events.{move_outcome, bytes_sent, Tells, TellsHand, MakesMove, WaitsFor, WantsMore, OnStep, IsKnown, MayGo, Parts, Releases, IsEntryOf, OnLog, IsOutputOf, OnOut, Arrives, OnLate, IsFrameLength, HasNone, OnCut, OnSnap, OnStore, OnCrash, IsPartOf, Recovers, OnRecover, entries_of_line, ended_now, OnShow, OfThread, On}
 use Rattle.recovery_laws.specs.Sound.{IsEachOnce, Sound}
 use Rattle.recovery_laws.proofs.Leading.{Made, made_move, made_step}
 use Rattle.recovery_laws.proofs.Keeping.{part_in}

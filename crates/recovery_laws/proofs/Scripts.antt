@@ -1,6 +1,6 @@
 -- A script comes to one thing: so do events of several, and so what it leaves is one.
-use Rattle.std.proofs.Common.{◌≡◌, ℕ, zero, suc, ◌+◌, ◌≤◌, ◌<◌, ◌≢◌, Bool, true, false, List, [], ◌∷◌, ◌++◌, refl, sym, ap, ◌∙◌, subst, inl, inr, ◌⊎◌, arith, Option, Some, None}
-use Rattle.std.specs.Prelude.{Result, Ok, Err, ◌&&◌, length}
+use Rattle.std.proofs.Common.{◌≡◌, ℕ, ◌≤◌, ◌<◌, ◌≢◌, Bool, true, false, List, [], ◌++◌, refl, sym, ap, ◌∙◌, subst, inl, inr, ◌⊎◌, arith, Option, Some, None}
+use Rattle.std.specs.Prelude.{Result, Ok, Err, ◌&&◌}
 use Rattle.plain_text.specs.declared.limit.Limit.{Limit}
 use Rattle.plain_text.specs.declared.packet.Packet.{Packet}
 use Rattle.plain_machine.specs.declared.plain_move.PlainMove.{PlainMove}
@@ -12,13 +12,13 @@ use Rattle.recovery_world.specs.declared.event.Event.TheVariants as event
 use Rattle.recovery_world.specs.declared.event.Outcome.{Outcome}
 use Rattle.recovery_world.specs.declared.event.Outcome.TheVariants as outcome
 use Rattle.recovery_world.specs.World.{Setting, Sent, World, opening}
-use Rattle.recovery_world.specs.Events.{Wakes, Recovers, On}
+use Rattle.recovery_world.specs.Events.{Wakes, On}
 use Rattle.recovery_world.specs.Limits.{limit_passed, IsWithin, OnWithin, Passes}
-use Rattle.recovery_world.specs.Many.{Does, Stays, Goes as DoesMore, StepsOut, IsIdle, Waits, Halts, Steps, Round, NoThread, Thread, HaltsBefore, HaltsThere, Rounds, Rests as RestsNow, HaltsIn, Again, Feeds, Empties, HaltsOn, More, all_logs, all_outs, Autos, Begins, Next, chosen, Settles, SettlesNot, summary_of, OnAny, Single, Settling, Choosing, Stops, SingleStops, SettlingStops, ChoosingStops}
+use Rattle.recovery_world.specs.Many.{Does, Stays, Goes as DoesMore, StepsOut, IsIdle, Waits, Halts, Steps, Round, NoThread, Thread, HaltsBefore, HaltsThere, Rounds, Rests as RestsNow, HaltsIn, Again, Feeds, Empties, HaltsOn, More, all_logs, all_outs, Autos, Begins, Next, chosen, Settles, summary_of, OnAny, Single, Settling, Choosing, Stops, SingleStops, SettlingStops, ChoosingStops}
 use Rattle.recovery_world.specs.Files.{reply_line, done_line, packets_of, moves_made, Performs, Rests as NoMore, Goes as Writes, Leaves}
 use Rattle.recovery_world.specs.Finish.{IsFinish}
 use Rattle.recovery_laws.specs.Sound.{Sound}
-use Rattle.recovery_laws.proofs.Keeping.{opening_sound, wakes_sound, within_sound, does_sound, steps_sound, round_sound, rounds_sound, feeds_sound, autos_sound, any_sound}
+use Rattle.recovery_laws.proofs.Keeping.{opening_sound, wakes_sound, within_sound, does_sound, round_sound, rounds_sound, feeds_sound, autos_sound, any_sound}
 use Rattle.recovery_laws.proofs.Single.{finish_one}
 use Rattle.recovery_laws.proofs.Once.{Same, on_one, recovers_one}
 

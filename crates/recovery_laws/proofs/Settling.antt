@@ -1,14 +1,14 @@
 -- A settling settles: all threads are idle at the end of the capture, all that they logged is held, and all that they sent out
 -- is released.
-use Rattle.std.proofs.Common.{◌≡◌, ℕ, zero, suc, ◌+◌, ◌≤◌, ◌<◌, ◌≢◌, Bool, true, false, cond, List, [], ◌∷◌, ◌++◌, length, refl, sym, ap, ◌∙◌, subst, inl, inr, ◌⊎◌, arith, Option, Some, None}
-use Rattle.std.specs.Prelude.{Result, Ok, Err, ◌&&◌, nat_eq, take, slice_get, ◌↔◌}
+use Rattle.std.proofs.Common.{◌≡◌, ℕ, zero, suc, ◌+◌, ◌≤◌, ◌<◌, ◌≢◌, Bool, true, false, List, [], ◌∷◌, ◌++◌, length, refl, sym, ap, ◌∙◌, subst, inl, inr, ◌⊎◌, arith, Option, Some, None}
+use Rattle.std.specs.Prelude.{Result, Ok, Err, ◌&&◌, nat_eq, take, slice_get}
 use Rattle.std.proofs.lemmas.Bool.Decides.{nat_tests}
 use Rattle.plain_text.specs.declared.limit.Limit.{Limit}
 use Rattle.plain_text.specs.declared.packet.Packet.{Packet}
 use Rattle.input_logger.specs.Inputs.{inputs_of}
 use Rattle.entry_order.specs.declared.what.What.{What}
 use Rattle.entry_order.specs.declared.what.What.TheVariants as what
-use Rattle.entry_order.specs.Log.{Entry, entries, IsLog, IsIn, IsNext, PrecedesOutput}
+use Rattle.entry_order.specs.Log.{Entry, entries, IsIn, IsNext}
 use Rattle.entry_order.specs.Closed.{IsMissing}
 use Rattle.entry_order.proofs.Order.{is_or, number_within}
 use Rattle.entry_order.proofs.Keeping.{in_either}
@@ -16,30 +16,30 @@ use Rattle.entry_order.proofs.Missing.{output_in}
 use Rattle.plain_machine.specs.declared.emission.Emission.{Emission}
 use Rattle.plain_machine.specs.declared.plain_move.PlainMove.{PlainMove}
 use Rattle.plain_machine.specs.Program.{Meaning}
-use Rattle.plain_machine.specs.Machine.{Hand, Thread as MachineThread}
+use Rattle.plain_machine.specs.Machine.{Thread as MachineThread}
 use Rattle.plain_machine.specs.History.{Act, Took, Did, Emitted, Ended, Step, log_of, sent_of, outputs, thread_after, IsStep, IsHistory}
 use Rattle.plain_machine.specs.Agree.{IsEarlier, SendsAfter}
 use Rattle.plain_machine.proofs.Histories.{history_log, did_emission, earlier_history, earlier_outputs}
 use Rattle.plain_machine.proofs.Agreement.{histories_agree}
 use Rattle.line_order.specs.Line.{GoesQuietly, IsLed}
+use Rattle.line_order.proofs.Runs.{entry_thread}
 use Rattle.line_order.proofs.Again.{sends_at, quiet_later}
 use Rattle.recovery_world.specs.declared.event.Event.{Event}
 use Rattle.recovery_world.specs.declared.event.Event.TheVariants as event
 use Rattle.recovery_world.specs.declared.event.Outcome.{Outcome}
 use Rattle.recovery_world.specs.declared.event.Outcome.TheVariants as outcome
 use Rattle.recovery_world.specs.World.{Setting, Sent, World, inputs_fed, all_inputs, opening}
-use Rattle.recovery_world.specs.Events.{entry_outcome, move_outcome, MakesMove, WantsMore, OnStep, IsKnown, MayGo, Releases, IsEntryOf, OnLog, IsAmong, HasNumber, IsOutputOf, HasArrived, OnOut, Recovers, Wakes, On}
-use Rattle.recovery_world.specs.Limits.{IsWithin, OnWithin}
-use Rattle.recovery_world.specs.Finish.{IsToCome, IsLine, GoesOn, greatest, AllGoOn, IsFinish}
+use Rattle.recovery_world.specs.Events.{entry_outcome, move_outcome, MakesMove, WantsMore, OnStep, IsKnown, IsEntryOf, IsAmong, HasNumber, IsOutputOf, Wakes, On}
+use Rattle.recovery_world.specs.Finish.{IsToCome, AllGoOn, IsFinish}
 use Rattle.recovery_world.specs.Many.{Does, Stays, Goes as DoesMore, StepsOut, IsIdle, Waits, Halts, Steps, Round, NoThread, Thread, HaltsBefore, HaltsThere, Rounds, Rests as RestsNow, HaltsIn, Again, Feeds, Empties, HaltsOn, More, numbers_of, threads_of, all_logs, all_outs, Settles, OnAny, Single, Settling, Choosing}
 use Rattle.recovery_world.specs.Files.{reply_line, Performs, Rests as NoMore, Goes as Writes, Leaves}
-use Rattle.recovery_laws.specs.Sound.{IsKept, times, Sound}
+use Rattle.recovery_laws.specs.Sound.{IsKept, Sound}
 use Rattle.recovery_laws.specs.Ends.{Ends}
 use Rattle.recovery_laws.specs.Settled.{IsSettled}
 use Rattle.recovery_laws.proofs.Leading.{Made, made_move}
-use Rattle.recovery_laws.proofs.Keeping.{wakes_sound, within_sound, does_sound, feeds_sound, settles_sound, opening_sound, performs_sound}
+use Rattle.recovery_laws.proofs.Keeping.{wakes_sound, does_sound, feeds_sound, settles_sound, opening_sound, performs_sound}
 use Rattle.recovery_laws.proofs.Worlds.{known_here}
-use Rattle.recovery_laws.proofs.Finishing.{entry_thread, sends_thread, finish_ends}
+use Rattle.recovery_laws.proofs.Finishing.{sends_thread, finish_ends}
 use Rattle.recovery_laws.proofs.Unstuck.{no_step}
 use Rattle.recovery_laws.proofs.Standing.{to_come_thread, to_come_first, followed_moves}
 use Rattle.recovery_laws.proofs.Accepting.{among_times}

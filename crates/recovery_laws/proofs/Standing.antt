@@ -6,10 +6,11 @@ use Rattle.entry_order.proofs.Order.{is_or, number_within, entry_there, same_num
 use Rattle.entry_order.proofs.Positions.{not_precedes_itself}
 use Rattle.entry_order.proofs.Keeping.{in_left, in_right, in_either}
 use Rattle.plain_machine.specs.declared.emission.Emission.{Emission}
-use Rattle.plain_machine.specs.History.{Act, Took, Did, Emitted, Ended, Step, log_more, log_of, IsHistory}
+use Rattle.plain_machine.specs.History.{Act, Took, Did, Emitted, Ended, Step, log_more, log_of}
 use Rattle.plain_machine.specs.Agree.{SendsAfter}
 use Rattle.plain_machine.proofs.Histories.{history_log}
 use Rattle.recovery_world.specs.World.{Setting, Sent, World, inputs_fed, all_inputs}
+use Rattle.line_order.proofs.Runs.{entry_thread}
 use Rattle.line_order.proofs.Arranging.{apart, next_past}
 use Rattle.recovery_world.specs.declared.event.Outcome.{Outcome}
 use Rattle.recovery_world.specs.Events.{IsKnown, IsAmong, MakesMove, OnStep}
@@ -17,8 +18,8 @@ use Rattle.recovery_world.specs.Finish.{IsToCome, IsLine}
 use Rattle.recovery_laws.specs.Sound.{IsKept, Firm, Sound}
 use Rattle.recovery_laws.specs.Facts.{SnapshotsStand, LineStands, ReleasedStands, WaitingStands}
 use Rattle.recovery_laws.proofs.Leading.{led_log}
-use Rattle.recovery_laws.proofs.Worlds.{LineOf, line_of, known_here}
-use Rattle.recovery_laws.proofs.Finishing.{entry_thread, of_line}
+use Rattle.recovery_laws.proofs.Worlds.{line_of, known_here}
+use Rattle.recovery_laws.proofs.Finishing.{of_line}
 use Rattle.recovery_laws.proofs.Unstuck.{never_stuck}
 
 pub snapshots_stand : {V : Type 0} (s : Setting V) (w : World V) → Sound s w → SnapshotsStand w

@@ -4,9 +4,8 @@ use Rattle.entry_order.specs.Log.{Entry, entries, IsIn, Keeps, PrecedesOutput}
 use Rattle.entry_order.specs.Closed.{IsClosedOver}
 use Rattle.plain_machine.specs.History.{Step, log_of}
 use Rattle.plain_machine.specs.Agree.{IsEarlier, SendsAfter}
-use Rattle.recovery_world.specs.World.{Setting, Sent, World}
+use Rattle.recovery_world.specs.World.{Sent, World}
 use Rattle.recovery_world.specs.Events.{IsKnown, MayGo, IsAmong}
-use Rattle.recovery_world.specs.Finish.{IsLine}
 use Rattle.recovery_laws.specs.Sound.{times, IsEachOnce}
 
 -- The stored snapshot is an earlier moment of the past, and the one under way is a moment of the past that is not earlier than

@@ -1,0 +1,19 @@
+use Rattle.line_order.proofs.Sorting.{weight_moves}
+use Rattle.line_order.proofs.Unique.{closed_precedes, closed_stamp}
+use Rattle.line_order.proofs.Agreeing.{closed_weight, closed_output}
+use Rattle.line_order.proofs.logs_agree_on_closed_sets.Goals as goal
+
+pub returns-clause-precedes : goal.returns-clause-precedes
+returns-clause-precedes c = closed_precedes
+
+pub returns-clause-stamps : goal.returns-clause-stamps
+returns-clause-stamps c = closed_stamp
+
+pub returns-clause-weights : goal.returns-clause-weights
+returns-clause-weights c = closed_weight
+
+pub returns-clause-outputs : goal.returns-clause-outputs
+returns-clause-outputs c = closed_output
+
+pub returns-clause-members : goal.returns-clause-members
+returns-clause-members c = weight_moves

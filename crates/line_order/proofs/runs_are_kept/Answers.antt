@@ -1,0 +1,8 @@
+use Rattle.line_order.proofs.Runs.{history_more, entry_thread}
+use Rattle.line_order.proofs.runs_are_kept.Goals as goal
+
+pub returns-clause-more_inputs : goal.returns-clause-more_inputs
+returns-clause-more_inputs g c = history_more
+
+pub returns-clause-of_threads : goal.returns-clause-of_threads
+returns-clause-of_threads g c = entry_thread
