@@ -1,9 +1,16 @@
-use crate::run_command;
-use job_top::Status;
-use plain_text::{NoMemory, Text};
+ghost use Rattle.std.specs.Prelude.{◌≡◌, ◌≤◌, length};
+
+use command_line::{StatusText, answer, exit_of, help, perform, version};
+use job_top::{InputFault, Status};
+use pcap_io::{CaptureCause, CaptureFault};
+use plain_text::{Bytes, LineCause, LineFault, NoMemory, Text};
 use std::alloc::Global;
+use std::env::Args;
+use std::process::ExitCode;
 use std::test::Fail;
-use std::{env, fs, process};
+use std::{env, fs, io, process};
+use world_io::MemoryWorld;
+use world_real::RealWorld;
 
 /// A capture of one packet: UDP from 10.0.0.5:5000 to 198.51.100.7:53, without data.
 const CAPTURE: &[u8] =
@@ -51,7 +58,8 @@ fn a_run_reads_and_writes_the_named_files(rt: HostRuntime) -> Result<(), Fail> {
     let folder = folder_of_inputs(&rt)?;
     let names = ["box", "capture", "script", "released", "schedule"];
     let words = run_words(rt.alloc(), folder.as_str(), &names)?;
-    let status = run_command(&rt, words.as_slice());
+    let mut world = RealWorld::new(rt.alloc(), &rt);
+    let status = perform(rt.alloc(), words.as_slice(), &mut world);
     let released = read_file(&rt, folder.as_str(), "released")?;
     let schedule = read_file(&rt, folder.as_str(), "schedule")?;
     let capture = read_file(&rt, folder.as_str(), "capture")?;
@@ -60,5 +68,158 @@ fn a_run_reads_and_writes_the_named_files(rt: HostRuntime) -> Result<(), Fail> {
     assert_eq!(rt; released.as_slice(), RELEASED);
     assert_eq!(rt; schedule.as_slice(), b"0\n0\n0\n0\n".as_slice());
     assert_eq!(rt; capture.as_slice(), CAPTURE);
+    Ok(())
+}
+
+/// The arguments of a program with this name and these words.
+fn arguments(alloc: Global, words: &[&str]) -> Result<Args, NoMemory> {
+    let mut arguments = Vec::new(alloc);
+    arguments.push(String::from_str(alloc, "ftmb")?)?;
+    for word in words {
+        arguments.push(String::from_str(alloc, word)?)?;
+    }
+    Ok(arguments.into_iter())
+}
+
+/// What the program comes to with its arguments, by the name of the case.
+#[derive(Clone, Copy)]
+struct Case<'a> {
+    name: &'a str,
+    words: &'a [&'a str],
+    box_file: &'a [u8],
+    capture: &'a [u8],
+    status: Status,
+    text: &'a str,
+    code: u8,
+    report: &'a [u8],
+}
+
+const RUN: [&str; 6] = ["run", "box", "capture", "script", "released", "schedule"];
+
+const DONE: Case<'static> = Case {
+    name: "a run",
+    words: &RUN,
+    box_file: b"box count",
+    capture: CAPTURE,
+    status: Status::Done,
+    text: "done",
+    code: 0,
+    report: b"settle moves 4 released 1 epoch 1\ndone fed 1 epoch 1 released 1\n",
+};
+
+const CASES: [Case<'static>; 6] = [
+    DONE,
+    Case {
+        name: "a seventh word",
+        words: &["run", "box", "capture", "script", "released", "schedule", "more"],
+        status: Status::BadWords,
+        text: "bad words",
+        code: 2,
+        report: b"",
+        ..DONE
+    },
+    Case {
+        name: "an input that is not there",
+        words: &["run", "box", "capture", "nowhere", "released", "schedule"],
+        status: Status::ReadFault,
+        text: "read fault",
+        code: 3,
+        report: b"",
+        ..DONE
+    },
+    Case {
+        name: "a faulty box file",
+        box_file: b"box count\nthreads 17\n",
+        status: Status::BadInput(InputFault::BoxFile(LineFault {
+            line: 2,
+            cause: LineCause::OutOfRange,
+        })),
+        text: "bad input: box: line 2: out of range",
+        code: 6,
+        report: b"",
+        ..DONE
+    },
+    Case {
+        name: "a faulty capture",
+        capture: b"no capture",
+        status: Status::BadInput(InputFault::Capture(CaptureFault {
+            offset: 10,
+            cause: CaptureCause::ShortHeader,
+        })),
+        text: "bad input: capture: offset 10: short header",
+        code: 6,
+        report: b"",
+        ..DONE
+    },
+    Case {
+        name: "help and another word",
+        words: &["--help", "run"],
+        status: Status::BadWords,
+        text: "bad words",
+        code: 2,
+        report: b"",
+        ..DONE
+    },
+];
+
+/// Sets the bytes of a name.
+fn add_file(
+    alloc: Global,
+    world: &mut MemoryWorld,
+    name: &str,
+    bytes: &[u8],
+) -> Result<(), NoMemory>
+    ensures { length world.new.files ≡ length world.old.files }
+{
+    let name = Text::of(alloc, name)?;
+    world.add(&name, Bytes::of(alloc, bytes)?)
+}
+
+/// Whether the program comes to what the case says.
+fn comes_to(alloc: Global, world: &mut MemoryWorld, case: Case<'_>) -> Result<bool, NoMemory>
+    requires { length world.old.files ≡ 0 }
+{
+    add_file(alloc, world, "box", case.box_file)?;
+    add_file(alloc, world, "capture", case.capture)?;
+    add_file(alloc, world, "script", b"settle")?;
+    let arguments = arguments(alloc, case.words)?;
+    let status = answer(alloc, Ok(arguments), world);
+    let text = format!(in alloc; "{}", StatusText(status))?;
+    Ok(status == case.status
+        && text.as_str() == case.text
+        && exit_of(status) == ExitCode::from(case.code)
+        && world.report() == case.report)
+}
+
+#[test]
+fn each_case_has_its_status_its_text_and_its_number(rt: HostRuntime) -> Result<(), Fail> {
+    for case in CASES {
+        let mut world = MemoryWorld::new(rt.alloc())?;
+        assert!(rt; comes_to(rt.alloc(), &mut world, case)?, "{}", case.name);
+    }
+    Ok(())
+}
+
+/// Whether the one word prints this text.
+fn prints(alloc: Global, word: &str, text: &str) -> Result<bool, NoMemory> {
+    let mut world = MemoryWorld::new(alloc)?;
+    let arguments = arguments(alloc, &[word])?;
+    let status = answer(alloc, Ok(arguments), &mut world);
+    Ok(status == Status::Done && world.report() == text.as_bytes())
+}
+
+#[test]
+fn help_and_the_version_are_printed(rt: HostRuntime) -> Result<(), Fail> {
+    assert!(rt; prints(rt.alloc(), "--help", help())?);
+    assert!(rt; prints(rt.alloc(), "--version", version())?);
+    Ok(())
+}
+
+#[test]
+fn a_word_that_is_not_text_is_a_bad_word(rt: HostRuntime) -> Result<(), Fail> {
+    let mut world = MemoryWorld::new(rt.alloc())?;
+    let error = io::Error::from(io::ErrorKind::InvalidData);
+    let status = answer(rt.alloc(), Err(error), &mut world);
+    assert_eq!(rt; status, Status::BadWords);
     Ok(())
 }
