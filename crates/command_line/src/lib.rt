@@ -3,18 +3,18 @@
 //! A program's `main` calls `run_program`, which alone speaks to the system. All that it decides stands in functions with clauses.
 #![tactic(auto)]
 
+mod answering;
 mod ending;
-mod help;
-mod perform;
 mod program;
 mod request;
 mod text;
+mod usage;
 mod words;
 
+pub use answering::{answer, perform};
 pub use ending::exit_of;
-pub use help::{help, version};
-pub use perform::{answer, perform};
 pub use program::run_program;
 pub use request::{Request, read_request};
 pub use text::StatusText;
+pub use usage::{help, version};
 pub use words::read_words;

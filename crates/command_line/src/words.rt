@@ -1,4 +1,5 @@
-ghost use Rattle.std.specs.Prelude.{◌≡◌, IfOk, IfErr, ForErr, map};
+ghost use Rattle.std.specs.Prelude.{◌≡◌, ◌⊎◌, IfOk, IfErr, map};
+ghost use Rattle.std.specs.Result.{IsErrAnd};
 ghost use Rattle.std.specs.IoError.{error_kind};
 ghost use Rattle.std.specs.String.{string_bytes};
 ghost use Rattle.std.specs.Vec.Iter.{into_iter_items};
@@ -17,7 +18,8 @@ use std::io::ErrorKind;
 pub fn read_words(alloc: Global, arguments: io::Result<Args>) -> Result<Vec<Text>, Status>
     ensures words { IfOk arguments (λ all. IfOk result (λ words. words.items ≡ words_of all)) }
     ensures copied { IfOk arguments (λ all. IfErr result (λ status. status ≡ Status.NoMemory)) }
-    ensures refused { IfErr arguments (λ error. ForErr result (Refuses (error_kind error))) }
+    ensures refused { IfErr arguments (λ error. IsErrAnd result (Refuses (error_kind error))) }
+    ensures outcome { IfErr result (λ status. (status ≡ Status.BadWords) ⊎ (status ≡ Status.NoMemory)) }
 {
     let mut arguments = arguments.map_err(refusal)?;
     let _name = arguments.next();
@@ -26,7 +28,8 @@ pub fn read_words(alloc: Global, arguments: io::Result<Args>) -> Result<Vec<Text
 
 /// Why there are no arguments.
 fn refusal(error: io::Error) -> Status
-    ensures { Refuses (error_kind error) result }
+    ensures cause { Refuses (error_kind error) result }
+    ensures outcome { (result ≡ Status.BadWords) ⊎ (result ≡ Status.NoMemory) }
 {
     match error.kind() {
         ErrorKind::OutOfMemory => Status::NoMemory,

@@ -20,11 +20,11 @@ const CAPTURE: &[u8] =
 const RELEASED: &[u8] =
     b"\xd4\xc3\xb2\xa1\x02\0\x04\0\0\0\0\0\0\0\0\0\0\0\x04\0\x01\0\0\0d\0\0\0\x05\0\0\0*\0\0\0*\0\0\0\x02\0\0\0\0\x01\x02\0\0\0\0\x01\x08\0E\0\0\x1c\0\x01\0\0@\x11F\x91\n\0\0\x05\xc63d\x07\x13\x88\05\0\x08\xb7\xe1";
 
-/// A folder that no other run of this test has, with the inputs of a run in it.
-fn folder_of_inputs(rt: &HostRuntime) -> Result<String, Fail> {
+/// A folder that no other test has and no other run of this one, with the inputs of a run in it.
+fn folder_of_inputs(rt: &HostRuntime, test: &str) -> Result<String, Fail> {
     let temporary = env::temp_dir(rt)?;
     let number = process::id(rt.process());
-    let folder = format!(in rt.alloc(); "{}/ftmb_{number}", temporary.as_str())?;
+    let folder = format!(in rt.alloc(); "{}/ftmb_{test}_{number}", temporary.as_str())?;
     fs::create_dir(rt, folder.as_str())?;
     write_file(rt, folder.as_str(), "box", b"box count")?;
     write_file(rt, folder.as_str(), "capture", CAPTURE)?;
@@ -53,13 +53,17 @@ fn run_words(alloc: Global, folder: &str, names: &[&str]) -> Result<Vec<Text>, N
     Ok(words)
 }
 
+/// What a run over the files of the folder comes to.
+fn run_in(rt: &HostRuntime, folder: &str) -> Result<Status, Fail> {
+    let words = run_words(rt.alloc(), folder, &RUN[1..])?;
+    let mut world = RealWorld::new(rt.alloc(), rt);
+    Ok(perform(rt.alloc(), words.as_slice(), &mut world))
+}
+
 #[test]
 fn a_run_reads_and_writes_the_named_files(rt: HostRuntime) -> Result<(), Fail> {
-    let folder = folder_of_inputs(&rt)?;
-    let names = ["box", "capture", "script", "released", "schedule"];
-    let words = run_words(rt.alloc(), folder.as_str(), &names)?;
-    let mut world = RealWorld::new(rt.alloc(), &rt);
-    let status = perform(rt.alloc(), words.as_slice(), &mut world);
+    let folder = folder_of_inputs(&rt, "run")?;
+    let status = run_in(&rt, folder.as_str())?;
     let released = read_file(&rt, folder.as_str(), "released")?;
     let schedule = read_file(&rt, folder.as_str(), "schedule")?;
     let capture = read_file(&rt, folder.as_str(), "capture")?;
@@ -68,6 +72,20 @@ fn a_run_reads_and_writes_the_named_files(rt: HostRuntime) -> Result<(), Fail> {
     assert_eq!(rt; released.as_slice(), RELEASED);
     assert_eq!(rt; schedule.as_slice(), b"0\n0\n0\n0\n".as_slice());
     assert_eq!(rt; capture.as_slice(), CAPTURE);
+    Ok(())
+}
+
+#[test]
+fn an_input_that_is_not_there_is_a_read_fault(rt: HostRuntime) -> Result<(), Fail> {
+    let folder = folder_of_inputs(&rt, "fault")?;
+    let script = format!(in rt.alloc(); "{}/script", folder.as_str())?;
+    fs::remove_file(&rt, script.as_str())?;
+    let status = run_in(&rt, folder.as_str())?;
+    let released = format!(in rt.alloc(); "{}/released", folder.as_str())?;
+    let is_created = fs::exists(&rt, released.as_str())?;
+    fs::remove_dir_all(&rt, folder.as_str())?;
+    assert_eq!(rt; status, Status::ReadFault);
+    assert!(rt; !is_created);
     Ok(())
 }
 
@@ -111,7 +129,9 @@ const CASES: [Case<'static>; 6] = [
     DONE,
     Case {
         name: "a seventh word",
-        words: &["run", "box", "capture", "script", "released", "schedule", "more"],
+        words: &[
+            "run", "box", "capture", "script", "released", "schedule", "more",
+        ],
         status: Status::BadWords,
         text: "bad words",
         code: 2,
@@ -185,10 +205,12 @@ fn comes_to(alloc: Global, world: &mut MemoryWorld, case: Case<'_>) -> Result<bo
     let arguments = arguments(alloc, case.words)?;
     let status = answer(alloc, Ok(arguments), world);
     let text = format!(in alloc; "{}", StatusText(status))?;
-    Ok(status == case.status
-        && text.as_str() == case.text
-        && exit_of(status) == ExitCode::from(case.code)
-        && world.report() == case.report)
+    Ok(
+        status == case.status
+            && text.as_str() == case.text
+            && exit_of(status) == ExitCode::from(case.code)
+            && world.report() == case.report,
+    )
 }
 
 #[test]

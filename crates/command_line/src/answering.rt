@@ -1,9 +1,11 @@
 ghost use Rattle.std.specs.Prelude.{◌≡◌, ◌<◌, ◌≤◌, ◌+◌, ◌^◌, ◌⊎◌, None, IsTrue, IfErr, IfOk, IfSome};
 ghost use Rattle.std.specs.IoError.{error_kind};
+ghost use Rattle.world_io.specs.All.{WriteFailed};
 ghost use Rattle.world_io.specs.Stream.{Rose};
+ghost use Rattle.world_io.specs.World.{KeepsLedgerWriting};
 ghost use Rattle.job_top.specs.Words.{asked};
 ghost use Rattle.command_line.specs.Performing.{Performs};
-ghost use Rattle.command_line.specs.Printing.{Prints, asked_text};
+ghost use Rattle.command_line.specs.Printing.{Appends, Prints, asked_text};
 ghost use Rattle.command_line.specs.Words.{Refuses, words_of};
 
 use crate::{Request, help, read_request, read_words, version};
@@ -17,14 +19,25 @@ use world_io::{World, WorldSink, WriteAll, write_all};
 /// The number of the report, which is the program's standard output.
 const REPORT: u32 = 0;
 
+/// Appends a text to the report.
+fn append<W: World>(world: &mut W, text: &[u8]) -> WriteAll
+    ensures told { IsTrue W.tells → Appends result text.now (W.shown world.old) (W.shown world.new) }
+    ensures ledger { KeepsLedgerWriting (W.ledger world.old) (W.ledger world.new) }
+    ensures cause { WriteFailed result → Rose (W.ledger world.old).write_faults (W.ledger world.new).write_faults }
+{
+    let mut report = WorldSink::of(world, REPORT);
+    write_all(&mut report, text)
+}
+
 /// Prints a text where the report goes.
+#[tactic(auto, using(crate::proofs::Printed::prints_prefix))]
 fn print<W: World>(world: &mut W, text: &str) -> Status
     ensures prints { IsTrue W.tells → Prints text.now result (W.shown world.old) (W.shown world.new) }
     ensures outcome { (result ≡ Status.Done) ⊎ ((result ≡ Status.WriteFault) ⊎ (result ≡ Status.NoMemory)) }
     ensures given { (W.ledger world.new).given ≡ (W.ledger world.old).given }
     ensures write_fault { result ≡ Status.WriteFault → Rose (W.ledger world.old).write_faults (W.ledger world.new).write_faults }
 {
-    match write_all(&mut WorldSink::of(world, REPORT), text.as_bytes()) {
+    match append(world, text.as_bytes()) {
         WriteAll::All => Status::Done,
         WriteAll::Failed(_) => Status::WriteFault,
         WriteAll::NoMemory(_) => Status::NoMemory,

@@ -1,5 +1,4 @@
 ghost use Rattle.std.specs.Prelude.{◌≡◌};
-ghost use Rattle.command_line.specs.declared.help.TheConstants.{HELP, VERSION};
 
 pub const VERSION: &str = "ftmb 0.1.0\n";
 
@@ -29,14 +28,14 @@ Exit status: 0 done, 2 bad words, 3 read fault, 4 write fault, 5 no memory,
 
 /// What `--help` prints.
 pub fn help() -> &'static str
-    ensures { result.now ≡ HELP }
+    ensures { result.now ≡ HELP.now }
 {
     HELP
 }
 
 /// What `--version` prints.
 pub fn version() -> &'static str
-    ensures { result.now ≡ VERSION }
+    ensures { result.now ≡ VERSION.now }
 {
     VERSION
 }
