@@ -213,35 +213,44 @@ fn comes_to(alloc: Global, world: &mut MemoryWorld, case: Case<'_>) -> Result<bo
     )
 }
 
+/// Whether it does in a world that has given no numbers.
+fn holds(alloc: Global, case: Case<'_>) -> Result<bool, NoMemory> {
+    let mut world = MemoryWorld::new(alloc)?;
+    comes_to(alloc, &mut world, case)
+}
+
 #[test]
 fn each_case_has_its_status_its_text_and_its_number(rt: HostRuntime) -> Result<(), Fail> {
     for case in CASES {
-        let mut world = MemoryWorld::new(rt.alloc())?;
-        assert!(rt; comes_to(rt.alloc(), &mut world, case)?, "{}", case.name);
+        assert!(rt; holds(rt.alloc(), case)?, "{}", case.name);
     }
     Ok(())
 }
 
-/// Whether the one word prints this text.
-fn prints(alloc: Global, word: &str, text: &str) -> Result<bool, NoMemory> {
+/// Whether the arguments come to Done, and print this text.
+fn prints(alloc: Global, arguments: Args, text: &str) -> Result<bool, NoMemory> {
     let mut world = MemoryWorld::new(alloc)?;
-    let arguments = arguments(alloc, &[word])?;
     let status = answer(alloc, Ok(arguments), &mut world);
     Ok(status == Status::Done && world.report() == text.as_bytes())
 }
 
 #[test]
 fn help_and_the_version_are_printed(rt: HostRuntime) -> Result<(), Fail> {
-    assert!(rt; prints(rt.alloc(), "--help", help())?);
-    assert!(rt; prints(rt.alloc(), "--version", version())?);
+    let alloc = rt.alloc();
+    assert!(rt; prints(alloc, arguments(alloc, &["--help"])?, help())?);
+    assert!(rt; prints(alloc, arguments(alloc, &["--version"])?, version())?);
     Ok(())
+}
+
+/// What the program comes to where std gives no arguments.
+fn answer_to_none(alloc: Global, kind: io::ErrorKind) -> Result<Status, NoMemory> {
+    let mut world = MemoryWorld::new(alloc)?;
+    Ok(answer(alloc, Err(io::Error::from(kind)), &mut world))
 }
 
 #[test]
 fn a_word_that_is_not_text_is_a_bad_word(rt: HostRuntime) -> Result<(), Fail> {
-    let mut world = MemoryWorld::new(rt.alloc())?;
-    let error = io::Error::from(io::ErrorKind::InvalidData);
-    let status = answer(rt.alloc(), Err(error), &mut world);
+    let status = answer_to_none(rt.alloc(), io::ErrorKind::InvalidData)?;
     assert_eq!(rt; status, Status::BadWords);
     Ok(())
 }
