@@ -1,9 +1,16 @@
-use crate::run_command;
-use job_top::Status;
-use plain_text::{NoMemory, Text};
+ghost use Rattle.std.specs.Prelude.{◌≡◌, ◌≤◌, length};
+
+use command_line::{StatusText, answer, exit_of, help, perform, version};
+use job_top::{InputFault, Status};
+use pcap_io::{CaptureCause, CaptureFault};
+use plain_text::{Bytes, LineCause, LineFault, NoMemory, Text};
 use std::alloc::Global;
+use std::env::Args;
+use std::process::ExitCode;
 use std::test::Fail;
-use std::{env, fs, process};
+use std::{env, fs, io, process};
+use world_io::MemoryWorld;
+use world_real::RealWorld;
 
 /// A capture of one packet: UDP from 10.0.0.5:5000 to 198.51.100.7:53, without data.
 const CAPTURE: &[u8] =
@@ -13,11 +20,11 @@ const CAPTURE: &[u8] =
 const RELEASED: &[u8] =
     b"\xd4\xc3\xb2\xa1\x02\0\x04\0\0\0\0\0\0\0\0\0\0\0\x04\0\x01\0\0\0d\0\0\0\x05\0\0\0*\0\0\0*\0\0\0\x02\0\0\0\0\x01\x02\0\0\0\0\x01\x08\0E\0\0\x1c\0\x01\0\0@\x11F\x91\n\0\0\x05\xc63d\x07\x13\x88\05\0\x08\xb7\xe1";
 
-/// A folder that no other run of this test has, with the inputs of a run in it.
-fn folder_of_inputs(rt: &HostRuntime) -> Result<String, Fail> {
+/// A folder that no other test has and no other run of this one, with the inputs of a run in it.
+fn folder_of_inputs(rt: &HostRuntime, test: &str) -> Result<String, Fail> {
     let temporary = env::temp_dir(rt)?;
     let number = process::id(rt.process());
-    let folder = format!(in rt.alloc(); "{}/ftmb_{number}", temporary.as_str())?;
+    let folder = format!(in rt.alloc(); "{}/ftmb_{test}_{number}", temporary.as_str())?;
     fs::create_dir(rt, folder.as_str())?;
     write_file(rt, folder.as_str(), "box", b"box count")?;
     write_file(rt, folder.as_str(), "capture", CAPTURE)?;
@@ -46,12 +53,17 @@ fn run_words(alloc: Global, folder: &str, names: &[&str]) -> Result<Vec<Text>, N
     Ok(words)
 }
 
+/// What a run over the files of the folder comes to.
+fn run_in(rt: &HostRuntime, folder: &str) -> Result<Status, Fail> {
+    let words = run_words(rt.alloc(), folder, &RUN[1..])?;
+    let mut world = RealWorld::new(rt.alloc(), rt);
+    Ok(perform(rt.alloc(), words.as_slice(), &mut world))
+}
+
 #[test]
 fn a_run_reads_and_writes_the_named_files(rt: HostRuntime) -> Result<(), Fail> {
-    let folder = folder_of_inputs(&rt)?;
-    let names = ["box", "capture", "script", "released", "schedule"];
-    let words = run_words(rt.alloc(), folder.as_str(), &names)?;
-    let status = run_command(&rt, words.as_slice());
+    let folder = folder_of_inputs(&rt, "run")?;
+    let status = run_in(&rt, folder.as_str())?;
     let released = read_file(&rt, folder.as_str(), "released")?;
     let schedule = read_file(&rt, folder.as_str(), "schedule")?;
     let capture = read_file(&rt, folder.as_str(), "capture")?;
@@ -60,5 +72,185 @@ fn a_run_reads_and_writes_the_named_files(rt: HostRuntime) -> Result<(), Fail> {
     assert_eq!(rt; released.as_slice(), RELEASED);
     assert_eq!(rt; schedule.as_slice(), b"0\n0\n0\n0\n".as_slice());
     assert_eq!(rt; capture.as_slice(), CAPTURE);
+    Ok(())
+}
+
+#[test]
+fn an_input_that_is_not_there_is_a_read_fault(rt: HostRuntime) -> Result<(), Fail> {
+    let folder = folder_of_inputs(&rt, "fault")?;
+    let script = format!(in rt.alloc(); "{}/script", folder.as_str())?;
+    fs::remove_file(&rt, script.as_str())?;
+    let status = run_in(&rt, folder.as_str())?;
+    let released = format!(in rt.alloc(); "{}/released", folder.as_str())?;
+    let is_created = fs::exists(&rt, released.as_str())?;
+    fs::remove_dir_all(&rt, folder.as_str())?;
+    assert_eq!(rt; status, Status::ReadFault);
+    assert!(rt; !is_created);
+    Ok(())
+}
+
+/// The arguments of a program with this name and these words.
+fn arguments(alloc: Global, words: &[&str]) -> Result<Args, NoMemory> {
+    let mut arguments = Vec::new(alloc);
+    arguments.push(String::from_str(alloc, "ftmb")?)?;
+    for word in words {
+        arguments.push(String::from_str(alloc, word)?)?;
+    }
+    Ok(arguments.into_iter())
+}
+
+/// What the program comes to with its arguments, by the name of the case.
+#[derive(Clone, Copy)]
+struct Case<'a> {
+    name: &'a str,
+    words: &'a [&'a str],
+    box_file: &'a [u8],
+    capture: &'a [u8],
+    status: Status,
+    text: &'a str,
+    code: u8,
+    report: &'a [u8],
+}
+
+const RUN: [&str; 6] = ["run", "box", "capture", "script", "released", "schedule"];
+
+const DONE: Case<'static> = Case {
+    name: "a run",
+    words: &RUN,
+    box_file: b"box count",
+    capture: CAPTURE,
+    status: Status::Done,
+    text: "done",
+    code: 0,
+    report: b"settle moves 4 released 1 epoch 1\ndone fed 1 epoch 1 released 1\n",
+};
+
+const CASES: [Case<'static>; 6] = [
+    DONE,
+    Case {
+        name: "a seventh word",
+        words: &[
+            "run", "box", "capture", "script", "released", "schedule", "more",
+        ],
+        status: Status::BadWords,
+        text: "bad words",
+        code: 2,
+        report: b"",
+        ..DONE
+    },
+    Case {
+        name: "an input that is not there",
+        words: &["run", "box", "capture", "nowhere", "released", "schedule"],
+        status: Status::ReadFault,
+        text: "read fault",
+        code: 3,
+        report: b"",
+        ..DONE
+    },
+    Case {
+        name: "a faulty box file",
+        box_file: b"box count\nthreads 17\n",
+        status: Status::BadInput(InputFault::BoxFile(LineFault {
+            line: 2,
+            cause: LineCause::OutOfRange,
+        })),
+        text: "bad input: box: line 2: out of range",
+        code: 6,
+        report: b"",
+        ..DONE
+    },
+    Case {
+        name: "a faulty capture",
+        capture: b"no capture",
+        status: Status::BadInput(InputFault::Capture(CaptureFault {
+            offset: 10,
+            cause: CaptureCause::ShortHeader,
+        })),
+        text: "bad input: capture: offset 10: short header",
+        code: 6,
+        report: b"",
+        ..DONE
+    },
+    Case {
+        name: "help and another word",
+        words: &["--help", "run"],
+        status: Status::BadWords,
+        text: "bad words",
+        code: 2,
+        report: b"",
+        ..DONE
+    },
+];
+
+/// Sets the bytes of a name.
+fn add_file(
+    alloc: Global,
+    world: &mut MemoryWorld,
+    name: &str,
+    bytes: &[u8],
+) -> Result<(), NoMemory>
+    ensures { length world.new.files ≡ length world.old.files }
+{
+    let name = Text::of(alloc, name)?;
+    world.add(&name, Bytes::of(alloc, bytes)?)
+}
+
+/// Whether the program comes to what the case says.
+fn comes_to(alloc: Global, world: &mut MemoryWorld, case: Case<'_>) -> Result<bool, NoMemory>
+    requires { length world.old.files ≡ 0 }
+{
+    add_file(alloc, world, "box", case.box_file)?;
+    add_file(alloc, world, "capture", case.capture)?;
+    add_file(alloc, world, "script", b"settle")?;
+    let arguments = arguments(alloc, case.words)?;
+    let status = answer(alloc, Ok(arguments), world);
+    let text = format!(in alloc; "{}", StatusText(status))?;
+    Ok(
+        status == case.status
+            && text.as_str() == case.text
+            && exit_of(status) == ExitCode::from(case.code)
+            && world.report() == case.report,
+    )
+}
+
+/// Whether it does in a world that has given no numbers.
+fn holds(alloc: Global, case: Case<'_>) -> Result<bool, NoMemory> {
+    let mut world = MemoryWorld::new(alloc)?;
+    comes_to(alloc, &mut world, case)
+}
+
+#[test]
+fn each_case_has_its_status_its_text_and_its_number(rt: HostRuntime) -> Result<(), Fail> {
+    for case in CASES {
+        assert!(rt; holds(rt.alloc(), case)?, "{}", case.name);
+    }
+    Ok(())
+}
+
+/// Whether the arguments come to Done, and print this text.
+fn prints(alloc: Global, arguments: Args, text: &str) -> Result<bool, NoMemory> {
+    let mut world = MemoryWorld::new(alloc)?;
+    let status = answer(alloc, Ok(arguments), &mut world);
+    Ok(status == Status::Done && world.report() == text.as_bytes())
+}
+
+#[test]
+fn help_and_the_version_are_printed(rt: HostRuntime) -> Result<(), Fail> {
+    let alloc = rt.alloc();
+    assert!(rt; prints(alloc, arguments(alloc, &["--help"])?, help())?);
+    assert!(rt; prints(alloc, arguments(alloc, &["--version"])?, version())?);
+    Ok(())
+}
+
+/// What the program comes to where std gives no arguments.
+fn answer_to_none(alloc: Global, kind: io::ErrorKind) -> Result<Status, NoMemory> {
+    let mut world = MemoryWorld::new(alloc)?;
+    Ok(answer(alloc, Err(io::Error::from(kind)), &mut world))
+}
+
+#[test]
+fn a_word_that_is_not_text_is_a_bad_word(rt: HostRuntime) -> Result<(), Fail> {
+    let status = answer_to_none(rt.alloc(), io::ErrorKind::InvalidData)?;
+    assert_eq!(rt; status, Status::BadWords);
     Ok(())
 }

@@ -1,8 +1,8 @@
 -- What the words of the command line ask for.
 use Rattle.std.specs.Prelude.{ℕ, List, [], ◌∷◌, codes, if◌then◌else◌}
 use Rattle.std.specs.Str.{bytes_eq}
-use Rattle.ftmb.specs.declared.asked.Request.{Request}
-use Rattle.ftmb.specs.declared.asked.Request.TheVariants.{Help, Version, Command}
+use Rattle.command_line.specs.declared.request.Request.{Request}
+use Rattle.command_line.specs.declared.request.Request.TheVariants.{Help, Version, Command}
 
 -- help or the version where the one and only word asks for it, and else a command
 abbrev pub request_of : List (List ℕ) → Request

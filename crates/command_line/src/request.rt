@@ -1,5 +1,5 @@
 ghost use Rattle.std.specs.Prelude.{◌≡◌};
-ghost use Rattle.ftmb.specs.Asked.{request_of};
+ghost use Rattle.command_line.specs.Request.{request_of};
 
 use plain_text::Text;
 

@@ -1,0 +1,5 @@
+pub mod Performing
+pub mod Printing
+pub mod Request
+pub mod Text
+pub mod Words

@@ -1,0 +1,35 @@
+-- What the program prints without running a command.
+use Rattle.std.specs.Prelude.{◌≡◌, ℕ, List, ◌++◌, take, Option, Some, None}
+use Rattle.world_io.specs.World.{Shown, WritesFile}
+use Rattle.world_io.specs.declared.all.WriteAll.{WriteAll}
+use Rattle.world_io.specs.declared.all.WriteAll.TheVariants as write
+use Rattle.job_top.specs.declared.status.Status.{Status}
+use Rattle.job_top.specs.declared.status.Status.TheVariants.{Done}
+use Rattle.command_line.specs.Request.{request_of}
+use Rattle.command_line.specs.declared.request.Request.{Request}
+use Rattle.command_line.specs.declared.request.Request.TheVariants.{Help, Version, Command}
+use Rattle.command_line.specs.declared.usage.TheConstants.{HELP, VERSION}
+
+abbrev pub text_for : Request → Option (List ℕ)
+text_for Help = Some HELP.now
+text_for Version = Some VERSION.now
+text_for Command = None
+
+-- the text that the words ask for: the help or the version
+abbrev pub asked_text : List (List ℕ) → Option (List ℕ)
+asked_text words = text_for (request_of words)
+
+-- a prefix of the text was printed on standard output, all of it where the status is Done; no file was touched
+pub record Prints (text : List ℕ) (status : Status) (old new : Shown) : Type 0 where
+  pub part : List ℕ
+  pub more : List ℕ
+  pub prefix : text ≡ part ++ more
+  pub whole : status ≡ Done → part ≡ text
+  pub printed : new.sent 0 ≡ old.sent 0 ++ part
+  pub names : (name : List ℕ) → new.names name ≡ old.names name
+
+-- a prefix of the text was appended to the report: all of it, or the first bytes
+abbrev pub Appends : WriteAll → List ℕ → Shown → Shown → Type 0
+Appends write.All text old new = WritesFile 0 text old new
+Appends (write.Failed n) text old new = WritesFile 0 (take n text) old new
+Appends (write.NoMemory n) text old new = WritesFile 0 (take n text) old new

@@ -1,0 +1,53 @@
+-- The text of each status, as the program tells it on standard error.
+use Rattle.std.specs.Prelude.{ℕ, List, ◌++◌, codes, decimal}
+use Rattle.plain_text.specs.declared.fault.LineCause.{LineCause}
+use Rattle.plain_text.specs.declared.fault.LineCause.TheVariants as line
+use Rattle.plain_text.specs.declared.fault.LineFault.{LineFault}
+use Rattle.plain_text.specs.declared.limit.Limit.{Limit}
+use Rattle.plain_text.specs.declared.limit.Limit.TheVariants.{File, Packets, Events, Moves, OutputBytes}
+use Rattle.pcap_io.specs.declared.fault.CaptureCause.{CaptureCause}
+use Rattle.pcap_io.specs.declared.fault.CaptureCause.TheVariants as capture
+use Rattle.pcap_io.specs.declared.fault.CaptureFault.{CaptureFault}
+use Rattle.job_top.specs.declared.status.InputFault.{InputFault}
+use Rattle.job_top.specs.declared.status.InputFault.TheVariants.{BoxFile, Capture}
+use Rattle.job_top.specs.declared.status.Status.{Status}
+use Rattle.job_top.specs.declared.status.Status.TheVariants.{Done, BadWords, ReadFault, WriteFault, NoMemory, BadInput, TooLarge, NotBuilt}
+
+abbrev pub cause_text : LineCause → List ℕ
+cause_text line.UnknownWord = codes "unknown word"
+cause_text line.MissingWord = codes "missing word"
+cause_text line.ExtraWord = codes "extra word"
+cause_text line.BadNumber = codes "bad number"
+cause_text line.OutOfRange = codes "out of range"
+cause_text line.Twice = codes "twice"
+cause_text line.MissingLine = codes "missing line"
+
+abbrev pub capture_cause_text : CaptureCause → List ℕ
+capture_cause_text capture.BadMagic = codes "bad magic"
+capture_cause_text capture.BadVersion = codes "bad version"
+capture_cause_text capture.BadLinkType = codes "bad link type"
+capture_cause_text capture.ShortHeader = codes "short header"
+capture_cause_text capture.ShortRecord = codes "short record"
+capture_cause_text capture.TooLong = codes "too long"
+
+abbrev pub limit_text : Limit → List ℕ
+limit_text File = codes "file"
+limit_text Packets = codes "packets"
+limit_text Events = codes "events"
+limit_text Moves = codes "moves"
+limit_text OutputBytes = codes "output bytes"
+
+-- the line, or the offset, at which an input leaves its grammar, and why
+abbrev pub fault_text : InputFault → List ℕ
+fault_text (BoxFile fault) = codes "bad input: box: line " ++ decimal fault.line ++ codes ": " ++ cause_text fault.cause
+fault_text (Capture fault) = codes "bad input: capture: offset " ++ decimal fault.offset ++ codes ": " ++ capture_cause_text fault.cause
+
+abbrev pub status_text : Status → List ℕ
+status_text Done = codes "done"
+status_text BadWords = codes "bad words"
+status_text ReadFault = codes "read fault"
+status_text WriteFault = codes "write fault"
+status_text NoMemory = codes "no memory"
+status_text (BadInput fault) = fault_text fault
+status_text (TooLarge limit) = codes "too large: " ++ limit_text limit
+status_text NotBuilt = codes "not built"

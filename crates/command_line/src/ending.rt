@@ -1,0 +1,13 @@
+ghost use Rattle.std.specs.Prelude.{◌≡◌};
+ghost use Rattle.std.specs.Process.{exit_status};
+ghost use Rattle.job_top.specs.Status.{exit_code_of};
+
+use job_top::Status;
+use std::process::ExitCode;
+
+/// The number that the program ends with: that of the status.
+pub fn exit_of(status: Status) -> ExitCode
+    ensures { exit_status result ≡ exit_code_of status }
+{
+    ExitCode::from(status.exit_code())
+}

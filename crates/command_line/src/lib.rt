@@ -1,0 +1,20 @@
+//! The edge of the program: its words, what it does with them, and the text and the number that it ends with.
+//!
+//! A program's `main` calls `run_program`, which alone speaks to the system. All that it decides stands in functions with clauses.
+#![tactic(auto)]
+
+mod answering;
+mod ending;
+mod program;
+mod request;
+mod text;
+mod usage;
+mod words;
+
+pub use answering::{answer, perform};
+pub use ending::exit_of;
+pub use program::run_program;
+pub use request::{Request, read_request};
+pub use text::StatusText;
+pub use usage::{help, version};
+pub use words::read_words;

@@ -1,0 +1,35 @@
+ghost use Rattle.std.specs.Prelude.{◌≡◌, ◌⊎◌};
+ghost use Rattle.std.specs.Process.{exit_status};
+ghost use Rattle.job_top.specs.Status.{exit_code_of};
+ghost use Rattle.job_top.specs.declared.status.Status.{Status};
+
+use crate::{StatusText, answer, exit_of};
+use job_top::Status;
+use std::env;
+use std::process::ExitCode;
+use std::rt::{Env, Files};
+use world_real::RealWorld;
+
+/// The program: performs what its arguments ask for over the files of the system, tells what was not done, and ends with the number of
+/// the status.
+pub fn run_program<R: Env + AllocGlobal + Files + Print + Eprint>(rt: &R) -> ExitCode
+    ensures number { (status : Status) × (exit_status result ≡ exit_code_of status) }
+{
+    let mut world = RealWorld::new(rt.alloc(), rt);
+    let status = answer(rt.alloc(), env::args(rt), &mut world);
+    exit_of(tell(rt, status))
+}
+
+/// Tells on standard error what was not done. The status stays, unless telling fails.
+fn tell<R: Eprint>(rt: &R, status: Status) -> Status
+    ensures done { status ≡ Status.Done → result ≡ Status.Done }
+    ensures told { (result ≡ status) ⊎ (result ≡ Status.WriteFault) }
+{
+    if status == Status::Done {
+        return status;
+    }
+    match rt.eprintln(StatusText(status)) {
+        Ok(()) => status,
+        Err(_) => Status::WriteFault,
+    }
+}

@@ -1,0 +1,79 @@
+ghost use Rattle.std.specs.Prelude.{◌≡◌, Some};
+ghost use Rattle.command_line.specs.Text.{cause_text, capture_cause_text, limit_text};
+
+use job_top::{InputFault, Status};
+use pcap_io::{CaptureCause, CaptureFault};
+use plain_text::{Limit, LineCause, LineFault};
+use std::fmt;
+
+/// A status as the program tells it on standard error. It takes no memory.
+#[derive(Clone, Copy)]
+pub struct StatusText(pub Status);
+
+impl fmt::Display for StatusText {
+    ghost use Rattle.command_line.specs.Text.{status_text};
+
+    ghost output = { λ t. Some (status_text t.0) };
+
+    fn fmt<W: fmt::Write>(&self, f: &mut fmt::Formatter<W>) -> fmt::Result {
+        match self.0 {
+            Status::BadInput(InputFault::BoxFile(LineFault { line, cause })) => {
+                let cause = line_cause(cause);
+                write!(f, "bad input: box: line {line}: {cause}")
+            }
+            Status::BadInput(InputFault::Capture(CaptureFault { offset, cause })) => {
+                let cause = capture_cause(cause);
+                write!(f, "bad input: capture: offset {offset}: {cause}")
+            }
+            Status::TooLarge(limit) => {
+                let limit = limit_name(limit);
+                write!(f, "too large: {limit}")
+            }
+            Status::Done => f.write_str("done"),
+            Status::BadWords => f.write_str("bad words"),
+            Status::ReadFault => f.write_str("read fault"),
+            Status::WriteFault => f.write_str("write fault"),
+            Status::NoMemory => f.write_str("no memory"),
+            Status::NotBuilt => f.write_str("not built"),
+        }
+    }
+}
+
+fn line_cause(cause: LineCause) -> &'static str
+    ensures { result.now ≡ cause_text cause }
+{
+    match cause {
+        LineCause::UnknownWord => "unknown word",
+        LineCause::MissingWord => "missing word",
+        LineCause::ExtraWord => "extra word",
+        LineCause::BadNumber => "bad number",
+        LineCause::OutOfRange => "out of range",
+        LineCause::Twice => "twice",
+        LineCause::MissingLine => "missing line",
+    }
+}
+
+fn capture_cause(cause: CaptureCause) -> &'static str
+    ensures { result.now ≡ capture_cause_text cause }
+{
+    match cause {
+        CaptureCause::BadMagic => "bad magic",
+        CaptureCause::BadVersion => "bad version",
+        CaptureCause::BadLinkType => "bad link type",
+        CaptureCause::ShortHeader => "short header",
+        CaptureCause::ShortRecord => "short record",
+        CaptureCause::TooLong => "too long",
+    }
+}
+
+fn limit_name(limit: Limit) -> &'static str
+    ensures { result.now ≡ limit_text limit }
+{
+    match limit {
+        Limit::File => "file",
+        Limit::Packets => "packets",
+        Limit::Events => "events",
+        Limit::Moves => "moves",
+        Limit::OutputBytes => "output bytes",
+    }
+}

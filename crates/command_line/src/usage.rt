@@ -1,0 +1,41 @@
+ghost use Rattle.std.specs.Prelude.{◌≡◌};
+
+pub const VERSION: &str = "ftmb 0.1.0\n";
+
+pub const HELP: &str = "\
+ftmb run BOX CAPTURE SCRIPT RELEASED SCHEDULE
+
+Runs a box on the packets of a capture, one after another, each on the
+thread that its flow is steered to.
+
+  BOX       text that names the box, read
+  CAPTURE   libpcap savefile of the packets to play, read
+  SCRIPT    text of what is to happen, `settle` so far, read
+  RELEASED  capture of the packets that were released, written
+  SCHEDULE  text of the moves that were made, written
+
+ftmb make SEED N CAPTURE
+
+Makes N packets, at most 65,536, from a number, always the same ones.
+
+  CAPTURE   libpcap savefile of the packets, written
+
+The report is written on standard output.
+
+Exit status: 0 done, 2 bad words, 3 read fault, 4 write fault, 5 no memory,
+6 bad input, 7 too large, 8 not built. What is not done is told on standard error.
+";
+
+/// What `--help` prints.
+pub fn help() -> &'static str
+    ensures { result.now ≡ HELP.now }
+{
+    HELP
+}
+
+/// What `--version` prints.
+pub fn version() -> &'static str
+    ensures { result.now ≡ VERSION.now }
+{
+    VERSION
+}
