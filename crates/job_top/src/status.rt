@@ -1,6 +1,7 @@
 ghost use Rattle.std.specs.Prelude.{◌≡◌};
 ghost use Rattle.job_top.specs.Status.{exit_code_of};
 
+use crate::{InputError, ReadError, WriteError};
 use pcap_io::CaptureFault;
 use plain_text::{Limit, LineFault};
 use thiserror::Error;
@@ -54,6 +55,67 @@ impl Status {
             Status::BadInput(_) => 6,
             Status::TooLarge(_) => 7,
             Status::NotBuilt => 8,
+        }
+    }
+}
+
+impl From<InputError<LineFault>> for Status {
+    ghost use Rattle.std.specs.Prelude.{◌≡◌};
+    ghost use Rattle.job_top.specs.Status.{of_box_error};
+
+    ghost from_gives = { λ error status. status ≡ of_box_error error };
+
+    fn from(error: InputError<LineFault>) -> Self {
+        match error {
+            InputError::ReadFault => Status::ReadFault,
+            InputError::TooLarge(limit) => Status::TooLarge(limit),
+            InputError::Fault(fault) => Status::BadInput(InputFault::BoxFile(fault)),
+            InputError::NoMemory => Status::NoMemory,
+        }
+    }
+}
+
+impl From<InputError<CaptureFault>> for Status {
+    ghost use Rattle.std.specs.Prelude.{◌≡◌};
+    ghost use Rattle.job_top.specs.Status.{of_capture_error};
+
+    ghost from_gives = { λ error status. status ≡ of_capture_error error };
+
+    fn from(error: InputError<CaptureFault>) -> Self {
+        match error {
+            InputError::ReadFault => Status::ReadFault,
+            InputError::TooLarge(limit) => Status::TooLarge(limit),
+            InputError::Fault(fault) => Status::BadInput(InputFault::Capture(fault)),
+            InputError::NoMemory => Status::NoMemory,
+        }
+    }
+}
+
+impl From<ReadError> for Status {
+    ghost use Rattle.std.specs.Prelude.{◌≡◌};
+    ghost use Rattle.job_top.specs.Status.{of_script_error};
+
+    ghost from_gives = { λ error status. status ≡ of_script_error error };
+
+    fn from(error: ReadError) -> Self {
+        match error {
+            ReadError::Failed => Status::ReadFault,
+            ReadError::TooLarge => Status::TooLarge(Limit::File),
+            ReadError::NoMemory => Status::NoMemory,
+        }
+    }
+}
+
+impl From<WriteError> for Status {
+    ghost use Rattle.std.specs.Prelude.{◌≡◌};
+    ghost use Rattle.job_top.specs.Status.{of_write_error};
+
+    ghost from_gives = { λ error status. status ≡ of_write_error error };
+
+    fn from(error: WriteError) -> Self {
+        match error {
+            WriteError::Failed => Status::WriteFault,
+            WriteError::NoMemory => Status::NoMemory,
         }
     }
 }

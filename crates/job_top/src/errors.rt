@@ -1,0 +1,86 @@
+use plain_text::{Limit, NoMemory};
+use world_io::OpenFault;
+
+/// Why a file was not read whole.
+#[derive(Clone, Copy, Debug, PartialEq, Eq)]
+pub enum ReadError {
+    /// It could not be opened, or reading failed.
+    Failed,
+    /// It has more than 67,108,864 bytes.
+    TooLarge,
+    NoMemory,
+}
+
+impl From<OpenFault> for ReadError {
+    ghost use Rattle.std.specs.Prelude.{◌≡◌};
+    ghost use Rattle.job_top.specs.Faults.{read_error_of};
+
+    ghost from_gives = { λ fault e. e ≡ read_error_of fault };
+
+    fn from(fault: OpenFault) -> Self {
+        match fault {
+            OpenFault::Failed => ReadError::Failed,
+            OpenFault::NoMemory => ReadError::NoMemory,
+        }
+    }
+}
+
+/// Why an input file, which is refused by faults of this type, was not accepted.
+#[derive(Clone, Copy, Debug, PartialEq, Eq)]
+pub enum InputError<F> {
+    /// It could not be opened, or reading failed.
+    ReadFault,
+    /// It passes this limit.
+    TooLarge(Limit),
+    /// It leaves its grammar.
+    Fault(F),
+    NoMemory,
+}
+
+impl<F> From<ReadError> for InputError<F> {
+    ghost use Rattle.std.specs.Prelude.{◌≡◌};
+    ghost use Rattle.job_top.specs.Faults.{input_error_of};
+
+    ghost from_gives = { λ error e. e ≡ input_error_of error };
+
+    fn from(error: ReadError) -> Self {
+        match error {
+            ReadError::Failed => InputError::ReadFault,
+            ReadError::TooLarge => InputError::TooLarge(Limit::File),
+            ReadError::NoMemory => InputError::NoMemory,
+        }
+    }
+}
+
+/// Why the outputs were not written whole.
+#[derive(Clone, Copy, Debug, PartialEq, Eq)]
+pub enum WriteError {
+    /// One could not be created, or writing failed.
+    Failed,
+    NoMemory,
+}
+
+impl From<NoMemory> for WriteError {
+    ghost use Rattle.std.specs.Prelude.{◌≡◌};
+    ghost use Rattle.job_top.specs.declared.errors.WriteError.TheVariants as error;
+
+    ghost from_gives = { λ _ e. e ≡ error.NoMemory };
+
+    fn from(_: NoMemory) -> Self {
+        WriteError::NoMemory
+    }
+}
+
+impl From<OpenFault> for WriteError {
+    ghost use Rattle.std.specs.Prelude.{◌≡◌};
+    ghost use Rattle.job_top.specs.Faults.{write_error_of};
+
+    ghost from_gives = { λ fault e. e ≡ write_error_of fault };
+
+    fn from(fault: OpenFault) -> Self {
+        match fault {
+            OpenFault::Failed => WriteError::Failed,
+            OpenFault::NoMemory => WriteError::NoMemory,
+        }
+    }
+}
