@@ -1,8 +1,9 @@
 -- What appending to a file of a name does to that name and to the others.
-use Rattle.std.proofs.Common.{◌≡◌, ℕ, List, [], ◌++◌, take, drop, refl, sym, ap, ◌∙◌, append-nil, append_assoc}
+use Rattle.std.proofs.Common.{◌≡◌, ℕ, List, [], ◌++◌, take, drop, refl, sym, ap, ◌∙◌, append-nil, append_assoc, subst, Result, Ok, Err}
+use Rattle.std.specs.Prelude.{OnErr}
 use Rattle.std.proofs.lemmas.List.{take-append-drop}
 use Rattle.world_io.specs.World.{Shown, WritesFile, CreatesFile}
-use Rattle.job_top.specs.Files.{report_file, IsFile, IsPrefix}
+use Rattle.job_top.specs.Files.{report_file, AppendsTo, IsFile, IsPrefix}
 
 pub prefix_none : (bytes : List ℕ) → IsPrefix [] bytes
 prefix_none bytes = (bytes, refl)
@@ -59,3 +60,17 @@ reported part a b w = record {
   report = w.sent;
   names = λ name. w.other_names name (λ no. absurd (no refl));
 }
+
+-- bytes that go by another name
+pub all_same : (file : ℕ) (bytes more : List ℕ) (a b : Shown) → bytes ≡ more → WritesFile file bytes a b → WritesFile file more a b
+all_same file bytes more a b e w = subst (λ (l : List ℕ). WritesFile file l a b) e w
+
+pub cut_same : (file : ℕ) (bytes more : List ℕ) (a b : Shown) → bytes ≡ more → ((n : ℕ) × WritesFile file (take n bytes) a b) → (n : ℕ) × WritesFile file (take n more) a b
+cut_same file bytes more a b e w = (w.0, subst (λ (l : List ℕ). WritesFile file (take w.0 l) a b) e w.1)
+
+pub appends_same : {A E : Type 0} (r : Result A E) (file : ℕ) (bytes more : List ℕ) (a b : Shown) → bytes ≡ more → AppendsTo r file bytes a b → AppendsTo r file more a b
+appends_same r file bytes more a b e w = subst (λ (l : List ℕ). AppendsTo r file l a b) e w
+
+pub on_err : {A E P : Type 0} (r : Result A E) → P → OnErr r P
+on_err (Ok done) p = tt
+on_err (Err error) p = p

@@ -15,8 +15,8 @@ use Rattle.box_conf.specs.BoxFile.{box_of}
 use Rattle.world_io.specs.World.{Shown}
 use Rattle.job_top.specs.declared.errors.InputError.{InputError}
 use Rattle.job_top.specs.declared.errors.InputError.TheVariants as error
-use Rattle.job_top.specs.declared.errors.ReadError.{ReadError}
-use Rattle.job_top.specs.declared.errors.ReadError.TheVariants as reading
+use Rattle.world_io.specs.declared.all.ReadError.{ReadError}
+use Rattle.world_io.specs.declared.all.ReadError.TheVariants as reading
 use Rattle.job_top.specs.declared.inputs.Capture.{Capture}
 use Rattle.job_top.specs.declared.status.Status.{Status}
 use Rattle.job_top.specs.declared.status.Status.TheVariants as status

@@ -1,8 +1,9 @@
 -- The outputs while they are created and written, step by step.
-use Rattle.std.proofs.Common.{◌≡◌, ℕ, List, [], ◌++◌, refl, sym, ap, ◌∙◌, append-nil, inl, inr, ◌⊎◌, Some, take}
+use Rattle.std.proofs.Common.{◌≡◌, ℕ, List, [], ◌++◌, refl, sym, ap, ◌∙◌, append-nil, inl, inr, ◌⊎◌, Some, take, Result, Ok, Err}
+use Rattle.std.specs.Prelude.{OnOk}
 use Rattle.world_io.specs.World.{Shown, CreatesFile, CreatesNothing, WritesFile}
 use Rattle.job_top.specs.declared.outputs.OutputFiles.{OutputFiles}
-use Rattle.job_top.specs.Files.{report_file, IsFile, IsPrefix, HasPrefix}
+use Rattle.job_top.specs.Files.{report_file, AppendsTo, IsFile, IsPrefix, HasPrefix}
 use Rattle.job_top.specs.Making.{Made, WritesMade, WritesMadeInOrder}
 use Rattle.job_top.specs.Outputs.{Output, released_of, HasHeader, HasOutputs, OpensOutputs, WritesInOrder, WritesWhole}
 use Rattle.job_top.specs.Words.{RunNames}
@@ -123,14 +124,14 @@ module _ (names : RunNames) (output : Output) (a : Shown) (apart : names.release
             in_order output.records output.schedule part e (prefix_all output.records) (prefix_all output.schedule) is_part released scheduled
             (y.report ∙ ap (λ l. l ++ part) (x.report ∙ w.report ∙ opened.report)) (inr (released, scheduled)) (λ name u v. y.names name ∙ x.others name v ∙ w.others name u)
 
-        pub cut_report : (n : ℕ) (e : Shown) → WritesFile report_file (take n output.report) d e → WritesInOrder names output a e
-        cut_report n e writes = part_reported (take n output.report) e (prefix_take n output.report) writes
+        -- and then the report was written, or cut short
+        pub report_in_order : {A E : Type 0} (r : Result A E) (e : Shown) → AppendsTo r report_file output.report d e → WritesInOrder names output a e
+        report_in_order (Ok done) e writes = part_reported output.report e (prefix_all output.report) writes
+        report_in_order (Err error) e writes = part_reported (take writes.0 output.report) e (prefix_take writes.0 output.report) writes.1
 
-        pub all_in_order : (e : Shown) → WritesFile report_file output.report d e → WritesInOrder names output a e
-        all_in_order e writes = part_reported output.report e (prefix_all output.report) writes
-
-        pub all_whole : (e : Shown) → WritesFile report_file output.report d e → WritesWhole names output a e
-        all_whole e writes =
+        pub report_whole : {A E : Type 0} (r : Result A E) (e : Shown) → AppendsTo r report_file output.report d e → OnOk r (WritesWhole names output a e)
+        report_whole (Err error) e writes = tt
+        report_whole (Ok done) e writes =
             let y : Reported output.report d e = reported output.report d e writes in
             record {
               released = y.names names.released ∙ x.others names.released apart ∙ w.own.bytes_are;
@@ -141,7 +142,7 @@ module _ (names : RunNames) (output : Output) (a : Shown) (apart : names.release
 
 -- The output of `make`, whose capture has a header and records.
 module _ (name header records report : List ℕ) (a : Shown) where
-  made : Made
+  abbrev made : Made
   made = record { capture = header ++ records; report = report }
 
   -- it could not be created
@@ -173,50 +174,50 @@ module _ (name header records report : List ℕ) (a : Shown) where
         }
 
     module _ (c : Shown) (first : WritesFile file header b c) where
-      w : Appended file name [] header b c
-      w = appended file name [] header b c is_file first
+      headed : Appended file name [] header b c
+      headed = appended file name [] header b c is_file first
 
       -- its records were cut short
       pub cut_made_records : (n : ℕ) (d : Shown) → WritesFile file (take n records) c d → WritesMadeInOrder name made a d
       cut_made_records n d writes =
-          let x : Appended file name header (take n records) c d = appended file name header (take n records) c d w.own writes in
+          let x : Appended file name header (take n records) c d = appended file name header (take n records) c d headed.own writes in
           record {
             capture = inr (header ++ take n records, x.own.bytes_are, prefix_past header (take n records) records (prefix_take n records));
             report_part = [];
             report_prefix = prefix_none report;
-            reported = unreported a d (x.report ∙ w.report ∙ created.other_sent report_file (λ e. some (sym e)));
+            reported = unreported a d (x.report ∙ headed.report ∙ created.other_sent report_file (λ e. some (sym e)));
             report_after = inl refl;
-            others = λ other n. x.others other n ∙ w.others other n ∙ created.other_names other n;
+            others = λ other n. x.others other n ∙ headed.others other n ∙ created.other_names other n;
           }
 
       module _ (d : Shown) (second : WritesFile file records c d) where
-        x : Appended file name header records c d
-        x = appended file name header records c d w.own second
+        filled : Appended file name header records c d
+        filled = appended file name header records c d headed.own second
 
         part_of_report : (part : List ℕ) (e : Shown) → IsPrefix part report → WritesFile report_file part d e → WritesMadeInOrder name made a e
         part_of_report part e is_part writes =
             let y : Reported part d e = reported part d e writes in
-            let whole : e.names name ≡ Some (header ++ records) = y.names name ∙ x.own.bytes_are in
+            let whole : e.names name ≡ Some (header ++ records) = y.names name ∙ filled.own.bytes_are in
             record {
               capture = inr (header ++ records, whole, prefix_all (header ++ records));
               report_part = part;
               report_prefix = is_part;
-              reported = y.report ∙ ap (λ l. l ++ part) (x.report ∙ w.report ∙ created.other_sent report_file (λ q. some (sym q)));
+              reported = y.report ∙ ap (λ l. l ++ part) (filled.report ∙ headed.report ∙ created.other_sent report_file (λ q. some (sym q)));
               report_after = inr whole;
-              others = λ other n. y.names other ∙ x.others other n ∙ w.others other n ∙ created.other_names other n;
+              others = λ other n. y.names other ∙ filled.others other n ∙ headed.others other n ∙ created.other_names other n;
             }
 
-        pub cut_made_report : (n : ℕ) (e : Shown) → WritesFile report_file (take n report) d e → WritesMadeInOrder name made a e
-        cut_made_report n e writes = part_of_report (take n report) e (prefix_take n report) writes
+        -- and then the report was written, or cut short
+        pub made_in_order : {A E : Type 0} (r : Result A E) (e : Shown) → AppendsTo r report_file report d e → WritesMadeInOrder name made a e
+        made_in_order (Ok done) e writes = part_of_report report e (prefix_all report) writes
+        made_in_order (Err error) e writes = part_of_report (take writes.0 report) e (prefix_take writes.0 report) writes.1
 
-        pub all_made_in_order : (e : Shown) → WritesFile report_file report d e → WritesMadeInOrder name made a e
-        all_made_in_order e writes = part_of_report report e (prefix_all report) writes
-
-        pub all_made : (e : Shown) → WritesFile report_file report d e → WritesMade name made a e
-        all_made e writes =
+        pub made_whole : {A E : Type 0} (r : Result A E) (e : Shown) → AppendsTo r report_file report d e → OnOk r (WritesMade name made a e)
+        made_whole (Err error) e writes = tt
+        made_whole (Ok done) e writes =
             let y : Reported report d e = reported report d e writes in
             record {
-              whole = y.names name ∙ x.own.bytes_are;
-              reported = y.report ∙ ap (λ l. l ++ report) (x.report ∙ w.report ∙ created.other_sent report_file (λ q. some (sym q)));
-              others = λ other n. y.names other ∙ x.others other n ∙ w.others other n ∙ created.other_names other n;
+              whole = y.names name ∙ filled.own.bytes_are;
+              reported = y.report ∙ ap (λ l. l ++ report) (filled.report ∙ headed.report ∙ created.other_sent report_file (λ q. some (sym q)));
+              others = λ other n. y.names other ∙ filled.others other n ∙ headed.others other n ∙ created.other_names other n;
             }

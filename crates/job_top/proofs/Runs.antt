@@ -1,9 +1,10 @@
 -- A run that read its inputs and then wrote its outputs, from what the two came to.
 use Rattle.std.proofs.Common.{◌≡◌, ℕ, List, Result, Ok, Err, refl, sym, ap, ◌∙◌, inl, inr, ◌⊎◌}
+use Rattle.std.specs.Prelude.{OnOk}
 use Rattle.plain_machine.specs.Program.{Meaning}
 use Rattle.world_io.specs.World.{Shown}
-use Rattle.job_top.specs.declared.errors.WriteError.{WriteError}
-use Rattle.job_top.specs.declared.errors.WriteError.TheVariants.{Failed, NoMemory}
+use Rattle.job_top.specs.declared.errors.OutputError.{OutputError}
+use Rattle.job_top.specs.declared.errors.OutputError.TheVariants.{WriteFault, NoMemory}
 use Rattle.job_top.specs.declared.inputs.Inputs.{Inputs}
 use Rattle.job_top.specs.declared.status.Status.TheVariants as status
 use Rattle.job_top.specs.Files.{KeepsOutputs, HasPrefix}
@@ -61,8 +62,14 @@ module _ (names : RunNames) (old mid new : Shown) (kept : KeepsOutputs old mid) 
   in_order_run inputs accepted (inr ran) = inr (inputs, accepted, inr (ran.0, ran.1, in_order_after ran.0 ran.2))
 
 -- once the inputs are accepted
-pub outcome_judged : {A : Type 0} (healthy : Type 0) (names : RunNames) (inputs : Inputs) (shown : Shown) (written : Result A WriteError)
-    → (healthy → written ≡ Err Failed → ⊥) → AcceptsInputs names inputs shown → Judges healthy names (outcome_of written) shown
+pub outcome_judged : {A : Type 0} (healthy : Type 0) (names : RunNames) (inputs : Inputs) (shown : Shown) (written : Result A OutputError)
+    → (healthy → written ≡ Err WriteFault → ⊥) → AcceptsInputs names inputs shown → Judges healthy names (outcome_of written) shown
 outcome_judged healthy names inputs shown (Ok done) never accepted = (inputs, accepted)
-outcome_judged healthy names inputs shown (Err Failed) never accepted = ((λ ok. never ok refl), (inputs, accepted))
+outcome_judged healthy names inputs shown (Err WriteFault) never accepted = ((λ ok. never ok refl), (inputs, accepted))
 outcome_judged healthy names inputs shown (Err NoMemory) never accepted = tt
+
+-- what was written is whole where the command is done
+pub done_whole : {A P : Type 0} (written : Result A OutputError) → outcome_of written ≡ status.Done → OnOk written P → P
+done_whole (Ok done) e p = p
+done_whole (Err WriteFault) e p = absurd (cc)
+done_whole (Err NoMemory) e p = absurd (cc)

@@ -1,9 +1,9 @@
 -- Whole files of a world: what reading one gives, and what writing one does.
 use Rattle.std.specs.Prelude.{◌≡◌, ◌⊎◌, ℕ, ◌+◌, ◌<◌, ◌≤◌, List, ◌++◌, length, take, Option, Some, None, Result, Ok, Err}
 use Rattle.world_io.specs.World.{Shown, Ledger, WritesFile}
-use Rattle.job_top.specs.declared.errors.ReadError.{ReadError}
-use Rattle.job_top.specs.declared.errors.ReadError.TheVariants.{Failed, TooLarge, NoMemory}
-use Rattle.job_top.specs.Limits.{most_file_bytes}
+use Rattle.world_io.specs.declared.all.ReadError.{ReadError}
+use Rattle.world_io.specs.declared.all.ReadError.TheVariants.{Failed, TooLarge, NoMemory}
+use Rattle.plain_text.specs.declared.limit.TheConstants.{MOST_FILE_BYTES}
 
 -- the report has this number, and is there from the beginning
 abbrev pub report_file : ℕ
@@ -11,11 +11,11 @@ report_file = 0
 
 -- the name has these bytes, which are within the limit of a file
 abbrev pub HasBytes : List ℕ → Shown → List ℕ → Type 0
-HasBytes name shown bytes = (shown.names name ≡ Some bytes) × (length bytes ≤ most_file_bytes)
+HasBytes name shown bytes = (shown.names name ≡ Some bytes) × (length bytes ≤ MOST_FILE_BYTES)
 
 -- the name has more bytes than the limit of a file
 abbrev pub HasTooMany : List ℕ → Shown → Type 0
-HasTooMany name shown = (bytes : List ℕ) × (shown.names name ≡ Some bytes) × (most_file_bytes < length bytes)
+HasTooMany name shown = (bytes : List ℕ) × (shown.names name ≡ Some bytes) × (MOST_FILE_BYTES < length bytes)
 
 abbrev pub IsMissing : List ℕ → Shown → Type 0
 IsMissing name shown = shown.names name ≡ None

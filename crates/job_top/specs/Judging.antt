@@ -11,8 +11,8 @@ use Rattle.box_conf.specs.declared.kind.BoxConf.{BoxConf}
 use Rattle.world_io.specs.World.{Shown}
 use Rattle.job_top.specs.declared.errors.InputError.{InputError}
 use Rattle.job_top.specs.declared.errors.InputError.TheVariants as error
-use Rattle.job_top.specs.declared.errors.ReadError.{ReadError}
-use Rattle.job_top.specs.declared.errors.ReadError.TheVariants as reading
+use Rattle.world_io.specs.declared.all.ReadError.{ReadError}
+use Rattle.world_io.specs.declared.all.ReadError.TheVariants as reading
 use Rattle.job_top.specs.declared.inputs.Capture.{Capture}
 use Rattle.job_top.specs.declared.inputs.Inputs.{Inputs}
 use Rattle.job_top.specs.declared.status.Status.{Status}
@@ -20,7 +20,6 @@ use Rattle.job_top.specs.declared.status.Status.TheVariants as status
 use Rattle.job_top.specs.declared.status.InputFault.TheVariants as input
 use Rattle.job_top.specs.Files.{HasTooMany, IsMissing}
 use Rattle.job_top.specs.Inputs.{AcceptsBox, FaultsBox, AcceptsCapture, FaultsCapture, PassesCapture, ReadsScript}
-use Rattle.job_top.specs.Status.{Stage, AtInputs, stage_of, ComesAt}
 use Rattle.job_top.specs.Words.{RunNames}
 
 -- what reading the box file answers
@@ -102,7 +101,7 @@ Judges healthy names status.NotBuilt shown = AsksForAnother names shown
 -- what reading all inputs answers: they are accepted, or the status that ends the command
 abbrev pub JudgesInputs : Type 0 → RunNames → Result Inputs Status → Shown → Type 0
 JudgesInputs healthy names (Ok inputs) shown = AcceptsInputs names inputs shown
-JudgesInputs healthy names (Err status) shown = Judges healthy names status shown × ComesAt AtInputs status
+JudgesInputs healthy names (Err status) shown = Judges healthy names status shown
 
 -- The statuses that the input files decide. A fault of the outside is decided by them in a healthy world alone.
 abbrev pub IsDecided : Type 0 → Status → Type 0

@@ -4,7 +4,6 @@ pub mod Files
 pub mod Inputs
 pub mod Judging
 pub mod Kinds
-pub mod Limits
 pub mod Making
 pub mod Outputs
 pub mod Progress

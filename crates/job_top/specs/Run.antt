@@ -10,7 +10,7 @@ use Rattle.world_io.specs.World.{Shown}
 use Rattle.job_top.specs.declared.inputs.Inputs.{Inputs}
 use Rattle.job_top.specs.Judging.{AcceptsInputs}
 use Rattle.job_top.specs.Kinds.{meaning_of}
-use Rattle.job_top.specs.Limits.{most_packets}
+use Rattle.plain_text.specs.declared.limit.TheConstants.{MOST_PACKETS}
 use Rattle.job_top.specs.Outputs.{Output, WritesInOrder, WritesWhole}
 use Rattle.job_top.specs.Report.{report_text}
 use Rattle.job_top.specs.Running.{IsSettled, IsShort}
@@ -25,7 +25,7 @@ pub record KeepsShown (old new : Shown) : Type 0 where
 pub record CanRun (inputs : Inputs) : Type 0 where
   pub some_threads : 1 ≤ inputs.conf.threads
   pub few_threads : inputs.conf.threads ≤ 16
-  pub few_packets : length inputs.capture.packets ≤ most_packets
+  pub few_packets : length inputs.capture.packets ≤ MOST_PACKETS
   pub short : All IsShort inputs.capture.packets
 
 -- what is written of these moves and of these packets that they sent out

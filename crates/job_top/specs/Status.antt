@@ -5,10 +5,10 @@ use Rattle.plain_text.specs.declared.limit.Limit.TheVariants.{File}
 use Rattle.pcap_io.specs.declared.fault.CaptureFault.{CaptureFault}
 use Rattle.job_top.specs.declared.errors.InputError.{InputError}
 use Rattle.job_top.specs.declared.errors.InputError.TheVariants as of_input
-use Rattle.job_top.specs.declared.errors.ReadError.{ReadError}
-use Rattle.job_top.specs.declared.errors.ReadError.TheVariants as of_reading
-use Rattle.job_top.specs.declared.errors.WriteError.{WriteError}
-use Rattle.job_top.specs.declared.errors.WriteError.TheVariants as of_writing
+use Rattle.world_io.specs.declared.all.ReadError.{ReadError}
+use Rattle.world_io.specs.declared.all.ReadError.TheVariants as of_reading
+use Rattle.job_top.specs.declared.errors.OutputError.{OutputError}
+use Rattle.job_top.specs.declared.errors.OutputError.TheVariants as of_output
 use Rattle.job_top.specs.declared.status.InputFault.TheVariants.{BoxFile, Capture}
 use Rattle.job_top.specs.declared.status.Status.{Status}
 use Rattle.job_top.specs.declared.status.Status.TheVariants.{Done, BadWords, ReadFault, WriteFault, NoMemory, BadInput, TooLarge, NotBuilt}
@@ -63,11 +63,15 @@ of_capture_error of_input.NoMemory = NoMemory
 of_capture_error (of_input.TooLarge limit) = TooLarge limit
 of_capture_error (of_input.Fault fault) = BadInput (Capture fault)
 
-abbrev pub of_write_error : WriteError → Status
-of_write_error of_writing.Failed = WriteFault
-of_write_error of_writing.NoMemory = NoMemory
+abbrev pub of_output_error : OutputError → Status
+of_output_error of_output.WriteFault = WriteFault
+of_output_error of_output.NoMemory = NoMemory
 
 -- what a command comes to whose outputs were written so
-abbrev pub outcome_of : {A : Type 0} → Result A WriteError → Status
+abbrev pub outcome_of : {A : Type 0} → Result A OutputError → Status
 outcome_of (Ok done) = Done
-outcome_of (Err error) = of_write_error error
+outcome_of (Err error) = of_output_error error
+
+-- the command is done, or memory ran out
+abbrev pub Completes : Status → Type 0
+Completes status = (status ≡ Done) ⊎ (status ≡ NoMemory)

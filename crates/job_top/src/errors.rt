@@ -1,29 +1,5 @@
 use plain_text::{Limit, NoMemory};
-use world_io::OpenFault;
-
-/// Why a file was not read whole.
-#[derive(Clone, Copy, Debug, PartialEq, Eq)]
-pub enum ReadError {
-    /// It could not be opened, or reading failed.
-    Failed,
-    /// It has more than 67,108,864 bytes.
-    TooLarge,
-    NoMemory,
-}
-
-impl From<OpenFault> for ReadError {
-    ghost use Rattle.std.specs.Prelude.{◌≡◌};
-    ghost use Rattle.job_top.specs.Faults.{read_error_of};
-
-    ghost from_gives = { λ fault e. e ≡ read_error_of fault };
-
-    fn from(fault: OpenFault) -> Self {
-        match fault {
-            OpenFault::Failed => ReadError::Failed,
-            OpenFault::NoMemory => ReadError::NoMemory,
-        }
-    }
-}
+use world_io::{OpenFault, ReadError};
 
 /// Why an input file, which is refused by faults of this type, was not accepted.
 #[derive(Clone, Copy, Debug, PartialEq, Eq)]
@@ -54,33 +30,33 @@ impl<F> From<ReadError> for InputError<F> {
 
 /// Why the outputs were not written whole.
 #[derive(Clone, Copy, Debug, PartialEq, Eq)]
-pub enum WriteError {
+pub enum OutputError {
     /// One could not be created, or writing failed.
-    Failed,
+    WriteFault,
     NoMemory,
 }
 
-impl From<NoMemory> for WriteError {
+impl From<NoMemory> for OutputError {
     ghost use Rattle.std.specs.Prelude.{◌≡◌};
-    ghost use Rattle.job_top.specs.declared.errors.WriteError.TheVariants as error;
+    ghost use Rattle.job_top.specs.declared.errors.OutputError.TheVariants as error;
 
     ghost from_gives = { λ _ e. e ≡ error.NoMemory };
 
     fn from(_: NoMemory) -> Self {
-        WriteError::NoMemory
+        OutputError::NoMemory
     }
 }
 
-impl From<OpenFault> for WriteError {
+impl From<OpenFault> for OutputError {
     ghost use Rattle.std.specs.Prelude.{◌≡◌};
-    ghost use Rattle.job_top.specs.Faults.{write_error_of};
+    ghost use Rattle.job_top.specs.Faults.{output_error_of};
 
-    ghost from_gives = { λ fault e. e ≡ write_error_of fault };
+    ghost from_gives = { λ fault e. e ≡ output_error_of fault };
 
     fn from(fault: OpenFault) -> Self {
         match fault {
-            OpenFault::Failed => WriteError::Failed,
-            OpenFault::NoMemory => WriteError::NoMemory,
+            OpenFault::Failed => OutputError::WriteFault,
+            OpenFault::NoMemory => OutputError::NoMemory,
         }
     }
 }

@@ -2,15 +2,15 @@ ghost use Rattle.std.specs.Prelude.{◌≡◌, ◌<◌, ◌≤◌, ◌-◌, ◌^
 ghost use Rattle.world_io.specs.Stream.{Rose};
 ghost use Rattle.job_top.specs.Files.{KeepsOutputs, AfterReading};
 ghost use Rattle.job_top.specs.Judging.{JudgesBox, JudgesCapture, JudgesScript};
-ghost use Rattle.job_top.specs.Limits.{most_packets};
+ghost use Rattle.plain_text.specs.declared.limit.TheConstants.{MOST_PACKETS};
 ghost use Rattle.job_top.specs.Running.{IsShort};
 
-use crate::{InputError, ReadError, is_settle, read_file};
+use crate::{InputError, is_settle, read_file};
 use box_conf::{BoxConf, ConfError, read_box};
 use pcap_io::{CaptureFault, Captured, read_capture};
 use plain_text::{LineFault, Packets, Text, Unit};
 use std::alloc::Global;
-use world_io::{SliceSource, World};
+use world_io::{ReadError, SliceSource, World};
 
 /// The packets of a capture, and what their fractions count.
 #[derive(Debug, Drop)]
@@ -33,12 +33,14 @@ pub fn read_box_file<W: World>(
     name: &Text,
 ) -> Result<BoxConf, InputError<LineFault>>
     requires { (W.ledger world.old).given < 2 ^ 32 - 1 }
-    ensures judged { IsTrue W.tells → JudgesBox ⊥ name.now result (W.shown world.old) }
+    ensures judged { IsTrue W.tells
+        → JudgesBox (W.healthy world.old) name.now result (W.shown world.old) }
     ensures threads { IfOk result (λ conf. (1 ≤ conf.threads) × (conf.threads ≤ 16)) }
     ensures outputs { IsTrue W.tells → KeepsOutputs (W.shown world.old) (W.shown world.new) }
     ensures ledger { AfterReading (W.ledger world.old) (W.ledger world.new) }
     ensures cause { IsErrOf result InputError.ReadFault
         → Rose (W.ledger world.old).read_faults (W.ledger world.new).read_faults }
+    ensures stays_healthy { W.healthy world.old → W.healthy world.new }
 {
     let bytes = read_file(alloc, world, name)?;
     match read_box(alloc, bytes.as_slice()) {
@@ -55,13 +57,15 @@ pub fn read_capture_file<W: World>(
     name: &Text,
 ) -> Result<Capture, InputError<CaptureFault>>
     requires { (W.ledger world.old).given < 2 ^ 32 - 1 }
-    ensures judged { IsTrue W.tells → JudgesCapture ⊥ name.now result (W.shown world.old) }
-    ensures few { IfOk result (λ capture. length capture.packets ≤ most_packets) }
+    ensures judged { IsTrue W.tells
+        → JudgesCapture (W.healthy world.old) name.now result (W.shown world.old) }
+    ensures few { IfOk result (λ capture. length capture.packets ≤ MOST_PACKETS) }
     ensures short { IfOk result (λ capture. All IsShort capture.packets) }
     ensures outputs { IsTrue W.tells → KeepsOutputs (W.shown world.old) (W.shown world.new) }
     ensures ledger { AfterReading (W.ledger world.old) (W.ledger world.new) }
     ensures cause { IsErrOf result InputError.ReadFault
         → Rose (W.ledger world.old).read_faults (W.ledger world.new).read_faults }
+    ensures stays_healthy { W.healthy world.old → W.healthy world.new }
 {
     let bytes = read_file(alloc, world, name)?;
     match read_capture(alloc, &mut SliceSource::of(bytes.as_slice())) {
@@ -80,11 +84,13 @@ pub fn read_script_file<W: World>(
     name: &Text,
 ) -> Result<bool, ReadError>
     requires { (W.ledger world.old).given < 2 ^ 32 - 1 }
-    ensures judged { IsTrue W.tells → JudgesScript ⊥ name.now result (W.shown world.old) }
+    ensures judged { IsTrue W.tells
+        → JudgesScript (W.healthy world.old) name.now result (W.shown world.old) }
     ensures outputs { IsTrue W.tells → KeepsOutputs (W.shown world.old) (W.shown world.new) }
     ensures ledger { AfterReading (W.ledger world.old) (W.ledger world.new) }
     ensures cause { IsErrOf result ReadError.Failed
         → Rose (W.ledger world.old).read_faults (W.ledger world.new).read_faults }
+    ensures stays_healthy { W.healthy world.old → W.healthy world.new }
 {
     let bytes = read_file(alloc, world, name)?;
     Ok(is_settle(bytes.as_slice()))

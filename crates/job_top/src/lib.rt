@@ -20,7 +20,7 @@ mod top;
 mod writing;
 
 pub use command::{Command, read_command};
-pub use errors::{InputError, ReadError, WriteError};
+pub use errors::{InputError, OutputError};
 pub use inputs::{Capture, Inputs, read_box_file, read_capture_file, read_script_file};
 pub use laws::{moves_of_each_box, one_verdict};
 pub use make_words::{MakeWords, read_make_words};

@@ -3,12 +3,12 @@ ghost use Rattle.pcap_io.specs.Capture.{records_of};
 ghost use Rattle.pcap_io.specs.declared.order.Order.TheVariants as order;
 ghost use Rattle.traffic_gen.specs.Generated.{generated};
 ghost use Rattle.world_io.specs.Stream.{Rose};
-ghost use Rattle.job_top.specs.Limits.{most_packets};
+ghost use Rattle.plain_text.specs.declared.limit.TheConstants.{MOST_PACKETS};
 ghost use Rattle.job_top.specs.Making.{MakesInOrder, MakesWhole, WritesMade, WritesMadeInOrder, made_by, made_from, made_text};
 ghost use Rattle.job_top.specs.Outputs.{AfterWriting};
 ghost use Rattle.job_top.specs.Words.{made_of};
 
-use crate::{MakeWords, REPORT, WriteError, append, put_records};
+use crate::{MakeWords, REPORT, OutputError, append, put_records};
 use pcap_io::put_header;
 use plain_text::{Bytes, NoMemory, Text, Unit, put_u64};
 use std::alloc::Global;
@@ -27,7 +27,7 @@ struct MadeTexts {
 
 /// The records of as many packets of a seed.
 fn make_records(alloc: Global, seed: u64, count: u64) -> Result<Bytes, NoMemory>
-    requires { count ≤ most_packets }
+    requires { count ≤ MOST_PACKETS }
     ensures { IfOk result (λ records. records ≡ records_of order.Little (generated seed count)) }
 {
     let packets = make(alloc, seed, count)?;
@@ -46,7 +46,7 @@ fn put_made(alloc: Global, count: u64) -> Result<Bytes, NoMemory>
 
 /// What these words make.
 fn make_texts(alloc: Global, words: MakeWords<'_>) -> Result<MadeTexts, NoMemory>
-    requires { words.count ≤ most_packets }
+    requires { words.count ≤ MOST_PACKETS }
     ensures { IfOk result (λ texts. made_by texts ≡ made_from (made_of words.entry)) }
 {
     Ok(MadeTexts {
@@ -61,15 +61,16 @@ fn write_capture<W: World>(
     world: &mut W,
     name: &Text,
     texts: &MadeTexts,
-) -> Result<(), WriteError>
+) -> Result<(), OutputError>
     requires room { (W.ledger world.old).given < 2 ^ 32 - 1 }
     ensures whole { IsTrue W.tells → OnOk result
         (WritesMade name.now (made_by texts.now) (W.shown world.old) (W.shown world.new)) }
     ensures in_order { IsTrue W.tells
         → WritesMadeInOrder name.now (made_by texts.now) (W.shown world.old) (W.shown world.new) }
     ensures ledger { AfterWriting (W.ledger world.old) (W.ledger world.new) }
-    ensures cause { IsErrOf result WriteError.Failed
+    ensures cause { IsErrOf result OutputError.WriteFault
         → Rose (W.ledger world.old).write_faults (W.ledger world.new).write_faults }
+    ensures never_fails { W.healthy world.old → ¬ IsErrOf result OutputError.WriteFault }
 {
     let file = world.create_file(name)?;
     append(world, file, &texts.header)?;
@@ -82,16 +83,17 @@ pub fn make_capture<W: World>(
     alloc: Global,
     world: &mut W,
     words: MakeWords<'_>,
-) -> Result<(), WriteError>
+) -> Result<(), OutputError>
     requires room { (W.ledger world.old).given < 2 ^ 32 - 1 }
-    requires few { words.count ≤ most_packets }
+    requires few { words.count ≤ MOST_PACKETS }
     ensures whole { IsTrue W.tells → OnOk result
         (MakesWhole (made_of words.entry) (W.shown world.old) (W.shown world.new)) }
     ensures in_order { IsTrue W.tells
         → MakesInOrder (made_of words.entry) (W.shown world.old) (W.shown world.new) }
     ensures ledger { AfterWriting (W.ledger world.old) (W.ledger world.new) }
-    ensures cause { IsErrOf result WriteError.Failed
+    ensures cause { IsErrOf result OutputError.WriteFault
         → Rose (W.ledger world.old).write_faults (W.ledger world.new).write_faults }
+    ensures never_fails { W.healthy world.old → ¬ IsErrOf result OutputError.WriteFault }
 {
     let texts = make_texts(alloc, words)?;
     write_capture(world, words.capture, &texts)

@@ -4,7 +4,7 @@ ghost use Rattle.world_io.specs.World.{Shown, KeepsLedgerWriting, is_writable};
 ghost use Rattle.job_top.specs.Outputs.{AfterWriting, OpensOutputs, WritesInOrder, WritesWhole, output_of};
 ghost use Rattle.job_top.specs.Words.{RunNames, names_of};
 
-use crate::{REPORT, RunWords, WriteError, append};
+use crate::{REPORT, RunWords, OutputError, append};
 use plain_text::Bytes;
 use world_io::World;
 
@@ -31,7 +31,7 @@ fn open_outputs<W: World>(
     world: &mut W,
     names: RunWords<'_>,
     texts: &RunTexts,
-) -> Result<OutputFiles, WriteError>
+) -> Result<OutputFiles, OutputError>
     requires room { (W.ledger world.old).given < 2 ^ 32 - 2 }
     requires apart { names.released.now ≡ names.schedule.now → ⊥ }
     ensures opened { IsTrue W.tells → IfOk result (λ files. OpensOutputs files (names_of names.entry)
@@ -41,8 +41,10 @@ fn open_outputs<W: World>(
     ensures in_order { IsTrue W.tells → OnErr result (WritesInOrder (names_of names.entry)
         (output_of texts.now) (W.shown world.old) (W.shown world.new)) }
     ensures ledger { AfterWriting (W.ledger world.old) (W.ledger world.new) }
-    ensures cause { IsErrOf result WriteError.Failed
+    ensures cause { IsErrOf result OutputError.WriteFault
         → Rose (W.ledger world.old).write_faults (W.ledger world.new).write_faults }
+    ensures never_fails { W.healthy world.old → ¬ IsErrOf result OutputError.WriteFault }
+    ensures stays_healthy { W.healthy world.old → W.healthy world.new }
 {
     let released = world.create_file(names.released)?;
     append(world, released, &texts.header)?;
@@ -55,7 +57,7 @@ fn fill_outputs<W: World>(
     world: &mut W,
     files: OutputFiles,
     texts: &RunTexts,
-) -> Result<(), WriteError>
+) -> Result<(), OutputError>
     requires released { IsTrue (is_writable (W.ledger world.old) files.released) }
     requires schedule { IsTrue (is_writable (W.ledger world.old) files.schedule) }
     ensures whole { IsTrue W.tells → (names : RunNames) (before : Shown)
@@ -67,8 +69,9 @@ fn fill_outputs<W: World>(
         → OpensOutputs files names (output_of texts.now) before (W.shown world.old)
         → WritesInOrder names (output_of texts.now) before (W.shown world.new) }
     ensures ledger { KeepsLedgerWriting (W.ledger world.old) (W.ledger world.new) }
-    ensures cause { IsErrOf result WriteError.Failed
+    ensures cause { IsErrOf result OutputError.WriteFault
         → Rose (W.ledger world.old).write_faults (W.ledger world.new).write_faults }
+    ensures never_fails { W.healthy world.old → ¬ IsErrOf result OutputError.WriteFault }
 {
     append(world, files.released, texts.records.as_slice())?;
     append(world, files.schedule, texts.schedule.as_slice())?;
@@ -81,7 +84,7 @@ pub fn write_outputs<W: World>(
     world: &mut W,
     names: RunWords<'_>,
     texts: &RunTexts,
-) -> Result<(), WriteError>
+) -> Result<(), OutputError>
     requires room { (W.ledger world.old).given < 2 ^ 32 - 2 }
     requires apart { names.released.now ≡ names.schedule.now → ⊥ }
     ensures whole { IsTrue W.tells → OnOk result (WritesWhole (names_of names.entry)
@@ -89,8 +92,9 @@ pub fn write_outputs<W: World>(
     ensures in_order { IsTrue W.tells → WritesInOrder (names_of names.entry)
         (output_of texts.now) (W.shown world.old) (W.shown world.new) }
     ensures ledger { AfterWriting (W.ledger world.old) (W.ledger world.new) }
-    ensures cause { IsErrOf result WriteError.Failed
+    ensures cause { IsErrOf result OutputError.WriteFault
         → Rose (W.ledger world.old).write_faults (W.ledger world.new).write_faults }
+    ensures never_fails { W.healthy world.old → ¬ IsErrOf result OutputError.WriteFault }
 {
     let files = open_outputs(world, names, texts)?;
     fill_outputs(world, files, texts)

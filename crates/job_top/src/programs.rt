@@ -6,7 +6,7 @@ ghost use Rattle.job_top.specs.Running.{IsStraight};
 ghost use Rattle.job_top.specs.Words.{names_of};
 
 use crate::{
-    Inputs, RunTexts, RunWords, WriteError, play_packets, put_records, put_report, write_outputs,
+    Inputs, RunTexts, RunWords, OutputError, play_packets, put_records, put_report, write_outputs,
 };
 use box_program::Program;
 use pcap_io::put_header;
@@ -47,7 +47,7 @@ pub fn run_program<P: Program, W: World>(
     names: RunWords<'_>,
     inputs: &Inputs,
     program: &P,
-) -> Result<(), WriteError>
+) -> Result<(), OutputError>
     requires straight { IsStraight (P.meaning program.now) (P.fits program.now) }
     requires inputs { CanRun inputs.now }
     requires room { (W.ledger world.old).given < 2 ^ 32 - 2 }
@@ -57,8 +57,9 @@ pub fn run_program<P: Program, W: World>(
     ensures in_order { IsTrue W.tells → GivesInOrder (P.meaning program.now) inputs.now
         (names_of names.entry) (W.shown world.old) (W.shown world.new) }
     ensures ledger { AfterWriting (W.ledger world.old) (W.ledger world.new) }
-    ensures cause { IsErrOf result WriteError.Failed
+    ensures cause { IsErrOf result OutputError.WriteFault
         → Rose (W.ledger world.old).write_faults (W.ledger world.new).write_faults }
+    ensures never_fails { W.healthy world.old → ¬ IsErrOf result OutputError.WriteFault }
 {
     let texts = run_texts(alloc, program, inputs)?;
     write_outputs(world, names, &texts)

@@ -1,10 +1,11 @@
 ghost use Rattle.std.specs.Prelude.{◌≡◌};
 ghost use Rattle.job_top.specs.Status.{exit_code_of};
 
-use crate::{InputError, ReadError, WriteError};
+use crate::{InputError, OutputError};
 use pcap_io::CaptureFault;
 use plain_text::{Limit, LineFault};
 use thiserror::Error;
+use world_io::ReadError;
 
 /// An input file that leaves its grammar: which, where and why.
 #[derive(Clone, Copy, Debug, PartialEq, Eq, Error)]
@@ -106,16 +107,16 @@ impl From<ReadError> for Status {
     }
 }
 
-impl From<WriteError> for Status {
+impl From<OutputError> for Status {
     ghost use Rattle.std.specs.Prelude.{◌≡◌};
-    ghost use Rattle.job_top.specs.Status.{of_write_error};
+    ghost use Rattle.job_top.specs.Status.{of_output_error};
 
-    ghost from_gives = { λ error status. status ≡ of_write_error error };
+    ghost from_gives = { λ error status. status ≡ of_output_error error };
 
-    fn from(error: WriteError) -> Self {
+    fn from(error: OutputError) -> Self {
         match error {
-            WriteError::Failed => Status::WriteFault,
-            WriteError::NoMemory => Status::NoMemory,
+            OutputError::WriteFault => Status::WriteFault,
+            OutputError::NoMemory => Status::NoMemory,
         }
     }
 }
