@@ -308,31 +308,85 @@ fn judges_the_inputs_in_their_order(rt: HostRuntime) -> Result<(), Fail> {
     Ok(())
 }
 
-#[test]
-fn names_what_failed(rt: HostRuntime) -> Result<(), Fail> {
-    let alloc = rt.alloc();
+/// The reads of the case `ONE`: each of its three files is opened, gives its bytes, and then gives none.
+const READS: u64 = 9;
+
+/// The first of the reads of a run that fails, and does not come to a read fault with nothing left.
+fn first_wrong_read(alloc: Global) -> Result<Option<u64>, NoMemory> {
     let read_fault = Case {
         status: Status::ReadFault,
         ..REFUSED
     };
-    let write_fault = Case {
-        status: Status::WriteFault,
-        ..REFUSED
-    };
-    assert!(rt; holds_where_reading_fails(alloc, 1, read_fault)?);
-    assert!(rt; holds_where_reading_fails(alloc, 9, read_fault)?);
-    assert!(rt; holds_where_writing_fails(alloc, 1, write_fault)?);
-    let empty = Case {
-        released: Some(b""),
-        ..write_fault
-    };
-    assert!(rt; holds_where_writing_fails(alloc, 2, empty)?);
-    let unreported = Case {
-        status: Status::WriteFault,
-        report: b"",
-        ..ONE
-    };
-    assert!(rt; holds_where_writing_fails(alloc, 6, unreported)?);
+    for nth in 1..READS + 1 {
+        if !holds_where_reading_fails(alloc, nth, read_fault)? {
+            return Ok(Some(nth));
+        }
+    }
+    Ok(None)
+}
+
+#[test]
+fn names_a_read_that_failed(rt: HostRuntime) -> Result<(), Fail> {
+    assert_eq!(rt; first_wrong_read(rt.alloc())?, None);
+    assert!(rt; holds_where_reading_fails(rt.alloc(), READS + 1, ONE)?);
+    Ok(())
+}
+
+/// What the released capture and the schedule have where the first, the second and so on of the writes of the case `ONE` fails: that
+/// creates the released capture, its header, that creates the schedule, the records, the schedule's lines, the report.
+const LEFT: [(Option<&[u8]>, Option<&[u8]>); 6] = [
+    (None, None),
+    (Some(b""), None),
+    (Some(WRITTEN_HEADER), None),
+    (Some(WRITTEN_HEADER), Some(b"")),
+    (Some(ONE_RELEASED), Some(b"")),
+    (Some(ONE_RELEASED), ONE.schedule),
+];
+
+/// The first of the writes of a run that fails, and does not come to a write fault with what is to be left.
+fn first_wrong_write(alloc: Global) -> Result<Option<u64>, NoMemory> {
+    let mut nth = 0;
+    for (released, schedule) in &LEFT {
+        nth += 1;
+        let case = Case {
+            status: Status::WriteFault,
+            released: *released,
+            schedule: *schedule,
+            ..REFUSED
+        };
+        if !holds_where_writing_fails(alloc, nth, case)? {
+            return Ok(Some(nth));
+        }
+    }
+    Ok(None)
+}
+
+#[test]
+fn names_a_write_that_failed(rt: HostRuntime) -> Result<(), Fail> {
+    assert_eq!(rt; first_wrong_write(rt.alloc())?, None);
+    assert!(rt; holds_where_writing_fails(rt.alloc(), LEFT.len() as u64 + 1, ONE)?);
+    Ok(())
+}
+
+/// Whether a `make` of so many packets whose calls of writing fail at this one leaves this capture, and no report.
+fn makes_part(
+    alloc: Global,
+    count: &str,
+    nth: u64,
+    left: Option<&[u8]>,
+) -> Result<bool, NoMemory> {
+    let mut world = MemoryWorld::new(alloc)?;
+    world.fail_write(nth)?;
+    makes_in(alloc, &mut world, ["7", count], (Status::WriteFault, b"", left))
+}
+
+#[test]
+fn names_a_write_of_make_that_failed(rt: HostRuntime) -> Result<(), Fail> {
+    let alloc = rt.alloc();
+    assert!(rt; makes_part(alloc, "1", 1, None)?);
+    assert!(rt; makes_part(alloc, "1", 2, Some(b""))?);
+    assert!(rt; makes_part(alloc, "1", 3, Some(WRITTEN_HEADER))?);
+    assert!(rt; makes_part(alloc, "0", 3, Some(WRITTEN_HEADER))?);
     Ok(())
 }
 
@@ -371,7 +425,11 @@ fn stops_at_too_many_packets(rt: HostRuntime) -> Result<(), Fail> {
 
 #[test]
 fn says_its_status(rt: HostRuntime) -> Result<(), Fail> {
-    let fault = Status::BadInput(InputFault::Capture(CaptureFault {
+    let bad_box = Status::BadInput(InputFault::BoxFile(LineFault {
+        line: 2,
+        cause: LineCause::OutOfRange,
+    }));
+    let bad_capture = Status::BadInput(InputFault::Capture(CaptureFault {
         offset: 24,
         cause: CaptureCause::ShortRecord,
     }));
@@ -381,7 +439,9 @@ fn says_its_status(rt: HostRuntime) -> Result<(), Fail> {
         (Status::ReadFault, "read fault", 3),
         (Status::WriteFault, "write fault", 4),
         (Status::NoMemory, "no memory", 5),
-        (fault, "bad input: capture: offset 24: short record", 6),
+        (bad_box, "bad input: box: line 2: out of range", 6),
+        (bad_capture, "bad input: capture: offset 24: short record", 6),
+        (Status::TooLarge(Limit::File), "too large: file", 7),
         (Status::TooLarge(Limit::Packets), "too large: packets", 7),
         (Status::NotBuilt, "not built", 8),
     ];

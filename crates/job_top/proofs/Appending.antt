@@ -1,66 +1,76 @@
 -- What appending to a file of a name does to that name and to the others.
-use Rattle.std.proofs.Common.{◌≡◌, ℕ, List, [], ◌++◌, take, drop, refl, sym, ap, ◌∙◌, append-nil}
+use Rattle.std.proofs.Common.{◌≡◌, ℕ, List, [], ◌++◌, take, drop, refl, sym, ap, ◌∙◌, append-nil, append_assoc, subst, Result, Ok, Err}
+use Rattle.std.specs.Prelude.{OnErr}
 use Rattle.std.proofs.lemmas.List.{take-append-drop}
-use Rattle.world_io.specs.World.{Shown, WritesFile}
-use Rattle.world_io.specs.declared.all.WriteAll.{WriteAll}
-use Rattle.world_io.specs.declared.all.WriteAll.TheVariants as write
-use Rattle.job_top.specs.Files.{IsFile, AppendsTo, IsFront, Appended, Reported}
+use Rattle.world_io.specs.World.{Shown, WritesFile, CreatesFile}
+use Rattle.job_top.specs.Files.{report_file, AppendsTo, IsFile, IsPrefix}
 
-front_all : (bytes : List ℕ) → IsFront bytes bytes
-front_all bytes = ([], sym (append-nil bytes))
+pub prefix_none : (bytes : List ℕ) → IsPrefix [] bytes
+prefix_none bytes = (bytes, refl)
 
-front_take : (n : ℕ) (bytes : List ℕ) → IsFront (take n bytes) bytes
-front_take n bytes = (drop n bytes, sym (take-append-drop n bytes))
+pub prefix_all : (bytes : List ℕ) → IsPrefix bytes bytes
+prefix_all bytes = ([], sym (append-nil bytes))
 
--- the file has a name, and another name is not written
-own_file : (file : ℕ) (name had part : List ℕ) (a b : Shown) → IsFile file name had a → WritesFile file part a b → IsFile file name (had ++ part) b
-own_file file name had part a b is w = record {
-  not_report = is.not_report;
-  name_is = ap (λ (f : ℕ → List ℕ). f file) w.name_of ∙ is.name_is;
-  bytes_are = ap b.names (sym is.name_is) ∙ w.named had is.not_report (ap a.names is.name_is ∙ is.bytes_are);
-}
+pub prefix_take : (n : ℕ) (bytes : List ℕ) → IsPrefix (take n bytes) bytes
+prefix_take n bytes = (drop n bytes, sym (take-append-drop n bytes))
 
-other_name : (file : ℕ) (name had part other : List ℕ) (a b : Shown) → IsFile file name had a → WritesFile file part a b → ¬ (other ≡ name) → b.names other ≡ a.names other
-other_name file name had part other a b is w apart = w.other_names other (λ _ e. apart (e ∙ is.name_is))
+-- a prefix of what stands before more, and one that goes past it
+pub prefix_before : (part bytes more : List ℕ) → IsPrefix part bytes → IsPrefix part (bytes ++ more)
+prefix_before part bytes more f = (f.0 ++ more, ap (λ l. l ++ more) f.1 ∙ append_assoc part f.0 more)
 
-other_file : (file k : ℕ) (name had part other bytes : List ℕ) (a b : Shown) → IsFile file name had a → WritesFile file part a b → ¬ (other ≡ name) → IsFile k other bytes a → IsFile k other bytes b
-other_file file k name had part other bytes a b is w apart f = record {
-  not_report = f.not_report;
-  name_is = ap (λ (g : ℕ → List ℕ). g k) w.name_of ∙ f.name_is;
-  bytes_are = other_name file name had part other a b is w apart ∙ f.bytes_are;
-}
+pub prefix_past : (bytes part more : List ℕ) → IsPrefix part more → IsPrefix (bytes ++ part) (bytes ++ more)
+prefix_past bytes part more f = (f.0, ap (λ l. bytes ++ l) f.1 ∙ sym (append_assoc bytes part f.0))
 
-made : (answer : WriteAll) (file : ℕ) (name had bytes part : List ℕ) (a b : Shown) → IsFront part bytes → (answer ≡ write.All → part ≡ bytes) → IsFile file name had a → WritesFile file part a b → Appended answer file name had bytes a b
-made answer file name had bytes part a b front whole is w = record {
-  part = part;
-  front = front;
-  whole = whole;
-  own = own_file file name had part a b is w;
-  files = λ k other bytes _ apart f. other_file file k name had part other bytes a b is w apart f;
-  others = λ other apart. other_name file name had part other a b is w apart;
-  report = w.other_sent 0 (λ e. is.not_report (sym e));
-}
+pub created_file : (file : ℕ) (name : List ℕ) (a b : Shown) → ¬ (file ≡ report_file) → CreatesFile name file a b → IsFile file name [] b
+created_file file name a b some c = record { not_report = some; name_is = c.name_of; bytes_are = c.empty }
 
-pub appended : (answer : WriteAll) (file : ℕ) (name had bytes : List ℕ) (a b : Shown) → AppendsTo answer file bytes a b → IsFile file name had a → Appended answer file name had bytes a b
-appended write.All file name had bytes a b w is = made write.All file name had bytes bytes a b (front_all bytes) (λ _. refl) is w
-appended (write.Failed n) file name had bytes a b w is = made (write.Failed n) file name had bytes (take n bytes) a b (front_take n bytes) (λ e. absurd (cc)) is w
-appended (write.NoMemory n) file name had bytes a b w is = made (write.NoMemory n) file name had bytes (take n bytes) a b (front_take n bytes) (λ e. absurd (cc)) is w
+-- these bytes were appended to the file of a name; other names and their files, and the report, stay
+pub record Appended (file : ℕ) (name had part : List ℕ) (old new : Shown) : Type 0 where
+  pub own : IsFile file name (had ++ part) new
+  pub files : (k : ℕ) (other bytes : List ℕ) → ¬ (other ≡ name) → IsFile k other bytes old → IsFile k other bytes new
+  pub others : (other : List ℕ) → ¬ (other ≡ name) → new.names other ≡ old.names other
+  pub report : new.sent report_file ≡ old.sent report_file
 
-told : (answer : WriteAll) (bytes part : List ℕ) (a b : Shown) → IsFront part bytes → (answer ≡ write.All → part ≡ bytes) → WritesFile 0 part a b → Reported answer bytes a b
-told answer bytes part a b front whole w = record {
-  part = part;
-  front = front;
-  whole = whole;
-  report = w.sent;
-  names = λ name. w.other_names name (λ no. absurd (no refl));
-  files = λ k name bytes f. record {
+-- these bytes were appended to the report; all names and their files stay
+pub record Reported (part : List ℕ) (old new : Shown) : Type 0 where
+  pub report : new.sent report_file ≡ old.sent report_file ++ part
+  pub names : (name : List ℕ) → new.names name ≡ old.names name
+
+pub appended : (file : ℕ) (name had part : List ℕ) (a b : Shown) → IsFile file name had a → WritesFile file part a b → Appended file name had part a b
+appended file name had part a b is w = record {
+  own = record {
+    not_report = is.not_report;
+    name_is = ap (λ (f : ℕ → List ℕ). f file) w.name_of ∙ is.name_is;
+    bytes_are = ap b.names (sym is.name_is) ∙ w.named had is.not_report (ap a.names is.name_is ∙ is.bytes_are);
+  };
+  files = λ k other bytes apart f. record {
     not_report = f.not_report;
     name_is = ap (λ (g : ℕ → List ℕ). g k) w.name_of ∙ f.name_is;
-    bytes_are = w.other_names name (λ no. absurd (no refl)) ∙ f.bytes_are;
+    bytes_are = other_name other apart ∙ f.bytes_are;
   };
+  others = other_name;
+  report = w.other_sent report_file (λ e. is.not_report (sym e));
+}
+  where
+    other_name : (other : List ℕ) → ¬ (other ≡ name) → b.names other ≡ a.names other
+    other_name other apart = w.other_names other (λ _ e. apart (e ∙ is.name_is))
+
+pub reported : (part : List ℕ) (a b : Shown) → WritesFile report_file part a b → Reported part a b
+reported part a b w = record {
+  report = w.sent;
+  names = λ name. w.other_names name (λ no. absurd (no refl));
 }
 
-pub reported : (answer : WriteAll) (bytes : List ℕ) (a b : Shown) → AppendsTo answer 0 bytes a b → Reported answer bytes a b
-reported write.All bytes a b w = told write.All bytes bytes a b (front_all bytes) (λ _. refl) w
-reported (write.Failed n) bytes a b w = told (write.Failed n) bytes (take n bytes) a b (front_take n bytes) (λ e. absurd (cc)) w
-reported (write.NoMemory n) bytes a b w = told (write.NoMemory n) bytes (take n bytes) a b (front_take n bytes) (λ e. absurd (cc)) w
+-- bytes that go by another name
+pub all_same : (file : ℕ) (bytes more : List ℕ) (a b : Shown) → bytes ≡ more → WritesFile file bytes a b → WritesFile file more a b
+all_same file bytes more a b e w = subst (λ (l : List ℕ). WritesFile file l a b) e w
+
+pub cut_same : (file : ℕ) (bytes more : List ℕ) (a b : Shown) → bytes ≡ more → ((n : ℕ) × WritesFile file (take n bytes) a b) → (n : ℕ) × WritesFile file (take n more) a b
+cut_same file bytes more a b e w = (w.0, subst (λ (l : List ℕ). WritesFile file (take w.0 l) a b) e w.1)
+
+pub appends_same : {A E : Type 0} (r : Result A E) (file : ℕ) (bytes more : List ℕ) (a b : Shown) → bytes ≡ more → AppendsTo r file bytes a b → AppendsTo r file more a b
+appends_same r file bytes more a b e w = subst (λ (l : List ℕ). AppendsTo r file l a b) e w
+
+pub on_err : {A E P : Type 0} (r : Result A E) → P → OnErr r P
+on_err (Ok done) p = tt
+on_err (Err error) p = p

@@ -1,193 +1,218 @@
 -- The input files decide the status: each of them has one answer, and these have one status.
 use Rattle.std.proofs.Common.{◌≡◌, ℕ, ◌<◌, ◌≤◌, Bool, true, false, List, length, refl, sym, ap, ◌∙◌, subst, inl, inr, ◌⊎◌, arith, Result, Ok, Err}
-use Rattle.std.specs.Prelude.{Some, nat_lt, cond}
+use Rattle.std.specs.Prelude.{Option, Some, None, nat_lt, cond}
 use Rattle.std.proofs.lemmas.Bool.Decides.{nat_tests}
 use Rattle.plain_text.specs.declared.fault.LineFault.{LineFault}
 use Rattle.plain_text.specs.declared.limit.Limit.{Limit}
 use Rattle.plain_text.specs.declared.limit.Limit.TheVariants.{File}
 use Rattle.pcap_io.specs.declared.capture.Captured.{Captured}
 use Rattle.pcap_io.specs.declared.capture.Captured.TheVariants as captured
+use Rattle.pcap_io.specs.declared.fault.CaptureFault.{CaptureFault}
 use Rattle.pcap_io.specs.Captured.{Says, IsDecided as IsDecidedCapture}
 use Rattle.pcap_io.proofs.Verdicts.{one_answer}
 use Rattle.box_conf.specs.declared.kind.BoxConf.{BoxConf}
 use Rattle.box_conf.specs.BoxFile.{box_of}
 use Rattle.world_io.specs.World.{Shown}
-use Rattle.job_top.specs.declared.inputs.Capture as capture_of
+use Rattle.job_top.specs.declared.errors.InputError.{InputError}
+use Rattle.job_top.specs.declared.errors.InputError.TheVariants as error
+use Rattle.world_io.specs.declared.all.ReadError.{ReadError}
+use Rattle.world_io.specs.declared.all.ReadError.TheVariants as reading
+use Rattle.job_top.specs.declared.inputs.Capture.{Capture}
 use Rattle.job_top.specs.declared.status.Status.{Status}
 use Rattle.job_top.specs.declared.status.Status.TheVariants as status
 use Rattle.job_top.specs.declared.status.InputFault.TheVariants as input
-use Rattle.job_top.specs.Inputs.{HasBytes, HasTooMany}
-use Rattle.job_top.specs.Judging.{JudgesBox, JudgesCapture, JudgesScript, Judges}
+use Rattle.job_top.specs.Files.{HasBytes, HasTooMany, IsMissing}
+use Rattle.job_top.specs.Inputs.{AcceptsBox, AcceptsCapture, ReadsScript}
+use Rattle.job_top.specs.Judging.{JudgesBox, JudgesCapture, JudgesScript, Judges, IsDecided, CaptureTooLarge, FirstIsMissing}
 use Rattle.job_top.specs.Script.{is_settle}
-use Rattle.job_top.specs.Verdict.{IsDecided}
+use Rattle.job_top.specs.Status.{of_box_error, of_capture_error, of_script_error}
 use Rattle.job_top.specs.Words.{RunNames}
 
--- the file decides what reading it answers
-abbrev Decides : {A : Type 0} → Result A Status → Type 0
-Decides (Ok x) = Unit {0}
-Decides (Err s) = IsDecided s
+-- what the bytes of a file answer, where they are within its limit
+abbrev if_within : {A E : Type 0} → E → List ℕ → Result A E → Result A E
+if_within large bytes answer = cond (nat_lt 67108864 (length bytes)) (Err large) answer
 
-abbrev or_too_large : {A : Type 0} → List ℕ → Result A Status → Result A Status
-or_too_large bytes answer = cond (nat_lt 67108864 (length bytes)) (Err (status.TooLarge File)) answer
+abbrev box_said : Result BoxConf LineFault → Result BoxConf (InputError LineFault)
+box_said (Ok conf) = Ok conf
+box_said (Err fault) = Err (error.Fault fault)
 
-abbrev box_answer : Result BoxConf LineFault → Result BoxConf Status
-box_answer (Ok conf) = Ok conf
-box_answer (Err fault) = Err (status.BadInput (input.BoxFile fault))
+-- what the files of the box and of the script answer
+abbrev box_answer : Option (List ℕ) → Result BoxConf (InputError LineFault)
+box_answer None = Err error.ReadFault
+box_answer (Some bytes) = if_within (error.TooLarge File) bytes (box_said (box_of bytes))
 
-abbrev capture_answer : Captured → Result capture_of.Capture Status
-capture_answer (captured.Capture unit packets) = Ok (record { unit = unit; packets = packets })
-capture_answer (captured.Refused fault) = Err (status.BadInput (input.Capture fault))
-capture_answer (captured.TooLarge limit) = Err (status.TooLarge limit)
-capture_answer captured.ReadFault = Err status.ReadFault
-capture_answer captured.NoMemory = Err status.NoMemory
+abbrev script_answer : Option (List ℕ) → Result Bool ReadError
+script_answer None = Err reading.Failed
+script_answer (Some bytes) = if_within reading.TooLarge bytes (Ok (is_settle bytes))
 
-module _ (name : List ℕ) (shown : Shown) where
-  -- the answer is that of the bytes that the name has
-  abbrev IsOf : {A : Type 0} → (List ℕ → Result A Status) → Result A Status → Type 0
-  IsOf answer r = (bytes : List ℕ) × (shown.names name ≡ Some bytes) × (r ≡ answer bytes)
+abbrev capture_said : Captured → Result Capture (InputError CaptureFault)
+capture_said (captured.Capture unit packets) = Ok (record { unit = unit; packets = packets })
+capture_said (captured.Refused fault) = Err (error.Fault fault)
+capture_said (captured.TooLarge limit) = Err (error.TooLarge limit)
+capture_said captured.ReadFault = Err error.ReadFault
+capture_said captured.NoMemory = Err error.NoMemory
 
-  is_one : {A : Type 0} (answer : List ℕ → Result A Status) (r q : Result A Status) → IsOf answer r → IsOf answer q → r ≡ q
-  is_one answer r q a b =
-      let some : Some a.0 ≡ Some b.0 = sym a.1 ∙ b.1 in
-      let same : a.0 ≡ b.0 = cc in
-      a.2 ∙ ap answer same ∙ sym b.2
+-- what reading a file answers is decided by it
+abbrev FilesDecide : {A F : Type 0} → Type 0 → Result A (InputError F) → Type 0
+FilesDecide healthy (Ok x) = Unit {0}
+FilesDecide healthy (Err error.ReadFault) = healthy
+FilesDecide healthy (Err (error.TooLarge limit)) = Unit {0}
+FilesDecide healthy (Err (error.Fault fault)) = Unit {0}
+FilesDecide healthy (Err error.NoMemory) = ⊥
 
+abbrev ScriptDecides : Type 0 → Result Bool ReadError → Type 0
+ScriptDecides healthy (Ok x) = Unit {0}
+ScriptDecides healthy (Err reading.Failed) = healthy
+ScriptDecides healthy (Err reading.TooLarge) = Unit {0}
+ScriptDecides healthy (Err reading.NoMemory) = ⊥
+
+module _ (healthy : Type 0) (name : List ℕ) (shown : Shown) where
   few : (bytes : List ℕ) → length bytes ≤ 67108864 → nat_lt 67108864 (length bytes) ≡ false
   few bytes low = grind (arith, nat_tests)
 
   many : (bytes : List ℕ) → 67108864 < length bytes → nat_lt 67108864 (length bytes) ≡ true
   many bytes high = grind (arith, nat_tests)
 
-  too_many : {A : Type 0} (answer : List ℕ → Result A Status) → HasTooMany name shown → IsOf (λ bytes. or_too_large bytes (answer bytes)) (Err (status.TooLarge File))
-  too_many answer h = (h.0, h.1, rw (many h.0 h.2) refl)
+  within : {A E : Type 0} (large : E) (answer : Result A E) (bytes : List ℕ) → length bytes ≤ 67108864 → answer ≡ if_within large bytes answer
+  within large answer bytes low = rw (few bytes low) refl
 
-  within : {A : Type 0} (answer : List ℕ → Result A Status) (bytes : List ℕ) (r : Result A Status) → HasBytes name shown bytes → r ≡ answer bytes → IsOf (λ bytes. or_too_large bytes (answer bytes)) r
-  within answer bytes r h e = (bytes, h.0, rw (few bytes h.1) e)
+  beyond : {A E : Type 0} (large : E) (answer : Result A E) (bytes : List ℕ) → 67108864 < length bytes → Err large ≡ if_within large bytes answer
+  beyond large answer bytes high = rw (many bytes high) refl
 
-  box_is : (r : Result BoxConf Status) → Decides r → JudgesBox name r shown → IsOf (λ bytes. or_too_large bytes (box_answer (box_of bytes))) r
-  box_is (Ok conf) d h = within (λ bytes. box_answer (box_of bytes)) h.0 _ h.1 (sym (ap box_answer h.2))
-  box_is (Err (status.BadInput (input.BoxFile fault))) d h = within (λ bytes. box_answer (box_of bytes)) h.0 _ h.1 (sym (ap box_answer h.2))
-  box_is (Err (status.BadInput (input.Capture fault))) d h = absurd h
-  box_is (Err (status.TooLarge limit)) d h = rw h.0 (too_many (λ bytes. box_answer (box_of bytes)) h.1)
-  box_is (Err status.ReadFault) d h = absurd d
-  box_is (Err status.NoMemory) d h = absurd d
-  box_is (Err status.Done) d h = absurd h
-  box_is (Err status.BadWords) d h = absurd d
-  box_is (Err status.WriteFault) d h = absurd d
-  box_is (Err status.NotBuilt) d h = absurd h
+  box_is : (r : Result BoxConf (InputError LineFault)) → FilesDecide healthy r → JudgesBox healthy name r shown → r ≡ box_answer (shown.names name)
+  box_is (Ok conf) d h = rw (h.1.0, h.2) (within (error.TooLarge File) (Ok conf) h.0 h.1.1)
+  box_is (Err (error.Fault fault)) d h = rw (h.1.0, h.2) (within (error.TooLarge File) (Err (error.Fault fault)) h.0 h.1.1)
+  box_is (Err (error.TooLarge limit)) d h = rw (h.0, h.1.1) (beyond (error.TooLarge File) (box_said (box_of h.1.0)) h.1.0 h.1.2)
+  box_is (Err error.ReadFault) d h = rw (h d) refl
+  box_is (Err error.NoMemory) d h = absurd d
 
-  script_is : (r : Result Bool Status) → Decides r → JudgesScript name r shown → IsOf (λ bytes. or_too_large bytes (Ok (is_settle bytes))) r
-  script_is (Ok settle) d h = within (λ bytes. Ok (is_settle bytes)) h.0 _ h.1 (sym (ap (λ (b : Bool). Ok b) h.2))
-  script_is (Err (status.TooLarge limit)) d h = rw h.0 (too_many (λ bytes. Ok (is_settle bytes)) h.1)
-  script_is (Err (status.BadInput fault)) d h = absurd h
-  script_is (Err status.ReadFault) d h = absurd d
-  script_is (Err status.NoMemory) d h = absurd d
-  script_is (Err status.Done) d h = absurd h
-  script_is (Err status.BadWords) d h = absurd d
-  script_is (Err status.WriteFault) d h = absurd d
-  script_is (Err status.NotBuilt) d h = absurd h
+  script_is : (r : Result Bool ReadError) → ScriptDecides healthy r → JudgesScript healthy name r shown → r ≡ script_answer (shown.names name)
+  script_is (Ok settle) d h = rw (h.1.0, ← h.2) (within reading.TooLarge (Ok (is_settle h.0)) h.0 h.1.1)
+  script_is (Err reading.TooLarge) d h = rw h.1 (beyond reading.TooLarge (Ok (is_settle h.0)) h.0 h.2)
+  script_is (Err reading.Failed) d h = rw (h d) refl
+  script_is (Err reading.NoMemory) d h = absurd d
 
-  -- the capture is too long a file, or its bytes have an answer
-  abbrev Reads : Result capture_of.Capture Status → Type 0
-  Reads r = ((r ≡ Err (status.TooLarge File)) × HasTooMany name shown)
-      ⊎ ((bytes : List ℕ) × HasBytes name shown bytes × (answer : Captured) × IsDecidedCapture answer × Says bytes answer × (r ≡ capture_answer answer))
+  -- the capture is not there or too long a file, or its bytes have an answer
+  abbrev Reads : Result Capture (InputError CaptureFault) → Type 0
+  Reads r = ((r ≡ Err error.ReadFault) × IsMissing name shown)
+      ⊎ (((r ≡ Err (error.TooLarge File)) × HasTooMany name shown)
+      ⊎ ((bytes : List ℕ) × HasBytes name shown bytes × (answer : Captured) × IsDecidedCapture answer × Says bytes answer × (r ≡ capture_said answer)))
 
-  capture_is : (r : Result capture_of.Capture Status) → Decides r → JudgesCapture name r shown → Reads r
-  capture_is (Ok capture) d h = inr (h.0, h.1, captured.Capture capture.unit capture.packets, tt, h.2, refl)
-  capture_is (Err (status.BadInput (input.Capture fault))) d h = inr (h.0, h.1, captured.Refused fault, tt, h.2, refl)
-  capture_is (Err (status.BadInput (input.BoxFile fault))) d h = absurd h
-  capture_is (Err (status.TooLarge limit)) d (inl h) = inl (ap (λ (l : Limit). Err (status.TooLarge l)) h.0, h.1)
-  capture_is (Err (status.TooLarge limit)) d (inr h) = inr (h.0, h.1, captured.TooLarge limit, tt, h.2, refl)
-  capture_is (Err status.ReadFault) d h = absurd d
-  capture_is (Err status.NoMemory) d h = absurd d
-  capture_is (Err status.Done) d h = absurd h
-  capture_is (Err status.BadWords) d h = absurd d
-  capture_is (Err status.WriteFault) d h = absurd d
-  capture_is (Err status.NotBuilt) d h = absurd h
+  capture_is : (r : Result Capture (InputError CaptureFault)) → FilesDecide healthy r → JudgesCapture healthy name r shown → Reads r
+  capture_is (Ok capture) d h = inr (inr (h.0, h.1, captured.Capture capture.unit capture.packets, tt, h.2, refl))
+  capture_is (Err (error.Fault fault)) d h = inr (inr (h.0, h.1, captured.Refused fault, tt, h.2, refl))
+  capture_is (Err (error.TooLarge limit)) d (inl h) = inr (inl (ap (λ (l : Limit). Err (error.TooLarge l)) h.0, h.1))
+  capture_is (Err (error.TooLarge limit)) d (inr h) = inr (inr (h.0, h.1, captured.TooLarge limit, tt, h.2, refl))
+  capture_is (Err error.ReadFault) d h = inl (refl, h d)
+  capture_is (Err error.NoMemory) d h = absurd d
+
+  same_bytes : (a b : List ℕ) → shown.names name ≡ Some a → shown.names name ≡ Some b → a ≡ b
+  same_bytes a b x y =
+      let some : Some a ≡ Some b = sym x ∙ y in
+      cc
+
+  no_bytes : {P : Type 0} (a : List ℕ) → IsMissing name shown → shown.names name ≡ Some a → P
+  no_bytes a x y = absurd (none (sym x ∙ y))
+    where
+      none : None ≡ Some a → ⊥
+      none e = cc
 
   apart : {P : Type 0} (bytes : List ℕ) → HasTooMany name shown → HasBytes name shown bytes → P
   apart bytes a b =
-      let some : Some a.0 ≡ Some bytes = sym a.1 ∙ b.0 in
-      let same : a.0 ≡ bytes = cc in
-      let as_long : length a.0 ≡ length bytes = ap length same in
+      let as_long : length a.0 ≡ length bytes = ap length (same_bytes a.0 bytes a.1 b.0) in
       let no : ⊥ = omega (arith, a.2, b.1, as_long) in absurd no
 
-  one_capture : (r q : Result capture_of.Capture Status) → Reads r → Reads q → r ≡ q
+  one_capture : (r q : Result Capture (InputError CaptureFault)) → Reads r → Reads q → r ≡ q
   one_capture r q (inl a) (inl b) = a.0 ∙ sym b.0
-  one_capture r q (inl a) (inr b) = apart b.0 a.1 b.1
-  one_capture r q (inr a) (inl b) = apart a.0 b.1 a.1
-  one_capture r q (inr a) (inr b) =
-      let some : Some a.0 ≡ Some b.0 = sym a.1.0 ∙ b.1.0 in
-      let same : a.0 ≡ b.0 = cc in
+  one_capture r q (inl a) (inr (inl b)) = no_bytes b.1.0 a.1 b.1.1
+  one_capture r q (inl a) (inr (inr b)) = no_bytes b.0 a.1 b.1.0
+  one_capture r q (inr (inl a)) (inl b) = no_bytes a.1.0 b.1 a.1.1
+  one_capture r q (inr (inr a)) (inl b) = no_bytes a.0 b.1 a.1.0
+  one_capture r q (inr (inl a)) (inr (inl b)) = a.0 ∙ sym b.0
+  one_capture r q (inr (inl a)) (inr (inr b)) = apart b.0 a.1 b.1
+  one_capture r q (inr (inr a)) (inr (inl b)) = apart a.0 b.1 a.1
+  one_capture r q (inr (inr a)) (inr (inr b)) =
+      let same : a.0 ≡ b.0 = same_bytes a.0 b.0 a.1.0 b.1.0 in
       let alike : a.2 ≡ b.2 = one_answer b.0 a.2 b.2 a.3 b.3 (subst (λ (bytes : List ℕ). Says bytes a.2) same a.4) b.4 in
-      a.5 ∙ ap capture_answer alike ∙ sym b.5
+      a.5 ∙ ap capture_said alike ∙ sym b.5
 
 -- what the inputs come to, once all are read
-abbrev read_all : Bool → Status
-read_all settle = cond settle status.Done status.NotBuilt
+abbrev all_read : Bool → Status
+all_read settle = cond settle status.Done status.NotBuilt
 
-module _ (names : RunNames) (shown : Shown) where
-  abbrev BehindScript : BoxConf → Result Bool Status → Status → Type 0
-  BehindScript conf (Err r) s = r ≡ s
-  BehindScript conf (Ok settle) s = read_all settle ≡ s
+module _ (healthy : Type 0) (names : RunNames) (shown : Shown) where
+  abbrev BehindScript : Result Bool ReadError → Status → Type 0
+  BehindScript (Err e) s = of_script_error e ≡ s
+  BehindScript (Ok settle) s = all_read settle ≡ s
 
-  abbrev AtScript : BoxConf → Status → Type 0
-  AtScript conf s = (r : Result Bool Status) × Decides r × JudgesScript names.script r shown × BehindScript conf r s
+  abbrev AtScript : Status → Type 0
+  AtScript s = (r : Result Bool ReadError) × ScriptDecides healthy r × JudgesScript healthy names.script r shown × BehindScript r s
 
-  abbrev BehindCapture : BoxConf → Result capture_of.Capture Status → Status → Type 0
-  BehindCapture conf (Err r) s = r ≡ s
-  BehindCapture conf (Ok capture) s = AtScript conf s
+  abbrev BehindCapture : Result Capture (InputError CaptureFault) → Status → Type 0
+  BehindCapture (Err e) s = of_capture_error e ≡ s
+  BehindCapture (Ok capture) s = AtScript s
 
-  abbrev AtCapture : BoxConf → Status → Type 0
-  AtCapture conf s = (r : Result capture_of.Capture Status) × Decides r × JudgesCapture names.capture r shown × BehindCapture conf r s
+  abbrev AtCapture : Status → Type 0
+  AtCapture s = (r : Result Capture (InputError CaptureFault)) × FilesDecide healthy r × JudgesCapture healthy names.capture r shown × BehindCapture r s
 
-  abbrev BehindBox : Result BoxConf Status → Status → Type 0
-  BehindBox (Err r) s = r ≡ s
-  BehindBox (Ok conf) s = AtCapture conf s
+  abbrev BehindBox : Result BoxConf (InputError LineFault) → Status → Type 0
+  BehindBox (Err e) s = of_box_error e ≡ s
+  BehindBox (Ok conf) s = AtCapture s
 
-  -- the files answer one after another, up to the first that is refused
+  -- the files answer one after another, up to the first that is not accepted
   abbrev Answers : Status → Type 0
-  Answers s = (r : Result BoxConf Status) × Decides r × JudgesBox names.box_file r shown × BehindBox r s
+  Answers s = (r : Result BoxConf (InputError LineFault)) × FilesDecide healthy r × JudgesBox healthy names.box_file r shown × BehindBox r s
 
-  answers : (s : Status) → IsDecided s → Judges names s shown → Answers s
+  behind_box : (s : Status) (conf : BoxConf) → AcceptsBox names.box_file conf shown → AtCapture s → Answers s
+  behind_box s conf box a = (Ok conf, tt, box, a)
+
+  behind_capture : (s : Status) (capture : Capture) → AcceptsCapture names.capture capture shown → AtScript s → AtCapture s
+  behind_capture s capture accepted a = (Ok capture, tt, accepted, a)
+
+  answers : (s : Status) → IsDecided healthy s → Judges healthy names s shown → Answers s
   answers status.Done d h =
-      let a = h.3 in
-      (Ok h.0, tt, a.box_accepted, (Ok (record { unit = h.1; packets = h.2 }), tt, a.capture_accepted, (Ok true, tt, a.script_accepted, refl)))
+      behind_box status.Done h.0.conf h.1.box_accepted (behind_capture status.Done h.0.capture h.1.capture_accepted (Ok true, tt, h.1.script_accepted, refl))
   answers status.NotBuilt d h =
-      (Ok h.conf, tt, h.box_accepted, (Ok (record { unit = h.unit; packets = h.packets }), tt, h.capture_accepted, (Ok false, tt, h.script_read, refl)))
-  answers (status.BadInput (input.BoxFile fault)) d h = (Err (status.BadInput (input.BoxFile fault)), tt, h, refl)
-  answers (status.BadInput (input.Capture fault)) d h = (Ok h.0, tt, h.1, (Err (status.BadInput (input.Capture fault)), tt, h.2, refl))
-  answers (status.TooLarge limit) d (inl h) = (Err (status.TooLarge limit), tt, h, refl)
-  answers (status.TooLarge limit) d (inr (inl h)) = (Ok h.0, tt, h.1, (Err (status.TooLarge limit), tt, h.2, refl))
-  answers (status.TooLarge limit) d (inr (inr h)) = (Ok h.0, tt, h.1, (Ok (record { unit = h.2.0; packets = h.2.1 }), tt, h.2.2, (Err (status.TooLarge limit), tt, h.2.3, refl)))
-  answers status.BadWords d h = absurd d
-  answers status.ReadFault d h = absurd d
-  answers status.WriteFault d h = absurd d
-  answers status.NoMemory d h = absurd d
-
-  one_behind_script : (conf : BoxConf) (r q : Result Bool Status) (s t : Status) → r ≡ q → BehindScript conf r s → BehindScript conf q t → s ≡ t
-  one_behind_script conf r q s t same a b = go q (subst (λ (x : Result Bool Status). BehindScript conf x s) same a) b
+      behind_box status.NotBuilt h.inputs.conf h.box_accepted (behind_capture status.NotBuilt h.inputs.capture h.capture_accepted (Ok false, tt, h.script_read, refl))
+  answers (status.BadInput (input.BoxFile fault)) d h = (Err (error.Fault fault), tt, h, refl)
+  answers (status.BadInput (input.Capture fault)) d h = behind_box _ h.0 h.1 (Err (error.Fault fault), tt, h.2, refl)
+  answers (status.TooLarge limit) d (inl h) = (Err (error.TooLarge limit), tt, h, refl)
+  answers (status.TooLarge limit) d (inr (inl h)) = behind_box _ h.0 h.1 (Err (error.TooLarge limit), tt, h.2, refl)
+  answers (status.TooLarge limit) d (inr (inr h)) =
+      behind_box _ h.0 h.1 (behind_capture _ h.2.0 h.2.1 (Err reading.TooLarge, tt, h.2.2.1, ap (λ (l : Limit). status.TooLarge l) (sym h.2.2.0)))
+  answers status.ReadFault d h = missing (d.1.0 refl) (h (d.1.0 refl))
     where
-      go : (x : Result Bool Status) → BehindScript conf x s → BehindScript conf x t → s ≡ t
+      missing : healthy → FirstIsMissing names shown → Answers status.ReadFault
+      missing ok (inl m) = (Err error.ReadFault, ok, (λ _. m), refl)
+      missing ok (inr (inl m)) = behind_box status.ReadFault m.0 m.1 (Err error.ReadFault, ok, (λ _. m.2), refl)
+      missing ok (inr (inr m)) = behind_box status.ReadFault m.0 m.1 (behind_capture status.ReadFault m.2.0 m.2.1 (Err reading.Failed, ok, (λ _. m.2.2), refl))
+  answers status.BadWords d h = absurd h
+  answers status.WriteFault d h = absurd (h.0 (d.1.1 refl))
+  answers status.NoMemory d h = absurd (d.0 refl)
+
+  one_behind_script : (r q : Result Bool ReadError) (s t : Status) → r ≡ q → BehindScript r s → BehindScript q t → s ≡ t
+  one_behind_script r q s t same a b = go q (subst (λ (x : Result Bool ReadError). BehindScript x s) same a) b
+    where
+      go : (x : Result Bool ReadError) → BehindScript x s → BehindScript x t → s ≡ t
       go (Ok settle) a b = sym a ∙ b
-      go (Err r) a b = sym a ∙ b
+      go (Err e) a b = sym a ∙ b
 
-  one_behind_capture : (conf : BoxConf) (r q : Result capture_of.Capture Status) (s t : Status) → r ≡ q → BehindCapture conf r s → BehindCapture conf q t → s ≡ t
-  one_behind_capture conf r q s t same a b = go q (subst (λ (x : Result capture_of.Capture Status). BehindCapture conf x s) same a) b
+  one_behind_capture : (r q : Result Capture (InputError CaptureFault)) (s t : Status) → r ≡ q → BehindCapture r s → BehindCapture q t → s ≡ t
+  one_behind_capture r q s t same a b = go q (subst (λ (x : Result Capture (InputError CaptureFault)). BehindCapture x s) same a) b
     where
-      go : (x : Result capture_of.Capture Status) → BehindCapture conf x s → BehindCapture conf x t → s ≡ t
-      go (Ok capture) a b = one_behind_script conf a.0 b.0 s t (is_one names.script shown _ a.0 b.0 (script_is names.script shown a.0 a.1 a.2) (script_is names.script shown b.0 b.1 b.2)) a.3 b.3
-      go (Err r) a b = sym a ∙ b
+      go : (x : Result Capture (InputError CaptureFault)) → BehindCapture x s → BehindCapture x t → s ≡ t
+      go (Ok capture) a b = one_behind_script a.0 b.0 s t (script_is healthy names.script shown a.0 a.1 a.2 ∙ sym (script_is healthy names.script shown b.0 b.1 b.2)) a.3 b.3
+      go (Err e) a b = sym a ∙ b
 
-  one_behind_box : (r q : Result BoxConf Status) (s t : Status) → r ≡ q → BehindBox r s → BehindBox q t → s ≡ t
-  one_behind_box r q s t same a b = go q (subst (λ (x : Result BoxConf Status). BehindBox x s) same a) b
+  one_behind_box : (r q : Result BoxConf (InputError LineFault)) (s t : Status) → r ≡ q → BehindBox r s → BehindBox q t → s ≡ t
+  one_behind_box r q s t same a b = go q (subst (λ (x : Result BoxConf (InputError LineFault)). BehindBox x s) same a) b
     where
-      go : (x : Result BoxConf Status) → BehindBox x s → BehindBox x t → s ≡ t
-      go (Ok conf) a b = one_behind_capture conf a.0 b.0 s t (one_capture names.capture shown a.0 b.0 (capture_is names.capture shown a.0 a.1 a.2) (capture_is names.capture shown b.0 b.1 b.2)) a.3 b.3
-      go (Err r) a b = sym a ∙ b
+      go : (x : Result BoxConf (InputError LineFault)) → BehindBox x s → BehindBox x t → s ≡ t
+      go (Ok conf) a b = one_behind_capture a.0 b.0 s t (one_capture healthy names.capture shown a.0 b.0 (capture_is healthy names.capture shown a.0 a.1 a.2) (capture_is healthy names.capture shown b.0 b.1 b.2)) a.3 b.3
+      go (Err e) a b = sym a ∙ b
 
-  pub one_verdict : (s t : Status) → IsDecided s → IsDecided t → Judges names s shown → Judges names t shown → s ≡ t
+  pub one_verdict : (s t : Status) → IsDecided healthy s → IsDecided healthy t → Judges healthy names s shown → Judges healthy names t shown → s ≡ t
   one_verdict s t ds dt hs ht =
       let a = answers s ds hs in
       let b = answers t dt ht in
-      one_behind_box a.0 b.0 s t (is_one names.box_file shown _ a.0 b.0 (box_is names.box_file shown a.0 a.1 a.2) (box_is names.box_file shown b.0 b.1 b.2)) a.3 b.3
+      one_behind_box a.0 b.0 s t (box_is healthy names.box_file shown a.0 a.1 a.2 ∙ sym (box_is healthy names.box_file shown b.0 b.1 b.2)) a.3 b.3

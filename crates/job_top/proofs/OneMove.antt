@@ -26,9 +26,9 @@ use Rattle.master_core.specs.Standing.{Stands}
 use Rattle.master_core.specs.Stepping.{Follows, MadeOne, move_of, told_in, told_for, emission_of_output}
 use Rattle.master_core.proofs.Growing.{moves_within}
 use Rattle.job_top.specs.Running.{IsStraight, packets_of, inputs_on, moves_for, moves_on, moves_in_turn}
-use Rattle.job_top.specs.Midst.{HasCome, NotYet, Holds, Ended, IsAmid, Played, Made, CanMove, HasMoved, HadTurn, packet_sent}
+use Rattle.job_top.specs.Progress.{HasCome, NotYet, Holds, Ended, HasProgressed, Played, Made, CanMove, HasMoved, HadTurn, packet_sent}
 use Rattle.job_top.proofs.Turns.{turn_of}
-use Rattle.job_top.proofs.Amid.{GoesOn, goes_on, amid_more, amid_begin, amid_end}
+use Rattle.job_top.proofs.Progress.{GoesOn, goes_on, progress_more, progress_begin, progress_end}
 
 -- whether a thread has a packet in hand is what its history tells
 pub hand_is : {V : Type 0} (m : Meaning V) (threads : ℕ) (steps : List (Step V)) (p : Mastered V) (t : ℕ) → Stands m threads steps p → t < threads → has_hand p t ≡ is_some (thread_after steps t).hand
@@ -75,11 +75,11 @@ made_few m packet before at made sent th low (Ended all took hand as_many) = ome
 pub has_room : {V : Type 0} (m : Meaning V) (fits : ℕ → V → Type 0) (threads : ℕ) (packets : List Packet) (at : ℕ) (packet : Packet) (made : ℕ) (moves : List PlainMove) (sent : List Packet) (p : Mastered V) (thread : ℕ) (d : ThreadPart)
     → IsLawful m fits → at < 65536 → thread < threads → Made m threads packets at packet made moves sent p → moves_made (slice_index_or p.threads thread d) < 2 ^ 56
 has_room m fits threads packets at packet made moves sent p thread d lawful few below g =
-    let low = made_few m packet _ at made _ _ (lawful.begins packet) g.amid.come in
+    let low = made_few m packet _ at made _ _ (lawful.begins packet) g.progress.come in
     let earlier = few_moves m fits threads (take at packets) lawful in
     let count : length (take at packets) ≤ at = grind (arith, length-take {A = Packet}) in
-    let steps = (playing.play_history m (inputs_on threads packets) threads moves g.steps g.amid.legal).1 in
-    let all : length moves ≡ length (moves_in_turn m threads (take at packets)) + made = ap length g.amid.in_turn ∙ length-append _ _ ∙ ap (λ n. length (moves_in_turn m threads (take at packets)) + n) (length-replicate made _) in
+    let steps = (playing.play_history m (inputs_on threads packets) threads moves g.steps g.progress.legal).1 in
+    let all : length moves ≡ length (moves_in_turn m threads (take at packets)) + made = ap length g.progress.in_turn ∙ length-append _ _ ∙ ap (λ n. length (moves_in_turn m threads (take at packets)) + n) (length-replicate made _) in
     let within = moves_within thread g.steps in
     omega (arith, low, earlier, count, steps, all, within, (g.stands.thread thread d below).made)
 
@@ -106,7 +106,7 @@ is_ready {V} m fits threads packets at packet thread moves sent p straight lawfu
       there = there;
       own = own;
       so_far = g;
-      on = goes_on m fits threads packets at packet can.1 (length sent) g.steps straight lawful values there (omega (arith, own)) (more how) g.amid.come;
+      on = goes_on m fits threads packets at packet can.1 (length sent) g.steps straight lawful values there (omega (arith, own)) (more how) g.progress.come;
     }
       where
         t : ℕ
@@ -126,7 +126,7 @@ is_ready {V} m fits threads packets at packet thread moves sent p straight lawfu
         more (inl none) all = omega (arith, none, all)
         more (inr held) all =
             let yes : is_some (thread_after g.steps t).hand ≡ true = sym (hand_is m threads g.steps p t g.stands (omega (arith, own))) ∙ ap (λ n. has_hand p n) (sym own) ∙ held.1 in
-            let no = ended g.amid.come all in cc
+            let no = ended g.progress.come all in cc
 
 -- what was sent out, with what the move sent out
 sent_and : {V : Type 0} (steps next : List (Step V)) (o : Option Emission) → sent_of next ≡ option_to_list o ++ sent_of steps → packets_of (emissions next) ≡ packets_of (emissions steps) ++ packets_of (option_to_list o)
@@ -202,9 +202,9 @@ has_moved {V} m fits threads packets at packet thread moves more sent out p q di
   ready.own,
   record {
     steps = next;
-    amid = subst (λ (l : List PlainMove). IsAmid m threads packets at packet (ready.made + 1) l out next) (sym (more_is ∙ ap (λ n. moves ++ move_on n ∷ []) ready.own))
-        (subst (λ (l : List Packet). IsAmid m threads packets at packet (ready.made + 1) (moves ++ turn_of threads packet ∷ []) l next) sent_is
-        (amid_more m threads packets at packet ready.made moves sent steps ready.so_far.amid ready.on));
+    progress = subst (λ (l : List PlainMove). HasProgressed m threads packets at packet (ready.made + 1) l out next) (sym (more_is ∙ ap (λ n. moves ++ move_on n ∷ []) ready.own))
+        (subst (λ (l : List Packet). HasProgressed m threads packets at packet (ready.made + 1) (moves ++ turn_of threads packet ∷ []) l next) sent_is
+        (progress_more m threads packets at packet ready.made moves sent steps ready.so_far.progress ready.on));
     stands = subst (λ (l : List (Step V)). Stands m threads l q) same did_it.2;
   },
   omega arith,
@@ -234,7 +234,7 @@ has_moved {V} m fits threads packets at packet thread moves more sent out p q di
 
     sent_is : packets_of (emissions next) ≡ out
     sent_is =
-        sent_and steps next (emission_by did) (ap sent_of (sym same) ∙ did_it.3) ∙ ap (λ l. l ++ packets_of (option_to_list (emission_by did))) (sym ready.so_far.amid.sent_is)
+        sent_and steps next (emission_by did) (ap sent_of (sym same) ∙ did_it.3) ∙ ap (λ l. l ++ packets_of (option_to_list (emission_by did))) (sym ready.so_far.progress.sent_is)
         ∙ ap (λ l. sent ++ l) (packets_by did) ∙ sym out_is
 
 -- a packet that was sent out is that of the output
@@ -268,7 +268,7 @@ can_begin m threads packets at packet thread moves sent p packet_is below own un
   own,
   record {
     steps = played.steps;
-    amid = amid_begin m threads packets at packet moves sent played.steps (omega (arith, own)) played.played;
+    progress = progress_begin m threads packets at packet moves sent played.steps (omega (arith, own)) played.played;
     stands = played.stands;
   },
   inl refl,
@@ -284,7 +284,7 @@ pub has_ended : {V : Type 0} (m : Meaning V) (threads : ℕ) (packets : List Pac
     → has_hand p thread ≡ false → thread < threads → HasMoved m threads packets at thread moves sent p → Played m threads packets (at + 1) moves sent p
 has_ended {V} m threads packets at thread moves sent p free under h = record {
   steps = h.4.steps;
-  played = amid_end m threads packets at h.0 h.1 moves sent h.4.steps h.2 h.5 (none (thread_after h.4.steps (thread_of h.0 threads)).hand refl) h.4.amid;
+  played = progress_end m threads packets at h.0 h.1 moves sent h.4.steps h.2 h.5 (none (thread_after h.4.steps (thread_of h.0 threads)).hand refl) h.4.progress;
   stands = h.4.stands;
 }
   where

@@ -1,95 +1,75 @@
 -- A run that read its inputs and then wrote its outputs, from what the two came to.
-use Rattle.std.proofs.Common.{◌≡◌, ℕ, List, sym, ap, ◌∙◌, inl, inr, ◌⊎◌, Ok, subst}
-use Rattle.plain_text.specs.declared.packet.Packet.{Packet}
-use Rattle.plain_text.specs.declared.packet.Unit.{Unit as TimeUnit}
-use Rattle.box_conf.specs.declared.kind.BoxConf.{BoxConf}
-use Rattle.box_conf.specs.declared.kind.BoxKind.{BoxKind}
-use Rattle.box_conf.specs.declared.kind.BoxKind.TheVariants.{Count, Monitor}
-use Rattle.monitor_box.specs.Monitor.{monitor_meaning}
-use Rattle.box_program.specs.Count.{count_meaning}
+use Rattle.std.proofs.Common.{◌≡◌, ℕ, List, Result, Ok, Err, refl, sym, ap, ◌∙◌, inl, inr, ◌⊎◌}
+use Rattle.std.specs.Prelude.{OnOk}
+use Rattle.plain_machine.specs.Program.{Meaning}
 use Rattle.world_io.specs.World.{Shown}
-use Rattle.job_top.specs.declared.status.Status.{Status}
+use Rattle.job_top.specs.declared.errors.OutputError.{OutputError}
+use Rattle.job_top.specs.declared.errors.OutputError.TheVariants.{WriteFault, NoMemory}
+use Rattle.job_top.specs.declared.inputs.Inputs.{Inputs}
 use Rattle.job_top.specs.declared.status.Status.TheVariants as status
-use Rattle.job_top.specs.declared.top.Inputs as accepted_of
-use Rattle.job_top.specs.Files.{KeepsOutputs, HasFront}
-use Rattle.job_top.specs.Judging.{IsOutcome, Judges, JudgesInputs}
-use Rattle.job_top.specs.Outputs.{WritesFronts, WritesWhole}
-use Rattle.job_top.specs.Run.{KeepsShown, RunsKind, RunsWhole, RunsFronts}
-use Rattle.job_top.proofs.Texting as texting
+use Rattle.job_top.specs.Files.{KeepsOutputs, HasPrefix}
+use Rattle.job_top.specs.Judging.{Judges, AcceptsInputs}
+use Rattle.job_top.specs.Kinds.{meaning_of}
+use Rattle.job_top.specs.Outputs.{Output, released_of, HasHeader, WritesInOrder, WritesWhole}
+use Rattle.job_top.specs.Run.{KeepsShown, GivesWhole, GivesInOrder, RunsWhole, RunsInOrder}
+use Rattle.job_top.specs.Status.{outcome_of}
 use Rattle.job_top.specs.Words.{RunNames}
 
--- what stands of the texts of a run may be another thing that follows from it
-runs_map : (kind : BoxKind) (threads : ℕ) (packets : List Packet) (unit : TimeUnit) (Stands Other : List ℕ → List ℕ → List ℕ → Type 0) → ((a b c : List ℕ) → Stands a b c → Other a b c) → RunsKind kind threads packets unit Stands → RunsKind kind threads packets unit Other
-runs_map (Count box) threads packets unit Stands Other f r = texting.runs_map count_meaning threads packets unit Stands Other f r
-runs_map (Monitor box) threads packets unit Stands Other f r = texting.runs_map (monitor_meaning box.shards) threads packets unit Stands Other f r
-
--- the kind and the threads are those of the box file
-of_conf : (conf : BoxConf) (inputs : accepted_of.Inputs) → conf.kind ≡ inputs.kind → conf.threads ≡ inputs.threads → (Stands : List ℕ → List ℕ → List ℕ → Type 0)
-    → RunsKind inputs.kind inputs.threads inputs.capture.packets inputs.capture.unit Stands → RunsKind conf.kind conf.threads inputs.capture.packets inputs.capture.unit Stands
-of_conf conf inputs kind threads Stands ran =
-    subst (λ (k : BoxKind). RunsKind k conf.threads inputs.capture.packets inputs.capture.unit Stands) (sym kind)
-    (subst (λ (n : ℕ). RunsKind inputs.kind n inputs.capture.packets inputs.capture.unit Stands) (sym threads) ran)
-
-module _ (old mid new : Shown) (kept : KeepsOutputs old mid) where
+module _ (names : RunNames) (old mid new : Shown) (kept : KeepsOutputs old mid) where
   named : (name : List ℕ) → mid.names name ≡ old.names name
   named name = ap (λ f. f name) kept.names
 
-  whole_after : (first second a b c : List ℕ) → WritesWhole first second a b c mid new → WritesWhole first second a b c old new
-  whole_after first second a b c w = record {
-    released_whole = w.released_whole;
-    schedule_whole = w.schedule_whole;
+  whole_after : (output : Output) → WritesWhole names output mid new → WritesWhole names output old new
+  whole_after output w = record {
+    released = w.released;
+    schedule = w.schedule;
     reported = rw (sym kept.sent) w.reported;
     others = λ name x y. w.others name x y ∙ named name;
   }
 
-  front_after : (name whole : List ℕ) → HasFront whole (mid.names name) (new.names name) → HasFront whole (old.names name) (new.names name)
-  front_after name whole (inl same) = inl (same ∙ named name)
-  front_after name whole (inr part) = inr part
+  prefix_after : (name whole : List ℕ) → HasPrefix whole (mid.names name) (new.names name) → HasPrefix whole (old.names name) (new.names name)
+  prefix_after name whole (inl same) = inl (same ∙ named name)
+  prefix_after name whole (inr part) = inr part
 
-  fronts_after : (first second a b c : List ℕ) → WritesFronts first second a b c mid new → WritesFronts first second a b c old new
-  fronts_after first second a b c w = record {
-    released_front = front_after first a w.released_front;
-    schedule_front = front_after second b w.schedule_front;
+  header_after : (output : Output) → ((new.names names.schedule ≡ mid.names names.schedule) ⊎ HasHeader names output new)
+      → (new.names names.schedule ≡ old.names names.schedule) ⊎ HasHeader names output new
+  header_after output (inl same) = inl (same ∙ named names.schedule)
+  header_after output (inr header) = inr header
+
+  in_order_after : (output : Output) → WritesInOrder names output mid new → WritesInOrder names output old new
+  in_order_after output w = record {
+    released = prefix_after names.released (released_of output) w.released;
+    schedule = prefix_after names.schedule output.schedule w.schedule;
+    schedule_after = header_after output w.schedule_after;
     report_part = w.report_part;
-    report_front = w.report_front;
+    report_prefix = w.report_prefix;
     reported = rw (sym kept.sent) w.reported;
+    report_after = w.report_after;
     others = λ name x y. w.others name x y ∙ named name;
   }
 
-  pub whole_run : (names : RunNames) (inputs : accepted_of.Inputs) → JudgesInputs names (Ok inputs) old
-      → RunsKind inputs.kind inputs.threads inputs.capture.packets inputs.capture.unit (λ a b c. WritesWhole names.released names.schedule a b c mid new) → RunsWhole names old new
-  whole_run names inputs judged ran = record {
-    conf = judged.0;
-    unit = inputs.capture.unit;
-    packets = inputs.capture.packets;
-    accepted = judged.3;
-    ran = runs_map judged.0.kind judged.0.threads _ _ _ _ (whole_after names.released names.schedule)
-        (of_conf judged.0 inputs judged.1 judged.2 (λ a b c. WritesWhole names.released names.schedule a b c mid new) ran);
-  }
+  pub kept_after : KeepsShown mid new → KeepsShown old new
+  kept_after same = record { names = same.names ∙ kept.names; sent = same.sent ∙ kept.sent }
 
-  pub fronts_run : (names : RunNames) (inputs : accepted_of.Inputs) → JudgesInputs names (Ok inputs) old
-      → KeepsShown mid new ⊎ RunsKind inputs.kind inputs.threads inputs.capture.packets inputs.capture.unit (λ a b c. WritesFronts names.released names.schedule a b c mid new) → RunsFronts names old new
-  fronts_run names inputs judged (inl same) = inl (record { names = same.names ∙ kept.names; sent = same.sent ∙ kept.sent })
-  fronts_run names inputs judged (inr ran) = inr (record {
-    conf = judged.0;
-    unit = inputs.capture.unit;
-    packets = inputs.capture.packets;
-    accepted = judged.3;
-    ran = runs_map judged.0.kind judged.0.threads _ _ _ _ (fronts_after names.released names.schedule)
-        (of_conf judged.0 inputs judged.1 judged.2 (λ a b c. WritesFronts names.released names.schedule a b c mid new) ran);
-  })
-
-  -- nothing was written
   pub kept_run : KeepsShown old mid
   kept_run = record { names = kept.names; sent = kept.sent }
 
+  pub whole_run : (inputs : Inputs) → AcceptsInputs names inputs old → GivesWhole (meaning_of inputs.conf.kind).meaning inputs names mid new → RunsWhole names old new
+  whole_run inputs accepted ran = (inputs, accepted, (ran.0, ran.1, whole_after ran.0 ran.2))
+
+  pub in_order_run : (inputs : Inputs) → AcceptsInputs names inputs old → GivesInOrder (meaning_of inputs.conf.kind).meaning inputs names mid new → RunsInOrder names old new
+  in_order_run inputs accepted (inl same) = inl (kept_after same)
+  in_order_run inputs accepted (inr ran) = inr (inputs, accepted, inr (ran.0, ran.1, in_order_after ran.0 ran.2))
+
 -- once the inputs are accepted
-pub outcome_judged : (names : RunNames) (inputs : accepted_of.Inputs) (shown : Shown) (s : Status) → IsOutcome s → JudgesInputs names (Ok inputs) shown → Judges names s shown
-outcome_judged names inputs shown status.Done is judged = (judged.0, inputs.capture.unit, inputs.capture.packets, judged.3)
-outcome_judged names inputs shown status.WriteFault is judged = (judged.0, inputs.capture.unit, inputs.capture.packets, judged.3)
-outcome_judged names inputs shown status.NoMemory is judged = tt
-outcome_judged names inputs shown status.BadWords is judged = absurd is
-outcome_judged names inputs shown status.ReadFault is judged = absurd is
-outcome_judged names inputs shown (status.BadInput fault) is judged = absurd is
-outcome_judged names inputs shown (status.TooLarge limit) is judged = absurd is
-outcome_judged names inputs shown status.NotBuilt is judged = absurd is
+pub outcome_judged : {A : Type 0} (healthy : Type 0) (names : RunNames) (inputs : Inputs) (shown : Shown) (written : Result A OutputError)
+    → (healthy → written ≡ Err WriteFault → ⊥) → AcceptsInputs names inputs shown → Judges healthy names (outcome_of written) shown
+outcome_judged healthy names inputs shown (Ok done) never accepted = (inputs, accepted)
+outcome_judged healthy names inputs shown (Err WriteFault) never accepted = ((λ ok. never ok refl), (inputs, accepted))
+outcome_judged healthy names inputs shown (Err NoMemory) never accepted = tt
+
+-- what was written is whole where the command is done
+pub done_whole : {A P : Type 0} (written : Result A OutputError) → outcome_of written ≡ status.Done → OnOk written P → P
+done_whole (Ok done) e p = p
+done_whole (Err WriteFault) e p = absurd (cc)
+done_whole (Err NoMemory) e p = absurd (cc)

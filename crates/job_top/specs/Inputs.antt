@@ -1,24 +1,16 @@
 -- The input files of a run, and what each comes to.
-use Rattle.std.specs.Prelude.{◌≡◌, ℕ, ◌<◌, ◌≤◌, Bool, List, length, Some, Ok, Err}
+use Rattle.std.specs.Prelude.{◌≡◌, ℕ, ◌≤◌, All, Bool, List, length, Ok, Err}
 use Rattle.plain_text.specs.declared.fault.LineFault.{LineFault}
 use Rattle.plain_text.specs.declared.limit.Limit.{Limit}
-use Rattle.plain_text.specs.declared.packet.Packet.{Packet}
-use Rattle.plain_text.specs.declared.packet.Unit.{Unit as TimeUnit}
 use Rattle.pcap_io.specs.declared.capture.Captured.TheVariants as captured
 use Rattle.pcap_io.specs.declared.fault.CaptureFault.{CaptureFault}
 use Rattle.pcap_io.specs.Captured.{IsCaptureWithin, Says}
 use Rattle.box_conf.specs.declared.kind.BoxConf.{BoxConf}
 use Rattle.box_conf.specs.BoxFile.{box_of}
 use Rattle.world_io.specs.World.{Shown}
+use Rattle.job_top.specs.declared.inputs.Capture.{Capture}
+use Rattle.job_top.specs.Files.{HasBytes}
 use Rattle.job_top.specs.Script.{is_settle}
-
--- the name has these bytes, which are within the limit of a file
-abbrev pub HasBytes : List ℕ → Shown → List ℕ → Type 0
-HasBytes name shown bytes = (shown.names name ≡ Some bytes) × (length bytes ≤ 67108864)
-
--- the name has more bytes than the limit of a file
-abbrev pub HasTooMany : List ℕ → Shown → Type 0
-HasTooMany name shown = (bytes : List ℕ) × (shown.names name ≡ Some bytes) × (67108864 < length bytes)
 
 abbrev pub AcceptsBox : List ℕ → BoxConf → Shown → Type 0
 AcceptsBox name conf shown = (bytes : List ℕ) × HasBytes name shown bytes × (box_of bytes ≡ Ok conf)
@@ -26,8 +18,9 @@ AcceptsBox name conf shown = (bytes : List ℕ) × HasBytes name shown bytes × 
 abbrev pub FaultsBox : List ℕ → LineFault → Shown → Type 0
 FaultsBox name fault shown = (bytes : List ℕ) × HasBytes name shown bytes × (box_of bytes ≡ Err fault)
 
-abbrev pub AcceptsCapture : List ℕ → TimeUnit → List Packet → Shown → Type 0
-AcceptsCapture name unit packets shown = (bytes : List ℕ) × HasBytes name shown bytes × IsCaptureWithin bytes unit packets
+abbrev pub AcceptsCapture : List ℕ → Capture → Shown → Type 0
+AcceptsCapture name capture shown =
+    (bytes : List ℕ) × HasBytes name shown bytes × IsCaptureWithin bytes capture.unit capture.packets
 
 abbrev pub FaultsCapture : List ℕ → CaptureFault → Shown → Type 0
 FaultsCapture name fault shown = (bytes : List ℕ) × HasBytes name shown bytes × Says bytes (captured.Refused fault)

@@ -1,9 +1,29 @@
 -- The outputs of a run: the released capture and the schedule under their names, and the report.
-use Rattle.std.specs.Prelude.{◌≡◌, ℕ, ◌+◌, ◌≤◌, List, [], ◌++◌, Some}
+use Rattle.std.specs.Prelude.{◌≡◌, ◌⊎◌, ℕ, ◌+◌, ◌≤◌, List, [], ◌++◌, Some}
 use Rattle.world_io.specs.World.{Shown, Ledger}
-use Rattle.world_io.specs.declared.all.WriteAll.{WriteAll}
-use Rattle.world_io.specs.declared.all.WriteAll.TheVariants as write
-use Rattle.job_top.specs.Files.{IsFile, IsFront, HasFront, KeepsOthers}
+use Rattle.job_top.specs.declared.outputs.OutputFiles.{OutputFiles}
+use Rattle.job_top.specs.declared.outputs.RunTexts.{RunTexts}
+use Rattle.job_top.specs.Files.{report_file, IsFile, IsPrefix, HasPrefix, KeepsOthers}
+use Rattle.job_top.specs.Words.{RunNames}
+
+-- what a run writes: the header and the records of the released capture, the schedule, and the report
+pub record Output : Type 0 where
+  pub header : List ℕ
+  pub records : List ℕ
+  pub schedule : List ℕ
+  pub report : List ℕ
+
+abbrev pub output_of : RunTexts → Output
+output_of texts = record {
+  header = texts.header;
+  records = texts.records;
+  schedule = texts.schedule;
+  report = texts.report;
+}
+
+-- the released capture
+abbrev pub released_of : Output → List ℕ
+released_of output = output.header ++ output.records
 
 -- only writing has gone on, to at most two more files
 pub record AfterWriting (old new : Ledger) : Type 0 where
@@ -12,46 +32,37 @@ pub record AfterWriting (old new : Ledger) : Type 0 where
   pub write_faults : old.write_faults ≤ new.write_faults
 
 -- both outputs were created, and the released capture has its header
-pub record OpensOutputs (released schedule : ℕ) (released_name schedule_name header : List ℕ) (old new : Shown) : Type 0 where
-  pub released_file : IsFile released released_name header new
-  pub schedule_file : IsFile schedule schedule_name [] new
-  pub apart : ¬ (released ≡ schedule)
-  pub report : new.sent 0 ≡ old.sent 0
-  pub others : KeepsOthers released_name schedule_name old new
-
--- each output is as it was, or has a front of what it is to have then
-pub record OpensFronts (released_name schedule_name header : List ℕ) (old new : Shown) : Type 0 where
-  pub released : HasFront header (old.names released_name) (new.names released_name)
-  pub schedule : HasFront [] (old.names schedule_name) (new.names schedule_name)
-  pub report : new.sent 0 ≡ old.sent 0
-  pub others : KeepsOthers released_name schedule_name old new
-
--- After both outputs were created: each got a front of what it is to have, and all of it where the answer says so.
-pub record FillsOutputs (answer : WriteAll) (released_name schedule_name had records schedule report : List ℕ) (old new : Shown) : Type 0 where
-  pub records_part : List ℕ
-  pub records_front : IsFront records_part records
-  pub released : new.names released_name ≡ Some (had ++ records_part)
-  pub schedule_part : List ℕ
-  pub schedule_front : IsFront schedule_part schedule
-  pub scheduled : new.names schedule_name ≡ Some schedule_part
-  pub report_part : List ℕ
-  pub report_front : IsFront report_part report
-  pub reported : new.sent 0 ≡ old.sent 0 ++ report_part
-  pub whole : answer ≡ write.All → (records_part ≡ records) × (schedule_part ≡ schedule) × (report_part ≡ report)
-  pub others : KeepsOthers released_name schedule_name old new
-
--- each output is as it was, or has a front of what it is to have; the report got a front of its text
-pub record WritesFronts (released_name schedule_name released schedule report : List ℕ) (old new : Shown) : Type 0 where
-  pub released_front : HasFront released (old.names released_name) (new.names released_name)
-  pub schedule_front : HasFront schedule (old.names schedule_name) (new.names schedule_name)
-  pub report_part : List ℕ
-  pub report_front : IsFront report_part report
-  pub reported : new.sent 0 ≡ old.sent 0 ++ report_part
-  pub others : KeepsOthers released_name schedule_name old new
+pub record OpensOutputs (files : OutputFiles) (names : RunNames) (output : Output) (old new : Shown) : Type 0 where
+  pub released_file : IsFile files.released names.released output.header new
+  pub schedule_file : IsFile files.schedule names.schedule [] new
+  pub apart : ¬ (files.released ≡ files.schedule)
+  pub report : new.sent report_file ≡ old.sent report_file
+  pub others : KeepsOthers names.released names.schedule old new
 
 -- each output has what it is to have
-pub record WritesWhole (released_name schedule_name released schedule report : List ℕ) (old new : Shown) : Type 0 where
-  pub released_whole : new.names released_name ≡ Some released
-  pub schedule_whole : new.names schedule_name ≡ Some schedule
-  pub reported : new.sent 0 ≡ old.sent 0 ++ report
-  pub others : KeepsOthers released_name schedule_name old new
+pub record WritesWhole (names : RunNames) (output : Output) (old new : Shown) : Type 0 where
+  pub released : new.names names.released ≡ Some (released_of output)
+  pub schedule : new.names names.schedule ≡ Some output.schedule
+  pub reported : new.sent report_file ≡ old.sent report_file ++ output.report
+  pub others : KeepsOthers names.released names.schedule old new
+
+-- the released capture has its header
+abbrev pub HasHeader : RunNames → Output → Shown → Type 0
+HasHeader names output shown = (records : List ℕ) × (shown.names names.released ≡ Some (output.header ++ records))
+
+-- both outputs have all that they are to have
+abbrev pub HasOutputs : RunNames → Output → Shown → Type 0
+HasOutputs names output shown =
+    (shown.names names.released ≡ Some (released_of output)) × (shown.names names.schedule ≡ Some output.schedule)
+
+-- Each output is as it was, or has a prefix of what it is to have; the report got a prefix of its text. The schedule changes
+-- only once the released capture has its header, and a part of the report comes only once both outputs are whole.
+pub record WritesInOrder (names : RunNames) (output : Output) (old new : Shown) : Type 0 where
+  pub released : HasPrefix (released_of output) (old.names names.released) (new.names names.released)
+  pub schedule : HasPrefix output.schedule (old.names names.schedule) (new.names names.schedule)
+  pub schedule_after : (new.names names.schedule ≡ old.names names.schedule) ⊎ HasHeader names output new
+  pub report_part : List ℕ
+  pub report_prefix : IsPrefix report_part output.report
+  pub reported : new.sent report_file ≡ old.sent report_file ++ report_part
+  pub report_after : (report_part ≡ []) ⊎ HasOutputs names output new
+  pub others : KeepsOthers names.released names.schedule old new

@@ -1,21 +1,19 @@
 -- What the command `run` leaves.
-use Rattle.std.specs.Prelude.{◌≡◌, ◌⊎◌, ℕ, List, length}
+use Rattle.std.specs.Prelude.{◌≡◌, ◌⊎◌, ℕ, ◌≤◌, All, List, length}
 use Rattle.plain_text.specs.declared.packet.Packet.{Packet}
-use Rattle.plain_text.specs.declared.packet.Unit.{Unit as TimeUnit}
-use Rattle.pcap_io.specs.Capture.{written}
+use Rattle.pcap_io.specs.Capture.{written_header, records_of}
+use Rattle.pcap_io.specs.declared.order.Order.TheVariants as order
 use Rattle.plain_machine.specs.declared.plain_move.PlainMove.{PlainMove}
 use Rattle.plain_machine.specs.Program.{Meaning}
 use Rattle.plain_player.specs.ScheduleText.{schedule_text}
-use Rattle.box_program.specs.Count.{count_meaning}
-use Rattle.box_conf.specs.declared.kind.BoxConf.{BoxConf}
-use Rattle.box_conf.specs.declared.kind.BoxKind.{BoxKind}
-use Rattle.box_conf.specs.declared.kind.BoxKind.TheVariants.{Count, Monitor}
-use Rattle.monitor_box.specs.Monitor.{monitor_meaning}
 use Rattle.world_io.specs.World.{Shown}
+use Rattle.job_top.specs.declared.inputs.Inputs.{Inputs}
 use Rattle.job_top.specs.Judging.{AcceptsInputs}
-use Rattle.job_top.specs.Outputs.{WritesFronts, WritesWhole}
+use Rattle.job_top.specs.Kinds.{meaning_of}
+use Rattle.plain_text.specs.declared.limit.TheConstants.{MOST_PACKETS}
+use Rattle.job_top.specs.Outputs.{Output, WritesInOrder, WritesWhole}
 use Rattle.job_top.specs.Report.{report_text}
-use Rattle.job_top.specs.Running.{IsSettled}
+use Rattle.job_top.specs.Running.{IsSettled, IsShort}
 use Rattle.job_top.specs.Words.{RunNames}
 
 -- nothing was created or written
@@ -23,31 +21,45 @@ pub record KeepsShown (old new : Shown) : Type 0 where
   pub names : new.names ≡ old.names
   pub sent : new.sent ≡ old.sent
 
--- A program ran on these packets on so many threads, and this stands of the released capture, the schedule and the report that it
--- gave.
-pub record Runs {V : Type 0} (m : Meaning V) (threads : ℕ) (packets : List Packet) (unit : TimeUnit) (Stands : List ℕ → List ℕ → List ℕ → Type 0) : Type 0 where
+-- inputs that a box can run on: 1 to 16 threads, and the packets of a capture
+pub record CanRun (inputs : Inputs) : Type 0 where
+  pub some_threads : 1 ≤ inputs.conf.threads
+  pub few_threads : inputs.conf.threads ≤ 16
+  pub few_packets : length inputs.capture.packets ≤ MOST_PACKETS
+  pub short : All IsShort inputs.capture.packets
+
+-- what is written of these moves and of these packets that they sent out
+abbrev pub output_from : Inputs → List PlainMove → List Packet → Output
+output_from inputs moves sent = record {
+  header = written_header inputs.capture.unit;
+  records = records_of order.Little sent;
+  schedule = schedule_text moves;
+  report = report_text (length moves) (length sent) (length inputs.capture.packets);
+}
+
+-- a program that means this ran on the inputs, and this is its output
+pub record Gives {V : Type 0} (m : Meaning V) (inputs : Inputs) (output : Output) : Type 0 where
   pub moves : List PlainMove
   pub sent : List Packet
-  pub settled : IsSettled m threads packets moves sent
-  pub stands : Stands (written unit sent) (schedule_text moves) (report_text (length moves) (length sent) (length packets))
+  pub settled : IsSettled m inputs.conf.threads inputs.capture.packets moves sent
+  pub output_is : output ≡ output_from inputs moves sent
 
--- the same of the program of a kind
-abbrev pub RunsKind : BoxKind → ℕ → List Packet → TimeUnit → (List ℕ → List ℕ → List ℕ → Type 0) → Type 0
-RunsKind (Count box) threads packets unit Stands = Runs count_meaning threads packets unit Stands
-RunsKind (Monitor box) threads packets unit Stands = Runs (monitor_meaning box.shards) threads packets unit Stands
+-- the program's output was written whole
+abbrev pub GivesWhole : {V : Type 0} → Meaning V → Inputs → RunNames → Shown → Shown → Type 0
+GivesWhole m inputs names old new = (output : Output) × Gives m inputs output × WritesWhole names output old new
 
--- the inputs are accepted, and the box ran on the packets of the capture
-pub record RunsOn (names : RunNames) (old : Shown) (Stands : List ℕ → List ℕ → List ℕ → Type 0) : Type 0 where
-  pub conf : BoxConf
-  pub unit : TimeUnit
-  pub packets : List Packet
-  pub accepted : AcceptsInputs names conf unit packets old
-  pub ran : RunsKind conf.kind conf.threads packets unit Stands
+-- nothing was written, or the program's output was written in order, maybe not to its end
+abbrev pub GivesInOrder : {V : Type 0} → Meaning V → Inputs → RunNames → Shown → Shown → Type 0
+GivesInOrder m inputs names old new =
+    KeepsShown old new ⊎ ((output : Output) × Gives m inputs output × WritesInOrder names output old new)
 
--- the outputs have all that the run gives
+-- the inputs are accepted, and the outputs have all that their box gives
 abbrev pub RunsWhole : RunNames → Shown → Shown → Type 0
-RunsWhole names old new = RunsOn names old (λ released schedule report. WritesWhole names.released names.schedule released schedule report old new)
+RunsWhole names old new =
+    (inputs : Inputs) × AcceptsInputs names inputs old × GivesWhole (meaning_of inputs.conf.kind).meaning inputs names old new
 
--- nothing was written yet, or the outputs have fronts of what the run gives
-abbrev pub RunsFronts : RunNames → Shown → Shown → Type 0
-RunsFronts names old new = KeepsShown old new ⊎ RunsOn names old (λ released schedule report. WritesFronts names.released names.schedule released schedule report old new)
+-- nothing was written, or the inputs are accepted, and what their box gives was written in order
+abbrev pub RunsInOrder : RunNames → Shown → Shown → Type 0
+RunsInOrder names old new =
+    KeepsShown old new
+    ⊎ ((inputs : Inputs) × AcceptsInputs names inputs old × GivesInOrder (meaning_of inputs.conf.kind).meaning inputs names old new)

@@ -1,9 +1,19 @@
--- The exit statuses of the program.
-use Rattle.std.specs.Prelude.{ℕ}
+-- The statuses of the commands: their exit numbers, at which stage they come, and which error of a stage gives which.
+use Rattle.std.specs.Prelude.{◌≡◌, ◌⊎◌, ℕ, Result, Ok, Err}
+use Rattle.plain_text.specs.declared.fault.LineFault.{LineFault}
+use Rattle.plain_text.specs.declared.limit.Limit.TheVariants.{File}
+use Rattle.pcap_io.specs.declared.fault.CaptureFault.{CaptureFault}
+use Rattle.job_top.specs.declared.errors.InputError.{InputError}
+use Rattle.job_top.specs.declared.errors.InputError.TheVariants as of_input
+use Rattle.world_io.specs.declared.all.ReadError.{ReadError}
+use Rattle.world_io.specs.declared.all.ReadError.TheVariants as of_reading
+use Rattle.job_top.specs.declared.errors.OutputError.{OutputError}
+use Rattle.job_top.specs.declared.errors.OutputError.TheVariants as of_output
+use Rattle.job_top.specs.declared.status.InputFault.TheVariants.{BoxFile, Capture}
 use Rattle.job_top.specs.declared.status.Status.{Status}
 use Rattle.job_top.specs.declared.status.Status.TheVariants.{Done, BadWords, ReadFault, WriteFault, NoMemory, BadInput, TooLarge, NotBuilt}
 
--- 1 is kept for a schedule or a capture that a check refutes
+-- the exit number of the program; 1 is kept for a schedule or a capture that a check refutes
 abbrev pub exit_code_of : Status → ℕ
 exit_code_of Done = 0
 exit_code_of BadWords = 2
@@ -13,3 +23,55 @@ exit_code_of NoMemory = 5
 exit_code_of (BadInput fault) = 6
 exit_code_of (TooLarge limit) = 7
 exit_code_of NotBuilt = 8
+
+-- the stages of a command: its words are read; its inputs are read and judged; its outputs are written
+pub data Stage : Type 0 where
+  AtWords : Stage
+  AtInputs : Stage
+  AtOutputs : Stage
+  AtAnyTime : Stage
+
+-- the stage at which a status comes; memory may run out at any time
+abbrev pub stage_of : Status → Stage
+stage_of Done = AtOutputs
+stage_of BadWords = AtWords
+stage_of ReadFault = AtInputs
+stage_of WriteFault = AtOutputs
+stage_of NoMemory = AtAnyTime
+stage_of (BadInput fault) = AtInputs
+stage_of (TooLarge limit) = AtInputs
+stage_of NotBuilt = AtInputs
+
+-- the status comes at this stage, or says that memory ran out
+abbrev pub ComesAt : Stage → Status → Type 0
+ComesAt stage status = (stage_of status ≡ stage) ⊎ (stage_of status ≡ AtAnyTime)
+
+abbrev pub of_script_error : ReadError → Status
+of_script_error of_reading.Failed = ReadFault
+of_script_error of_reading.TooLarge = TooLarge File
+of_script_error of_reading.NoMemory = NoMemory
+
+abbrev pub of_box_error : InputError LineFault → Status
+of_box_error of_input.ReadFault = ReadFault
+of_box_error of_input.NoMemory = NoMemory
+of_box_error (of_input.TooLarge limit) = TooLarge limit
+of_box_error (of_input.Fault fault) = BadInput (BoxFile fault)
+
+abbrev pub of_capture_error : InputError CaptureFault → Status
+of_capture_error of_input.ReadFault = ReadFault
+of_capture_error of_input.NoMemory = NoMemory
+of_capture_error (of_input.TooLarge limit) = TooLarge limit
+of_capture_error (of_input.Fault fault) = BadInput (Capture fault)
+
+abbrev pub of_output_error : OutputError → Status
+of_output_error of_output.WriteFault = WriteFault
+of_output_error of_output.NoMemory = NoMemory
+
+-- what a command comes to whose outputs were written so
+abbrev pub outcome_of : {A : Type 0} → Result A OutputError → Status
+outcome_of (Ok done) = Done
+outcome_of (Err error) = of_output_error error
+
+-- the command is done, or memory ran out
+abbrev pub Completes : Status → Type 0
+Completes status = (status ≡ Done) ⊎ (status ≡ NoMemory)

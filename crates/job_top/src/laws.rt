@@ -1,5 +1,5 @@
 //! Laws of the commands. Each is proved, and does nothing: a caller has it by the call.
-ghost use Rattle.std.specs.Prelude.{◌≡◌, ℕ, Ok, Err};
+ghost use Rattle.std.specs.Prelude.{◌≡◌, ℕ, Bool, IsTrue, Ok, Err};
 ghost use Rattle.plain_text.specs.declared.packet.Packet.{Packet};
 ghost use Rattle.packet_headers.specs.declared.flow.Flow.{Flow};
 ghost use Rattle.packet_headers.specs.declared.flow.NotFlow.{NotFlow};
@@ -8,20 +8,21 @@ ghost use Rattle.box_program.specs.Count.{count_meaning};
 ghost use Rattle.monitor_box.specs.Monitor.{monitor_meaning};
 ghost use Rattle.world_io.specs.World.{Shown};
 ghost use Rattle.job_top.specs.declared.status.Status.{Status};
-ghost use Rattle.job_top.specs.Judging.{Judges};
+ghost use Rattle.job_top.specs.Judging.{Judges, IsDecided};
 ghost use Rattle.job_top.specs.Running.{moves_for};
-ghost use Rattle.job_top.specs.Verdict.{IsDecided};
 ghost use Rattle.job_top.specs.Words.{RunNames};
 
 /// The input files decide the status: of those that they decide at most one is true of them. So each comes exactly where it is
-/// true, unless the world fails or memory is wanting.
+/// true, unless memory runs out or, in a world that is not healthy, reading or writing fails.
 pub fn one_verdict()
-    ensures { (names : RunNames) (s r : Status) (shown : Shown)
-        → IsDecided s → IsDecided r → Judges names s shown → Judges names r shown → s ≡ r }
+    ensures { (healthy : Bool) (names : RunNames) (s r : Status) (shown : Shown)
+        → IsDecided (IsTrue healthy) s → IsDecided (IsTrue healthy) r
+        → Judges (IsTrue healthy) names s shown → Judges (IsTrue healthy) names r shown → s ≡ r }
 {}
 
-/// How many moves each box makes of a packet: the counting box four, and the monitor five of a flow and four of another packet.
-pub fn boxes_make_so_many_moves()
+/// The number of moves that each box makes of a packet: the counting box four, and the monitor five of a flow and four of another
+/// packet.
+pub fn moves_of_each_box()
     ensures count { (p : Packet) → moves_for count_meaning p ≡ 4 }
     ensures monitor_flow { (tables : ℕ) (p : Packet) (flow : Flow)
         → viewed p.bytes p.original ≡ Ok flow → moves_for (monitor_meaning tables) p ≡ 5 }

@@ -2,6 +2,7 @@
 #![tactic(auto)]
 
 mod command;
+mod errors;
 mod inputs;
 mod laws;
 mod make_words;
@@ -19,18 +20,19 @@ mod top;
 mod writing;
 
 pub use command::{Command, read_command};
-pub use inputs::{Capture, read_box_file, read_capture_file, read_script_file};
-pub use laws::{boxes_make_so_many_moves, one_verdict};
+pub use errors::{InputError, OutputError};
+pub use inputs::{Capture, Inputs, read_box_file, read_capture_file, read_script_file};
+pub use laws::{moves_of_each_box, one_verdict};
 pub use make_words::{MakeWords, read_make_words};
 pub use making::make_capture;
-pub use outputs::{RunFiles, Written, write_outputs};
+pub use outputs::{OutputFiles, RunTexts, write_outputs};
 pub use programs::run_program;
-pub use reading::{ReadFile, read_file};
+pub use reading::read_file;
 pub use records::put_records;
 pub use report::put_report;
 pub use run_words::{RunWords, read_run_words};
 pub use running::{Running, play_packets};
 pub use script::is_settle;
 pub use status::{InputFault, Status};
-pub use top::{Inputs, ftmb};
-pub use writing::append;
+pub use top::ftmb;
+pub use writing::{REPORT, append};

@@ -1,10 +1,7 @@
 ghost use Rattle.std.specs.Prelude.{◌≡◌, ◌≤◌, IfSome, MatchOption, None, Some};
 ghost use Rattle.job_top.specs.Words.{make_names, made_of};
 
-use plain_text::{Text, read_u64};
-
-/// The most packets of a capture.
-const MOST_PACKETS: u64 = 65_536;
+use plain_text::{MOST_PACKETS, Text, read_u64};
 
 /// What the words of the command `make` ask for.
 #[derive(Clone, Copy, Debug)]
@@ -28,7 +25,7 @@ pub fn read_make_words(words: &[Text]) -> Option<MakeWords<'_>>
     }
     let seed = read_u64(words[1].as_str().as_bytes())?;
     let count = read_u64(words[2].as_str().as_bytes())?;
-    if count > MOST_PACKETS {
+    if count > u64::from(MOST_PACKETS) {
         return None;
     }
     Some(MakeWords {

@@ -1,43 +1,29 @@
-ghost use Rattle.std.specs.Prelude.{◌≡◌, ◌<◌, ◌-◌, ◌^◌, IsTrue};
+ghost use Rattle.std.specs.Prelude.{◌≡◌, ◌<◌, ◌-◌, ◌^◌, IsTrue, IfOk, IsErrOf};
+ghost use Rattle.plain_text.specs.Octets.{AreBytes};
 ghost use Rattle.world_io.specs.Stream.{Rose};
 ghost use Rattle.job_top.specs.Files.{ReadsName, KeepsOutputs, AfterReading};
 
-use plain_text::{Bytes, Text};
+use plain_text::{Bytes, MOST_FILE_BYTES, Text};
 use std::alloc::Global;
-use world_io::{OpenFault, ReadAll, World, WorldSource, read_all};
-
-/// The most bytes of an input file.
-pub const MOST_BYTES: u64 = 67_108_864;
-
-/// What reading a whole file gave.
-#[derive(Debug, Drop)]
-pub enum ReadFile {
-    Whole(Bytes),
-    /// It has more than 67,108,864 bytes.
-    TooLarge,
-    /// It could not be opened, or reading failed.
-    Failed,
-    NoMemory,
-}
+use world_io::{OpenFault, ReadError, World, WorldSource, read_all};
 
 /// Reads all the bytes under a name.
-pub fn read_file<W: World>(alloc: Global, world: &mut W, name: &Text) -> ReadFile
+pub fn read_file<W: World>(alloc: Global, world: &mut W, name: &Text) -> Result<Bytes, ReadError>
     requires { (W.ledger world.old).given < 2 ^ 32 - 1 }
-    ensures bytes { IsTrue W.tells → ReadsName result name.now (W.shown world.old) }
+    ensures judged { IsTrue W.tells
+        → ReadsName (W.healthy world.old) name.now result (W.shown world.old) }
+    ensures bytes { IfOk result AreBytes }
     ensures outputs { IsTrue W.tells → KeepsOutputs (W.shown world.old) (W.shown world.new) }
     ensures ledger { AfterReading (W.ledger world.old) (W.ledger world.new) }
-    ensures cause { result ≡ ReadFile.Failed → Rose (W.ledger world.old).read_faults (W.ledger world.new).read_faults }
+    ensures cause { IsErrOf result ReadError.Failed
+        → Rose (W.ledger world.old).read_faults (W.ledger world.new).read_faults }
+    ensures stays_healthy { W.healthy world.old → W.healthy world.new }
 {
     let file = match world.open_file(name) {
         Ok(file) => file,
-        Err(OpenFault::Failed) => return ReadFile::Failed,
-        Err(OpenFault::NoMemory) => return ReadFile::NoMemory,
+        Err(OpenFault::Failed) => return Err(ReadError::Failed),
+        Err(OpenFault::NoMemory) => return Err(ReadError::NoMemory),
     };
     let mut source = WorldSource::of(world, file);
-    match read_all(alloc, &mut source, MOST_BYTES) {
-        ReadAll::All(bytes) => ReadFile::Whole(bytes),
-        ReadAll::TooLarge => ReadFile::TooLarge,
-        ReadAll::Failed => ReadFile::Failed,
-        ReadAll::NoMemory => ReadFile::NoMemory,
-    }
+    read_all(alloc, &mut source, MOST_FILE_BYTES)
 }

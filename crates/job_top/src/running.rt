@@ -3,7 +3,7 @@ ghost use Rattle.input_logger.specs.Inputs.{thread_of};
 ghost use Rattle.master_core.specs.Mastered.{FitsProgram, has_hand, moves_left, place_in_hand};
 ghost use Rattle.job_top.specs.Running.{IsStraight, IsSettled, IsShort};
 ghost use Rattle.master_core.specs.Stepping.{MadeOne};
-ghost use Rattle.job_top.specs.Midst.{Played, CanMove, HasMoved, HadTurn, packet_sent};
+ghost use Rattle.job_top.specs.Progress.{Played, CanMove, HasMoved, HadTurn, packet_sent};
 
 use box_program::Program;
 use input_logger::steer;

@@ -1,9 +1,11 @@
 ghost use Rattle.std.specs.Prelude.{◌≡◌};
 ghost use Rattle.job_top.specs.Status.{exit_code_of};
 
+use crate::{InputError, OutputError};
 use pcap_io::CaptureFault;
 use plain_text::{Limit, LineFault};
 use thiserror::Error;
+use world_io::ReadError;
 
 /// An input file that leaves its grammar: which, where and why.
 #[derive(Clone, Copy, Debug, PartialEq, Eq, Error)]
@@ -54,6 +56,67 @@ impl Status {
             Status::BadInput(_) => 6,
             Status::TooLarge(_) => 7,
             Status::NotBuilt => 8,
+        }
+    }
+}
+
+impl From<InputError<LineFault>> for Status {
+    ghost use Rattle.std.specs.Prelude.{◌≡◌};
+    ghost use Rattle.job_top.specs.Status.{of_box_error};
+
+    ghost from_gives = { λ error status. status ≡ of_box_error error };
+
+    fn from(error: InputError<LineFault>) -> Self {
+        match error {
+            InputError::ReadFault => Status::ReadFault,
+            InputError::TooLarge(limit) => Status::TooLarge(limit),
+            InputError::Fault(fault) => Status::BadInput(InputFault::BoxFile(fault)),
+            InputError::NoMemory => Status::NoMemory,
+        }
+    }
+}
+
+impl From<InputError<CaptureFault>> for Status {
+    ghost use Rattle.std.specs.Prelude.{◌≡◌};
+    ghost use Rattle.job_top.specs.Status.{of_capture_error};
+
+    ghost from_gives = { λ error status. status ≡ of_capture_error error };
+
+    fn from(error: InputError<CaptureFault>) -> Self {
+        match error {
+            InputError::ReadFault => Status::ReadFault,
+            InputError::TooLarge(limit) => Status::TooLarge(limit),
+            InputError::Fault(fault) => Status::BadInput(InputFault::Capture(fault)),
+            InputError::NoMemory => Status::NoMemory,
+        }
+    }
+}
+
+impl From<ReadError> for Status {
+    ghost use Rattle.std.specs.Prelude.{◌≡◌};
+    ghost use Rattle.job_top.specs.Status.{of_script_error};
+
+    ghost from_gives = { λ error status. status ≡ of_script_error error };
+
+    fn from(error: ReadError) -> Self {
+        match error {
+            ReadError::Failed => Status::ReadFault,
+            ReadError::TooLarge => Status::TooLarge(Limit::File),
+            ReadError::NoMemory => Status::NoMemory,
+        }
+    }
+}
+
+impl From<OutputError> for Status {
+    ghost use Rattle.std.specs.Prelude.{◌≡◌};
+    ghost use Rattle.job_top.specs.Status.{of_output_error};
+
+    ghost from_gives = { λ error status. status ≡ of_output_error error };
+
+    fn from(error: OutputError) -> Self {
+        match error {
+            OutputError::WriteFault => Status::WriteFault,
+            OutputError::NoMemory => Status::NoMemory,
         }
     }
 }

@@ -1,24 +1,20 @@
-use Rattle.world_io.specs.declared.all.WriteAll.TheVariants as write
-use Rattle.job_top.proofs.OneOutput.{cut_header, cut_records, cut_report}
+use Rattle.job_top.proofs.Appending.{all_same, cut_same, appends_same}
+use Rattle.job_top.proofs.OutputSteps.{cut_made_header, cut_made_records, made_in_order}
 use Rattle.job_top.proofs.making.write_capture.Goals as goal
 
-pub returns-in-Failed-clause-fronts : goal.returns-in-Failed-clause-fronts
-returns-in-Failed-clause-fronts g c told = cut_header c.in-Ok.file _ _ _ _ _ _ (c.in-Ok.ensures.given).fresh.not_report (c.in-Ok.ensures.told told) (write.Failed c.in-Failed.field-0) _ (c.in-Failed.ensures.told told)
+pub returns-in_err-append-clause-in_order : goal.returns-in_err-append-clause-in_order
+returns-in_err-append-clause-in_order g c told =
+    let cut = c.in_err-append.ensures.told told in
+    cut_made_header c.args.name.now c.args.texts.now.header c.args.texts.now.records c.args.texts.now.report _ c.in_ok-file.file _ (c.in_ok-file.ensures.given).fresh.not_report (c.in_ok-file.ensures.told told)
+    cut.0 _ cut.1
 
-pub returns-in-NoMemory-clause-fronts : goal.returns-in-NoMemory-clause-fronts
-returns-in-NoMemory-clause-fronts g c told = cut_header c.in-Ok.file _ _ _ _ _ _ (c.in-Ok.ensures.given).fresh.not_report (c.in-Ok.ensures.told told) (write.NoMemory c.in-NoMemory.field-0) _ (c.in-NoMemory.ensures.told told)
+pub returns-in_err-append-2-clause-in_order : goal.returns-in_err-append-2-clause-in_order
+returns-in_err-append-2-clause-in_order g c told =
+    let cut = cut_same _ _ _ _ _ c.as_slice.ensures (c.in_err-append-2.ensures.told told) in
+    cut_made_records c.args.name.now c.args.texts.now.header c.args.texts.now.records c.args.texts.now.report _ c.in_ok-file.file _ (c.in_ok-file.ensures.given).fresh.not_report (c.in_ok-file.ensures.told told)
+    _ (c.in_ok-append.ensures.told told) cut.0 _ cut.1
 
-pub returns-in-Failed-append-clause-fronts : goal.returns-in-Failed-append-clause-fronts
-returns-in-Failed-append-clause-fronts g c told = cut_records c.in-Ok.file _ _ _ _ _ _ (c.in-Ok.ensures.given).fresh.not_report (c.in-Ok.ensures.told told) (write.Failed c.in-Failed-append.field-0) _ _ (c.in-All.ensures.told told) (c.in-Failed-append.ensures.told told)
-
-pub returns-in-NoMemory-append-clause-fronts : goal.returns-in-NoMemory-append-clause-fronts
-returns-in-NoMemory-append-clause-fronts g c told = cut_records c.in-Ok.file _ _ _ _ _ _ (c.in-Ok.ensures.given).fresh.not_report (c.in-Ok.ensures.told told) (write.NoMemory c.in-NoMemory-append.field-0) _ _ (c.in-All.ensures.told told) (c.in-NoMemory-append.ensures.told told)
-
-pub returns-in-All-append-2-clause-fronts : goal.returns-in-All-append-2-clause-fronts
-returns-in-All-append-2-clause-fronts g c told = cut_report c.in-Ok.file _ _ _ _ _ _ (c.in-Ok.ensures.given).fresh.not_report (c.in-Ok.ensures.told told) write.All _ _ _ (c.in-All.ensures.told told) (c.in-All-append.ensures.told told) (c.in-All-append-2.ensures.told told)
-
-pub returns-in-Failed-append-2-clause-fronts : goal.returns-in-Failed-append-2-clause-fronts
-returns-in-Failed-append-2-clause-fronts g c told = cut_report c.in-Ok.file _ _ _ _ _ _ (c.in-Ok.ensures.given).fresh.not_report (c.in-Ok.ensures.told told) (write.Failed c.in-Failed-append-2.field-0) _ _ _ (c.in-All.ensures.told told) (c.in-All-append.ensures.told told) (c.in-Failed-append-2.ensures.told told)
-
-pub returns-in-NoMemory-append-2-clause-fronts : goal.returns-in-NoMemory-append-2-clause-fronts
-returns-in-NoMemory-append-2-clause-fronts g c told = cut_report c.in-Ok.file _ _ _ _ _ _ (c.in-Ok.ensures.given).fresh.not_report (c.in-Ok.ensures.told told) (write.NoMemory c.in-NoMemory-append-2.field-0) _ _ _ (c.in-All.ensures.told told) (c.in-All-append.ensures.told told) (c.in-NoMemory-append-2.ensures.told told)
+pub returns-clause-in_order : goal.returns-clause-in_order
+returns-clause-in_order g c told =
+    made_in_order c.args.name.now c.args.texts.now.header c.args.texts.now.records c.args.texts.now.report _ c.in_ok-file.file _ (c.in_ok-file.ensures.given).fresh.not_report (c.in_ok-file.ensures.told told)
+    _ (c.in_ok-append.ensures.told told) _ (all_same _ _ _ _ _ c.as_slice.ensures (c.in_ok-append-2.ensures.told told)) _ _ (appends_same _ _ _ _ _ _ c.as_slice-2.ensures (c.append-3.ensures.told told))

@@ -1,7 +1,7 @@
 use Rattle.std.proofs.Common.{All}
 use Rattle.master_core.specs.Mastered.{FitsProgram, moves_left, place_in_hand}
 use Rattle.job_top.specs.Running.{IsShort}
-use Rattle.job_top.specs.Midst.{HasMoved}
+use Rattle.job_top.specs.Progress.{HasMoved}
 use Rattle.job_top.proofs.running.play_packet.Given as goal
 
 -- the packet was taken, and the moves left of it fall

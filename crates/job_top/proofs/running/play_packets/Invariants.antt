@@ -1,7 +1,7 @@
 use Rattle.std.proofs.Common.{All}
 use Rattle.master_core.specs.Mastered.{FitsProgram}
 use Rattle.job_top.specs.Running.{IsShort}
-use Rattle.job_top.specs.Midst.{Played}
+use Rattle.job_top.specs.Progress.{Played}
 use Rattle.job_top.proofs.running.play_packets.Given as goal
 
 -- the packets so far were played to their ends

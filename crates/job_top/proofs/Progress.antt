@@ -16,7 +16,7 @@ use Rattle.plain_machine.specs.Machine.{Hand, Thread, Effect, Takes, Touches, Lo
 use Rattle.plain_machine.specs.History.{Step, plain_move, step_of, value_after, thread_after, sent_of, emissions}
 use Rattle.plain_machine.proofs.Playing as playing
 use Rattle.job_top.specs.Running.{IsStraight, packets_of, inputs_on, moves_for, moves_on, moves_in_turn, HasPlayed}
-use Rattle.job_top.specs.Midst.{HasCome, NotYet, Holds, Ended, IsAmid}
+use Rattle.job_top.specs.Progress.{HasCome, NotYet, Holds, Ended, HasProgressed}
 use Rattle.job_top.proofs.Turns.{turn_of, turn_more, move_more, own_more, other_more, next_input}
 
 -- how many packets a move sends out
@@ -137,17 +137,17 @@ other_thread : {V : Type 0} (t u : ℕ) (steps : List (Step V)) (after : Thread)
 other_thread t u steps after effect other = let no : nat_eq t u ≡ false = grind (arith, nat_tests) in rw no refl
 
 -- the run after the move
-pub amid_more : {V : Type 0} (m : Meaning V) (threads : ℕ) (packets : List Packet) (at : ℕ) (packet : Packet) (made : ℕ) (moves : List PlainMove) (sent : List Packet) (steps : List (Step V))
-    → IsAmid m threads packets at packet made moves sent steps → (on : GoesOn m threads packets at packet made (length sent) steps)
-    → IsAmid m threads packets at packet (made + 1) (moves ++ turn_of threads packet ∷ []) (packets_of (emissions (step_of (thread_of packet threads) steps on.after on.effect ∷ steps))) (step_of (thread_of packet threads) steps on.after on.effect ∷ steps)
-amid_more {V} m threads packets at packet made moves sent steps amid on = record {
-  in_turn = ap (λ l. l ++ turn_of threads packet ∷ []) amid.in_turn ∙ append_assoc (moves_in_turn m threads (take at packets)) (moves_on threads packet made) (turn_of threads packet ∷ []) ∙ ap (λ l. moves_in_turn m threads (take at packets) ++ l) (move_more threads packet made);
-  legal = playing.play_append m (inputs_on threads packets) threads (Ok []) moves (turn_of threads packet ∷ []) ∙ rw (amid.legal, on.moves) refl;
+pub progress_more : {V : Type 0} (m : Meaning V) (threads : ℕ) (packets : List Packet) (at : ℕ) (packet : Packet) (made : ℕ) (moves : List PlainMove) (sent : List Packet) (steps : List (Step V))
+    → HasProgressed m threads packets at packet made moves sent steps → (on : GoesOn m threads packets at packet made (length sent) steps)
+    → HasProgressed m threads packets at packet (made + 1) (moves ++ turn_of threads packet ∷ []) (packets_of (emissions (step_of (thread_of packet threads) steps on.after on.effect ∷ steps))) (step_of (thread_of packet threads) steps on.after on.effect ∷ steps)
+progress_more {V} m threads packets at packet made moves sent steps progress on = record {
+  in_turn = ap (λ l. l ++ turn_of threads packet ∷ []) progress.in_turn ∙ append_assoc (moves_in_turn m threads (take at packets)) (moves_on threads packet made) (turn_of threads packet ∷ []) ∙ ap (λ l. moves_in_turn m threads (take at packets) ++ l) (move_more threads packet made);
+  legal = playing.play_append m (inputs_on threads packets) threads (Ok []) moves (turn_of threads packet ∷ []) ∙ rw (progress.legal, on.moves) refl;
   sent_is = refl;
   come = subst (λ (n : ℕ). HasCome m packet (length (inputs_on threads (take at packets) t)) at (made + 1) n (thread_after next t)) (sym many)
       (subst (λ (th : Thread). HasCome m packet (length (inputs_on threads (take at packets) t)) at (made + 1) (length sent + sends_by on.effect) th) (sym (moved_thread t steps on.after on.effect)) on.come);
-  taken = λ u below other. ap (λ (th : Thread). th.taken) (other_thread t u steps on.after on.effect other) ∙ amid.taken u below other;
-  ended = λ u below other. ap (λ (th : Thread). th.hand) (other_thread t u steps on.after on.effect other) ∙ amid.ended u below other;
+  taken = λ u below other. ap (λ (th : Thread). th.taken) (other_thread t u steps on.after on.effect other) ∙ progress.taken u below other;
+  ended = λ u below other. ap (λ (th : Thread). th.hand) (other_thread t u steps on.after on.effect other) ∙ progress.ended u below other;
 }
   where
     t : ℕ
@@ -157,12 +157,12 @@ amid_more {V} m threads packets at packet made moves sent steps amid on = record
     next = step_of t steps on.after on.effect ∷ steps
 
     many : length (packets_of (emissions next)) ≡ length sent + sends_by on.effect
-    many = sent_length next ∙ sent_more_by t steps on.after on.effect ∙ ap (λ n. n + sends_by on.effect) (sym (ap length amid.sent_is ∙ sent_length steps))
+    many = sent_length next ∙ sent_more_by t steps on.after on.effect ∙ ap (λ n. n + sends_by on.effect) (sym (ap length progress.sent_is ∙ sent_length steps))
 
 -- a packet is begun after those before it
-pub amid_begin : {V : Type 0} (m : Meaning V) (threads : ℕ) (packets : List Packet) (at : ℕ) (packet : Packet) (moves : List PlainMove) (sent : List Packet) (steps : List (Step V))
-    → thread_of packet threads < threads → HasPlayed m threads packets at moves sent steps → IsAmid m threads packets at packet 0 moves sent steps
-amid_begin m threads packets at packet moves sent steps below played = record {
+pub progress_begin : {V : Type 0} (m : Meaning V) (threads : ℕ) (packets : List Packet) (at : ℕ) (packet : Packet) (moves : List PlainMove) (sent : List Packet) (steps : List (Step V))
+    → thread_of packet threads < threads → HasPlayed m threads packets at moves sent steps → HasProgressed m threads packets at packet 0 moves sent steps
+progress_begin m threads packets at packet moves sent steps below played = record {
   in_turn = played.in_turn ∙ sym (append-nil _);
   legal = played.legal;
   sent_is = played.sent_is;
@@ -172,9 +172,9 @@ amid_begin m threads packets at packet moves sent steps below played = record {
 }
 
 -- and one that has ended is played
-pub amid_end : {V : Type 0} (m : Meaning V) (threads : ℕ) (packets : List Packet) (at : ℕ) (packet : Packet) (made : ℕ) (moves : List PlainMove) (sent : List Packet) (steps : List (Step V))
-    → slice_get packets at ≡ Some packet → 1 ≤ made → (thread_after steps (thread_of packet threads)).hand ≡ None → IsAmid m threads packets at packet made moves sent steps → HasPlayed m threads packets (at + 1) moves sent steps
-amid_end {V} m threads packets at packet made moves sent steps there some no_hand amid = go amid.come
+pub progress_end : {V : Type 0} (m : Meaning V) (threads : ℕ) (packets : List Packet) (at : ℕ) (packet : Packet) (made : ℕ) (moves : List PlainMove) (sent : List Packet) (steps : List (Step V))
+    → slice_get packets at ≡ Some packet → 1 ≤ made → (thread_after steps (thread_of packet threads)).hand ≡ None → HasProgressed m threads packets at packet made moves sent steps → HasPlayed m threads packets (at + 1) moves sent steps
+progress_end {V} m threads packets at packet made moves sent steps there some no_hand progress = go progress.come
   where
     t : ℕ
     t = thread_of packet threads
@@ -186,9 +186,9 @@ amid_end {V} m threads packets at packet made moves sent steps there some no_han
     go (NotYet none took hand as_many) = absurd (omega (arith, none, some))
     go (Holds h hand same took one far early late) = let both : Some h ≡ None = sym hand ∙ no_hand in absurd (cc)
     go (Ended all took hand as_many) = record {
-      in_turn = amid.in_turn ∙ ap (λ n. moves_in_turn m threads (take at packets) ++ moves_on threads packet n) all ∙ sym (turn_more m threads packets at packet there);
-      legal = amid.legal;
-      sent_is = amid.sent_is;
+      in_turn = progress.in_turn ∙ ap (λ n. moves_in_turn m threads (take at packets) ++ moves_on threads packet n) all ∙ sym (turn_more m threads packets at packet there);
+      legal = progress.legal;
+      sent_is = progress.sent_is;
       one_each = as_many;
       taken = λ u under. taken u under (is_or t u);
       ended = λ u under. ended u under (is_or t u);
@@ -197,8 +197,8 @@ amid_end {V} m threads packets at packet made moves sent steps there some no_han
         taken : (u : ℕ) → u < threads → (t ≡ u) ⊎ (t ≢ u) → (thread_after steps u).taken ≡ length (inputs_on threads (take (at + 1) packets) u)
         taken u under (inl e) = subst (λ (w : ℕ). (thread_after steps w).taken ≡ length (inputs_on threads (take (at + 1) packets) w)) e
             (took ∙ sym (ap length (own_more threads packets at packet there) ∙ length-append (inputs_on threads (take at packets) t) (packet ∷ [])))
-        taken u under (inr other) = amid.taken u under other ∙ ap length (sym (other_more threads packets at packet u there other))
+        taken u under (inr other) = progress.taken u under other ∙ ap length (sym (other_more threads packets at packet u there other))
 
         ended : (u : ℕ) → u < threads → (t ≡ u) ⊎ (t ≢ u) → (thread_after steps u).hand ≡ None
         ended u under (inl e) = subst (λ (w : ℕ). (thread_after steps w).hand ≡ None) e hand
-        ended u under (inr other) = amid.ended u under other
+        ended u under (inr other) = progress.ended u under other

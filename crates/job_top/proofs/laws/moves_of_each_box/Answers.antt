@@ -1,5 +1,5 @@
 use Rattle.std.proofs.Common.{arith}
-use Rattle.job_top.proofs.laws.boxes_make_so_many_moves.Goals as goal
+use Rattle.job_top.proofs.laws.moves_of_each_box.Goals as goal
 
 pub returns-clause-count : goal.returns-clause-count
 returns-clause-count c = λ p. omega arith

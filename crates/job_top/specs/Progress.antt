@@ -1,4 +1,4 @@
--- A run in the midst of a packet, and the master that makes its moves.
+-- A run within a packet, and the master that makes its moves.
 use Rattle.std.specs.Prelude.{◌≡◌, ◌≢◌, ℕ, ◌+◌, ◌<◌, ◌≤◌, ◌⊎◌, List, ◌++◌, length, take, true, slice_get, Some, None, Ok, Option}
 use Rattle.plain_text.specs.declared.packet.Packet.{Packet}
 use Rattle.input_logger.specs.Inputs.{thread_of}
@@ -22,7 +22,7 @@ pub data HasCome {V : Type 0} (m : Meaning V) (packet : Packet) (before at made 
 
 -- The packets before this place were played to their ends, and then so many moves of the packet there were made. The moves led
 -- to this history, and sent these packets out.
-pub record IsAmid {V : Type 0} (m : Meaning V) (threads : ℕ) (packets : List Packet) (at : ℕ) (packet : Packet) (made : ℕ) (moves : List PlainMove) (sent : List Packet) (steps : List (Step V)) : Type 0 where
+pub record HasProgressed {V : Type 0} (m : Meaning V) (threads : ℕ) (packets : List Packet) (at : ℕ) (packet : Packet) (made : ℕ) (moves : List PlainMove) (sent : List Packet) (steps : List (Step V)) : Type 0 where
   pub in_turn : moves ≡ moves_in_turn m threads (take at packets) ++ moves_on threads packet made
   pub legal : play m (inputs_on threads packets) threads moves ≡ Ok steps
   pub sent_is : sent ≡ packets_of (emissions steps)
@@ -39,7 +39,7 @@ pub record Played {V : Type 0} (m : Meaning V) (threads : ℕ) (packets : List P
 -- the master stands where so many moves of the packet were made
 pub record Made {V : Type 0} (m : Meaning V) (threads : ℕ) (packets : List Packet) (at : ℕ) (packet : Packet) (made : ℕ) (moves : List PlainMove) (sent : List Packet) (master : Mastered V) : Type 0 where
   pub steps : List (Step V)
-  pub amid : IsAmid m threads packets at packet made moves sent steps
+  pub progress : HasProgressed m threads packets at packet made moves sent steps
   pub stands : Stands m threads steps master
 
 -- The run can go on with the packet at this place on this thread, its own: it is begun next, or it is in hand.
