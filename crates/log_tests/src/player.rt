@@ -1,6 +1,6 @@
 ghost use Rattle.std.specs.Prelude.{◌+◌, ◌<◌, ◌≤◌, ◌^◌};
 ghost use Rattle.box_program.specs.Count.{IsCounter};
-ghost use Rattle.plain_player.specs.Hands.{FitsProgram};
+ghost use Rattle.box_program.specs.Hands.{FitsProgram};
 ghost use Rattle.log_tests.specs.Mixed.{mixed_meaning};
 
 use crate::mixed::MixedBox;
@@ -17,9 +17,11 @@ fn makes(
     answer: Option<u64>,
     input: &Packet,
 ) -> Result<bool, MoveError>
-    requires program { FitsProgram mixed_meaning (λ _ n. IsCounter n) player.old.values }
+    requires program { FitsProgram mixed_meaning (λ _ n. IsCounter n)
+        (λ value. value) player.old.values }
     requires room { player.old.made < 1000 }
-    ensures fits { FitsProgram mixed_meaning (λ _ n. IsCounter n) player.new.values }
+    ensures fits { FitsProgram mixed_meaning (λ _ n. IsCounter n)
+        (λ value. value) player.new.values }
     ensures made { player.new.made ≤ player.old.made + 1 }
 {
     let plain = PlainMove { thread: 0, answer };
