@@ -12,4 +12,3 @@ first_and_rest {A} (y ∷ ys) x some is =
 
 pub by_first : {A : Type 0} (P : List A → Type 0) (xs : List A) (x : A) → 1 ≤ length xs → x ≡ slice_index_or xs 0 x → P (x ∷ take (length xs - 1) (drop 1 xs)) → P xs
 by_first P xs x some is p = subst P (sym (first_and_rest xs x some is)) p
-
