@@ -178,8 +178,10 @@ pub fn output_at<V>(
     number: u64,
 ) -> Result<Option<SentOut>, NoMemory>
     ensures { IfOk result (λ found. MatchOption found
-        ((o : Sent) → SendsAfter (history steps.now) o.emission o.after → HasNumber thread number o → ⊥)
-        (λ o. SendsAfter (history steps.now) o.emission o.after × HasNumber thread number (sent_is o))) }
+        ((o : Sent) → SendsAfter (history steps.now) o.emission o.after
+        → HasNumber thread number o → ⊥)
+        (λ o. SendsAfter (history steps.now) o.emission o.after
+        × HasNumber thread number (sent_is o))) }
 {
     match steps {
         [] => Ok(None),

@@ -19,7 +19,9 @@ fn is_no_later(e: &LogEntry, f: &LogEntry) -> bool
 
 /// Whether the log of an entry of the variable, in which it stood after so many touches, has it not yet.
 fn is_read_to_come(log: &[LogEntry], var: u32, entry: &LogEntry) -> bool
-    ensures { IsTrue result ↔ ((entry.now.what ≡ what_is.Read var (places var log.now)) × (IsIn entry.now log.now → ⊥)) }
+    ensures { IsTrue result
+        ↔ ((entry.now.what ≡ what_is.Read var (places var log.now))
+        × (IsIn entry.now log.now → ⊥)) }
 {
     let read = What::Read {
         var,
@@ -44,7 +46,8 @@ fn earlier_of(first: Option<LogEntry>, entry: LogEntry) -> LogEntry
 /// The followed read to come of the least thread, and of that thread the one with the least number.
 fn first_read_to_come(followed: &[LogEntry], log: &[LogEntry], var: u32) -> Option<LogEntry>
     ensures { MatchOption result ((e : Entry) → IsReadToCome followed.now log.now var e → ⊥)
-        (λ first. IsReadToCome followed.now log.now var first × ((f : Entry) → IsReadToCome followed.now log.now var f → IsNoLater first f)) }
+        (λ first. IsReadToCome followed.now log.now var first
+        × ((f : Entry) → IsReadToCome followed.now log.now var f → IsNoLater first f)) }
 {
     match followed {
         [] => None,
@@ -61,7 +64,8 @@ fn first_read_to_come(followed: &[LogEntry], log: &[LogEntry], var: u32) -> Opti
 
 /// Whether this is a touch of the variable at the place, and not entry `number` of the thread.
 fn is_touch_of_another(entry: &LogEntry, var: u32, place: u64, thread: u32, number: u64) -> bool
-    ensures { IsTrue result ↔ ((entry.now.what ≡ what_is.Access var place) × ((entry.now.thread ≡ thread) × (entry.now.number ≡ number) → ⊥)) }
+    ensures { IsTrue result ↔ ((entry.now.what ≡ what_is.Access var place)
+        × ((entry.now.thread ≡ thread) × (entry.now.number ≡ number) → ⊥)) }
 {
     entry.what == What::Access { var, place } && !(entry.thread == thread && entry.number == number)
 }
@@ -75,8 +79,10 @@ fn touch_of_another(
     number: u64,
 ) -> Option<LogEntry>
     ensures { MatchOption result
-        ((e : Entry) → IsIn e followed.now → e.what ≡ what_is.Access var place → ((e.thread ≡ thread) × (e.number ≡ number) → ⊥) → ⊥)
-        (λ e. IsIn e followed.now × (e.what ≡ what_is.Access var place) × ((e.thread ≡ thread) × (e.number ≡ number) → ⊥)) }
+        ((e : Entry) → IsIn e followed.now → e.what ≡ what_is.Access var place
+        → ((e.thread ≡ thread) × (e.number ≡ number) → ⊥) → ⊥)
+        (λ e. IsIn e followed.now × (e.what ≡ what_is.Access var place)
+        × ((e.thread ≡ thread) × (e.number ≡ number) → ⊥)) }
 {
     match followed {
         [] => None,
@@ -99,7 +105,9 @@ fn awaited_on(
     reads: bool,
 ) -> Option<LogEntry>
     requires { length log.now < 2 ^ 56 }
-    ensures { MatchOption result ((e : Entry) → IsAwaited followed.now log.now thread var reads e → ⊥) (IsAwaited followed.now log.now thread var reads) }
+    ensures { MatchOption result
+        ((e : Entry) → IsAwaited followed.now log.now thread var reads e → ⊥)
+        (IsAwaited followed.now log.now thread var reads) }
 {
     let number = count_entries(thread, log) + 1;
     let places = count_places(var, log);
@@ -123,7 +131,8 @@ fn awaited_on(
 /// The entry that the thread waits for, if its next move is to wait.
 pub fn awaited(followed: &[LogEntry], log: &[LogEntry], thread: u32, next: Move) -> Option<LogEntry>
     requires { length log.now < 2 ^ 56 }
-    ensures { MatchOption result (HasTurn followed.now log.now thread next) (Awaits followed.now log.now thread next) }
+    ensures { MatchOption result (HasTurn followed.now log.now thread next)
+        (Awaits followed.now log.now thread next) }
 {
     match next {
         Move::Access(var) => awaited_on(followed, log, thread, var, false),

@@ -284,8 +284,8 @@ fn cut_arrives<V: Drop>(
 ) -> Result<Reply, NoMemory>
     ensures on { IfOk result (λ r. (m : Meaning V)
         → (freed : List Sent) × (r.freed.items ≡ names freed)
-        × OnCut (setting_is m setup.now) (world_is world.old) kind thread number length r.outcome freed
-        (world_is world.new)) }
+        × OnCut (setting_is m setup.now) (world_is world.old) kind thread number length
+        r.outcome freed (world_is world.new)) }
     ensures keeps { KeepsHistories world.old world.new }
 {
     match frame_length(world, alloc, setup, kind, thread, number)? {

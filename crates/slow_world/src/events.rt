@@ -229,8 +229,8 @@ pub fn on_one<P: Program>(
     requires single { IsSingle event }
     requires fits { WorldFits (P.fits program.now) world.old }
     ensures on { IfOk result (λ r. (freed : List Sent) × (r.freed.items ≡ names freed)
-        × On (setting_is (P.meaning program.now) setup.now) (world_is world.old) event r.outcome freed
-        (world_is world.new)) }
+        × On (setting_is (P.meaning program.now) setup.now) (world_is world.old) event
+        r.outcome freed (world_is world.new)) }
     ensures fits { IfOk result (λ _. WorldFits (P.fits program.now) world.new) }
 {
     match event {

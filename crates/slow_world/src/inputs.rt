@@ -56,8 +56,8 @@ pub fn packets_between(packets: &[Packet], from: usize, to: usize) -> &[Packet]
 pub fn input_after(packets: &[Packet], threads: u32, thread: u32, earlier: u64) -> Option<&Packet>
     requires some { 1 ≤ threads }
     requires few { threads ≤ 16 }
-    ensures { option_copied result
-        ≡ slice_get (inputs_of (record { threads = threads; packets = packets.now }) thread) earlier }
+    ensures { option_copied result ≡ slice_get
+        (inputs_of (record { threads = threads; packets = packets.now }) thread) earlier }
 {
     match packets {
         [] => None,

@@ -36,8 +36,8 @@ fn has_number(outputs: &[SentOut], thread: u32, number: u64) -> bool
 
 /// Whether output `number` of the thread is among these released or waiting ones.
 pub fn has_arrived(released: &[SentOut], waiting: &[SentOut], thread: u32, number: u64) -> bool
-    ensures { IsTrue result
-        ↔ (HasOneOf thread number (sents released.now) ⊎ HasOneOf thread number (sents waiting.now)) }
+    ensures { IsTrue result ↔ (HasOneOf thread number (sents released.now)
+        ⊎ HasOneOf thread number (sents waiting.now)) }
 {
     has_number(released, thread, number) || has_number(waiting, thread, number)
 }

@@ -188,7 +188,8 @@ fn take_next<P: Program>(
     requires stands { thread_after (history world.now.past.items) thread
         ≡ record { taken = taken; hand = None } }
     ensures wishes { IfOk result (λ wish. (given : Option ℕ)
-        → Wishes (setting_is (P.meaning program.now) setup.now) (world_is world.now) thread given wish) }
+        → Wishes (setting_is (P.meaning program.now) setup.now) (world_is world.now) thread given
+        wish) }
     ensures fits { IfOk result (WishFits (P.fits program.now)) }
 {
     let fed = first_packets(&setup.packets, world.fed);
