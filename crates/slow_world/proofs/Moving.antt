@@ -8,7 +8,7 @@ use Rattle.plain_machine.specs.declared.local.Local.{Local}
 use Rattle.plain_machine.specs.declared.local.Move.{Move}
 use Rattle.plain_machine.specs.declared.local.Move.TheVariants as move
 use Rattle.plain_machine.specs.Program.{Meaning}
-use Rattle.plain_machine.specs.Machine.{Thread, Deed, Takes, Touches, Looks, HearsClock, HearsDraw, Sends, Ends, Moves, holding, take_move, hand_move, thread_move}
+use Rattle.plain_machine.specs.Machine.{Thread, Effect, Takes, Touches, Looks, HearsClock, HearsDraw, Sends, Ends, Moves, holding, take_move, hand_move, thread_move}
 use Rattle.plain_machine.specs.History.{Step, Emitted, Ended as EndedPacket, log_of, sent_of, step_of, outputs, thread_after, value_after, plain_move, IsStep}
 use Rattle.plain_machine.proofs.Playing.{step_is_move}
 use Rattle.recovery_world.specs.World.{Setting, World, inputs_fed}
@@ -26,7 +26,7 @@ plays_touch {V} m past log x v k value left place step next before touched count
     let stands = is ∙ ap (λ (j : ℕ). logged_step log (what.Access v (j + 1)) (Some left) (record x { place = place })) count
     ∙ ap (λ (l : List Entry). logged_step l (what.Access v (places v l + 1)) (Some left) (record x { place = place })) same in
     subst (λ (s : Step V). PlaysHand m past x None s) (sym stands) (record {
-      deed = Touches v left;
+      effect = Touches v left;
       moves = ap (hand_move m (value_after m past) x.taken (hand_of x) None) next
           ∙ ap (λ (r : V × Local). Moves (holding x.taken x.packet r.1) (Touches v r.0)) (sym (touched ∙ ap (λ (y : V). m.touch v y x.place) before));
       step_is = refl;
@@ -39,7 +39,7 @@ plays_look {V} m past log x v k value place step next before looked count same i
     let stands = is ∙ ap (λ (j : ℕ). logged_step log (what.Read v j) None (record x { place = place })) count
     ∙ ap (λ (l : List Entry). logged_step l (what.Read v (places v l)) None (record x { place = place })) same in
     subst (λ (s : Step V). PlaysHand m past x None s) (sym stands) (record {
-      deed = Looks v;
+      effect = Looks v;
       moves = ap (hand_move m (value_after m past) x.taken (hand_of x) None) next
           ∙ ap (λ (l : Local). Moves (holding x.taken x.packet l) (Looks v)) (sym (looked ∙ ap (λ (y : V). m.look v y x.place) before));
       step_is = refl;
@@ -51,7 +51,7 @@ pub plays_clock : {V : Type 0} (m : Meaning V) (past : List (Step V)) (log : Lis
 plays_clock {V} m past log x a place step next told same is =
     let stands = is ∙ ap (λ (l : List Entry). logged_step l (what.Clock a) None (record x { place = place })) same in
     subst (λ (s : Step V). PlaysHand m past x (Some a) s) (sym stands) (record {
-      deed = HearsClock a;
+      effect = HearsClock a;
       moves = ap (hand_move m (value_after m past) x.taken (hand_of x) (Some a)) next ∙ ap (λ (l : Local). Moves (holding x.taken x.packet l) (HearsClock a)) (sym told);
       step_is = refl;
     })
@@ -62,7 +62,7 @@ pub plays_draw : {V : Type 0} (m : Meaning V) (past : List (Step V)) (log : List
 plays_draw {V} m past log x a place step next told same is =
     let stands = is ∙ ap (λ (l : List Entry). logged_step l (what.Draw a) None (record x { place = place })) same in
     subst (λ (s : Step V). PlaysHand m past x (Some a) s) (sym stands) (record {
-      deed = HearsDraw a;
+      effect = HearsDraw a;
       moves = ap (hand_move m (value_after m past) x.taken (hand_of x) (Some a)) next ∙ ap (λ (l : Local). Moves (holding x.taken x.packet l) (HearsDraw a)) (sym told);
       step_is = refl;
     })
@@ -77,7 +77,7 @@ pub plays_emit : {V : Type 0} (m : Meaning V) (past : List (Step V)) (x : Mover)
     → PlaysHand m past x None (sent_step x n bytes place)
 plays_emit {V} m past x n bytes place next out emitted count =
     let plays : PlaysHand m past x None (sent_step x (outputs x.thread (sent_of past)) bytes place) = record {
-      deed = Sends (record x.packet { bytes = bytes });
+      effect = Sends (record x.packet { bytes = bytes });
       moves =
           ap (hand_move m (value_after m past) x.taken (hand_of x) None) next
           ∙ ap (λ (l : Local). Moves (holding x.taken x.packet l) (Sends (record x.packet { bytes = m.out x.packet x.place }))) (sym emitted)
@@ -92,19 +92,19 @@ ended_step x = record { thread = x.thread; act = EndedPacket x.taken; after = re
 
 pub plays_end : {V : Type 0} (m : Meaning V) (past : List (Step V)) (x : Mover) → m.next x.place ≡ move.End → PlaysHand m past x None (ended_step x)
 plays_end m past x next = record {
-  deed = Ends;
+  effect = Ends;
   moves = ap (hand_move m (value_after m past) x.taken (hand_of x) None) next;
   step_is = refl;
 }
 
 -- a step that the thread may make is a move of the plain machine
-pub is_plain : {V : Type 0} (m : Meaning V) (inputs : ℕ → List Packet) (threads : ℕ) (past : List (Step V)) (t : ℕ) (th : Thread) (answer : Option ℕ) (after : Thread) (deed : Deed V) (step : Step V)
-    → t < threads → thread_after past t ≡ th → thread_move m (inputs t) (value_after m past) th answer ≡ Moves after deed → step ≡ step_of t past after deed
+pub is_plain : {V : Type 0} (m : Meaning V) (inputs : ℕ → List Packet) (threads : ℕ) (past : List (Step V)) (t : ℕ) (th : Thread) (answer : Option ℕ) (after : Thread) (effect : Effect V) (step : Step V)
+    → t < threads → thread_after past t ≡ th → thread_move m (inputs t) (value_after m past) th answer ≡ Moves after effect → step ≡ step_of t past after effect
     → plain_move m inputs threads past (record { thread = t; answer = answer }) ≡ Ok (step ∷ past)
-is_plain {V} m inputs threads past t th answer after deed step low at moved is =
-    let legal : IsStep m inputs threads past (step_of t past after deed) =
-    (low, answer, deed, subst (λ (h : Thread). thread_move m (inputs t) (value_after m past) h answer ≡ Moves after deed) (sym at) moved, refl) in
-    step_is_move m inputs threads past (step_of t past after deed) legal ∙ ap (λ (s : Step V). Ok (s ∷ past)) (sym is)
+is_plain {V} m inputs threads past t th answer after effect step low at moved is =
+    let legal : IsStep m inputs threads past (step_of t past after effect) =
+    (low, answer, effect, subst (λ (h : Thread). thread_move m (inputs t) (value_after m past) h answer ≡ Moves after effect) (sym at) moved, refl) in
+    step_is_move m inputs threads past (step_of t past after effect) legal ∙ ap (λ (s : Step V). Ok (s ∷ past)) (sym is)
 
 pub hand_moves : {V : Type 0} (s : Setting V) (w : World V) (x : Mover) (given : Option ℕ) (step : Step V) (drawn : ℕ) → x.thread < s.threads → StandsAt w.past x
     → HasTurn w.followed (log_of w.past) x.thread (s.meaning.next x.place) → PlaysNext s w x given step drawn → IsMove s w x.thread given step drawn
@@ -112,7 +112,7 @@ hand_moves s w x given step drawn low stands turn p = record {
   turn = subst (λ (th : Thread). HandHasTurn s.meaning w.followed (log_of w.past) x.thread th.hand) (sym stands) turn;
   answer = p.answer;
   tells = subst (λ (th : Thread). TellsHand s w x.thread given p.answer drawn th.hand) (sym stands) p.tells;
-  moves = is_plain s.meaning (inputs_fed s w.fed) s.threads w.past x.thread _ p.answer step.after p.plays.deed step low stands p.plays.moves p.plays.step_is;
+  moves = is_plain s.meaning (inputs_fed s w.fed) s.threads w.past x.thread _ p.answer step.after p.plays.effect step low stands p.plays.moves p.plays.step_is;
 }
 
 pub take_moves : {V : Type 0} (s : Setting V) (w : World V) (t taken : ℕ) (packet : Packet) (given : Option ℕ) (step : Step V) → t < s.threads

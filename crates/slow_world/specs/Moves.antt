@@ -2,7 +2,7 @@
 use Rattle.std.specs.Prelude.{◌≡◌, ℕ, ◌+◌, ◌⊎◌, List, ◌∷◌, Option, Some, None, Ok}
 use Rattle.plain_text.specs.declared.packet.Packet.{Packet}
 use Rattle.plain_machine.specs.Program.{Meaning}
-use Rattle.plain_machine.specs.Machine.{Hand, Deed, Moves, holding, hand_move}
+use Rattle.plain_machine.specs.Machine.{Hand, Effect, Moves, holding, hand_move}
 use Rattle.plain_machine.specs.History.{Step, Took, Did, entry_of, step_of, log_of, thread_after, value_after, plain_move}
 use Rattle.entry_order.specs.declared.what.What.{What}
 use Rattle.entry_order.specs.Log.{Entry}
@@ -27,9 +27,9 @@ logged_step log what left x = record { thread = x.thread; act = Did (entry_of x.
 
 -- the step is the thread's move with the packet in hand, told this answer or none
 pub record PlaysHand {V : Type 0} (m : Meaning V) (past : List (Step V)) (x : Mover) (answer : Option ℕ) (step : Step V) : Type 0 where
-  pub deed : Deed V
-  pub moves : hand_move m (value_after m past) x.taken (hand_of x) answer (m.next x.place) ≡ Moves step.after deed
-  pub step_is : step ≡ step_of x.thread past step.after deed
+  pub effect : Effect V
+  pub moves : hand_move m (value_after m past) x.taken (hand_of x) answer (m.next x.place) ≡ Moves step.after effect
+  pub step_is : step ≡ step_of x.thread past step.after effect
 
 -- the same, with what it is told
 pub record PlaysNext {V : Type 0} (s : Setting V) (w : World V) (x : Mover) (given : Option ℕ) (step : Step V) (drawn : ℕ) : Type 0 where
