@@ -8,13 +8,13 @@ use Rattle.plain_machine.specs.declared.local.Local.{Local}
 use Rattle.plain_machine.specs.declared.local.Move.{Move}
 use Rattle.plain_machine.specs.declared.local.Move.TheVariants.{Access, Read, Clock, Draw, Emit, End}
 use Rattle.plain_machine.specs.Program.{Meaning}
-use Rattle.plain_machine.specs.Machine.{Hand, Thread, Deed, Moves, holding, take_move, hand_move, held_move}
+use Rattle.plain_machine.specs.Machine.{Hand, Thread, Effect, Moves, holding, take_move, hand_move, held_move}
 use Rattle.plain_machine.specs.History.{Step, thread_after, value_after, IsHistory}
 use Rattle.plain_machine.proofs.Histories.{is_eq, not_eq}
 use Rattle.line_order.specs.Line.{LastTaken}
 
 -- a move with a packet in hand keeps it, or ends it
-hand_keeps : {V : Type 0} (m : Meaning V) (value : ℕ → V) (taken : ℕ) (h : Hand) (a : Option ℕ) (w : Move) (after : Thread) (d : Deed V) → hand_move m value taken h a w ≡ Moves after d → (after.hand ≡ None) ⊎ ((place : Local) × (after ≡ holding taken h.packet place))
+hand_keeps : {V : Type 0} (m : Meaning V) (value : ℕ → V) (taken : ℕ) (h : Hand) (a : Option ℕ) (w : Move) (after : Thread) (d : Effect V) → hand_move m value taken h a w ≡ Moves after d → (after.hand ≡ None) ⊎ ((place : Local) × (after ≡ holding taken h.packet place))
 hand_keeps m value taken h None (Access v) after d e = inr ((m.touch v (value v) h.place).1, cc)
 hand_keeps m value taken h None (Read v) after d e = inr (m.look v (value v) h.place, cc)
 hand_keeps m value taken h (Some a) Clock after d e = inr (m.told a h.place, cc)
@@ -63,7 +63,7 @@ hand_input {V} m inputs threads (x ∷ steps) hist t h e = go (is_or x.thread t)
     go (inr other) older = let k = not_eq x.thread t other in rw k (older h (rw k at e))
 
 -- Only a take changes how many were taken.
-hand_taken : {V : Type 0} (m : Meaning V) (value : ℕ → V) (taken : ℕ) (h : Hand) (a : Option ℕ) (w : Move) (after : Thread) (d : Deed V) → hand_move m value taken h a w ≡ Moves after d → after.taken ≡ taken
+hand_taken : {V : Type 0} (m : Meaning V) (value : ℕ → V) (taken : ℕ) (h : Hand) (a : Option ℕ) (w : Move) (after : Thread) (d : Effect V) → hand_move m value taken h a w ≡ Moves after d → after.taken ≡ taken
 hand_taken m value taken h None (Access v) after d e = let q : holding taken h.packet (m.touch v (value v) h.place).1 ≡ after = cc in ap (λ (t : Thread). t.taken) (sym q)
 hand_taken m value taken h None (Read v) after d e = let q : holding taken h.packet (m.look v (value v) h.place) ≡ after = cc in ap (λ (t : Thread). t.taken) (sym q)
 hand_taken m value taken h (Some a) Clock after d e = let q : holding taken h.packet (m.told a h.place) ≡ after = cc in ap (λ (t : Thread). t.taken) (sym q)
@@ -77,7 +77,7 @@ hand_taken m value taken h (Some a) End after d e = absurd (cc)
 hand_taken m value taken h None Clock after d e = absurd (cc)
 hand_taken m value taken h None Draw after d e = absurd (cc)
 
-held_within : {V : Type 0} (m : Meaning V) (packets : List Packet) (value : ℕ → V) (taken : ℕ) (a : Option ℕ) (hand : Option Hand) (after : Thread) (d : Deed V) → taken ≤ length packets → held_move m packets value taken a hand ≡ Moves after d → after.taken ≤ length packets
+held_within : {V : Type 0} (m : Meaning V) (packets : List Packet) (value : ℕ → V) (taken : ℕ) (a : Option ℕ) (hand : Option Hand) (after : Thread) (d : Effect V) → taken ≤ length packets → held_move m packets value taken a hand ≡ Moves after d → after.taken ≤ length packets
 held_within m packets value taken a (Some h) after d low e = let q = hand_taken m value taken h a (m.next h.place) after d e in omega (arith, low, q)
 held_within {V} m packets value taken a None after d low e = go a (slice_get packets taken) refl e
   where
