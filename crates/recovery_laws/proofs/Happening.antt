@@ -1,5 +1,5 @@
 -- Each event that is not one of several comes to something, in every sound world.
-use Rattle.std.proofs.Common.{◌≡◌, ℕ, zero, suc, ◌+◌, ◌-◌, ◌≤◌, ◌<◌, ◌≢◌, Bool, true, false, List, [], ◌∷◌, ◌++◌, length, refl, sym, ap, ◌∙◌, subst, inl, inr, ◌⊎◌, arith, Option, Some, None}
+use Rattle.std.proofs.Common.{◌≡◌, ℕ, zero, suc, ◌+◌, ◌-◌, ◌*◌, ◌≤◌, ◌<◌, ◌≢◌, Bool, true, false, List, [], ◌∷◌, ◌++◌, length, refl, sym, ap, ◌∙◌, subst, inl, inr, ◌⊎◌, arith, Option, Some, None}
 use Rattle.std.specs.Prelude.{Ok, slice_get, nat_lt, ◌↔◌}
 use Rattle.std.proofs.lemmas.Bool.{cases_lt}
 use Rattle.std.proofs.lemmas.Bool.Decides.{nat_tests}
@@ -7,7 +7,7 @@ use Rattle.plain_text.specs.declared.packet.Packet.{Packet}
 use Rattle.traffic_gen.specs.Generated.{word_of}
 use Rattle.entry_order.specs.declared.what.What.{What}
 use Rattle.entry_order.specs.declared.what.What.TheVariants as what
-use Rattle.entry_order.specs.Log.{Entry, entries, places, IsLog, IsIn, PrecedesOutput}
+use Rattle.entry_order.specs.Log.{Entry, entries, places, IsLog, IsIn, PrecedesOrIs, PrecedesOutput}
 use Rattle.entry_order.specs.Closed.{IsNoLater, IsFirstMissing, IsMissing, IsDue}
 use Rattle.entry_order.specs.Stamps.{IsStamp, IsCount}
 use Rattle.entry_order.proofs.Order.{is_or, number_within, entry_there}
@@ -333,3 +333,238 @@ module _ {V : Type 0} (s : Setting V) (w : World V) (h : Sound s w) where
       go (inl low) false up o hand = (outcome.Down, w, inr (inl (low, up, refl, refl)))
       go (inl low) true up None hand = free low up hand (slice_get (inputs_fed s w.fed t) (thread_after w.past t).taken) refl
       go (inl low) true up (Some k) hand = held k low up hand (awaits_or t (s.meaning.next k.place))
+
+  -- Arrivals
+
+  entry_or : (t n : ℕ) → ((e : Entry) × IsEntryOf w t n e) ⊎ ((e : Entry) → IsEntryOf w t n e → ⊥)
+  entry_or t n = go (cases_lt n 1) (cases_lt (entries t (log_of w.past)) n)
+    where
+      go : (n < 1) ⊎ (1 ≤ n) → (entries t (log_of w.past) < n) ⊎ (n ≤ entries t (log_of w.past)) → ((e : Entry) × IsEntryOf w t n e) ⊎ ((e : Entry) → IsEntryOf w t n e → ⊥)
+      go (inl a) b = inr (λ e i. let k = number_within (log_of w.past) e good i.0 in omega (arith, a, k, i.2))
+      go (inr a) (inl b) = inr (λ e i. let k = number_within (log_of w.past) e good i.0 in let u : entries e.thread (log_of w.past) ≡ entries t (log_of w.past) = ap (λ (z : ℕ). entries z (log_of w.past)) i.1 in omega (arith, b, k, u, i.2))
+      go (inr a) (inr b) = let r = entry_there (log_of w.past) t n good a b in inl (r.0, (r.1, r.2, r.3))
+
+  output_or : (t j : ℕ) → ((o : Sent) × IsOutputOf w t j o) ⊎ ((o : Sent) → IsOutputOf w t j o → ⊥)
+  output_or t j = go (cases_lt j 1) (cases_lt (outputs t (sent_of w.past)) j)
+    where
+      go : (j < 1) ⊎ (1 ≤ j) → (outputs t (sent_of w.past) < j) ⊎ (j ≤ outputs t (sent_of w.past)) → ((o : Sent) × IsOutputOf w t j o) ⊎ ((o : Sent) → IsOutputOf w t j o → ⊥)
+      go (inl a) b = inr (λ o i. let k = sends_thread s.meaning (inputs_fed s w.fed) s.threads w.past o.emission o.after h.firm.legal i.0 in omega (arith, a, k.1, i.1.1))
+      go (inr a) (inl b) = inr (λ o i.
+          let k = number_high s.meaning (inputs_fed s w.fed) s.threads w.past o.emission o.after h.firm.legal i.0 in
+          let u : outputs o.emission.thread (sent_of w.past) ≡ outputs t (sent_of w.past) = ap (λ (z : ℕ). outputs z (sent_of w.past)) i.1.0 in
+          omega (arith, b, k, u, i.1.1))
+      go (inr a) (inr b) = let r = sent_there s.meaning (inputs_fed s w.fed) s.threads t j w.past h.firm.legal a b in inl (record { emission = r.0; after = r.1 }, (r.2, (r.3, r.4)))
+
+  known_or : (e : Entry) → Or (IsKnown w e)
+  known_or e = go (in_or e w.held) (in_or e (log_of w.stored))
+    where
+      go : Or (IsIn e w.held) → Or (IsIn e (log_of w.stored)) → Or (IsKnown w e)
+      go (inl a) b = inl (inl a)
+      go (inr a) (inl b) = inl (inr b)
+      go (inr a) (inr b) = inr never
+        where
+          never : IsKnown w e → ⊥
+          never (inl k) = a k
+          never (inr k) = b k
+
+  due_or : (held : List Entry) (stored : List (Step V)) (o : Sent) → Or (IsDue (log_of w.past) (log_of stored) held o.emission.thread o.after)
+  due_or held stored o = go (missing_or held stored o)
+    where
+      go : ((e : Entry) × IsFirstMissing (log_of w.past) (log_of stored) held o.emission.thread o.after e) ⊎ IsDue (log_of w.past) (log_of stored) held o.emission.thread o.after → Or (IsDue (log_of w.past) (log_of stored) held o.emission.thread o.after)
+      go (inl m) = inr (λ k. k m.0 m.1.missing)
+      go (inr k) = inl k
+
+  releases_there : (stored : List (Step V)) (copy : Option (List (Step V))) (held : List Entry) → (freed : List Sent) × (new : World V) × Releases (record w { stored = stored; copy = copy; held = held }) freed new
+  releases_there stored copy held =
+      let r = parts_there (λ o. IsDue (log_of w.past) (log_of stored) held o.emission.thread o.after) (due_or held stored) w.waiting in
+      (r.0, record w { stored = stored; copy = copy; held = held; waiting = r.1; released = w.released ++ r.0 }, record { stay = r.1; parts = r.2; new_is = refl })
+
+  log_there : (t n : ℕ) → (to : Outcome) × (freed : List Sent) × (new : World V) × OnLog w t n to freed new
+  log_there t n = go (entry_or t n)
+    where
+      at : (e : Entry) → IsEntryOf w t n e → Or (IsKnown w e) → (to : Outcome) × (freed : List Sent) × (new : World V) × OnLog w t n to freed new
+      at e of (inl k) = (outcome.Known, [], w, inr (inl (e, of, k, refl, refl, refl)))
+      at e of (inr k) = let r = releases_there w.stored w.copy (e ∷ w.held) in (outcome.New, r.0, r.1, inr (inr (e, of, k, refl, r.2)))
+
+      go : ((e : Entry) × IsEntryOf w t n e) ⊎ ((e : Entry) → IsEntryOf w t n e → ⊥) → (to : Outcome) × (freed : List Sent) × (new : World V) × OnLog w t n to freed new
+      go (inr none) = (outcome.Nothing, [], w, inl (none, refl, refl, refl))
+      go (inl r) = at r.0 r.1 (known_or r.0)
+
+  arrived_or : (t j : ℕ) → Or (HasArrived w t j)
+  arrived_or t j = go (is_or (times t j w.released) 0) (is_or (times t j w.waiting) 0)
+    where
+      none : (xs : List Sent) (o : Sent) → times t j xs ≡ 0 → HasNumber t j o → IsAmong o xs → ⊥
+      none xs o z n i =
+          let k = among_times o xs i in
+          let a : times o.emission.thread o.emission.number xs ≡ times t o.emission.number xs = ap (λ (u : ℕ). times u o.emission.number xs) n.0 in
+          let b : times t o.emission.number xs ≡ times t j xs = ap (λ (u : ℕ). times t u xs) n.1 in
+          omega (arith, k, a, b, z)
+
+      go : (times t j w.released ≡ 0) ⊎ (times t j w.released ≢ 0) → (times t j w.waiting ≡ 0) ⊎ (times t j w.waiting ≢ 0) → Or (HasArrived w t j)
+      go (inr a) b = let r = times_there t j w.released (omega (arith, a)) in inl (r.0, r.1, inl r.2)
+      go (inl a) (inr b) = let r = times_there t j w.waiting (omega (arith, b)) in inl (r.0, r.1, inr r.2)
+      go (inl a) (inl b) = inr never
+        where
+          never : HasArrived w t j → ⊥
+          never (o, n, inl i) = none w.released o a n i
+          never (o, n, inr i) = none w.waiting o b n i
+
+  out_there : (t j : ℕ) → (to : Outcome) × (new : World V) × OnOut w t j to new
+  out_there t j = go (output_or t j)
+    where
+      at : (o : Sent) → IsOutputOf w t j o → Or (HasArrived w t j) → ((e : Entry) × IsFirstMissing (log_of w.past) (log_of w.stored) w.held o.emission.thread o.after e) ⊎ IsDue (log_of w.past) (log_of w.stored) w.held o.emission.thread o.after → (to : Outcome) × (new : World V) × OnOut w t j to new
+      at o of (inl k) m = (outcome.Again, w, inr (inl (o, of, k, refl, refl)))
+      at o of (inr k) (inr due) = (outcome.Released, record w { released = w.released ++ o ∷ [] }, inr (inr (inl (o, of, k, due, refl, refl))))
+      at o of (inr k) (inl (e, m)) = (outcome.Waits e.thread e.number, record w { waiting = w.waiting ++ o ∷ [] }, inr (inr (inr (o, of, k, e, m, refl, refl))))
+
+      go : ((o : Sent) × IsOutputOf w t j o) ⊎ ((o : Sent) → IsOutputOf w t j o → ⊥) → (to : Outcome) × (new : World V) × OnOut w t j to new
+      go (inr none) = (outcome.Nothing, w, inl (none, refl, refl))
+      go (inl r) = at r.0 r.1 (arrived_or t j) (missing_or w.held w.stored r.0)
+
+  arrives_there : (k : Kind) (t n : ℕ) → (to : Outcome) × (freed : List Sent) × (new : World V) × Arrives w k t n to freed new
+  arrives_there kind.Log t n = log_there t n
+  arrives_there kind.Out t n = let r = out_there t n in (r.0, [], r.1, (r.2, refl))
+
+  sent_or : (epoch : ℕ) (k : Kind) (t n : ℕ) → Or (WasSent w epoch k t n)
+  sent_or epoch k t n = go (or_both (or_le 1 epoch) (or_both (or_le (epoch + 1) w.epoch) (or_le 1 n))) (slice_get w.ended (w.epoch - epoch - 1)) refl
+    where
+      or_le : (a b : ℕ) → Or (a ≤ b)
+      or_le a b = at (cases_lt b a)
+        where
+          at : (b < a) ⊎ (a ≤ b) → Or (a ≤ b)
+          at (inl k) = inr (λ q. omega (arith, k, q))
+          at (inr k) = inl k
+
+      go : Or ((1 ≤ epoch) × ((epoch + 1 ≤ w.epoch) × (1 ≤ n))) → (o : Option EndedEpoch) → slice_get w.ended (w.epoch - epoch - 1) ≡ o → Or (WasSent w epoch k t n)
+      go (inr a) o at = inr (λ x. a (x.1.0, (omega (arith, x.1.1), x.2)))
+      go (inl a) None at = inr (λ x. let q : slice_get w.ended (w.epoch - epoch - 1) ≡ Some x.0 = x.1.2 in cc)
+      go (inl a) (Some e) at = counted (or_le n (count_of k e t))
+        where
+          counted : Or (n ≤ count_of k e t) → Or (WasSent w epoch k t n)
+          counted (inl c) = inl (e, (a.0, omega (arith, a.1.0), at), a.1.1, c)
+          counted (inr c) = inr (λ x. let q : Some x.0 ≡ Some e = sym x.1.2 ∙ at in let z : x.0 ≡ e = cc in c (subst (λ (y : EndedEpoch). n ≤ count_of k y t) z x.3))
+
+  late_there : (epoch : ℕ) (k : Kind) (t n : ℕ) → (to : Outcome) × (freed : List Sent) × (new : World V) × OnLate w epoch k t n to freed new
+  late_there epoch k t n = go (nat_or epoch w.epoch) (sent_or epoch k t n)
+    where
+      go : Or (epoch ≡ w.epoch) → Or (WasSent w epoch k t n) → (to : Outcome) × (freed : List Sent) × (new : World V) × OnLate w epoch k t n to freed new
+      go (inl same) b = let r = arrives_there k t n in (r.0, r.1, r.2, inl (same, r.3))
+      go (inr other) (inl b) = (outcome.Old, [], w, inr (inl (other, b, refl, refl, refl)))
+      go (inr other) (inr b) = (outcome.Nothing, [], w, inr (inr (other, b, refl, refl, refl)))
+
+  component_or : (e : Entry) → IsIn e (log_of w.past) → (u : ℕ) → Or (HasComponent (log_of w.past) e u)
+  component_or e here u = let st = stamp_there (log_of w.past) e good here in go st.0 st.1 (st.1.reached u)
+    where
+      go : (st : ℕ → ℕ) → IsStamp (log_of w.past) e st → (st u ≡ 0) ⊎ ((f : Entry) × IsIn f (log_of w.past) × (f.thread ≡ u) × (f.number ≡ st u) × PrecedesOrIs (log_of w.past) f e) → Or (HasComponent (log_of w.past) e u)
+      go st is (inr (f, i, th, n, p)) = inl (f, i, th, p)
+      go st is (inl z) = inr (λ x. let a = is.above x.0 x.1 x.3 in let n = number_within (log_of w.past) x.0 good x.1 in let q : st x.0.thread ≡ st u = ap (λ (i : ℕ). st i) x.2 in omega (arith, a, n, q, z))
+
+  output_component_or : (t n u : ℕ) → Or (HasOutputComponent (log_of w.past) t n u)
+  output_component_or t n u = let p = predecessors (log_of w.past) t n good in go p.0 p.1 (find (λ f. f.thread ≡ u) (λ f. nat_or f.thread u) p.0)
+    where
+      go : (before : List Entry) → ((e : Entry) → IsIn e before ↔ PrecedesOutput (log_of w.past) t n e) → ((e : Entry) × IsIn e before × (e.thread ≡ u)) ⊎ ((e : Entry) → IsIn e before → e.thread ≡ u → ⊥) → Or (HasOutputComponent (log_of w.past) t n u)
+      go before p (inl (e, i, th)) = let q = (p e).0 i in inl (e, output_in (log_of w.past) t n e q, th, q)
+      go before p (inr none) = inr (λ x. none x.0 ((p x.0).1 x.3) x.2)
+
+  frame_or : (k : Kind) (t n : ℕ) → ((whole : ℕ) × IsFrameLength s w k t n whole) ⊎ HasNone w k t n
+  frame_or kind.Log t n = go (entry_or t n)
+    where
+      go : ((e : Entry) × IsEntryOf w t n e) ⊎ ((e : Entry) → IsEntryOf w t n e → ⊥) → ((whole : ℕ) × IsFrameLength s w kind.Log t n whole) ⊎ HasNone w kind.Log t n
+      go (inr none) = inr none
+      go (inl r) = let c = threads_there (λ u. HasComponent (log_of w.past) r.0 u) (component_or r.0 r.1.0) s.threads in inl (39 + 8 * c.0, (r.0, r.1, (c.0, c.1, refl)))
+  frame_or kind.Out t n = go (output_or t n)
+    where
+      go : ((o : Sent) × IsOutputOf w t n o) ⊎ ((o : Sent) → IsOutputOf w t n o → ⊥) → ((whole : ℕ) × IsFrameLength s w kind.Out t n whole) ⊎ HasNone w kind.Out t n
+      go (inr none) = inr none
+      go (inl r) = let c = threads_there (λ u. HasOutputComponent (log_of w.past) r.0.emission.thread r.0.after u) (output_component_or r.0.emission.thread r.0.after) s.threads in inl (47 + 8 * c.0 + length r.0.emission.packet.bytes, (r.0, r.1, (c.0, c.1, refl)))
+
+  cut_there : (k : Kind) (t n len : ℕ) → (to : Outcome) × (freed : List Sent) × (new : World V) × OnCut s w k t n len to freed new
+  cut_there k t n len = go (frame_or k t n)
+    where
+      at : (whole : ℕ) → IsFrameLength s w k t n whole → (len < whole) ⊎ (whole ≤ len) → (to : Outcome) × (freed : List Sent) × (new : World V) × OnCut s w k t n len to freed new
+      at whole is (inl short) = (outcome.Short, [], w, inr (inl (whole, is, short, refl, refl, refl)))
+      at whole is (inr long) = let r = arrives_there k t n in (r.0, r.1, r.2, inr (inr (whole, is, long, r.3)))
+
+      go : ((whole : ℕ) × IsFrameLength s w k t n whole) ⊎ HasNone w k t n → (to : Outcome) × (freed : List Sent) × (new : World V) × OnCut s w k t n len to freed new
+      go (inr none) = (outcome.Nothing, [], w, inl (none, refl, refl, refl))
+      go (inl r) = at r.0 r.1 (cases_lt len r.0)
+
+  -- Snapshots, crashes and recoveries
+
+  store_there : (to : Outcome) × (freed : List Sent) × (new : World V) × OnStore w to freed new
+  store_there = go w.copy refl
+    where
+      go : (c : Option (List (Step V))) → w.copy ≡ c → (to : Outcome) × (freed : List Sent) × (new : World V) × OnStore w to freed new
+      go None is = (outcome.Nothing, [], w, inl (is, refl, refl, refl))
+      go (Some copy) is = let r = releases_there copy None w.held in (outcome.Covers (length (log_of copy)), r.0, r.1, inr (copy, is, refl, r.2))
+
+  snap_there : (to : Outcome) × (new : World V) × OnSnap w to new
+  snap_there = go w.up refl
+    where
+      go : (b : Bool) → w.up ≡ b → (to : Outcome) × (new : World V) × OnSnap w to new
+      go false is = (outcome.Down, w, inl (is, refl, refl))
+      go true is = (outcome.Copied (length (log_of w.past)), record w { copy = Some w.past }, inr (is, refl, refl))
+
+  crash_there : (to : Outcome) × (new : World V) × OnCrash w to new
+  crash_there = go w.up refl
+    where
+      go : (b : Bool) → w.up ≡ b → (to : Outcome) × (new : World V) × OnCrash w to new
+      go false is = (outcome.Down, w, inl (is, refl, refl))
+      go true is = (outcome.Crashed, record w { up = false; copy = None }, inr (is, refl, refl))
+
+  recover_there : (to : Outcome) × (new : World V) × OnRecover w to new
+  recover_there = go w.up refl (recovers_there s w h.firm)
+    where
+      go : (b : Bool) → w.up ≡ b → (new : World V) × Recovers w new → (to : Outcome) × (new : World V) × OnRecover w to new
+      go true is r = (outcome.Up, w, inl (is, refl, refl))
+      go false is r = (outcome.Recovered r.0.epoch keeps.0 drops, r.0, inr (is, r.1, keeps.0, drops, refl, keeps.1, lost))
+        where
+          keeps : (n : ℕ) × IsCount (λ e. IsIn e (log_of w.stored) → ⊥) r.0.held n
+          keeps = count_there (λ e. IsIn e (log_of w.stored) → ⊥) (λ e. or_not (in_or e (log_of w.stored))) r.0.held
+
+          drops : ℕ
+          drops = length w.held - length r.0.held
+
+          lost : length w.held ≡ length r.0.held + (length w.held - length r.0.held)
+          lost = let k = part_short w.held r.1.part r.1.part_of in let q : length r.0.held ≡ length r.1.part = ap (λ (z : World V). length z.held) r.1.new_is in omega (arith, k, q)
+
+  show_there : (v : ℕ) → (to : Outcome) × OnShow s w v to
+  show_there v = go (cases_lt v s.meaning.vars) w.up refl
+    where
+      go : (v < s.meaning.vars) ⊎ (s.meaning.vars ≤ v) → (b : Bool) → w.up ≡ b → (to : Outcome) × OnShow s w v to
+      go (inr high) b is = (outcome.Nothing, inl (high, refl))
+      go (inl low) false is = (outcome.Down, inr (inl (low, is, refl)))
+      go (inl low) true is = (outcome.Shown (s.meaning.shown v (value_after s.meaning w.past v)), inr (inr (low, is, refl)))
+
+  -- Each event
+  pub on_there : (ev : Event) → (ev ≡ event.Settle → ⊥) → ((seed n : ℕ) → ev ≡ event.Auto seed n → ⊥) → (to : Outcome) × (freed : List Sent) × (new : World V) × On s w ev to freed new
+  on_there (event.Feed n) a b = (outcome.Total (fed_after s w n), [], after_feed s w n, (refl, refl, refl))
+  on_there (event.Time n) a b = (outcome.Set, [], record w { clock = n }, (refl, refl, refl))
+  on_there (event.Step t given) a b = let r = step_there t given in (r.0, [], r.1, (r.2, refl))
+  on_there (event.Log t n) a b = go (cases_lt t s.threads)
+    where
+      go : (t < s.threads) ⊎ (s.threads ≤ t) → (to : Outcome) × (freed : List Sent) × (new : World V) × On s w (event.Log t n) to freed new
+      go (inr high) = (outcome.Nothing, [], w, inl (high, refl, refl, refl))
+      go (inl low) = let r = log_there t n in (r.0, r.1, r.2, inr (low, r.3))
+  on_there (event.Out t j) a b = go (cases_lt t s.threads)
+    where
+      go : (t < s.threads) ⊎ (s.threads ≤ t) → (to : Outcome) × (freed : List Sent) × (new : World V) × On s w (event.Out t j) to freed new
+      go (inr high) = (outcome.Nothing, [], w, inl (high, refl, refl, refl))
+      go (inl low) = let r = out_there t j in (r.0, [], r.1, inr (low, (r.2, refl)))
+  on_there (event.Late epoch k t n) a b = go (cases_lt t s.threads)
+    where
+      go : (t < s.threads) ⊎ (s.threads ≤ t) → (to : Outcome) × (freed : List Sent) × (new : World V) × On s w (event.Late epoch k t n) to freed new
+      go (inr high) = (outcome.Nothing, [], w, inl (high, refl, refl, refl))
+      go (inl low) = let r = late_there epoch k t n in (r.0, r.1, r.2, inr (low, r.3))
+  on_there (event.Cut k t n len) a b = go (cases_lt t s.threads)
+    where
+      go : (t < s.threads) ⊎ (s.threads ≤ t) → (to : Outcome) × (freed : List Sent) × (new : World V) × On s w (event.Cut k t n len) to freed new
+      go (inr high) = (outcome.Nothing, [], w, inl (high, refl, refl, refl))
+      go (inl low) = let r = cut_there k t n len in (r.0, r.1, r.2, inr (low, r.3))
+  on_there event.Snap a b = let r = snap_there in (r.0, [], r.1, (r.2, refl))
+  on_there event.Store a b = store_there
+  on_there event.Crash a b = let r = crash_there in (r.0, [], r.1, (r.2, refl))
+  on_there event.Recover a b = let r = recover_there in (r.0, [], r.1, (r.2, refl))
+  on_there (event.Show v) a b = let r = show_there v in (r.0, [], w, (r.1, refl, refl))
+  on_there event.Settle a b = absurd (a refl)
+  on_there (event.Auto seed n) a b = absurd (b seed n refl)
