@@ -8,7 +8,7 @@ use Rattle.traffic_gen.specs.Generated.{word_of}
 use Rattle.entry_order.specs.declared.what.What.{What}
 use Rattle.entry_order.specs.declared.what.What.TheVariants as what
 use Rattle.entry_order.specs.Log.{Entry, entries, places, IsLog, IsIn, PrecedesOrIs, PrecedesOutput}
-use Rattle.entry_order.specs.Closed.{IsNoLater, IsFirstMissing, IsMissing, IsDue}
+use Rattle.entry_order.specs.Closed.{IsNoLater, IsFirstMissing, IsDue}
 use Rattle.entry_order.specs.Stamps.{IsStamp, IsCount}
 use Rattle.entry_order.proofs.Order.{is_or, number_within, entry_there}
 use Rattle.entry_order.proofs.Existing.{Or, in_or}
@@ -18,7 +18,6 @@ use Rattle.plain_machine.specs.declared.local.Move.{Move}
 use Rattle.plain_machine.specs.declared.local.Move.TheVariants.{Access, Read, Clock, Draw, Emit, End}
 use Rattle.plain_machine.specs.Machine.{Hand, Thread, Effect, Takes, Touches, Looks, HearsClock, HearsDraw, Sends, Ends, Moves, holding, sent_packet, thread_move}
 use Rattle.plain_machine.specs.History.{Step, log_of, sent_of, outputs, entry_of, step_of, thread_after, value_after, plain_move}
-use Rattle.plain_machine.specs.Agree.{SendsAfter}
 use Rattle.plain_machine.proofs.Histories.{history_log}
 use Rattle.recovery_world.specs.declared.event.Event.{Event}
 use Rattle.recovery_world.specs.declared.event.Event.TheVariants as event
@@ -29,7 +28,7 @@ use Rattle.recovery_world.specs.declared.event.Outcome.TheVariants as outcome
 use Rattle.recovery_world.specs.World.{Setting, Sent, Ended as EndedEpoch, World, inputs_fed}
 use Rattle.recovery_world.specs.Turns.{IsReadToCome, IsTouchToCome, Awaits, HasTurn, HandHasTurn, TellsClock, TellsDraw}
 use Rattle.recovery_world.specs.Frames.{IsThreadCount, HasComponent, HasOutputComponent}
-use Rattle.recovery_world.specs.Events.{move_outcome, bytes_sent, Tells, TellsHand, MakesMove, OnStep, IsKnown, Parts, Releases, IsEntryOf, OnLog, HasNumber, IsOutputOf, IsAmong, HasArrived, OnOut, count_of, Arrives, WasSent, OnLate, IsFrameLength, HasNone, OnCut, OnSnap, OnStore, OnCrash, IsPartOf, Recovers, OnRecover, OnShow, OfThread, fed_after, after_feed, On}
+use Rattle.recovery_world.specs.Events.{move_outcome, bytes_sent, Tells, TellsHand, MakesMove, OnStep, IsKnown, Parts, Releases, IsEntryOf, OnLog, HasNumber, IsOutputOf, IsAmong, HasArrived, OnOut, count_of, Arrives, WasSent, OnLate, IsFrameLength, HasNone, OnCut, OnSnap, OnStore, OnCrash, IsPartOf, Recovers, OnRecover, OnShow, fed_after, after_feed, On}
 use Rattle.recovery_laws.specs.Sound.{times, Sound}
 use Rattle.recovery_laws.proofs.Sets.{predecessors, times_there}
 use Rattle.recovery_laws.proofs.Accepting.{among_times}
@@ -163,10 +162,13 @@ module _ {V : Type 0} (s : Setting V) (w : World V) (h : Sound s w) where
       lost_or e = or_both (or_not (in_or e held)) (or_not (in_or e (log_of stored)))
 
       go : ((e : Entry) × IsIn e p.0 × ((IsIn e held → ⊥) × (IsIn e (log_of stored) → ⊥)) × ((f : Entry) → IsIn f p.0 → ((IsIn f held → ⊥) × (IsIn f (log_of stored) → ⊥)) → IsNoLater e f)) ⊎ ((e : Entry) → IsIn e p.0 → ((IsIn e held → ⊥) × (IsIn e (log_of stored) → ⊥)) → ⊥) → ((e : Entry) × IsFirstMissing (log_of w.past) (log_of stored) held o.emission.thread o.after e) ⊎ IsDue (log_of w.past) (log_of stored) held o.emission.thread o.after
-      go (inl (e, i, q, first)) = inl (e, record {
-        missing = record { precedes = (p.1 e).0 i; not_held = q.0; not_stored = q.1 };
-        first = λ f m. first f ((p.1 f).1 m.precedes) (m.not_held, m.not_stored);
-      })
+      go (inl (e, i, q, first)) = inl (
+        e,
+        record {
+          missing = record { precedes = (p.1 e).0 i; not_held = q.0; not_stored = q.1 };
+          first = λ f m. first f ((p.1 f).1 m.precedes) (m.not_held, m.not_stored);
+        },
+      )
       go (inr none) = inr (λ e m. none e ((p.1 e).1 m.precedes) (m.not_held, m.not_stored))
 
   -- Steps
@@ -324,8 +326,8 @@ module _ {V : Type 0} (s : Setting V) (w : World V) (h : Sound s w) where
       free low up hand None at = (outcome.Idle, w, inr (inr (inl (low, up, (hand, at), refl, refl))))
       free low up hand (Some p) at =
           let r = makes t given None w.drawn (holding ((thread_after w.past t).taken + 1) p (s.meaning.begin p)) Takes low (rw hand (rw at refl))
-              (subst (λ (o : Option Hand). HandHasTurn s.meaning w.followed (log_of w.past) t o) (sym hand) tt)
-              (subst (λ (o : Option Hand). TellsHand s w t given None w.drawn o) (sym hand) (refl, refl)) in
+          (subst (λ (o : Option Hand). HandHasTurn s.meaning w.followed (log_of w.past) t o) (sym hand) tt)
+          (subst (λ (o : Option Hand). TellsHand s w t given None w.drawn o) (sym hand) (refl, refl)) in
           (r.0, r.1, inr (inr (inr (inr (low, up, r.2)))))
 
       go : (t < s.threads) ⊎ (s.threads ≤ t) → (b : Bool) → w.up ≡ b → (o : Option Hand) → (thread_after w.past t).hand ≡ o → (to : Outcome) × (new : World V) × OnStep s w t given to new
