@@ -1,5 +1,5 @@
 -- What was released stays, in its order: each event adds to it, or leaves it.
-use Rattle.std.proofs.Common.{◌≡◌, ℕ, Bool, true, false, List, [], ◌∷◌, ◌++◌, append_assoc, append-nil, refl, sym, ap, ◌∙◌, subst, inl, inr, ◌⊎◌, Option, Some, None}
+use Rattle.std.proofs.Common.{◌≡◌, ℕ, Bool, true, false, List, [], ◌∷◌, ◌++◌, append_assoc, append-nil, refl, sym, ap, ◌∙◌, inl, inr, Option, Some, None}
 use Rattle.std.specs.Prelude.{Result, Ok, Err}
 use Rattle.plain_text.specs.declared.limit.Limit.{Limit}
 use Rattle.recovery_world.specs.declared.event.Event.{Event}
@@ -7,10 +7,9 @@ use Rattle.recovery_world.specs.declared.event.Event.TheVariants as event
 use Rattle.recovery_world.specs.declared.event.Kind.{Kind}
 use Rattle.recovery_world.specs.declared.event.Kind.TheVariants as kind
 use Rattle.recovery_world.specs.declared.event.Outcome.{Outcome}
-use Rattle.recovery_world.specs.World.{Setting, Sent, World, opening}
-use Rattle.recovery_world.specs.Events.{OnStep, OnLog, OnOut, OnLate, OnCut, OnStore, OnSnap, OnCrash, OnRecover, Releases, Wakes, On}
-use Rattle.recovery_world.specs.Limits.{OnWithin}
-use Rattle.recovery_world.specs.Many.{Does, Stays, Goes as DoesMore, StepsOut, IsIdle, Waits, Halts, Steps, Round, NoThread, Thread, HaltsBefore, HaltsThere, Rounds, Rests as RestsNow, HaltsIn, Again, Feeds, Empties, HaltsOn, More, Autos, Begins, Next, chosen, Settles, OnAny, Single, Settling, Choosing, Stops, SingleStops, SettlingStops, ChoosingStops}
+use Rattle.recovery_world.specs.World.{Setting, Sent, World}
+use Rattle.recovery_world.specs.Events.{OnStep, OnLog, OnOut, OnLate, OnCut, Releases, Wakes, On}
+use Rattle.recovery_world.specs.Many.{Does, Stays, Goes as DoesMore, StepsOut, IsIdle, Waits, Halts, Steps, Round, NoThread, Thread, HaltsBefore, HaltsThere, Rounds, Rests as RestsNow, HaltsIn, Again, Feeds, Empties, HaltsOn, More, Autos, Begins, Next, chosen, OnAny, Single, Settling, Choosing, Stops, SingleStops, SettlingStops, ChoosingStops}
 
 abbrev pub Grows : {V : Type 0} → World V → World V → Type 0
 Grows w new = (more : List Sent) × (new.released ≡ w.released ++ more)

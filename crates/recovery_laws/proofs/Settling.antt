@@ -382,7 +382,7 @@ outs_do {V} s w new events h all none each (DoesMore {events = before} {mid = mi
 -- The end
 
 -- the number of an output is at most the count of its thread
-number_high : {V : Type 0} (m : Meaning V) (inputs : ℕ → List Packet) (threads : ℕ) (steps : List (Step V)) (o : Emission) (n : ℕ) → IsHistory m inputs threads steps → SendsAfter steps o n → o.number ≤ outputs o.thread (sent_of steps)
+pub number_high : {V : Type 0} (m : Meaning V) (inputs : ℕ → List Packet) (threads : ℕ) (steps : List (Step V)) (o : Emission) (n : ℕ) → IsHistory m inputs threads steps → SendsAfter steps o n → o.number ≤ outputs o.thread (sent_of steps)
 number_high {V} m inputs threads steps o n h sends = go (sends_at steps o n sends)
   where
     go : (y : Step V) × (earlier : List (Step V)) × IsEarlier (y ∷ earlier) steps × (y.act ≡ Emitted o) × (entries o.thread (log_of earlier) ≡ n) → o.number ≤ outputs o.thread (sent_of steps)
