@@ -1,4 +1,4 @@
-ghost use Rattle.std.specs.Prelude.{◌+◌, ◌<◌, ◌≤◌, ◌^◌};
+ghost use Rattle.std.specs.Prelude.{◌≡◌, ◌+◌, ◌<◌, ◌≤◌, ◌^◌};
 ghost use Rattle.box_program.specs.Count.{IsCounter};
 ghost use Rattle.box_program.specs.Hands.{FitsProgram};
 ghost use Rattle.log_tests.specs.Mixed.{mixed_meaning};
@@ -29,6 +29,34 @@ fn makes(
     Ok(sent.is_some())
 }
 
+/// What the moves of a packet are told, and whether each sends it out or why it is none.
+fn rows() -> [(Option<u64>, Result<bool, MoveError>); 6] {
+    [
+        (None, Ok(false)),
+        (None, Err(MoveError::Illegal(PlayCause::MissingAnswer))),
+        (Some(5), Ok(false)),
+        (Some(5), Err(MoveError::Illegal(PlayCause::UnwantedAnswer))),
+        (None, Ok(true)),
+        (None, Ok(false)),
+    ]
+}
+
+/// The first row that is not so.
+fn first_wrong(alloc: Global, player: &mut Player<u64>, input: &Packet) -> Option<usize>
+    requires program { FitsProgram mixed_meaning (λ _ n. IsCounter n)
+        (λ value. value) player.old.values }
+    requires fresh { player.old.made ≡ 0 }
+{
+    let rows = rows();
+    for i in 0..6 {
+        let (answer, want) = rows[i];
+        if makes(alloc, player, answer, input) != want {
+            return Some(i);
+        }
+    }
+    None
+}
+
 /// The time and a random word are moves that want an answer, and no other move takes one.
 #[test]
 fn a_clock_and_a_draw_want_an_answer(rt: HostRuntime) -> Result<(), Fail> {
@@ -41,17 +69,8 @@ fn a_clock_and_a_draw_want_an_answer(rt: HostRuntime) -> Result<(), Fail> {
             bytes: Bytes::of(alloc, &[byte])?,
         };
         let mut player = Player::fresh(alloc, &MixedBox {}, 1)?;
-        assert_eq!(rt; makes(alloc, &mut player, None, &input), Ok(false));
-        let missing = makes(alloc, &mut player, None, &input);
-        assert_eq!(rt; missing, Err(MoveError::Illegal(PlayCause::MissingAnswer)));
-        assert_eq!(rt; makes(alloc, &mut player, Some(5), &input), Ok(false));
-        let unwanted = makes(alloc, &mut player, Some(5), &input);
-        assert_eq!(rt;
-            unwanted,
-            Err(MoveError::Illegal(PlayCause::UnwantedAnswer))
-        );
-        assert_eq!(rt; makes(alloc, &mut player, None, &input), Ok(true));
-        assert_eq!(rt; makes(alloc, &mut player, None, &input), Ok(false));
+        let wrong = first_wrong(alloc, &mut player, &input);
+        assert_eq!(rt; (byte, wrong), (byte, None));
         assert!(rt; !player.in_hand(0));
     }
     Ok(())
