@@ -1,4 +1,4 @@
-pub mod Retaining
+pub mod RetainedLemmas
 pub mod LaneLemmas
 pub mod SlotLemmas
 pub mod MemberLemmas

@@ -18,7 +18,7 @@ use Rattle.access_log.specs.Members.{IsMember, IsDropped, IsMemberAbove, IsListe
 use Rattle.access_log.proofs.SlotLemmas.{at, at-same, is_at-same, is_at-apart}
 use Rattle.access_log.specs.Slots.{in_slots, IsSlotted}
 use Rattle.access_log.proofs.LaneLemmas.{lane_past, rising_all}
-use Rattle.access_log.proofs.Retaining.{at_most, AtMost-true, at_most-true}
+use Rattle.access_log.proofs.RetainedLemmas.{at_most, AtMost-true, at_most-true}
 use Rattle.thread_clock.specs.Clock.{AtMost}
 
 -- Two lists of the same entries, each once, are of one length

@@ -111,7 +111,8 @@ impl Held {
             ↔ IsKnown (lane self.old entry.thread) entry.number }
         ensures same { result ≢ Ok Added.New → self.new ≡ self.old }
         ensures new { result ≡ Ok Added.New
-            → PutsEntry (lane self.old entry.thread) (lane self.new entry.thread) entry.number entry }
+            → PutsEntry (lane self.old entry.thread)
+            (lane self.new entry.thread) entry.number entry }
         ensures others { (t : ℕ) → t ≢ entry.thread → lane self.new t ≡ lane self.old t }
         ensures counted { result ≡ Ok Added.New → held_count self.new ≡ held_count self.old + 1 }
         ensures threads { length self.new ≡ length self.old }

@@ -90,7 +90,8 @@ fn gather(
 
 /// Empties the slot if its entry has a component of its stamp above this one's.
 fn empty_if_above(slot: &mut Option<StampedEntry>, frontiers: &Stamp)
-    ensures { (e : StampedEntry) → (slot.new ≡ Some e) ↔ ((slot.old ≡ Some e) × AtMost e.stamp frontiers.now) }
+    ensures { (e : StampedEntry) → (slot.new ≡ Some e) ↔ ((slot.old ≡ Some e)
+        × AtMost e.stamp frontiers.now) }
 {
     if let Some(entry) = slot
         && !entry.stamp.at_most(frontiers)

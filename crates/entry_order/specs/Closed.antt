@@ -1,4 +1,5 @@
--- Held and stored entries of a log: the closed part of the held ones, and what is missing for what a thread sends out.
+-- Held and stored entries of a log: the closed part of the held ones, and what is missing for what a thread sends out. They
+-- follow Sherry and others, Rollback-Recovery for Middleboxes (SIGCOMM 2015), sections 4 and 5.
 use Rattle.std.specs.Prelude.{◌≡◌, ℕ, ◌+◌, ◌≤◌, ◌<◌, List, ◌⊎◌}
 use Rattle.entry_order.specs.Log.{Entry, IsIn, IsNext, PrecedesOutput}
 

@@ -1,5 +1,7 @@
 -- A log: the logged moves of a run, NEWEST FIRST, and which of them precede which. It follows the packet access logs of
 -- Sherry and others, Rollback-Recovery for Middleboxes (SIGCOMM 2015), sections 4 and 5, with shared reads added.
+-- What precedes what is an order of events as Lamport has it (Time, Clocks, and the Ordering of Events, 1978), where threads
+-- meet at variables in place of messages.
 use Rattle.std.specs.Prelude.{◌≡◌, ℕ, ◌+◌, Bool, false, List, [], ◌∷◌, nat_eq, ◌⊎◌, cond}
 use Rattle.entry_order.specs.declared.what.What.{What}
 use Rattle.entry_order.specs.declared.what.What.TheVariants.{Access, Read, Clock, Draw}

@@ -1,4 +1,5 @@
--- Stamps: for each thread, how far its entries precede an entry, or what a thread sends out.
+-- Stamps: for each thread, how far its entries precede an entry, or what a thread sends out. They are vector clocks, as
+-- Fidge (Timestamps in Message-Passing Systems, 1988) and Mattern (Virtual Time and Global States, 1989) have them.
 use Rattle.std.specs.Prelude.{◌≡◌, ℕ, zero, suc, ◌+◌, ◌≤◌, Bool, false, List, [], ◌∷◌, nat_eq, cond, max, ◌⊎◌, ◌||◌}
 use Rattle.entry_order.specs.declared.what.What.{What}
 use Rattle.entry_order.specs.declared.what.What.TheVariants.{Access, Read, Clock, Draw}

@@ -25,7 +25,7 @@ use Rattle.box_program.specs.Hands.{FitsProgram, has_hand, hand_of}
 use Rattle.master_core.specs.Mastered.{Mastered, value_of, place_in_hand, input_in_hand, moves_made}
 use Rattle.master_core.specs.Standing.{Stands}
 use Rattle.master_core.specs.Stepping.{Follows, MadeOne, move_of, told_in, told_for, emission_of_output}
-use Rattle.master_core.proofs.Growing.{moves_within}
+use Rattle.master_core.proofs.ListsLemmas.{moves_within}
 use Rattle.job_top.specs.Running.{IsStraight, packets_of, inputs_on, moves_for, moves_on, moves_in_turn}
 use Rattle.job_top.specs.Progress.{HasCome, NotYet, Holds, Ended, HasProgressed, Played, Made, CanMove, HasMoved, HadTurn, packet_sent}
 use Rattle.job_top.proofs.Turns.{turn_of}

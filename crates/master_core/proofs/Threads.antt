@@ -16,7 +16,7 @@ use Rattle.master_core.specs.Mastered.{in_hand_count}
 use Rattle.master_core.specs.Standing.{IsThread}
 use Rattle.master_core.specs.Effects.{after_take, after_entry, after_emit, after_end}
 use Rattle.plain_machine.proofs.Histories.{moved_thread}
-use Rattle.master_core.proofs.Staying.{own_output, other_output}
+use Rattle.master_core.proofs.StampedLemmas.{own_output, other_output}
 
 -- The thread that moved
 

@@ -13,7 +13,7 @@ use Rattle.plain_machine.specs.Machine.{Thread, Takes, Touches, Looks, HearsCloc
 use Rattle.plain_machine.specs.History.{Step, log_of, entry_of, step_of}
 use Rattle.master_core.specs.declared.parts.VarPart.{VarPart}
 use Rattle.master_core.specs.Standing.{IsVariable}
-use Rattle.master_core.proofs.Staying.{touch_stays, touch_last, readers_stay, readers_more, readers_gone}
+use Rattle.master_core.proofs.StampedLemmas.{touch_stays, touch_last, readers_stay, readers_more, readers_gone}
 
 -- each variable has what the history tells of it
 abbrev pub HasVariables : {V : Type 0} → Meaning V → List (Step V) → List (VarPart V) → Type 0

@@ -268,7 +268,8 @@ impl<P: Program> Master<P> {
         requires hand { HasHand self.old thread place }
         requires next { (P.meaning program.now).next place ≡ move_is.Access var }
         ensures { HoldsAt (λ part. HoldsAt (λ variable. DoneTouch (P.meaning program.now) thread var
-            place part variable self.old result self.new) self.old.vars var) self.old.threads thread }
+            place part variable self.old result self.new) self.old.vars var)
+            self.old.threads thread }
     {
         let part = self.threads[thread as usize];
         let variable = &mut self.vars[var as usize];
@@ -304,7 +305,8 @@ impl<P: Program> Master<P> {
         requires hand { HasHand self.old thread place }
         requires next { (P.meaning program.now).next place ≡ move_is.Read var }
         ensures { HoldsAt (λ part. HoldsAt (λ variable. DoneLook (P.meaning program.now) thread var
-            place part variable self.old result self.new) self.old.vars var) self.old.threads thread }
+            place part variable self.old result self.new) self.old.vars var)
+            self.old.threads thread }
     {
         let part = self.threads[thread as usize];
         let variable = &mut self.vars[var as usize];

@@ -1,6 +1,6 @@
 use Rattle.std.proofs.Common.{refl, []}
 use Rattle.plain_machine.proofs.Playing.{play_history}
-use Rattle.master_core.proofs.Growing.{grown, followed_grown, moves_within}
+use Rattle.master_core.proofs.ListsLemmas.{grown, followed_grown, moves_within}
 use Rattle.master_core.proofs.lists.lists_are_followed.Goals as goal
 
 pub returns-clause-starts : goal.returns-clause-starts

@@ -1,6 +1,6 @@
 use Rattle.std.proofs.Common.{rules, arith, refl, ◌≤◌, length, length-append}
 use Rattle.access_log.proofs.slots.Slots.retain_at_most.Goals as goal
-use Rattle.access_log.proofs.Retaining.{retained}
+use Rattle.access_log.proofs.RetainedLemmas.{retained}
 use Rattle.access_log.proofs.SlotLemmas.{at-retained, length-in_slots-fewer}
 
 pub returns-clause-retained : goal.returns-clause-retained

@@ -1,5 +1,5 @@
 use Rattle.std.proofs.Common.{rules}
-use Rattle.master_core.proofs.Bounding.{emit_bounded}
+use Rattle.master_core.proofs.BoundLemmas.{emit_bounded}
 use Rattle.master_core.proofs.master.Master.emit.Goals as goal
 
 pub invariant_of-self : goal.invariant_of-self

@@ -1,5 +1,5 @@
 use Rattle.std.proofs.Common.{rules}
-use Rattle.master_core.proofs.Starting.{fresh_stands}
+use Rattle.master_core.proofs.FreshLemmas.{fresh_stands}
 use Rattle.master_core.proofs.master.Master.fresh.Goals as goal
 
 pub returns-clause-stands : goal.returns-clause-stands

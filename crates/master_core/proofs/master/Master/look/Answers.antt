@@ -7,8 +7,8 @@ use Rattle.plain_machine.specs.declared.local.Local.{Local}
 use Rattle.master_core.specs.declared.parts.ThreadPart.{ThreadPart}
 use Rattle.master_core.specs.Mastered.{Mastered}
 use Rattle.master_core.specs.Effects.{after_entry, next_entry, before_read, DoneLook}
-use Rattle.master_core.proofs.Bounding.{entry_bounded, adds_set}
-use Rattle.master_core.proofs.Doing.{one_item, of_items, stamped_is, master_is}
+use Rattle.master_core.proofs.BoundLemmas.{entry_bounded, adds_set}
+use Rattle.master_core.proofs.EffectLemmas.{one_item, of_items, stamped_is, master_is}
 use Rattle.master_core.proofs.master.Master.look.Goals as goal
 
 pub invariant_of-self : goal.invariant_of-self

@@ -2,7 +2,7 @@ use Rattle.std.proofs.Common.{subst}
 use Rattle.std.specs.Prelude.{slice_index_or}
 use Rattle.plain_machine.specs.declared.local.Move.{Move}
 use Rattle.master_core.specs.Effects.{Played}
-use Rattle.master_core.proofs.Answering.{in_turn}
+use Rattle.master_core.proofs.AnswerLemmas.{in_turn}
 use Rattle.master_core.proofs.master.Master.play.Goals as goal
 
 pub returns-in-Follow : goal.returns-in-Follow

@@ -1,5 +1,5 @@
 use Rattle.std.proofs.Common.{rules}
-use Rattle.master_core.proofs.Wanting.{wants_touch, wants_read}
+use Rattle.master_core.proofs.WantsLemmas.{wants_touch, wants_read}
 use Rattle.master_core.proofs.master.Master.wants.Goals as goal
 
 pub returns-in-Access : goal.returns-in-Access

@@ -1,7 +1,7 @@
 use Rattle.std.proofs.Common.{rules, refl, arith, sym}
 use Rattle.std.proofs.lemmas.Grind.{common_steps}
 use Rattle.plain_machine.specs.History.{value_after, thread_after}
-use Rattle.plain_player.proofs.Moving.{hand_follows, hand_fails}
+use Rattle.plain_player.proofs.HandMoves.{hand_follows, hand_fails}
 use Rattle.plain_player.proofs.player.Player.step.Goals as goal
 
 pub returns-in_err-made-in-Some-clause-follows : goal.returns-in_err-made-in-Some-clause-follows

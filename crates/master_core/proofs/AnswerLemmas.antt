@@ -23,7 +23,7 @@ use Rattle.master_core.specs.Standing.{IsThread, Stands}
 use Rattle.master_core.specs.Stepping.{move_of, Follows, MadeNone, MadeOne}
 use Rattle.master_core.specs.Effects.{InTurn, Played, next_output, after_take, DoneTake, DoneTouch, DoneLook}
 use Rattle.box_program.proofs.HandLemmas.{in_hand}
-use Rattle.master_core.proofs.Following.{Ready, touch_follows, look_follows, clock_follows, draw_follows, emit_follows, end_follows}
+use Rattle.master_core.proofs.FollowsLemmas.{Ready, touch_follows, look_follows, clock_follows, draw_follows, emit_follows, end_follows}
 
 -- the place in hand of a thread whose part is known
 pub hand_there : {V : Type 0} (p : Mastered V) (t : ℕ) (part : ThreadPart) → t < length p.threads → part ≡ slice_index_or p.threads t part → place_in_hand p t ≡ part.hand

@@ -17,7 +17,7 @@ use Rattle.master_core.specs.Mastered.{Mastered}
 use Rattle.master_core.specs.Standing.{IsVariable, IsThread, Stands}
 use Rattle.master_core.specs.Stepping.{plain_entry}
 use Rattle.master_core.specs.Effects.{next_entry, HasStamp, before_touch, before_read}
-use Rattle.master_core.proofs.Joining.{touch_stamp, read_stamp, own_stamp, stamp_by}
+use Rattle.master_core.proofs.EntryStamps.{touch_stamp, read_stamp, own_stamp, stamp_by}
 use Rattle.master_core.proofs.Threads.{other_on}
 use Rattle.master_core.proofs.Variables.{HasVariables, touch_is_log, look_is_log, clock_is_log, draw_is_log}
 

@@ -27,7 +27,7 @@ use Rattle.master_core.specs.Stepping.{told_for, move_of, plain_entry, DidEntry,
 use Rattle.master_core.specs.Effects.{next_output, DoneTake, DoneTouch, DoneLook, DoneHear, DoneEmit, DoneEnd, after_take, after_entry, after_emit, after_end}
 use Rattle.master_core.proofs.Threads.{take_on, emit_on, end_on, entry_on}
 use Rattle.master_core.proofs.Variables.{touch_is_log, look_is_log, clock_is_log, draw_is_log, take_vars, emit_vars, end_vars, clock_vars, draw_vars, touch_vars, look_vars}
-use Rattle.master_core.proofs.Standing.{stands_on, Logs, touch_logs, look_logs, clock_logs, draw_logs}
+use Rattle.master_core.proofs.StandsLemmas.{stands_on, Logs, touch_logs, look_logs, clock_logs, draw_logs}
 
 -- what holds of a thread where its move is made
 pub record Ready {V : Type 0} (m : Meaning V) (inputs : ℕ → List Packet) (threads : ℕ) (steps : List (Step V)) (p : Mastered V) (t : ℕ) (part : ThreadPart) (packet : Packet) (place : Local) : Type 0 where
