@@ -1,6 +1,6 @@
 -- A text is the file of one box at most, or has one first fault.
 use Rattle.std.proofs.Common.{◌≡◌, ℕ, ◌+◌, ◌⊎◌, inl, inr, List, [], ◌∷◌, length, refl, sym, ap, ◌∙◌, subst, Some, None, Ok, Err, true, false}
-use Rattle.std.specs.Prelude.{Result, IfOk, IfErr}
+use Rattle.std.specs.Prelude.{Result, IfOk, IfErr, slice_get}
 use Rattle.std.specs.Str.Lines.{lines as lines_of}
 use Rattle.plain_text.specs.declared.fault.LineCause.{LineCause}
 use Rattle.plain_text.specs.declared.fault.LineFault.{LineFault}
@@ -8,17 +8,13 @@ use Rattle.plain_text.specs.Grammar.{Row, LineSays, AreLines, FirstToLeave, line
 use Rattle.plain_text.specs.Lines.{words_of, words_count, counted_lines}
 use Rattle.plain_text.proofs.Rows.{says_no_fault, one_reading}
 use Rattle.plain_text.proofs.Faults.{Rising, counted_rise, not_both, one_first, one_setting}
-use Rattle.monitor_box.specs.Boxes.{box_with}
 use Rattle.box_conf.specs.declared.kind.BoxConf.{BoxConf}
-use Rattle.box_conf.specs.declared.kind.BoxKind.{BoxKind}
-use Rattle.box_conf.specs.declared.kind.BoxKind.TheVariants as box
-use Rattle.box_conf.specs.declared.table.KindWord.{KindWord}
-use Rattle.box_conf.specs.declared.table.KindWord.TheVariants.{Count, Monitor}
+use Rattle.box_conf.specs.declared.kind.KindWord.{KindWord}
 use Rattle.box_conf.specs.declared.table.NumberLine.{NumberLine}
-use Rattle.box_conf.specs.declared.table.NumberLine.TheVariants.{Threads, Seed, Shards}
-use Rattle.box_conf.specs.BoxFile.{AreOfKind, IsBoxFile, IsKind, Names, NamesNone, FirstFault, Has as HasNumber}
+use Rattle.box_conf.specs.BoxFile.{AreOfKind, IsBoxFile, Names, NamesNone, FirstFault, Has as HasNumber}
 use Rattle.box_conf.specs.Reading.{box_of, fault_at}
-use Rattle.box_conf.specs.Table.{box_row, row_of, rows_of, kind_index, numbers_of}
+use Rattle.box_conf.specs.Kinds.{box_row, conf_from, kinds, rows_of}
+use Rattle.box_conf.specs.Table.{row_of, numbers_of}
 use Rattle.box_conf.proofs.WholeFile.{Reads, reads_text}
 
 abbrev Line : Type 0
@@ -27,16 +23,14 @@ Line = ℕ × List ℕ
 rising : (text : List ℕ) → Rising 1 (counted_lines text)
 rising text = counted_rise 1 (λ line. words_count (words_of line.1)) (lines_of text)
 
-same_kind : (a b : KindWord) → kind_index a ∷ [] ≡ kind_index b ∷ [] → a ≡ b
-same_kind Count Count e = refl
-same_kind Monitor Monitor e = refl
-same_kind Count Monitor e = absurd (cc)
-same_kind Monitor Count e = absurd (cc)
-
 -- the first line names one kind
 one_kind : (lines : List Line) (a b : KindWord) → Names lines a → Names lines b → a ≡ b
 one_kind [] a b x y = absurd x
-one_kind (first ∷ lines) a b x y = same_kind a b (one_reading (box_row ∷ []) (words_of first.1) box_row box_row (kind_index a ∷ []) (kind_index b ∷ []) x y).1
+one_kind (first ∷ lines) a b x y =
+    let values : x.0 ∷ [] ≡ y.0 ∷ [] = (one_reading (box_row ∷ []) (words_of first.1) box_row box_row (x.0 ∷ []) (y.0 ∷ []) x.1 y.1).1 in
+    let index : x.0 ≡ y.0 = cc in
+    let same : Some a ≡ Some b = sym x.2 ∙ ap (slice_get kinds) index ∙ y.2 in
+    cc
 
 -- a line that names a kind is there, and has no fault
 no_empty : (lines : List Line) (kind : KindWord) → Names lines kind → lines ≡ [] → ⊥
@@ -46,28 +40,18 @@ no_empty (first ∷ lines) kind x e = absurd (cc)
 no_fault : (lines : List Line) (kind : KindWord) (number : ℕ) (cause : LineCause) → Names lines kind → NamesNone lines number cause → ⊥
 no_fault [] kind number cause x y = x
 no_fault (first ∷ lines) kind number cause x y =
-    let none = says_no_fault (box_row ∷ []) (words_of first.1) box_row (kind_index kind ∷ []) x in
+    let none = says_no_fault (box_row ∷ []) (words_of first.1) box_row (x.0 ∷ []) x.1 in
     let bad : None ≡ Some cause = sym none ∙ y.1 in
     absurd (cc)
 
 one_number : (text : List ℕ) (kind : KindWord) → AreLines (rows_of kind) (counted_lines text) → (line : NumberLine) (n m : ℕ) → HasNumber kind (counted_lines text) line n → HasNumber kind (counted_lines text) line m → n ≡ m
 one_number text kind rows line n m x y = one_setting (rows_of kind) (counted_lines text) 1 (rising text) rows (row_of line) (numbers_of line).usual n m refl x y
 
-one_box_kind : (text : List ℕ) (kind : KindWord) → AreLines (rows_of kind) (counted_lines text) → (a b : BoxKind) → IsKind kind (counted_lines text) a → IsKind kind (counted_lines text) b → a ≡ b
-one_box_kind text Count rows a b x y = x ∙ sym y
-one_box_kind text Monitor rows a b x y =
-    let same = one_number text Monitor rows Shards x.0 y.0 x.1 y.1 in
-    x.2 ∙ ap (λ (n : ℕ). box.Monitor (box_with n)) same ∙ sym y.2
-
-abbrev conf_of : ℕ → ℕ → BoxKind → BoxConf
-conf_of threads seed kind = record { threads = threads; seed = seed; kind = kind }
-
 of_one_kind : (text : List ℕ) (kind : KindWord) (a b : BoxConf) → AreOfKind kind (counted_lines text) a → AreOfKind kind (counted_lines text) b → a ≡ b
 of_one_kind text kind a b x y =
-    let threads = one_number text kind x.rows Threads a.threads b.threads x.threads y.threads in
-    let seed = one_number text kind x.rows Seed a.seed b.seed x.seed y.seed in
-    let the_kind = one_box_kind text kind x.rows a.kind b.kind x.box y.box in
-    ap (λ (n : ℕ). conf_of n a.seed a.kind) threads ∙ ap (λ (n : ℕ). conf_of b.threads n a.kind) seed ∙ ap (λ (k : BoxKind). conf_of b.threads b.seed k) the_kind
+    let same : (line : NumberLine) → x.numbers line ≡ y.numbers line = λ line. one_number text kind x.rows line (x.numbers line) (y.numbers line) (x.set line) (y.set line) in
+    let numbers : x.numbers ≡ y.numbers = λ i line. same line i in
+    x.says ∙ ap (conf_from kind) numbers ∙ sym y.says
 
 pub one_box : (text : List ℕ) (a b : BoxConf) → IsBoxFile text a → IsBoxFile text b → a ≡ b
 one_box text a b x y =

@@ -1,49 +1,35 @@
 -- What the reader does with one line is what the table of the kind says of it.
-use Rattle.std.proofs.Common.{◌≡◌, ℕ, ◌⊎◌, inl, inr, List, [], ◌∷◌, refl, sym, ap, ◌∙◌, subst, Option, Some, None, true, false, Bool, cond, Ok, Err}
-use Rattle.std.specs.Prelude.{Result, codes, is_some, option_map}
+use Rattle.std.proofs.Common.{◌≡◌, ℕ, ◌+◌, ◌⊎◌, arith, inl, inr, List, [], ◌∷◌, refl, sym, ap, ◌∙◌, subst, Option, Some, None, true, false, Bool, cond, Ok, Err}
+use Rattle.std.specs.Prelude.{Result, codes, is_some, option_map, find, map, slice_get, suc}
 use Rattle.std.specs.Str.{bytes_eq}
 use Rattle.plain_text.specs.declared.fault.LineCause.{LineCause}
 use Rattle.plain_text.specs.declared.fault.LineCause.TheVariants.{UnknownWord, MissingWord, ExtraWord, BadNumber, OutOfRange, Twice}
 use Rattle.plain_text.specs.Fields.{number_or_bad, with_rest, and_fields, fields_of}
-use Rattle.plain_text.specs.Grammar.{Place, Number, OneOf, Row, value_at, is_within, row_named, PlacesSay, LineSays, form_at, form_fault, range_at, range_fault, row_fault, or_else, line_fault}
+use Rattle.plain_text.specs.Grammar.{Place, Number, OneOf, Row, value_at, index_in, is_within, row_named, PlacesSay, LineSays, form_at, form_fault, range_at, range_fault, row_fault, or_else, line_fault}
 use Rattle.plain_text.specs.Lines.{number_of}
 use Rattle.box_conf.specs.declared.settings.Settings.{Settings}
-use Rattle.box_conf.specs.declared.table.KindWord.{KindWord}
-use Rattle.box_conf.specs.declared.table.KindWord.TheVariants.{Count, Monitor}
+use Rattle.box_conf.specs.declared.kind.KindWord.{KindWord}
 use Rattle.box_conf.specs.declared.table.NumberLine.{NumberLine}
-use Rattle.box_conf.specs.declared.table.NumberLine.TheVariants.{Threads, Seed, Shards}
 use Rattle.box_conf.specs.Reading.{and_end, box_line, first_line, second_box, set_by, set_line}
 use Rattle.box_conf.specs.Settings.{setting, with_setting, once, in_range, number_line, set_number}
-use Rattle.box_conf.specs.Table.{kind_words, kind_index, kind_named, line_named, numbers_of, has_line, box_row, row_of, rows_of}
+use Rattle.box_conf.specs.Kinds.{box_row, kind_named, kind_word, kinds, line_named, lines_of, rows_of}
+use Rattle.box_conf.specs.Table.{numbers_of, row_of, word_of}
 
 abbrev places_fault : List Place → List (List ℕ) → Option LineCause
 places_fault places words = or_else (form_fault places words) (range_fault places words)
 
 -- The row that a word begins
 
-abbrev row_if : KindWord → Option NumberLine → Option Row
-row_if kind None = None
-row_if kind (Some line) = cond (has_line kind line) (Some (row_of line)) None
+row_of_line : (word : List ℕ) (lines : List NumberLine) → row_named word (map row_of lines) ≡ option_map row_of (find (λ line. bytes_eq word (word_of line)) lines)
+row_of_line word [] = refl
+row_of_line word (line ∷ lines) = go (bytes_eq word (word_of line)) (row_named word (map row_of lines)) (find (λ line. bytes_eq word (word_of line)) lines) (row_of_line word lines)
+  where
+    go : (b : Bool) (row : Option Row) (found : Option NumberLine) → row ≡ option_map row_of found → cond b (Some (row_of line)) row ≡ option_map row_of (cond b (Some line) found)
+    go true row found e = refl
+    go false row found e = e
 
-row_of_word : (kind : KindWord) (word : List ℕ) → row_named word (rows_of kind) ≡ cond (bytes_eq word (codes "box")) (Some box_row) (row_if kind (line_named word))
-row_of_word Count word = go (bytes_eq word (codes "box")) (bytes_eq word (codes "threads")) (bytes_eq word (codes "seed")) (bytes_eq word (codes "shards"))
-  where
-    go : (b t s h : Bool) → cond b (Some box_row) (cond t (Some (row_of Threads)) (cond s (Some (row_of Seed)) None))
-        ≡ cond b (Some box_row) (row_if Count (cond t (Some Threads) (cond s (Some Seed) (cond h (Some Shards) None))))
-    go true t s h = refl
-    go false true s h = refl
-    go false false true h = refl
-    go false false false true = refl
-    go false false false false = refl
-row_of_word Monitor word = go (bytes_eq word (codes "box")) (bytes_eq word (codes "threads")) (bytes_eq word (codes "seed")) (bytes_eq word (codes "shards"))
-  where
-    go : (b t s h : Bool) → cond b (Some box_row) (cond t (Some (row_of Threads)) (cond s (Some (row_of Seed)) (cond h (Some (row_of Shards)) None)))
-        ≡ cond b (Some box_row) (row_if Monitor (cond t (Some Threads) (cond s (Some Seed) (cond h (Some Shards) None))))
-    go true t s h = refl
-    go false true s h = refl
-    go false false true h = refl
-    go false false false true = refl
-    go false false false false = refl
+row_of_word : (kind : KindWord) (word : List ℕ) → row_named word (rows_of kind) ≡ cond (bytes_eq word (codes "box")) (Some box_row) (option_map row_of (line_named kind word))
+row_of_word kind word = ap (cond (bytes_eq word (codes "box")) (Some box_row)) (row_of_line word (lines_of kind))
 
 -- the row `box` is one of each kind
 pub box_is_a_row : (kind : KindWord) (words : List (List ℕ)) (values : List ℕ) → LineSays (box_row ∷ []) words box_row values → LineSays (rows_of kind) words box_row values
@@ -96,32 +82,40 @@ number_says low high had (word ∷ extra ∷ words) = by_number (number_of word)
 
 -- The line that names the kind
 
-abbrev BoxSays : List (List ℕ) → Result KindWord LineCause → Type 0
-BoxSays words (Ok kind) = PlacesSay (OneOf kind_words ∷ []) words (kind_index kind ∷ [])
-BoxSays words (Err cause) = places_fault (OneOf kind_words ∷ []) words ≡ Some cause
+-- where a kind stands among kinds, there its word stands among their words
+abbrev Found : List KindWord → List ℕ → Option KindWord → Type 0
+Found all word None = index_in word (map kind_word all) ≡ None
+Found all word (Some kind) = (n : ℕ) × (index_in word (map kind_word all) ≡ Some n) × (slice_get all n ≡ Some kind)
 
-kind_value : (word : List ℕ) → value_at (OneOf kind_words) word ≡ option_map kind_index (kind_named word)
-kind_value word = go (bytes_eq word (codes "count")) (bytes_eq word (codes "monitor")) refl refl
+found : (all : List KindWord) (word : List ℕ) → Found all word (find (λ kind. bytes_eq word (kind_word kind)) all)
+found [] word = refl
+found (first ∷ all) word = go (bytes_eq word (kind_word first)) refl (find (λ kind. bytes_eq word (kind_word kind)) all) (found all word)
   where
-    go : (c m : Bool) → bytes_eq word (codes "count") ≡ c → bytes_eq word (codes "monitor") ≡ m → value_at (OneOf kind_words) word ≡ option_map kind_index (kind_named word)
-    go true m e f = rw (e) refl
-    go false true e f = rw (e, f) refl
-    go false false e f = rw (e, f) refl
+    go : (b : Bool) → bytes_eq word (kind_word first) ≡ b → (o : Option KindWord) → Found all word o → Found (first ∷ all) word (cond b (Some first) o)
+    go true e o more = (0, ap (λ (b : Bool). cond b (Some 0) (option_map (λ n. n + 1) (index_in word (map kind_word all)))) e, refl)
+    go false e None more = ap (λ (b : Bool). cond b (Some 0) (option_map (λ n. n + 1) (index_in word (map kind_word all)))) e ∙ ap (option_map (λ n. n + 1)) more
+    go false e (Some kind) more =
+        let behind : option_map (λ n. n + 1) (index_in word (map kind_word all)) ≡ Some (suc more.0) = ap (option_map (λ n. n + 1)) more.1 ∙ ap Some (omega arith) in
+        (suc more.0, ap (λ (b : Bool). cond b (Some 0) (option_map (λ n. n + 1) (index_in word (map kind_word all)))) e ∙ behind, more.2)
+
+abbrev kind_place : Place
+kind_place = OneOf (map kind_word kinds)
+
+abbrev BoxSays : List (List ℕ) → Result KindWord LineCause → Type 0
+BoxSays words (Ok kind) = (n : ℕ) × PlacesSay (kind_place ∷ []) words (n ∷ []) × (slice_get kinds n ≡ Some kind)
+BoxSays words (Err cause) = places_fault (kind_place ∷ []) words ≡ Some cause
 
 box_says : (words : List (List ℕ)) → BoxSays words (box_line words)
 box_says [] = refl
-box_says (word ∷ words) = by_kind (kind_named word) words (kind_value word)
+box_says (word ∷ words) = by_kind (kind_named word) words (found kinds word)
   where
-    place : Place
-    place = OneOf kind_words
-
-    by_kind : (o : Option KindWord) (rest : List (List ℕ)) → value_at place word ≡ option_map kind_index o → BoxSays (word ∷ rest) (and_end o (fields_of [] rest))
-    by_kind None rest e = subst (λ (o : Option ℕ). fault_by place o rest ≡ Some UnknownWord) (sym e) refl
-    by_kind (Some kind) [] e = (e, refl, tt)
-    by_kind (Some kind) (extra ∷ rest) e = subst (λ (o : Option ℕ). fault_by place o (extra ∷ rest) ≡ Some ExtraWord) (sym e) refl
+    by_kind : (o : Option KindWord) (rest : List (List ℕ)) → Found kinds word o → BoxSays (word ∷ rest) (and_end o (fields_of [] rest))
+    by_kind None rest e = subst (λ (o : Option ℕ). fault_by kind_place o rest ≡ Some UnknownWord) (sym e) refl
+    by_kind (Some kind) [] e = (e.0, (e.1, refl, tt), e.2)
+    by_kind (Some kind) (extra ∷ rest) e = subst (λ (o : Option ℕ). fault_by kind_place o (extra ∷ rest) ≡ Some ExtraWord) (sym e.1) refl
 
 abbrev pub FirstSays : List (List ℕ) → Result KindWord LineCause → Type 0
-FirstSays words (Ok kind) = LineSays (box_row ∷ []) words box_row (kind_index kind ∷ [])
+FirstSays words (Ok kind) = (n : ℕ) × LineSays (box_row ∷ []) words box_row (n ∷ []) × (slice_get kinds n ≡ Some kind)
 FirstSays words (Err cause) = line_fault (box_row ∷ []) words ≡ Some cause
 
 pub first_says : (words : List (List ℕ)) → FirstSays words (first_line words)
@@ -129,7 +123,7 @@ first_says [] = refl
 first_says (word ∷ words) = by_box (bytes_eq word (codes "box")) refl
   where
     by_line : (r : Result KindWord LineCause) → row_named word (box_row ∷ []) ≡ Some box_row → BoxSays words r → FirstSays (word ∷ words) r
-    by_line (Ok kind) row says = (row, says)
+    by_line (Ok kind) row says = (says.0, (row, says.1), says.2)
     by_line (Err cause) row fault = subst (λ (o : Option Row). row_fault o words ≡ Some cause) (sym row) fault
 
     by_box : (b : Bool) → bytes_eq word (codes "box") ≡ b → FirstSays (word ∷ words) (cond b (box_line words) (Err UnknownWord))
@@ -170,7 +164,7 @@ step_says kind s (word ∷ words) = by_box (bytes_eq word (codes "box")) refl
     faulty o cause row fault = inl (subst (λ (o : Option Row). row_fault o words ≡ Some cause) (sym row) fault)
 
     by_kind : (r : Result KindWord LineCause) → Row_is (Some box_row) → BoxSays words r → StepSays kind s (word ∷ words) (second_box r)
-    by_kind (Ok named) row says = inr (box_row, kind_index named ∷ [], (row, says), refl, inl refl, refl)
+    by_kind (Ok named) row says = inr (box_row, says.0 ∷ [], (row, says.1), refl, inl refl, refl)
     by_kind (Err cause) row fault = faulty (Some box_row) cause row fault
 
     by_number : (line : NumberLine) (r : Result ℕ LineCause) → Row_is (Some (row_of line)) → NumberSays (numbers_of line).low (numbers_of line).high (is_some (setting s line)) words r
@@ -181,19 +175,15 @@ step_says kind s (word ∷ words) = by_box (bytes_eq word (codes "box")) refl
         let before = was_set (setting s line) twice.2 in
         inr (row_of line, twice.0 ∷ [], (row, twice.1), refl, inr (line, before.0, refl, before.1), twice.3)
 
-    by_has : (line : NumberLine) (b : Bool) → Row_is (cond b (Some (row_of line)) None)
-        → StepSays kind s (word ∷ words) (cond b (set_number s line (number_line (numbers_of line).low (numbers_of line).high (is_some (setting s line)) words)) (Err UnknownWord))
-    by_has line true row = by_number line _ row (number_says (numbers_of line).low (numbers_of line).high (is_some (setting s line)) words)
-    by_has line false row = faulty None UnknownWord row refl
-
-    by_line : (o : Option NumberLine) → Row_is (row_if kind o) → StepSays kind s (word ∷ words) (set_by kind s o words)
+    by_line : (o : Option NumberLine) → Row_is (option_map row_of o) → StepSays kind s (word ∷ words) (set_by kind s o words)
     by_line None row = faulty None UnknownWord row refl
-    by_line (Some line) row = by_has line (has_line kind line) row
+    by_line (Some line) row =
+        by_number line _ row (number_says (numbers_of line).low (numbers_of line).high (is_some (setting s line)) words)
 
-    by_box : (b : Bool) → bytes_eq word (codes "box") ≡ b → StepSays kind s (word ∷ words) (cond b (second_box (box_line words)) (set_by kind s (line_named word) words))
+    by_box : (b : Bool) → bytes_eq word (codes "box") ≡ b → StepSays kind s (word ∷ words) (cond b (second_box (box_line words)) (set_by kind s (line_named kind word) words))
     by_box true e =
-        let row = row_of_word kind word ∙ ap (λ (b : Bool). cond b (Some box_row) (row_if kind (line_named word))) e in
+        let row = row_of_word kind word ∙ ap (λ (b : Bool). cond b (Some box_row) (option_map row_of (line_named kind word))) e in
         by_kind (box_line words) row (box_says words)
     by_box false e =
-        let row = row_of_word kind word ∙ ap (λ (b : Bool). cond b (Some box_row) (row_if kind (line_named word))) e in
-        by_line (line_named word) row
+        let row = row_of_word kind word ∙ ap (λ (b : Bool). cond b (Some box_row) (option_map row_of (line_named kind word))) e in
+        by_line (line_named kind word) row

@@ -10,17 +10,16 @@ use Rattle.plain_text.specs.Grammar.{Row, LineSays, Has as HasLine, Says, Leaves
 use Rattle.plain_text.specs.Lines.{words_of, words_count, counted_lines}
 use Rattle.plain_text.proofs.Rows.{one_row}
 use Rattle.plain_text.proofs.Faults.{Rising, counted_rise, from_rising, only_repeats, all_of_table}
-use Rattle.monitor_box.specs.Boxes.{box_with}
 use Rattle.box_conf.specs.declared.kind.BoxConf.{BoxConf}
 use Rattle.box_conf.specs.declared.settings.Settings.{Settings}
-use Rattle.box_conf.specs.declared.table.KindWord.{KindWord}
-use Rattle.box_conf.specs.declared.table.KindWord.TheVariants.{Count, Monitor}
+use Rattle.box_conf.specs.declared.kind.KindWord.{KindWord}
 use Rattle.box_conf.specs.declared.table.NumberLine.{NumberLine}
 use Rattle.box_conf.specs.declared.table.NumberLine.TheVariants.{Threads, Seed, Shards}
-use Rattle.box_conf.specs.BoxFile.{AreOfKind, IsBoxFile, IsKind, Names, NamesNone, FirstFault, Has as HasNumber}
-use Rattle.box_conf.specs.Reading.{and_kind, and_lines, box_of, box_of_lines, conf_of, fault_at, first_line, kind_with, no_settings, set_line, set_lines}
+use Rattle.box_conf.specs.BoxFile.{AreOfKind, IsBoxFile, Names, NamesNone, FirstFault, Has as HasNumber}
+use Rattle.box_conf.specs.Reading.{and_kind, and_lines, box_of, box_of_lines, conf_of, fault_at, first_line, no_settings, set_line, set_lines}
 use Rattle.box_conf.specs.Settings.{setting, with_setting, number_in}
-use Rattle.box_conf.specs.Table.{box_row, row_of, rows_of, kind_index, numbers_of}
+use Rattle.box_conf.specs.Kinds.{box_row, rows_of}
+use Rattle.box_conf.specs.Table.{row_of, numbers_of}
 use Rattle.box_conf.proofs.OneLine.{StepSays, Stood, step_says, FirstSays, first_says, box_is_a_row}
 
 abbrev Line : Type 0
@@ -240,20 +239,20 @@ along kind all (line ∷ rest) before s n a = by_step (set_line kind s (words_of
 -- The whole text
 
 -- behind the first line
-begins : (kind : KindWord) (first : Line) (rest : List Line) (n : ℕ) → Rising n (first ∷ rest) → LineSays (box_row ∷ []) (words_of first.1) box_row (kind_index kind ∷ [])
+begins : (kind : KindWord) (first : Line) (rest : List Line) (n index : ℕ) → Rising n (first ∷ rest) → LineSays (box_row ∷ []) (words_of first.1) box_row (index ∷ [])
     → Amid kind (first ∷ rest) no_settings (first.0 + 1) (first ∷ []) rest
-begins kind first rest n rising names = record {
+begins kind first rest n index rising names = record {
   split = λ x there. by_split x there;
   from_before = λ x there. by_place x there;
   from_rest = λ x there. inr there;
   rising = rising.1;
   below = λ x there. by_number x there;
-  stands = record { named = (first, kind_index kind ∷ [], inl refl, says); set = unset };
+  stands = record { named = (first, index ∷ [], inl refl, says); set = unset };
   stays = λ x cause there leaves. by_leaving x cause there leaves;
 }
   where
-    says : Says (rows_of kind) first box_row (kind_index kind ∷ [])
-    says = box_is_a_row kind (words_of first.1) (kind_index kind ∷ []) names
+    says : Says (rows_of kind) first box_row (index ∷ [])
+    says = box_is_a_row kind (words_of first.1) (index ∷ []) names
 
     by_split : (x : Line) → HasLine (first ∷ rest) x → HasLine (first ∷ []) x ⊎ HasLine rest x
     by_split x (inl e) = inl (inl e)
@@ -270,7 +269,7 @@ begins kind first rest n rising names = record {
     none_of : (line : NumberLine) (x : Line) (values : List ℕ) → HasLine (first ∷ []) x → Says (rows_of kind) x (row_of line) values → ⊥
     none_of line x values (inl e) other =
         let here : Says (rows_of kind) first (row_of line) values = subst (λ (l : Line). Says (rows_of kind) l (row_of line) values) e other in
-        not_box line (one_row (rows_of kind) (words_of first.1) box_row (row_of line) (kind_index kind ∷ []) values says here)
+        not_box line (one_row (rows_of kind) (words_of first.1) box_row (row_of line) (index ∷ []) values says here)
     none_of line x values (inr none) other = absurd none
 
     unset : (line : NumberLine) → IsSet kind (first ∷ []) line (setting no_settings line)
@@ -280,7 +279,7 @@ begins kind first rest n rising names = record {
 
     here_stays : (cause : LineCause) → Leaves (rows_of kind) (first ∷ rest) first cause → ⊥
     here_stays cause leaves =
-        let again = (only_repeats (rows_of kind) (first ∷ rest) first box_row (kind_index kind ∷ []) cause says leaves).0 in
+        let again = (only_repeats (rows_of kind) (first ∷ rest) first box_row (index ∷ []) cause says leaves).0 in
         let stood = again.stood in
         let high = from_rising first.0 (first ∷ rest) stood.earlier (omega arith, rising.1) stood.stands in
         let low = stood.before in
@@ -297,10 +296,6 @@ number_of_line kind lines s line stands = by_set (setting s line) (stands.set li
     by_set None none = inr (refl, none)
     by_set (Some n) some = inl some
 
-is_kind : (kind : KindWord) (lines : List Line) (s : Settings) → Stands kind s lines → IsKind kind lines (kind_with kind s)
-is_kind Count lines s stands = refl
-is_kind Monitor lines s stands = (number_in s Shards, number_of_line Monitor lines s Shards stands, refl)
-
 -- what the reader comes to
 abbrev pub Reads : List Line → ℕ → Result BoxConf LineFault → Type 0
 Reads lines count (Ok conf) = (kind : KindWord) × AreOfKind kind lines conf
@@ -313,22 +308,22 @@ reads_lines : (lines : List Line) (count n : ℕ) → Rising n lines → Reads l
 reads_lines [] count n rising = inl (refl, refl, refl)
 reads_lines (first ∷ rest) count n rising = by_first (first_line (words_of first.1)) (first_says (words_of first.1))
   where
-    by_lines : (kind : KindWord) (r : Result Settings LineFault) → LineSays (box_row ∷ []) (words_of first.1) box_row (kind_index kind ∷ []) → Comes kind (first ∷ rest) r
+    by_lines : (kind : KindWord) (r : Result Settings LineFault) → Names (first ∷ rest) kind → Comes kind (first ∷ rest) r
         → Reads (first ∷ rest) count (conf_of kind r)
     by_lines kind (Ok s) names comes = (
       kind,
       record {
         names = names;
         rows = comes.1;
-        threads = number_of_line kind (first ∷ rest) s Threads comes.0;
-        seed = number_of_line kind (first ∷ rest) s Seed comes.0;
-        box = is_kind kind (first ∷ rest) s comes.0;
+        numbers = number_in s;
+        set = λ line. number_of_line kind (first ∷ rest) s line comes.0;
+        says = refl;
       },
     )
     by_lines kind (Err fault) names comes = inr (inr (kind, names, comes))
 
     by_first : (r : Result KindWord LineCause) → FirstSays (words_of first.1) r → Reads (first ∷ rest) count (and_kind first.0 r rest)
-    by_first (Ok kind) names = by_lines kind (set_lines kind no_settings rest) names (along kind (first ∷ rest) rest (first ∷ []) no_settings (first.0 + 1) (begins kind first rest n rising names))
+    by_first (Ok kind) names = by_lines kind (set_lines kind no_settings rest) names (along kind (first ∷ rest) rest (first ∷ []) no_settings (first.0 + 1) (begins kind first rest n names.0 rising names.1))
     by_first (Err cause) fault = inr (inl (refl, fault))
 
 pub reads_text : (text : List ℕ) → Reads (counted_lines text) (length (lines_of text)) (box_of text)

@@ -9,16 +9,12 @@ use Rattle.plain_text.specs.declared.fault.LineFault.{LineFault}
 use Rattle.plain_text.specs.Fields.{fields_of}
 use Rattle.plain_text.specs.Lines.{words_of, counted_lines}
 use Rattle.box_conf.specs.declared.kind.BoxConf.{BoxConf}
-use Rattle.box_conf.specs.declared.kind.BoxKind.{BoxKind}
-use Rattle.box_conf.specs.declared.kind.BoxKind.TheVariants as box
-use Rattle.monitor_box.specs.Boxes.{box_with}
 use Rattle.box_conf.specs.declared.settings.Settings.{Settings}
-use Rattle.box_conf.specs.declared.table.KindWord.{KindWord}
-use Rattle.box_conf.specs.declared.table.KindWord.TheVariants.{Count, Monitor}
+use Rattle.box_conf.specs.declared.kind.KindWord.{KindWord}
 use Rattle.box_conf.specs.declared.table.NumberLine.{NumberLine}
-use Rattle.box_conf.specs.declared.table.NumberLine.TheVariants.{Threads, Seed, Shards}
 use Rattle.box_conf.specs.Settings.{setting, number_in, number_line, set_number}
-use Rattle.box_conf.specs.Table.{kind_named, line_named, numbers_of, has_line}
+use Rattle.box_conf.specs.Kinds.{kind_named, line_named, conf_from}
+use Rattle.box_conf.specs.Table.{numbers_of}
 
 abbrev pub and_end : Option KindWord → Result (List ℕ) LineCause → Result KindWord LineCause
 and_end None end = Err UnknownWord
@@ -40,17 +36,15 @@ abbrev pub second_box : Result KindWord LineCause → Result Settings LineCause
 second_box (Ok k) = Err Twice
 second_box (Err cause) = Err cause
 
--- a line that sets a number, if the kind has it
+-- a line that sets a number, if it is one of the kind
 abbrev pub set_by : KindWord → Settings → Option NumberLine → List (List ℕ) → Result Settings LineCause
 set_by k s None words = Err UnknownWord
-set_by k s (Some line) words =
-    if has_line k line then set_number s line (number_line (numbers_of line).low (numbers_of line).high (is_some (setting s line)) words)
-    else Err UnknownWord
+set_by k s (Some line) words = set_number s line (number_line (numbers_of line).low (numbers_of line).high (is_some (setting s line)) words)
 
 -- the settings after a later line with these words
 abbrev pub set_line : KindWord → Settings → List (List ℕ) → Result Settings LineCause
 set_line k s [] = Err UnknownWord
-set_line k s (word ∷ words) = if bytes_eq word (codes "box") then second_box (box_line words) else set_by k s (line_named word) words
+set_line k s (word ∷ words) = if bytes_eq word (codes "box") then second_box (box_line words) else set_by k s (line_named k word) words
 
 abbrev pub fault_at : ℕ → LineCause → LineFault
 fault_at line cause = record { line = line; cause = cause }
@@ -67,13 +61,8 @@ set_lines k s (line ∷ lines) = and_lines line.0 (set_line k s (words_of line.1
 abbrev pub no_settings : Settings
 no_settings = record { threads = None; seed = None; shards = None }
 
--- the box of a kind with these settings
-abbrev pub kind_with : KindWord → Settings → BoxKind
-kind_with Count s = box.Count (record {})
-kind_with Monitor s = box.Monitor (box_with (number_in s Shards))
-
 abbrev pub conf_of : KindWord → Result Settings LineFault → Result BoxConf LineFault
-conf_of k (Ok s) = Ok (record { threads = number_in s Threads; seed = number_in s Seed; kind = kind_with k s })
+conf_of k (Ok s) = Ok (conf_from k (number_in s))
 conf_of k (Err fault) = Err fault
 
 abbrev pub and_kind : ℕ → Result KindWord LineCause → List (ℕ × List ℕ) → Result BoxConf LineFault

@@ -1,13 +1,11 @@
 ghost use Rattle.std.specs.Prelude.{◌≡◌, ◌≤◌, Ok, Err, IfOk, IfErr};
 ghost use Rattle.box_conf.specs.BoxFile.{IsBoxFile, FirstFault};
-ghost use Rattle.box_conf.specs.Reading.{box_of, box_line, first_line, set_line, kind_with};
+ghost use Rattle.box_conf.specs.Reading.{box_of, box_line, first_line, set_line};
 ghost use Rattle.box_conf.specs.Settings.{AreInRange};
 
-use crate::kind::{BoxConf, BoxKind};
+use crate::kind::{BoxConf, KindWord};
 use crate::settings::{Settings, read_number_line};
-use crate::table::{KindWord, NumberLine, kind_named, line_named};
-use box_program::CountBox;
-use monitor_box::MonitorBox;
+use crate::table::NumberLine;
 use plain_text::{LineCause, LineFault, WordIter, count_lines, end_of_line, lines, words};
 
 /// The word of the line that names the kind.
@@ -53,22 +51,8 @@ fn read_lines(text: &[u8]) -> Result<BoxConf, LineFault>
     Ok(BoxConf {
         threads: settings.number(NumberLine::Threads) as u32,
         seed: settings.number(NumberLine::Seed),
-        kind: make_kind(kind, settings),
+        kind: kind.make(settings),
     })
-}
-
-/// The box of a kind with these settings.
-fn make_kind(kind: KindWord, settings: Settings) -> BoxKind
-    requires { AreInRange settings }
-    ensures { result ≡ kind_with kind settings }
-{
-    match kind {
-        KindWord::Count => BoxKind::Count(CountBox::new()),
-        KindWord::Monitor => {
-            let shards = settings.number(NumberLine::Shards);
-            BoxKind::Monitor(MonitorBox::new(shards as u32))
-        }
-    }
 }
 
 fn fault_at(line: u64, cause: LineCause) -> LineFault
@@ -98,7 +82,7 @@ fn read_kind(mut words: WordIter<'_>) -> Result<KindWord, LineCause>
     let Some(word) = words.next() else {
         return Err(LineCause::MissingWord);
     };
-    let Some(kind) = kind_named(word) else {
+    let Some(kind) = KindWord::named(word) else {
         return Err(LineCause::UnknownWord);
     };
     match end_of_line(words) {
@@ -126,12 +110,10 @@ fn set_by_line(
             Err(cause) => Err(cause),
         };
     }
-    match line_named(word) {
-        Some(line) if kind.has_line(line) => {
-            let had = settings.get(line).is_some();
-            let number = read_number_line(words, line.numbers(), had)?;
-            Ok(settings.with(line, number))
-        }
-        _ => Err(LineCause::UnknownWord),
-    }
+    let Some(line) = kind.line_named(word) else {
+        return Err(LineCause::UnknownWord);
+    };
+    let had = settings.get(line).is_some();
+    let number = read_number_line(words, line.numbers(), had)?;
+    Ok(settings.with(line, number))
 }

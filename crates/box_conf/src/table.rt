@@ -1,12 +1,5 @@
 ghost use Rattle.std.specs.Prelude.{◌≡◌};
-ghost use Rattle.box_conf.specs.Table.{kind_named, line_named, numbers_of, has_line};
-
-/// A kind of box, by the word that names it in a box file.
-#[derive(Clone, Copy, Debug, PartialEq, Eq)]
-pub enum KindWord {
-    Count,
-    Monitor,
-}
+ghost use Rattle.box_conf.specs.Table.{word_of, numbers_of};
 
 /// A line of a box file that sets a number, by its first word. It may stand once.
 #[derive(Clone, Copy, Debug, PartialEq, Eq)]
@@ -24,35 +17,18 @@ pub struct Numbers {
     pub usual: u64,
 }
 
-/// The kind that a word names, if it names one.
-pub fn kind_named(word: &[u8]) -> Option<KindWord>
-    ensures { result ≡ kind_named word.now }
-{
-    if word == b"count".as_slice() {
-        Some(KindWord::Count)
-    } else if word == b"monitor".as_slice() {
-        Some(KindWord::Monitor)
-    } else {
-        None
-    }
-}
-
-/// The line that a word begins, if it begins one that sets a number.
-pub fn line_named(word: &[u8]) -> Option<NumberLine>
-    ensures { result ≡ line_named word.now }
-{
-    if word == b"threads".as_slice() {
-        Some(NumberLine::Threads)
-    } else if word == b"seed".as_slice() {
-        Some(NumberLine::Seed)
-    } else if word == b"shards".as_slice() {
-        Some(NumberLine::Shards)
-    } else {
-        None
-    }
-}
-
 impl NumberLine {
+    /// The first word of the line.
+    pub fn word(self) -> &'static [u8]
+        ensures { result.now ≡ word_of self }
+    {
+        match self {
+            NumberLine::Threads => b"threads",
+            NumberLine::Seed => b"seed",
+            NumberLine::Shards => b"shards",
+        }
+    }
+
     /// The numbers of the line.
     pub fn numbers(self) -> Numbers
         ensures { result ≡ numbers_of self }
@@ -63,20 +39,5 @@ impl NumberLine {
             NumberLine::Shards => (1, 64, 16),
         };
         Numbers { low, high, usual }
-    }
-}
-
-impl KindWord {
-    /// Whether the line may stand in a file of this kind.
-    pub fn has_line(self, line: NumberLine) -> bool
-        ensures { result ≡ has_line self line }
-    {
-        match line {
-            NumberLine::Threads | NumberLine::Seed => true,
-            NumberLine::Shards => match self {
-                KindWord::Count => false,
-                KindWord::Monitor => true,
-            },
-        }
     }
 }

@@ -47,7 +47,8 @@ pub trait Program: Drop {
     ) -> Result<(), NoMemory>
         requires next { (meaning self.now).next local.old ≡ Access var }
         requires fits { fits self.now var value.old }
-        ensures touched { OnOk result ((value.new, local.new) ≡ (meaning self.now).touch var value.old local.old) }
+        ensures touched { OnOk result ((value.new, local.new)
+            ≡ (meaning self.now).touch var value.old local.old) }
         ensures value_stays { OnErr result (value.new ≡ value.old) }
         ensures local_stays { OnErr result (local.new ≡ local.old) };
 

@@ -1,8 +1,6 @@
 -- What the program prints without running a command.
-use Rattle.std.specs.Prelude.{◌≡◌, ℕ, List, ◌++◌, take, Option, Some, None}
-use Rattle.world_io.specs.World.{Shown, WritesFile}
-use Rattle.world_io.specs.declared.all.WriteAll.{WriteAll}
-use Rattle.world_io.specs.declared.all.WriteAll.TheVariants as write
+use Rattle.std.specs.Prelude.{◌≡◌, ℕ, List, ◌++◌, Option, Some, None}
+use Rattle.world_io.specs.World.{Shown}
 use Rattle.job_top.specs.declared.status.Status.{Status}
 use Rattle.job_top.specs.declared.status.Status.TheVariants.{Done}
 use Rattle.command_line.specs.Request.{request_of}
@@ -27,9 +25,3 @@ pub record Prints (text : List ℕ) (status : Status) (old new : Shown) : Type 0
   pub whole : status ≡ Done → part ≡ text
   pub printed : new.sent 0 ≡ old.sent 0 ++ part
   pub names : (name : List ℕ) → new.names name ≡ old.names name
-
--- a prefix of the text was appended to the report: all of it, or the first bytes
-abbrev pub Appends : WriteAll → List ℕ → Shown → Shown → Type 0
-Appends write.All text old new = WritesFile 0 text old new
-Appends (write.Failed n) text old new = WritesFile 0 (take n text) old new
-Appends (write.NoMemory n) text old new = WritesFile 0 (take n text) old new

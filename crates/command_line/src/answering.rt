@@ -1,60 +1,55 @@
-ghost use Rattle.std.specs.Prelude.{◌≡◌, ◌<◌, ◌≤◌, ◌+◌, ◌^◌, ◌⊎◌, None, IsTrue, IfErr, IfOk, IfSome};
+ghost use Rattle.std.specs.Prelude.{◌≡◌, ◌<◌, ◌≤◌, ◌+◌, ◌^◌, ◌⊎◌, None, IsTrue, IfErr, IfOk};
 ghost use Rattle.std.specs.IoError.{error_kind};
-ghost use Rattle.world_io.specs.All.{WriteFailed};
 ghost use Rattle.world_io.specs.Stream.{Rose};
-ghost use Rattle.world_io.specs.World.{KeepsLedgerWriting};
 ghost use Rattle.job_top.specs.Words.{asked};
 ghost use Rattle.command_line.specs.Performing.{Performs};
-ghost use Rattle.command_line.specs.Printing.{Appends, Prints, asked_text};
+ghost use Rattle.command_line.specs.Printing.{Prints, asked_text};
 ghost use Rattle.command_line.specs.Words.{Refuses, words_of};
 
 use crate::{Request, help, read_request, read_words, version};
-use job_top::{Status, ftmb};
+use job_top::{OutputError, REPORT, Status, append, ftmb};
 use plain_text::Text;
 use std::alloc::Global;
 use std::env::Args;
 use std::io;
-use world_io::{World, WorldSink, WriteAll, write_all};
-
-/// The number of the report, which is the program's standard output.
-const REPORT: u32 = 0;
-
-/// Appends a text to the report.
-fn append<W: World>(world: &mut W, text: &[u8]) -> WriteAll
-    ensures told { IsTrue W.tells → Appends result text.now (W.shown world.old) (W.shown world.new) }
-    ensures ledger { KeepsLedgerWriting (W.ledger world.old) (W.ledger world.new) }
-    ensures cause { WriteFailed result → Rose (W.ledger world.old).write_faults (W.ledger world.new).write_faults }
-{
-    let mut report = WorldSink::of(world, REPORT);
-    write_all(&mut report, text)
-}
+use world_io::World;
 
 /// Prints a text where the report goes.
 #[tactic(auto, using(crate::proofs::Printed::prints_prefix))]
 fn print<W: World>(world: &mut W, text: &str) -> Status
-    ensures prints { IsTrue W.tells → Prints text.now result (W.shown world.old) (W.shown world.new) }
-    ensures outcome { (result ≡ Status.Done) ⊎ ((result ≡ Status.WriteFault) ⊎ (result ≡ Status.NoMemory)) }
+    ensures prints { IsTrue W.tells
+        → Prints text.now result (W.shown world.old) (W.shown world.new) }
+    ensures outcome { (result ≡ Status.Done)
+        ⊎ ((result ≡ Status.WriteFault) ⊎ (result ≡ Status.NoMemory)) }
     ensures given { (W.ledger world.new).given ≡ (W.ledger world.old).given }
-    ensures write_fault { result ≡ Status.WriteFault → Rose (W.ledger world.old).write_faults (W.ledger world.new).write_faults }
+    ensures write_fault { result ≡ Status.WriteFault
+        → Rose (W.ledger world.old).write_faults (W.ledger world.new).write_faults }
+    ensures never_fails { W.healthy world.old → ¬ (result ≡ Status.WriteFault) }
 {
-    match append(world, text.as_bytes()) {
-        WriteAll::All => Status::Done,
-        WriteAll::Failed(_) => Status::WriteFault,
-        WriteAll::NoMemory(_) => Status::NoMemory,
+    match append(world, REPORT, text.as_bytes()) {
+        Ok(()) => Status::Done,
+        Err(OutputError::WriteFault) => Status::WriteFault,
+        Err(OutputError::NoMemory) => Status::NoMemory,
     }
 }
 
-/// Does what the words ask for: prints the help or the version where the one and only word is `--help` or `--version`, and else runs the
-/// command that they name.
+/// Does what the words ask for: prints the help or the version where the one and only word is
+/// `--help` or `--version`, and else runs the command that they name.
 pub fn perform<W: World>(alloc: Global, words: &[Text], world: &mut W) -> Status
     requires room { (W.ledger world.old).given < 2 ^ 31 }
-    ensures performs { IsTrue W.tells → Performs words.now result (W.shown world.old) (W.shown world.new) }
-    ensures bad_words { result ≡ Status.BadWords → (asked words.now ≡ None) × (asked_text words.now ≡ None) }
-    ensures no_command { asked words.now ≡ None → asked_text words.now ≡ None → result ≡ Status.BadWords }
+    ensures performs { IsTrue W.tells → Performs (W.healthy world.old) words.now result
+        (W.shown world.old) (W.shown world.new) }
+    ensures bad_words { result ≡ Status.BadWords
+        → (asked words.now ≡ None) × (asked_text words.now ≡ None) }
+    ensures no_command { asked words.now ≡ None → asked_text words.now ≡ None
+        → result ≡ Status.BadWords }
     ensures nothing_asked { result ≡ Status.BadWords → world.new ≡ world.old }
     ensures given { (W.ledger world.new).given ≤ (W.ledger world.old).given + 5 }
-    ensures read_fault { result ≡ Status.ReadFault → Rose (W.ledger world.old).read_faults (W.ledger world.new).read_faults }
-    ensures write_fault { result ≡ Status.WriteFault → Rose (W.ledger world.old).write_faults (W.ledger world.new).write_faults }
+    ensures read_fault { result ≡ Status.ReadFault
+        → Rose (W.ledger world.old).read_faults (W.ledger world.new).read_faults }
+    ensures write_fault { result ≡ Status.WriteFault
+        → Rose (W.ledger world.old).write_faults (W.ledger world.new).write_faults }
+    ensures never_fails { W.healthy world.old → ¬ (result ≡ Status.WriteFault) }
 {
     match read_request(words) {
         Request::Help => print(world, help()),
@@ -63,20 +58,28 @@ pub fn perform<W: World>(alloc: Global, words: &[Text], world: &mut W) -> Status
     }
 }
 
-/// What the program comes to with the arguments that std gives it: it performs what the words after its name ask for.
+/// What the program comes to with the arguments that std gives it: it performs what the words after
+/// its name ask for.
 ///
-/// Where there are no arguments, since one of them is not UTF-8, or no memory to copy them, the world stays as it is.
+/// Where there are no arguments, since one of them is not UTF-8, or no memory to copy them, the
+/// world stays as it is.
 pub fn answer<W: World>(alloc: Global, arguments: io::Result<Args>, world: &mut W) -> Status
     requires room { (W.ledger world.old).given < 2 ^ 31 }
-    ensures not_text { IfErr arguments (λ error. Refuses (error_kind error) result × (world.new ≡ world.old)) }
+    ensures not_text { IfErr arguments (λ error.
+        Refuses (error_kind error) result × (world.new ≡ world.old)) }
     ensures performs { IsTrue W.tells → IfOk arguments (λ all.
         ((result ≡ Status.NoMemory) × (world.new ≡ world.old))
-        ⊎ Performs (words_of all) result (W.shown world.old) (W.shown world.new)) }
-    ensures bad_words { IfOk arguments (λ all. asked (words_of all) ≡ None → asked_text (words_of all) ≡ None
+        ⊎ Performs (W.healthy world.old) (words_of all) result
+        (W.shown world.old) (W.shown world.new)) }
+    ensures bad_words { IfOk arguments (λ all.
+        asked (words_of all) ≡ None → asked_text (words_of all) ≡ None
         → (result ≡ Status.BadWords) ⊎ (result ≡ Status.NoMemory)) }
     ensures nothing_asked { result ≡ Status.BadWords → world.new ≡ world.old }
-    ensures read_fault { result ≡ Status.ReadFault → Rose (W.ledger world.old).read_faults (W.ledger world.new).read_faults }
-    ensures write_fault { result ≡ Status.WriteFault → Rose (W.ledger world.old).write_faults (W.ledger world.new).write_faults }
+    ensures read_fault { result ≡ Status.ReadFault
+        → Rose (W.ledger world.old).read_faults (W.ledger world.new).read_faults }
+    ensures write_fault { result ≡ Status.WriteFault
+        → Rose (W.ledger world.old).write_faults (W.ledger world.new).write_faults }
+    ensures never_fails { W.healthy world.old → ¬ (result ≡ Status.WriteFault) }
 {
     match read_words(alloc, arguments) {
         Ok(words) => perform(alloc, words.as_slice(), world),

@@ -1,6 +1,8 @@
-//! The edge of the program: its words, what it does with them, and the text and the number that it ends with.
+//! The edge of the program: its words, what it does with them, and the text and the number that it
+//! ends with.
 //!
-//! A program's `main` calls `run_program`, which alone speaks to the system. All that it decides stands in functions with clauses.
+//! A program's `main` calls `run_program`, which alone speaks to the system. All that it decides
+//! stands in functions with clauses.
 #![tactic(auto)]
 
 mod answering;

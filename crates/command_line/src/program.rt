@@ -10,8 +10,8 @@ use std::process::ExitCode;
 use std::rt::{Env, Files};
 use world_real::RealWorld;
 
-/// The program: performs what its arguments ask for over the files of the system, tells what was not done, and ends with the number of
-/// the status.
+/// The program: performs what its arguments ask for over the files of the system, tells what was not
+/// done, and ends with the number of the status.
 pub fn run_program<R: Env + AllocGlobal + Files + Print + Eprint>(rt: &R) -> ExitCode
     ensures number { (status : Status) × (exit_status result ≡ exit_code_of status) }
 {

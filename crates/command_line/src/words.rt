@@ -12,14 +12,16 @@ use std::env::Args;
 use std::io;
 use std::io::ErrorKind;
 
-/// The words of the command line: all arguments after the program's name, in order, each with its bytes.
+/// The words of the command line: all arguments after the program's name, in order, each with its
+/// bytes.
 ///
 /// std gives no arguments where one is not UTF-8: these are bad words.
 pub fn read_words(alloc: Global, arguments: io::Result<Args>) -> Result<Vec<Text>, Status>
     ensures words { IfOk arguments (λ all. IfOk result (λ words. words.items ≡ words_of all)) }
     ensures copied { IfOk arguments (λ all. IfErr result (λ status. status ≡ Status.NoMemory)) }
     ensures refused { IfErr arguments (λ error. IsErrAnd result (Refuses (error_kind error))) }
-    ensures outcome { IfErr result (λ status. (status ≡ Status.BadWords) ⊎ (status ≡ Status.NoMemory)) }
+    ensures outcome { IfErr result (λ status.
+        (status ≡ Status.BadWords) ⊎ (status ≡ Status.NoMemory)) }
 {
     let mut arguments = arguments.map_err(refusal)?;
     let _name = arguments.next();

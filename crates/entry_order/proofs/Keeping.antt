@@ -85,7 +85,7 @@ not_new : (x : Entry) (later past : List Entry) → IsLog (x ∷ (later ++ past)
 not_new x later past good here = newest (later ++ past) x good (in_right x later past here)
 
 -- what stands before an entry of the past is of the past
-before_past : (later past : List Entry) (e f : Entry) → IsLog (later ++ past) → StandsBefore (later ++ past) e f → IsIn f past → IsIn e past
+pub before_past : (later past : List Entry) (e f : Entry) → IsLog (later ++ past) → StandsBefore (later ++ past) e f → IsIn f past → IsIn e past
 before_past [] past e f good b here = go past b
   where
     go : (log : List Entry) → StandsBefore log e f → IsIn e log

@@ -263,3 +263,11 @@ touch_and_read log e f v s r good he hf a b = go (cases_lt r s)
     go : (r < s) ⊎ (s ≤ r) → Precedes log e f ⊎ Precedes log f e
     go (inl n) = inr (read_then_touch log e f v s r good he hf a b n)
     go (inr n) = inl (touch_then_read log e f v s r good he hf a b n)
+
+-- two touches that are one, and two reads
+
+pub touch_only : (v s w r : ℕ) → Access v s ≡ Access w r → (v ≡ w) × (s ≡ r)
+touch_only v s w r e = (cc, cc)
+
+pub read_only : (v s w r : ℕ) → Read v s ≡ Read w r → (v ≡ w) × (s ≡ r)
+read_only v s w r e = (cc, cc)

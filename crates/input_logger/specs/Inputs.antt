@@ -1,5 +1,5 @@
 -- The inputs of each thread: of the fed packets, those that are steered to it.
-use Rattle.std.specs.Prelude.{ℕ, suc, zero, ◌%◌, ◌==◌, List, filter, slice_get, Option, None, Result, Ok, Err}
+use Rattle.std.specs.Prelude.{ℕ, suc, zero, ◌%◌, ◌==◌, List, [], ◌∷◌, ◌++◌, filter, slice_get, Option, None, Result, Ok, Err}
 use Rattle.plain_text.specs.declared.packet.Packet.{Packet}
 use Rattle.packet_headers.specs.declared.flow.Flow.{Flow}
 use Rattle.packet_headers.specs.declared.flow.NotFlow.{NotFlow}
@@ -18,6 +18,10 @@ thread_of packet threads = thread_of_view (viewed packet.bytes packet.original) 
 pub record Fed : Type 0 where
   pub threads : ℕ
   pub packets : List Packet
+
+-- the log with one more packet
+abbrev pub with_packet : Fed → Packet → Fed
+with_packet log packet = record log { packets = log.packets ++ packet ∷ [] }
 
 abbrev pub inputs_of : Fed → ℕ → List Packet
 inputs_of log thread = filter (λ packet. thread_of packet log.threads == thread) log.packets

@@ -1,6 +1,6 @@
-ghost use Rattle.std.specs.Prelude.{◌≡◌, ◌+◌, ◌<◌, ◌≤◌, ◌++◌, ◌∷◌, [], length, slice_get, IfOk, OnOk, OnErr};
+ghost use Rattle.std.specs.Prelude.{◌≡◌, ◌+◌, ◌<◌, ◌≤◌, [], length, slice_get, IfOk, OnOk, OnErr};
 ghost use Rattle.std.specs.Option.{option_copied};
-ghost use Rattle.input_logger.specs.Inputs.{thread_of, inputs_of, input_at};
+ghost use Rattle.input_logger.specs.Inputs.{thread_of, inputs_of, input_at, with_packet};
 
 use crate::steer;
 use plain_text::{NoMemory, Packet, Packets, Sequence};
@@ -47,7 +47,7 @@ impl InputLog {
 
     /// Takes the next packet, and answers whose input it is: the thread, and which of its inputs, from 1.
     pub fn feed(&mut self, packet: Packet) -> Result<(u32, u64), NoMemory>
-        ensures ok { OnOk result (self.new ≡ record self.old { packets = self.old.packets ++ packet ∷ [] }) }
+        ensures ok { OnOk result (self.new ≡ with_packet self.old packet) }
         ensures thread { IfOk result (λ input. input.0 ≡ thread_of packet self.old.threads) }
         ensures below { IfOk result (λ input. input.0 < self.old.threads) }
         ensures number { IfOk result (λ input. input.1 ≡ length (inputs_of self.old input.0) + 1) }

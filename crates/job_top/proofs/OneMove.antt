@@ -21,7 +21,8 @@ use Rattle.master_core.specs.declared.parts.ThreadPart.{ThreadPart}
 use Rattle.master_core.specs.declared.parts.VarPart.{VarPart}
 use Rattle.master_core.specs.declared.step.Stepped.{Stepped}
 use Rattle.master_core.specs.declared.step.Stepped.TheVariants as stepped
-use Rattle.master_core.specs.Mastered.{Mastered, FitsProgram, has_hand, hand_of, input_in_hand, moves_made}
+use Rattle.box_program.specs.Hands.{FitsProgram, has_hand, hand_of}
+use Rattle.master_core.specs.Mastered.{Mastered, value_of, place_in_hand, input_in_hand, moves_made}
 use Rattle.master_core.specs.Standing.{Stands}
 use Rattle.master_core.specs.Stepping.{Follows, MadeOne, move_of, told_in, told_for, emission_of_output}
 use Rattle.master_core.proofs.Growing.{moves_within}
@@ -31,9 +32,9 @@ use Rattle.job_top.proofs.Turns.{turn_of}
 use Rattle.job_top.proofs.Progress.{GoesOn, goes_on, progress_more, progress_begin, progress_end}
 
 -- whether a thread has a packet in hand is what its history tells
-pub hand_is : {V : Type 0} (m : Meaning V) (threads : ℕ) (steps : List (Step V)) (p : Mastered V) (t : ℕ) → Stands m threads steps p → t < threads → has_hand p t ≡ is_some (thread_after steps t).hand
+pub hand_is : {V : Type 0} (m : Meaning V) (threads : ℕ) (steps : List (Step V)) (p : Mastered V) (t : ℕ) → Stands m threads steps p → t < threads → has_hand (place_in_hand p t) ≡ is_some (thread_after steps t).hand
 hand_is m threads steps p t is below =
-    ap (λ (o : Option ThreadPart). is_some (hand_of o)) (slice_get-get_or p.threads t none (omega (arith, is.threads_are)))
+    ap (λ (o : Option ThreadPart). is_some (hand_of (λ part. part.hand) o)) (slice_get-get_or p.threads t none (omega (arith, is.threads_are)))
     ∙ ap is_some (is.thread t none below).hand ∙ same (thread_after steps t).hand
   where
     none : ThreadPart
@@ -44,10 +45,10 @@ hand_is m threads steps p t is below =
     same (Some h) = refl
 
 -- and what a master says
-pub says_hand : {V : Type 0} (p : Mastered V) (t : ℕ) (r : Option ℕ) → t < length p.threads → ((d : ThreadPart) → r ≡ input_in_hand (slice_index_or p.threads t d)) → is_some r ≡ has_hand p t
+pub says_hand : {V : Type 0} (p : Mastered V) (t : ℕ) (r : Option ℕ) → t < length p.threads → ((d : ThreadPart) → r ≡ input_in_hand (slice_index_or p.threads t d)) → is_some r ≡ has_hand (place_in_hand p t)
 says_hand p t r below says =
     let d : ThreadPart = record { counts = record { taken = 0; entries = 0; outputs = 0 }; hand = None; stamp = [] } in
-    ap is_some (says d) ∙ same (slice_index_or p.threads t d) ∙ sym (ap (λ (o : Option ThreadPart). is_some (hand_of o)) (slice_get-get_or p.threads t d below))
+    ap is_some (says d) ∙ same (slice_index_or p.threads t d) ∙ sym (ap (λ (o : Option ThreadPart). is_some (hand_of (λ part. part.hand) o)) (slice_get-get_or p.threads t d below))
   where
     same : (part : ThreadPart) → is_some (input_in_hand part) ≡ is_some part.hand
     same part = by_hand part.hand refl
@@ -92,7 +93,7 @@ pub record Ready {V : Type 0} (m : Meaning V) (threads : ℕ) (packets : List Pa
   pub on : GoesOn m threads packets at packet made (length sent) so_far.steps
 
 pub is_ready : {V : Type 0} (m : Meaning V) (fits : ℕ → V → Type 0) (threads : ℕ) (packets : List Packet) (at : ℕ) (packet : Packet) (thread : ℕ) (moves : List PlainMove) (sent : List Packet) (p : Mastered V)
-    → IsStraight m fits → IsLawful m fits → FitsProgram m fits p → packet ≡ slice_index_or packets at packet → at < length packets → thread < threads
+    → IsStraight m fits → IsLawful m fits → FitsProgram m fits value_of p.vars → packet ≡ slice_index_or packets at packet → at < length packets → thread < threads
     → CanMove m threads packets at thread moves sent p → Ready m threads packets at packet thread moves sent p
 is_ready {V} m fits threads packets at packet thread moves sent p straight lawful fit packet_is below under can =
     let there : slice_get packets at ≡ Some packet = slice_get-get_or packets at packet below ∙ ap Some (sym packet_is) in
@@ -100,7 +101,7 @@ is_ready {V} m fits threads packets at packet thread moves sent p straight lawfu
     let same : can.0 ≡ packet = cc in
     by there (subst (λ (q : Packet). thread ≡ thread_of q threads) same can.3) (subst (λ (q : Packet). Made m threads packets at q can.1 moves sent p) same can.4) can.5
   where
-    by : slice_get packets at ≡ Some packet → thread ≡ thread_of packet threads → Made m threads packets at packet can.1 moves sent p → ((can.1 ≡ 0) ⊎ ((1 ≤ can.1) × (has_hand p thread ≡ true))) → Ready m threads packets at packet thread moves sent p
+    by : slice_get packets at ≡ Some packet → thread ≡ thread_of packet threads → Made m threads packets at packet can.1 moves sent p → ((can.1 ≡ 0) ⊎ ((1 ≤ can.1) × (has_hand (place_in_hand p thread) ≡ true))) → Ready m threads packets at packet thread moves sent p
     by there own g how = record {
       made = can.1;
       there = there;
@@ -122,10 +123,10 @@ is_ready {V} m fits threads packets at packet thread moves sent p straight lawfu
         ended (Holds h hand same took some far early late) all = absurd (omega (arith, far, all))
         ended (Ended all took hand as_many) _ = ap is_some hand
 
-        more : ((can.1 ≡ 0) ⊎ ((1 ≤ can.1) × (has_hand p thread ≡ true))) → ¬ (can.1 ≡ moves_for m packet)
+        more : ((can.1 ≡ 0) ⊎ ((1 ≤ can.1) × (has_hand (place_in_hand p thread) ≡ true))) → ¬ (can.1 ≡ moves_for m packet)
         more (inl none) all = omega (arith, none, all)
         more (inr held) all =
-            let yes : is_some (thread_after g.steps t).hand ≡ true = sym (hand_is m threads g.steps p t g.stands (omega (arith, own))) ∙ ap (λ n. has_hand p n) (sym own) ∙ held.1 in
+            let yes : is_some (thread_after g.steps t).hand ≡ true = sym (hand_is m threads g.steps p t g.stands (omega (arith, own))) ∙ ap (λ n. has_hand (place_in_hand p n)) (sym own) ∙ held.1 in
             let no = ended g.progress.come all in cc
 
 -- what was sent out, with what the move sent out
@@ -276,12 +277,12 @@ can_begin m threads packets at packet thread moves sent p packet_is below own un
 
 -- and goes on while it is in hand
 pub can_go_on : {V : Type 0} (m : Meaning V) (threads : ℕ) (packets : List Packet) (at thread : ℕ) (moves : List PlainMove) (sent : List Packet) (p : Mastered V)
-    → has_hand p thread ≡ true → HasMoved m threads packets at thread moves sent p → CanMove m threads packets at thread moves sent p
+    → has_hand (place_in_hand p thread) ≡ true → HasMoved m threads packets at thread moves sent p → CanMove m threads packets at thread moves sent p
 can_go_on m threads packets at thread moves sent p held h = (h.0, h.1, h.2, h.3, h.4, inr (h.5, held))
 
 -- until it has ended
 pub has_ended : {V : Type 0} (m : Meaning V) (threads : ℕ) (packets : List Packet) (at thread : ℕ) (moves : List PlainMove) (sent : List Packet) (p : Mastered V)
-    → has_hand p thread ≡ false → thread < threads → HasMoved m threads packets at thread moves sent p → Played m threads packets (at + 1) moves sent p
+    → has_hand (place_in_hand p thread) ≡ false → thread < threads → HasMoved m threads packets at thread moves sent p → Played m threads packets (at + 1) moves sent p
 has_ended {V} m threads packets at thread moves sent p free under h = record {
   steps = h.4.steps;
   played = progress_end m threads packets at h.0 h.1 moves sent h.4.steps h.2 h.5 (none (thread_after h.4.steps (thread_of h.0 threads)).hand refl) h.4.progress;
@@ -292,5 +293,5 @@ has_ended {V} m threads packets at thread moves sent p free under h = record {
     none None e = e
     none (Some k) e =
         let some : is_some (thread_after h.4.steps (thread_of h.0 threads)).hand ≡ true = ap is_some e in
-        let no : is_some (thread_after h.4.steps (thread_of h.0 threads)).hand ≡ false = sym (hand_is m threads h.4.steps p (thread_of h.0 threads) h.4.stands (omega (arith, h.3))) ∙ ap (λ n. has_hand p n) (sym h.3) ∙ free in
+        let no : is_some (thread_after h.4.steps (thread_of h.0 threads)).hand ≡ false = sym (hand_is m threads h.4.steps p (thread_of h.0 threads) h.4.stands (omega (arith, h.3))) ∙ ap (λ n. has_hand (place_in_hand p n)) (sym h.3) ∙ free in
         absurd (cc)

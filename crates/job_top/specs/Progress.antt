@@ -8,7 +8,8 @@ use Rattle.plain_machine.specs.Machine.{Hand, Thread}
 use Rattle.plain_machine.specs.History.{Step, play, thread_after, emissions}
 use Rattle.master_core.specs.declared.step.Stepped.{Stepped}
 use Rattle.master_core.specs.declared.step.Stepped.TheVariants as stepped
-use Rattle.master_core.specs.Mastered.{Mastered, has_hand}
+use Rattle.box_program.specs.Hands.{has_hand}
+use Rattle.master_core.specs.Mastered.{Mastered, place_in_hand}
 use Rattle.master_core.specs.Standing.{Stands}
 use Rattle.job_top.specs.Running.{packets_of, inputs_on, moves_for, moves_on, moves_in_turn, HasPlayed}
 
@@ -46,7 +47,7 @@ pub record Made {V : Type 0} (m : Meaning V) (threads : ℕ) (packets : List Pac
 abbrev pub CanMove : {V : Type 0} → Meaning V → ℕ → List Packet → ℕ → ℕ → List PlainMove → List Packet → Mastered V → Type 0
 CanMove m threads packets at thread moves sent master =
     (packet : Packet) × (made : ℕ) × (slice_get packets at ≡ Some packet) × (thread ≡ thread_of packet threads)
-    × Made m threads packets at packet made moves sent master × ((made ≡ 0) ⊎ ((1 ≤ made) × (has_hand master thread ≡ true)))
+    × Made m threads packets at packet made moves sent master × ((made ≡ 0) ⊎ ((1 ≤ made) × (has_hand (place_in_hand master thread) ≡ true)))
 
 -- A move of the packet was made: it is in hand, or it has ended.
 abbrev pub HasMoved : {V : Type 0} → Meaning V → ℕ → List Packet → ℕ → ℕ → List PlainMove → List Packet → Mastered V → Type 0

@@ -1,6 +1,7 @@
 ghost use Rattle.std.specs.Prelude.{◌≡◌, ◌<◌, ◌≤◌, ◌+◌, ◌*◌, ◌^◌, ℕ, IsTrue, OnOk, IfOk, All, length};
 ghost use Rattle.input_logger.specs.Inputs.{thread_of};
-ghost use Rattle.master_core.specs.Mastered.{FitsProgram, has_hand, moves_left, place_in_hand};
+ghost use Rattle.box_program.specs.Hands.{FitsProgram, has_hand, moves_left};
+ghost use Rattle.master_core.specs.Mastered.{value_of, place_in_hand};
 ghost use Rattle.job_top.specs.Running.{IsStraight, IsSettled, IsShort};
 ghost use Rattle.master_core.specs.Stepping.{MadeOne};
 ghost use Rattle.job_top.specs.Progress.{Played, CanMove, HasMoved, HadTurn, packet_sent};
@@ -45,7 +46,7 @@ fn make_move<P: Program>(
     run: &mut Running<P>,
 ) -> Result<(), NoMemory>
     requires straight { IsStraight (P.meaning program.now) (P.fits program.now) }
-    requires fits { FitsProgram (P.meaning program.now) (P.fits program.now) run.old.master }
+    requires fits { FitsProgram (P.meaning program.now) (P.fits program.now) value_of run.old.master.vars }
     requires few { length packets.now ≤ 65536 }
     requires in_range { at < length packets.now }
     requires below { thread < threads }
@@ -55,9 +56,9 @@ fn make_move<P: Program>(
     requires sent { All IsShort run.old.sent }
     ensures goes { OnOk result (HasMoved (P.meaning program.now) threads packets.now at thread
         run.new.schedule run.new.sent run.new.master) }
-    ensures fits { FitsProgram (P.meaning program.now) (P.fits program.now) run.new.master }
+    ensures fits { FitsProgram (P.meaning program.now) (P.fits program.now) value_of run.new.master.vars }
     ensures sent { OnOk result (All IsShort run.new.sent) }
-    ensures falls { IsTrue (has_hand run.old.master thread) → OnOk result
+    ensures falls { IsTrue (has_hand (place_in_hand run.old.master thread)) → OnOk result
         (moves_left (P.meaning program.now) (place_in_hand run.new.master thread)
         < moves_left (P.meaning program.now) (place_in_hand run.old.master thread)) }
 {
@@ -87,7 +88,7 @@ fn play_packet<P: Program>(
     run: &mut Running<P>,
 ) -> Result<(), NoMemory>
     requires straight { IsStraight (P.meaning program.now) (P.fits program.now) }
-    requires fits { FitsProgram (P.meaning program.now) (P.fits program.now) run.old.master }
+    requires fits { FitsProgram (P.meaning program.now) (P.fits program.now) value_of run.old.master.vars }
     requires few { length packets.now ≤ 65536 }
     requires in_range { at < length packets.now }
     requires some_threads { 1 ≤ threads }
@@ -98,7 +99,7 @@ fn play_packet<P: Program>(
     requires sent { All IsShort run.old.sent }
     ensures played { OnOk result (Played (P.meaning program.now) threads packets.now (at + 1)
         run.new.schedule run.new.sent run.new.master) }
-    ensures fits { FitsProgram (P.meaning program.now) (P.fits program.now) run.new.master }
+    ensures fits { FitsProgram (P.meaning program.now) (P.fits program.now) value_of run.new.master.vars }
     ensures sent { OnOk result (All IsShort run.new.sent) }
 {
     let thread = steer(&packets[at], threads);

@@ -2,10 +2,10 @@ ghost use Rattle.std.specs.Prelude.{◌≡◌, ℕ, length, IfOk};
 
 use access_log::{Added, Held, Kept, StampedEntry, What};
 use entry_order::{LogEntry, closed_part, contains, first_missing, stamp_component};
+use plain_text::NoMemory;
 use rand_core::utils::NextWord;
 use rand_pcg::Pcg32;
 use std::alloc::{AllocError, Global};
-use std::process::Abort;
 use std::test::Fail;
 use thread_clock::Stamp;
 
@@ -62,44 +62,77 @@ fn hold(alloc: Global, log: &[LogEntry], entries: &[LogEntry]) -> Result<Held, F
     Ok(held)
 }
 
-/// What the held set answers of each output and of its closed part is what the definitions say.
-fn compare(
-    rt: &impl Abort,
+/// Whether the held set names what is missing for each output as the definitions do.
+fn names_missing(
     alloc: Global,
+    held: &Held,
     log: &[LogEntry],
     entries: &[LogEntry],
-) -> Result<(), Fail> {
-    let mut held = hold(alloc, log, entries)?;
+) -> Result<bool, AllocError> {
     for last in log {
         let stamp = stamp_of(alloc, log, last)?;
         let first = first_missing(alloc, log, &[], entries, last.thread, last.number)?;
-        let named = first.map(|entry| (entry.thread, entry.number));
-        assert_eq!(rt; held.missing(&stamp), named);
-    }
-    let closed = closed_part(alloc, log, &[], entries)?;
-    let count = held.closed_part();
-    assert_eq!(rt; count.kept, closed.len() as u64);
-    for entry in log {
-        let stays = held.get(entry.thread, entry.number).is_some();
-        assert_eq!(rt; stays, contains(&closed, entry));
-    }
-    Ok(())
-}
-
-/// Compares with each two entries of the log left out.
-fn compare_parts(rt: &impl Abort, alloc: Global, log: &[LogEntry]) -> Result<(), Fail> {
-    for first in log {
-        for second in log {
-            let mut entries = Vec::new(alloc);
-            for entry in log {
-                if entry != first && entry != second {
-                    entries.push(*entry)?;
-                }
-            }
-            compare(rt, alloc, log, &entries)?;
+        if held.missing(&stamp) != first.map(|entry| (entry.thread, entry.number)) {
+            return Ok(false);
         }
     }
-    compare(rt, alloc, log, log)
+    Ok(true)
+}
+
+/// Whether the held set keeps the closed part of the definitions.
+fn keeps_closed_part(
+    alloc: Global,
+    held: &mut Held,
+    log: &[LogEntry],
+    entries: &[LogEntry],
+) -> Result<bool, AllocError> {
+    let closed = closed_part(alloc, log, &[], entries)?;
+    let count = held.closed_part();
+    for entry in log {
+        let stays = held.get(entry.thread, entry.number).is_some();
+        if stays != contains(&closed, entry) {
+            return Ok(false);
+        }
+    }
+    Ok(count.kept == closed.len() as u64)
+}
+
+/// Whether a held set of these entries of the log answers as the definitions do.
+fn agrees(alloc: Global, log: &[LogEntry], entries: &[LogEntry]) -> Result<bool, Fail> {
+    let mut held = hold(alloc, log, entries)?;
+    if names_missing(alloc, &held, log, entries)? {
+        return Ok(keeps_closed_part(alloc, &mut held, log, entries)?);
+    }
+    Ok(false)
+}
+
+/// The entries of the log but these two.
+fn without(
+    alloc: Global,
+    log: &[LogEntry],
+    first: &LogEntry,
+    second: &LogEntry,
+) -> Result<Vec<LogEntry>, AllocError> {
+    let mut entries = Vec::new(alloc);
+    for entry in log {
+        if entry != first && entry != second {
+            entries.push(*entry)?;
+        }
+    }
+    Ok(entries)
+}
+
+/// Whether held sets of the whole log, and with each two entries left out, answer as the definitions do.
+fn parts_agree(alloc: Global, log: &[LogEntry]) -> Result<bool, Fail> {
+    for first in log {
+        for second in log {
+            let entries = without(alloc, log, first, second)?;
+            if !agrees(alloc, log, &entries)? {
+                return Ok(false);
+            }
+        }
+    }
+    agrees(alloc, log, log)
 }
 
 /// A log of three threads and two variables, newest first, with as many entries.
@@ -164,7 +197,7 @@ fn held_sets_of_random_logs_agree_with_the_definitions(rt: HostRuntime) -> Resul
     for turn in 0..300 {
         let log = random_log(alloc, &mut random, turn % 10)?;
         let part = random_part(alloc, &mut random, &log)?;
-        compare(&rt, alloc, &log, &part)?;
+        assert_eq!(rt; (turn, agrees(alloc, &log, &part)?), (turn, true));
     }
     Ok(())
 }
@@ -173,82 +206,88 @@ fn held_sets_of_random_logs_agree_with_the_definitions(rt: HostRuntime) -> Resul
 #[test]
 fn held_sets_agree_with_the_definitions(rt: HostRuntime) -> Result<(), Fail> {
     let alloc = rt.alloc();
-    compare_parts(&rt, alloc, &[touch(0, 1, 2), touch(1, 1, 1)])?;
-    compare_parts(
-        &rt,
-        alloc,
-        &[touch(0, 1, 2), read(2, 1, 1), read(1, 2, 1), touch(1, 1, 1)],
-    )?;
-    compare_parts(
-        &rt,
-        alloc,
-        &[
-            clock(1, 3),
-            read(2, 2, 2),
-            touch(0, 2, 2),
-            read(1, 2, 1),
-            clock(0, 1),
-            clock(2, 1),
-            touch(1, 1, 1),
-        ],
-    )
+    let two = [touch(0, 1, 2), touch(1, 1, 1)];
+    let four = [touch(0, 1, 2), read(2, 1, 1), read(1, 2, 1), touch(1, 1, 1)];
+    let seven = [
+        clock(1, 3),
+        read(2, 2, 2),
+        touch(0, 2, 2),
+        read(1, 2, 1),
+        clock(0, 1),
+        clock(2, 1),
+        touch(1, 1, 1),
+    ];
+    for log in [two.as_slice(), four.as_slice(), seven.as_slice()] {
+        assert_eq!(rt; (log.len(), parts_agree(alloc, log)?), (log.len(), true));
+    }
+    Ok(())
+}
+
+/// The first entry of a thread, a touch at this place, with these components of threads 0 and 1.
+fn first_touch(thread: u32, place: u64, first: u64, second: u64) -> StampedEntry
+    ensures thread { result.thread ≡ thread }
+    ensures number { result.number ≡ 1 }
+{
+    let mut components = [0; 16];
+    components[0] = first;
+    components[1] = second;
+    StampedEntry {
+        thread,
+        number: 1,
+        what: What::Access { var: 0, place },
+        stamp: Stamp::new(components),
+    }
+}
+
+/// What a held set of the second of two touches answers, where the first is held or not: what is missing, and how much its
+/// closed part has.
+fn answers(alloc: Global, with_first: bool) -> Result<(Option<(u32, u64)>, Kept), NoMemory> {
+    let second = first_touch(0, 2, 1, 1);
+    let mut held = Held::new(alloc, 2)?;
+    held.add(second)?;
+    if with_first {
+        held.add(first_touch(1, 1, 0, 1))?;
+    }
+    Ok((held.missing(&second.stamp), held.closed_part()))
 }
 
 /// Two threads count: thread 1 makes its touch, then thread 0.
 #[test]
 fn two_threads_count(rt: HostRuntime) -> Result<(), Fail> {
     let alloc = rt.alloc();
-    let mut stamp = Stamp::zero();
-    stamp.bump(1);
-    let first = StampedEntry {
-        thread: 1,
-        number: 1,
-        what: What::Access { var: 0, place: 1 },
-        stamp,
+    let alone = Kept {
+        kept: 0,
+        dropped: 1,
     };
-    stamp.bump(0);
-    let second = StampedEntry {
-        thread: 0,
-        number: 1,
-        what: What::Access { var: 0, place: 2 },
-        stamp,
+    let both = Kept {
+        kept: 2,
+        dropped: 0,
     };
-    assert_eq!(rt; second.stamp.weight(), 2);
+    assert_eq!(rt; first_touch(0, 2, 1, 1).stamp.weight(), 2);
+    assert_eq!(rt; answers(alloc, false)?, (Some((1, 1)), alone));
+    assert_eq!(rt; answers(alloc, true)?, (None, both));
+    Ok(())
+}
 
-    let mut alone = Held::new(alloc, 2)?;
-    assert_eq!(rt; alone.add(second)?, Added::New);
-    assert_eq!(rt; alone.missing(&second.stamp), Some((1, 1)));
-    assert_eq!(rt;
-        alone.closed_part(),
-        Kept {
-            kept: 0,
-            dropped: 1
-        }
-    );
+/// Whether an entry is known once it was added, and is no more held once it is covered.
+fn covers_first(alloc: Global) -> Result<bool, NoMemory> {
+    let first = first_touch(1, 1, 0, 1);
+    let mut held = Held::new(alloc, 2)?;
+    held.add(first_touch(0, 2, 1, 1))?;
+    held.add(first)?;
+    let again = held.add(first)?;
+    held.cover(&first.stamp);
+    Ok(
+        again == Added::Known
+            && held.get(1, 1).is_none()
+            && held.get(0, 1).is_some()
+            && held.frontier(1) == 1
+            && held.closed_part().kept == 1,
+    )
+}
 
-    let mut both = Held::new(alloc, 2)?;
-    assert_eq!(rt; both.add(second)?, Added::New);
-    assert_eq!(rt; both.add(first)?, Added::New);
-    assert_eq!(rt; both.add(first)?, Added::Known);
-    assert_eq!(rt; both.frontier(1), 1);
-    assert_eq!(rt; both.missing(&second.stamp), None);
-    assert_eq!(rt;
-        both.closed_part(),
-        Kept {
-            kept: 2,
-            dropped: 0
-        }
-    );
-    both.cover(&first.stamp);
-    assert!(rt; both.get(1, 1).is_none());
-    assert!(rt; both.get(0, 1).is_some());
-    assert_eq!(rt; both.frontier(1), 1);
-    assert_eq!(rt;
-        both.closed_part(),
-        Kept {
-            kept: 1,
-            dropped: 0
-        }
-    );
+#[test]
+fn what_is_covered_is_not_held(rt: HostRuntime) -> Result<(), Fail> {
+    assert!(rt; covers_first(rt.alloc())?);
     Ok(())
 }

@@ -1,16 +1,18 @@
 ghost use Rattle.std.specs.Prelude.{◌≡◌, ℕ, ◌<◌, length, IfOk};
-ghost use Rattle.master_core.specs.Mastered.{FitsProgram};
+ghost use Rattle.box_program.specs.Hands.{FitsProgram};
+ghost use Rattle.box_program.specs.Count.{IsCounter};
+ghost use Rattle.log_tests.specs.Mixed.{mixed_meaning};
+ghost use Rattle.master_core.specs.Mastered.{value_of};
 
 use crate::mixed::MixedBox;
-use access_log::{Held, StampedEntry, Turn, What};
+use access_log::{StampedEntry, Turn, What};
 use box_program::{CountBox, PeekBox, Program};
 use entry_order::{LogEntry, precedes, precedes_output, stamp_component, weight};
 use master_core::{Master, Stepped, Wants};
 use plain_text::{Bytes, NoMemory, Packet};
 use rand_core::utils::NextWord;
 use rand_pcg::Pcg32;
-use std::alloc::Global;
-use std::process::Abort;
+use std::alloc::{AllocError, Global};
 use std::test::Fail;
 use thread_clock::Stamp;
 
@@ -93,9 +95,11 @@ fn make<P: Program>(
     turn: Turn,
     input: &Packet,
 ) -> Told
-    requires program { FitsProgram (P.meaning program.now) (P.fits program.now) master.old }
+    requires program { FitsProgram (P.meaning program.now) (P.fits program.now)
+        value_of master.old.vars }
     requires thread_in { thread < length master.old.threads }
-    ensures fits { FitsProgram (P.meaning program.now) (P.fits program.now) master.new }
+    ensures fits { FitsProgram (P.meaning program.now) (P.fits program.now)
+        value_of master.new.vars }
     ensures threads { length master.new.threads ≡ length master.old.threads }
 {
     let counts = master.counts(thread);
@@ -112,9 +116,11 @@ fn make_without_input<P: Program>(
     program: &P,
     thread: u32,
 ) -> Option<Told>
-    requires program { FitsProgram (P.meaning program.now) (P.fits program.now) master.old }
+    requires program { FitsProgram (P.meaning program.now) (P.fits program.now)
+        value_of master.old.vars }
     requires thread_in { thread < length master.old.threads }
-    ensures fits { FitsProgram (P.meaning program.now) (P.fits program.now) master.new }
+    ensures fits { FitsProgram (P.meaning program.now) (P.fits program.now)
+        value_of master.new.vars }
     ensures threads { length master.new.threads ≡ length master.old.threads }
 {
     let counts = master.counts(thread);
@@ -127,30 +133,116 @@ fn make_without_input<P: Program>(
     Some(told_of(master.step(alloc, program, thread, Turn::Free, 7, None)))
 }
 
+/// One row of a test: a move and what it tells, or what the master says in between.
+#[derive(Clone, Copy, Debug, PartialEq)]
+enum Row {
+    /// A move of this thread with its packet.
+    Move(u32, Turn, Told),
+    /// A move of this thread where it is given no input.
+    NoInput(u32, Told),
+    /// What this thread wants.
+    Wants(u32, Wants),
+    /// The number of the input that this thread has in hand.
+    InHand(u32, Option<u64>),
+    /// How often variable 0 was touched, and its value.
+    Variable(u64, u64),
+    /// The join of the stamps of the reads of variable 0.
+    Readers(Stamp),
+}
+
+/// Whether variable 0 was touched this often and has this value.
+fn has_variable<P: Program<Value = u64>>(master: &Master<P>, places: u64, value: u64) -> bool
+    requires { 0 < length master.now.vars }
+{
+    master.places(0) == places && *master.value(0) == value
+}
+
+/// Whether what a row says of this thread is so.
+fn holds_of<P: Program<Value = u64>>(
+    alloc: Global,
+    master: &mut Master<P>,
+    program: &P,
+    thread: u32,
+    input: &Packet,
+    row: Row,
+) -> bool
+    requires program { FitsProgram (P.meaning program.now) (P.fits program.now)
+        value_of master.old.vars }
+    requires thread_in { thread < length master.old.threads }
+    ensures fits { FitsProgram (P.meaning program.now) (P.fits program.now)
+        value_of master.new.vars }
+    ensures threads { length master.new.threads ≡ length master.old.threads }
+{
+    match row {
+        Row::Move(_, turn, told) => make(alloc, master, program, thread, turn, input) == told,
+        Row::NoInput(_, told) => make_without_input(alloc, master, program, thread) == Some(told),
+        Row::Wants(_, wants) => master.wants(program, thread) == wants,
+        Row::InHand(_, number) => master.in_hand(thread) == number,
+        Row::Variable(places, value) => program.vars() > 0 && has_variable(master, places, value),
+        Row::Readers(stamp) => program.vars() > 0 && *master.readers(0) == stamp,
+    }
+}
+
+/// The thread of a row; 0 where it is of none.
+fn thread_of(row: Row) -> u32 {
+    match row {
+        Row::Move(thread, _, _)
+        | Row::NoInput(thread, _)
+        | Row::Wants(thread, _)
+        | Row::InHand(thread, _) => thread,
+        Row::Variable(_, _) | Row::Readers(_) => 0,
+    }
+}
+
+/// The first row that is not so; thread T has the packet at place T.
+fn first_wrong<P: Program<Value = u64>>(
+    alloc: Global,
+    master: &mut Master<P>,
+    program: &P,
+    inputs: &[Packet],
+    rows: &[Row],
+) -> Option<usize>
+    requires program { FitsProgram (P.meaning program.now) (P.fits program.now)
+        value_of master.old.vars }
+    requires threads { length inputs.now ≡ length master.old.threads }
+{
+    for i in 0..rows.len() {
+        let thread = thread_of(rows[i]);
+        let Some(input) = inputs.get(thread as usize) else {
+            return Some(i);
+        };
+        if !holds_of(alloc, master, program, thread, input, rows[i]) {
+            return Some(i);
+        }
+    }
+    None
+}
+
 /// A thread without an input is idle, and one whose turn is to wait stays where it is.
 #[test]
 fn a_thread_waits(rt: HostRuntime) -> Result<(), Fail> {
     let alloc = rt.alloc();
     let program = CountBox::new();
+    let inputs = [packet(alloc, &QUERY)?];
     let mut master = Master::fresh(alloc, &program, 1)?;
-    let input = packet(alloc, &QUERY)?;
-    let idle = make_without_input(alloc, &mut master, &program, 0);
-    assert_eq!(rt; idle, Some(Told::Idle));
-    assert_eq!(rt; master.wants(&program, 0), Wants::Take(1));
-    let took = make(alloc, &mut master, &program, 0, Turn::Free, &input);
-    assert_eq!(rt; took, Told::Took(1));
     let wait = Turn::Wait {
         thread: 0,
         number: 9,
     };
-    let waits = make(alloc, &mut master, &program, 0, wait, &input);
-    assert_eq!(rt; waits, Told::NotTurn(0, 9));
     let wanted = Wants::Touch {
         number: 1,
         var: 0,
         places: 0,
     };
-    assert_eq!(rt; master.wants(&program, 0), wanted);
+    let rows = [
+        Row::NoInput(0, Told::Idle),
+        Row::Wants(0, Wants::Take(1)),
+        Row::Move(0, Turn::Free, Told::Took(1)),
+        Row::Move(0, wait, Told::NotTurn(0, 9)),
+        Row::Wants(0, wanted),
+    ];
+    let wrong = first_wrong(alloc, &mut master, &program, &inputs, &rows);
+    assert_eq!(rt; wrong, None);
     Ok(())
 }
 
@@ -159,38 +251,26 @@ fn a_thread_waits(rt: HostRuntime) -> Result<(), Fail> {
 fn two_threads_count(rt: HostRuntime) -> Result<(), Fail> {
     let alloc = rt.alloc();
     let program = CountBox::new();
+    let inputs = [packet(alloc, &QUERY)?, packet(alloc, &NEXT_QUERY)?];
     let mut master = Master::fresh(alloc, &program, 2)?;
-    let first = packet(alloc, &QUERY)?;
-    let second = packet(alloc, &NEXT_QUERY)?;
-    make(alloc, &mut master, &program, 1, Turn::Free, &second);
-    let did = make(alloc, &mut master, &program, 1, Turn::Follow, &second);
-    assert_eq!(rt; did, Told::Did(first_touch(1, 1, stamp(0, 1))));
-    make(alloc, &mut master, &program, 0, Turn::Free, &first);
-    let did = make(alloc, &mut master, &program, 0, Turn::Free, &first);
-    assert_eq!(rt; did, Told::Did(first_touch(0, 2, stamp(1, 1))));
-    assert_eq!(rt; master.counts(0).entries, 1);
-    assert_eq!(rt; master.in_hand(0), Some(1));
-    assert_eq!(rt; master.places(0), 2);
-    assert_eq!(rt; *master.value(0), 2);
+    let rows = [
+        Row::Move(1, Turn::Free, Told::Took(1)),
+        Row::Move(1, Turn::Follow, Told::Did(first_touch(1, 1, stamp(0, 1)))),
+        Row::Move(0, Turn::Free, Told::Took(1)),
+        Row::Move(0, Turn::Free, Told::Did(first_touch(0, 2, stamp(1, 1)))),
+        Row::InHand(0, Some(1)),
+        Row::Variable(2, 2),
+    ];
+    let wrong = first_wrong(alloc, &mut master, &program, &inputs, &rows);
+    assert_eq!(rt; wrong, None);
     Ok(())
 }
 
-/// What a set that holds these two entries, or the later one alone, answers of their stamps.
-#[test]
-fn held_entries_of_two_threads(rt: HostRuntime) -> Result<(), Fail> {
-    let alloc = rt.alloc();
-    assert_eq!(rt; stamp(1, 1).weight(), 2);
-    let mut alone = Held::new(alloc, 2)?;
-    alone.add(first_touch(0, 2, stamp(1, 1)))?;
-    assert_eq!(rt; alone.missing(&stamp(1, 1)), Some((1, 1)));
-    let mut both = Held::new(alloc, 2)?;
-    both.add(first_touch(0, 2, stamp(1, 1)))?;
-    both.add(first_touch(1, 1, stamp(0, 1)))?;
-    let part = alone.closed_part();
-    assert_eq!(rt; (part.kept, part.dropped), (0, 1));
-    let part = both.closed_part();
-    assert_eq!(rt; (part.kept, part.dropped), (2, 0));
-    Ok(())
+/// A packet with one byte more.
+fn longer_packet(alloc: Global, bytes: &[u8]) -> Result<Packet, NoMemory> {
+    let mut longer = packet(alloc, bytes)?;
+    longer.bytes.push(0)?;
+    Ok(longer)
 }
 
 /// Thread 1 reads, thread 0 touches, and thread 1 sends its packet out.
@@ -198,45 +278,29 @@ fn held_entries_of_two_threads(rt: HostRuntime) -> Result<(), Fail> {
 fn a_touch_comes_after_a_read(rt: HostRuntime) -> Result<(), Fail> {
     let alloc = rt.alloc();
     let program = PeekBox::new();
+    let inputs = [packet(alloc, &QUERY)?, longer_packet(alloc, &NEXT_QUERY)?];
     let mut master = Master::fresh(alloc, &program, 2)?;
-    let even = packet(alloc, &QUERY)?;
-    let mut odd = packet(alloc, &NEXT_QUERY)?;
-    odd.bytes.push(0)?;
-    assert_eq!(rt;
-        make(alloc, &mut master, &program, 1, Turn::Free, &odd),
-        Told::Took(1)
-    );
     let read = StampedEntry {
         thread: 1,
         number: 1,
         what: What::Read { var: 0, after: 0 },
         stamp: stamp(0, 1),
     };
-    let did = make(alloc, &mut master, &program, 1, Turn::Free, &odd);
-    assert_eq!(rt; did, Told::Did(read));
-    assert_eq!(rt; *master.readers(0), stamp(0, 1));
-    assert_eq!(rt;
-        make(alloc, &mut master, &program, 0, Turn::Free, &even),
-        Told::Took(1)
-    );
-    let touch = StampedEntry {
-        thread: 0,
-        number: 1,
-        what: What::Access { var: 0, place: 1 },
-        stamp: stamp(1, 1),
-    };
-    let did = make(alloc, &mut master, &program, 0, Turn::Free, &even);
-    assert_eq!(rt; did, Told::Did(touch));
-    assert_eq!(rt; *master.readers(0), Stamp::zero());
-    assert_eq!(rt; master.wants(&program, 1), Wants::Emit);
-    let sent = make(alloc, &mut master, &program, 1, Turn::Free, &odd);
-    assert_eq!(rt; sent, Told::Sent(1, 1, stamp(0, 1)));
-    assert_eq!(rt; master.wants(&program, 1), Wants::End);
-    assert_eq!(rt;
-        make(alloc, &mut master, &program, 1, Turn::Free, &odd),
-        Told::Ended(1)
-    );
-    assert_eq!(rt; master.in_hand(1), None);
+    let rows = [
+        Row::Move(1, Turn::Free, Told::Took(1)),
+        Row::Move(1, Turn::Free, Told::Did(read)),
+        Row::Readers(stamp(0, 1)),
+        Row::Move(0, Turn::Free, Told::Took(1)),
+        Row::Move(0, Turn::Free, Told::Did(first_touch(0, 1, stamp(1, 1)))),
+        Row::Readers(stamp(0, 0)),
+        Row::Wants(1, Wants::Emit),
+        Row::Move(1, Turn::Free, Told::Sent(1, 1, stamp(0, 1))),
+        Row::Wants(1, Wants::End),
+        Row::Move(1, Turn::Free, Told::Ended(1)),
+        Row::InHand(1, None),
+    ];
+    let wrong = first_wrong(alloc, &mut master, &program, &inputs, &rows);
+    assert_eq!(rt; wrong, None);
     Ok(())
 }
 
@@ -258,45 +322,64 @@ fn packets_of(alloc: Global) -> Result<Vec<Packet>, Fail> {
     Ok(packets)
 }
 
+/// Notes what a move of this thread told, before which it had logged this many entries.
+fn note(run: &mut Run, thread: u32, entries: u64, told: Told) -> Result<(), AllocError> {
+    match told {
+        Told::Did(entry) => {
+            let plain = LogEntry {
+                thread: entry.thread,
+                number: entry.number,
+                what: entry.what,
+            };
+            run.stamps.insert(0, entry.stamp)?;
+            run.log.insert(0, plain)?;
+            Ok(())
+        }
+        Told::Sent(_, _, stamp) => Ok(run.outputs.push((thread, entries, stamp))?),
+        _ => Ok(()),
+    }
+}
+
+/// One move of one of three threads; a thread without a packet takes one of these.
+fn random_move(
+    alloc: Global,
+    random: &mut Pcg32,
+    packets: &[Packet],
+    chosen: &mut [usize; 3],
+    master: &mut Master<MixedBox>,
+    run: &mut Run,
+) -> Result<(), AllocError>
+    requires fits { FitsProgram mixed_meaning (λ _ n. IsCounter n) value_of master.old.vars }
+    requires threads { length master.old.threads ≡ 3 }
+    ensures fits { FitsProgram mixed_meaning (λ _ n. IsCounter n) value_of master.new.vars }
+    ensures threads { length master.new.threads ≡ 3 }
+{
+    let thread = random.next_word() % 3;
+    if master.in_hand(thread).is_none() {
+        chosen[thread as usize] = (random.next_word() % 8) as usize;
+    }
+    let Some(input) = packets.get(chosen[thread as usize]) else {
+        return Ok(());
+    };
+    let entries = master.counts(thread).entries;
+    let told = make(alloc, master, &MixedBox {}, thread, Turn::Free, input);
+    note(run, thread, entries, told)
+}
+
 /// As many moves of three threads.
 fn random_run(alloc: Global, random: &mut Pcg32, count: u32) -> Result<Run, Fail> {
-    let program = MixedBox {};
-    let mut master = Master::fresh(alloc, &program, 3)?;
+    let mut run = Run {
+        log: Vec::new(alloc),
+        stamps: Vec::new(alloc),
+        outputs: Vec::new(alloc),
+    };
     let packets = packets_of(alloc)?;
     let mut chosen = [0usize; 3];
-    let mut log = Vec::new(alloc);
-    let mut stamps = Vec::new(alloc);
-    let mut outputs = Vec::new(alloc);
+    let mut master = Master::fresh(alloc, &MixedBox {}, 3)?;
     for _ in 0..count {
-        let thread = random.next_word() % 3;
-        if master.in_hand(thread).is_none() {
-            chosen[thread as usize] = (random.next_word() % 8) as usize;
-        }
-        let Some(input) = packets.get(chosen[thread as usize]) else {
-            continue;
-        };
-        let entries = master.counts(thread).entries;
-        match make(alloc, &mut master, &program, thread, Turn::Free, input) {
-            Told::Did(entry) => {
-                stamps.insert(0, entry.stamp)?;
-                log.insert(
-                    0,
-                    LogEntry {
-                        thread: entry.thread,
-                        number: entry.number,
-                        what: entry.what,
-                    },
-                )?;
-            }
-            Told::Sent(_, _, stamp) => outputs.push((thread, entries, stamp))?,
-            _ => {}
-        }
+        random_move(alloc, random, &packets, &mut chosen, &mut master, &mut run)?;
     }
-    Ok(Run {
-        log,
-        stamps,
-        outputs,
-    })
+    Ok(run)
 }
 
 /// Whether an entry's number is within the stamp.
@@ -307,26 +390,56 @@ fn covers(stamp: &Stamp, entry: &LogEntry) -> bool {
     }
 }
 
-/// That the stamps are those of the definitions.
-fn compare(rt: &impl Abort, alloc: Global, run: &Run) -> Result<(), Fail> {
-    for (entry, stamp) in run.log.iter().zip(run.stamps.iter()) {
-        for thread in 0..4 {
-            let component = stamp_component(alloc, &run.log, entry, thread)?;
-            assert_eq!(rt; stamp.get(thread), component);
+/// Whether this is the stamp of an entry of the log by its definition.
+fn is_stamp(
+    alloc: Global,
+    log: &[LogEntry],
+    entry: &LogEntry,
+    stamp: &Stamp,
+) -> Result<bool, AllocError> {
+    for thread in 0..4 {
+        if stamp.get(thread) != stamp_component(alloc, log, entry, thread)? {
+            return Ok(false);
         }
-        assert_eq!(rt; stamp.weight(), weight(alloc, &run.log, entry)? as u128);
-        for other in &run.log {
-            let comes_first = other == entry || precedes(alloc, &run.log, other, entry)?;
-            assert_eq!(rt; covers(stamp, other), comes_first);
+    }
+    for other in log {
+        let comes_first = other == entry || precedes(alloc, log, other, entry)?;
+        if covers(stamp, other) != comes_first {
+            return Ok(false);
+        }
+    }
+    Ok(stamp.weight() == weight(alloc, log, entry)? as u128)
+}
+
+/// Whether this is the stamp of what a thread sent out after so many entries.
+fn is_output_stamp(
+    alloc: Global,
+    log: &[LogEntry],
+    thread: u32,
+    entries: u64,
+    stamp: &Stamp,
+) -> Result<bool, AllocError> {
+    for other in log {
+        if covers(stamp, other) != precedes_output(alloc, log, thread, entries, other)? {
+            return Ok(false);
+        }
+    }
+    Ok(true)
+}
+
+/// Whether the stamps are those of the definitions.
+fn agrees(alloc: Global, run: &Run) -> Result<bool, AllocError> {
+    for (entry, stamp) in run.log.iter().zip(run.stamps.iter()) {
+        if !is_stamp(alloc, &run.log, entry, stamp)? {
+            return Ok(false);
         }
     }
     for (thread, entries, stamp) in &run.outputs {
-        for other in &run.log {
-            let comes_first = precedes_output(alloc, &run.log, *thread, *entries, other)?;
-            assert_eq!(rt; covers(stamp, other), comes_first);
+        if !is_output_stamp(alloc, &run.log, *thread, *entries, stamp)? {
+            return Ok(false);
         }
     }
-    Ok(())
+    Ok(true)
 }
 
 #[test]
@@ -335,7 +448,7 @@ fn stamps_of_random_runs_agree_with_the_definitions(rt: HostRuntime) -> Result<(
     let mut random = Pcg32::new(42, 54);
     for turn in 0..60 {
         let run = random_run(alloc, &mut random, turn)?;
-        compare(&rt, alloc, &run)?;
+        assert_eq!(rt; (turn, agrees(alloc, &run)?), (turn, true));
     }
     Ok(())
 }

@@ -1,6 +1,6 @@
-ghost use Rattle.std.specs.Prelude.{◌+◌, ◌<◌, ◌≤◌, ◌^◌};
+ghost use Rattle.std.specs.Prelude.{◌≡◌, ◌+◌, ◌<◌, ◌≤◌, ◌^◌};
 ghost use Rattle.box_program.specs.Count.{IsCounter};
-ghost use Rattle.plain_player.specs.Hands.{FitsProgram};
+ghost use Rattle.box_program.specs.Hands.{FitsProgram};
 ghost use Rattle.log_tests.specs.Mixed.{mixed_meaning};
 
 use crate::mixed::MixedBox;
@@ -17,14 +17,44 @@ fn makes(
     answer: Option<u64>,
     input: &Packet,
 ) -> Result<bool, MoveError>
-    requires program { FitsProgram mixed_meaning (λ _ n. IsCounter n) player.old.values }
+    requires program { FitsProgram mixed_meaning (λ _ n. IsCounter n)
+        (λ value. value) player.old.values }
     requires room { player.old.made < 1000 }
-    ensures fits { FitsProgram mixed_meaning (λ _ n. IsCounter n) player.new.values }
+    ensures fits { FitsProgram mixed_meaning (λ _ n. IsCounter n)
+        (λ value. value) player.new.values }
     ensures made { player.new.made ≤ player.old.made + 1 }
 {
     let plain = PlainMove { thread: 0, answer };
     let sent = player.step(alloc, &MixedBox {}, plain, Some(input))?;
     Ok(sent.is_some())
+}
+
+/// What the moves of a packet are told, and whether each sends it out or why it is none.
+fn rows() -> [(Option<u64>, Result<bool, MoveError>); 6] {
+    [
+        (None, Ok(false)),
+        (None, Err(MoveError::Illegal(PlayCause::MissingAnswer))),
+        (Some(5), Ok(false)),
+        (Some(5), Err(MoveError::Illegal(PlayCause::UnwantedAnswer))),
+        (None, Ok(true)),
+        (None, Ok(false)),
+    ]
+}
+
+/// The first row that is not so.
+fn first_wrong(alloc: Global, player: &mut Player<u64>, input: &Packet) -> Option<usize>
+    requires program { FitsProgram mixed_meaning (λ _ n. IsCounter n)
+        (λ value. value) player.old.values }
+    requires fresh { player.old.made ≡ 0 }
+{
+    let rows = rows();
+    for i in 0..6 {
+        let (answer, want) = rows[i];
+        if makes(alloc, player, answer, input) != want {
+            return Some(i);
+        }
+    }
+    None
 }
 
 /// The time and a random word are moves that want an answer, and no other move takes one.
@@ -39,17 +69,8 @@ fn a_clock_and_a_draw_want_an_answer(rt: HostRuntime) -> Result<(), Fail> {
             bytes: Bytes::of(alloc, &[byte])?,
         };
         let mut player = Player::fresh(alloc, &MixedBox {}, 1)?;
-        assert_eq!(rt; makes(alloc, &mut player, None, &input), Ok(false));
-        let missing = makes(alloc, &mut player, None, &input);
-        assert_eq!(rt; missing, Err(MoveError::Illegal(PlayCause::MissingAnswer)));
-        assert_eq!(rt; makes(alloc, &mut player, Some(5), &input), Ok(false));
-        let unwanted = makes(alloc, &mut player, Some(5), &input);
-        assert_eq!(rt;
-            unwanted,
-            Err(MoveError::Illegal(PlayCause::UnwantedAnswer))
-        );
-        assert_eq!(rt; makes(alloc, &mut player, None, &input), Ok(true));
-        assert_eq!(rt; makes(alloc, &mut player, None, &input), Ok(false));
+        let wrong = first_wrong(alloc, &mut player, &input);
+        assert_eq!(rt; (byte, wrong), (byte, None));
         assert!(rt; !player.in_hand(0));
     }
     Ok(())

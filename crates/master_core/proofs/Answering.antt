@@ -8,7 +8,7 @@ use Rattle.plain_text.specs.declared.packet.Packet.{Packet}
 use Rattle.access_log.specs.declared.entry.Output.{Output}
 use Rattle.access_log.specs.declared.entry.Turn.{Turn}
 use Rattle.access_log.specs.declared.entry.Turn.TheVariants as turn
-use Rattle.box_program.specs.Hands.{input_for}
+use Rattle.box_program.specs.Hands.{input_for, FitsProgram, hand_of, has_hand, moves_left}
 use Rattle.plain_machine.specs.declared.local.Local.{Local}
 use Rattle.plain_machine.specs.declared.local.Move.{Move}
 use Rattle.plain_machine.specs.declared.local.Move.TheVariants as move
@@ -18,21 +18,22 @@ use Rattle.master_core.specs.declared.parts.VarPart.{VarPart}
 use Rattle.master_core.specs.declared.parts.ThreadPart.{ThreadPart}
 use Rattle.master_core.specs.declared.step.Stepped.{Stepped}
 use Rattle.master_core.specs.declared.step.Stepped.TheVariants as stepped
-use Rattle.master_core.specs.Mastered.{Mastered, FitsProgram, hand_of, place_in_hand, has_hand, moves_left, in_hand_count, IsOnVariable, WantsVariable, IsBounded}
+use Rattle.master_core.specs.Mastered.{Mastered, value_of, place_in_hand, in_hand_count, IsOnVariable, WantsVariable, IsBounded}
 use Rattle.master_core.specs.Standing.{IsThread, Stands}
 use Rattle.master_core.specs.Stepping.{move_of, Follows, MadeNone, MadeOne}
 use Rattle.master_core.specs.Effects.{InTurn, Played, next_output, after_take, DoneTake, DoneTouch, DoneLook}
-use Rattle.master_core.proofs.Following.{Ready, in_hand, touch_follows, look_follows, clock_follows, draw_follows, emit_follows, end_follows}
+use Rattle.box_program.proofs.HandLemmas.{in_hand}
+use Rattle.master_core.proofs.Following.{Ready, touch_follows, look_follows, clock_follows, draw_follows, emit_follows, end_follows}
 
 -- the place in hand of a thread whose part is known
 pub hand_there : {V : Type 0} (p : Mastered V) (t : ℕ) (part : ThreadPart) → t < length p.threads → part ≡ slice_index_or p.threads t part → place_in_hand p t ≡ part.hand
-hand_there p t part low is = ap hand_of (slice_get-get_or p.threads t part low) ∙ ap (λ (x : ThreadPart). x.hand) (sym is)
+hand_there p t part low is = ap (hand_of (λ (x : ThreadPart). x.hand)) (slice_get-get_or p.threads t part low) ∙ ap (λ (x : ThreadPart). x.hand) (sym is)
 
 hand_set : {V : Type 0} (p q : Mastered V) (vars : List (VarPart V)) (t : ℕ) (part : ThreadPart) → t < length p.threads → q ≡ record { vars = vars; threads = slice_set p.threads t part } → place_in_hand q t ≡ part.hand
 hand_set {V} p q vars t part low is =
     let len : length (slice_set p.threads t part) ≡ length p.threads = length-set p.threads t part in
     ap (λ (x : Mastered V). place_in_hand x t) is
-    ∙ (ap hand_of (slice_get-get_or (slice_set p.threads t part) t part (omega (arith, len))) ∙ ap (λ (x : ThreadPart). x.hand) (get_or-set_same p.threads t part part low))
+    ∙ (ap (hand_of (λ (x : ThreadPart). x.hand)) (slice_get-get_or (slice_set p.threads t part) t part (omega (arith, len))) ∙ ap (λ (x : ThreadPart). x.hand) (get_or-set_same p.threads t part part low))
 
 made_or_none : (r : Stepped) → MadeOne r → MadeNone r → ⊥
 made_or_none (stepped.Took k) a b = b
@@ -50,7 +51,7 @@ pub record Answers {V : Type 0} (m : Meaning V) (fits : ℕ → V → Type 0) (t
   pub waited : (u n : ℕ) → ((v : ℕ) × IsOnVariable next v) → now ≡ turn.Wait u n → r ≡ stepped.NotTurn u n
   pub unchanged : MadeNone r → q ≡ p
   pub threads : length q.threads ≡ length p.threads
-  pub fit : FitsProgram m fits q
+  pub fit : FitsProgram m fits value_of q.vars
   pub falls : MadeOne r → moves_left m (place_in_hand q t) < m.rank place + 1
   pub as_long : (o : Output) → r ≡ stepped.Emitted o → length o.packet.bytes ≡ length packet.bytes
 
@@ -60,7 +61,7 @@ MayMove next now = (u n : ℕ) → ((v : ℕ) × IsOnVariable next v) → now �
 
 -- one was made
 made : {V : Type 0} (m : Meaning V) (fits : ℕ → V → Type 0) (t : ℕ) (now : Turn) (packet : Packet) (place : Local) (p : Mastered V) (r : Stepped) (q : Mastered V) (next : Move) (vars : List (VarPart V)) (part : ThreadPart)
-    → t < length p.threads → MayMove next now → MadeOne r → q ≡ record { vars = vars; threads = slice_set p.threads t part } → FitsProgram m fits (record { vars = vars; threads = p.threads })
+    → t < length p.threads → MayMove next now → MadeOne r → q ≡ record { vars = vars; threads = slice_set p.threads t part } → FitsProgram m fits value_of vars
     → moves_left m part.hand < m.rank place + 1 → ((o : Output) → r ≡ stepped.Emitted o → length o.packet.bytes ≡ length packet.bytes)
     → Answers m fits t now packet place p r q next
 made {V} m fits t now packet place p r q next vars part low may one is fit falls long = record {
@@ -69,14 +70,14 @@ made {V} m fits t now packet place p r q next vars part low may one is fit falls
   waited = λ u n on e. absurd (may u n on e);
   unchanged = λ none. absurd (made_or_none r one none);
   threads = ap (λ (x : Mastered V). length x.threads) is ∙ length-set p.threads t part;
-  fit = subst (λ (x : Mastered V). FitsProgram m fits x) (sym is) (record { count = fit.count; fit = fit.fit });
+  fit = subst (λ (x : Mastered V). FitsProgram m fits value_of x.vars) (sym is) (record { count = fit.count; fit = fit.fit });
   falls = λ h. subst (λ (l : Option Local). moves_left m l < m.rank place + 1) (sym (hand_set p q vars t part low is)) falls;
   as_long = long;
 }
 
 -- none was made
 unmade : {V : Type 0} (m : Meaning V) (fits : ℕ → V → Type 0) (t : ℕ) (now : Turn) (packet : Packet) (place : Local) (p : Mastered V) (r : Stepped) (q : Mastered V) (next : Move)
-    → FitsProgram m fits p → q ≡ p → MadeNone r → r ≢ stepped.Idle → ((u n : ℕ) → r ≡ stepped.NotTurn u n → ((v : ℕ) × IsOnVariable next v) × (now ≡ turn.Wait u n))
+    → FitsProgram m fits value_of p.vars → q ≡ p → MadeNone r → r ≢ stepped.Idle → ((u n : ℕ) → r ≡ stepped.NotTurn u n → ((v : ℕ) × IsOnVariable next v) × (now ≡ turn.Wait u n))
     → ((u n : ℕ) → ((v : ℕ) × IsOnVariable next v) → now ≡ turn.Wait u n → r ≡ stepped.NotTurn u n) → Answers m fits t now packet place p r q next
 unmade {V} m fits t now packet place p r q next fit same none idle waits waited = record {
   idle = idle;
@@ -84,18 +85,18 @@ unmade {V} m fits t now packet place p r q next fit same none idle waits waited 
   waited = waited;
   unchanged = λ h. same;
   threads = ap (λ (x : Mastered V). length x.threads) same;
-  fit = subst (λ (x : Mastered V). FitsProgram m fits x) (sym same) fit;
+  fit = subst (λ (x : Mastered V). FitsProgram m fits value_of x.vars) (sym same) fit;
   falls = λ one. absurd (made_or_none r one none);
   as_long = λ o e. absurd (subst MadeNone e none);
 }
 
 no_memory : {V : Type 0} (m : Meaning V) (fits : ℕ → V → Type 0) (t : ℕ) (now : Turn) (packet : Packet) (place : Local) (p : Mastered V) (r : Stepped) (q : Mastered V) (next : Move)
-    → FitsProgram m fits p → MayMove next now → r ≡ stepped.NoMemory → q ≡ p → Answers m fits t now packet place p r q next
+    → FitsProgram m fits value_of p.vars → MayMove next now → r ≡ stepped.NoMemory → q ≡ p → Answers m fits t now packet place p r q next
 no_memory m fits t now packet place p r q next fit may is same =
     unmade m fits t now packet place p r q next fit same (subst MadeNone (sym is) tt) (λ e. absurd (cc)) (λ u n e. absurd (cc)) (λ u n on e. absurd (may u n on e))
 
 not_turn : {V : Type 0} (m : Meaning V) (fits : ℕ → V → Type 0) (t v a b : ℕ) (packet : Packet) (place : Local) (p : Mastered V) (r : Stepped) (q : Mastered V) (next : Move)
-    → FitsProgram m fits p → IsOnVariable next v → r ≡ stepped.NotTurn a b → q ≡ p → Answers m fits t (turn.Wait a b) packet place p r q next
+    → FitsProgram m fits value_of p.vars → IsOnVariable next v → r ≡ stepped.NotTurn a b → q ≡ p → Answers m fits t (turn.Wait a b) packet place p r q next
 not_turn m fits t v a b packet place p r q next fit on is same =
     unmade m fits t (turn.Wait a b) packet place p r q next fit same (subst MadeNone (sym is) tt) (λ e. absurd (cc))
     (λ u n e. ((v, on), turns u n (sym is ∙ e)))
@@ -130,7 +131,7 @@ may_end now u n (v, inl a) e = cc
 may_end now u n (v, inr a) e = cc
 
 -- the variables still fit where one of them has another value that fits
-fits_set : {V : Type 0} (m : Meaning V) (fits : ℕ → V → Type 0) (p : Mastered V) (v : ℕ) (y : VarPart V) → FitsProgram m fits p → v < m.vars → fits v y.value → FitsProgram m fits (record { vars = slice_set p.vars v y; threads = p.threads })
+fits_set : {V : Type 0} (m : Meaning V) (fits : ℕ → V → Type 0) (p : Mastered V) (v : ℕ) (y : VarPart V) → FitsProgram m fits value_of p.vars → v < m.vars → fits v y.value → FitsProgram m fits value_of (slice_set p.vars v y)
 fits_set {V} m fits p v y fit low good = record { count = length-set p.vars v y ∙ fit.count; fit = λ w d under. go w d under (is_or v w) }
   where
     go : (w : ℕ) (d : VarPart V) → w < m.vars → (v ≡ w) ⊎ (v ≢ w) → fits w (slice_index_or (slice_set p.vars v y) w d).value
@@ -138,7 +139,7 @@ fits_set {V} m fits p v y fit low good = record { count = length-set p.vars v y 
         (subst (λ (z : VarPart V). fits v z.value) (sym (get_or-set_same p.vars v y d (omega (arith, fit.count)))) good)
     go w d under (inr apart) = subst (λ (z : VarPart V). fits w z.value) (sym (get_or-set_other p.vars v w y d (λ q. apart (sym q)))) (fit.fit w d under)
 
-module _ {V : Type 0} (m : Meaning V) (fits : ℕ → V → Type 0) (lawful : IsLawful m fits) (t answer : ℕ) (packet : Packet) (place : Local) (part : ThreadPart) (x : VarPart V) (p : Mastered V) (r : Stepped) (q : Mastered V) (fit : FitsProgram m fits p) (low : t < length p.threads) where
+module _ {V : Type 0} (m : Meaning V) (fits : ℕ → V → Type 0) (lawful : IsLawful m fits) (t answer : ℕ) (packet : Packet) (place : Local) (part : ThreadPart) (x : VarPart V) (p : Mastered V) (r : Stepped) (q : Mastered V) (fit : FitsProgram m fits value_of p.vars) (low : t < length p.threads) where
   touch_answers : (v : ℕ) (now : Turn) → MayMove (move.Access v) now → m.next place ≡ move.Access v → DoneTouch m t v place part (slice_index_or p.vars v x) p r q → Answers m fits t now packet place p r q (move.Access v)
   touch_answers v now may is (inr (r_is, q_is)) = no_memory m fits t now packet place p r q (move.Access v) fit may r_is q_is
   touch_answers v now may is (inl (e, r_is, done)) =
@@ -221,10 +222,10 @@ module _ {V : Type 0} (m : Meaning V) (fits : ℕ → V → Type 0) (lawful : Is
       go now move.End is h = end_follows m inputs threads steps t answer packet place part p q r ready is taken h
 
 -- whether a thread has a packet in hand, by its part
-pub hand_is : {V : Type 0} (p : Mastered V) (t : ℕ) (part : ThreadPart) (place : Local) → t < length p.threads → part ≡ slice_index_or p.threads t part → part.hand ≡ Some place → has_hand p t ≡ true
+pub hand_is : {V : Type 0} (p : Mastered V) (t : ℕ) (part : ThreadPart) (place : Local) → t < length p.threads → part ≡ slice_index_or p.threads t part → part.hand ≡ Some place → has_hand (place_in_hand p t) ≡ true
 hand_is p t part place low is hand = ap is_some (hand_there p t part low is ∙ hand)
 
-pub no_hand : {V : Type 0} (p : Mastered V) (t : ℕ) (part : ThreadPart) → t < length p.threads → part ≡ slice_index_or p.threads t part → part.hand ≡ None → has_hand p t ≡ false
+pub no_hand : {V : Type 0} (p : Mastered V) (t : ℕ) (part : ThreadPart) → t < length p.threads → part ≡ slice_index_or p.threads t part → part.hand ≡ None → has_hand (place_in_hand p t) ≡ false
 no_hand p t part low is hand = ap is_some (hand_there p t part low is ∙ hand)
 
 -- an answer, with the hand as the master has it

@@ -15,6 +15,10 @@ item_is xs i x d below is = is ∙ same
     same : slice_index_or xs i x ≡ slice_index_or xs i d
     same = get_or_default xs i x d below
 
+-- an item that was read twice
+pub one_item : {X : Type 0} (xs : List X) (i : ℕ) (x y : X) → i < length xs → x ≡ slice_index_or xs i x → y ≡ slice_index_or xs i y → x ≡ y
+one_item xs i x y below is other = item_is xs i x y below is ∙ sym other
+
 -- a fact of an item and of another list's item, whatever stands for those outside
 pub of_items : {X Y : Type 0} (P : X → Y → Type 0) (xs : List X) (ys : List Y) (i j : ℕ) (x d : X) (y z : Y) → i < length xs → j < length ys → x ≡ slice_index_or xs i x → y ≡ slice_index_or ys j y
     → P x y → P (slice_index_or xs i d) (slice_index_or ys j z)

@@ -9,6 +9,7 @@ use Rattle.entry_order.specs.Log.{Entry, places, IsLog}
 use Rattle.entry_order.specs.Stamps.{IsStamp}
 use Rattle.access_log.specs.declared.entry.StampedEntry.{StampedEntry}
 use Rattle.box_program.specs.Hands.{place_of, input_for}
+use Rattle.box_program.proofs.HandLemmas.{in_hand, no_hand}
 use Rattle.plain_machine.specs.declared.local.Local.{Local}
 use Rattle.plain_machine.specs.declared.local.Move.{Move}
 use Rattle.plain_machine.specs.declared.local.Move.TheVariants as move
@@ -27,22 +28,6 @@ use Rattle.master_core.specs.Effects.{next_output, DoneTake, DoneTouch, DoneLook
 use Rattle.master_core.proofs.Threads.{take_on, emit_on, end_on, entry_on}
 use Rattle.master_core.proofs.Variables.{touch_is_log, look_is_log, clock_is_log, draw_is_log, take_vars, emit_vars, end_vars, clock_vars, draw_vars, touch_vars, look_vars}
 use Rattle.master_core.proofs.Standing.{stands_on, Logs, touch_logs, look_logs, clock_logs, draw_logs}
-
--- a thread that has this packet in hand, at this place
-pub in_hand : (packets : List Packet) (th : Thread) (packet : Packet) (place : Local) (input : Option Packet) → place_of th.hand ≡ Some place
-    → input ≡ Some packet → input ≡ input_for packets th.taken th.hand → th.hand ≡ Some (record { packet = packet; place = place })
-in_hand packets th packet place input at is_packet given = go th.hand at given
-  where
-    go : (hand : Option Hand) → place_of hand ≡ Some place → input ≡ input_for packets th.taken hand → hand ≡ Some (record { packet = packet; place = place })
-    go None p g = absurd (cc)
-    go (Some h) p g =
-        let a : h.place ≡ place = cc in
-        let b : h.packet ≡ packet = cc in
-        ap Some (ap (λ (l : Local). record { packet = h.packet; place = l }) a ∙ ap (λ (q : Packet). record { packet = q; place = place }) b)
-
-no_hand : (hand : Option Hand) → place_of hand ≡ None → hand ≡ None
-no_hand None e = refl
-no_hand (Some h) e = absurd (cc)
 
 -- what holds of a thread where its move is made
 pub record Ready {V : Type 0} (m : Meaning V) (inputs : ℕ → List Packet) (threads : ℕ) (steps : List (Step V)) (p : Mastered V) (t : ℕ) (part : ThreadPart) (packet : Packet) (place : Local) : Type 0 where

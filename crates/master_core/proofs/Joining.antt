@@ -5,7 +5,7 @@ use Rattle.std.proofs.lemmas.Bool.{cases_lt}
 use Rattle.entry_order.specs.declared.what.What.TheVariants.{Access, Read}
 use Rattle.entry_order.specs.Log.{Entry, entries, places, IsLog, IsIn, IsNext}
 use Rattle.entry_order.specs.Stamps.{IsStamp, IsOutputStamp, bumped}
-use Rattle.entry_order.proofs.Order.{is_or, entry_there, touch_there}
+use Rattle.entry_order.proofs.Order.{is_or, entry_there, touch_there, touch_only, read_only}
 use Rattle.entry_order.proofs.Joins.{join_is_stamp, stamp_unique, output_stamp_of, zero_first}
 use Rattle.master_core.specs.Stamped.{IsTouchStamp, IsReadersStamp}
 
@@ -56,9 +56,6 @@ readers_reached log e v s is next u = go (is.reached u)
     go (inl z) = inl z
     go (inr (f, stamp, here, what, st, same)) = inr (f, stamp, here, next f what, st, same)
 
-touch_only : (v s w r : ℕ) → Access v s ≡ Access w r → (v ≡ w) × (s ≡ r)
-touch_only v s w r e = (cc, cc)
-
 -- A touch has the join of the stamps of its thread, of its variable and of the reads since.
 pub touch_stamp : (log : List Entry) (e : Entry) (v : ℕ) (thread touch readers : ℕ → ℕ) → IsLog (e ∷ log) → e.what ≡ Access v (places v log + 1)
     → IsOutputStamp log e.thread (entries e.thread log) thread → IsTouchStamp log v touch → IsReadersStamp log v readers
@@ -89,9 +86,6 @@ touch_stamp log e v thread touch readers good what is_thread is_touch is_readers
         let one = at w s b in
         let place : f.what ≡ Read v (places v log) = a ∙ (ap (λ (x : ℕ). Read x s) one.0 ∙ ap (λ (x : ℕ). Read v x) one.1) in
         let k : stamp u ≤ readers u = is_readers.above f stamp here place st u in omega arith
-
-read_only : (v s w r : ℕ) → Read v s ≡ Read w r → (v ≡ w) × (s ≡ r)
-read_only v s w r e = (cc, cc)
 
 -- A read has the join of the stamps of its thread and of the last touch of its variable.
 pub read_stamp : (log : List Entry) (e : Entry) (v : ℕ) (thread touch : ℕ → ℕ) → IsLog (e ∷ log) → e.what ≡ Read v (places v log)

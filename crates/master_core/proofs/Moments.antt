@@ -5,36 +5,19 @@ use Rattle.plain_text.specs.declared.packet.Packet.{Packet}
 use Rattle.entry_order.specs.Log.{Entry, entries, IsLog, IsIn, StandsBefore, IsClosed}
 use Rattle.entry_order.specs.Stamps.{IsStamp}
 use Rattle.entry_order.proofs.Order.{entries_grow, newest, next_stands, before_in, entry_there}
-use Rattle.entry_order.proofs.Keeping.{in_right}
+use Rattle.entry_order.proofs.Keeping.{in_right, before_past}
 use Rattle.entry_order.proofs.Parts.{stamp_stays}
 use Rattle.plain_machine.specs.Program.{Meaning}
 use Rattle.plain_machine.specs.History.{Act, Took, Did, Emitted, Ended, Step, log_more, log_of, IsHistory}
 use Rattle.plain_machine.specs.Agree.{IsEarlier}
 use Rattle.plain_machine.proofs.Histories.{history_log, earlier_history, earlier_log, did_entry}
+use Rattle.plain_machine.proofs.Recovering.{later_log}
 use Rattle.plain_machine.proofs.Logging.{in_log_at}
 use Rattle.access_log.specs.Held.{Lane}
 use Rattle.master_core.specs.Holding.{HoldsOf}
 use Rattle.master_core.specs.Stepping.{plain_entry}
 
--- the log of an earlier moment is the end of the log
-pub later_log : {V : Type 0} (earlier steps : List (Step V)) → IsEarlier earlier steps → (later : List Entry) × (log_of steps ≡ later ++ log_of earlier)
-later_log {V} earlier [] e = ([], ap (λ (s : List (Step V)). log_of s) (sym e))
-later_log {V} earlier (x ∷ steps) (inl e) = ([], ap (λ (s : List (Step V)). log_of s) (sym e))
-later_log {V} earlier (x ∷ steps) (inr e) = go x.act (later_log earlier steps e)
-  where
-    go : (a : Act V) → (later : List Entry) × (log_of steps ≡ later ++ log_of earlier) → (later : List Entry) × (log_more a (log_of steps) ≡ later ++ log_of earlier)
-    go (Took k) r = r
-    go (Did entry left) (later, same) = (entry ∷ later, ap (λ (l : List Entry). entry ∷ l) same)
-    go (Emitted o) r = r
-    go (Ended k) r = r
-
 -- Over a log that goes on from a past
-
-before_past : (later past : List Entry) (e f : Entry) → IsLog (later ++ past) → StandsBefore (later ++ past) e f → IsIn f past → IsIn e past
-before_past [] past e f good h hf = (before_in past e f h).0
-before_past (x ∷ later) past e f good (inl h) hf =
-    absurd (newest (later ++ past) x good (in_right x later past (subst (λ (g : Entry). IsIn g past) (sym h.0) hf)))
-before_past (x ∷ later) past e f good (inr h) hf = before_past later past e f good.2 h hf
 
 closed_past : (later past : List Entry) → IsLog (later ++ past) → IsClosed (later ++ past) past
 closed_past later past good e f he hf n =

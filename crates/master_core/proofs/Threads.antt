@@ -15,6 +15,7 @@ use Rattle.master_core.specs.declared.parts.ThreadPart.{ThreadPart}
 use Rattle.master_core.specs.Mastered.{in_hand_count}
 use Rattle.master_core.specs.Standing.{IsThread}
 use Rattle.master_core.specs.Effects.{after_take, after_entry, after_emit, after_end}
+use Rattle.plain_machine.proofs.Histories.{moved_thread}
 use Rattle.master_core.proofs.Staying.{own_output, other_output}
 
 -- The thread that moved
@@ -22,11 +23,7 @@ use Rattle.master_core.proofs.Staying.{own_output, other_output}
 mine : (t : ℕ) → nat_eq t t ≡ true
 mine t = grind (arith, nat_tests)
 
--- it is where the move left it
-pub moved_thread : {V : Type 0} (steps : List (Step V)) (t : ℕ) (after : Thread) (effect : Effect V) → thread_after (step_of t steps after effect ∷ steps) t ≡ after
-moved_thread steps t after effect = rw (mine t) refl
-
--- and made one move more
+-- it made one move more
 moved_more : {V : Type 0} (steps : List (Step V)) (t : ℕ) (after : Thread) (effect : Effect V) → moves_of t (step_of t steps after effect ∷ steps) ≡ moves_of t steps + 1
 moved_more steps t after effect = rw (mine t) refl
 

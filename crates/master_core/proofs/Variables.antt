@@ -6,7 +6,7 @@ use Rattle.std.proofs.lemmas.List.{get_or-set_same, get_or-set_other}
 use Rattle.entry_order.specs.declared.what.What.TheVariants.{Access, Read, Clock, Draw}
 use Rattle.entry_order.specs.Log.{Entry, places, IsLog}
 use Rattle.entry_order.specs.Stamps.{IsStamp}
-use Rattle.entry_order.proofs.Order.{is_or}
+use Rattle.entry_order.proofs.Order.{is_or, touch_only, read_only}
 use Rattle.plain_text.specs.declared.packet.Packet.{Packet}
 use Rattle.plain_machine.specs.Program.{Meaning}
 use Rattle.plain_machine.specs.Machine.{Thread, Takes, Touches, Looks, HearsClock, HearsDraw, Sends, Ends}
@@ -18,12 +18,6 @@ use Rattle.master_core.proofs.Staying.{touch_stays, touch_last, readers_stay, re
 -- each variable has what the history tells of it
 abbrev pub HasVariables : {V : Type 0} → Meaning V → List (Step V) → List (VarPart V) → Type 0
 HasVariables {V} m steps vars = (v : ℕ) (d : VarPart V) → v < m.vars → IsVariable m steps v (slice_index_or vars v d)
-
-touch_only : (v s w r : ℕ) → Access v s ≡ Access w r → (v ≡ w) × (s ≡ r)
-touch_only v s w r e = (cc, cc)
-
-read_only : (v s w r : ℕ) → Read v s ≡ Read w r → (v ≡ w) × (s ≡ r)
-read_only v s w r e = (cc, cc)
 
 -- the log with the next entry of a thread is a log
 

@@ -124,3 +124,7 @@ Played m t now answer packet place part x p r q move.Clock = DoneHear m t (Clock
 Played m t now answer packet place part x p r q move.Draw = DoneHear m t (Draw answer) answer place part p r q
 Played m t now answer packet place part x p r q move.Emit = DoneEmit m t packet place part p r q
 Played m t now answer packet place part x p r q move.End = DoneEnd t part p r q
+
+-- What the program's next move from this place answers.
+abbrev pub HasPlayed : {V : Type 0} → Meaning V → ℕ → Turn → ℕ → Packet → Local → ThreadPart → Mastered V → Stepped → Mastered V → Type 0
+HasPlayed {V} m t now answer packet place part p r q = (x : VarPart V) → Played m t now answer packet place part x p r q (m.next place)

@@ -1,5 +1,7 @@
 -- What a master has: its variables and its threads.
-use Rattle.std.specs.Prelude.{◌≡◌, ◌⊎◌, ℕ, ◌+◌, ◌-◌, ◌^◌, ◌<◌, ◌≤◌, Bool, List, length, sum_by, slice_get, slice_index_or, is_some, Option, Some, None}
+use Rattle.std.specs.Prelude.{◌≡◌, ◌⊎◌, ℕ, ◌+◌, ◌-◌, ◌^◌, ◌<◌, ◌≤◌, List, length, sum_by, slice_get, slice_index_or, Option, Some, None}
+use Rattle.std.specs.Prelude.{HoldsAt}
+use Rattle.box_program.specs.Hands.{hand_of}
 use Rattle.plain_machine.specs.declared.local.Local.{Local}
 use Rattle.plain_machine.specs.declared.local.Move.{Move}
 use Rattle.plain_machine.specs.declared.local.Move.TheVariants as move
@@ -11,10 +13,9 @@ pub record Mastered (V : Type 0) : Type 0 where
   pub vars : List (VarPart V)
   pub threads : List ThreadPart
 
--- a list of one part for each variable, with a value that the variable may have
-pub record FitsProgram {V : Type 0} (m : Meaning V) (fits : ℕ → V → Type 0) (p : Mastered V) : Type 0 where
-  pub count : length p.vars ≡ m.vars
-  pub fit : (v : ℕ) (d : VarPart V) → v < m.vars → fits v (slice_index_or p.vars v d).value
+-- the value in a variable's part
+abbrev pub value_of : {V : Type 0} → VarPart V → V
+value_of part = part.value
 
 -- 1 for a packet in hand
 abbrev pub in_hand_count : Option Local → ℕ
@@ -25,21 +26,19 @@ in_hand_count (Some place) = 1
 abbrev pub moves_made : ThreadPart → ℕ
 moves_made part = part.counts.taken + (part.counts.taken - in_hand_count part.hand) + part.counts.entries + part.counts.outputs
 
-abbrev pub hand_of : Option ThreadPart → Option Local
-hand_of None = None
-hand_of (Some part) = part.hand
-
 -- where the thread is with its packet in hand, if there is one
 abbrev pub place_in_hand : {V : Type 0} → Mastered V → ℕ → Option Local
-place_in_hand p t = hand_of (slice_get p.threads t)
+place_in_hand p t = hand_of (λ part. part.hand) (slice_get p.threads t)
 
-abbrev pub has_hand : {V : Type 0} → Mastered V → ℕ → Bool
-has_hand p t = is_some (place_in_hand p t)
+-- the thread has a packet in hand, at this place; it has none; and it made few enough moves to make another
+abbrev pub HasHand : {V : Type 0} → Mastered V → ℕ → Local → Type 0
+HasHand p t place = HoldsAt (λ part. part.hand ≡ Some place) p.threads t
 
--- so many of the thread's moves are left at most until it has ended its packet in hand
-abbrev pub moves_left : {V : Type 0} → Meaning V → Option Local → ℕ
-moves_left m None = 0
-moves_left m (Some place) = m.rank place + 1
+abbrev pub HasNoHand : {V : Type 0} → Mastered V → ℕ → Type 0
+HasNoHand p t = HoldsAt (λ part. part.hand ≡ None) p.threads t
+
+abbrev pub HasRoom : {V : Type 0} → Mastered V → ℕ → Type 0
+HasRoom p t = HoldsAt (λ part. moves_made part < 2 ^ 56) p.threads t
 
 -- The number of the input in hand: the last one that was taken.
 abbrev pub input_in_hand : ThreadPart → Option ℕ

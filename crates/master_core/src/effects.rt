@@ -1,8 +1,9 @@
 //! What each kind of move does to a thread and a variable of a master.
 ghost use Rattle.std.specs.Prelude.{◌≡◌, ℕ, ◌+◌, ◌^◌, ◌<◌, length, slice_set};
-ghost use Rattle.master_core.specs.Effects.{after_entry as after_entry_of};
+ghost use Rattle.master_core.specs.Effects.{after_entry, next_entry};
 
-use crate::{Counts, ThreadPart};
+use crate::{Stepped, ThreadPart};
+use access_log::{StampedEntry, What};
 use plain_machine::Local;
 use thread_clock::Stamp;
 
@@ -17,17 +18,25 @@ pub fn stamped(join: Stamp, thread: u32, number: u64) -> Stamp
     Stamp::new(components)
 }
 
-/// The thread after its next entry, which has this stamp.
-pub fn after_entry(part: ThreadPart, place: Local, stamp: Stamp) -> ThreadPart
-    requires { part.counts.entries + 1 < 2 ^ 64 }
-    ensures { result ≡ after_entry_of part place stamp }
+/// Logs the next entry of this thread, with this stamp, and goes on at this place.
+pub fn log_entry(
+    part: &mut ThreadPart,
+    thread: u32,
+    place: Local,
+    what: What,
+    stamp: Stamp,
+) -> Stepped
+    requires { part.old.counts.entries + 1 < 2 ^ 64 }
+    ensures part { part.new ≡ after_entry part.old place stamp }
+    ensures entry { result ≡ Stepped.Did (next_entry thread part.old what stamp) }
 {
-    ThreadPart {
-        counts: Counts {
-            entries: part.counts.entries + 1,
-            ..part.counts
-        },
-        hand: Some(place),
+    part.counts.entries += 1;
+    part.hand = Some(place);
+    part.stamp = stamp;
+    Stepped::Did(StampedEntry {
+        thread,
+        number: part.counts.entries,
+        what,
         stamp,
-    }
+    })
 }

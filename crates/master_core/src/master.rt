@@ -1,21 +1,19 @@
-ghost use Rattle.std.specs.Prelude.{◌≡◌, ℕ, ◌+◌, ◌^◌, ◌<◌, ◌≤◌, ◌↔◌, List, [], length, false, slice_index_or, IsTrue, IsSome, IfOk, Some, None, option_copied};
+ghost use Rattle.std.specs.Prelude.{◌≡◌, ℕ, ◌+◌, ◌<◌, ◌≤◌, ◌↔◌, List, [], length, false, IsTrue, IsSome, IfOk, Some, None, option_copied};
+ghost use Rattle.std.specs.Prelude.{HoldsAt};
 ghost use Rattle.plain_text.specs.declared.packet.Packet as packet_of;
-ghost use Rattle.entry_order.specs.declared.what.What as what_of;
-ghost use Rattle.box_program.specs.Hands.{input_for};
-ghost use Rattle.plain_machine.specs.History.{Step, thread_after};
+ghost use Rattle.box_program.specs.Hands.{FitsProgram, IsInputAfter, has_hand, moves_left};
+ghost use Rattle.plain_machine.specs.History.{Step};
 ghost use Rattle.plain_machine.specs.declared.local.Move.TheVariants as move_is;
 ghost use Rattle.access_log.specs.declared.entry.Output as output_of;
 ghost use Rattle.access_log.specs.declared.entry.Turn.TheVariants as turn_of;
-ghost use Rattle.master_core.specs.declared.parts.ThreadPart as thread_of;
-ghost use Rattle.master_core.specs.declared.parts.VarPart as var_of;
-ghost use Rattle.master_core.specs.Mastered.{FitsProgram, moves_made, has_hand, place_in_hand, moves_left, input_in_hand, WantsVariable};
+ghost use Rattle.master_core.specs.Mastered.{value_of, place_in_hand, input_in_hand, HasRoom, HasHand, HasNoHand, WantsVariable};
 ghost use Rattle.master_core.specs.Standing.{Stands};
 ghost use Rattle.master_core.specs.Stepping.{wanted, move_of, Follows, MadeNone, MadeOne};
-ghost use Rattle.master_core.specs.Effects.{HasFresh, DoneTake, DoneTouch, DoneLook, DoneHear, DoneEmit, DoneEnd, Played};
+ghost use Rattle.master_core.specs.Effects.{HasFresh, DoneTake, DoneTouch, DoneLook, DoneHear, DoneEmit, DoneEnd, HasPlayed};
 
-use crate::effects::{after_entry, stamped};
+use crate::effects::{log_entry, stamped};
 use crate::{Counts, Stepped, ThreadPart, VarPart, Wants};
-use access_log::{Output, StampedEntry, Turn, What};
+use access_log::{Output, Turn, What};
 use box_program::Program;
 use plain_machine::{Local, Move};
 use plain_text::{NoMemory, Packet};
@@ -50,7 +48,8 @@ impl<P: Program> Master<P> {
         requires some { 1 ≤ threads }
         requires few { threads ≤ 16 }
         ensures stands { IfOk result (λ master. Stands (P.meaning program.now) threads [] master) }
-        ensures fits { IfOk result (λ master. FitsProgram (P.meaning program.now) (P.fits program.now) master) }
+        ensures fits { IfOk result (λ master. FitsProgram (P.meaning program.now)
+            (P.fits program.now) value_of master.vars) }
     {
         let vars = fresh_vars(alloc, program)?;
         let part = ThreadPart {
@@ -68,10 +67,12 @@ impl<P: Program> Master<P> {
 
     /// What the thread does next.
     pub fn wants(&self, program: &P, thread: u32) -> Wants
-        requires program { FitsProgram (P.meaning program.now) (P.fits program.now) self.now }
+        requires program { FitsProgram (P.meaning program.now) (P.fits program.now)
+            value_of self.now.vars }
         requires thread_in { thread < length self.now.threads }
         ensures wanted { (threads : ℕ) (steps : List (Step P.Value)) →
-            Stands (P.meaning program.now) threads steps self.now → result ≡ wanted (P.meaning program.now) steps thread }
+            Stands (P.meaning program.now) threads steps self.now
+            → result ≡ wanted (P.meaning program.now) steps thread }
     {
         let part = self.threads[thread as usize];
         let Some(place) = part.hand else {
@@ -99,7 +100,7 @@ impl<P: Program> Master<P> {
     /// How much the thread did.
     pub fn counts(&self, thread: u32) -> Counts
         requires { thread < length self.now.threads }
-        ensures { (d : thread_of.ThreadPart) → result ≡ (slice_index_or self.now.threads thread d).counts }
+        ensures { HoldsAt (λ part. result ≡ part.counts) self.now.threads thread }
     {
         self.threads[thread as usize].counts
     }
@@ -107,7 +108,7 @@ impl<P: Program> Master<P> {
     /// The number of the input that the thread has in hand; `None` exactly where it has none.
     pub fn in_hand(&self, thread: u32) -> Option<u64>
         requires { thread < length self.now.threads }
-        ensures { (d : thread_of.ThreadPart) → result ≡ input_in_hand (slice_index_or self.now.threads thread d) }
+        ensures { HoldsAt (λ part. result ≡ input_in_hand part) self.now.threads thread }
     {
         let part = self.threads[thread as usize];
         match part.hand {
@@ -119,7 +120,7 @@ impl<P: Program> Master<P> {
     /// The value of a variable.
     pub fn value(&self, var: u32) -> &P::Value
         requires { var < length self.now.vars }
-        ensures { (d : var_of.VarPart P.Value) → result.now ≡ (slice_index_or self.now.vars var d).value }
+        ensures { HoldsAt (λ part. result.now ≡ part.value) self.now.vars var }
     {
         &self.vars[var as usize].value
     }
@@ -127,7 +128,7 @@ impl<P: Program> Master<P> {
     /// How often the variable was touched.
     pub fn places(&self, var: u32) -> u64
         requires { var < length self.now.vars }
-        ensures { (d : var_of.VarPart P.Value) → result ≡ (slice_index_or self.now.vars var d).places }
+        ensures { HoldsAt (λ part. result ≡ part.places) self.now.vars var }
     {
         self.vars[var as usize].places
     }
@@ -135,16 +136,16 @@ impl<P: Program> Master<P> {
     /// The join of the stamps of the reads of the variable after its last touch.
     pub fn readers(&self, var: u32) -> &Stamp
         requires { var < length self.now.vars }
-        ensures { (d : var_of.VarPart P.Value) → result.now ≡ (slice_index_or self.now.vars var d).readers }
+        ensures { HoldsAt (λ part. result.now ≡ part.readers) self.now.vars var }
     {
         &self.vars[var as usize].readers
     }
 
     /// Makes one move of the thread: the one that it wants, with this answer where it is told one.
     ///
-    /// `input` is the packet in hand, else the next input of the thread, else `None`. `turn` says whether a touch or a read may be made
-    /// now. Idle comes exactly where the thread wants an input and gets none, and NotTurn exactly where it wants a touch or a read and
-    /// the turn is to wait; after these, and after NoMemory, the master is unchanged.
+    /// `input` is the packet in hand, else the next input of the thread, else `None`. `turn` says whether a touch or a read
+    /// may be made now. `Idle` comes exactly where the thread wants an input and gets none, and `NotTurn` exactly where it
+    /// wants a touch or a read and the turn is to wait; after these, and after `NoMemory`, the master is unchanged.
     pub fn step(
         &mut self,
         alloc: Global,
@@ -154,22 +155,42 @@ impl<P: Program> Master<P> {
         answer: u64,
         input: Option<&Packet>,
     ) -> Stepped
-        requires program { FitsProgram (P.meaning program.now) (P.fits program.now) self.old }
+        requires program { FitsProgram (P.meaning program.now) (P.fits program.now)
+            value_of self.old.vars }
         requires thread_in { thread < length self.old.threads }
-        requires room { (d : thread_of.ThreadPart) → moves_made (slice_index_or self.old.threads thread d) < 2 ^ 56 }
-        requires input { IsTrue (has_hand self.old thread) → IsSome input }
-        ensures follows { (inputs : ℕ → List packet_of.Packet) (threads : ℕ) (steps : List (Step P.Value)) →
-            Stands (P.meaning program.now) threads steps self.old →
-            (option_copied input.entry ≡ input_for (inputs thread) (thread_after steps thread).taken (thread_after steps thread).hand) →
-            Follows (P.meaning program.now) inputs threads steps (move_of (P.meaning program.now) steps thread answer) result self.new }
-        ensures idle { (result ≡ Stepped.Idle) ↔ ((has_hand self.old thread ≡ false) × (option_copied input.entry ≡ None)) }
-        ensures not_turn { (u n : ℕ) → (result ≡ Stepped.NotTurn u n) ↔ (WantsVariable (P.meaning program.now) (place_in_hand self.old thread) × (turn ≡ turn_of.Wait u n)) }
+        requires room { HasRoom self.old thread }
+        requires input { IsTrue (has_hand (place_in_hand self.old thread)) → IsSome input }
+
+        // A move is that of the definition, and the master stands for the history with it.
+        ensures follows { (inputs : ℕ → List packet_of.Packet) (threads : ℕ)
+            (steps : List (Step P.Value)) → Stands (P.meaning program.now) threads steps self.old
+            → IsInputAfter inputs thread steps (option_copied input.entry)
+            → Follows (P.meaning program.now) inputs threads steps
+            (move_of (P.meaning program.now) steps thread answer) result self.new }
+        ensures as_long { (output : output_of.Output) (packet : packet_of.Packet)
+            → result ≡ Stepped.Emitted output → option_copied input.entry ≡ Some packet
+            → length output.packet.bytes ≡ length packet.bytes }
+
+        // When no move is made.
+        ensures idle { (result ≡ Stepped.Idle)
+            ↔ ((has_hand (place_in_hand self.old thread) ≡ false)
+            × (option_copied input.entry ≡ None)) }
+        ensures not_turn { (u n : ℕ) → (result ≡ Stepped.NotTurn u n)
+            ↔ (WantsVariable (P.meaning program.now) (place_in_hand self.old thread)
+            × (turn ≡ turn_of.Wait u n)) }
         ensures unchanged { MadeNone result → self.new ≡ self.old }
+
+        // What stays.
         ensures threads { length self.new.threads ≡ length self.old.threads }
-        ensures fits { FitsProgram (P.meaning program.now) (P.fits program.now) self.new }
-        ensures begins { has_hand self.old thread ≡ false → MadeOne result → moves_left (P.meaning program.now) (place_in_hand self.new thread) ≤ 63 }
-        ensures falls { IsTrue (has_hand self.old thread) → MadeOne result → moves_left (P.meaning program.now) (place_in_hand self.new thread) < moves_left (P.meaning program.now) (place_in_hand self.old thread) }
-        ensures as_long { (output : output_of.Output) (packet : packet_of.Packet) → result ≡ Stepped.Emitted output → option_copied input.entry ≡ Some packet → length output.packet.bytes ≡ length packet.bytes }
+        ensures fits { FitsProgram (P.meaning program.now) (P.fits program.now)
+            value_of self.new.vars }
+
+        // What the thread has left to do with a packet.
+        ensures begins { has_hand (place_in_hand self.old thread) ≡ false → MadeOne result
+            → moves_left (P.meaning program.now) (place_in_hand self.new thread) ≤ 63 }
+        ensures falls { IsTrue (has_hand (place_in_hand self.old thread)) → MadeOne result
+            → moves_left (P.meaning program.now) (place_in_hand self.new thread)
+            < moves_left (P.meaning program.now) (place_in_hand self.old thread) }
     {
         let Some(place) = self.threads[thread as usize].hand else {
             let Some(packet) = input else {
@@ -192,11 +213,13 @@ impl<P: Program> Master<P> {
         answer: u64,
         packet: &Packet,
     ) -> Stepped
-        requires program { FitsProgram (P.meaning program.now) (P.fits program.now) self.old }
+        requires program { FitsProgram (P.meaning program.now) (P.fits program.now)
+            value_of self.old.vars }
         requires thread_in { thread < length self.old.threads }
-        requires room { (d : thread_of.ThreadPart) → moves_made (slice_index_or self.old.threads thread d) < 2 ^ 56 }
-        requires hand { (d : thread_of.ThreadPart) → (slice_index_or self.old.threads thread d).hand ≡ Some place }
-        ensures { (d : thread_of.ThreadPart) (x : var_of.VarPart P.Value) → Played (P.meaning program.now) thread turn answer packet.now place (slice_index_or self.old.threads thread d) x self.old result self.new ((P.meaning program.now).next place) }
+        requires room { HasRoom self.old thread }
+        requires hand { HasHand self.old thread place }
+        ensures { HoldsAt (λ part. HasPlayed (P.meaning program.now) thread turn answer packet.now
+            place part self.old result self.new) self.old.threads thread }
     {
         match program.next(&place) {
             Move::Access(var) => match turn {
@@ -217,9 +240,10 @@ impl<P: Program> Master<P> {
     /// Takes the thread's next input.
     fn take(&mut self, program: &P, thread: u32, packet: &Packet) -> Stepped
         requires thread_in { thread < length self.old.threads }
-        requires room { (d : thread_of.ThreadPart) → moves_made (slice_index_or self.old.threads thread d) < 2 ^ 56 }
-        requires hand { (d : thread_of.ThreadPart) → (slice_index_or self.old.threads thread d).hand ≡ None }
-        ensures { (d : thread_of.ThreadPart) → DoneTake (P.meaning program.now) thread packet.now (slice_index_or self.old.threads thread d) self.old result self.new }
+        requires room { HasRoom self.old thread }
+        requires hand { HasNoHand self.old thread }
+        ensures { HoldsAt (λ part. DoneTake (P.meaning program.now) thread packet.now
+            part self.old result self.new) self.old.threads thread }
     {
         let place = program.begin(packet);
         let part = &mut self.threads[thread as usize];
@@ -237,12 +261,14 @@ impl<P: Program> Master<P> {
         mut place: Local,
         var: u32,
     ) -> Stepped
-        requires program { FitsProgram (P.meaning program.now) (P.fits program.now) self.old }
+        requires program { FitsProgram (P.meaning program.now) (P.fits program.now)
+            value_of self.old.vars }
         requires thread_in { thread < length self.old.threads }
-        requires room { (d : thread_of.ThreadPart) → moves_made (slice_index_or self.old.threads thread d) < 2 ^ 56 }
-        requires hand { (d : thread_of.ThreadPart) → (slice_index_or self.old.threads thread d).hand ≡ Some place }
+        requires room { HasRoom self.old thread }
+        requires hand { HasHand self.old thread place }
         requires next { (P.meaning program.now).next place ≡ move_is.Access var }
-        ensures { (d : thread_of.ThreadPart) (x : var_of.VarPart P.Value) → DoneTouch (P.meaning program.now) thread var place (slice_index_or self.old.threads thread d) (slice_index_or self.old.vars var x) self.old result self.new }
+        ensures { HoldsAt (λ part. HoldsAt (λ variable. DoneTouch (P.meaning program.now) thread var
+            place part variable self.old result self.new) self.old.vars var) self.old.threads thread }
     {
         let part = self.threads[thread as usize];
         let variable = &mut self.vars[var as usize];
@@ -252,8 +278,7 @@ impl<P: Program> Master<P> {
         let mut join = part.stamp;
         join.join(&variable.stamp);
         join.join(&variable.readers);
-        let number = part.counts.entries + 1;
-        let stamp = stamped(join, thread, number);
+        let stamp = stamped(join, thread, part.counts.entries + 1);
         variable.places += 1;
         variable.stamp = stamp;
         variable.readers = Stamp::zero();
@@ -261,43 +286,44 @@ impl<P: Program> Master<P> {
             var,
             place: variable.places,
         };
-        self.threads[thread as usize] = after_entry(part, place, stamp);
-        Stepped::Did(StampedEntry {
+        log_entry(
+            &mut self.threads[thread as usize],
             thread,
-            number,
+            place,
             what,
             stamp,
-        })
+        )
     }
 
     /// Makes the read that is next.
     fn look(&mut self, program: &P, thread: u32, mut place: Local, var: u32) -> Stepped
-        requires program { FitsProgram (P.meaning program.now) (P.fits program.now) self.old }
+        requires program { FitsProgram (P.meaning program.now) (P.fits program.now)
+            value_of self.old.vars }
         requires thread_in { thread < length self.old.threads }
-        requires room { (d : thread_of.ThreadPart) → moves_made (slice_index_or self.old.threads thread d) < 2 ^ 56 }
-        requires hand { (d : thread_of.ThreadPart) → (slice_index_or self.old.threads thread d).hand ≡ Some place }
+        requires room { HasRoom self.old thread }
+        requires hand { HasHand self.old thread place }
         requires next { (P.meaning program.now).next place ≡ move_is.Read var }
-        ensures { (d : thread_of.ThreadPart) (x : var_of.VarPart P.Value) → DoneLook (P.meaning program.now) thread var place (slice_index_or self.old.threads thread d) (slice_index_or self.old.vars var x) self.old result self.new }
+        ensures { HoldsAt (λ part. HoldsAt (λ variable. DoneLook (P.meaning program.now) thread var
+            place part variable self.old result self.new) self.old.vars var) self.old.threads thread }
     {
         let part = self.threads[thread as usize];
         let variable = &mut self.vars[var as usize];
         program.look(var, &variable.value, &mut place);
         let mut join = part.stamp;
         join.join(&variable.stamp);
-        let number = part.counts.entries + 1;
-        let stamp = stamped(join, thread, number);
+        let stamp = stamped(join, thread, part.counts.entries + 1);
         variable.readers.join(&stamp);
         let what = What::Read {
             var,
             after: variable.places,
         };
-        self.threads[thread as usize] = after_entry(part, place, stamp);
-        Stepped::Did(StampedEntry {
+        log_entry(
+            &mut self.threads[thread as usize],
             thread,
-            number,
+            place,
             what,
             stamp,
-        })
+        )
     }
 
     /// Is told this answer, which the entry has as its content.
@@ -310,21 +336,21 @@ impl<P: Program> Master<P> {
         answer: u64,
     ) -> Stepped
         requires thread_in { thread < length self.old.threads }
-        requires room { (d : thread_of.ThreadPart) → moves_made (slice_index_or self.old.threads thread d) < 2 ^ 56 }
-        requires hand { (d : thread_of.ThreadPart) → (slice_index_or self.old.threads thread d).hand ≡ Some place }
-        ensures { (d : thread_of.ThreadPart) → DoneHear (P.meaning program.now) thread what answer place (slice_index_or self.old.threads thread d) self.old result self.new }
+        requires room { HasRoom self.old thread }
+        requires hand { HasHand self.old thread place }
+        ensures { HoldsAt (λ part. DoneHear (P.meaning program.now) thread what answer
+            place part self.old result self.new) self.old.threads thread }
     {
         let part = self.threads[thread as usize];
         program.told(answer, &mut place);
-        let number = part.counts.entries + 1;
-        let stamp = stamped(part.stamp, thread, number);
-        self.threads[thread as usize] = after_entry(part, place, stamp);
-        Stepped::Did(StampedEntry {
+        let stamp = stamped(part.stamp, thread, part.counts.entries + 1);
+        log_entry(
+            &mut self.threads[thread as usize],
             thread,
-            number,
+            place,
             what,
             stamp,
-        })
+        )
     }
 
     /// Sends out what the program makes of the packet in hand.
@@ -337,10 +363,11 @@ impl<P: Program> Master<P> {
         packet: &Packet,
     ) -> Stepped
         requires thread_in { thread < length self.old.threads }
-        requires room { (d : thread_of.ThreadPart) → moves_made (slice_index_or self.old.threads thread d) < 2 ^ 56 }
-        requires hand { (d : thread_of.ThreadPart) → (slice_index_or self.old.threads thread d).hand ≡ Some place }
+        requires room { HasRoom self.old thread }
+        requires hand { HasHand self.old thread place }
         requires next { (P.meaning program.now).next place ≡ move_is.Emit }
-        ensures { (d : thread_of.ThreadPart) → DoneEmit (P.meaning program.now) thread packet.now place (slice_index_or self.old.threads thread d) self.old result self.new }
+        ensures { HoldsAt (λ part. DoneEmit (P.meaning program.now) thread packet.now
+            place part self.old result self.new) self.old.threads thread }
     {
         let Ok(bytes) = program.packet_out(alloc, packet, &place) else {
             return Stepped::NoMemory;
@@ -366,8 +393,9 @@ impl<P: Program> Master<P> {
     /// Ends the packet in hand.
     fn end(&mut self, thread: u32) -> Stepped
         requires thread_in { thread < length self.old.threads }
-        requires room { (d : thread_of.ThreadPart) → moves_made (slice_index_or self.old.threads thread d) < 2 ^ 56 }
-        ensures { (d : thread_of.ThreadPart) → DoneEnd thread (slice_index_or self.old.threads thread d) self.old result self.new }
+        requires room { HasRoom self.old thread }
+        ensures { HoldsAt (λ part. DoneEnd thread part self.old result self.new)
+            self.old.threads thread }
     {
         let part = &mut self.threads[thread as usize];
         part.hand = None;

@@ -61,8 +61,11 @@ PacketsAreSum = IsSum (λ totals. totals.packets) (λ count. count.packets)
 abbrev pub BytesAreSum : ℕ → List (Step MonitorValue) → Type 0
 BytesAreSum = IsSum (λ totals. totals.bytes) (λ count. count.bytes)
 
--- Of each run of a box with 1 to 64 tables: after each of its moves
+-- Of each run of a box with 1 to 64 tables: after each of its moves; and after those that leave no packet in hand
 abbrev pub InEachRun : (ℕ → ℕ → List (Step MonitorValue) → Type 0) → Type 0
 InEachRun Holds =
     (tables threads : ℕ) (inputs : ℕ → List Packet) (steps : List (Step MonitorValue))
     → 1 ≤ tables → tables ≤ 64 → IsHistory (monitor_meaning tables) inputs threads steps → Holds tables threads steps
+
+abbrev pub InEachRunAtRest : (ℕ → List (Step MonitorValue) → Type 0) → Type 0
+InEachRunAtRest Holds = InEachRun (λ tables threads steps. IsAtRest threads steps → Holds tables steps)

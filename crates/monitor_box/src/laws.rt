@@ -1,6 +1,6 @@
 //! The laws of the box's runs. Each is proved, and does nothing: a caller has it by the call.
 ghost use Rattle.monitor_box.specs.Arrivals.{CountsFlow, CountsFlowAtRest, CountsOthers, CountsOthersAtRest};
-ghost use Rattle.monitor_box.specs.Sums.{InEachRun, PacketsMatch, BytesMatch, PacketsAreSum, BytesAreSum, IsAtRest};
+ghost use Rattle.monitor_box.specs.Sums.{InEachRun, InEachRunAtRest, PacketsMatch, BytesMatch, PacketsAreSum, BytesAreSum};
 ghost use Rattle.monitor_box.specs.Standing.{FlowsStand};
 
 /// After each move of each run, whatever its threads, its inputs and the order of its moves, the totals are the sum over all
@@ -9,8 +9,8 @@ ghost use Rattle.monitor_box.specs.Standing.{FlowsStand};
 pub fn totals_match_flows()
     ensures packets { InEachRun PacketsMatch }
     ensures bytes { InEachRun BytesMatch }
-    ensures packets_at_rest { InEachRun (λ tables threads steps. IsAtRest threads steps → PacketsAreSum tables steps) }
-    ensures bytes_at_rest { InEachRun (λ tables threads steps. IsAtRest threads steps → BytesAreSum tables steps) }
+    ensures packets_at_rest { InEachRunAtRest PacketsAreSum }
+    ensures bytes_at_rest { InEachRunAtRest BytesAreSum }
 {}
 
 /// After each move of each run on packets of bytes, each flow of a table is one whose own sum tells this table, so that no

@@ -5,18 +5,12 @@ use Rattle.std.proofs.lemmas.Bool.Decides.{nat_tests}
 use Rattle.plain_text.specs.declared.packet.Packet.{Packet}
 use Rattle.entry_order.specs.declared.what.What.TheVariants.{Access, Read, Clock, Draw}
 use Rattle.entry_order.specs.Log.{Entry, entries, places, IsLog, IsIn}
-use Rattle.entry_order.proofs.Order.{is_or}
+use Rattle.entry_order.proofs.Order.{is_or, touch_only, read_only}
 use Rattle.plain_machine.specs.declared.emission.Emission.{Emission}
 use Rattle.plain_machine.specs.Program.{Meaning}
 use Rattle.plain_machine.specs.Machine.{Thread, Effect, Takes, Touches, Looks, HearsClock, HearsDraw, Sends, Ends}
-use Rattle.plain_machine.specs.History.{Act, Took, Did, Emitted, Ended, Step, log_more, log_of, sent_more, sent_of, outputs, moves_of, entry_of, emission_of, act_of, IsHistory}
+use Rattle.plain_machine.specs.History.{Act, Took, Did, Emitted, Ended, Step, log_more, log_of, sent_more, sent_of, outputs, moves_of, thread_after, entry_of, emission_of, act_of, step_of, IsHistory}
 use Rattle.plain_machine.specs.Agree.{IsEarlier, Makes}
-
-touch_only : (v s w r : ℕ) → Access v s ≡ Access w r → (v ≡ w) × (s ≡ r)
-touch_only v s w r e = (cc, cc)
-
-read_only : (v s w r : ℕ) → Read v s ≡ Read w r → (v ≡ w) × (s ≡ r)
-read_only v s w r e = (cc, cc)
 
 -- a step keeps the log a log
 more_is_log : {V : Type 0} (t taken : ℕ) (earlier : List (Step V)) (effect : Effect V) → IsLog (log_of earlier) → IsLog (log_more (act_of t earlier taken effect) (log_of earlier))
@@ -33,6 +27,10 @@ pub history_log : {V : Type 0} (m : Meaning V) (inputs : ℕ → List Packet) (t
 history_log m inputs threads [] h = tt
 history_log m inputs threads (x ∷ earlier) h =
     rw h.0.4 (more_is_log x.thread x.after.taken earlier h.0.2 (history_log m inputs threads earlier h.1))
+
+-- the thread that moved is where the move left it
+pub moved_thread : {V : Type 0} (steps : List (Step V)) (t : ℕ) (after : Thread) (effect : Effect V) → thread_after (step_of t steps after effect ∷ steps) t ≡ after
+moved_thread steps t after effect = let same : nat_eq t t ≡ true = grind (arith, nat_tests) in rw same refl
 
 -- Earlier moments
 

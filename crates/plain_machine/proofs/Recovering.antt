@@ -13,7 +13,7 @@ use Rattle.plain_machine.proofs.Playing.{play_history, play_prefix, played_on}
 use Rattle.plain_machine.proofs.Continuing.{continue}
 
 -- the log of an earlier moment is the end of the log
-later_log : {V : Type 0} (steps line : List (Step V)) → IsEarlier steps line → (later : List Entry) × (log_of line ≡ later ++ log_of steps)
+pub later_log : {V : Type 0} (steps line : List (Step V)) → IsEarlier steps line → (later : List Entry) × (log_of line ≡ later ++ log_of steps)
 later_log {V} steps [] e = ([], ap (λ (s : List (Step V)). log_of s) (sym e))
 later_log {V} steps (x ∷ line) (inl e) = ([], ap (λ (s : List (Step V)). log_of s) (sym e))
 later_log {V} steps (x ∷ line) (inr e) = go x.act (later_log steps line e)

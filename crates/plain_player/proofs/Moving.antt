@@ -16,28 +16,12 @@ use Rattle.plain_machine.specs.declared.emission.Emission.{Emission}
 use Rattle.plain_player.specs.declared.hand.HandMove.{HandMove}
 use Rattle.plain_player.specs.declared.hand.MoveError.{MoveError}
 use Rattle.plain_player.specs.declared.hand.MoveError.TheVariants as error
-use Rattle.plain_player.specs.Hands.{HasValues, FitsProgram, values_after, sent_by, with_bytes, IsHandMove, MakesHandMove, PlaysHand, seat_after}
+use Rattle.plain_player.specs.Hands.{HasValues, values_after, sent_by, with_bytes, IsHandMove, MakesHandMove, PlaysHand, seat_after}
 use Rattle.plain_player.specs.Playing.{Playing, IsSeat, Stands, Follows}
 use Rattle.box_program.specs.Hands.{place_of, input_for}
-
-is_or : (a b : ℕ) → (a ≡ b) ⊎ (a ≢ b)
-is_or a b = go (eqb_tells a b)
-  where
-    go : ((eqb a b ≡ true) × (a ≡ b)) ⊎ ((eqb a b ≡ false) × (a ≢ b)) → (a ≡ b) ⊎ (a ≢ b)
-    go (inl h) = inl h.1
-    go (inr h) = inr h.1
-
--- a thread that has this packet in hand, at this place
-in_hand : (packets : List Packet) (th : Thread) (packet : Packet) (local : Local) (input : Option Packet) → place_of th.hand ≡ Some local
-    → input ≡ Some packet → input ≡ input_for packets th.taken th.hand → th.hand ≡ Some (record { packet = packet; place = local })
-in_hand packets th packet local input place is_packet given = go th.hand place given
-  where
-    go : (hand : Option Hand) → place_of hand ≡ Some local → input ≡ input_for packets th.taken hand → hand ≡ Some (record { packet = packet; place = local })
-    go None p g = absurd (cc)
-    go (Some h) p g =
-        let a : h.place ≡ local = cc in
-        let b : h.packet ≡ packet = cc in
-        ap Some (ap (λ (l : Local). record { packet = h.packet; place = l }) a ∙ ap (λ (q : Packet). record { packet = q; place = local }) b)
+use Rattle.box_program.proofs.HandLemmas.{in_hand}
+use Rattle.plain_machine.proofs.Histories.{moved_thread}
+use Rattle.entry_order.proofs.Order.{is_or}
 
 -- the move of such a thread
 pub hand_plays : {V : Type 0} (m : Meaning V) (inputs : ℕ → List Packet) (threads : ℕ) (steps : List (Step V)) (plain : PlainMove) (packet : Packet) (local : Local) (input : Option Packet)
@@ -64,10 +48,6 @@ values_on m steps t after (HearsClock a) values len has = has
 values_on m steps t after (HearsDraw a) values len has = has
 values_on m steps t after (Sends packet) values len has = has
 values_on m steps t after Ends values len has = has
-
--- the thread that moved is where the move left it
-moved_thread : {V : Type 0} (steps : List (Step V)) (t : ℕ) (after : Thread) (effect : Effect V) → thread_after (step_of t steps after effect ∷ steps) t ≡ after
-moved_thread steps t after effect = let same : nat_eq t t ≡ true = grind (arith, nat_tests) in rw same refl
 
 -- a move that sends nothing out
 quiet : {V : Type 0} (steps : List (Step V)) (t : ℕ) (after : Thread) (d : Effect V) → sent_by d ≡ None → sent_of (step_of t steps after d ∷ steps) ≡ sent_of steps

@@ -15,11 +15,6 @@ use Rattle.plain_player.specs.declared.hand.MoveError.TheVariants as error
 abbrev pub HasValues : {V : Type 0} → ℕ → List V → (ℕ → V) → Type 0
 HasValues {V} count values value = (v : ℕ) (d : V) → v < count → slice_index_or values v d ≡ value v
 
--- a list of one value for each variable, which the variable may have
-pub record FitsProgram {V : Type 0} (m : Meaning V) (fits : ℕ → V → Type 0) (values : List V) : Type 0 where
-  pub count : length values ≡ m.vars
-  pub fit : (v : ℕ) (d : V) → v < m.vars → fits v (slice_index_or values v d)
-
 abbrev pub values_after : {V : Type 0} → List V → Effect V → List V
 values_after values Takes = values
 values_after values (Touches v left) = slice_set values v left

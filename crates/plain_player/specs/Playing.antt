@@ -1,5 +1,5 @@
 -- Which histories of the plain machine a player stands for, and what one call of it does.
-use Rattle.std.specs.Prelude.{◌≡◌, ℕ, ◌+◌, ◌<◌, ◌≤◌, ◌++◌, List, length, Bool, Option, Some, None, slice_get, slice_index_or, is_some, option_to_list, Result, Ok, Err, MatchResult}
+use Rattle.std.specs.Prelude.{◌≡◌, ℕ, ◌+◌, ◌<◌, ◌≤◌, ◌++◌, List, length, Option, Some, None, slice_get, slice_index_or, option_to_list, Result, Ok, Err, MatchResult}
 use Rattle.plain_text.specs.declared.packet.Packet.{Packet}
 use Rattle.plain_machine.specs.declared.local.Local.{Local}
 use Rattle.plain_machine.specs.declared.emission.Emission.{Emission}
@@ -11,8 +11,8 @@ use Rattle.plain_machine.specs.History.{Step, value_after, thread_after, sent_of
 use Rattle.plain_player.specs.declared.seat.Seat.{Seat}
 use Rattle.plain_player.specs.declared.hand.MoveError.{MoveError}
 use Rattle.plain_player.specs.declared.hand.MoveError.TheVariants as error
-use Rattle.box_program.specs.Hands.{place_of, input_for}
-use Rattle.plain_player.specs.Hands.{HasValues, FitsProgram}
+use Rattle.box_program.specs.Hands.{place_of, hand_of}
+use Rattle.plain_player.specs.Hands.{HasValues}
 
 -- what a player has: the values of the variables, the threads, and how many moves it made
 pub record Playing (V : Type 0) : Type 0 where
@@ -37,21 +37,9 @@ pub record Stands {V : Type 0} (m : Meaning V) (threads : ℕ) (steps : List (St
   pub seat : (t : ℕ) (d : Seat) → t < threads → IsSeat steps t (slice_index_or p.seats t d)
   pub made : p.made ≡ length steps
 
-abbrev pub hand_of : Option Seat → Option Local
-hand_of None = None
-hand_of (Some s) = s.hand
-
--- whether the thread has a packet in hand
-abbrev pub has_hand : {V : Type 0} → Playing V → ℕ → Bool
-has_hand p t = is_some (hand_of (slice_get p.seats t))
-
-abbrev pub rank_of : {V : Type 0} → Meaning V → Option Local → ℕ
-rank_of m None = 0
-rank_of m (Some place) = m.rank place + 1
-
--- how many moves the thread makes at most until it has ended the packet in hand
-abbrev pub moves_left : {V : Type 0} → Meaning V → Playing V → ℕ → ℕ
-moves_left m p t = rank_of m (hand_of (slice_get p.seats t))
+-- where the thread is with its packet in hand, if there is one
+abbrev pub place_in_hand : {V : Type 0} → Playing V → ℕ → Option Local
+place_in_hand p t = hand_of (λ seat. seat.hand) (slice_get p.seats t)
 
 -- A call made the move of the definition and sent what it sends, or named the cause by which it is none.
 abbrev pub Follows : {V : Type 0} → Meaning V → (ℕ → List Packet) → ℕ → List (Step V) → PlainMove → Result (Option Emission) MoveError → Playing V → Type 0

@@ -1,7 +1,8 @@
 ghost use Rattle.std.specs.Prelude.{◌≡◌, ◌<◌, ℕ, Ok, None, length, OnErr, IfOk, IfSome};
 ghost use Rattle.plain_text.specs.declared.packet.Packet as packet_of;
 ghost use Rattle.plain_machine.specs.Machine.{hand_move};
-ghost use Rattle.plain_player.specs.Hands.{HasValues, FitsProgram, PlaysHand};
+ghost use Rattle.box_program.specs.Hands.{FitsProgram};
+ghost use Rattle.plain_player.specs.Hands.{HasValues, PlaysHand};
 
 use box_program::Program;
 use plain_machine::{Local, Move, PlayCause};
@@ -52,11 +53,19 @@ pub fn play_hand<P: Program>(
     mut local: Local,
     answer: Option<u64>,
 ) -> Result<HandMove, MoveError>
-    requires { FitsProgram (P.meaning program.now) (P.fits program.now) values.old.items }
-    ensures plays { (value : ℕ → P.Value) (taken : ℕ) → HasValues (P.meaning program.now).vars values.old.items value → PlaysHand (hand_move (P.meaning program.now) value taken (record { packet = packet.now; place = local }) answer ((P.meaning program.now).next local)) taken packet.now result values.old.items values.new.items }
-    ensures fits { FitsProgram (P.meaning program.now) (P.fits program.now) values.new.items }
-    ensures falls { IfOk result (λ made. IfSome made.place (λ place. (P.meaning program.now).rank place < (P.meaning program.now).rank local)) }
-    ensures as_long { IfOk result (λ made. IfSome made.sent (λ bytes. length bytes ≡ length packet.now.bytes)) }
+    requires { FitsProgram (P.meaning program.now) (P.fits program.now)
+        (λ value. value) values.old.items }
+    ensures plays { (value : ℕ → P.Value) (taken : ℕ)
+        → HasValues (P.meaning program.now).vars values.old.items value
+        → PlaysHand (hand_move (P.meaning program.now) value taken
+        (record { packet = packet.now; place = local }) answer ((P.meaning program.now).next local))
+        taken packet.now result values.old.items values.new.items }
+    ensures fits { FitsProgram (P.meaning program.now) (P.fits program.now)
+        (λ value. value) values.new.items }
+    ensures falls { IfOk result (λ made. IfSome made.place
+        (λ place. (P.meaning program.now).rank place < (P.meaning program.now).rank local)) }
+    ensures as_long { IfOk result (λ made. IfSome made.sent
+        (λ bytes. length bytes ≡ length packet.now.bytes)) }
     ensures err { OnErr result (values.new.items ≡ values.old.items) }
 {
     match (program.next(&local), answer) {

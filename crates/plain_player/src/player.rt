@@ -1,10 +1,10 @@
 ghost use Rattle.std.specs.Prelude.{◌≡◌, ◌<◌, ◌≤◌, false, ◌+◌, ◌^◌, ℕ, List, [], length, slice_index_or, Some, IfOk, IfSome, OnOk, OnErr, IsSome, IsTrue, option_copied};
 ghost use Rattle.plain_text.specs.declared.packet.Packet as packet_of;
-ghost use Rattle.plain_machine.specs.History.{Step, thread_after};
-ghost use Rattle.plain_player.specs.Hands.{FitsProgram, HasValues, TakesInput, seat_after};
+ghost use Rattle.plain_machine.specs.History.{Step};
+ghost use Rattle.plain_player.specs.Hands.{HasValues, TakesInput, seat_after};
 ghost use Rattle.plain_machine.specs.Machine.{take_move};
-ghost use Rattle.box_program.specs.Hands.{input_for};
-ghost use Rattle.plain_player.specs.Playing.{Stands, Follows, has_hand, moves_left};
+ghost use Rattle.box_program.specs.Hands.{FitsProgram, IsInputAfter, has_hand, moves_left};
+ghost use Rattle.plain_player.specs.Playing.{Stands, Follows, place_in_hand};
 
 use crate::hand::{HandMove, MoveError, play_hand};
 use crate::seat::Seat;
@@ -42,7 +42,8 @@ impl<V: Drop> Player<V> {
         threads: u32,
     ) -> Result<Self, NoMemory>
         ensures stands { IfOk result (λ player. Stands (P.meaning program.now) threads [] player) }
-        ensures fits { IfOk result (λ player. FitsProgram (P.meaning program.now) (P.fits program.now) player.values) }
+        ensures fits { IfOk result (λ player. FitsProgram (P.meaning program.now)
+            (P.fits program.now) (λ value. value) player.values) }
     {
         let values = fresh_values(alloc, program)?;
         let seat = Seat {
@@ -60,7 +61,7 @@ impl<V: Drop> Player<V> {
 
     /// Whether the thread has a packet in hand.
     pub fn in_hand(&self, thread: u32) -> bool
-        ensures { result ≡ has_hand self.now thread }
+        ensures { result ≡ has_hand (place_in_hand self.now thread) }
     {
         match self.seats.get(thread as usize) {
             Some(seat) => seat.hand.is_some(),
@@ -79,17 +80,30 @@ impl<V: Drop> Player<V> {
         plain: PlainMove,
         input: Option<&Packet>,
     ) -> Result<Option<Emission>, MoveError>
-        requires program { FitsProgram (P.meaning program.now) (P.fits program.now) self.old.values }
+        requires program { FitsProgram (P.meaning program.now) (P.fits program.now)
+            (λ value. value) self.old.values }
         requires room { self.old.made + 1 < 2 ^ 64 }
-        requires input { IsTrue (has_hand self.old plain.thread) → IsSome input }
-        ensures follows { (inputs : ℕ → List packet_of.Packet) (threads : ℕ) (steps : List (Step V)) →
-            Stands (P.meaning program.now) threads steps self.old →
-            (option_copied input.entry ≡ input_for (inputs plain.thread) (thread_after steps plain.thread).taken (thread_after steps plain.thread).hand) →
-            Follows (P.meaning program.now) inputs threads steps plain result self.new }
-        ensures fits { FitsProgram (P.meaning program.now) (P.fits program.now) self.new.values }
-        ensures begins { has_hand self.old plain.thread ≡ false → OnOk result (moves_left (P.meaning program.now) self.new plain.thread ≤ 63) }
-        ensures falls { IsTrue (has_hand self.old plain.thread) → OnOk result (moves_left (P.meaning program.now) self.new plain.thread < moves_left (P.meaning program.now) self.old plain.thread) }
-        ensures as_long { IfOk result (λ sent. IfSome sent (λ emission. (packet : packet_of.Packet) → option_copied input.entry ≡ Some packet → length emission.packet.bytes ≡ length packet.bytes)) }
+        requires input { IsTrue (has_hand (place_in_hand self.old plain.thread)) → IsSome input }
+
+        // The move is that of the definition, or none that may be made.
+        ensures follows { (inputs : ℕ → List packet_of.Packet) (threads : ℕ)
+            (steps : List (Step V)) → Stands (P.meaning program.now) threads steps self.old
+            → IsInputAfter inputs plain.thread steps (option_copied input.entry)
+            → Follows (P.meaning program.now) inputs threads steps plain result self.new }
+        ensures as_long { IfOk result (λ sent. IfSome sent (λ emission. (packet : packet_of.Packet)
+            → option_copied input.entry ≡ Some packet
+            → length emission.packet.bytes ≡ length packet.bytes)) }
+
+        // What the thread has left to do with a packet.
+        ensures begins { has_hand (place_in_hand self.old plain.thread) ≡ false → OnOk result
+            (moves_left (P.meaning program.now) (place_in_hand self.new plain.thread) ≤ 63) }
+        ensures falls { IsTrue (has_hand (place_in_hand self.old plain.thread)) → OnOk result
+            (moves_left (P.meaning program.now) (place_in_hand self.new plain.thread)
+            < moves_left (P.meaning program.now) (place_in_hand self.old plain.thread)) }
+
+        // What is kept.
+        ensures fits { FitsProgram (P.meaning program.now) (P.fits program.now)
+            (λ value. value) self.new.values }
         ensures made { OnOk result (self.new.made ≡ self.old.made + 1) }
         ensures err { OnErr result (self.new ≡ self.old) }
     {
@@ -127,7 +141,8 @@ impl<V: Drop> Player<V> {
 /// The fresh values of a program's variables.
 fn fresh_values<P: Program>(alloc: Global, program: &P) -> Result<Vec<P::Value>, NoMemory>
     ensures count { IfOk result (λ values. length values.items ≡ (P.meaning program.now).vars) }
-    ensures fresh { IfOk result (λ values. HasValues (P.meaning program.now).vars values.items (P.meaning program.now).fresh) }
+    ensures fresh { IfOk result (λ values. HasValues (P.meaning program.now).vars values.items
+        (P.meaning program.now).fresh) }
 {
     let mut values = Vec::new(alloc);
     for var in 0..program.vars() {
@@ -144,7 +159,8 @@ fn take_input<P: Program>(
     input: Option<&Packet>,
 ) -> Result<Seat, MoveError>
     requires { seat.taken + 1 < 2 ^ 64 }
-    ensures { TakesInput (take_move (P.meaning program.now) seat.taken answer (option_copied input.entry)) seat result }
+    ensures { TakesInput (take_move (P.meaning program.now) seat.taken answer
+        (option_copied input.entry)) seat result }
 {
     if answer.is_some() {
         return Err(MoveError::Illegal(PlayCause::UnwantedAnswer));

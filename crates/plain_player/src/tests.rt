@@ -1,5 +1,5 @@
 ghost use Rattle.std.specs.Prelude.{◌+◌, ◌<◌, ◌≤◌, ◌^◌};
-ghost use Rattle.plain_player.specs.Hands.{FitsProgram};
+ghost use Rattle.box_program.specs.Hands.{FitsProgram};
 
 use crate::{MoveError, Player, put_schedule};
 use box_program::{CountBox, PeekBox, Program};
@@ -36,9 +36,11 @@ fn moves<P: Program>(
     plain: PlainMove,
     input: &Packet,
 ) -> Told
-    requires program { FitsProgram (P.meaning program.now) (P.fits program.now) player.old.values }
+    requires program { FitsProgram (P.meaning program.now) (P.fits program.now)
+        (λ value. value) player.old.values }
     requires room { player.old.made + 1 < 2 ^ 64 }
-    ensures fits { FitsProgram (P.meaning program.now) (P.fits program.now) player.new.values }
+    ensures fits { FitsProgram (P.meaning program.now) (P.fits program.now)
+        (λ value. value) player.new.values }
     ensures made { player.new.made ≤ player.old.made + 1 }
 {
     told_of(player.step(alloc, program, plain, Some(input)))
@@ -51,7 +53,8 @@ fn moves_without_input<P: Program>(
     program: &P,
     plain: PlainMove,
 ) -> Option<Told>
-    requires program { FitsProgram (P.meaning program.now) (P.fits program.now) player.old.values }
+    requires program { FitsProgram (P.meaning program.now) (P.fits program.now)
+        (λ value. value) player.old.values }
     requires room { player.old.made + 1 < 2 ^ 64 }
 {
     if player.in_hand(plain.thread) {

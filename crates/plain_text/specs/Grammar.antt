@@ -1,7 +1,7 @@
 -- Grammars of text files as tables. A row of a table is a line that may stand: its first word, what stands at each place after
 -- it, and whether it may stand again. A table says of each line which row it is and which values it has, or its first fault;
 -- and of a file's lines whether all are lines of the table, or which is the first that is not.
-use Rattle.std.specs.Prelude.{◌≡◌, ◌⊎◌, ℕ, ◌<◌, ◌≤◌, ◌&&◌, Bool, true, false, List, [], ◌∷◌, nat_le, position, if◌then◌else◌, Option, Some, None}
+use Rattle.std.specs.Prelude.{◌≡◌, ◌⊎◌, ℕ, ◌<◌, ◌≤◌, ◌&&◌, Bool, true, false, List, [], ◌∷◌, nat_le, if◌then◌else◌, Option, Some, None, option_map, ◌+◌}
 use Rattle.std.specs.Str.{bytes_eq}
 use Rattle.plain_text.specs.declared.fault.LineCause.{LineCause}
 use Rattle.plain_text.specs.declared.fault.LineCause.TheVariants.{UnknownWord, MissingWord, ExtraWord, BadNumber, OutOfRange, Twice}
@@ -22,10 +22,15 @@ pub record Row : Type 0 where
 
 -- Of one line
 
+-- the index of a word among words, if it is one of them
+abbrev pub index_in : List ℕ → List (List ℕ) → Option ℕ
+index_in word [] = None
+index_in word (known ∷ words) = if bytes_eq word known then Some 0 else option_map (λ n. n + 1) (index_in word words)
+
 -- the value of a word at a place, if it has the form that the place asks for
 abbrev pub value_at : Place → List ℕ → Option ℕ
 value_at (Number low high) word = number_of word
-value_at (OneOf words) word = position (λ w. bytes_eq word w) words
+value_at (OneOf words) word = index_in word words
 
 -- the fault of a word that has another form
 abbrev pub misfit : Place → LineCause

@@ -17,7 +17,9 @@ pub fn a_line_is_one_thing()
 /// The counted lines of a text are all of a table, or have a first that leaves it, for one cause: not both.
 pub fn a_text_has_one_first_fault()
     ensures not_both { (rows : List Row) (text : List ℕ) (number : ℕ) (cause : LineCause)
-        → AreLines rows (counted_lines text) → FirstToLeave rows (counted_lines text) number cause → ⊥ }
+        → AreLines rows (counted_lines text)
+        → FirstToLeave rows (counted_lines text) number cause → ⊥ }
     ensures one { (rows : List Row) (text : List ℕ) (x y : ℕ) (a b : LineCause)
-        → FirstToLeave rows (counted_lines text) x a → FirstToLeave rows (counted_lines text) y b → (x ≡ y) × (a ≡ b) }
+        → FirstToLeave rows (counted_lines text) x a
+        → FirstToLeave rows (counted_lines text) y b → (x ≡ y) × (a ≡ b) }
 {}

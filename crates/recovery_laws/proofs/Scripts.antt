@@ -1,5 +1,5 @@
 -- A script comes to one thing: so do events of several, and so what it leaves is one.
-use Rattle.std.proofs.Common.{◌≡◌, ℕ, ◌≤◌, ◌<◌, ◌≢◌, Bool, true, false, List, [], ◌++◌, refl, sym, ap, ◌∙◌, subst, inl, inr, ◌⊎◌, arith, Option, Some, None}
+use Rattle.std.proofs.Common.{◌≡◌, ℕ, ◌≤◌, ◌<◌, ◌≢◌, Bool, true, false, List, [], ◌∷◌, ◌++◌, refl, sym, ap, ◌∙◌, subst, inl, inr, ◌⊎◌, arith, Option, Some, None}
 use Rattle.std.specs.Prelude.{Result, Ok, Err, ◌&&◌}
 use Rattle.plain_text.specs.declared.limit.Limit.{Limit}
 use Rattle.plain_text.specs.declared.packet.Packet.{Packet}
@@ -15,7 +15,7 @@ use Rattle.recovery_world.specs.World.{Setting, Sent, World, opening}
 use Rattle.recovery_world.specs.Events.{Wakes, On}
 use Rattle.recovery_world.specs.Limits.{limit_passed, IsWithin, OnWithin, Passes}
 use Rattle.recovery_world.specs.Many.{Does, Stays, Goes as DoesMore, StepsOut, IsIdle, Waits, Halts, Steps, Round, NoThread, Thread, HaltsBefore, HaltsThere, Rounds, Rests as RestsNow, HaltsIn, Again, Feeds, Empties, HaltsOn, More, all_logs, all_outs, Autos, Begins, Next, chosen, Settles, summary_of, OnAny, Single, Settling, Choosing, Stops, SingleStops, SettlingStops, ChoosingStops}
-use Rattle.recovery_world.specs.Files.{reply_line, done_line, packets_of, moves_made, Performs, Rests as NoMore, Goes as Writes, Leaves}
+use Rattle.recovery_world.specs.Files.{reply_line, done_line, packets_of, moves_made, Performs, Rests as NoMore, Goes as Writes, Leaves, LeavesAt}
 use Rattle.recovery_world.specs.Finish.{IsFinish}
 use Rattle.recovery_laws.specs.Sound.{Sound}
 use Rattle.recovery_laws.proofs.Keeping.{opening_sound, wakes_sound, within_sound, does_sound, round_sound, rounds_sound, feeds_sound, autos_sound, any_sound}
@@ -267,3 +267,56 @@ stops_one {V} s w ev limit other new next h low (ChoosingStops seed n k l m few 
         (passes_one s new (chosen s seed k new) limit other (autos_sound s seed w new k h a) p (subst (λ (z : World V). Passes s z (chosen s seed k z) other) (sym one) q2), one)
     go (inr differ) (inl less) = absurd (choosing_not s seed w new next j k limit h less a p b)
     go (inr differ) (inr more) = absurd (choosing_not s seed w next new k j other h (omega (arith, differ, more)) b q a)
+
+-- A script is performed whole or stops, and stops in one way: two ways through one list of events, the second of which stops.
+tail_eq : (x y : Event) (xs ys : List Event) → x ∷ xs ≡ y ∷ ys → (x ≡ y) × (xs ≡ ys)
+tail_eq x y xs ys e = (cc, cc)
+
+whole_or_stops : {V : Type 0} (s : Setting V) (w new there world : World V) (events before after : List Event) (ev : Event) (lines other : List ℕ) (limit : Limit) → Sound s w → IsWithin w
+    → events ≡ before ++ ev ∷ after → Performs s w events lines new → Performs s w before other there → Stops s there ev limit world → ⊥
+whole_or_stops s w new there world events [] after ev lines other limit h low same (NoMore q) b stops = cc
+whole_or_stops {V} s w new there world events [] after ev lines other limit h low same (Writes {mid = mid} {events = later} x to freed on rest) (NoMore q) stops =
+    let e = tail_eq x ev later after same in
+    stops_not s w ev limit to freed world mid h low stops (subst (λ (y : Event). OnAny s w y to freed mid) e.0 on)
+whole_or_stops s w new there world events (y ∷ before) after ev lines other limit h low same (NoMore q) b stops = cc
+whole_or_stops {V} s w new there world events (y ∷ before) after ev lines other limit h low same (Writes {mid = mid} {events = later} {lines = l} x to freed on rest) (Writes {mid = mid2} {lines = l2} y2 to2 freed2 on2 rest2) stops =
+    let e = tail_eq x y later (before ++ ev ∷ after) same in
+    let on3 : OnAny s w x to2 freed2 mid2 = subst (λ (z : Event). OnAny s w z to2 freed2 mid2) (sym e.0) on2 in
+    let q = any_one s w x to to2 freed freed2 mid mid2 h low on on3 in
+    whole_or_stops s mid new there world later before after ev l l2 limit (any_sound s w h x to freed mid on) (any_within s w x to freed mid low on) e.1 rest (subst (λ (z : World V). Performs s z before l2 there) (sym q.new_is) rest2) stops
+
+record OneStop {V : Type 0} (a b : Limit) (lines other : List ℕ) (new next : World V) : Type 0 where
+  limit_is : a ≡ b
+  lines_are : lines ≡ other
+  world_is : new ≡ next
+
+stops_once : {V : Type 0} (s : Setting V) (w there place new next : World V) (before after first rest : List Event) (ev en : Event) (lines other : List ℕ) (a b : Limit) → Sound s w → IsWithin w
+    → before ++ ev ∷ after ≡ first ++ en ∷ rest → Performs s w before lines there → Stops s there ev a new → Performs s w first other place → Stops s place en b next → OneStop a b lines other new next
+stops_once {V} s w there place new next [] after [] rest ev en lines other a b h low same (NoMore q) x (NoMore q2) y =
+    let e = tail_eq ev en after rest same in
+    let r = stops_one s w ev a b new next h low x (subst (λ (z : Event). Stops s w z b next) (sym e.0) y) in
+    record { limit_is = r.0; lines_are = refl; world_is = r.1 }
+stops_once {V} s w there place new next [] after (z ∷ first) rest ev en lines other a b h low same (NoMore q) x (Writes {mid = mid} z2 to freed on more) y =
+    let e = tail_eq ev z after (first ++ en ∷ rest) same in
+    absurd (stops_not s w ev a to freed new mid h low x (subst (λ (k : Event). OnAny s w k to freed mid) (sym e.0) on))
+stops_once {V} s w there place new next (z ∷ before) after [] rest ev en lines other a b h low same (Writes {mid = mid} z2 to freed on more) x (NoMore q) y =
+    let e = tail_eq z en (before ++ ev ∷ after) rest same in
+    absurd (stops_not s w en b to freed next mid h low y (subst (λ (k : Event). OnAny s w k to freed mid) e.0 on))
+stops_once {V} s w there place new next (z ∷ before) after (k ∷ first) rest ev en lines other a b h low same (Writes {mid = mid} {lines = l} z2 to freed on more) x (Writes {mid = mid2} {lines = l2} k2 to2 freed2 on2 more2) y =
+    let e = tail_eq z k (before ++ ev ∷ after) (first ++ en ∷ rest) same in
+    let on3 : OnAny s w z to2 freed2 mid2 = subst (λ (i : Event). OnAny s w i to2 freed2 mid2) (sym e.0) on2 in
+    let q = any_one s w z to to2 freed freed2 mid mid2 h low on on3 in
+    let r = stops_once s mid there place new next before after first rest ev en l l2 a b (any_sound s w h z to freed mid on) (any_within s w z to freed mid low on) e.1 more x (subst (λ (i : World V). Performs s i first l2 place) (sym q.new_is) more2) y in
+    record {
+      limit_is = r.limit_is;
+      lines_are = ap (λ (o : Outcome). reply_line z o freed ++ l) q.outcome_is ∙ (ap (λ (f : List Sent). reply_line z to2 f ++ l) q.freed_is ∙ (ap (λ (i : List ℕ). reply_line z to2 freed2 ++ i) r.lines_are ∙ ap (λ (i : Event). reply_line i to2 freed2 ++ l2) e.0));
+      world_is = r.world_is;
+    }
+
+pub leaves_or_stops : {V : Type 0} (s : Setting V) (events : List Event) (report other : List ℕ) (released rest : List Packet) (schedule : List PlainMove) (limit : Limit) → Leaves s events report released schedule → LeavesAt s events limit other rest → ⊥
+leaves_or_stops {V} s events report other released rest schedule limit a b = whole_or_stops s (opening V) a.world b.there b.world events b.before b.after b.event a.lines other limit (opening_sound s) refl b.events_are a.performs b.performs b.stops
+
+pub stops_leave_one : {V : Type 0} (s : Setting V) (events : List Event) (report other : List ℕ) (released rest : List Packet) (limit second : Limit) → LeavesAt s events limit report released → LeavesAt s events second other rest → (limit ≡ second) × (report ≡ other) × (released ≡ rest)
+stops_leave_one {V} s events report other released rest limit second a b =
+    let r = stops_once s (opening V) a.there b.there a.world b.world a.before a.after b.before b.after a.event b.event report other limit second (opening_sound s) refl (sym a.events_are ∙ b.events_are) a.performs a.stops b.performs b.stops in
+    (r.limit_is, r.lines_are, a.released_is ∙ (ap (λ (z : World V). packets_of z.released) r.world_is ∙ sym b.released_is))

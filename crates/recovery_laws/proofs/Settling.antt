@@ -23,6 +23,7 @@ use Rattle.plain_machine.proofs.Histories.{history_log, did_emission, earlier_hi
 use Rattle.plain_machine.proofs.Agreement.{histories_agree}
 use Rattle.line_order.specs.Line.{GoesQuietly, IsLed}
 use Rattle.line_order.proofs.Runs.{entry_thread}
+use Rattle.line_order.proofs.Hands.{taken_within, all_taken}
 use Rattle.line_order.proofs.Again.{sends_at, quiet_later}
 use Rattle.recovery_world.specs.declared.event.Event.{Event}
 use Rattle.recovery_world.specs.declared.event.Event.TheVariants as event
@@ -381,7 +382,7 @@ outs_do {V} s w new events h all none each (DoesMore {events = before} {mid = mi
 -- The end
 
 -- the number of an output is at most the count of its thread
-number_high : {V : Type 0} (m : Meaning V) (inputs : ℕ → List Packet) (threads : ℕ) (steps : List (Step V)) (o : Emission) (n : ℕ) → IsHistory m inputs threads steps → SendsAfter steps o n → o.number ≤ outputs o.thread (sent_of steps)
+pub number_high : {V : Type 0} (m : Meaning V) (inputs : ℕ → List Packet) (threads : ℕ) (steps : List (Step V)) (o : Emission) (n : ℕ) → IsHistory m inputs threads steps → SendsAfter steps o n → o.number ≤ outputs o.thread (sent_of steps)
 number_high {V} m inputs threads steps o n h sends = go (sends_at steps o n sends)
   where
     go : (y : Step V) × (earlier : List (Step V)) × IsEarlier (y ∷ earlier) steps × (y.act ≡ Emitted o) × (entries o.thread (log_of earlier) ≡ n) → o.number ≤ outputs o.thread (sent_of steps)
@@ -498,7 +499,11 @@ module _ {V : Type 0} (s : Setting V) (w new : World V) (h : Sound s w) (r : Set
   pub settled : (steps : List (Step V)) → IsFinish s new steps → IsSettled s new steps
   settled steps f = record {
     ended = λ t low. subst (λ (p : List (Step V)). (thread_after p t).hand ≡ None) (sym same) (past_hand t low);
-    taken = λ t low. subst (λ (p : List (Step V)). slice_get (all_inputs s t) (thread_after p t).taken ≡ None) (sym same) (past_input t low);
+    taken = λ t low.
+        let none : slice_get (all_inputs s t) (thread_after steps t).taken ≡ None = subst (λ (p : List (Step V)). slice_get (all_inputs s t) (thread_after p t).taken ≡ None) (sym same) (past_input t low) in
+        let a = all_taken (all_inputs s t) (thread_after steps t).taken none in
+        let b = taken_within s.meaning (all_inputs s) s.threads steps f.history t in
+        omega (arith, a, b);
     released = λ o sends. all_released o (subst (λ (p : List (Step V)). SendsAfter p o.emission o.after) same sends);
     only = ends.emits;
     once = ends.once;

@@ -10,6 +10,8 @@ use Rattle.plain_machine.specs.History.{Act, Took, Did, Emitted, Ended, Step, lo
 use Rattle.plain_machine.specs.Agree.{SendsAfter}
 use Rattle.plain_machine.proofs.Histories.{history_log}
 use Rattle.recovery_world.specs.World.{Setting, Sent, World, inputs_fed, all_inputs}
+use Rattle.line_order.specs.Line.{GoesBefore}
+use Rattle.line_order.proofs.Heavier.{not_next}
 use Rattle.line_order.proofs.Runs.{entry_thread}
 use Rattle.line_order.proofs.Arranging.{apart, next_past}
 use Rattle.recovery_world.specs.declared.event.Outcome.{Outcome}
@@ -158,3 +160,25 @@ to_come_thread s w h f come =
 pub followed_moves : {V : Type 0} (s : Setting V) (w : World V) (f : Entry) → Sound s w → IsToCome w f → ((g : Entry) → IsToCome w g → IsNext g f → ⊥) → w.up ≡ true
     → (given : Option ℕ) (to : Outcome) (new : World V) → OnStep s w f.thread given to new → MakesMove s w f.thread given to new
 followed_moves s w f h come first up given to new on = never_stuck s w h.firm f come first up (to_come_thread s w h f come) given to new on
+
+-- The first entry to come by weight, then thread, has none to come as an immediate predecessor; so its thread makes a move.
+pub lightest_moves : {V : Type 0} (s : Setting V) (w : World V) (line : List (Step V)) (f : Entry) → Sound s w → IsLine s w line → IsToCome w f
+    → ((g : Entry) → IsToCome w g → (g ≡ f) ⊎ GoesBefore (log_of line) f g) → w.up ≡ true
+    → (given : Option ℕ) (to : Outcome) (new : World V) → OnStep s w f.thread given to new → MakesMove s w f.thread given to new
+lightest_moves s w line f h l come lightest up given to new on = followed_moves s w f h come first up given to new on
+  where
+    good : IsLog (log_of line)
+    good = history_log s.meaning (all_inputs s) s.threads line l.history
+
+    in_line : (g : Entry) → IsToCome w g → IsIn g (log_of line)
+    in_line g c = of_line s w h.firm line l g (in_left g h.firm.more (log_of w.past) ((h.firm.to_come g).1 c))
+
+    low : (g : Entry) → IsIn g (log_of line) → g.thread < s.threads
+    low g i = entry_thread s.meaning (all_inputs s) s.threads line g l.history i
+
+    first : (g : Entry) → IsToCome w g → IsNext g f → ⊥
+    first g c n = go (lightest g c)
+      where
+        go : (g ≡ f) ⊎ GoesBefore (log_of line) f g → ⊥
+        go (inl same) = not_precedes_itself (log_of line) f good (AtOnce (in_line f come) (in_line f come) (subst (λ (z : Entry). IsNext z f) same n))
+        go (inr before) = not_next s.threads (log_of line) good low g f (in_line g c) (in_line f come) before n

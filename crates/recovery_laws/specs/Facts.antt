@@ -1,7 +1,11 @@
 -- What every world keeps, part by part.
 use Rattle.std.specs.Prelude.{◌≡◌, ℕ, ◌+◌, ◌≤◌, ◌⊎◌, false, List, Some, None}
+use Rattle.entry_order.specs.declared.what.What.{What}
+use Rattle.entry_order.specs.declared.what.What.TheVariants as what
 use Rattle.entry_order.specs.Log.{Entry, entries, IsIn, Keeps, PrecedesOutput}
 use Rattle.entry_order.specs.Closed.{IsClosedOver}
+use Rattle.plain_machine.specs.declared.local.Move.{Move}
+use Rattle.plain_machine.specs.declared.local.Move.TheVariants.{Access, Read, Clock, Draw, Emit, End}
 use Rattle.plain_machine.specs.History.{Step, log_of}
 use Rattle.plain_machine.specs.Agree.{IsEarlier, SendsAfter}
 use Rattle.recovery_world.specs.World.{Sent, World}
@@ -35,3 +39,12 @@ pub record WaitingStands {V : Type 0} (w : World V) : Type 0 where
   pub sent : (o : Sent) → IsAmong o w.waiting → SendsAfter w.past o.emission o.after
   pub not_due : (o : Sent) → IsAmong o w.waiting → MayGo w o → ⊥
   pub once : (t j : ℕ) → times t j w.released + times t j w.waiting ≤ 1
+
+-- What the move logs is of this kind; a move that is not logged logs nothing.
+abbrev pub IsKindOf : Move → What → Type 0
+IsKindOf (Access v) w = (place : ℕ) × (w ≡ what.Access v place)
+IsKindOf (Read v) w = (after : ℕ) × (w ≡ what.Read v after)
+IsKindOf Clock w = (a : ℕ) × (w ≡ what.Clock a)
+IsKindOf Draw w = (a : ℕ) × (w ≡ what.Draw a)
+IsKindOf Emit w = Unit {0}
+IsKindOf End w = Unit {0}

@@ -24,7 +24,8 @@ pub record IsSame (u : FractionUnit) (p : Packet) (v : FractionUnit) (q : Packet
 -- so many of the packets, and of the emissions, are the same as this packet
 abbrev pub IsPacketCount : FractionUnit → Packet → List Packet → ℕ → Type 0
 IsPacketCount u p [] n = n ≡ 0
-IsPacketCount u p (q ∷ packets) n = (IsSame u p u q × (k : ℕ) × (n ≡ k + 1) × IsPacketCount u p packets k) ⊎ ((IsSame u p u q → ⊥) × IsPacketCount u p packets n)
+IsPacketCount u p (q ∷ packets) n =
+    (IsSame u p u q × (k : ℕ) × (n ≡ k + 1) × IsPacketCount u p packets k) ⊎ ((IsSame u p u q → ⊥) × IsPacketCount u p packets n)
 
 abbrev pub IsEmissionCount : FractionUnit → Packet → FractionUnit → List Emission → ℕ → Type 0
 IsEmissionCount u p v [] n = n ≡ 0

@@ -1,4 +1,5 @@
 use Rattle.line_order.proofs.Runs.{history_more, entry_thread}
+use Rattle.line_order.proofs.Hands.{hand_input, taken_within}
 use Rattle.line_order.proofs.runs_are_kept.Goals as goal
 
 pub returns-clause-more_inputs : goal.returns-clause-more_inputs
@@ -6,3 +7,9 @@ returns-clause-more_inputs g c = history_more
 
 pub returns-clause-of_threads : goal.returns-clause-of_threads
 returns-clause-of_threads g c = entry_thread
+
+pub returns-clause-taken : goal.returns-clause-taken
+returns-clause-taken g c = taken_within
+
+pub returns-clause-in_hand : goal.returns-clause-in_hand
+returns-clause-in_hand g c = hand_input

@@ -1,4 +1,5 @@
-use Rattle.recovery_laws.proofs.Scripts.{any_one, any_within, stops_one, stops_not, leaves_one}
+use Rattle.recovery_laws.proofs.Happening.{on_there}
+use Rattle.recovery_laws.proofs.Scripts.{any_one, any_within, stops_one, stops_not, leaves_one, leaves_or_stops, stops_leave_one}
 use Rattle.recovery_laws.proofs.scripts_come_to_one_thing.Goals as goal
 
 pub returns-clause-performed : goal.returns-clause-performed
@@ -16,3 +17,12 @@ returns-clause-within g c = any_within
 
 pub returns-clause-files : goal.returns-clause-files
 returns-clause-files g c = leaves_one
+
+pub returns-clause-files_at_a_stop : goal.returns-clause-files_at_a_stop
+returns-clause-files_at_a_stop g c = stops_leave_one
+
+pub returns-clause-whole_or_stopped : goal.returns-clause-whole_or_stopped
+returns-clause-whole_or_stopped g c = leaves_or_stops
+
+pub returns-clause-something : goal.returns-clause-something
+returns-clause-something g c = λ s w ev h. on_there s w h ev

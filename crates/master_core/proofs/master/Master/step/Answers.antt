@@ -2,7 +2,8 @@ use Rattle.std.proofs.Common.{rules, arith, ◌≡◌, ap, ◌∙◌, sym, subst
 use Rattle.std.specs.Prelude.{slice_index_or, option_copied}
 use Rattle.plain_text.specs.declared.packet.Packet.{Packet}
 use Rattle.master_core.specs.declared.parts.ThreadPart.{ThreadPart}
-use Rattle.master_core.specs.Mastered.{Mastered, IsBounded, has_hand}
+use Rattle.master_core.specs.Mastered.{Mastered, IsBounded, place_in_hand}
+use Rattle.box_program.specs.Hands.{has_hand}
 use Rattle.master_core.specs.Standing.{IsThread}
 use Rattle.master_core.specs.Effects.{Played, DoneTake, fresh_var}
 use Rattle.master_core.proofs.Following.{take_follows}
@@ -12,7 +13,7 @@ use Rattle.master_core.proofs.master.Master.step.Goals as goal
 pub unwrap-packet-requires : goal.unwrap-packet-requires
 unwrap-packet-requires g c =
     let low : c.args.thread < length c.args.self.now.threads = c.requires.thread_in in
-    let has : has_hand c.args.self.now c.args.thread ≡ true = hand_is c.args.self.now c.args.thread c.index.result.now c.in-Some.place c.requires.thread_in (search rules) c.in-Some.is in
+    let has : has_hand (place_in_hand c.args.self.now c.args.thread) ≡ true = hand_is c.args.self.now c.args.thread c.index.result.now c.in-Some.place c.requires.thread_in (search rules) c.in-Some.is in
     c.requires.input has
 
 -- with a packet in hand
@@ -37,7 +38,7 @@ returns g c =
     let part = c.index.result.now in
     let x = fresh_var m 0 in
     let part_is : part ≡ slice_index_or p.threads t part = search rules in
-    let has : has_hand p t ≡ true = hand_is p t part place c.requires.thread_in part_is c.in-Some.is in
+    let has : has_hand (place_in_hand p t) ≡ true = hand_is p t part place c.requires.thread_in part_is c.in-Some.is in
     let is_packet : option_copied c.args.input ≡ Some packet = search rules in
     let all = answered g c in
     record {
@@ -89,5 +90,5 @@ pub returns-in_default-clause-falls : goal.returns-in_default-clause-falls
 returns-in_default-clause-falls g c h one =
     let part = c.index.result.now in
     let none : part.hand ≡ None = search rules in
-    let has : has_hand c.args.self.now c.args.thread ≡ false = no_hand c.args.self.now c.args.thread part c.requires.thread_in (search rules) none in
+    let has : has_hand (place_in_hand c.args.self.now c.args.thread) ≡ false = no_hand c.args.self.now c.args.thread part c.requires.thread_in (search rules) none in
     absurd (let no : true ≡ false = sym h ∙ has in cc)

@@ -1,0 +1,3 @@
+pub mod Firsts
+pub mod Awaiting
+pub mod Counting

@@ -1,0 +1,226 @@
+ghost use Rattle.std.specs.Prelude.{◌≡◌, IfOk};
+ghost use Rattle.slow_world.specs.Mirror.{WorldFits};
+
+use crate::many::wake;
+use box_program::Program;
+use entry_order::{LogEntry, What, contains, weight};
+use plain_machine::PlainMove;
+use plain_text::NoMemory;
+use slow_history::{Made, MadeStep, SentOut, count_outputs, log_of};
+use slow_world::{Setup, SlowWorld, Wish, next_wish};
+use std::alloc::Global;
+
+/// The most moves of a finish.
+const MOST: u64 = 1 << 30;
+
+/// What a move was told.
+fn answer_of<V>(made: &Made<V>) -> Option<u64> {
+    match made {
+        Made::Did(entry, _) => match entry.what {
+            What::Clock(value) | What::Draw(value) => Some(value),
+            _ => None,
+        },
+        _ => None,
+    }
+}
+
+/// The moves of a history, oldest first.
+fn moves_made<V>(alloc: Global, steps: &[MadeStep<V>]) -> Result<Vec<PlainMove>, NoMemory> {
+    match steps {
+        [] => Ok(Vec::new(alloc)),
+        [step, rest @ ..] => {
+            let mut moves = moves_made(alloc, rest)?;
+            moves.push(PlainMove {
+                thread: step.thread,
+                answer: answer_of(&step.made),
+            })?;
+            Ok(moves)
+        }
+    }
+}
+
+/// One move of the thread, on what was fed; whether it made one.
+fn goes_on<P: Program>(
+    world: &mut SlowWorld<P::Value>,
+    alloc: Global,
+    program: &P,
+    setup: &Setup,
+    thread: u32,
+) -> Result<bool, NoMemory>
+    requires { WorldFits (P.fits program.now) world.old }
+    ensures { IfOk result (λ _. WorldFits (P.fits program.now) world.new) }
+{
+    if thread >= setup.threads {
+        return Ok(false);
+    }
+    match next_wish(alloc, program, setup, world, thread, None)? {
+        Wish::Makes(step, _) => {
+            world.past.insert(0, step)?;
+            Ok(true)
+        }
+        _ => Ok(false),
+    }
+}
+
+/// An entry to come, and its weight in the line.
+#[derive(Clone, Copy)]
+struct ToCome {
+    weight: usize,
+    entry: LogEntry,
+}
+
+/// Whether the first is made before the second: it has less weight, or the same and a lesser thread.
+fn goes_before(first: &ToCome, second: &ToCome) -> bool {
+    first.weight < second.weight
+        || (first.weight == second.weight && first.entry.thread < second.entry.thread)
+}
+
+/// The one of two that is made first.
+fn first_of(found: Option<ToCome>, other: ToCome) -> ToCome {
+    match found {
+        Some(first) if goes_before(&first, &other) => first,
+        _ => other,
+    }
+}
+
+/// Of the followed entries that the log has not yet, the one that is made first.
+fn first_to_come(
+    alloc: Global,
+    line: &[LogEntry],
+    log: &[LogEntry],
+    followed: &[LogEntry],
+) -> Result<Option<ToCome>, NoMemory> {
+    match followed {
+        [] => Ok(None),
+        [entry, rest @ ..] => {
+            let found = first_to_come(alloc, line, log, rest)?;
+            if contains(log, entry) {
+                return Ok(found);
+            }
+            let own = ToCome {
+                weight: weight(alloc, line, entry)?,
+                entry: *entry,
+            };
+            Ok(Some(first_of(found, own)))
+        }
+    }
+}
+
+/// The followed entry that the line makes next, if one is to come.
+fn next_to_come<V>(world: &SlowWorld<V>, alloc: Global) -> Result<Option<LogEntry>, NoMemory> {
+    let log = log_of(alloc, &world.past)?;
+    let mut line = Vec::from_slice(alloc, &world.followed)?;
+    line.extend_from_slice(&log)?;
+    let found = first_to_come(alloc, &line, &log, &world.followed)?;
+    match found {
+        Some(first) => Ok(Some(first.entry)),
+        None => Ok(None),
+    }
+}
+
+/// The rest of the line: each entry to come, after the moves that lead to it; whether it did not get stuck.
+fn follow<P: Program>(
+    world: &mut SlowWorld<P::Value>,
+    alloc: Global,
+    program: &P,
+    setup: &Setup,
+    most: u64,
+) -> Result<bool, NoMemory>
+    requires { WorldFits (P.fits program.now) world.old }
+    ensures { IfOk result (λ _. WorldFits (P.fits program.now) world.new) }
+{
+    if most == 0 {
+        return Err(NoMemory);
+    }
+    let Some(entry) = next_to_come(world, alloc)? else {
+        return Ok(true);
+    };
+    if goes_on(world, alloc, program, setup, entry.thread)? {
+        return follow(world, alloc, program, setup, most - 1);
+    }
+    Ok(false)
+}
+
+/// The greatest number of a released output of the thread, or 0.
+fn greatest(thread: u32, released: &[SentOut]) -> u64 {
+    match released {
+        [] => 0,
+        [output, rest @ ..] => {
+            let others = greatest(thread, rest);
+            if output.emission.thread == thread {
+                output.emission.number.max(others)
+            } else {
+                others
+            }
+        }
+    }
+}
+
+/// The thread goes on while it sent out fewer than so many packets; whether it did not get stuck.
+fn send_out<P: Program>(
+    world: &mut SlowWorld<P::Value>,
+    alloc: Global,
+    program: &P,
+    setup: &Setup,
+    thread: u32,
+    outputs: u64,
+    most: u64,
+) -> Result<bool, NoMemory>
+    requires { WorldFits (P.fits program.now) world.old }
+    ensures { IfOk result (λ _. WorldFits (P.fits program.now) world.new) }
+{
+    if most == 0 {
+        return Err(NoMemory);
+    }
+    if outputs <= count_outputs(thread, &world.past) {
+        return Ok(true);
+    }
+    if goes_on(world, alloc, program, setup, thread)? {
+        return send_out(world, alloc, program, setup, thread, outputs, most - 1);
+    }
+    Ok(false)
+}
+
+/// Each of the first threads goes on to its greatest released output; whether none got stuck.
+fn all_send_out<P: Program>(
+    world: &mut SlowWorld<P::Value>,
+    alloc: Global,
+    program: &P,
+    setup: &Setup,
+    threads: u32,
+) -> Result<bool, NoMemory>
+    requires { WorldFits (P.fits program.now) world.old }
+    ensures { IfOk result (λ _. WorldFits (P.fits program.now) world.new) }
+{
+    if threads == 0 {
+        return Ok(true);
+    }
+    if !all_send_out(world, alloc, program, setup, threads - 1)? {
+        return Ok(false);
+    }
+    let outputs = greatest(threads - 1, &world.released);
+    send_out(world, alloc, program, setup, threads - 1, outputs, MOST)
+}
+
+/// The schedule of the run in which this world ends, oldest move first. None where it gets stuck.
+///
+/// The world goes on to the end of that run. It answers `NoMemory` too where that takes more than 2 to the 30 moves.
+pub fn finish<P: Program>(
+    world: &mut SlowWorld<P::Value>,
+    alloc: Global,
+    program: &P,
+    setup: &Setup,
+) -> Result<Option<Vec<PlainMove>>, NoMemory>
+    requires { WorldFits (P.fits program.now) world.old }
+    ensures { IfOk result (λ _. WorldFits (P.fits program.now) world.new) }
+{
+    wake(world, alloc, program)?;
+    world.fed = setup.packets.len();
+    if !follow(world, alloc, program, setup, MOST)? {
+        return Ok(None);
+    }
+    if !all_send_out(world, alloc, program, setup, setup.threads)? {
+        return Ok(None);
+    }
+    Ok(Some(moves_made(alloc, &world.past)?))
+}
