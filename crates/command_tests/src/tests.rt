@@ -340,7 +340,7 @@ const LEFT: [(Option<&[u8]>, Option<&[u8]>); 6] = [
     (Some(WRITTEN_HEADER), None),
     (Some(WRITTEN_HEADER), Some(b"")),
     (Some(ONE_RELEASED), Some(b"")),
-    (Some(ONE_RELEASED), ONE.schedule),
+    (Some(ONE_RELEASED), Some(b"0\n0\n0\n0\n")),
 ];
 
 /// The first of the writes of a run that fails, and does not come to a write fault with what is to be left.

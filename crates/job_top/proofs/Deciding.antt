@@ -11,7 +11,8 @@ use Rattle.pcap_io.specs.declared.fault.CaptureFault.{CaptureFault}
 use Rattle.pcap_io.specs.Captured.{Says, IsDecided as IsDecidedCapture}
 use Rattle.pcap_io.proofs.Verdicts.{one_answer}
 use Rattle.box_conf.specs.declared.kind.BoxConf.{BoxConf}
-use Rattle.box_conf.specs.BoxFile.{box_of}
+use Rattle.box_conf.specs.Reading.{box_of}
+use Rattle.box_conf.proofs.OneFile.{box_is_read, fault_is_read}
 use Rattle.world_io.specs.World.{Shown}
 use Rattle.job_top.specs.declared.errors.InputError.{InputError}
 use Rattle.job_top.specs.declared.errors.InputError.TheVariants as error
@@ -80,8 +81,8 @@ module _ (healthy : Type 0) (name : List ℕ) (shown : Shown) where
   beyond large answer bytes high = rw (many bytes high) refl
 
   box_is : (r : Result BoxConf (InputError LineFault)) → FilesDecide healthy r → JudgesBox healthy name r shown → r ≡ box_answer (shown.names name)
-  box_is (Ok conf) d h = rw (h.1.0, h.2) (within (error.TooLarge File) (Ok conf) h.0 h.1.1)
-  box_is (Err (error.Fault fault)) d h = rw (h.1.0, h.2) (within (error.TooLarge File) (Err (error.Fault fault)) h.0 h.1.1)
+  box_is (Ok conf) d h = rw (h.1.0, box_is_read h.0 conf h.2) (within (error.TooLarge File) (Ok conf) h.0 h.1.1)
+  box_is (Err (error.Fault fault)) d h = rw (h.1.0, fault_is_read h.0 fault h.2) (within (error.TooLarge File) (Err (error.Fault fault)) h.0 h.1.1)
   box_is (Err (error.TooLarge limit)) d h = rw (h.0, h.1.1) (beyond (error.TooLarge File) (box_said (box_of h.1.0)) h.1.0 h.1.2)
   box_is (Err error.ReadFault) d h = rw (h d) refl
   box_is (Err error.NoMemory) d h = absurd d

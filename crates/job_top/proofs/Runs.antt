@@ -9,10 +9,10 @@ use Rattle.job_top.specs.declared.inputs.Inputs.{Inputs}
 use Rattle.job_top.specs.declared.status.Status.TheVariants as status
 use Rattle.job_top.specs.Files.{KeepsOutputs, HasPrefix}
 use Rattle.job_top.specs.Judging.{Judges, AcceptsInputs}
-use Rattle.job_top.specs.Kinds.{meaning_of}
+use Rattle.box_conf.specs.Kinds.{meaning_of}
 use Rattle.job_top.specs.Outputs.{Output, released_of, HasHeader, WritesInOrder, WritesWhole}
 use Rattle.job_top.specs.Run.{KeepsShown, GivesWhole, GivesInOrder, RunsWhole, RunsInOrder}
-use Rattle.job_top.specs.Status.{outcome_of}
+use Rattle.job_top.specs.Status.{AtInputs, stage_of, outcome_of}
 use Rattle.job_top.specs.Words.{RunNames}
 
 module _ (names : RunNames) (old mid new : Shown) (kept : KeepsOutputs old mid) where
@@ -73,3 +73,9 @@ pub done_whole : {A P : Type 0} (written : Result A OutputError) → outcome_of 
 done_whole (Ok done) e p = p
 done_whole (Err WriteFault) e p = absurd (cc)
 done_whole (Err NoMemory) e p = absurd (cc)
+
+-- an outcome is none of the inputs
+pub not_at_inputs : {A : Type 0} (written : Result A OutputError) → stage_of (outcome_of written) ≡ AtInputs → ⊥
+not_at_inputs (Ok done) e = cc
+not_at_inputs (Err WriteFault) e = cc
+not_at_inputs (Err NoMemory) e = cc

@@ -44,7 +44,7 @@ module _ (healthy later : Type 0) (stays : healthy → later) (names : RunNames)
   is_missing name h = named name ∙ h
 
   pub accepts_capture : (name : List ℕ) (capture : Capture) → AcceptsCapture name capture b → AcceptsCapture name capture a
-  accepts_capture name capture h = (h.0, has_bytes name h.0 h.1, h.2)
+  accepts_capture name capture h = (h.0, has_bytes name h.0 h.1, h.2, h.3)
 
   pub reads_script : (name : List ℕ) (settle : Bool) → ReadsScript name settle b → ReadsScript name settle a
   reads_script name settle h = (h.0, has_bytes name h.0 h.1, h.2)

@@ -1,26 +1,28 @@
 -- The input files of a run, and what each comes to.
-use Rattle.std.specs.Prelude.{◌≡◌, ℕ, ◌≤◌, All, Bool, List, length, Ok, Err}
+use Rattle.std.specs.Prelude.{◌≡◌, ℕ, All, Bool, List}
+use Rattle.plain_text.specs.Octets.{IsOfBytes}
 use Rattle.plain_text.specs.declared.fault.LineFault.{LineFault}
 use Rattle.plain_text.specs.declared.limit.Limit.{Limit}
 use Rattle.pcap_io.specs.declared.capture.Captured.TheVariants as captured
 use Rattle.pcap_io.specs.declared.fault.CaptureFault.{CaptureFault}
 use Rattle.pcap_io.specs.Captured.{IsCaptureWithin, Says}
 use Rattle.box_conf.specs.declared.kind.BoxConf.{BoxConf}
-use Rattle.box_conf.specs.BoxFile.{box_of}
+use Rattle.box_conf.specs.BoxFile.{IsBoxFile, FirstFault}
 use Rattle.world_io.specs.World.{Shown}
 use Rattle.job_top.specs.declared.inputs.Capture.{Capture}
 use Rattle.job_top.specs.Files.{HasBytes}
 use Rattle.job_top.specs.Script.{is_settle}
 
 abbrev pub AcceptsBox : List ℕ → BoxConf → Shown → Type 0
-AcceptsBox name conf shown = (bytes : List ℕ) × HasBytes name shown bytes × (box_of bytes ≡ Ok conf)
+AcceptsBox name conf shown = (bytes : List ℕ) × HasBytes name shown bytes × IsBoxFile bytes conf
 
 abbrev pub FaultsBox : List ℕ → LineFault → Shown → Type 0
-FaultsBox name fault shown = (bytes : List ℕ) × HasBytes name shown bytes × (box_of bytes ≡ Err fault)
+FaultsBox name fault shown = (bytes : List ℕ) × HasBytes name shown bytes × FirstFault bytes fault.line fault.cause
 
+-- the capture was read: it is one of these packets, which are of bytes
 abbrev pub AcceptsCapture : List ℕ → Capture → Shown → Type 0
 AcceptsCapture name capture shown =
-    (bytes : List ℕ) × HasBytes name shown bytes × IsCaptureWithin bytes capture.unit capture.packets
+    (bytes : List ℕ) × HasBytes name shown bytes × IsCaptureWithin bytes capture.unit capture.packets × All IsOfBytes capture.packets
 
 abbrev pub FaultsCapture : List ℕ → CaptureFault → Shown → Type 0
 FaultsCapture name fault shown = (bytes : List ℕ) × HasBytes name shown bytes × Says bytes (captured.Refused fault)

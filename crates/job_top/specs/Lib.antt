@@ -3,7 +3,6 @@ pub mod Faults
 pub mod Files
 pub mod Inputs
 pub mod Judging
-pub mod Kinds
 pub mod Making
 pub mod Outputs
 pub mod Progress

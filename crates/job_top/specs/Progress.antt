@@ -13,15 +13,15 @@ use Rattle.master_core.specs.Mastered.{Mastered, place_in_hand}
 use Rattle.master_core.specs.Standing.{Stands}
 use Rattle.job_top.specs.Running.{packets_of, inputs_on, moves_for, moves_on, moves_in_turn, HasPlayed}
 
--- So many moves of a packet were made, and this is its thread after them, which took so many inputs before it. With those that
--- were sent out before it, so many packets were sent out.
+-- This number of moves of a packet was made, and this is its thread after them. Before it the thread took `before` inputs; with
+-- the packets before it, `sent` were sent out.
 pub data HasCome {V : Type 0} (m : Meaning V) (packet : Packet) (before at made sent : ℕ) (th : Thread) : Type 0 where
   NotYet : made ≡ 0 → th.taken ≡ before → th.hand ≡ None → sent ≡ at → HasCome m packet before at made sent th
   Holds : (h : Hand) → th.hand ≡ Some h → h.packet ≡ packet → th.taken ≡ before + 1 → 1 ≤ made → m.rank h.place + made ≡ m.rank (m.begin packet) + 1
       → (1 ≤ m.rank h.place → sent ≡ at) → (m.rank h.place ≡ 0 → sent ≡ at + 1) → HasCome m packet before at made sent th
   Ended : made ≡ moves_for m packet → th.taken ≡ before + 1 → th.hand ≡ None → sent ≡ at + 1 → HasCome m packet before at made sent th
 
--- The packets before this place were played to their ends, and then so many moves of the packet there were made. The moves led
+-- The packets before this place were played to their ends, and then this number of moves of the packet there was made. The moves led
 -- to this history, and sent these packets out.
 pub record HasProgressed {V : Type 0} (m : Meaning V) (threads : ℕ) (packets : List Packet) (at : ℕ) (packet : Packet) (made : ℕ) (moves : List PlainMove) (sent : List Packet) (steps : List (Step V)) : Type 0 where
   pub in_turn : moves ≡ moves_in_turn m threads (take at packets) ++ moves_on threads packet made
@@ -37,7 +37,7 @@ pub record Played {V : Type 0} (m : Meaning V) (threads : ℕ) (packets : List P
   pub played : HasPlayed m threads packets count moves sent steps
   pub stands : Stands m threads steps master
 
--- the master stands where so many moves of the packet were made
+-- the master stands where this number of moves of the packet was made
 pub record Made {V : Type 0} (m : Meaning V) (threads : ℕ) (packets : List Packet) (at : ℕ) (packet : Packet) (made : ℕ) (moves : List PlainMove) (sent : List Packet) (master : Mastered V) : Type 0 where
   pub steps : List (Step V)
   pub progress : HasProgressed m threads packets at packet made moves sent steps

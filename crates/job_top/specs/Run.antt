@@ -9,7 +9,7 @@ use Rattle.plain_player.specs.ScheduleText.{schedule_text}
 use Rattle.world_io.specs.World.{Shown}
 use Rattle.job_top.specs.declared.inputs.Inputs.{Inputs}
 use Rattle.job_top.specs.Judging.{AcceptsInputs}
-use Rattle.job_top.specs.Kinds.{meaning_of}
+use Rattle.box_conf.specs.Kinds.{meaning_of}
 use Rattle.plain_text.specs.declared.limit.TheConstants.{MOST_PACKETS}
 use Rattle.job_top.specs.Outputs.{Output, WritesInOrder, WritesWhole}
 use Rattle.job_top.specs.Report.{report_text}

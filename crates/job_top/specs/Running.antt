@@ -28,7 +28,7 @@ IsShort p = length p.bytes ≤ 262144
 abbrev pub packets_of : List Emission → List Packet
 packets_of sent = map (λ emission. emission.packet) sent
 
--- the inputs of each of so many threads: of these packets, those that are steered to it
+-- the inputs of each thread: of these packets, those that are steered to it
 abbrev pub inputs_on : ℕ → List Packet → ℕ → List Packet
 inputs_on threads packets t = inputs_of (record { threads = threads; packets = packets }) t
 
@@ -36,7 +36,7 @@ inputs_on threads packets t = inputs_of (record { threads = threads; packets = p
 abbrev pub moves_for : {V : Type 0} → Meaning V → Packet → ℕ
 moves_for m p = m.rank (m.begin p) + 2
 
--- so many moves of a packet's thread
+-- this number of moves of a packet's thread
 abbrev pub moves_on : ℕ → Packet → ℕ → List PlainMove
 moves_on threads p count = replicate count (record { thread = thread_of p threads; answer = None })
 
@@ -44,7 +44,7 @@ moves_on threads p count = replicate count (record { thread = thread_of p thread
 abbrev pub moves_in_turn : {V : Type 0} → Meaning V → ℕ → List Packet → List PlainMove
 moves_in_turn m threads packets = flat_map (λ p. moves_on threads p (moves_for m p)) packets
 
--- The first packets, so many, were played one after another to their ends: the moves are those of the packets in turn. They are a
+-- The first `count` packets were played one after another to their ends: the moves are those of the packets in turn. They are a
 -- legal list on the inputs of all packets, which sent these packets out, one for each of the first, and after which each thread
 -- has taken its inputs among the first and has none in hand.
 pub record HasPlayed {V : Type 0} (m : Meaning V) (threads : ℕ) (packets : List Packet) (count : ℕ) (moves : List PlainMove) (sent : List Packet) (steps : List (Step V)) : Type 0 where

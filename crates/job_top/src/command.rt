@@ -13,7 +13,8 @@ pub enum Command<'a> {
 
 /// The command that the words ask for. None where they are no command's.
 pub fn read_command(words: &[Text]) -> Option<Command<'_>>
-    ensures { MatchOption result (asked words.now ≡ None) (λ command. asked words.now ≡ Some (asked_of command)) }
+    ensures { MatchOption result (asked words.now ≡ None)
+        (λ command. asked words.now ≡ Some (asked_of command)) }
 {
     if let Some(names) = read_run_words(words) {
         return Some(Command::Run(names));

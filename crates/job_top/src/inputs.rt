@@ -3,10 +3,11 @@ ghost use Rattle.world_io.specs.Stream.{Rose};
 ghost use Rattle.job_top.specs.Files.{KeepsOutputs, AfterReading};
 ghost use Rattle.job_top.specs.Judging.{JudgesBox, JudgesCapture, JudgesScript};
 ghost use Rattle.plain_text.specs.declared.limit.TheConstants.{MOST_PACKETS};
+ghost use Rattle.plain_text.specs.Octets.{IsOfBytes};
 ghost use Rattle.job_top.specs.Running.{IsShort};
 
 use crate::{InputError, is_settle, read_file};
-use box_conf::{BoxConf, ConfError, read_box};
+use box_conf::{BoxConf, read_box};
 use pcap_io::{CaptureFault, Captured, read_capture};
 use plain_text::{LineFault, Packets, Text, Unit};
 use std::alloc::Global;
@@ -43,10 +44,9 @@ pub fn read_box_file<W: World>(
     ensures stays_healthy { W.healthy world.old → W.healthy world.new }
 {
     let bytes = read_file(alloc, world, name)?;
-    match read_box(alloc, bytes.as_slice()) {
+    match read_box(bytes.as_slice()) {
         Ok(conf) => Ok(conf),
-        Err(ConfError::Fault(fault)) => Err(InputError::Fault(fault)),
-        Err(ConfError::NoMemory) => Err(InputError::NoMemory),
+        Err(fault) => Err(InputError::Fault(fault)),
     }
 }
 
@@ -61,6 +61,7 @@ pub fn read_capture_file<W: World>(
         → JudgesCapture (W.healthy world.old) name.now result (W.shown world.old) }
     ensures few { IfOk result (λ capture. length capture.packets ≤ MOST_PACKETS) }
     ensures short { IfOk result (λ capture. All IsShort capture.packets) }
+    ensures bytes { IfOk result (λ capture. All IsOfBytes capture.packets) }
     ensures outputs { IsTrue W.tells → KeepsOutputs (W.shown world.old) (W.shown world.new) }
     ensures ledger { AfterReading (W.ledger world.old) (W.ledger world.new) }
     ensures cause { IsErrOf result InputError.ReadFault

@@ -1,15 +1,17 @@
 //! Laws of the commands. Each is proved, and does nothing: a caller has it by the call.
-ghost use Rattle.std.specs.Prelude.{◌≡◌, ℕ, Bool, IsTrue, Ok, Err};
+ghost use Rattle.std.specs.Prelude.{◌≡◌, ℕ, All, Bool, List, IsTrue, Ok, Err};
+ghost use Rattle.plain_text.specs.Octets.{IsOfBytes};
 ghost use Rattle.plain_text.specs.declared.packet.Packet.{Packet};
 ghost use Rattle.packet_headers.specs.declared.flow.Flow.{Flow};
 ghost use Rattle.packet_headers.specs.declared.flow.NotFlow.{NotFlow};
 ghost use Rattle.packet_headers.specs.View.{viewed};
 ghost use Rattle.box_program.specs.Count.{count_meaning};
 ghost use Rattle.monitor_box.specs.Monitor.{monitor_meaning};
+ghost use Rattle.monitor_box.specs.Standing.{HaveBytes};
 ghost use Rattle.world_io.specs.World.{Shown};
 ghost use Rattle.job_top.specs.declared.status.Status.{Status};
 ghost use Rattle.job_top.specs.Judging.{Judges, IsDecided};
-ghost use Rattle.job_top.specs.Running.{moves_for};
+ghost use Rattle.job_top.specs.Running.{inputs_on, moves_for};
 ghost use Rattle.job_top.specs.Words.{RunNames};
 
 /// The input files decide the status: of those that they decide at most one is true of them. So each comes exactly where it is
@@ -18,6 +20,13 @@ pub fn one_verdict()
     ensures { (healthy : Bool) (names : RunNames) (s r : Status) (shown : Shown)
         → IsDecided (IsTrue healthy) s → IsDecided (IsTrue healthy) r
         → Judges (IsTrue healthy) names s shown → Judges (IsTrue healthy) names r shown → s ≡ r }
+{}
+
+/// Where each packet of a capture is of bytes, as of one that was accepted, so is each input of each thread: what the laws of the
+/// monitor's runs ask for.
+pub fn inputs_are_of_bytes()
+    ensures { (threads : ℕ) (packets : List Packet)
+        → All IsOfBytes packets → HaveBytes (inputs_on threads packets) }
 {}
 
 /// The number of moves that each box makes of a packet: the counting box four, and the monitor five of a flow and four of another

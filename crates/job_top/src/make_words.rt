@@ -1,4 +1,5 @@
 ghost use Rattle.std.specs.Prelude.{◌≡◌, ◌≤◌, IfSome, MatchOption, None, Some};
+ghost use Rattle.plain_text.specs.declared.limit.TheConstants.{MOST_PACKETS};
 ghost use Rattle.job_top.specs.Words.{make_names, made_of};
 
 use plain_text::{MOST_PACKETS, Text, read_u64};
@@ -17,8 +18,9 @@ pub struct MakeWords<'a> {
 /// The numbers and the name of `make SEED N CAPTURE`. None where the words are anything else, SEED or N is no number, or N is above
 /// 65,536.
 pub fn read_make_words(words: &[Text]) -> Option<MakeWords<'_>>
-    ensures names { MatchOption result (make_names words.now ≡ None) (λ names. make_names words.now ≡ Some (made_of names)) }
-    ensures few { IfSome result (λ names. names.count ≤ 65536) }
+    ensures names { MatchOption result (make_names words.now ≡ None)
+        (λ names. make_names words.now ≡ Some (made_of names)) }
+    ensures few { IfSome result (λ names. names.count ≤ MOST_PACKETS) }
 {
     if words.len() != 4 || words[0].as_str() != "make" {
         return None;

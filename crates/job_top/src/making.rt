@@ -8,7 +8,7 @@ ghost use Rattle.job_top.specs.Making.{MakesInOrder, MakesWhole, WritesMade, Wri
 ghost use Rattle.job_top.specs.Outputs.{AfterWriting};
 ghost use Rattle.job_top.specs.Words.{made_of};
 
-use crate::{MakeWords, REPORT, OutputError, append, put_records};
+use crate::{MakeWords, OutputError, REPORT, append, put_records};
 use pcap_io::put_header;
 use plain_text::{Bytes, NoMemory, Text, Unit, put_u64};
 use std::alloc::Global;
@@ -57,11 +57,7 @@ fn make_texts(alloc: Global, words: MakeWords<'_>) -> Result<MadeTexts, NoMemory
 }
 
 /// Creates a capture, writes its header and its records, and then the report.
-fn write_capture<W: World>(
-    world: &mut W,
-    name: &Text,
-    texts: &MadeTexts,
-) -> Result<(), OutputError>
+fn write_capture<W: World>(world: &mut W, name: &Text, texts: &MadeTexts) -> Result<(), OutputError>
     requires room { (W.ledger world.old).given < 2 ^ 32 - 1 }
     ensures whole { IsTrue W.tells → OnOk result
         (WritesMade name.now (made_by texts.now) (W.shown world.old) (W.shown world.new)) }

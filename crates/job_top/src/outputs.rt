@@ -4,7 +4,7 @@ ghost use Rattle.world_io.specs.World.{Shown, KeepsLedgerWriting, is_writable};
 ghost use Rattle.job_top.specs.Outputs.{AfterWriting, OpensOutputs, WritesInOrder, WritesWhole, output_of};
 ghost use Rattle.job_top.specs.Words.{RunNames, names_of};
 
-use crate::{REPORT, RunWords, OutputError, append};
+use crate::{OutputError, REPORT, RunWords, append};
 use plain_text::Bytes;
 use world_io::World;
 
@@ -34,10 +34,13 @@ fn open_outputs<W: World>(
 ) -> Result<OutputFiles, OutputError>
     requires room { (W.ledger world.old).given < 2 ^ 32 - 2 }
     requires apart { names.released.now ≡ names.schedule.now → ⊥ }
-    ensures opened { IsTrue W.tells → IfOk result (λ files. OpensOutputs files (names_of names.entry)
+    ensures opened { IsTrue W.tells
+        → IfOk result (λ files. OpensOutputs files (names_of names.entry)
         (output_of texts.now) (W.shown world.old) (W.shown world.new)) }
-    ensures released { IfOk result (λ files. IsTrue (is_writable (W.ledger world.new) files.released)) }
-    ensures schedule { IfOk result (λ files. IsTrue (is_writable (W.ledger world.new) files.schedule)) }
+    ensures released { IfOk result
+        (λ files. IsTrue (is_writable (W.ledger world.new) files.released)) }
+    ensures schedule { IfOk result
+        (λ files. IsTrue (is_writable (W.ledger world.new) files.schedule)) }
     ensures in_order { IsTrue W.tells → OnErr result (WritesInOrder (names_of names.entry)
         (output_of texts.now) (W.shown world.old) (W.shown world.new)) }
     ensures ledger { AfterWriting (W.ledger world.old) (W.ledger world.new) }

@@ -6,7 +6,7 @@ ghost use Rattle.job_top.specs.Running.{IsStraight};
 ghost use Rattle.job_top.specs.Words.{names_of};
 
 use crate::{
-    Inputs, RunTexts, RunWords, OutputError, play_packets, put_records, put_report, write_outputs,
+    Inputs, OutputError, RunTexts, RunWords, play_packets, put_records, put_report, write_outputs,
 };
 use box_program::Program;
 use pcap_io::put_header;
@@ -16,11 +16,7 @@ use std::alloc::Global;
 use world_io::World;
 
 /// Plays all packets, and gives the texts of the run.
-fn run_texts<P: Program>(
-    alloc: Global,
-    program: &P,
-    inputs: &Inputs,
-) -> Result<RunTexts, NoMemory>
+fn run_texts<P: Program>(alloc: Global, program: &P, inputs: &Inputs) -> Result<RunTexts, NoMemory>
     requires straight { IsStraight (P.meaning program.now) (P.fits program.now) }
     requires inputs { CanRun inputs.now }
     ensures { IfOk result (λ texts. Gives (P.meaning program.now) inputs.now (output_of texts)) }

@@ -16,7 +16,8 @@ pub struct RunWords<'a> {
 /// The files of `run BOX CAPTURE SCRIPT RELEASED SCHEDULE`. None where the words are anything else, or the two outputs are one
 /// word.
 pub fn read_run_words(words: &[Text]) -> Option<RunWords<'_>>
-    ensures names { MatchOption result (run_names words.now ≡ None) (λ names. run_names words.now ≡ Some (names_of names)) }
+    ensures names { MatchOption result (run_names words.now ≡ None)
+        (λ names. run_names words.now ≡ Some (names_of names)) }
     ensures apart { IfSome result (λ names. names.released.now ≡ names.schedule.now → ⊥) }
 {
     if words.len() != 6 || words[0].as_str() != "run" || words[4].as_str() == words[5].as_str() {

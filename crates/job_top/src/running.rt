@@ -35,7 +35,7 @@ fn sent_by(stepped: Stepped) -> Result<Option<Packet>, NoMemory>
     }
 }
 
-/// Makes one move on a thread, of so many, with the packet at this place, which is steered to it.
+/// Makes one move on a thread with the packet at this place, which is steered to it.
 fn make_move<P: Program>(
     alloc: Global,
     program: &P,
@@ -50,13 +50,17 @@ fn make_move<P: Program>(
     requires few { length packets.now ≤ 65536 }
     requires in_range { at < length packets.now }
     requires below { thread < threads }
-    requires goes { CanMove (P.meaning program.now) threads packets.now at thread run.old.schedule run.old.sent run.old.master }
+    requires goes { CanMove (P.meaning program.now) threads packets.now at thread
+        run.old.schedule run.old.sent run.old.master }
     requires short { All IsShort packets.now }
     requires sent { All IsShort run.old.sent }
-    ensures goes { OnOk result (HasMoved (P.meaning program.now) threads packets.now at thread run.new.schedule run.new.sent run.new.master) }
+    ensures goes { OnOk result (HasMoved (P.meaning program.now) threads packets.now at thread
+        run.new.schedule run.new.sent run.new.master) }
     ensures fits { FitsProgram (P.meaning program.now) (P.fits program.now) value_of run.new.master.vars }
     ensures sent { OnOk result (All IsShort run.new.sent) }
-    ensures falls { IsTrue (has_hand (place_in_hand run.old.master thread)) → OnOk result (moves_left (P.meaning program.now) (place_in_hand run.new.master thread) < moves_left (P.meaning program.now) (place_in_hand run.old.master thread)) }
+    ensures falls { IsTrue (has_hand (place_in_hand run.old.master thread)) → OnOk result
+        (moves_left (P.meaning program.now) (place_in_hand run.new.master thread)
+        < moves_left (P.meaning program.now) (place_in_hand run.old.master thread)) }
 {
     prove!(thread < threads);
     let plain = PlainMove {
@@ -89,10 +93,12 @@ fn play_packet<P: Program>(
     requires in_range { at < length packets.now }
     requires some_threads { 1 ≤ threads }
     requires few_threads { threads ≤ 16 }
-    requires played { Played (P.meaning program.now) threads packets.now at run.old.schedule run.old.sent run.old.master }
+    requires played { Played (P.meaning program.now) threads packets.now at
+        run.old.schedule run.old.sent run.old.master }
     requires short { All IsShort packets.now }
     requires sent { All IsShort run.old.sent }
-    ensures played { OnOk result (Played (P.meaning program.now) threads packets.now (at + 1) run.new.schedule run.new.sent run.new.master) }
+    ensures played { OnOk result (Played (P.meaning program.now) threads packets.now (at + 1)
+        run.new.schedule run.new.sent run.new.master) }
     ensures fits { FitsProgram (P.meaning program.now) (P.fits program.now) value_of run.new.master.vars }
     ensures sent { OnOk result (All IsShort run.new.sent) }
 {
@@ -116,7 +122,8 @@ pub fn play_packets<P: Program>(
     requires few_threads { threads ≤ 16 }
     requires few { length packets.now ≤ 65536 }
     requires short { All IsShort packets.now }
-    ensures settled { IfOk result (λ run. IsSettled (P.meaning program.now) threads packets.now run.schedule run.sent) }
+    ensures settled { IfOk result (λ run. IsSettled (P.meaning program.now) threads packets.now
+        run.schedule run.sent) }
     ensures sent { IfOk result (λ run. All IsShort run.sent) }
 {
     let mut run = Running {

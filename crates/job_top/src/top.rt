@@ -3,7 +3,7 @@ ghost use Rattle.world_io.specs.Stream.{Rose};
 ghost use Rattle.job_top.specs.Commands.{AcceptsInputsOf, Leaves, LeavesInOrder, JudgesInputsOf, KeepsNames};
 ghost use Rattle.job_top.specs.Files.{KeepsOutputs};
 ghost use Rattle.job_top.specs.Judging.{Judges, JudgesInputs};
-ghost use Rattle.job_top.specs.Kinds.{meaning_of};
+ghost use Rattle.box_conf.specs.Kinds.{meaning_of};
 ghost use Rattle.job_top.specs.Outputs.{AfterWriting};
 ghost use Rattle.job_top.specs.Reading.{AfterInputs};
 ghost use Rattle.job_top.specs.Run.{CanRun, GivesInOrder, GivesWhole, KeepsShown, RunsInOrder, RunsWhole};
@@ -11,7 +11,7 @@ ghost use Rattle.job_top.specs.Status.{AtInputs, ComesAt, Completes, stage_of, o
 ghost use Rattle.job_top.specs.Words.{asked, names_of};
 
 use crate::{
-    Command, Inputs, RunWords, Status, OutputError, make_capture, read_box_file, read_capture_file,
+    Command, Inputs, OutputError, RunWords, Status, make_capture, read_box_file, read_capture_file,
     read_command, read_script_file, run_program,
 };
 use box_conf::BoxKind;

@@ -1,8 +1,13 @@
 use Rattle.std.proofs.Common.{rules, ◌≡◌, ◌∙◌, false, true, Err, inl, refl}
 use Rattle.job_top.specs.Status.{of_box_error, of_capture_error, of_script_error}
 use Rattle.job_top.specs.Words.{names_of}
-use Rattle.job_top.proofs.Verdicts.{capture_refused, script_refused, accepts_capture, another, all_accepted, box_stage, capture_stage, script_stage}
+use Rattle.job_top.proofs.Verdicts.{box_refused, capture_refused, script_refused, accepts_capture, another, all_accepted, box_stage, capture_stage, script_stage}
 use Rattle.job_top.proofs.top.read_inputs.Goals as goal
+
+pub returns-in_err-conf-clause-judged : goal.returns-in_err-conf-clause-judged
+returns-in_err-conf-clause-judged g c told =
+    let e : c.from_residual.result ≡ Err (of_box_error c.in_err-conf.field-0.0) = search rules in
+    rw e (box_refused (g.W.World.healthy c.args.world.now) (names_of c.args.names) (g.W.World.shown c.args.world.now) c.in_err-conf.field-0.0 (c.in_err-conf.ensures.judged told))
 
 pub returns-in_err-capture-clause-judged : goal.returns-in_err-capture-clause-judged
 returns-in_err-capture-clause-judged g c told =

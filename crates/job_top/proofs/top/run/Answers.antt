@@ -1,6 +1,7 @@
-use Rattle.std.proofs.Common.{sym, ◌∙◌}
+use Rattle.std.proofs.Common.{ap, sym, ◌∙◌}
+use Rattle.job_top.specs.Status.{stage_of}
 use Rattle.job_top.specs.Words.{names_of}
-use Rattle.job_top.proofs.Runs.{whole_run, in_order_run, outcome_judged, done_whole}
+use Rattle.job_top.proofs.Runs.{whole_run, in_order_run, outcome_judged, done_whole, not_at_inputs}
 use Rattle.job_top.proofs.Verdicts.{not_bad_words, not_write_fault}
 use Rattle.job_top.proofs.top.run.Goals as goal
 
@@ -26,3 +27,6 @@ returns-in-Err-clause-write_fault g c e = absurd (not_write_fault c.in-Err.statu
 
 pub returns-in-Err-clause-never_fails : goal.returns-in-Err-clause-never_fails
 returns-in-Err-clause-never_fails g c ok e = not_write_fault c.in-Err.status e c.in-Err.ensures.stage
+
+pub returns-in-Ok-clause-refused : goal.returns-in-Ok-clause-refused
+returns-in-Ok-clause-refused g c told e = absurd (not_at_inputs c.run_box.result (ap stage_of (sym c.outcome.ensures) ∙ e))

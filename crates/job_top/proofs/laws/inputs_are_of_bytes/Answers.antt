@@ -1,0 +1,5 @@
+use Rattle.job_top.proofs.Recorded.{inputs_have_bytes}
+use Rattle.job_top.proofs.laws.inputs_are_of_bytes.Goals as goal
+
+pub returns : goal.returns
+returns c = λ threads packets. inputs_have_bytes threads packets
