@@ -369,15 +369,15 @@ fn names_a_write_that_failed(rt: HostRuntime) -> Result<(), Fail> {
 }
 
 /// Whether a `make` of so many packets whose calls of writing fail at this one leaves this capture, and no report.
-fn makes_part(
-    alloc: Global,
-    count: &str,
-    nth: u64,
-    left: Option<&[u8]>,
-) -> Result<bool, NoMemory> {
+fn makes_part(alloc: Global, count: &str, nth: u64, left: Option<&[u8]>) -> Result<bool, NoMemory> {
     let mut world = MemoryWorld::new(alloc)?;
     world.fail_write(nth)?;
-    makes_in(alloc, &mut world, ["7", count], (Status::WriteFault, b"", left))
+    makes_in(
+        alloc,
+        &mut world,
+        ["7", count],
+        (Status::WriteFault, b"", left),
+    )
 }
 
 #[test]
@@ -440,7 +440,11 @@ fn says_its_status(rt: HostRuntime) -> Result<(), Fail> {
         (Status::WriteFault, "write fault", 4),
         (Status::NoMemory, "no memory", 5),
         (bad_box, "bad input: box: line 2: out of range", 6),
-        (bad_capture, "bad input: capture: offset 24: short record", 6),
+        (
+            bad_capture,
+            "bad input: capture: offset 24: short record",
+            6,
+        ),
         (Status::TooLarge(Limit::File), "too large: file", 7),
         (Status::TooLarge(Limit::Packets), "too large: packets", 7),
         (Status::NotBuilt, "not built", 8),
