@@ -38,7 +38,10 @@ impl Model for Slots {
 
     ghost use Rattle.access_log.specs.Slots.{in_slots, IsSlotted};
 
-    ghost view = { λ s. record { covered = s.covered; entries = in_slots s.covered s.contiguous.items ++ s.out_of_order.entries } };
+    ghost view = { λ s. record {
+      covered = s.covered;
+      entries = in_slots s.covered s.contiguous.items ++ s.out_of_order.entries;
+    } };
 
     ghost invariant = { λ s. IsSlotted s.covered s.contiguous.items s.out_of_order.entries };
 }

@@ -1,4 +1,4 @@
-//! Work for a stopwatch: so many checksums of 1,500 bytes, and so many rewritings of a frame, by the two counts given.
+//! Work for a stopwatch: checksums of 1,500 bytes, and rewritings of a frame, as many of each as the two counts say.
 //!
 //! What it prints is the same at each run with the same counts.
 #![tactic(auto)]

@@ -29,7 +29,7 @@ fn entry_of(thread: u32, number: u64) -> StampedEntry
     }
 }
 
-/// Holds so many entries of each thread, but for the middle one of thread 1, and keeps the closed part.
+/// Holds this number of entries of each thread, but for the middle one of thread 1, and keeps the closed part.
 fn hold_entries(alloc: Global, count: u64) -> Result<Kept, NoMemory> {
     let mut held = Held::new(alloc, 2)?;
     for number in 1..=count {

@@ -1,9 +1,10 @@
 //! Work for a stopwatch: packets through the counting box on one thread, as the plain player makes its moves or as a master
-//! does, so many packets and so often.
+//! does: the number of packets, and how often.
 //!
 //! What it prints is the same at each run with the same words.
 #![tactic(auto)]
 
+ghost use Rattle.plain_text.specs.declared.limit.TheConstants.{MOST_PACKETS};
 ghost use Rattle.std.specs.Prelude.{◌≤◌, All, length, IfOk};
 ghost use Rattle.job_top.specs.Running.{IsShort};
 
@@ -12,7 +13,7 @@ use box_program::{CountBox, Program};
 use job_top::play_packets;
 use plain_machine::{PlainMove, Schedule};
 use plain_player::{MoveError, Player};
-use plain_text::{NoMemory, Packet, Packets};
+use plain_text::{MOST_PACKETS, NoMemory, Packet, Packets};
 use std::alloc::Global;
 use std::env;
 use traffic_gen::make;
@@ -30,7 +31,7 @@ fn play_plainly<P: Program>(
     program: &P,
     packets: &[Packet],
 ) -> Result<Done, MoveError>
-    requires { length packets.now ≤ 65536 }
+    requires { length packets.now ≤ MOST_PACKETS }
 {
     let plain = PlainMove {
         thread: 0,
@@ -57,7 +58,7 @@ fn play_plainly<P: Program>(
 
 /// Plays each packet to its end with a master.
 fn play_with_master(alloc: Global, packets: &Packets) -> Result<Done, NoMemory>
-    requires few { length packets.now ≤ 65536 }
+    requires few { length packets.now ≤ MOST_PACKETS }
     requires short { All IsShort packets.now }
 {
     let run = play_packets(alloc, &CountBox::new(), 1, packets.as_slice())?;
@@ -67,10 +68,10 @@ fn play_with_master(alloc: Global, packets: &Packets) -> Result<Done, NoMemory>
     })
 }
 
-/// So many generated packets.
+/// This number of generated packets.
 fn make_packets(alloc: Global, count: u64) -> Result<Packets, NoMemory>
-    requires { count ≤ 65536 }
-    ensures few { IfOk result (λ packets. length packets ≤ 65536) }
+    requires { count ≤ MOST_PACKETS }
+    ensures few { IfOk result (λ packets. length packets ≤ MOST_PACKETS) }
     ensures short { IfOk result (All IsShort) }
 {
     make(alloc, 1, count)
@@ -81,7 +82,10 @@ fn main(rt: HostRuntime) -> anyhow::Result<()> {
     let who = words.next().context("player or master?")?;
     let count: u64 = words.next().context("how many packets?")?.parse()?;
     let rounds: u32 = words.next().context("how often?")?.parse()?;
-    ensure!(count <= 65_536, "{count} packets are too many");
+    ensure!(
+        count <= u64::from(MOST_PACKETS),
+        "{count} packets are too many"
+    );
     let packets = make_packets(rt.alloc(), count)?;
     let mut moves = 0usize;
     let mut sent = 0usize;

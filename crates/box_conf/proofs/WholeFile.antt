@@ -101,7 +101,7 @@ stands_more kind s before x line n stands says = record {
 -- Along the lines
 
 -- of all lines those so far are in the table, and the settings are what they set; the others have greater numbers
-record Amid (kind : KindWord) (all : List Line) (s : Settings) (n : ℕ) (before rest : List Line) : Type 0 where
+record Progress (kind : KindWord) (all : List Line) (s : Settings) (n : ℕ) (before rest : List Line) : Type 0 where
   pub split : (x : Line) → HasLine all x → HasLine before x ⊎ HasLine rest x
   pub from_before : (x : Line) → HasLine before x → HasLine all x
   pub from_rest : (x : Line) → HasLine rest x → HasLine all x
@@ -114,7 +114,7 @@ abbrev Comes : KindWord → List Line → Result Settings LineFault → Type 0
 Comes kind all (Ok s) = Stands kind s all × AreLines (rows_of kind) all
 Comes kind all (Err fault) = FirstToLeave (rows_of kind) all fault.line fault.cause
 
-stands_all : (kind : KindWord) (all : List Line) (s : Settings) (n : ℕ) (before : List Line) → Amid kind all s n before [] → Comes kind all (Ok s)
+stands_all : (kind : KindWord) (all : List Line) (s : Settings) (n : ℕ) (before : List Line) → Progress kind all s n before [] → Comes kind all (Ok s)
 stands_all kind all s n before a = (
   record {
     named = (a.stands.named.0, a.stands.named.1, a.from_before a.stands.named.0 a.stands.named.2, a.stands.named.3);
@@ -131,7 +131,7 @@ stands_all kind all s n before a = (
     set_of line None none = λ x values there says. none x values (only_before x (a.split x there)) says
     set_of line (Some m) some = (some.0, a.from_before some.0 some.1, some.2)
 
-along : (kind : KindWord) (all rest before : List Line) (s : Settings) (n : ℕ) → Amid kind all s n before rest → Comes kind all (set_lines kind s rest)
+along : (kind : KindWord) (all rest before : List Line) (s : Settings) (n : ℕ) → Progress kind all s n before rest → Comes kind all (set_lines kind s rest)
 along kind all [] before s n a = stands_all kind all s n before a
 along kind all (line ∷ rest) before s n a = by_step (set_line kind s (words_of line.1)) (step_says kind s (words_of line.1)) (along kind all rest (line ∷ before))
   where
@@ -148,7 +148,7 @@ along kind all (line ∷ rest) before s n a = by_step (set_line kind s (words_of
         by_split (inl there) = there
         by_split (inr later) = let high = from_here x later in absurd (omega arith)
 
-    goes_on : (next : Settings) → StepSays kind s (words_of line.1) (Ok next) → Amid kind all next (line.0 + 1) (line ∷ before) rest
+    goes_on : (next : Settings) → StepSays kind s (words_of line.1) (Ok next) → Progress kind all next (line.0 + 1) (line ∷ before) rest
     goes_on next says = record {
       split = λ x there. by_split x (a.split x there);
       from_before = λ x there. by_place x there;
@@ -225,7 +225,7 @@ along kind all (line ∷ rest) before s n a = by_step (set_line kind s (words_of
         by_split (inr later) = from_here other later
 
     by_step : (r : Result Settings LineCause) → StepSays kind s (words_of line.1) r
-        → ((t : Settings) (m : ℕ) → Amid kind all t m (line ∷ before) rest → Comes kind all (set_lines kind t rest))
+        → ((t : Settings) (m : ℕ) → Progress kind all t m (line ∷ before) rest → Comes kind all (set_lines kind t rest))
         → Comes kind all (and_lines line.0 r (λ next. set_lines kind next rest))
     by_step (Ok next) says more = more next (line.0 + 1) (goes_on next says)
     by_step (Err cause) says more = record {
@@ -240,7 +240,7 @@ along kind all (line ∷ rest) before s n a = by_step (set_line kind s (words_of
 
 -- behind the first line
 begins : (kind : KindWord) (first : Line) (rest : List Line) (n index : ℕ) → Rising n (first ∷ rest) → LineSays (box_row ∷ []) (words_of first.1) box_row (index ∷ [])
-    → Amid kind (first ∷ rest) no_settings (first.0 + 1) (first ∷ []) rest
+    → Progress kind (first ∷ rest) no_settings (first.0 + 1) (first ∷ []) rest
 begins kind first rest n index rising names = record {
   split = λ x there. by_split x there;
   from_before = λ x there. by_place x there;

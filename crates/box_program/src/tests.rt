@@ -9,7 +9,7 @@ use std::test::Fail;
 /// The low 32 bits are 2, 3, 4 and 4.
 const BEFORE: u64 = 0x0001_0203_0404;
 
-/// A packet of so many bytes, each of them 9.
+/// A packet of this number of bytes, each of them 9.
 fn packet_of(alloc: Global, length: usize) -> Result<Packet, NoMemory> {
     Ok(Packet {
         seconds: 1,
@@ -59,7 +59,7 @@ fn copy_shown<P: Program<Value = u64>>(
     program.show(alloc, 0, &copy)
 }
 
-/// Runs a packet of so many bytes, where the variable is `BEFORE`, and looks at the value, at its text and at what goes out.
+/// Runs a packet of this number of bytes, where the variable is `BEFORE`, and looks at the value, at its text and at what goes out.
 fn check_packet<P: Program<Value = u64>>(
     rt: &impl Abort,
     alloc: Global,

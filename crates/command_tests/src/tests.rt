@@ -368,7 +368,7 @@ fn names_a_write_that_failed(rt: HostRuntime) -> Result<(), Fail> {
     Ok(())
 }
 
-/// Whether a `make` of so many packets whose calls of writing fail at this one leaves this capture, and no report.
+/// Whether a `make` of this number of packets whose calls of writing fail at this one leaves this capture, and no report.
 fn makes_part(alloc: Global, count: &str, nth: u64, left: Option<&[u8]>) -> Result<bool, NoMemory> {
     let mut world = MemoryWorld::new(alloc)?;
     world.fail_write(nth)?;

@@ -232,7 +232,7 @@ closed_down log set e f closed (Through {g = g} he n p) h = closed e g he (close
 pub closed_thread : (log set : List Entry) (e f : Entry) → IsLog log → IsClosed log set → IsIn e log → IsIn f log → IsIn f set → e.thread ≡ f.thread → e.number < f.number → IsIn e set
 closed_thread log set e f good closed he hf h t n = closed_down log set e f closed (thread_by_number log e f good he hf t n) h
 
--- A touch precedes the reads of its variable that stand after so many touches or more.
+-- A touch precedes the reads of its variable that stand after this number of touches or more.
 pub touch_then_read : (log : List Entry) (e f : Entry) (v s r : ℕ) → IsLog log → IsIn e log → IsIn f log → e.what ≡ Access v s → f.what ≡ Read v r → s ≤ r → Precedes log e f
 touch_then_read log e f v s r good he hf a b n = go (touch_there log v r good (omega (arith, n, w)) (read_within log f v r good hf b)) (is_or s r)
   where

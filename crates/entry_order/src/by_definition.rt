@@ -78,7 +78,8 @@ fn is_next_to_any(entry: &LogEntry, entries: &[LogEntry]) -> bool
 fn place_behind(rest: &[LogEntry], found: &[LogEntry]) -> Option<usize>
     ensures behind { IfSome result (λ i. (e : Entry) × (slice_get rest.now i ≡ Some e)
         × ((g : Entry) × IsIn g found.now × IsNext e g)) }
-    ensures none { IfNone result ((e g : Entry) → IsIn e rest.now → IsIn g found.now → IsNext e g → ⊥) }
+    ensures none { IfNone result
+        ((e g : Entry) → IsIn e rest.now → IsIn g found.now → IsNext e g → ⊥) }
 {
     for i in 0..rest.len() {
         if is_next_to_any(&rest[i], found) {
@@ -181,7 +182,8 @@ pub fn weight(alloc: Global, log: &[LogEntry], entry: &LogEntry) -> Result<usize
 /// Whether the first entry is an immediate predecessor of the second, and neither one of the part nor stored.
 fn is_lacking(first: &LogEntry, second: &LogEntry, part: &[LogEntry], stored: &[LogEntry]) -> bool
     ensures { MatchBool result
-        (IsNext first.now second.now × (IsIn first.now part.now → ⊥) × (IsIn first.now stored.now → ⊥))
+        (IsNext first.now second.now
+        × (IsIn first.now part.now → ⊥) × (IsIn first.now stored.now → ⊥))
         (IsNext first.now second.now → IsIn first.now part.now ⊎ IsIn first.now stored.now) }
 {
     is_next(first, second) && !contains(part, first) && !contains(stored, first)
@@ -251,7 +253,7 @@ fn precedes_last(
     Ok(contains(&found, entry))
 }
 
-/// Whether the entry is a predecessor of what the thread sends out after so many entries.
+/// Whether the entry is a predecessor of what the thread sends out after this number of entries.
 pub fn precedes_output(
     alloc: Global,
     log: &[LogEntry],
@@ -269,7 +271,7 @@ pub fn precedes_output(
     Ok(false)
 }
 
-/// Whether the entry is missing for what the thread sends out after so many entries.
+/// Whether the entry is missing for what the thread sends out after this number of entries.
 fn is_missing(
     alloc: Global,
     log: &[LogEntry],
@@ -285,7 +287,7 @@ fn is_missing(
     Ok(before && !contains(held, entry) && !contains(stored, entry))
 }
 
-/// The entries that are missing for what the thread sends out after so many entries.
+/// The entries that are missing for what the thread sends out after this number of entries.
 pub fn missing_entries(
     alloc: Global,
     log: &[LogEntry],
@@ -333,7 +335,7 @@ fn first_of(entries: &[LogEntry]) -> Option<LogEntry>
 }
 
 /// The missing entry of the least thread, and of that thread the one with the least number, for what the thread sends out
-/// after so many entries; none where that is due.
+/// after this number of entries; none where that is due.
 pub fn first_missing(
     alloc: Global,
     log: &[LogEntry],

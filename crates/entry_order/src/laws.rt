@@ -18,8 +18,8 @@ pub fn entries_are_numbered()
         → e.what ≡ Access v s → (1 ≤ s) × (s ≤ places v log) }
     ensures place_there { (log : List Entry) (v s : ℕ) → IsLog log → 1 ≤ s → s ≤ places v log
         → (e : Entry) × IsIn e log × (e.what ≡ Access v s) }
-    ensures place_once { (log : List Entry) (e f : Entry) (v s : ℕ) → IsLog log → IsIn e log → IsIn f log
-        → e.what ≡ Access v s → f.what ≡ Access v s → e ≡ f }
+    ensures place_once { (log : List Entry) (e f : Entry) (v s : ℕ) → IsLog log → IsIn e log
+        → IsIn f log → e.what ≡ Access v s → f.what ≡ Access v s → e ≡ f }
     ensures read_within { (log : List Entry) (e : Entry) (v s : ℕ) → IsLog log → IsIn e log
         → e.what ≡ Read v s → s ≤ places v log }
 {}
@@ -27,7 +27,8 @@ pub fn entries_are_numbered()
 /// An entry stands after all that precedes it, and precedes is an order. Of two different entries of one thread one
 /// precedes the other, and so of two on one variable, of which at least one is a touch: the one that stands before.
 pub fn entries_are_in_order()
-    ensures after { (log : List Entry) (e f : Entry) → IsLog log → Precedes log e f → StandsBefore log e f }
+    ensures after { (log : List Entry) (e f : Entry) → IsLog log → Precedes log e f
+        → StandsBefore log e f }
     ensures chains { (log : List Entry) (e g f : Entry)
         → Precedes log e g → Precedes log g f → Precedes log e f }
     ensures strict { (log : List Entry) (e : Entry) → IsLog log → Precedes log e e → ⊥ }
@@ -37,31 +38,31 @@ pub fn entries_are_in_order()
         → IsTrue (shares e.what f.what) → (e ≡ f) ⊎ (Precedes log e f ⊎ Precedes log f e) }
     ensures earlier_of_thread { (log : List Entry) (e f : Entry) → IsLog log → StandsBefore log e f
         → e.thread ≡ f.thread → Precedes log e f }
-    ensures earlier_on_variable { (log : List Entry) (e f : Entry) → IsLog log → StandsBefore log e f
-        → IsTrue (shares e.what f.what) → Precedes log e f }
+    ensures earlier_on_variable { (log : List Entry) (e f : Entry) → IsLog log
+        → StandsBefore log e f → IsTrue (shares e.what f.what) → Precedes log e f }
 {}
 
 /// The same order, told by numbers and places.
 pub fn numbers_tell_order()
     ensures of_thread { (log : List Entry) (e f : Entry) → IsLog log → IsIn e log → IsIn f log
         → e.thread ≡ f.thread → e.number < f.number → Precedes log e f }
-    ensures of_touches { (log : List Entry) (e f : Entry) (v s r : ℕ) → IsLog log → IsIn e log → IsIn f log
-        → e.what ≡ Access v s → f.what ≡ Access v r → s < r → Precedes log e f }
-    ensures touch_then_read { (log : List Entry) (e f : Entry) (v s r : ℕ) → IsLog log → IsIn e log → IsIn f log
-        → e.what ≡ Access v s → f.what ≡ Read v r → s ≤ r → Precedes log e f }
-    ensures read_then_touch { (log : List Entry) (e f : Entry) (v s r : ℕ) → IsLog log → IsIn e log → IsIn f log
-        → e.what ≡ Access v s → f.what ≡ Read v r → r < s → Precedes log f e }
+    ensures of_touches { (log : List Entry) (e f : Entry) (v s r : ℕ) → IsLog log → IsIn e log
+        → IsIn f log → e.what ≡ Access v s → f.what ≡ Access v r → s < r → Precedes log e f }
+    ensures touch_then_read { (log : List Entry) (e f : Entry) (v s r : ℕ) → IsLog log → IsIn e log
+        → IsIn f log → e.what ≡ Access v s → f.what ≡ Read v r → s ≤ r → Precedes log e f }
+    ensures read_then_touch { (log : List Entry) (e f : Entry) (v s r : ℕ) → IsLog log → IsIn e log
+        → IsIn f log → e.what ≡ Access v s → f.what ≡ Read v r → r < s → Precedes log f e }
 {}
 
 /// A closed set that has an entry has all that precedes it: every earlier entry of its thread and, where it is on a
 /// variable, every earlier touch of it, and for a touch every earlier read.
 pub fn closed_sets_go_back()
-    ensures predecessors { (log set : List Entry) (e f : Entry) → IsClosed log set → Precedes log e f
-        → IsIn f set → IsIn e set }
-    ensures of_thread { (log set : List Entry) (e f : Entry) → IsLog log → IsClosed log set → IsIn f set
-        → StandsBefore log e f → e.thread ≡ f.thread → IsIn e set }
-    ensures on_variable { (log set : List Entry) (e f : Entry) → IsLog log → IsClosed log set → IsIn f set
-        → StandsBefore log e f → IsTrue (shares e.what f.what) → IsIn e set }
+    ensures predecessors { (log set : List Entry) (e f : Entry) → IsClosed log set
+        → Precedes log e f → IsIn f set → IsIn e set }
+    ensures of_thread { (log set : List Entry) (e f : Entry) → IsLog log → IsClosed log set
+        → IsIn f set → StandsBefore log e f → e.thread ≡ f.thread → IsIn e set }
+    ensures on_variable { (log set : List Entry) (e f : Entry) → IsLog log → IsClosed log set
+        → IsIn f set → StandsBefore log e f → IsTrue (shares e.what f.what) → IsIn e set }
 {}
 
 /// Each entry has one stamp, which stays its stamp as the log grows, and which covers exactly what precedes it. It is
@@ -74,16 +75,16 @@ pub fn stamps_are_joins()
         → (u : ℕ) → s u ≡ r u }
     ensures components { (log : List Entry) (e : Entry) (s : ℕ → ℕ)
         → IsStamp log e s ↔ ((u : ℕ) → IsComponent log e u (s u)) }
-    ensures covers { (log : List Entry) (e f : Entry) (s : ℕ → ℕ) → IsLog log → IsStamp log e s → IsIn f log
-        → (f.number ≤ s f.thread) ↔ PrecedesOrIs log f e }
-    ensures stays { (x : Entry) (log : List Entry) (e : Entry) (s : ℕ → ℕ) → IsLog (x ∷ log) → IsIn e log
-        → IsStamp log e s → IsStamp (x ∷ log) e s }
+    ensures covers { (log : List Entry) (e f : Entry) (s : ℕ → ℕ) → IsLog log → IsStamp log e s
+        → IsIn f log → (f.number ≤ s f.thread) ↔ PrecedesOrIs log f e }
+    ensures stays { (x : Entry) (log : List Entry) (e : Entry) (s : ℕ → ℕ) → IsLog (x ∷ log)
+        → IsIn e log → IsStamp log e s → IsStamp (x ∷ log) e s }
     ensures joined { (e : Entry) (earlier : List Entry) (join : ℕ → ℕ) → IsLog (e ∷ earlier)
         → IsJoinBefore earlier e join → IsStamp (e ∷ earlier) e (bumped e join) }
     ensures joined_all { (e : Entry) (earlier : List Entry) → IsLog (e ∷ earlier)
         → IsStamp (e ∷ earlier) e (stamp e earlier) }
-    ensures within { (log : List Entry) (e : Entry) (s : ℕ → ℕ) (u : ℕ) → IsLog log → IsStamp log e s
-        → s u ≤ entries u log }
+    ensures within { (log : List Entry) (e : Entry) (s : ℕ → ℕ) (u : ℕ) → IsLog log
+        → IsStamp log e s → s u ≤ entries u log }
 {}
 
 /// The weight of an entry is the sum of the components of its stamp, and precedes lowers it.
@@ -91,7 +92,8 @@ pub fn weights_are_sums()
     ensures summed { (log : List Entry) (threads : ℕ) (e : Entry) (s : ℕ → ℕ) → IsLog log
         → ((f : Entry) → IsIn f log → f.thread < threads)
         → IsStamp log e s → IsWeight log e (sum_below threads s) }
-    ensures one { (log : List Entry) (e : Entry) (n k : ℕ) → IsWeight log e n → IsWeight log e k → n ≡ k }
+    ensures one { (log : List Entry) (e : Entry) (n k : ℕ) → IsWeight log e n → IsWeight log e k
+        → n ≡ k }
     ensures of_list { (xs : List ℕ) → sum_below (length xs) (λ u. slice_index xs u) ≡ sum xs }
     ensures falls { (log : List Entry) (e f : Entry) (n k : ℕ) → IsLog log → Precedes log e f
         → IsWeight log e n → IsWeight log f k → n < k }
@@ -103,8 +105,8 @@ pub fn outputs_have_stamps()
         → IsOutputStamp log last.thread last.number s ↔ IsStamp log last s }
     ensures none { (log : List Entry) (t : ℕ) (s : ℕ → ℕ) → IsLog log
         → IsOutputStamp log t 0 s ↔ ((u : ℕ) → s u ≡ 0) }
-    ensures stays { (x : Entry) (log : List Entry) (t n : ℕ) (e : Entry) → IsLog (x ∷ log) → n ≤ entries t log
-        → PrecedesOutput (x ∷ log) t n e ↔ PrecedesOutput log t n e }
+    ensures stays { (x : Entry) (log : List Entry) (t n : ℕ) (e : Entry) → IsLog (x ∷ log)
+        → n ≤ entries t log → PrecedesOutput (x ∷ log) t n e ↔ PrecedesOutput log t n e }
 {}
 
 /// What is missing, by stamps and frontiers: nothing, exactly where no component of the stamp is above the frontier of
@@ -116,7 +118,8 @@ pub fn missing_is_past_frontiers()
     ensures named { (log stored held : List Entry) (t n : ℕ) (s frontier : ℕ → ℕ) (u : ℕ)
         → IsLog log → IsOutputStamp log t n s → IsFrontier log stored held frontier
         → frontier u < s u → ((w : ℕ) → w < u → s w ≤ frontier w)
-        → (e : Entry) × IsFirstMissing log stored held t n e × (e.thread ≡ u) × (e.number ≡ frontier u + 1) }
+        → (e : Entry) × IsFirstMissing log stored held t n e × (e.thread ≡ u)
+        × (e.number ≡ frontier u + 1) }
     ensures one { (log stored held : List Entry) (t n : ℕ) (e f : Entry) → IsLog log
         → IsFirstMissing log stored held t n e → IsFirstMissing log stored held t n f → e ≡ f }
 {}
@@ -127,9 +130,12 @@ pub fn closed_part_is_within_frontiers()
     ensures part { (log stored held part : List Entry) (stamps : Entry → ℕ → ℕ) (frontier : ℕ → ℕ)
         → IsLog log → ((e : Entry) → IsIn e held → IsIn e log)
         → IsClosed log stored → ((e : Entry) → IsIn e stored → IsIn e log)
-        → ((e : Entry) → IsIn e log → IsStamp log e (stamps e)) → IsFrontier log stored held frontier
-        → ((e : Entry) → IsIn e part → IsIn e held × (IsIn e stored ⊎ ((u : ℕ) → stamps e u ≤ frontier u)))
-        → ((e : Entry) → IsIn e held → IsIn e stored ⊎ ((u : ℕ) → stamps e u ≤ frontier u) → IsIn e part)
+        → ((e : Entry) → IsIn e log → IsStamp log e (stamps e))
+        → IsFrontier log stored held frontier
+        → ((e : Entry) → IsIn e part
+        → IsIn e held × (IsIn e stored ⊎ ((u : ℕ) → stamps e u ≤ frontier u)))
+        → ((e : Entry) → IsIn e held
+        → IsIn e stored ⊎ ((u : ℕ) → stamps e u ≤ frontier u) → IsIn e part)
         → IsClosedPart log stored held part }
     ensures there { (log stored held : List Entry)
         → (part : List Entry) × IsClosedPart log stored held part }

@@ -14,7 +14,7 @@ thread_of_view (Err answer) threads = 0
 abbrev pub thread_of : Packet → ℕ → ℕ
 thread_of packet threads = thread_of_view (viewed packet.bytes packet.original) threads
 
--- what was fed to so many threads, in order
+-- what was fed to this number of threads, in order
 pub record Fed : Type 0 where
   pub threads : ℕ
   pub packets : List Packet

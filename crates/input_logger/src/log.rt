@@ -24,7 +24,8 @@ impl Model for InputLog {
 
     ghost view = { λ log. record { threads = log.threads; packets = log.packets } };
 
-    ghost invariant = { λ log. IsIndexed (record { threads = log.threads; packets = log.packets }) log.places.items };
+    ghost invariant = { λ log.
+        IsIndexed (record { threads = log.threads; packets = log.packets }) log.places.items };
 }
 
 impl InputLog {

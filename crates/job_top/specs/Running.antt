@@ -1,6 +1,7 @@
 -- One packet after another is played to its end, each on the thread that it is steered to.
 use Rattle.std.specs.Prelude.{◌≡◌, ℕ, ◌+◌, ◌<◌, ◌≤◌, List, length, take, replicate, None, Ok, map}
 use Rattle.std.specs.List.{flat_map}
+use Rattle.plain_text.specs.declared.limit.TheConstants.{MOST_CAPTURED}
 use Rattle.plain_text.specs.declared.packet.Packet.{Packet}
 use Rattle.input_logger.specs.Inputs.{thread_of, inputs_of}
 use Rattle.plain_machine.specs.declared.local.Local.{Local}
@@ -23,7 +24,7 @@ pub record IsStraight {V : Type 0} (m : Meaning V) (fits : ℕ → V → Type 0)
 
 -- a packet that a record can have
 abbrev pub IsShort : Packet → Type 0
-IsShort p = length p.bytes ≤ 262144
+IsShort p = length p.bytes ≤ MOST_CAPTURED
 
 abbrev pub packets_of : List Emission → List Packet
 packets_of sent = map (λ emission. emission.packet) sent

@@ -2,6 +2,7 @@
 use Rattle.std.specs.Prelude.{ℕ, ◌&&◌, not, nat_le, List, [], ◌∷◌, codes, if◌then◌else◌, Option, Some, None}
 use Rattle.std.specs.Str.{bytes_eq}
 use Rattle.plain_text.specs.Lines.{number_of}
+use Rattle.plain_text.specs.declared.limit.TheConstants.{MOST_PACKETS}
 use Rattle.job_top.specs.declared.run_words.RunWords.{RunWords}
 use Rattle.job_top.specs.declared.make_words.MakeWords.{MakeWords}
 use Rattle.job_top.specs.declared.command.Command as command_words
@@ -45,7 +46,7 @@ made_of w = record { seed = w.seed; count = w.count; capture = w.capture.now }
 abbrev pub of_numbers : Option ℕ → Option ℕ → List ℕ → Option MakeNames
 of_numbers None count capture = None
 of_numbers (Some seed) None capture = None
-of_numbers (Some seed) (Some count) capture = if nat_le count 65536 then Some (record { seed = seed; count = count; capture = capture }) else None
+of_numbers (Some seed) (Some count) capture = if nat_le count MOST_PACKETS then Some (record { seed = seed; count = count; capture = capture }) else None
 
 -- `make` with two numbers and a name
 abbrev pub make_names : List (List ℕ) → Option MakeNames

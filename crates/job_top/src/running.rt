@@ -1,3 +1,4 @@
+ghost use Rattle.plain_text.specs.declared.limit.TheConstants.{MOST_PACKETS};
 ghost use Rattle.std.specs.Prelude.{◌≡◌, ◌<◌, ◌≤◌, ◌+◌, ◌*◌, ◌^◌, ℕ, IsTrue, OnOk, IfOk, All, length};
 ghost use Rattle.input_logger.specs.Inputs.{thread_of};
 ghost use Rattle.box_program.specs.Hands.{FitsProgram, has_hand, moves_left};
@@ -46,8 +47,9 @@ fn make_move<P: Program>(
     run: &mut Running<P>,
 ) -> Result<(), NoMemory>
     requires straight { IsStraight (P.meaning program.now) (P.fits program.now) }
-    requires fits { FitsProgram (P.meaning program.now) (P.fits program.now) value_of run.old.master.vars }
-    requires few { length packets.now ≤ 65536 }
+    requires fits { FitsProgram (P.meaning program.now) (P.fits program.now)
+        value_of run.old.master.vars }
+    requires few { length packets.now ≤ MOST_PACKETS }
     requires in_range { at < length packets.now }
     requires below { thread < threads }
     requires goes { CanMove (P.meaning program.now) threads packets.now at thread
@@ -56,7 +58,8 @@ fn make_move<P: Program>(
     requires sent { All IsShort run.old.sent }
     ensures goes { OnOk result (HasMoved (P.meaning program.now) threads packets.now at thread
         run.new.schedule run.new.sent run.new.master) }
-    ensures fits { FitsProgram (P.meaning program.now) (P.fits program.now) value_of run.new.master.vars }
+    ensures fits { FitsProgram (P.meaning program.now) (P.fits program.now)
+        value_of run.new.master.vars }
     ensures sent { OnOk result (All IsShort run.new.sent) }
     ensures falls { IsTrue (has_hand (place_in_hand run.old.master thread)) → OnOk result
         (moves_left (P.meaning program.now) (place_in_hand run.new.master thread)
@@ -88,8 +91,9 @@ fn play_packet<P: Program>(
     run: &mut Running<P>,
 ) -> Result<(), NoMemory>
     requires straight { IsStraight (P.meaning program.now) (P.fits program.now) }
-    requires fits { FitsProgram (P.meaning program.now) (P.fits program.now) value_of run.old.master.vars }
-    requires few { length packets.now ≤ 65536 }
+    requires fits { FitsProgram (P.meaning program.now) (P.fits program.now)
+        value_of run.old.master.vars }
+    requires few { length packets.now ≤ MOST_PACKETS }
     requires in_range { at < length packets.now }
     requires some_threads { 1 ≤ threads }
     requires few_threads { threads ≤ 16 }
@@ -99,7 +103,8 @@ fn play_packet<P: Program>(
     requires sent { All IsShort run.old.sent }
     ensures played { OnOk result (Played (P.meaning program.now) threads packets.now (at + 1)
         run.new.schedule run.new.sent run.new.master) }
-    ensures fits { FitsProgram (P.meaning program.now) (P.fits program.now) value_of run.new.master.vars }
+    ensures fits { FitsProgram (P.meaning program.now) (P.fits program.now)
+        value_of run.new.master.vars }
     ensures sent { OnOk result (All IsShort run.new.sent) }
 {
     let thread = steer(&packets[at], threads);
@@ -120,7 +125,7 @@ pub fn play_packets<P: Program>(
     requires straight { IsStraight (P.meaning program.now) (P.fits program.now) }
     requires some_threads { 1 ≤ threads }
     requires few_threads { threads ≤ 16 }
-    requires few { length packets.now ≤ 65536 }
+    requires few { length packets.now ≤ MOST_PACKETS }
     requires short { All IsShort packets.now }
     ensures settled { IfOk result (λ run. IsSettled (P.meaning program.now) threads packets.now
         run.schedule run.sent) }

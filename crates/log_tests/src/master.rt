@@ -411,7 +411,7 @@ fn is_stamp(
     Ok(stamp.weight() == weight(alloc, log, entry)? as u128)
 }
 
-/// Whether this is the stamp of what a thread sent out after so many entries.
+/// Whether this is the stamp of what a thread sent out after this number of entries.
 fn is_output_stamp(
     alloc: Global,
     log: &[LogEntry],

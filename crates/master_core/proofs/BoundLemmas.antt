@@ -10,7 +10,7 @@ use Rattle.master_core.specs.declared.parts.ThreadPart.{ThreadPart}
 use Rattle.master_core.specs.Mastered.{IsBounded, in_hand_count, moves_made}
 use Rattle.master_core.specs.Effects.{after_entry, after_emit}
 
--- no variable has more than so many places more
+-- no variable has more than this number of places more
 abbrev pub AddsPlaces : {V : Type 0} → List (VarPart V) → List (VarPart V) → ℕ → Type 0
 AddsPlaces {V} vars new more = (v : ℕ) (x : VarPart V) → v < length vars → (slice_index_or new v x).places ≤ (slice_index_or vars v x).places + more
 

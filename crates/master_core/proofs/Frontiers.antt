@@ -56,7 +56,7 @@ frontier_at l k low known none = (k, record { reached = known; ends = unknown })
     unknown (inl h) = omega arith
     unknown (inr h) = not_some (entry_at l (k + 1)) none h
 
--- upwards from a number up to which all are known, through at most so many
+-- upwards from a number up to which all are known, through at most this number
 frontier_from : (l : Lane) (more k : ℕ) → l.covered ≤ k → ((n : ℕ) → k + more < n → entry_at l n ≡ None) → ((n : ℕ) → n ≤ k → IsKnown l n) → (f : ℕ) × IsFrontier l f
 frontier_from l zero k low ends known = frontier_at l k low known (ends (k + 1) (omega arith))
 frontier_from l (suc more) k low ends known =

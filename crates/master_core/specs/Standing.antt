@@ -29,7 +29,7 @@ pub record IsThread {V : Type 0} (steps : List (Step V)) (t : ℕ) (part : Threa
   pub made : moves_made part ≡ moves_of t steps
   pub stamp : IsOutputStamp (log_of steps) t (entries t (log_of steps)) (λ u. slice_index part.stamp u)
 
--- The master is where the machine with so many threads is after this history, whose logged moves are a log.
+-- The master is where the machine with this number of threads is after this history, whose logged moves are a log.
 pub record Stands {V : Type 0} (m : Meaning V) (threads : ℕ) (steps : List (Step V)) (p : Mastered V) : Type 0 where
   pub log : IsLog (log_of steps)
   pub var : (v : ℕ) (d : VarPart V) → v < m.vars → IsVariable m steps v (slice_index_or p.vars v d)

@@ -19,7 +19,7 @@ use Rattle.master_core.specs.declared.wants.Wants.TheVariants as wants
 use Rattle.master_core.specs.Mastered.{Mastered}
 use Rattle.master_core.specs.Standing.{Stands}
 
--- what a thread wants that made so many entries, after this log, where the program's next move is this
+-- what a thread wants that made this number of entries, after this log, where the program's next move is this
 abbrev pub wanted_by : ℕ → List Entry → Move → Wants
 wanted_by t log (move.Access v) = wants.Touch (entries t log + 1) v (places v log)
 wanted_by t log (move.Read v) = wants.Read (entries t log + 1) v (places v log)

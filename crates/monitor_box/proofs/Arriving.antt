@@ -46,7 +46,7 @@ module _ (tables : ℕ) (number : Packet → ℕ) (place : ℕ) (count : (ℕ �
   shares_taken (x ∷ xs) (suc n) p e = let a = shares_taken xs n p e in omega arith
 
   -- What a move adds to what is counted, taken and on its way alike, where the variables have these values and the thread took
-  -- so many of its inputs.
+  -- this number of its inputs.
   abbrev pub Adds : List Packet → ℕ → (ℕ → MonitorValue) → Option Hand → Option Hand → Effect MonitorValue → Type 0
   Adds packets taken value before after Takes =
       coming_by place number after + shares number (take taken packets) ≡ coming_by place number before + shares number (take (suc taken) packets)

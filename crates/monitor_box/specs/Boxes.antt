@@ -13,7 +13,7 @@ at_least_1 n = omega arith
 pub at_most_64 : (n : ℕ) → max 1 (min n 64) ≤ 64
 at_most_64 n = omega arith
 
--- the box with so many tables; of a number outside 1 to 64, the nearest
+-- the box with this number of tables; of a number outside 1 to 64, the nearest
 abbrev pub box_with : ℕ → MonitorBox
 box_with n = record { shards = max 1 (min n 64); some = at_least_1 n; few = at_most_64 n }
 

@@ -19,11 +19,11 @@ same_flow a b =
 abbrev pub no_packets : FlowCount
 no_packets = record { packets = 0; bytes = 0 }
 
--- one more packet, of so many bytes
+-- one more packet, of this number of bytes
 abbrev pub one_more : FlowCount → ℕ → FlowCount
 one_more count length = record { packets = raised count.packets 1; bytes = raised count.bytes length }
 
--- the table after a packet of so many bytes: a known flow keeps its place, and a new one goes last
+-- the table after a packet of this number of bytes: a known flow keeps its place, and a new one goes last
 abbrev pub with_packet : FlowKey → ℕ → Flows → Flows
 with_packet flow length [] = (flow, one_more no_packets length) ∷ []
 with_packet flow length (e ∷ es) =
@@ -32,7 +32,7 @@ with_packet flow length (e ∷ es) =
 abbrev pub no_totals : Totals
 no_totals = record { packets = 0; bytes = 0; other = 0 }
 
--- the totals after a packet of a flow, of so many bytes
+-- the totals after a packet of a flow, of this number of bytes
 abbrev pub with_flow_packet : ℕ → Totals → Totals
 with_flow_packet length t = record { packets = raised t.packets 1; bytes = raised t.bytes length; other = t.other }
 

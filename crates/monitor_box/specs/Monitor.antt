@@ -91,7 +91,7 @@ abbrev pub value_text : MonitorValue → List ℕ
 value_text (Totals totals) = totals_text totals
 value_text (Table flows) = flows_text flows
 
--- the box with so many tables
+-- the box with this number of tables
 abbrev pub monitor_meaning : ℕ → Meaning MonitorValue
 monitor_meaning tables = record {
   vars = tables + 1;

@@ -24,7 +24,7 @@ impl Totals {
         }
     }
 
-    /// The totals after one more packet of a flow, of so many bytes.
+    /// The totals after one more packet of a flow, of this number of bytes.
     pub fn with_flow_packet(&self, length: u64) -> Self
         ensures { result ≡ with_flow_packet length self.now }
     {
@@ -77,7 +77,7 @@ impl FlowCount {
         }
     }
 
-    /// The count after one more packet, of so many bytes.
+    /// The count after one more packet, of this number of bytes.
     pub fn with_packet(&self, length: u64) -> Self
         ensures { result ≡ one_more self.now length }
     {

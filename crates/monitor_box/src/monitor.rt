@@ -1,6 +1,6 @@
 ghost use Rattle.std.specs.Prelude.{◌≤◌};
 
-/// The box `monitor`: it counts packets and bytes by flow, in so many tables, and all packets in totals.
+/// The box `monitor`: it counts packets and bytes by flow, in a number of tables, and all packets in totals.
 ///
 /// Variable 0 holds the totals, and the variables from 1 the tables. A packet that is a UDP or TCP flow's over IPv4 touches
 /// the table of its flow and then the totals; any other packet touches the totals alone. Each goes out unchanged. A
@@ -18,7 +18,7 @@ impl MonitorBox {
     ghost use Rattle.std.specs.Prelude.{◌≡◌, ◌≤◌};
     ghost use Rattle.monitor_box.specs.Boxes.{box_with};
 
-    /// The box with so many tables.
+    /// The box with this number of tables.
     pub fn new(shards: u32) -> Self
         requires some { 1 ≤ shards }
         requires few { shards ≤ 64 }

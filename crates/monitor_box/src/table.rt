@@ -35,7 +35,7 @@ impl FlowTable {
         }
     }
 
-    /// Counts a packet of a flow, of so many bytes. A flow that is new goes last.
+    /// Counts a packet of a flow, of this number of bytes. A flow that is new goes last.
     pub fn count(&mut self, flow: FlowKey, length: u64) -> Result<(), NoMemory>
         ensures ok { OnOk result (self.new ≡ with_packet flow length self.old) }
         ensures err { OnErr result (self.new ≡ self.old) }

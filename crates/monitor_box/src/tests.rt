@@ -29,7 +29,7 @@ const SYN: [u8; 54] = [
     0x04, 0x00, 0xb7, 0xe1, 0x00, 0x00,
 ];
 
-/// A packet of these captured bytes, which had so many on the wire.
+/// A packet of these captured bytes, which had this number of bytes on the wire.
 fn packet(alloc: Global, bytes: &[u8], original: u32) -> Result<Packet, NoMemory> {
     Ok(Packet {
         seconds: 1,

@@ -31,7 +31,8 @@ pub fn view(frame: &[u8], original: u32) -> Result<Flow, NotFlow>
 /// The flow of a frame that is one.
 fn read_flow(frame: &[u8], transport_at: usize) -> Flow
     requires at { transport_at ≡ header_end frame.now }
-    requires long_enough { header_end frame.now + least_header (protocol frame.now) ≤ length frame.now }
+    requires long_enough { header_end frame.now + least_header (protocol frame.now)
+        ≤ length frame.now }
     requires behind_header { 34 ≤ header_end frame.now }
     ensures { result ≡ flow_of frame.now }
 {

@@ -100,7 +100,7 @@ entry_of t log what = record { thread = t; number = entries t log + 1; what = wh
 abbrev pub emission_of : ℕ → List Emission → ℕ → Packet → Emission
 emission_of t sent input packet = record { thread = t; number = outputs t sent + 1; input = input; packet = packet }
 
--- an effect of the thread, which has so many inputs taken now, with the numbers that it gets after the earlier steps
+-- an effect of the thread, which has this number of inputs taken now, with the numbers that it gets after the earlier steps
 abbrev pub act_of : {V : Type 0} → ℕ → List (Step V) → ℕ → Effect V → Act V
 act_of t earlier taken Takes = Took taken
 act_of t earlier taken (Touches v left) = Did (entry_of t (log_of earlier) (Access v (places v (log_of earlier) + 1))) (Some left)
@@ -117,7 +117,7 @@ abbrev pub after_moved : {V : Type 0} → List (Step V) → ℕ → Moved V → 
 after_moved steps t (Illegal cause) = Err cause
 after_moved steps t (Moves after effect) = Ok (step_of t steps after effect ∷ steps)
 
--- one move after a history, of a machine with so many threads, where each thread has its inputs
+-- one move after a history, of a machine with this number of threads, where each thread has its inputs
 abbrev pub plain_move : {V : Type 0} → Meaning V → (ℕ → List Packet) → ℕ → List (Step V) → PlainMove → Result (List (Step V)) PlayCause
 plain_move m inputs threads steps move =
     if nat_lt move.thread threads then

@@ -30,7 +30,7 @@ pub record IsSeat {V : Type 0} (steps : List (Step V)) (t : ℕ) (s : Seat) : Ty
   pub outputs : s.outputs ≡ outputs t (sent_of steps)
   pub hand : s.hand ≡ place_of (thread_after steps t).hand
 
--- The player is where the machine with so many threads is after this history.
+-- The player is where the machine with this number of threads is after this history.
 pub record Stands {V : Type 0} (m : Meaning V) (threads : ℕ) (steps : List (Step V)) (p : Playing V) : Type 0 where
   pub values : HasValues m.vars p.values (value_after m steps)
   pub threads_are : length p.seats ≡ threads

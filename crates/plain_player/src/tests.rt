@@ -18,7 +18,7 @@ enum Told {
     NoMemory,
 }
 
-/// A packet of so many bytes, each of them 9.
+/// A packet of this number of bytes, each of them 9.
 fn packet_of(alloc: Global, length: usize) -> Result<Packet, NoMemory> {
     Ok(Packet {
         seconds: 1,

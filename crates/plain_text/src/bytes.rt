@@ -87,7 +87,7 @@ impl Bytes {
         Ok(())
     }
 
-    /// Keeps the first bytes, at most so many. It takes no memory.
+    /// Keeps the first bytes, at most this number. It takes no memory.
     pub fn truncate(&mut self, count: usize)
         ensures { self.new ≡ take count self.old }
     {

@@ -21,7 +21,9 @@ pub use bytes::Bytes;
 pub use fault::{LineCause, LineFault, ReadError};
 pub use field::{Field, end_of_line, read_field};
 pub use laws::{a_line_is_one_thing, a_text_has_one_first_fault};
-pub use limit::{Limit, MOST_CAPTURED, MOST_FILE_BYTES, MOST_PACKETS};
+pub use limit::{
+    Limit, MOST_CAPTURED, MOST_EVENTS, MOST_FILE_BYTES, MOST_MOVES, MOST_OUTPUT_BYTES, MOST_PACKETS,
+};
 pub use line::{Line, LineIter, count_lines, lines};
 pub use memory::NoMemory;
 pub use number::{put_decimal, put_u64, read_u64};

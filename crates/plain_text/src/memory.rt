@@ -1,7 +1,7 @@
 use std::alloc::{AllocError, AllocFailed};
 use thiserror::Error;
 
-/// Want of memory: the one answer that any call which allocates may give at any growth.
+/// Running out of memory: the one answer that any call which allocates may give at any growth.
 ///
 /// What a call that answers it was given by value is dropped, and what it was lent is as before, unless the
 /// call says otherwise.

@@ -73,7 +73,7 @@ impl<T: Drop> Sequence<T> {
         Ok(())
     }
 
-    /// Keeps the first items, at most so many. It takes no memory.
+    /// Keeps the first items, at most this number. It takes no memory.
     pub fn truncate(&mut self, count: usize)
         ensures { self.new ≡ take count self.old }
     {

@@ -56,7 +56,8 @@ fn is_blank(byte: u8) -> bool
 /// What stands before the first blank of a line that is not empty, and what follows that blank.
 fn cut_word(line: &[u8]) -> (&[u8], &[u8])
     requires { 0 < length line.now }
-    ensures words { words_of line.now ≡ (if nat_lt 0 (length result.0.now) then result.0.now ∷ words_of result.1.now else words_of result.1.now) }
+    ensures words { words_of line.now ≡ (if nat_lt 0 (length result.0.now)
+        then result.0.now ∷ words_of result.1.now else words_of result.1.now) }
     ensures shorter { length result.1.now < length line.now }
 {
     let Some(end) = blank_in(line) else {

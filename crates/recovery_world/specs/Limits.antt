@@ -1,5 +1,6 @@
 -- The limits of a run: 2,000,000 moves of its masters, replays included, and 268,435,456 bytes that they send out.
 use Rattle.std.specs.Prelude.{◌≡◌, ℕ, nat_lt, if◌then◌else◌, List, Option, Some, None}
+use Rattle.plain_text.specs.declared.limit.TheConstants.{MOST_MOVES, MOST_OUTPUT_BYTES}
 use Rattle.plain_text.specs.declared.limit.Limit.{Limit}
 use Rattle.plain_text.specs.declared.limit.Limit.TheVariants as limit
 use Rattle.recovery_world.specs.declared.event.Event.{Event}
@@ -7,9 +8,9 @@ use Rattle.recovery_world.specs.declared.event.Outcome.{Outcome}
 use Rattle.recovery_world.specs.World.{Setting, Sent, World}
 use Rattle.recovery_world.specs.Events.{On}
 
--- the limit that so many moves and bytes pass, that of the moves where they pass both
+-- the limit that these numbers of moves and bytes pass, that of the moves where they pass both
 abbrev pub limit_passed : ℕ → ℕ → Option Limit
-limit_passed moves bytes = if nat_lt 2000000 moves then Some limit.Moves else if nat_lt 268435456 bytes then Some limit.OutputBytes else None
+limit_passed moves bytes = if nat_lt MOST_MOVES moves then Some limit.Moves else if nat_lt MOST_OUTPUT_BYTES bytes then Some limit.OutputBytes else None
 
 abbrev pub IsWithin : {V : Type 0} → World V → Type 0
 IsWithin w = limit_passed w.moves w.bytes ≡ None

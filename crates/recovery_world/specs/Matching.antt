@@ -21,7 +21,7 @@ pub record IsSame (u : FractionUnit) (p : Packet) (v : FractionUnit) (q : Packet
   pub original : p.original ≡ q.original
   pub bytes : p.bytes ≡ q.bytes
 
--- so many of the packets, and of the emissions, are the same as this packet
+-- this number of the packets, and of the emissions, are the same as this packet
 abbrev pub IsPacketCount : FractionUnit → Packet → List Packet → ℕ → Type 0
 IsPacketCount u p [] n = n ≡ 0
 IsPacketCount u p (q ∷ packets) n =

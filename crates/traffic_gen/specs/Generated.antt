@@ -27,7 +27,7 @@ packet_of i a b = record {
   bytes = frame (fields_of i a b);
 }
 
--- the generator of a seed, on stream 54, after so many words
+-- the generator of a seed, on stream 54, after this number of words
 abbrev pub generator_after : ℕ → ℕ → Lcg
 generator_after seed count = advance 64 multiplier_64 count (started 64 multiplier_64 seed (increment_of 64 54))
 

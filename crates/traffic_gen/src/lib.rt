@@ -1,6 +1,7 @@
 //! Packets made from a number, for tests and measurements: the same number makes the same packets everywhere.
 #![tactic(auto)]
 
+ghost use Rattle.plain_text.specs.declared.limit.TheConstants.{MOST_PACKETS};
 ghost use Rattle.std.specs.Prelude.{◌≡◌, ◌≤◌, ◌<◌, IfOk, All, length};
 ghost use Rattle.rand_pcg.specs.Pcg.{pcg32};
 ghost use Rattle.traffic_gen.specs.Checksums.{HasRightChecksums};
@@ -29,7 +30,7 @@ const START: u64 = 1_600_000_000;
 /// Each is an Ethernet frame of 60 bytes with IPv4 (RFC 791) that carries TCP (RFC 9293) or UDP (RFC 768), with the
 /// checksums filled in. 200 addresses send, each from 64 ports, to port 80 or 53 of 200 addresses.
 pub fn make(alloc: Global, seed: u64, n: u64) -> Result<Packets, NoMemory>
-    requires { n ≤ 65536 }
+    requires { n ≤ MOST_PACKETS }
     ensures packets { IfOk result (λ packets. packets ≡ generated seed n) }
     ensures count { IfOk result (λ packets. length packets ≡ n) }
     ensures sixty_bytes { IfOk result (All (λ packet. length packet.bytes ≡ 60)) }
@@ -57,7 +58,7 @@ fn draw_two(generator: &mut Pcg32) -> (u32, u32)
 
 /// The packet of this index, by its two words.
 fn build_packet(alloc: Global, index: u64, first: u32, second: u32) -> Result<Packet, NoMemory>
-    requires { index < 65536 }
+    requires { index < MOST_PACKETS }
     ensures { IfOk result (λ packet. packet ≡ packet_of index first second) }
 {
     Ok(Packet {
