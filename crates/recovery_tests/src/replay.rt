@@ -1,0 +1,162 @@
+ghost use Rattle.std.specs.Prelude.{◌≤◌, IfOk};
+ghost use Rattle.slow_world.specs.Mirror.{WorldFits};
+
+use box_program::Program;
+use plain_machine::PlainMove;
+use plain_text::{Bytes, NoMemory, Packet, Unit, put_u64};
+use recovery_world::Event;
+use slow_runs::{finish, on, put_reply_end};
+use slow_world::{Setup, SlowWorld, opening};
+use std::alloc::Global;
+
+/// UDP from 10.0.0.5:5000 to 198.51.100.7:53.
+pub const FIRST: [u8; 42] = [
+    0x02, 0x00, 0xaa, 0xaa, 0xaa, 0xaa, 0x02, 0x00, 0x00, 0x00, 0x00, 0x01, 0x08, 0x00, 0x45, 0x00,
+    0x00, 0x1c, 0x00, 0x01, 0x00, 0x00, 0x40, 0x11, 0x46, 0x91, 0x0a, 0x00, 0x00, 0x05, 0xc6, 0x33,
+    0x64, 0x07, 0x13, 0x88, 0x00, 0x35, 0x00, 0x08, 0xb7, 0xe1,
+];
+
+/// The same from port 5001.
+pub const SECOND: [u8; 42] = [
+    0x02, 0x00, 0xaa, 0xaa, 0xaa, 0xaa, 0x02, 0x00, 0x00, 0x00, 0x00, 0x01, 0x08, 0x00, 0x45, 0x00,
+    0x00, 0x1c, 0x00, 0x02, 0x00, 0x00, 0x40, 0x11, 0x46, 0x90, 0x0a, 0x00, 0x00, 0x05, 0xc6, 0x33,
+    0x64, 0x07, 0x13, 0x89, 0x00, 0x35, 0x00, 0x08, 0xb7, 0xe0,
+];
+
+/// The same from port 5002.
+pub const THIRD: [u8; 42] = [
+    0x02, 0x00, 0xaa, 0xaa, 0xaa, 0xaa, 0x02, 0x00, 0x00, 0x00, 0x00, 0x01, 0x08, 0x00, 0x45, 0x00,
+    0x00, 0x1c, 0x00, 0x03, 0x00, 0x00, 0x40, 0x11, 0x46, 0x8f, 0x0a, 0x00, 0x00, 0x05, 0xc6, 0x33,
+    0x64, 0x07, 0x13, 0x8a, 0x00, 0x35, 0x00, 0x08, 0xb7, 0xdf,
+];
+
+/// A packet with a time of its own, and so many bytes of 0 after its frame.
+fn packet_of(alloc: Global, fraction: u32, frame: &[u8], zeros: usize) -> Result<Packet, NoMemory> {
+    let mut bytes = Bytes::of(alloc, frame)?;
+    for _ in 0..zeros {
+        bytes.push(0)?;
+    }
+    Ok(Packet {
+        seconds: 100,
+        fraction,
+        original: bytes.len().min(65_535) as u32,
+        bytes,
+    })
+}
+
+/// A capture of these frames, each with so many bytes of 0 behind it. The first packet comes at 100.000005 seconds, the next
+/// a microsecond later.
+pub fn setup_of(alloc: Global, threads: u32, frames: &[(&[u8], usize)]) -> Result<Setup, NoMemory>
+    requires some { 1 ≤ threads }
+    requires few { threads ≤ 16 }
+{
+    let mut packets = Vec::new(alloc);
+    let mut fraction: u32 = 5;
+    for (frame, zeros) in frames {
+        packets.push(packet_of(alloc, fraction, frame, *zeros)?)?;
+        fraction = fraction.wrapping_add(1);
+    }
+    Ok(Setup {
+        threads,
+        unit: Unit::Micro,
+        packets,
+        seed: 42,
+    })
+}
+
+/// Whether the event has this reply.
+fn replies<P: Program>(
+    world: &mut SlowWorld<P::Value>,
+    alloc: Global,
+    program: &P,
+    setup: &Setup,
+    event: Event,
+    reply: &str,
+) -> Result<bool, NoMemory>
+    requires { WorldFits (P.fits program.now) world.old }
+    ensures { IfOk result (λ _. WorldFits (P.fits program.now) world.new) }
+{
+    let made = on(world, alloc, program, setup, event)?;
+    let mut text = Bytes::new(alloc);
+    put_reply_end(&mut text, &made)?;
+    Ok(text.as_slice() == reply.as_bytes())
+}
+
+/// The number of events, from the front on, that have their replies.
+fn right_replies<P: Program>(
+    world: &mut SlowWorld<P::Value>,
+    alloc: Global,
+    program: &P,
+    setup: &Setup,
+    rows: &[(Event, &str)],
+) -> Result<usize, NoMemory>
+    requires { WorldFits (P.fits program.now) world.old }
+    ensures { IfOk result (λ _. WorldFits (P.fits program.now) world.new) }
+{
+    match rows {
+        [] => Ok(0),
+        [(event, reply), rest @ ..] => {
+            if !replies(world, alloc, program, setup, *event, reply)? {
+                return Ok(0);
+            }
+            let right = right_replies(world, alloc, program, setup, rest)?;
+            Ok(right.saturating_add(1))
+        }
+    }
+}
+
+/// Whether the numbers at the end are these.
+fn ends_so<V>(alloc: Global, world: &SlowWorld<V>, done: &str) -> Result<bool, NoMemory> {
+    let mut text = Bytes::new(alloc);
+    text.extend(b"done fed ")?;
+    put_u64(&mut text, world.fed as u64)?;
+    text.extend(b" epoch ")?;
+    put_u64(&mut text, world.epoch)?;
+    text.extend(b" released ")?;
+    put_u64(&mut text, world.released.len() as u64)?;
+    Ok(text.as_slice() == done.as_bytes())
+}
+
+/// Appends a move, with a stroke before it where another one stands before it.
+fn put_move(text: &mut Bytes, plain: PlainMove) -> Result<(), NoMemory> {
+    if !text.is_empty() {
+        text.extend(b" / ")?;
+    }
+    put_u64(text, u64::from(plain.thread))?;
+    if let Some(answer) = plain.answer {
+        text.extend(b" = ")?;
+        put_u64(text, answer)?;
+    }
+    Ok(())
+}
+
+/// Whether these are the moves of a schedule.
+fn is_schedule(alloc: Global, moves: &[PlainMove], schedule: &str) -> Result<bool, NoMemory> {
+    let mut text = Bytes::new(alloc);
+    for plain in moves {
+        put_move(&mut text, *plain)?;
+    }
+    Ok(text.as_slice() == schedule.as_bytes())
+}
+
+/// Performs the events on a new world. None where each has its reply, and the numbers at the end and the schedule are these;
+/// else the number of right replies, or one more where only the end is wrong.
+pub fn first_wrong<P: Program>(
+    alloc: Global,
+    program: &P,
+    setup: &Setup,
+    rows: &[(Event, &str)],
+    done: &str,
+    schedule: &str,
+) -> Result<Option<usize>, NoMemory> {
+    let mut world = opening(alloc, program);
+    let right = right_replies(&mut world, alloc, program, setup, rows)?;
+    if right < rows.len() || !ends_so(alloc, &world, done)? {
+        return Ok(Some(right));
+    }
+    let ended = match finish(&mut world, alloc, program, setup)? {
+        Some(moves) => is_schedule(alloc, &moves, schedule)?,
+        None => false,
+    };
+    if ended { Ok(None) } else { Ok(Some(right)) }
+}
