@@ -51,7 +51,7 @@ what_or (Draw a) (Clock b) = inr (λ e. cc)
 abbrev make : ℕ → ℕ → What → Entry
 make t n w = record { thread = t; number = n; what = w }
 
-entry_or : (e f : Entry) → Or (e ≡ f)
+pub entry_or : (e f : Entry) → Or (e ≡ f)
 entry_or e f = go (is_or e.thread f.thread) (is_or e.number f.number) (what_or e.what f.what)
   where
     go : (e.thread ≡ f.thread) ⊎ (e.thread ≢ f.thread) → (e.number ≡ f.number) ⊎ (e.number ≢ f.number) → Or (e.what ≡ f.what) → Or (e ≡ f)

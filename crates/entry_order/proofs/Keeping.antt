@@ -96,7 +96,7 @@ before_past (x ∷ later) past e f good (inl h) here = absurd (not_new x later p
 before_past (x ∷ later) past e f good (inr h) here = before_past later past e f good.2 h here
 
 -- no entry is both of the past and later
-apart : (later past : List Entry) (e : Entry) → IsLog (later ++ past) → IsIn e later → IsIn e past → ⊥
+pub apart : (later past : List Entry) (e : Entry) → IsLog (later ++ past) → IsIn e later → IsIn e past → ⊥
 apart [] past e good a b = a
 apart (x ∷ later) past e good (inl same) b = not_new x later past good (subst (λ (z : Entry). IsIn z past) (sym same) b)
 apart (x ∷ later) past e good (inr h) b = apart later past e good.2 h b

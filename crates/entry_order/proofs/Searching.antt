@@ -2,6 +2,7 @@
 use Rattle.std.proofs.Common.{◌≡◌, ℕ, zero, suc, ◌+◌, ◌≤◌, ◌<◌, List, [], ◌∷◌, ◌++◌, refl, sym, ◌∙◌, subst, inl, inr, ◌⊎◌, arith, length, get_or, drop, drop-cons, add-one, Option, Some, None, MatchOption, ◌↔◌}
 use Rattle.std.specs.Prelude.{slice_get, remove}
 use Rattle.std.proofs.Math.Seq.{drop-nil}
+use Rattle.std.proofs.lemmas.Bool.{cases_lt}
 use Rattle.entry_order.specs.Log.{Entry, IsIn, IsNext, Precedes, AtOnce, Through, PrecedesOrIs}
 use Rattle.entry_order.specs.Stamps.{IsCount}
 use Rattle.entry_order.specs.Closed.{IsClosedOver, Lacks, IsMissing, IsFirstMissing, IsDue, IsNoLater}
@@ -161,6 +162,16 @@ no_later_trans e f g (inl a) (inl b) = inl (omega arith)
 no_later_trans e f g (inl a) (inr b) = inl (omega (arith, b.0))
 no_later_trans e f g (inr a) (inl b) = inl (omega (arith, a.0))
 no_later_trans e f g (inr a) (inr b) = inr (a.0 ∙ b.0, omega (arith, a.1, b.1))
+
+-- of two entries one is no later
+pub later_or : (e f : Entry) → IsNoLater e f ⊎ IsNoLater f e
+later_or e f = go (cases_lt e.thread f.thread) (cases_lt f.thread e.thread) (cases_lt f.number e.number)
+  where
+    go : (e.thread < f.thread) ⊎ (f.thread ≤ e.thread) → (f.thread < e.thread) ⊎ (e.thread ≤ f.thread) → (f.number < e.number) ⊎ (e.number ≤ f.number) → IsNoLater e f ⊎ IsNoLater f e
+    go (inl a) b c = inl (inl a)
+    go (inr a) (inl b) c = inr (inl b)
+    go (inr a) (inr b) (inl c) = inr (inr (omega arith, omega arith))
+    go (inr a) (inr b) (inr c) = inl (inr (omega arith, c))
 
 -- The first member up to a place, where there is one.
 abbrev pub IsFirstSoFar : List Entry → ℕ → Option Entry → Type 0

@@ -14,6 +14,7 @@ use Rattle.plain_machine.specs.declared.plain_move.PlainMove.{PlainMove}
 use Rattle.plain_machine.specs.Program.{Meaning, IsLawful}
 use Rattle.plain_machine.specs.Machine.{Hand, Thread, Effect, Takes, Touches, Looks, HearsClock, HearsDraw, Sends, Ends, holding, Moves, hand_move, sent_packet}
 use Rattle.plain_machine.specs.History.{Step, plain_move, step_of, value_after, thread_after, sent_of, emissions}
+use Rattle.plain_machine.proofs.Histories.{moved_thread}
 use Rattle.plain_machine.proofs.Playing as playing
 use Rattle.job_top.specs.Running.{IsStraight, packets_of, inputs_on, moves_for, moves_on, moves_in_turn, HasPlayed}
 use Rattle.job_top.specs.Progress.{HasCome, NotYet, Holds, Ended, HasProgressed}
@@ -129,10 +130,7 @@ sent_more_by t steps after (HearsDraw a) = sym (add-zero _)
 sent_more_by t steps after (Sends packet) = sym (add-one _)
 sent_more_by t steps after Ends = sym (add-zero _)
 
--- the thread that moved, and the others
-moved_thread : {V : Type 0} (t : ℕ) (steps : List (Step V)) (after : Thread) (effect : Effect V) → thread_after (step_of t steps after effect ∷ steps) t ≡ after
-moved_thread t steps after effect = let same : nat_eq t t ≡ true = grind (arith, nat_tests) in rw same refl
-
+-- the other threads stay
 other_thread : {V : Type 0} (t u : ℕ) (steps : List (Step V)) (after : Thread) (effect : Effect V) → t ≢ u → thread_after (step_of t steps after effect ∷ steps) u ≡ thread_after steps u
 other_thread t u steps after effect other = let no : nat_eq t u ≡ false = grind (arith, nat_tests) in rw no refl
 
@@ -145,7 +143,7 @@ progress_more {V} m threads packets at packet made moves sent steps progress on 
   legal = playing.play_append m (inputs_on threads packets) threads (Ok []) moves (turn_of threads packet ∷ []) ∙ rw (progress.legal, on.moves) refl;
   sent_is = refl;
   come = subst (λ (n : ℕ). HasCome m packet (length (inputs_on threads (take at packets) t)) at (made + 1) n (thread_after next t)) (sym many)
-      (subst (λ (th : Thread). HasCome m packet (length (inputs_on threads (take at packets) t)) at (made + 1) (length sent + sends_by on.effect) th) (sym (moved_thread t steps on.after on.effect)) on.come);
+      (subst (λ (th : Thread). HasCome m packet (length (inputs_on threads (take at packets) t)) at (made + 1) (length sent + sends_by on.effect) th) (sym (moved_thread steps t on.after on.effect)) on.come);
   taken = λ u below other. ap (λ (th : Thread). th.taken) (other_thread t u steps on.after on.effect other) ∙ progress.taken u below other;
   ended = λ u below other. ap (λ (th : Thread). th.hand) (other_thread t u steps on.after on.effect other) ∙ progress.ended u below other;
 }

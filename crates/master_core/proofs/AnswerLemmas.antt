@@ -3,6 +3,7 @@ use Rattle.std.proofs.Common.{◌≡◌, ℕ, ◌+◌, ◌<◌, ◌≤◌, ◌�
 use Rattle.std.specs.Prelude.{slice_index_or, slice_set, is_some}
 use Rattle.std.proofs.lemmas.List.{get_or-set_same, get_or-set_other}
 use Rattle.std.proofs.lemmas.Option.{slice_get-get_or}
+use Rattle.entry_order.specs.declared.what.What.TheVariants.{Clock, Draw}
 use Rattle.entry_order.proofs.Order.{is_or}
 use Rattle.plain_text.specs.declared.packet.Packet.{Packet}
 use Rattle.access_log.specs.declared.entry.Output.{Output}
@@ -13,6 +14,7 @@ use Rattle.plain_machine.specs.declared.local.Local.{Local}
 use Rattle.plain_machine.specs.declared.local.Move.{Move}
 use Rattle.plain_machine.specs.declared.local.Move.TheVariants as move
 use Rattle.plain_machine.specs.Program.{Meaning, IsLawful}
+use Rattle.plain_machine.specs.Machine.{HearsClock, HearsDraw}
 use Rattle.plain_machine.specs.History.{Step, thread_after}
 use Rattle.master_core.specs.declared.parts.VarPart.{VarPart}
 use Rattle.master_core.specs.declared.parts.ThreadPart.{ThreadPart}
@@ -23,7 +25,8 @@ use Rattle.master_core.specs.Standing.{IsThread, Stands}
 use Rattle.master_core.specs.Stepping.{move_of, Follows, MadeNone, MadeOne}
 use Rattle.master_core.specs.Effects.{InTurn, Played, next_output, after_take, DoneTake, DoneTouch, DoneLook}
 use Rattle.box_program.proofs.HandLemmas.{in_hand}
-use Rattle.master_core.proofs.FollowsLemmas.{Ready, touch_follows, look_follows, clock_follows, draw_follows, emit_follows, end_follows}
+use Rattle.master_core.proofs.Variables.{clock_on_none, draw_on_none}
+use Rattle.master_core.proofs.FollowsLemmas.{Ready, touch_follows, look_follows, told_follows, emit_follows, end_follows}
 
 -- the place in hand of a thread whose part is known
 pub hand_there : {V : Type 0} (p : Mastered V) (t : ℕ) (part : ThreadPart) → t < length p.threads → part ≡ slice_index_or p.threads t part → place_in_hand p t ≡ part.hand
@@ -216,8 +219,8 @@ module _ {V : Type 0} (m : Meaning V) (fits : ℕ → V → Type 0) (lawful : Is
       go turn.Follow (move.Read v) is h = looked v is h
       go turn.Free (move.Read v) is h = looked v is h
       go (turn.Wait u n) (move.Read v) is h = waits u n h.0
-      go now move.Clock is h = clock_follows m inputs threads steps t answer packet place part p q r ready is h
-      go now move.Draw is h = draw_follows m inputs threads steps t answer packet place part p q r ready is h
+      go now move.Clock is h = told_follows m inputs threads steps t answer move.Clock (Clock answer) (HearsClock answer) packet place part p q r ready is (clock_on_none answer) refl refl h
+      go now move.Draw is h = told_follows m inputs threads steps t answer move.Draw (Draw answer) (HearsDraw answer) packet place part p q r ready is (draw_on_none answer) refl refl h
       go now move.Emit is h = emit_follows m inputs threads steps t answer packet place part p q r ready is h
       go now move.End is h = end_follows m inputs threads steps t answer packet place part p q r ready is taken h
 

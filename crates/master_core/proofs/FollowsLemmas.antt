@@ -4,7 +4,7 @@ use Rattle.std.specs.Prelude.{nat_lt, replicate, slice_get, slice_index, slice_s
 use Rattle.std.proofs.lemmas.Bool.Decides.{nat_tests}
 use Rattle.plain_text.specs.declared.packet.Packet.{Packet}
 use Rattle.entry_order.specs.declared.what.What.{What}
-use Rattle.entry_order.specs.declared.what.What.TheVariants.{Access as Touch, Read as Look, Clock as Time, Draw as Word}
+use Rattle.entry_order.specs.declared.what.What.TheVariants.{Access as Touch, Read as Look}
 use Rattle.entry_order.specs.Log.{Entry, places, IsLog}
 use Rattle.entry_order.specs.Stamps.{IsStamp}
 use Rattle.access_log.specs.declared.entry.StampedEntry.{StampedEntry}
@@ -15,8 +15,8 @@ use Rattle.plain_machine.specs.declared.local.Move.{Move}
 use Rattle.plain_machine.specs.declared.local.Move.TheVariants as move
 use Rattle.plain_machine.specs.declared.emission.Emission.{Emission}
 use Rattle.plain_machine.specs.Program.{Meaning}
-use Rattle.plain_machine.specs.Machine.{Hand, Thread, Effect, Takes, Touches, Looks, HearsClock, HearsDraw, Sends, Ends, holding, hand_move, sent_packet}
-use Rattle.plain_machine.specs.History.{Act, Took, Did, Emitted, Ended, Step, log_of, value_after, thread_after, entry_of, step_of, after_moved, plain_move}
+use Rattle.plain_machine.specs.Machine.{Hand, Thread, Effect, Takes, Touches, Looks, Sends, Ends, Moves, holding, hand_move, sent_packet}
+use Rattle.plain_machine.specs.History.{Act, Took, Did, Emitted, Ended, Step, log_more, log_of, sent_more, sent_of, value_after, thread_after, entry_of, act_of, step_of, after_moved, plain_move}
 use Rattle.master_core.specs.declared.parts.VarPart.{VarPart}
 use Rattle.master_core.specs.declared.parts.ThreadPart.{ThreadPart}
 use Rattle.master_core.specs.declared.step.Stepped.{Stepped}
@@ -26,8 +26,8 @@ use Rattle.master_core.specs.Standing.{IsVariable, IsThread, Stands}
 use Rattle.master_core.specs.Stepping.{told_for, move_of, plain_entry, DidEntry, Follows}
 use Rattle.master_core.specs.Effects.{next_output, DoneTake, DoneTouch, DoneLook, DoneHear, DoneEmit, DoneEnd, after_take, after_entry, after_emit, after_end}
 use Rattle.master_core.proofs.Threads.{take_on, emit_on, end_on, entry_on}
-use Rattle.master_core.proofs.Variables.{touch_is_log, look_is_log, clock_is_log, draw_is_log, take_vars, emit_vars, end_vars, clock_vars, draw_vars, touch_vars, look_vars}
-use Rattle.master_core.proofs.StandsLemmas.{stands_on, Logs, touch_logs, look_logs, clock_logs, draw_logs}
+use Rattle.master_core.proofs.Variables.{OnNone, touch_is_log, look_is_log, told_is_log, take_vars, emit_vars, end_vars, told_vars, touch_vars, look_vars}
+use Rattle.master_core.proofs.StandsLemmas.{stands_on, Logs, touch_logs, look_logs, told_logs}
 
 -- what holds of a thread where its move is made
 pub record Ready {V : Type 0} (m : Meaning V) (inputs : ℕ → List Packet) (threads : ℕ) (steps : List (Step V)) (p : Mastered V) (t : ℕ) (part : ThreadPart) (packet : Packet) (place : Local) : Type 0 where
@@ -170,18 +170,20 @@ look_follows {V} m inputs threads steps t answer v packet place part x p q r rea
     logs : Logs steps t what e
     logs = look_logs m steps t v part x e ready.stands.log ready.part_is is done.entry done.stamp
 
--- A question for the time does.
-pub clock_follows : {V : Type 0} (m : Meaning V) (inputs : ℕ → List Packet) (threads : ℕ) (steps : List (Step V)) (t answer : ℕ) (packet : Packet) (place : Local) (part : ThreadPart) (p q : Mastered V) (r : Stepped)
-    → Ready m inputs threads steps p t part packet place → m.next place ≡ move.Clock
-    → DoneHear m t (Time answer) answer place part p r q → Follows m inputs threads steps (move_of m steps t answer) r q
-clock_follows {V} m inputs threads steps t answer packet place part p q r ready next (e, r_is, done) =
+-- A question does, for the time or for a random word: what was told is an entry on no variable.
+pub told_follows : {V : Type 0} (m : Meaning V) (inputs : ℕ → List Packet) (threads : ℕ) (steps : List (Step V)) (t answer : ℕ) (question : Move) (what : What) (effect : Effect V) (packet : Packet) (place : Local) (part : ThreadPart) (p q : Mastered V) (r : Stepped)
+    → Ready m inputs threads steps p t part packet place → m.next place ≡ question → OnNone what
+    → hand_move m (value_after m steps) (thread_after steps t).taken (record { packet = packet; place = place }) (told_for question answer) question ≡ Moves (holding (thread_after steps t).taken packet (m.told answer place)) effect
+    → act_of t steps (thread_after steps t).taken effect ≡ Did (entry_of t (log_of steps) what) None
+    → DoneHear m t what answer place part p r q → Follows m inputs threads steps (move_of m steps t answer) r q
+told_follows {V} m inputs threads steps t answer question what effect packet place part p q r ready next none moves act (e, r_is, done) =
     made m inputs threads steps t answer (record { vars = p.vars; threads = slice_set p.threads t (after_entry part place' e.stamp) }) q r (stepped.Did e) r_is done.master (record {
       step = step;
-      plain_is = hand_plays m inputs threads steps t answer packet place move.Clock ready.below ready.hand next;
-      stands = stands_on m threads steps p t after (HearsClock answer) p.vars (after_entry part place' e.stamp) ready.stands ready.below good
-          (clock_vars m steps t answer after p.vars ready.stands.log ready.stands.var)
-          (entry_on steps t packet place place' (HearsClock answer) (Time answer) e.stamp part refl refl good logs.stamp ready.at ready.part_is);
-      does = did_entry steps t (Time answer) None e step logs refl refl;
+      plain_is = hand_plays m inputs threads steps t answer packet place question ready.below ready.hand next ∙ ap (after_moved steps t) moves;
+      stands = stands_on m threads steps p t after effect p.vars (after_entry part place' e.stamp) ready.stands ready.below (subst IsLog (sym log_is) good)
+          (told_vars m steps t what effect after p.vars none act ready.stands.log ready.stands.var)
+          (entry_on steps t packet place place' effect what e.stamp part log_is (ap (λ (a : Act V). sent_more a (sent_of steps)) act) good logs.stamp ready.at ready.part_is);
+      does = did_entry steps t what None e step logs act log_is;
     })
   where
     place' : Local
@@ -191,42 +193,16 @@ clock_follows {V} m inputs threads steps t answer packet place part p q r ready 
     after = holding (thread_after steps t).taken packet place'
 
     step : Step V
-    step = step_of t steps after (HearsClock answer)
+    step = step_of t steps after effect
 
-    good : IsLog (log_of (step ∷ steps))
-    good = clock_is_log (log_of steps) t answer ready.stands.log
+    log_is : log_of (step ∷ steps) ≡ entry_of t (log_of steps) what ∷ log_of steps
+    log_is = ap (λ (a : Act V). log_more a (log_of steps)) act
 
-    logs : Logs steps t (Time answer) e
-    logs = clock_logs steps t answer part e ready.stands.log ready.part_is done.entry done.stamp
+    good : IsLog (entry_of t (log_of steps) what ∷ log_of steps)
+    good = told_is_log (log_of steps) t what none ready.stands.log
 
--- A draw of a random word does.
-pub draw_follows : {V : Type 0} (m : Meaning V) (inputs : ℕ → List Packet) (threads : ℕ) (steps : List (Step V)) (t answer : ℕ) (packet : Packet) (place : Local) (part : ThreadPart) (p q : Mastered V) (r : Stepped)
-    → Ready m inputs threads steps p t part packet place → m.next place ≡ move.Draw
-    → DoneHear m t (Word answer) answer place part p r q → Follows m inputs threads steps (move_of m steps t answer) r q
-draw_follows {V} m inputs threads steps t answer packet place part p q r ready next (e, r_is, done) =
-    made m inputs threads steps t answer (record { vars = p.vars; threads = slice_set p.threads t (after_entry part place' e.stamp) }) q r (stepped.Did e) r_is done.master (record {
-      step = step;
-      plain_is = hand_plays m inputs threads steps t answer packet place move.Draw ready.below ready.hand next;
-      stands = stands_on m threads steps p t after (HearsDraw answer) p.vars (after_entry part place' e.stamp) ready.stands ready.below good
-          (draw_vars m steps t answer after p.vars ready.stands.log ready.stands.var)
-          (entry_on steps t packet place place' (HearsDraw answer) (Word answer) e.stamp part refl refl good logs.stamp ready.at ready.part_is);
-      does = did_entry steps t (Word answer) None e step logs refl refl;
-    })
-  where
-    place' : Local
-    place' = m.told answer place
-
-    after : Thread
-    after = holding (thread_after steps t).taken packet place'
-
-    step : Step V
-    step = step_of t steps after (HearsDraw answer)
-
-    good : IsLog (log_of (step ∷ steps))
-    good = draw_is_log (log_of steps) t answer ready.stands.log
-
-    logs : Logs steps t (Word answer) e
-    logs = draw_logs steps t answer part e ready.stands.log ready.part_is done.entry done.stamp
+    logs : Logs steps t what e
+    logs = told_logs steps t what part e none ready.stands.log ready.part_is done.entry done.stamp
 
 -- An emission does.
 pub emit_follows : {V : Type 0} (m : Meaning V) (inputs : ℕ → List Packet) (threads : ℕ) (steps : List (Step V)) (t answer : ℕ) (packet : Packet) (place : Local) (part : ThreadPart) (p q : Mastered V) (r : Stepped)

@@ -9,10 +9,11 @@ use Rattle.entry_order.specs.Closed.{IsFrontier as IsFrontierOf}
 use Rattle.entry_order.proofs.Order.{number_within, entry_there, same_number}
 use Rattle.access_log.specs.declared.entry.StampedEntry.{StampedEntry}
 use Rattle.access_log.specs.Held.{Lane, lane, entry_at, IsKnown, IsFrontier, IsWithin}
+use Rattle.access_log.proofs.SlotLemmas.{is_at-apart}
 use Rattle.access_log.proofs.LaneLemmas.{one_frontier}
 use Rattle.master_core.specs.Holding.{held_entries, HoldsOf}
 use Rattle.master_core.specs.Stepping.{plain_entry}
-use Rattle.master_core.proofs.HeldEntries.{is_at_apart, at_held, held_named}
+use Rattle.master_core.proofs.HeldEntries.{at_held, held_named}
 
 -- Each lane has a frontier
 
@@ -23,7 +24,7 @@ numbers_end (x ∷ xs) = go (numbers_end xs)
   where
     go : (last : ℕ) × ((n : ℕ) → last < n → lookup (is_at (nat_cmp n)) xs ≡ None) → (last : ℕ) × ((n : ℕ) → last < n → lookup (is_at (nat_cmp n)) (x ∷ xs) ≡ None)
     go (last, none) =
-        (max x.0 last, λ n h. let apart : n ≢ x.0 = λ q. omega arith in ap (λ b. cond b (Some x.1) (lookup (is_at (nat_cmp n)) xs)) (is_at_apart n x.0 apart) ∙ none n (omega arith))
+        (max x.0 last, λ n h. let apart : n ≢ x.0 = λ q. omega arith in ap (λ b. cond b (Some x.1) (lookup (is_at (nat_cmp n)) xs)) (is_at-apart n x.0 apart) ∙ none n (omega arith))
 
 none_or_some : (o : Option StampedEntry) → (o ≡ None) ⊎ IsSome o
 none_or_some None = inl refl

@@ -3,21 +3,14 @@ use Rattle.std.proofs.Common.{◌≡◌, ℕ, zero, suc, ◌≢◌, true, false,
 use Rattle.std.specs.Map.{lookup}
 use Rattle.std.specs.BTreeMap.{is_at}
 use Rattle.std.specs.Ordering.{nat_cmp}
-use Rattle.std.proofs.lemmas.Grind.{common_steps}
-use Rattle.std.proofs.lemmas.Bool.Decides.{nat_tests}
 use Rattle.entry_order.specs.Log.{Entry, IsIn}
 use Rattle.entry_order.proofs.Order.{is_or}
 use Rattle.entry_order.proofs.Keeping.{in_left, in_right, in_either}
 use Rattle.access_log.specs.declared.entry.StampedEntry.{StampedEntry}
 use Rattle.access_log.specs.Held.{Lane, lane, fresh_lane, entry_at}
+use Rattle.access_log.proofs.SlotLemmas.{is_at-apart}
 use Rattle.master_core.specs.Holding.{and_found, found, held_entries, HoldsOf}
 use Rattle.master_core.specs.Stepping.{plain_entry}
-
-pub is_at_same : (a b : ℕ) → a ≡ b → is_at (nat_cmp a) b ≡ true
-is_at_same a b h = grind (arith, common_steps, nat_tests)
-
-pub is_at_apart : (a b : ℕ) → a ≢ b → is_at (nat_cmp a) b ≡ false
-is_at_apart a b h = grind (arith, common_steps, nat_tests)
 
 -- Found in one lane
 
@@ -49,7 +42,7 @@ at_found l (x ∷ xs) e n o s there q p = go (is_or n x.0) (λ found_later. at_f
     go : (n ≡ x.0) ⊎ (n ≢ x.0) → (lookup (is_at (nat_cmp n)) xs ≡ Some o → IsIn e (found l xs)) → IsIn e (found l (x ∷ xs))
     go (inl same) rest = and_found_new (entry_at l x.0) (found l xs) e s (ap (λ (k : ℕ). entry_at l k) (sym same) ∙ q) p
     go (inr apart) rest =
-        let past : cond (is_at (nat_cmp n) x.0) (Some x.1) (lookup (is_at (nat_cmp n)) xs) ≡ lookup (is_at (nat_cmp n)) xs = ap (λ b. cond b (Some x.1) (lookup (is_at (nat_cmp n)) xs)) (is_at_apart n x.0 apart) in
+        let past : cond (is_at (nat_cmp n) x.0) (Some x.1) (lookup (is_at (nat_cmp n)) xs) ≡ lookup (is_at (nat_cmp n)) xs = ap (λ b. cond b (Some x.1) (lookup (is_at (nat_cmp n)) xs)) (is_at-apart n x.0 apart) in
         and_found_old (entry_at l x.0) (found l xs) e (rest (sym past ∙ there))
 
 -- Found in the lanes

@@ -10,9 +10,9 @@ use Rattle.entry_order.proofs.Parts.{stamp_stays}
 use Rattle.plain_machine.specs.Program.{Meaning}
 use Rattle.plain_machine.specs.History.{Act, Took, Did, Emitted, Ended, Step, log_more, log_of, IsHistory}
 use Rattle.plain_machine.specs.Agree.{IsEarlier}
-use Rattle.plain_machine.proofs.Histories.{history_log, earlier_history, earlier_log, did_entry}
+use Rattle.plain_machine.proofs.Histories.{history_log, earlier_history, earlier_log}
 use Rattle.plain_machine.proofs.Recovering.{later_log}
-use Rattle.plain_machine.proofs.Logging.{in_log_at}
+use Rattle.plain_machine.proofs.Logging.{entry_thread}
 use Rattle.access_log.specs.Held.{Lane}
 use Rattle.master_core.specs.Holding.{HoldsOf}
 use Rattle.master_core.specs.Stepping.{plain_entry}
@@ -56,14 +56,6 @@ moment_stamp m inputs threads steps earlier e s h before here st =
     let split = later_log earlier steps before in
     let good = subst (λ (l : List Entry). IsLog l) split.1 (history_log m inputs threads steps h) in
     subst (λ (l : List Entry). IsStamp l e s) (sym split.1) (stamp_past split.0 (log_of earlier) e s good here st)
-
--- each entry is of a thread that there is
-entry_thread : {V : Type 0} (m : Meaning V) (inputs : ℕ → List Packet) (threads : ℕ) (steps : List (Step V)) (e : Entry) → IsHistory m inputs threads steps → IsIn e (log_of steps) → e.thread < threads
-entry_thread m inputs threads steps e h here =
-    let r = in_log_at steps e here in
-    let made = (earlier_history m inputs threads (r.0 ∷ r.1) steps r.3 h).0 in
-    let thread = (did_entry r.0.thread r.0.after.taken r.1 made.2 e r.2 (sym made.4 ∙ r.4)).0 in
-    subst (λ (t : ℕ). t < threads) (sym thread) made.0
 
 -- no other thread has entries
 pub none_past_threads : {V : Type 0} (m : Meaning V) (inputs : ℕ → List Packet) (threads : ℕ) (steps : List (Step V)) (t : ℕ) → IsHistory m inputs threads steps → threads ≤ t → entries t (log_of steps) ≡ 0

@@ -3,7 +3,7 @@ use Rattle.std.proofs.Common.{◌≡◌, ℕ, ◌+◌, ◌<◌, ◌≢◌, List,
 use Rattle.std.specs.Prelude.{slice_index, slice_index_or, slice_set}
 use Rattle.std.proofs.lemmas.List.{get_or-set_same, get_or-set_other}
 use Rattle.entry_order.specs.declared.what.What.{What}
-use Rattle.entry_order.specs.declared.what.What.TheVariants.{Access, Read, Clock, Draw}
+use Rattle.entry_order.specs.declared.what.What.TheVariants.{Access, Read}
 use Rattle.entry_order.specs.Log.{Entry, entries, places, IsLog}
 use Rattle.entry_order.specs.Stamps.{IsStamp, bumped}
 use Rattle.entry_order.proofs.Order.{is_or}
@@ -19,7 +19,7 @@ use Rattle.master_core.specs.Stepping.{plain_entry}
 use Rattle.master_core.specs.Effects.{next_entry, HasStamp, before_touch, before_read}
 use Rattle.master_core.proofs.EntryStamps.{touch_stamp, read_stamp, own_stamp, stamp_by}
 use Rattle.master_core.proofs.Threads.{other_on}
-use Rattle.master_core.proofs.Variables.{HasVariables, touch_is_log, look_is_log, clock_is_log, draw_is_log}
+use Rattle.master_core.proofs.Variables.{HasVariables, OnNone, touch_is_log, look_is_log, told_is_log}
 
 -- a master stands on: its variables and the thread that moved are as the step says, and the other threads stay
 pub stands_on : {V : Type 0} (m : Meaning V) (threads : ℕ) (steps : List (Step V)) (p : Mastered V) (t : ℕ) (after : Thread) (effect : Effect V) (vars : List (VarPart V)) (part : ThreadPart)
@@ -79,24 +79,13 @@ look_logs m steps t v part x e good th is entry has =
           (read_stamp log (entry_of t log (Read v (places v log))) v (λ u. slice_index part.stamp u) (λ u. slice_index x.stamp u) (look_is_log log t v good) refl th.stamp is.touched);
     }
 
-pub clock_logs : {V : Type 0} (steps : List (Step V)) (t a : ℕ) (part : ThreadPart) (e : StampedEntry) → IsLog (log_of steps) → IsThread steps t part
-    → e ≡ next_entry t part (Clock a) e.stamp → HasStamp e (λ u. slice_index part.stamp u) → Logs steps t (Clock a) e
-clock_logs steps t a part e good th entry has =
+pub told_logs : {V : Type 0} (steps : List (Step V)) (t : ℕ) (what : What) (part : ThreadPart) (e : StampedEntry) → OnNone what → IsLog (log_of steps) → IsThread steps t part
+    → e ≡ next_entry t part what e.stamp → HasStamp e (λ u. slice_index part.stamp u) → Logs steps t what e
+told_logs steps t what part e none good th entry has =
     let log = log_of steps in
-    let same : plain_entry e ≡ entry_of t log (Clock a) = entry_is log t part (Clock a) (Clock a) e entry th.logged refl in
+    let same : plain_entry e ≡ entry_of t log what = entry_is log t part what what e entry th.logged refl in
     record {
       entry = same;
-      stamp = has_stamp log e (entry_of t log (Clock a)) (λ u. slice_index part.stamp u) same has
-          (own_stamp log (entry_of t log (Clock a)) (λ u. slice_index part.stamp u) (clock_is_log log t a good) (λ v s h. let no : Clock a ≡ Access v s = h in cc) (λ v s h. let no : Clock a ≡ Read v s = h in cc) th.stamp);
-    }
-
-pub draw_logs : {V : Type 0} (steps : List (Step V)) (t a : ℕ) (part : ThreadPart) (e : StampedEntry) → IsLog (log_of steps) → IsThread steps t part
-    → e ≡ next_entry t part (Draw a) e.stamp → HasStamp e (λ u. slice_index part.stamp u) → Logs steps t (Draw a) e
-draw_logs steps t a part e good th entry has =
-    let log = log_of steps in
-    let same : plain_entry e ≡ entry_of t log (Draw a) = entry_is log t part (Draw a) (Draw a) e entry th.logged refl in
-    record {
-      entry = same;
-      stamp = has_stamp log e (entry_of t log (Draw a)) (λ u. slice_index part.stamp u) same has
-          (own_stamp log (entry_of t log (Draw a)) (λ u. slice_index part.stamp u) (draw_is_log log t a good) (λ v s h. let no : Draw a ≡ Access v s = h in cc) (λ v s h. let no : Draw a ≡ Read v s = h in cc) th.stamp);
+      stamp = has_stamp log e (entry_of t log what) (λ u. slice_index part.stamp u) same has
+          (own_stamp log (entry_of t log what) (λ u. slice_index part.stamp u) (told_is_log log t what none good) none.0 none.1 th.stamp);
     }

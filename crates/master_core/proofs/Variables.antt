@@ -1,19 +1,21 @@
 -- What a master has of its variables after a move.
-use Rattle.std.proofs.Common.{◌≡◌, ℕ, ◌+◌, ◌<◌, ◌≢◌, List, ◌∷◌, length, refl, sym, ap, ◌∙◌, subst, inl, inr, ◌⊎◌, arith, true, false}
+use Rattle.std.proofs.Common.{◌≡◌, ℕ, ◌+◌, ◌<◌, ◌≢◌, List, ◌∷◌, length, refl, sym, ap, ◌∙◌, subst, inl, inr, ◌⊎◌, arith, true, false, None}
 use Rattle.std.specs.Prelude.{nat_eq, max, replicate, slice_index, slice_index_or, slice_set}
 use Rattle.std.proofs.lemmas.Bool.Decides.{nat_tests}
 use Rattle.std.proofs.lemmas.List.{get_or-set_same, get_or-set_other}
+use Rattle.entry_order.specs.declared.what.What.{What}
 use Rattle.entry_order.specs.declared.what.What.TheVariants.{Access, Read, Clock, Draw}
 use Rattle.entry_order.specs.Log.{Entry, places, IsLog}
 use Rattle.entry_order.specs.Stamps.{IsStamp}
 use Rattle.entry_order.proofs.Order.{is_or, touch_only, read_only}
 use Rattle.plain_text.specs.declared.packet.Packet.{Packet}
 use Rattle.plain_machine.specs.Program.{Meaning}
-use Rattle.plain_machine.specs.Machine.{Thread, Takes, Touches, Looks, HearsClock, HearsDraw, Sends, Ends}
-use Rattle.plain_machine.specs.History.{Step, log_of, entry_of, step_of}
+use Rattle.plain_machine.specs.Machine.{Thread, Effect, Takes, Touches, Looks, Sends, Ends}
+use Rattle.plain_machine.specs.History.{Act, Did, Step, log_more, log_of, left_by_entry, left_by, value_after, entry_of, act_of, step_of}
 use Rattle.master_core.specs.declared.parts.VarPart.{VarPart}
+use Rattle.master_core.specs.Stamped.{IsTouchStamp, IsReadersStamp}
 use Rattle.master_core.specs.Standing.{IsVariable}
-use Rattle.master_core.proofs.StampedLemmas.{touch_stays, touch_last, readers_stay, readers_more, readers_gone}
+use Rattle.master_core.proofs.StampedLemmas.{places_stay, touch_stays, touch_last, readers_stay, readers_more, readers_gone}
 
 -- each variable has what the history tells of it
 abbrev pub HasVariables : {V : Type 0} → Meaning V → List (Step V) → List (VarPart V) → Type 0
@@ -27,11 +29,18 @@ touch_is_log log t v good = (refl, ((λ w s e. grind (arith, touch_only)), (λ w
 pub look_is_log : (log : List Entry) (t v : ℕ) → IsLog log → IsLog (entry_of t log (Read v (places v log)) ∷ log)
 look_is_log log t v good = (refl, ((λ w s e. absurd (cc)), (λ w s e. grind (arith, read_only))), good)
 
-pub clock_is_log : (log : List Entry) (t a : ℕ) → IsLog log → IsLog (entry_of t log (Clock a) ∷ log)
-clock_is_log log t a good = (refl, ((λ w s e. absurd (cc)), (λ w s e. absurd (cc))), good)
+-- an entry on no variable, as one of the clock and one of the random source are
+abbrev pub OnNone : What → Type 0
+OnNone what = ((v s : ℕ) → what ≢ Access v s) × ((v s : ℕ) → what ≢ Read v s)
 
-pub draw_is_log : (log : List Entry) (t a : ℕ) → IsLog log → IsLog (entry_of t log (Draw a) ∷ log)
-draw_is_log log t a good = (refl, ((λ w s e. absurd (cc)), (λ w s e. absurd (cc))), good)
+pub clock_on_none : (a : ℕ) → OnNone (Clock a)
+clock_on_none a = ((λ v s h. let no : Clock a ≡ Access v s = h in cc), (λ v s h. let no : Clock a ≡ Read v s = h in cc))
+
+pub draw_on_none : (a : ℕ) → OnNone (Draw a)
+draw_on_none a = ((λ v s h. let no : Draw a ≡ Access v s = h in cc), (λ v s h. let no : Draw a ≡ Read v s = h in cc))
+
+pub told_is_log : (log : List Entry) (t : ℕ) (what : What) → OnNone what → IsLog log → IsLog (entry_of t log what ∷ log)
+told_is_log log t what none good = (refl, ((λ v s h. absurd (none.0 v s h)), (λ v s h. absurd (none.1 v s h))), good)
 
 -- a move that is no entry leaves the variables
 
@@ -45,39 +54,34 @@ pub end_vars : {V : Type 0} (m : Meaning V) (steps : List (Step V)) (t : ℕ) (a
 end_vars m steps t after vars has v d low = let is = has v d low in record { value = is.value; places = is.places; touched = is.touched; looked = is.looked }
 
 -- nor does an entry on none
-pub clock_vars : {V : Type 0} (m : Meaning V) (steps : List (Step V)) (t a : ℕ) (after : Thread) (vars : List (VarPart V)) → IsLog (log_of steps) → HasVariables m steps vars → HasVariables m (step_of t steps after (HearsClock a) ∷ steps) vars
-clock_vars {V} m steps t a after vars good has v d low = record {
-  value = is.value;
-  places = is.places;
-  touched = touch_stays (log_of steps) e v (λ u. slice_index (slice_index_or vars v d).stamp u) more (λ r h. let no : Clock a ≡ Access v r = h in cc) is.touched;
-  looked = readers_stay (log_of steps) e v (λ u. slice_index (slice_index_or vars v d).readers u) more (λ r h. let no : Clock a ≡ Access v r = h in cc) (λ r h. let no : Clock a ≡ Read v r = h in cc) is.looked;
+left_alone : {V : Type 0} (v : ℕ) (what : What) (x : V) → left_by_entry v what None x ≡ x
+left_alone v (Access w s) x = refl
+left_alone v (Read w s) x = refl
+left_alone v (Clock a) x = refl
+left_alone v (Draw a) x = refl
+
+pub told_vars : {V : Type 0} (m : Meaning V) (steps : List (Step V)) (t : ℕ) (what : What) (effect : Effect V) (after : Thread) (vars : List (VarPart V)) → OnNone what → act_of t steps after.taken effect ≡ Did (entry_of t (log_of steps) what) None
+    → IsLog (log_of steps) → HasVariables m steps vars → HasVariables m (step_of t steps after effect ∷ steps) vars
+told_vars {V} m steps t what effect after vars none act good has v d low = record {
+  value = is.value ∙ sym (ap (λ (a : Act V). left_by v a (value_after m steps v)) act ∙ left_alone v what (value_after m steps v));
+  places = is.places ∙ sym (ap (places v) log_is ∙ places_stay v e (log_of steps) (none.0 v));
+  touched = subst (λ (log : List Entry). IsTouchStamp log v (λ u. slice_index (slice_index_or vars v d).stamp u)) (sym log_is)
+      (touch_stays (log_of steps) e v (λ u. slice_index (slice_index_or vars v d).stamp u) more (none.0 v) is.touched);
+  looked = subst (λ (log : List Entry). IsReadersStamp log v (λ u. slice_index (slice_index_or vars v d).readers u)) (sym log_is)
+      (readers_stay (log_of steps) e v (λ u. slice_index (slice_index_or vars v d).readers u) more (none.0 v) (none.1 v) is.looked);
 }
   where
     is : IsVariable m steps v (slice_index_or vars v d)
     is = has v d low
 
     e : Entry
-    e = entry_of t (log_of steps) (Clock a)
+    e = entry_of t (log_of steps) what
+
+    log_is : log_of (step_of t steps after effect ∷ steps) ≡ e ∷ log_of steps
+    log_is = ap (λ (a : Act V). log_more a (log_of steps)) act
 
     more : IsLog (e ∷ log_of steps)
-    more = clock_is_log (log_of steps) t a good
-
-pub draw_vars : {V : Type 0} (m : Meaning V) (steps : List (Step V)) (t a : ℕ) (after : Thread) (vars : List (VarPart V)) → IsLog (log_of steps) → HasVariables m steps vars → HasVariables m (step_of t steps after (HearsDraw a) ∷ steps) vars
-draw_vars {V} m steps t a after vars good has v d low = record {
-  value = is.value;
-  places = is.places;
-  touched = touch_stays (log_of steps) e v (λ u. slice_index (slice_index_or vars v d).stamp u) more (λ r h. let no : Draw a ≡ Access v r = h in cc) is.touched;
-  looked = readers_stay (log_of steps) e v (λ u. slice_index (slice_index_or vars v d).readers u) more (λ r h. let no : Draw a ≡ Access v r = h in cc) (λ r h. let no : Draw a ≡ Read v r = h in cc) is.looked;
-}
-  where
-    is : IsVariable m steps v (slice_index_or vars v d)
-    is = has v d low
-
-    e : Entry
-    e = entry_of t (log_of steps) (Draw a)
-
-    more : IsLog (e ∷ log_of steps)
-    more = draw_is_log (log_of steps) t a good
+    more = told_is_log (log_of steps) t what none good
 
 -- each component of the zero stamp
 pub zero_stamp : (u : ℕ) → slice_index (replicate 16 0) u ≡ 0

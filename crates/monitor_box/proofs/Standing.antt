@@ -9,6 +9,7 @@ use Rattle.packet_headers.specs.Fields.{AreBytes, word_at, long_at, header_end}
 use Rattle.packet_headers.specs.Steering.{steering_sum}
 use Rattle.packet_headers.specs.View.{viewed, flow_of, failures}
 use Rattle.packet_headers.proofs.FirstFailure.{pass_from_ok}
+use Rattle.packet_headers.proofs.Laws.{word_at-le, long_at-lt}
 use Rattle.plain_machine.specs.declared.local.Local.{Local}
 use Rattle.plain_machine.specs.Machine.{Hand, Thread, Effect, Takes, Touches, Looks, HearsClock, HearsDraw, Sends, Ends, Moves, held_move}
 use Rattle.plain_machine.specs.History.{Step, act_of, left_by, thread_after, value_after, IsHistory}
@@ -36,19 +37,13 @@ pub record IsWhole (flow : Flow) : Type 0 where
   pub dest : flow.dest < 2 ^ 32
   pub dest_port : flow.dest_port < 2 ^ 16
 
-word_fits : (frame : List ℕ) (place : ℕ) → AreBytes frame → word_at frame place < 2 ^ 16
-word_fits frame place bytes = let a = bytes place in let b = bytes (place + 1) in omega arith
-
-long_fits : (frame : List ℕ) (place : ℕ) → AreBytes frame → long_at frame place < 2 ^ 32
-long_fits frame place bytes = let a = word_fits frame place bytes in let b = word_fits frame (place + 2) bytes in omega arith
-
 pub whole : (frame : List ℕ) → AreBytes frame → IsWhole (flow_of frame)
 whole frame bytes = record {
   protocol = bytes 23;
-  source = long_fits frame 26 bytes;
-  source_port = word_fits frame (header_end frame) bytes;
-  dest = long_fits frame 30 bytes;
-  dest_port = word_fits frame (header_end frame + 2) bytes;
+  source = long_at-lt frame 26 bytes;
+  source_port = omega (arith, word_at-le frame (header_end frame) bytes);
+  dest = long_at-lt frame 30 bytes;
+  dest_port = omega (arith, word_at-le frame (header_end frame + 2) bytes);
 }
 
 begun_ready : (p : Packet) → AreBytes p.bytes → (seen : Result Flow NotFlow) → viewed p.bytes p.original ≡ seen → Ready (hand_of p (begun seen p.original))

@@ -86,13 +86,13 @@ dest_layout frame flow address port known = layout_of frame flow 30 (flow.transp
 
 -- ---- the header
 
-word_at-le : (frame : List ℕ) (place : ℕ) → AreBytes frame → word_at frame place ≤ 65535
+pub word_at-le : (frame : List ℕ) (place : ℕ) → AreBytes frame → word_at frame place ≤ 65535
 word_at-le frame place bytes =
     let high = bytes place in
     let low = bytes (place + 1) in
     omega arith
 
-long_at-lt : (frame : List ℕ) (place : ℕ) → AreBytes frame → long_at frame place < 2 ^ 32
+pub long_at-lt : (frame : List ℕ) (place : ℕ) → AreBytes frame → long_at frame place < 2 ^ 32
 long_at-lt frame place bytes =
     let high = word_at-le frame place bytes in
     let low = word_at-le frame (place + 2) bytes in

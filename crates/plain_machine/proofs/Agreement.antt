@@ -309,7 +309,7 @@ makes_at (x ∷ xs) e left after (inl h) = (x, xs, inl refl, h.0, h.1)
 makes_at (x ∷ xs) e left after (inr h) = let r = makes_at xs e left after h in (r.0, r.1, inr r.2, r.3, r.4)
 
 -- the step that sent a packet out
-sends_at : {X : Type 0} (xs : List (Step X)) (o : Emission) (n : ℕ) → SendsAfter xs o n → (x : Step X) × (earlier : List (Step X)) × IsEarlier (x ∷ earlier) xs × (x.act ≡ Emitted o) × (entries o.thread (log_of earlier) ≡ n)
+pub sends_at : {X : Type 0} (xs : List (Step X)) (o : Emission) (n : ℕ) → SendsAfter xs o n → (x : Step X) × (earlier : List (Step X)) × IsEarlier (x ∷ earlier) xs × (x.act ≡ Emitted o) × (entries o.thread (log_of earlier) ≡ n)
 sends_at [] o n h = absurd h
 sends_at (x ∷ xs) o n (inl h) = (x, xs, inl refl, h.0, h.1)
 sends_at (x ∷ xs) o n (inr h) = let r = sends_at xs o n h in (r.0, r.1, inr r.2, r.3, r.4)

@@ -18,7 +18,7 @@ use Rattle.plain_machine.proofs.Values.{IsValue, is_value}
 use Rattle.plain_machine.proofs.Agreement.{SameValues, AllIn, agreed_all, entries_agree}
 use Rattle.plain_machine.proofs.Logging.{logged_makes, makes_logged, quiet_log, logged_or, did_on, act_again, in_log_at}
 
-drop_one : (a b : ℕ) → a + 1 ≡ b + 1 → a ≡ b
+pub drop_one : (a b : ℕ) → a + 1 ≡ b + 1 → a ≡ b
 drop_one a b h = omega arith
 
 module _ {X : Type 0} (m : Meaning X) (inputs : ℕ → List Packet) (threads : ℕ) (H P : List (Step X))

@@ -1,10 +1,13 @@
 -- Which effects are logged, and the entries that they make.
-use Rattle.std.proofs.Common.{◌≡◌, ℕ, ◌+◌, true, false, List, [], ◌∷◌, refl, sym, ap, ◌∙◌, inl, inr, ◌⊎◌, Option}
+use Rattle.std.proofs.Common.{◌≡◌, ℕ, ◌+◌, ◌<◌, true, false, List, [], ◌∷◌, refl, sym, ap, ◌∙◌, subst, inl, inr, ◌⊎◌, Option}
+use Rattle.plain_text.specs.declared.packet.Packet.{Packet}
 use Rattle.entry_order.specs.declared.what.What.TheVariants.{Access, Read}
 use Rattle.entry_order.specs.Log.{Entry, entries, places, IsIn}
+use Rattle.plain_machine.specs.Program.{Meaning}
 use Rattle.plain_machine.specs.Machine.{Effect, Takes, Touches, Looks, HearsClock, HearsDraw, Sends, Ends}
-use Rattle.plain_machine.specs.History.{Act, Took, Did, Emitted, Ended, Step, log_more, log_of, entry_of, act_of}
+use Rattle.plain_machine.specs.History.{Act, Took, Did, Emitted, Ended, Step, log_more, log_of, entry_of, act_of, IsHistory}
 use Rattle.plain_machine.specs.Agree.{IsEarlier}
+use Rattle.plain_machine.proofs.Histories.{earlier_history, did_entry}
 use Rattle.plain_machine.proofs.Moving.{is_logged, IsOn}
 
 -- a logged effect makes an entry
@@ -84,3 +87,11 @@ in_log_at {V} (x ∷ xs) e h = go x.act refl h (in_log_at xs e)
     go (Did f left) q (inr i) rest = older (rest i)
     go (Emitted o) q i rest = older (rest i)
     go (Ended k) q i rest = older (rest i)
+
+-- each entry is of a thread that there is
+pub entry_thread : {V : Type 0} (m : Meaning V) (inputs : ℕ → List Packet) (threads : ℕ) (steps : List (Step V)) (e : Entry) → IsHistory m inputs threads steps → IsIn e (log_of steps) → e.thread < threads
+entry_thread m inputs threads steps e h here =
+    let r = in_log_at steps e here in
+    let made = (earlier_history m inputs threads (r.0 ∷ r.1) steps r.3 h).0 in
+    let thread = (did_entry r.0.thread r.0.after.taken r.1 made.2 e r.2 (sym made.4 ∙ r.4)).0 in
+    subst (λ (t : ℕ). t < threads) (sym thread) made.0

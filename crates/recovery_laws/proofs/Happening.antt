@@ -11,9 +11,10 @@ use Rattle.entry_order.specs.Log.{Entry, entries, places, IsLog, IsIn, PrecedesO
 use Rattle.entry_order.specs.Closed.{IsNoLater, IsFirstMissing, IsDue}
 use Rattle.entry_order.specs.Stamps.{IsStamp, IsCount}
 use Rattle.entry_order.proofs.Order.{is_or, number_within, entry_there}
-use Rattle.entry_order.proofs.Existing.{Or, in_or}
+use Rattle.entry_order.proofs.Existing.{Or, in_or, entry_or as entry_is}
 use Rattle.entry_order.proofs.Joins.{stamp_there}
 use Rattle.entry_order.proofs.Missing.{output_in}
+use Rattle.entry_order.proofs.Searching.{no_later_trans, later_or}
 use Rattle.plain_machine.specs.declared.local.Move.{Move}
 use Rattle.plain_machine.specs.declared.local.Move.TheVariants.{Access, Read, Clock, Draw, Emit, End}
 use Rattle.plain_machine.specs.Machine.{Hand, Thread, Effect, Takes, Touches, Looks, HearsClock, HearsDraw, Sends, Ends, Moves, holding, sent_packet, thread_move}
@@ -32,7 +33,7 @@ use Rattle.recovery_world.specs.Events.{move_outcome, bytes_sent, Tells, TellsHa
 use Rattle.recovery_laws.specs.Sound.{times, Sound}
 use Rattle.recovery_laws.proofs.Sets.{predecessors, times_there}
 use Rattle.recovery_laws.proofs.Accepting.{among_times}
-use Rattle.recovery_laws.proofs.Finishing.{later_or, later_trans, sent_there, recovers_there, sends_thread}
+use Rattle.recovery_laws.proofs.Finishing.{sent_there, recovers_there, sends_thread}
 use Rattle.recovery_laws.proofs.Settling.{number_high}
 
 -- Searching
@@ -68,7 +69,7 @@ least P dec (x ∷ xs) = go (dec x) (least P dec xs)
           where
             first : (f : Entry) → (x ≡ f) ⊎ IsIn f xs → P f → IsNoLater x f
             first f (inl same) r = subst (λ (z : Entry). IsNoLater x z) same (inr (refl, omega arith))
-            first f (inr j) r = later_trans x e f a (low f j r)
+            first f (inr j) r = no_later_trans x e f a (low f j r)
         either (inr a) = inl (e, inr i, q, first)
           where
             first : (f : Entry) → (x ≡ f) ⊎ IsIn f xs → P f → IsNoLater e f
@@ -100,14 +101,6 @@ nat_or a b = go (is_or a b)
     go : (a ≡ b) ⊎ (a ≢ b) → Or (a ≡ b)
     go (inl k) = inl k
     go (inr k) = inr (λ e. k e)
-
-entry_is : (e f : Entry) → Or (e ≡ f)
-entry_is e f = go (in_or f (e ∷ []))
-  where
-    go : Or (IsIn f (e ∷ [])) → Or (e ≡ f)
-    go (inl (inl k)) = inl k
-    go (inl (inr k)) = absurd k
-    go (inr k) = inr (λ q. k (inl q))
 
 what_is : (e : Entry) (w : What) → Or (e.what ≡ w)
 what_is e w = go (entry_is e (record { thread = e.thread; number = e.number; what = w }))

@@ -20,11 +20,11 @@ use Rattle.plain_machine.specs.Machine.{Thread as MachineThread}
 use Rattle.plain_machine.specs.History.{Act, Took, Did, Emitted, Ended, Step, log_of, sent_of, outputs, thread_after, IsStep, IsHistory}
 use Rattle.plain_machine.specs.Agree.{IsEarlier, SendsAfter}
 use Rattle.plain_machine.proofs.Histories.{history_log, did_emission, earlier_history, earlier_outputs}
-use Rattle.plain_machine.proofs.Agreement.{histories_agree}
+use Rattle.plain_machine.proofs.Agreement.{histories_agree, sends_at}
+use Rattle.plain_machine.proofs.Logging.{entry_thread}
 use Rattle.line_order.specs.Line.{GoesQuietly, IsLed}
-use Rattle.line_order.proofs.Runs.{entry_thread}
 use Rattle.line_order.proofs.Hands.{taken_within, all_taken}
-use Rattle.line_order.proofs.Again.{sends_at, quiet_later}
+use Rattle.line_order.proofs.Again.{quiet_later}
 use Rattle.recovery_world.specs.declared.event.Event.{Event}
 use Rattle.recovery_world.specs.declared.event.Event.TheVariants as event
 use Rattle.recovery_world.specs.declared.event.Outcome.{Outcome}

@@ -4,16 +4,16 @@ use Rattle.std.specs.Prelude.{nat_eq}
 use Rattle.entry_order.specs.Log.{Entry, entries, IsLog, IsIn, IsNext, Precedes, AtOnce, Through, PrecedesOrIs, PrecedesOutput, IsClosed}
 use Rattle.entry_order.proofs.Order.{is_or, number_within, entry_there, same_number}
 use Rattle.entry_order.proofs.Positions.{not_precedes_itself}
-use Rattle.entry_order.proofs.Keeping.{in_left, in_right, in_either}
+use Rattle.entry_order.proofs.Keeping.{in_left, in_right, in_either, apart}
 use Rattle.plain_machine.specs.declared.emission.Emission.{Emission}
 use Rattle.plain_machine.specs.History.{Act, Took, Did, Emitted, Ended, Step, log_more, log_of}
 use Rattle.plain_machine.specs.Agree.{SendsAfter}
 use Rattle.plain_machine.proofs.Histories.{history_log}
+use Rattle.plain_machine.proofs.Logging.{entry_thread}
 use Rattle.recovery_world.specs.World.{Setting, Sent, World, inputs_fed, all_inputs}
 use Rattle.line_order.specs.Line.{GoesBefore}
 use Rattle.line_order.proofs.Heavier.{not_next}
-use Rattle.line_order.proofs.Runs.{entry_thread}
-use Rattle.line_order.proofs.Arranging.{apart, next_past}
+use Rattle.line_order.proofs.Arranging.{next_past}
 use Rattle.recovery_world.specs.declared.event.Outcome.{Outcome}
 use Rattle.recovery_world.specs.Events.{IsKnown, IsAmong, MakesMove, OnStep}
 use Rattle.recovery_world.specs.Finish.{IsToCome, IsLine}
