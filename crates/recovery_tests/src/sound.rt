@@ -1,6 +1,6 @@
 ghost use Rattle.std.specs.Prelude.{◌≡◌, ◌+◌, ◌<◌, ◌≤◌, ◌^◌, length, IfOk};
 ghost use Rattle.slow_world.specs.Mirror.{WorldFits};
-ghost use Rattle.plain_player.specs.Hands.{FitsProgram};
+ghost use Rattle.box_program.specs.Hands.{FitsProgram};
 
 use box_program::Program;
 use entry_order::{LogEntry, What, contains, entries_up_to, first_missing};
@@ -226,9 +226,11 @@ fn plays_step<P: Program>(
     player: &mut Player<P::Value>,
     step: &MadeStep<P::Value>,
 ) -> Result<bool, NoMemory>
-    requires fits { FitsProgram (P.meaning program.now) (P.fits program.now) player.old.values }
+    requires fits { FitsProgram (P.meaning program.now) (P.fits program.now)
+        (λ value. value) player.old.values }
     requires room { player.old.made < 2 ^ 60 }
-    ensures fits { FitsProgram (P.meaning program.now) (P.fits program.now) player.new.values }
+    ensures fits { FitsProgram (P.meaning program.now) (P.fits program.now)
+        (λ value. value) player.new.values }
     ensures made { player.new.made ≤ player.old.made + 1 }
 {
     let Some(earlier) = step.after.taken.checked_sub(1) else {
@@ -256,10 +258,12 @@ fn plays<P: Program>(
     player: &mut Player<P::Value>,
     steps: &[MadeStep<P::Value>],
 ) -> Result<bool, NoMemory>
-    requires fits { FitsProgram (P.meaning program.now) (P.fits program.now) player.old.values }
+    requires fits { FitsProgram (P.meaning program.now) (P.fits program.now)
+        (λ value. value) player.old.values }
     requires fresh { player.old.made ≡ 0 }
     requires few { length steps.now < 2 ^ 60 }
-    ensures fits { FitsProgram (P.meaning program.now) (P.fits program.now) player.new.values }
+    ensures fits { FitsProgram (P.meaning program.now) (P.fits program.now)
+        (λ value. value) player.new.values }
     ensures made { player.new.made ≤ length steps.now }
 {
     match steps {
