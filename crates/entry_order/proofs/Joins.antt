@@ -5,7 +5,7 @@ use Rattle.std.proofs.lemmas.Bool.Decides.{nat_tests}
 use Rattle.entry_order.specs.Log.{Entry, PrecedesOrIs, entries, IsLog, IsIn, IsNext, Precedes, AtOnce, PrecedesOutput}
 use Rattle.entry_order.specs.Stamps.{IsStamp, IsComponent, IsOutputStamp, IsJoinBefore, bumped, stamp}
 use Rattle.entry_order.proofs.Order.{is_or, number_within, same_number, next_stands, precedes_trans}
-use Rattle.entry_order.proofs.Stamping.{stamp_is, precedes_more, precedes_old, last_link, stands_old}
+use Rattle.entry_order.proofs.StampLemmas.{stamp_is, precedes_more, precedes_old, last_link, stands_old}
 use Rattle.entry_order.proofs.Parts.{stamp_stays}
 
 -- Each entry of a log has a stamp.

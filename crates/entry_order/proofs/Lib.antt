@@ -1,11 +1,11 @@
 pub mod Order
-pub mod Stamping
+pub mod StampLemmas
 pub mod Positions
 pub mod Parts
 pub mod Weights
 pub mod Joins
 pub mod Missing
 pub mod Members
-pub mod Searching
-pub mod Existing
-pub mod Keeping
+pub mod SlowPrograms
+pub mod ClosedParts
+pub mod KeptEntries

@@ -5,7 +5,7 @@ use Rattle.entry_order.specs.Log.{Entry, PrecedesOrIs, entries, IsLog, IsIn, IsN
 use Rattle.entry_order.specs.Stamps.{IsStamp}
 use Rattle.entry_order.specs.Closed.{IsClosedOver, IsClosedPart, IsFrontier}
 use Rattle.entry_order.proofs.Order.{is_or, number_within, thread_chain, entry_there, same_number, precedes_trans}
-use Rattle.entry_order.proofs.Stamping.{precedes_more, precedes_old}
+use Rattle.entry_order.proofs.StampLemmas.{precedes_more, precedes_old}
 
 or_chain : (log : List Entry) (f g x : Entry) → PrecedesOrIs log f g → PrecedesOrIs log g x → PrecedesOrIs log f x
 or_chain log f g x (inl e) q = subst (λ (z : Entry). PrecedesOrIs log z x) (sym e) q

@@ -7,7 +7,7 @@ use Rattle.entry_order.specs.declared.what.What.TheVariants.{Access, Read, Clock
 use Rattle.entry_order.specs.Log.{Entry, IsLog, IsIn, StandsBefore, Precedes, IsClosed}
 use Rattle.entry_order.specs.Stamps.{shares, binds}
 use Rattle.entry_order.proofs.Order.{newest, stands_after, closed_down}
-use Rattle.entry_order.proofs.Stamping.{precedes_more, binds_precedes}
+use Rattle.entry_order.proofs.StampLemmas.{precedes_more, binds_precedes}
 
 -- of two entries of a log, one stands before the other, or they are one
 pub stands_or : (log : List Entry) (e f : Entry) → IsIn e log → IsIn f log → (e ≡ f) ⊎ (StandsBefore log e f ⊎ StandsBefore log f e)

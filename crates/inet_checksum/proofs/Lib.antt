@@ -1,4 +1,4 @@
-pub mod Adjusting
-pub mod Recomputing
+pub mod AdjustedSums
+pub mod RecomputedSums
 pub mod Values
 pub mod Words

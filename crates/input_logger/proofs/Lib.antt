@@ -1,1 +1,1 @@
-pub mod Indexing
+pub mod PlaceLists

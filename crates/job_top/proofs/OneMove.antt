@@ -15,7 +15,7 @@ use Rattle.plain_machine.specs.declared.plain_move.PlayCause.{PlayCause}
 use Rattle.plain_machine.specs.Program.{Meaning, IsLawful}
 use Rattle.plain_machine.specs.Machine.{Hand, Thread}
 use Rattle.plain_machine.specs.History.{Step, plain_move, step_of, Act, value_after, thread_after, sent_of, sent_more, emissions}
-use Rattle.plain_machine.proofs.Playing as playing
+use Rattle.plain_machine.proofs.PlayedLists as playing
 use Rattle.access_log.specs.declared.entry.Output.{Output}
 use Rattle.master_core.specs.declared.parts.ThreadPart.{ThreadPart}
 use Rattle.master_core.specs.declared.parts.VarPart.{VarPart}

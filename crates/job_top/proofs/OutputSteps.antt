@@ -7,7 +7,7 @@ use Rattle.job_top.specs.Files.{report_file, AppendsTo, IsFile, IsPrefix, HasPre
 use Rattle.job_top.specs.Making.{Made, WritesMade, WritesMadeInOrder}
 use Rattle.job_top.specs.Outputs.{Output, released_of, HasHeader, HasOutputs, OpensOutputs, WritesInOrder, WritesWhole}
 use Rattle.job_top.specs.Words.{RunNames}
-use Rattle.job_top.proofs.Appending.{prefix_none, prefix_all, prefix_take, prefix_before, prefix_past, created_file, Appended, appended, Reported, reported}
+use Rattle.job_top.proofs.AppendedFiles.{prefix_none, prefix_all, prefix_take, prefix_before, prefix_past, created_file, Appended, appended, Reported, reported}
 
 -- an output that was not created has nothing, or what it had
 not_created : (name bytes : List ℕ) (a b : Shown) → CreatesNothing name a b → HasPrefix bytes (a.names name) (b.names name)

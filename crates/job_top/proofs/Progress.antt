@@ -15,7 +15,7 @@ use Rattle.plain_machine.specs.Program.{Meaning, IsLawful}
 use Rattle.plain_machine.specs.Machine.{Hand, Thread, Effect, Takes, Touches, Looks, HearsClock, HearsDraw, Sends, Ends, holding, Moves, hand_move, sent_packet}
 use Rattle.plain_machine.specs.History.{Step, plain_move, step_of, value_after, thread_after, sent_of, emissions}
 use Rattle.plain_machine.proofs.Histories.{moved_thread}
-use Rattle.plain_machine.proofs.Playing as playing
+use Rattle.plain_machine.proofs.PlayedLists as playing
 use Rattle.job_top.specs.Running.{IsStraight, packets_of, inputs_on, moves_for, moves_on, moves_in_turn, HasPlayed}
 use Rattle.job_top.specs.Progress.{HasCome, NotYet, Holds, Ended, HasProgressed}
 use Rattle.job_top.proofs.Turns.{turn_of, turn_more, move_more, own_more, other_more, next_input}

@@ -7,7 +7,7 @@ use Rattle.std.proofs.lemmas.Grind.{flat_map-append}
 use Rattle.std.proofs.lemmas.Option.{slice_get_within, get_or_from_slice_get}
 use Rattle.plain_text.specs.declared.packet.Packet.{Packet}
 use Rattle.input_logger.specs.Inputs.{thread_of}
-use Rattle.input_logger.proofs.Indexing.{slice_get-append, slice_get_last, own_inputs, other_inputs}
+use Rattle.input_logger.proofs.PlaceLists.{slice_get-append, slice_get_last, own_inputs, other_inputs}
 use Rattle.plain_machine.specs.declared.plain_move.PlainMove.{PlainMove}
 use Rattle.plain_machine.specs.Program.{Meaning}
 use Rattle.job_top.specs.Running.{inputs_on, moves_for, moves_on, moves_in_turn}

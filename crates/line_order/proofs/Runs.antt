@@ -4,7 +4,7 @@ use Rattle.std.specs.Prelude.{slice_get}
 use Rattle.plain_text.specs.declared.packet.Packet.{Packet}
 use Rattle.plain_machine.specs.Program.{Meaning}
 use Rattle.plain_machine.specs.History.{Step, IsHistory}
-use Rattle.line_order.proofs.Again.{more_inputs}
+use Rattle.line_order.proofs.QuietMoves.{more_inputs}
 
 -- a history stays one where the threads have more inputs
 pub history_more : {V : Type 0} (m : Meaning V) (inputs more : ℕ → List Packet) (threads : ℕ) → ((t k : ℕ) (p : Packet) → slice_get (inputs t) k ≡ Some p → slice_get (more t) k ≡ Some p) → (xs : List (Step V)) → IsHistory m inputs threads xs → IsHistory m more threads xs

@@ -5,7 +5,7 @@ use Rattle.std.specs.BTreeMap.{is_at}
 use Rattle.std.specs.Ordering.{nat_cmp}
 use Rattle.entry_order.specs.Log.{Entry, IsIn}
 use Rattle.entry_order.proofs.Order.{is_or}
-use Rattle.entry_order.proofs.Keeping.{in_left, in_right, in_either}
+use Rattle.entry_order.proofs.KeptEntries.{in_left, in_right, in_either}
 use Rattle.access_log.specs.declared.entry.StampedEntry.{StampedEntry}
 use Rattle.access_log.specs.Held.{Lane, lane, fresh_lane, entry_at}
 use Rattle.access_log.proofs.SlotLemmas.{is_at-apart}

@@ -9,7 +9,7 @@ use Rattle.entry_order.specs.Closed.{IsClosedPart}
 use Rattle.entry_order.proofs.Order.{is_or, number_within, entry_there, same_number, closed_down}
 use Rattle.entry_order.proofs.Parts.{closed_part}
 use Rattle.entry_order.proofs.Joins.{stamp_there, stamp_unique}
-use Rattle.entry_order.proofs.Existing.{in_or}
+use Rattle.entry_order.proofs.ClosedParts.{in_or}
 use Rattle.access_log.specs.declared.entry.StampedEntry.{StampedEntry}
 use Rattle.access_log.specs.Held.{Lane, lane, fresh_lane, entry_at, IsFrontier, IsWithin}
 use Rattle.access_log.specs.Lanes.{PutsEntry, CoversUpTo}

@@ -4,7 +4,7 @@ use Rattle.plain_text.specs.declared.packet.Packet.{Packet}
 use Rattle.plain_machine.specs.declared.plain_move.PlainMove.{PlainMove}
 use Rattle.plain_machine.specs.Program.{Meaning}
 use Rattle.plain_machine.specs.History.{Step, moves_of, and_move, plain_move, play}
-use Rattle.plain_machine.proofs.Playing.{play_append}
+use Rattle.plain_machine.proofs.PlayedLists.{play_append}
 use Rattle.plain_machine.proofs.Histories.{moves_step}
 use Rattle.master_core.specs.declared.step.Stepped.{Stepped}
 use Rattle.master_core.specs.declared.step.Stepped.TheVariants as stepped

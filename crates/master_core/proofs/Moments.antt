@@ -5,14 +5,14 @@ use Rattle.plain_text.specs.declared.packet.Packet.{Packet}
 use Rattle.entry_order.specs.Log.{Entry, entries, IsLog, IsIn, StandsBefore, IsClosed}
 use Rattle.entry_order.specs.Stamps.{IsStamp}
 use Rattle.entry_order.proofs.Order.{entries_grow, newest, next_stands, before_in, entry_there}
-use Rattle.entry_order.proofs.Keeping.{in_right, before_past}
+use Rattle.entry_order.proofs.KeptEntries.{in_right, before_past}
 use Rattle.entry_order.proofs.Parts.{stamp_stays}
 use Rattle.plain_machine.specs.Program.{Meaning}
 use Rattle.plain_machine.specs.History.{Act, Took, Did, Emitted, Ended, Step, log_more, log_of, IsHistory}
 use Rattle.plain_machine.specs.Agree.{IsEarlier}
 use Rattle.plain_machine.proofs.Histories.{history_log, earlier_history, earlier_log}
-use Rattle.plain_machine.proofs.Recovering.{later_log}
-use Rattle.plain_machine.proofs.Logging.{entry_thread}
+use Rattle.plain_machine.proofs.Recoveries.{later_log}
+use Rattle.plain_machine.proofs.LoggedEffects.{entry_thread}
 use Rattle.access_log.specs.Held.{Lane}
 use Rattle.master_core.specs.Holding.{HoldsOf}
 use Rattle.master_core.specs.Stepping.{plain_entry}

@@ -1,8 +1,8 @@
-pub mod Arriving
-pub mod Balancing
-pub mod Changing
-pub mod Coming
-pub mod Counting
-pub mod Moving
-pub mod Standing
-pub mod Summing
+pub mod CountedPackets
+pub mod OneMoveTotals
+pub mod ChangedSums
+pub mod ComingSums
+pub mod TableLemmas
+pub mod ThreadMoves
+pub mod FlowTables
+pub mod MatchedTotals

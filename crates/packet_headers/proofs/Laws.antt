@@ -5,7 +5,7 @@ use Rattle.std.proofs.lemmas.List.Sums.{sum_by_from}
 use Rattle.std.proofs.lemmas.Bool.{ltb-false}
 use Rattle.std.proofs.lemmas.Bool.Decides.{nat_tests}
 use Rattle.inet_checksum.specs.OnesComplement.{words, AreAsRight, adjusted_16, adjusted_32}
-use Rattle.inet_checksum.proofs.Adjusting.{first_byte-le, are_as_right, adjusted_16-residue, adjusted_32-le, adjusted_32-residue}
+use Rattle.inet_checksum.proofs.AdjustedSums.{first_byte-le, are_as_right, adjusted_16-residue, adjusted_32-le, adjusted_32-residue}
 use Rattle.packet_headers.specs.declared.flow.Flow.{Flow}
 use Rattle.packet_headers.specs.Fields.{AreBytes, word_at, long_at, protocol, header_end}
 use Rattle.packet_headers.specs.View.{is_tcp, is_udp, least_header, failures, flow_of, viewed}

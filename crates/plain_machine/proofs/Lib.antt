@@ -1,11 +1,11 @@
-pub mod Moving
+pub mod MoveLemmas
 pub mod Histories
-pub mod Logging
+pub mod LoggedEffects
 pub mod Seats
 pub mod Values
 pub mod Agreement
-pub mod Playing
-pub mod Continuing
+pub mod PlayedLists
+pub mod Continuations
 pub mod Bounds
-pub mod Recovering
+pub mod Recoveries
 pub mod Examples

@@ -9,7 +9,7 @@ use Rattle.plain_machine.specs.Machine.{Thread, Effect, Takes, Touches, Looks, H
 use Rattle.plain_machine.specs.declared.emission.Emission.{Emission}
 use Rattle.plain_machine.specs.History.{Act, Took, Did, Emitted, Ended, Step, log_more, log_of, sent_more, sent_of, outputs, entry_of, act_of, thread_after, value_after, IsStep}
 use Rattle.plain_machine.proofs.Histories.{not_eq}
-use Rattle.plain_machine.proofs.Moving.{Alike, held_same}
+use Rattle.plain_machine.proofs.MoveLemmas.{Alike, held_same}
 
 -- The state of a thread, its counts of entries and of packets sent out are the same after two histories.
 pub record SameSeat {V : Type 0} (t : ℕ) (A B : List (Step V)) : Type 0 where

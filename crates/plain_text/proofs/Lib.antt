@@ -1,4 +1,4 @@
-pub mod Cutting
+pub mod CutLists
 pub mod Faults
 pub mod Numbers
 pub mod Octets

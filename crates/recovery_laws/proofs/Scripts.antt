@@ -18,9 +18,9 @@ use Rattle.recovery_world.specs.Many.{Does, Stays, Goes as DoesMore, StepsOut, I
 use Rattle.recovery_world.specs.Files.{reply_line, done_line, packets_of, moves_made, Performs, Rests as NoMore, Goes as Writes, Leaves, LeavesAt}
 use Rattle.recovery_world.specs.Finish.{IsFinish}
 use Rattle.recovery_laws.specs.Sound.{Sound}
-use Rattle.recovery_laws.proofs.Keeping.{opening_sound, wakes_sound, within_sound, does_sound, round_sound, rounds_sound, feeds_sound, autos_sound, any_sound}
-use Rattle.recovery_laws.proofs.Single.{finish_one}
-use Rattle.recovery_laws.proofs.Once.{Same, on_one, recovers_one}
+use Rattle.recovery_laws.proofs.KeptWorlds.{opening_sound, wakes_sound, within_sound, does_sound, round_sound, rounds_sound, feeds_sound, autos_sound, any_sound}
+use Rattle.recovery_laws.proofs.OneFinish.{finish_one}
+use Rattle.recovery_laws.proofs.OneOutcome.{Same, on_one, recovers_one}
 
 -- The counts stay within the limits
 

@@ -26,7 +26,7 @@ fn is_same_emission(first: &Emission, second: &Emission) -> bool {
         && is_same_packet(&first.packet, &second.packet)
 }
 
-fn is_same_deed<V>(first: &Made<V>, second: &Made<V>) -> bool {
+fn is_same_effect<V>(first: &Made<V>, second: &Made<V>) -> bool {
     match (first, second) {
         (Made::Took(k), Made::Took(n)) => k == n,
         (Made::Did(entry, _), Made::Did(other, _)) => entry == other,
@@ -41,7 +41,7 @@ fn are_same<V>(steps: &[MadeStep<V>], others: &[MadeStep<V>]) -> bool {
         ([], []) => true,
         ([step, rest @ ..], [other, other_rest @ ..]) => {
             step.thread == other.thread
-                && is_same_deed(&step.made, &other.made)
+                && is_same_effect(&step.made, &other.made)
                 && are_same(rest, other_rest)
         }
         _ => false,

@@ -1,3 +1,3 @@
 pub mod Firsts
-pub mod Awaiting
-pub mod Counting
+pub mod AwaitedEntries
+pub mod CountedEntries

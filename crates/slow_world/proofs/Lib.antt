@@ -1,8 +1,8 @@
 pub mod Lists
-pub mod Moving
-pub mod Parting
+pub mod ThreadMoves
+pub mod OutputLists
 pub mod Epochs
-pub mod Telling
-pub mod Fitting
-pub mod Feeding
+pub mod ToldAnswers
+pub mod FittingValues
+pub mod FedInputs
 pub mod Messages

@@ -1,3 +1,3 @@
 pub mod Frames
-pub mod Joining
+pub mod JoinedBytes
 pub mod Packets

@@ -1,5 +1,5 @@
 use Rattle.std.proofs.Common.{arith}
-use Rattle.inet_checksum.proofs.Recomputing.{equation_3_recomputes}
+use Rattle.inet_checksum.proofs.RecomputedSums.{equation_3_recomputes}
 use Rattle.inet_checksum.proofs.adjust16.Goals as goal
 
 pub returns-clause-recomputed : goal.returns-clause-recomputed

@@ -1,6 +1,6 @@
 use Rattle.std.proofs.Common.{arith}
 use Rattle.std.proofs.lemmas.Nat.{and_mask}
-use Rattle.inet_checksum.proofs.Recomputing.{equation_3_twice_recomputes}
+use Rattle.inet_checksum.proofs.RecomputedSums.{equation_3_twice_recomputes}
 use Rattle.inet_checksum.proofs.adjust32.Goals as goal
 
 pub returns-clause-recomputed : goal.returns-clause-recomputed

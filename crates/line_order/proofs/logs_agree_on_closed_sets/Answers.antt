@@ -1,6 +1,6 @@
-use Rattle.line_order.proofs.Sorting.{weight_moves}
-use Rattle.line_order.proofs.Unique.{closed_precedes, closed_stamp}
-use Rattle.line_order.proofs.Agreeing.{closed_weight, closed_output}
+use Rattle.line_order.proofs.SortedEntries.{weight_moves}
+use Rattle.line_order.proofs.OneLine.{closed_precedes, closed_stamp}
+use Rattle.line_order.proofs.SharedSets.{closed_weight, closed_output}
 use Rattle.line_order.proofs.logs_agree_on_closed_sets.Goals as goal
 
 pub returns-clause-precedes : goal.returns-clause-precedes

@@ -1,5 +1,5 @@
 use Rattle.line_order.proofs.Runs.{history_more}
-use Rattle.plain_machine.proofs.Logging.{entry_thread}
+use Rattle.plain_machine.proofs.LoggedEffects.{entry_thread}
 use Rattle.line_order.proofs.Hands.{hand_input, taken_within}
 use Rattle.line_order.proofs.runs_are_kept.Goals as goal
 

@@ -1,4 +1,4 @@
-use Rattle.recovery_laws.proofs.Growing.{any_grows, stops_grow}
+use Rattle.recovery_laws.proofs.ReleasedOutputs.{any_grows, stops_grow}
 use Rattle.recovery_laws.proofs.released_outputs_stay.Goals as goal
 
 pub returns-clause-performed : goal.returns-clause-performed

@@ -1,4 +1,4 @@
-use Rattle.recovery_laws.proofs.Leaving.{leaves_ends, leaves_accepted}
+use Rattle.recovery_laws.proofs.ScriptFiles.{leaves_ends, leaves_accepted}
 use Rattle.recovery_laws.proofs.scripts_end_well.Goals as goal
 
 pub returns-clause-ends : goal.returns-clause-ends

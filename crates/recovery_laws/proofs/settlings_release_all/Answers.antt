@@ -1,4 +1,4 @@
-use Rattle.recovery_laws.proofs.Settling.{settled, script_settled}
+use Rattle.recovery_laws.proofs.Settlings.{settled, script_settled}
 use Rattle.recovery_laws.proofs.settlings_release_all.Goals as goal
 
 pub returns-clause-world : goal.returns-clause-world

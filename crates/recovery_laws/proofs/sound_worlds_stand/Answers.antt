@@ -1,4 +1,4 @@
-use Rattle.recovery_laws.proofs.Standing.{snapshots_stand, line_stands, released_stands, waiting_stands}
+use Rattle.recovery_laws.proofs.SoundParts.{snapshots_stand, line_stands, released_stands, waiting_stands}
 use Rattle.recovery_laws.proofs.sound_worlds_stand.Goals as goal
 
 pub returns-clause-snapshots : goal.returns-clause-snapshots

@@ -1,4 +1,4 @@
-use Rattle.entry_order.proofs.Searching.{dropping_step}
+use Rattle.entry_order.proofs.SlowPrograms.{dropping_step}
 use Rattle.entry_order.proofs.by_definition.closed_part.Goals as goal
 
 pub loop-i-preserved : goal.loop-i-preserved

@@ -1,5 +1,5 @@
 use Rattle.std.proofs.Common.{vec_len}
-use Rattle.entry_order.proofs.Searching.{IsDropping}
+use Rattle.entry_order.proofs.SlowPrograms.{IsDropping}
 use Rattle.entry_order.proofs.by_definition.closed_part.Given as goal
 
 abbrev pub invariant-loop-i : goal.invariant-loop-i

@@ -1,6 +1,6 @@
 use Rattle.std.proofs.Common.{◌<◌, length, arith}
 use Rattle.entry_order.proofs.Members.{get_there}
-use Rattle.entry_order.proofs.Searching.{search_start, search_step, search_end, search_none}
+use Rattle.entry_order.proofs.SlowPrograms.{search_start, search_step, search_end, search_none}
 use Rattle.entry_order.proofs.by_definition.entries_up_to.Goals as goal
 
 pub returns-then-not-contains : goal.returns-then-not-contains

@@ -1,5 +1,5 @@
 use Rattle.std.proofs.Common.{vec_len}
-use Rattle.entry_order.proofs.Searching.{IsSearch}
+use Rattle.entry_order.proofs.SlowPrograms.{IsSearch}
 use Rattle.entry_order.proofs.by_definition.entries_up_to.Given as goal
 
 abbrev pub invariant-loop-i : goal.invariant-loop-i

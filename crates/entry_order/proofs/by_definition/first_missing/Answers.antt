@@ -1,4 +1,4 @@
-use Rattle.entry_order.proofs.Searching.{first_is_named}
+use Rattle.entry_order.proofs.SlowPrograms.{first_is_named}
 use Rattle.entry_order.proofs.by_definition.first_missing.Goals as goal
 
 pub returns : goal.returns

@@ -1,4 +1,4 @@
-use Rattle.entry_order.proofs.Searching.{first_step, first_end}
+use Rattle.entry_order.proofs.SlowPrograms.{first_step, first_end}
 use Rattle.entry_order.proofs.by_definition.first_of.Goals as goal
 
 pub loop-entry-preserved : goal.loop-entry-preserved

@@ -1,4 +1,4 @@
-use Rattle.entry_order.proofs.Searching.{next_found, found_next}
+use Rattle.entry_order.proofs.SlowPrograms.{next_found, found_next}
 use Rattle.entry_order.proofs.by_definition.precedes.Goals as goal
 
 pub returns : goal.returns

@@ -1,7 +1,7 @@
 use Rattle.std.proofs.Common.{◌≡◌, refl}
 use Rattle.entry_order.specs.Log.{PrecedesOrIs}
 use Rattle.entry_order.proofs.Members.{at_in, so_far_step, so_far_end}
-use Rattle.entry_order.proofs.Searching.{up_to_in}
+use Rattle.entry_order.proofs.SlowPrograms.{up_to_in}
 use Rattle.entry_order.proofs.by_definition.precedes_output.Goals as goal
 
 pub returns-then-branch : goal.returns-then-branch

@@ -1,7 +1,7 @@
 use Rattle.std.proofs.Common.{arith}
 use Rattle.entry_order.specs.Log.{PrecedesOrIs}
 use Rattle.entry_order.proofs.Members.{at_in}
-use Rattle.entry_order.proofs.Searching.{counts_in, counts_out, counts_end}
+use Rattle.entry_order.proofs.SlowPrograms.{counts_in, counts_out, counts_end}
 use Rattle.entry_order.proofs.by_definition.weight.Goals as goal
 
 pub loop-other-preserved-then-not-contains : goal.loop-other-preserved-then-not-contains

@@ -1,6 +1,6 @@
 use Rattle.std.proofs.Common.{◌≤◌}
 use Rattle.entry_order.specs.Log.{PrecedesOrIs}
-use Rattle.entry_order.proofs.Searching.{CountsFrom}
+use Rattle.entry_order.proofs.SlowPrograms.{CountsFrom}
 use Rattle.entry_order.proofs.by_definition.weight.Given as goal
 
 abbrev pub invariant-loop-other : goal.invariant-loop-other

@@ -1,5 +1,5 @@
 use Rattle.entry_order.proofs.laws.closed_part_is_within_frontiers.Goals as goal
-use Rattle.entry_order.proofs.Existing.{closed_part_there}
+use Rattle.entry_order.proofs.ClosedParts.{closed_part_there}
 use Rattle.entry_order.proofs.Parts.{closed_part, part_unique}
 
 pub returns-clause-part : goal.returns-clause-part

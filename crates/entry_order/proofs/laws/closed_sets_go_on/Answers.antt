@@ -1,4 +1,4 @@
-use Rattle.entry_order.proofs.Keeping.{kept, kept_log, kept_in, in_kept}
+use Rattle.entry_order.proofs.KeptEntries.{kept, kept_log, kept_in, in_kept}
 use Rattle.entry_order.proofs.laws.closed_sets_go_on.Goals as goal
 
 pub returns : goal.returns

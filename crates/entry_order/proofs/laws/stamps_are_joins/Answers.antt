@@ -1,5 +1,5 @@
 use Rattle.entry_order.proofs.laws.stamps_are_joins.Goals as goal
-use Rattle.entry_order.proofs.Stamping.{stamp_is}
+use Rattle.entry_order.proofs.StampLemmas.{stamp_is}
 use Rattle.entry_order.proofs.Parts.{stamp_covers, stamp_stays}
 use Rattle.entry_order.proofs.Joins.{stamp_there, stamp_unique, stamp_components, components_stamp, join_is_stamp}
 use Rattle.entry_order.proofs.Weights.{stamp_within}

@@ -1,4 +1,4 @@
-use Rattle.job_top.proofs.Appending.{all_same, cut_same, appends_same}
+use Rattle.job_top.proofs.AppendedFiles.{all_same, cut_same, appends_same}
 use Rattle.job_top.proofs.OutputSteps.{cut_made_header, cut_made_records, made_in_order}
 use Rattle.job_top.proofs.making.write_capture.Goals as goal
 

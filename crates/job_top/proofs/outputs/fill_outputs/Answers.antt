@@ -1,5 +1,5 @@
 use Rattle.job_top.specs.Outputs.{output_of}
-use Rattle.job_top.proofs.Appending.{all_same, cut_same, appends_same}
+use Rattle.job_top.proofs.AppendedFiles.{all_same, cut_same, appends_same}
 use Rattle.job_top.proofs.OutputSteps.{cut_records, cut_schedule, report_in_order, report_whole}
 use Rattle.job_top.proofs.outputs.fill_outputs.Goals as goal
 

@@ -1,6 +1,6 @@
 use Rattle.job_top.specs.Outputs.{output_of}
 use Rattle.job_top.specs.Words.{names_of}
-use Rattle.job_top.proofs.Appending.{on_err}
+use Rattle.job_top.proofs.AppendedFiles.{on_err}
 use Rattle.job_top.proofs.OutputSteps.{no_released, cut_header, no_schedule}
 use Rattle.job_top.proofs.outputs.open_outputs.Goals as goal
 

@@ -2,7 +2,7 @@ use Rattle.std.proofs.Common.{ap, sym, ◌∙◌}
 use Rattle.job_top.specs.Status.{stage_of}
 use Rattle.job_top.specs.Words.{names_of}
 use Rattle.job_top.proofs.Runs.{not_at_inputs}
-use Rattle.job_top.proofs.Completing.{run_completes, outcome_completes}
+use Rattle.job_top.proofs.HealthyWorlds.{run_completes, outcome_completes}
 use Rattle.job_top.proofs.top.ftmb.Goals as goal
 
 pub returns-in-Some-Run-clause-completes : goal.returns-in-Some-Run-clause-completes

@@ -1,5 +1,5 @@
 use Rattle.std.proofs.Common.{refl, []}
-use Rattle.plain_machine.proofs.Playing.{play_history}
+use Rattle.plain_machine.proofs.PlayedLists.{play_history}
 use Rattle.master_core.proofs.ListsLemmas.{grown, followed_grown, moves_within}
 use Rattle.master_core.proofs.lists.lists_are_followed.Goals as goal
 

@@ -1,5 +1,5 @@
-use Rattle.monitor_box.proofs.Summing.{packets_counted, bytes_counted}
-use Rattle.monitor_box.proofs.Arriving.{counts_flow, counts_flow_at_rest}
+use Rattle.monitor_box.proofs.MatchedTotals.{packets_counted, bytes_counted}
+use Rattle.monitor_box.proofs.CountedPackets.{counts_flow, counts_flow_at_rest}
 use Rattle.monitor_box.proofs.laws.flows_count_their_packets.Goals as goal
 
 pub returns-clause-packets : goal.returns-clause-packets

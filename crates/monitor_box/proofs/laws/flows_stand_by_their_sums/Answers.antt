@@ -1,4 +1,4 @@
-use Rattle.monitor_box.proofs.Standing.{run_stands}
+use Rattle.monitor_box.proofs.FlowTables.{run_stands}
 use Rattle.monitor_box.proofs.laws.flows_stand_by_their_sums.Goals as goal
 
 pub returns : goal.returns

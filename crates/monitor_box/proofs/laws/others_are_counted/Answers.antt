@@ -1,4 +1,4 @@
-use Rattle.monitor_box.proofs.Arriving.{counts_others, counts_others_at_rest}
+use Rattle.monitor_box.proofs.CountedPackets.{counts_others, counts_others_at_rest}
 use Rattle.monitor_box.proofs.laws.others_are_counted.Goals as goal
 
 pub returns-clause-others : goal.returns-clause-others

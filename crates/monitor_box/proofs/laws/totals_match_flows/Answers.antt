@@ -1,4 +1,4 @@
-use Rattle.monitor_box.proofs.Summing.{run_matches, rest_is_sum, packets_counted, bytes_counted}
+use Rattle.monitor_box.proofs.MatchedTotals.{run_matches, rest_is_sum, packets_counted, bytes_counted}
 use Rattle.monitor_box.proofs.laws.totals_match_flows.Goals as goal
 
 pub returns-clause-packets : goal.returns-clause-packets

@@ -1,5 +1,5 @@
 use Rattle.std.proofs.Common.{◌+◌, [], ap, ◌∙◌}
-use Rattle.plain_machine.proofs.Playing.{play_history, history_played, fault_is_first}
+use Rattle.plain_machine.proofs.PlayedLists.{play_history, history_played, fault_is_first}
 use Rattle.plain_machine.proofs.laws.lists_are_histories.Goals as goal
 
 pub returns-clause-history : goal.returns-clause-history

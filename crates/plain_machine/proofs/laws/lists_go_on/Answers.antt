@@ -1,7 +1,7 @@
 use Rattle.std.proofs.Common.{[], ◌∷◌, Ok, ap, ◌∙◌, refl}
 use Rattle.plain_machine.specs.History.{and_move}
 use Rattle.plain_machine.proofs.Histories.{earlier_history}
-use Rattle.plain_machine.proofs.Playing.{play_append, play_prefix}
+use Rattle.plain_machine.proofs.PlayedLists.{play_append, play_prefix}
 use Rattle.plain_machine.proofs.laws.lists_go_on.Goals as goal
 
 pub returns-clause-appended : goal.returns-clause-appended

@@ -1,5 +1,5 @@
 use Rattle.plain_machine.proofs.Agreement.{histories_agree}
-use Rattle.plain_machine.proofs.Playing.{play_history}
+use Rattle.plain_machine.proofs.PlayedLists.{play_history}
 use Rattle.plain_machine.proofs.laws.runs_agree.Goals as goal
 
 pub returns : goal.returns

@@ -1,5 +1,5 @@
-use Rattle.plain_machine.proofs.Continuing.{continue}
-use Rattle.plain_machine.proofs.Playing.{play_history, played_on}
+use Rattle.plain_machine.proofs.Continuations.{continue}
+use Rattle.plain_machine.proofs.PlayedLists.{play_history, played_on}
 use Rattle.plain_machine.proofs.laws.runs_continue.Goals as goal
 
 pub returns : goal.returns

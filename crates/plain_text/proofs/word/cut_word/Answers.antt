@@ -1,7 +1,7 @@
 use Rattle.std.proofs.Common.{refl, arith, sym, ◌∙◌, ap, rules}
 use Rattle.std.proofs.lemmas.Grind.{common_steps}
 use Rattle.plain_text.specs.Lines.{is_blank}
-use Rattle.plain_text.proofs.Cutting.{split_at_none, split_at_some}
+use Rattle.plain_text.proofs.CutLists.{split_at_none, split_at_some}
 use Rattle.plain_text.proofs.word.cut_word.Goals as goal
 
 pub returns-in_default-clause-words : goal.returns-in_default-clause-words

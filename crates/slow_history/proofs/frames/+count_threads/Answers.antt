@@ -1,6 +1,6 @@
 use Rattle.std.proofs.Common.{arith, refl}
 use Rattle.slow_history.specs.Mirror.{HasOneOf}
-use Rattle.slow_history.proofs.Counting.{thread_more, thread_same}
+use Rattle.slow_history.proofs.CountedEntries.{thread_more, thread_same}
 use Rattle.slow_history.proofs.frames.+count_threads.Goals as goal
 
 pub returns-then-has_thread-clause-count : goal.returns-then-has_thread-clause-count

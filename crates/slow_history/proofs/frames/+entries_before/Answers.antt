@@ -1,7 +1,7 @@
 use Rattle.std.proofs.Common.{List, ◌∷◌, sym, subst}
 use Rattle.entry_order.specs.Log.{Entry, PrecedesOutput}
 use Rattle.slow_history.proofs.Firsts.{by_first}
-use Rattle.slow_history.proofs.Counting.{AreThose, those_more, those_same}
+use Rattle.slow_history.proofs.CountedEntries.{AreThose, those_more, those_same}
 use Rattle.slow_history.proofs.frames.+entries_before.Goals as goal
 
 pub returns-then-not-branch : goal.returns-then-not-branch

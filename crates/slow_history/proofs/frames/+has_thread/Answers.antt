@@ -3,7 +3,7 @@ use Rattle.std.specs.Prelude.{◌↔◌}
 use Rattle.entry_order.specs.Log.{Entry}
 use Rattle.slow_history.specs.Mirror.{HasOneOf}
 use Rattle.slow_history.proofs.Firsts.{by_first}
-use Rattle.slow_history.proofs.Counting.{none_of, first_of, later_of}
+use Rattle.slow_history.proofs.CountedEntries.{none_of, first_of, later_of}
 use Rattle.slow_history.proofs.frames.+has_thread.Goals as goal
 
 pub returns-in-empty : goal.returns-in-empty

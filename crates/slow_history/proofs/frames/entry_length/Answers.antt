@@ -2,7 +2,7 @@ use Rattle.std.proofs.Common.{List, subst, refl}
 use Rattle.entry_order.specs.Log.{Entry}
 use Rattle.recovery_world.specs.Frames.{IsThreadCount, HasComponent}
 use Rattle.slow_history.specs.Mirror.{HasOneOf}
-use Rattle.slow_history.proofs.Counting.{count_by_same, entry_components}
+use Rattle.slow_history.proofs.CountedEntries.{count_by_same, entry_components}
 use Rattle.slow_history.proofs.frames.entry_length.Goals as goal
 
 pub returns : goal.returns

@@ -2,7 +2,7 @@ use Rattle.std.proofs.Common.{◌+◌, ◌*◌, List, subst, ap, ◌∙◌, ℕ}
 use Rattle.entry_order.specs.Log.{Entry}
 use Rattle.recovery_world.specs.Frames.{IsThreadCount, HasOutputComponent}
 use Rattle.slow_history.specs.Mirror.{HasOneOf}
-use Rattle.slow_history.proofs.Counting.{count_by_same, output_components}
+use Rattle.slow_history.proofs.CountedEntries.{count_by_same, output_components}
 use Rattle.slow_history.proofs.frames.output_length.Goals as goal
 
 pub returns-in-Some : goal.returns-in-Some

@@ -2,7 +2,7 @@ use Rattle.std.proofs.Common.{◌≡◌, List}
 use Rattle.std.specs.Option.{MatchOption}
 use Rattle.entry_order.specs.Log.{Entry, IsIn}
 use Rattle.slow_history.proofs.Firsts.{by_first}
-use Rattle.slow_history.proofs.Awaiting.{entry_same}
+use Rattle.slow_history.proofs.AwaitedEntries.{entry_same}
 use Rattle.slow_history.proofs.reading.+entry_at.Goals as goal
 
 pub returns-else-is_entry : goal.returns-else-is_entry

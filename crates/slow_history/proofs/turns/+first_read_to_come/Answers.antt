@@ -4,7 +4,7 @@ use Rattle.entry_order.specs.Log.{Entry}
 use Rattle.entry_order.specs.Closed.{IsNoLater}
 use Rattle.recovery_world.specs.Turns.{IsReadToCome}
 use Rattle.slow_history.proofs.Firsts.{by_first}
-use Rattle.slow_history.proofs.Awaiting.{first_read_more, first_read_same}
+use Rattle.slow_history.proofs.AwaitedEntries.{first_read_more, first_read_same}
 use Rattle.slow_history.proofs.turns.+first_read_to_come.Goals as goal
 
 pub returns-then-is_read_to_come : goal.returns-then-is_read_to_come

@@ -4,7 +4,7 @@ use Rattle.entry_order.specs.declared.what.What.TheVariants.{Draw}
 use Rattle.entry_order.specs.Log.{Entry, IsIn}
 use Rattle.slow_history.specs.Mirror.{IsTold}
 use Rattle.slow_history.proofs.Firsts.{by_first}
-use Rattle.slow_history.proofs.Awaiting.{told_same}
+use Rattle.slow_history.proofs.AwaitedEntries.{told_same}
 use Rattle.slow_history.proofs.turns.+followed_draw.Goals as goal
 
 pub returns-in-None : goal.returns-in-None

@@ -3,7 +3,7 @@ use Rattle.std.specs.Option.{MatchOption}
 use Rattle.entry_order.specs.declared.what.What.TheVariants.{Access}
 use Rattle.entry_order.specs.Log.{Entry, IsIn}
 use Rattle.slow_history.proofs.Firsts.{by_first}
-use Rattle.slow_history.proofs.Awaiting.{touch_same, IsOwn}
+use Rattle.slow_history.proofs.AwaitedEntries.{touch_same, IsOwn}
 use Rattle.slow_history.proofs.turns.+touch_of_another.Goals as goal
 
 pub returns-else-is_touch_of_another : goal.returns-else-is_touch_of_another

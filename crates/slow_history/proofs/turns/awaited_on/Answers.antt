@@ -4,7 +4,7 @@ use Rattle.entry_order.specs.declared.what.What.TheVariants.{Read}
 use Rattle.entry_order.specs.Log.{Entry, places, IsIn}
 use Rattle.entry_order.specs.Closed.{IsNoLater}
 use Rattle.recovery_world.specs.Turns.{IsReadToCome}
-use Rattle.slow_history.proofs.Awaiting.{awaited_by}
+use Rattle.slow_history.proofs.AwaitedEntries.{awaited_by}
 use Rattle.slow_history.proofs.turns.awaited_on.Goals as goal
 
 pub returns-then-reads : goal.returns-then-reads

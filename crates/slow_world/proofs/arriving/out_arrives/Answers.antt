@@ -10,7 +10,7 @@ use Rattle.recovery_world.specs.Events.{HasNumber, IsOutputOf}
 use Rattle.slow_history.specs.declared.history.SentOut.{SentOut}
 use Rattle.slow_history.specs.Mirror.{history, sent_is, sents}
 use Rattle.slow_world.specs.Mirror.{world_is}
-use Rattle.slow_world.proofs.Parting.{sents_append}
+use Rattle.slow_world.proofs.OutputLists.{sents_append}
 use Rattle.slow_world.proofs.Messages.{arrived_before, not_arrived, due_there, missing_there, with_outputs}
 use Rattle.slow_world.proofs.arriving.out_arrives.Goals as goal
 

@@ -3,7 +3,7 @@ use Rattle.slow_history.specs.Mirror.{step_is}
 use Rattle.slow_world.specs.Mirror.{world_is, setting_is}
 use Rattle.slow_world.specs.Moves.{Wishes}
 use Rattle.slow_world.proofs.Lists.{if_ok_both}
-use Rattle.slow_world.proofs.Moving.{on_move}
+use Rattle.slow_world.proofs.ThreadMoves.{on_move}
 use Rattle.slow_world.proofs.events.on_step.Goals as goal
 
 pub returns-in-Makes-clause-on : goal.returns-in-Makes-clause-on

@@ -2,7 +2,7 @@ use Rattle.std.proofs.Common.{◌≡◌, List, sym, ◌∙◌, option_copied, sl
 use Rattle.plain_text.specs.declared.packet.Packet.{Packet}
 use Rattle.input_logger.specs.Inputs.{inputs_of}
 use Rattle.slow_history.proofs.Firsts.{by_first}
-use Rattle.slow_world.proofs.Feeding.{input_more}
+use Rattle.slow_world.proofs.FedInputs.{input_more}
 use Rattle.slow_world.proofs.inputs.+input_after.Goals as goal
 
 pub returns-in-Some : goal.returns-in-Some

@@ -1,5 +1,5 @@
 use Rattle.slow_history.specs.Mirror.{history}
-use Rattle.slow_world.proofs.Moving.{plays_emit}
+use Rattle.slow_world.proofs.ThreadMoves.{plays_emit}
 use Rattle.slow_world.proofs.moves.emit.Goals as goal
 
 pub returns-clause-plays : goal.returns-clause-plays

@@ -1,4 +1,4 @@
-use Rattle.slow_world.proofs.Moving.{plays_end}
+use Rattle.slow_world.proofs.ThreadMoves.{plays_end}
 use Rattle.slow_world.proofs.moves.end.Goals as goal
 
 pub returns-clause-plays : goal.returns-clause-plays

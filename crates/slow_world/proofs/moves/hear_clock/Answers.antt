@@ -1,4 +1,4 @@
-use Rattle.slow_world.proofs.Moving.{plays_clock}
+use Rattle.slow_world.proofs.ThreadMoves.{plays_clock}
 use Rattle.slow_world.proofs.moves.hear_clock.Goals as goal
 
 pub returns-clause-plays : goal.returns-clause-plays

@@ -1,4 +1,4 @@
-use Rattle.slow_world.proofs.Moving.{plays_draw}
+use Rattle.slow_world.proofs.ThreadMoves.{plays_draw}
 use Rattle.slow_world.proofs.moves.hear_draw.Goals as goal
 
 pub returns-clause-plays : goal.returns-clause-plays

@@ -1,5 +1,5 @@
 use Rattle.slow_history.specs.Mirror.{history}
-use Rattle.slow_world.proofs.Moving.{plays_touch}
+use Rattle.slow_world.proofs.ThreadMoves.{plays_touch}
 use Rattle.slow_world.proofs.moves.touch.Goals as goal
 
 pub returns-clause-plays : goal.returns-clause-plays

@@ -4,7 +4,7 @@ use Rattle.slow_history.specs.declared.history.SentOut.{SentOut}
 use Rattle.slow_history.specs.Mirror.{sents}
 use Rattle.slow_world.specs.Mirror.{HasOneOf}
 use Rattle.slow_history.proofs.Firsts.{by_first}
-use Rattle.slow_world.proofs.Parting.{first_has}
+use Rattle.slow_world.proofs.OutputLists.{first_has}
 use Rattle.slow_world.proofs.outputs.+has_number.Goals as goal
 
 pub returns-then-is_output : goal.returns-then-is_output

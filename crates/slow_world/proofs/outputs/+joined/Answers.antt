@@ -3,7 +3,7 @@ use Rattle.slow_history.specs.declared.history.SentOut.{SentOut}
 use Rattle.slow_history.specs.Mirror.{sents}
 use Rattle.slow_history.proofs.Firsts.{by_first}
 use Rattle.slow_world.proofs.Lists.{if_ok_still}
-use Rattle.slow_world.proofs.Parting.{joined_more}
+use Rattle.slow_world.proofs.OutputLists.{joined_more}
 use Rattle.slow_world.proofs.outputs.+joined.Goals as goal
 
 pub returns-in_ok-push-in-len1-up : goal.returns-in_ok-push-in-len1-up

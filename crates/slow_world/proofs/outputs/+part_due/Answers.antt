@@ -7,7 +7,7 @@ use Rattle.recovery_world.specs.Events.{Parts}
 use Rattle.slow_history.specs.declared.history.SentOut.{SentOut}
 use Rattle.slow_history.specs.Mirror.{sents}
 use Rattle.slow_history.proofs.Firsts.{by_first}
-use Rattle.slow_world.proofs.Parting.{parts_go, parts_stay, not_due}
+use Rattle.slow_world.proofs.OutputLists.{parts_go, parts_stay, not_due}
 use Rattle.slow_world.proofs.outputs.+part_due.Goals as goal
 
 pub returns-in_ok-insert-in-None : goal.returns-in_ok-insert-in-None

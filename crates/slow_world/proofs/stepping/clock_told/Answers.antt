@@ -3,7 +3,7 @@ use Rattle.std.specs.Option.{MatchOption}
 use Rattle.entry_order.specs.declared.what.What.TheVariants.{Clock}
 use Rattle.entry_order.specs.Log.{Entry, IsIn}
 use Rattle.slow_history.specs.Mirror.{IsTold}
-use Rattle.slow_world.proofs.Telling.{told_in, told_none, free_clock}
+use Rattle.slow_world.proofs.ToldAnswers.{told_in, told_none, free_clock}
 use Rattle.slow_world.proofs.stepping.clock_told.Goals as goal
 
 pub returns-in-Some : goal.returns-in-Some

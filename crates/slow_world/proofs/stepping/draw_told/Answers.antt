@@ -3,7 +3,7 @@ use Rattle.std.specs.Option.{MatchOption}
 use Rattle.entry_order.specs.declared.what.What.TheVariants.{Draw}
 use Rattle.entry_order.specs.Log.{Entry, IsIn}
 use Rattle.slow_history.specs.Mirror.{IsTold}
-use Rattle.slow_world.proofs.Telling.{told_in, told_none}
+use Rattle.slow_world.proofs.ToldAnswers.{told_in, told_none}
 use Rattle.slow_world.proofs.Lists.{if_ok_still}
 use Rattle.slow_world.proofs.stepping.draw_told.Goals as goal
 

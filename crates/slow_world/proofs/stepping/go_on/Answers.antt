@@ -2,7 +2,7 @@ use Rattle.std.proofs.Common.{ap, ◌∙◌}
 use Rattle.plain_machine.specs.History.{log_of as log_is}
 use Rattle.slow_history.specs.Mirror.{history}
 use Rattle.slow_world.specs.Mirror.{world_is, setting_is}
-use Rattle.slow_world.proofs.Moving.{hand_moves, waits_there, turn_there}
+use Rattle.slow_world.proofs.ThreadMoves.{hand_moves, waits_there, turn_there}
 use Rattle.slow_world.proofs.stepping.go_on.Goals as goal
 
 pub returns-in-Some-clause-wishes : goal.returns-in-Some-clause-wishes

@@ -1,7 +1,7 @@
 use Rattle.std.proofs.Common.{sym, ◌∙◌}
 use Rattle.slow_history.specs.Mirror.{step_is}
 use Rattle.slow_world.specs.Mirror.{world_is, setting_is}
-use Rattle.slow_world.proofs.Moving.{next_clock, next_draw, next_end}
+use Rattle.slow_world.proofs.ThreadMoves.{next_clock, next_draw, next_end}
 use Rattle.slow_world.proofs.stepping.make_move.Goals as goal
 
 pub returns-in-Clock-clause-plays : goal.returns-in-Clock-clause-plays

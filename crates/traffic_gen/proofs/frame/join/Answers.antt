@@ -1,5 +1,5 @@
 use Rattle.std.proofs.Common.{◌∙◌, refl, replicate}
-use Rattle.traffic_gen.proofs.Joining.{put_mid_last}
+use Rattle.traffic_gen.proofs.JoinedBytes.{put_mid_last}
 use Rattle.traffic_gen.proofs.frame.join.Goals as goal
 
 pub returns : goal.returns

@@ -2,7 +2,7 @@ use Rattle.std.proofs.Common.{◌≡◌, ◌≤◌, ◌++◌, [], length, take, 
 use Rattle.std.proofs.lemmas.List.{take-append-le}
 use Rattle.std.proofs.lemmas.Grind.{common_steps}
 use Rattle.plain_text.proofs.Octets.{AreBytes-append}
-use Rattle.world_io.proofs.ReadingAll.{no_memory}
+use Rattle.world_io.proofs.ReadAllLemmas.{no_memory}
 use Rattle.world_io.proofs.all.read_all.Goals as goal
 
 pub returns-in-End-clause-reads : goal.returns-in-End-clause-reads

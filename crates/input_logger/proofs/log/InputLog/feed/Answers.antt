@@ -1,6 +1,6 @@
 use Rattle.std.proofs.Common.{◌+◌, ap, arith, ℕ, length-append}
 use Rattle.input_logger.specs.Inputs.{Fed}
-use Rattle.input_logger.proofs.Indexing.{fed_is_indexed, length-inputs}
+use Rattle.input_logger.proofs.PlaceLists.{fed_is_indexed, length-inputs}
 use Rattle.input_logger.proofs.log.InputLog.feed.Goals as goal
 
 pub invariant_of-self-2 : goal.invariant_of-self-2

@@ -1,7 +1,7 @@
 use Rattle.std.proofs.Common.{◌∙◌, ap, slice_get, List}
 use Rattle.plain_text.specs.declared.packet.Packet.{Packet}
 use Rattle.input_logger.specs.Inputs.{Fed}
-use Rattle.input_logger.proofs.Indexing.{finds_no_thread, finds_no_place, finds_input}
+use Rattle.input_logger.proofs.PlaceLists.{finds_no_thread, finds_no_place, finds_input}
 use Rattle.input_logger.proofs.log.InputLog.input.Goals as goal
 
 pub returns-in_err-places : goal.returns-in_err-places

@@ -1,5 +1,5 @@
 use Rattle.std.proofs.Common.{arith}
-use Rattle.input_logger.proofs.Indexing.{new_is_indexed}
+use Rattle.input_logger.proofs.PlaceLists.{new_is_indexed}
 use Rattle.input_logger.proofs.log.InputLog.new.Goals as goal
 
 pub invariant_of-result : goal.invariant_of-result

@@ -1,5 +1,5 @@
 use Rattle.std.proofs.Common.{◌∙◌, refl}
-use Rattle.monitor_box.proofs.Counting.{counted_by}
+use Rattle.monitor_box.proofs.TableLemmas.{counted_by}
 use Rattle.monitor_box.proofs.table.FlowTable.count.Goals as goal
 
 pub returns-clause-ok : goal.returns-clause-ok
