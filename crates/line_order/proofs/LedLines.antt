@@ -1,10 +1,10 @@
 -- A run is continued by entries of another one, each after the moves of its thread that lead to it.
-use Rattle.std.proofs.Common.{◌≡◌, ℕ, ◌+◌, ◌≤◌, ◌<◌, ◌≢◌, true, false, List, [], ◌∷◌, ◌++◌, refl, sym, ap, ◌∙◌, subst, inl, inr, ◌⊎◌, arith, Option, Some}
+use Rattle.std.proofs.Common.{◌≡◌, ℕ, ◌+◌, ◌≤◌, ◌<◌, ◌≢◌, true, false, List, [], ◌∷◌, ◌++◌, refl, sym, ap, ◌∙◌, subst, inl, inr, ◌⊎◌, arith, Option}
 use Rattle.std.proofs.lemmas.Bool.{cases_lt}
 use Rattle.plain_text.specs.declared.packet.Packet.{Packet}
 use Rattle.entry_order.specs.declared.what.What.TheVariants.{Access, Read}
 use Rattle.entry_order.specs.Log.{Entry, entries, places, IsLog, IsIn, IsNext, IsClosed}
-use Rattle.entry_order.proofs.Order.{is_or, number_within, place_within, same_number, same_place, entries_same, entry_there, closed_thread}
+use Rattle.entry_order.proofs.Order.{is_or, number_within, same_number, entries_same, entry_there, closed_thread}
 use Rattle.entry_order.proofs.KeptEntries.{in_left, in_right, in_either}
 use Rattle.plain_machine.specs.Program.{Meaning}
 use Rattle.plain_machine.specs.Machine.{Thread, Effect, Takes, Touches, Looks, HearsClock, HearsDraw, Sends, Ends, Moves, thread_move}
@@ -12,13 +12,12 @@ use Rattle.plain_machine.specs.History.{Did, Step, log_of, moves_of, act_of, thr
 use Rattle.plain_machine.specs.Agree.{IsEarlier}
 use Rattle.plain_machine.specs.Continue.{IsGrounded}
 use Rattle.line_order.specs.Line.{IsQuiet, GoesQuietly, IsLed}
-use Rattle.plain_machine.proofs.Histories.{history_log, earlier_refl, earlier_tail, earlier_history, earlier_log, Leaves, leaves_in, earlier_leaves, is_eq, did_entry, moves_step, find_move}
-use Rattle.plain_machine.proofs.MoveLemmas.{is_logged, hand_logs, held_kind, IsOn, held_again}
+use Rattle.plain_machine.proofs.Histories.{history_log, earlier_refl, earlier_tail, earlier_history, earlier_log, leaves_in, is_eq, did_entry, moves_step, find_move}
+use Rattle.plain_machine.proofs.MoveLemmas.{is_logged, hand_logs, held_kind, IsOn}
 use Rattle.plain_machine.proofs.Seats.{SameSeat, seat_other}
-use Rattle.plain_machine.proofs.Values.{IsValue, is_value}
-use Rattle.plain_machine.proofs.Agreement.{SameValues, AllIn, agreed_all, entries_agree}
-use Rattle.plain_machine.proofs.LoggedEffects.{logged_makes, makes_logged, quiet_log, logged_or, did_on, act_again, in_log_at}
-use Rattle.plain_machine.proofs.Continuations.{drop_one}
+use Rattle.plain_machine.proofs.Agreement.{AllIn, agreed_all, entries_agree}
+use Rattle.plain_machine.proofs.LoggedEffects.{logged_makes, makes_logged, quiet_log, logged_or, off_variables, did_on, act_again, in_log_at}
+use Rattle.plain_machine.proofs.Continuations.{drop_one, At, at_more, other_at, again, count_logged, count_quiet, shut, set_in_M, set_in_H, value_again}
 
 -- an effect that is not logged is a quiet move
 pub effect_quiet : {V : Type 0} (t taken : ℕ) (A : List (Step V)) (d : Effect V) → is_logged d ≡ false → IsQuiet (act_of t A taken d)
@@ -37,18 +36,12 @@ stays_quietly t (x ∷ xs) = inl refl
 module _ {X : Type 0} (m : Meaning X) (inputs : ℕ → List Packet) (threads : ℕ) (H P : List (Step X))
     (hH : IsHistory m inputs threads H) (hP : IsHistory m inputs threads P)
     (K : List Entry) (closedK : IsClosed (log_of P) K) (inP : (e : Entry) → IsIn e K → IsIn e (log_of P)) (inH : (e : Entry) → IsIn e K → IsIn e (log_of H)) where
-  -- the thread made no move since P, or its newest move is its newest entry
-  abbrev pub At : List Entry → ℕ → List (Step X) → Type 0
-  At more t M =
-      ((thread_after M t ≡ thread_after P t) × (entries t (log_of M) ≡ entries t (log_of P)))
-      ⊎ ((z : Step X) × (M1 : List (Step X)) × (e : Entry) × (left : Option X) × IsEarlier (z ∷ M1) M × (e.thread ≡ t) × (z.act ≡ Did e left) × (thread_after M t ≡ z.after) × (entries t (log_of M) ≡ e.number) × IsIn e more)
-
   pub record Goes (more : List Entry) : Type 0 where
     pub steps : List (Step X)
     pub history : IsHistory m inputs threads steps
     pub log_is : log_of steps ≡ more ++ log_of P
     pub base : IsEarlier P steps
-    pub at : (t : ℕ) → At more t steps
+    pub at : (t : ℕ) → At P more t steps
     pub led : IsLed P more steps
 
   record Ready (more : List Entry) (from : List (Step X)) (t : ℕ) (H0 : List (Step X)) : Type 0 where
@@ -58,55 +51,7 @@ module _ {X : Type 0} (m : Meaning X) (inputs : ℕ → List Packet) (threads : 
     base : IsEarlier P steps
     quiet : GoesQuietly from t steps
     thread_is : thread_after steps t ≡ thread_after H0 t
-    others : (u : ℕ) → u ≢ t → At more u steps
-
-  shut : (more : List Entry) (M : List (Step X)) → IsGrounded (log_of P) K more → log_of M ≡ more ++ log_of P → IsClosed (log_of M) (more ++ K)
-  shut more M ground same e f he hf n = go (in_either e more (log_of P) (subst (λ (l : List Entry). IsIn e l) same he)) (in_either f more K hf)
-    where
-      go : IsIn e more ⊎ IsIn e (log_of P) → IsIn f more ⊎ IsIn f K → IsIn e (more ++ K)
-      go (inl a) b = in_left e more K a
-      go (inr a) (inl b) = in_right e more K (ground f e b a n)
-      go (inr a) (inr b) = in_right e more K (closedK e f a b n)
-
-  set_in_M : (more : List Entry) (M : List (Step X)) → log_of M ≡ more ++ log_of P → (e : Entry) → IsIn e (more ++ K) → IsIn e (log_of M)
-  set_in_M more M same e h = subst (λ (l : List Entry). IsIn e l) (sym same) (go (in_either e more K h))
-    where
-      go : IsIn e more ⊎ IsIn e K → IsIn e (more ++ log_of P)
-      go (inl a) = in_left e more (log_of P) a
-      go (inr a) = in_right e more (log_of P) (inP e a)
-
-  set_in_H : (more : List Entry) → ((e : Entry) → IsIn e more → IsIn e (log_of H)) → (e : Entry) → IsIn e (more ++ K) → IsIn e (log_of H)
-  set_in_H more sub e h = go (in_either e more K h)
-    where
-      go : IsIn e more ⊎ IsIn e K → IsIn e (log_of H)
-      go (inl a) = sub e a
-      go (inr a) = inH e a
-
-  other_at : (more : List Entry) (u : ℕ) (y : Step X) (M : List (Step X)) → IsStep m inputs threads M y → y.thread ≢ u → At more u M → At more u (y ∷ M)
-  other_at more u y M h ne old = go (seat_other m inputs threads u y M h ne) old
-    where
-      go : SameSeat u (y ∷ M) M → At more u M → At more u (y ∷ M)
-      go s (inl a) = inl (s.thread ∙ a.0, s.entries ∙ a.1)
-      go s (inr r) = inr (r.0, r.1, r.2, r.3, inr r.4, r.5, r.6, s.thread ∙ r.7, s.entries ∙ r.8, r.9)
-
-  at_more : (e : Entry) (more : List Entry) (u : ℕ) (M : List (Step X)) → At more u M → At (e ∷ more) u M
-  at_more e more u M (inl a) = inl a
-  at_more e more u M (inr r) = inr (r.0, r.1, r.2, r.3, r.4, r.5, r.6, r.7, r.8, inr r.9)
-
-  again : (t : ℕ) (y : Step X) (H2 M : List (Step X)) (h : IsStep m inputs threads H2 y) → y.thread ≡ t → thread_after M t ≡ thread_after H2 t → ((v : ℕ) → IsOn v h.2 → value_after m H2 v ≡ value_after m M v) → thread_move m (inputs t) (value_after m M) (thread_after M t) h.1 ≡ Moves y.after h.2
-  again t y H2 M h e same s =
-      let a : thread_move m (inputs t) (value_after m H2) (thread_after H2 t) h.1 ≡ Moves y.after h.2 = subst (λ (u : ℕ). thread_move m (inputs u) (value_after m H2) (thread_after H2 u) h.1 ≡ Moves y.after h.2) e h.3 in
-      let b : thread_move m (inputs t) (value_after m H2) (thread_after M t) h.1 ≡ Moves y.after h.2 = subst (λ (th : Thread). thread_move m (inputs t) (value_after m H2) th h.1 ≡ Moves y.after h.2) (sym same) a in
-      held_again m (inputs t) (value_after m H2) (value_after m M) (thread_after M t).taken h.1 (thread_after M t).hand y.after h.2 b s
-
-  off_variables : (d : Effect X) → is_logged d ≡ false → (v : ℕ) → IsOn v d → ⊥
-  off_variables Takes off v on = on
-  off_variables (Touches u left) off v on = cc
-  off_variables (Looks u) off v on = cc
-  off_variables (HearsClock a) off v on = on
-  off_variables (HearsDraw a) off v on = on
-  off_variables (Sends p) off v on = on
-  off_variables Ends off v on = on
+    others : (u : ℕ) → u ≢ t → At P more u steps
 
   append_quiet : (more : List Entry) (from : List (Step X)) (t : ℕ) (y : Step X) (H2 : List (Step X)) (h : IsStep m inputs threads H2 y) → y.thread ≡ t → is_logged h.2 ≡ false → Ready more from t H2 → Ready more from t (y ∷ H2)
   append_quiet more from t y H2 h e quiet r = record {
@@ -116,30 +61,20 @@ module _ {X : Type 0} (m : Meaning X) (inputs : ℕ → List Packet) (threads : 
     base = inr r.base;
     quiet = inr (refl, effect_quiet t y.after.taken r.steps h.2 quiet, r.quiet);
     thread_is = rw (is_eq t t refl, is_eq y.thread t e) refl;
-    others = λ u ne. other_at more u new r.steps stepped (λ k. ne (sym k)) (r.others u ne);
+    others = λ u ne. other_at m inputs threads P more u new r.steps stepped (λ k. ne (sym k)) (r.others u ne);
   }
     where
       new : Step X
       new = record { thread = t; act = act_of t r.steps y.after.taken h.2; after = y.after }
 
       stepped : IsStep m inputs threads r.steps new
-      stepped = (subst (λ (u : ℕ). u < threads) e h.0, h.1, h.2, again t y H2 r.steps h e r.thread_is (λ v k. absurd (off_variables h.2 quiet v k)), refl)
+      stepped = (subst (λ (u : ℕ). u < threads) e h.0, h.1, h.2, again m inputs threads t y H2 r.steps h e r.thread_is (λ v k. absurd (off_variables h.2 quiet v k)), refl)
 
   logP : IsLog (log_of P)
   logP = history_log m inputs threads P hP
 
   step_of : (y : Step X) (H2 : List (Step X)) → IsEarlier (y ∷ H2) H → IsStep m inputs threads H2 y
   step_of y H2 endH = (earlier_history m inputs threads (y ∷ H2) H endH hH).0
-
-  -- the count of entries after a logged step, and after another
-  count_logged : (t : ℕ) (y : Step X) (H2 : List (Step X)) (h : IsStep m inputs threads H2 y) → y.thread ≡ t → is_logged h.2 ≡ true → entries t (log_of (y ∷ H2)) ≡ entries t (log_of H2) + 1
-  count_logged t y H2 h e on =
-      let r = logged_makes y.thread y.after.taken H2 h.2 on in
-      let d : (r.0.thread ≡ y.thread) × (r.0.number ≡ entries y.thread (log_of H2) + 1) = did_entry y.thread y.after.taken H2 h.2 r.0 r.1 r.2 in
-      rw (h.4 ∙ r.2) (entries_same t r.0 (log_of H2) (d.0 ∙ e))
-
-  count_quiet : (t : ℕ) (y : Step X) (H2 : List (Step X)) (h : IsStep m inputs threads H2 y) → is_logged h.2 ≡ false → entries t (log_of (y ∷ H2)) ≡ entries t (log_of H2)
-  count_quiet t y H2 h off = rw h.4 (ap (λ (l : List Entry). entries t l) (quiet_log y.thread y.after.taken H2 (log_of H2) h.2 off))
 
   -- where H made as many moves of the thread as P
   at_same : (more : List Entry) (R : Goes more) (t : ℕ) → thread_after R.steps t ≡ thread_after P t → AllIn K t P → (H0 : List (Step X)) → IsEarlier H0 H → moves_of t P ≡ moves_of t H0 → (entries t (log_of P) ≤ entries t (log_of H0)) × (entries t (log_of H0) ≡ entries t (log_of P) → Ready more R.steps t H0)
@@ -157,8 +92,8 @@ module _ {X : Type 0} (m : Meaning X) (inputs : ℕ → List Packet) (threads : 
       hy = step_of y H2 endH
 
       mine : y.thread ≡ t → (is_logged hy.2 ≡ true) ⊎ (is_logged hy.2 ≡ false) → (entries t (log_of P) ≤ entries t (log_of H2)) × (entries t (log_of H2) ≡ entries t (log_of P) → Ready more R.steps t H2) → (entries t (log_of P) ≤ entries t (log_of (y ∷ H2))) × (entries t (log_of (y ∷ H2)) ≡ entries t (log_of P) → Ready more R.steps t (y ∷ H2))
-      mine e (inl on) rest = let c : entries t (log_of (y ∷ H2)) ≡ entries t (log_of H2) + 1 = count_logged t y H2 hy e on in (omega (arith, rest.0), λ k. absurd (omega (arith, rest.0, k)))
-      mine e (inr off) rest = let c : entries t (log_of (y ∷ H2)) ≡ entries t (log_of H2) = count_quiet t y H2 hy off in (omega (arith, rest.0), λ k. append_quiet more R.steps t y H2 hy e off (rest.1 (sym c ∙ k)))
+      mine e (inl on) rest = let c : entries t (log_of (y ∷ H2)) ≡ entries t (log_of H2) + 1 = count_logged m inputs threads t y H2 hy e on in (omega (arith, rest.0), λ k. absurd (omega (arith, rest.0, k)))
+      mine e (inr off) rest = let c : entries t (log_of (y ∷ H2)) ≡ entries t (log_of H2) = count_quiet m inputs threads t y H2 hy off in (omega (arith, rest.0), λ k. append_quiet more R.steps t y H2 hy e off (rest.1 (sym c ∙ k)))
 
       go : (moves_of t P ≡ moves_of t (y ∷ H2)) ⊎ (moves_of t P ≢ moves_of t (y ∷ H2)) → ((y.thread ≢ t) × (moves_of t (y ∷ H2) ≡ moves_of t H2)) ⊎ ((y.thread ≡ t) × (moves_of t (y ∷ H2) ≡ moves_of t H2 + 1)) → (moves_of t P ≤ moves_of t H2 → (entries t (log_of P) ≤ entries t (log_of H2)) × (entries t (log_of H2) ≡ entries t (log_of P) → Ready more R.steps t H2)) → (entries t (log_of P) ≤ entries t (log_of (y ∷ H2))) × (entries t (log_of (y ∷ H2)) ≡ entries t (log_of P) → Ready more R.steps t (y ∷ H2))
       go (inl k) b rest = at_same more R t ta all (y ∷ H2) endH k
@@ -186,11 +121,11 @@ module _ {X : Type 0} (m : Meaning X) (inputs : ℕ → List Packet) (threads : 
           let g = logged_makes y.thread y.after.taken H2 hy.2 on in
           let ay : y.act ≡ Did g.0 g.1 = hy.4 ∙ g.2 in
           let gy : (g.0.thread ≡ y.thread) × (g.0.number ≡ entries y.thread (log_of H2) + 1) = did_entry y.thread y.after.taken H2 hy.2 g.0 g.1 g.2 in
-          let count : entries t (log_of (y ∷ H2)) ≡ entries t (log_of H2) + 1 = count_logged t y H2 hy e on in
+          let count : entries t (log_of (y ∷ H2)) ≡ entries t (log_of H2) + 1 = count_logged m inputs threads t y H2 hy e on in
           let same : entries y.thread (log_of H2) ≡ entries t (log_of H2) = ap (λ (u : ℕ). entries u (log_of H2)) e in
           let number : r.2.number ≡ g.0.number = omega (arith, r.8, n, count, same, gy.1) in
           let one : r.2 ≡ g.0 = same_number (log_of H) r.2 g.0 (history_log m inputs threads H hH) (sub r.2 r.9) (earlier_log (y ∷ H2) H g.0 endH (leaves_in (y ∷ H2) g.0 g.1 (inl ay))) (r.5 ∙ sym (gy.0 ∙ e)) number in
-          let z : r.0 ≡ y = entries_agree m inputs threads (more ++ K) R.steps H R.history hH (shut more R.steps ground R.log_is) (set_in_M more R.steps R.log_is) (set_in_H more sub) r.0 y r.1 H2 r.2 r.3 g.1 r.4 endH (in_left r.2 more K r.9) r.6 (ay ∙ ap (λ (f : Entry). Did f g.1) (sym one)) in
+          let z : r.0 ≡ y = entries_agree m inputs threads (more ++ K) R.steps H R.history hH (shut m inputs threads H P hH hP K closedK inP inH more R.steps ground R.log_is) (set_in_M m inputs threads H P hH hP K closedK inP inH more R.steps R.log_is) (set_in_H m inputs threads H P hH hP K closedK inP inH more sub) r.0 y r.1 H2 r.2 r.3 g.1 r.4 endH (in_left r.2 more K r.9) r.6 (ay ∙ ap (λ (f : Entry). Did f g.1) (sym one)) in
           record {
             steps = R.steps;
             history = R.history;
@@ -203,38 +138,11 @@ module _ {X : Type 0} (m : Meaning X) (inputs : ℕ → List Packet) (threads : 
 
       go : (y.thread ≡ t) ⊎ (y.thread ≢ t) → (is_logged hy.2 ≡ true) ⊎ (is_logged hy.2 ≡ false) → (entries t (log_of H2) ≡ entries t (log_of R.steps) → Ready more R.steps t H2) → Ready more R.steps t (y ∷ H2)
       go (inl e) (inl on) rest = base e on
-      go (inl e) (inr off) rest = append_quiet more R.steps t y H2 hy e off (rest (sym (count_quiet t y H2 hy off) ∙ n))
+      go (inl e) (inr off) rest = append_quiet more R.steps t y H2 hy e off (rest (sym (count_quiet m inputs threads t y H2 hy off) ∙ n))
       go (inr ne) b rest =
           let sm : SameSeat t (y ∷ H2) H2 = seat_other m inputs threads t y H2 hy ne in
           let q : Ready more R.steps t H2 = rest (sym sm.entries ∙ n) in
           record { steps = q.steps; history = q.history; log_is = q.log_is; base = q.base; quiet = q.quiet; thread_is = q.thread_is ∙ sym sm.thread; others = q.others }
-
-  -- where the touches of the variable are as many, and the newest is of the set, the variable has one value
-  value_again : (more : List Entry) (M H1 : List (Step X)) (v : ℕ) → IsHistory m inputs threads M → log_of M ≡ more ++ log_of P → IsGrounded (log_of P) K more → ((e : Entry) → IsIn e more → IsIn e (log_of H)) → IsEarlier H1 H
-      → ((g : Entry) → IsIn g (log_of M) → g.what ≡ Access v (places v (log_of M)) → IsIn g (more ++ K))
-      → places v (log_of M) ≡ places v (log_of H1) → value_after m M v ≡ value_after m H1 v
-  value_again more M H1 v hM same ground sub endH known_touch n = go (is_value m inputs threads v M hM) (is_value m inputs threads v H1 h1)
-    where
-      h1 : IsHistory m inputs threads H1
-      h1 = earlier_history m inputs threads H1 H endH hH
-
-      agreed : SameValues (more ++ K) M H
-      agreed = (agreed_all m inputs threads (more ++ K) M H hM hH (shut more M ground same) (set_in_M more M same) (set_in_H more sub) M (earlier_refl M)).values
-
-      go : IsValue m v M → IsValue m v H1 → value_after m M v ≡ value_after m H1 v
-      go (inl a) (inl b) = a.1 ∙ sym b.1
-      go (inl a) (inr b) =
-          let k : (1 ≤ places v (log_of H1)) × (places v (log_of H1) ≤ places v (log_of H1)) = place_within (log_of H1) b.0 v (places v (log_of H1)) (history_log m inputs threads H1 h1) (leaves_in H1 b.0 _ b.1) b.2 in
-          absurd (omega (arith, a.0, n))
-      go (inr a) (inl b) =
-          let k : (1 ≤ places v (log_of M)) × (places v (log_of M) ≤ places v (log_of M)) = place_within (log_of M) a.0 v (places v (log_of M)) (history_log m inputs threads M hM) (leaves_in M a.0 _ a.1) a.2 in
-          absurd (omega (arith, b.0, n))
-      go (inr a) (inr b) =
-          let ina : IsIn a.0 (more ++ K) = known_touch a.0 (leaves_in M a.0 _ a.1) a.2 in
-          let k : a.0 ≡ b.0 = same_place (log_of H) a.0 b.0 v (places v (log_of M)) (history_log m inputs threads H hH) (set_in_H more sub a.0 ina) (earlier_log H1 H b.0 endH (leaves_in H1 b.0 _ b.1)) a.2 (b.2 ∙ ap (λ (i : ℕ). Access v i) (sym n)) in
-          let l : Leaves H a.0 (Some (value_after m H1 v)) = subst (λ (f : Entry). Leaves H f (Some (value_after m H1 v))) (sym k) (earlier_leaves H1 H b.0 _ endH b.1) in
-          let e2 : Some (value_after m M v) ≡ Some (value_after m H1 v) = agreed a.0 _ _ ina a.1 l in
-          cc
 
   -- one more entry
   extend : (e : Entry) (more : List Entry) → IsLog (e ∷ (more ++ log_of P)) → IsGrounded (log_of P) K (e ∷ more) → ((f : Entry) → IsIn f (e ∷ more) → IsIn f (log_of H)) → Goes more → Goes (e ∷ more)
@@ -322,7 +230,7 @@ module _ {X : Type 0} (m : Meaning X) (inputs : ℕ → List Packet) (threads : 
       rd : Ready more R.steps x.thread H1
       rd = pick (R.at x.thread)
         where
-          pick : At more x.thread R.steps → Ready more R.steps x.thread H1
+          pick : At P more x.thread R.steps → Ready more R.steps x.thread H1
           pick (inl a) = (ready_a more R x.thread a.0 (all a.1) H1 endH1 (fewer a.1)).1 (counts ∙ (sym logs ∙ a.1))
           pick (inr r) = ready_b more R ground1 sub1 x.thread r H1 endH1 (counts ∙ sym logs)
 
@@ -362,14 +270,14 @@ module _ {X : Type 0} (m : Meaning X) (inputs : ℕ → List Packet) (threads : 
       new = record { thread = x.thread; act = act_of x.thread rd.steps x.after.taken hx.2; after = x.after }
 
       moved : thread_move m (inputs x.thread) (value_after m rd.steps) (thread_after rd.steps x.thread) hx.1 ≡ Moves x.after hx.2
-      moved = again x.thread x H1 rd.steps hx refl rd.thread_is (λ v on. sym (value_again more rd.steps H1 v rd.history rd.log_is ground1 sub1 endH1 (newest_known v on) (sym (same_places v on))))
+      moved = again m inputs threads x.thread x H1 rd.steps hx refl rd.thread_is (λ v on. sym (value_again m inputs threads H P hH hP K closedK inP inH more rd.steps H1 v rd.history rd.log_is ground1 sub1 endH1 (newest_known v on) (sym (same_places v on))))
 
       stepped : IsStep m inputs threads rd.steps new
       stepped = (hx.0, hx.1, hx.2, moved, refl)
 
-      at : (u : ℕ) → (x.thread ≡ u) ⊎ (x.thread ≢ u) → At (e ∷ more) u (new ∷ rd.steps)
+      at : (u : ℕ) → (x.thread ≡ u) ⊎ (x.thread ≢ u) → At P (e ∷ more) u (new ∷ rd.steps)
       at u (inl k) = inr (new, rd.steps, e, found.2, inl refl, ex.0 ∙ k, act, rw (is_eq x.thread u k) refl, (rw act (entries_same u e (log_of rd.steps) (ex.0 ∙ k)) ∙ (ap (λ (l : List Entry). entries u l + 1) rd.log_is ∙ (ap (λ (n : ℕ). entries n (more ++ log_of P) + 1) (sym (ex.0 ∙ k)) ∙ sym good.0))), inl refl)
-      at u (inr ne) = other_at (e ∷ more) u new rd.steps stepped ne (at_more e more u rd.steps (rd.others u (λ k. ne (sym k))))
+      at u (inr ne) = other_at m inputs threads P (e ∷ more) u new rd.steps stepped ne (at_more P e more u rd.steps (rd.others u (λ k. ne (sym k))))
 
   -- Entries of H that are numbered on after P, and whose immediate predecessors in P are in K, continue P.
   pub continue : (more : List Entry) → IsLog (more ++ log_of P) → IsGrounded (log_of P) K more → ((e : Entry) → IsIn e more → IsIn e (log_of H)) → Goes more

@@ -11,10 +11,10 @@ use Rattle.plain_machine.specs.Machine.{Hand, Thread, Effect, Takes, Touches, Lo
 use Rattle.plain_machine.specs.History.{Act, Took, Did, Emitted, Ended, Step, log_more, log_of, sent_of, outputs, moves_of, act_of, thread_after, value_after, IsStep, IsHistory}
 use Rattle.plain_machine.specs.Agree.{IsEarlier, SendsAfter}
 use Rattle.plain_machine.proofs.Histories.{history_log, earlier_refl, earlier_tail, earlier_trans, earlier_history, earlier_log, moves_step, find_move, did_entry, did_emission}
-use Rattle.plain_machine.proofs.MoveLemmas.{is_logged, IsOn, held_again}
+use Rattle.plain_machine.proofs.MoveLemmas.{is_logged, held_again}
 use Rattle.plain_machine.proofs.Seats.{SameSeat, same_step, seat_next, seat_other, seat_trans}
 use Rattle.plain_machine.proofs.Agreement.{AllIn, agreed_all, sends_at}
-use Rattle.plain_machine.proofs.LoggedEffects.{logged_makes, quiet_log, logged_or}
+use Rattle.plain_machine.proofs.LoggedEffects.{logged_makes, quiet_log, logged_or, off_variables}
 use Rattle.line_order.specs.Line.{IsQuiet, GoesQuietly, SendsNext}
 use Rattle.line_order.proofs.LedLines.{effect_quiet, stays_quietly}
 
@@ -27,15 +27,6 @@ quiet_act t taken A B (HearsClock a) off s = absurd (cc)
 quiet_act t taken A B (HearsDraw a) off s = absurd (cc)
 quiet_act t taken A B (Sends p) off s = ap (λ (n : ℕ). Emitted (record { thread = t; number = n + 1; input = taken; packet = p })) s.outputs
 quiet_act t taken A B Ends off s = refl
-
-off_variables : {V : Type 0} (d : Effect V) → is_logged d ≡ false → (v : ℕ) → IsOn v d → ⊥
-off_variables Takes off v on = on
-off_variables (Touches u left) off v on = cc
-off_variables (Looks u) off v on = cc
-off_variables (HearsClock a) off v on = on
-off_variables (HearsDraw a) off v on = on
-off_variables (Sends p) off v on = on
-off_variables Ends off v on = on
 
 -- an act that sends something out is no logged one
 emits_quiet : {V : Type 0} (t taken : ℕ) (A : List (Step V)) (d : Effect V) (o : Emission) → act_of t A taken d ≡ Emitted o → is_logged d ≡ false

@@ -8,8 +8,8 @@ use Rattle.entry_order.specs.declared.what.What.TheVariants.{Access as Touch, Re
 use Rattle.entry_order.specs.Log.{Entry, places, IsLog}
 use Rattle.entry_order.specs.Stamps.{IsStamp}
 use Rattle.access_log.specs.declared.entry.StampedEntry.{StampedEntry}
-use Rattle.box_program.specs.Hands.{place_of, input_for}
-use Rattle.box_program.proofs.HandLemmas.{in_hand, no_hand}
+use Rattle.box_program.specs.Hands.{input_for}
+use Rattle.box_program.proofs.HandLemmas.{no_hand}
 use Rattle.plain_machine.specs.declared.local.Local.{Local}
 use Rattle.plain_machine.specs.declared.local.Move.{Move}
 use Rattle.plain_machine.specs.declared.local.Move.TheVariants as move

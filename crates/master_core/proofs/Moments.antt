@@ -1,14 +1,14 @@
 -- What was stored is an earlier moment of a history: its log is closed in the later one, and counts no more entries.
-use Rattle.std.proofs.Common.{◌≡◌, ℕ, ◌≤◌, ◌<◌, List, [], ◌∷◌, ◌++◌, sym, ap, ◌∙◌, subst, inl, inr, ◌⊎◌, arith, slice_index}
+use Rattle.std.proofs.Common.{◌≡◌, ℕ, ◌≤◌, ◌<◌, List, [], ◌∷◌, ◌++◌, sym, subst, inl, inr, ◌⊎◌, arith, slice_index}
 use Rattle.std.proofs.lemmas.Bool.{cases_lt}
 use Rattle.plain_text.specs.declared.packet.Packet.{Packet}
-use Rattle.entry_order.specs.Log.{Entry, entries, IsLog, IsIn, StandsBefore, IsClosed}
+use Rattle.entry_order.specs.Log.{Entry, entries, IsLog, IsIn, IsClosed}
 use Rattle.entry_order.specs.Stamps.{IsStamp}
-use Rattle.entry_order.proofs.Order.{entries_grow, newest, next_stands, before_in, entry_there}
+use Rattle.entry_order.proofs.Order.{entries_grow, next_stands, entry_there}
 use Rattle.entry_order.proofs.KeptEntries.{in_right, before_past}
 use Rattle.entry_order.proofs.Parts.{stamp_stays}
 use Rattle.plain_machine.specs.Program.{Meaning}
-use Rattle.plain_machine.specs.History.{Act, Took, Did, Emitted, Ended, Step, log_more, log_of, IsHistory}
+use Rattle.plain_machine.specs.History.{Step, log_of, IsHistory}
 use Rattle.plain_machine.specs.Agree.{IsEarlier}
 use Rattle.plain_machine.proofs.Histories.{history_log, earlier_history, earlier_log}
 use Rattle.plain_machine.proofs.Recoveries.{later_log}

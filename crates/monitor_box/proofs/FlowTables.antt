@@ -5,7 +5,7 @@ use Rattle.plain_text.specs.declared.packet.Packet.{Packet}
 use Rattle.entry_order.proofs.Order.{is_or}
 use Rattle.packet_headers.specs.declared.flow.Flow.{Flow}
 use Rattle.packet_headers.specs.declared.flow.NotFlow.{NotFlow}
-use Rattle.packet_headers.specs.Fields.{AreBytes, word_at, long_at, header_end}
+use Rattle.packet_headers.specs.Fields.{AreBytes, header_end}
 use Rattle.packet_headers.specs.Steering.{steering_sum}
 use Rattle.packet_headers.specs.View.{viewed, flow_of, failures}
 use Rattle.packet_headers.proofs.FirstFailure.{pass_from_ok}

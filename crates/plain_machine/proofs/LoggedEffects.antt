@@ -49,6 +49,16 @@ logged_or (HearsDraw a) = inl refl
 logged_or (Sends p) = inr refl
 logged_or Ends = inr refl
 
+-- an effect that is not logged is on no variable
+pub off_variables : {V : Type 0} (d : Effect V) → is_logged d ≡ false → (v : ℕ) → IsOn v d → ⊥
+off_variables Takes off v on = on
+off_variables (Touches u left) off v on = cc
+off_variables (Looks u) off v on = cc
+off_variables (HearsClock a) off v on = on
+off_variables (HearsDraw a) off v on = on
+off_variables (Sends p) off v on = on
+off_variables Ends off v on = on
+
 -- the place in the entry of an effect on a variable
 pub did_on : {V : Type 0} (t taken : ℕ) (A : List (Step V)) (d : Effect V) (e : Entry) (left : Option V) (v : ℕ) → IsOn v d → act_of t A taken d ≡ Did e left → (e.what ≡ Access v (places v (log_of A) + 1)) ⊎ (e.what ≡ Read v (places v (log_of A)))
 did_on t taken A Takes e left v on h = absurd on

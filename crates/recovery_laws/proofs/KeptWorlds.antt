@@ -7,7 +7,7 @@ use Rattle.entry_order.specs.Closed.{IsClosedOver, IsMissing}
 use Rattle.entry_order.proofs.Order.{is_or, precedes_in}
 use Rattle.entry_order.proofs.ClosedParts.{Or, in_or}
 use Rattle.entry_order.proofs.KeptEntries.{in_left, in_right, in_either, kept, kept_in, in_kept, kept_log, apart}
-use Rattle.plain_machine.specs.History.{Act, Took, Did, Emitted, Ended, Step, log_more, log_of, IsHistory}
+use Rattle.plain_machine.specs.History.{Step, log_of, IsHistory}
 use Rattle.plain_machine.specs.Agree.{IsEarlier, SendsAfter}
 use Rattle.plain_machine.proofs.Histories.{history_log, earlier_refl, earlier_trans, earlier_history, earlier_log}
 use Rattle.plain_machine.proofs.Recoveries.{later_log}
