@@ -3,31 +3,13 @@ ghost use Rattle.std.specs.Prelude.{◌≡◌, ◌+◌, ◌≤◌, length};
 use job_top::{InputFault, Status, ftmb};
 use pcap_io::{CaptureCause, CaptureFault};
 use plain_text::{Bytes, Limit, LineCause, LineFault, NoMemory, Sequence, Text};
+use sample_frames::{
+    LITTLE_MICRO, ONE_COUNTED, ONE_CUT, ONE_CUT_COUNTED, ONE_PACKET, ONE_UNCHANGED, TWO_COUNTED,
+    TWO_PACKETS, WRITTEN_MICRO,
+};
 use std::alloc::Global;
 use std::test::Fail;
 use world_io::MemoryWorld;
-
-/// The header of a capture as tcpdump writes it, with no packet behind it.
-const HEADER: &[u8] = b"\xd4\xc3\xb2\xa1\x02\0\x04\0\0\0\0\0\0\0\0\0\xff\xff\0\0\x01\0\0\0";
-
-/// The header of a capture as it is written here.
-const WRITTEN_HEADER: &[u8] = b"\xd4\xc3\xb2\xa1\x02\0\x04\0\0\0\0\0\0\0\0\0\0\0\x04\0\x01\0\0\0";
-
-/// A capture of one packet: UDP from 10.0.0.5:5000 to 198.51.100.7:53, without data.
-const ONE_PACKET: &[u8] =
-    b"\xd4\xc3\xb2\xa1\x02\0\x04\0\0\0\0\0\0\0\0\0\xff\xff\0\0\x01\0\0\0d\0\0\0\x05\0\0\0*\0\0\0*\0\0\0\x02\0\xaa\xaa\xaa\xaa\x02\0\0\0\0\x01\x08\0E\0\0\x1c\0\x01\0\0@\x11F\x91\n\0\0\x05\xc63d\x07\x13\x88\05\0\x08\xb7\xe1";
-
-/// What the counting box releases of it: its bytes 2 to 5 are the number 1.
-const ONE_RELEASED: &[u8] =
-    b"\xd4\xc3\xb2\xa1\x02\0\x04\0\0\0\0\0\0\0\0\0\0\0\x04\0\x01\0\0\0d\0\0\0\x05\0\0\0*\0\0\0*\0\0\0\x02\0\0\0\0\x01\x02\0\0\0\0\x01\x08\0E\0\0\x1c\0\x01\0\0@\x11F\x91\n\0\0\x05\xc63d\x07\x13\x88\05\0\x08\xb7\xe1";
-
-/// A big-endian capture in nanoseconds, of the first 14 bytes of a packet of 60.
-const BIG_NANO: &[u8] =
-    b"\xa1\xb2<M\0\x02\0\x04\0\0\0\0\0\0\0\0\0\0\xff\xff\0\0\0\x01\0\0\0\x01\0\0\0\x07\0\0\0\x0e\0\0\0<\x02\0\xaa\xaa\xaa\xaa\x02\0\0\0\0\x01\x08\x06";
-
-/// What the counting box releases of it.
-const BIG_NANO_RELEASED: &[u8] =
-    b"M<\xb2\xa1\x02\0\x04\0\0\0\0\0\0\0\0\0\0\0\x04\0\x01\0\0\0\x01\0\0\0\x07\0\0\0\x0e\0\0\0<\0\0\0\x02\0\0\0\0\x01\x02\0\0\0\0\x01\x08\x06";
 
 const ONE_REPORT: &[u8] = b"settle moves 4 released 1 epoch 1\ndone fed 1 epoch 1 released 1\n";
 
@@ -49,7 +31,7 @@ const ONE: Case<'static> = Case {
     capture: ONE_PACKET,
     script: b"settle",
     status: Status::Done,
-    released: Some(ONE_RELEASED),
+    released: Some(ONE_COUNTED),
     schedule: Some(b"0\n0\n0\n0\n"),
     report: ONE_REPORT,
 };
@@ -150,15 +132,15 @@ fn runs_the_counting_box(rt: HostRuntime) -> Result<(), Fail> {
             ..ONE
         },
         Case {
-            capture: HEADER,
-            released: Some(WRITTEN_HEADER),
+            capture: LITTLE_MICRO,
+            released: Some(WRITTEN_MICRO),
             schedule: Some(b""),
             report: b"settle moves 0 released 0 epoch 1\ndone fed 0 epoch 1 released 0\n",
             ..ONE
         },
         Case {
-            capture: BIG_NANO,
-            released: Some(BIG_NANO_RELEASED),
+            capture: ONE_CUT,
+            released: Some(ONE_CUT_COUNTED),
             ..ONE
         },
     ];
@@ -167,14 +149,6 @@ fn runs_the_counting_box(rt: HostRuntime) -> Result<(), Fail> {
     }
     Ok(())
 }
-
-/// Two packets: that of `ONE_PACKET`, and the same from port 5001, a microsecond later.
-const TWO_PACKETS: &[u8] =
-    b"\xd4\xc3\xb2\xa1\x02\0\x04\0\0\0\0\0\0\0\0\0\xff\xff\0\0\x01\0\0\0d\0\0\0\x05\0\0\0*\0\0\0*\0\0\0\x02\0\xaa\xaa\xaa\xaa\x02\0\0\0\0\x01\x08\0E\0\0\x1c\0\x01\0\0@\x11F\x91\n\0\0\x05\xc63d\x07\x13\x88\05\0\x08\xb7\xe1d\0\0\0\x06\0\0\0*\0\0\0*\0\0\0\x02\0\xaa\xaa\xaa\xaa\x02\0\0\0\0\x01\x08\0E\0\0\x1c\0\x02\0\0@\x11F\x90\n\0\0\x05\xc63d\x07\x13\x89\05\0\x08\xb7\xe0";
-
-/// They as the counting box releases them, with the numbers 1 and 2 in bytes 2 to 5.
-const TWO_COUNTED: &[u8] =
-    b"\xd4\xc3\xb2\xa1\x02\0\x04\0\0\0\0\0\0\0\0\0\0\0\x04\0\x01\0\0\0d\0\0\0\x05\0\0\0*\0\0\0*\0\0\0\x02\0\0\0\0\x01\x02\0\0\0\0\x01\x08\0E\0\0\x1c\0\x01\0\0@\x11F\x91\n\0\0\x05\xc63d\x07\x13\x88\05\0\x08\xb7\xe1d\0\0\0\x06\0\0\0*\0\0\0*\0\0\0\x02\0\0\0\0\x02\x02\0\0\0\0\x01\x08\0E\0\0\x1c\0\x02\0\0@\x11F\x90\n\0\0\x05\xc63d\x07\x13\x89\05\0\x08\xb7\xe0";
 
 #[test]
 fn runs_on_several_threads(rt: HostRuntime) -> Result<(), Fail> {
@@ -189,10 +163,6 @@ fn runs_on_several_threads(rt: HostRuntime) -> Result<(), Fail> {
     assert!(rt; holds(rt.alloc(), case)?);
     Ok(())
 }
-
-/// The packet of `ONE_PACKET` as the monitor releases it: unchanged.
-const ONE_UNCHANGED: &[u8] =
-    b"\xd4\xc3\xb2\xa1\x02\0\x04\0\0\0\0\0\0\0\0\0\0\0\x04\0\x01\0\0\0d\0\0\0\x05\0\0\0*\0\0\0*\0\0\0\x02\0\xaa\xaa\xaa\xaa\x02\0\0\0\0\x01\x08\0E\0\0\x1c\0\x01\0\0@\x11F\x91\n\0\0\x05\xc63d\x07\x13\x88\05\0\x08\xb7\xe1";
 
 #[test]
 fn runs_the_monitor(rt: HostRuntime) -> Result<(), Fail> {
@@ -233,7 +203,7 @@ fn makes(
 #[test]
 fn makes_captures(rt: HostRuntime) -> Result<(), Fail> {
     let alloc = rt.alloc();
-    let none = (Status::Done, b"made 0\n".as_slice(), Some(WRITTEN_HEADER));
+    let none = (Status::Done, b"made 0\n".as_slice(), Some(WRITTEN_MICRO));
     assert!(rt; makes(alloc, ["7", "0"], none)?);
     let refused = (Status::BadWords, b"".as_slice(), None);
     let bad = [
@@ -337,10 +307,10 @@ fn names_a_read_that_failed(rt: HostRuntime) -> Result<(), Fail> {
 const LEFT: [(Option<&[u8]>, Option<&[u8]>); 6] = [
     (None, None),
     (Some(b""), None),
-    (Some(WRITTEN_HEADER), None),
-    (Some(WRITTEN_HEADER), Some(b"")),
-    (Some(ONE_RELEASED), Some(b"")),
-    (Some(ONE_RELEASED), Some(b"0\n0\n0\n0\n")),
+    (Some(WRITTEN_MICRO), None),
+    (Some(WRITTEN_MICRO), Some(b"")),
+    (Some(ONE_COUNTED), Some(b"")),
+    (Some(ONE_COUNTED), Some(b"0\n0\n0\n0\n")),
 ];
 
 /// The first of the writes of a run that fails, and does not come to a write fault with what is to be left.
@@ -385,8 +355,8 @@ fn names_a_write_of_make_that_failed(rt: HostRuntime) -> Result<(), Fail> {
     let alloc = rt.alloc();
     assert!(rt; makes_part(alloc, "1", 1, None)?);
     assert!(rt; makes_part(alloc, "1", 2, Some(b""))?);
-    assert!(rt; makes_part(alloc, "1", 3, Some(WRITTEN_HEADER))?);
-    assert!(rt; makes_part(alloc, "0", 3, Some(WRITTEN_HEADER))?);
+    assert!(rt; makes_part(alloc, "1", 3, Some(WRITTEN_MICRO))?);
+    assert!(rt; makes_part(alloc, "0", 3, Some(WRITTEN_MICRO))?);
     Ok(())
 }
 
@@ -410,7 +380,7 @@ fn refuses_other_words(rt: HostRuntime) -> Result<(), Fail> {
 #[test]
 fn stops_at_too_many_packets(rt: HostRuntime) -> Result<(), Fail> {
     let alloc = rt.alloc();
-    let mut capture = Bytes::of(alloc, HEADER)?;
+    let mut capture = Bytes::of(alloc, LITTLE_MICRO)?;
     for _ in 0..65_537 {
         capture.extend(&[0; 16])?;
     }

@@ -4,6 +4,7 @@ use command_line::{StatusText, answer, exit_of, help, perform, version};
 use job_top::{InputFault, Status};
 use pcap_io::{CaptureCause, CaptureFault};
 use plain_text::{Bytes, LineCause, LineFault, NoMemory, Text};
+use sample_frames::{ONE_COUNTED, ONE_PACKET};
 use std::alloc::Global;
 use std::env::Args;
 use std::process::ExitCode;
@@ -12,14 +13,6 @@ use std::{env, fs, io, process};
 use world_io::MemoryWorld;
 use world_real::RealWorld;
 
-/// A capture of one packet: UDP from 10.0.0.5:5000 to 198.51.100.7:53, without data.
-const CAPTURE: &[u8] =
-    b"\xd4\xc3\xb2\xa1\x02\0\x04\0\0\0\0\0\0\0\0\0\xff\xff\0\0\x01\0\0\0d\0\0\0\x05\0\0\0*\0\0\0*\0\0\0\x02\0\xaa\xaa\xaa\xaa\x02\0\0\0\0\x01\x08\0E\0\0\x1c\0\x01\0\0@\x11F\x91\n\0\0\x05\xc63d\x07\x13\x88\05\0\x08\xb7\xe1";
-
-/// What the counting box releases of it: its bytes 2 to 5 are the number 1.
-const RELEASED: &[u8] =
-    b"\xd4\xc3\xb2\xa1\x02\0\x04\0\0\0\0\0\0\0\0\0\0\0\x04\0\x01\0\0\0d\0\0\0\x05\0\0\0*\0\0\0*\0\0\0\x02\0\0\0\0\x01\x02\0\0\0\0\x01\x08\0E\0\0\x1c\0\x01\0\0@\x11F\x91\n\0\0\x05\xc63d\x07\x13\x88\05\0\x08\xb7\xe1";
-
 /// A folder that no other test has and no other run of this one, with the inputs of a run in it.
 fn folder_of_inputs(rt: &HostRuntime, test: &str) -> Result<String, Fail> {
     let temporary = env::temp_dir(rt)?;
@@ -27,7 +20,7 @@ fn folder_of_inputs(rt: &HostRuntime, test: &str) -> Result<String, Fail> {
     let folder = format!(in rt.alloc(); "{}/ftmb_{test}_{number}", temporary.as_str())?;
     fs::create_dir(rt, folder.as_str())?;
     write_file(rt, folder.as_str(), "box", b"box count")?;
-    write_file(rt, folder.as_str(), "capture", CAPTURE)?;
+    write_file(rt, folder.as_str(), "capture", ONE_PACKET)?;
     write_file(rt, folder.as_str(), "script", b"settle")?;
     Ok(folder)
 }
@@ -69,9 +62,9 @@ fn a_run_reads_and_writes_the_named_files(rt: HostRuntime) -> Result<(), Fail> {
     let capture = read_file(&rt, folder.as_str(), "capture")?;
     fs::remove_dir_all(&rt, folder.as_str())?;
     assert_eq!(rt; status, Status::Done);
-    assert_eq!(rt; released.as_slice(), RELEASED);
+    assert_eq!(rt; released.as_slice(), ONE_COUNTED);
     assert_eq!(rt; schedule.as_slice(), b"0\n0\n0\n0\n".as_slice());
-    assert_eq!(rt; capture.as_slice(), CAPTURE);
+    assert_eq!(rt; capture.as_slice(), ONE_PACKET);
     Ok(())
 }
 
@@ -118,7 +111,7 @@ const DONE: Case<'static> = Case {
     name: "a run",
     words: &RUN,
     box_file: b"box count",
-    capture: CAPTURE,
+    capture: ONE_PACKET,
     status: Status::Done,
     text: "done",
     code: 0,

@@ -2,25 +2,17 @@ ghost use Rattle.std.specs.Prelude.{◌≡◌, ◌≤◌, ◌<◌, false, [], Li
 
 use crate::{Captured, Next, Reader, Started, put_header, put_packet, read_capture};
 use plain_text::{Bytes, Limit, Packet, Unit};
+use sample_frames::{BIG_MICRO, BIG_NANO, LITTLE_MICRO, LITTLE_NANO, QUERY, WRITTEN_MICRO};
 use std::alloc::Global;
 use std::process::Abort;
 use std::test::Fail;
 use world_io::{Filled, SliceSource, Source};
 
-/// A UDP packet from 10.0.0.5:5000 to 198.51.100.7:53, without data.
-const WHOLE: &[u8] =
-    b"\x02\0\xaa\xaa\xaa\xaa\x02\0\0\0\0\x01\x08\0E\0\0\x1c\0\x01\0\0@\x11F\x91\x0a\0\0\x05\xc63d\x07\x13\x88\x005\0\x08\xb7\xe1";
+/// A packet whose bytes are all captured.
+const WHOLE: &[u8] = &QUERY;
 
 /// The first 14 bytes of a packet of 60.
 const CUT: &[u8] = b"\x02\0\xaa\xaa\xaa\xaa\x02\0\0\0\0\x01\x08\x06";
-
-const LITTLE_MICRO: &[u8] = b"\xd4\xc3\xb2\xa1\x02\0\x04\0\0\0\0\0\0\0\0\0\xff\xff\0\0\x01\0\0\0";
-
-const LITTLE_NANO: &[u8] = b"\x4d\x3c\xb2\xa1\x02\0\x04\0\0\0\0\0\0\0\0\0\xff\xff\0\0\x01\0\0\0";
-
-const BIG_MICRO: &[u8] = b"\xa1\xb2\xc3\xd4\0\x02\0\x04\0\0\0\0\0\0\0\0\0\0\xff\xff\0\0\0\x01";
-
-const BIG_NANO: &[u8] = b"\xa1\xb2\x3c\x4d\0\x02\0\x04\0\0\0\0\0\0\0\0\0\0\xff\xff\0\0\0\x01";
 
 const LITTLE_FIRST: &[u8] = b"\x64\0\0\0\x05\0\0\0\x2a\0\0\0\x2a\0\0\0";
 
@@ -277,9 +269,8 @@ fn a_byte_past_67_108_864_is_too_large(rt: HostRuntime) -> Result<(), Fail> {
 #[test]
 fn what_is_written_is_read_again(rt: HostRuntime) -> Result<(), Fail> {
     let alloc = rt.alloc();
-    let micro = *b"\xd4\xc3\xb2\xa1\x02\0\x04\0\0\0\0\0\0\0\0\0\0\0\x04\0\x01\0\0\0";
     let nano = *b"\x4d\x3c\xb2\xa1\x02\0\x04\0\0\0\0\0\0\0\0\0\0\0\x04\0\x01\0\0\0";
-    assert_eq!(rt; put_header(Unit::Micro), micro);
+    assert_eq!(rt; put_header(Unit::Micro).as_slice(), WRITTEN_MICRO);
     assert_eq!(rt; put_header(Unit::Nano), nano);
     let first = Packet {
         seconds: 100,

@@ -76,13 +76,17 @@ fn makes_no_packets(rt: HostRuntime) -> Result<(), Fail> {
 fn fills_in_checksums(rt: HostRuntime) -> Result<(), Fail> {
     let packets = make(rt.alloc(), 7, 300)?;
     let mut tcp: u32 = 0;
-    for packet in packets.as_slice() {
+    for (number, packet) in packets.as_slice().iter().enumerate() {
         let bytes = packet.bytes.as_slice();
-        assert_eq!(rt; bytes.len(), 60);
+        assert_eq!(rt; bytes.len(), 60, "packet {number}");
         let mut covered = bytes[26..34].to_vec(rt.alloc())?;
         covered.extend_from_slice(&[0, bytes[23], 0, 26])?;
         covered.extend_from_slice(&bytes[34..])?;
-        assert_eq!(rt; (sum(&bytes[14..34]), sum(&covered)), (0xffff, 0xffff));
+        assert_eq!(rt;
+            (sum(&bytes[14..34]), sum(&covered)),
+            (0xffff, 0xffff),
+            "packet {number}"
+        );
         if bytes[23] == 6 {
             tcp = tcp.saturating_add(1);
         }
