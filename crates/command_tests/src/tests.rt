@@ -101,6 +101,16 @@ fn holds(alloc: Global, case: Case<'_>) -> Result<bool, NoMemory> {
     comes_to(alloc, &mut world, case)
 }
 
+/// The place of the first case that does not come to what it says.
+fn first_wrong(alloc: Global, cases: &[Case<'_>]) -> Result<Option<usize>, NoMemory> {
+    for place in 0..cases.len() {
+        if !holds(alloc, cases[place])? {
+            return Ok(Some(place));
+        }
+    }
+    Ok(None)
+}
+
 /// Whether a run whose calls of writing fail at this one comes to what the case says.
 fn holds_where_writing_fails(alloc: Global, nth: u64, case: Case<'_>) -> Result<bool, NoMemory> {
     let mut world = MemoryWorld::new(alloc)?;
@@ -144,9 +154,7 @@ fn runs_the_counting_box(rt: HostRuntime) -> Result<(), Fail> {
             ..ONE
         },
     ];
-    for case in &cases {
-        assert!(rt; holds(alloc, *case)?);
-    }
+    assert_eq!(rt; first_wrong(alloc, &cases)?, None);
     Ok(())
 }
 
@@ -272,9 +280,7 @@ fn judges_the_inputs_in_their_order(rt: HostRuntime) -> Result<(), Fail> {
             ..REFUSED
         },
     ];
-    for case in &cases {
-        assert!(rt; holds(alloc, *case)?);
-    }
+    assert_eq!(rt; first_wrong(alloc, &cases)?, None);
     Ok(())
 }
 
@@ -315,9 +321,9 @@ const LEFT: [(Option<&[u8]>, Option<&[u8]>); 6] = [
 
 /// The first of the writes of a run that fails, and does not come to a write fault with what is to be left.
 fn first_wrong_write(alloc: Global) -> Result<Option<u64>, NoMemory> {
-    let mut nth = 0;
+    let mut nth = 0u64;
     for (released, schedule) in &LEFT {
-        nth += 1;
+        nth = nth.saturating_add(1);
         let case = Case {
             status: Status::WriteFault,
             released: *released,
