@@ -9,6 +9,7 @@
 mod ending;
 mod lines;
 mod many;
+mod within;
 
 pub use ending::finish;
 pub use lines::{put_outcome, put_reply_end};

@@ -1,17 +1,24 @@
-ghost use Rattle.std.specs.Prelude.{◌≡◌, IfOk};
-ghost use Rattle.slow_world.specs.Mirror.{WorldFits, IsSingle};
+ghost use Rattle.std.specs.Prelude.{◌≡◌, IfOk, MatchOption, MatchResult};
+ghost use Rattle.plain_text.specs.declared.limit.Limit.{Limit};
+ghost use Rattle.recovery_world.specs.Events.{Wakes};
+ghost use Rattle.recovery_world.specs.Limits.{IsWithin};
+ghost use Rattle.recovery_world.specs.Many.{StepsOut, Round, Rounds, Feeds, Does, Settles, SettlesNot, Stops, numbers_of, threads_of};
+ghost use Rattle.slow_history.specs.Mirror.{history};
+ghost use Rattle.slow_world.specs.Mirror.{world_is, setting_is, WorldFits, IsSingle};
+ghost use Rattle.slow_runs.specs.Runs.{Happens, MakesNoMove, PerformsAny, arrival_of, count_in};
 
+use crate::within::{limit_of, on_quiet, on_within, step_within};
 use box_program::Program;
-use plain_text::NoMemory;
+use plain_text::{Limit, NoMemory};
 use recovery_world::{Event, Kind, Outcome};
 use slow_history::{count_entries, count_outputs, log_of};
 use slow_world::{Reply, Setup, SlowWorld, on_one, recover, word_after};
 use std::alloc::Global;
 
-/// The most rounds, and the most steps of a thread in a round.
-const MOST: u64 = 1 << 20;
+/// The most rounds, and the most steps of a thread in a round: more than a run has moves.
+const MOST: u64 = 1 << 21;
 
-/// The thread steps until it is idle or waits, at most so many times; whether it is idle then.
+/// The thread steps until it is idle or waits, and whether it is idle then; or until its next move would pass a limit.
 fn step_out<P: Program>(
     world: &mut SlowWorld<P::Value>,
     alloc: Global,
@@ -19,62 +26,79 @@ fn step_out<P: Program>(
     setup: &Setup,
     thread: u64,
     most: u64,
-) -> Result<bool, NoMemory>
-    requires { WorldFits (P.fits program.now) world.old }
-    ensures { IfOk result (λ _. WorldFits (P.fits program.now) world.new) }
+) -> Result<Result<bool, Limit>, NoMemory>
+    requires fits { WorldFits (P.fits program.now) world.old }
+    requires within { IsWithin (world_is world.old) }
+    ensures steps { IfOk result (λ end. StepsOut (setting_is (P.meaning program.now) setup.now)
+        thread (world_is world.old) end (world_is world.new)) }
+    ensures fits { IfOk result (λ _. WorldFits (P.fits program.now) world.new) }
+    ensures within { IfOk result (λ _. IsWithin (world_is world.new)) }
 {
     if most == 0 {
         return Err(NoMemory);
     }
-    let step = Event::Step {
-        thread,
-        answer: None,
-    };
-    let reply = on_one(world, alloc, program, setup, step)?;
-    match reply.outcome {
-        Outcome::Idle => Ok(true),
-        Outcome::Waits { .. } => Ok(false),
-        _ => step_out(world, alloc, program, setup, thread, most - 1),
+    match step_within(world, alloc, program, setup, thread, None)? {
+        Err(limit) => Ok(Err(limit)),
+        Ok(reply) => match reply.outcome {
+            Outcome::Idle => Ok(Ok(true)),
+            Outcome::Waits { .. } => Ok(Ok(false)),
+            _ => step_out(world, alloc, program, setup, thread, most - 1),
+        },
     }
 }
 
-/// Each of the first threads steps so, in increasing order; whether all are idle.
+/// Each of the first threads steps so, in increasing order; whether all are idle, or the limit that would be passed.
 fn round<P: Program>(
     world: &mut SlowWorld<P::Value>,
     alloc: Global,
     program: &P,
     setup: &Setup,
     threads: u32,
-) -> Result<bool, NoMemory>
-    requires { WorldFits (P.fits program.now) world.old }
-    ensures { IfOk result (λ _. WorldFits (P.fits program.now) world.new) }
+) -> Result<Result<bool, Limit>, NoMemory>
+    requires fits { WorldFits (P.fits program.now) world.old }
+    requires within { IsWithin (world_is world.old) }
+    ensures round { IfOk result (λ end. Round (setting_is (P.meaning program.now) setup.now)
+        (world_is world.old) threads end (world_is world.new)) }
+    ensures fits { IfOk result (λ _. WorldFits (P.fits program.now) world.new) }
+    ensures within { IfOk result (λ _. IsWithin (world_is world.new)) }
 {
     if threads == 0 {
-        return Ok(true);
+        return Ok(Ok(true));
     }
-    let before = round(world, alloc, program, setup, threads - 1)?;
-    let own = step_out(world, alloc, program, setup, u64::from(threads - 1), MOST)?;
-    Ok(before && own)
+    match round(world, alloc, program, setup, threads - 1)? {
+        Err(limit) => Ok(Err(limit)),
+        Ok(before) => {
+            match step_out(world, alloc, program, setup, u64::from(threads - 1), MOST)? {
+                Err(limit) => Ok(Err(limit)),
+                Ok(own) => Ok(Ok(before && own)),
+            }
+        }
+    }
 }
 
-/// Rounds until all threads are idle in one round, at most so many.
+/// Rounds until all threads are idle in one round, at most so many; the limit that would be passed, if any.
 fn rounds<P: Program>(
     world: &mut SlowWorld<P::Value>,
     alloc: Global,
     program: &P,
     setup: &Setup,
     most: u64,
-) -> Result<(), NoMemory>
-    requires { WorldFits (P.fits program.now) world.old }
-    ensures { IfOk result (λ _. WorldFits (P.fits program.now) world.new) }
+) -> Result<Option<Limit>, NoMemory>
+    requires fits { WorldFits (P.fits program.now) world.old }
+    requires within { IsWithin (world_is world.old) }
+    ensures rounds { IfOk result (λ end. Rounds (setting_is (P.meaning program.now) setup.now)
+        (world_is world.old) end (world_is world.new)) }
+    ensures fits { IfOk result (λ _. WorldFits (P.fits program.now) world.new) }
+    ensures within { IfOk result (λ _. IsWithin (world_is world.new)) }
 {
     if most == 0 {
         return Err(NoMemory);
     }
-    if round(world, alloc, program, setup, setup.threads)? {
-        return Ok(());
+    match round(world, alloc, program, setup, setup.threads)? {
+        Err(limit) => Ok(Some(limit)),
+        Ok(true) => Ok(None),
+        Ok(false) => rounds(world, alloc, program, setup, most - 1),
     }
-    rounds(world, alloc, program, setup, most - 1)
 }
 
 /// Rounds, and while a packet of the capture is left, one more is fed, and rounds again.
@@ -84,29 +108,58 @@ fn run_out<P: Program>(
     program: &P,
     setup: &Setup,
     most: u64,
-) -> Result<(), NoMemory>
-    requires { WorldFits (P.fits program.now) world.old }
-    ensures { IfOk result (λ _. WorldFits (P.fits program.now) world.new) }
+) -> Result<Option<Limit>, NoMemory>
+    requires fits { WorldFits (P.fits program.now) world.old }
+    requires within { IsWithin (world_is world.old) }
+    ensures feeds { IfOk result (λ end. Feeds (setting_is (P.meaning program.now) setup.now)
+        (world_is world.old) end (world_is world.new)) }
+    ensures fits { IfOk result (λ _. WorldFits (P.fits program.now) world.new) }
+    ensures within { IfOk result (λ _. IsWithin (world_is world.new)) }
 {
     if most == 0 {
         return Err(NoMemory);
     }
-    rounds(world, alloc, program, setup, MOST)?;
-    if world.fed >= setup.packets.len() {
-        return Ok(());
+    if let Some(limit) = rounds(world, alloc, program, setup, MOST)? {
+        return Ok(Some(limit));
     }
-    on_one(world, alloc, program, setup, Event::Feed(1))?;
+    if world.fed >= setup.packets.len() {
+        return Ok(None);
+    }
+    on_quiet(world, alloc, program, setup, Event::Feed(1))?;
     run_out(world, alloc, program, setup, most - 1)
 }
 
 /// The arrival of entry or output `number` of the thread.
 fn arrival(kind: Kind, thread: u64, number: u64) -> Event
-    ensures { IsSingle result }
+    ensures event { result ≡ arrival_of kind thread number }
+    ensures single { IsSingle result }
+    ensures quiet { MakesNoMove result }
 {
     match kind {
         Kind::Log => Event::Log { thread, number },
         Kind::Out => Event::Out { thread, number },
     }
+}
+
+/// Entry or output `number` of the thread arrives.
+fn send<P: Program>(
+    world: &mut SlowWorld<P::Value>,
+    alloc: Global,
+    program: &P,
+    setup: &Setup,
+    kind: Kind,
+    thread: u32,
+    number: u64,
+) -> Result<(), NoMemory>
+    requires fits { WorldFits (P.fits program.now) world.old }
+    requires within { IsWithin (world_is world.old) }
+    ensures sends { IfOk result (λ _. Happens (setting_is (P.meaning program.now) setup.now)
+        (world_is world.old) (arrival_of kind thread number) (world_is world.new)) }
+    ensures fits { IfOk result (λ _. WorldFits (P.fits program.now) world.new) }
+    ensures past { IfOk result (λ _. history world.new.past.items ≡ history world.old.past.items) }
+{
+    on_quiet(world, alloc, program, setup, arrival(kind, u64::from(thread), number))?;
+    Ok(())
 }
 
 /// The first entries or outputs of the thread arrive, in order.
@@ -119,16 +172,19 @@ fn send_first<P: Program>(
     thread: u32,
     count: u64,
 ) -> Result<(), NoMemory>
-    requires { WorldFits (P.fits program.now) world.old }
-    ensures { IfOk result (λ _. WorldFits (P.fits program.now) world.new) }
+    requires fits { WorldFits (P.fits program.now) world.old }
+    requires within { IsWithin (world_is world.old) }
+    ensures sends { IfOk result (λ _. Does (setting_is (P.meaning program.now) setup.now)
+        (world_is world.old) (numbers_of (arrival_of kind) thread count) (world_is world.new)) }
+    ensures fits { IfOk result (λ _. WorldFits (P.fits program.now) world.new) }
+    ensures within { IfOk result (λ _. IsWithin (world_is world.new)) }
+    ensures past { IfOk result (λ _. history world.new.past.items ≡ history world.old.past.items) }
 {
     if count == 0 {
         return Ok(());
     }
     send_first(world, alloc, program, setup, kind, thread, count - 1)?;
-    let event = arrival(kind, u64::from(thread), count);
-    on_one(world, alloc, program, setup, event)?;
-    Ok(())
+    send(world, alloc, program, setup, kind, thread, count)
 }
 
 /// The number of entries or outputs of the thread in the past.
@@ -137,7 +193,9 @@ fn count_of<V>(
     alloc: Global,
     kind: Kind,
     thread: u32,
-) -> Result<u64, NoMemory> {
+) -> Result<u64, NoMemory>
+    ensures { IfOk result (λ n. n ≡ count_in kind (history world.now.past.items) thread) }
+{
     match kind {
         Kind::Log => {
             let log = log_of(alloc, &world.past)?;
@@ -156,8 +214,14 @@ fn send_all<P: Program>(
     kind: Kind,
     threads: u32,
 ) -> Result<(), NoMemory>
-    requires { WorldFits (P.fits program.now) world.old }
-    ensures { IfOk result (λ _. WorldFits (P.fits program.now) world.new) }
+    requires fits { WorldFits (P.fits program.now) world.old }
+    requires within { IsWithin (world_is world.old) }
+    ensures sends { IfOk result (λ _. Does (setting_is (P.meaning program.now) setup.now)
+        (world_is world.old) (threads_of (arrival_of kind)
+        (count_in kind (history world.old.past.items)) threads) (world_is world.new)) }
+    ensures fits { IfOk result (λ _. WorldFits (P.fits program.now) world.new) }
+    ensures within { IfOk result (λ _. IsWithin (world_is world.new)) }
+    ensures past { IfOk result (λ _. history world.new.past.items ≡ history world.old.past.items) }
 {
     if threads == 0 {
         return Ok(());
@@ -173,8 +237,9 @@ pub fn wake<P: Program>(
     alloc: Global,
     program: &P,
 ) -> Result<(), NoMemory>
-    requires { WorldFits (P.fits program.now) world.old }
-    ensures { IfOk result (λ _. WorldFits (P.fits program.now) world.new) }
+    requires fits { WorldFits (P.fits program.now) world.old }
+    ensures wakes { IfOk result (λ _. Wakes (world_is world.old) (world_is world.new)) }
+    ensures fits { IfOk result (λ _. WorldFits (P.fits program.now) world.new) }
 {
     if world.up {
         return Ok(());
@@ -182,20 +247,30 @@ pub fn wake<P: Program>(
     recover(world, alloc, program)
 }
 
-/// The event `settle`: all threads go on to the end of the capture, and all that they logged and sent arrives.
+/// The event `settle`: all threads go on to the end of the capture, and all that they logged and sent arrives. Or the limit
+/// that a move on the way would pass.
 fn settle<P: Program>(
     world: &mut SlowWorld<P::Value>,
     alloc: Global,
     program: &P,
     setup: &Setup,
-) -> Result<(), NoMemory>
-    requires { WorldFits (P.fits program.now) world.old }
-    ensures { IfOk result (λ _. WorldFits (P.fits program.now) world.new) }
+) -> Result<Option<Limit>, NoMemory>
+    requires fits { WorldFits (P.fits program.now) world.old }
+    requires within { IsWithin (world_is world.old) }
+    ensures settles { IfOk result (λ end. MatchOption end
+        (Settles (setting_is (P.meaning program.now) setup.now) (world_is world.old)
+        (world_is world.new))
+        (λ limit. SettlesNot (setting_is (P.meaning program.now) setup.now) (world_is world.old)
+        limit (world_is world.new))) }
+    ensures fits { IfOk result (λ _. WorldFits (P.fits program.now) world.new) }
 {
     wake(world, alloc, program)?;
-    run_out(world, alloc, program, setup, MOST)?;
+    if let Some(limit) = run_out(world, alloc, program, setup, MOST)? {
+        return Ok(Some(limit));
+    }
     send_all(world, alloc, program, setup, Kind::Log, setup.threads)?;
-    send_all(world, alloc, program, setup, Kind::Out, setup.threads)
+    send_all(world, alloc, program, setup, Kind::Out, setup.threads)?;
+    Ok(None)
 }
 
 /// One of the last four numbers up to this count, by a word.
@@ -279,10 +354,13 @@ pub fn on<P: Program>(
     requires { WorldFits (P.fits program.now) world.old }
     ensures { IfOk result (λ _. WorldFits (P.fits program.now) world.new) }
 {
+    if limit_of(world).is_some() {
+        return Err(NoMemory);
+    }
     let (moves, released) = (world.moves, world.released.len());
     match event {
         Event::Settle => {
-            settle(world, alloc, program, setup)?;
+            let _ = settle(world, alloc, program, setup)?;
             Ok(summary(world, alloc, moves, released))
         }
         Event::Auto { seed, n } => {

@@ -1,0 +1,57 @@
+-- What performing an event answers, in the words of the definitions.
+use Rattle.std.specs.Prelude.{◌≡◌, ℕ, ◌-◌, List, Option, drop}
+use Rattle.entry_order.specs.Log.{entries}
+use Rattle.plain_machine.specs.History.{Step, log_of, sent_of, outputs}
+use Rattle.recovery_world.specs.declared.event.Event.{Event}
+use Rattle.recovery_world.specs.declared.event.Event.TheVariants as event
+use Rattle.recovery_world.specs.declared.event.Kind.{Kind}
+use Rattle.recovery_world.specs.declared.event.Kind.TheVariants as kind
+use Rattle.recovery_world.specs.declared.event.Outcome.{Outcome}
+use Rattle.recovery_world.specs.World.{Setting, Sent, World}
+use Rattle.recovery_world.specs.Limits.{OnWithin}
+use Rattle.recovery_world.specs.Many.{OnAny}
+use Rattle.slow_history.specs.Mirror.{names}
+use Rattle.slow_world.specs.declared.world.Reply.{Reply}
+
+-- the event has this reply and passes no limit
+abbrev pub Performs : {V : Type 0} → Setting V → World V → Event → Reply → World V → Type 0
+Performs s w ev reply new = (freed : List Sent) × (reply.freed.items ≡ names freed) × OnWithin s w ev reply.outcome freed new
+
+-- the same of any event of a script
+abbrev pub PerformsAny : {V : Type 0} → Setting V → World V → Event → Reply → World V → Type 0
+PerformsAny s w ev reply new = (freed : List Sent) × (reply.freed.items ≡ names freed) × OnAny s w ev reply.outcome freed new
+
+-- an event by which no master makes a move
+abbrev pub MakesNoMove : Event → Type 0
+MakesNoMove (event.Feed n) = Unit {0}
+MakesNoMove (event.Time n) = Unit {0}
+MakesNoMove (event.Step t given) = ⊥
+MakesNoMove (event.Log t n) = Unit {0}
+MakesNoMove (event.Out t n) = Unit {0}
+MakesNoMove (event.Late e k t n) = Unit {0}
+MakesNoMove (event.Cut k t n len) = Unit {0}
+MakesNoMove event.Snap = Unit {0}
+MakesNoMove event.Store = Unit {0}
+MakesNoMove event.Crash = Unit {0}
+MakesNoMove event.Recover = Unit {0}
+MakesNoMove (event.Show v) = Unit {0}
+MakesNoMove event.Settle = ⊥
+MakesNoMove (event.Auto seed n) = ⊥
+
+-- the world without its last move, and with these counts of drawn words, moves and bytes
+abbrev pub taken_back : {V : Type 0} → World V → ℕ → ℕ → ℕ → World V
+taken_back w drawn moves bytes = record w { past = drop 1 w.past; drawn = drawn; moves = moves; bytes = bytes }
+
+-- entry or output n of thread t arrives
+abbrev pub arrival_of : Kind → ℕ → ℕ → Event
+arrival_of kind.Log = λ t n. event.Log t n
+arrival_of kind.Out = λ t n. event.Out t n
+
+-- how many entries or outputs the thread has in the past
+abbrev pub count_in : {V : Type 0} → Kind → List (Step V) → ℕ → ℕ
+count_in kind.Log past = λ t. entries t (log_of past)
+count_in kind.Out past = λ t. outputs t (sent_of past)
+
+-- the event passes no limit, whatever it comes to
+abbrev pub Happens : {V : Type 0} → Setting V → World V → Event → World V → Type 0
+Happens s w ev new = (to : Outcome) × (freed : List Sent) × OnWithin s w ev to freed new
