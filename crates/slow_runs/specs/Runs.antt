@@ -1,5 +1,6 @@
 -- What performing an event answers, in the words of the definitions.
-use Rattle.std.specs.Prelude.{◌≡◌, ℕ, ◌-◌, List, Option, drop}
+use Rattle.std.specs.Prelude.{◌≡◌, ℕ, ◌-◌, ◌/◌, ◌%◌, ◌<◌, nat_lt, if◌then◌else◌, max, List, Option, None, drop}
+use Rattle.plain_text.specs.declared.limit.Limit.{Limit}
 use Rattle.entry_order.specs.Log.{entries}
 use Rattle.plain_machine.specs.History.{Step, log_of, sent_of, outputs}
 use Rattle.recovery_world.specs.declared.event.Event.{Event}
@@ -8,8 +9,8 @@ use Rattle.recovery_world.specs.declared.event.Kind.{Kind}
 use Rattle.recovery_world.specs.declared.event.Kind.TheVariants as kind
 use Rattle.recovery_world.specs.declared.event.Outcome.{Outcome}
 use Rattle.recovery_world.specs.World.{Setting, Sent, World}
-use Rattle.recovery_world.specs.Limits.{OnWithin}
-use Rattle.recovery_world.specs.Many.{OnAny}
+use Rattle.recovery_world.specs.Limits.{OnWithin, Passes}
+use Rattle.recovery_world.specs.Many.{OnAny, Autos, chosen}
 use Rattle.slow_history.specs.Mirror.{names}
 use Rattle.slow_world.specs.declared.world.Reply.{Reply}
 
@@ -55,3 +56,17 @@ count_in kind.Out past = λ t. outputs t (sent_of past)
 -- the event passes no limit, whatever it comes to
 abbrev pub Happens : {V : Type 0} → Setting V → World V → Event → World V → Type 0
 Happens s w ev new = (to : Outcome) × (freed : List Sent) × OnWithin s w ev to freed new
+
+-- One of the events chosen by words, of which there are n, would pass a limit.
+abbrev pub AutosNot : {V : Type 0} → Setting V → ℕ → World V → ℕ → Limit → World V → Type 0
+AutosNot s seed w n limit new = (k : ℕ) × (k < n) × Autos s seed w k new × Passes s new (chosen s seed k new) limit
+
+-- the event that two words choose, where the thread has so many entries and outputs
+abbrev pub event_by : ℕ → ℕ → ℕ → ℕ → ℕ → Event
+event_by t entries outputs a b =
+    if nat_lt (a % 32) 16 then event.Step t None
+    else if nat_lt (a % 32) 19 then event.Feed 1
+    else if nat_lt (a % 32) 25 then event.Log t (max 1 (entries - b / 16 % 4))
+    else if nat_lt (a % 32) 29 then event.Out t (max 1 (outputs - b / 16 % 4))
+    else if nat_lt (a % 32) 30 then event.Snap
+    else event.Store
