@@ -9,9 +9,9 @@ use Rattle.recovery_world.specs.declared.event.Event.{Event}
 use Rattle.recovery_world.specs.declared.event.Event.TheVariants as event
 use Rattle.recovery_world.specs.declared.event.Outcome.{Outcome}
 use Rattle.recovery_world.specs.declared.event.Outcome.TheVariants as outcome
-use Rattle.recovery_world.specs.World.{Setting, Sent, World}
+use Rattle.recovery_world.specs.World.{Setting, World}
 use Rattle.recovery_world.specs.Limits.{OnWithin, Passes}
-use Rattle.recovery_world.specs.Many.{Settles, SettlesNot, Autos, Begins, Next, chosen, auto_event, summary_of, OnAny, Single, Settling, Choosing, Stops, SingleStops, SettlingStops, ChoosingStops}
+use Rattle.recovery_world.specs.Many.{Settles, SettlesNot, Autos, Begins, Next, chosen, auto_event, summary_of, Single, Settling, Choosing, Stops, SingleStops, SettlingStops, ChoosingStops}
 use Rattle.slow_history.specs.declared.history.SentOut.{SentOut}
 use Rattle.slow_history.specs.Mirror.{sents}
 use Rattle.slow_world.specs.declared.world.Reply.{Reply}

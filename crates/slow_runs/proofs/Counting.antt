@@ -1,19 +1,14 @@
 -- What an event leaves as it was: the counts of moves and bytes, and the past.
-use Rattle.std.proofs.Common.{◌≡◌, ℕ, ◌+◌, List, [], ◌∷◌, drop, Option, Some, None, refl, sym, ap, ◌∙◌, subst, inl, inr, ◌⊎◌}
+use Rattle.std.proofs.Common.{◌≡◌, ℕ, List, Option, Some, None, refl, sym, ap, ◌∙◌, subst, inl, inr}
 use Rattle.plain_text.specs.declared.limit.Limit.{Limit}
-use Rattle.plain_machine.specs.Machine.{Effect}
-use Rattle.plain_machine.specs.History.{Step, Act, Took, Did, Emitted, Ended}
-use Rattle.entry_order.specs.declared.what.What.{What}
-use Rattle.entry_order.specs.declared.what.What.TheVariants.{Access, Read, Clock, Draw}
 use Rattle.recovery_world.specs.declared.event.Event.{Event}
 use Rattle.recovery_world.specs.declared.event.Event.TheVariants as event
 use Rattle.recovery_world.specs.declared.event.Kind.{Kind}
 use Rattle.recovery_world.specs.declared.event.Kind.TheVariants as kind
 use Rattle.recovery_world.specs.declared.event.Outcome.{Outcome}
-use Rattle.recovery_world.specs.declared.event.Outcome.TheVariants as outcome
 use Rattle.recovery_world.specs.World.{Setting, Sent, World}
-use Rattle.recovery_world.specs.Events.{On, OnStep, OnLog, OnOut, OnLate, OnCut, OnSnap, OnStore, OnCrash, OnRecover, Arrives, OfThread, Releases, Recovers, Wakes}
-use Rattle.recovery_world.specs.Limits.{limit_passed, IsWithin, OnWithin, Passes}
+use Rattle.recovery_world.specs.Events.{On, OnStep, OnLog, OnOut, OnLate, OnCut, OnSnap, OnStore, OnCrash, OnRecover, Arrives, OfThread, Wakes}
+use Rattle.recovery_world.specs.Limits.{limit_passed, IsWithin, OnWithin}
 use Rattle.slow_runs.specs.Runs.{MakesNoMove, arrival_of, taken_back}
 
 abbrev pub SameCounts : {V : Type 0} → World V → World V → Type 0

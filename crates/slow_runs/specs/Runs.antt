@@ -1,5 +1,5 @@
 -- What performing an event answers, in the words of the definitions.
-use Rattle.std.specs.Prelude.{◌≡◌, ℕ, ◌-◌, ◌/◌, ◌%◌, ◌<◌, nat_lt, if◌then◌else◌, max, List, Option, None, drop}
+use Rattle.std.specs.Prelude.{◌≡◌, ℕ, ◌-◌, ◌/◌, ◌%◌, ◌<◌, nat_lt, if◌then◌else◌, max, List, None, drop}
 use Rattle.plain_text.specs.declared.limit.Limit.{Limit}
 use Rattle.entry_order.specs.Log.{entries}
 use Rattle.plain_machine.specs.History.{Step, log_of, sent_of, outputs}

@@ -1,9 +1,10 @@
 //! Runs of the slow recovering system: the events of several, the schedule of the run in which a world ends, and the words of
 //! reply lines.
 //!
-//! `on`, `settle`, `auto` and `finish` go by the definitions step by step. Their contracts say that they are safe, end, and keep
-//! the values of the world; that they meet the definitions is not proved, but tested. Where memory runs out the world is
-//! spoiled, and is to be dropped.
+//! `on` performs every event of a script, and its contract is the definition: what a settling and chosen events make of the
+//! world, step by step, and that an event stops before a move that would pass a limit. `finish` goes by its definition too, but
+//! its contract says only that it is safe, ends, and keeps the values of the world; that it meets the definition is tested.
+//! Where memory runs out the world is spoiled, and is to be dropped.
 #![tactic(auto)]
 
 mod ending;

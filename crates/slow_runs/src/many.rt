@@ -1,14 +1,18 @@
-ghost use Rattle.std.specs.Prelude.{◌≡◌, ◌-◌, ◌/◌, ◌%◌, max, [], length, IfOk, MatchOption, MatchResult};
+ghost use Rattle.std.specs.Prelude.{◌≡◌, ◌-◌, ◌/◌, ◌%◌, max, [], length};
+ghost use Rattle.std.specs.Prelude.{IfOk, MatchOption, MatchResult};
 ghost use Rattle.plain_text.specs.declared.limit.Limit.{Limit};
 ghost use Rattle.plain_machine.specs.Program.{Meaning};
 ghost use Rattle.recovery_world.specs.declared.event.Event.TheVariants as event_is;
 ghost use Rattle.recovery_world.specs.declared.event.Outcome.TheVariants as outcome_is;
 ghost use Rattle.recovery_world.specs.Events.{Wakes};
 ghost use Rattle.recovery_world.specs.Limits.{IsWithin, Passes};
-ghost use Rattle.recovery_world.specs.Many.{StepsOut, Round, Rounds, Feeds, Does, Settles, SettlesNot, Autos, Stops, numbers_of, threads_of, chosen as chosen_is};
+ghost use Rattle.recovery_world.specs.Many.{StepsOut, Round, Rounds, Feeds, Does, Settles};
+ghost use Rattle.recovery_world.specs.Many.{SettlesNot, Autos, Stops, numbers_of, threads_of};
+ghost use Rattle.recovery_world.specs.Many.{chosen as chosen_is};
 ghost use Rattle.slow_history.specs.Mirror.{history};
 ghost use Rattle.slow_world.specs.Mirror.{world_is, setting_is, WorldFits, IsSingle};
-ghost use Rattle.slow_runs.specs.Runs.{Happens, MakesNoMove, PerformsAny, AutosNot, arrival_of, count_in, event_by};
+ghost use Rattle.slow_runs.specs.Runs.{Happens, MakesNoMove, PerformsAny, AutosNot};
+ghost use Rattle.slow_runs.specs.Runs.{arrival_of, count_in, event_by};
 
 use crate::within::{limit_of, on_quiet, on_within, step_within};
 use box_program::Program;
@@ -18,7 +22,7 @@ use slow_history::{count_entries, count_outputs, log_of};
 use slow_world::{Reply, Setup, SlowWorld, recover, word_after};
 use std::alloc::Global;
 
-/// The most rounds, and the most steps of a thread in a round: more than a run has moves.
+/// The most rounds, the most packets fed, and the most steps of a thread in a round. A run has fewer moves than this.
 const MOST: u64 = 1 << 21;
 
 /// The thread steps until it is idle or waits, and whether it is idle then; or until its next move would pass a limit.
@@ -161,7 +165,13 @@ fn send<P: Program>(
     ensures fits { IfOk result (λ _. WorldFits (P.fits program.now) world.new) }
     ensures past { IfOk result (λ _. history world.new.past.items ≡ history world.old.past.items) }
 {
-    on_quiet(world, alloc, program, setup, arrival(kind, u64::from(thread), number))?;
+    on_quiet(
+        world,
+        alloc,
+        program,
+        setup,
+        arrival(kind, u64::from(thread), number),
+    )?;
     Ok(())
 }
 
@@ -301,7 +311,7 @@ fn by_words(thread: u64, entries: u64, outputs: u64, first: u64, second: u64) ->
     }
 }
 
-/// The event that the words at twice this place and behind it choose in this world.
+/// The event that the words at twice this place, and after it, choose in this world.
 fn chosen<V>(
     world: &SlowWorld<V>,
     alloc: Global,

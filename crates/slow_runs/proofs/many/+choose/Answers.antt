@@ -1,4 +1,4 @@
-use Rattle.std.proofs.Common.{◌≡◌, ℕ, suc, ◌-◌, arith}
+use Rattle.std.proofs.Common.{◌≡◌, suc, ◌-◌, arith}
 use Rattle.slow_world.specs.Mirror.{world_is, setting_is}
 use Rattle.slow_world.proofs.Lists.{if_ok_still}
 use Rattle.slow_runs.proofs.Choosing.{chosen_none, chosen_next}

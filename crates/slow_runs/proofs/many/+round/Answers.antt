@@ -1,4 +1,4 @@
-use Rattle.std.proofs.Common.{◌≡◌, ℕ, suc, ◌-◌, Bool, true, false, refl, sym, ap, arith}
+use Rattle.std.proofs.Common.{◌≡◌, suc, ◌-◌, Bool, false, sym, ap, arith}
 use Rattle.std.specs.Prelude.{◌&&◌}
 use Rattle.slow_world.specs.Mirror.{world_is, setting_is}
 use Rattle.slow_runs.proofs.Running.{no_thread, halts_before, halts_there, thread_rests}

@@ -1,4 +1,4 @@
-use Rattle.std.proofs.Common.{◌≡◌, ℕ, suc, ◌-◌, refl, arith}
+use Rattle.std.proofs.Common.{◌≡◌, suc, ◌-◌, refl, arith}
 use Rattle.slow_world.specs.Mirror.{world_is, setting_is}
 use Rattle.slow_world.proofs.Lists.{if_ok_still}
 use Rattle.recovery_world.specs.Many.{numbers_of}

@@ -1,6 +1,4 @@
-use Rattle.recovery_world.specs.World.{World}
 use Rattle.slow_world.specs.Mirror.{world_is, setting_is}
-use Rattle.slow_runs.proofs.Counting.{arrival_past}
 use Rattle.slow_runs.proofs.Running.{arrives_past}
 use Rattle.slow_runs.proofs.many.send.Goals as goal
 
