@@ -1,3 +1,4 @@
 pub mod Counting
 pub mod Running
 pub mod Choosing
+pub mod Legal

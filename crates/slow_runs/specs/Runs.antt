@@ -2,13 +2,14 @@
 use Rattle.std.specs.Prelude.{◌≡◌, ℕ, ◌-◌, ◌/◌, ◌%◌, ◌<◌, nat_lt, if◌then◌else◌, max, List, None, drop}
 use Rattle.plain_text.specs.declared.limit.Limit.{Limit}
 use Rattle.entry_order.specs.Log.{entries}
-use Rattle.plain_machine.specs.History.{Step, log_of, sent_of, outputs}
+use Rattle.plain_machine.specs.History.{Step, IsHistory, log_of, sent_of, outputs}
 use Rattle.recovery_world.specs.declared.event.Event.{Event}
 use Rattle.recovery_world.specs.declared.event.Event.TheVariants as event
 use Rattle.recovery_world.specs.declared.event.Kind.{Kind}
 use Rattle.recovery_world.specs.declared.event.Kind.TheVariants as kind
 use Rattle.recovery_world.specs.declared.event.Outcome.{Outcome}
-use Rattle.recovery_world.specs.World.{Setting, Sent, World}
+use Rattle.recovery_world.specs.World.{Setting, Sent, World, inputs_fed, all_inputs}
+use Rattle.recovery_world.specs.Events.{Wakes}
 use Rattle.recovery_world.specs.Limits.{OnWithin, Passes}
 use Rattle.recovery_world.specs.Many.{OnAny, Autos, chosen}
 use Rattle.slow_history.specs.Mirror.{names}
@@ -70,3 +71,15 @@ event_by t entries outputs a b =
     else if nat_lt (a % 32) 29 then event.Out t (max 1 (outputs - b / 16 % 4))
     else if nat_lt (a % 32) 30 then event.Snap
     else event.Store
+
+-- A past that is a legal run on what was fed stays one, and nothing more is fed.
+abbrev pub LegalStays : {V : Type 0} → Setting V → World V → World V → Type 0
+LegalStays s w new =
+    (new.fed ≡ w.fed)
+    × (IsHistory s.meaning (inputs_fed s w.fed) s.threads w.past → IsHistory s.meaning (inputs_fed s w.fed) s.threads new.past)
+
+-- A legal run on the whole capture that the master did, or of the stored snapshot where it is down, leads to such a run.
+abbrev pub EndsLegally : {V : Type 0} → Setting V → World V → World V → Type 0
+EndsLegally {V} s w new =
+    (up : World V) × Wakes w up
+    × (IsHistory s.meaning (all_inputs s) s.threads up.past → IsHistory s.meaning (all_inputs s) s.threads new.past)

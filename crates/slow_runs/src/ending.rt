@@ -1,5 +1,8 @@
-ghost use Rattle.std.specs.Prelude.{◌≡◌, IfOk};
-ghost use Rattle.slow_world.specs.Mirror.{WorldFits};
+ghost use Rattle.std.specs.Prelude.{◌≡◌, IfOk, IfSome};
+ghost use Rattle.recovery_world.specs.Files.{answer_of as answer_is, moves_made as moves_are};
+ghost use Rattle.slow_history.specs.Mirror.{history, act_is};
+ghost use Rattle.slow_world.specs.Mirror.{world_is, setting_is, WorldFits};
+ghost use Rattle.slow_runs.specs.Runs.{LegalStays, EndsLegally};
 
 use crate::many::wake;
 use box_program::Program;
@@ -14,7 +17,9 @@ use std::alloc::Global;
 const MOST: u64 = 1 << 30;
 
 /// What a move was told.
-fn answer_of<V>(made: &Made<V>) -> Option<u64> {
+fn answer_of<V>(made: &Made<V>) -> Option<u64>
+    ensures { result ≡ answer_is (act_is made.now) }
+{
     match made {
         Made::Did(entry, _) => match entry.what {
             What::Clock(value) | What::Draw(value) => Some(value),
@@ -25,7 +30,9 @@ fn answer_of<V>(made: &Made<V>) -> Option<u64> {
 }
 
 /// The moves of a history, oldest first.
-fn moves_made<V>(alloc: Global, steps: &[MadeStep<V>]) -> Result<Vec<PlainMove>, NoMemory> {
+fn moves_made<V>(alloc: Global, steps: &[MadeStep<V>]) -> Result<Vec<PlainMove>, NoMemory>
+    ensures { IfOk result (λ moves. moves.items ≡ moves_are (history steps.now)) }
+{
     match steps {
         [] => Ok(Vec::new(alloc)),
         [step, rest @ ..] => {
@@ -47,8 +54,10 @@ fn goes_on<P: Program>(
     setup: &Setup,
     thread: u32,
 ) -> Result<bool, NoMemory>
-    requires { WorldFits (P.fits program.now) world.old }
-    ensures { IfOk result (λ _. WorldFits (P.fits program.now) world.new) }
+    requires fits { WorldFits (P.fits program.now) world.old }
+    ensures fits { IfOk result (λ _. WorldFits (P.fits program.now) world.new) }
+    ensures legal { IfOk result (λ _. LegalStays (setting_is (P.meaning program.now) setup.now)
+        (world_is world.old) (world_is world.new)) }
 {
     if thread >= setup.threads {
         return Ok(false);
@@ -126,8 +135,10 @@ fn follow<P: Program>(
     setup: &Setup,
     most: u64,
 ) -> Result<bool, NoMemory>
-    requires { WorldFits (P.fits program.now) world.old }
-    ensures { IfOk result (λ _. WorldFits (P.fits program.now) world.new) }
+    requires fits { WorldFits (P.fits program.now) world.old }
+    ensures fits { IfOk result (λ _. WorldFits (P.fits program.now) world.new) }
+    ensures legal { IfOk result (λ _. LegalStays (setting_is (P.meaning program.now) setup.now)
+        (world_is world.old) (world_is world.new)) }
 {
     if most == 0 {
         return Err(NoMemory);
@@ -166,8 +177,10 @@ fn send_out<P: Program>(
     outputs: u64,
     most: u64,
 ) -> Result<bool, NoMemory>
-    requires { WorldFits (P.fits program.now) world.old }
-    ensures { IfOk result (λ _. WorldFits (P.fits program.now) world.new) }
+    requires fits { WorldFits (P.fits program.now) world.old }
+    ensures fits { IfOk result (λ _. WorldFits (P.fits program.now) world.new) }
+    ensures legal { IfOk result (λ _. LegalStays (setting_is (P.meaning program.now) setup.now)
+        (world_is world.old) (world_is world.new)) }
 {
     if most == 0 {
         return Err(NoMemory);
@@ -189,8 +202,10 @@ fn all_send_out<P: Program>(
     setup: &Setup,
     threads: u32,
 ) -> Result<bool, NoMemory>
-    requires { WorldFits (P.fits program.now) world.old }
-    ensures { IfOk result (λ _. WorldFits (P.fits program.now) world.new) }
+    requires fits { WorldFits (P.fits program.now) world.old }
+    ensures fits { IfOk result (λ _. WorldFits (P.fits program.now) world.new) }
+    ensures legal { IfOk result (λ _. LegalStays (setting_is (P.meaning program.now) setup.now)
+        (world_is world.old) (world_is world.new)) }
 {
     if threads == 0 {
         return Ok(true);
@@ -211,8 +226,12 @@ pub fn finish<P: Program>(
     program: &P,
     setup: &Setup,
 ) -> Result<Option<Vec<PlainMove>>, NoMemory>
-    requires { WorldFits (P.fits program.now) world.old }
-    ensures { IfOk result (λ _. WorldFits (P.fits program.now) world.new) }
+    requires fits { WorldFits (P.fits program.now) world.old }
+    ensures schedule { IfOk result (λ found. IfSome found (λ moves.
+        moves.items ≡ moves_are (history world.new.past.items))) }
+    ensures legal { IfOk result (λ _. EndsLegally (setting_is (P.meaning program.now) setup.now)
+        (world_is world.old) (world_is world.new)) }
+    ensures fits { IfOk result (λ _. WorldFits (P.fits program.now) world.new) }
 {
     wake(world, alloc, program)?;
     world.fed = setup.packets.len();

@@ -2,8 +2,9 @@
 //! reply lines.
 //!
 //! `on` performs every event of a script, and its contract is the definition: what a settling and chosen events make of the
-//! world, step by step, and that an event stops before a move that would pass a limit. `finish` goes by its definition too, but
-//! its contract says only that it is safe, ends, and keeps the values of the world; that it meets the definition is tested.
+//! world, step by step, and that an event stops before a move that would pass a limit. `finish` answers
+//! the schedule of a legal run on the whole capture, that of the past which it leaves; that this run is the one in which the
+//! world ends by the definition is not proved, but tested.
 //! Where memory runs out the world is spoiled, and is to be dropped.
 #![tactic(auto)]
 
