@@ -2,3 +2,4 @@ pub mod Counting
 pub mod Running
 pub mod Choosing
 pub mod Legal
+pub mod Sending

@@ -1,7 +1,9 @@
-ghost use Rattle.std.specs.Prelude.{◌≡◌, IfOk, IfSome};
+ghost use Rattle.std.specs.Prelude.{◌≡◌, IfOk, IfSome, IsTrue};
 ghost use Rattle.recovery_world.specs.Files.{answer_of as answer_is, moves_made as moves_are};
-ghost use Rattle.slow_history.specs.Mirror.{history, act_is};
+ghost use Rattle.recovery_world.specs.Finish.{greatest as greatest_is};
+ghost use Rattle.slow_history.specs.Mirror.{history, sents, act_is};
 ghost use Rattle.slow_world.specs.Mirror.{world_is, setting_is, WorldFits};
+ghost use Rattle.slow_runs.specs.Ending.{IsProgress, Goes, SendsOut, AllSendOut};
 ghost use Rattle.slow_runs.specs.Runs.{LegalStays, EndsLegally};
 
 use crate::many::wake;
@@ -46,28 +48,52 @@ fn moves_made<V>(alloc: Global, steps: &[MadeStep<V>]) -> Result<Vec<PlainMove>,
     }
 }
 
-/// One move of the thread, on what was fed; whether it made one.
+/// What came of a thread that was to make a move.
+#[derive(Clone, Copy)]
+enum Progress {
+    /// It makes none.
+    Stuck,
+    /// It made one that is not logged.
+    Quiet,
+    /// It made one that logged this entry.
+    Logged(LogEntry),
+}
+
+/// What came of a thread that made this move.
+fn progress_of<V>(made: &Made<V>) -> Progress
+    ensures { IsProgress (act_is made.now) result }
+{
+    match made {
+        Made::Did(entry, _) => Progress::Logged(*entry),
+        _ => Progress::Quiet,
+    }
+}
+
+/// One move of the thread, on what was fed.
 fn goes_on<P: Program>(
     world: &mut SlowWorld<P::Value>,
     alloc: Global,
     program: &P,
     setup: &Setup,
     thread: u32,
-) -> Result<bool, NoMemory>
+) -> Result<Progress, NoMemory>
     requires fits { WorldFits (P.fits program.now) world.old }
+    ensures goes { IfOk result (λ made.
+        Goes (world_is world.old) thread made (world_is world.new)) }
     ensures fits { IfOk result (λ _. WorldFits (P.fits program.now) world.new) }
     ensures legal { IfOk result (λ _. LegalStays (setting_is (P.meaning program.now) setup.now)
         (world_is world.old) (world_is world.new)) }
 {
     if thread >= setup.threads {
-        return Ok(false);
+        return Ok(Progress::Stuck);
     }
     match next_wish(alloc, program, setup, world, thread, None)? {
         Wish::Makes(step, _) => {
+            let progress = progress_of(&step.made);
             world.past.insert(0, step)?;
-            Ok(true)
+            Ok(progress)
         }
-        _ => Ok(false),
+        _ => Ok(Progress::Stuck),
     }
 }
 
@@ -146,14 +172,16 @@ fn follow<P: Program>(
     let Some(entry) = next_to_come(world, alloc)? else {
         return Ok(true);
     };
-    if goes_on(world, alloc, program, setup, entry.thread)? {
-        return follow(world, alloc, program, setup, most - 1);
+    match goes_on(world, alloc, program, setup, entry.thread)? {
+        Progress::Stuck => Ok(false),
+        _ => follow(world, alloc, program, setup, most - 1),
     }
-    Ok(false)
 }
 
 /// The greatest number of a released output of the thread, or 0.
-fn greatest(thread: u32, released: &[SentOut]) -> u64 {
+fn greatest(thread: u32, released: &[SentOut]) -> u64
+    ensures { result ≡ greatest_is thread (sents released.now) }
+{
     match released {
         [] => 0,
         [output, rest @ ..] => {
@@ -178,6 +206,8 @@ fn send_out<P: Program>(
     most: u64,
 ) -> Result<bool, NoMemory>
     requires fits { WorldFits (P.fits program.now) world.old }
+    ensures sends { IfOk result (λ done. IsTrue done
+        → SendsOut (world_is world.old) thread outputs (world_is world.new)) }
     ensures fits { IfOk result (λ _. WorldFits (P.fits program.now) world.new) }
     ensures legal { IfOk result (λ _. LegalStays (setting_is (P.meaning program.now) setup.now)
         (world_is world.old) (world_is world.new)) }
@@ -188,10 +218,10 @@ fn send_out<P: Program>(
     if outputs <= count_outputs(thread, &world.past) {
         return Ok(true);
     }
-    if goes_on(world, alloc, program, setup, thread)? {
-        return send_out(world, alloc, program, setup, thread, outputs, most - 1);
+    match goes_on(world, alloc, program, setup, thread)? {
+        Progress::Quiet => send_out(world, alloc, program, setup, thread, outputs, most - 1),
+        _ => Ok(false),
     }
-    Ok(false)
 }
 
 /// Each of the first threads goes on to its greatest released output; whether none got stuck.
@@ -203,6 +233,8 @@ fn all_send_out<P: Program>(
     threads: u32,
 ) -> Result<bool, NoMemory>
     requires fits { WorldFits (P.fits program.now) world.old }
+    ensures sends { IfOk result (λ done. IsTrue done
+        → AllSendOut (world_is world.old) threads (world_is world.new)) }
     ensures fits { IfOk result (λ _. WorldFits (P.fits program.now) world.new) }
     ensures legal { IfOk result (λ _. LegalStays (setting_is (P.meaning program.now) setup.now)
         (world_is world.old) (world_is world.new)) }

@@ -1,0 +1,41 @@
+-- How the end of a run goes on, move by move.
+use Rattle.std.specs.Prelude.{◌≡◌, ℕ, List, ◌∷◌, Option}
+use Rattle.entry_order.specs.Log.{Entry}
+use Rattle.plain_machine.specs.History.{Act, Did, Step}
+use Rattle.line_order.specs.Line.{IsQuiet}
+use Rattle.recovery_world.specs.World.{World}
+use Rattle.recovery_world.specs.Finish.{GoesOn, AllGoOn}
+use Rattle.slow_runs.specs.declared.ending.Progress.{Progress}
+use Rattle.slow_runs.specs.declared.ending.Progress.TheVariants as progress
+
+-- what a move that was made logged
+abbrev pub IsProgress : {V : Type 0} → Act V → Progress → Type 0
+IsProgress act progress.Stuck = ⊥
+IsProgress act progress.Quiet = IsQuiet act
+IsProgress {V} act (progress.Logged e) = (left : Option V) × (act ≡ Did e left)
+
+abbrev pub with_past : {V : Type 0} → World V → List (Step V) → World V
+with_past w past = record w { past = past }
+
+-- the thread made one move
+pub record GoesOne {V : Type 0} (w : World V) (t : ℕ) (made : Progress) (new : World V) : Type 0 where
+  pub step : Step V
+  pub thread : step.thread ≡ t
+  pub act : IsProgress step.act made
+  pub new_is : new ≡ with_past w (step ∷ w.past)
+
+-- the thread is stuck, or made a move
+abbrev pub Goes : {V : Type 0} → World V → ℕ → Progress → World V → Type 0
+Goes w t progress.Stuck new = new ≡ w
+Goes w t progress.Quiet new = GoesOne w t progress.Quiet new
+Goes w t (progress.Logged e) new = GoesOne w t (progress.Logged e) new
+
+-- the thread went on quietly until it had sent out so many packets
+pub record SendsOut {V : Type 0} (w : World V) (t many : ℕ) (new : World V) : Type 0 where
+  pub goes_on : GoesOn t many w.past new.past
+  pub new_is : new ≡ with_past w new.past
+
+-- each of the first threads did so, up to its greatest released output
+pub record AllSendOut {V : Type 0} (w : World V) (threads : ℕ) (new : World V) : Type 0 where
+  pub goes_on : AllGoOn w.released threads w.past new.past
+  pub new_is : new ≡ with_past w new.past
