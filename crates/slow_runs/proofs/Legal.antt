@@ -23,12 +23,16 @@ legal_move {V} s w new t given step drawn is fed same = (fed, λ h. subst (λ (l
         let k = move_is_step s.meaning (inputs_fed s w.fed) s.threads w.past (step ∷ w.past) (record { thread = t; answer = is.answer }) is.moves in
         let one : k.0 ≡ step = let q = k.2 in cc in subst (λ (x : Step V). IsStep s.meaning (inputs_fed s w.fed) s.threads w.past x) one k.1
 
--- where all is fed, what follows a waking ends legally
-pub ends_legally : {V : Type 0} (s : Setting V) (w up fed new : World V) (n : ℕ) → Wakes w up → fed.past ≡ up.past → fed.fed ≡ n → n ≡ length s.packets → LegalStays s fed new → EndsLegally s w new
-ends_legally {V} s w up fed new n wakes past is all k = (up, wakes, λ h. go (subst (λ (l : List (Step V)). IsHistory s.meaning (all_inputs s) s.threads l) (sym past) h))
+-- where all is fed, what follows a waking goes on legally
+pub ends_from : {V : Type 0} (s : Setting V) (up fed new : World V) (n : ℕ) → fed.past ≡ up.past → fed.fed ≡ n → n ≡ length s.packets → LegalStays s fed new
+    → IsHistory s.meaning (all_inputs s) s.threads up.past → IsHistory s.meaning (all_inputs s) s.threads new.past
+ends_from {V} s up fed new n past is all k h = go (subst (λ (l : List (Step V)). IsHistory s.meaning (all_inputs s) s.threads l) (sym past) h)
   where
     whole : take fed.fed s.packets ≡ s.packets
     whole = take_all fed.fed s.packets (let e : fed.fed ≡ length s.packets = is ∙ all in omega (arith, e))
 
     go : IsHistory s.meaning (all_inputs s) s.threads fed.past → IsHistory s.meaning (all_inputs s) s.threads new.past
     go = subst (λ (l : List Packet). IsHistory s.meaning (all_inputs (record s { packets = l })) s.threads fed.past → IsHistory s.meaning (all_inputs (record s { packets = l })) s.threads new.past) whole k.1
+
+pub ends_legally : {V : Type 0} (s : Setting V) (w up fed new : World V) (n : ℕ) → Wakes w up → fed.past ≡ up.past → fed.fed ≡ n → n ≡ length s.packets → LegalStays s fed new → EndsLegally s w new
+ends_legally s w up fed new n wakes past is all k = (up, wakes, ends_from s up fed new n past is all k)

@@ -1,17 +1,17 @@
 -- A thread that goes on until it has sent out enough.
-use Rattle.std.proofs.Common.{◌≡◌, ℕ, zero, suc, ◌≤◌, ◌<◌, List, [], ◌∷◌, refl, sym, ap, ◌∙◌, subst, inl, inr, ◌⊎◌, arith}
-use Rattle.plain_machine.specs.History.{Act, Step, sent_of, outputs}
+use Rattle.std.proofs.Common.{◌≡◌, ℕ, suc, ◌≤◌, ◌<◌, List, [], ◌∷◌, length, refl, sym, ap, ◌∙◌, subst, inl, inr, ◌⊎◌, arith}
+use Rattle.plain_machine.specs.History.{Step, sent_of, outputs}
 use Rattle.plain_machine.specs.Agree.{IsEarlier}
-use Rattle.plain_machine.proofs.Histories.{earlier_refl, earlier_trans, earlier_outputs}
+use Rattle.plain_machine.proofs.Histories.{earlier_refl}
 use Rattle.line_order.specs.Line.{IsQuiet, GoesQuietly}
 use Rattle.line_order.proofs.Again.{quiet_later}
-use Rattle.recovery_world.specs.World.{World, Sent}
+use Rattle.recovery_world.specs.World.{Setting, World, Sent}
+use Rattle.recovery_world.specs.Events.{Wakes}
+use Rattle.slow_runs.specs.Runs.{LegalStays}
+use Rattle.slow_runs.proofs.Legal.{ends_from}
 use Rattle.recovery_world.specs.Finish.{GoesOn, AllGoOn, greatest}
 use Rattle.slow_runs.specs.declared.ending.Progress.TheVariants as progress
-use Rattle.slow_runs.specs.Ending.{GoesOne, SendsOut, AllSendOut, with_past}
-
-
-
+use Rattle.slow_runs.specs.Ending.{GoesOne, SendsReleased, SendsOut, AllSendOut, with_past}
 
 quiet_refl : {V : Type 0} (t : ℕ) (past : List (Step V)) → GoesQuietly past t past
 quiet_refl t [] = refl
@@ -89,3 +89,13 @@ all_more {V} w mid new n m most more is a k = subst (λ (i : ℕ). AllSendOut w 
   goes_on = (mid.past, a.goes_on, subst (λ (i : ℕ). GoesOn m i mid.past new.past) (is ∙ ap (λ (z : World V). greatest m z.released) a.new_is) k.goes_on);
   new_is = k.new_is ∙ ap (λ (z : World V). with_past z new.past) a.new_is;
 })
+
+pub sends_released : {V : Type 0} (s : Setting V) (w up fed line new : World V) (n : ℕ) → Wakes w up → fed.past ≡ up.past → fed.released ≡ up.released → fed.fed ≡ n → n ≡ length s.packets → LegalStays s fed line → line.released ≡ fed.released
+    → AllSendOut line s.threads new → SendsReleased s w new.past
+sends_released {V} s w up fed line new n wakes past released is all k same a = record {
+  up = up;
+  wakes = wakes;
+  line = line.past;
+  legal = ends_from s up fed line n past is all k;
+  goes_on = subst (λ (l : List Sent). AllGoOn l s.threads line.past new.past) (same ∙ released) a.goes_on;
+}

@@ -1,9 +1,9 @@
 -- How the end of a run goes on, move by move.
 use Rattle.std.specs.Prelude.{◌≡◌, ℕ, List, ◌∷◌, Option}
-use Rattle.entry_order.specs.Log.{Entry}
-use Rattle.plain_machine.specs.History.{Act, Did, Step}
+use Rattle.plain_machine.specs.History.{Act, Did, Step, IsHistory}
 use Rattle.line_order.specs.Line.{IsQuiet}
-use Rattle.recovery_world.specs.World.{World}
+use Rattle.recovery_world.specs.World.{Setting, World, all_inputs}
+use Rattle.recovery_world.specs.Events.{Wakes}
 use Rattle.recovery_world.specs.Finish.{GoesOn, AllGoOn}
 use Rattle.slow_runs.specs.declared.ending.Progress.{Progress}
 use Rattle.slow_runs.specs.declared.ending.Progress.TheVariants as progress
@@ -39,3 +39,12 @@ pub record SendsOut {V : Type 0} (w : World V) (t many : ℕ) (new : World V) : 
 pub record AllSendOut {V : Type 0} (w : World V) (threads : ℕ) (new : World V) : Type 0 where
   pub goes_on : AllGoOn w.released threads w.past new.past
   pub new_is : new ≡ with_past w new.past
+
+-- From a line, which goes on legally from what the master did, or from the stored snapshot where it is down, each thread goes
+-- on to its greatest released output.
+pub record SendsReleased {V : Type 0} (s : Setting V) (w : World V) (steps : List (Step V)) : Type 0 where
+  pub up : World V
+  pub wakes : Wakes w up
+  pub line : List (Step V)
+  pub legal : IsHistory s.meaning (all_inputs s) s.threads up.past → IsHistory s.meaning (all_inputs s) s.threads line
+  pub goes_on : AllGoOn up.released s.threads line steps

@@ -3,7 +3,7 @@ ghost use Rattle.recovery_world.specs.Files.{answer_of as answer_is, moves_made 
 ghost use Rattle.recovery_world.specs.Finish.{greatest as greatest_is};
 ghost use Rattle.slow_history.specs.Mirror.{history, sents, act_is};
 ghost use Rattle.slow_world.specs.Mirror.{world_is, setting_is, WorldFits};
-ghost use Rattle.slow_runs.specs.Ending.{IsProgress, Goes, SendsOut, AllSendOut};
+ghost use Rattle.slow_runs.specs.Ending.{IsProgress, Goes, SendsOut, AllSendOut, SendsReleased};
 ghost use Rattle.slow_runs.specs.Runs.{LegalStays, EndsLegally};
 
 use crate::many::wake;
@@ -162,6 +162,8 @@ fn follow<P: Program>(
     most: u64,
 ) -> Result<bool, NoMemory>
     requires fits { WorldFits (P.fits program.now) world.old }
+    ensures released { IfOk result (λ _.
+        sents world.new.released.items ≡ sents world.old.released.items) }
     ensures fits { IfOk result (λ _. WorldFits (P.fits program.now) world.new) }
     ensures legal { IfOk result (λ _. LegalStays (setting_is (P.meaning program.now) setup.now)
         (world_is world.old) (world_is world.new)) }
@@ -251,7 +253,7 @@ fn all_send_out<P: Program>(
 
 /// The schedule of the run in which this world ends, oldest move first. None where it gets stuck.
 ///
-/// The world goes on to the end of that run. It answers `NoMemory` too where that takes more than 2 to the 30 moves.
+/// The world goes on to the end of that run: first the line, then what was released and is not sent out yet. It answers `NoMemory` too where that takes more than 2 to the 30 moves.
 pub fn finish<P: Program>(
     world: &mut SlowWorld<P::Value>,
     alloc: Global,
@@ -263,6 +265,9 @@ pub fn finish<P: Program>(
         moves.items ≡ moves_are (history world.new.past.items))) }
     ensures legal { IfOk result (λ _. EndsLegally (setting_is (P.meaning program.now) setup.now)
         (world_is world.old) (world_is world.new)) }
+    ensures sends { IfOk result (λ found. IfSome found (λ _.
+        SendsReleased (setting_is (P.meaning program.now) setup.now) (world_is world.old)
+        (history world.new.past.items))) }
     ensures fits { IfOk result (λ _. WorldFits (P.fits program.now) world.new) }
 {
     wake(world, alloc, program)?;

@@ -2,9 +2,12 @@
 //! reply lines.
 //!
 //! `on` performs every event of a script, and its contract is the definition: what a settling and chosen events make of the
-//! world, step by step, and that an event stops before a move that would pass a limit. `finish` answers
-//! the schedule of a legal run on the whole capture, that of the past which it leaves; that this run is the one in which the
-//! world ends by the definition is not proved, but tested.
+//! world, step by step, and that an event stops before a move that would pass a limit.
+//!
+//! `finish` goes by its definition too. Its contract says that the schedule is that of the past which it leaves, that this is a
+//! legal run on the whole capture, and that in it each thread goes on from a line to its greatest released output. That this
+//! line has the followed entries in their order, and that a sound world never gets stuck, is not proved, but tested.
+//!
 //! Where memory runs out the world is spoiled, and is to be dropped.
 #![tactic(auto)]
 

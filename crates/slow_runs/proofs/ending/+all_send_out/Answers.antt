@@ -1,4 +1,4 @@
-use Rattle.std.proofs.Common.{◌≡◌, ℕ, suc, ◌-◌, ap, ◌∙◌, arith}
+use Rattle.std.proofs.Common.{◌≡◌, suc, ◌-◌, ap, ◌∙◌, arith}
 use Rattle.recovery_world.specs.Finish.{greatest as greatest_is}
 use Rattle.slow_history.specs.Mirror.{sents}
 use Rattle.slow_world.specs.Mirror.{world_is}

@@ -1,4 +1,4 @@
-use Rattle.std.proofs.Common.{◌≡◌, ◌≤◌, ◌<◌, ap, ◌∙◌, subst, arith}
+use Rattle.std.proofs.Common.{◌≤◌, ◌<◌, ap, ◌∙◌, subst, arith}
 use Rattle.plain_machine.specs.History.{sent_of, outputs as outputs_is}
 use Rattle.slow_history.specs.Mirror.{history}
 use Rattle.slow_world.specs.Mirror.{world_is}
