@@ -3,3 +3,4 @@ pub mod Running
 pub mod Choosing
 pub mod Legal
 pub mod Sending
+pub mod Coming

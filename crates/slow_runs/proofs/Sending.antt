@@ -1,17 +1,19 @@
 -- A thread that goes on until it has sent out enough.
-use Rattle.std.proofs.Common.{◌≡◌, ℕ, suc, ◌≤◌, ◌<◌, List, [], ◌∷◌, length, refl, sym, ap, ◌∙◌, subst, inl, inr, ◌⊎◌, arith}
-use Rattle.plain_machine.specs.History.{Step, sent_of, outputs}
+use Rattle.std.proofs.Common.{◌≡◌, ℕ, suc, ◌≤◌, ◌<◌, List, [], ◌∷◌, ◌++◌, length, refl, sym, ap, ◌∙◌, subst, inl, inr, ◌⊎◌, arith}
+use Rattle.entry_order.specs.Log.{Entry, IsIn}
+use Rattle.entry_order.proofs.Existing.{in_or}
+use Rattle.plain_machine.specs.History.{Act, Did, Step, log_more, log_of, outputs, sent_of}
 use Rattle.plain_machine.specs.Agree.{IsEarlier}
 use Rattle.plain_machine.proofs.Histories.{earlier_refl}
-use Rattle.line_order.specs.Line.{IsQuiet, GoesQuietly}
-use Rattle.line_order.proofs.Again.{quiet_later}
+use Rattle.line_order.specs.Line.{IsQuiet, GoesQuietly, IsLed}
+use Rattle.line_order.proofs.Again.{quiet_later, quiet_same_log}
 use Rattle.recovery_world.specs.World.{Setting, World, Sent}
 use Rattle.recovery_world.specs.Events.{Wakes}
 use Rattle.slow_runs.specs.Runs.{LegalStays}
 use Rattle.slow_runs.proofs.Legal.{ends_from}
-use Rattle.recovery_world.specs.Finish.{GoesOn, AllGoOn, greatest}
+use Rattle.recovery_world.specs.Finish.{IsToCome, GoesOn, AllGoOn, greatest}
 use Rattle.slow_runs.specs.declared.ending.Progress.TheVariants as progress
-use Rattle.slow_runs.specs.Ending.{GoesOne, SendsReleased, SendsOut, AllSendOut, with_past}
+use Rattle.slow_runs.specs.Ending.{GoesOne, LeadsTo, IsLedOn, SendsReleased, SendsOut, AllSendOut, with_past}
 
 quiet_refl : {V : Type 0} (t : ℕ) (past : List (Step V)) → GoesQuietly past t past
 quiet_refl t [] = refl
@@ -90,12 +92,107 @@ all_more {V} w mid new n m most more is a k = subst (λ (i : ℕ). AllSendOut w 
   new_is = k.new_is ∙ ap (λ (z : World V). with_past z new.past) a.new_is;
 })
 
-pub sends_released : {V : Type 0} (s : Setting V) (w up fed line new : World V) (n : ℕ) → Wakes w up → fed.past ≡ up.past → fed.released ≡ up.released → fed.fed ≡ n → n ≡ length s.packets → LegalStays s fed line → line.released ≡ fed.released
+pub sends_released : {V : Type 0} (s : Setting V) (w up fed line new : World V) (n : ℕ) → Wakes w up → fed.past ≡ up.past → fed.followed ≡ up.followed → fed.released ≡ up.released → fed.fed ≡ n → n ≡ length s.packets → LegalStays s fed line → IsLedOn fed line
     → AllSendOut line s.threads new → SendsReleased s w new.past
-sends_released {V} s w up fed line new n wakes past released is all k same a = record {
+sends_released {V} s w up fed line new n wakes past followed released is all k l a = record {
   up = up;
   wakes = wakes;
   line = line.past;
   legal = ends_from s up fed line n past is all k;
-  goes_on = subst (λ (l : List Sent). AllGoOn l s.threads line.past new.past) (same ∙ released) a.goes_on;
+  more = l.more;
+  to_come = λ e. (
+    (λ i. let h = (l.to_come e).0 i in (subst (λ (x : List Entry). IsIn e x) followed h.0, λ j. h.1 (subst (λ (x : List (Step V)). IsIn e (log_of x)) (sym past) j))),
+    (λ h. (l.to_come e).1 (subst (λ (x : List Entry). IsIn e x) (sym followed) h.0, λ j. h.1 (subst (λ (x : List (Step V)). IsIn e (log_of x)) past j))),
+  );
+  led = subst (λ (x : List (Step V)). IsLed x l.more line.past) past l.led;
+  goes_on = subst (λ (x : List Sent). AllGoOn x s.threads line.past new.past) (ap (λ (z : World V). z.released) l.new_is ∙ released) a.goes_on;
 }
+
+pub led_quiet : {V : Type 0} (w mid new : World V) (e : Entry) → GoesOne w e.thread progress.Quiet mid → LeadsTo mid e new → LeadsTo w e new
+led_quiet {V} w mid new e one k =
+    let past : mid.past ≡ one.step ∷ w.past = ap (λ (z : World V). z.past) one.new_is in
+    record {
+      left = k.left;
+      step = k.step;
+      steps = k.steps;
+      act = k.act;
+      quiet = quiet_first e.thread one.step w.past k.steps one.thread one.act (subst (λ (l : List (Step V)). GoesQuietly l e.thread k.steps) past k.quiet);
+      new_is = k.new_is ∙ ap (λ (z : World V). with_past z (k.step ∷ k.steps)) one.new_is;
+    }
+
+pub led_made : {V : Type 0} (w new : World V) (e made : Entry) → made ≡ e → GoesOne w e.thread (progress.Logged made) new → LeadsTo w e new
+led_made {V} w new e made same one = record {
+  left = one.act.0;
+  step = one.step;
+  steps = w.past;
+  act = subst (λ (x : Entry). one.step.act ≡ Did x one.act.0) same one.act.1;
+  quiet = quiet_refl e.thread w.past;
+  new_is = one.new_is;
+}
+
+pub led_none : {V : Type 0} (w : World V) → ((e : Entry) → IsToCome w e → ⊥) → IsLedOn w w
+led_none w none = record { more = []; to_come = λ e. ((λ i. absurd i), (λ h. none e h)); led = refl; new_is = refl }
+
+led_first : {V : Type 0} (past mid : List (Step V)) (e : Entry) (more : List Entry) (to : List (Step V)) → IsLed past (e ∷ []) mid → IsLed mid more to → IsLed past (more ++ e ∷ []) to
+led_first {V} past mid e [] to a b = subst (λ (l : List (Step V)). IsLed past (e ∷ []) l) (sym b) a
+led_first past mid e (f ∷ more) [] a b = absurd b
+led_first past mid e (f ∷ more) (x ∷ to) a b = (b.0, b.1, b.2, led_first past mid e more b.1 a b.3)
+
+in_behind : (e f : Entry) (more : List Entry) → IsIn f (more ++ e ∷ []) → IsIn f more ⊎ (e ≡ f)
+in_behind e f [] (inl i) = inr i
+in_behind e f [] (inr i) = absurd i
+in_behind e f (x ∷ more) (inl i) = inl (inl i)
+in_behind e f (x ∷ more) (inr i) = go (in_behind e f more i)
+  where
+    go : IsIn f more ⊎ (e ≡ f) → IsIn f (x ∷ more) ⊎ (e ≡ f)
+    go (inl k) = inl (inr k)
+    go (inr k) = inr k
+
+behind_more : (e f : Entry) (more : List Entry) → IsIn f more → IsIn f (more ++ e ∷ [])
+behind_more e f (x ∷ more) (inl i) = inl i
+behind_more e f (x ∷ more) (inr i) = inr (behind_more e f more i)
+behind_more e f [] i = absurd i
+
+behind_one : (e : Entry) (more : List Entry) → IsIn e (more ++ e ∷ [])
+behind_one e [] = inl refl
+behind_one e (x ∷ more) = inr (behind_one e more)
+
+pub led_more : {V : Type 0} (w mid new : World V) (e : Entry) → IsToCome w e → LeadsTo w e mid → IsLedOn mid new → IsLedOn w new
+led_more {V} w mid new e come k l = record {
+  more = l.more ++ e ∷ [];
+  to_come = λ f. (to f, from f);
+  led = led_first w.past mid.past e l.more new.past one l.led;
+  new_is = l.new_is ∙ ap (λ (z : World V). with_past z new.past) k.new_is;
+}
+  where
+    one : IsLed w.past (e ∷ []) mid.past
+    one = subst (λ (z : World V). IsLed w.past (e ∷ []) z.past) (sym k.new_is) ((k.left, k.act), w.past, k.quiet, refl)
+
+    log : log_of mid.past ≡ e ∷ log_of w.past
+    log = ap (λ (z : World V). log_of z.past) k.new_is ∙ (ap (λ (a : Act V). log_more a (log_of k.steps)) k.act ∙ ap (λ (x : List Entry). e ∷ x) (quiet_same_log w.past e.thread k.steps k.quiet))
+
+    to : (f : Entry) → IsIn f (l.more ++ e ∷ []) → IsToCome w f
+    to f i = go (in_behind e f l.more i)
+      where
+        go : IsIn f l.more ⊎ (e ≡ f) → IsToCome w f
+        go (inl j) = let h = (l.to_come f).0 j in (subst (λ (z : World V). IsIn f z.followed) k.new_is h.0, λ n. h.1 (subst (λ (x : List Entry). IsIn f x) (sym log) (inr n)))
+        go (inr j) = subst (λ (x : Entry). IsToCome w x) j come
+
+    from : (f : Entry) → IsToCome w f → IsIn f (l.more ++ e ∷ [])
+    from f h = go (one_or (in_or f (e ∷ [])))
+      where
+        here : (e ≡ f → ⊥) → IsIn f (log_of mid.past) → ⊥
+        here never i = out (subst (λ (x : List Entry). IsIn f x) log i)
+          where
+            out : IsIn f (e ∷ log_of w.past) → ⊥
+            out (inl j) = never j
+            out (inr j) = h.1 j
+
+        one_or : IsIn f (e ∷ []) ⊎ (IsIn f (e ∷ []) → ⊥) → (e ≡ f) ⊎ (e ≡ f → ⊥)
+        one_or (inl (inl j)) = inl j
+        one_or (inl (inr j)) = absurd j
+        one_or (inr never) = inr (λ j. never (inl j))
+
+        go : (e ≡ f) ⊎ (e ≡ f → ⊥) → IsIn f (l.more ++ e ∷ [])
+        go (inl j) = subst (λ (x : Entry). IsIn x (l.more ++ e ∷ [])) j (behind_one e l.more)
+        go (inr j) = behind_more e f l.more ((l.to_come f).1 (subst (λ (z : World V). IsIn f z.followed) (sym k.new_is) h.0, here j))

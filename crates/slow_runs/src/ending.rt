@@ -1,9 +1,10 @@
-ghost use Rattle.std.specs.Prelude.{◌≡◌, IfOk, IfSome, IsTrue};
+ghost use Rattle.std.specs.Prelude.{◌≡◌, ◌⊎◌, Some, IfOk, IfSome, IsTrue, MatchOption};
+ghost use Rattle.entry_order.specs.Log.{Entry, IsIn};
 ghost use Rattle.recovery_world.specs.Files.{answer_of as answer_is, moves_made as moves_are};
-ghost use Rattle.recovery_world.specs.Finish.{greatest as greatest_is};
+ghost use Rattle.recovery_world.specs.Finish.{IsToCome, greatest as greatest_is};
 ghost use Rattle.slow_history.specs.Mirror.{history, sents, act_is};
 ghost use Rattle.slow_world.specs.Mirror.{world_is, setting_is, WorldFits};
-ghost use Rattle.slow_runs.specs.Ending.{IsProgress, Goes, SendsOut, AllSendOut, SendsReleased};
+ghost use Rattle.slow_runs.specs.Ending.{IsProgress, Goes, LeadsTo, IsLedOn, SendsOut, AllSendOut, SendsReleased};
 ghost use Rattle.slow_runs.specs.Runs.{LegalStays, EndsLegally};
 
 use crate::many::wake;
@@ -111,7 +112,9 @@ fn goes_before(first: &ToCome, second: &ToCome) -> bool {
 }
 
 /// The one of two that is made first.
-fn first_of(found: Option<ToCome>, other: ToCome) -> ToCome {
+fn first_of(found: Option<ToCome>, other: ToCome) -> ToCome
+    ensures { (result ≡ other) ⊎ (found ≡ Some result) }
+{
     match found {
         Some(first) if goes_before(&first, &other) => first,
         _ => other,
@@ -124,7 +127,11 @@ fn first_to_come(
     line: &[LogEntry],
     log: &[LogEntry],
     followed: &[LogEntry],
-) -> Result<Option<ToCome>, NoMemory> {
+) -> Result<Option<ToCome>, NoMemory>
+    ensures { IfOk result (λ found. MatchOption found
+        ((e : Entry) → IsIn e followed.now → IsIn e log.now)
+        (λ x. IsIn x.entry followed.now × (IsIn x.entry log.now → ⊥))) }
+{
     match followed {
         [] => Ok(None),
         [entry, rest @ ..] => {
@@ -142,7 +149,10 @@ fn first_to_come(
 }
 
 /// The followed entry that the line makes next, if one is to come.
-fn next_to_come<V>(world: &SlowWorld<V>, alloc: Global) -> Result<Option<LogEntry>, NoMemory> {
+fn next_to_come<V>(world: &SlowWorld<V>, alloc: Global) -> Result<Option<LogEntry>, NoMemory>
+    ensures { IfOk result (λ found. MatchOption found
+        ((e : Entry) → IsToCome (world_is world.now) e → ⊥) (IsToCome (world_is world.now))) }
+{
     let log = log_of(alloc, &world.past)?;
     let mut line = Vec::from_slice(alloc, &world.followed)?;
     line.extend_from_slice(&log)?;
@@ -150,6 +160,39 @@ fn next_to_come<V>(world: &SlowWorld<V>, alloc: Global) -> Result<Option<LogEntr
     match found {
         Some(first) => Ok(Some(first.entry)),
         None => Ok(None),
+    }
+}
+
+/// Whether the two entries are one.
+fn is_this(made: &LogEntry, entry: &LogEntry) -> bool
+    ensures { IsTrue result → made.now ≡ entry.now }
+{
+    made == entry
+}
+
+/// The thread of an entry goes on until it makes a logged move; whether this is the entry.
+fn lead_to<P: Program>(
+    world: &mut SlowWorld<P::Value>,
+    alloc: Global,
+    program: &P,
+    setup: &Setup,
+    entry: LogEntry,
+    most: u64,
+) -> Result<bool, NoMemory>
+    requires fits { WorldFits (P.fits program.now) world.old }
+    ensures leads { IfOk result (λ done. IsTrue done
+        → LeadsTo (world_is world.old) entry (world_is world.new)) }
+    ensures fits { IfOk result (λ _. WorldFits (P.fits program.now) world.new) }
+    ensures legal { IfOk result (λ _. LegalStays (setting_is (P.meaning program.now) setup.now)
+        (world_is world.old) (world_is world.new)) }
+{
+    if most == 0 {
+        return Err(NoMemory);
+    }
+    match goes_on(world, alloc, program, setup, entry.thread)? {
+        Progress::Stuck => Ok(false),
+        Progress::Quiet => lead_to(world, alloc, program, setup, entry, most - 1),
+        Progress::Logged(made) => Ok(is_this(&made, &entry)),
     }
 }
 
@@ -162,8 +205,8 @@ fn follow<P: Program>(
     most: u64,
 ) -> Result<bool, NoMemory>
     requires fits { WorldFits (P.fits program.now) world.old }
-    ensures released { IfOk result (λ _.
-        sents world.new.released.items ≡ sents world.old.released.items) }
+    ensures leads { IfOk result (λ done. IsTrue done
+        → IsLedOn (world_is world.old) (world_is world.new)) }
     ensures fits { IfOk result (λ _. WorldFits (P.fits program.now) world.new) }
     ensures legal { IfOk result (λ _. LegalStays (setting_is (P.meaning program.now) setup.now)
         (world_is world.old) (world_is world.new)) }
@@ -174,10 +217,10 @@ fn follow<P: Program>(
     let Some(entry) = next_to_come(world, alloc)? else {
         return Ok(true);
     };
-    match goes_on(world, alloc, program, setup, entry.thread)? {
-        Progress::Stuck => Ok(false),
-        _ => follow(world, alloc, program, setup, most - 1),
+    if !lead_to(world, alloc, program, setup, entry, MOST)? {
+        return Ok(false);
     }
+    follow(world, alloc, program, setup, most - 1)
 }
 
 /// The greatest number of a released output of the thread, or 0.

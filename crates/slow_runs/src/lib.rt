@@ -5,8 +5,9 @@
 //! world, step by step, and that an event stops before a move that would pass a limit.
 //!
 //! `finish` goes by its definition too. Its contract says that the schedule is that of the past which it leaves, that this is a
-//! legal run on the whole capture, and that in it each thread goes on from a line to its greatest released output. That this
-//! line has the followed entries in their order, and that a sound world never gets stuck, is not proved, but tested.
+//! legal run on the whole capture, that a line makes each followed entry to come after the moves that lead to it, and that each
+//! thread goes on from there to its greatest released output. That the line has the entries by weight, then thread, and that a
+//! sound world never gets stuck, is not proved, but tested.
 //!
 //! Where memory runs out the world is spoiled, and is to be dropped.
 #![tactic(auto)]
