@@ -1,5 +1,11 @@
-ghost use Rattle.std.specs.Prelude.{◌≡◌, IfOk};
-ghost use Rattle.slow_world.specs.Mirror.{WorldFits};
+ghost use Rattle.std.specs.Prelude.{◌≡◌, ◌⊎◌, Some, IfOk, IfSome, IsTrue, MatchOption};
+ghost use Rattle.entry_order.specs.Log.{Entry, IsIn};
+ghost use Rattle.recovery_world.specs.Files.{answer_of as answer_is, moves_made as moves_are};
+ghost use Rattle.recovery_world.specs.Finish.{IsToCome, greatest as greatest_is};
+ghost use Rattle.slow_history.specs.Mirror.{history, sents, act_is};
+ghost use Rattle.slow_world.specs.Mirror.{world_is, setting_is, WorldFits};
+ghost use Rattle.slow_runs.specs.Ending.{IsProgress, Goes, LeadsTo, IsLedOn, SendsOut, AllSendOut, SendsReleased};
+ghost use Rattle.slow_runs.specs.Runs.{LegalStays, EndsLegally};
 
 use crate::many::wake;
 use box_program::Program;
@@ -14,7 +20,9 @@ use std::alloc::Global;
 const MOST: u64 = 1 << 30;
 
 /// What a move was told.
-fn answer_of<V>(made: &Made<V>) -> Option<u64> {
+fn answer_of<V>(made: &Made<V>) -> Option<u64>
+    ensures { result ≡ answer_is (act_is made.now) }
+{
     match made {
         Made::Did(entry, _) => match entry.what {
             What::Clock(value) | What::Draw(value) => Some(value),
@@ -25,7 +33,9 @@ fn answer_of<V>(made: &Made<V>) -> Option<u64> {
 }
 
 /// The moves of a history, oldest first.
-fn moves_made<V>(alloc: Global, steps: &[MadeStep<V>]) -> Result<Vec<PlainMove>, NoMemory> {
+fn moves_made<V>(alloc: Global, steps: &[MadeStep<V>]) -> Result<Vec<PlainMove>, NoMemory>
+    ensures { IfOk result (λ moves. moves.items ≡ moves_are (history steps.now)) }
+{
     match steps {
         [] => Ok(Vec::new(alloc)),
         [step, rest @ ..] => {
@@ -39,26 +49,52 @@ fn moves_made<V>(alloc: Global, steps: &[MadeStep<V>]) -> Result<Vec<PlainMove>,
     }
 }
 
-/// One move of the thread, on what was fed; whether it made one.
+/// What came of a thread that was to make a move.
+#[derive(Clone, Copy)]
+enum Progress {
+    /// It makes none.
+    Stuck,
+    /// It made one that is not logged.
+    Quiet,
+    /// It made one that logged this entry.
+    Logged(LogEntry),
+}
+
+/// What came of a thread that made this move.
+fn progress_of<V>(made: &Made<V>) -> Progress
+    ensures { IsProgress (act_is made.now) result }
+{
+    match made {
+        Made::Did(entry, _) => Progress::Logged(*entry),
+        _ => Progress::Quiet,
+    }
+}
+
+/// One move of the thread, on what was fed.
 fn goes_on<P: Program>(
     world: &mut SlowWorld<P::Value>,
     alloc: Global,
     program: &P,
     setup: &Setup,
     thread: u32,
-) -> Result<bool, NoMemory>
-    requires { WorldFits (P.fits program.now) world.old }
-    ensures { IfOk result (λ _. WorldFits (P.fits program.now) world.new) }
+) -> Result<Progress, NoMemory>
+    requires fits { WorldFits (P.fits program.now) world.old }
+    ensures goes { IfOk result (λ made.
+        Goes (world_is world.old) thread made (world_is world.new)) }
+    ensures fits { IfOk result (λ _. WorldFits (P.fits program.now) world.new) }
+    ensures legal { IfOk result (λ _. LegalStays (setting_is (P.meaning program.now) setup.now)
+        (world_is world.old) (world_is world.new)) }
 {
     if thread >= setup.threads {
-        return Ok(false);
+        return Ok(Progress::Stuck);
     }
     match next_wish(alloc, program, setup, world, thread, None)? {
         Wish::Makes(step, _) => {
+            let progress = progress_of(&step.made);
             world.past.insert(0, step)?;
-            Ok(true)
+            Ok(progress)
         }
-        _ => Ok(false),
+        _ => Ok(Progress::Stuck),
     }
 }
 
@@ -76,7 +112,9 @@ fn goes_before(first: &ToCome, second: &ToCome) -> bool {
 }
 
 /// The one of two that is made first.
-fn first_of(found: Option<ToCome>, other: ToCome) -> ToCome {
+fn first_of(found: Option<ToCome>, other: ToCome) -> ToCome
+    ensures { (result ≡ other) ⊎ (found ≡ Some result) }
+{
     match found {
         Some(first) if goes_before(&first, &other) => first,
         _ => other,
@@ -89,7 +127,11 @@ fn first_to_come(
     line: &[LogEntry],
     log: &[LogEntry],
     followed: &[LogEntry],
-) -> Result<Option<ToCome>, NoMemory> {
+) -> Result<Option<ToCome>, NoMemory>
+    ensures { IfOk result (λ found. MatchOption found
+        ((e : Entry) → IsIn e followed.now → IsIn e log.now)
+        (λ x. IsIn x.entry followed.now × (IsIn x.entry log.now → ⊥))) }
+{
     match followed {
         [] => Ok(None),
         [entry, rest @ ..] => {
@@ -107,7 +149,10 @@ fn first_to_come(
 }
 
 /// The followed entry that the line makes next, if one is to come.
-fn next_to_come<V>(world: &SlowWorld<V>, alloc: Global) -> Result<Option<LogEntry>, NoMemory> {
+fn next_to_come<V>(world: &SlowWorld<V>, alloc: Global) -> Result<Option<LogEntry>, NoMemory>
+    ensures { IfOk result (λ found. MatchOption found
+        ((e : Entry) → IsToCome (world_is world.now) e → ⊥) (IsToCome (world_is world.now))) }
+{
     let log = log_of(alloc, &world.past)?;
     let mut line = Vec::from_slice(alloc, &world.followed)?;
     line.extend_from_slice(&log)?;
@@ -115,6 +160,39 @@ fn next_to_come<V>(world: &SlowWorld<V>, alloc: Global) -> Result<Option<LogEntr
     match found {
         Some(first) => Ok(Some(first.entry)),
         None => Ok(None),
+    }
+}
+
+/// Whether the two entries are one.
+fn is_this(made: &LogEntry, entry: &LogEntry) -> bool
+    ensures { IsTrue result → made.now ≡ entry.now }
+{
+    made == entry
+}
+
+/// The thread of an entry goes on until it makes a logged move; whether this is the entry.
+fn lead_to<P: Program>(
+    world: &mut SlowWorld<P::Value>,
+    alloc: Global,
+    program: &P,
+    setup: &Setup,
+    entry: LogEntry,
+    most: u64,
+) -> Result<bool, NoMemory>
+    requires fits { WorldFits (P.fits program.now) world.old }
+    ensures leads { IfOk result (λ done. IsTrue done
+        → LeadsTo (world_is world.old) entry (world_is world.new)) }
+    ensures fits { IfOk result (λ _. WorldFits (P.fits program.now) world.new) }
+    ensures legal { IfOk result (λ _. LegalStays (setting_is (P.meaning program.now) setup.now)
+        (world_is world.old) (world_is world.new)) }
+{
+    if most == 0 {
+        return Err(NoMemory);
+    }
+    match goes_on(world, alloc, program, setup, entry.thread)? {
+        Progress::Stuck => Ok(false),
+        Progress::Quiet => lead_to(world, alloc, program, setup, entry, most - 1),
+        Progress::Logged(made) => Ok(is_this(&made, &entry)),
     }
 }
 
@@ -126,8 +204,12 @@ fn follow<P: Program>(
     setup: &Setup,
     most: u64,
 ) -> Result<bool, NoMemory>
-    requires { WorldFits (P.fits program.now) world.old }
-    ensures { IfOk result (λ _. WorldFits (P.fits program.now) world.new) }
+    requires fits { WorldFits (P.fits program.now) world.old }
+    ensures leads { IfOk result (λ done. IsTrue done
+        → IsLedOn (world_is world.old) (world_is world.new)) }
+    ensures fits { IfOk result (λ _. WorldFits (P.fits program.now) world.new) }
+    ensures legal { IfOk result (λ _. LegalStays (setting_is (P.meaning program.now) setup.now)
+        (world_is world.old) (world_is world.new)) }
 {
     if most == 0 {
         return Err(NoMemory);
@@ -135,14 +217,16 @@ fn follow<P: Program>(
     let Some(entry) = next_to_come(world, alloc)? else {
         return Ok(true);
     };
-    if goes_on(world, alloc, program, setup, entry.thread)? {
-        return follow(world, alloc, program, setup, most - 1);
+    if !lead_to(world, alloc, program, setup, entry, MOST)? {
+        return Ok(false);
     }
-    Ok(false)
+    follow(world, alloc, program, setup, most - 1)
 }
 
 /// The greatest number of a released output of the thread, or 0.
-fn greatest(thread: u32, released: &[SentOut]) -> u64 {
+fn greatest(thread: u32, released: &[SentOut]) -> u64
+    ensures { result ≡ greatest_is thread (sents released.now) }
+{
     match released {
         [] => 0,
         [output, rest @ ..] => {
@@ -166,8 +250,12 @@ fn send_out<P: Program>(
     outputs: u64,
     most: u64,
 ) -> Result<bool, NoMemory>
-    requires { WorldFits (P.fits program.now) world.old }
-    ensures { IfOk result (λ _. WorldFits (P.fits program.now) world.new) }
+    requires fits { WorldFits (P.fits program.now) world.old }
+    ensures sends { IfOk result (λ done. IsTrue done
+        → SendsOut (world_is world.old) thread outputs (world_is world.new)) }
+    ensures fits { IfOk result (λ _. WorldFits (P.fits program.now) world.new) }
+    ensures legal { IfOk result (λ _. LegalStays (setting_is (P.meaning program.now) setup.now)
+        (world_is world.old) (world_is world.new)) }
 {
     if most == 0 {
         return Err(NoMemory);
@@ -175,10 +263,10 @@ fn send_out<P: Program>(
     if outputs <= count_outputs(thread, &world.past) {
         return Ok(true);
     }
-    if goes_on(world, alloc, program, setup, thread)? {
-        return send_out(world, alloc, program, setup, thread, outputs, most - 1);
+    match goes_on(world, alloc, program, setup, thread)? {
+        Progress::Quiet => send_out(world, alloc, program, setup, thread, outputs, most - 1),
+        _ => Ok(false),
     }
-    Ok(false)
 }
 
 /// Each of the first threads goes on to its greatest released output; whether none got stuck.
@@ -189,8 +277,12 @@ fn all_send_out<P: Program>(
     setup: &Setup,
     threads: u32,
 ) -> Result<bool, NoMemory>
-    requires { WorldFits (P.fits program.now) world.old }
-    ensures { IfOk result (λ _. WorldFits (P.fits program.now) world.new) }
+    requires fits { WorldFits (P.fits program.now) world.old }
+    ensures sends { IfOk result (λ done. IsTrue done
+        → AllSendOut (world_is world.old) threads (world_is world.new)) }
+    ensures fits { IfOk result (λ _. WorldFits (P.fits program.now) world.new) }
+    ensures legal { IfOk result (λ _. LegalStays (setting_is (P.meaning program.now) setup.now)
+        (world_is world.old) (world_is world.new)) }
 {
     if threads == 0 {
         return Ok(true);
@@ -204,15 +296,22 @@ fn all_send_out<P: Program>(
 
 /// The schedule of the run in which this world ends, oldest move first. None where it gets stuck.
 ///
-/// The world goes on to the end of that run. It answers `NoMemory` too where that takes more than 2 to the 30 moves.
+/// The world goes on to the end of that run: first the line, then what was released and is not sent out yet. It answers `NoMemory` too where that takes more than 2 to the 30 moves.
 pub fn finish<P: Program>(
     world: &mut SlowWorld<P::Value>,
     alloc: Global,
     program: &P,
     setup: &Setup,
 ) -> Result<Option<Vec<PlainMove>>, NoMemory>
-    requires { WorldFits (P.fits program.now) world.old }
-    ensures { IfOk result (λ _. WorldFits (P.fits program.now) world.new) }
+    requires fits { WorldFits (P.fits program.now) world.old }
+    ensures schedule { IfOk result (λ found. IfSome found (λ moves.
+        moves.items ≡ moves_are (history world.new.past.items))) }
+    ensures legal { IfOk result (λ _. EndsLegally (setting_is (P.meaning program.now) setup.now)
+        (world_is world.old) (world_is world.new)) }
+    ensures sends { IfOk result (λ found. IfSome found (λ _.
+        SendsReleased (setting_is (P.meaning program.now) setup.now) (world_is world.old)
+        (history world.new.past.items))) }
+    ensures fits { IfOk result (λ _. WorldFits (P.fits program.now) world.new) }
 {
     wake(world, alloc, program)?;
     world.fed = setup.packets.len();

@@ -1,17 +1,31 @@
-ghost use Rattle.std.specs.Prelude.{◌≡◌, IfOk};
-ghost use Rattle.slow_world.specs.Mirror.{WorldFits, IsSingle};
+ghost use Rattle.std.specs.Prelude.{◌≡◌, ◌-◌, ◌/◌, ◌%◌, max, [], length};
+ghost use Rattle.std.specs.Prelude.{IfOk, MatchOption, MatchResult};
+ghost use Rattle.plain_text.specs.declared.limit.Limit.{Limit};
+ghost use Rattle.plain_machine.specs.Program.{Meaning};
+ghost use Rattle.recovery_world.specs.declared.event.Event.TheVariants as event_is;
+ghost use Rattle.recovery_world.specs.declared.event.Outcome.TheVariants as outcome_is;
+ghost use Rattle.recovery_world.specs.Events.{Wakes};
+ghost use Rattle.recovery_world.specs.Limits.{IsWithin, Passes};
+ghost use Rattle.recovery_world.specs.Many.{StepsOut, Round, Rounds, Feeds, Does, Settles};
+ghost use Rattle.recovery_world.specs.Many.{SettlesNot, Autos, Stops, numbers_of, threads_of};
+ghost use Rattle.recovery_world.specs.Many.{chosen as chosen_is};
+ghost use Rattle.slow_history.specs.Mirror.{history};
+ghost use Rattle.slow_world.specs.Mirror.{world_is, setting_is, WorldFits, IsSingle};
+ghost use Rattle.slow_runs.specs.Runs.{Happens, MakesNoMove, PerformsAny, AutosNot};
+ghost use Rattle.slow_runs.specs.Runs.{arrival_of, count_in, event_by};
 
+use crate::within::{limit_of, on_quiet, on_within, step_within};
 use box_program::Program;
-use plain_text::NoMemory;
+use plain_text::{Limit, NoMemory};
 use recovery_world::{Event, Kind, Outcome};
 use slow_history::{count_entries, count_outputs, log_of};
-use slow_world::{Reply, Setup, SlowWorld, on_one, recover, word_after};
+use slow_world::{Reply, Setup, SlowWorld, recover, word_after};
 use std::alloc::Global;
 
-/// The most rounds, and the most steps of a thread in a round.
-const MOST: u64 = 1 << 20;
+/// The most rounds, the most packets fed, and the most steps of a thread in a round. A run has fewer moves than this.
+const MOST: u64 = 1 << 21;
 
-/// The thread steps until it is idle or waits, at most so many times; whether it is idle then.
+/// The thread steps until it is idle or waits, and whether it is idle then; or until its next move would pass a limit.
 fn step_out<P: Program>(
     world: &mut SlowWorld<P::Value>,
     alloc: Global,
@@ -19,62 +33,79 @@ fn step_out<P: Program>(
     setup: &Setup,
     thread: u64,
     most: u64,
-) -> Result<bool, NoMemory>
-    requires { WorldFits (P.fits program.now) world.old }
-    ensures { IfOk result (λ _. WorldFits (P.fits program.now) world.new) }
+) -> Result<Result<bool, Limit>, NoMemory>
+    requires fits { WorldFits (P.fits program.now) world.old }
+    requires within { IsWithin (world_is world.old) }
+    ensures steps { IfOk result (λ end. StepsOut (setting_is (P.meaning program.now) setup.now)
+        thread (world_is world.old) end (world_is world.new)) }
+    ensures fits { IfOk result (λ _. WorldFits (P.fits program.now) world.new) }
+    ensures within { IfOk result (λ _. IsWithin (world_is world.new)) }
 {
     if most == 0 {
         return Err(NoMemory);
     }
-    let step = Event::Step {
-        thread,
-        answer: None,
-    };
-    let reply = on_one(world, alloc, program, setup, step)?;
-    match reply.outcome {
-        Outcome::Idle => Ok(true),
-        Outcome::Waits { .. } => Ok(false),
-        _ => step_out(world, alloc, program, setup, thread, most - 1),
+    match step_within(world, alloc, program, setup, thread, None)? {
+        Err(limit) => Ok(Err(limit)),
+        Ok(reply) => match reply.outcome {
+            Outcome::Idle => Ok(Ok(true)),
+            Outcome::Waits { .. } => Ok(Ok(false)),
+            _ => step_out(world, alloc, program, setup, thread, most - 1),
+        },
     }
 }
 
-/// Each of the first threads steps so, in increasing order; whether all are idle.
+/// Each of the first threads steps so, in increasing order; whether all are idle, or the limit that would be passed.
 fn round<P: Program>(
     world: &mut SlowWorld<P::Value>,
     alloc: Global,
     program: &P,
     setup: &Setup,
     threads: u32,
-) -> Result<bool, NoMemory>
-    requires { WorldFits (P.fits program.now) world.old }
-    ensures { IfOk result (λ _. WorldFits (P.fits program.now) world.new) }
+) -> Result<Result<bool, Limit>, NoMemory>
+    requires fits { WorldFits (P.fits program.now) world.old }
+    requires within { IsWithin (world_is world.old) }
+    ensures round { IfOk result (λ end. Round (setting_is (P.meaning program.now) setup.now)
+        (world_is world.old) threads end (world_is world.new)) }
+    ensures fits { IfOk result (λ _. WorldFits (P.fits program.now) world.new) }
+    ensures within { IfOk result (λ _. IsWithin (world_is world.new)) }
 {
     if threads == 0 {
-        return Ok(true);
+        return Ok(Ok(true));
     }
-    let before = round(world, alloc, program, setup, threads - 1)?;
-    let own = step_out(world, alloc, program, setup, u64::from(threads - 1), MOST)?;
-    Ok(before && own)
+    match round(world, alloc, program, setup, threads - 1)? {
+        Err(limit) => Ok(Err(limit)),
+        Ok(before) => {
+            match step_out(world, alloc, program, setup, u64::from(threads - 1), MOST)? {
+                Err(limit) => Ok(Err(limit)),
+                Ok(own) => Ok(Ok(before && own)),
+            }
+        }
+    }
 }
 
-/// Rounds until all threads are idle in one round, at most so many.
+/// Rounds until all threads are idle in one round, at most so many; the limit that would be passed, if any.
 fn rounds<P: Program>(
     world: &mut SlowWorld<P::Value>,
     alloc: Global,
     program: &P,
     setup: &Setup,
     most: u64,
-) -> Result<(), NoMemory>
-    requires { WorldFits (P.fits program.now) world.old }
-    ensures { IfOk result (λ _. WorldFits (P.fits program.now) world.new) }
+) -> Result<Option<Limit>, NoMemory>
+    requires fits { WorldFits (P.fits program.now) world.old }
+    requires within { IsWithin (world_is world.old) }
+    ensures rounds { IfOk result (λ end. Rounds (setting_is (P.meaning program.now) setup.now)
+        (world_is world.old) end (world_is world.new)) }
+    ensures fits { IfOk result (λ _. WorldFits (P.fits program.now) world.new) }
+    ensures within { IfOk result (λ _. IsWithin (world_is world.new)) }
 {
     if most == 0 {
         return Err(NoMemory);
     }
-    if round(world, alloc, program, setup, setup.threads)? {
-        return Ok(());
+    match round(world, alloc, program, setup, setup.threads)? {
+        Err(limit) => Ok(Some(limit)),
+        Ok(true) => Ok(None),
+        Ok(false) => rounds(world, alloc, program, setup, most - 1),
     }
-    rounds(world, alloc, program, setup, most - 1)
 }
 
 /// Rounds, and while a packet of the capture is left, one more is fed, and rounds again.
@@ -84,29 +115,64 @@ fn run_out<P: Program>(
     program: &P,
     setup: &Setup,
     most: u64,
-) -> Result<(), NoMemory>
-    requires { WorldFits (P.fits program.now) world.old }
-    ensures { IfOk result (λ _. WorldFits (P.fits program.now) world.new) }
+) -> Result<Option<Limit>, NoMemory>
+    requires fits { WorldFits (P.fits program.now) world.old }
+    requires within { IsWithin (world_is world.old) }
+    ensures feeds { IfOk result (λ end. Feeds (setting_is (P.meaning program.now) setup.now)
+        (world_is world.old) end (world_is world.new)) }
+    ensures fits { IfOk result (λ _. WorldFits (P.fits program.now) world.new) }
+    ensures within { IfOk result (λ _. IsWithin (world_is world.new)) }
 {
     if most == 0 {
         return Err(NoMemory);
     }
-    rounds(world, alloc, program, setup, MOST)?;
-    if world.fed >= setup.packets.len() {
-        return Ok(());
+    if let Some(limit) = rounds(world, alloc, program, setup, MOST)? {
+        return Ok(Some(limit));
     }
-    on_one(world, alloc, program, setup, Event::Feed(1))?;
+    if world.fed >= setup.packets.len() {
+        return Ok(None);
+    }
+    on_quiet(world, alloc, program, setup, Event::Feed(1))?;
     run_out(world, alloc, program, setup, most - 1)
 }
 
 /// The arrival of entry or output `number` of the thread.
 fn arrival(kind: Kind, thread: u64, number: u64) -> Event
-    ensures { IsSingle result }
+    ensures event { result ≡ arrival_of kind thread number }
+    ensures single { IsSingle result }
+    ensures quiet { MakesNoMove result }
 {
     match kind {
         Kind::Log => Event::Log { thread, number },
         Kind::Out => Event::Out { thread, number },
     }
+}
+
+/// Entry or output `number` of the thread arrives.
+fn send<P: Program>(
+    world: &mut SlowWorld<P::Value>,
+    alloc: Global,
+    program: &P,
+    setup: &Setup,
+    kind: Kind,
+    thread: u32,
+    number: u64,
+) -> Result<(), NoMemory>
+    requires fits { WorldFits (P.fits program.now) world.old }
+    requires within { IsWithin (world_is world.old) }
+    ensures sends { IfOk result (λ _. Happens (setting_is (P.meaning program.now) setup.now)
+        (world_is world.old) (arrival_of kind thread number) (world_is world.new)) }
+    ensures fits { IfOk result (λ _. WorldFits (P.fits program.now) world.new) }
+    ensures past { IfOk result (λ _. history world.new.past.items ≡ history world.old.past.items) }
+{
+    on_quiet(
+        world,
+        alloc,
+        program,
+        setup,
+        arrival(kind, u64::from(thread), number),
+    )?;
+    Ok(())
 }
 
 /// The first entries or outputs of the thread arrive, in order.
@@ -119,16 +185,19 @@ fn send_first<P: Program>(
     thread: u32,
     count: u64,
 ) -> Result<(), NoMemory>
-    requires { WorldFits (P.fits program.now) world.old }
-    ensures { IfOk result (λ _. WorldFits (P.fits program.now) world.new) }
+    requires fits { WorldFits (P.fits program.now) world.old }
+    requires within { IsWithin (world_is world.old) }
+    ensures sends { IfOk result (λ _. Does (setting_is (P.meaning program.now) setup.now)
+        (world_is world.old) (numbers_of (arrival_of kind) thread count) (world_is world.new)) }
+    ensures fits { IfOk result (λ _. WorldFits (P.fits program.now) world.new) }
+    ensures within { IfOk result (λ _. IsWithin (world_is world.new)) }
+    ensures past { IfOk result (λ _. history world.new.past.items ≡ history world.old.past.items) }
 {
     if count == 0 {
         return Ok(());
     }
     send_first(world, alloc, program, setup, kind, thread, count - 1)?;
-    let event = arrival(kind, u64::from(thread), count);
-    on_one(world, alloc, program, setup, event)?;
-    Ok(())
+    send(world, alloc, program, setup, kind, thread, count)
 }
 
 /// The number of entries or outputs of the thread in the past.
@@ -137,7 +206,9 @@ fn count_of<V>(
     alloc: Global,
     kind: Kind,
     thread: u32,
-) -> Result<u64, NoMemory> {
+) -> Result<u64, NoMemory>
+    ensures { IfOk result (λ n. n ≡ count_in kind (history world.now.past.items) thread) }
+{
     match kind {
         Kind::Log => {
             let log = log_of(alloc, &world.past)?;
@@ -156,8 +227,14 @@ fn send_all<P: Program>(
     kind: Kind,
     threads: u32,
 ) -> Result<(), NoMemory>
-    requires { WorldFits (P.fits program.now) world.old }
-    ensures { IfOk result (λ _. WorldFits (P.fits program.now) world.new) }
+    requires fits { WorldFits (P.fits program.now) world.old }
+    requires within { IsWithin (world_is world.old) }
+    ensures sends { IfOk result (λ _. Does (setting_is (P.meaning program.now) setup.now)
+        (world_is world.old) (threads_of (arrival_of kind)
+        (count_in kind (history world.old.past.items)) threads) (world_is world.new)) }
+    ensures fits { IfOk result (λ _. WorldFits (P.fits program.now) world.new) }
+    ensures within { IfOk result (λ _. IsWithin (world_is world.new)) }
+    ensures past { IfOk result (λ _. history world.new.past.items ≡ history world.old.past.items) }
 {
     if threads == 0 {
         return Ok(());
@@ -173,8 +250,9 @@ pub fn wake<P: Program>(
     alloc: Global,
     program: &P,
 ) -> Result<(), NoMemory>
-    requires { WorldFits (P.fits program.now) world.old }
-    ensures { IfOk result (λ _. WorldFits (P.fits program.now) world.new) }
+    requires fits { WorldFits (P.fits program.now) world.old }
+    ensures wakes { IfOk result (λ _. Wakes (world_is world.old) (world_is world.new)) }
+    ensures fits { IfOk result (λ _. WorldFits (P.fits program.now) world.new) }
 {
     if world.up {
         return Ok(());
@@ -182,55 +260,104 @@ pub fn wake<P: Program>(
     recover(world, alloc, program)
 }
 
-/// The event `settle`: all threads go on to the end of the capture, and all that they logged and sent arrives.
+/// The event `settle`: all threads go on to the end of the capture, and all that they logged and sent arrives. Or the limit
+/// that a move on the way would pass.
 fn settle<P: Program>(
     world: &mut SlowWorld<P::Value>,
     alloc: Global,
     program: &P,
     setup: &Setup,
-) -> Result<(), NoMemory>
-    requires { WorldFits (P.fits program.now) world.old }
-    ensures { IfOk result (λ _. WorldFits (P.fits program.now) world.new) }
+) -> Result<Option<Limit>, NoMemory>
+    requires fits { WorldFits (P.fits program.now) world.old }
+    requires within { IsWithin (world_is world.old) }
+    ensures settles { IfOk result (λ end. MatchOption end
+        (Settles (setting_is (P.meaning program.now) setup.now) (world_is world.old)
+        (world_is world.new))
+        (λ limit. SettlesNot (setting_is (P.meaning program.now) setup.now) (world_is world.old)
+        limit (world_is world.new))) }
+    ensures fits { IfOk result (λ _. WorldFits (P.fits program.now) world.new) }
 {
     wake(world, alloc, program)?;
-    run_out(world, alloc, program, setup, MOST)?;
+    if let Some(limit) = run_out(world, alloc, program, setup, MOST)? {
+        return Ok(Some(limit));
+    }
     send_all(world, alloc, program, setup, Kind::Log, setup.threads)?;
-    send_all(world, alloc, program, setup, Kind::Out, setup.threads)
+    send_all(world, alloc, program, setup, Kind::Out, setup.threads)?;
+    Ok(None)
 }
 
 /// One of the last four numbers up to this count, by a word.
-fn number_by(word: u64, count: u64) -> u64 {
+fn number_by(word: u64, count: u64) -> u64
+    ensures { result ≡ max 1 (count - word / 16 % 4) }
+{
     count.saturating_sub(word / 16 % 4).max(1)
 }
 
-/// The event that two words choose in this world.
+/// The event that two words choose, where the thread has these entries and outputs.
+fn by_words(thread: u64, entries: u64, outputs: u64, first: u64, second: u64) -> Event
+    ensures event { result ≡ event_by thread entries outputs first second }
+    ensures single { IsSingle result }
+{
+    match first % 32 {
+        0..=15 => Event::Step {
+            thread,
+            answer: None,
+        },
+        16..=18 => Event::Feed(1),
+        19..=24 => arrival(Kind::Log, thread, number_by(second, entries)),
+        25..=28 => arrival(Kind::Out, thread, number_by(second, outputs)),
+        29 => Event::Snap,
+        _ => Event::Store,
+    }
+}
+
+/// The event that the words at twice this place, and after it, choose in this world.
 fn chosen<V>(
     world: &SlowWorld<V>,
     alloc: Global,
     setup: &Setup,
-    first: u64,
-    second: u64,
+    seed: u64,
+    place: u64,
 ) -> Result<Event, NoMemory>
-    ensures { IfOk result IsSingle }
+    ensures event { IfOk result (λ event. (m : Meaning V)
+        → event ≡ chosen_is (setting_is m setup.now) seed place (world_is world.now)) }
+    ensures single { IfOk result IsSingle }
 {
+    let Some(word) = place.checked_mul(2) else {
+        return Err(NoMemory);
+    };
+    let first = word_after(seed, word);
+    let second = word_after(seed, word + 1);
     let thread = (second % u64::from(setup.threads)) as u32;
-    let entry = number_by(second, count_of(world, alloc, Kind::Log, thread)?);
-    let output = number_by(second, count_of(world, alloc, Kind::Out, thread)?);
-    let thread = u64::from(thread);
-    match first % 32 {
-        0..=15 => Ok(Event::Step {
-            thread,
-            answer: None,
-        }),
-        16..=18 => Ok(Event::Feed(1)),
-        19..=24 => Ok(arrival(Kind::Log, thread, entry)),
-        25..=28 => Ok(arrival(Kind::Out, thread, output)),
-        29 => Ok(Event::Snap),
-        _ => Ok(Event::Store),
-    }
+    let entries = count_of(world, alloc, Kind::Log, thread)?;
+    let outputs = count_of(world, alloc, Kind::Out, thread)?;
+    Ok(by_words(u64::from(thread), entries, outputs, first, second))
 }
 
-/// So many events, chosen by the words of the generator of a seed.
+/// An event that is no list of others, whatever it comes to; the limit that it would pass, if any: then the world stays.
+fn happen<P: Program>(
+    world: &mut SlowWorld<P::Value>,
+    alloc: Global,
+    program: &P,
+    setup: &Setup,
+    event: Event,
+) -> Result<Option<Limit>, NoMemory>
+    requires single { IsSingle event }
+    requires fits { WorldFits (P.fits program.now) world.old }
+    requires within { IsWithin (world_is world.old) }
+    ensures happens { IfOk result (λ end. MatchOption end
+        (Happens (setting_is (P.meaning program.now) setup.now) (world_is world.old) event
+        (world_is world.new))
+        (λ limit. Passes (setting_is (P.meaning program.now) setup.now) (world_is world.old)
+        event limit × (world_is world.new ≡ world_is world.old))) }
+    ensures fits { IfOk result (λ _. WorldFits (P.fits program.now) world.new) }
+    ensures within { IfOk result (λ _. IsWithin (world_is world.new)) }
+{
+    let made = on_within(world, alloc, program, setup, event)?;
+    Ok(made.err())
+}
+
+/// So many events, chosen by the words of the generator of a seed; the limit that one of them would pass, if any.
 fn choose<P: Program>(
     world: &mut SlowWorld<P::Value>,
     alloc: Global,
@@ -238,24 +365,33 @@ fn choose<P: Program>(
     setup: &Setup,
     seed: u64,
     n: u64,
-) -> Result<(), NoMemory>
-    requires { WorldFits (P.fits program.now) world.old }
-    ensures { IfOk result (λ _. WorldFits (P.fits program.now) world.new) }
+) -> Result<Option<Limit>, NoMemory>
+    requires fits { WorldFits (P.fits program.now) world.old }
+    requires within { IsWithin (world_is world.old) }
+    ensures autos { IfOk result (λ end. MatchOption end
+        (Autos (setting_is (P.meaning program.now) setup.now) seed (world_is world.old) n
+        (world_is world.new))
+        (λ limit. AutosNot (setting_is (P.meaning program.now) setup.now) seed
+        (world_is world.old) n limit (world_is world.new))) }
+    ensures fits { IfOk result (λ _. WorldFits (P.fits program.now) world.new) }
+    ensures within { IfOk result (λ _. IsWithin (world_is world.new)) }
 {
     if n == 0 {
-        return Ok(());
+        return Ok(None);
     }
-    choose(world, alloc, program, setup, seed, n - 1)?;
-    let place = (n - 1).saturating_mul(2);
-    let first = word_after(seed, place);
-    let second = word_after(seed, place.saturating_add(1));
-    let event = chosen(world, alloc, setup, first, second)?;
-    on_one(world, alloc, program, setup, event)?;
-    Ok(())
+    if let Some(limit) = choose(world, alloc, program, setup, seed, n - 1)? {
+        return Ok(Some(limit));
+    }
+    let event = chosen(world, alloc, setup, seed, n - 1)?;
+    happen(world, alloc, program, setup, event)
 }
 
 /// What several events made of the world, which had made so many moves and released so many outputs before.
-fn summary<V>(world: &SlowWorld<V>, alloc: Global, moves: u64, released: usize) -> Reply {
+fn summary<V>(world: &SlowWorld<V>, alloc: Global, moves: u64, released: usize) -> Reply
+    ensures outcome { result.outcome ≡ outcome_is.Summary (world.now.moves - moves)
+        (length world.now.released.items - released) world.now.epoch }
+    ensures none { result.freed.items ≡ [] }
+{
     Reply {
         outcome: Outcome::Summary {
             moves: world.moves.saturating_sub(moves),
@@ -266,29 +402,100 @@ fn summary<V>(world: &SlowWorld<V>, alloc: Global, moves: u64, released: usize) 
     }
 }
 
-/// What one event of a script makes of the world.
+/// The event `settle`.
+fn on_settle<P: Program>(
+    world: &mut SlowWorld<P::Value>,
+    alloc: Global,
+    program: &P,
+    setup: &Setup,
+) -> Result<Result<Reply, Limit>, NoMemory>
+    requires fits { WorldFits (P.fits program.now) world.old }
+    requires within { IsWithin (world_is world.old) }
+    ensures performs { IfOk result (λ made. MatchResult made
+        (λ reply. PerformsAny (setting_is (P.meaning program.now) setup.now) (world_is world.old)
+        event_is.Settle reply (world_is world.new))
+        (λ limit. Stops (setting_is (P.meaning program.now) setup.now) (world_is world.old)
+        event_is.Settle limit (world_is world.new))) }
+    ensures fits { IfOk result (λ _. WorldFits (P.fits program.now) world.new) }
+{
+    let (moves, released) = (world.moves, world.released.len());
+    match settle(world, alloc, program, setup)? {
+        None => Ok(Ok(summary(world, alloc, moves, released))),
+        Some(limit) => Ok(Err(limit)),
+    }
+}
+
+/// The event `auto`.
+fn on_auto<P: Program>(
+    world: &mut SlowWorld<P::Value>,
+    alloc: Global,
+    program: &P,
+    setup: &Setup,
+    seed: u64,
+    n: u64,
+) -> Result<Result<Reply, Limit>, NoMemory>
+    requires fits { WorldFits (P.fits program.now) world.old }
+    requires within { IsWithin (world_is world.old) }
+    ensures performs { IfOk result (λ made. MatchResult made
+        (λ reply. PerformsAny (setting_is (P.meaning program.now) setup.now) (world_is world.old)
+        (event_is.Auto seed n) reply (world_is world.new))
+        (λ limit. Stops (setting_is (P.meaning program.now) setup.now) (world_is world.old)
+        (event_is.Auto seed n) limit (world_is world.new))) }
+    ensures fits { IfOk result (λ _. WorldFits (P.fits program.now) world.new) }
+{
+    let (moves, released) = (world.moves, world.released.len());
+    match choose(world, alloc, program, setup, seed, n)? {
+        None => Ok(Ok(summary(world, alloc, moves, released))),
+        Some(limit) => Ok(Err(limit)),
+    }
+}
+
+/// An event that is no list of others.
+fn on_single<P: Program>(
+    world: &mut SlowWorld<P::Value>,
+    alloc: Global,
+    program: &P,
+    setup: &Setup,
+    event: Event,
+) -> Result<Result<Reply, Limit>, NoMemory>
+    requires single { IsSingle event }
+    requires fits { WorldFits (P.fits program.now) world.old }
+    requires within { IsWithin (world_is world.old) }
+    ensures performs { IfOk result (λ made. MatchResult made
+        (λ reply. PerformsAny (setting_is (P.meaning program.now) setup.now) (world_is world.old)
+        event reply (world_is world.new))
+        (λ limit. Stops (setting_is (P.meaning program.now) setup.now) (world_is world.old)
+        event limit (world_is world.new))) }
+    ensures fits { IfOk result (λ _. WorldFits (P.fits program.now) world.new) }
+{
+    on_within(world, alloc, program, setup, event)
+}
+
+/// What one event of a script makes of the world, or the limit before which it stops: then the world has what it did before.
 ///
-/// It answers `NoMemory` too where a settling takes more than 2 to the 20 rounds, packets or steps of a thread in a round.
+/// It answers `NoMemory` too where the world is past a limit before, and where a settling takes more than 2 to the 21 rounds,
+/// packets or steps of a thread in a round.
 pub fn on<P: Program>(
     world: &mut SlowWorld<P::Value>,
     alloc: Global,
     program: &P,
     setup: &Setup,
     event: Event,
-) -> Result<Reply, NoMemory>
-    requires { WorldFits (P.fits program.now) world.old }
-    ensures { IfOk result (λ _. WorldFits (P.fits program.now) world.new) }
+) -> Result<Result<Reply, Limit>, NoMemory>
+    requires fits { WorldFits (P.fits program.now) world.old }
+    ensures performs { IfOk result (λ made. MatchResult made
+        (λ reply. PerformsAny (setting_is (P.meaning program.now) setup.now) (world_is world.old)
+        event reply (world_is world.new))
+        (λ limit. Stops (setting_is (P.meaning program.now) setup.now) (world_is world.old)
+        event limit (world_is world.new))) }
+    ensures fits { IfOk result (λ _. WorldFits (P.fits program.now) world.new) }
 {
-    let (moves, released) = (world.moves, world.released.len());
+    if limit_of(world).is_some() {
+        return Err(NoMemory);
+    }
     match event {
-        Event::Settle => {
-            settle(world, alloc, program, setup)?;
-            Ok(summary(world, alloc, moves, released))
-        }
-        Event::Auto { seed, n } => {
-            choose(world, alloc, program, setup, seed, n)?;
-            Ok(summary(world, alloc, moves, released))
-        }
-        _ => on_one(world, alloc, program, setup, event),
+        Event::Settle => on_settle(world, alloc, program, setup),
+        Event::Auto { seed, n } => on_auto(world, alloc, program, setup, seed, n),
+        _ => on_single(world, alloc, program, setup, event),
     }
 }

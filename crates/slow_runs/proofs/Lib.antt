@@ -1,0 +1,6 @@
+pub mod Counting
+pub mod Running
+pub mod Choosing
+pub mod Legal
+pub mod Sending
+pub mod Coming
