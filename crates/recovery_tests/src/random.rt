@@ -109,7 +109,7 @@ fn chosen<V>(
     }
 }
 
-/// Performs so many random events, by the words of a generator from a place on. Whether the world is sound after each.
+/// Performs this number of random events, by the words of a generator from a place on. Whether the world is sound after each.
 fn stays_sound<P: Program>(
     world: &mut SlowWorld<P::Value>,
     alloc: Global,
@@ -127,7 +127,9 @@ fn stays_sound<P: Program>(
     let first = word_after(SEED, place);
     let second = word_after(SEED, place.saturating_add(1));
     let event = chosen(world, alloc, setup, first, second)?;
-    on(world, alloc, program, setup, event)?;
+    if on(world, alloc, program, setup, event)?.is_err() {
+        return Ok(false);
+    }
     if !is_sound(world, alloc)? {
         return Ok(false);
     }

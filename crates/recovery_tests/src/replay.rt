@@ -76,7 +76,9 @@ fn replies<P: Program>(
     requires { WorldFits (P.fits program.now) world.old }
     ensures { IfOk result (λ _. WorldFits (P.fits program.now) world.new) }
 {
-    let made = on(world, alloc, program, setup, event)?;
+    let Ok(made) = on(world, alloc, program, setup, event)? else {
+        return Ok(false);
+    };
     let mut text = Bytes::new(alloc);
     put_reply_end(&mut text, &made)?;
     Ok(text.as_slice() == reply.as_bytes())
