@@ -30,7 +30,7 @@ pub const THIRD: [u8; 42] = [
     0x64, 0x07, 0x13, 0x8a, 0x00, 0x35, 0x00, 0x08, 0xb7, 0xdf,
 ];
 
-/// A packet with a time of its own, and so many bytes of 0 after its frame.
+/// A packet with a time of its own, and this number of bytes of 0 after its frame.
 fn packet_of(alloc: Global, fraction: u32, frame: &[u8], zeros: usize) -> Result<Packet, NoMemory> {
     let mut bytes = Bytes::of(alloc, frame)?;
     for _ in 0..zeros {
@@ -44,7 +44,7 @@ fn packet_of(alloc: Global, fraction: u32, frame: &[u8], zeros: usize) -> Result
     })
 }
 
-/// A capture of these frames, each with so many bytes of 0 behind it. The first packet comes at 100.000005 seconds, the next
+/// A capture of these frames, each with this number of bytes of 0 behind it. The first packet comes at 100.000005 seconds, the next
 /// a microsecond later.
 pub fn setup_of(alloc: Global, threads: u32, frames: &[(&[u8], usize)]) -> Result<Setup, NoMemory>
     requires some { 1 ≤ threads }
