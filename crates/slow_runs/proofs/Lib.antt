@@ -4,3 +4,4 @@ pub mod Choosing
 pub mod Legal
 pub mod Sending
 pub mod Coming
+pub mod Weighing

@@ -1,11 +1,11 @@
 -- How the end of a run goes on, move by move.
-use Rattle.std.specs.Prelude.{◌≡◌, ℕ, List, ◌∷◌, Option, ◌↔◌}
+use Rattle.std.specs.Prelude.{◌≡◌, ℕ, ◌-◌, List, ◌∷◌, Option, ◌↔◌, length, take}
 use Rattle.entry_order.specs.Log.{Entry, IsIn}
-use Rattle.plain_machine.specs.History.{Act, Did, Step, IsHistory}
-use Rattle.line_order.specs.Line.{IsQuiet, GoesQuietly, IsLed}
+use Rattle.plain_machine.specs.History.{Act, Did, Step, log_of, IsHistory}
+use Rattle.line_order.specs.Line.{IsByWeight, IsQuiet, GoesQuietly, IsLed}
 use Rattle.recovery_world.specs.World.{Setting, World, all_inputs}
 use Rattle.recovery_world.specs.Events.{Wakes}
-use Rattle.recovery_world.specs.Finish.{IsToCome, GoesOn, AllGoOn}
+use Rattle.recovery_world.specs.Finish.{IsToCome, GoesOn, AllGoOn, IsFinish}
 use Rattle.slow_runs.specs.declared.ending.Progress.{Progress}
 use Rattle.slow_runs.specs.declared.ending.Progress.TheVariants as progress
 
@@ -57,6 +57,10 @@ pub record IsLedOn {V : Type 0} (w : World V) (new : World V) : Type 0 where
   pub led : IsLed w.past more new.past
   pub new_is : new ≡ with_past w new.past
 
+-- the newest entries of the world, those before which it had so many others, were made by weight, then thread
+abbrev pub MadeByWeight : {V : Type 0} → World V → ℕ → Type 0
+MadeByWeight w others = IsByWeight (log_of w.past) (take (length (log_of w.past) - others) (log_of w.past))
+
 -- A line goes on legally from what the master did, or from the stored snapshot where it is down, by the entries to come. From
 -- there each thread goes on to its greatest released output.
 pub record SendsReleased {V : Type 0} (s : Setting V) (w : World V) (steps : List (Step V)) : Type 0 where
@@ -68,3 +72,8 @@ pub record SendsReleased {V : Type 0} (s : Setting V) (w : World V) (steps : Lis
   pub to_come : (e : Entry) → IsIn e more ↔ IsToCome up e
   pub led : IsLed up.past more line
   pub goes_on : AllGoOn up.released s.threads line steps
+
+-- Where what the master did, or the stored snapshot where it is down, is a legal run on the whole capture, the world ends in
+-- this run.
+abbrev pub Finishes : {V : Type 0} → Setting V → World V → List (Step V) → Type 0
+Finishes {V} s w steps = (up : World V) × Wakes w up × (IsHistory s.meaning (all_inputs s) s.threads up.past → IsFinish s w steps)

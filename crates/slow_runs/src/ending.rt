@@ -1,10 +1,12 @@
-ghost use Rattle.std.specs.Prelude.{◌≡◌, ◌⊎◌, Some, IfOk, IfSome, IsTrue, MatchOption};
+ghost use Rattle.std.specs.Prelude.{◌≡◌, ◌<◌, ◌⊎◌, ◌∷◌, Some, IfOk, IfSome, IsTrue, MatchOption};
 ghost use Rattle.entry_order.specs.Log.{Entry, IsIn};
+ghost use Rattle.entry_order.specs.Stamps.{IsWeight};
+ghost use Rattle.line_order.specs.Line.{IsByWeight};
 ghost use Rattle.recovery_world.specs.Files.{answer_of as answer_is, moves_made as moves_are};
 ghost use Rattle.recovery_world.specs.Finish.{IsToCome, greatest as greatest_is};
 ghost use Rattle.slow_history.specs.Mirror.{history, sents, act_is};
 ghost use Rattle.slow_world.specs.Mirror.{world_is, setting_is, WorldFits};
-ghost use Rattle.slow_runs.specs.Ending.{IsProgress, Goes, LeadsTo, IsLedOn, SendsOut, AllSendOut, SendsReleased};
+ghost use Rattle.slow_runs.specs.Ending.{IsProgress, Goes, LeadsTo, IsLedOn, MadeByWeight, SendsOut, AllSendOut, SendsReleased, Finishes};
 ghost use Rattle.slow_runs.specs.Runs.{LegalStays, EndsLegally};
 
 use crate::many::wake;
@@ -106,7 +108,11 @@ struct ToCome {
 }
 
 /// Whether the first is made before the second: it has less weight, or the same and a lesser thread.
-fn goes_before(first: &ToCome, second: &ToCome) -> bool {
+fn goes_before(first: &ToCome, second: &ToCome) -> bool
+    ensures { IsTrue result → (first.now.weight < second.now.weight)
+        ⊎ ((first.now.weight ≡ second.now.weight)
+        × (first.now.entry.thread < second.now.entry.thread)) }
+{
     first.weight < second.weight
         || (first.weight == second.weight && first.entry.thread < second.entry.thread)
 }
@@ -148,14 +154,29 @@ fn first_to_come(
     }
 }
 
+/// The entries of the whole line, each once: those of the log, and the followed ones that it has not yet.
+fn log_of_line(
+    alloc: Global,
+    log: &[LogEntry],
+    followed: &[LogEntry],
+) -> Result<Vec<LogEntry>, NoMemory> {
+    let mut line = Vec::from_slice(alloc, log)?;
+    for entry in followed {
+        if contains(&line, entry) {
+            continue;
+        }
+        line.push(*entry)?;
+    }
+    Ok(line)
+}
+
 /// The followed entry that the line makes next, if one is to come.
 fn next_to_come<V>(world: &SlowWorld<V>, alloc: Global) -> Result<Option<LogEntry>, NoMemory>
     ensures { IfOk result (λ found. MatchOption found
         ((e : Entry) → IsToCome (world_is world.now) e → ⊥) (IsToCome (world_is world.now))) }
 {
     let log = log_of(alloc, &world.past)?;
-    let mut line = Vec::from_slice(alloc, &world.followed)?;
-    line.extend_from_slice(&log)?;
+    let line = log_of_line(alloc, &log, &world.followed)?;
     let found = first_to_come(alloc, &line, &log, &world.followed)?;
     match found {
         Some(first) => Ok(Some(first.entry)),
@@ -221,6 +242,61 @@ fn follow<P: Program>(
         return Ok(false);
     }
     follow(world, alloc, program, setup, most - 1)
+}
+
+/// The entry with its weight in the log.
+fn weighed(alloc: Global, log: &[LogEntry], entry: &LogEntry) -> Result<ToCome, NoMemory>
+    ensures entry { IfOk result (λ x. x.entry ≡ entry.now) }
+    ensures weight { IfOk result (λ x. IsWeight log.now entry.now x.weight) }
+{
+    Ok(ToCome {
+        weight: weight(alloc, log, entry)?,
+        entry: *entry,
+    })
+}
+
+/// Whether the older entries go before this last one, and each goes before the next. They are given newest first.
+fn all_before(
+    alloc: Global,
+    log: &[LogEntry],
+    last: ToCome,
+    older: &[LogEntry],
+) -> Result<bool, NoMemory>
+    requires weight { IsWeight log.now last.entry last.weight }
+    ensures { IfOk result (λ b. IsTrue b → IsByWeight log.now (last.entry ∷ older.now)) }
+{
+    match older {
+        [] => Ok(true),
+        [entry, rest @ ..] => {
+            let before = weighed(alloc, log, entry)?;
+            if !goes_before(&before, &last) {
+                return Ok(false);
+            }
+            all_before(alloc, log, before, rest)
+        }
+    }
+}
+
+/// Whether the entries, newest first, were made by weight in the log, then thread.
+fn is_by_weight(alloc: Global, log: &[LogEntry], made: &[LogEntry]) -> Result<bool, NoMemory>
+    ensures { IfOk result (λ b. IsTrue b → IsByWeight log.now made.now) }
+{
+    match made {
+        [] => Ok(true),
+        [entry, rest @ ..] => {
+            let last = weighed(alloc, log, entry)?;
+            all_before(alloc, log, last, rest)
+        }
+    }
+}
+
+/// Whether the entries of the line that come after so many others were made by weight, then thread.
+fn made_by_weight<V>(world: &SlowWorld<V>, alloc: Global, others: usize) -> Result<bool, NoMemory>
+    ensures { IfOk result (λ b. IsTrue b → MadeByWeight (world_is world.now) others) }
+{
+    let log = log_of(alloc, &world.past)?;
+    let made = log.len().saturating_sub(others);
+    is_by_weight(alloc, &log, &log[..made])
 }
 
 /// The greatest number of a released output of the thread, or 0.
@@ -294,9 +370,11 @@ fn all_send_out<P: Program>(
     send_out(world, alloc, program, setup, threads - 1, outputs, MOST)
 }
 
-/// The schedule of the run in which this world ends, oldest move first. None where it gets stuck.
+/// The schedule of the run in which this world ends, oldest move first. None where it gets stuck, or where the entries to come
+/// were not made by weight, then thread.
 ///
-/// The world goes on to the end of that run: first the line, then what was released and is not sent out yet. It answers `NoMemory` too where that takes more than 2 to the 30 moves.
+/// The world goes on to the end of that run: first the line, then what was released and is not sent out yet. It answers
+/// `NoMemory` too where that takes more than 2 to the 30 moves.
 pub fn finish<P: Program>(
     world: &mut SlowWorld<P::Value>,
     alloc: Global,
@@ -311,11 +389,18 @@ pub fn finish<P: Program>(
     ensures sends { IfOk result (λ found. IfSome found (λ _.
         SendsReleased (setting_is (P.meaning program.now) setup.now) (world_is world.old)
         (history world.new.past.items))) }
+    ensures finishes { IfOk result (λ found. IfSome found (λ _.
+        Finishes (setting_is (P.meaning program.now) setup.now) (world_is world.old)
+        (history world.new.past.items))) }
     ensures fits { IfOk result (λ _. WorldFits (P.fits program.now) world.new) }
 {
     wake(world, alloc, program)?;
     world.fed = setup.packets.len();
+    let others = log_of(alloc, &world.past)?.len();
     if !follow(world, alloc, program, setup, MOST)? {
+        return Ok(None);
+    }
+    if !made_by_weight(world, alloc, others)? {
         return Ok(None);
     }
     if !all_send_out(world, alloc, program, setup, setup.threads)? {

@@ -4,10 +4,10 @@
 //! `on` performs every event of a script, and its contract is the definition: what a settling and chosen events make of the
 //! world, step by step, and that an event stops before a move that would pass a limit.
 //!
-//! `finish` goes by its definition too. Its contract says that the schedule is that of the past which it leaves, that this is a
-//! legal run on the whole capture, that a line makes each followed entry to come after the moves that lead to it, and that each
-//! thread goes on from there to its greatest released output. That the line has the entries by weight, then thread, and that a
-//! sound world never gets stuck, is not proved, but tested.
+//! `finish` goes by its definition too. Where it answers a schedule, and what the master did, or the stored snapshot, is a legal
+//! run on the whole capture, its contract says that the past which it leaves is the run in which the world ends, by the
+//! definition, and that the schedule is that of this past. That the line has the entries by weight, then thread, it tests as it
+//! runs. That a sound world never gets stuck and always passes this test, so that it answers a schedule, is not proved.
 //!
 //! Where memory runs out the world is spoiled, and is to be dropped.
 #![tactic(auto)]
