@@ -2,7 +2,7 @@
 use Rattle.std.proofs.Common.{◌≡◌, ℕ, List, ◌∷◌, refl, sym, ◌∙◌, subst, Option, take, length, take_all, arith}
 use Rattle.plain_text.specs.declared.packet.Packet.{Packet}
 use Rattle.plain_machine.specs.History.{Step, IsStep, IsHistory}
-use Rattle.plain_machine.proofs.Playing.{move_is_step}
+use Rattle.plain_machine.proofs.PlayedLists.{move_is_step}
 use Rattle.recovery_world.specs.World.{Setting, World, inputs_fed, all_inputs}
 use Rattle.recovery_world.specs.Events.{Wakes}
 use Rattle.slow_world.specs.Moves.{IsMove}

@@ -1,12 +1,12 @@
 -- A thread that goes on until it has sent out enough.
 use Rattle.std.proofs.Common.{◌≡◌, ℕ, suc, ◌≤◌, ◌<◌, List, [], ◌∷◌, ◌++◌, length, refl, sym, ap, ◌∙◌, subst, inl, inr, ◌⊎◌, arith}
 use Rattle.entry_order.specs.Log.{Entry, IsIn}
-use Rattle.entry_order.proofs.Existing.{in_or}
+use Rattle.entry_order.proofs.ClosedParts.{in_or}
 use Rattle.plain_machine.specs.History.{Act, Did, Step, log_more, log_of, outputs, sent_of}
 use Rattle.plain_machine.specs.Agree.{IsEarlier}
 use Rattle.plain_machine.proofs.Histories.{earlier_refl}
 use Rattle.line_order.specs.Line.{IsQuiet, GoesQuietly, IsLed}
-use Rattle.line_order.proofs.Again.{quiet_later, quiet_same_log}
+use Rattle.line_order.proofs.QuietMoves.{quiet_later, quiet_same_log}
 use Rattle.recovery_world.specs.World.{Setting, World, Sent}
 use Rattle.recovery_world.specs.Events.{Wakes}
 use Rattle.slow_runs.specs.Runs.{LegalStays}

@@ -7,7 +7,7 @@ use Rattle.entry_order.specs.Stamps.{IsWeight}
 use Rattle.entry_order.proofs.Weights.{count_unique}
 use Rattle.plain_machine.specs.History.{Act, Step, log_more, log_of, IsHistory}
 use Rattle.line_order.specs.Line.{GoesBefore, IsByWeight, IsLed}
-use Rattle.line_order.proofs.Again.{quiet_same_log}
+use Rattle.line_order.proofs.QuietMoves.{quiet_same_log}
 use Rattle.recovery_world.specs.World.{Setting, World, Sent, all_inputs}
 use Rattle.recovery_world.specs.Events.{Wakes}
 use Rattle.recovery_world.specs.Finish.{IsToCome, AllGoOn, IsFinish}
