@@ -15,8 +15,9 @@ use Rattle.plain_machine.proofs.MoveLemmas.{is_logged, held_again}
 use Rattle.plain_machine.proofs.Seats.{SameSeat, same_step, seat_next, seat_other, seat_trans}
 use Rattle.plain_machine.proofs.Agreement.{AllIn, agreed_all, sends_at}
 use Rattle.plain_machine.proofs.LoggedEffects.{logged_makes, quiet_log, logged_or, off_variables}
-use Rattle.line_order.specs.Line.{IsQuiet, GoesQuietly, SendsNext}
-use Rattle.line_order.proofs.LedLines.{effect_quiet, stays_quietly}
+use Rattle.line_order.specs.Line.{SendsNext}
+use Rattle.plain_machine.specs.Continue.{IsQuiet, GoesQuietly}
+use Rattle.plain_machine.proofs.Continuations.{effect_quiet, stays_quietly}
 
 -- an effect that is not logged has the same act from one seat
 quiet_act : {V : Type 0} (t taken : ℕ) (A B : List (Step V)) (d : Effect V) → is_logged d ≡ false → SameSeat t A B → act_of t A taken d ≡ act_of t B taken d

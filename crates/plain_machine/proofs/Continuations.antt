@@ -1,4 +1,4 @@
--- A run is continued by entries of another one.
+-- A run is continued by entries of another one, each after the moves of its thread that lead to it.
 use Rattle.std.proofs.Common.{◌≡◌, ℕ, ◌+◌, ◌≤◌, ◌<◌, ◌≢◌, true, false, List, [], ◌∷◌, ◌++◌, refl, sym, ap, ◌∙◌, subst, inl, inr, ◌⊎◌, arith, Option, Some}
 use Rattle.std.proofs.lemmas.Bool.{cases_lt}
 use Rattle.plain_text.specs.declared.packet.Packet.{Packet}
@@ -7,10 +7,10 @@ use Rattle.entry_order.specs.Log.{Entry, entries, places, IsLog, IsIn, IsNext, I
 use Rattle.entry_order.proofs.Order.{is_or, number_within, place_within, same_number, same_place, entries_same, entry_there, closed_thread}
 use Rattle.entry_order.proofs.KeptEntries.{in_left, in_right, in_either}
 use Rattle.plain_machine.specs.Program.{Meaning}
-use Rattle.plain_machine.specs.Machine.{Thread, Moves, thread_move}
+use Rattle.plain_machine.specs.Machine.{Thread, Effect, Takes, Touches, Looks, HearsClock, HearsDraw, Sends, Ends, Moves, thread_move}
 use Rattle.plain_machine.specs.History.{Did, Step, log_of, moves_of, act_of, thread_after, value_after, IsStep, IsHistory}
 use Rattle.plain_machine.specs.Agree.{IsEarlier}
-use Rattle.plain_machine.specs.Continue.{IsGrounded}
+use Rattle.plain_machine.specs.Continue.{IsGrounded, IsQuiet, GoesQuietly, IsLed}
 use Rattle.plain_machine.proofs.Histories.{history_log, earlier_refl, earlier_tail, earlier_history, earlier_log, Leaves, leaves_in, earlier_leaves, is_eq, did_entry, moves_step, find_move}
 use Rattle.plain_machine.proofs.MoveLemmas.{is_logged, hand_logs, held_kind, IsOn, held_again}
 use Rattle.plain_machine.proofs.Seats.{SameSeat, seat_other}
@@ -57,6 +57,20 @@ module _ {X : Type 0} (m : Meaning X) (inputs : ℕ → List Packet) (threads : 
   pub count_quiet : (t : ℕ) (y : Step X) (H2 : List (Step X)) (h : IsStep m inputs threads H2 y) → is_logged h.2 ≡ false → entries t (log_of (y ∷ H2)) ≡ entries t (log_of H2)
   count_quiet t y H2 h off = rw h.4 (ap (λ (l : List Entry). entries t l) (quiet_log y.thread y.after.taken H2 (log_of H2) h.2 off))
 
+-- an effect that is not logged is a quiet move
+pub effect_quiet : {V : Type 0} (t taken : ℕ) (A : List (Step V)) (d : Effect V) → is_logged d ≡ false → IsQuiet (act_of t A taken d)
+effect_quiet t taken A Takes h = tt
+effect_quiet t taken A (Touches v x) h = absurd (cc)
+effect_quiet t taken A (Looks v) h = absurd (cc)
+effect_quiet t taken A (HearsClock a) h = absurd (cc)
+effect_quiet t taken A (HearsDraw a) h = absurd (cc)
+effect_quiet t taken A (Sends p) h = tt
+effect_quiet t taken A Ends h = tt
+
+pub stays_quietly : {V : Type 0} (t : ℕ) (xs : List (Step V)) → GoesQuietly xs t xs
+stays_quietly t [] = refl
+stays_quietly t (x ∷ xs) = inl refl
+
 module _ {X : Type 0} (m : Meaning X) (inputs : ℕ → List Packet) (threads : ℕ) (H P : List (Step X))
     (hH : IsHistory m inputs threads H) (hP : IsHistory m inputs threads P)
     (K : List Entry) (closedK : IsClosed (log_of P) K) (inP : (e : Entry) → IsIn e K → IsIn e (log_of P)) (inH : (e : Entry) → IsIn e K → IsIn e (log_of H)) where
@@ -66,12 +80,14 @@ module _ {X : Type 0} (m : Meaning X) (inputs : ℕ → List Packet) (threads : 
     pub log_is : log_of steps ≡ more ++ log_of P
     pub base : IsEarlier P steps
     pub at : (t : ℕ) → At P more t steps
+    pub led : IsLed P more steps
 
-  record Ready (more : List Entry) (t : ℕ) (H0 : List (Step X)) : Type 0 where
+  record Ready (more : List Entry) (from : List (Step X)) (t : ℕ) (H0 : List (Step X)) : Type 0 where
     steps : List (Step X)
     history : IsHistory m inputs threads steps
     log_is : log_of steps ≡ more ++ log_of P
     base : IsEarlier P steps
+    quiet : GoesQuietly from t steps
     thread_is : thread_after steps t ≡ thread_after H0 t
     others : (u : ℕ) → u ≢ t → At P more u steps
 
@@ -97,12 +113,13 @@ module _ {X : Type 0} (m : Meaning X) (inputs : ℕ → List Packet) (threads : 
       go (inl a) = sub e a
       go (inr a) = inH e a
 
-  append_quiet : (more : List Entry) (t : ℕ) (y : Step X) (H2 : List (Step X)) (h : IsStep m inputs threads H2 y) → y.thread ≡ t → is_logged h.2 ≡ false → Ready more t H2 → Ready more t (y ∷ H2)
-  append_quiet more t y H2 h e quiet r = record {
+  append_quiet : (more : List Entry) (from : List (Step X)) (t : ℕ) (y : Step X) (H2 : List (Step X)) (h : IsStep m inputs threads H2 y) → y.thread ≡ t → is_logged h.2 ≡ false → Ready more from t H2 → Ready more from t (y ∷ H2)
+  append_quiet more from t y H2 h e quiet r = record {
     steps = new ∷ r.steps;
     history = (stepped, r.history);
     log_is = quiet_log t y.after.taken r.steps (log_of r.steps) h.2 quiet ∙ r.log_is;
     base = inr r.base;
+    quiet = inr (refl, effect_quiet t y.after.taken r.steps h.2 quiet, r.quiet);
     thread_is = rw (is_eq t t refl, is_eq y.thread t e) refl;
     others = λ u ne. other_at m inputs threads P more u new r.steps stepped (λ k. ne (sym k)) (r.others u ne);
   }
@@ -120,37 +137,37 @@ module _ {X : Type 0} (m : Meaning X) (inputs : ℕ → List Packet) (threads : 
   step_of y H2 endH = (earlier_history m inputs threads (y ∷ H2) H endH hH).0
 
   -- where H made as many moves of the thread as P
-  at_same : (more : List Entry) (R : Goes more) (t : ℕ) → thread_after R.steps t ≡ thread_after P t → AllIn K t P → (H0 : List (Step X)) → IsEarlier H0 H → moves_of t P ≡ moves_of t H0 → (entries t (log_of P) ≤ entries t (log_of H0)) × (entries t (log_of H0) ≡ entries t (log_of P) → Ready more t H0)
+  at_same : (more : List Entry) (R : Goes more) (t : ℕ) → thread_after R.steps t ≡ thread_after P t → AllIn K t P → (H0 : List (Step X)) → IsEarlier H0 H → moves_of t P ≡ moves_of t H0 → (entries t (log_of P) ≤ entries t (log_of H0)) × (entries t (log_of H0) ≡ entries t (log_of P) → Ready more R.steps t H0)
   at_same more R t ta all H0 endH same =
       let sm : SameSeat t P H0 = (agreed_all m inputs threads K P H hP hH closedK inP inH P (earlier_refl P)).seats P H0 t (earlier_refl P) endH same all in
       let c : entries t (log_of P) ≡ entries t (log_of H0) = sm.entries in
-      (omega arith, λ k. record { steps = R.steps; history = R.history; log_is = R.log_is; base = R.base; thread_is = ta ∙ sm.thread; others = λ u ne. R.at u })
+      (omega arith, λ k. record { steps = R.steps; history = R.history; log_is = R.log_is; base = R.base; quiet = stays_quietly t R.steps; thread_is = ta ∙ sm.thread; others = λ u ne. R.at u })
 
   -- the thread made no move since P: from where P left it, up to where it is in an end of H
-  ready_a : (more : List Entry) (R : Goes more) (t : ℕ) → thread_after R.steps t ≡ thread_after P t → AllIn K t P → (H0 : List (Step X)) → IsEarlier H0 H → moves_of t P ≤ moves_of t H0 → (entries t (log_of P) ≤ entries t (log_of H0)) × (entries t (log_of H0) ≡ entries t (log_of P) → Ready more t H0)
+  ready_a : (more : List Entry) (R : Goes more) (t : ℕ) → thread_after R.steps t ≡ thread_after P t → AllIn K t P → (H0 : List (Step X)) → IsEarlier H0 H → moves_of t P ≤ moves_of t H0 → (entries t (log_of P) ≤ entries t (log_of H0)) × (entries t (log_of H0) ≡ entries t (log_of P) → Ready more R.steps t H0)
   ready_a more R t ta all [] endH low = at_same more R t ta all [] endH (omega arith)
   ready_a more R t ta all (y ∷ H2) endH low = go (is_or (moves_of t P) (moves_of t (y ∷ H2))) (moves_step t y H2) (λ k. ready_a more R t ta all H2 (earlier_tail y H2 H endH) k)
     where
       hy : IsStep m inputs threads H2 y
       hy = step_of y H2 endH
 
-      mine : y.thread ≡ t → (is_logged hy.2 ≡ true) ⊎ (is_logged hy.2 ≡ false) → (entries t (log_of P) ≤ entries t (log_of H2)) × (entries t (log_of H2) ≡ entries t (log_of P) → Ready more t H2) → (entries t (log_of P) ≤ entries t (log_of (y ∷ H2))) × (entries t (log_of (y ∷ H2)) ≡ entries t (log_of P) → Ready more t (y ∷ H2))
+      mine : y.thread ≡ t → (is_logged hy.2 ≡ true) ⊎ (is_logged hy.2 ≡ false) → (entries t (log_of P) ≤ entries t (log_of H2)) × (entries t (log_of H2) ≡ entries t (log_of P) → Ready more R.steps t H2) → (entries t (log_of P) ≤ entries t (log_of (y ∷ H2))) × (entries t (log_of (y ∷ H2)) ≡ entries t (log_of P) → Ready more R.steps t (y ∷ H2))
       mine e (inl on) rest = let c : entries t (log_of (y ∷ H2)) ≡ entries t (log_of H2) + 1 = count_logged m inputs threads t y H2 hy e on in (omega (arith, rest.0), λ k. absurd (omega (arith, rest.0, k)))
-      mine e (inr off) rest = let c : entries t (log_of (y ∷ H2)) ≡ entries t (log_of H2) = count_quiet m inputs threads t y H2 hy off in (omega (arith, rest.0), λ k. append_quiet more t y H2 hy e off (rest.1 (sym c ∙ k)))
+      mine e (inr off) rest = let c : entries t (log_of (y ∷ H2)) ≡ entries t (log_of H2) = count_quiet m inputs threads t y H2 hy off in (omega (arith, rest.0), λ k. append_quiet more R.steps t y H2 hy e off (rest.1 (sym c ∙ k)))
 
-      go : (moves_of t P ≡ moves_of t (y ∷ H2)) ⊎ (moves_of t P ≢ moves_of t (y ∷ H2)) → ((y.thread ≢ t) × (moves_of t (y ∷ H2) ≡ moves_of t H2)) ⊎ ((y.thread ≡ t) × (moves_of t (y ∷ H2) ≡ moves_of t H2 + 1)) → (moves_of t P ≤ moves_of t H2 → (entries t (log_of P) ≤ entries t (log_of H2)) × (entries t (log_of H2) ≡ entries t (log_of P) → Ready more t H2)) → (entries t (log_of P) ≤ entries t (log_of (y ∷ H2))) × (entries t (log_of (y ∷ H2)) ≡ entries t (log_of P) → Ready more t (y ∷ H2))
+      go : (moves_of t P ≡ moves_of t (y ∷ H2)) ⊎ (moves_of t P ≢ moves_of t (y ∷ H2)) → ((y.thread ≢ t) × (moves_of t (y ∷ H2) ≡ moves_of t H2)) ⊎ ((y.thread ≡ t) × (moves_of t (y ∷ H2) ≡ moves_of t H2 + 1)) → (moves_of t P ≤ moves_of t H2 → (entries t (log_of P) ≤ entries t (log_of H2)) × (entries t (log_of H2) ≡ entries t (log_of P) → Ready more R.steps t H2)) → (entries t (log_of P) ≤ entries t (log_of (y ∷ H2))) × (entries t (log_of (y ∷ H2)) ≡ entries t (log_of P) → Ready more R.steps t (y ∷ H2))
       go (inl k) b rest = at_same more R t ta all (y ∷ H2) endH k
       go (inr k) (inl b) rest =
           let q = rest (omega (arith, b.1)) in
           let sm : SameSeat t (y ∷ H2) H2 = seat_other m inputs threads t y H2 hy b.0 in
           let c : entries t (log_of (y ∷ H2)) ≡ entries t (log_of H2) = sm.entries in
-          (omega (arith, q.0), λ k2. let r : Ready more t H2 = q.1 (sym c ∙ k2) in record { steps = r.steps; history = r.history; log_is = r.log_is; base = r.base; thread_is = r.thread_is ∙ sym sm.thread; others = r.others })
+          (omega (arith, q.0), λ k2. let r : Ready more R.steps t H2 = q.1 (sym c ∙ k2) in record { steps = r.steps; history = r.history; log_is = r.log_is; base = r.base; quiet = r.quiet; thread_is = r.thread_is ∙ sym sm.thread; others = r.others })
       go (inr k) (inr b) rest = mine b.0 (logged_or hy.2) (rest (omega (arith, k, b.1)))
 
   -- the thread's newest move is an entry
   ready_b : (more : List Entry) (R : Goes more) → IsGrounded (log_of P) K more → ((e : Entry) → IsIn e more → IsIn e (log_of H)) → (t : ℕ)
       → ((z : Step X) × (M1 : List (Step X)) × (e : Entry) × (left : Option X) × IsEarlier (z ∷ M1) R.steps × (e.thread ≡ t) × (z.act ≡ Did e left) × (thread_after R.steps t ≡ z.after) × (entries t (log_of R.steps) ≡ e.number) × IsIn e more)
-      → (H0 : List (Step X)) → IsEarlier H0 H → entries t (log_of H0) ≡ entries t (log_of R.steps) → Ready more t H0
+      → (H0 : List (Step X)) → IsEarlier H0 H → entries t (log_of H0) ≡ entries t (log_of R.steps) → Ready more R.steps t H0
   ready_b more R ground sub t r [] endH n =
       let w : (1 ≤ r.2.number) × (r.2.number ≤ entries r.2.thread (log_of R.steps)) = number_within (log_of R.steps) r.2 (history_log m inputs threads R.steps R.history) (earlier_log (r.0 ∷ r.1) R.steps r.2 r.4 (leaves_in (r.0 ∷ r.1) r.2 r.3 (inl r.6))) in
       absurd (omega (arith, r.8, n, w))
@@ -159,7 +176,7 @@ module _ {X : Type 0} (m : Meaning X) (inputs : ℕ → List Packet) (threads : 
       hy : IsStep m inputs threads H2 y
       hy = step_of y H2 endH
 
-      base : y.thread ≡ t → is_logged hy.2 ≡ true → Ready more t (y ∷ H2)
+      base : y.thread ≡ t → is_logged hy.2 ≡ true → Ready more R.steps t (y ∷ H2)
       base e on =
           let g = logged_makes y.thread y.after.taken H2 hy.2 on in
           let ay : y.act ≡ Did g.0 g.1 = hy.4 ∙ g.2 in
@@ -174,17 +191,18 @@ module _ {X : Type 0} (m : Meaning X) (inputs : ℕ → List Packet) (threads : 
             history = R.history;
             log_is = R.log_is;
             base = R.base;
+            quiet = stays_quietly t R.steps;
             thread_is = r.7 ∙ (ap (λ (s : Step X). s.after) z ∙ rw (is_eq y.thread t e) refl);
             others = λ u ne. R.at u;
           }
 
-      go : (y.thread ≡ t) ⊎ (y.thread ≢ t) → (is_logged hy.2 ≡ true) ⊎ (is_logged hy.2 ≡ false) → (entries t (log_of H2) ≡ entries t (log_of R.steps) → Ready more t H2) → Ready more t (y ∷ H2)
+      go : (y.thread ≡ t) ⊎ (y.thread ≢ t) → (is_logged hy.2 ≡ true) ⊎ (is_logged hy.2 ≡ false) → (entries t (log_of H2) ≡ entries t (log_of R.steps) → Ready more R.steps t H2) → Ready more R.steps t (y ∷ H2)
       go (inl e) (inl on) rest = base e on
-      go (inl e) (inr off) rest = append_quiet more t y H2 hy e off (rest (sym (count_quiet m inputs threads t y H2 hy off) ∙ n))
+      go (inl e) (inr off) rest = append_quiet more R.steps t y H2 hy e off (rest (sym (count_quiet m inputs threads t y H2 hy off) ∙ n))
       go (inr ne) b rest =
           let sm : SameSeat t (y ∷ H2) H2 = seat_other m inputs threads t y H2 hy ne in
-          let q : Ready more t H2 = rest (sym sm.entries ∙ n) in
-          record { steps = q.steps; history = q.history; log_is = q.log_is; base = q.base; thread_is = q.thread_is ∙ sym sm.thread; others = q.others }
+          let q : Ready more R.steps t H2 = rest (sym sm.entries ∙ n) in
+          record { steps = q.steps; history = q.history; log_is = q.log_is; base = q.base; quiet = q.quiet; thread_is = q.thread_is ∙ sym sm.thread; others = q.others }
 
   -- where the touches of the variable are as many, and the newest is of the set, the variable has one value
   pub value_again : (more : List Entry) (M H1 : List (Step X)) (v : ℕ) → IsHistory m inputs threads M → log_of M ≡ more ++ log_of P → IsGrounded (log_of P) K more → ((e : Entry) → IsIn e more → IsIn e (log_of H)) → IsEarlier H1 H
@@ -221,6 +239,7 @@ module _ {X : Type 0} (m : Meaning X) (inputs : ℕ → List Packet) (threads : 
     log_is = rw act (ap (λ (l : List Entry). e ∷ l) rd.log_is);
     base = inr rd.base;
     at = λ u. at u (is_or x.thread u);
+    led = ((found.2, act), R.steps, subst (λ (t : ℕ). GoesQuietly R.steps t rd.steps) (sym ex.0) rd.quiet, R.led);
   }
     where
       ground1 : IsGrounded (log_of P) K more
@@ -295,10 +314,10 @@ module _ {X : Type 0} (m : Meaning X) (inputs : ℕ → List Packet) (threads : 
               let b : entries z.0.thread (log_of z.1) ≡ entries x.thread (log_of z.1) = ap (λ (u : ℕ). entries u (log_of z.1)) z.3 in
               absurd (omega (arith, w, a, b, fd.1, sm.entries, counts, same, logs))
 
-      rd : Ready more x.thread H1
+      rd : Ready more R.steps x.thread H1
       rd = pick (R.at x.thread)
         where
-          pick : At P more x.thread R.steps → Ready more x.thread H1
+          pick : At P more x.thread R.steps → Ready more R.steps x.thread H1
           pick (inl a) = (ready_a more R x.thread a.0 (all a.1) H1 endH1 (fewer a.1)).1 (counts ∙ (sym logs ∙ a.1))
           pick (inr r) = ready_b more R ground1 sub1 x.thread r H1 endH1 (counts ∙ sym logs)
 
@@ -349,5 +368,5 @@ module _ {X : Type 0} (m : Meaning X) (inputs : ℕ → List Packet) (threads : 
 
   -- Entries of H that are numbered on after P, and whose immediate predecessors in P are in K, continue P.
   pub continue : (more : List Entry) → IsLog (more ++ log_of P) → IsGrounded (log_of P) K more → ((e : Entry) → IsIn e more → IsIn e (log_of H)) → Goes more
-  continue [] good ground sub = record { steps = P; history = hP; log_is = refl; base = earlier_refl P; at = λ t. inl (refl, refl) }
+  continue [] good ground sub = record { steps = P; history = hP; log_is = refl; base = earlier_refl P; at = λ t. inl (refl, refl); led = refl }
   continue (e ∷ more) good ground sub = extend e more good ground sub (continue more good.2 (λ f g hf hg n. ground f g (inr hf) hg n) (λ f h. sub f (inr h)))

@@ -5,6 +5,7 @@
 mod bytes;
 mod fault;
 mod field;
+mod kind;
 mod laws;
 mod limit;
 mod line;
@@ -20,6 +21,7 @@ mod word;
 pub use bytes::Bytes;
 pub use fault::{LineCause, LineFault, ReadError};
 pub use field::{Field, end_of_line, read_field};
+pub use kind::Kind;
 pub use laws::{a_line_is_one_thing, a_text_has_one_first_fault};
 pub use limit::{
     Limit, MOST_CAPTURED, MOST_EVENTS, MOST_FILE_BYTES, MOST_MOVES, MOST_OUTPUT_BYTES, MOST_PACKETS,

@@ -21,11 +21,12 @@ use Rattle.plain_machine.proofs.LoggedEffects.{entry_thread}
 use Rattle.recovery_world.specs.World.{Setting, Sent, World, inputs_fed, all_inputs}
 use Rattle.recovery_world.specs.Events.{Wakes, IsKnown, IsAmong, IsPartOf, Recovers, entries_of_line, ended_now}
 use Rattle.recovery_world.specs.Finish.{IsLine, greatest, GoesOn, AllGoOn, IsFinish}
-use Rattle.line_order.specs.Line.{IsByWeight, GoesBefore, IsQuiet, GoesQuietly}
+use Rattle.line_order.specs.Line.{IsByWeight, GoesBefore}
+use Rattle.plain_machine.specs.Continue.{IsQuiet, GoesQuietly}
 use Rattle.line_order.proofs.Arrangements.{arranged_log}
 use Rattle.line_order.proofs.WeightOrder.{by_weight_arranged}
 use Rattle.line_order.proofs.SortedEntries.{weight_moves, precedes_moves, sorted}
-use Rattle.line_order.proofs.LedLines.{stays_quietly}
+use Rattle.plain_machine.proofs.Continuations.{stays_quietly}
 use Rattle.line_order.proofs.Runs.{history_more}
 use Rattle.line_order.proofs.QuietMoves.{sends_later, quiet_later, quiet_same_log, comes_again}
 use Rattle.recovery_laws.specs.Sound.{IsKept, Firm, Sound}

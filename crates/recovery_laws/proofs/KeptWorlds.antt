@@ -13,8 +13,8 @@ use Rattle.plain_machine.proofs.Histories.{history_log, earlier_refl, earlier_tr
 use Rattle.plain_machine.proofs.Recoveries.{later_log}
 use Rattle.recovery_world.specs.declared.event.Event.{Event}
 use Rattle.recovery_world.specs.declared.event.Event.TheVariants as event
-use Rattle.recovery_world.specs.declared.event.Kind.{Kind}
-use Rattle.recovery_world.specs.declared.event.Kind.TheVariants as kind
+use Rattle.plain_text.specs.declared.kind.Kind.{Kind}
+use Rattle.plain_text.specs.declared.kind.Kind.TheVariants as kind
 use Rattle.recovery_world.specs.declared.event.Outcome.{Outcome}
 use Rattle.recovery_world.specs.World.{Setting, Sent, Ended as EndedEpoch, World, opening, inputs_fed}
 use Rattle.recovery_world.specs.Events.{IsKnown, IsPartOf, MayGo, Releases, IsAmong, HasNumber, HasArrived, OnStep, OnLog, OnOut, OnLate, OnCut, OnStore, Recovers, Wakes, entries_of_line, ended_now, fed_after, after_feed, On}

@@ -18,7 +18,7 @@ use Rattle.plain_machine.specs.History.{Act, Did, Step, log_of, entry_of, act_of
 use Rattle.plain_machine.proofs.Histories.{earlier_history, did_entry}
 use Rattle.plain_machine.proofs.MoveLemmas.{is_logged, hand_logs, held_kind}
 use Rattle.plain_machine.proofs.Seats.{SameSeat, seat_other, seat_trans}
-use Rattle.line_order.specs.Line.{IsQuiet, GoesQuietly, IsLed}
+use Rattle.plain_machine.specs.Continue.{IsQuiet, GoesQuietly, IsLed}
 use Rattle.line_order.proofs.QuietMoves.{quiet_later, quiet_same_log}
 
 -- the log of a led line

@@ -20,7 +20,7 @@ use Rattle.recovery_world.specs.World.{Setting, World, inputs_fed}
 use Rattle.recovery_world.specs.Turns.{IsReadToCome, IsTouchToCome, IsAwaited, Awaits}
 use Rattle.recovery_world.specs.Events.{WantsMore, WaitsFor, MakesMove, OnStep}
 use Rattle.recovery_world.specs.Finish.{IsToCome}
-use Rattle.line_order.specs.Line.{GoesQuietly, IsLed}
+use Rattle.plain_machine.specs.Continue.{GoesQuietly, IsLed}
 use Rattle.line_order.proofs.Arrangements.{tail_log}
 use Rattle.recovery_laws.specs.Sound.{Firm}
 use Rattle.recovery_laws.proofs.PlacedEntries.{without, first_log}

@@ -22,7 +22,7 @@ use Rattle.plain_machine.specs.Agree.{IsEarlier, SendsAfter}
 use Rattle.plain_machine.proofs.Histories.{history_log, did_emission, earlier_history, earlier_outputs}
 use Rattle.plain_machine.proofs.Agreement.{histories_agree, sends_at}
 use Rattle.plain_machine.proofs.LoggedEffects.{entry_thread}
-use Rattle.line_order.specs.Line.{GoesQuietly, IsLed}
+use Rattle.plain_machine.specs.Continue.{GoesQuietly, IsLed}
 use Rattle.line_order.proofs.Hands.{taken_within, all_taken}
 use Rattle.line_order.proofs.QuietMoves.{quiet_later}
 use Rattle.recovery_world.specs.declared.event.Event.{Event}

@@ -2,7 +2,8 @@ use crate::replay::{FIRST, SECOND, first_wrong, setup_of};
 use crate::translator::TranslatorMoves;
 use box_program::{CountBox, PeekBox};
 use monitor_box::MonitorBox;
-use recovery_world::{Event, Kind};
+use plain_text::Kind;
+use recovery_world::Event;
 use std::test::Fail;
 
 /// The next move of a thread.

@@ -3,8 +3,8 @@ use Rattle.std.proofs.Common.{◌≡◌, ℕ, List, Option, Some, None, refl, sy
 use Rattle.plain_text.specs.declared.limit.Limit.{Limit}
 use Rattle.recovery_world.specs.declared.event.Event.{Event}
 use Rattle.recovery_world.specs.declared.event.Event.TheVariants as event
-use Rattle.recovery_world.specs.declared.event.Kind.{Kind}
-use Rattle.recovery_world.specs.declared.event.Kind.TheVariants as kind
+use Rattle.plain_text.specs.declared.kind.Kind.{Kind}
+use Rattle.plain_text.specs.declared.kind.Kind.TheVariants as kind
 use Rattle.recovery_world.specs.declared.event.Outcome.{Outcome}
 use Rattle.recovery_world.specs.World.{Setting, Sent, World}
 use Rattle.recovery_world.specs.Events.{On, OnStep, OnLog, OnOut, OnLate, OnCut, OnSnap, OnStore, OnCrash, OnRecover, Arrives, OfThread, Wakes}

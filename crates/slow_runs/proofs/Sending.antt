@@ -5,7 +5,7 @@ use Rattle.entry_order.proofs.ClosedParts.{in_or}
 use Rattle.plain_machine.specs.History.{Act, Did, Step, log_more, log_of, outputs, sent_of}
 use Rattle.plain_machine.specs.Agree.{IsEarlier}
 use Rattle.plain_machine.proofs.Histories.{earlier_refl}
-use Rattle.line_order.specs.Line.{IsQuiet, GoesQuietly, IsLed}
+use Rattle.plain_machine.specs.Continue.{IsQuiet, GoesQuietly, IsLed}
 use Rattle.line_order.proofs.QuietMoves.{quiet_later, quiet_same_log}
 use Rattle.recovery_world.specs.World.{Setting, World, Sent}
 use Rattle.recovery_world.specs.Events.{Wakes}

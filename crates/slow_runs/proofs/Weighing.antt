@@ -6,7 +6,8 @@ use Rattle.entry_order.specs.Log.{Entry, IsIn, PrecedesOrIs}
 use Rattle.entry_order.specs.Stamps.{IsWeight}
 use Rattle.entry_order.proofs.Weights.{count_unique}
 use Rattle.plain_machine.specs.History.{Act, Step, log_more, log_of, IsHistory}
-use Rattle.line_order.specs.Line.{GoesBefore, IsByWeight, IsLed}
+use Rattle.line_order.specs.Line.{GoesBefore, IsByWeight}
+use Rattle.plain_machine.specs.Continue.{IsLed}
 use Rattle.line_order.proofs.QuietMoves.{quiet_same_log}
 use Rattle.recovery_world.specs.World.{Setting, World, Sent, all_inputs}
 use Rattle.recovery_world.specs.Events.{Wakes}

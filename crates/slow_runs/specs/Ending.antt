@@ -2,7 +2,8 @@
 use Rattle.std.specs.Prelude.{◌≡◌, ℕ, ◌-◌, List, ◌∷◌, Option, ◌↔◌, length, take}
 use Rattle.entry_order.specs.Log.{Entry, IsIn}
 use Rattle.plain_machine.specs.History.{Act, Did, Step, log_of, IsHistory}
-use Rattle.line_order.specs.Line.{IsByWeight, IsQuiet, GoesQuietly, IsLed}
+use Rattle.line_order.specs.Line.{IsByWeight}
+use Rattle.plain_machine.specs.Continue.{IsQuiet, GoesQuietly, IsLed}
 use Rattle.recovery_world.specs.World.{Setting, World, all_inputs}
 use Rattle.recovery_world.specs.Events.{Wakes}
 use Rattle.recovery_world.specs.Finish.{IsToCome, GoesOn, AllGoOn, IsFinish}

@@ -16,8 +16,8 @@ ghost use Rattle.slow_runs.specs.Runs.{arrival_of, count_in, event_by};
 
 use crate::within::{limit_of, on_quiet, on_within, step_within};
 use box_program::Program;
-use plain_text::{Limit, NoMemory};
-use recovery_world::{Event, Kind, Outcome};
+use plain_text::{Kind, Limit, NoMemory};
+use recovery_world::{Event, Outcome};
 use slow_history::{count_entries, count_outputs, log_of};
 use slow_world::{Reply, Setup, SlowWorld, recover, word_after};
 use std::alloc::Global;

@@ -10,8 +10,8 @@ use Rattle.recovery_world.specs.Events.{HasNumber, IsAmong, IsEntryOf, IsOutputO
 use Rattle.recovery_world.specs.declared.event.Outcome.{Outcome}
 use Rattle.recovery_world.specs.declared.event.Outcome.TheVariants as outcome
 use Rattle.recovery_world.specs.Frames.{IsEntryLength, IsOutputLength}
-use Rattle.recovery_world.specs.declared.event.Kind.{Kind}
-use Rattle.recovery_world.specs.declared.event.Kind.TheVariants as kind
+use Rattle.plain_text.specs.declared.kind.Kind.{Kind}
+use Rattle.plain_text.specs.declared.kind.Kind.TheVariants as kind
 use Rattle.slow_history.specs.Mirror.{history, sents, AllFit}
 use Rattle.slow_history.specs.declared.history.MadeStep.{MadeStep}
 use Rattle.slow_world.specs.declared.setup.Setup.{Setup}

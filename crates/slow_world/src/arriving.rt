@@ -2,15 +2,15 @@ ghost use Rattle.std.specs.Prelude.{◌≡◌, [], List, IfOk, MatchBool, MatchO
 ghost use Rattle.recovery_world.specs.World.{Sent, Ended as EndedEpoch};
 ghost use Rattle.plain_machine.specs.Program.{Meaning};
 ghost use Rattle.recovery_world.specs.Events.{Releases, OnLog, OnOut, OnLate, OnCut, Arrives, EndedWith, WasSent, HasNone, On, count_of};
-ghost use Rattle.recovery_world.specs.declared.event.Kind.TheVariants as kind_is;
+ghost use Rattle.plain_text.specs.declared.kind.Kind.TheVariants as kind_is;
 ghost use Rattle.recovery_world.specs.declared.event.Event.TheVariants as event_is;
 ghost use Rattle.slow_history.specs.Mirror.{names};
 ghost use Rattle.slow_world.specs.Mirror.{world_is, setting_is, ended_is, EntryFrame, OutputFrame, FrameOf, KeepsHistories};
 
 use crate::outputs::{has_arrived, is_known, joined, missing_for, names_of, part_due};
 use crate::{EndedAs, Reply, Setup, SlowWorld};
-use plain_text::NoMemory;
-use recovery_world::{Kind, Outcome};
+use plain_text::{Kind, NoMemory};
+use recovery_world::Outcome;
 use slow_history::{
     count_entries, count_outputs, entry_at, entry_length, log_of, output_at, output_length,
 };

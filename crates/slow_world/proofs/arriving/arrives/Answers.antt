@@ -1,6 +1,6 @@
 use Rattle.std.proofs.Common.{List, [], sym, subst, refl}
 use Rattle.recovery_world.specs.World.{Sent}
-use Rattle.recovery_world.specs.declared.event.Kind.{Kind}
+use Rattle.plain_text.specs.declared.kind.Kind.{Kind}
 use Rattle.recovery_world.specs.declared.event.Outcome.{Outcome}
 use Rattle.recovery_world.specs.Events.{Arrives}
 use Rattle.slow_world.specs.Mirror.{world_is}
