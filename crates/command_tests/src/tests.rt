@@ -398,36 +398,3 @@ fn stops_at_too_many_packets(rt: HostRuntime) -> Result<(), Fail> {
     assert!(rt; holds(alloc, case)?);
     Ok(())
 }
-
-#[test]
-fn says_its_status(rt: HostRuntime) -> Result<(), Fail> {
-    let bad_box = Status::BadInput(InputFault::BoxFile(LineFault {
-        line: 2,
-        cause: LineCause::OutOfRange,
-    }));
-    let bad_capture = Status::BadInput(InputFault::Capture(CaptureFault {
-        offset: 24,
-        cause: CaptureCause::ShortRecord,
-    }));
-    let texts = [
-        (Status::Done, "done", 0),
-        (Status::BadWords, "bad words", 2),
-        (Status::ReadFault, "read fault", 3),
-        (Status::WriteFault, "write fault", 4),
-        (Status::NoMemory, "no memory", 5),
-        (bad_box, "bad input: box: line 2: out of range", 6),
-        (
-            bad_capture,
-            "bad input: capture: offset 24: short record",
-            6,
-        ),
-        (Status::TooLarge(Limit::File), "too large: file", 7),
-        (Status::TooLarge(Limit::Packets), "too large: packets", 7),
-        (Status::NotBuilt, "not built", 8),
-    ];
-    for (status, text, code) in texts {
-        assert_eq!(rt; status.exit_code(), code);
-        assert_eq!(rt; format!(in rt.alloc(); "{status}")?.as_str(), text);
-    }
-    Ok(())
-}

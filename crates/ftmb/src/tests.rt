@@ -3,7 +3,7 @@ ghost use Rattle.std.specs.Prelude.{◌≡◌, ◌≤◌, length};
 use command_line::{StatusText, answer, exit_of, help, perform, version};
 use job_top::{InputFault, Status};
 use pcap_io::{CaptureCause, CaptureFault};
-use plain_text::{Bytes, LineCause, LineFault, NoMemory, Text};
+use plain_text::{Bytes, Limit, LineCause, LineFault, NoMemory, Text};
 use sample_frames::{ONE_COUNTED, ONE_PACKET};
 use std::alloc::Global;
 use std::env::Args;
@@ -245,5 +245,41 @@ fn answer_to_none(alloc: Global, kind: io::ErrorKind) -> Result<Status, NoMemory
 fn a_word_that_is_not_text_is_a_bad_word(rt: HostRuntime) -> Result<(), Fail> {
     let status = answer_to_none(rt.alloc(), io::ErrorKind::InvalidData)?;
     assert_eq!(rt; status, Status::BadWords);
+    Ok(())
+}
+
+#[test]
+fn says_its_status(rt: HostRuntime) -> Result<(), Fail> {
+    let bad_box = Status::BadInput(InputFault::BoxFile(LineFault {
+        line: 2,
+        cause: LineCause::OutOfRange,
+    }));
+    let bad_capture = Status::BadInput(InputFault::Capture(CaptureFault {
+        offset: 24,
+        cause: CaptureCause::ShortRecord,
+    }));
+    let texts = [
+        (Status::Done, "done", 0),
+        (Status::BadWords, "bad words", 2),
+        (Status::ReadFault, "read fault", 3),
+        (Status::WriteFault, "write fault", 4),
+        (Status::NoMemory, "no memory", 5),
+        (bad_box, "bad input: box: line 2: out of range", 6),
+        (
+            bad_capture,
+            "bad input: capture: offset 24: short record",
+            6,
+        ),
+        (Status::TooLarge(Limit::File), "too large: file", 7),
+        (Status::TooLarge(Limit::Packets), "too large: packets", 7),
+        (Status::NotBuilt, "not built", 8),
+    ];
+    for (status, text, code) in texts {
+        assert_eq!(rt; status.exit_code(), code);
+        assert_eq!(rt;
+            format!(in rt.alloc(); "{}", StatusText(status))?.as_str(),
+            text
+        );
+    }
     Ok(())
 }

@@ -4,41 +4,30 @@ ghost use Rattle.job_top.specs.Status.{exit_code_of};
 use crate::{InputError, OutputError};
 use pcap_io::CaptureFault;
 use plain_text::{Limit, LineFault};
-use thiserror::Error;
 use world_io::ReadError;
 
 /// An input file that leaves its grammar: which, where and why.
-#[derive(Clone, Copy, Debug, PartialEq, Eq, Error)]
+#[derive(Clone, Copy, Debug, PartialEq, Eq)]
 pub enum InputFault {
-    #[error("box: {0}")]
     BoxFile(LineFault),
-    #[error("capture: {0}")]
     Capture(CaptureFault),
 }
 
-/// What a command came to. Its text is what the program prints on standard error.
-#[derive(Clone, Copy, Debug, PartialEq, Eq, Error)]
+/// What a command came to.
+#[derive(Clone, Copy, Debug, PartialEq, Eq)]
 pub enum Status {
-    #[error("done")]
     Done,
     /// The words are no command's. Nothing was opened.
-    #[error("bad words")]
     BadWords,
     /// An input file could not be opened or read.
-    #[error("read fault")]
     ReadFault,
     /// An output file could not be created or written.
-    #[error("write fault")]
     WriteFault,
-    #[error("no memory")]
     NoMemory,
     /// The first input file, in the order of the words, that leaves its grammar.
-    #[error("bad input: {0}")]
     BadInput(InputFault),
-    #[error("too large: {0}")]
     TooLarge(Limit),
     /// The inputs are accepted, and ask for what is not there: a script other than `settle`.
-    #[error("not built")]
     NotBuilt,
 }
 
