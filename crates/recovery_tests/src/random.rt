@@ -1,12 +1,13 @@
 ghost use Rattle.std.specs.Prelude.{IfOk};
 ghost use Rattle.slow_world.specs.Mirror.{WorldFits};
 
-use crate::replay::{FIRST, SECOND, THIRD, setup_of};
+use crate::replay::{THIRD_QUERY, setup_of};
 use crate::sound::{ends_well, is_sound};
 use box_program::{PeekBox, Program};
 use monitor_box::MonitorBox;
 use plain_text::{Kind, NoMemory};
 use recovery_world::Event;
+use sample_frames::{NEXT_QUERY, QUERY};
 use slow_history::{count_entries, count_outputs, log_of};
 use slow_runs::on;
 use slow_world::{Setup, SlowWorld, opening, word_after};
@@ -178,13 +179,13 @@ fn right_scripts<P: Program>(
 /// Captures for one, two and three threads, of packets of both lengths.
 fn setups(alloc: Global) -> Result<[Setup; 3], NoMemory> {
     let frames: [(&[u8], usize); 7] = [
-        (&FIRST, 0),
-        (&SECOND, 1),
-        (&THIRD, 0),
-        (&FIRST, 1),
-        (&THIRD, 1),
-        (&SECOND, 0),
-        (&FIRST, 0),
+        (&QUERY, 0),
+        (&NEXT_QUERY, 1),
+        (&THIRD_QUERY, 0),
+        (&QUERY, 1),
+        (&THIRD_QUERY, 1),
+        (&NEXT_QUERY, 0),
+        (&QUERY, 0),
     ];
     Ok([
         setup_of(alloc, 1, &frames)?,

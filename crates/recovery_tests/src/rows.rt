@@ -1,9 +1,10 @@
-use crate::replay::{FIRST, SECOND, first_wrong, setup_of};
+use crate::replay::{first_wrong, setup_of};
 use crate::translator::TranslatorMoves;
 use box_program::{CountBox, PeekBox};
 use monitor_box::MonitorBox;
 use plain_text::Kind;
 use recovery_world::Event;
+use sample_frames::{NEXT_QUERY, QUERY};
 use std::test::Fail;
 
 /// The next move of a thread.
@@ -37,7 +38,7 @@ const fn out(thread: u64, number: u64) -> Event {
 fn one_packet(rt: HostRuntime) -> Result<(), Fail> {
     let alloc = rt.alloc();
     let program = CountBox::new();
-    let setup = setup_of(alloc, 1, &[(&FIRST, 0)])?;
+    let setup = setup_of(alloc, 1, &[(&QUERY, 0)])?;
     let rows = [(Event::Settle, "moves 4 released 1 epoch 1")];
     let schedule = "0 / 0 / 0 / 0";
     let wrong = first_wrong(
@@ -57,7 +58,7 @@ fn one_packet(rt: HostRuntime) -> Result<(), Fail> {
 fn an_output_waits_for_another_thread(rt: HostRuntime) -> Result<(), Fail> {
     let alloc = rt.alloc();
     let program = CountBox::new();
-    let setup = setup_of(alloc, 2, &[(&FIRST, 0), (&SECOND, 0)])?;
+    let setup = setup_of(alloc, 2, &[(&QUERY, 0), (&NEXT_QUERY, 0)])?;
     let rows = [
         (Event::Feed(2), "total 2"),
         (step(1), "take 1"),
@@ -87,7 +88,7 @@ fn an_output_waits_for_another_thread(rt: HostRuntime) -> Result<(), Fail> {
 fn an_entry_without_its_predecessor_is_dropped(rt: HostRuntime) -> Result<(), Fail> {
     let alloc = rt.alloc();
     let program = CountBox::new();
-    let setup = setup_of(alloc, 2, &[(&FIRST, 0), (&SECOND, 0)])?;
+    let setup = setup_of(alloc, 2, &[(&QUERY, 0), (&NEXT_QUERY, 0)])?;
     let rows = [
         (Event::Feed(2), "total 2"),
         (step(1), "take 1"),
@@ -122,7 +123,7 @@ fn an_entry_without_its_predecessor_is_dropped(rt: HostRuntime) -> Result<(), Fa
 fn an_output_that_waited_is_discarded(rt: HostRuntime) -> Result<(), Fail> {
     let alloc = rt.alloc();
     let program = CountBox::new();
-    let setup = setup_of(alloc, 2, &[(&FIRST, 0), (&SECOND, 0)])?;
+    let setup = setup_of(alloc, 2, &[(&QUERY, 0), (&NEXT_QUERY, 0)])?;
     let rows = [
         (Event::Feed(2), "total 2"),
         (step(1), "take 1"),
@@ -157,7 +158,7 @@ fn an_output_that_waited_is_discarded(rt: HostRuntime) -> Result<(), Fail> {
 fn a_new_master_follows(rt: HostRuntime) -> Result<(), Fail> {
     let alloc = rt.alloc();
     let program = CountBox::new();
-    let setup = setup_of(alloc, 2, &[(&FIRST, 0), (&SECOND, 0)])?;
+    let setup = setup_of(alloc, 2, &[(&QUERY, 0), (&NEXT_QUERY, 0)])?;
     let rows = [
         (Event::Feed(2), "total 2"),
         (step(1), "take 1"),
@@ -202,7 +203,7 @@ fn a_new_master_follows(rt: HostRuntime) -> Result<(), Fail> {
 fn a_free_touch_waits_for_a_followed_one(rt: HostRuntime) -> Result<(), Fail> {
     let alloc = rt.alloc();
     let program = CountBox::new();
-    let setup = setup_of(alloc, 2, &[(&FIRST, 0), (&SECOND, 0)])?;
+    let setup = setup_of(alloc, 2, &[(&QUERY, 0), (&NEXT_QUERY, 0)])?;
     let rows = [
         (Event::Feed(2), "total 2"),
         (step(1), "take 1"),
@@ -234,7 +235,7 @@ fn a_free_touch_waits_for_a_followed_one(rt: HostRuntime) -> Result<(), Fail> {
 fn a_snapshot_under_way_is_lost(rt: HostRuntime) -> Result<(), Fail> {
     let alloc = rt.alloc();
     let program = CountBox::new();
-    let setup = setup_of(alloc, 2, &[(&FIRST, 0), (&SECOND, 0)])?;
+    let setup = setup_of(alloc, 2, &[(&QUERY, 0), (&NEXT_QUERY, 0)])?;
     let rows = [
         (Event::Feed(2), "total 2"),
         (step(0), "take 1"),
@@ -264,7 +265,7 @@ fn a_snapshot_under_way_is_lost(rt: HostRuntime) -> Result<(), Fail> {
 fn a_stored_snapshot_covers(rt: HostRuntime) -> Result<(), Fail> {
     let alloc = rt.alloc();
     let program = CountBox::new();
-    let setup = setup_of(alloc, 2, &[(&FIRST, 0), (&SECOND, 0)])?;
+    let setup = setup_of(alloc, 2, &[(&QUERY, 0), (&NEXT_QUERY, 0)])?;
     let rows = [
         (Event::Feed(2), "total 2"),
         (step(0), "take 1"),
@@ -296,7 +297,7 @@ fn a_stored_snapshot_covers(rt: HostRuntime) -> Result<(), Fail> {
 fn a_snapshot_has_its_outputs(rt: HostRuntime) -> Result<(), Fail> {
     let alloc = rt.alloc();
     let program = CountBox::new();
-    let setup = setup_of(alloc, 1, &[(&FIRST, 0)])?;
+    let setup = setup_of(alloc, 1, &[(&QUERY, 0)])?;
     let rows = [
         (Event::Feed(1), "total 1"),
         (step(0), "take 1"),
@@ -326,7 +327,7 @@ fn a_snapshot_has_its_outputs(rt: HostRuntime) -> Result<(), Fail> {
 fn recorded_answers_come_again(rt: HostRuntime) -> Result<(), Fail> {
     let alloc = rt.alloc();
     let program = TranslatorMoves {};
-    let setup = setup_of(alloc, 1, &[(&FIRST, 0)])?;
+    let setup = setup_of(alloc, 1, &[(&QUERY, 0)])?;
     let rows = [
         (Event::Feed(1), "total 1"),
         (step(0), "take 1"),
@@ -362,7 +363,7 @@ fn recorded_answers_come_again(rt: HostRuntime) -> Result<(), Fail> {
 fn words_are_never_given_again(rt: HostRuntime) -> Result<(), Fail> {
     let alloc = rt.alloc();
     let program = TranslatorMoves {};
-    let setup = setup_of(alloc, 1, &[(&FIRST, 0)])?;
+    let setup = setup_of(alloc, 1, &[(&QUERY, 0)])?;
     let rows = [
         (Event::Feed(1), "total 1"),
         (step(0), "take 1"),
@@ -395,7 +396,7 @@ fn words_are_never_given_again(rt: HostRuntime) -> Result<(), Fail> {
 fn two_recoveries(rt: HostRuntime) -> Result<(), Fail> {
     let alloc = rt.alloc();
     let program = MonitorBox::new(2);
-    let setup = setup_of(alloc, 2, &[(&FIRST, 0), (&SECOND, 0)])?;
+    let setup = setup_of(alloc, 2, &[(&QUERY, 0), (&NEXT_QUERY, 0)])?;
     let rows = [
         (Event::Feed(2), "total 2"),
         (step(1), "take 1"),
@@ -434,7 +435,7 @@ fn two_recoveries(rt: HostRuntime) -> Result<(), Fail> {
 fn the_schedule_sends_what_was_released(rt: HostRuntime) -> Result<(), Fail> {
     let alloc = rt.alloc();
     let program = CountBox::new();
-    let setup = setup_of(alloc, 1, &[(&FIRST, 0)])?;
+    let setup = setup_of(alloc, 1, &[(&QUERY, 0)])?;
     let rows = [
         (Event::Feed(1), "total 1"),
         (step(0), "take 1"),
@@ -462,7 +463,7 @@ fn the_schedule_sends_what_was_released(rt: HostRuntime) -> Result<(), Fail> {
 fn a_frame_may_come_short(rt: HostRuntime) -> Result<(), Fail> {
     let alloc = rt.alloc();
     let program = CountBox::new();
-    let setup = setup_of(alloc, 1, &[(&FIRST, 0)])?;
+    let setup = setup_of(alloc, 1, &[(&QUERY, 0)])?;
     let rows = [
         (Event::Feed(1), "total 1"),
         (step(0), "take 1"),
@@ -506,7 +507,7 @@ fn a_frame_may_come_short(rt: HostRuntime) -> Result<(), Fail> {
 fn reads_are_followed(rt: HostRuntime) -> Result<(), Fail> {
     let alloc = rt.alloc();
     let program = PeekBox::new();
-    let setup = setup_of(alloc, 2, &[(&FIRST, 0), (&SECOND, 1)])?;
+    let setup = setup_of(alloc, 2, &[(&QUERY, 0), (&NEXT_QUERY, 1)])?;
     let rows = [
         (Event::Feed(2), "total 2"),
         (step(1), "take 1"),
@@ -542,7 +543,7 @@ fn reads_are_followed(rt: HostRuntime) -> Result<(), Fail> {
 fn a_touch_without_its_read_is_dropped(rt: HostRuntime) -> Result<(), Fail> {
     let alloc = rt.alloc();
     let program = PeekBox::new();
-    let setup = setup_of(alloc, 2, &[(&FIRST, 0), (&SECOND, 1)])?;
+    let setup = setup_of(alloc, 2, &[(&QUERY, 0), (&NEXT_QUERY, 1)])?;
     let rows = [
         (Event::Feed(2), "total 2"),
         (step(1), "take 1"),
@@ -572,7 +573,7 @@ fn a_touch_without_its_read_is_dropped(rt: HostRuntime) -> Result<(), Fail> {
 fn a_free_read_goes_on(rt: HostRuntime) -> Result<(), Fail> {
     let alloc = rt.alloc();
     let program = PeekBox::new();
-    let setup = setup_of(alloc, 2, &[(&FIRST, 1), (&SECOND, 1)])?;
+    let setup = setup_of(alloc, 2, &[(&QUERY, 1), (&NEXT_QUERY, 1)])?;
     let rows = [
         (Event::Feed(2), "total 2"),
         (step(1), "take 1"),

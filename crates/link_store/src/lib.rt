@@ -1,0 +1,10 @@
+//! What was sent on the links between the nodes: each frame by its epoch, its kind, its thread and its number.
+#![tactic(auto)]
+
+mod address;
+mod links;
+#[cfg(test)]
+mod tests;
+
+pub use address::Address;
+pub use links::Links;

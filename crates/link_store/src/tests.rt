@@ -1,0 +1,115 @@
+use super::*;
+use plain_text::{Bytes, NoMemory};
+use std::alloc::Global;
+use std::test::Fail;
+
+/// An epoch, a kind, a thread and a number.
+type Numbers = (u32, Kind, u32, u64);
+
+/// Under which numbers frames are sent: each frame is one byte, its place here.
+const SENT: [Numbers; 10] = [
+    (1, Kind::Log, 0, 1),
+    (1, Kind::Log, 0, 2),
+    (1, Kind::Log, 0, 4),
+    (1, Kind::Log, 1, 2),
+    (1, Kind::Out, 0, 2),
+    (1, Kind::Out, u32::MAX, u64::MAX),
+    (2, Kind::Log, 0, 0),
+    (2, Kind::Log, 0, 2),
+    (2, Kind::Out, 1, 1),
+    (u32::MAX, Kind::Out, 0, u64::MAX),
+];
+
+#[derive(Clone, Copy)]
+enum Call {
+    Forget(Numbers),
+    ForgetEpoch(u32),
+}
+
+fn send(alloc: Global, links: &mut Links, under: Numbers, byte: u8) -> Result<(), NoMemory> {
+    let (epoch, kind, thread, number) = under;
+    links.send(epoch, kind, thread, number, Bytes::of(alloc, &[byte])?)
+}
+
+fn send_all(alloc: Global, links: &mut Links) -> Result<(), NoMemory> {
+    for place in 0..SENT.len() {
+        send(alloc, links, SENT[place], place as u8)?;
+    }
+    Ok(())
+}
+
+fn perform(links: &mut Links, call: Call) {
+    match call {
+        Call::Forget((epoch, kind, thread, up_to)) => links.forget(epoch, kind, thread, up_to),
+        Call::ForgetEpoch(epoch) => links.forget_epoch(epoch),
+    }
+}
+
+/// The byte of the frame under these numbers.
+fn byte_under(links: &Links, under: Numbers) -> Option<u8> {
+    let (epoch, kind, thread, number) = under;
+    links.fetch(epoch, kind, thread, number)?.first().copied()
+}
+
+/// Whether exactly the frames with an `x` are there.
+fn has_exactly(links: &Links, there: &[u8]) -> bool {
+    (0..SENT.len()).all(|place| {
+        let byte = (there.get(place) == Some(&b'x')).then_some(place as u8);
+        byte_under(links, SENT[place]) == byte
+    })
+}
+
+/// Whether exactly the frames with an `x` are there after all were sent and this call was made.
+fn leaves(alloc: Global, call: Call, there: &[u8]) -> Result<bool, NoMemory> {
+    let mut links = Links::new(alloc)?;
+    send_all(alloc, &mut links)?;
+    perform(&mut links, call);
+    Ok(has_exactly(&links, there))
+}
+
+#[test]
+fn forgets_what_it_is_told_to(rt: HostRuntime) -> Result<(), Fail> {
+    for (name, call, there) in [
+        ("below", Call::Forget((1, Kind::Log, 0, 0)), "xxxxxxxxxx"),
+        ("at", Call::Forget((1, Kind::Log, 0, 1)), ".xxxxxxxxx"),
+        ("between", Call::Forget((1, Kind::Log, 0, 3)), "..xxxxxxxx"),
+        ("above", Call::Forget((1, Kind::Log, 0, 9)), "...xxxxxxx"),
+        ("thread 1", Call::Forget((1, Kind::Log, 1, 2)), "xxx.xxxxxx"),
+        ("outputs", Call::Forget((1, Kind::Out, 0, 2)), "xxxx.xxxxx"),
+        ("number 0", Call::Forget((2, Kind::Log, 0, 0)), "xxxxxx.xxx"),
+        (
+            "no thread",
+            Call::Forget((2, Kind::Out, 7, 9)),
+            "xxxxxxxxxx",
+        ),
+        ("epoch 1", Call::ForgetEpoch(1), "......xxxx"),
+        ("epoch 2", Call::ForgetEpoch(2), "xxxxxx...x"),
+        ("last epoch", Call::ForgetEpoch(u32::MAX), "xxxxxxxxx."),
+        ("no epoch", Call::ForgetEpoch(3), "xxxxxxxxxx"),
+    ] {
+        assert!(rt; leaves(rt.alloc(), call, there.as_bytes())?, "{name}");
+    }
+    Ok(())
+}
+
+/// What is there under the first numbers after each of these: nothing was sent, a frame was, another was, it was
+/// forgotten, and one was sent again.
+fn answers_in_turn(alloc: Global) -> Result<[Option<u8>; 5], NoMemory> {
+    let mut links = Links::new(alloc)?;
+    let none = byte_under(&links, SENT[0]);
+    send(alloc, &mut links, SENT[0], 7)?;
+    let first = byte_under(&links, SENT[0]);
+    send(alloc, &mut links, SENT[0], 8)?;
+    let second = byte_under(&links, SENT[0]);
+    links.forget_epoch(1);
+    let forgotten = byte_under(&links, SENT[0]);
+    send(alloc, &mut links, SENT[0], 9)?;
+    Ok([none, first, second, forgotten, byte_under(&links, SENT[0])])
+}
+
+#[test]
+fn fetches_what_was_last_sent(rt: HostRuntime) -> Result<(), Fail> {
+    let answers = answers_in_turn(rt.alloc())?;
+    assert_eq!(rt; answers, [None, Some(7), Some(8), None, Some(9)]);
+    Ok(())
+}
