@@ -8,7 +8,7 @@ use Rattle.std.specs.List.{list_all}
 use Rattle.std.proofs.lemmas.Bool.Decides.{nat_tests}
 use Rattle.plain_text.specs.declared.fault.LineCause.{LineCause}
 use Rattle.plain_text.specs.declared.fault.LineCause.TheVariants.{UnknownWord}
-use Rattle.plain_text.specs.Grammar.{Place, Row, value_at, index_in, misfit, is_within, row_named, PlacesSay, LineSays, form_at, form_fault, range_fault, row_fault, or_else, line_fault}
+use Rattle.plain_text.specs.Grammar.{Place, Row, value_at, index_in, misfit, is_within, row_named, PlacesSay, form_at, form_fault, range_fault, row_fault, or_else}
 use Rattle.plain_text.specs.Lines.{is_number, number_of}
 use Rattle.plain_text.proofs.Rows.{says_no_fault, one_reading}
 use Rattle.recovery_world.specs.declared.event.Event.{Event}
@@ -21,7 +21,7 @@ use Rattle.script_text.specs.declared.part.Part.{Part}
 use Rattle.script_text.specs.declared.part.Part.TheVariants.{Number, Equals, Kind}
 use Rattle.script_text.specs.Table.{form_named, forms, has_third, kind_words, parts_of, place_of, row_of, rows_for, word_of}
 use Rattle.script_text.specs.Scripts.{form_of, values_of, kind_value, SaysEvent, event_fault}
-use Rattle.script_text.specs.Values.{and_values, onto_values, value_or_misfit, values_at, kind_from, event_from}
+use Rattle.script_text.specs.Values.{and_values, value_or_misfit, values_at, kind_from, event_from}
 
 -- A value that has the form of its place is in its range
 

@@ -1,5 +1,5 @@
 -- What was written is read back: a text of the lines of events is their script.
-use Rattle.std.proofs.Common.{◌≡◌, ℕ, zero, suc, ◌+◌, ◌-◌, ◌^◌, ◌<◌, ◌≤◌, ◌==◌, arith, List, [], ◌∷◌, ◌++◌, length, refl, sym, ap, ◌∙◌, subst, Option, Some, None, true, false, Bool, cond, append_assoc, length-append}
+use Rattle.std.proofs.Common.{◌≡◌, ℕ, zero, suc, ◌+◌, ◌-◌, ◌^◌, ◌<◌, ◌≤◌, ◌==◌, arith, List, [], ◌∷◌, ◌++◌, length, refl, sym, ap, ◌∙◌, subst, Some, None, true, false, Bool, cond, append_assoc}
 use Rattle.std.specs.Prelude.{◌&&◌, ◌≢◌, codes, decimal, filter, map, nat_lt, nat_le, slice_index}
 use Rattle.std.specs.Char.{is_ascii_digit}
 use Rattle.std.specs.List.{list_all, slice_split, onto_first, enumerate_from}
@@ -11,7 +11,7 @@ use Rattle.std.proofs.lemmas.Fmt.{decimal_is_IsNumeral, length-decimal-le}
 use Rattle.std.proofs.lemmas.List.Splits.{slice_split-cons_yes, slice_split-cons_no}
 use Rattle.std.proofs.lemmas.Str.Parse.{digit_from_value}
 use Rattle.plain_text.specs.Grammar.{PlacesSay}
-use Rattle.plain_text.specs.Lines.{is_blank, words_of, words_count, counted_from, is_number, number_of}
+use Rattle.plain_text.specs.Lines.{is_blank, words_of, words_count, counted_from, number_of}
 use Rattle.recovery_world.specs.declared.event.Event.{Event}
 use Rattle.recovery_world.specs.declared.event.Event.TheVariants as event
 use Rattle.recovery_world.specs.declared.event.Kind.{Kind as EventKind}
@@ -21,10 +21,9 @@ use Rattle.script_text.specs.declared.form.Form.{Form}
 use Rattle.script_text.specs.declared.form.Form.TheVariants.{Feed, Time, Step, Answered, Log, Out, Late, Cut, Snap, Store, Crash, Recover, Show, Settle, Auto}
 use Rattle.script_text.specs.declared.part.Part.{Part}
 use Rattle.script_text.specs.declared.part.Part.TheVariants.{Number, Equals, Kind}
-use Rattle.script_text.specs.Table.{form_named, has_third, kind_words, parts_of, place_of, word_of}
+use Rattle.script_text.specs.Table.{form_named, has_third, parts_of, place_of, word_of}
 use Rattle.script_text.specs.Scripts.{form_of, values_of, kind_value, SaysEvent, Begins, IsScript, AreNumbers, FitWords, script_text}
-use Rattle.script_text.specs.Values.{kind_from, event_from}
-use Rattle.script_text.proofs.OneLine.{number_within, says_from, event_back, kind_made}
+use Rattle.script_text.proofs.OneLine.{number_within, says_from, event_back}
 
 -- Lists of bytes that are all above one
 
@@ -252,9 +251,9 @@ line_says ev f =
     let are = event_spelled ev f in
     let count = length_spellings (parts_of (form_of ev)) (values_of ev) are in
     let named : form_named (has_third (line_words ev)) (word_of (form_of ev)) ≡ Some (form_of ev) =
-      ap (λ (n : ℕ). form_named (nat_lt 2 (suc n)) (word_of (form_of ev))) count ∙ form_back (form_of ev) in
+    ap (λ (n : ℕ). form_named (nat_lt 2 (suc n)) (word_of (form_of ev))) count ∙ form_back (form_of ev) in
     subst (SaysEvent (line_words ev)) (event_back ev)
-      (says_from (word_of (form_of ev)) (spellings (parts_of (form_of ev)) (values_of ev)) (form_of ev) (values_of ev) named (parts_say (parts_of (form_of ev)) (values_of ev) are))
+    (says_from (word_of (form_of ev)) (spellings (parts_of (form_of ev)) (values_of ev)) (form_of ev) (values_of ev) named (parts_say (parts_of (form_of ev)) (values_of ev) are))
 
 -- And they are what is written
 

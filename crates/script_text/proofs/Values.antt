@@ -4,7 +4,7 @@ use Rattle.std.specs.Prelude.{Result, map}
 use Rattle.std.proofs.lemmas.List.{drop_more, take_more_set}
 use Rattle.plain_text.specs.declared.fault.LineCause.{LineCause}
 use Rattle.plain_text.specs.declared.fault.LineCause.TheVariants.{MissingWord}
-use Rattle.plain_text.specs.Grammar.{Place, value_at}
+use Rattle.plain_text.specs.Grammar.{value_at}
 use Rattle.script_text.specs.declared.part.Part.{Part}
 use Rattle.script_text.specs.declared.part.Part.TheVariants.{Number}
 use Rattle.script_text.specs.Table.{place_of}

@@ -114,6 +114,18 @@ too_many text events x = (
         let all = h.many in
         omega arith
 
+pub too_many_before : (text : List ℕ) (number : ℕ) (cause : LineCause) (first : FirstFault text number cause) → HasTooMany text ↔ (MOST_EVENTS < count_of first.events)
+too_many_before text number cause first = (
+  λ h. many h,
+  λ m. record { events = first.events; rest = (number, first.line) ∷ first.rest; begins = first.begins; many = m },
+)
+  where
+    many : HasTooMany text → MOST_EVENTS < count_of first.events
+    many h =
+        let few = few_before (counted_lines text) first.events h.events ((number, first.line) ∷ first.rest) h.rest first.begins (cause, first.fault) h.begins in
+        let all = h.many in
+        omega arith
+
 -- As the reader finds it
 
 -- where the events before the first fault are few, no first lines have too many
@@ -128,8 +140,7 @@ pub faulty : (text : List ℕ) (events : List Event) (room number : ℕ) (line :
     → room + count_of events ≡ MOST_EVENTS → all ≡ (number, line) ∷ rest → event_fault (words_of line) ≡ Some cause
     → FirstFault text number cause × (HasTooMany text → ⊥)
 faulty text events room number line all rest cause b left front fault =
-    let begins : Begins (counted_lines text) events ((number, line) ∷ rest) = subst (Begins (counted_lines text) events) front b in
-    (
+    let begins : Begins (counted_lines text) events ((number, line) ∷ rest) = subst (Begins (counted_lines text) events) front b in (
       record { events = events; line = line; rest = rest; begins = begins; fault = fault },
       few_enough text events (number, line) rest cause begins fault (omega arith),
     )

@@ -1,7 +1,6 @@
 ghost use Rattle.std.specs.Prelude.{◌≡◌, ◌≤◌, length};
 ghost use Rattle.script_text.specs.Choosing.{chosen_event, number_before};
 
-
 use recovery_world::Event;
 
 /// The event that two random words choose, where the lists have the numbers of entries and of outputs of each thread.

@@ -109,12 +109,34 @@ impl Form {
         match self {
             Form::Feed => Event::Feed(a),
             Form::Time => Event::Time(a),
-            Form::Step => Event::Step { thread: a, answer: None },
-            Form::Answered => Event::Step { thread: a, answer: Some(c) },
-            Form::Log => Event::Log { thread: a, number: b },
-            Form::Out => Event::Out { thread: a, number: b },
-            Form::Late => Event::Late { epoch: a, kind: kind_of(b), thread: c, number: d },
-            Form::Cut => Event::Cut { kind: kind_of(a), thread: b, number: c, length: d },
+            Form::Step => Event::Step {
+                thread: a,
+                answer: None,
+            },
+            Form::Answered => Event::Step {
+                thread: a,
+                answer: Some(c),
+            },
+            Form::Log => Event::Log {
+                thread: a,
+                number: b,
+            },
+            Form::Out => Event::Out {
+                thread: a,
+                number: b,
+            },
+            Form::Late => Event::Late {
+                epoch: a,
+                kind: kind_of(b),
+                thread: c,
+                number: d,
+            },
+            Form::Cut => Event::Cut {
+                kind: kind_of(a),
+                thread: b,
+                number: c,
+                length: d,
+            },
             Form::Snap => Event::Snap,
             Form::Store => Event::Store,
             Form::Crash => Event::Crash,

@@ -7,9 +7,7 @@ ghost use Rattle.script_text.specs.Values.{values_at};
 
 use crate::form::{Form, MOST_VALUES};
 use crate::part::Part;
-use plain_text::{
-    LineCause, LineFault, MOST_EVENTS, ReadError, Sequence, WordIter, lines, words,
-};
+use plain_text::{LineCause, LineFault, MOST_EVENTS, ReadError, Sequence, WordIter, lines, words};
 use recovery_world::Event;
 use std::alloc::Global;
 use std::mem::size_of;

@@ -1,6 +1,7 @@
 ghost use Rattle.std.specs.Prelude.{◌≡◌, ◌++◌, codes, IfOk, OnOk};
 ghost use Rattle.std.specs.String.{string_bytes};
 ghost use Rattle.recovery_world.specs.Files.{one, two, kind_word, given_words, event_words};
+ghost use Rattle.script_text.specs.Scripts.{AreNumbers, values_of};
 
 use plain_text::{NoMemory, Text, put_decimal};
 use recovery_world::{Event, Kind};
@@ -8,7 +9,8 @@ use std::alloc::Global;
 
 /// The line of an event, without the line feed: one space between words, and no leading zeros.
 pub fn put_event(alloc: Global, event: &Event) -> Result<Text, NoMemory>
-    ensures { IfOk result (λ text. text ≡ event_words event.now) }
+    ensures line { IfOk result (λ text. text ≡ event_words event.now) }
+    ensures fits { AreNumbers (values_of event.now) }
 {
     let mut text = String::new(alloc);
     put_words(&mut text, *event)?;
@@ -17,7 +19,9 @@ pub fn put_event(alloc: Global, event: &Event) -> Result<Text, NoMemory>
 
 /// Appends the line of an event.
 fn put_words(text: &mut String, event: Event) -> Result<(), NoMemory>
-    ensures { OnOk result (string_bytes text.new ≡ string_bytes text.old ++ event_words event) }
+    ensures line { OnOk result
+        (string_bytes text.new ≡ string_bytes text.old ++ event_words event) }
+    ensures fits { AreNumbers (values_of event) }
 {
     match event {
         Event::Feed(n) => put_one(text, "feed ", n),
@@ -25,12 +29,22 @@ fn put_words(text: &mut String, event: Event) -> Result<(), NoMemory>
         Event::Step { thread, answer } => put_step(text, thread, answer),
         Event::Log { thread, number } => put_two(text, "log ", thread, " ", number),
         Event::Out { thread, number } => put_two(text, "out ", thread, " ", number),
-        Event::Late { epoch, kind, thread, number } => {
+        Event::Late {
+            epoch,
+            kind,
+            thread,
+            number,
+        } => {
             put_one(text, "late ", epoch)?;
             text.push_str(" ")?;
             put_two(text, word_of(kind), thread, " ", number)
         }
-        Event::Cut { kind, thread, number, length } => {
+        Event::Cut {
+            kind,
+            thread,
+            number,
+            length,
+        } => {
             text.push_str("cut ")?;
             put_two(text, word_of(kind), thread, " ", number)?;
             put_one(text, " ", length)

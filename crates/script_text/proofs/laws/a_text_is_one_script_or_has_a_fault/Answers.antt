@@ -1,4 +1,4 @@
-use Rattle.script_text.proofs.WholeText.{either, not_both, one_script, one_fault, too_many}
+use Rattle.script_text.proofs.WholeText.{either, not_both, one_script, one_fault, too_many, too_many_before}
 use Rattle.script_text.proofs.laws.a_text_is_one_script_or_has_a_fault.Goals as goal
 
 pub returns-clause-either : goal.returns-clause-either
@@ -15,3 +15,6 @@ returns-clause-one_fault c = one_fault
 
 pub returns-clause-too_many : goal.returns-clause-too_many
 returns-clause-too_many c = too_many
+
+pub returns-clause-too_many_before : goal.returns-clause-too_many_before
+returns-clause-too_many_before c = too_many_before

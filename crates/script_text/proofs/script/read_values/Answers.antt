@@ -1,4 +1,4 @@
-use Rattle.std.proofs.Common.{rules, ◌≡◌, ◌+◌, length, slice_set, take, arith}
+use Rattle.std.proofs.Common.{rules, ◌≡◌, length, slice_set, take, arith}
 use Rattle.std.proofs.lemmas.Grind.{common_steps}
 use Rattle.script_text.proofs.Values.{missing, one_more}
 use Rattle.script_text.proofs.script.read_values.Goals as goal
@@ -12,5 +12,5 @@ loop-index-preserved c =
     record {
       four = four;
       comes = one_more c.loop-index.values c.args.parts.now c.loop-index.index c.in_ok-values.field-0 c.in-Some.word.now c.loop-index.words c.next.new.self _
-        c.loop-index-test.true (omega arith) (search rules) (search rules) c.loop-index.invariant.comes;
+          c.loop-index-test.true (omega arith) (search rules) (search rules) c.loop-index.invariant.comes;
     }
