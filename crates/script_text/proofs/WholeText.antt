@@ -92,15 +92,18 @@ not_both text events number cause x f =
     let same : [] ≡ (number, f.line) ∷ f.rest = (one_end (counted_lines text) events f.events [] ((number, f.line) ∷ f.rest) x tt f.begins (cause, f.fault)).1 in
     absurd (cc)
 
+one_cause : (a b : LineCause) → Some a ≡ Some b → a ≡ b
+one_cause a b e = cc
+
+one_front : (a b : Line) (r s : List Line) → a ∷ r ≡ b ∷ s → a ≡ b
+one_front a b r s e = cc
+
 pub one_fault : (text : List ℕ) (x y : ℕ) (a b : LineCause) → FirstFault text x a → FirstFault text y b → (x ≡ y) × (a ≡ b)
 one_fault text x y a b f g =
-    let same : (x, f.line) ∷ f.rest ≡ (y, g.line) ∷ g.rest = (one_end (counted_lines text) f.events g.events ((x, f.line) ∷ f.rest) ((y, g.line) ∷ g.rest) f.begins (a, f.fault) g.begins (b, g.fault)).1 in
-    let pair : (x, f.line) ≡ (y, g.line) = cc in
+    let ends = one_end (counted_lines text) f.events g.events ((x, f.line) ∷ f.rest) ((y, g.line) ∷ g.rest) f.begins (a, f.fault) g.begins (b, g.fault) in
+    let pair = one_front (x, f.line) (y, g.line) f.rest g.rest ends.1 in
     let line : f.line ≡ g.line = ap (λ (l : Line). l.1) pair in
-    let causes : Some a ≡ Some b = sym f.fault ∙ ap (λ (l : List ℕ). event_fault (words_of l)) line ∙ g.fault in
-    let number : x ≡ y = ap (λ (l : Line). l.0) pair in
-    let cause : a ≡ b = cc in
-    (number, cause)
+    (ap (λ (l : Line). l.0) pair, one_cause a b (sym f.fault ∙ ap (λ (l : List ℕ). event_fault (words_of l)) line ∙ g.fault))
 
 pub too_many : (text : List ℕ) (events : List Event) → IsScript text events → HasTooMany text ↔ (MOST_EVENTS < count_of events)
 too_many text events x = (
