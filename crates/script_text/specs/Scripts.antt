@@ -124,11 +124,12 @@ IsRefused text NoMemory = Unit {0}
 
 -- Written scripts
 
--- each number of the event is below 2^64
+-- each is below 2^64, and so may stand in a text
 abbrev pub AreNumbers : List ℕ → Type 0
 AreNumbers [] = Unit {0}
 AreNumbers (n ∷ values) = (n < 2 ^ 64) × AreNumbers values
 
+-- all numbers of these events may
 abbrev pub FitWords : List Event → Type 0
 FitWords [] = Unit {0}
 FitWords (ev ∷ events) = AreNumbers (values_of ev) × FitWords events
