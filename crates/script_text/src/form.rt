@@ -48,14 +48,14 @@ static FORMS: [Form; 15] = [
 ];
 
 impl Form {
-    /// The forms that a line may have which has a third word, or has none.
+    /// The forms of lines that have a third word, or of those that have not.
     fn all(third: bool) -> &'static [Form]
         ensures { result.now ≡ forms third }
     {
         if third { &FORMS } else { &FORMS[1..] }
     }
 
-    /// The form of a line with this first word, which has a third word, or has none.
+    /// The form of a line with this first word, if there is one; `third` says whether the line has a third word.
     pub fn named(third: bool, word: &[u8]) -> Option<Form>
         ensures { result ≡ form_named third word.now }
     {

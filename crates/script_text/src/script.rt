@@ -18,7 +18,7 @@ pub type Events = Sequence<Event>;
 // An event takes at most 48 bytes.
 const _: () = prove!(size_of::<Event>() <= 48);
 
-/// Reads a script: one event on each line that counts. It takes time and memory by the length of the text.
+/// Reads a script: one event on each line that counts. Its time and memory grow with the length of the text, and no faster.
 ///
 /// It answers `TooMany` where the events of the lines before the first faulty one, or of all lines, pass `MOST_EVENTS`; there
 /// `auto S N` counts as N events, and any other as one. Else it answers `Fault` with the first faulty line, if there is one.
