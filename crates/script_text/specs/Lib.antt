@@ -1,0 +1,4 @@
+pub mod Choosing
+pub mod Scripts
+pub mod Table
+pub mod Values

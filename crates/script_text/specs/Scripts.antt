@@ -1,0 +1,140 @@
+-- Scripts. Each line that counts says one event, in order; where a line says none, the first such line is the fault.
+use Rattle.std.specs.Prelude.{◌≡◌, ℕ, ◌+◌, ◌<◌, ◌^◌, List, [], ◌∷◌, ◌++◌, codes, Option, Some, None}
+use Rattle.plain_text.specs.declared.fault.LineCause.{LineCause}
+use Rattle.plain_text.specs.declared.fault.ReadError.{ReadError}
+use Rattle.plain_text.specs.declared.fault.ReadError.TheVariants.{Fault, TooMany, NoMemory}
+use Rattle.plain_text.specs.declared.limit.TheConstants.{MOST_EVENTS}
+use Rattle.plain_text.specs.Grammar.{LineSays, line_fault}
+use Rattle.plain_text.specs.Lines.{counted_lines, words_of}
+use Rattle.recovery_world.specs.declared.event.Event.{Event}
+use Rattle.recovery_world.specs.declared.event.Event.TheVariants as event
+use Rattle.recovery_world.specs.declared.event.Kind.{Kind}
+use Rattle.recovery_world.specs.declared.event.Kind.TheVariants as kind
+use Rattle.recovery_world.specs.Files.{event_words}
+use Rattle.script_text.specs.declared.form.Form.{Form}
+use Rattle.script_text.specs.declared.form.Form.TheVariants as form
+use Rattle.script_text.specs.Table.{row_of, rows_for}
+
+-- Of one line
+
+-- the form of an event's line
+abbrev pub form_of : Event → Form
+form_of (event.Feed n) = form.Feed
+form_of (event.Time n) = form.Time
+form_of (event.Step t None) = form.Step
+form_of (event.Step t (Some answer)) = form.Answered
+form_of (event.Log t n) = form.Log
+form_of (event.Out t j) = form.Out
+form_of (event.Late e k t n) = form.Late
+form_of (event.Cut k t n length) = form.Cut
+form_of event.Snap = form.Snap
+form_of event.Store = form.Store
+form_of event.Crash = form.Crash
+form_of event.Recover = form.Recover
+form_of (event.Show v) = form.Show
+form_of event.Settle = form.Settle
+form_of (event.Auto seed n) = form.Auto
+
+-- the place of a kind's word among the words of the kinds
+abbrev pub kind_value : Kind → ℕ
+kind_value kind.Log = 0
+kind_value kind.Out = 1
+
+-- the values at the places of its line; the sign `=` has the value 0
+abbrev pub values_of : Event → List ℕ
+values_of (event.Feed n) = n ∷ []
+values_of (event.Time n) = n ∷ []
+values_of (event.Step t None) = t ∷ []
+values_of (event.Step t (Some answer)) = t ∷ 0 ∷ answer ∷ []
+values_of (event.Log t n) = t ∷ n ∷ []
+values_of (event.Out t j) = t ∷ j ∷ []
+values_of (event.Late e k t n) = e ∷ kind_value k ∷ t ∷ n ∷ []
+values_of (event.Cut k t n length) = kind_value k ∷ t ∷ n ∷ length ∷ []
+values_of event.Snap = []
+values_of event.Store = []
+values_of event.Crash = []
+values_of event.Recover = []
+values_of (event.Show v) = v ∷ []
+values_of event.Settle = []
+values_of (event.Auto seed n) = seed ∷ n ∷ []
+
+-- a line with these words says this event
+abbrev pub SaysEvent : List (List ℕ) → Event → Type 0
+SaysEvent words ev = LineSays (rows_for words) words (row_of (form_of ev)) (values_of ev)
+
+-- the first fault of a line with these words
+abbrev pub event_fault : List (List ℕ) → Option LineCause
+event_fault words = line_fault (rows_for words) words
+
+-- Of a text
+
+-- the lines, each with its number, say these events, one each, in order, and then the rest follows
+abbrev pub Begins : List (ℕ × List ℕ) → List Event → List (ℕ × List ℕ) → Type 0
+Begins lines [] rest = lines ≡ rest
+Begins [] (ev ∷ events) rest = ⊥
+Begins (line ∷ lines) (ev ∷ events) rest = SaysEvent (words_of line.1) ev × Begins lines events rest
+
+-- a text is the script of these events
+abbrev pub IsScript : List ℕ → List Event → Type 0
+IsScript text events = Begins (counted_lines text) events []
+
+-- the line with this number has this fault, and each line before it says an event
+pub record FirstFault (text : List ℕ) (number : ℕ) (cause : LineCause) : Type 0 where
+  pub events : List Event
+  pub line : List ℕ
+  pub rest : List (ℕ × List ℕ)
+  pub begins : Begins (counted_lines text) events ((number, line) ∷ rest)
+  pub fault : event_fault (words_of line) ≡ Some cause
+
+-- How many
+
+-- `auto S N` counts as N events, and any other as one
+abbrev pub weight : Event → ℕ
+weight (event.Feed n) = 1
+weight (event.Time n) = 1
+weight (event.Step t answer) = 1
+weight (event.Log t n) = 1
+weight (event.Out t j) = 1
+weight (event.Late e k t n) = 1
+weight (event.Cut k t n length) = 1
+weight event.Snap = 1
+weight event.Store = 1
+weight event.Crash = 1
+weight event.Recover = 1
+weight (event.Show v) = 1
+weight event.Settle = 1
+weight (event.Auto seed n) = n
+
+abbrev pub count_of : List Event → ℕ
+count_of [] = 0
+count_of (ev ∷ events) = weight ev + count_of events
+
+-- the events of the first lines pass the limit, before any line with a fault
+pub record HasTooMany (text : List ℕ) : Type 0 where
+  pub events : List Event
+  pub rest : List (ℕ × List ℕ)
+  pub begins : Begins (counted_lines text) events rest
+  pub many : MOST_EVENTS < count_of events
+
+-- what an error says of a text
+abbrev pub IsRefused : List ℕ → ReadError → Type 0
+IsRefused text (Fault fault) = FirstFault text fault.line fault.cause × (HasTooMany text → ⊥)
+IsRefused text TooMany = HasTooMany text
+IsRefused text NoMemory = Unit {0}
+
+-- Written scripts
+
+-- each is below 2^64, and so may stand in a text
+abbrev pub AreNumbers : List ℕ → Type 0
+AreNumbers [] = Unit {0}
+AreNumbers (n ∷ values) = (n < 2 ^ 64) × AreNumbers values
+
+-- all numbers of these events may
+abbrev pub FitWords : List Event → Type 0
+FitWords [] = Unit {0}
+FitWords (ev ∷ events) = AreNumbers (values_of ev) × FitWords events
+
+-- the lines of these events, each with a line feed
+abbrev pub script_text : List Event → List ℕ
+script_text [] = []
+script_text (ev ∷ events) = event_words ev ++ codes "\n" ++ script_text events

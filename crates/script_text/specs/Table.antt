@@ -1,0 +1,77 @@
+-- The lines of scripts, as a table: the first word of each form of line, and what stands at the places after it.
+use Rattle.std.specs.Prelude.{ℕ, ◌-◌, ◌^◌, Bool, true, false, List, [], ◌∷◌, length, map, codes, nat_lt, find, Option}
+use Rattle.std.specs.Str.{bytes_eq}
+use Rattle.plain_text.specs.Grammar.{Place, Row, OneOf}
+use Rattle.plain_text.specs.Grammar as place
+use Rattle.script_text.specs.declared.form.Form.{Form}
+use Rattle.script_text.specs.declared.form.Form.TheVariants.{Feed, Time, Step, Answered, Log, Out, Late, Cut, Snap, Store, Crash, Recover, Show, Settle, Auto}
+use Rattle.script_text.specs.declared.part.Part.{Part}
+use Rattle.script_text.specs.declared.part.Part.TheVariants.{Number, Equals, Kind}
+
+-- the words of the kinds, in the order of their values
+abbrev pub kind_words : List (List ℕ)
+kind_words = codes "log" ∷ codes "out" ∷ []
+
+-- what may stand at a place: any number below 2^64, the sign `=`, or the word of a kind
+abbrev pub place_of : Part → Place
+place_of Number = place.Number 0 (2 ^ 64 - 1)
+place_of Equals = OneOf (codes "=" ∷ [])
+place_of Kind = OneOf kind_words
+
+abbrev pub word_of : Form → List ℕ
+word_of Feed = codes "feed"
+word_of Time = codes "time"
+word_of Step = codes "step"
+word_of Answered = codes "step"
+word_of Log = codes "log"
+word_of Out = codes "out"
+word_of Late = codes "late"
+word_of Cut = codes "cut"
+word_of Snap = codes "snap"
+word_of Store = codes "store"
+word_of Crash = codes "crash"
+word_of Recover = codes "recover"
+word_of Show = codes "show"
+word_of Settle = codes "settle"
+word_of Auto = codes "auto"
+
+abbrev pub parts_of : Form → List Part
+parts_of Feed = Number ∷ []
+parts_of Time = Number ∷ []
+parts_of Step = Number ∷ []
+parts_of Answered = Number ∷ Equals ∷ Number ∷ []
+parts_of Log = Number ∷ Number ∷ []
+parts_of Out = Number ∷ Number ∷ []
+parts_of Late = Number ∷ Kind ∷ Number ∷ Number ∷ []
+parts_of Cut = Kind ∷ Number ∷ Number ∷ Number ∷ []
+parts_of Snap = []
+parts_of Store = []
+parts_of Crash = []
+parts_of Recover = []
+parts_of Show = Number ∷ []
+parts_of Settle = []
+parts_of Auto = Number ∷ Number ∷ []
+
+-- each may stand again
+abbrev pub row_of : Form → Row
+row_of form = record { word = word_of form; places = map place_of (parts_of form); again = true }
+
+-- The forms that a line may have. A line `step` with a third word gives an answer, and one without does not; so the forms are
+-- those of lines with a third word, or of lines without.
+
+abbrev pub short_forms : List Form
+short_forms = Step ∷ Feed ∷ Time ∷ Log ∷ Out ∷ Late ∷ Cut ∷ Snap ∷ Store ∷ Crash ∷ Recover ∷ Show ∷ Settle ∷ Auto ∷ []
+
+abbrev pub forms : Bool → List Form
+forms false = short_forms
+forms true = Answered ∷ short_forms
+
+abbrev pub form_named : Bool → List ℕ → Option Form
+form_named third word = find (λ form. bytes_eq word (word_of form)) (forms third)
+
+abbrev pub has_third : List (List ℕ) → Bool
+has_third words = nat_lt 2 (length words)
+
+-- the table that judges a line with these words
+abbrev pub rows_for : List (List ℕ) → List Row
+rows_for words = map row_of (forms (has_third words))

@@ -1,0 +1,18 @@
+//! Scripts: texts of events, one on each line. A text is read into its events, an event is written as its line, and two random
+//! words choose an event.
+#![tactic(auto)]
+
+mod choosing;
+mod form;
+mod laws;
+mod part;
+mod script;
+#[cfg(test)]
+mod tests;
+mod written;
+
+pub use choosing::auto_event;
+pub use laws::{a_text_is_one_script_or_has_a_fault, written_scripts_are_read};
+pub use recovery_world::{Event, Kind};
+pub use script::{Events, read_script};
+pub use written::put_event;
