@@ -13,8 +13,8 @@ use Rattle.plain_text.specs.Lines.{is_number, number_of}
 use Rattle.plain_text.proofs.Rows.{says_no_fault, one_reading}
 use Rattle.recovery_world.specs.declared.event.Event.{Event}
 use Rattle.recovery_world.specs.declared.event.Event.TheVariants as event
-use Rattle.recovery_world.specs.declared.event.Kind.{Kind as EventKind}
-use Rattle.recovery_world.specs.declared.event.Kind.TheVariants as kind
+use Rattle.plain_text.specs.declared.kind.Kind.{Kind as EventKind}
+use Rattle.plain_text.specs.declared.kind.Kind.TheVariants as kind
 use Rattle.script_text.specs.declared.form.Form.{Form}
 use Rattle.script_text.specs.declared.form.Form.TheVariants.{Feed, Time, Step, Answered, Log, Out, Late, Cut, Snap, Store, Crash, Recover, Show, Settle, Auto}
 use Rattle.script_text.specs.declared.part.Part.{Part}

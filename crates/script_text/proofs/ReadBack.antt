@@ -14,8 +14,8 @@ use Rattle.plain_text.specs.Grammar.{PlacesSay}
 use Rattle.plain_text.specs.Lines.{is_blank, words_of, words_count, counted_from, number_of}
 use Rattle.recovery_world.specs.declared.event.Event.{Event}
 use Rattle.recovery_world.specs.declared.event.Event.TheVariants as event
-use Rattle.recovery_world.specs.declared.event.Kind.{Kind as EventKind}
-use Rattle.recovery_world.specs.declared.event.Kind.TheVariants as kind
+use Rattle.plain_text.specs.declared.kind.Kind.{Kind as EventKind}
+use Rattle.plain_text.specs.declared.kind.Kind.TheVariants as kind
 use Rattle.recovery_world.specs.Files.{event_words}
 use Rattle.script_text.specs.declared.form.Form.{Form}
 use Rattle.script_text.specs.declared.form.Form.TheVariants.{Feed, Time, Step, Answered, Log, Out, Late, Cut, Snap, Store, Crash, Recover, Show, Settle, Auto}

@@ -8,8 +8,8 @@ use Rattle.plain_text.specs.Grammar.{LineSays, line_fault}
 use Rattle.plain_text.specs.Lines.{counted_lines, words_of}
 use Rattle.recovery_world.specs.declared.event.Event.{Event}
 use Rattle.recovery_world.specs.declared.event.Event.TheVariants as event
-use Rattle.recovery_world.specs.declared.event.Kind.{Kind}
-use Rattle.recovery_world.specs.declared.event.Kind.TheVariants as kind
+use Rattle.plain_text.specs.declared.kind.Kind.{Kind}
+use Rattle.plain_text.specs.declared.kind.Kind.TheVariants as kind
 use Rattle.recovery_world.specs.Files.{event_words}
 use Rattle.script_text.specs.declared.form.Form.{Form}
 use Rattle.script_text.specs.declared.form.Form.TheVariants as form

@@ -3,7 +3,8 @@ ghost use Rattle.script_text.specs.Table.{word_of, parts_of, forms, form_named};
 ghost use Rattle.script_text.specs.Values.{event_from, kind_from};
 
 use crate::part::Part;
-use recovery_world::{Event, Kind};
+use plain_text::Kind;
+use recovery_world::Event;
 
 /// A form of a script's line: its first word, and what stands after it. `step` has two forms, without an answer and with one.
 #[derive(Clone, Copy, Debug, PartialEq, Eq)]

@@ -13,6 +13,7 @@ mod written;
 
 pub use choosing::auto_event;
 pub use laws::{a_text_is_one_script_or_has_a_fault, written_scripts_are_read};
-pub use recovery_world::{Event, Kind};
+pub use plain_text::Kind;
+pub use recovery_world::Event;
 pub use script::{Events, read_script};
 pub use written::put_event;

@@ -3,8 +3,8 @@ ghost use Rattle.std.specs.String.{string_bytes};
 ghost use Rattle.recovery_world.specs.Files.{one, two, kind_word, given_words, event_words};
 ghost use Rattle.script_text.specs.Scripts.{AreNumbers, values_of};
 
-use plain_text::{NoMemory, Text, put_decimal};
-use recovery_world::{Event, Kind};
+use plain_text::{Kind, NoMemory, Text, put_decimal};
+use recovery_world::Event;
 use std::alloc::Global;
 
 /// The line of an event, without the line feed: one space between words, and no leading zeros.
