@@ -40,7 +40,7 @@ fn count_threads(threads: u32, entries: &[LogEntry]) -> u64
     }
 }
 
-/// Those of the entries that precede what the thread sends out after so many entries.
+/// Those of the entries that precede what the thread sends out after this number of its entries.
 fn entries_before(
     alloc: Global,
     entries: &[LogEntry],

@@ -17,7 +17,7 @@ fn is_no_later(e: &LogEntry, f: &LogEntry) -> bool
     e.thread < f.thread || (e.thread == f.thread && e.number <= f.number)
 }
 
-/// Whether the log of an entry of the variable, in which it stood after so many touches, has it not yet.
+/// Whether the entry is a read of the variable after as many touches as the log has of it, and is not in the log.
 fn is_read_to_come(log: &[LogEntry], var: u32, entry: &LogEntry) -> bool
     ensures { IsTrue result
         ↔ ((entry.now.what ≡ what_is.Read var (places var log.now))

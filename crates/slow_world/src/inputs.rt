@@ -73,7 +73,7 @@ pub fn input_after(packets: &[Packet], threads: u32, thread: u32, earlier: u64) 
     }
 }
 
-/// The word of the seed's generator after so many.
+/// The word of the seed's generator that comes after this number of words.
 pub fn word_after(seed: u64, drawn: u64) -> u64
     ensures { result ≡ word_of seed drawn }
 {
