@@ -1,4 +1,4 @@
-ghost use Rattle.std.specs.Prelude.{◌≡◌, ◌↔◌, ◌≤◌, IfOk, IsTrue};
+ghost use Rattle.std.specs.Prelude.{◌↔◌, ◌≤◌, IfOk, IsTrue};
 ghost use Rattle.entry_order.specs.Log.{Entry, IsIn, PrecedesOutput};
 ghost use Rattle.recovery_world.specs.Frames.{IsThreadCount, IsEntryLength, IsOutputLength};
 ghost use Rattle.slow_history.specs.Mirror.{sent_is, HasOneOf};

@@ -1,9 +1,8 @@
 ghost use Rattle.std.specs.Prelude.{◌≡◌, ℕ, ◌+◌, ◌<◌, ◌^◌, ◌↔◌, ◌⊎◌, length, IsTrue, MatchOption, Option, Some, None};
 ghost use Rattle.entry_order.specs.declared.what.What.TheVariants as what_is;
-ghost use Rattle.entry_order.specs.Log.{Entry, entries, places, IsIn};
+ghost use Rattle.entry_order.specs.Log.{Entry, places, IsIn};
 ghost use Rattle.entry_order.specs.Closed.{IsNoLater};
-ghost use Rattle.plain_machine.specs.History.{entry_of};
-ghost use Rattle.recovery_world.specs.Turns.{IsReadToCome, IsTouchToCome, IsAwaited, Awaits, HasTurn};
+ghost use Rattle.recovery_world.specs.Turns.{IsReadToCome, IsAwaited, Awaits, HasTurn};
 ghost use Rattle.slow_history.specs.Mirror.{IsTold};
 
 use crate::reading::{count_entries, count_places, is_entry};

@@ -1,4 +1,4 @@
-ghost use Rattle.std.specs.Prelude.{◌≡◌, ◌≤◌, ◌-◌, ℕ, length, take, drop, slice_get, option_copied};
+ghost use Rattle.std.specs.Prelude.{◌≡◌, ◌≤◌, ◌-◌, length, take, drop, slice_get, option_copied};
 ghost use Rattle.input_logger.specs.Inputs.{inputs_of};
 ghost use Rattle.recovery_world.specs.World.{microseconds as microseconds_of, time_after as time_is};
 ghost use Rattle.traffic_gen.specs.Generated.{word_of};
