@@ -1,4 +1,4 @@
-ghost use Rattle.std.specs.Prelude.{◌≡◌, ℕ, ◌<◌, ◌^◌};
+ghost use Rattle.std.specs.Prelude.{◌<◌};
 ghost use Rattle.box_program.specs.Count.{IsCounter};
 ghost use Rattle.recovery_tests.specs.Translator.{translator_meaning, translator_lawful};
 

@@ -3,17 +3,12 @@ use Rattle.std.proofs.Common.{◌≡◌, Bool, false, ℕ, ◌+◌, List, ◌∷
 use Rattle.std.specs.Option.{MatchOption}
 use Rattle.entry_order.specs.Log.{Entry, IsIn, entries, places}
 use Rattle.entry_order.specs.Closed.{IsNoLater}
+use Rattle.entry_order.proofs.SlowPrograms.{no_later_trans}
 use Rattle.entry_order.specs.declared.what.What.{What}
 use Rattle.entry_order.specs.declared.what.What.TheVariants.{Access, Read}
 use Rattle.recovery_world.specs.Turns.{IsReadToCome, IsTouchToCome, IsAwaited}
 use Rattle.plain_machine.specs.History.{entry_of}
 use Rattle.slow_history.specs.Mirror.{IsTold}
-
-pub no_later_trans : (e f g : Entry) → IsNoLater e f → IsNoLater f g → IsNoLater e g
-no_later_trans e f g (inl a) (inl b) = inl (omega (arith, a, b))
-no_later_trans e f g (inl a) (inr b) = inl (omega (arith, a, b.0))
-no_later_trans e f g (inr a) (inl b) = inl (omega (arith, a.0, b))
-no_later_trans e f g (inr a) (inr b) = inr (a.0 ∙ b.0, omega (arith, a.1, b.1))
 
 -- the followed reads to come, one more before them
 pub first_read_more : (x : Entry) (rest log : List Entry) (v : ℕ) (first : Option Entry) (r : Entry)

@@ -1,4 +1,4 @@
-ghost use Rattle.std.specs.Prelude.{◌≡◌, ℕ, IfOk};
+ghost use Rattle.std.specs.Prelude.{◌≡◌, IfOk};
 ghost use Rattle.slow_history.specs.Mirror.{FitsLeft, FitsMade, AllFit};
 
 use crate::{Made, MadeStep, PacketInHand, SentOut, ThreadState};

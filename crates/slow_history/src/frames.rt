@@ -1,4 +1,4 @@
-ghost use Rattle.std.specs.Prelude.{◌≡◌, ◌↔◌, ◌≤◌, IfOk, IsTrue};
+ghost use Rattle.std.specs.Prelude.{◌↔◌, ◌≤◌, IfOk, IsTrue};
 ghost use Rattle.entry_order.specs.Log.{Entry, IsIn, PrecedesOutput};
 ghost use Rattle.recovery_world.specs.Frames.{IsThreadCount, IsEntryLength, IsOutputLength};
 ghost use Rattle.slow_history.specs.Mirror.{sent_is, HasOneOf};
@@ -40,7 +40,7 @@ fn count_threads(threads: u32, entries: &[LogEntry]) -> u64
     }
 }
 
-/// Those of the entries that precede what the thread sends out after so many entries.
+/// Those of the entries that precede what the thread sends out after this number of its entries.
 fn entries_before(
     alloc: Global,
     entries: &[LogEntry],

@@ -1,4 +1,4 @@
-ghost use Rattle.std.specs.Prelude.{◌≡◌, ℕ, ◌≤◌, ◌<◌, ◌^◌, ◌↔◌, length, Option, Some, None, IfOk, IsTrue, MatchOption};
+ghost use Rattle.std.specs.Prelude.{◌≡◌, ◌≤◌, ◌<◌, ◌↔◌, length, Option, Some, None, IfOk, IsTrue, MatchOption};
 ghost use Rattle.entry_order.specs.Log.{Entry, entries, places, touches, IsIn};
 ghost use Rattle.plain_machine.specs.History.{log_of as log_is, sent_of, outputs, thread_after, start_thread, value_after as value_is};
 ghost use Rattle.plain_machine.specs.Agree.{SendsAfter};

@@ -1,9 +1,8 @@
 ghost use Rattle.std.specs.Prelude.{◌≡◌, ℕ, ◌+◌, ◌<◌, ◌^◌, ◌↔◌, ◌⊎◌, length, IsTrue, MatchOption, Option, Some, None};
 ghost use Rattle.entry_order.specs.declared.what.What.TheVariants as what_is;
-ghost use Rattle.entry_order.specs.Log.{Entry, entries, places, IsIn};
+ghost use Rattle.entry_order.specs.Log.{Entry, places, IsIn};
 ghost use Rattle.entry_order.specs.Closed.{IsNoLater};
-ghost use Rattle.plain_machine.specs.History.{entry_of};
-ghost use Rattle.recovery_world.specs.Turns.{IsReadToCome, IsTouchToCome, IsAwaited, Awaits, HasTurn};
+ghost use Rattle.recovery_world.specs.Turns.{IsReadToCome, IsAwaited, Awaits, HasTurn};
 ghost use Rattle.slow_history.specs.Mirror.{IsTold};
 
 use crate::reading::{count_entries, count_places, is_entry};
@@ -17,7 +16,7 @@ fn is_no_later(e: &LogEntry, f: &LogEntry) -> bool
     e.thread < f.thread || (e.thread == f.thread && e.number <= f.number)
 }
 
-/// Whether the log of an entry of the variable, in which it stood after so many touches, has it not yet.
+/// Whether the entry is a read of the variable after as many touches as the log has of it, and is not in the log.
 fn is_read_to_come(log: &[LogEntry], var: u32, entry: &LogEntry) -> bool
     ensures { IsTrue result
         ↔ ((entry.now.what ≡ what_is.Read var (places var log.now))

@@ -32,7 +32,7 @@ Goes w t progress.Stuck new = new ≡ w
 Goes w t progress.Quiet new = GoesOne w t progress.Quiet new
 Goes w t (progress.Logged e) new = GoesOne w t (progress.Logged e) new
 
--- the thread went on quietly until it had sent out so many packets
+-- the thread went on quietly until it had sent out this number of packets
 pub record SendsOut {V : Type 0} (w : World V) (t many : ℕ) (new : World V) : Type 0 where
   pub goes_on : GoesOn t many w.past new.past
   pub new_is : new ≡ with_past w new.past
@@ -58,7 +58,7 @@ pub record IsLedOn {V : Type 0} (w : World V) (new : World V) : Type 0 where
   pub led : IsLed w.past more new.past
   pub new_is : new ≡ with_past w new.past
 
--- the newest entries of the world, those before which it had so many others, were made by weight, then thread
+-- the newest entries of the world, all that come after this number of others, were made by weight, then thread
 abbrev pub MadeByWeight : {V : Type 0} → World V → ℕ → Type 0
 MadeByWeight w others = IsByWeight (log_of w.past) (take (length (log_of w.past) - others) (log_of w.past))
 

@@ -62,7 +62,7 @@ Happens s w ev new = (to : Outcome) × (freed : List Sent) × OnWithin s w ev to
 abbrev pub AutosNot : {V : Type 0} → Setting V → ℕ → World V → ℕ → Limit → World V → Type 0
 AutosNot s seed w n limit new = (k : ℕ) × (k < n) × Autos s seed w k new × Passes s new (chosen s seed k new) limit
 
--- the event that two words choose, where the thread has so many entries and outputs
+-- the event that two words choose, where these are the numbers of the thread's entries and outputs
 abbrev pub event_by : ℕ → ℕ → ℕ → ℕ → ℕ → Event
 event_by t entries outputs a b =
     if nat_lt (a % 32) 16 then event.Step t None

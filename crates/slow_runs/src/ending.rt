@@ -290,7 +290,7 @@ fn is_by_weight(alloc: Global, log: &[LogEntry], made: &[LogEntry]) -> Result<bo
     }
 }
 
-/// Whether the entries of the line that come after so many others were made by weight, then thread.
+/// Whether the entries of the line that come after this number of others were made by weight, then thread.
 fn made_by_weight<V>(world: &SlowWorld<V>, alloc: Global, others: usize) -> Result<bool, NoMemory>
     ensures { IfOk result (λ b. IsTrue b → MadeByWeight (world_is world.now) others) }
 {
@@ -316,7 +316,7 @@ fn greatest(thread: u32, released: &[SentOut]) -> u64
     }
 }
 
-/// The thread goes on while it sent out fewer than so many packets; whether it did not get stuck.
+/// The thread goes on while it sent out fewer packets than this number; whether it did not get stuck.
 fn send_out<P: Program>(
     world: &mut SlowWorld<P::Value>,
     alloc: Global,

@@ -83,7 +83,7 @@ fn round<P: Program>(
     }
 }
 
-/// Rounds until all threads are idle in one round, at most so many; the limit that would be passed, if any.
+/// Rounds until all threads are idle in one round, at most this number; the limit that would be passed, if any.
 fn rounds<P: Program>(
     world: &mut SlowWorld<P::Value>,
     alloc: Global,
@@ -386,7 +386,7 @@ fn choose<P: Program>(
     happen(world, alloc, program, setup, event)
 }
 
-/// What several events made of the world, which had made so many moves and released so many outputs before.
+/// What several events made of the world; before them it had made this number of moves, and released this number of outputs.
 fn summary<V>(world: &SlowWorld<V>, alloc: Global, moves: u64, released: usize) -> Reply
     ensures outcome { result.outcome ≡ outcome_is.Summary (world.now.moves - moves)
         (length world.now.released.items - released) world.now.epoch }

@@ -67,7 +67,7 @@ plays_draw {V} m past log x a place step next told same is =
       step_is = refl;
     })
 
--- the step by which a thread sends these bytes out, after so many others
+-- the step by which a thread sends these bytes out, as the one after its first n outputs
 abbrev pub sent_step : {V : Type 0} → Mover → ℕ → List ℕ → Local → Step V
 sent_step x n bytes place =
     record { thread = x.thread; act = Emitted (record { thread = x.thread; number = n + 1; input = x.taken; packet = record x.packet { bytes = bytes } }); after = holding x.taken x.packet place }

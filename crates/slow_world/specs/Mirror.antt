@@ -85,7 +85,7 @@ pub record KeepsHistories {V : Type 0} (old new : SlowWorld V) : Type 0 where
   pub stored : new.stored.items ≡ old.stored.items
   pub copy : option_map (λ c. c.items) new.copy ≡ option_map (λ c. c.items) old.copy
 
--- the frame of entry n, or of output n, of thread t in the past has so many bytes, where there are so many threads
+-- the frame of entry n, or of output n, of thread t in the past has `whole` bytes, where `threads` is the number of threads
 
 abbrev pub EntryFrame : {V : Type 0} → ℕ → World V → ℕ → ℕ → ℕ → Type 0
 EntryFrame threads w t n whole = (e : Entry) × IsEntryOf w t n e × IsEntryLength threads (log_of w.past) e whole
@@ -97,7 +97,7 @@ abbrev pub FrameOf : {V : Type 0} → ℕ → World V → Kind → ℕ → ℕ �
 FrameOf threads w kind.Log t n whole = EntryFrame threads w t n whole
 FrameOf threads w kind.Out t n whole = OutputFrame threads w t n whole
 
--- so many packets are fed, with this outcome
+-- n packets are fed, or all that are left where there are fewer, with this outcome
 abbrev pub FeedsTo : {V : Type 0} → Setting V → World V → ℕ → Outcome → World V → Type 0
 FeedsTo s w n to new = (to ≡ outcome.Total (fed_after s w n)) × (new ≡ after_feed s w n)
 

@@ -37,7 +37,7 @@ pub record PlaysNext {V : Type 0} (s : Setting V) (w : World V) (x : Mover) (giv
   pub tells : Tells s w x.thread given answer drawn (s.meaning.next x.place)
   pub plays : PlaysHand s.meaning w.past x answer step
 
--- the thread makes this step next; so many words of the generator are used then
+-- the thread makes this step next; then `drawn` words of the generator are used
 pub record IsMove {V : Type 0} (s : Setting V) (w : World V) (t : ℕ) (given : Option ℕ) (step : Step V) (drawn : ℕ) : Type 0 where
   pub turn : HandHasTurn s.meaning w.followed (log_of w.past) t (thread_after w.past t).hand
   pub answer : Option ℕ
@@ -67,6 +67,6 @@ IsFreeDraw given words drawn a now_drawn =
 abbrev pub taken_step : {V : Type 0} → Meaning V → ℕ → ℕ → Packet → Step V
 taken_step m t taken packet = record { thread = t; act = Took (taken + 1); after = holding (taken + 1) packet (m.begin packet) }
 
--- the world after a move, after which so many words of the generator are used
+-- the world after a move; then `drawn` words of the generator are used
 abbrev pub after_move : {V : Type 0} → World V → Step V → ℕ → World V
 after_move w step drawn = record w { past = step ∷ w.past; drawn = drawn; moves = w.moves + 1; bytes = w.bytes + bytes_sent step.act }

@@ -272,7 +272,7 @@ fn frame_length<V>(
     }
 }
 
-/// Of the frame of an entry or an output so many bytes arrive.
+/// The first bytes, at most this number, of the frame of an entry or an output arrive.
 fn cut_arrives<V: Drop>(
     world: &mut SlowWorld<V>,
     alloc: Global,

@@ -1,4 +1,4 @@
-ghost use Rattle.std.specs.Prelude.{◌≡◌, ℕ, ◌+◌, ◌∷◌, List, IfOk};
+ghost use Rattle.std.specs.Prelude.{◌≡◌, ◌+◌, ◌∷◌, List, IfOk};
 ghost use Rattle.plain_machine.specs.Program.{Meaning};
 ghost use Rattle.recovery_world.specs.World.{Sent, opening as opening_is};
 ghost use Rattle.recovery_world.specs.Events.{On, OnStep, OnSnap, OnStore, OnCrash, entry_outcome as outcome_is, move_outcome, bytes_sent};

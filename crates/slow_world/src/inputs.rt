@@ -1,4 +1,4 @@
-ghost use Rattle.std.specs.Prelude.{◌≡◌, ◌≤◌, ◌-◌, ℕ, length, take, drop, slice_get, option_copied};
+ghost use Rattle.std.specs.Prelude.{◌≡◌, ◌≤◌, ◌-◌, length, take, drop, slice_get, option_copied};
 ghost use Rattle.input_logger.specs.Inputs.{inputs_of};
 ghost use Rattle.recovery_world.specs.World.{microseconds as microseconds_of, time_after as time_is};
 ghost use Rattle.traffic_gen.specs.Generated.{word_of};
@@ -73,7 +73,7 @@ pub fn input_after(packets: &[Packet], threads: u32, thread: u32, earlier: u64) 
     }
 }
 
-/// The word of the seed's generator after so many.
+/// The word of the seed's generator that comes after this number of words.
 pub fn word_after(seed: u64, drawn: u64) -> u64
     ensures { result ≡ word_of seed drawn }
 {

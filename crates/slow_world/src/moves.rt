@@ -1,6 +1,5 @@
-ghost use Rattle.std.specs.Prelude.{◌≡◌, ℕ, ◌<◌, ◌^◌, length, List, Option, Some, None, IfOk};
+ghost use Rattle.std.specs.Prelude.{◌≡◌, ◌<◌, ◌^◌, length, List, Option, Some, None, IfOk};
 ghost use Rattle.plain_machine.specs.declared.local.Move.TheVariants as move_is;
-ghost use Rattle.entry_order.specs.declared.what.What.TheVariants as what_is;
 ghost use Rattle.plain_machine.specs.History.{Step, log_of as log_is, entry_of};
 ghost use Rattle.slow_history.specs.declared.history.Made.TheVariants as made_is;
 ghost use Rattle.slow_history.specs.Mirror.{history, step_is, AllFit, FitsMade};

@@ -1,7 +1,6 @@
 ghost use Rattle.std.specs.Prelude.{◌≡◌, ◌++◌, ◌↔◌, ◌⊎◌, IsTrue, IfOk, MatchOption};
 ghost use Rattle.entry_order.specs.Log.{IsIn};
 ghost use Rattle.entry_order.specs.Closed.{IsDue, IsFirstMissing};
-ghost use Rattle.recovery_world.specs.World.{Sent};
 ghost use Rattle.recovery_world.specs.Events.{Parts};
 ghost use Rattle.slow_history.specs.Mirror.{sents, names};
 ghost use Rattle.slow_world.specs.Mirror.{HasOneOf};

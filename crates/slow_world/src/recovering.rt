@@ -1,4 +1,4 @@
-ghost use Rattle.std.specs.Prelude.{◌≡◌, ℕ, ◌+◌, ◌≤◌, ◌++◌, ◌↔◌, length, IfOk};
+ghost use Rattle.std.specs.Prelude.{◌≡◌, ◌+◌, ◌≤◌, ◌++◌, ◌↔◌, length, IfOk};
 ghost use Rattle.entry_order.specs.Log.{Entry, IsIn};
 ghost use Rattle.entry_order.specs.Stamps.{IsCount};
 ghost use Rattle.entry_order.specs.Closed.{IsClosedPart};

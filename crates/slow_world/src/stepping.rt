@@ -1,5 +1,5 @@
 ghost use Rattle.std.specs.Prelude.{◌≡◌, ℕ, ◌<◌, ◌^◌, length, IfOk, Option, None, Some};
-ghost use Rattle.recovery_world.specs.Turns.{TellsClock, TellsDraw, HasTurn};
+ghost use Rattle.recovery_world.specs.Turns.{TellsClock, TellsDraw};
 ghost use Rattle.plain_machine.specs.History.{log_of as log_is, thread_after};
 ghost use Rattle.traffic_gen.specs.Generated.{word_of};
 ghost use Rattle.slow_history.specs.Mirror.{history, step_is, AllFit, FitsMade};
