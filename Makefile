@@ -19,9 +19,10 @@ build/ftmb: words := --version
 build/bench_headers: words := 1 1
 build/bench_moves: words := master 1 1
 build/bench_held: words := 1
+build/bench_scripts: words := 1
 
 # All crates that the program stands on are proved, side by side, before it is linked. The prover's output goes to build/proof.log.
-build/ftmb build/bench_headers build/bench_moves build/bench_held: build/%: $(SOURCES)
+build/ftmb build/bench_headers build/bench_moves build/bench_held build/bench_scripts: build/%: $(SOURCES)
 	scripts/build $(RT) $(JOBS) $* $(words)
 
 # The example at once, by the kit's unproved run: nothing is proved.
@@ -37,10 +38,10 @@ example: build/ftmb
 	scripts/example build/ftmb crates/ftmb/data build/example
 
 # The bytes summed and the frames rewritten in a second; the packets made and run in a second; the moves that a master makes in a
-# second, beside those of the plain player; and the log entries held in a second.
-bench: build/bench_headers build/bench_moves build/bench_held build/ftmb
+# second, beside those of the plain player; the log entries held in a second; and the lines of a script read in a second.
+bench: build/bench_headers build/bench_moves build/bench_held build/bench_scripts build/ftmb
 	scripts/bench build/bench_headers
-	scripts/bench_run build/ftmb build/bench_moves build/bench_held build/bench
+	scripts/bench_run build/ftmb build/bench_moves build/bench_held build/bench_scripts build/bench
 
 # Runs the program on captures in all four forms, and has tcpdump and Wireshark's tools read what was released; and has tshark verify
 # the checksums of generated packets.
