@@ -1,0 +1,4 @@
+pub mod Layout
+pub mod Places
+pub mod Faults
+pub mod Found
