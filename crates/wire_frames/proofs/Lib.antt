@@ -1,2 +1,3 @@
-pub mod Stamps
 pub mod FirstFailure
+pub mod Fields
+pub mod Stamps

@@ -1,9 +1,14 @@
 -- Masks, and the components that they name.
-use Rattle.std.proofs.Common.{◌≡◌, ℕ, zero, suc, ◌+◌, ◌-◌, ◌*◌, ◌/◌, ◌%◌, ◌^◌, ◌<◌, ◌≤◌, ◌==◌, ◌∙◌, Bool, true, false, not, if◌then◌else◌, List, [], ◌∷◌, ◌++◌, length, take, drop, filter, map, get_or, slice_index, set, refl, sym, ap, subst, arith, inl, inr, IsTrue, append_assoc, length-append, drop-drop}
+use Rattle.std.proofs.Common.{◌≡◌, ℕ, zero, suc, ◌+◌, ◌-◌, ◌*◌, ◌/◌, ◌%◌, ◌^◌, ◌<◌, ◌≤◌, ◌==◌, ◌∙◌, ◌⊎◌, Bool, true, false, not, if◌then◌else◌, List, [], ◌∷◌, ◌++◌, length, take, drop, filter, map, get_or, slice_index, set, refl, sym, ap, subst, arith, inl, inr, IsTrue, append_assoc, length-append, drop-drop}
 use Rattle.std.proofs.lemmas.List.{take_more_set, drop_more, drop_at, length-drop, take-append-drop}
-use Rattle.std.proofs.lemmas.Bool.{eqb-true}
-use Rattle.std.proofs.Math.Nat.{pow-suc, pow-le-pow_right}
-use Rattle.wire_frames.specs.Layout.{mask_of, nonzero}
+use Rattle.std.proofs.lemmas.Bool.{cases_lt, eqb-true}
+use Rattle.std.proofs.Math.Nat.{pow-suc, one-le-pow}
+use Rattle.byteorder.specs.Endian.{big_bytes, big_number}
+use Rattle.byteorder.specs.Numbers.{big_from-lt, big_number-reads_back}
+use Rattle.plain_text.specs.Octets.{AreBytes}
+use Rattle.plain_text.proofs.Octets.{AreBytes-drop}
+use Rattle.wire_frames.specs.Layout.{field, spelled, mask_of, nonzero, component_fields}
+use Rattle.wire_frames.proofs.Fields.{spelled_first}
 use Rattle.wire_frames.specs.Places.{number_at, is_odd, bits_set, component_at, components}
 
 pub bits_set-none : (mask : ℕ) → bits_set 0 mask ≡ 0
@@ -61,3 +66,192 @@ odd_room n rest place size some odd room =
     let one = eqb-true _ _ odd in
     let step = bits_set-step n rest some in
     omega arith
+
+-- the components that a mask names
+abbrev pub there : Bool → ℕ → List ℕ
+there true c = c ∷ []
+there false c = []
+
+abbrev pub present : ℕ → List ℕ → List ℕ
+present mask [] = []
+present mask (c ∷ cs) = there (is_odd mask) c ++ present (mask / 2) cs
+
+-- a component that the mask does not name is 0
+abbrev pub Unset : ℕ → List ℕ → Type 0
+Unset mask [] = Unit {0}
+Unset mask (c ∷ cs) = (mask % 2 ≡ 0 → c ≡ 0) × Unset (mask / 2) cs
+
+abbrev pub FitEach : List ℕ → Type 0
+FitEach [] = Unit {0}
+FitEach (c ∷ cs) = (c < 256 ^ 8) × FitEach cs
+
+pub fit_each : (cs : List ℕ) → ((u : ℕ) → slice_index cs u < 2 ^ 64) → FitEach cs
+fit_each [] fit = tt
+fit_each (c ∷ cs) fit = (fit 0, fit_each cs (λ u. fit (suc u)))
+
+parity : (n : ℕ) → (n % 2 ≡ 0) ⊎ (n % 2 ≡ 1)
+parity n = elim (cases_lt (n % 2) 1) [
+  | inl below ↦ inl (omega arith)
+  | inr above ↦ inr (omega arith)
+]
+
+-- what a mask names spells the bytes from which it was read
+pub spelled-present : (n mask : ℕ) (bytes : List ℕ) → AreBytes bytes → 8 * bits_set n mask ≤ length bytes
+    → spelled (component_fields (present mask (components n mask bytes))) ++ drop (8 * bits_set n mask) bytes ≡ bytes
+unfolding components bits_set
+spelled-present zero mask bytes are room = refl
+spelled-present (suc n) mask bytes are room = elim (parity mask) [
+  | inl even ↦
+      let room_is : 8 * (mask % 2 + bits_set n (mask / 2)) ≤ length bytes = room in
+      let same : 8 * (mask % 2 + bits_set n (mask / 2)) ≡ 8 * bits_set n (mask / 2) = omega arith in
+      let later = spelled-present n (mask / 2) bytes are (omega arith) in
+      rw (same, even) later
+  | inr odd ↦
+      let room_is : 8 * (mask % 2 + bits_set n (mask / 2)) ≤ length bytes = room in
+      let same : 8 * (mask % 2 + bits_set n (mask / 2)) ≡ 8 + 8 * bits_set n (mask / 2) = omega arith in
+      let later = spelled-present n (mask / 2) (drop 8 bytes) (AreBytes-drop 8 bytes are) (omega (arith, length-drop 8 bytes)) in
+      let front = spelled_first 8 bytes (inr (inr (inr refl))) (omega arith) are in
+      let P = spelled (component_fields (present (mask / 2) (components n (mask / 2) (drop 8 bytes)))) in
+      let behind = drop-drop (8 * bits_set n (mask / 2)) 8 bytes in
+      rw (same, odd)
+      (append_assoc (big_bytes 8 (big_number 8 bytes)) P (drop (8 + 8 * bits_set n (mask / 2)) bytes)
+      ∙ ap (λ (l : List ℕ). big_bytes 8 (big_number 8 bytes) ++ (P ++ l)) (sym behind)
+      ∙ ap (λ (l : List ℕ). big_bytes 8 (big_number 8 bytes) ++ l) later
+      ∙ ap (λ (l : List ℕ). l ++ drop 8 bytes) front
+      ∙ take-append-drop 8 bytes)
+]
+
+-- what was spelled is read again
+pub components-spelled : (mask : ℕ) (stamp more : List ℕ) → FitEach stamp → Unset mask stamp
+    → components (length stamp) mask (spelled (component_fields (present mask stamp)) ++ more) ≡ stamp
+unfolding components
+components-spelled mask [] more fit unset = refl
+components-spelled mask (c ∷ cs) more fit unset = elim (parity mask) [
+  | inl even ↦
+      let none = unset.0 even in
+      let later = components-spelled (mask / 2) cs more fit.1 unset.1 in
+      rw (even, none) (ap (λ (l : List ℕ). 0 ∷ l) later)
+  | inr odd ↦
+      let P = spelled (component_fields (present (mask / 2) cs)) in
+      let later = components-spelled (mask / 2) cs more fit.1 unset.1 in
+      let parts = append_assoc (big_bytes 8 c) P more in
+      let front : number_at 8 0 ((big_bytes 8 c ++ P) ++ more) ≡ c = ap (big_number 8) parts ∙ big_number-reads_back 8 c (P ++ more) fit.0 in
+      let behind : drop 8 ((big_bytes 8 c ++ P) ++ more) ≡ P ++ more = ap (drop 8) parts ∙ drop_at (big_bytes 8 c) (P ++ more) 8 refl in
+      let rest : components (length cs) (mask / 2) (drop 8 ((big_bytes 8 c ++ P) ++ more)) ≡ cs = ap (components (length cs) (mask / 2)) behind ∙ later in
+      rw odd (cc (front, rest))
+]
+
+-- of a mask that names what is not 0
+
+mask_parity : (b : Bool) (m : ℕ) → ((if b then 0 else 1) + 2 * m) % 2 ≡ (if b then 0 else 1)
+mask_parity true m = omega arith
+mask_parity false m = omega arith
+
+mask_half : (b : Bool) (m : ℕ) → ((if b then 0 else 1) + 2 * m) / 2 ≡ m
+mask_half true m = omega arith
+mask_half false m = omega arith
+
+pub present-mask_of : (stamp : List ℕ) → present (mask_of stamp) stamp ≡ nonzero stamp
+present-mask_of [] = refl
+present-mask_of (c ∷ cs) =
+    let later = present-mask_of cs in
+    rw (mask_parity (c == 0) (mask_of cs), mask_half (c == 0) (mask_of cs), later) (shown (c == 0))
+  where
+    shown : (b : Bool) → there ((if b then 0 else 1) == 1) c ++ nonzero cs ≡ (if not b then c ∷ nonzero cs else nonzero cs)
+    shown true = refl
+    shown false = refl
+
+pub unset-mask_of : (stamp : List ℕ) → Unset (mask_of stamp) stamp
+unset-mask_of [] = tt
+unset-mask_of (c ∷ cs) =
+    let parity_is = mask_parity (c == 0) (mask_of cs) in
+    (λ even. zero_is (c == 0) refl (sym parity_is ∙ even), rw (mask_half (c == 0) (mask_of cs)) (unset-mask_of cs))
+  where
+    zero_is : (b : Bool) → (c == 0) ≡ b → ◌≡◌ {A = ℕ} (if b then 0 else 1) 0 → c ≡ 0
+    zero_is true is even = eqb-true c 0 is
+    zero_is false is even = absurd (omega arith)
+
+pub bits_set-mask_of : (stamp : List ℕ) → bits_set (length stamp) (mask_of stamp) ≡ length (nonzero stamp)
+unfolding bits_set
+bits_set-mask_of [] = refl
+bits_set-mask_of (c ∷ cs) =
+    let later = bits_set-mask_of cs in
+    rw (mask_parity (c == 0) (mask_of cs), mask_half (c == 0) (mask_of cs), later) (shown (c == 0))
+  where
+    shown : (b : Bool) → (if b then 0 else 1) + length (nonzero cs) ≡ length (if not b then c ∷ nonzero cs else nonzero cs)
+    shown true = omega arith
+    shown false = omega arith
+
+-- of a mask that names the first k
+
+low_parity : (k : ℕ) → (2 ^ suc k - 1) % 2 ≡ 1
+low_parity k = let double = pow-suc 2 k in let some = one-le-pow k 2 (omega arith) in omega arith
+
+low_half : (k : ℕ) → (2 ^ suc k - 1) / 2 ≡ 2 ^ k - 1
+low_half k = let double = pow-suc 2 k in let some = one-le-pow k 2 (omega arith) in omega arith
+
+present_none : (stamp : List ℕ) → present 0 stamp ≡ []
+present_none [] = refl
+present_none (c ∷ cs) = present_none cs
+
+pub present-low : (k : ℕ) (stamp : List ℕ) → present (2 ^ k - 1) stamp ≡ take k stamp
+present-low zero stamp = present_none stamp
+present-low (suc k) [] = refl
+present-low (suc k) (c ∷ cs) =
+    let later = present-low k cs in
+    rw (low_parity k, low_half k, later) refl
+
+unset_none : (stamp : List ℕ) → ((u : ℕ) → slice_index stamp u ≡ 0) → Unset 0 stamp
+unset_none [] none = tt
+unset_none (c ∷ cs) none = (λ even. none 0, unset_none cs (λ u. none (suc u)))
+
+pub unset-low : (k : ℕ) (stamp : List ℕ) → ((u : ℕ) → k ≤ u → slice_index stamp u ≡ 0) → Unset (2 ^ k - 1) stamp
+unset-low zero stamp none = unset_none stamp (λ u. none u (omega arith))
+unset-low (suc k) [] none = tt
+unset-low (suc k) (c ∷ cs) none =
+    let odd = low_parity k in
+    (λ even. absurd (omega arith), rw (low_half k) (unset-low k cs (λ u past. none (suc u) (omega arith))))
+
+bits_set_none : (n : ℕ) → bits_set n 0 ≡ 0
+unfolding bits_set
+bits_set_none zero = refl
+bits_set_none (suc n) = let later = bits_set_none n in omega arith
+
+pub bits_set-low : (n k : ℕ) → k ≤ n → bits_set n (2 ^ k - 1) ≡ k
+unfolding bits_set
+bits_set-low n zero few = bits_set_none n
+bits_set-low zero (suc k) few = absurd (omega arith)
+bits_set-low (suc n) (suc k) few =
+    let later = bits_set-low n k (omega arith) in
+    rw (low_parity k, low_half k, later) (omega arith)
+
+-- of the components that were read
+
+pub length-components : (n mask : ℕ) (bytes : List ℕ) → length (components n mask bytes) ≡ n
+unfolding components
+length-components zero mask bytes = refl
+length-components (suc n) mask bytes = ap suc (length-components n (mask / 2) (drop (8 * (mask % 2)) bytes))
+
+component_fits : (b : Bool) (bytes : List ℕ) → AreBytes bytes → component_at b bytes < 2 ^ 64
+component_fits true bytes are = big_from-lt 0 8 bytes are
+component_fits false bytes are = omega arith
+
+pub components-fit : (n mask : ℕ) (bytes : List ℕ) → AreBytes bytes → (u : ℕ) → slice_index (components n mask bytes) u < 2 ^ 64
+unfolding components
+components-fit zero mask bytes are u = omega arith
+components-fit (suc n) mask bytes are zero = component_fits (is_odd mask) bytes are
+components-fit (suc n) mask bytes are (suc u) = components-fit n (mask / 2) (drop (8 * (mask % 2)) bytes) (AreBytes-drop (8 * (mask % 2)) bytes are) u
+
+-- a mask names no component past its bits
+pub components-past : (n mask k : ℕ) (bytes : List ℕ) → mask < 2 ^ k → (u : ℕ) → k ≤ u → slice_index (components n mask bytes) u ≡ 0
+unfolding components
+components-past zero mask k bytes below u past = refl
+components-past (suc n) mask zero bytes below zero past =
+    let none : mask ≡ 0 = omega arith in
+    rw none refl
+components-past (suc n) mask (suc k) bytes below zero past = absurd (omega arith)
+components-past (suc n) mask zero bytes below (suc u) past =
+    components-past n (mask / 2) zero (drop (8 * (mask % 2)) bytes) (omega arith) u (omega arith)
+components-past (suc n) mask (suc k) bytes below (suc u) past =
+    let double = pow-suc 2 k in
+    components-past n (mask / 2) k (drop (8 * (mask % 2)) bytes) (omega arith) u (omega arith)
