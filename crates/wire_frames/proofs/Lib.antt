@@ -1,3 +1,6 @@
 pub mod FirstFailure
 pub mod Fields
 pub mod Stamps
+pub mod Facts
+pub mod Whats
+pub mod Stands
