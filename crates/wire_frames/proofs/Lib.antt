@@ -4,3 +4,5 @@ pub mod Stamps
 pub mod Facts
 pub mod Whats
 pub mod Stands
+pub mod Sound
+pub mod Complete

@@ -21,7 +21,7 @@ Tells version code subject place w = (code ≡ code_of w) × (subject ≡ subjec
 access_from : (version : Version) (subject place : ℕ) (w : What) → place < 2 ^ 64 → (b : Bool) → (nat_lt subject 256 && nat_lt 0 place) ≡ b
     → (if b then Some (Access subject place) else None) ≡ Some w → Tells version 1 subject place w
 access_from version subject place w fits true is some =
-    let parts = and_parts _ _ is in
+    let parts = and_parts (nat_lt subject 256) (nat_lt 0 place) is in
     let what : Access subject place ≡ w = cc in
     let P : What → Type 0 = λ x. Tells version 1 subject place x in
     subst P what (refl, refl, refl, (ltb-true _ _ parts.0, ltb-true _ _ parts.1, fits))
