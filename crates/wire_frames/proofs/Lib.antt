@@ -6,3 +6,4 @@ pub mod Whats
 pub mod Stands
 pub mod Sound
 pub mod Complete
+pub mod Told

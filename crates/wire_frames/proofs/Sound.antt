@@ -19,7 +19,7 @@ use Rattle.wire_frames.specs.declared.frame.Frame.TheVariants as frame
 use Rattle.wire_frames.specs.Layout.{field, spelled, head, code_of, subject_of, place_of, mask_of, component_fields, packet_fields, entry_fields, output_fields, bytes_of, IsSent, IsDone, IsCaptured, IsOfRange, IsFrame, BeginsWith}
 use Rattle.wire_frames.specs.Places.{number_at, length_at, epoch_at, thread_at, code_at, count_at, subject_at, place_at, components_place, threads_at, mask_at, stamp_at, stamp_end, what_at, captured_at, packet_from, packet_at, entry_at, output_at}
 use Rattle.wire_frames.specs.Faults.{needed}
-use Rattle.wire_frames.proofs.Fields.{AreWidths, fields_at, spelled-fields_at, spelled-append}
+use Rattle.wire_frames.proofs.Fields.{IsWidth, AreWidths, fields_at, spelled-fields_at, spelled-append}
 use Rattle.wire_frames.proofs.Facts.{Facts}
 use Rattle.wire_frames.proofs.Whats.{Tells, numbers-what_from}
 use Rattle.wire_frames.proofs.Stands.{listed, mask_stands, stamp_stands, are_components}
@@ -153,9 +153,9 @@ module _ (bytes : List ℕ) (are : AreBytes bytes) where
   packet_stands version room =
       let end = stamp_end Out version bytes in
       let captured = captured_at version bytes in
-      let four = inr (inr (inl refl)) in
-      let ws = 4 ∷ 4 ∷ 4 ∷ 4 ∷ [] in
-      let whole = spelled-fields_at end ws bytes (four, (four, (four, (four, tt)))) are (omega arith) in
+      let four : IsWidth 4 = inr (inr (inl refl)) in
+      let ws : List ℕ = 4 ∷ 4 ∷ 4 ∷ 4 ∷ [] in
+      let whole : spelled (fields_at end ws bytes) ++ drop (end + 16) bytes ≡ drop end bytes = spelled-fields_at end ws bytes (four, (four, (four, (four, tt)))) are (omega arith) in
       let third : number_at 4 (end + 4 + 4) bytes ≡ number_at 4 (end + 8) bytes = ap (λ (k : ℕ). number_at 4 k bytes) (omega arith) in
       let fourth : number_at 4 (end + 4 + 4 + 4) bytes ≡ number_at 4 (end + 12) bytes = ap (λ (k : ℕ). number_at 4 k bytes) (omega arith) in
       let size : length (take captured (drop (end + 16) bytes)) ≡ captured =
