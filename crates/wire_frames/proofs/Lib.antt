@@ -7,3 +7,4 @@ pub mod Stands
 pub mod Sound
 pub mod Complete
 pub mod Told
+pub mod Whole

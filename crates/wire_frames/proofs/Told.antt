@@ -64,7 +64,7 @@ zero_is kind Two bytes threads stamp mask is = not_from_true _ (eq-eqb _ _ (ap m
 
 -- how long the fields are
 
-log_size : (version : Version) (n epoch threads : ℕ) (e : StampedEntry)
+pub log_size : (version : Version) (n epoch threads : ℕ) (e : StampedEntry)
     → length (spelled (entry_fields version n epoch threads e)) ≡ components_place Log version + 8 * length (listed version threads e.stamp)
 log_size One n epoch threads e =
     let front = head Log One n epoch e.thread (code_of e.what) e.number (subject_of e.what) ++ field 8 (place_of e.what) ∷ field 1 threads ∷ [] in
@@ -75,7 +75,7 @@ log_size Two n epoch threads e =
     let back = component_fields (listed Two threads e.stamp) in
     ap length (spelled-append front back) ∙ omega (arith, length-append (spelled front) (spelled back), length-spelled front, length-component_fields (listed Two threads e.stamp))
 
-out_size : (version : Version) (n epoch threads : ℕ) (o : Output)
+pub out_size : (version : Version) (n epoch threads : ℕ) (o : Output)
     → length (spelled (output_fields version n epoch threads o)) ≡ components_place Out version + 8 * length (listed version threads o.stamp) + 16
 out_size One n epoch threads o =
     let front = head Out One n epoch o.thread 0 o.number o.input ++ field 1 threads ∷ [] in

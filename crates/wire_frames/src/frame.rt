@@ -1,5 +1,3 @@
-ghost use Rattle.std.specs.Prelude.{◌≡◌};
-
 use access_log::{Output, StampedEntry};
 use plain_text::NoMemory;
 use thiserror::Error;
@@ -49,17 +47,23 @@ pub enum FrameError {
 }
 
 impl From<FrameFault> for FrameError {
-    fn from(fault: FrameFault) -> Self
-        ensures { result ≡ FrameError.Fault fault }
-    {
+    ghost use Rattle.std.specs.Prelude.{◌≡◌};
+    ghost use Rattle.wire_frames.specs.declared.frame.FrameError.TheVariants as error;
+
+    ghost from_gives = { λ fault e. e ≡ error.Fault fault };
+
+    fn from(fault: FrameFault) -> Self {
         FrameError::Fault(fault)
     }
 }
 
 impl From<NoMemory> for FrameError {
-    fn from(_: NoMemory) -> Self
-        ensures { result ≡ FrameError.NoMemory }
-    {
+    ghost use Rattle.std.specs.Prelude.{◌≡◌};
+    ghost use Rattle.wire_frames.specs.declared.frame.FrameError.TheVariants as error;
+
+    ghost from_gives = { λ _ e. e ≡ error.NoMemory };
+
+    fn from(_: NoMemory) -> Self {
         FrameError::NoMemory
     }
 }

@@ -1,4 +1,5 @@
 ghost use Rattle.std.specs.Prelude.{◌≡◌, ◌+◌, ◌^◌, ◌<◌, ◌≤◌, length, IfOk, IfErr, Some, None};
+ghost use Rattle.plain_text.specs.Octets.{AreBytes};
 ghost use Rattle.wire_frames.specs.Faults.{first_failure, form_tests, least, length_tests, needed, size_tests, stamp_tests, found_tests};
 ghost use Rattle.wire_frames.specs.Places.{components_place, kind_at, length_at, mask_at, stamp_end, threads_at, threads_place, version_at};
 ghost use Rattle.wire_frames.specs.Found.{layout_of};
@@ -75,6 +76,7 @@ pub(crate) fn find_layout(bytes: &[u8]) -> Result<Layout, FrameFault>
     ensures fits { IfOk result (λ layout. layout.length
         ≡ needed (kind_at bytes.now) (version_at bytes.now) bytes.now) }
     ensures mask { IfOk result (λ layout. layout.mask < 2 ^ 16) }
+    ensures bytes { AreBytes bytes.now }
     ensures fault { IfErr result (λ fault. first_failure (found_tests bytes.now) ≡ Some fault) }
 {
     let (kind, version) = read_form(bytes)?;

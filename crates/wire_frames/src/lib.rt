@@ -8,8 +8,14 @@
 mod bytes;
 mod field;
 mod frame;
+mod laws;
 mod layout;
+mod reading;
 mod stamp;
 mod values;
 
 pub use frame::{Frame, FrameError, FrameFault};
+pub use laws::{
+    no_frame_begins_another, one_frame, the_tests_are_those_of_frames, what_is_written_is_a_frame,
+};
+pub use reading::take_frame;

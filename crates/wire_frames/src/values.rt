@@ -3,12 +3,12 @@ ghost use Rattle.wire_frames.specs.declared.field.Kind.TheVariants.{Log, Out};
 ghost use Rattle.wire_frames.specs.declared.field.Version.TheVariants.{One, Two};
 ghost use Rattle.wire_frames.specs.declared.frame.FrameFault.TheVariants.{OutOfRange};
 ghost use Rattle.wire_frames.specs.Faults.{first_failure, field_tests, has_zero_component, is_not_sent, needed};
-ghost use Rattle.wire_frames.specs.Found.{common_at, layout_of, IsFieldCause};
+ghost use Rattle.wire_frames.specs.Found.{common_at, layout_of, IsFieldCause, IsReadingCause, IsTold};
 ghost use Rattle.wire_frames.specs.Layout.{mask_of};
 ghost use Rattle.wire_frames.specs.Places.{entry_at, kind_at, number_at, output_at, packet_from, stamp_at, version_at, what_at, what_from};
 
 use crate::bytes::{byte_at, u32_at, u64_at};
-use crate::field::Version;
+use crate::field::{Kind, Version};
 use crate::layout::{Layout, PACKET_HEADER};
 use crate::stamp::{mask_of, read_stamp};
 use crate::{Frame, FrameError, FrameFault};
@@ -36,8 +36,32 @@ pub(crate) struct Common {
     pub(crate) stamp: Stamp,
 }
 
+/// What is in a frame with these parts.
+pub(crate) fn read_value(
+    alloc: Global,
+    bytes: &[u8],
+    layout: &Layout,
+) -> Result<Frame, FrameError>
+    requires found { layout.now ≡ layout_of bytes.now }
+    requires whole { needed (kind_at bytes.now) (version_at bytes.now) bytes.now ≤ length bytes.now }
+    requires mask { layout.now.mask < 2 ^ 16 }
+    ensures passed { IfOk result (λ frame.
+        first_failure (field_tests (kind_at bytes.now) (version_at bytes.now) bytes.now) ≡ None) }
+    ensures value { IfOk result (IsTold (kind_at bytes.now) (version_at bytes.now) bytes.now) }
+    ensures fault { IfErr result
+        (IsReadingCause (kind_at bytes.now) (version_at bytes.now) bytes.now) }
+{
+    match layout.kind {
+        Kind::Log => match read_entry(bytes, layout) {
+            Some(frame) => Ok(frame),
+            None => Err(FrameError::Fault(FrameFault::OutOfRange)),
+        },
+        Kind::Out => read_output(alloc, bytes, layout),
+    }
+}
+
 /// The entry in a frame with these parts, unless a field is out of its range.
-pub(crate) fn read_entry(bytes: &[u8], layout: &Layout) -> Option<Frame>
+fn read_entry(bytes: &[u8], layout: &Layout) -> Option<Frame>
     requires found { layout.now ≡ layout_of bytes.now }
     requires kind { kind_at bytes.now ≡ Log }
     requires whole { needed (kind_at bytes.now) (version_at bytes.now) bytes.now ≤ length bytes.now }
@@ -69,7 +93,7 @@ pub(crate) fn read_entry(bytes: &[u8], layout: &Layout) -> Option<Frame>
 }
 
 /// The output in a frame with these parts, unless a field is out of its range.
-pub(crate) fn read_output(
+fn read_output(
     alloc: Global,
     bytes: &[u8],
     layout: &Layout,
