@@ -166,7 +166,7 @@ gives bytes (Err (error.Fault said)) frame fault f size begins =
 gives bytes (Err error.NoMemory) frame fault f size begins = tt
 
 -- what is written
-written_size : (f : Frame) → length (written f) ≡ written_length f
+pub written_size : (f : Frame) → length (written f) ≡ written_length f
 written_size (frame.Entry epoch threads e) = log_size Two (written_length (frame.Entry epoch threads e)) epoch threads e
 written_size (frame.Output epoch threads o) =
     let n = written_length (frame.Output epoch threads o) in

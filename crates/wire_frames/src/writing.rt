@@ -1,0 +1,186 @@
+ghost use Rattle.std.specs.Prelude.{◌≡◌, ◌+◌, ◌*◌, ◌^◌, ◌<◌, ◌≤◌, ◌++◌, ◌∷◌, [], ℕ, length, OnOk, OnErr, IfOk};
+ghost use Rattle.byteorder.specs.Endian.{big_bytes};
+ghost use Rattle.plain_text.specs.declared.limit.TheConstants.{MOST_CAPTURED};
+ghost use Rattle.wire_frames.specs.declared.field.Kind.TheVariants.{Log, Out};
+ghost use Rattle.wire_frames.specs.declared.field.Version.TheVariants.{Two};
+ghost use Rattle.wire_frames.specs.declared.frame.Frame.TheVariants as frame;
+ghost use Rattle.wire_frames.specs.Layout.{code_of, component_fields, nonzero, packet_fields, place_of, spelled, subject_of, written, written_length, IsFrame};
+ghost use Rattle.wire_frames.specs.Writing.{entry_front, output_front, AreNarrow, CanPutEntry, CanPutOutput};
+
+use crate::field::Field;
+use crate::stamp::{count_nonzero, mask_of};
+use access_log::{Output, StampedEntry};
+use entry_order::What;
+use plain_text::{Bytes, NoMemory, Packet};
+use std::alloc::Global;
+use thread_clock::Stamp;
+
+/// The bytes of an entry's frame that are no components, and of an output's that are neither components nor captured bytes.
+const ENTRY: usize = 39;
+
+const OUTPUT: usize = 47;
+
+/// How many bytes the frame of an entry has that `put_entry` writes: 39, and 8 for each component of its stamp that is not 0.
+pub fn entry_length(entry: &StampedEntry) -> usize
+    ensures value { result ≡ 39 + 8 * length (nonzero entry.now.stamp) }
+    ensures written { (epoch threads : ℕ)
+        → length (written (frame.Entry epoch threads entry.now)) ≡ result }
+{
+    ENTRY + 8 * count_nonzero(&entry.stamp)
+}
+
+/// How many bytes the frame of an output has that `put_output` writes: 47, 8 for each component of its stamp that is not 0, and the
+/// captured bytes.
+pub fn output_length(output: &Output) -> usize
+    requires { length output.now.packet.bytes ≤ MOST_CAPTURED }
+    ensures value { result
+        ≡ 47 + 8 * length (nonzero output.now.stamp) + length output.now.packet.bytes }
+    ensures written { (epoch threads : ℕ)
+        → length (written (frame.Output epoch threads output.now)) ≡ result }
+{
+    OUTPUT + 8 * count_nonzero(&output.stamp) + output.packet.bytes.len()
+}
+
+/// The frame of an entry of this epoch, of a sender with so many threads.
+pub fn put_entry(
+    alloc: Global,
+    epoch: u32,
+    threads: u32,
+    entry: &StampedEntry,
+) -> Result<Bytes, NoMemory>
+    requires { CanPutEntry epoch threads entry.now }
+    ensures spelled { IfOk result (λ bytes. bytes ≡ written (frame.Entry epoch threads entry.now)) }
+    ensures frame { IfOk result (λ bytes. IsFrame bytes (frame.Entry epoch threads entry.now)) }
+{
+    let size = entry_length(entry);
+    let mut frame = Bytes::from_vec(Vec::with_capacity(alloc, size)?);
+    put_fields(&mut frame, &entry_front(size as u64, epoch, threads, entry))?;
+    put_components(&mut frame, &entry.stamp)?;
+    Ok(frame)
+}
+
+/// The frame of an output of this epoch, of a sender with so many threads.
+pub fn put_output(
+    alloc: Global,
+    epoch: u32,
+    threads: u32,
+    output: &Output,
+) -> Result<Bytes, NoMemory>
+    requires { CanPutOutput epoch threads output.now }
+    ensures spelled { IfOk result (λ bytes.
+        bytes ≡ written (frame.Output epoch threads output.now)) }
+    ensures frame { IfOk result (λ bytes. IsFrame bytes (frame.Output epoch threads output.now)) }
+{
+    let size = output_length(output);
+    let mut frame = Bytes::from_vec(Vec::with_capacity(alloc, size)?);
+    put_fields(&mut frame, &output_front(size as u64, epoch, threads, output))?;
+    put_components(&mut frame, &output.stamp)?;
+    put_fields(&mut frame, &packet_fields(&output.packet))?;
+    frame.extend(output.packet.bytes.as_slice())?;
+    Ok(frame)
+}
+
+/// What an entry did, as its code, its variable or the value that was told, and its place.
+fn numbers_of(what: What) -> (u64, u64, u64)
+    ensures code { result.0 ≡ code_of what }
+    ensures subject { result.1 ≡ subject_of what }
+    ensures place { result.2 ≡ place_of what }
+{
+    match what {
+        What::Access { var, place } => (1, u64::from(var), place),
+        What::Clock(value) => (2, value, 0),
+        What::Draw(value) => (3, value, 0),
+        What::Read { var, after } => (4, u64::from(var), after),
+    }
+}
+
+/// The fields in front of an entry's components.
+fn entry_front(size: u64, epoch: u32, threads: u32, entry: &StampedEntry) -> [Field; 11]
+    ensures { result ≡ entry_front size epoch threads entry.now }
+{
+    let (code, subject, place) = numbers_of(entry.what);
+    [
+        Field { width: 1, value: 1 }, // kind
+        Field { width: 1, value: 2 }, // version
+        Field { width: 4, value: size },
+        Field { width: 4, value: u64::from(epoch) },
+        Field { width: 1, value: u64::from(entry.thread) },
+        Field { width: 1, value: code },
+        Field { width: 8, value: entry.number },
+        Field { width: 8, value: subject },
+        Field { width: 8, value: place },
+        Field { width: 1, value: u64::from(threads) },
+        Field { width: 2, value: u64::from(mask_of(&entry.stamp)) },
+    ]
+}
+
+/// The fields in front of an output's components.
+fn output_front(size: u64, epoch: u32, threads: u32, output: &Output) -> [Field; 10]
+    ensures { result ≡ output_front size epoch threads output.now }
+{
+    [
+        Field { width: 1, value: 2 }, // kind
+        Field { width: 1, value: 2 }, // version
+        Field { width: 4, value: size },
+        Field { width: 4, value: u64::from(epoch) },
+        Field { width: 1, value: u64::from(output.thread) },
+        Field { width: 1, value: 0 },
+        Field { width: 8, value: output.number },
+        Field { width: 8, value: output.input },
+        Field { width: 1, value: u64::from(threads) },
+        Field { width: 2, value: u64::from(mask_of(&output.stamp)) },
+    ]
+}
+
+/// The fields in front of a packet's captured bytes.
+fn packet_fields(packet: &Packet) -> [Field; 4]
+    ensures { result ≡ packet_fields packet.now }
+{
+    [
+        Field { width: 4, value: u64::from(packet.seconds) },
+        Field { width: 4, value: u64::from(packet.fraction) },
+        Field { width: 4, value: u64::from(packet.original) },
+        Field { width: 4, value: packet.bytes.len() as u64 },
+    ]
+}
+
+/// Appends the components that are not 0.
+fn put_components(frame: &mut Bytes, stamp: &Stamp) -> Result<(), NoMemory>
+    ensures { OnOk result (frame.new
+        ≡ frame.old ++ spelled (component_fields (nonzero stamp.now))) }
+{
+    for component in stamp.components() {
+        put_component(frame, *component)?;
+    }
+    Ok(())
+}
+
+/// Appends the component, if it is not 0.
+fn put_component(frame: &mut Bytes, component: u64) -> Result<(), NoMemory>
+    ensures { OnOk result (frame.new
+        ≡ frame.old ++ spelled (component_fields (nonzero (component ∷ [])))) }
+{
+    if component == 0 {
+        return Ok(());
+    }
+    frame.extend(&component.to_be_bytes())
+}
+
+/// Appends the bytes of fields.
+fn put_fields(frame: &mut Bytes, fields: &[Field]) -> Result<(), NoMemory>
+    requires { AreNarrow fields.now }
+    ensures { OnOk result (frame.new ≡ frame.old ++ spelled fields.now) }
+{
+    for field in fields {
+        put_field(frame, *field)?;
+    }
+    Ok(())
+}
+
+/// Appends the bytes of one field: the lowest ones of its value, the highest of them first.
+fn put_field(frame: &mut Bytes, field: Field) -> Result<(), NoMemory>
+    requires { field.width ≤ 8 }
+    ensures { OnOk result (frame.new ≡ frame.old ++ big_bytes field.width field.value) }
+{
+    frame.extend(&field.value.to_be_bytes()[8 - field.width..])
+}
