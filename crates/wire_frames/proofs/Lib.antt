@@ -8,3 +8,5 @@ pub mod Sound
 pub mod Complete
 pub mod Told
 pub mod Whole
+pub mod Ranges
+pub mod Written

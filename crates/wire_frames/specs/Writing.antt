@@ -1,5 +1,5 @@
 -- What may be written, and the parts in which it is.
-use Rattle.std.specs.Prelude.{ℕ, ◌<◌, ◌≤◌, List, ◌∷◌, ◌++◌, [], length, slice_index, ◌≡◌, All}
+use Rattle.std.specs.Prelude.{ℕ, ◌^◌, ◌<◌, ◌≤◌, List, ◌∷◌, ◌++◌, [], length, slice_index, ◌≡◌, All}
 use Rattle.plain_text.specs.declared.limit.TheConstants.{MOST_CAPTURED}
 use Rattle.entry_order.specs.declared.what.What.{What}
 use Rattle.entry_order.specs.declared.what.What.TheVariants.{Access, Read, Clock, Draw}
@@ -54,3 +54,10 @@ output_front size epoch threads o =
 -- no field is wider than a number of 64 bits
 abbrev pub AreNarrow : List Field → Type 0
 AreNarrow fields = All (λ (f : Field). f.width ≤ 8) fields
+
+-- its numbers are of 64 bits
+abbrev pub FitsWord : What → Type 0
+FitsWord (Access var place) = place < 2 ^ 64
+FitsWord (Read var after) = after < 2 ^ 64
+FitsWord (Clock value) = value < 2 ^ 64
+FitsWord (Draw value) = value < 2 ^ 64

@@ -1,11 +1,11 @@
-ghost use Rattle.std.specs.Prelude.{◌≡◌, ◌+◌, ◌*◌, ◌^◌, ◌<◌, ◌≤◌, ◌++◌, ◌∷◌, [], ℕ, length, OnOk, OnErr, IfOk};
+ghost use Rattle.std.specs.Prelude.{◌≡◌, ◌+◌, ◌*◌, ◌^◌, ◌<◌, ◌≤◌, ◌++◌, ◌∷◌, [], ℕ, length, slice_index, OnOk, OnErr, IfOk};
 ghost use Rattle.byteorder.specs.Endian.{big_bytes};
 ghost use Rattle.plain_text.specs.declared.limit.TheConstants.{MOST_CAPTURED};
 ghost use Rattle.wire_frames.specs.declared.field.Kind.TheVariants.{Log, Out};
 ghost use Rattle.wire_frames.specs.declared.field.Version.TheVariants.{Two};
 ghost use Rattle.wire_frames.specs.declared.frame.Frame.TheVariants as frame;
-ghost use Rattle.wire_frames.specs.Layout.{code_of, component_fields, nonzero, packet_fields, place_of, spelled, subject_of, written, written_length, IsFrame};
-ghost use Rattle.wire_frames.specs.Writing.{entry_front, output_front, AreNarrow, CanPutEntry, CanPutOutput};
+ghost use Rattle.wire_frames.specs.Layout.{code_of, component_fields, field, nonzero, packet_fields, place_of, spelled, subject_of, written, written_length, IsFrame};
+ghost use Rattle.wire_frames.specs.Writing.{entry_front, output_front, AreNarrow, CanPutEntry, CanPutOutput, FitsWord};
 
 use crate::field::Field;
 use crate::stamp::{count_nonzero, mask_of};
@@ -13,7 +13,6 @@ use access_log::{Output, StampedEntry};
 use entry_order::What;
 use plain_text::{Bytes, NoMemory, Packet};
 use std::alloc::Global;
-use thread_clock::Stamp;
 
 /// The bytes of an entry's frame that are no components, and of an output's that are neither components nor captured bytes.
 const ENTRY: usize = 39;
@@ -55,7 +54,7 @@ pub fn put_entry(
     let size = entry_length(entry);
     let mut frame = Bytes::from_vec(Vec::with_capacity(alloc, size)?);
     put_fields(&mut frame, &entry_front(size as u64, epoch, threads, entry))?;
-    put_components(&mut frame, &entry.stamp)?;
+    put_components(&mut frame, entry.stamp.components())?;
     Ok(frame)
 }
 
@@ -74,7 +73,7 @@ pub fn put_output(
     let size = output_length(output);
     let mut frame = Bytes::from_vec(Vec::with_capacity(alloc, size)?);
     put_fields(&mut frame, &output_front(size as u64, epoch, threads, output))?;
-    put_components(&mut frame, &output.stamp)?;
+    put_components(&mut frame, output.stamp.components())?;
     put_fields(&mut frame, &packet_fields(&output.packet))?;
     frame.extend(output.packet.bytes.as_slice())?;
     Ok(frame)
@@ -85,6 +84,7 @@ fn numbers_of(what: What) -> (u64, u64, u64)
     ensures code { result.0 ≡ code_of what }
     ensures subject { result.1 ≡ subject_of what }
     ensures place { result.2 ≡ place_of what }
+    ensures fits { FitsWord what }
 {
     match what {
         What::Access { var, place } => (1, u64::from(var), place),
@@ -96,60 +96,68 @@ fn numbers_of(what: What) -> (u64, u64, u64)
 
 /// The fields in front of an entry's components.
 fn entry_front(size: u64, epoch: u32, threads: u32, entry: &StampedEntry) -> [Field; 11]
-    ensures { result ≡ entry_front size epoch threads entry.now }
+    ensures value { result ≡ entry_front size epoch threads entry.now }
+    ensures number { entry.now.number < 2 ^ 64 }
+    ensures fits { FitsWord entry.now.what }
 {
     let (code, subject, place) = numbers_of(entry.what);
     [
-        Field { width: 1, value: 1 }, // kind
-        Field { width: 1, value: 2 }, // version
-        Field { width: 4, value: size },
-        Field { width: 4, value: u64::from(epoch) },
-        Field { width: 1, value: u64::from(entry.thread) },
-        Field { width: 1, value: code },
-        Field { width: 8, value: entry.number },
-        Field { width: 8, value: subject },
-        Field { width: 8, value: place },
-        Field { width: 1, value: u64::from(threads) },
-        Field { width: 2, value: u64::from(mask_of(&entry.stamp)) },
+        field(1, 1), // kind
+        field(1, 2), // version
+        field(4, size),
+        field(4, u64::from(epoch)),
+        field(1, u64::from(entry.thread)),
+        field(1, code),
+        field(8, entry.number),
+        field(8, subject),
+        field(8, place),
+        field(1, u64::from(threads)),
+        field(2, u64::from(mask_of(&entry.stamp))),
     ]
 }
 
 /// The fields in front of an output's components.
 fn output_front(size: u64, epoch: u32, threads: u32, output: &Output) -> [Field; 10]
-    ensures { result ≡ output_front size epoch threads output.now }
+    ensures value { result ≡ output_front size epoch threads output.now }
+    ensures number { output.now.number < 2 ^ 64 }
+    ensures input { output.now.input < 2 ^ 64 }
 {
     [
-        Field { width: 1, value: 2 }, // kind
-        Field { width: 1, value: 2 }, // version
-        Field { width: 4, value: size },
-        Field { width: 4, value: u64::from(epoch) },
-        Field { width: 1, value: u64::from(output.thread) },
-        Field { width: 1, value: 0 },
-        Field { width: 8, value: output.number },
-        Field { width: 8, value: output.input },
-        Field { width: 1, value: u64::from(threads) },
-        Field { width: 2, value: u64::from(mask_of(&output.stamp)) },
+        field(1, 2), // kind
+        field(1, 2), // version
+        field(4, size),
+        field(4, u64::from(epoch)),
+        field(1, u64::from(output.thread)),
+        field(1, 0),
+        field(8, output.number),
+        field(8, output.input),
+        field(1, u64::from(threads)),
+        field(2, u64::from(mask_of(&output.stamp))),
     ]
 }
 
 /// The fields in front of a packet's captured bytes.
 fn packet_fields(packet: &Packet) -> [Field; 4]
-    ensures { result ≡ packet_fields packet.now }
+    ensures value { result ≡ packet_fields packet.now }
+    ensures seconds { packet.now.seconds < 2 ^ 32 }
+    ensures fraction { packet.now.fraction < 2 ^ 32 }
+    ensures original { packet.now.original < 2 ^ 32 }
 {
     [
-        Field { width: 4, value: u64::from(packet.seconds) },
-        Field { width: 4, value: u64::from(packet.fraction) },
-        Field { width: 4, value: u64::from(packet.original) },
-        Field { width: 4, value: packet.bytes.len() as u64 },
+        field(4, u64::from(packet.seconds)),
+        field(4, u64::from(packet.fraction)),
+        field(4, u64::from(packet.original)),
+        field(4, packet.bytes.len() as u64),
     ]
 }
 
 /// Appends the components that are not 0.
-fn put_components(frame: &mut Bytes, stamp: &Stamp) -> Result<(), NoMemory>
-    ensures { OnOk result (frame.new
-        ≡ frame.old ++ spelled (component_fields (nonzero stamp.now))) }
+fn put_components(frame: &mut Bytes, components: &[u64]) -> Result<(), NoMemory>
+    ensures spelled { OnOk result (frame.new
+        ≡ frame.old ++ spelled (component_fields (nonzero components.now))) }
+    ensures fit { (u : ℕ) → slice_index components.now u < 2 ^ 64 }
 {
-    for component in stamp.components() {
+    for component in components {
         put_component(frame, *component)?;
     }
     Ok(())
@@ -164,6 +172,13 @@ fn put_component(frame: &mut Bytes, component: u64) -> Result<(), NoMemory>
         return Ok(());
     }
     frame.extend(&component.to_be_bytes())
+}
+
+fn field(width: usize, value: u64) -> Field
+    ensures value { result ≡ field width value }
+    ensures fits { value < 2 ^ 64 }
+{
+    Field { width, value }
 }
 
 /// Appends the bytes of fields.
