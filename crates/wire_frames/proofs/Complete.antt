@@ -145,8 +145,7 @@ module _ (bytes : List ℕ) (size epoch threads : ℕ) (small : size < 2 ^ 32) w
         let apart = split front back rest bytes parts in
         let fit : Fit front = (omega arith, (omega arith, (small, (sent.epoch_to, (omega (arith, sent.of_these, sent.threads_to), (fits.0, (sent.number_to, (fits.1, (fits.2, (omega (arith, sent.threads_to), tt)))))))))) in
         let same = read_front (log_widths []) front bytes (spelled back ++ rest) refl fit apart in
-        let threads_is = ap (value_at 9) same in
-        (
+        let threads_is = ap (value_at 9) same in (
           record {
             kind_is = ap (value_at 0) same;
             version_is = ap (value_at 1) same;
@@ -169,8 +168,7 @@ module _ (bytes : List ℕ) (size epoch threads : ℕ) (small : size < 2 ^ 32) w
         let apart = split front back rest bytes parts in
         let bits : mask_of e.stamp < 2 ^ 16 = mask_fits threads e.stamp sent.components in
         let fit : Fit front = (omega arith, (omega arith, (small, (sent.epoch_to, (omega (arith, sent.of_these, sent.threads_to), (fits.0, (sent.number_to, (fits.1, (fits.2, (omega (arith, sent.threads_to), (bits, tt))))))))))) in
-        let same = read_front (log_widths (2 ∷ [])) front bytes (spelled back ++ rest) refl fit apart in
-        (
+        let same = read_front (log_widths (2 ∷ [])) front bytes (spelled back ++ rest) refl fit apart in (
           record {
             kind_is = ap (value_at 0) same;
             version_is = ap (value_at 1) same;

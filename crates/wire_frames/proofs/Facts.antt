@@ -120,8 +120,7 @@ no_failure kind version bytes facts =
     let kind_is = kind_known _ kind facts.kind_is in
     let version_is = version_known _ version facts.version_is in
     let form : Pass (form_tests bytes) = (le-ltb _ _ (omega arith), (kind_is.0, (version_is.0, tt))) in
-    let part : Pass (part_tests kind version bytes) =
-    (
+    let part : Pass (part_tests kind version bytes) = (
       or_from _ _ (le-ltb _ _ facts.least) (le-ltb _ _ facts.most),
       (
         le-ltb _ _ facts.whole,

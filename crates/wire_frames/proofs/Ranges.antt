@@ -4,7 +4,8 @@ use Rattle.entry_order.specs.declared.what.What.{What}
 use Rattle.entry_order.specs.declared.what.What.TheVariants.{Access, Read, Clock, Draw}
 use Rattle.wire_frames.specs.declared.field.Version.TheVariants.{Two}
 use Rattle.wire_frames.specs.Layout.{AreComponents, IsSent, IsDone}
-use Rattle.wire_frames.specs.Writing.{CanSend, CanTell, FitsWord}
+use Rattle.wire_frames.specs.Parts.{FitsWord}
+use Rattle.wire_frames.specs.Writing.{CanSend, CanTell}
 
 pub is_sent : (epoch threads thread number : ℕ) (stamp : List ℕ) → CanSend epoch threads thread number stamp → epoch < 2 ^ 32 → number < 2 ^ 64
     → length stamp ≡ 16 → ((u : ℕ) → slice_index stamp u < 2 ^ 64) → IsSent epoch threads thread number stamp

@@ -15,7 +15,7 @@ use Rattle.wire_frames.specs.declared.frame.FrameError.TheVariants as error
 use Rattle.wire_frames.specs.Layout.{kind_code, spelled, nonzero, entry_fields, output_fields, bytes_of, written, written_length, IsOfRange, IsFrame, BeginsWith}
 use Rattle.wire_frames.specs.Places.{number_at, kind_at, version_at, length_at, what_at, entry_at, output_at}
 use Rattle.wire_frames.specs.Faults.{found_tests, field_tests, first_failure, frame_fault, frame_tests, has_no_content, IsCauseIn, Gives}
-use Rattle.wire_frames.specs.Found.{IsTold, IsFieldCause, IsReadingCause}
+use Rattle.wire_frames.specs.Parts.{IsTold, IsFieldCause, IsReadingCause}
 use Rattle.wire_frames.proofs.FirstFailure.{first_failure-append, first_failure-earlier, passed_first}
 use Rattle.wire_frames.proofs.Facts.{Facts, facts_from, no_failure, kind_of_facts, version_of_facts}
 use Rattle.wire_frames.proofs.Sound.{log_begins, out_begins}
@@ -42,7 +42,7 @@ tells bytes (frame.Entry epoch threads e) size begins =
       facts = log_facts is.version bytes begins.rest n epoch threads e range.0 range.1 parts sized;
       sized = log_length is.version bytes begins.rest n epoch threads e range.0 range.1 parts sized ∙ begins.sized;
       told = ap (option_map (entry_at is.version bytes)) (log_what is.version bytes begins.rest n epoch threads e range.0 range.1 parts sized)
-      ∙ ap Some (log_value is.version bytes begins.rest n epoch threads e range.0 range.1 parts sized);
+          ∙ ap Some (log_value is.version bytes begins.rest n epoch threads e range.0 range.1 parts sized);
     }
 tells bytes (frame.Output epoch threads o) size begins =
     let is = begins.is in

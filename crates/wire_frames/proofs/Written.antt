@@ -6,7 +6,7 @@ use Rattle.wire_frames.specs.declared.field.Field.{Field}
 use Rattle.wire_frames.specs.declared.field.Version.TheVariants.{Two}
 use Rattle.wire_frames.specs.declared.frame.Frame.TheVariants as frame
 use Rattle.wire_frames.specs.Layout.{spelled, nonzero, component_fields, packet_fields, bytes_of, written, written_length}
-use Rattle.wire_frames.specs.Writing.{entry_front, output_front}
+use Rattle.wire_frames.specs.Parts.{entry_front, output_front}
 use Rattle.wire_frames.proofs.Fields.{spelled-append}
 
 pub entry_written : (size epoch threads : ℕ) (e : StampedEntry) (empty first components whole : List ℕ) (front : List Field)

@@ -70,10 +70,12 @@ length_tests kind version bytes =
     ∷ []
 
 abbrev pub stamp_tests : Kind → Version → List ℕ → List (Bool × FrameFault)
-stamp_tests kind version bytes =
-    (threads_at kind bytes == 0
-    || nat_lt 16 (threads_at kind bytes)
-    || nat_le (2 ^ threads_at kind bytes) (mask_at kind version bytes), OutOfRange)
+stamp_tests kind version bytes = (
+  threads_at kind bytes == 0
+      || nat_lt 16 (threads_at kind bytes)
+      || nat_le (2 ^ threads_at kind bytes) (mask_at kind version bytes),
+  OutOfRange,
+)
     ∷ []
 
 abbrev pub size_tests : Kind → Version → List ℕ → List (Bool × FrameFault)

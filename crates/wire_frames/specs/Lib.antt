@@ -1,5 +1,5 @@
 pub mod Layout
 pub mod Places
 pub mod Faults
-pub mod Found
+pub mod Parts
 pub mod Writing

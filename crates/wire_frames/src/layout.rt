@@ -2,7 +2,7 @@ ghost use Rattle.std.specs.Prelude.{◌≡◌, ◌+◌, ◌^◌, ◌<◌, ◌≤
 ghost use Rattle.plain_text.specs.Octets.{AreBytes};
 ghost use Rattle.wire_frames.specs.Faults.{first_failure, form_tests, least, length_tests, needed, size_tests, stamp_tests, found_tests};
 ghost use Rattle.wire_frames.specs.Places.{components_place, kind_at, length_at, mask_at, stamp_end, threads_at, threads_place, version_at};
-ghost use Rattle.wire_frames.specs.Found.{layout_of};
+ghost use Rattle.wire_frames.specs.Parts.{layout_of};
 
 use crate::FrameFault;
 use crate::bytes::{byte_at, u16_at, u32_at};

@@ -12,6 +12,8 @@ mod laws;
 mod layout;
 mod reading;
 mod stamp;
+#[cfg(test)]
+mod tests;
 mod values;
 mod writing;
 

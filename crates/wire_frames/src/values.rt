@@ -3,7 +3,7 @@ ghost use Rattle.wire_frames.specs.declared.field.Kind.TheVariants.{Log, Out};
 ghost use Rattle.wire_frames.specs.declared.field.Version.TheVariants.{One, Two};
 ghost use Rattle.wire_frames.specs.declared.frame.FrameFault.TheVariants.{OutOfRange};
 ghost use Rattle.wire_frames.specs.Faults.{first_failure, field_tests, has_zero_component, is_not_sent, needed};
-ghost use Rattle.wire_frames.specs.Found.{common_at, layout_of, IsFieldCause, IsReadingCause, IsTold};
+ghost use Rattle.wire_frames.specs.Parts.{common_at, layout_of, IsFieldCause, IsReadingCause, IsTold};
 ghost use Rattle.wire_frames.specs.Layout.{mask_of};
 ghost use Rattle.wire_frames.specs.Places.{entry_at, kind_at, number_at, output_at, packet_from, stamp_at, version_at, what_at, what_from};
 
@@ -37,11 +37,7 @@ pub(crate) struct Common {
 }
 
 /// What is in a frame with these parts.
-pub(crate) fn read_value(
-    alloc: Global,
-    bytes: &[u8],
-    layout: &Layout,
-) -> Result<Frame, FrameError>
+pub(crate) fn read_value(alloc: Global, bytes: &[u8], layout: &Layout) -> Result<Frame, FrameError>
     requires found { layout.now ≡ layout_of bytes.now }
     requires whole { needed (kind_at bytes.now) (version_at bytes.now) bytes.now ≤ length bytes.now }
     requires mask { layout.now.mask < 2 ^ 16 }
@@ -93,11 +89,7 @@ fn read_entry(bytes: &[u8], layout: &Layout) -> Option<Frame>
 }
 
 /// The output in a frame with these parts, unless a field is out of its range.
-fn read_output(
-    alloc: Global,
-    bytes: &[u8],
-    layout: &Layout,
-) -> Result<Frame, FrameError>
+fn read_output(alloc: Global, bytes: &[u8], layout: &Layout) -> Result<Frame, FrameError>
     requires found { layout.now ≡ layout_of bytes.now }
     requires kind { kind_at bytes.now ≡ Out }
     requires whole { needed (kind_at bytes.now) (version_at bytes.now) bytes.now ≤ length bytes.now }

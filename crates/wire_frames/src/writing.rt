@@ -5,7 +5,8 @@ ghost use Rattle.wire_frames.specs.declared.field.Kind.TheVariants.{Log, Out};
 ghost use Rattle.wire_frames.specs.declared.field.Version.TheVariants.{Two};
 ghost use Rattle.wire_frames.specs.declared.frame.Frame.TheVariants as frame;
 ghost use Rattle.wire_frames.specs.Layout.{code_of, component_fields, field, nonzero, packet_fields, place_of, spelled, subject_of, written, written_length, IsFrame};
-ghost use Rattle.wire_frames.specs.Writing.{entry_front, output_front, AreNarrow, CanPutEntry, CanPutOutput, FitsWord};
+ghost use Rattle.wire_frames.specs.Parts.{entry_front, output_front, AreNarrow, FitsWord};
+ghost use Rattle.wire_frames.specs.Writing.{CanPutEntry, CanPutOutput};
 
 use crate::field::Field;
 use crate::stamp::{count_nonzero, mask_of};
@@ -72,7 +73,10 @@ pub fn put_output(
 {
     let size = output_length(output);
     let mut frame = Bytes::from_vec(Vec::with_capacity(alloc, size)?);
-    put_fields(&mut frame, &output_front(size as u64, epoch, threads, output))?;
+    put_fields(
+        &mut frame,
+        &output_front(size as u64, epoch, threads, output),
+    )?;
     put_components(&mut frame, output.stamp.components())?;
     put_fields(&mut frame, &packet_fields(&output.packet))?;
     frame.extend(output.packet.bytes.as_slice())?;

@@ -1,5 +1,12 @@
--- The parts of a frame, as its reader finds them.
-use Rattle.std.specs.Prelude.{◌≡◌, ℕ, List, Some, None, option_map}
+-- The parts of a frame, as its reader finds them and its writer puts them.
+use Rattle.std.specs.Prelude.{◌≡◌, ℕ, ◌^◌, ◌<◌, ◌≤◌, List, [], ◌∷◌, ◌++◌, All, Some, None, option_map}
+use Rattle.entry_order.specs.declared.what.What.{What}
+use Rattle.entry_order.specs.declared.what.What.TheVariants.{Access, Read, Clock, Draw}
+use Rattle.access_log.specs.declared.entry.StampedEntry.{StampedEntry}
+use Rattle.access_log.specs.declared.entry.Output.{Output}
+use Rattle.wire_frames.specs.declared.field.Field.{Field}
+use Rattle.wire_frames.specs.declared.field.Version.TheVariants.{Two}
+use Rattle.wire_frames.specs.Layout.{field, head, code_of, subject_of, place_of, mask_of}
 use Rattle.wire_frames.specs.declared.field.Kind.TheVariants.{Log, Out}
 use Rattle.wire_frames.specs.declared.frame.Frame.{Frame}
 use Rattle.wire_frames.specs.declared.field.Kind.{Kind}
@@ -44,3 +51,30 @@ abbrev pub IsReadingCause : Kind → Version → List ℕ → FrameError → Typ
 IsReadingCause Log version bytes (error.Fault fault) = first_failure (field_tests Log version bytes) ≡ Some fault
 IsReadingCause Log version bytes error.NoMemory = ⊥
 IsReadingCause Out version bytes e = IsFieldCause Out version bytes e
+
+-- the fields in front of the components
+abbrev pub entry_front : ℕ → ℕ → ℕ → StampedEntry → List Field
+entry_front size epoch threads e =
+    head Log Two size epoch e.thread (code_of e.what) e.number (subject_of e.what)
+    ++ field 8 (place_of e.what)
+    ∷ field 1 threads
+    ∷ field 2 (mask_of e.stamp)
+    ∷ []
+
+abbrev pub output_front : ℕ → ℕ → ℕ → Output → List Field
+output_front size epoch threads o =
+    head Out Two size epoch o.thread 0 o.number o.input
+    ++ field 1 threads
+    ∷ field 2 (mask_of o.stamp)
+    ∷ []
+
+-- no field is wider than a number of 64 bits
+abbrev pub AreNarrow : List Field → Type 0
+AreNarrow fields = All (λ (f : Field). f.width ≤ 8) fields
+
+-- its numbers are of 64 bits
+abbrev pub FitsWord : What → Type 0
+FitsWord (Access var place) = place < 2 ^ 64
+FitsWord (Read var after) = after < 2 ^ 64
+FitsWord (Clock value) = value < 2 ^ 64
+FitsWord (Draw value) = value < 2 ^ 64
