@@ -1,8 +1,7 @@
 -- Bytes that begin with a frame tell its value, and pass every test.
-use Rattle.std.proofs.Common.{◌≡◌, ℕ, zero, suc, ◌+◌, ◌-◌, ◌*◌, ◌/◌, ◌%◌, ◌^◌, ◌<◌, ◌≤◌, ◌==◌, ◌∙◌, not, if◌then◌else◌, Bool, true, false, inl, inr, List, [], ◌∷◌, ◌++◌, length, take, drop, slice_index, None, Some, refl, sym, ap, subst, arith, append_assoc, length-append, drop-drop}
-use Rattle.std.proofs.lemmas.Bool.{le-ltb, eq-eqb, ne_eqb, not_from_true, or_from}
-use Rattle.std.proofs.lemmas.List.{length-drop, length-take, take_at, drop_at, take_all}
-use Rattle.std.proofs.Math.Nat.{pow-suc, one-le-pow, pow-le-pow_right}
+use Rattle.std.proofs.Common.{◌≡◌, ℕ, zero, suc, ◌+◌, ◌-◌, ◌*◌, ◌^◌, ◌<◌, ◌≤◌, ◌==◌, ◌∙◌, not, if◌then◌else◌, Bool, true, false, List, [], ◌∷◌, ◌++◌, length, take, drop, slice_index, refl, sym, ap, subst, arith, append_assoc, length-append}
+use Rattle.std.proofs.lemmas.List.{length-take, drop_at}
+use Rattle.std.proofs.Math.Nat.{pow-suc, one-le-pow}
 use Rattle.byteorder.specs.Endian.{big_bytes}
 use Rattle.byteorder.specs.Numbers.{length-bytes_high_first}
 use Rattle.plain_text.specs.declared.packet.Packet.{Packet}
@@ -15,16 +14,11 @@ use Rattle.wire_frames.specs.declared.field.Kind.TheVariants.{Log, Out}
 use Rattle.wire_frames.specs.declared.field.Version.{Version}
 use Rattle.wire_frames.specs.declared.field.Version.TheVariants.{One, Two}
 use Rattle.wire_frames.specs.declared.field.Field.{Field}
-use Rattle.wire_frames.specs.declared.frame.Frame.{Frame}
-use Rattle.wire_frames.specs.declared.frame.Frame.TheVariants as frame
-use Rattle.wire_frames.specs.Layout.{field, spelled, kind_code, version_code, head, code_of, subject_of, place_of, mask_of, nonzero, component_fields, packet_fields, entry_fields, output_fields, bytes_of, AreComponents, IsSent, IsDone, IsCaptured, IsOfRange, IsFrame, BeginsWith}
-use Rattle.wire_frames.specs.Places.{number_at, length_at, epoch_at, thread_at, code_at, count_at, subject_at, place_at, bits_set, components, components_place, threads_at, mask_at, bits_at, stamp_at, stamp_end, what_at, captured_at, packet_at, entry_at, output_at}
-use Rattle.wire_frames.specs.Faults.{needed}
-use Rattle.wire_frames.proofs.Fields.{fields_at, fields_at-spelled, spelled-append, length-spelled, drop-spelled, total, widths, Fit}
-use Rattle.wire_frames.proofs.Facts.{Facts}
-use Rattle.wire_frames.proofs.Stamps.{present, fit_each, components-spelled, present-low, present-mask_of, unset-low, unset-mask_of, bits_set-low, bits_set-mask_of, mask_of-below}
+use Rattle.wire_frames.specs.Layout.{field, spelled, kind_code, version_code, head, code_of, subject_of, place_of, mask_of, nonzero, component_fields, packet_fields, entry_fields, output_fields, AreComponents, IsSent, IsDone}
+use Rattle.wire_frames.specs.Places.{number_at, length_at, epoch_at, thread_at, code_at, count_at, subject_at, place_at, bits_set, components, components_place, threads_at, mask_at}
+use Rattle.wire_frames.proofs.Fields.{fields_at, fields_at-spelled, spelled-append, length-spelled, widths, Fit}
+use Rattle.wire_frames.proofs.Stamps.{fit_each, components-spelled, present-low, present-mask_of, unset-low, unset-mask_of, bits_set-low, bits_set-mask_of, mask_of-below}
 use Rattle.wire_frames.proofs.Stands.{listed}
-use Rattle.wire_frames.proofs.Whats.{what_from-numbers}
 use Rattle.wire_frames.proofs.Sound.{log_widths, out_widths}
 
 -- the mask of a stamp with no component past the first k is of k bits
@@ -53,10 +47,6 @@ length-nonzero (c ∷ cs) = go (c == 0) (length-nonzero cs)
 abbrev pub mask_in : Version → ℕ → List ℕ → ℕ
 mask_in One threads stamp = 2 ^ threads - 1
 mask_in Two threads stamp = mask_of stamp
-
--- how many components stand in a frame
-pub count_listed : Version → ℕ → List ℕ → ℕ
-count_listed version threads stamp = length (listed version threads stamp)
 
 module _ (threads : ℕ) (stamp : List ℕ) (are : AreComponents threads stamp) (few : threads ≤ 16) where
   pub mask_in-below : (version : Version) → mask_in version threads stamp < 2 ^ threads

@@ -1,14 +1,13 @@
 -- What the tests of a frame say, as facts on its numbers.
-use Rattle.std.proofs.Common.{◌≡◌, ℕ, ◌+◌, ◌*◌, ◌^◌, ◌<◌, ◌≤◌, ◌==◌, ◌&&◌, ◌||◌, ◌∙◌, Bool, true, false, not, nat_lt, nat_le, if◌then◌else◌, List, ◌++◌, length, None, refl, sym, ap, subst, arith, inl, inr}
-use Rattle.std.proofs.lemmas.Bool.{ltb-false, leb-false, eqb-true, eqb-false, le-ltb, lt-leb, eq-eqb, ne_eqb, or_parts, or_from, and_cases, and_left, and_right, not-false, not_from_true, true≢false}
+use Rattle.std.proofs.Common.{◌≡◌, ℕ, ◌^◌, ◌<◌, ◌≤◌, ◌==◌, ◌&&◌, ◌∙◌, Bool, true, false, not, if◌then◌else◌, List, ◌++◌, length, None, refl, sym, subst, arith, inl, inr}
+use Rattle.std.proofs.lemmas.Bool.{ltb-false, leb-false, eqb-true, eqb-false, le-ltb, lt-leb, eq-eqb, ne_eqb, or_parts, or_from, and_cases, not-false, not_from_true, true≢false}
 use Rattle.wire_frames.specs.declared.field.Kind.{Kind}
 use Rattle.wire_frames.specs.declared.field.Kind.TheVariants.{Log, Out}
 use Rattle.wire_frames.specs.declared.field.Version.{Version}
 use Rattle.wire_frames.specs.declared.field.Version.TheVariants.{One, Two}
-use Rattle.wire_frames.specs.declared.frame.FrameFault.{FrameFault}
 use Rattle.wire_frames.specs.Layout.{kind_code, version_code}
 use Rattle.wire_frames.specs.Places.{number_at, kind_at, version_at, length_at, epoch_at, thread_at, count_at, threads_at, mask_at}
-use Rattle.wire_frames.specs.Faults.{least, most, lacks_room, captures_too_much, needed, has_zero_component, has_no_content, is_not_sent, form_tests, part_tests, found_tests, field_tests, frame_tests, first_failure}
+use Rattle.wire_frames.specs.Faults.{least, most, lacks_room, captures_too_much, needed, has_zero_component, has_no_content, form_tests, part_tests, found_tests, field_tests, frame_tests, first_failure}
 use Rattle.wire_frames.proofs.FirstFailure.{Pass, pass, passed, first_failure-append, passed_first}
 
 pub record Facts (kind : Kind) (version : Version) (bytes : List ℕ) : Type 0 where

@@ -1,10 +1,10 @@
 -- Fields and the bytes that spell them.
-use Rattle.std.proofs.Common.{◌≡◌, ℕ, zero, suc, ◌+◌, ◌-◌, ◌*◌, ◌/◌, ◌%◌, ◌^◌, ◌<◌, ◌≤◌, ◌∙◌, ◌⊎◌, inl, inr, List, [], ◌∷◌, ◌++◌, length, take, drop, map, get_or, slice_index, refl, sym, ap, subst, arith, append_assoc, length-append, drop-drop}
-use Rattle.std.proofs.lemmas.List.{drop_at, drop_more, take_all, length-drop, length-take, take-append-drop}
+use Rattle.std.proofs.Common.{◌≡◌, ℕ, ◌+◌, ◌*◌, ◌%◌, ◌^◌, ◌<◌, ◌≤◌, ◌∙◌, ◌⊎◌, inl, inr, List, [], ◌∷◌, ◌++◌, length, take, drop, refl, sym, ap, subst, arith, append_assoc, length-append, drop-drop}
+use Rattle.std.proofs.lemmas.List.{drop_at, length-drop, length-take, take-append-drop}
 use Rattle.std.proofs.lemmas.Grind.{flat_map-append}
 use Rattle.std.proofs.lemmas.Nat.{be_bytes_2, be_bytes_4, be_bytes_8}
-use Rattle.byteorder.specs.Endian.{big_bytes, big_number, big_from}
-use Rattle.byteorder.specs.Numbers.{big_from-take, big_from-append, big_from-lt, big_number-reads_back, length-bytes_high_first}
+use Rattle.byteorder.specs.Endian.{big_bytes, big_number}
+use Rattle.byteorder.specs.Numbers.{big_from-take, big_number-reads_back, length-bytes_high_first}
 use Rattle.plain_text.specs.Octets.{AreBytes}
 use Rattle.plain_text.proofs.Octets.{AreBytes-take, AreBytes-drop}
 use Rattle.wire_frames.specs.declared.field.Field.{Field}

@@ -1,5 +1,5 @@
 -- Lists of tests, of which the first that fails answers.
-use Rattle.std.proofs.Common.{◌≡◌, Bool, true, false, List, [], ◌∷◌, ◌++◌, Option, Some, None, refl}
+use Rattle.std.proofs.Common.{◌≡◌, Bool, true, false, List, [], ◌∷◌, ◌++◌, Some, None, refl}
 use Rattle.wire_frames.specs.declared.frame.FrameFault.{FrameFault}
 use Rattle.wire_frames.specs.Faults.{first_failure}
 

@@ -1,9 +1,8 @@
 -- Bytes that pass every test begin with a frame.
-use Rattle.std.proofs.Common.{◌≡◌, ℕ, ◌+◌, ◌-◌, ◌*◌, ◌^◌, ◌<◌, ◌≤◌, ◌∙◌, inl, inr, List, [], ◌∷◌, ◌++◌, length, take, drop, None, Some, refl, sym, ap, subst, arith, append_assoc, length-append, drop-drop}
+use Rattle.std.proofs.Common.{◌≡◌, ℕ, ◌+◌, ◌^◌, ◌<◌, ◌≤◌, ◌∙◌, inl, inr, List, [], ◌∷◌, ◌++◌, length, take, drop, Some, refl, sym, ap, arith, append_assoc, length-append}
 use Rattle.std.proofs.lemmas.Bool.{ltb-false, eqb-true, eqb-false, or_parts, not-false}
 use Rattle.std.proofs.lemmas.List.{length-drop, length-take, take-append-drop}
 use Rattle.byteorder.specs.Numbers.{big_from-lt}
-use Rattle.plain_text.specs.declared.packet.Packet.{Packet}
 use Rattle.plain_text.specs.Octets.{AreBytes}
 use Rattle.plain_text.proofs.Octets.{AreBytes-drop}
 use Rattle.entry_order.specs.declared.what.What.{What}
@@ -14,11 +13,8 @@ use Rattle.wire_frames.specs.declared.field.Kind.TheVariants.{Log, Out}
 use Rattle.wire_frames.specs.declared.field.Version.{Version}
 use Rattle.wire_frames.specs.declared.field.Version.TheVariants.{One, Two}
 use Rattle.wire_frames.specs.declared.field.Field.{Field}
-use Rattle.wire_frames.specs.declared.frame.Frame.{Frame}
-use Rattle.wire_frames.specs.declared.frame.Frame.TheVariants as frame
-use Rattle.wire_frames.specs.Layout.{field, spelled, head, code_of, subject_of, place_of, mask_of, component_fields, packet_fields, entry_fields, output_fields, bytes_of, IsSent, IsDone, IsCaptured, IsOfRange, IsFrame, BeginsWith}
-use Rattle.wire_frames.specs.Places.{number_at, length_at, epoch_at, thread_at, code_at, count_at, subject_at, place_at, components_place, threads_at, mask_at, stamp_at, stamp_end, what_at, captured_at, packet_from, packet_at, entry_at, output_at}
-use Rattle.wire_frames.specs.Faults.{needed}
+use Rattle.wire_frames.specs.Layout.{field, spelled, head, code_of, subject_of, place_of, mask_of, component_fields, packet_fields, entry_fields, output_fields, IsSent, IsCaptured, BeginsWith}
+use Rattle.wire_frames.specs.Places.{number_at, length_at, epoch_at, thread_at, code_at, count_at, subject_at, place_at, components_place, threads_at, stamp_at, stamp_end, what_at, captured_at, packet_at, entry_at, output_at}
 use Rattle.wire_frames.proofs.Fields.{IsWidth, AreWidths, fields_at, spelled-fields_at, spelled-append}
 use Rattle.wire_frames.proofs.Facts.{Facts}
 use Rattle.wire_frames.proofs.Whats.{Tells, numbers-what_from}

@@ -1,13 +1,13 @@
 -- Masks, and the components that they name.
-use Rattle.std.proofs.Common.{◌≡◌, ℕ, zero, suc, ◌+◌, ◌-◌, ◌*◌, ◌/◌, ◌%◌, ◌^◌, ◌<◌, ◌≤◌, ◌==◌, ◌∙◌, ◌⊎◌, Bool, true, false, not, if◌then◌else◌, List, [], ◌∷◌, ◌++◌, length, take, drop, filter, map, get_or, slice_index, set, refl, sym, ap, subst, arith, inl, inr, IsTrue, append_assoc, length-append, drop-drop}
-use Rattle.std.proofs.lemmas.List.{take_more_set, drop_more, drop_at, length-drop, take-append-drop}
+use Rattle.std.proofs.Common.{◌≡◌, ℕ, zero, suc, ◌+◌, ◌-◌, ◌*◌, ◌/◌, ◌%◌, ◌^◌, ◌<◌, ◌≤◌, ◌==◌, ◌∙◌, ◌⊎◌, Bool, true, false, not, if◌then◌else◌, List, [], ◌∷◌, ◌++◌, length, take, drop, slice_index, set, refl, sym, ap, arith, inl, inr, IsTrue, append_assoc, drop-drop}
+use Rattle.std.proofs.lemmas.List.{take_more_set, drop_at, length-drop, take-append-drop}
 use Rattle.std.proofs.lemmas.Bool.{cases_lt, eqb-true}
-use Rattle.std.proofs.Math.Nat.{pow-suc, one-le-pow}
+use Rattle.std.proofs.Math.Nat.{pow-suc, pow-succ', one-le-pow, div-one, div-div-eq-div-mul, zero-div}
 use Rattle.byteorder.specs.Endian.{big_bytes, big_number}
 use Rattle.byteorder.specs.Numbers.{big_from-lt, big_number-reads_back}
 use Rattle.plain_text.specs.Octets.{AreBytes}
 use Rattle.plain_text.proofs.Octets.{AreBytes-drop}
-use Rattle.wire_frames.specs.Layout.{field, spelled, mask_of, nonzero, component_fields}
+use Rattle.wire_frames.specs.Layout.{spelled, mask_of, nonzero, component_fields}
 use Rattle.wire_frames.proofs.Fields.{spelled_first}
 use Rattle.wire_frames.specs.Places.{number_at, is_odd, bits_set, component_at, components}
 
@@ -170,6 +170,16 @@ unset-mask_of (c ∷ cs) =
     zero_is : (b : Bool) → (c == 0) ≡ b → ◌≡◌ {A = ℕ} (if b then 0 else 1) 0 → c ≡ 0
     zero_is true is even = eqb-true c 0 is
     zero_is false is even = absurd (omega arith)
+
+-- each bit by itself
+pub mask_of-bit : (stamp : List ℕ) (u : ℕ) → mask_of stamp / 2 ^ u % 2 ≡ (if slice_index stamp u == 0 then 0 else 1)
+mask_of-bit [] u = ap (λ (n : ℕ). n % 2) (zero-div (2 ^ u))
+mask_of-bit (c ∷ cs) zero = ap (λ (n : ℕ). n % 2) (div-one (mask_of (c ∷ cs))) ∙ mask_parity (c == 0) (mask_of cs)
+mask_of-bit (c ∷ cs) (suc u) =
+    ap (λ (n : ℕ). mask_of (c ∷ cs) / n % 2) (pow-succ' 2 u)
+    ∙ ap (λ (n : ℕ). n % 2) (sym (div-div-eq-div-mul (mask_of (c ∷ cs)) 2 (2 ^ u)))
+    ∙ ap (λ (n : ℕ). n / 2 ^ u % 2) (mask_half (c == 0) (mask_of cs))
+    ∙ mask_of-bit cs u
 
 pub bits_set-mask_of : (stamp : List ℕ) → bits_set (length stamp) (mask_of stamp) ≡ length (nonzero stamp)
 unfolding bits_set

@@ -1,5 +1,5 @@
 -- The stamp that stands in a frame, by its version.
-use Rattle.std.proofs.Common.{◌≡◌, ℕ, ◌+◌, ◌-◌, ◌*◌, ◌^◌, ◌<◌, ◌≤◌, ◌==◌, ◌∙◌, not, List, [], ◌∷◌, ◌++◌, length, take, drop, refl, sym, ap, arith, drop-drop}
+use Rattle.std.proofs.Common.{◌≡◌, ℕ, ◌+◌, ◌*◌, ◌≤◌, ◌∙◌, List, ◌++◌, length, take, drop, sym, ap, arith, drop-drop}
 use Rattle.std.proofs.lemmas.Bool.{eqb-true, not-false}
 use Rattle.std.proofs.lemmas.List.{length-drop}
 use Rattle.plain_text.specs.Octets.{AreBytes}
@@ -8,7 +8,7 @@ use Rattle.wire_frames.specs.declared.field.Kind.{Kind}
 use Rattle.wire_frames.specs.declared.field.Version.{Version}
 use Rattle.wire_frames.specs.declared.field.Version.TheVariants.{One, Two}
 use Rattle.wire_frames.specs.Layout.{spelled, mask_of, nonzero, component_fields, AreComponents}
-use Rattle.wire_frames.specs.Places.{bits_set, components, components_place, threads_at, mask_at, bits_at, stamp_at, stamp_end}
+use Rattle.wire_frames.specs.Places.{bits_set, components, components_place, threads_at, mask_at, stamp_at, stamp_end}
 use Rattle.wire_frames.proofs.Facts.{Facts}
 use Rattle.wire_frames.proofs.Stamps.{present, spelled-present, present-low, present-mask_of, length-components, components-fit, components-past}
 

@@ -1,7 +1,7 @@
 -- What bytes that begin with a frame tell is its value, and they pass every test.
-use Rattle.std.proofs.Common.{◌≡◌, ℕ, zero, suc, ◌+◌, ◌-◌, ◌*◌, ◌^◌, ◌<◌, ◌≤◌, ◌==◌, ◌∙◌, not, is_none, Bool, true, false, List, [], ◌∷◌, ◌++◌, length, take, drop, None, Some, Option, refl, sym, ap, subst, arith, append_assoc, length-append, drop-drop}
+use Rattle.std.proofs.Common.{◌≡◌, ℕ, ◌+◌, ◌-◌, ◌*◌, ◌^◌, ◌<◌, ◌≤◌, ◌∙◌, is_none, false, List, [], ◌∷◌, ◌++◌, length, take, drop, None, Some, Option, refl, sym, ap, subst, arith, append_assoc, length-append, drop-drop}
 use Rattle.std.proofs.lemmas.Bool.{le-ltb, eq-eqb, ne_eqb, not_from_true, or_from}
-use Rattle.std.proofs.lemmas.List.{length-drop, length-take, take_at, drop_at, take_all}
+use Rattle.std.proofs.lemmas.List.{length-take, take_at, drop_at}
 use Rattle.plain_text.specs.declared.packet.Packet.{Packet}
 use Rattle.entry_order.specs.declared.what.What.{What}
 use Rattle.access_log.specs.declared.entry.StampedEntry.{StampedEntry}
@@ -10,13 +10,11 @@ use Rattle.wire_frames.specs.declared.field.Kind.{Kind}
 use Rattle.wire_frames.specs.declared.field.Kind.TheVariants.{Log, Out}
 use Rattle.wire_frames.specs.declared.field.Version.{Version}
 use Rattle.wire_frames.specs.declared.field.Version.TheVariants.{One, Two}
-use Rattle.wire_frames.specs.declared.field.Field.{Field}
-use Rattle.wire_frames.specs.declared.frame.Frame.{Frame}
 use Rattle.wire_frames.specs.declared.frame.Frame.TheVariants as frame
-use Rattle.wire_frames.specs.Layout.{field, spelled, head, code_of, subject_of, place_of, mask_of, nonzero, component_fields, packet_fields, entry_fields, output_fields, bytes_of, AreComponents, IsSent, IsDone, IsCaptured, IsOfRange, IsFrame, BeginsWith}
-use Rattle.wire_frames.specs.Places.{number_at, kind_at, version_at, length_at, epoch_at, thread_at, code_at, count_at, subject_at, place_at, bits_set, components, components_place, threads_at, mask_at, bits_at, stamp_at, stamp_end, what_at, what_from, captured_at, packet_from, packet_at, entry_at, output_at}
+use Rattle.wire_frames.specs.Layout.{field, spelled, head, code_of, subject_of, place_of, mask_of, component_fields, packet_fields, entry_fields, output_fields, IsSent, IsDone, IsCaptured}
+use Rattle.wire_frames.specs.Places.{number_at, length_at, place_at, bits_set, components, components_place, threads_at, mask_at, bits_at, stamp_at, stamp_end, what_at, captured_at, packet_from, entry_at, output_at}
 use Rattle.wire_frames.specs.Faults.{least, most, has_zero_component}
-use Rattle.wire_frames.proofs.Fields.{fields_at, fields_at-spelled, spelled-append, length-spelled, drop-spelled, total, widths, Fit}
+use Rattle.wire_frames.proofs.Fields.{fields_at, spelled-append, length-spelled, Fit}
 use Rattle.wire_frames.proofs.Facts.{Facts}
 use Rattle.wire_frames.proofs.Stands.{listed}
 use Rattle.wire_frames.proofs.Whats.{what_from-numbers}

@@ -1,22 +1,22 @@
 -- Frames, tests and values together.
-use Rattle.std.proofs.Common.{◌≡◌, ℕ, ◌+◌, ◌*◌, ◌<◌, ◌≤◌, ◌∙◌, List, ◌++◌, length, take, drop, Option, Some, None, option_map, Result, Ok, Err, IfOk, IfErr, is_none, false, [], refl, sym, ap, subst, arith, length-append}
-use Rattle.std.proofs.lemmas.List.{append-nil, take-append-drop, length-take, length-drop}
+use Rattle.std.proofs.Common.{◌≡◌, ℕ, ◌+◌, ◌<◌, ◌∙◌, List, ◌++◌, length, take, drop, Option, Some, None, option_map, Result, Ok, Err, IfOk, IfErr, is_none, false, [], refl, sym, ap, subst, arith, length-append}
+use Rattle.std.proofs.lemmas.List.{append-nil, take-append-drop, length-take}
 use Rattle.plain_text.specs.Octets.{AreBytes}
 use Rattle.entry_order.specs.declared.what.What.{What}
 use Rattle.wire_frames.specs.declared.field.Kind.{Kind}
 use Rattle.wire_frames.specs.declared.field.Kind.TheVariants.{Log, Out}
 use Rattle.wire_frames.specs.declared.field.Version.{Version}
-use Rattle.wire_frames.specs.declared.field.Version.TheVariants.{One, Two}
+use Rattle.wire_frames.specs.declared.field.Version.TheVariants.{Two}
 use Rattle.wire_frames.specs.declared.frame.Frame.{Frame}
 use Rattle.wire_frames.specs.declared.frame.Frame.TheVariants as frame
 use Rattle.wire_frames.specs.declared.frame.FrameFault.{FrameFault}
 use Rattle.wire_frames.specs.declared.frame.FrameError.{FrameError}
 use Rattle.wire_frames.specs.declared.frame.FrameError.TheVariants as error
-use Rattle.wire_frames.specs.Layout.{kind_code, spelled, nonzero, entry_fields, output_fields, bytes_of, written, written_length, IsOfRange, IsFrame, BeginsWith}
+use Rattle.wire_frames.specs.Layout.{kind_code, spelled, output_fields, bytes_of, written, written_length, IsOfRange, IsFrame, BeginsWith}
 use Rattle.wire_frames.specs.Places.{number_at, kind_at, version_at, length_at, what_at, entry_at, output_at}
-use Rattle.wire_frames.specs.Faults.{found_tests, field_tests, first_failure, frame_fault, frame_tests, has_no_content, IsCauseIn, Gives}
+use Rattle.wire_frames.specs.Faults.{found_tests, field_tests, first_failure, frame_fault, IsCauseIn, Gives}
 use Rattle.wire_frames.specs.Parts.{IsTold, IsFieldCause, IsReadingCause}
-use Rattle.wire_frames.proofs.FirstFailure.{first_failure-append, first_failure-earlier, passed_first}
+use Rattle.wire_frames.proofs.FirstFailure.{first_failure-append, first_failure-earlier}
 use Rattle.wire_frames.proofs.Facts.{Facts, facts_from, no_failure, kind_of_facts, version_of_facts}
 use Rattle.wire_frames.proofs.Sound.{log_begins, out_begins}
 use Rattle.wire_frames.proofs.Told.{log_what, log_value, log_length, log_facts, log_size, out_value, out_length, out_facts, out_size}

@@ -1,5 +1,5 @@
 -- Where no frame stands at the front of bytes: the first test that fails, and its answer.
-use Rattle.std.specs.Prelude.{◌≡◌, ℕ, ◌+◌, ◌*◌, ◌^◌, ◌==◌, ◌&&◌, ◌||◌, Bool, true, false, not, nat_lt, nat_le, if◌then◌else◌, List, [], ◌∷◌, ◌++◌, length, Option, Some, None, is_none, Result, Ok, Err}
+use Rattle.std.specs.Prelude.{◌≡◌, ℕ, ◌+◌, ◌^◌, ◌==◌, ◌&&◌, ◌||◌, Bool, false, not, nat_lt, nat_le, if◌then◌else◌, List, [], ◌∷◌, ◌++◌, length, Option, Some, None, is_none, Result, Ok, Err}
 use Rattle.plain_text.specs.declared.limit.TheConstants.{MOST_CAPTURED}
 use Rattle.wire_frames.specs.declared.field.Kind.{Kind}
 use Rattle.wire_frames.specs.declared.field.Kind.TheVariants.{Log, Out}
@@ -10,7 +10,7 @@ use Rattle.wire_frames.specs.declared.frame.FrameFault.{FrameFault}
 use Rattle.wire_frames.specs.declared.frame.FrameFault.TheVariants.{Short, BadKind, BadVersion, BadLength, OutOfRange}
 use Rattle.wire_frames.specs.declared.frame.FrameError.{FrameError}
 use Rattle.wire_frames.specs.declared.frame.FrameError.TheVariants as error
-use Rattle.wire_frames.specs.Layout.{mask_of, BeginsWith}
+use Rattle.wire_frames.specs.Layout.{mask_of}
 use Rattle.wire_frames.specs.Places.{number_at, kind_at, version_at, length_at, epoch_at, thread_at, code_at, count_at, subject_at, threads_at, mask_at, stamp_at, stamp_end, what_at, captured_at}
 
 -- the least and the most bytes of a frame

@@ -4,19 +4,19 @@ use Rattle.entry_order.specs.declared.what.What.{What}
 use Rattle.entry_order.specs.declared.what.What.TheVariants.{Access, Read, Clock, Draw}
 use Rattle.access_log.specs.declared.entry.StampedEntry.{StampedEntry}
 use Rattle.access_log.specs.declared.entry.Output.{Output}
-use Rattle.wire_frames.specs.declared.field.Field.{Field}
-use Rattle.wire_frames.specs.declared.field.Version.TheVariants.{Two}
-use Rattle.wire_frames.specs.Layout.{field, head, code_of, subject_of, place_of, mask_of}
-use Rattle.wire_frames.specs.declared.field.Kind.TheVariants.{Log, Out}
-use Rattle.wire_frames.specs.declared.frame.Frame.{Frame}
 use Rattle.wire_frames.specs.declared.field.Kind.{Kind}
+use Rattle.wire_frames.specs.declared.field.Kind.TheVariants.{Log, Out}
 use Rattle.wire_frames.specs.declared.field.Version.{Version}
+use Rattle.wire_frames.specs.declared.field.Version.TheVariants.{Two}
+use Rattle.wire_frames.specs.declared.field.Field.{Field}
+use Rattle.wire_frames.specs.declared.layout.Layout.{Layout}
+use Rattle.wire_frames.specs.declared.values.Common.{Common}
+use Rattle.wire_frames.specs.declared.frame.Frame.{Frame}
 use Rattle.wire_frames.specs.declared.frame.FrameError.{FrameError}
 use Rattle.wire_frames.specs.declared.frame.FrameError.TheVariants as error
-use Rattle.wire_frames.specs.declared.values.Common.{Common}
-use Rattle.wire_frames.specs.Faults.{first_failure, field_tests}
-use Rattle.wire_frames.specs.declared.layout.Layout.{Layout}
+use Rattle.wire_frames.specs.Layout.{field, head, code_of, subject_of, place_of, mask_of}
 use Rattle.wire_frames.specs.Places.{kind_at, version_at, length_at, threads_at, mask_at, stamp_end, epoch_at, thread_at, count_at, stamp_at, what_at, entry_at, output_at}
+use Rattle.wire_frames.specs.Faults.{first_failure, field_tests}
 
 abbrev pub layout_of : List ℕ → Layout
 layout_of bytes = record {

@@ -1,10 +1,16 @@
 //! The laws of frames. Each is proved, and does nothing.
-ghost use Rattle.std.specs.Prelude.{◌≡◌, ℕ, ◌<◌, List, ◌++◌, length, take, None};
+ghost use Rattle.std.specs.Prelude.{◌≡◌, ℕ, ◌/◌, ◌%◌, ◌^◌, ◌<◌, ◌==◌, if◌then◌else◌, List, ◌++◌, length, take, slice_index, None};
 ghost use Rattle.plain_text.specs.Octets.{AreBytes};
 ghost use Rattle.wire_frames.specs.declared.field.Version.TheVariants.{Two};
 ghost use Rattle.wire_frames.specs.declared.frame.Frame.{Frame};
 ghost use Rattle.wire_frames.specs.Faults.{frame_fault};
-ghost use Rattle.wire_frames.specs.Layout.{written, IsOfRange, IsFrame, BeginsWith};
+ghost use Rattle.wire_frames.specs.Layout.{mask_of, written, IsOfRange, IsFrame, BeginsWith};
+
+/// In the mask of a stamp the bit of value 2^u is set exactly where component u is not 0.
+pub fn the_mask_names_what_is_not_0()
+    ensures { (stamp : List ℕ) (u : ℕ)
+        → mask_of stamp / 2 ^ u % 2 ≡ (if slice_index stamp u == 0 then 0 else 1) }
+{}
 
 /// Bytes begin with at most one frame.
 pub fn one_frame()

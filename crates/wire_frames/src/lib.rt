@@ -19,7 +19,8 @@ mod writing;
 
 pub use frame::{Frame, FrameError, FrameFault};
 pub use laws::{
-    no_frame_begins_another, one_frame, the_tests_are_those_of_frames, what_is_written_is_a_frame,
+    no_frame_begins_another, one_frame, the_mask_names_what_is_not_0,
+    the_tests_are_those_of_frames, what_is_written_is_a_frame,
 };
 pub use reading::take_frame;
 pub use writing::{entry_length, output_length, put_entry, put_output};

@@ -3,8 +3,8 @@ ghost use Rattle.wire_frames.specs.declared.field.Kind.TheVariants.{Log, Out};
 ghost use Rattle.wire_frames.specs.declared.field.Version.TheVariants.{One, Two};
 ghost use Rattle.wire_frames.specs.declared.frame.FrameFault.TheVariants.{OutOfRange};
 ghost use Rattle.wire_frames.specs.Faults.{first_failure, field_tests, has_zero_component, is_not_sent, needed};
-ghost use Rattle.wire_frames.specs.Parts.{common_at, layout_of, IsFieldCause, IsReadingCause, IsTold};
 ghost use Rattle.wire_frames.specs.Layout.{mask_of};
+ghost use Rattle.wire_frames.specs.Parts.{common_at, layout_of, IsFieldCause, IsReadingCause, IsTold};
 ghost use Rattle.wire_frames.specs.Places.{entry_at, kind_at, number_at, output_at, packet_from, stamp_at, version_at, what_at, what_from};
 
 use crate::bytes::{byte_at, u32_at, u64_at};

@@ -15,10 +15,10 @@ use entry_order::What;
 use plain_text::{Bytes, NoMemory, Packet};
 use std::alloc::Global;
 
-/// The bytes of an entry's frame that are no components, and of an output's that are neither components nor captured bytes.
-const ENTRY: usize = 39;
+/// The bytes of an entry's frame without its components, and of an output's without its components and captured bytes.
+const BARE_ENTRY: usize = 39;
 
-const OUTPUT: usize = 47;
+const BARE_OUTPUT: usize = 47;
 
 /// How many bytes the frame of an entry has that `put_entry` writes: 39, and 8 for each component of its stamp that is not 0.
 pub fn entry_length(entry: &StampedEntry) -> usize
@@ -26,7 +26,7 @@ pub fn entry_length(entry: &StampedEntry) -> usize
     ensures written { (epoch threads : ℕ)
         → length (written (frame.Entry epoch threads entry.now)) ≡ result }
 {
-    ENTRY + 8 * count_nonzero(&entry.stamp)
+    BARE_ENTRY + 8 * count_nonzero(&entry.stamp)
 }
 
 /// How many bytes the frame of an output has that `put_output` writes: 47, 8 for each component of its stamp that is not 0, and the
@@ -38,7 +38,7 @@ pub fn output_length(output: &Output) -> usize
     ensures written { (epoch threads : ℕ)
         → length (written (frame.Output epoch threads output.now)) ≡ result }
 {
-    OUTPUT + 8 * count_nonzero(&output.stamp) + output.packet.bytes.len()
+    BARE_OUTPUT + 8 * count_nonzero(&output.stamp) + output.packet.bytes.len()
 }
 
 /// The frame of an entry of this epoch, of a sender with so many threads.

@@ -1,4 +1,4 @@
-use Rattle.std.proofs.Common.{◌≡◌, ℕ, ◌+◌, ◌-◌, ◌*◌, ◌%◌, take, drop, length, arith, sym, ◌∙◌, IsTrue}
+use Rattle.std.proofs.Common.{◌≡◌, ◌+◌, ◌-◌, take, drop, length, arith, sym, ◌∙◌}
 use Rattle.std.proofs.lemmas.List.{length-set, take_all, append-nil}
 use Rattle.wire_frames.proofs.Stamps.{reads_one_more, odd_room, bits_set-step, components-none}
 use Rattle.wire_frames.proofs.stamp.read_stamp.Goals as goal

@@ -1,4 +1,4 @@
-use Rattle.std.proofs.Common.{◌≡◌, ◌<◌, ◌++◌, ◌^◌, ℕ, List, ◌∙◌, sym, ap, subst, length, slice_index}
+use Rattle.std.proofs.Common.{◌<◌, ◌++◌, ◌^◌, ℕ, List, ◌∙◌, sym, ap, subst, slice_index}
 use Rattle.wire_frames.specs.declared.frame.Frame.TheVariants as frame
 use Rattle.wire_frames.specs.Layout.{IsFrame, IsCaptured}
 use Rattle.wire_frames.proofs.Ranges.{is_sent}
