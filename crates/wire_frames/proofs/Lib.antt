@@ -1,0 +1,12 @@
+pub mod FirstFailure
+pub mod Fields
+pub mod Stamps
+pub mod Facts
+pub mod Whats
+pub mod Stands
+pub mod Sound
+pub mod Complete
+pub mod Told
+pub mod Whole
+pub mod Ranges
+pub mod Written

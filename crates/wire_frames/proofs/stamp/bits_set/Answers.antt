@@ -1,0 +1,16 @@
+use Rattle.std.proofs.Common.{◌≡◌, ◌+◌, ◌-◌, arith}
+use Rattle.wire_frames.proofs.Stamps.{bits_set-step, bits_set-none}
+use Rattle.wire_frames.proofs.stamp.bits_set.Goals as goal
+
+pub loop-preserved : goal.loop-preserved
+loop-preserved c =
+    let l = c.loop in
+    let step = bits_set-step (16 - l.counter) l.rest (omega arith) in
+    let later : 16 - l.counter - 1 ≡ 16 - (l.counter + 1) = omega arith in
+    record { left = rw (← later) (omega arith); most = omega arith }
+
+pub returns-clause-value : goal.returns-clause-value
+returns-clause-value c =
+    let over : 16 - c.loop.counter ≡ 0 = omega arith in
+    let left = rw (over, bits_set-none) at c.loop.invariant.left in
+    omega arith

@@ -1,0 +1,10 @@
+use Rattle.std.proofs.Common.{◌≡◌, ◌+◌, ◌*◌, ◌≤◌, ◌-◌, ◌++◌, length, take, drop}
+use Rattle.wire_frames.specs.Places.{bits_set, components}
+use Rattle.wire_frames.proofs.stamp.read_stamp.Given as goal
+
+abbrev pub invariant-loop-thread : goal.invariant-loop-thread
+invariant-loop-thread l = record {
+  all : length l.components ≡ 16;
+  read : take l.thread l.components ++ components (16 - l.thread) l.rest (drop l.place l.bytes) ≡ components 16 l.mask l.bytes;
+  room : l.place + 8 * bits_set (16 - l.thread) l.rest ≤ length l.bytes;
+}

@@ -1,0 +1,5 @@
+pub mod Layout
+pub mod Places
+pub mod Faults
+pub mod Parts
+pub mod Writing

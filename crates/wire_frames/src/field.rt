@@ -1,0 +1,22 @@
+/// What a frame is of.
+#[derive(Clone, Copy, Debug, PartialEq, Eq)]
+pub(crate) enum Kind {
+    /// A log entry.
+    Log,
+    /// An output.
+    Out,
+}
+
+/// How a frame is laid out.
+#[derive(Clone, Copy, Debug, PartialEq, Eq)]
+pub(crate) enum Version {
+    One,
+    Two,
+}
+
+/// A number in a frame, and how many bytes it has there.
+#[derive(Clone, Copy, Debug, PartialEq, Eq)]
+pub(crate) struct Field {
+    pub(crate) width: usize,
+    pub(crate) value: u64,
+}

@@ -1,0 +1,74 @@
+ghost use Rattle.std.specs.Prelude.{◌≡◌, ◌+◌, ◌*◌, ◌^◌, ◌<◌, ◌≤◌, IsTrue, length, drop};
+ghost use Rattle.wire_frames.specs.Layout.{mask_of, nonzero};
+ghost use Rattle.wire_frames.specs.Places.{bits_set, component_at, components};
+
+use crate::bytes::u64_at;
+use thread_clock::{Stamp, THREADS};
+
+/// Which components are not 0: bit u is set where component u is.
+pub(crate) fn mask_of(stamp: &Stamp) -> u16
+    ensures { result ≡ mask_of stamp.now }
+{
+    let components = stamp.components();
+    let mut mask = 0;
+    for behind in 0..THREADS {
+        let bit = u16::from(components[THREADS - 1 - behind] != 0);
+        mask = bit + 2 * mask;
+    }
+    mask
+}
+
+/// How many components are not 0.
+pub(crate) fn count_nonzero(stamp: &Stamp) -> usize
+    ensures value { result ≡ length (nonzero stamp.now) }
+    ensures most { result ≤ 16 }
+    ensures all { length stamp.now ≡ 16 }
+{
+    let mut count = 0;
+    for component in stamp.components() {
+        if *component != 0 {
+            count += 1;
+        }
+    }
+    count
+}
+
+/// How many bits of a mask are set.
+pub(crate) fn bits_set(mask: u32) -> usize
+    requires { mask < 2 ^ 16 }
+    ensures value { result ≡ bits_set 16 mask }
+    ensures most { result ≤ 16 }
+{
+    let mut rest = mask;
+    let mut count = 0;
+    for _ in 0..THREADS {
+        count += (rest % 2) as usize;
+        rest /= 2;
+    }
+    count
+}
+
+/// The stamp whose components stand one after the other, where they are those of the threads in the mask.
+pub(crate) fn read_stamp(mask: u32, bytes: &[u8]) -> Stamp
+    requires { 8 * bits_set 16 mask ≤ length bytes.now }
+    ensures { result ≡ components 16 mask bytes.now }
+{
+    let mut components = [0; THREADS];
+    let mut rest = mask;
+    let mut place = 0;
+    for thread in 0..THREADS {
+        let there = rest % 2 == 1;
+        components[thread] = read_component(there, bytes, place);
+        place += 8 * (rest % 2) as usize;
+        rest /= 2;
+    }
+    Stamp::new(components)
+}
+
+/// The component at a place, or 0 where there is none.
+fn read_component(there: bool, bytes: &[u8], place: usize) -> u64
+    requires { IsTrue there → place + 8 ≤ length bytes.now }
+    ensures { result ≡ component_at there (drop place bytes.now) }
+{
+    if there { u64_at(bytes, place) } else { 0 }
+}

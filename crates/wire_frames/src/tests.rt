@@ -1,0 +1,307 @@
+ghost use Rattle.std.specs.Prelude.{◌≡◌, ◌+◌, ◌≤◌, ℕ, slice_index, length, IfOk};
+ghost use Rattle.wire_frames.specs.Writing.{CanPutEntry, CanPutOutput};
+
+use super::*;
+use access_log::{Output, StampedEntry};
+use entry_order::What;
+use plain_text::{Bytes, Packet};
+use std::alloc::Global;
+use std::test::Fail;
+use thread_clock::Stamp;
+
+/// The first touch of thread 0, of variable 0 and at place 1, in epoch 1 and of one thread, in version 1.
+const OLD_TOUCH: [u8; 45] = [
+    0x01, 0x01, 0x00, 0x00, 0x00, 0x2d, 0x00, 0x00, 0x00, 0x01, 0x00, 0x01, 0x00, 0x00, 0x00, 0x00,
+    0x00, 0x00, 0x00, 0x01, 0x00, 0x00, 0x00, 0x00, 0x00, 0x00, 0x00, 0x00, 0x00, 0x00, 0x00, 0x00,
+    0x00, 0x00, 0x00, 0x01, 0x01, 0x00, 0x00, 0x00, 0x00, 0x00, 0x00, 0x00, 0x01,
+];
+
+/// The same in version 2.
+const TOUCH: [u8; 47] = [
+    0x01, 0x02, 0x00, 0x00, 0x00, 0x2f, 0x00, 0x00, 0x00, 0x01, 0x00, 0x01, 0x00, 0x00, 0x00, 0x00,
+    0x00, 0x00, 0x00, 0x01, 0x00, 0x00, 0x00, 0x00, 0x00, 0x00, 0x00, 0x00, 0x00, 0x00, 0x00, 0x00,
+    0x00, 0x00, 0x00, 0x01, 0x01, 0x00, 0x01, 0x00, 0x00, 0x00, 0x00, 0x00, 0x00, 0x00, 0x01,
+];
+
+/// The second output of thread 2, of three threads, with the components 5, 0 and 7 and three captured bytes, in version 1.
+const OLD_OUTPUT: [u8; 72] = [
+    0x02, 0x01, 0x00, 0x00, 0x00, 0x48, 0x00, 0x00, 0x00, 0x01, 0x02, 0x00, 0x00, 0x00, 0x00, 0x00,
+    0x00, 0x00, 0x00, 0x02, 0x00, 0x00, 0x00, 0x00, 0x00, 0x00, 0x00, 0x09, 0x03, 0x00, 0x00, 0x00,
+    0x00, 0x00, 0x00, 0x00, 0x05, 0x00, 0x00, 0x00, 0x00, 0x00, 0x00, 0x00, 0x00, 0x00, 0x00, 0x00,
+    0x00, 0x00, 0x00, 0x00, 0x07, 0x00, 0x00, 0x00, 0x64, 0x00, 0x00, 0x00, 0x05, 0x00, 0x00, 0x00,
+    0x2a, 0x00, 0x00, 0x00, 0x03, 0x61, 0x62, 0x63,
+];
+
+/// The same in version 2.
+const OUTPUT: [u8; 66] = [
+    0x02, 0x02, 0x00, 0x00, 0x00, 0x42, 0x00, 0x00, 0x00, 0x01, 0x02, 0x00, 0x00, 0x00, 0x00, 0x00,
+    0x00, 0x00, 0x00, 0x02, 0x00, 0x00, 0x00, 0x00, 0x00, 0x00, 0x00, 0x09, 0x03, 0x00, 0x05, 0x00,
+    0x00, 0x00, 0x00, 0x00, 0x00, 0x00, 0x05, 0x00, 0x00, 0x00, 0x00, 0x00, 0x00, 0x00, 0x07, 0x00,
+    0x00, 0x00, 0x64, 0x00, 0x00, 0x00, 0x05, 0x00, 0x00, 0x00, 0x2a, 0x00, 0x00, 0x00, 0x03, 0x61,
+    0x62, 0x63,
+];
+
+/// A stamp of one thread.
+fn one_component(first: u64) -> Stamp
+    ensures { (u : ℕ) → 1 ≤ u → slice_index result u ≡ 0 }
+{
+    let mut components = [0; 16];
+    components[0] = first;
+    Stamp::new(components)
+}
+
+/// A stamp of three threads.
+fn three_components(first: u64, second: u64, third: u64) -> Stamp
+    ensures { (u : ℕ) → 3 ≤ u → slice_index result u ≡ 0 }
+{
+    let mut components = [0; 16];
+    components[0] = first;
+    components[1] = second;
+    components[2] = third;
+    Stamp::new(components)
+}
+
+fn touch() -> StampedEntry
+    ensures { CanPutEntry 1 1 result }
+{
+    StampedEntry {
+        thread: 0,
+        number: 1,
+        what: What::Access { var: 0, place: 1 },
+        stamp: one_component(1),
+    }
+}
+
+/// Why no frame is read, if none is.
+fn fault_of(alloc: Global, bytes: &[u8]) -> Option<FrameError> {
+    match take_frame(alloc, bytes) {
+        Ok(_) => None,
+        Err(error) => Some(error),
+    }
+}
+
+/// Whether the bytes are the frame of this entry, in epoch 1 and of so many threads.
+fn is_entry(alloc: Global, bytes: &[u8], threads: u32, entry: &StampedEntry) -> bool {
+    match take_frame(alloc, bytes) {
+        Ok(
+            (
+                Frame::Entry {
+                    epoch,
+                    threads: told,
+                    entry: read,
+                },
+                size,
+            ),
+        ) => epoch == 1 && told == threads && read == *entry && size == bytes.len(),
+        _ => false,
+    }
+}
+
+/// The bytes with another one at a place.
+fn with_byte(alloc: Global, bytes: &[u8], place: usize, byte: u8) -> Result<Vec<u8>, Fail>
+    requires { place + 1 ≤ length bytes.now }
+{
+    let mut changed = Vec::from_slice(alloc, bytes)?;
+    changed[place] = byte;
+    Ok(changed)
+}
+
+#[test]
+fn a_touch_is_written_and_read(rt: HostRuntime) -> Result<(), Fail> {
+    let alloc = rt.alloc();
+    let entry = touch();
+    let written = put_entry(alloc, 1, 1, &entry)?;
+    assert_eq!(rt; written.as_slice(), TOUCH.as_slice());
+    assert_eq!(rt; entry_length(&entry), 47);
+    assert!(rt; is_entry(alloc, &TOUCH, 1, &entry));
+    assert!(rt; is_entry(alloc, &OLD_TOUCH, 1, &entry));
+    Ok(())
+}
+
+/// An output whose packet has three captured bytes.
+fn output(alloc: Global) -> Result<Output, Fail>
+    ensures { IfOk result (CanPutOutput 1 3) }
+{
+    Ok(Output {
+        thread: 2,
+        number: 2,
+        input: 9,
+        stamp: three_components(5, 0, 7),
+        packet: Packet {
+            seconds: 100,
+            fraction: 5,
+            original: 42,
+            bytes: Bytes::of(alloc, b"abc")?,
+        },
+    })
+}
+
+fn is_same_packet(first: &Packet, second: &Packet) -> bool {
+    (first.seconds, first.fraction, first.original)
+        == (second.seconds, second.fraction, second.original)
+        && first.bytes.as_slice() == second.bytes.as_slice()
+}
+
+fn is_same_output(first: &Output, second: &Output) -> bool {
+    (first.thread, first.number, first.input) == (second.thread, second.number, second.input)
+        && first.stamp == second.stamp
+        && is_same_packet(&first.packet, &second.packet)
+}
+
+/// Whether the bytes are the frame of this output, in epoch 1 and of three threads.
+fn is_output(alloc: Global, bytes: &[u8], output: &Output) -> bool {
+    let Ok((frame, size)) = take_frame(alloc, bytes) else {
+        return false;
+    };
+    match &frame {
+        Frame::Output {
+            epoch,
+            threads,
+            output: read,
+        } => (*epoch, *threads, size) == (1, 3, bytes.len()) && is_same_output(read, output),
+        Frame::Entry { .. } => false,
+    }
+}
+
+#[test]
+fn an_output_is_written_and_read(rt: HostRuntime) -> Result<(), Fail> {
+    let alloc = rt.alloc();
+    let output = output(alloc)?;
+    let written = put_output(alloc, 1, 3, &output)?;
+    assert_eq!(rt; written.as_slice(), OUTPUT.as_slice());
+    assert_eq!(rt; output_length(&output), 66);
+    assert!(rt; is_output(alloc, &OUTPUT, &output));
+    assert!(rt; is_output(alloc, &OLD_OUTPUT, &output));
+    Ok(())
+}
+
+#[test]
+fn each_kind_of_entry_is_written_and_read(rt: HostRuntime) -> Result<(), Fail> {
+    let alloc = rt.alloc();
+    for (what, code) in [
+        (What::Access { var: 255, place: 3 }, 1),
+        (What::Clock(1_600_000_000_000_000), 2),
+        (What::Draw(0xffff_ffff), 3),
+        (What::Read { var: 7, after: 0 }, 4),
+    ] {
+        let entry = StampedEntry {
+            thread: 2,
+            number: 7,
+            what,
+            stamp: three_components(0, 4, 7),
+        };
+        let written = put_entry(alloc, 1, 3, &entry)?;
+        assert_eq!(rt; written.len(), 55, "code {code}");
+        assert_eq!(rt; written.as_slice()[11], code);
+        assert_eq!(rt; written.as_slice()[38], 6, "code {code}");
+        assert!(rt;
+            is_entry(alloc, written.as_slice(), 3, &entry),
+            "code {code}"
+        );
+    }
+    Ok(())
+}
+
+#[test]
+fn a_prefix_is_short(rt: HostRuntime) {
+    let alloc = rt.alloc();
+    let short = Some(FrameError::Fault(FrameFault::Short));
+    for frame in [
+        OLD_TOUCH.as_slice(),
+        TOUCH.as_slice(),
+        OLD_OUTPUT.as_slice(),
+        OUTPUT.as_slice(),
+    ] {
+        for size in 0..frame.len() {
+            assert_eq!(rt; fault_of(alloc, &frame[..size]), short, "{size} bytes");
+        }
+        assert_eq!(rt; fault_of(alloc, frame), None, "{} bytes", frame.len());
+    }
+}
+
+#[test]
+fn the_first_test_that_fails_answers(rt: HostRuntime) -> Result<(), Fail> {
+    let alloc = rt.alloc();
+    for (frame, place, byte, fault) in [
+        (OLD_TOUCH.as_slice(), 0, 3, Some(FrameFault::BadKind)),
+        (OLD_TOUCH.as_slice(), 1, 9, Some(FrameFault::BadVersion)),
+        (OLD_TOUCH.as_slice(), 1, 2, Some(FrameFault::BadLength)),
+        (OLD_TOUCH.as_slice(), 5, 44, Some(FrameFault::BadLength)),
+        (OLD_TOUCH.as_slice(), 5, 46, Some(FrameFault::Short)),
+        (OLD_TOUCH.as_slice(), 11, 4, Some(FrameFault::OutOfRange)),
+        (OLD_TOUCH.as_slice(), 36, 0, Some(FrameFault::OutOfRange)),
+        (OLD_TOUCH.as_slice(), 36, 2, Some(FrameFault::BadLength)),
+        (OLD_TOUCH.as_slice(), 44, 0, None),
+        (TOUCH.as_slice(), 0, 3, Some(FrameFault::BadKind)),
+        (TOUCH.as_slice(), 1, 0, Some(FrameFault::BadVersion)),
+        (TOUCH.as_slice(), 1, 1, Some(FrameFault::BadLength)),
+        (TOUCH.as_slice(), 5, 38, Some(FrameFault::BadLength)),
+        (TOUCH.as_slice(), 5, 46, Some(FrameFault::BadLength)),
+        (TOUCH.as_slice(), 5, 48, Some(FrameFault::Short)),
+        (TOUCH.as_slice(), 9, 0, Some(FrameFault::OutOfRange)),
+        (TOUCH.as_slice(), 10, 1, Some(FrameFault::OutOfRange)),
+        (TOUCH.as_slice(), 11, 2, Some(FrameFault::OutOfRange)),
+        (TOUCH.as_slice(), 11, 4, None),
+        (TOUCH.as_slice(), 11, 5, Some(FrameFault::OutOfRange)),
+        (TOUCH.as_slice(), 19, 0, Some(FrameFault::OutOfRange)),
+        (TOUCH.as_slice(), 26, 1, Some(FrameFault::OutOfRange)),
+        (TOUCH.as_slice(), 27, 255, None),
+        (TOUCH.as_slice(), 35, 0, Some(FrameFault::OutOfRange)),
+        (TOUCH.as_slice(), 36, 0, Some(FrameFault::OutOfRange)),
+        (TOUCH.as_slice(), 36, 2, None),
+        (TOUCH.as_slice(), 36, 16, None),
+        (TOUCH.as_slice(), 36, 17, Some(FrameFault::OutOfRange)),
+        (TOUCH.as_slice(), 37, 1, Some(FrameFault::OutOfRange)),
+        (TOUCH.as_slice(), 38, 0, Some(FrameFault::BadLength)),
+        (TOUCH.as_slice(), 38, 2, Some(FrameFault::OutOfRange)),
+        (TOUCH.as_slice(), 46, 0, Some(FrameFault::OutOfRange)),
+        (OUTPUT.as_slice(), 11, 1, Some(FrameFault::OutOfRange)),
+        (OUTPUT.as_slice(), 27, 0, Some(FrameFault::OutOfRange)),
+        (OUTPUT.as_slice(), 30, 4, Some(FrameFault::BadLength)),
+        (OUTPUT.as_slice(), 30, 6, None),
+        (OUTPUT.as_slice(), 30, 7, Some(FrameFault::BadLength)),
+        (OUTPUT.as_slice(), 30, 9, Some(FrameFault::OutOfRange)),
+        (OUTPUT.as_slice(), 60, 5, Some(FrameFault::OutOfRange)),
+        (OUTPUT.as_slice(), 62, 4, Some(FrameFault::BadLength)),
+    ] {
+        assert!(rt; place < frame.len());
+        let changed = with_byte(alloc, frame, place, byte)?;
+        assert_eq!(rt;
+            fault_of(alloc, &changed),
+            fault.map(FrameError::Fault),
+            "byte {place} is {byte}"
+        );
+    }
+    Ok(())
+}
+
+/// What becomes of a touch whose byte at this place is turned: the fault, or none where another entry is read.
+fn fault_of_turned(place: usize, is_old: bool) -> Option<FrameError> {
+    match place {
+        0 => Some(FrameError::Fault(FrameFault::BadKind)),
+        1 => Some(FrameError::Fault(FrameFault::BadVersion)),
+        2 | 3 => Some(FrameError::Fault(FrameFault::BadLength)),
+        4 | 5 => Some(FrameError::Fault(FrameFault::Short)),
+        10 | 11 | 20..=26 | 36 => Some(FrameError::Fault(FrameFault::OutOfRange)),
+        37 | 38 if !is_old => Some(FrameError::Fault(FrameFault::OutOfRange)),
+        _ => None,
+    }
+}
+
+#[test]
+fn a_turned_byte_is_refused_or_another_entry(rt: HostRuntime) -> Result<(), Fail> {
+    let alloc = rt.alloc();
+    let entry = touch();
+    for (frame, is_old) in [(OLD_TOUCH.as_slice(), true), (TOUCH.as_slice(), false)] {
+        for place in 0..frame.len() {
+            let turned = with_byte(alloc, frame, place, 255 - frame[place])?;
+            assert_eq!(rt;
+                fault_of(alloc, &turned),
+                fault_of_turned(place, is_old),
+                "byte {place}"
+            );
+            assert!(rt; !is_entry(alloc, &turned, 1, &entry), "byte {place}");
+        }
+    }
+    Ok(())
+}
