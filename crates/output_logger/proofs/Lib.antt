@@ -1,0 +1,5 @@
+pub mod KeyLemmas
+pub mod NameLemmas
+pub mod ArrivalLemmas
+pub mod GoneLemmas
+pub mod ReachLemmas
