@@ -12,7 +12,7 @@ use Rattle.output_logger.specs.Logger.{IsCalled, IsNamed, AreApart, ReleasesOnce
 use Rattle.output_logger.specs.Kept.{arrived, IsReady, IsWaiting, HaveNames, PartsBy, IsNoted, Gone}
 use Rattle.output_logger.proofs.KeyLemmas.{at_same, at_apart}
 use Rattle.output_logger.proofs.NameLemmas.{named_append, apart_append}
-use Rattle.output_logger.proofs.ArrivalLemmas.{ready_append, parts_none, parts_more}
+use Rattle.output_logger.proofs.ArrivalLemmas.{ready_append, ready_in, ready_below, some_is, parts_none, parts_more}
 
 -- room is kept only for the threads that there are
 pub awaited_in : (released : List Numbers) (t n : ℕ) → IsAwaited released t n → t < length released
@@ -30,7 +30,7 @@ noted_marked old new o is t n = (
     (cases_eq o.thread t),
 )
 
-noted_awaited : (old new : List Numbers) (o : Output) → IsNoted old new o → (t n : ℕ) → IsAwaited new t n ↔ (IsAwaited old t n × (IsCalled t n o → ⊥))
+pub noted_awaited : (old new : List Numbers) (o : Output) → IsNoted old new o → (t n : ℕ) → IsAwaited new t n ↔ (IsAwaited old t n × (IsCalled t n o → ⊥))
 noted_awaited old new o is t n = (
   λ h. ⊎_elim
     (λ (same : o.thread ≡ t). let q = (is.marks.room n).0 (subst (λ (u : ℕ). IsAwaited new u n) (sym same) h) in (subst (λ (u : ℕ). IsAwaited old u n) same q.0, λ called. q.1 (sym called.1)))
@@ -97,3 +97,10 @@ gone_more first old new start before after ready go k o gone sorted names below 
       );
       threads = same ∙ gone.threads;
     }
+
+-- the next ready one still waits, and those before it arrived earlier
+pub still_waits : (first old : List (ℕ × Output)) (start before : List Numbers) (keys done rest : List ℕ) (go : List Output) (k : ℕ) → Gone first old start before done go → IsStrictlySortedBy nat_cmp keys → keys ≡ done ++ k ∷ rest → ((a : ℕ) → IsReady keys a → IsSome (arrived first a)) → ((a : ℕ) → IsReady done a → a < k) × ((o : Output) × (arrived old k ≡ Some o))
+still_waits first old start before keys done rest go k gone sorted is there =
+    let below : (a : ℕ) → IsReady done a → a < k = ready_below done k rest (subst (λ (l : List ℕ). IsStrictlySortedBy nat_cmp l) is sorted) in
+    let some = some_is (arrived first k) (there k (subst (λ (l : List ℕ). IsReady l k) (sym is) (ready_in done k rest))) in
+    (below, (some.0, gone.kept k some.0 some.1 (λ r. let less = below k r in omega arith)))

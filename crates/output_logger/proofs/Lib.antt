@@ -2,4 +2,5 @@ pub mod KeyLemmas
 pub mod NameLemmas
 pub mod ArrivalLemmas
 pub mod GoneLemmas
+pub mod KeptLemmas
 pub mod ReachLemmas

@@ -2,7 +2,7 @@
 use Rattle.std.proofs.Common.{◌≡◌, ◌≢◌, ℕ, ◌⊎◌, ◌↔◌, List, [], ◌∷◌, ◌++◌, refl, sym, ap, ◌∙◌, subst, inl, inr, ⊎_elim, append_assoc}
 use Rattle.access_log.specs.declared.entry.Output.{Output}
 use Rattle.dup_filter.specs.Numbers.{Numbers, WasMarked}
-use Rattle.output_logger.specs.Logger.{IsCalled, IsNamed, IsAmong, AreApart, Parts, ReleasesOnce, Lives, Begins, Goes}
+use Rattle.output_logger.specs.Logger.{IsCalled, IsNamed, IsAmong, AreApart, Parts, appended, ReleasesOnce, Lives, Begins, Goes}
 
 pub named_append : (t n : ℕ) (xs ys : List Output) → IsNamed t n (xs ++ ys) ↔ (IsNamed t n xs ⊎ IsNamed t n ys)
 named_append t n [] ys = (λ h. inr h, λ h. ⊎_elim (λ q. absurd q) (λ q. q) h)
@@ -16,6 +16,28 @@ apart_append (x ∷ xs) ys a b none = (
   λ h. ⊎_elim (λ q. a.0 q) (λ q. none x.thread x.number (inl (refl, refl)) q) ((named_append x.thread x.number xs ys).0 h),
   apart_append xs ys a.1 b (λ t n p q. none t n (inr p) q),
 )
+
+-- what was appended
+
+pub appended_append : (xs ys : List Output) → appended xs (xs ++ ys) ≡ ys
+appended_append [] ys = refl
+appended_append (x ∷ xs) ys = appended_append xs ys
+
+pub appended_none : (xs : List Output) → appended xs xs ≡ []
+appended_none [] = refl
+appended_none (x ∷ xs) = appended_none xs
+
+append_nil : (xs : List Output) → xs ≡ xs ++ []
+append_nil [] = refl
+append_nil (x ∷ xs) = ap (λ l. x ∷ l) (append_nil xs)
+
+pub appends_none : (xs : List Output) → xs ≡ xs ++ appended xs xs
+appends_none xs = rw (appended_none xs) (append_nil xs)
+
+pub appended_more : (first old new : List Output) (o : Output) → old ≡ first ++ appended first old → new ≡ old ++ o ∷ [] → (new ≡ first ++ (appended first old ++ o ∷ [])) × (appended first new ≡ appended first old ++ o ∷ [])
+appended_more first old new o before more =
+    let whole : new ≡ first ++ (appended first old ++ o ∷ []) = more ∙ ap (λ l. l ++ o ∷ []) before ∙ append_assoc first (appended first old) (o ∷ []) in
+    (whole, ap (appended first) whole ∙ appended_append first (appended first old ++ o ∷ []))
 
 -- Over a life, each is released once
 

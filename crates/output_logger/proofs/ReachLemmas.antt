@@ -12,7 +12,7 @@ use Rattle.access_log.proofs.LaneLemmas.{lane_past, frontier_of_fresh, one_front
 use Rattle.output_logger.specs.Reach.{Reaches, AreFrontiers, WithEntry, WithCover}
 
 past_list : (s : List ℕ) (t : ℕ) → length s ≤ t → slice_index s t ≡ 0
-past_list s t h = get_or-eq_default 0 s t h
+past_list s t h = get_or-eq_default s 0 h
 
 -- threads past the last have frontier 0
 frontier_past : (held : List Lane) (s : List ℕ) (t : ℕ) → length held ≤ t → slice_index s t ≡ 0 → IsFrontier (lane held t) (slice_index s t)

@@ -41,7 +41,8 @@ abbrev pub HaveNames : List (ℕ × Output) → Type 0
 HaveNames outputs = (a b : ℕ) (o p : Output) → arrived outputs a ≡ Some o → arrived outputs b ≡ Some p → o.thread ≡ p.thread → o.number ≡ p.number → a ≡ b
 
 -- What is true of the parts of an output logger: room is kept for the numbers of just the waiting outputs.
-pub record AreKept (held : List Lane) (released : List Numbers) (outputs : List (ℕ × Output)) (index : List (ℕ × ℕ × ℕ)) : Type 0 where
+pub record AreKept (count : ℕ) (held : List Lane) (released : List Numbers) (outputs : List (ℕ × Output)) (index : List (ℕ × ℕ × ℕ)) : Type 0 where
+  pub counted : count ≡ length held
   pub threads : length released ≡ length held
   pub sorted : IsStrictlySortedBy nat_cmp (keys_of outputs)
   pub small : (a : ℕ) (o : Output) → arrived outputs a ≡ Some o → a < 2 ^ 64 - 1

@@ -57,6 +57,12 @@ pub record ReleasesOnce (old new : List Numbers) (go : List Output) : Type 0 whe
   pub apart : AreApart go
   pub marked : (t n : ℕ) → WasMarked new t n ↔ (IsNamed t n go ⊎ WasMarked old t n)
 
+-- The waiting outputs that are due by what is held then are released, in the order in which they arrived; the others wait on.
+pub record ReleasesDue (old new : Logger) (go : List Output) : Type 0 where
+  pub epoch : new.epoch ≡ old.epoch
+  pub parts : Parts (IsDue new.held) old.waiting go new.waiting
+  pub once : ReleasesOnce old.released new.released go
+
 -- From one state to another, by any number of calls, these outputs were released, in order.
 pub data Lives : List Numbers → List Output → List Numbers → Type 0 where
   Begins : (old : List Numbers) → Lives old [] old

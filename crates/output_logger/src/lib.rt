@@ -3,9 +3,11 @@
 #![tactic(auto)]
 
 mod laws;
+mod logger;
 mod reach;
 mod took;
 mod waiting;
 
 pub use laws::each_output_is_released_once;
+pub use logger::OutputLogger;
 pub use took::{EntryTook, OutputTook};
