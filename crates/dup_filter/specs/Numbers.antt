@@ -38,6 +38,10 @@ WasMarked released t n = IsMarked (numbers released t) n
 abbrev pub IsAwaited : List Numbers → ℕ → ℕ → Type 0
 IsAwaited released t n = HasRoom (numbers released t) n
 
+-- no number that room is kept for was marked
+abbrev pub AreApart : List Numbers → Type 0
+AreApart released = (t n : ℕ) → IsAwaited released t n → WasMarked released t n → ⊥
+
 -- the greatest number that was marked, or 0 where none was
 pub record IsGreatest (s : Numbers) (n : ℕ) : Type 0 where
   pub most : (k : ℕ) → IsMarked s k → k ≤ n

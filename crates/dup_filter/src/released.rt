@@ -1,5 +1,5 @@
 ghost use Rattle.std.specs.Prelude.{◌≡◌, ℕ, ◌<◌, ◌≤◌, ◌↔◌, ◌≢◌, IsTrue, IfOk, OnOk, OnErr, length, replicate};
-ghost use Rattle.dup_filter.specs.Numbers.{no_numbers, numbers, IsMarked, HasRoom, WasMarked, IsAwaited, IsGreatest, Marks, KeepsRoom, GivesUpRooms};
+ghost use Rattle.dup_filter.specs.Numbers.{no_numbers, numbers, WasMarked, IsAwaited, AreApart, IsGreatest, Marks, KeepsRoom, GivesUpRooms};
 
 use crate::numbers::Numbers;
 use plain_text::NoMemory;
@@ -20,7 +20,11 @@ impl Model for Released {
 
     ghost Value = { List Numbers };
 
+    ghost use Rattle.dup_filter.specs.Numbers.{AreApart};
+
     ghost view = { λ r. r.threads.items };
+
+    ghost invariant = { λ r. AreApart r.threads.items };
 }
 
 impl Released {
@@ -35,6 +39,13 @@ impl Released {
             each.push(Numbers::new(alloc))?;
         }
         Ok(Released { threads: each })
+    }
+
+    /// No number that room is kept for was marked. It does nothing: a caller has it by the call.
+    pub fn is_apart(&self)
+        ensures { AreApart self.now }
+    {
+        let _threads = &self.threads;
     }
 
     /// Whether the number of the thread was marked. It takes no memory.

@@ -1,5 +1,6 @@
 -- What is true of the parts of an output logger, as it takes entries and outputs.
-use Rattle.std.proofs.Common.{◌≡◌, ◌≢◌, ℕ, ◌≤◌, ◌<◌, ◌⊎◌, ◌↔◌, true, false, cond, List, [], ◌∷◌, ◌++◌, Option, Some, None, IsSome, length, map, slice_index, refl, sym, ap, ◌∙◌, subst, inl, inr, ⊎_elim, arith}
+use Rattle.std.proofs.Common.{◌≡◌, ◌≢◌, ℕ, ◌≤◌, ◌<◌, ◌⊎◌, ◌↔◌, true, false, cond, List, [], ◌∷◌, ◌++◌, Option, Some, None, IsSome, Result, Ok, Err, OnOk, OnErr, length, slice_index, refl, sym, ap, ◌∙◌, subst, inl, inr, ⊎_elim, arith}
+use Rattle.std.specs.Result.{is_err}
 use Rattle.std.specs.Ordering.{nat_cmp}
 use Rattle.std.specs.List.Sorted.{IsStrictlySortedBy}
 use Rattle.std.specs.Map.{keys_of, values_of}
@@ -8,18 +9,23 @@ use Rattle.std.proofs.lemmas.Bool.{cases_lt, cases_eq}
 use Rattle.std.proofs.lemmas.List.{map-append}
 use Rattle.std.proofs.lemmas.Map.Keys.{sorted_tail}
 use Rattle.thread_clock.specs.Clock.{AtMost}
+use Rattle.plain_text.specs.declared.memory.NoMemory.{NoMemory}
 use Rattle.access_log.specs.declared.entry.Output.{Output}
+use Rattle.access_log.specs.declared.entry.Added.{Added}
+use Rattle.access_log.specs.declared.entry.Added.TheVariants.{New, Known}
 use Rattle.access_log.specs.declared.entry.StampedEntry.{StampedEntry}
 use Rattle.access_log.specs.Held.{Lane, lane, entry_at, IsKnown, IsFrontier}
 use Rattle.access_log.specs.Lanes.{PutsEntry, CoversUpTo}
-use Rattle.access_log.proofs.LaneLemmas.{one_frontier, AtMost-IsWithin}
+use Rattle.access_log.proofs.LaneLemmas.{lane_past, one_frontier, AtMost-IsWithin}
 use Rattle.dup_filter.specs.Numbers.{Numbers, numbers, IsMarked, HasRoom, WasMarked, IsAwaited, Marks, KeepsRoom}
-use Rattle.output_logger.specs.Logger.{IsDue, IsCalled, IsNamed, IsAmong, AreApart, Parts, ReleasesOnce}
+use Rattle.output_logger.specs.Logger.{Logger, IsDue, IsCalled, IsNamed, IsAmong, AreApart, Parts, appended, ReleasesOnce, ReleasesDue}
 use Rattle.output_logger.specs.Reach.{AreFrontiers}
 use Rattle.output_logger.specs.Kept.{arrived, IsReady, IsWaiting, IsIndexed, IsDueBy, HaveNames, PartsBy, Arrives, IsNoted, Gone, AreKept}
 use Rattle.output_logger.proofs.KeyLemmas.{at_same, at_apart}
 use Rattle.output_logger.proofs.ArrivalLemmas.{some_of, some_is, arrived_head, arrived_tail, arrived_above}
-use Rattle.output_logger.proofs.GoneLemmas.{noted_awaited}
+use Rattle.output_logger.proofs.ReachLemmas.{not_covered}
+use Rattle.output_logger.proofs.NameLemmas.{appended_append, appended_none}
+use Rattle.output_logger.proofs.GoneLemmas.{noted_awaited, once_none, once_more}
 
 abbrev Arrivals : Type 0
 Arrivals = List (ℕ × Output)
@@ -95,6 +101,20 @@ more_with_entry old new thread number e p others t n h =
       subst (λ (u : ℕ). IsKnown (lane new u) n) (sym same) there)
     (λ (apart : t ≢ thread). subst (λ (l : Lane). IsKnown l n) (sym (others t apart)) h)
     (cases_eq t thread)
+
+pub more_with_cover : (old new : List Lane) (counts : List ℕ) → ((t : ℕ) → t < length old → (lane old t).covered ≤ slice_index counts t) → ((t : ℕ) → t < length old → CoversUpTo (lane old t) (lane new t) (slice_index counts t)) → length new ≡ length old → (t n : ℕ) → IsKnown (lane old t) n → IsKnown (lane new t) n
+more_with_cover old new counts rising covers same t n h =
+    ⊎_elim
+    (λ (within : t < length old).
+      let c = covers t within in
+      let covered = c.covered in
+      let least = rising t within in
+      ⊎_elim
+      (λ (past : slice_index counts t < n). ⊎_elim (λ q. absurd (omega arith)) (λ q. inr (subst (λ (o : Option StampedEntry). IsSome o) (sym (c.held n ∙ not_covered (lane old t) (slice_index counts t) n past)) q)) h)
+      (λ low. inl (omega arith))
+      (cases_lt (slice_index counts t) n))
+    (λ past. let o = lane_past old t past in let k = lane_past new t (omega arith) in subst (λ (l : Lane). IsKnown l n) (o ∙ sym k) h)
+    (cases_lt t (length old))
 
 -- The parts after some went
 
@@ -252,3 +272,29 @@ kept_empty count held released outputs index none sorted counted threads rooms =
       apart = λ a b o p h. absurd (no a o h);
       none_due = λ b p h. absurd (no b p h);
     }
+
+-- Answers
+
+pub err_of : {A E : Type 0} {P : Type 0} (r : Result A E) → is_err r ≡ true → OnErr r P → P
+err_of (Ok x) e h = absurd cc
+err_of (Err x) e h = h
+
+abbrev pub taken : Added → Result Added NoMemory
+taken a = Ok a
+
+pub added_new : (a : Added) → (taken a ≡ taken Known → ⊥) → taken a ≡ taken New
+added_new New h = refl
+added_new Known h = absurd (h refl)
+
+pub once_either : {A E : Type 0} (r : Result A E) (old new : Logger) (out after : List Output) → OnErr r ((new ≡ old) × (after ≡ out)) → OnOk r (ReleasesDue old new (appended out after)) → ReleasesOnce old.released new.released (appended out after)
+once_either (Ok x) old new out after err ok = ok.once
+once_either (Err x) old new out after err ok =
+    let none : appended out after ≡ [] = ap (appended out) err.1 ∙ appended_none out in
+    rw none (subst (λ (l : Logger). ReleasesOnce old.released l.released []) (sym err.0) (once_none old.released))
+
+pub marked_kept : {A E : Type 0} (r : Result A E) (count : ℕ) (held : List Lane) (before after : List Numbers) (es : Arrivals) (index : List (ℕ × ℕ × ℕ)) (o : Output) → AreKept count held before es index → OnOk r (Marks (numbers before o.thread) (numbers after o.thread) o.number) → OnErr r (after ≡ before) → ((t : ℕ) → t ≢ o.thread → numbers after t ≡ numbers before t) → length after ≡ length before → (WasMarked before o.thread o.number → ⊥) → (IsAwaited before o.thread o.number → ⊥) → AreKept count held after es index
+marked_kept (Ok x) count held before after es index o kept ok err others same fresh alone = kept_noted count held before after es index o kept (record { fresh = fresh; marks = ok; others = others }) alone same
+marked_kept (Err x) count held before after es index o kept ok err others same fresh alone = subst (λ (l : List Numbers). AreKept count held l es index) (sym err) kept
+
+pub once_one : (before after : List Numbers) (o : Output) → IsNoted before after o → ReleasesOnce before after (o ∷ [])
+once_one before after o noted = once_more before before after [] o (once_none before) noted

@@ -1,5 +1,5 @@
 -- Lists of outputs by their threads and numbers, and their parts.
-use Rattle.std.proofs.Common.{◌≡◌, ◌≢◌, ℕ, ◌⊎◌, ◌↔◌, List, [], ◌∷◌, ◌++◌, refl, sym, ap, ◌∙◌, subst, inl, inr, ⊎_elim, append_assoc}
+use Rattle.std.proofs.Common.{◌≡◌, ◌≢◌, ℕ, ◌⊎◌, ◌↔◌, List, [], ◌∷◌, ◌++◌, length, take, refl, sym, ap, ◌∙◌, subst, inl, inr, ⊎_elim, append_assoc}
 use Rattle.access_log.specs.declared.entry.Output.{Output}
 use Rattle.dup_filter.specs.Numbers.{Numbers, WasMarked}
 use Rattle.output_logger.specs.Logger.{IsCalled, IsNamed, IsAmong, AreApart, Parts, appended, ReleasesOnce, Lives, Begins, Goes}
@@ -38,6 +38,10 @@ pub appended_more : (first old new : List Output) (o : Output) → old ≡ first
 appended_more first old new o before more =
     let whole : new ≡ first ++ (appended first old ++ o ∷ []) = more ∙ ap (λ l. l ++ o ∷ []) before ∙ append_assoc first (appended first old) (o ∷ []) in
     (whole, ap (appended first) whole ∙ appended_append first (appended first old ++ o ∷ []))
+
+pub take_first : (xs ys : List Output) → take (length xs) (xs ++ ys) ≡ xs
+take_first [] ys = refl
+take_first (x ∷ xs) ys = ap (λ l. x ∷ l) (take_first xs ys)
 
 -- Over a life, each is released once
 

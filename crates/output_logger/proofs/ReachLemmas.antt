@@ -55,7 +55,7 @@ frontier_with_next old new f number g e is p next r =
       ends = λ h. ⊎_elim (λ q. omega arith) (λ q. let apart : g + 1 ≢ number = λ s. omega arith in let none = p.others (g + 1) apart ∙ r.ends in let some = subst (λ (o : Option StampedEntry). IsSome o) none q in cc) h;
     }
 
-not_covered : (old : Lane) (count k : ℕ) → count < k → cond (leb k count) None (entry_at old k) ≡ entry_at old k
+pub not_covered : (old : Lane) (count k : ℕ) → count < k → cond (leb k count) None (entry_at old k) ≡ entry_at old k
 not_covered old count k past = let b : leb k count ≡ false = grind (arith, nat_tests) in ap (λ v. cond v None (entry_at old k)) b
 
 -- what covering leaves

@@ -116,8 +116,8 @@ impl OutputLogger {
     pub fn is_logger(&self)
         ensures { IsLogger self.now }
     {
-        let _waiting = &self.waiting;
         self.held.is_held_set();
+        self.released.is_apart();
     }
 
     /// Takes a log entry that a master of this epoch sent. The waiting outputs that are due then are released, in the order in
@@ -181,7 +181,7 @@ impl OutputLogger {
         let from = frontiers(&self.held);
         let reached = frontiers_with(&self.held, entry.thread, entry.number)?;
         let ready = prepare(&self.waiting, self.alloc, &from, &reached, out)?;
-        self.held.add(entry)?;
+        let _added = self.held.add(entry)?;
         self.waiting.release(&mut self.released, &ready, out);
         Ok(())
     }

@@ -184,7 +184,7 @@ impl Waiting {
     /// Lets no output wait any more. It takes no memory.
     pub fn clear(&mut self)
         ensures outputs { self.new.outputs.entries ≡ [] }
-        ensures index { self.new.index.keys ≡ [] }
+        ensures sorted { IsStrictlySortedBy nat_cmp (keys_of self.new.outputs.entries) }
     {
         self.outputs.clear();
         self.index.clear();
