@@ -1,0 +1,3 @@
+pub mod Logger
+pub mod Kept
+pub mod Reach
