@@ -1,8 +1,8 @@
 -- What the tests of a frame say, as facts on its numbers.
 use Rattle.std.proofs.Common.{◌≡◌, ℕ, ◌^◌, ◌<◌, ◌≤◌, ◌==◌, ◌&&◌, ◌∙◌, Bool, true, false, not, if◌then◌else◌, List, ◌++◌, length, None, refl, sym, subst, arith, inl, inr}
 use Rattle.std.proofs.lemmas.Bool.{ltb-false, leb-false, eqb-true, eqb-false, le-ltb, lt-leb, eq-eqb, ne_eqb, or_parts, or_from, and_cases, not-false, not_from_true, true≢false}
-use Rattle.wire_frames.specs.declared.field.Kind.{Kind}
-use Rattle.wire_frames.specs.declared.field.Kind.TheVariants.{Log, Out}
+use Rattle.plain_text.specs.declared.kind.Kind.{Kind}
+use Rattle.plain_text.specs.declared.kind.Kind.TheVariants.{Log, Out}
 use Rattle.wire_frames.specs.declared.field.Version.{Version}
 use Rattle.wire_frames.specs.declared.field.Version.TheVariants.{One, Two}
 use Rattle.wire_frames.specs.Layout.{kind_code, version_code}

@@ -4,7 +4,7 @@ use Rattle.std.proofs.lemmas.Bool.{eqb-true, not-false}
 use Rattle.std.proofs.lemmas.List.{length-drop}
 use Rattle.plain_text.specs.Octets.{AreBytes}
 use Rattle.plain_text.proofs.Octets.{AreBytes-drop}
-use Rattle.wire_frames.specs.declared.field.Kind.{Kind}
+use Rattle.plain_text.specs.declared.kind.Kind.{Kind}
 use Rattle.wire_frames.specs.declared.field.Version.{Version}
 use Rattle.wire_frames.specs.declared.field.Version.TheVariants.{One, Two}
 use Rattle.wire_frames.specs.Layout.{spelled, mask_of, nonzero, component_fields, AreComponents}

@@ -3,8 +3,8 @@ use Rattle.std.proofs.Common.{◌≡◌, ℕ, ◌+◌, ◌<◌, ◌∙◌, List,
 use Rattle.std.proofs.lemmas.List.{append-nil, take-append-drop, length-take}
 use Rattle.plain_text.specs.Octets.{AreBytes}
 use Rattle.entry_order.specs.declared.what.What.{What}
-use Rattle.wire_frames.specs.declared.field.Kind.{Kind}
-use Rattle.wire_frames.specs.declared.field.Kind.TheVariants.{Log, Out}
+use Rattle.plain_text.specs.declared.kind.Kind.{Kind}
+use Rattle.plain_text.specs.declared.kind.Kind.TheVariants.{Log, Out}
 use Rattle.wire_frames.specs.declared.field.Version.{Version}
 use Rattle.wire_frames.specs.declared.field.Version.TheVariants.{Two}
 use Rattle.wire_frames.specs.declared.frame.Frame.{Frame}

@@ -1,8 +1,8 @@
 -- Where no frame stands at the front of bytes: the first test that fails, and its answer.
 use Rattle.std.specs.Prelude.{◌≡◌, ℕ, ◌+◌, ◌^◌, ◌==◌, ◌&&◌, ◌||◌, Bool, false, not, nat_lt, nat_le, if◌then◌else◌, List, [], ◌∷◌, ◌++◌, length, Option, Some, None, is_none, Result, Ok, Err}
 use Rattle.plain_text.specs.declared.limit.TheConstants.{MOST_CAPTURED}
-use Rattle.wire_frames.specs.declared.field.Kind.{Kind}
-use Rattle.wire_frames.specs.declared.field.Kind.TheVariants.{Log, Out}
+use Rattle.plain_text.specs.declared.kind.Kind.{Kind}
+use Rattle.plain_text.specs.declared.kind.Kind.TheVariants.{Log, Out}
 use Rattle.wire_frames.specs.declared.field.Version.{Version}
 use Rattle.wire_frames.specs.declared.field.Version.TheVariants.{One, Two}
 use Rattle.wire_frames.specs.declared.frame.Frame.{Frame}

@@ -1,12 +1,3 @@
-/// What a frame is of.
-#[derive(Clone, Copy, Debug, PartialEq, Eq)]
-pub(crate) enum Kind {
-    /// A log entry.
-    Log,
-    /// An output.
-    Out,
-}
-
 /// How a frame is laid out.
 #[derive(Clone, Copy, Debug, PartialEq, Eq)]
 pub(crate) enum Version {

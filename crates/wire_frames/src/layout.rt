@@ -6,9 +6,9 @@ ghost use Rattle.wire_frames.specs.Parts.{layout_of};
 
 use crate::FrameFault;
 use crate::bytes::{byte_at, u16_at, u32_at};
-use crate::field::{Kind, Version};
+use crate::field::Version;
 use crate::stamp::bits_set;
-use plain_text::MOST_CAPTURED;
+use plain_text::{Kind, MOST_CAPTURED};
 
 /// The bytes that tell the kind, the version and the length.
 const PREFIX: usize = 6;
@@ -34,37 +34,35 @@ pub(crate) struct Layout {
     pub(crate) end: usize,
 }
 
-impl Kind {
-    /// The place of the number of threads.
-    fn threads_place(self) -> usize
-        ensures { result ≡ threads_place self }
-    {
-        match self {
-            Kind::Log => 36,
-            Kind::Out => 28,
-        }
+/// The place of the number of threads in a frame of this kind.
+fn place_of_threads(kind: Kind) -> usize
+    ensures { result ≡ threads_place kind }
+{
+    match kind {
+        Kind::Log => 36,
+        Kind::Out => 28,
     }
+}
 
-    /// The place of the first component.
-    pub(crate) fn components_place(self, version: Version) -> usize
-        ensures { result ≡ components_place self version }
-    {
-        match version {
-            Version::One => self.threads_place() + 1,
-            Version::Two => self.threads_place() + 3,
-        }
+/// The place of the first component in a frame of this kind and version.
+pub(crate) fn place_of_components(kind: Kind, version: Version) -> usize
+    ensures { result ≡ components_place kind version }
+{
+    match version {
+        Version::One => place_of_threads(kind) + 1,
+        Version::Two => place_of_threads(kind) + 3,
     }
+}
 
-    /// The least bytes of a frame.
-    fn least(self, version: Version) -> u32
-        ensures { result ≡ least self version }
-    {
-        match (self, version) {
-            (Kind::Log, Version::One) => 45,
-            (Kind::Out, Version::One) => 53,
-            (Kind::Log, Version::Two) => 39,
-            (Kind::Out, Version::Two) => 47,
-        }
+/// The least bytes of a frame of this kind and version.
+fn least_length(kind: Kind, version: Version) -> u32
+    ensures { result ≡ least kind version }
+{
+    match (kind, version) {
+        (Kind::Log, Version::One) => 45,
+        (Kind::Out, Version::One) => 53,
+        (Kind::Log, Version::Two) => 39,
+        (Kind::Out, Version::Two) => 47,
     }
 }
 
@@ -82,7 +80,7 @@ pub(crate) fn find_layout(bytes: &[u8]) -> Result<Layout, FrameFault>
     let (kind, version) = read_form(bytes)?;
     let length = read_length(bytes, kind, version)?;
     let (threads, mask) = read_threads(bytes, kind, version)?;
-    let end = kind.components_place(version) + 8 * bits_set(mask);
+    let end = place_of_components(kind, version) + 8 * bits_set(mask);
     check_size(bytes, kind, version, length, end)?;
     Ok(Layout {
         kind,
@@ -129,7 +127,7 @@ fn read_length(bytes: &[u8], kind: Kind, version: Version) -> Result<usize, Fram
         Version::One => MOST_OF_ONE,
         Version::Two => MOST_OF_TWO,
     };
-    if length < kind.least(version) || length > most {
+    if length < least_length(kind, version) || length > most {
         return Err(FrameFault::BadLength);
     }
     if bytes.len() < length as usize {
@@ -147,7 +145,7 @@ fn read_threads(bytes: &[u8], kind: Kind, version: Version) -> Result<(u32, u32)
     ensures fault { IfErr result (λ fault. first_failure (stamp_tests kind version bytes.now)
         ≡ Some fault) }
 {
-    let place = kind.threads_place();
+    let place = place_of_threads(kind);
     let threads = byte_at(bytes, place);
     if threads == 0 || threads > 16 {
         return Err(FrameFault::OutOfRange);

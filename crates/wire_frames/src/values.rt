@@ -1,5 +1,5 @@
 ghost use Rattle.std.specs.Prelude.{◌≡◌, ◌+◌, ◌≤◌, ◌^◌, ◌<◌, ◌==◌, not, true, false, length, option_map, Some, None, IfOk, IfErr, IfSome, IfNone};
-ghost use Rattle.wire_frames.specs.declared.field.Kind.TheVariants.{Log, Out};
+ghost use Rattle.plain_text.specs.declared.kind.Kind.TheVariants.{Log, Out};
 ghost use Rattle.wire_frames.specs.declared.field.Version.TheVariants.{One, Two};
 ghost use Rattle.wire_frames.specs.declared.frame.FrameFault.TheVariants.{OutOfRange};
 ghost use Rattle.wire_frames.specs.Faults.{first_failure, field_tests, has_zero_component, is_not_sent, needed};
@@ -8,13 +8,13 @@ ghost use Rattle.wire_frames.specs.Parts.{common_at, layout_of, IsFieldCause, Is
 ghost use Rattle.wire_frames.specs.Places.{entry_at, kind_at, number_at, output_at, packet_from, stamp_at, version_at, what_at, what_from};
 
 use crate::bytes::{byte_at, u32_at, u64_at};
-use crate::field::{Kind, Version};
-use crate::layout::{Layout, PACKET_HEADER};
+use crate::field::Version;
+use crate::layout::{Layout, PACKET_HEADER, place_of_components};
 use crate::stamp::{mask_of, read_stamp};
 use crate::{Frame, FrameError, FrameFault};
 use access_log::{Output, StampedEntry};
 use entry_order::What;
-use plain_text::{Bytes, NoMemory, Packet};
+use plain_text::{Bytes, Kind, NoMemory, Packet};
 use std::alloc::Global;
 use thread_clock::Stamp;
 
@@ -176,7 +176,7 @@ fn find_stamp(bytes: &[u8], layout: &Layout) -> Option<Stamp>
     ensures fault { IfNone result
         (has_zero_component (kind_at bytes.now) (version_at bytes.now) bytes.now ≡ true) }
 {
-    let first = layout.kind.components_place(layout.version);
+    let first = place_of_components(layout.kind, layout.version);
     let stamp = read_stamp(layout.mask, &bytes[first..]);
     if has_zero_component(layout, &stamp) {
         return None;

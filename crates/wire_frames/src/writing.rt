@@ -1,7 +1,7 @@
 ghost use Rattle.std.specs.Prelude.{◌≡◌, ◌+◌, ◌*◌, ◌^◌, ◌<◌, ◌≤◌, ◌++◌, ◌∷◌, [], ℕ, length, slice_index, OnOk, OnErr, IfOk};
 ghost use Rattle.byteorder.specs.Endian.{big_bytes};
 ghost use Rattle.plain_text.specs.declared.limit.TheConstants.{MOST_CAPTURED};
-ghost use Rattle.wire_frames.specs.declared.field.Kind.TheVariants.{Log, Out};
+ghost use Rattle.plain_text.specs.declared.kind.Kind.TheVariants.{Log, Out};
 ghost use Rattle.wire_frames.specs.declared.field.Version.TheVariants.{Two};
 ghost use Rattle.wire_frames.specs.declared.frame.Frame.TheVariants as frame;
 ghost use Rattle.wire_frames.specs.Layout.{code_of, component_fields, field, nonzero, packet_fields, place_of, spelled, subject_of, written, written_length, IsFrame};
