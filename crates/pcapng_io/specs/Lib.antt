@@ -1,0 +1,7 @@
+pub mod Blocks
+pub mod Capture
+pub mod Contents
+pub mod Frames
+pub mod Interfaces
+pub mod Limits
+pub mod Times
