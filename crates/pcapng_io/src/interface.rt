@@ -1,5 +1,6 @@
-ghost use Rattle.std.specs.Prelude.{◌≡◌, ◌≤◌, ◌<◌, ℕ, length};
+ghost use Rattle.std.specs.Prelude.{◌≡◌, ◌≤◌, ◌<◌, ℕ, length, IfOk, IfSome};
 ghost use Rattle.pcapng_io.specs.Interfaces.{interface_in, units_of, padded, with_setting, with_options};
+ghost use Rattle.pcapng_io.specs.Contents.{HasUnits};
 
 use crate::NgCause;
 use crate::number::{read_i64, read_u16, read_u32};
@@ -27,7 +28,8 @@ pub struct Interface {
 /// The interface that the body of a block of type 1 describes.
 pub(crate) fn read_interface(order: Order, body: &[u8]) -> Result<Interface, NgCause>
     requires { 8 ≤ length body.now }
-    ensures { result ≡ interface_in order body.now }
+    ensures value { result ≡ interface_in order body.now }
+    ensures units { IfOk result HasUnits }
 {
     if read_u16(order, body) != ETHERNET {
         return Err(NgCause::BadLinkType);
@@ -44,8 +46,10 @@ pub(crate) fn read_interface(order: Order, body: &[u8]) -> Result<Interface, NgC
 }
 
 /// The units in a second of a resolution.
+#[tactic(auto, using(crate::proofs::Powers::ten_pow))]
 fn units_of(resolution: u8) -> Option<u64>
-    ensures { result ≡ units_of resolution }
+    ensures value { result ≡ units_of resolution }
+    ensures some { IfSome result (λ units. 1 ≤ units) }
 {
     match resolution {
         0..=19 => Some(10u64.pow(u32::from(resolution))),
@@ -66,7 +70,9 @@ fn padded(length: usize) -> usize
 impl Interface {
     /// The interface, once the options in these bytes are read. None comes where an option is bad.
     fn with_options(self, order: Order, bytes: &[u8]) -> Option<Interface>
-        ensures { (n : ℕ) → length bytes.now ≤ n → result ≡ with_options n order self bytes.now }
+        requires { 1 ≤ self.units }
+        ensures value { (n : ℕ) → length bytes.now ≤ n → result ≡ with_options n order self bytes.now }
+        ensures units { IfSome result HasUnits }
     {
         let mut interface = self;
         let mut rest = bytes;
@@ -88,7 +94,9 @@ impl Interface {
 
     /// The interface, once an option is read. None comes where it is bad.
     fn with_option(self, order: Order, code: u16, value: &[u8]) -> Option<Interface>
-        ensures { result ≡ with_setting order self (record { code = code; value = value.now }) }
+        requires { 1 ≤ self.units }
+        ensures value { result ≡ with_setting order self (record { code = code; value = value.now }) }
+        ensures units { IfSome result HasUnits }
     {
         match code {
             RESOLUTION => {

@@ -3,9 +3,11 @@
 #![tactic(auto)]
 
 mod block;
+mod content;
 mod fault;
 mod interface;
 mod number;
+mod packet;
 mod time;
 
 pub use block::{Block, BlockKind, MOST_BLOCK};
