@@ -1,3 +1,5 @@
 pub mod Options
 pub mod Packets
 pub mod Powers
+pub mod Frames
+pub mod Blocks

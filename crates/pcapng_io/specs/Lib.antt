@@ -5,3 +5,4 @@ pub mod Frames
 pub mod Interfaces
 pub mod Limits
 pub mod Times
+pub mod Stops

@@ -5,9 +5,12 @@
 mod block;
 mod content;
 mod fault;
+mod frame;
 mod interface;
 mod number;
 mod packet;
+mod piece;
+mod place;
 mod time;
 
 pub use block::{Block, BlockKind, MOST_BLOCK};
