@@ -3,3 +3,4 @@ pub mod Packets
 pub mod Powers
 pub mod Frames
 pub mod Blocks
+pub mod Takes
