@@ -76,7 +76,7 @@ or_true : (a b : Bool) → b ≡ true → a || b ≡ true
 or_true true b is = refl
 or_true false b is = is
 
-drop_sum : (a b : ℕ) (xs : List ℕ) → drop a (drop b xs) ≡ drop (b + a) xs
+pub drop_sum : (a b : ℕ) (xs : List ℕ) → drop a (drop b xs) ≡ drop (b + a) xs
 drop_sum a b xs = drop-drop a b xs
 
 -- a block, from the 12 bytes of its head and the bytes behind its first eight

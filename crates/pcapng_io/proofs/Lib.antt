@@ -4,3 +4,5 @@ pub mod Powers
 pub mod Frames
 pub mod Blocks
 pub mod Takes
+pub mod Standing
+pub mod Readings

@@ -6,3 +6,5 @@ pub mod Interfaces
 pub mod Limits
 pub mod Times
 pub mod Stops
+pub mod Any
+pub mod Reader

@@ -57,6 +57,8 @@ impl Place {
             → IfErr result (StopsHere self (held_type self.typed ++ S.left source.old)) }
         ensures taken { TakesBlock S.reads (held_type self.typed) result source.old source.new }
         ensures stands { IfOk result (StandsHere self) }
+        ensures ended { IsErrOf result Stop.End
+            → (self.typed ≡ false) × S.reads source.old [] source.new }
         ensures later { S.faults source.old ≤ S.faults source.new }
         ensures cause { IsErrOf result Stop.ReadFault
             → Rose (S.faults source.old) (S.faults source.new) }
@@ -87,6 +89,7 @@ impl Place {
             → IfErr result (StopsHere self (head.now ++ S.left source.old)) }
         ensures taken { TakesBlock S.reads head.now result source.old source.new }
         ensures stands { IfOk result (StandsHere self) }
+        ensures some { ¬ IsErrOf result Stop.End }
         ensures later { S.faults source.old ≤ S.faults source.new }
         ensures cause { IsErrOf result Stop.ReadFault
             → Rose (S.faults source.old) (S.faults source.new) }
@@ -131,6 +134,7 @@ impl Place {
         requires { 12 ≤ self.room }
         ensures told { IsTrue S.tells → PassesRest self.room total (S.left source.old) result }
         ensures taken { (taken : List ℕ) × S.reads source.old taken source.new }
+        ensures some { result ≢ Stop.End }
         ensures later { S.faults source.old ≤ S.faults source.new }
         ensures cause { result ≡ Stop.ReadFault → Rose (S.faults source.old) (S.faults source.new) }
         ensures never_fails { S.healthy source.old → result ≢ Stop.ReadFault }

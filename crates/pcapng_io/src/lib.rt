@@ -7,12 +7,15 @@ mod content;
 mod fault;
 mod frame;
 mod interface;
+mod next;
 mod number;
 mod packet;
 mod piece;
 mod place;
+mod reader;
 mod time;
 
 pub use block::{Block, BlockKind, MOST_BLOCK};
 pub use fault::{AnyFault, NgCause, NgFault};
 pub use interface::Interface;
+pub use next::AnyNext;

@@ -37,6 +37,7 @@ impl Place {
             × (self.full && shows_packet self.order self.room head.now ≡ false)) }
         ensures stops { IfErr result (λ why. (more : List ℕ)
             → (length head.now < 12 → more ≡ []) → StopsHere self (head.now ++ more) why) }
+        ensures ended { IsErrOf result Stop.End → head.now ≡ [] }
         ensures quiet { ¬ IsErrOf result Stop.ReadFault }
     {
         if head.is_empty() {
