@@ -1,4 +1,4 @@
-ghost use Rattle.std.specs.Prelude.{◌≡◌, ◌≢◌, ◌≤◌, ◌-◌, ◌==◌, ◌↔◌, ◌++◌, true, false, [], IsTrue, IfErr, IsErrOf};
+ghost use Rattle.std.specs.Prelude.{◌≡◌, ◌≢◌, ◌≤◌, ◌<◌, ◌-◌, ◌==◌, ◌↔◌, ◌++◌, true, false, [], IsTrue, OnOk, IfErr, IsErrOf};
 ghost use Rattle.plain_text.specs.declared.limit.TheConstants.{MOST_FILE_BYTES, MOST_PACKETS};
 ghost use Rattle.pcap_io.specs.declared.order.Order.TheVariants.{Little};
 ghost use Rattle.world_io.specs.Stream.{Rose};
@@ -105,6 +105,7 @@ impl NgReader {
             → IfErr result (StopsAt (section_of self.old) self.old.count self.old.offset
             (held_type self.old.typed ++ S.left source.old)) }
         ensures moves { MovesOn S.reads result source.old source.new self.old self.new }
+        ensures grows { OnOk result (self.old.offset < self.new.offset) }
         ensures ended { IsErrOf result Stop.End
             → (self.old.typed ≡ false) × S.reads source.old [] source.new }
         ensures later { S.faults source.old ≤ S.faults source.new }
