@@ -6,3 +6,4 @@ pub mod Blocks
 pub mod Takes
 pub mod Standing
 pub mod Readings
+pub mod Formats

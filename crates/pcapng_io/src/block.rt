@@ -7,7 +7,7 @@ use plain_text::Bytes;
 /// The most bytes of a block.
 pub const MOST_BLOCK: u32 = 16_777_216;
 
-const SECTION: u32 = 0x0a0d_0d0a;
+pub(crate) const SECTION: u32 = 0x0a0d_0d0a;
 
 const INTERFACE: u32 = 1;
 

@@ -2,6 +2,7 @@
 //! captures of either format.
 #![tactic(auto)]
 
+mod any;
 mod block;
 mod content;
 mod fault;
@@ -15,7 +16,9 @@ mod place;
 mod reader;
 mod time;
 
+pub use any::{AnyReader, AnyStarted, Format, open_capture};
 pub use block::{Block, BlockKind, MOST_BLOCK};
 pub use fault::{AnyFault, NgCause, NgFault};
 pub use interface::Interface;
 pub use next::AnyNext;
+pub use reader::NgReader;
