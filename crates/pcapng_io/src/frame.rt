@@ -76,12 +76,7 @@ impl Place {
     }
 
     /// Reads what follows this head of a block.
-    fn read_rest<S: Source>(
-        self,
-        alloc: Global,
-        head: &[u8],
-        source: &mut S,
-    ) -> Result<Block, Stop>
+    fn read_rest<S: Source>(self, alloc: Global, head: &[u8], source: &mut S) -> Result<Block, Stop>
         requires head { length head.now ≡ 12 }
         requires room { 12 ≤ self.room }
         requires few { self.full && shows_packet self.order self.room head.now ≡ false }

@@ -69,7 +69,10 @@ impl Interface {
         let Some(seconds) = self.seconds(time) else {
             return Err(BlockError::Fault(NgCause::BadTime));
         };
-        let bytes = Bytes::of(alloc, &body[ENHANCED_HEAD..ENHANCED_HEAD + captured as usize])?;
+        let bytes = Bytes::of(
+            alloc,
+            &body[ENHANCED_HEAD..ENHANCED_HEAD + captured as usize],
+        )?;
         Ok(Packet {
             seconds,
             fraction: self.nanos(time),

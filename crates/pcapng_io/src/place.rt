@@ -59,8 +59,6 @@ impl Place {
     fn shows_packet(self, head: &[u8]) -> bool
         ensures { result ≡ shows_packet self.order self.room head.now }
     {
-        self.room > 3
-            && head.len() > 3
-            && BlockKind::of(read_u32(self.order, head)).gives_packet()
+        self.room > 3 && head.len() > 3 && BlockKind::of(read_u32(self.order, head)).gives_packet()
     }
 }

@@ -53,8 +53,14 @@ impl Model for NgReader {
 impl NgReader {
     /// Stands at the first block, a section header, whose type was read. It takes no memory.
     pub(crate) fn of(alloc: Global) -> Self
-        ensures { result ≡ record { order = Little; interfaces = []; typed = true;
-            offset = 0; count = 0; over = false } }
+        ensures { result ≡ record {
+          order = Little;
+          interfaces = [];
+          typed = true;
+          offset = 0;
+          count = 0;
+          over = false;
+        } }
     {
         NgReader {
             order: Order::Little,

@@ -113,13 +113,12 @@ returns-clause-taken g c =
     let closing : c.read_u32.result ≡ number c.in-Some.order 4 (drop (c.read_u32-total.result - 12) piece) =
     c.read_u32.ensures ∙ ap (number c.in-Some.order 4) (take_rest c.deref.result.now (c.read_u32-total.result - 12)) ∙ ap (λ l. number c.in-Some.order 4 (drop (c.read_u32-total.result - 12) l)) (c.deref.ensures.value ∙ items) in
     let body : c.from_vec.result ≡ take (c.read_u32-total.result - 12) piece =
-    c.from_vec.ensures ∙ c.truncate.ensures.items ∙ ap (take (c.read_u32-total.result - 12)) items in
-    (
+    c.from_vec.ensures ∙ c.truncate.ensures.items ∙ ap (take (c.read_u32-total.result - 12)) items in (
       taken.0,
       taken.1,
       block_parts c.args.self.order c.in-Some.order c.read_u32-number.result c.read_u32-total.result head taken.0 piece c.requires.head start.type start.total order good bytes size octets_head c.in-Some-fill_behind.ensures.octets
           (sym closing ∙ c.if-read_u32-total.false)
-      ∙ ap (λ l. block_bytes (record { order = c.in-Some.order; number = c.read_u32-number.result; body = l })) (sym body),
+          ∙ ap (λ l. block_bytes (record { order = c.in-Some.order; number = c.read_u32-number.result; body = l })) (sym body),
     )
 
 pub returns-clause-stands : goal.returns-clause-stands

@@ -20,8 +20,7 @@ pub returns-in-Ok-Some-clause-taken : goal.returns-in-Ok-Some-clause-taken
 returns-in-Ok-Some-clause-taken g c =
     let inv = c.blocks-2.invariant in
     let Moved : Option Packet → Type 0 = λ packet. MovesOn g.S.Source.reads (Ok packet) c.blocks-2.source c.pass_block.new.source c.blocks-2.self c.pass_block.new.self in
-    let moved : Moved (Some c.in-Ok-Some.packet) = subst Moved c.in-Ok-Some.field-0-is c.in-Ok-Some.ensures.moves in
-    (
+    let moved : Moved (Some c.in-Ok-Some.packet) = subst Moved c.in-Ok-Some.field-0-is c.in-Ok-Some.ensures.moves in (
       Moves-more g.S.Source.reads g.met.S.Source.reads_more c.args.source.now c.blocks-2.source c.pass_block.new.source c.args.self.now c.blocks-2.self c.pass_block.new.self [] (c.in-Ok-Some.packet ∷ []) inv.moved moved.0,
       moved.1 ∙ inv.running,
     )

@@ -46,8 +46,7 @@ returns-in-Ok-read_content-clause-moves g c =
     let interfaces : c.self.inside.interfaces ≡ r.interfaces = ap (λ (r : NgReading). r.interfaces) c.self.view_is in
     let offset : c.self.inside.offset ≡ r.offset = ap (λ (r : NgReading). r.offset) c.self.view_is in
     let count : c.self.inside.count ≡ r.count = ap (λ (r : NgReading). r.count) c.self.view_is in
-    let given : length (option_to_list c.in-Ok-read_content.packet) ≡ c.from.result = one_or_none c.in-Ok-read_content.packet ∙ ap from_bool (sym c.is_some.ensures) ∙ sym c.from.ensures in
-    (
+    let given : length (option_to_list c.in-Ok-read_content.packet) ≡ c.from.result = one_or_none c.in-Ok-read_content.packet ∙ ap from_bool (sym c.is_some.ensures) ∙ sym c.from.ensures in (
       moves_block g.S.Source.reads c.args.source.now c.read_block.new.source c.place.result r at c.in-Ok.block c.in-Ok.ensures.stands c.read_content.new.interfaces c.in-Ok-read_content.packet
           (c.self.inside.offset + (12 + c.len.result)) (c.self.inside.count + c.from.result) c.self.inside.over
           (ap (λ is. content c.in-Ok.block.order is (kind_of c.in-Ok.block.number) c.in-Ok.block.body) (sym interfaces) ∙ c.in-Ok-read_content.ensures.content)
