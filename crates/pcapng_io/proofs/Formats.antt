@@ -18,7 +18,7 @@ use Rattle.pcapng_io.specs.Any.{any_started, StartsAny, TakesStart, IsHeader}
 use Rattle.pcapng_io.specs.Capture.{begins_ng}
 use Rattle.pcapng_io.specs.Stops.{held_type}
 
-begins-long : (xs ys : List ℕ) → 4 ≤ length xs → begins_ng (xs ++ ys) ≡ begins_ng xs
+pub begins-long : (xs ys : List ℕ) → 4 ≤ length xs → begins_ng (xs ++ ys) ≡ begins_ng xs
 begins-long xs ys long =
     rw (number-append Little 4 xs ys long, le-ltb (length (xs ++ ys)) 4 (omega (arith, length-append xs ys)), le-ltb (length xs) 4 long) refl
 

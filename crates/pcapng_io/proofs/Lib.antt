@@ -7,3 +7,5 @@ pub mod Takes
 pub mod Standing
 pub mod Readings
 pub mod Formats
+pub mod Verdicts
+pub mod Captures

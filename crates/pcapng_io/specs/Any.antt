@@ -1,5 +1,6 @@
 -- Captures of either format.
-use Rattle.std.specs.Prelude.{◌≡◌, ℕ, Bool, true, false, List, [], ◌++◌, length, Some, None}
+use Rattle.std.specs.Prelude.{◌≡◌, ℕ, ◌≤◌, Bool, true, false, List, [], ◌++◌, length, Some, None}
+use Rattle.plain_text.specs.declared.limit.TheConstants.{MOST_FILE_BYTES, MOST_PACKETS}
 use Rattle.plain_text.specs.declared.packet.Unit.{Unit as TimeUnit}
 use Rattle.plain_text.specs.declared.packet.Unit.TheVariants.{Nano}
 use Rattle.pcap_io.specs.declared.next.Next.{Next}
@@ -9,7 +10,8 @@ use Rattle.pcap_io.specs.declared.started.Started.{Started}
 use Rattle.pcap_io.specs.declared.started.Started.TheVariants as begun
 use Rattle.pcap_io.specs.Capture.{header_of}
 use Rattle.pcap_io.specs.Faults.{header_fault}
-use Rattle.pcap_io.specs.Reader.{AnswersAt, Takes, after}
+use Rattle.pcap_io.specs.Limits.{room_at}
+use Rattle.pcap_io.specs.Reader.{AnswersAt, Takes, IsGiven, after}
 use Rattle.pcap_io.specs.Started.{TakesHeader, IsFresh}
 use Rattle.pcapng_io.specs.declared.any.AnyStarted.{AnyStarted}
 use Rattle.pcapng_io.specs.declared.any.AnyStarted.TheVariants as started
@@ -76,8 +78,9 @@ AnswersAny (form.Ng r) left answer = AnswersNg r (held_type r.typed ++ left) ans
 -- the bytes that an answer takes from a source, and the reader after it
 abbrev pub TakesAny : {S : Type 0} → (S → List ℕ → S → Type 0) → AnyNext → S → S → Format → Format → Type 0
 TakesAny reads answer old new (form.Capture r) to =
-    (next : Next) × (answer ≡ any_next next) × Takes reads r.order next old new × (to ≡ form.Capture (after r next))
-TakesAny reads answer old new (form.Ng r) to = (q : NgReading) × (to ≡ form.Ng q) × TakesNg reads answer old new r q
+    (next : Next) × (answer ≡ any_next next) × Takes reads r.order next old new × (to ≡ form.Capture (after r next)) × IsGiven (room_at r.count r.offset) next
+TakesAny reads answer old new (form.Ng r) to =
+    (q : NgReading) × (to ≡ form.Ng q) × TakesNg reads answer old new r q × (q.count ≤ MOST_PACKETS) × (q.offset ≤ MOST_FILE_BYTES)
 
 -- where a savefile's header was read, these are its bytes
 abbrev pub IsHeader : Started → List ℕ → Type 0

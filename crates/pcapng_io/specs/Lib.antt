@@ -8,3 +8,4 @@ pub mod Times
 pub mod Stops
 pub mod Any
 pub mod Reader
+pub mod Captured

@@ -4,10 +4,12 @@
 
 mod any;
 mod block;
+mod capture;
 mod content;
 mod fault;
 mod frame;
 mod interface;
+pub mod laws;
 mod next;
 mod number;
 mod packet;
@@ -19,6 +21,7 @@ mod tests;
 mod time;
 
 pub use any::{AnyReader, AnyStarted, Format, open_capture};
+pub use capture::AnyCaptured;
 pub use block::{Block, BlockKind, MOST_BLOCK};
 pub use fault::{AnyFault, NgCause, NgFault};
 pub use interface::Interface;
