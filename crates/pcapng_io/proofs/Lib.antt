@@ -1,0 +1,11 @@
+pub mod Options
+pub mod Packets
+pub mod Powers
+pub mod Frames
+pub mod Blocks
+pub mod Takes
+pub mod Standing
+pub mod Readings
+pub mod Formats
+pub mod Verdicts
+pub mod Captures

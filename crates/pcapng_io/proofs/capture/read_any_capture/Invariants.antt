@@ -1,0 +1,19 @@
+use Rattle.std.proofs.Common.{◌-◌, ◌≤◌, length}
+use Rattle.std.specs.Prelude.{IsTrue}
+use Rattle.plain_text.specs.declared.limit.TheConstants.{MOST_PACKETS}
+use Rattle.pcapng_io.proofs.Captures.{HasReadAny, IsFormatOf}
+use Rattle.pcapng_io.proofs.capture.read_any_capture.Given as goal
+
+-- the packets that were read stand before the reader
+abbrev pub invariant-records : goal.invariant-records
+invariant-records g l =
+    let source = g.S.Source in
+    record {
+      read : HasReadAny source.reads l.fn.source l.source l.reader l.packets;
+      format : IsTrue source.tells → IsFormatOf (source.left l.fn.source) l.reader;
+      later : source.faults l.fn.source ≤ source.faults l.source;
+      healthy : source.healthy l.fn.source → source.healthy l.source;
+    }
+
+abbrev pub decreases-records : goal.decreases-records
+decreases-records g l = MOST_PACKETS - length l.packets

@@ -1,0 +1,29 @@
+use Rattle.std.proofs.Common.{List, ℕ, sym, subst, arith}
+use Rattle.std.proofs.lemmas.Grind.{common_steps}
+use Rattle.pcap_io.proofs.Pieces.{take-put_mid_more, take-put_mid}
+use Rattle.pcapng_io.proofs.piece.fill_piece.Goals as goal
+
+pub loop-done-preserved : goal.loop-done-preserved
+loop-done-preserved g c =
+    let inv = c.loop-done.invariant in
+    let source = g.S.Source in
+    record {
+      taken =
+          rw (take-put_mid_more c.loop-done.done _ c.in-Got.count c.loop-done.piece c.fill.new.piece inv.within (grind (arith, common_steps, c.fill.auto.piece, c.in-Got.ensures.count)))
+          (g.met.S.Source.reads_more _ _ _ _ _ inv.taken c.in-Got.ensures.reads);
+      within = grind (arith, common_steps, c.fill.auto.piece, c.in-Got.ensures.count);
+      bytes = λ k. omega (arith, c.type_inv.piece k);
+      later = omega (arith, inv.later, c.in-Got.ensures.later);
+      healthy = λ well. c.in-Got.ensures.stays_healthy (inv.healthy well);
+    }
+
+pub returns-in-End-clause-taken : goal.returns-in-End-clause-taken
+returns-in-End-clause-taken g c =
+    let inv = c.loop-done.invariant in
+    let Taken : List ℕ → Type 0 = λ taken. g.S.Source.reads c.args.source.now taken c.fill.new.self in
+    subst Taken (sym (take-put_mid c.loop-done.done _ c.loop-done.piece c.fill.new.piece inv.within))
+    (g.met.S.Source.reads_more _ _ _ _ _ inv.taken c.in-End.ensures.reads)
+
+pub returns-in-Failed-clause-taken : goal.returns-in-Failed-clause-taken
+returns-in-Failed-clause-taken g c =
+    (_, g.met.S.Source.reads_more _ _ _ _ _ c.loop-done.invariant.taken c.in-Failed.ensures.reads)

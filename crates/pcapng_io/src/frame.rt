@@ -1,0 +1,151 @@
+ghost use Rattle.std.specs.Prelude.{◌≡◌, ◌≢◌, ◌≤◌, ◌&&◌, ◌++◌, false, [], List, ℕ, length, IsTrue, IfOk, IfErr, IsErrOf};
+ghost use Rattle.world_io.specs.Stream.{Rose};
+ghost use Rattle.pcapng_io.specs.Blocks.{order_of, order_in};
+ghost use Rattle.pcapng_io.specs.Limits.{shows_packet};
+ghost use Rattle.pcapng_io.specs.Stops.{held_type, StopsHere, StandsHere, TakesBlock, PassesRest};
+
+use crate::number::read_u32;
+use crate::piece::{fill_behind, read_past};
+use crate::place::{BLOCK_HEAD, Place, Stop};
+use crate::{Block, BlockKind, NgCause};
+use pcap_io::Order;
+use plain_text::{Bytes, Limit};
+use std::alloc::Global;
+use world_io::Source;
+
+const MAGIC: u32 = 0x1a2b_3c4d;
+
+const SECTION_TYPE: [u8; 4] = [0x0a, 0x0d, 0x0d, 0x0a];
+
+/// The byte order that a byte-order magic tells.
+fn order_in(body: &[u8]) -> Option<Order>
+    requires { 4 ≤ length body.now }
+    ensures { result ≡ order_in body.now }
+{
+    if read_u32(Order::Little, body) == MAGIC {
+        Some(Order::Little)
+    } else if read_u32(Order::Big, body) == MAGIC {
+        Some(Order::Big)
+    } else {
+        None
+    }
+}
+
+/// The byte order of a block in a section of this order.
+fn order_of(order: Order, kind: BlockKind, body: &[u8]) -> Option<Order>
+    requires { 4 ≤ length body.now }
+    ensures { result ≡ order_of order kind body.now }
+{
+    match kind {
+        BlockKind::Section => order_in(body),
+        BlockKind::Interface | BlockKind::Simple | BlockKind::Enhanced | BlockKind::Other => {
+            Some(order)
+        }
+    }
+}
+
+fn held_type(typed: bool) -> &'static [u8]
+    ensures { result.now ≡ held_type typed }
+{
+    if typed { &SECTION_TYPE } else { &[] }
+}
+
+impl Place {
+    /// Reads the block that begins here.
+    pub(crate) fn read_block<S: Source>(self, alloc: Global, source: &mut S) -> Result<Block, Stop>
+        ensures told { IsTrue S.tells
+            → IfErr result (StopsHere self (held_type self.typed ++ S.left source.old)) }
+        ensures taken { TakesBlock S.reads (held_type self.typed) result source.old source.new }
+        ensures stands { IfOk result (StandsHere self) }
+        ensures ended { IsErrOf result Stop.End
+            → (self.typed ≡ false) × S.reads source.old [] source.new }
+        ensures later { S.faults source.old ≤ S.faults source.new }
+        ensures cause { IsErrOf result Stop.ReadFault
+            → Rose (S.faults source.old) (S.faults source.new) }
+        ensures never_fails { S.healthy source.old → ¬ IsErrOf result Stop.ReadFault }
+        ensures stays_healthy { S.healthy source.old → S.healthy source.new }
+    {
+        let mut head = [0u8; BLOCK_HEAD];
+        let Some(had) = fill_behind(source, held_type(self.typed), &mut head) else {
+            return Err(Stop::ReadFault);
+        };
+        match self.judge_head(&head[..had]) {
+            Ok(()) => self.read_rest(alloc, &head, source),
+            Err(why) => Err(why),
+        }
+    }
+
+    /// Reads what follows this head of a block.
+    fn read_rest<S: Source>(self, alloc: Global, head: &[u8], source: &mut S) -> Result<Block, Stop>
+        requires head { length head.now ≡ 12 }
+        requires room { 12 ≤ self.room }
+        requires few { self.full && shows_packet self.order self.room head.now ≡ false }
+        ensures told { IsTrue S.tells
+            → IfErr result (StopsHere self (head.now ++ S.left source.old)) }
+        ensures taken { TakesBlock S.reads head.now result source.old source.new }
+        ensures stands { IfOk result (StandsHere self) }
+        ensures some { ¬ IsErrOf result Stop.End }
+        ensures later { S.faults source.old ≤ S.faults source.new }
+        ensures cause { IsErrOf result Stop.ReadFault
+            → Rose (S.faults source.old) (S.faults source.new) }
+        ensures never_fails { S.healthy source.old → ¬ IsErrOf result Stop.ReadFault }
+        ensures stays_healthy { S.healthy source.old → S.healthy source.new }
+    {
+        let number = read_u32(self.order, head);
+        let kind = BlockKind::of(number);
+        let Some(order) = order_of(self.order, kind, &head[8..]) else {
+            return Err(Stop::Refused(NgCause::BadMagic));
+        };
+        let total = read_u32(order, &head[4..]);
+        if kind.is_bad_total(total) {
+            return Err(self.pass_rest(total, source));
+        }
+        let total = total as usize;
+        let Ok(mut bytes) = vec![in alloc; 0u8; total - 8] else {
+            return Err(Stop::NoMemory);
+        };
+        let Some(had) = fill_behind(source, &head[8..], bytes.as_mut_slice()) else {
+            return Err(Stop::ReadFault);
+        };
+        if (8 + had) as u64 > self.room {
+            return Err(Stop::TooLarge(Limit::File));
+        }
+        if 8 + had < total {
+            return Err(Stop::Refused(NgCause::ShortBlock));
+        }
+        if read_u32(order, &bytes[total - 12..]) as usize != total {
+            return Err(Stop::Refused(NgCause::BadLength));
+        }
+        bytes.truncate(total - 12);
+        Ok(Block {
+            order,
+            number,
+            body: Bytes::from_vec(bytes),
+        })
+    }
+
+    /// Reads past a block of a total length that it cannot have, to see whether it is there.
+    fn pass_rest<S: Source>(self, total: u32, source: &mut S) -> Stop
+        requires { 12 ≤ self.room }
+        ensures told { IsTrue S.tells → PassesRest self.room total (S.left source.old) result }
+        ensures taken { (taken : List ℕ) × S.reads source.old taken source.new }
+        ensures some { result ≢ Stop.End }
+        ensures later { S.faults source.old ≤ S.faults source.new }
+        ensures cause { result ≡ Stop.ReadFault → Rose (S.faults source.old) (S.faults source.new) }
+        ensures never_fails { S.healthy source.old → result ≢ Stop.ReadFault }
+        ensures stays_healthy { S.healthy source.old → S.healthy source.new }
+    {
+        let rest = u64::from(total).saturating_sub(12);
+        let room = self.room - 12;
+        let Some(had) = read_past(source, rest.min(room.saturating_add(1))) else {
+            return Stop::ReadFault;
+        };
+        if had > room {
+            Stop::TooLarge(Limit::File)
+        } else if had < rest {
+            Stop::Refused(NgCause::ShortBlock)
+        } else {
+            Stop::Refused(NgCause::BadLength)
+        }
+    }
+}
