@@ -5,7 +5,7 @@ use Rattle.std.specs.declared.cmp.Ordering.TheVariants.{Greater}
 use Rattle.std.specs.Ordering.{nat_cmp, match_ordering}
 use Rattle.std.specs.List.{list_any, AllByRecursion}
 use Rattle.std.specs.List.Sorted.{IsStrictlySortedBy}
-use Rattle.std.specs.Map.{lookup, keys_of, remove_entry}
+use Rattle.std.specs.Map.{keys_of, remove_entry}
 use Rattle.std.specs.BTreeMap.{is_at, insert_entry}
 use Rattle.std.proofs.lemmas.Bool.{cases_lt, cases_eq}
 use Rattle.std.proofs.lemmas.Bool.Decides.{nat_tests}
@@ -137,18 +137,18 @@ parts_more Q P k o (e ∷ es) go stay sorted below more here only parts at =
     ⊎_elim
     (λ h. inl (more e.0 h.0, h.1 ++ o ∷ [], ap (λ l. l ++ o ∷ []) h.2, parts_more Q P k o es h.1 stay tail below more here only h.3 at))
     (λ h. ⊎_elim
-      (λ (same : k ≡ e.0).
-        let whole : arrived (e ∷ h.1) k ≡ Some o = ap (λ l. arrived l k) (sym h.2) ∙ at in
-        let first : arrived (e ∷ h.1) k ≡ Some e.1 = subst (λ (x : ℕ). arrived (e ∷ h.1) x ≡ Some e.1) (sym same) (arrived_head e h.1) in
-        let is : e.1 ≡ o = let both : Some e.1 ≡ Some o = sym first ∙ whole in cc in
-        let all = subst (λ (x : ℕ). AllByRecursion (λ y. nat_cmp x y ≡ Less) (keys_of es)) (sym same) (sorted_head nat_cmp e.0 (keys_of es) sorted) in
-        let rest = none_goes Q P k es go h.1 all (λ a above q. let low = below a q in omega arith) (λ a above p. ⊎_elim (λ q. let low = below a q in omega arith) (λ s. omega arith) (only a p)) h.3 in
-        let removed : remove_entry (is_at (nat_cmp k)) stay ≡ h.1 = ap (remove_entry (is_at (nat_cmp k))) h.2 ∙ ap (λ b. cond b h.1 (e ∷ remove_entry (is_at (nat_cmp k)) h.1)) (subst (λ (x : ℕ). is_at (nat_cmp k) x ≡ true) same (at_same k)) in
-        inl (subst P same here, [], ap (λ l. l ++ o ∷ []) rest.0 ∙ ap (λ x. x ∷ []) (sym is), subst (λ (l : Arrivals). PartsBy P es [] l) (sym removed) rest.1))
-      (λ (apart : k ≢ e.0).
-        let other : e.0 ≢ k = λ q. apart (sym q) in
-        let later : arrived h.1 k ≡ Some o = sym (arrived_tail e h.1 k apart) ∙ ap (λ l. arrived l k) (sym h.2) ∙ at in
-        let removed : remove_entry (is_at (nat_cmp k)) stay ≡ e ∷ remove_entry (is_at (nat_cmp k)) h.1 = ap (remove_entry (is_at (nat_cmp k))) h.2 ∙ ap (λ b. cond b h.1 (e ∷ remove_entry (is_at (nat_cmp k)) h.1)) (at_apart k e.0 other) in
-        inr (λ p. ⊎_elim h.0 other (only e.0 p), remove_entry (is_at (nat_cmp k)) h.1, removed, parts_more Q P k o es go h.1 tail below more here only h.3 later))
-      (cases_eq k e.0))
+    (λ (same : k ≡ e.0).
+    let whole : arrived (e ∷ h.1) k ≡ Some o = ap (λ l. arrived l k) (sym h.2) ∙ at in
+    let first : arrived (e ∷ h.1) k ≡ Some e.1 = subst (λ (x : ℕ). arrived (e ∷ h.1) x ≡ Some e.1) (sym same) (arrived_head e h.1) in
+    let is : e.1 ≡ o = let both : Some e.1 ≡ Some o = sym first ∙ whole in cc in
+    let all = subst (λ (x : ℕ). AllByRecursion (λ y. nat_cmp x y ≡ Less) (keys_of es)) (sym same) (sorted_head nat_cmp e.0 (keys_of es) sorted) in
+    let rest = none_goes Q P k es go h.1 all (λ a above q. let low = below a q in omega arith) (λ a above p. ⊎_elim (λ q. let low = below a q in omega arith) (λ s. omega arith) (only a p)) h.3 in
+    let removed : remove_entry (is_at (nat_cmp k)) stay ≡ h.1 = ap (remove_entry (is_at (nat_cmp k))) h.2 ∙ ap (λ b. cond b h.1 (e ∷ remove_entry (is_at (nat_cmp k)) h.1)) (subst (λ (x : ℕ). is_at (nat_cmp k) x ≡ true) same (at_same k)) in
+    inl (subst P same here, [], ap (λ l. l ++ o ∷ []) rest.0 ∙ ap (λ x. x ∷ []) (sym is), subst (λ (l : Arrivals). PartsBy P es [] l) (sym removed) rest.1))
+    (λ (apart : k ≢ e.0).
+    let other : e.0 ≢ k = λ q. apart (sym q) in
+    let later : arrived h.1 k ≡ Some o = sym (arrived_tail e h.1 k apart) ∙ ap (λ l. arrived l k) (sym h.2) ∙ at in
+    let removed : remove_entry (is_at (nat_cmp k)) stay ≡ e ∷ remove_entry (is_at (nat_cmp k)) h.1 = ap (remove_entry (is_at (nat_cmp k))) h.2 ∙ ap (λ b. cond b h.1 (e ∷ remove_entry (is_at (nat_cmp k)) h.1)) (at_apart k e.0 other) in
+    inr (λ p. ⊎_elim h.0 other (only e.0 p), remove_entry (is_at (nat_cmp k)) h.1, removed, parts_more Q P k o es go h.1 tail below more here only h.3 later))
+    (cases_eq k e.0))
     parts

@@ -1,14 +1,14 @@
 -- One more waiting output goes.
-use Rattle.std.proofs.Common.{◌≡◌, ◌≢◌, ℕ, ◌≤◌, ◌<◌, ◌⊎◌, ◌↔◌, true, false, cond, List, [], ◌∷◌, ◌++◌, Option, Some, None, IsSome, length, refl, sym, ap, ◌∙◌, subst, inl, inr, ⊎_elim, arith}
+use Rattle.std.proofs.Common.{◌≡◌, ◌≢◌, ℕ, ◌<◌, ◌⊎◌, ◌↔◌, cond, List, [], ◌∷◌, ◌++◌, Some, None, IsSome, length, refl, sym, ap, ◌∙◌, subst, inl, inr, ⊎_elim, arith}
 use Rattle.std.specs.Ordering.{nat_cmp}
 use Rattle.std.specs.List.Sorted.{IsStrictlySortedBy}
 use Rattle.std.specs.Map.{keys_of, remove_entry}
 use Rattle.std.specs.BTreeMap.{is_at}
 use Rattle.std.proofs.lemmas.Bool.{cases_lt, cases_eq}
 use Rattle.access_log.specs.declared.entry.Output.{Output}
-use Rattle.dup_filter.specs.Numbers.{Numbers, no_numbers, numbers, IsMarked, HasRoom, WasMarked, IsAwaited}
+use Rattle.dup_filter.specs.Numbers.{Numbers, no_numbers, IsMarked, HasRoom, WasMarked, IsAwaited}
 use Rattle.dup_filter.proofs.NumberLemmas.{numbers_past}
-use Rattle.output_logger.specs.Logger.{IsCalled, IsNamed, AreApart, ReleasesOnce}
+use Rattle.output_logger.specs.Logger.{IsCalled, IsNamed, ReleasesOnce}
 use Rattle.output_logger.specs.Kept.{arrived, IsReady, IsWaiting, HaveNames, PartsBy, IsNoted, Gone}
 use Rattle.output_logger.proofs.KeyLemmas.{at_same, at_apart}
 use Rattle.output_logger.proofs.NameLemmas.{named_append, apart_append}
@@ -21,25 +21,25 @@ awaited_in released t n h = ⊎_elim (λ q. q) (λ past. let none : HasRoom no_n
 noted_marked : (old new : List Numbers) (o : Output) → IsNoted old new o → (t n : ℕ) → WasMarked new t n ↔ (IsCalled t n o ⊎ WasMarked old t n)
 noted_marked old new o is t n = (
   λ h. ⊎_elim
-    (λ (same : o.thread ≡ t). ⊎_elim (λ q. inl (same, sym q)) (λ q. inr (subst (λ (u : ℕ). WasMarked old u n) same q)) ((is.marks.marked n).0 (subst (λ (u : ℕ). WasMarked new u n) (sym same) h)))
-    (λ (apart : o.thread ≢ t). let other : t ≢ o.thread = λ q. apart (sym q) in inr (subst (λ (s : Numbers). IsMarked s n) (is.others t other) h))
-    (cases_eq o.thread t),
+      (λ (same : o.thread ≡ t). ⊎_elim (λ q. inl (same, sym q)) (λ q. inr (subst (λ (u : ℕ). WasMarked old u n) same q)) ((is.marks.marked n).0 (subst (λ (u : ℕ). WasMarked new u n) (sym same) h)))
+      (λ (apart : o.thread ≢ t). let other : t ≢ o.thread = λ q. apart (sym q) in inr (subst (λ (s : Numbers). IsMarked s n) (is.others t other) h))
+      (cases_eq o.thread t),
   λ h. ⊎_elim
-    (λ (same : o.thread ≡ t). subst (λ (u : ℕ). WasMarked new u n) same ((is.marks.marked n).1 (⊎_elim (λ q. inl (sym q.1)) (λ q. inr (subst (λ (u : ℕ). WasMarked old u n) (sym same) q)) h)))
-    (λ (apart : o.thread ≢ t). let other : t ≢ o.thread = λ q. apart (sym q) in ⊎_elim (λ q. absurd (apart q.0)) (λ q. subst (λ (s : Numbers). IsMarked s n) (sym (is.others t other)) q) h)
-    (cases_eq o.thread t),
+      (λ (same : o.thread ≡ t). subst (λ (u : ℕ). WasMarked new u n) same ((is.marks.marked n).1 (⊎_elim (λ q. inl (sym q.1)) (λ q. inr (subst (λ (u : ℕ). WasMarked old u n) (sym same) q)) h)))
+      (λ (apart : o.thread ≢ t). let other : t ≢ o.thread = λ q. apart (sym q) in ⊎_elim (λ q. absurd (apart q.0)) (λ q. subst (λ (s : Numbers). IsMarked s n) (sym (is.others t other)) q) h)
+      (cases_eq o.thread t),
 )
 
 pub noted_awaited : (old new : List Numbers) (o : Output) → IsNoted old new o → (t n : ℕ) → IsAwaited new t n ↔ (IsAwaited old t n × (IsCalled t n o → ⊥))
 noted_awaited old new o is t n = (
   λ h. ⊎_elim
-    (λ (same : o.thread ≡ t). let q = (is.marks.room n).0 (subst (λ (u : ℕ). IsAwaited new u n) (sym same) h) in (subst (λ (u : ℕ). IsAwaited old u n) same q.0, λ called. q.1 (sym called.1)))
-    (λ (apart : o.thread ≢ t). let other : t ≢ o.thread = λ q. apart (sym q) in (subst (λ (s : Numbers). HasRoom s n) (is.others t other) h, λ called. apart called.0))
-    (cases_eq o.thread t),
+      (λ (same : o.thread ≡ t). let q = (is.marks.room n).0 (subst (λ (u : ℕ). IsAwaited new u n) (sym same) h) in (subst (λ (u : ℕ). IsAwaited old u n) same q.0, λ called. q.1 (sym called.1)))
+      (λ (apart : o.thread ≢ t). let other : t ≢ o.thread = λ q. apart (sym q) in (subst (λ (s : Numbers). HasRoom s n) (is.others t other) h, λ called. apart called.0))
+      (cases_eq o.thread t),
   λ h. ⊎_elim
-    (λ (same : o.thread ≡ t). subst (λ (u : ℕ). IsAwaited new u n) same ((is.marks.room n).1 (subst (λ (u : ℕ). IsAwaited old u n) (sym same) h.0, λ q. h.1 (same, sym q))))
-    (λ (apart : o.thread ≢ t). let other : t ≢ o.thread = λ q. apart (sym q) in subst (λ (s : Numbers). HasRoom s n) (sym (is.others t other)) h.0)
-    (cases_eq o.thread t),
+      (λ (same : o.thread ≡ t). subst (λ (u : ℕ). IsAwaited new u n) same ((is.marks.room n).1 (subst (λ (u : ℕ). IsAwaited old u n) (sym same) h.0, λ q. h.1 (same, sym q))))
+      (λ (apart : o.thread ≢ t). let other : t ≢ o.thread = λ q. apart (sym q) in subst (λ (s : Numbers). HasRoom s n) (sym (is.others t other)) h.0)
+      (cases_eq o.thread t),
 )
 
 pub once_none : (released : List Numbers) → ReleasesOnce released released []

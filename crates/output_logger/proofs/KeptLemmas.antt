@@ -1,20 +1,18 @@
 -- What is true of the parts of an output logger, as it takes entries and outputs.
-use Rattle.std.proofs.Common.{◌≡◌, ◌≢◌, ℕ, ◌≤◌, ◌<◌, ◌⊎◌, ◌↔◌, true, false, cond, List, [], ◌∷◌, ◌++◌, Option, Some, None, IsSome, Result, Ok, Err, OnOk, OnErr, length, slice_index, refl, sym, ap, ◌∙◌, subst, inl, inr, ⊎_elim, arith}
+use Rattle.std.proofs.Common.{◌≡◌, ◌≢◌, ℕ, ◌≤◌, ◌<◌, ◌⊎◌, ◌↔◌, true, cond, List, [], ◌∷◌, ◌++◌, Option, Some, None, IsSome, Result, Ok, Err, OnOk, OnErr, length, slice_index, refl, sym, ap, ◌∙◌, subst, inl, inr, ⊎_elim, arith}
 use Rattle.std.specs.Result.{is_err}
 use Rattle.std.specs.Ordering.{nat_cmp}
 use Rattle.std.specs.List.Sorted.{IsStrictlySortedBy}
 use Rattle.std.specs.Map.{keys_of, values_of}
-use Rattle.std.specs.BTreeMap.{is_at}
 use Rattle.std.proofs.lemmas.Bool.{cases_lt, cases_eq}
 use Rattle.std.proofs.lemmas.List.{map-append}
 use Rattle.std.proofs.lemmas.Map.Keys.{sorted_tail}
-use Rattle.thread_clock.specs.Clock.{AtMost}
 use Rattle.plain_text.specs.declared.memory.NoMemory.{NoMemory}
 use Rattle.access_log.specs.declared.entry.Output.{Output}
 use Rattle.access_log.specs.declared.entry.Added.{Added}
 use Rattle.access_log.specs.declared.entry.Added.TheVariants.{New, Known}
 use Rattle.access_log.specs.declared.entry.StampedEntry.{StampedEntry}
-use Rattle.access_log.specs.Held.{Lane, lane, entry_at, IsKnown, IsFrontier}
+use Rattle.access_log.specs.Held.{Lane, lane, entry_at, IsKnown}
 use Rattle.access_log.specs.Lanes.{PutsEntry, CoversUpTo}
 use Rattle.access_log.proofs.LaneLemmas.{lane_past, one_frontier, AtMost-IsWithin}
 use Rattle.dup_filter.specs.Numbers.{Numbers, numbers, IsMarked, HasRoom, WasMarked, IsAwaited, Marks, KeepsRoom}
@@ -24,7 +22,7 @@ use Rattle.output_logger.specs.Kept.{arrived, IsReady, IsWaiting, IsIndexed, IsD
 use Rattle.output_logger.proofs.KeyLemmas.{at_same, at_apart}
 use Rattle.output_logger.proofs.ArrivalLemmas.{some_of, some_is, arrived_head, arrived_tail, arrived_above}
 use Rattle.output_logger.proofs.ReachLemmas.{not_covered}
-use Rattle.output_logger.proofs.NameLemmas.{appended_append, appended_none}
+use Rattle.output_logger.proofs.NameLemmas.{appended_none}
 use Rattle.output_logger.proofs.GoneLemmas.{noted_awaited, once_none, once_more}
 
 abbrev Arrivals : Type 0
@@ -43,9 +41,9 @@ waiting_named [] sorted t n = (λ w. let none = w.2 in absurd cc, λ h. absurd h
 waiting_named (e ∷ es) sorted t n =
     let rest = waiting_named es (tail_of e es sorted) t n in (
       λ w. ⊎_elim
-        (λ (same : w.0 ≡ e.0). let here = subst (λ (x : ℕ). arrived (e ∷ es) x ≡ Some w.1) same w.2 in let is : w.1 ≡ e.1 = (let both : Some e.1 ≡ Some w.1 = sym (arrived_head e es) ∙ here in cc) in inl (subst (λ (p : Output). IsCalled t n p) is w.3))
-        (λ (apart : w.0 ≢ e.0). inr (rest.0 (w.0, w.1, sym (arrived_tail e es w.0 apart) ∙ w.2, w.3)))
-        (cases_eq w.0 e.0),
+          (λ (same : w.0 ≡ e.0). let here = subst (λ (x : ℕ). arrived (e ∷ es) x ≡ Some w.1) same w.2 in let is : w.1 ≡ e.1 = (let both : Some e.1 ≡ Some w.1 = sym (arrived_head e es) ∙ here in cc) in inl (subst (λ (p : Output). IsCalled t n p) is w.3))
+          (λ (apart : w.0 ≢ e.0). inr (rest.0 (w.0, w.1, sym (arrived_tail e es w.0 apart) ∙ w.2, w.3)))
+          (cases_eq w.0 e.0),
       λ h. ⊎_elim (λ called. (e.0, e.1, arrived_head e es, called)) (λ named. let w = rest.1 named in (w.0, w.1, later e es sorted w.0 w.1 w.2, w.3)) h,
     )
 
@@ -90,15 +88,15 @@ pub more_with_entry : (old new : List Lane) (thread number : ℕ) (e : StampedEn
 more_with_entry old new thread number e p others t n h =
     ⊎_elim
     (λ (same : t ≡ thread).
-      let here = subst (λ (u : ℕ). IsKnown (lane old u) n) same h in
-      let there : IsKnown (lane new thread) n = ⊎_elim
-          (λ q. inl (let c = p.covered in omega arith))
-          (λ q. ⊎_elim
-            (λ (is : n ≡ number). inr (subst (λ (k : ℕ). IsSome (entry_at (lane new thread) k)) (sym is) (some_of _ e p.put)))
-            (λ (apart : n ≢ number). inr (subst (λ (o : Option StampedEntry). IsSome o) (sym (p.others n apart)) q))
-            (cases_eq n number))
-          here in
-      subst (λ (u : ℕ). IsKnown (lane new u) n) (sym same) there)
+    let here = subst (λ (u : ℕ). IsKnown (lane old u) n) same h in
+    let there : IsKnown (lane new thread) n = ⊎_elim
+    (λ q. inl (let c = p.covered in omega arith))
+    (λ q. ⊎_elim
+    (λ (is : n ≡ number). inr (subst (λ (k : ℕ). IsSome (entry_at (lane new thread) k)) (sym is) (some_of _ e p.put)))
+    (λ (apart : n ≢ number). inr (subst (λ (o : Option StampedEntry). IsSome o) (sym (p.others n apart)) q))
+    (cases_eq n number))
+    here in
+    subst (λ (u : ℕ). IsKnown (lane new u) n) (sym same) there)
     (λ (apart : t ≢ thread). subst (λ (l : Lane). IsKnown l n) (sym (others t apart)) h)
     (cases_eq t thread)
 
@@ -106,13 +104,13 @@ pub more_with_cover : (old new : List Lane) (counts : List ℕ) → ((t : ℕ) �
 more_with_cover old new counts rising covers same t n h =
     ⊎_elim
     (λ (within : t < length old).
-      let c = covers t within in
-      let covered = c.covered in
-      let least = rising t within in
-      ⊎_elim
-      (λ (past : slice_index counts t < n). ⊎_elim (λ q. absurd (omega arith)) (λ q. inr (subst (λ (o : Option StampedEntry). IsSome o) (sym (c.held n ∙ not_covered (lane old t) (slice_index counts t) n past)) q)) h)
-      (λ low. inl (omega arith))
-      (cases_lt (slice_index counts t) n))
+    let c = covers t within in
+    let covered = c.covered in
+    let least = rising t within in
+    ⊎_elim
+    (λ (past : slice_index counts t < n). ⊎_elim (λ q. absurd (omega arith)) (λ q. inr (subst (λ (o : Option StampedEntry). IsSome o) (sym (c.held n ∙ not_covered (lane old t) (slice_index counts t) n past)) q)) h)
+    (λ low. inl (omega arith))
+    (cases_lt (slice_index counts t) n))
     (λ past. let o = lane_past old t past in let k = lane_past new t (omega arith) in subst (λ (l : Lane). IsKnown l n) (o ∙ sym k) h)
     (cases_lt t (length old))
 
@@ -168,9 +166,9 @@ arrives_some : (old new : Arrivals) (a : ℕ) (o : Output) → Arrives old new a
 arrives_some old new a o is b p h =
     ⊎_elim
     (λ (same : b ≡ a).
-      let here : arrived new a ≡ Some o = is.found a ∙ ap (λ v. cond v (Some o) (arrived old a)) (at_same a) in
-      let there = subst (λ (x : ℕ). arrived new x ≡ Some p) same h in
-      inl (same, let both : Some p ≡ Some o = sym there ∙ here in cc))
+    let here : arrived new a ≡ Some o = is.found a ∙ ap (λ v. cond v (Some o) (arrived old a)) (at_same a) in
+    let there = subst (λ (x : ℕ). arrived new x ≡ Some p) same h in
+    inl (same, let both : Some p ≡ Some o = sym there ∙ here in cc))
     (λ (apart : b ≢ a). inr (sym (is.found b ∙ ap (λ v. cond v (Some o) (arrived old b)) (at_apart a b apart)) ∙ h))
     (cases_eq b a)
 
@@ -186,25 +184,25 @@ arrives_here old new a o is = is.found a ∙ ap (λ v. cond v (Some o) (arrived 
 room_awaited : (before after : List Numbers) (o : Output) → KeepsRoom (numbers before o.thread) (numbers after o.thread) o.number → ((t : ℕ) → t ≢ o.thread → numbers after t ≡ numbers before t) → (t n : ℕ) → IsAwaited after t n ↔ (IsCalled t n o ⊎ IsAwaited before t n)
 room_awaited before after o room others t n = (
   λ h. ⊎_elim
-    (λ (same : o.thread ≡ t). ⊎_elim (λ q. inl (same, sym q)) (λ q. inr (subst (λ (u : ℕ). IsAwaited before u n) same q)) ((room.room n).0 (subst (λ (u : ℕ). IsAwaited after u n) (sym same) h)))
-    (λ (apart : o.thread ≢ t). let other : t ≢ o.thread = λ q. apart (sym q) in inr (subst (λ (s : Numbers). HasRoom s n) (others t other) h))
-    (cases_eq o.thread t),
+      (λ (same : o.thread ≡ t). ⊎_elim (λ q. inl (same, sym q)) (λ q. inr (subst (λ (u : ℕ). IsAwaited before u n) same q)) ((room.room n).0 (subst (λ (u : ℕ). IsAwaited after u n) (sym same) h)))
+      (λ (apart : o.thread ≢ t). let other : t ≢ o.thread = λ q. apart (sym q) in inr (subst (λ (s : Numbers). HasRoom s n) (others t other) h))
+      (cases_eq o.thread t),
   λ h. ⊎_elim
-    (λ (same : o.thread ≡ t). subst (λ (u : ℕ). IsAwaited after u n) same ((room.room n).1 (⊎_elim (λ q. inl (sym q.1)) (λ q. inr (subst (λ (u : ℕ). IsAwaited before u n) (sym same) q)) h)))
-    (λ (apart : o.thread ≢ t). let other : t ≢ o.thread = λ q. apart (sym q) in ⊎_elim (λ q. absurd (apart q.0)) (λ q. subst (λ (s : Numbers). HasRoom s n) (sym (others t other)) q) h)
-    (cases_eq o.thread t),
+      (λ (same : o.thread ≡ t). subst (λ (u : ℕ). IsAwaited after u n) same ((room.room n).1 (⊎_elim (λ q. inl (sym q.1)) (λ q. inr (subst (λ (u : ℕ). IsAwaited before u n) (sym same) q)) h)))
+      (λ (apart : o.thread ≢ t). let other : t ≢ o.thread = λ q. apart (sym q) in ⊎_elim (λ q. absurd (apart q.0)) (λ q. subst (λ (s : Numbers). HasRoom s n) (sym (others t other)) q) h)
+      (cases_eq o.thread t),
 )
 
 room_marked : (before after : List Numbers) (o : Output) → KeepsRoom (numbers before o.thread) (numbers after o.thread) o.number → ((t : ℕ) → t ≢ o.thread → numbers after t ≡ numbers before t) → (t n : ℕ) → WasMarked after t n ↔ WasMarked before t n
 room_marked before after o room others t n = (
   λ h. ⊎_elim
-    (λ (same : o.thread ≡ t). subst (λ (u : ℕ). WasMarked before u n) same ((room.marked n).0 (subst (λ (u : ℕ). WasMarked after u n) (sym same) h)))
-    (λ (apart : o.thread ≢ t). let other : t ≢ o.thread = λ q. apart (sym q) in subst (λ (s : Numbers). IsMarked s n) (others t other) h)
-    (cases_eq o.thread t),
+      (λ (same : o.thread ≡ t). subst (λ (u : ℕ). WasMarked before u n) same ((room.marked n).0 (subst (λ (u : ℕ). WasMarked after u n) (sym same) h)))
+      (λ (apart : o.thread ≢ t). let other : t ≢ o.thread = λ q. apart (sym q) in subst (λ (s : Numbers). IsMarked s n) (others t other) h)
+      (cases_eq o.thread t),
   λ h. ⊎_elim
-    (λ (same : o.thread ≡ t). subst (λ (u : ℕ). WasMarked after u n) same ((room.marked n).1 (subst (λ (u : ℕ). WasMarked before u n) (sym same) h)))
-    (λ (apart : o.thread ≢ t). let other : t ≢ o.thread = λ q. apart (sym q) in subst (λ (s : Numbers). IsMarked s n) (sym (others t other)) h)
-    (cases_eq o.thread t),
+      (λ (same : o.thread ≡ t). subst (λ (u : ℕ). WasMarked after u n) same ((room.marked n).1 (subst (λ (u : ℕ). WasMarked before u n) (sym same) h)))
+      (λ (apart : o.thread ≢ t). let other : t ≢ o.thread = λ q. apart (sym q) in subst (λ (s : Numbers). IsMarked s n) (sym (others t other)) h)
+      (cases_eq o.thread t),
 )
 
 pub once_same : (before after : List Numbers) → ((t n : ℕ) → WasMarked after t n ↔ WasMarked before t n) → ReleasesOnce before after []
@@ -223,17 +221,17 @@ kept_pushed count held before after old new index keys a o from kept is room oth
       sorted = is.sorted;
       small = λ b p h. ⊎_elim (λ q. subst (λ (x : ℕ). x < 18446744073709551615) (sym q.0) is.small) (λ q. kept.small b p q) (split b p h);
       indexed = λ b p u f h frontier above. ⊎_elim
-        (λ q. let one = one_frontier (lane held u) f (slice_index from u) frontier (are u) in let stamp : slice_index p.stamp u ≡ slice_index o.stamp u = ap (λ (x : Output). slice_index x.stamp u) q.1 in let entered = enters u (omega arith) in subst (λ (x : ℕ). IsIndexed keys u (slice_index p.stamp u) x) (sym q.0) (subst (λ (n : ℕ). IsIndexed keys u n a) (sym stamp) entered))
-        (λ q. keeps u (slice_index p.stamp u) b (some_of _ p q) (kept.indexed b p u f q frontier above))
-        (split b p h);
+          (λ q. let one = one_frontier (lane held u) f (slice_index from u) frontier (are u) in let stamp : slice_index p.stamp u ≡ slice_index o.stamp u = ap (λ (x : Output). slice_index x.stamp u) q.1 in let entered = enters u (omega arith) in subst (λ (x : ℕ). IsIndexed keys u (slice_index p.stamp u) x) (sym q.0) (subst (λ (n : ℕ). IsIndexed keys u n a) (sym stamp) entered))
+          (λ q. keeps u (slice_index p.stamp u) b (some_of _ p q) (kept.indexed b p u f q frontier above))
+          (split b p h);
       awaited = λ t n. let step = room_awaited before after o room others t n in (
         λ h. ⊎_elim (λ called. (a, o, arrives_here old new a o is, called)) (λ was. let w = (kept.awaited t n).0 was in (w.0, w.1, arrives_old old new a o is w.0 w.1 w.2, w.3)) (step.0 h),
         λ w. ⊎_elim (λ q. step.1 (inl (subst (λ (p : Output). IsCalled t n p) q.1 w.3))) (λ q. step.1 (inr ((kept.awaited t n).1 (w.0, w.1, q, w.3)))) (split w.0 w.1 w.2),
       );
       apart = λ b d p q h k thread number. ⊎_elim
-        (λ x. ⊎_elim (λ y. x.0 ∙ sym y.0) (λ y. absurd (alone d q y (sym thread ∙ ap (λ (z : Output). z.thread) x.1) (sym number ∙ ap (λ (z : Output). z.number) x.1))) (split d q k))
-        (λ x. ⊎_elim (λ y. absurd (alone b p x (thread ∙ ap (λ (z : Output). z.thread) y.1) (number ∙ ap (λ (z : Output). z.number) y.1))) (λ y. kept.apart b d p q x y thread number) (split d q k))
-        (split b p h);
+          (λ x. ⊎_elim (λ y. x.0 ∙ sym y.0) (λ y. absurd (alone d q y (sym thread ∙ ap (λ (z : Output). z.thread) x.1) (sym number ∙ ap (λ (z : Output). z.number) x.1))) (split d q k))
+          (λ x. ⊎_elim (λ y. absurd (alone b p x (thread ∙ ap (λ (z : Output). z.thread) y.1) (number ∙ ap (λ (z : Output). z.number) y.1))) (λ y. kept.apart b d p q x y thread number) (split d q k))
+          (split b p h);
       none_due = λ b p h due. ⊎_elim (λ q. early (subst (λ (x : Output). IsDue held x) q.1 due)) (λ q. kept.none_due b p q due) (split b p h);
     }
 

@@ -1,8 +1,8 @@
 -- Lists of outputs by their threads and numbers, and their parts.
-use Rattle.std.proofs.Common.{◌≡◌, ◌≢◌, ℕ, ◌⊎◌, ◌↔◌, List, [], ◌∷◌, ◌++◌, length, take, refl, sym, ap, ◌∙◌, subst, inl, inr, ⊎_elim, append_assoc}
+use Rattle.std.proofs.Common.{◌≡◌, ℕ, ◌⊎◌, ◌↔◌, List, [], ◌∷◌, ◌++◌, length, take, refl, ap, ◌∙◌, inl, inr, ⊎_elim, append_assoc}
 use Rattle.access_log.specs.declared.entry.Output.{Output}
 use Rattle.dup_filter.specs.Numbers.{Numbers, WasMarked}
-use Rattle.output_logger.specs.Logger.{IsCalled, IsNamed, IsAmong, AreApart, Parts, appended, ReleasesOnce, Lives, Begins, Goes}
+use Rattle.output_logger.specs.Logger.{IsNamed, AreApart, appended, Lives, Begins, Goes}
 
 pub named_append : (t n : ℕ) (xs ys : List Output) → IsNamed t n (xs ++ ys) ↔ (IsNamed t n xs ⊎ IsNamed t n ys)
 named_append t n [] ys = (λ h. inr h, λ h. ⊎_elim (λ q. absurd q) (λ q. q) h)

@@ -1,14 +1,13 @@
 -- Frontiers as an entry is added, and as entries are covered.
-use Rattle.std.proofs.Common.{◌≡◌, ◌≢◌, ℕ, ◌+◌, ◌-◌, ◌≤◌, ◌<◌, ◌⊎◌, ◌↔◌, true, false, cond, List, Option, Some, None, IsSome, leb, length, slice_index, slice_set, refl, sym, ap, ◌∙◌, subst, inl, inr, ⊎_elim, length-set, arith}
+use Rattle.std.proofs.Common.{◌≡◌, ◌≢◌, ℕ, ◌+◌, ◌≤◌, ◌<◌, ◌↔◌, false, cond, List, Option, None, IsSome, leb, length, slice_index, slice_set, refl, sym, ap, ◌∙◌, subst, inl, inr, ⊎_elim, arith}
 use Rattle.std.proofs.lemmas.Bool.{cases_lt, cases_eq}
 use Rattle.std.proofs.lemmas.Bool.Decides.{nat_tests}
 use Rattle.std.proofs.lemmas.List.{get_or-set_same, get_or-set_other}
 use Rattle.std.proofs.Math.ListN.{get_or-eq_default}
-use Rattle.thread_clock.specs.Clock.{AtMost}
 use Rattle.access_log.specs.declared.entry.StampedEntry.{StampedEntry}
 use Rattle.access_log.specs.Held.{Lane, lane, entry_at, IsKnown, IsFrontier}
 use Rattle.access_log.specs.Lanes.{PutsEntry, CoversUpTo}
-use Rattle.access_log.proofs.LaneLemmas.{lane_past, frontier_of_fresh, one_frontier}
+use Rattle.access_log.proofs.LaneLemmas.{lane_past, frontier_of_fresh}
 use Rattle.output_logger.specs.Reach.{Reaches, AreFrontiers, WithEntry, WithCover}
 
 past_list : (s : List ℕ) (t : ℕ) → length s ≤ t → slice_index s t ≡ 0
@@ -46,12 +45,12 @@ frontier_with_next old new f number g e is p next r =
     let c = p.covered in
     record {
       reached = λ k h. ⊎_elim
-        (λ (low : k < number). let apart : k ≢ number = λ q. omega arith in (known_apart old new number k e p apart).0 (is.reached k (omega arith)))
-        (λ high. ⊎_elim
+          (λ (low : k < number). let apart : k ≢ number = λ q. omega arith in (known_apart old new number k e p apart).0 (is.reached k (omega arith)))
+          (λ high. ⊎_elim
           (λ (same : k ≡ number). inr (subst (λ (n : ℕ). IsSome (entry_at new n)) (sym same) (subst (λ (o : Option StampedEntry). IsSome o) (sym p.put) refl)))
           (λ (apart : k ≢ number). (known_apart old new number k e p apart).0 (inr (r.held k (omega arith) h)))
           (cases_eq k number))
-        (cases_lt k number);
+          (cases_lt k number);
       ends = λ h. ⊎_elim (λ q. omega arith) (λ q. let apart : g + 1 ≢ number = λ s. omega arith in let none = p.others (g + 1) apart ∙ r.ends in let some = subst (λ (o : Option StampedEntry). IsSome o) none q in cc) h;
     }
 
@@ -64,9 +63,9 @@ frontier_covered_below old new f count is c rising below =
     let covered = c.covered in
     record {
       reached = λ k h. ⊎_elim
-        (λ (past : count < k). ⊎_elim (λ q. absurd (omega arith)) (λ q. inr (subst (λ (o : Option StampedEntry). IsSome o) (sym (c.held k ∙ not_covered old count k past)) q)) (is.reached k h))
-        (λ low. inl (omega arith))
-        (cases_lt count k);
+          (λ (past : count < k). ⊎_elim (λ q. absurd (omega arith)) (λ q. inr (subst (λ (o : Option StampedEntry). IsSome o) (sym (c.held k ∙ not_covered old count k past)) q)) (is.reached k h))
+          (λ low. inl (omega arith))
+          (cases_lt count k);
       ends = λ h. ⊎_elim (λ q. absurd (omega arith)) (λ q. is.ends (inr (subst (λ (o : Option StampedEntry). IsSome o) (c.held (f + 1) ∙ not_covered old count (f + 1) (omega arith)) q))) h;
     }
 
@@ -76,9 +75,9 @@ frontier_covered_past old new count g c r =
     let up = r.up in
     record {
       reached = λ k h. ⊎_elim
-        (λ (past : count < k). inr (subst (λ (o : Option StampedEntry). IsSome o) (sym (c.held k ∙ not_covered old count k past)) (r.held k past h)))
-        (λ low. inl (omega arith))
-        (cases_lt count k);
+          (λ (past : count < k). inr (subst (λ (o : Option StampedEntry). IsSome o) (sym (c.held k ∙ not_covered old count k past)) (r.held k past h)))
+          (λ low. inl (omega arith))
+          (cases_lt count k);
       ends = λ h. ⊎_elim (λ q. absurd (omega arith)) (λ q. let none = c.held (g + 1) ∙ not_covered old count (g + 1) (omega arith) ∙ r.ends in let some = subst (λ (o : Option StampedEntry). IsSome o) none q in cc) h;
     }
 

@@ -96,10 +96,10 @@ impl OutputLogger {
         requires some { 1 ≤ threads }
         requires few { threads ≤ 16 }
         ensures { IfOk result (λ logger. logger ≡ record {
-            epoch = 1;
-            held = replicate threads fresh_lane;
-            released = replicate threads no_numbers;
-            waiting = [];
+          epoch = 1;
+          held = replicate threads fresh_lane;
+          released = replicate threads no_numbers;
+          waiting = [];
         }) }
     {
         Ok(OutputLogger {

@@ -94,7 +94,10 @@ fn find_due(
     if from >= to {
         return Ok(());
     }
-    for (_, _, arrival) in waiting.index.range((thread, from, u64::MAX)..(thread, to, u64::MAX)) {
+    for (_, _, arrival) in waiting
+        .index
+        .range((thread, from, u64::MAX)..(thread, to, u64::MAX))
+    {
         if let Some(output) = waiting.outputs.get(arrival)
             && output.stamp.at_most(reached)
         {
@@ -105,12 +108,7 @@ fn find_due(
 }
 
 /// Releases the output with this arrival number.
-fn release_one(
-    waiting: &mut Waiting,
-    released: &mut Released,
-    arrival: u64,
-    out: &mut Vec<Output>,
-)
+fn release_one(waiting: &mut Waiting, released: &mut Released, arrival: u64, out: &mut Vec<Output>)
     requires there { IsSome (arrived waiting.old.outputs.entries arrival) }
     requires awaited { (o : Output) → arrived waiting.old.outputs.entries arrival ≡ Some o
         → IsAwaited released.old o.thread o.number }
@@ -191,7 +189,12 @@ impl Waiting {
     }
 
     /// The arrival numbers of those that will be due once the frontiers rise from the first to the second.
-    pub fn due(&self, alloc: Global, from: &Stamp, reached: &Stamp) -> Result<BTreeSet<u64>, NoMemory>
+    pub fn due(
+        &self,
+        alloc: Global,
+        from: &Stamp,
+        reached: &Stamp,
+    ) -> Result<BTreeSet<u64>, NoMemory>
         requires small { (a : ℕ) → IsSome (arrived self.now.outputs.entries a) → a < 2 ^ 64 - 1 }
         requires indexed { (a u : ℕ) (o : Output) → arrived self.now.outputs.entries a ≡ Some o
             → slice_index from.now u < slice_index o.stamp u
@@ -209,12 +212,7 @@ impl Waiting {
     }
 
     /// Releases the outputs with these arrival numbers, in their order. There is room for them.
-    pub fn release(
-        &mut self,
-        released: &mut Released,
-        ready: &BTreeSet<u64>,
-        out: &mut Vec<Output>,
-    )
+    pub fn release(&mut self, released: &mut Released, ready: &BTreeSet<u64>, out: &mut Vec<Output>)
         requires there { (a : ℕ) → IsReady ready.now.keys a
             → IsSome (arrived self.old.outputs.entries a) }
         requires sorted { IsStrictlySortedBy nat_cmp (keys_of self.old.outputs.entries) }

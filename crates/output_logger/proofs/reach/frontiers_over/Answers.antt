@@ -1,4 +1,4 @@
-use Rattle.std.proofs.Common.{◌≡◌, ◌≢◌, ℕ, ◌+◌, ◌<◌, ◌≤◌, length, slice_index, slice_set, length-set, below_more, arith}
+use Rattle.std.proofs.Common.{◌≢◌, ◌<◌, length, slice_index, slice_set, length-set, below_more, arith}
 use Rattle.std.proofs.lemmas.List.{get_or-set_same, get_or-set_other}
 use Rattle.access_log.specs.Held.{Lane, lane, IsFrontier}
 use Rattle.access_log.specs.Lanes.{CoversUpTo}

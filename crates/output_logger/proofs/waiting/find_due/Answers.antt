@@ -1,9 +1,9 @@
-use Rattle.std.proofs.Common.{rules, ◌≡◌, ℕ, List, map, refl, sym, ap, ◌∙◌, subst, inl, inr, ⊎_elim, arith}
+use Rattle.std.proofs.Common.{rules, ◌≡◌, ℕ, List, map, refl, sym, ◌∙◌, subst, inr, ⊎_elim, arith}
 use Rattle.std.proofs.lemmas.Map.Iter.{iter_end}
 use Rattle.std.specs.Map.Iter.{deref}
 use Rattle.thread_clock.specs.Clock.{AtMost}
 use Rattle.access_log.specs.declared.entry.Output.{Output}
-use Rattle.output_logger.specs.Kept.{arrived, IsIndexed, IsReady, IsDueBy}
+use Rattle.output_logger.specs.Kept.{IsIndexed, IsReady, IsDueBy}
 use Rattle.output_logger.proofs.KeyLemmas.{indexed_turn, indexed_between, ready_more, ready_here, ready_only}
 use Rattle.output_logger.proofs.ArrivalLemmas.{some_of}
 use Rattle.output_logger.proofs.waiting.find_due.Goals as goal
@@ -27,15 +27,15 @@ loop-arrival-preserved c =
     let a = c.in-Some.field-0.now.2 in
     let Due : ℕ → Type 0 = λ x. IsDueBy c.args.waiting.now.outputs.entries c.args.reached.now x in
     let not_due : Due a → ⊥ = λ due.
-        elim c.in_default.branch [
-          | in_default-via-in-None-1 w ↦ let none = w.in-None-1.ensures.0 in let some = due.1 in cc
-          | in_default-via-in-Some-get+else-at_most w ↦
-            let some = due.1 in
-            let found = w.in-Some-get.ensures.value in
-            let is : due.0 ≡ w.in-Some-get.output.now = cc in
-            let no = w.if-at_most.ensures.1 (subst (λ (o : Output). AtMost o.stamp c.args.reached.now) is due.2) in
-            cc
-        ] in
+    elim c.in_default.branch [
+      | in_default-via-in-None-1 w ↦ let none = w.in-None-1.ensures.0 in let some = due.1 in cc
+      | in_default-via-in-Some-get+else-at_most w ↦
+          let some = due.1 in
+          let found = w.in-Some-get.ensures.value in
+          let is : due.0 ≡ w.in-Some-get.output.now = cc in
+          let no = w.if-at_most.ensures.1 (subst (λ (o : Output). AtMost o.stamp c.args.reached.now) is due.2) in
+          cc
+    ] in
     record {
       kept = c.loop-arrival.invariant.kept;
       due = c.loop-arrival.invariant.due;

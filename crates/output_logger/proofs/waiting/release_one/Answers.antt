@@ -1,4 +1,4 @@
-use Rattle.std.proofs.Common.{◌≡◌, Some, sym}
+use Rattle.std.proofs.Common.{sym}
 use Rattle.output_logger.proofs.GoneLemmas.{awaited_in}
 use Rattle.output_logger.proofs.waiting.release_one.Goals as goal
 

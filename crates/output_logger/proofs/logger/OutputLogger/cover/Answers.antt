@@ -1,6 +1,5 @@
-use Rattle.std.proofs.Common.{◌≡◌, refl, sym, ap, ◌∙◌, subst}
-use Rattle.output_logger.specs.Logger.{appended}
-use Rattle.output_logger.specs.Reach.{WithCover, AreFrontiers}
+use Rattle.std.proofs.Common.{refl}
+use Rattle.output_logger.specs.Reach.{AreFrontiers}
 use Rattle.output_logger.proofs.KeptLemmas.{rises, more_with_cover, kept_after, parts_after}
 use Rattle.output_logger.proofs.logger.OutputLogger.cover.Goals as goal
 

@@ -1,4 +1,3 @@
-use Rattle.std.proofs.Common.{◌≡◌, ◌∙◌}
 use Rattle.output_logger.proofs.KeptLemmas.{once_either}
 use Rattle.output_logger.proofs.logger.OutputLogger.covered.Goals as goal
 

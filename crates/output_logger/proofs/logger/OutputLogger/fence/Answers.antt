@@ -1,7 +1,4 @@
-use Rattle.std.proofs.Common.{◌≡◌, [], sym, ap, ◌∙◌, subst}
-use Rattle.std.specs.Ordering.{nat_cmp}
-use Rattle.std.specs.List.Sorted.{IsStrictlySortedBy}
-use Rattle.std.specs.Map.{keys_of}
+use Rattle.std.proofs.Common.{sym, ◌∙◌}
 use Rattle.output_logger.proofs.KeptLemmas.{kept_empty}
 use Rattle.output_logger.proofs.logger.OutputLogger.fence.Goals as goal
 

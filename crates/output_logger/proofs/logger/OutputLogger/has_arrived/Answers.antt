@@ -1,4 +1,4 @@
-use Rattle.std.proofs.Common.{◌≡◌, inl, inr, ⊎_elim}
+use Rattle.std.proofs.Common.{inr, ⊎_elim}
 use Rattle.output_logger.proofs.KeptLemmas.{waiting_named}
 use Rattle.output_logger.proofs.logger.OutputLogger.has_arrived.Goals as goal
 

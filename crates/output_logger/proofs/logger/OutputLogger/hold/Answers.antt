@@ -1,8 +1,7 @@
-use Rattle.std.proofs.Common.{◌≡◌, Ok, refl, sym, ap, ◌∙◌, subst}
+use Rattle.std.proofs.Common.{refl}
 use Rattle.access_log.specs.Held.{lane}
 use Rattle.access_log.specs.Lanes.{PutsEntry}
-use Rattle.output_logger.specs.Logger.{appended}
-use Rattle.output_logger.specs.Reach.{WithEntry, AreFrontiers}
+use Rattle.output_logger.specs.Reach.{AreFrontiers}
 use Rattle.output_logger.proofs.KeptLemmas.{rises, more_with_entry, kept_after, parts_after, added_new}
 use Rattle.output_logger.proofs.logger.OutputLogger.hold.Goals as goal
 

@@ -1,4 +1,3 @@
-use Rattle.std.proofs.Common.{◌≡◌}
 use Rattle.output_logger.proofs.KeptLemmas.{waiting_named, waiting_among, waiting_apart}
 use Rattle.output_logger.proofs.logger.OutputLogger.is_logger.Goals as goal
 

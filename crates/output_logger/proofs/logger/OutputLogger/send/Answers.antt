@@ -1,6 +1,5 @@
-use Rattle.std.proofs.Common.{◌≡◌, [], ◌∷◌, ◌++◌, sym, ap, ◌∙◌, subst, inl, inr}
-use Rattle.dup_filter.specs.Numbers.{WasMarked, IsAwaited}
-use Rattle.output_logger.specs.Logger.{HasArrived, appended}
+use Rattle.std.proofs.Common.{◌≡◌, [], ◌∷◌, sym, ◌∙◌, inl, inr}
+use Rattle.dup_filter.specs.Numbers.{IsAwaited}
 use Rattle.output_logger.proofs.ArrivalLemmas.{ok_of}
 use Rattle.output_logger.proofs.NameLemmas.{appended_append, appended_none, take_first}
 use Rattle.output_logger.proofs.GoneLemmas.{once_none}
@@ -24,10 +23,10 @@ returns-clause-once c =
     let pushed = c.in_ok-push.ensures.ok in
     rw (← c.self.view_is) (elim c.if-is_err.branch [
       | then-is_err w ↦
-        let same = err_of c.mark-marked.result (sym c.is_err.ensures.value ∙ w.if-is_err.true) c.mark-marked.ensures.err in
-        let out : c.if-is_err.out ≡ c.args.out.now = w.out-is ∙ w.truncate.ensures ∙ rw (pushed, c.len-sent.ensures) (take_first c.args.out.now (o ∷ [])) in
-        rw (out, appended_none c.args.out.now, same) (once_none s.released)
+          let same = err_of c.mark-marked.result (sym c.is_err.ensures.value ∙ w.if-is_err.true) c.mark-marked.ensures.err in
+          let out : c.if-is_err.out ≡ c.args.out.now = w.out-is ∙ w.truncate.ensures ∙ rw (pushed, c.len-sent.ensures) (take_first c.args.out.now (o ∷ [])) in
+          rw (out, appended_none c.args.out.now, same) (once_none s.released)
       | else-is_err w ↦
-        let marks = ok_of c.mark-marked.result (sym c.is_err.ensures.value ∙ w.if-is_err.false) c.mark-marked.ensures.ok in
-        rw (w.out-is, pushed, appended_append c.args.out.now (o ∷ [])) (once_one s.released c.mark-marked.new.self o (record { fresh = λ h. fresh (inl h); marks = marks; others = c.mark-marked.ensures.others }))
+          let marks = ok_of c.mark-marked.result (sym c.is_err.ensures.value ∙ w.if-is_err.false) c.mark-marked.ensures.ok in
+          rw (w.out-is, pushed, appended_append c.args.out.now (o ∷ [])) (once_one s.released c.mark-marked.new.self o (record { fresh = λ h. fresh (inl h); marks = marks; others = c.mark-marked.ensures.others }))
     ])

@@ -1,4 +1,4 @@
-use Rattle.std.proofs.Common.{◌≡◌, sym, ◌∙◌, inr}
+use Rattle.std.proofs.Common.{sym, ◌∙◌, inr}
 use Rattle.dup_filter.specs.Numbers.{IsAwaited}
 use Rattle.output_logger.proofs.ArrivalLemmas.{ok_of}
 use Rattle.output_logger.proofs.KeptLemmas.{waiting_named, kept_pushed}

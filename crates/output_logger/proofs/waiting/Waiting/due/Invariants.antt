@@ -1,5 +1,4 @@
 use Rattle.std.proofs.Common.{ℕ, ◌<◌, ◌≤◌, slice_index}
-use Rattle.access_log.specs.declared.entry.Output.{Output}
 use Rattle.output_logger.specs.Kept.{IsIndexed, IsReady, IsDueBy}
 use Rattle.output_logger.proofs.waiting.Waiting.due.Given as goal
 

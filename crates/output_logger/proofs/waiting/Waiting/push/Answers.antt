@@ -1,4 +1,4 @@
-use Rattle.std.proofs.Common.{◌≡◌, sym, ◌∙◌, false}
+use Rattle.std.proofs.Common.{sym, ◌∙◌}
 use Rattle.output_logger.proofs.ArrivalLemmas.{ok_of, some_of, insert_last}
 use Rattle.output_logger.proofs.waiting.Waiting.push.Goals as goal
 

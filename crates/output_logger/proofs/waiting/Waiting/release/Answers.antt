@@ -1,9 +1,9 @@
-use Rattle.std.proofs.Common.{◌≡◌, ◌≢◌, ℕ, ◌<◌, List, [], ◌∷◌, ◌++◌, map, length, sym, ap, ◌∙◌, subst, inl, inr, arith}
+use Rattle.std.proofs.Common.{◌≡◌, ◌≢◌, [], ◌∷◌, ◌++◌, map, length, sym, ap, ◌∙◌, inl, inr, arith}
 use Rattle.std.specs.Map.Iter.{deref}
 use Rattle.std.proofs.lemmas.List.{map-append}
 use Rattle.std.proofs.lemmas.Map.Iter.{rest_so_far}
 use Rattle.access_log.specs.declared.entry.Output.{Output}
-use Rattle.output_logger.specs.Kept.{IsReady, Gone}
+use Rattle.output_logger.specs.Kept.{IsReady}
 use Rattle.output_logger.proofs.ArrivalLemmas.{ready_append, some_of}
 use Rattle.output_logger.proofs.NameLemmas.{appended_none, appends_none, appended_more}
 use Rattle.output_logger.proofs.GoneLemmas.{gone_none, gone_more, still_waits}

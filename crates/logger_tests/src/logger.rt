@@ -1,0 +1,323 @@
+ghost use Rattle.std.specs.Prelude.{◌≡◌, length, replicate, IfOk};
+ghost use Rattle.access_log.specs.Held.{fresh_lane};
+
+use access_log::{Kept, Output, Outputs, StampedEntry, What};
+use output_logger::{EntryTook, OutputLogger, OutputTook};
+use plain_text::{Bytes, NoMemory, Packet};
+use std::alloc::Global;
+use std::marker::{Send, Sync};
+use std::test::Fail;
+use thread_clock::Stamp;
+
+/// What arrives, and what is to become of it. An output comes after these numbers of entries of threads 0 and 1.
+#[derive(Clone, Copy)]
+enum Arrival {
+    Log(u32, u64, EntryTook),
+    Out(u32, u64, (u64, u64), OutputTook),
+}
+
+use EntryTook::New;
+use OutputTook::{Again, OldEpoch, Release};
+
+/// That a value may be used by other threads, and handed to one.
+fn goes_between_threads<T: Send + Sync>(_value: &T) {}
+
+/// The stamp with these components for threads 0 and 1.
+fn stamp(zero: u64, one: u64) -> Stamp {
+    let mut components = [0; 16];
+    components[0] = zero;
+    components[1] = one;
+    Stamp::new(components)
+}
+
+/// An entry of thread 0 or 1. Entry n of thread 0 comes after entry n of thread 1.
+fn entry_of(thread: u32, number: u64) -> StampedEntry
+    ensures thread { result.thread ≡ thread }
+    ensures number { result.number ≡ number }
+{
+    StampedEntry {
+        thread,
+        number,
+        what: What::Clock(0),
+        stamp: stamp(if thread == 0 { number } else { 0 }, number),
+    }
+}
+
+/// An output that comes after the entries of this stamp.
+fn output_of(alloc: Global, thread: u32, number: u64, after: Stamp) -> Result<Output, NoMemory>
+    ensures thread { IfOk result (λ output. output.thread ≡ thread) }
+    ensures number { IfOk result (λ output. output.number ≡ number) }
+{
+    let bytes = Bytes::of(alloc, &[])?;
+    let packet = Packet {
+        seconds: 100,
+        fraction: 4,
+        original: 42,
+        bytes,
+    };
+    Ok(Output {
+        thread,
+        number,
+        input: number,
+        stamp: after,
+        packet,
+    })
+}
+
+/// Whether the outputs are those of these threads and numbers, in this order.
+fn are(out: &Outputs, names: &[(u32, u64)]) -> bool {
+    let items = out.as_slice();
+    if items.len() != names.len() {
+        return false;
+    }
+    for (output, (thread, number)) in items.iter().zip(names) {
+        if output.thread != *thread || output.number != *number {
+            return false;
+        }
+    }
+    true
+}
+
+/// An entry arrives. Whether this becomes of it.
+fn log(
+    logger: &mut OutputLogger,
+    out: &mut Outputs,
+    epoch: u32,
+    entry: StampedEntry,
+    took: EntryTook,
+) -> Result<bool, NoMemory>
+    requires { length logger.old.held ≡ 2 }
+    ensures { length logger.new.held ≡ 2 }
+{
+    if epoch > logger.epoch() || entry.thread >= 2 || entry.number == 0 {
+        return Ok(false);
+    }
+    Ok(logger.entry(epoch, entry, out)? == took)
+}
+
+/// An output arrives. Whether this becomes of it.
+fn send(
+    logger: &mut OutputLogger,
+    out: &mut Outputs,
+    epoch: u32,
+    output: Output,
+    took: OutputTook,
+) -> Result<bool, NoMemory>
+    requires { length logger.old.held ≡ 2 }
+    ensures threads { length logger.new.held ≡ 2 }
+    ensures held { logger.new.held ≡ logger.old.held }
+{
+    if epoch > logger.epoch() || output.thread >= 2 || output.number == 0 {
+        return Ok(false);
+    }
+    Ok(logger.output(epoch, output, out)? == took)
+}
+
+fn arrive(
+    alloc: Global,
+    logger: &mut OutputLogger,
+    out: &mut Outputs,
+    epoch: u32,
+    arrival: Arrival,
+) -> Result<bool, NoMemory>
+    requires { length logger.old.held ≡ 2 }
+    ensures { length logger.new.held ≡ 2 }
+{
+    match arrival {
+        Arrival::Log(thread, number, took) => {
+            log(logger, out, epoch, entry_of(thread, number), took)
+        }
+        Arrival::Out(thread, number, (zero, one), took) => {
+            let output = output_of(alloc, thread, number, stamp(zero, one))?;
+            send(logger, out, epoch, output, took)
+        }
+    }
+}
+
+/// These arrive in turn. The number of those of which something else became.
+fn arrive_all(
+    alloc: Global,
+    logger: &mut OutputLogger,
+    out: &mut Outputs,
+    epoch: u32,
+    arrivals: &[Arrival],
+) -> Result<Option<usize>, NoMemory>
+    requires { length logger.old.held ≡ 2 }
+    ensures { length logger.new.held ≡ 2 }
+{
+    for (i, arrival) in arrivals.iter().enumerate() {
+        if !arrive(alloc, logger, out, epoch, *arrival)? {
+            return Ok(Some(i));
+        }
+    }
+    Ok(None)
+}
+
+const fn wait(thread: u32, number: u64) -> OutputTook {
+    OutputTook::Wait { thread, number }
+}
+
+/// Thread 1 touches a variable, then thread 0, which sends. Its output waits for thread 1's entry, whichever comes first.
+#[test]
+fn waits_for_the_entry_of_another_thread(rt: HostRuntime) -> Result<(), Fail> {
+    let alloc = rt.alloc();
+    let mut out = Outputs::new(alloc);
+    let arrivals = [
+        Arrival::Log(0, 1, New),
+        Arrival::Out(0, 1, (1, 1), wait(1, 1)),
+        Arrival::Out(0, 1, (0, 0), Again),
+        Arrival::Log(1, 1, New),
+        Arrival::Log(1, 1, EntryTook::Known),
+        Arrival::Out(0, 1, (0, 0), Again),
+        Arrival::Out(1, 1, (0, 1), Release),
+    ];
+    let mut logger = OutputLogger::new(alloc, 2)?;
+    goes_between_threads(&logger);
+    let wrong = arrive_all(alloc, &mut logger, &mut out, 1, &arrivals)?;
+    assert_eq!(rt; wrong, None);
+    assert!(rt; are(&out, &[(0, 1), (1, 1)]));
+    Ok(())
+}
+
+/// Four outputs come before their entries. Those that one entry frees are released in the order in which they arrived.
+#[test]
+fn releases_in_order_of_arrival(rt: HostRuntime) -> Result<(), Fail> {
+    let alloc = rt.alloc();
+    let mut out = Outputs::new(alloc);
+    let arrivals = [
+        Arrival::Out(0, 2, (2, 1), wait(0, 1)),
+        Arrival::Out(1, 2, (0, 1), wait(1, 1)),
+        Arrival::Out(0, 1, (1, 1), wait(0, 1)),
+        Arrival::Out(1, 1, (0, 1), wait(1, 1)),
+        Arrival::Log(0, 2, New),
+        Arrival::Log(0, 1, New),
+        Arrival::Out(0, 3, (2, 1), wait(1, 1)),
+        Arrival::Log(1, 1, New),
+    ];
+    let mut logger = OutputLogger::new(alloc, 2)?;
+    let wrong = arrive_all(alloc, &mut logger, &mut out, 1, &arrivals)?;
+    assert_eq!(rt; wrong, None);
+    assert!(rt; are(&out, &[(0, 2), (1, 2), (0, 1), (1, 1), (0, 3)]));
+    assert_eq!(rt; logger.waiting(), 0);
+    Ok(())
+}
+
+/// Ends the epoch. Whether one held entry is dropped, and none is kept.
+fn fence(logger: &mut OutputLogger) -> bool
+    requires { length logger.old.held ≡ 2 }
+    ensures { length logger.new.held ≡ 2 }
+{
+    if logger.epoch() == u32::MAX {
+        return false;
+    }
+    logger.fence()
+        == Kept {
+            kept: 0,
+            dropped: 1,
+        }
+}
+
+/// After a fence old messages have no effect, what waited is forgotten, and what was released is not released again.
+#[test]
+fn a_fence_forgets_what_waits(rt: HostRuntime) -> Result<(), Fail> {
+    let alloc = rt.alloc();
+    let mut out = Outputs::new(alloc);
+    let before = [
+        Arrival::Log(0, 1, New),
+        Arrival::Out(0, 1, (1, 0), Release),
+        Arrival::Out(1, 1, (0, 1), wait(1, 1)),
+    ];
+    let late = [
+        Arrival::Log(1, 1, EntryTook::OldEpoch),
+        Arrival::Out(0, 1, (0, 0), OldEpoch),
+    ];
+    let after = [
+        Arrival::Out(1, 1, (0, 1), wait(1, 1)),
+        Arrival::Out(0, 1, (0, 0), Again),
+    ];
+    let mut logger = OutputLogger::new(alloc, 2)?;
+    let wrong = arrive_all(alloc, &mut logger, &mut out, 1, &before)?;
+    assert_eq!(rt; wrong, None);
+    let kept = fence(&mut logger);
+    assert!(rt; kept);
+    assert_eq!(rt; (logger.epoch(), logger.waiting()), (2, 0));
+    let wrong = arrive_all(alloc, &mut logger, &mut out, 1, &late)?;
+    assert_eq!(rt; wrong, None);
+    let wrong = arrive_all(alloc, &mut logger, &mut out, 2, &after)?;
+    assert_eq!(rt; wrong, None);
+    assert!(rt; are(&out, &[(0, 1)]));
+    Ok(())
+}
+
+/// Outputs of thread 0 arrive, the last number first. All wait for the first entry of the thread.
+fn many_wait(
+    alloc: Global,
+    logger: &mut OutputLogger,
+    out: &mut Outputs,
+    count: u64,
+) -> Result<bool, NoMemory>
+    requires { length logger.old.held ≡ 2 }
+    ensures { length logger.new.held ≡ 2 }
+{
+    for i in 0..count {
+        let output = output_of(alloc, 0, count - i, stamp(1, 0))?;
+        if !send(logger, out, 1, output, wait(0, 1))? {
+            return Ok(false);
+        }
+    }
+    Ok(true)
+}
+
+/// Whether they are outputs of these many numbers, the last first.
+fn fall(out: &Outputs, count: u64) -> bool {
+    let mut next = count;
+    for output in out.as_slice() {
+        if output.number != next || next == 0 {
+            return false;
+        }
+        next -= 1;
+    }
+    next == 0
+}
+
+#[test]
+fn one_entry_releases_many(rt: HostRuntime) -> Result<(), Fail> {
+    let alloc = rt.alloc();
+    let mut out = Outputs::new(alloc);
+    let mut logger = OutputLogger::new(alloc, 2)?;
+    let all_wait = many_wait(alloc, &mut logger, &mut out, 2000)?;
+    assert!(rt; all_wait && out.is_empty());
+    let held = log(&mut logger, &mut out, 1, entry_of(0, 1), New)?;
+    assert!(rt; held && fall(&out, 2000));
+    Ok(())
+}
+
+/// Two outputs wait, and a snapshot with the entry of one of them is stored.
+fn store(alloc: Global, logger: &mut OutputLogger, out: &mut Outputs) -> Result<bool, NoMemory>
+    requires { logger.old.held ≡ replicate 2 fresh_lane }
+{
+    let first = output_of(alloc, 0, 2, stamp(2, 1))?;
+    let second = output_of(alloc, 0, 1, stamp(1, 1))?;
+    let wait = send(logger, out, 1, first, wait(0, 1))?
+        && send(logger, out, 1, second, wait(0, 1))?;
+    cover_first(logger, out)?;
+    Ok(wait)
+}
+
+/// A snapshot with the first entry of each thread is stored, the first one that is.
+fn cover_first(logger: &mut OutputLogger, out: &mut Outputs) -> Result<(), NoMemory>
+    requires { logger.old.held ≡ replicate 2 fresh_lane }
+{
+    logger.covered(&stamp(1, 1), out)
+}
+
+#[test]
+fn a_stored_snapshot_releases(rt: HostRuntime) -> Result<(), Fail> {
+    let alloc = rt.alloc();
+    let mut out = Outputs::new(alloc);
+    let mut logger = OutputLogger::new(alloc, 2)?;
+    let wait = store(alloc, &mut logger, &mut out)?;
+    assert!(rt; wait && are(&out, &[(0, 1)]));
+    assert_eq!(rt; logger.waiting(), 1);
+    Ok(())
+}
