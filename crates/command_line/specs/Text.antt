@@ -8,8 +8,11 @@ use Rattle.plain_text.specs.declared.limit.Limit.TheVariants.{File, Packets, Eve
 use Rattle.pcap_io.specs.declared.fault.CaptureCause.{CaptureCause}
 use Rattle.pcap_io.specs.declared.fault.CaptureCause.TheVariants as capture
 use Rattle.pcap_io.specs.declared.fault.CaptureFault.{CaptureFault}
+use Rattle.pcapng_io.specs.declared.fault.NgCause.{NgCause}
+use Rattle.pcapng_io.specs.declared.fault.NgCause.TheVariants as ng
+use Rattle.pcapng_io.specs.declared.fault.NgFault.{NgFault}
 use Rattle.job_top.specs.declared.status.InputFault.{InputFault}
-use Rattle.job_top.specs.declared.status.InputFault.TheVariants.{BoxFile, Capture}
+use Rattle.job_top.specs.declared.status.InputFault.TheVariants.{BoxFile, Capture, NgCapture}
 use Rattle.job_top.specs.declared.status.Status.{Status}
 use Rattle.job_top.specs.declared.status.Status.TheVariants.{Done, BadWords, ReadFault, WriteFault, NoMemory, BadInput, TooLarge, NotBuilt}
 
@@ -30,6 +33,17 @@ capture_cause_text capture.ShortHeader = codes "short header"
 capture_cause_text capture.ShortRecord = codes "short record"
 capture_cause_text capture.TooLong = codes "too long"
 
+abbrev pub ng_cause_text : NgCause → List ℕ
+ng_cause_text ng.ShortBlock = codes "short block"
+ng_cause_text ng.BadLength = codes "bad length"
+ng_cause_text ng.BadMagic = codes "bad magic"
+ng_cause_text ng.BadVersion = codes "bad version"
+ng_cause_text ng.BadLinkType = codes "bad link type"
+ng_cause_text ng.BadOption = codes "bad option"
+ng_cause_text ng.NoInterface = codes "no interface"
+ng_cause_text ng.BadPacket = codes "bad packet"
+ng_cause_text ng.BadTime = codes "bad time"
+
 abbrev pub limit_text : Limit → List ℕ
 limit_text File = codes "file"
 limit_text Packets = codes "packets"
@@ -41,6 +55,7 @@ limit_text OutputBytes = codes "output bytes"
 abbrev pub fault_text : InputFault → List ℕ
 fault_text (BoxFile fault) = codes "bad input: box: line " ++ decimal fault.line ++ codes ": " ++ cause_text fault.cause
 fault_text (Capture fault) = codes "bad input: capture: offset " ++ decimal fault.offset ++ codes ": " ++ capture_cause_text fault.cause
+fault_text (NgCapture fault) = codes "bad input: capture: offset " ++ decimal fault.offset ++ codes ": " ++ ng_cause_text fault.cause
 
 abbrev pub status_text : Status → List ℕ
 status_text Done = codes "done"

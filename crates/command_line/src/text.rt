@@ -1,8 +1,9 @@
 ghost use Rattle.std.specs.Prelude.{◌≡◌, Some};
-ghost use Rattle.command_line.specs.Text.{cause_text, capture_cause_text, limit_text};
+ghost use Rattle.command_line.specs.Text.{cause_text, capture_cause_text, ng_cause_text, limit_text};
 
 use job_top::{InputFault, Status};
 use pcap_io::{CaptureCause, CaptureFault};
+use pcapng_io::{NgCause, NgFault};
 use plain_text::{Limit, LineCause, LineFault};
 use std::fmt;
 
@@ -23,6 +24,10 @@ impl fmt::Display for StatusText {
             }
             Status::BadInput(InputFault::Capture(CaptureFault { offset, cause })) => {
                 let cause = capture_cause(cause);
+                write!(f, "bad input: capture: offset {offset}: {cause}")
+            }
+            Status::BadInput(InputFault::NgCapture(NgFault { offset, cause })) => {
+                let cause = ng_cause(cause);
                 write!(f, "bad input: capture: offset {offset}: {cause}")
             }
             Status::TooLarge(limit) => {
@@ -63,6 +68,22 @@ fn capture_cause(cause: CaptureCause) -> &'static str
         CaptureCause::ShortHeader => "short header",
         CaptureCause::ShortRecord => "short record",
         CaptureCause::TooLong => "too long",
+    }
+}
+
+fn ng_cause(cause: NgCause) -> &'static str
+    ensures { result.now ≡ ng_cause_text cause }
+{
+    match cause {
+        NgCause::ShortBlock => "short block",
+        NgCause::BadLength => "bad length",
+        NgCause::BadMagic => "bad magic",
+        NgCause::BadVersion => "bad version",
+        NgCause::BadLinkType => "bad link type",
+        NgCause::BadOption => "bad option",
+        NgCause::NoInterface => "no interface",
+        NgCause::BadPacket => "bad packet",
+        NgCause::BadTime => "bad time",
     }
 }
 

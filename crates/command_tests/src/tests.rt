@@ -2,6 +2,7 @@ ghost use Rattle.std.specs.Prelude.{◌≡◌, ◌+◌, ◌≤◌, length};
 
 use job_top::{InputFault, Status, ftmb};
 use pcap_io::{CaptureCause, CaptureFault};
+use pcapng_io::{NgCause, NgFault};
 use plain_text::{Bytes, Limit, LineCause, LineFault, NoMemory, Sequence, Text};
 use sample_frames::{
     LITTLE_MICRO, ONE_COUNTED, ONE_CUT, ONE_CUT_COUNTED, ONE_PACKET, ONE_UNCHANGED, TWO_COUNTED,
@@ -43,6 +44,18 @@ const REFUSED: Case<'static> = Case {
     report: b"",
     ..ONE
 };
+
+/// A pcapng capture of one packet, `QUERY`, as `ONE_PACKET` has it: a section header, an interface, an enhanced packet.
+const ONE_NG: &[u8] =
+    b"\x0a\x0d\x0d\x0a\x1c\0\0\0M<+\x1a\x01\0\0\0\xff\xff\xff\xff\xff\xff\xff\xff\x1c\0\0\0\x01\0\0\0\x14\0\0\0\x01\0\0\0\0\0\x04\0\x14\0\0\0\x06\0\0\0L\0\0\0\0\0\0\0\0\0\0\0\x05\xe1\xf5\x05*\0\0\0*\0\0\0\x02\0\xaa\xaa\xaa\xaa\x02\0\0\0\0\x01\x08\0E\0\0\x1c\0\x01\0\0@\x11F\x91\x0a\0\0\x05\xc63d\x07\x13\x88\x005\0\x08\xb7\xe1\0\0L\0\0\0";
+
+/// What the counting box releases of it: a savefile in nanoseconds.
+const NANO_COUNTED: &[u8] =
+    b"M<\xb2\xa1\x02\0\x04\0\0\0\0\0\0\0\0\0\0\0\x04\0\x01\0\0\0d\0\0\0\x88\x13\0\0*\0\0\0*\0\0\0\x02\0\0\0\0\x01\x02\0\0\0\0\x01\x08\0E\0\0\x1c\0\x01\0\0@\x11F\x91\x0a\0\0\x05\xc63d\x07\x13\x88\x005\0\x08\xb7\xe1";
+
+/// The same capture, but its packet is of a second interface, which there is none of.
+const NO_INTERFACE: &[u8] =
+    b"\x0a\x0d\x0d\x0a\x1c\0\0\0M<+\x1a\x01\0\0\0\xff\xff\xff\xff\xff\xff\xff\xff\x1c\0\0\0\x01\0\0\0\x14\0\0\0\x01\0\0\0\0\0\x04\0\x14\0\0\0\x06\0\0\0L\0\0\0\x01\0\0\0\0\0\0\0\x05\xe1\xf5\x05*\0\0\0*\0\0\0\x02\0\xaa\xaa\xaa\xaa\x02\0\0\0\0\x01\x08\0E\0\0\x1c\0\x01\0\0@\x11F\x91\x0a\0\0\x05\xc63d\x07\x13\x88\x005\0\x08\xb7\xe1\0\0L\0\0\0";
 
 /// The words of a run on the files of a case.
 const RUN: [&str; 6] = ["run", "box", "in", "script", "out", "moves"];
@@ -396,5 +409,27 @@ fn stops_at_too_many_packets(rt: HostRuntime) -> Result<(), Fail> {
         ..REFUSED
     };
     assert!(rt; holds(alloc, case)?);
+    Ok(())
+}
+
+#[test]
+fn reads_pcapng_captures(rt: HostRuntime) -> Result<(), Fail> {
+    let no_interface = Status::BadInput(InputFault::NgCapture(NgFault {
+        offset: 48,
+        cause: NgCause::NoInterface,
+    }));
+    let cases = [
+        Case {
+            capture: ONE_NG,
+            released: Some(NANO_COUNTED),
+            ..ONE
+        },
+        Case {
+            capture: NO_INTERFACE,
+            status: no_interface,
+            ..REFUSED
+        },
+    ];
+    assert_eq!(rt; first_wrong(rt.alloc(), &cases)?, None);
     Ok(())
 }

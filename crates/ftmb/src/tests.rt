@@ -3,6 +3,7 @@ ghost use Rattle.std.specs.Prelude.{◌≡◌, ◌≤◌, length};
 use command_line::{StatusText, answer, exit_of, help, perform, version};
 use job_top::{InputFault, Status};
 use pcap_io::{CaptureCause, CaptureFault};
+use pcapng_io::{NgCause, NgFault};
 use plain_text::{Bytes, Limit, LineCause, LineFault, NoMemory, Text};
 use sample_frames::{ONE_COUNTED, ONE_PACKET};
 use std::alloc::Global;
@@ -258,6 +259,10 @@ fn says_its_status(rt: HostRuntime) -> Result<(), Fail> {
         offset: 24,
         cause: CaptureCause::ShortRecord,
     }));
+    let no_interface = Status::BadInput(InputFault::NgCapture(NgFault {
+        offset: 48,
+        cause: NgCause::NoInterface,
+    }));
     let texts = [
         (Status::Done, "done", 0),
         (Status::BadWords, "bad words", 2),
@@ -268,6 +273,11 @@ fn says_its_status(rt: HostRuntime) -> Result<(), Fail> {
         (
             bad_capture,
             "bad input: capture: offset 24: short record",
+            6,
+        ),
+        (
+            no_interface,
+            "bad input: capture: offset 48: no interface",
             6,
         ),
         (Status::TooLarge(Limit::File), "too large: file", 7),

@@ -5,11 +5,12 @@ use Rattle.std.proofs.lemmas.Bool.Decides.{nat_tests}
 use Rattle.plain_text.specs.declared.fault.LineFault.{LineFault}
 use Rattle.plain_text.specs.declared.limit.Limit.{Limit}
 use Rattle.plain_text.specs.declared.limit.Limit.TheVariants.{File}
-use Rattle.pcap_io.specs.declared.capture.Captured.{Captured}
-use Rattle.pcap_io.specs.declared.capture.Captured.TheVariants as captured
-use Rattle.pcap_io.specs.declared.fault.CaptureFault.{CaptureFault}
-use Rattle.pcap_io.specs.Captured.{Says, IsDecided as IsDecidedCapture}
-use Rattle.pcap_io.proofs.Verdicts.{one_answer}
+use Rattle.pcapng_io.specs.declared.capture.AnyCaptured.{AnyCaptured}
+use Rattle.pcapng_io.specs.declared.capture.AnyCaptured.TheVariants as captured
+use Rattle.pcapng_io.specs.declared.fault.AnyFault.{AnyFault}
+use Rattle.pcapng_io.specs.declared.fault.AnyFault.TheVariants as any
+use Rattle.pcapng_io.specs.Captured.{SaysAny, IsDecidedAny}
+use Rattle.pcapng_io.proofs.Verdicts.{one_any_answer}
 use Rattle.box_conf.specs.declared.kind.BoxConf.{BoxConf}
 use Rattle.box_conf.specs.Reading.{box_of}
 use Rattle.box_conf.proofs.OneFile.{box_is_read, fault_is_read}
@@ -46,7 +47,7 @@ abbrev script_answer : Option (List ℕ) → Result Bool ReadError
 script_answer None = Err reading.Failed
 script_answer (Some bytes) = if_within reading.TooLarge bytes (Ok (is_settle bytes))
 
-abbrev capture_said : Captured → Result Capture (InputError CaptureFault)
+abbrev capture_said : AnyCaptured → Result Capture (InputError AnyFault)
 capture_said (captured.Capture unit packets) = Ok (record { unit = unit; packets = packets })
 capture_said (captured.Refused fault) = Err (error.Fault fault)
 capture_said (captured.TooLarge limit) = Err (error.TooLarge limit)
@@ -94,12 +95,12 @@ module _ (healthy : Type 0) (name : List ℕ) (shown : Shown) where
   script_is (Err reading.NoMemory) d h = absurd d
 
   -- the capture is not there or too long a file, or its bytes have an answer
-  abbrev Reads : Result Capture (InputError CaptureFault) → Type 0
+  abbrev Reads : Result Capture (InputError AnyFault) → Type 0
   Reads r = ((r ≡ Err error.ReadFault) × IsMissing name shown)
       ⊎ (((r ≡ Err (error.TooLarge File)) × HasTooMany name shown)
-      ⊎ ((bytes : List ℕ) × HasBytes name shown bytes × (answer : Captured) × IsDecidedCapture answer × Says bytes answer × (r ≡ capture_said answer)))
+      ⊎ ((bytes : List ℕ) × HasBytes name shown bytes × (answer : AnyCaptured) × IsDecidedAny answer × SaysAny bytes answer × (r ≡ capture_said answer)))
 
-  capture_is : (r : Result Capture (InputError CaptureFault)) → FilesDecide healthy r → JudgesCapture healthy name r shown → Reads r
+  capture_is : (r : Result Capture (InputError AnyFault)) → FilesDecide healthy r → JudgesCapture healthy name r shown → Reads r
   capture_is (Ok capture) d h = inr (inr (h.0, h.1, captured.Capture capture.unit capture.packets, tt, h.2, refl))
   capture_is (Err (error.Fault fault)) d h = inr (inr (h.0, h.1, captured.Refused fault, tt, h.2, refl))
   capture_is (Err (error.TooLarge limit)) d (inl h) = inr (inl (ap (λ (l : Limit). Err (error.TooLarge l)) h.0, h.1))
@@ -123,7 +124,7 @@ module _ (healthy : Type 0) (name : List ℕ) (shown : Shown) where
       let as_long : length a.0 ≡ length bytes = ap length (same_bytes a.0 bytes a.1 b.0) in
       let no : ⊥ = omega (arith, a.2, b.1, as_long) in absurd no
 
-  one_capture : (r q : Result Capture (InputError CaptureFault)) → Reads r → Reads q → r ≡ q
+  one_capture : (r q : Result Capture (InputError AnyFault)) → Reads r → Reads q → r ≡ q
   one_capture r q (inl a) (inl b) = a.0 ∙ sym b.0
   one_capture r q (inl a) (inr (inl b)) = no_bytes b.1.0 a.1 b.1.1
   one_capture r q (inl a) (inr (inr b)) = no_bytes b.0 a.1 b.1.0
@@ -134,7 +135,7 @@ module _ (healthy : Type 0) (name : List ℕ) (shown : Shown) where
   one_capture r q (inr (inr a)) (inr (inl b)) = apart a.0 b.1 a.1
   one_capture r q (inr (inr a)) (inr (inr b)) =
       let same : a.0 ≡ b.0 = same_bytes a.0 b.0 a.1.0 b.1.0 in
-      let alike : a.2 ≡ b.2 = one_answer b.0 a.2 b.2 a.3 b.3 (subst (λ (bytes : List ℕ). Says bytes a.2) same a.4) b.4 in
+      let alike : a.2 ≡ b.2 = one_any_answer b.0 a.2 b.2 a.3 b.3 (subst (λ (bytes : List ℕ). SaysAny bytes a.2) same a.4) b.4 in
       a.5 ∙ ap capture_said alike ∙ sym b.5
 
 -- what the inputs come to, once all are read
@@ -149,12 +150,12 @@ module _ (healthy : Type 0) (names : RunNames) (shown : Shown) where
   abbrev AtScript : Status → Type 0
   AtScript s = (r : Result Bool ReadError) × ScriptDecides healthy r × JudgesScript healthy names.script r shown × BehindScript r s
 
-  abbrev BehindCapture : Result Capture (InputError CaptureFault) → Status → Type 0
+  abbrev BehindCapture : Result Capture (InputError AnyFault) → Status → Type 0
   BehindCapture (Err e) s = of_capture_error e ≡ s
   BehindCapture (Ok capture) s = AtScript s
 
   abbrev AtCapture : Status → Type 0
-  AtCapture s = (r : Result Capture (InputError CaptureFault)) × FilesDecide healthy r × JudgesCapture healthy names.capture r shown × BehindCapture r s
+  AtCapture s = (r : Result Capture (InputError AnyFault)) × FilesDecide healthy r × JudgesCapture healthy names.capture r shown × BehindCapture r s
 
   abbrev BehindBox : Result BoxConf (InputError LineFault) → Status → Type 0
   BehindBox (Err e) s = of_box_error e ≡ s
@@ -176,7 +177,8 @@ module _ (healthy : Type 0) (names : RunNames) (shown : Shown) where
   answers status.NotBuilt d h =
       behind_box status.NotBuilt h.inputs.conf h.box_accepted (behind_capture status.NotBuilt h.inputs.capture h.capture_accepted (Ok false, tt, h.script_read, refl))
   answers (status.BadInput (input.BoxFile fault)) d h = (Err (error.Fault fault), tt, h, refl)
-  answers (status.BadInput (input.Capture fault)) d h = behind_box _ h.0 h.1 (Err (error.Fault fault), tt, h.2, refl)
+  answers (status.BadInput (input.Capture fault)) d h = behind_box _ h.0 h.1 (Err (error.Fault (any.Capture fault)), tt, h.2, refl)
+  answers (status.BadInput (input.NgCapture fault)) d h = behind_box _ h.0 h.1 (Err (error.Fault (any.Ng fault)), tt, h.2, refl)
   answers (status.TooLarge limit) d (inl h) = (Err (error.TooLarge limit), tt, h, refl)
   answers (status.TooLarge limit) d (inr (inl h)) = behind_box _ h.0 h.1 (Err (error.TooLarge limit), tt, h.2, refl)
   answers (status.TooLarge limit) d (inr (inr h)) =
@@ -198,10 +200,10 @@ module _ (healthy : Type 0) (names : RunNames) (shown : Shown) where
       go (Ok settle) a b = sym a ∙ b
       go (Err e) a b = sym a ∙ b
 
-  one_behind_capture : (r q : Result Capture (InputError CaptureFault)) (s t : Status) → r ≡ q → BehindCapture r s → BehindCapture q t → s ≡ t
-  one_behind_capture r q s t same a b = go q (subst (λ (x : Result Capture (InputError CaptureFault)). BehindCapture x s) same a) b
+  one_behind_capture : (r q : Result Capture (InputError AnyFault)) (s t : Status) → r ≡ q → BehindCapture r s → BehindCapture q t → s ≡ t
+  one_behind_capture r q s t same a b = go q (subst (λ (x : Result Capture (InputError AnyFault)). BehindCapture x s) same a) b
     where
-      go : (x : Result Capture (InputError CaptureFault)) → BehindCapture x s → BehindCapture x t → s ≡ t
+      go : (x : Result Capture (InputError AnyFault)) → BehindCapture x s → BehindCapture x t → s ≡ t
       go (Ok capture) a b = one_behind_script a.0 b.0 s t (script_is healthy names.script shown a.0 a.1 a.2 ∙ sym (script_is healthy names.script shown b.0 b.1 b.2)) a.3 b.3
       go (Err e) a b = sym a ∙ b
 

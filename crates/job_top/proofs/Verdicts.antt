@@ -3,7 +3,8 @@ use Rattle.std.proofs.Common.{◌≡◌, ℕ, List, Bool, refl, sym, ap, ◌∙�
 use Rattle.std.specs.Prelude.{true, false}
 use Rattle.plain_text.specs.declared.fault.LineFault.{LineFault}
 use Rattle.plain_text.specs.declared.limit.Limit.{Limit}
-use Rattle.pcap_io.specs.declared.fault.CaptureFault.{CaptureFault}
+use Rattle.pcapng_io.specs.declared.fault.AnyFault.{AnyFault}
+use Rattle.pcapng_io.specs.declared.fault.AnyFault.TheVariants as any
 use Rattle.box_conf.specs.declared.kind.BoxConf.{BoxConf}
 use Rattle.world_io.specs.World.{Shown}
 use Rattle.job_top.specs.declared.errors.InputError.{InputError}
@@ -54,9 +55,10 @@ module _ (healthy later : Type 0) (stays : healthy → later) (names : RunNames)
   too_large name limit (inr h) = inr (h.0, has_bytes name h.0 h.1, h.2)
 
   -- the capture is not accepted behind the box file
-  pub capture_refused : (e : InputError CaptureFault) (conf : BoxConf) → AcceptsBox names.box_file conf a → JudgesCapture later names.capture (Err e) b
+  pub capture_refused : (e : InputError AnyFault) (conf : BoxConf) → AcceptsBox names.box_file conf a → JudgesCapture later names.capture (Err e) b
       → JudgesInputs healthy names (Err (of_capture_error e)) a
-  capture_refused (error.Fault fault) conf box h = (conf, box, (h.0, has_bytes names.capture h.0 h.1, h.2))
+  capture_refused (error.Fault (any.Capture fault)) conf box h = (conf, box, (h.0, has_bytes names.capture h.0 h.1, h.2))
+  capture_refused (error.Fault (any.Ng fault)) conf box h = (conf, box, (h.0, has_bytes names.capture h.0 h.1, h.2))
   capture_refused (error.TooLarge limit) conf box h = inr (inl (conf, box, too_large names.capture limit h))
   capture_refused error.ReadFault conf box h = (λ ok. inr (inl (conf, box, is_missing names.capture (h (stays ok)))))
   capture_refused error.NoMemory conf box h = tt
@@ -94,7 +96,7 @@ box_stage (error.TooLarge limit) = inl refl
 box_stage error.ReadFault = inl refl
 box_stage error.NoMemory = inr refl
 
-pub capture_stage : (e : InputError CaptureFault) → ComesAt AtInputs (of_capture_error e)
+pub capture_stage : (e : InputError AnyFault) → ComesAt AtInputs (of_capture_error e)
 capture_stage (error.Fault fault) = inl refl
 capture_stage (error.TooLarge limit) = inl refl
 capture_stage error.ReadFault = inl refl

@@ -6,7 +6,8 @@ use Rattle.std.specs.Prelude.{◌≡◌, ◌⊎◌, ℕ, Bool, true, false, List
 use Rattle.plain_text.specs.declared.fault.LineFault.{LineFault}
 use Rattle.plain_text.specs.declared.limit.Limit.{Limit}
 use Rattle.plain_text.specs.declared.limit.Limit.TheVariants.{File}
-use Rattle.pcap_io.specs.declared.fault.CaptureFault.{CaptureFault}
+use Rattle.pcapng_io.specs.declared.fault.AnyFault.{AnyFault}
+use Rattle.pcapng_io.specs.declared.fault.AnyFault.TheVariants as any
 use Rattle.box_conf.specs.declared.kind.BoxConf.{BoxConf}
 use Rattle.world_io.specs.World.{Shown}
 use Rattle.job_top.specs.declared.errors.InputError.{InputError}
@@ -35,7 +36,7 @@ abbrev pub CaptureTooLarge : List ℕ → Limit → Shown → Type 0
 CaptureTooLarge name limit shown = ((limit ≡ File) × HasTooMany name shown) ⊎ PassesCapture name limit shown
 
 -- what reading the capture answers
-abbrev pub JudgesCapture : Type 0 → List ℕ → Result Capture (InputError CaptureFault) → Shown → Type 0
+abbrev pub JudgesCapture : Type 0 → List ℕ → Result Capture (InputError AnyFault) → Shown → Type 0
 JudgesCapture healthy name (Ok capture) shown = AcceptsCapture name capture shown
 JudgesCapture healthy name (Err (error.Fault fault)) shown = FaultsCapture name fault shown
 JudgesCapture healthy name (Err (error.TooLarge limit)) shown = CaptureTooLarge name limit shown
@@ -94,7 +95,8 @@ Judges healthy names status.ReadFault shown = healthy → FirstIsMissing names s
 Judges healthy names status.WriteFault shown = (healthy → ⊥) × AreAccepted names shown
 Judges healthy names status.NoMemory shown = Unit {0}
 Judges healthy names (status.BadInput (input.BoxFile fault)) shown = FaultsBox names.box_file fault shown
-Judges healthy names (status.BadInput (input.Capture fault)) shown = BehindBox names shown (FaultsCapture names.capture fault shown)
+Judges healthy names (status.BadInput (input.Capture fault)) shown = BehindBox names shown (FaultsCapture names.capture (any.Capture fault) shown)
+Judges healthy names (status.BadInput (input.NgCapture fault)) shown = BehindBox names shown (FaultsCapture names.capture (any.Ng fault) shown)
 Judges healthy names (status.TooLarge limit) shown = FirstIsTooLarge names limit shown
 Judges healthy names status.NotBuilt shown = AsksForAnother names shown
 

@@ -2,14 +2,16 @@
 use Rattle.std.specs.Prelude.{◌≡◌, ◌⊎◌, ℕ, Result, Ok, Err}
 use Rattle.plain_text.specs.declared.fault.LineFault.{LineFault}
 use Rattle.plain_text.specs.declared.limit.Limit.TheVariants.{File}
-use Rattle.pcap_io.specs.declared.fault.CaptureFault.{CaptureFault}
+use Rattle.pcapng_io.specs.declared.fault.AnyFault.{AnyFault}
+use Rattle.pcapng_io.specs.declared.fault.AnyFault.TheVariants as any
 use Rattle.job_top.specs.declared.errors.InputError.{InputError}
 use Rattle.job_top.specs.declared.errors.InputError.TheVariants as of_input
 use Rattle.world_io.specs.declared.all.ReadError.{ReadError}
 use Rattle.world_io.specs.declared.all.ReadError.TheVariants as of_reading
 use Rattle.job_top.specs.declared.errors.OutputError.{OutputError}
 use Rattle.job_top.specs.declared.errors.OutputError.TheVariants as of_output
-use Rattle.job_top.specs.declared.status.InputFault.TheVariants.{BoxFile, Capture}
+use Rattle.job_top.specs.declared.status.InputFault.{InputFault}
+use Rattle.job_top.specs.declared.status.InputFault.TheVariants.{BoxFile, Capture, NgCapture}
 use Rattle.job_top.specs.declared.status.Status.{Status}
 use Rattle.job_top.specs.declared.status.Status.TheVariants.{Done, BadWords, ReadFault, WriteFault, NoMemory, BadInput, TooLarge, NotBuilt}
 
@@ -57,11 +59,15 @@ of_box_error of_input.NoMemory = NoMemory
 of_box_error (of_input.TooLarge limit) = TooLarge limit
 of_box_error (of_input.Fault fault) = BadInput (BoxFile fault)
 
-abbrev pub of_capture_error : InputError CaptureFault → Status
+abbrev pub of_capture_fault : AnyFault → InputFault
+of_capture_fault (any.Capture fault) = Capture fault
+of_capture_fault (any.Ng fault) = NgCapture fault
+
+abbrev pub of_capture_error : InputError AnyFault → Status
 of_capture_error of_input.ReadFault = ReadFault
 of_capture_error of_input.NoMemory = NoMemory
 of_capture_error (of_input.TooLarge limit) = TooLarge limit
-of_capture_error (of_input.Fault fault) = BadInput (Capture fault)
+of_capture_error (of_input.Fault fault) = BadInput (of_capture_fault fault)
 
 abbrev pub of_output_error : OutputError → Status
 of_output_error of_output.WriteFault = WriteFault

@@ -8,7 +8,7 @@ ghost use Rattle.job_top.specs.Running.{IsShort};
 
 use crate::{InputError, is_settle, read_file};
 use box_conf::{BoxConf, read_box};
-use pcap_io::{CaptureFault, Captured, read_capture};
+use pcapng_io::{AnyCaptured, AnyFault, read_any_capture};
 use plain_text::{LineFault, Packets, Text, Unit};
 use std::alloc::Global;
 use world_io::{ReadError, SliceSource, World};
@@ -55,7 +55,7 @@ pub fn read_capture_file<W: World>(
     alloc: Global,
     world: &mut W,
     name: &Text,
-) -> Result<Capture, InputError<CaptureFault>>
+) -> Result<Capture, InputError<AnyFault>>
     requires { (W.ledger world.old).given < 2 ^ 32 - 1 }
     ensures judged { IsTrue W.tells
         → JudgesCapture (W.healthy world.old) name.now result (W.shown world.old) }
@@ -69,12 +69,12 @@ pub fn read_capture_file<W: World>(
     ensures stays_healthy { W.healthy world.old → W.healthy world.new }
 {
     let bytes = read_file(alloc, world, name)?;
-    match read_capture(alloc, &mut SliceSource::of(bytes.as_slice())) {
-        Captured::Capture { unit, packets } => Ok(Capture { unit, packets }),
-        Captured::Refused(fault) => Err(InputError::Fault(fault)),
-        Captured::TooLarge(limit) => Err(InputError::TooLarge(limit)),
-        Captured::ReadFault => unreachable!(),
-        Captured::NoMemory => Err(InputError::NoMemory),
+    match read_any_capture(alloc, &mut SliceSource::of(bytes.as_slice())) {
+        AnyCaptured::Capture { unit, packets } => Ok(Capture { unit, packets }),
+        AnyCaptured::Refused(fault) => Err(InputError::Fault(fault)),
+        AnyCaptured::TooLarge(limit) => Err(InputError::TooLarge(limit)),
+        AnyCaptured::ReadFault => unreachable!(),
+        AnyCaptured::NoMemory => Err(InputError::NoMemory),
     }
 }
 

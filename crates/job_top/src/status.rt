@@ -3,6 +3,7 @@ ghost use Rattle.job_top.specs.Status.{exit_code_of};
 
 use crate::{InputError, OutputError};
 use pcap_io::CaptureFault;
+use pcapng_io::{AnyFault, NgFault};
 use plain_text::{Limit, LineFault};
 use world_io::ReadError;
 
@@ -11,6 +12,7 @@ use world_io::ReadError;
 pub enum InputFault {
     BoxFile(LineFault),
     Capture(CaptureFault),
+    NgCapture(NgFault),
 }
 
 /// What a command came to.
@@ -49,6 +51,20 @@ impl Status {
     }
 }
 
+impl From<AnyFault> for InputFault {
+    ghost use Rattle.std.specs.Prelude.{◌≡◌};
+    ghost use Rattle.job_top.specs.Status.{of_capture_fault};
+
+    ghost from_gives = { λ fault input. input ≡ of_capture_fault fault };
+
+    fn from(fault: AnyFault) -> Self {
+        match fault {
+            AnyFault::Capture(fault) => InputFault::Capture(fault),
+            AnyFault::Ng(fault) => InputFault::NgCapture(fault),
+        }
+    }
+}
+
 impl From<InputError<LineFault>> for Status {
     ghost use Rattle.std.specs.Prelude.{◌≡◌};
     ghost use Rattle.job_top.specs.Status.{of_box_error};
@@ -65,17 +81,17 @@ impl From<InputError<LineFault>> for Status {
     }
 }
 
-impl From<InputError<CaptureFault>> for Status {
+impl From<InputError<AnyFault>> for Status {
     ghost use Rattle.std.specs.Prelude.{◌≡◌};
     ghost use Rattle.job_top.specs.Status.{of_capture_error};
 
     ghost from_gives = { λ error status. status ≡ of_capture_error error };
 
-    fn from(error: InputError<CaptureFault>) -> Self {
+    fn from(error: InputError<AnyFault>) -> Self {
         match error {
             InputError::ReadFault => Status::ReadFault,
             InputError::TooLarge(limit) => Status::TooLarge(limit),
-            InputError::Fault(fault) => Status::BadInput(InputFault::Capture(fault)),
+            InputError::Fault(fault) => Status::BadInput(fault.into()),
             InputError::NoMemory => Status::NoMemory,
         }
     }
