@@ -9,3 +9,5 @@ pub mod Readings
 pub mod Formats
 pub mod Verdicts
 pub mod Captures
+pub mod Recorded
+pub mod Written

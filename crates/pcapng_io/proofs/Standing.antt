@@ -102,11 +102,11 @@ block_limit o full room b more f fits few =
     limit_whole o full room (block_bytes b ++ more) (ap (λ t. full && t) shows ∙ few) (ap is_short within)
 
 -- which kinds of block give a packet
-one_content : (t : Bool) (given : Content) (cause : NgCause) (c : Content) → (if t then Ok given else Err cause) ≡ Ok c → given ≡ c
+pub one_content : (t : Bool) (given : Content) (cause : NgCause) (c : Content) → (if t then Ok given else Err cause) ≡ Ok c → given ≡ c
 one_content true given cause c is = cc
 one_content false given cause c is = cc
 
-described_none : (interfaces : List Interface) (r : Result Interface NgCause) (c : Content) → describes interfaces r ≡ Ok c → c.packet ≡ None
+pub described_none : (interfaces : List Interface) (r : Result Interface NgCause) (c : Content) → describes interfaces r ≡ Ok c → c.packet ≡ None
 described_none interfaces (Ok i) c is = let same : record { interfaces = interfaces ++ i ∷ []; packet = None } ≡ c = cc in sym (ap (λ (d : Content). d.packet) same)
 described_none interfaces (Err cause) c is = cc
 

@@ -1,5 +1,0 @@
-use Rattle.pcapng_io.proofs.Verdicts.{one_ng_answer}
-use Rattle.pcapng_io.proofs.laws.one_ng_answer.Goals as goal
-
-pub returns : goal.returns
-returns c = one_ng_answer
