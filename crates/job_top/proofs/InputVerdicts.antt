@@ -10,7 +10,7 @@ use Rattle.pcapng_io.specs.declared.capture.AnyCaptured.TheVariants as captured
 use Rattle.pcapng_io.specs.declared.fault.AnyFault.{AnyFault}
 use Rattle.pcapng_io.specs.declared.fault.AnyFault.TheVariants as any
 use Rattle.pcapng_io.specs.Captured.{SaysAny, IsDecidedAny}
-use Rattle.pcapng_io.proofs.Verdicts.{one_any_answer}
+use Rattle.pcapng_io.proofs.Written.{one_any_answer}
 use Rattle.box_conf.specs.declared.kind.BoxConf.{BoxConf}
 use Rattle.box_conf.specs.Reading.{box_of}
 use Rattle.box_conf.proofs.OneFile.{box_is_read, fault_is_read}

@@ -1,5 +1,5 @@
 //! Laws of the commands. Each is proved, and does nothing: a caller has it by the call.
-ghost use Rattle.std.specs.Prelude.{◌≡◌, ℕ, All, Bool, List, IsTrue, Ok, Err};
+ghost use Rattle.std.specs.Prelude.{◌≡◌, ◌≤◌, ◌↔◌, ℕ, All, Bool, List, IsTrue, Ok, Err, length};
 ghost use Rattle.plain_text.specs.Octets.{IsOfBytes};
 ghost use Rattle.plain_text.specs.declared.packet.Packet.{Packet};
 ghost use Rattle.packet_headers.specs.declared.flow.Flow.{Flow};
@@ -8,7 +8,14 @@ ghost use Rattle.packet_headers.specs.View.{viewed};
 ghost use Rattle.box_program.specs.Count.{count_meaning};
 ghost use Rattle.monitor_box.specs.Monitor.{monitor_meaning};
 ghost use Rattle.monitor_box.specs.Standing.{HaveBytes};
+ghost use Rattle.plain_text.specs.declared.limit.TheConstants.{MOST_PACKETS};
+ghost use Rattle.plain_text.specs.declared.packet.Unit.TheVariants.{Nano};
+ghost use Rattle.pcap_io.specs.Capture.{written};
+ghost use Rattle.pcapng_io.specs.Capture.{IsNg};
 ghost use Rattle.world_io.specs.World.{Shown};
+ghost use Rattle.job_top.specs.declared.inputs.Capture.{Capture};
+ghost use Rattle.job_top.specs.Files.{HasBytes};
+ghost use Rattle.job_top.specs.Inputs.{AcceptsCapture};
 ghost use Rattle.job_top.specs.declared.status.Status.{Status};
 ghost use Rattle.job_top.specs.Judging.{Judges, IsDecided};
 ghost use Rattle.job_top.specs.Running.{inputs_on, moves_for};
@@ -20,6 +27,15 @@ pub fn one_verdict()
     ensures { (healthy : Bool) (names : RunNames) (s r : Status) (shown : Shown)
         → IsDecided (IsTrue healthy) s → IsDecided (IsTrue healthy) r
         → Judges (IsTrue healthy) names s shown → Judges (IsTrue healthy) names r shown → s ≡ r }
+{}
+
+/// A pcapng capture is accepted as the savefile of its packets in nanoseconds is, where neither passes a limit: as one and the same
+/// capture. The clauses of the top call speak of an accepted capture by this alone, so its answers and files are the same for both.
+pub fn pcapng_captures_are_savefiles()
+    ensures { (name bytes : List ℕ) (packets : List Packet) (shown other : Shown) (capture : Capture)
+        → IsNg bytes packets → length packets ≤ MOST_PACKETS
+        → HasBytes name shown bytes → HasBytes name other (written Nano packets)
+        → AcceptsCapture name capture shown ↔ AcceptsCapture name capture other }
 {}
 
 /// Where each packet of a capture is of bytes, as of one that was accepted, so is each input of each thread: what the laws of the

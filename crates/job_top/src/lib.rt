@@ -22,7 +22,9 @@ mod writing;
 pub use command::{Command, read_command};
 pub use errors::{InputError, OutputError};
 pub use inputs::{Capture, Inputs, read_box_file, read_capture_file, read_script_file};
-pub use laws::{inputs_are_of_bytes, moves_of_each_box, one_verdict};
+pub use laws::{
+    inputs_are_of_bytes, moves_of_each_box, one_verdict, pcapng_captures_are_savefiles,
+};
 pub use make_words::{MakeWords, read_make_words};
 pub use making::make_capture;
 pub use outputs::{OutputFiles, RunTexts, write_outputs};

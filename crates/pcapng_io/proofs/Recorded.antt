@@ -73,6 +73,7 @@ module _ (o : Order) (i : Interface) (body : List ℕ) (octets : AreBytes body) 
           },
           AreBytes-take (number o 4 (drop 12 body)) (drop 20 body) (AreBytes-drop 20 body octets),
         )
+
     by_test : (b : Bool) → passes_body (number o 4 (drop 12 body)) 20 body ≡ b → (if b then Err BadPacket else enhanced_at o i body (seconds_of i (enhanced_time o body))) ≡ Ok p → IsWhole p
     by_test true test is = cc
     by_test false test is = by_time test (seconds_of i (enhanced_time o body)) refl is

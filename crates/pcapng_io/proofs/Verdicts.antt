@@ -44,8 +44,7 @@ same_block s t u b c p q x y first second same =
     let interfaces : t.interfaces ≡ u.interfaces = ap (λ (d : Content). d.interfaces) contents in
     let orders : t.order ≡ u.order = first.order ∙ ap (λ (d : Block). d.order) blocks ∙ sym second.order in
     let made : ◌≡◌ {A = Section} (record { order = t.order; interfaces = t.interfaces }) (record { order = u.order; interfaces = u.interfaces }) = rw (orders, interfaces) refl in
-    let sizes : length (block_bytes b) ≡ length (block_bytes c) = ap (λ d. length (block_bytes d)) blocks in
-    (
+    let sizes : length (block_bytes b) ≡ length (block_bytes c) = ap (λ d. length (block_bytes d)) blocks in (
       packets,
       made,
       sym (drop_at (block_bytes b) x (length (block_bytes b)) refl) ∙ ap (drop (length (block_bytes b))) same ∙ ap (λ n. drop n (block_bytes c ++ y)) sizes ∙ drop_at (block_bytes c) y (length (block_bytes c)) refl,
