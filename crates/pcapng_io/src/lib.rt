@@ -21,8 +21,8 @@ mod tests;
 mod time;
 
 pub use any::{AnyReader, AnyStarted, Format, open_capture};
-pub use capture::AnyCaptured;
 pub use block::{Block, BlockKind, MOST_BLOCK};
+pub use capture::AnyCaptured;
 pub use fault::{AnyFault, NgCause, NgFault};
 pub use interface::Interface;
 pub use next::AnyNext;
