@@ -22,7 +22,7 @@ mod time;
 
 pub use any::{AnyReader, AnyStarted, Format, open_capture};
 pub use block::{Block, BlockKind, MOST_BLOCK};
-pub use capture::AnyCaptured;
+pub use capture::{AnyCaptured, read_any_capture};
 pub use fault::{AnyFault, NgCause, NgFault};
 pub use interface::Interface;
 pub use next::AnyNext;
