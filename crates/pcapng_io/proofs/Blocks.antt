@@ -1,8 +1,8 @@
 -- A block's bytes, read from its head and what follows.
-use Rattle.std.proofs.Common.{◌≡◌, ℕ, ◌+◌, ◌-◌, ◌%◌, ◌^◌, ◌<◌, ◌≤◌, ◌==◌, ◌&&◌, ◌||◌, Bool, true, false, not, List, [], ◌∷◌, ◌++◌, length, take, drop, Option, Some, None, refl, sym, ap, ◌∙◌, arith, append_assoc, length-append, drop-drop}
+use Rattle.std.proofs.Common.{◌≡◌, ℕ, ◌+◌, ◌-◌, ◌%◌, ◌^◌, ◌<◌, ◌≤◌, ◌==◌, ◌&&◌, ◌||◌, Bool, true, false, not, List, ◌++◌, length, take, drop, Option, Some, refl, sym, ap, ◌∙◌, arith, append_assoc, length-append, drop-drop}
 use Rattle.std.specs.Prelude.{if◌then◌else◌, nat_lt}
-use Rattle.std.proofs.lemmas.Bool.{le-ltb, lt-ltb, ltb-false, eqb-true, ne_eqb}
-use Rattle.std.proofs.lemmas.List.{take_at, take_all, take_rest, take-append-drop, drop_at, length-drop, length-take, drop-append-le}
+use Rattle.std.proofs.lemmas.Bool.{lt-ltb, ltb-false, eqb-true, ne_eqb}
+use Rattle.std.proofs.lemmas.List.{take_all, take_rest, take-append-drop, length-drop, length-take, drop-append-le}
 use Rattle.plain_text.specs.Octets.{AreBytes}
 use Rattle.plain_text.proofs.Octets.{AreBytes-take, AreBytes-drop}
 use Rattle.pcap_io.specs.declared.order.Order.{Order}
@@ -12,7 +12,7 @@ use Rattle.pcap_io.proofs.Spelled.{spelled_4, length-spelled, number-drop}
 use Rattle.pcapng_io.specs.declared.block.Block.{Block}
 use Rattle.pcapng_io.specs.declared.block.BlockKind.{BlockKind}
 use Rattle.pcapng_io.specs.declared.block.BlockKind.TheVariants as kind
-use Rattle.pcapng_io.specs.Blocks.{block_bytes, kind_of, order_of, order_in, is_bad_total, gives_packet}
+use Rattle.pcapng_io.specs.Blocks.{block_bytes, kind_of, order_of, is_bad_total, gives_packet}
 use Rattle.pcapng_io.specs.Frames.{IsFramed, has_bad_length, total_at}
 use Rattle.pcapng_io.specs.Limits.{shows_packet}
 use Rattle.pcapng_io.proofs.Frames.{order_of-append, total_at-append}

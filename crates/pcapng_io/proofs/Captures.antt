@@ -1,6 +1,6 @@
 -- A capture of either format that is read packet by packet.
-use Rattle.std.proofs.Common.{◌≡◌, ℕ, ◌+◌, ◌<◌, ◌≤◌, true, false, List, [], ◌∷◌, ◌++◌, length, Some, None, refl, sym, ap, subst, ◌∙◌, arith, append_assoc, length-append, inl}
-use Rattle.std.proofs.lemmas.List.{append-nil, length_push}
+use Rattle.std.proofs.Common.{◌≡◌, ℕ, ◌≤◌, true, false, List, [], ◌∷◌, ◌++◌, length, refl, sym, ap, subst, ◌∙◌, arith, append_assoc, length-append, inl}
+use Rattle.std.proofs.lemmas.List.{append-nil}
 use Rattle.plain_text.specs.declared.limit.Limit.{Limit}
 use Rattle.plain_text.specs.declared.packet.Packet.{Packet}
 use Rattle.plain_text.specs.declared.packet.Unit.{Unit as TimeUnit}
@@ -9,8 +9,7 @@ use Rattle.pcap_io.specs.declared.capture.Captured.{Captured}
 use Rattle.pcap_io.specs.declared.capture.Captured.TheVariants as captured
 use Rattle.pcap_io.specs.declared.next.Next.{Next}
 use Rattle.pcap_io.specs.declared.next.Next.TheVariants as capture
-use Rattle.pcap_io.specs.Capture.{Begins}
-use Rattle.pcap_io.specs.Faults.{header_fault}
+use Rattle.pcap_io.specs.Capture.{Begins, AreRecorded}
 use Rattle.pcap_io.specs.Captured.{Says}
 use Rattle.pcap_io.specs.Limits.{room_at}
 use Rattle.pcap_io.specs.Reader.{Takes, IsGiven, after, AnswersAt}
@@ -33,10 +32,10 @@ use Rattle.pcapng_io.specs.Any.{any_next, first_reading, unit_of, StartsAny, Tak
 use Rattle.pcapng_io.specs.Capture.{Section, Passes, Reaches, no_section, begins_ng, IsNgFault}
 use Rattle.pcapng_io.specs.Limits.{limit_behind}
 use Rattle.pcapng_io.specs.Captured.{SaysNg, SaysAny, any_captured}
-use Rattle.pcapng_io.specs.Reader.{NgReading, Moves, section_of, StopsAt, StopsBehind, AnswersNg}
+use Rattle.pcapng_io.specs.Reader.{NgReading, Moves, section_of, StopsAt, StopsBehind}
 use Rattle.pcapng_io.specs.Stops.{held_type}
-use Rattle.pcapng_io.proofs.Formats.{begins-long}
 use Rattle.pcapng_io.proofs.Readings.{Moves-none, Moves-more, Passes-more}
+use Rattle.pcapng_io.proofs.Recorded.{lead_whole}
 use Rattle.pcapng_io.proofs.Verdicts.{fault_passes_none}
 
 -- from the first type on, these packets were read
@@ -282,3 +281,7 @@ module _ {S : Type 0} (reads : S → List ℕ → S → Type 0) (left_of : S →
   any_end (form.Ng r) g ps new is has (offset, behind) takes =
       let Unit_of : Format → Type 0 = λ h. SaysAny (left_of old) (any.Capture (unit_of h) ps) in
       subst Unit_of (sym takes.1) (ng_says (left_of old) (any.Capture Nano ps) is (says_end (left_of old) ps offset (stopped (left_of old) r ps (left_of now) offset stop.End (reached r ps is has) behind)))
+
+pub any_recorded : {S : Type 0} (reads : S → List ℕ → S → Type 0) (old now : S) (f : Format) (ps : List Packet) → HasReadAny reads old now f ps → AreRecorded ps
+any_recorded reads old now (form.Capture r) ps has = has.stands.each
+any_recorded reads old now (form.Ng r) ps has = (lead_whole (section_of first_reading) (section_of r) has.moves.passes.blocks ps has.moves.passes.lead).0

@@ -1,8 +1,8 @@
 -- The first bytes of a capture tell its format.
-use Rattle.std.proofs.Common.{◌≡◌, ℕ, ◌+◌, ◌<◌, ◌≤◌, ◌==◌, ◌&&◌, Bool, true, false, not, List, [], ◌∷◌, ◌++◌, length, take, Some, None, inl, inr, refl, sym, ap, subst, ◌∙◌, arith, append_assoc, length-append}
+use Rattle.std.proofs.Common.{◌≡◌, ℕ, ◌<◌, ◌≤◌, ◌==◌, ◌&&◌, Bool, true, false, not, List, [], ◌∷◌, ◌++◌, length, inl, inr, refl, sym, ap, subst, ◌∙◌, arith, length-append}
 use Rattle.std.specs.Prelude.{nat_lt}
-use Rattle.std.proofs.lemmas.Bool.{cases_lt, le-ltb, lt-ltb, ltb-false, eqb-true}
-use Rattle.std.proofs.lemmas.List.{append-nil, take_all, length-take}
+use Rattle.std.proofs.lemmas.Bool.{cases_lt, le-ltb, ltb-false, eqb-true}
+use Rattle.std.proofs.lemmas.List.{append-nil, take_all}
 use Rattle.plain_text.specs.Octets.{AreBytes}
 use Rattle.pcap_io.specs.declared.order.Order.{Order}
 use Rattle.pcap_io.specs.declared.order.Order.TheVariants.{Little}

@@ -1,26 +1,23 @@
 -- What stands in a block's frame.
-use Rattle.std.proofs.Common.{◌≡◌, inl, inr, ℕ, ◌+◌, ◌-◌, ◌<◌, ◌≤◌, ◌==◌, ◌&&◌, ◌||◌, Bool, true, false, not, List, [], ◌∷◌, ◌++◌, length, take, drop, Option, Some, None, refl, sym, ap, ◌∙◌, arith, append_assoc, length-append, drop-drop}
-use Rattle.std.specs.Prelude.{min, Result, Ok, Err, nat_lt, if◌then◌else◌}
-use Rattle.std.proofs.lemmas.Bool.{le-ltb, lt-ltb, cases_lt, ltb-true, eqb-true, eq-eqb}
-use Rattle.std.proofs.lemmas.List.{take_at, take_all, take-append-drop, drop_at, length-drop, length-take, drop-append-le, append-nil}
+use Rattle.std.proofs.Common.{◌≡◌, inl, inr, ℕ, ◌+◌, ◌-◌, ◌<◌, ◌≤◌, ◌&&◌, Bool, true, false, List, [], ◌++◌, length, take, drop, Some, None, refl, sym, ap, ◌∙◌, arith, length-append}
+use Rattle.std.specs.Prelude.{min, Err, nat_lt, if◌then◌else◌}
+use Rattle.std.proofs.lemmas.Bool.{le-ltb, lt-ltb, cases_lt}
+use Rattle.std.proofs.lemmas.List.{length-drop, length-take, drop-append-le, append-nil}
 use Rattle.std.proofs.Math.Seq.{take-append-add}
-use Rattle.plain_text.specs.declared.limit.Limit.{Limit}
 use Rattle.plain_text.specs.declared.limit.Limit.TheVariants.{File, Packets, Events, Moves, OutputBytes}
 use Rattle.pcap_io.specs.declared.order.Order.{Order}
 use Rattle.pcap_io.specs.declared.order.Order.TheVariants.{Little, Big}
-use Rattle.pcap_io.specs.Capture.{spelled, number}
+use Rattle.pcap_io.specs.Capture.{number}
 use Rattle.pcap_io.proofs.Spelled.{number-append, number-drop}
-use Rattle.pcapng_io.specs.declared.block.Block.{Block}
 use Rattle.pcapng_io.specs.declared.block.BlockKind.{BlockKind}
 use Rattle.pcapng_io.specs.declared.block.BlockKind.TheVariants as kind
-use Rattle.pcapng_io.specs.declared.fault.NgCause.{NgCause}
 use Rattle.pcapng_io.specs.declared.fault.NgCause.TheVariants.{ShortBlock, BadLength, BadMagic, BadVersion, BadLinkType, BadOption, NoInterface, BadPacket, BadTime}
 use Rattle.pcapng_io.specs.declared.place.Place.{Place}
 use Rattle.pcapng_io.specs.declared.place.Stop.{Stop}
 use Rattle.pcapng_io.specs.declared.place.Stop.TheVariants as stop
 use Rattle.pcapng_io.specs.Blocks.{kind_of, order_of, order_in, is_bad_total}
 use Rattle.pcapng_io.specs.Frames.{framed, framed_in, total_at, has_bad_length}
-use Rattle.pcapng_io.specs.Limits.{limit_here, is_cut, is_short, shows_packet}
+use Rattle.pcapng_io.specs.Limits.{limit_here, is_short, shows_packet}
 use Rattle.pcapng_io.specs.Stops.{StopsHere, PassesRest}
 
 -- the first four bytes of a body tell its order

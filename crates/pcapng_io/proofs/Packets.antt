@@ -4,7 +4,7 @@ use Rattle.std.specs.Prelude.{Ok}
 use Rattle.pcap_io.specs.declared.order.Order.{Order}
 use Rattle.pcap_io.specs.Capture.{number}
 use Rattle.pcapng_io.specs.declared.interface.Interface.{Interface}
-use Rattle.pcapng_io.specs.Contents.{passes_body, enhanced_time, enhanced_at, enhanced_on}
+use Rattle.pcapng_io.specs.Contents.{passes_body, enhanced_time, enhanced_on}
 use Rattle.pcapng_io.specs.Times.{seconds_of, nanos_of}
 
 pub enhanced_is : (o : Order) (i : Interface) (body out : List ℕ) (captured seconds fraction original : ℕ) → captured ≡ number o 4 (drop 12 body)

@@ -1,5 +1,5 @@
 -- Powers are at least 1.
-use Rattle.std.proofs.Common.{ℕ, zero, suc, ◌*◌, ◌^◌, ◌≤◌, arith}
+use Rattle.std.proofs.Common.{ℕ, zero, suc, ◌^◌, ◌≤◌, arith}
 use Rattle.std.proofs.Math.Nat.{pow-suc}
 
 pub ten_pow : (n : ℕ) → 1 ≤ 10 ^ n

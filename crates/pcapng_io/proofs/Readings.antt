@@ -1,6 +1,6 @@
 -- A reader that passes blocks.
-use Rattle.std.proofs.Common.{◌≡◌, ℕ, ◌+◌, ◌-◌, ◌<◌, ◌≤◌, ◌==◌, ◌&&◌, Bool, true, false, List, [], ◌∷◌, ◌++◌, length, Option, Some, None, refl, sym, ap, subst, ◌∙◌, arith, append_assoc, length-append}
-use Rattle.std.specs.Prelude.{Result, Ok, Err, is_some, option_to_list}
+use Rattle.std.proofs.Common.{◌≡◌, ℕ, ◌+◌, ◌-◌, ◌≤◌, ◌==◌, ◌&&◌, Bool, true, false, List, [], ◌∷◌, ◌++◌, length, Option, Some, None, refl, sym, ap, subst, ◌∙◌, arith, append_assoc, length-append}
+use Rattle.std.specs.Prelude.{Ok, Err, is_some, option_to_list}
 use Rattle.std.specs.Int.{from_bool}
 use Rattle.std.specs.List.{flat_map}
 use Rattle.std.proofs.lemmas.Bool.{eqb-false}
@@ -15,14 +15,14 @@ use Rattle.pcapng_io.specs.declared.place.Place.{Place}
 use Rattle.pcapng_io.specs.declared.place.Stop.{Stop}
 use Rattle.pcapng_io.specs.declared.place.Stop.TheVariants as stop
 use Rattle.pcapng_io.specs.Blocks.{block_bytes, kind_of, gives_packet}
-use Rattle.pcapng_io.specs.Capture.{Section, Lead, Passes, Follows, content_in, framed_fault, content_fault, block_fault}
-use Rattle.pcapng_io.specs.Contents.{Content, content}
-use Rattle.pcapng_io.specs.Frames.{framed, IsFramed}
-use Rattle.pcapng_io.specs.Limits.{limit_here, limit_behind}
+use Rattle.pcapng_io.specs.Capture.{Section, Lead, Passes, Follows, framed_fault, content_fault, block_fault}
+use Rattle.pcapng_io.specs.Contents.{content}
+use Rattle.pcapng_io.specs.Frames.{IsFramed}
+use Rattle.pcapng_io.specs.Limits.{limit_behind}
 use Rattle.pcapng_io.specs.Reader.{NgReading, Moves, section_of, StopsAt, StopsBehind, AnswersNg, TakesNg, answer_of}
-use Rattle.pcapng_io.specs.Stops.{StandsHere, StopsHere, held_type}
+use Rattle.pcapng_io.specs.Stops.{StandsHere, held_type}
 use Rattle.pcapng_io.proofs.Blocks.{length-block_bytes}
-use Rattle.pcapng_io.proofs.Standing.{framed_block, block_limit, content_gives}
+use Rattle.pcapng_io.proofs.Standing.{framed_block, block_limit}
 
 -- one block leads on
 pub Passes-block : (s : Section) (b : Block) (packet : Option Packet) (t : Section) → Follows s b packet t → Passes s (block_bytes b) (option_to_list packet) t

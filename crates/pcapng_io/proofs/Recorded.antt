@@ -19,10 +19,15 @@ use Rattle.pcapng_io.specs.declared.block.BlockKind.TheVariants as kind
 use Rattle.pcapng_io.specs.declared.fault.NgCause.{NgCause}
 use Rattle.pcapng_io.specs.declared.fault.NgCause.TheVariants.{BadVersion, BadPacket}
 use Rattle.pcapng_io.specs.declared.interface.Interface.{Interface}
-use Rattle.pcapng_io.specs.Blocks.{block_bytes, kind_of}
-use Rattle.pcapng_io.specs.Capture.{Section, Follows, Lead, IsNg}
-use Rattle.pcapng_io.specs.Contents.{Content, content, describes, gives, passes_body, enhanced_on, enhanced_at, enhanced_time, simple_on, captured_of}
+use Rattle.pcapng_io.specs.Blocks.{kind_of}
+use Rattle.pcapng_io.specs.Capture.{Section, Lead, IsNg}
+use Rattle.pcapng_io.specs.Contents.{Content, content, gives, passes_body, enhanced_on, enhanced_at, enhanced_time, simple_on, captured_of}
 use Rattle.pcapng_io.specs.Interfaces.{interface_in}
+use Rattle.pcap_io.specs.declared.next.Next.{Next}
+use Rattle.pcap_io.specs.declared.next.Next.TheVariants as capture
+use Rattle.pcap_io.specs.Reader.{IsGiven, GivesBytes}
+use Rattle.pcapng_io.specs.Any.{any_next}
+use Rattle.pcapng_io.specs.Reader.{NgReading, Moves, section_of, GivesAny}
 use Rattle.pcapng_io.proofs.Standing.{one_content, described_none}
 use Rattle.pcapng_io.specs.Times.{in_32_bits, seconds_of, nanos_of}
 
@@ -126,7 +131,7 @@ more_whole : (packet : Option Packet) (others : List Packet) → ((p : Packet) �
 more_whole None others one rest = rest
 more_whole (Some p) others one rest = (((one p refl).0, rest.0), ((one p refl).1, rest.1))
 
-lead_whole : (s t : Section) (bs : List Block) (ps : List Packet) → Lead s bs ps t → AreRecorded ps × AllByRecursion IsOfBytes ps
+pub lead_whole : (s t : Section) (bs : List Block) (ps : List Packet) → Lead s bs ps t → AreRecorded ps × AllByRecursion IsOfBytes ps
 lead_whole s t [] ps lead = let Whole : List Packet → Type 0 = λ l. AreRecorded l × AllByRecursion IsOfBytes l in subst Whole (sym lead.0) (tt, tt)
 lead_whole s t (b ∷ bs) ps lead =
     let Whole : List Packet → Type 0 = λ l. AreRecorded l × AllByRecursion IsOfBytes l in
@@ -137,3 +142,17 @@ lead_whole s t (b ∷ bs) ps lead =
 
 pub ng_whole : (all : List ℕ) (ps : List Packet) → IsNg all ps → AreRecorded ps × All IsOfBytes ps
 ng_whole all ps c = let whole = lead_whole _ c.last c.passes.blocks ps c.passes.lead in (whole.0, All-from_recursion IsOfBytes ps whole.1)
+
+-- a reader that moved by one packet
+pub moves_whole : {S : Type 0} (reads : S → List ℕ → S → Type 0) (old new : S) (from to : NgReading) (p : Packet) → Moves reads old new from to (p ∷ []) → IsWhole p
+moves_whole reads old new from to p moves = let whole = lead_whole (section_of from) (section_of to) moves.passes.blocks (p ∷ []) moves.passes.lead in (whole.0.0, whole.1.0)
+
+-- an answer of the reader of savefiles
+pub any_gives : (room : ℕ) (n : Next) → IsGiven room n → GivesBytes n → GivesAny (any_next n)
+any_gives room (capture.Packet p) given octets = (given.0, octets)
+any_gives room capture.End given octets = tt
+any_gives room (capture.Refused f) given octets = tt
+any_gives room (capture.TooLarge l) given octets = tt
+any_gives room capture.ReadFault given octets = tt
+any_gives room capture.NoMemory given octets = tt
+any_gives room capture.Over given octets = tt

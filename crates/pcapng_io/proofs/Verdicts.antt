@@ -1,23 +1,20 @@
 -- Bytes have one verdict: a pcapng capture, a fault, or a limit that is passed.
-use Rattle.std.proofs.Common.{◌≡◌, ℕ, ◌+◌, ◌-◌, ◌<◌, ◌≤◌, ◌==◌, ◌&&◌, Bool, true, false, List, [], ◌∷◌, ◌++◌, length, drop, Option, Some, None, refl, sym, ap, subst, ◌∙◌, arith, append_assoc, length-append}
-use Rattle.std.specs.Prelude.{nat_lt, Result, Ok, Err, is_some, option_to_list}
+use Rattle.std.proofs.Common.{◌≡◌, ℕ, ◌+◌, ◌-◌, ◌≤◌, ◌==◌, ◌&&◌, Bool, true, false, List, [], ◌∷◌, ◌++◌, length, drop, Option, Some, None, refl, sym, ap, subst, ◌∙◌, arith, append_assoc, length-append}
+use Rattle.std.specs.Prelude.{nat_lt, Result, Ok, is_some, option_to_list}
 use Rattle.std.specs.List.{flat_map}
 use Rattle.std.proofs.lemmas.Bool.{eqb-true}
 use Rattle.std.proofs.lemmas.List.{drop_at, append-nil}
 use Rattle.plain_text.specs.declared.limit.Limit.{Limit}
 use Rattle.plain_text.specs.declared.packet.Packet.{Packet}
-use Rattle.pcap_io.specs.declared.order.Order.{Order}
-use Rattle.pcap_io.proofs.Verdicts.{one_answer as one_savefile_answer}
 use Rattle.pcapng_io.specs.declared.block.Block.{Block}
 use Rattle.pcapng_io.specs.declared.capture.AnyCaptured.{AnyCaptured}
 use Rattle.pcapng_io.specs.declared.capture.AnyCaptured.TheVariants as any
 use Rattle.pcapng_io.specs.declared.fault.AnyFault.TheVariants as fault
 use Rattle.pcapng_io.specs.declared.fault.NgCause.{NgCause}
 use Rattle.pcapng_io.specs.declared.fault.NgFault.{NgFault}
-use Rattle.pcapng_io.specs.declared.interface.Interface.{Interface}
 use Rattle.pcapng_io.specs.Blocks.{block_bytes, kind_of, gives_packet}
-use Rattle.pcapng_io.specs.Capture.{Section, Follows, Lead, Passes, Reaches, IsNg, IsNgFault, no_section, content_in, block_fault, framed_fault, content_fault}
-use Rattle.pcapng_io.specs.Captured.{SaysNg, IsNgWithin, IsDecidedAny}
+use Rattle.pcapng_io.specs.Capture.{Section, Follows, Lead, Passes, IsNg, IsNgFault, no_section, content_in, block_fault, framed_fault, content_fault}
+use Rattle.pcapng_io.specs.Captured.{SaysNg, IsDecidedAny}
 use Rattle.pcapng_io.specs.Contents.{Content}
 use Rattle.pcapng_io.specs.Frames.{framed}
 use Rattle.pcapng_io.specs.Limits.{limit_behind, shows_packet, PassesNgLimit}

@@ -5,12 +5,12 @@ use Rattle.plain_text.specs.declared.packet.Unit.TheVariants.{Nano}
 use Rattle.pcap_io.specs.declared.capture.Captured.{Captured}
 use Rattle.pcap_io.specs.declared.capture.Captured.TheVariants as captured
 use Rattle.pcap_io.specs.Capture.{written}
-use Rattle.pcap_io.specs.Captured.{Says, IsDecided}
+use Rattle.pcap_io.specs.Captured.{IsDecided}
 use Rattle.pcap_io.proofs.Verdicts.{one_answer, written_is_read}
 use Rattle.pcapng_io.specs.declared.capture.AnyCaptured.{AnyCaptured}
 use Rattle.pcapng_io.specs.declared.capture.AnyCaptured.TheVariants as any
 use Rattle.pcapng_io.specs.Capture.{begins_ng, IsNg}
-use Rattle.pcapng_io.specs.Captured.{SaysNg, SaysAny, IsDecidedAny, any_captured}
+use Rattle.pcapng_io.specs.Captured.{SaysAny, IsDecidedAny, any_captured}
 use Rattle.std.specs.Prelude.{not, nat_lt}
 use Rattle.pcapng_io.proofs.Frames.{and_false}
 use Rattle.pcapng_io.proofs.Recorded.{ng_whole}

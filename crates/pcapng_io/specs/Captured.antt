@@ -1,5 +1,5 @@
 -- What reading a whole capture of either format answers.
-use Rattle.std.specs.Prelude.{◌≡◌, ℕ, ◌≤◌, true, false, List, length}
+use Rattle.std.specs.Prelude.{◌≡◌, ℕ, ◌≤◌, true, false, List, length, All}
 use Rattle.plain_text.specs.declared.limit.TheConstants.{MOST_FILE_BYTES, MOST_PACKETS}
 use Rattle.plain_text.specs.declared.limit.Limit.{Limit}
 use Rattle.plain_text.specs.declared.packet.Packet.{Packet}
@@ -7,6 +7,8 @@ use Rattle.plain_text.specs.declared.packet.Unit.{Unit as TimeUnit}
 use Rattle.plain_text.specs.declared.packet.Unit.TheVariants.{Nano}
 use Rattle.pcap_io.specs.declared.capture.Captured.{Captured}
 use Rattle.pcap_io.specs.declared.capture.Captured.TheVariants as captured
+use Rattle.plain_text.specs.Octets.{IsOfBytes}
+use Rattle.pcap_io.specs.Capture.{AreRecorded}
 use Rattle.pcap_io.specs.Captured.{Says}
 use Rattle.pcapng_io.specs.declared.capture.AnyCaptured.{AnyCaptured}
 use Rattle.pcapng_io.specs.declared.capture.AnyCaptured.TheVariants as any
@@ -50,3 +52,11 @@ IsDecidedAny (any.Refused f) = Unit {0}
 IsDecidedAny (any.TooLarge limit) = Unit {0}
 IsDecidedAny any.ReadFault = ⊥
 IsDecidedAny any.NoMemory = ⊥
+
+-- the packets are such that a record of a savefile can have them, of bytes, and no more than the limit
+abbrev pub CapturesPackets : AnyCaptured → Type 0
+CapturesPackets (any.Capture u packets) = AreRecorded packets × All IsOfBytes packets × (length packets ≤ MOST_PACKETS)
+CapturesPackets (any.Refused f) = Unit {0}
+CapturesPackets (any.TooLarge limit) = Unit {0}
+CapturesPackets any.ReadFault = Unit {0}
+CapturesPackets any.NoMemory = Unit {0}

@@ -1,5 +1,5 @@
 -- What each block's body is to be, what it makes of the interfaces of its section, and what packet it gives.
-use Rattle.std.specs.Prelude.{◌≡◌, ◌≤◌, Bool, ℕ, ◌+◌, ◌-◌, ◌*◌, ◌^◌, min, ◌==◌, ◌||◌, nat_lt, if◌then◌else◌, List, [], ◌∷◌, ◌++◌, length, take, drop, slice_get, Option, Some, None, Result, Ok, Err}
+use Rattle.std.specs.Prelude.{◌≡◌, ◌≤◌, Bool, ℕ, ◌+◌, ◌*◌, ◌^◌, min, ◌==◌, ◌||◌, nat_lt, if◌then◌else◌, List, [], ◌∷◌, ◌++◌, length, take, drop, slice_get, Option, Some, None, Result, Ok, Err}
 use Rattle.plain_text.specs.declared.limit.TheConstants.{MOST_CAPTURED}
 use Rattle.plain_text.specs.declared.packet.Packet.{Packet}
 use Rattle.pcap_io.specs.declared.order.Order.{Order}

@@ -1,8 +1,10 @@
 -- What a call of the reader of pcapng captures answers, takes and leaves.
 use Rattle.std.specs.Prelude.{◌≡◌, ℕ, ◌+◌, ◌<◌, ◌≤◌, Bool, true, false, List, [], ◌∷◌, ◌++◌, length, Option, Some, None, Result, Ok, Err, option_to_list}
 use Rattle.plain_text.specs.declared.packet.Packet.{Packet}
-use Rattle.plain_text.specs.declared.limit.TheConstants.{MOST_FILE_BYTES, MOST_PACKETS}
+use Rattle.plain_text.specs.declared.limit.TheConstants.{MOST_FILE_BYTES}
+use Rattle.plain_text.specs.Octets.{IsOfBytes}
 use Rattle.pcap_io.specs.declared.order.Order.{Order}
+use Rattle.pcap_io.specs.Capture.{IsRecorded}
 use Rattle.pcapng_io.specs.declared.fault.AnyFault.TheVariants.{Capture, Ng}
 use Rattle.pcapng_io.specs.declared.interface.Interface.{Interface}
 use Rattle.pcapng_io.specs.declared.next.AnyNext.{AnyNext}
@@ -89,3 +91,13 @@ answer_of (stop.Refused cause) offset = next.Refused (Ng (record { offset = offs
 answer_of (stop.TooLarge limit) offset = next.TooLarge limit
 answer_of stop.ReadFault offset = next.ReadFault
 answer_of stop.NoMemory offset = next.NoMemory
+
+-- a packet is one that a record of a savefile can have, and of bytes
+abbrev pub GivesAny : AnyNext → Type 0
+GivesAny (next.Packet p) = IsRecorded p × IsOfBytes p
+GivesAny next.End = Unit {0}
+GivesAny (next.Refused fault) = Unit {0}
+GivesAny (next.TooLarge limit) = Unit {0}
+GivesAny next.ReadFault = Unit {0}
+GivesAny next.NoMemory = Unit {0}
+GivesAny next.Over = Unit {0}

@@ -2,6 +2,7 @@ ghost use Rattle.std.specs.Prelude.{◌≡◌, ◌≢◌, ◌≤◌, ◌↔◌, 
 ghost use Rattle.world_io.specs.Stream.{Rose};
 ghost use Rattle.pcap_io.specs.Started.{Starts, IsFresh};
 ghost use Rattle.pcapng_io.specs.Capture.{begins_ng};
+ghost use Rattle.pcapng_io.specs.Reader.{GivesAny};
 ghost use Rattle.pcapng_io.specs.Any.{any_started, StartsAny, TakesStart, unit_of, is_over, AnswersAny, TakesAny, IsHeader};
 
 use crate::block::SECTION;
@@ -136,6 +137,7 @@ impl AnyReader {
         ensures over { (result ≡ AnyNext.Over) ↔ (is_over self.old ≡ true) }
         ensures told { IsTrue S.tells → AnswersAny self.old (S.left source.old) result }
         ensures taken { TakesAny S.reads result source.old source.new self.old self.new }
+        ensures given { GivesAny result }
         ensures later { S.faults source.old ≤ S.faults source.new }
         ensures cause { result ≡ AnyNext.ReadFault
             → Rose (S.faults source.old) (S.faults source.new) }

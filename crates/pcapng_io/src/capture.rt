@@ -1,6 +1,6 @@
 ghost use Rattle.std.specs.Prelude.{◌≡◌, ◌≢◌, ◌≤◌, IsTrue};
 ghost use Rattle.world_io.specs.Stream.{Rose};
-ghost use Rattle.pcapng_io.specs.Captured.{SaysAny};
+ghost use Rattle.pcapng_io.specs.Captured.{SaysAny, CapturesPackets};
 
 use crate::{AnyFault, AnyNext, AnyStarted, open_capture};
 use plain_text::{Limit, Packets, Unit};
@@ -24,6 +24,7 @@ pub enum AnyCaptured {
 /// Reads a capture of either format to its end.
 pub fn read_any_capture<S: Source>(alloc: Global, source: &mut S) -> AnyCaptured
     ensures told { IsTrue S.tells → SaysAny (S.left source.old) result }
+    ensures packets { CapturesPackets result }
     ensures later { S.faults source.old ≤ S.faults source.new }
     ensures cause { result ≡ AnyCaptured.ReadFault
         → Rose (S.faults source.old) (S.faults source.new) }

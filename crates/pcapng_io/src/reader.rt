@@ -2,7 +2,7 @@ ghost use Rattle.std.specs.Prelude.{◌≡◌, ◌≢◌, ◌≤◌, ◌<◌, �
 ghost use Rattle.plain_text.specs.declared.limit.TheConstants.{MOST_FILE_BYTES, MOST_PACKETS};
 ghost use Rattle.pcap_io.specs.declared.order.Order.TheVariants.{Little};
 ghost use Rattle.world_io.specs.Stream.{Rose};
-ghost use Rattle.pcapng_io.specs.Reader.{section_of, MovesOn, StopsAt, AnswersNg, TakesNg, answer_of};
+ghost use Rattle.pcapng_io.specs.Reader.{section_of, MovesOn, StopsAt, AnswersNg, TakesNg, GivesAny, answer_of};
 ghost use Rattle.pcapng_io.specs.Stops.{held_type};
 
 use crate::content::read_content;
@@ -80,6 +80,7 @@ impl NgReader {
         ensures taken { TakesNg S.reads result source.old source.new self.old self.new }
         ensures few { self.new.count ≤ MOST_PACKETS }
         ensures small { self.new.offset ≤ MOST_FILE_BYTES }
+        ensures given { GivesAny result }
         ensures later { S.faults source.old ≤ S.faults source.new }
         ensures cause { result ≡ AnyNext.ReadFault
             → Rose (S.faults source.old) (S.faults source.new) }

@@ -1,4 +1,4 @@
-use crate::{AnyNext, AnyReader, AnyStarted, open_capture};
+use crate::{AnyCaptured, AnyNext, AnyReader, AnyStarted, open_capture, read_any_capture};
 use plain_text::{Bytes, Packet, Unit};
 use sample_frames::{LITTLE_MICRO, QUERY};
 use std::alloc::Global;
@@ -280,5 +280,68 @@ fn a_savefile_is_read_as_before(rt: HostRuntime) -> Result<(), Fail> {
             "{length}"
         );
     }
+    Ok(())
+}
+
+/// The block of a simple packet of no bytes.
+const EMPTY: &[u8] = b"\x03\0\0\0\x10\0\0\0\0\0\0\0\x10\0\0\0";
+
+#[test]
+fn the_type_of_the_65537th_packet_is_too_large(rt: HostRuntime) -> Result<(), Fail> {
+    let alloc = rt.alloc();
+    let mut bytes = joined(alloc, &[SECTION, INTERFACE])?;
+    for _ in 0..65_536 {
+        bytes.extend(EMPTY)?;
+    }
+    for (more, want) in [
+        (b"".as_slice(), "65536 packets"),
+        (b"\x03\0\0", "offset 1048624: short block"),
+        (b"\x03\0\0\0", "too large: packets"),
+        (b"\x06\0\0\0", "too large: packets"),
+        (b"\x01\0\0\0", "offset 1048624: short block"),
+        (b"\x0b\0\0\0\x0c\0\0\0\x0c\0\0\0", "65536 packets"),
+        (SECTION, "65536 packets"),
+    ] {
+        let whole = joined(alloc, &[bytes.as_slice(), more])?;
+        assert_eq!(rt; told(alloc, whole.as_slice())?.as_str(), want, "{more:?}");
+    }
+    Ok(())
+}
+
+#[test]
+fn a_byte_past_67_108_864_is_too_large(rt: HostRuntime) -> Result<(), Fail> {
+    let alloc = rt.alloc();
+    let body = vec![in alloc; 0u8; 16_777_204]?;
+    let mut bytes = Bytes::of(alloc, SECTION)?;
+    for _ in 0..3 {
+        bytes.extend(b"\x0b\0\0\0\0\0\0\x01")?;
+        bytes.extend(&body)?;
+        bytes.extend(b"\0\0\0\x01")?;
+    }
+    bytes.extend(b"\x0b\0\0\0\xe4\xff\xff\0")?;
+    bytes.extend(&body[..16_777_176])?;
+    bytes.extend(b"\xe4\xff\xff\0")?;
+    assert_eq!(rt; bytes.len(), 67_108_864);
+    assert_eq!(rt; told(alloc, bytes.as_slice())?.as_str(), "0 packets");
+    bytes.push(0)?;
+    assert_eq!(rt; told(alloc, bytes.as_slice())?.as_str(), "too large: file");
+    Ok(())
+}
+
+#[test]
+fn a_whole_capture_is_read(rt: HostRuntime) -> Result<(), Fail> {
+    let alloc = rt.alloc();
+    let bytes = joined(alloc, &[one_packet(alloc)?.as_slice(), BIG_SECTION])?;
+    let AnyCaptured::Capture { unit, packets } = read_any_capture(
+        alloc,
+        &mut SliceSource::of(bytes.as_slice()),
+    ) else {
+        panic!(rt; "not a capture");
+    };
+    assert_eq!(rt; unit, Unit::Nano);
+    assert_eq!(rt; packets.len(), 2);
+    let first = &packets.as_slice()[0];
+    assert_eq!(rt; packet_told(alloc, first)?.as_str(), "100.5000 42 of 42");
+    assert_eq!(rt; first.bytes.as_slice(), QUERY.as_slice());
     Ok(())
 }

@@ -1,4 +1,4 @@
-use Rattle.std.proofs.Common.{◌≡◌, List, ℕ, ◌++◌, sym, subst}
+use Rattle.std.proofs.Common.{◌≡◌, List, ℕ, ◌++◌, subst}
 use Rattle.pcap_io.specs.Started.{TakesHeader}
 use Rattle.pcapng_io.proofs.Formats.{takes_header}
 use Rattle.pcapng_io.proofs.any.start_savefile.Goals as goal

@@ -1,10 +1,12 @@
-use Rattle.std.proofs.Common.{◌≡◌, List, ℕ, length, sym, ap, subst, ◌∙◌, arith}
+use Rattle.std.proofs.Common.{List, length, sym, ap, subst, arith}
 use Rattle.std.proofs.lemmas.List.{length_push}
+use Rattle.std.proofs.lemmas.List.Elements.{All-push}
+use Rattle.plain_text.specs.Octets.{IsOfBytes}
 use Rattle.plain_text.specs.declared.packet.Packet.{Packet}
 use Rattle.plain_text.specs.declared.packet.Unit.{Unit as TimeUnit}
 use Rattle.pcapng_io.specs.declared.capture.AnyCaptured.TheVariants.{Capture}
 use Rattle.pcapng_io.specs.Captured.{SaysAny}
-use Rattle.pcapng_io.proofs.Captures.{HasReadAny, any_begins, any_on, any_few, format_start, format_on, refused_start, any_refused, any_large, any_end}
+use Rattle.pcapng_io.proofs.Captures.{HasReadAny, any_begins, any_on, any_few, format_start, format_on, refused_start, any_refused, any_large, any_end, any_recorded}
 use Rattle.pcapng_io.proofs.capture.read_any_capture.Goals as goal
 
 pub returns-in-Refused-clause-told : goal.returns-in-Refused-clause-told
@@ -16,6 +18,7 @@ records-init g c =
     record {
       read = subst Has (sym c.new-packets.ensures) (any_begins g.S.Source.reads g.met.S.Source.reads_nothing g.met.S.Source.reads_more c.args.source.now c.open_capture.new.source c.in-Reader.reader c.in-Reader.ensures.taken);
       format = λ told. format_start (g.S.Source.left c.args.source.now) c.in-Reader.reader (c.in-Reader.ensures.told told);
+      octets = rw c.new-packets.ensures (λ k d few. absurd (omega arith));
       later = c.in-Reader.ensures.later;
       healthy = λ well. c.in-Reader.ensures.stays_healthy well;
     }
@@ -33,6 +36,7 @@ records-preserved g c =
     record {
       read = any_on g.S.Source.reads g.met.S.Source.reads_nothing g.met.S.Source.reads_more c.args.source.now c.records.source c.next_packet.new.source c.records.reader c.next_packet.new.self c.records.packets c.push.new.self c.in-Packet.packet c.in-Ok.ensures.ok inv.read c.in-Packet.ensures.taken;
       format = λ told. format_on g.S.Source.reads c.records.source c.next_packet.new.source (g.S.Source.left c.args.source.now) c.records.reader c.next_packet.new.self _ (inv.format told) c.in-Packet.ensures.taken;
+      octets = rw c.in-Ok.ensures.ok (All-push IsOfBytes c.records.packets c.in-Packet.packet inv.octets c.in-Packet.ensures.given.1);
       later = omega (arith, inv.later, c.in-Packet.ensures.later);
       healthy = λ well. c.in-Packet.ensures.stays_healthy (inv.healthy well);
     }
@@ -53,3 +57,11 @@ returns-clause-told g c = λ told.
     let Says_unit : TimeUnit → Type 0 = λ u. SaysAny (g.S.Source.left c.args.source.now) (Capture u c.records.packets) in
     subst Says_unit (sym c.unit.ensures)
     (any_end g.S.Source.reads g.S.Source.left (λ a b taken r. g.met.S.Source.reads_told a b taken told r) c.args.source.now c.records.source c.records.reader c.next_packet.new.self c.records.packets c.next_packet.new.source (inv.format told) inv.read (c.in-End.ensures.told told) c.in-End.ensures.taken)
+
+pub returns-clause-packets : goal.returns-clause-packets
+returns-clause-packets g c =
+    let inv = c.records.invariant in (
+      any_recorded g.S.Source.reads c.args.source.now c.records.source c.records.reader c.records.packets inv.read,
+      inv.octets,
+      any_few g.S.Source.reads c.args.source.now c.records.source c.records.reader c.records.packets inv.read,
+    )

@@ -1,4 +1,4 @@
-use Rattle.std.proofs.Common.{◌≡◌, ℕ, ◌+◌, List, [], length, ◌++◌, take, arith, length-append}
+use Rattle.std.proofs.Common.{[], ◌++◌, take, arith, length-append}
 use Rattle.std.proofs.lemmas.Grind.{common_steps}
 use Rattle.std.proofs.lemmas.List.{length-take}
 use Rattle.pcapng_io.proofs.piece.read_past.Goals as goal

@@ -1,4 +1,4 @@
-use Rattle.std.proofs.Common.{◌≡◌, ◌+◌, ◌-◌, ℕ, drop, sym, ap, ◌∙◌, Some, take, arith}
+use Rattle.std.proofs.Common.{◌≡◌, drop, sym, ap, ◌∙◌, take, arith}
 use Rattle.std.proofs.lemmas.List.{take_rest}
 use Rattle.pcap_io.specs.Capture.{number}
 use Rattle.pcapng_io.specs.Times.{seconds_of, nanos_of}

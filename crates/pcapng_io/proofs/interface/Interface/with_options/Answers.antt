@@ -1,4 +1,4 @@
-use Rattle.std.proofs.Common.{◌≡◌, ◌≤◌, ◌+◌, ◌-◌, ℕ, length, drop, take, sym, ap, ◌∙◌, arith, Some, None, subst, List}
+use Rattle.std.proofs.Common.{◌≡◌, ◌≤◌, ◌+◌, ◌-◌, ℕ, length, drop, sym, ap, ◌∙◌, arith, subst, List}
 use Rattle.std.proofs.lemmas.List.{take_rest}
 use Rattle.pcap_io.specs.Capture.{number}
 use Rattle.pcapng_io.specs.Interfaces.{padded, with_options}

@@ -1,4 +1,4 @@
-use Rattle.std.proofs.Common.{◌≡◌, ◌+◌, ◌-◌, ◌<◌, ◌≤◌, ◌&&◌, ℕ, List, [], ◌++◌, length, drop, take, false, sym, ap, subst, ◌∙◌, arith, Some, None, length-append}
+use Rattle.std.proofs.Common.{◌≡◌, ◌+◌, ◌-◌, ◌≤◌, ◌&&◌, ℕ, List, ◌++◌, length, drop, take, false, sym, ap, subst, ◌∙◌, arith, Some, None, length-append}
 use Rattle.std.proofs.lemmas.Grind.{common_steps}
 use Rattle.std.proofs.lemmas.List.{take_rest, take_all, take_at}
 use Rattle.plain_text.specs.Octets.{AreBytes}

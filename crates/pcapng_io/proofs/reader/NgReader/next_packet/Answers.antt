@@ -1,10 +1,10 @@
-use Rattle.std.proofs.Common.{◌≡◌, ◌++◌, ◌∷◌, [], List, ℕ, true, Option, Some, None, ap, sym, subst, ◌∙◌, arith}
+use Rattle.std.proofs.Common.{◌≡◌, ◌++◌, ◌∷◌, [], ℕ, true, Option, Some, None, ap, sym, subst, ◌∙◌, arith}
 use Rattle.std.specs.Prelude.{Ok, Err}
 use Rattle.plain_text.specs.declared.packet.Packet.{Packet}
 use Rattle.pcapng_io.specs.declared.next.AnyNext.{AnyNext}
-use Rattle.pcapng_io.specs.declared.place.Stop.{Stop}
 use Rattle.pcapng_io.specs.Reader.{NgReading, MovesOn, AnswersNg, TakesNg, StopsBehind}
 use Rattle.pcapng_io.specs.Stops.{held_type}
+use Rattle.pcapng_io.proofs.Recorded.{moves_whole}
 use Rattle.pcapng_io.proofs.Readings.{Moves-none, Moves-more, stops_behind, answers_stop, takes_stop}
 use Rattle.pcapng_io.proofs.reader.NgReader.next_packet.Goals as goal
 
@@ -59,3 +59,9 @@ returns-in-Err-clause-taken g c =
     subst Takes (sym c.answer.ensures)
     (takes_stop g.S.Source.reads g.met.S.Source.reads_more c.args.source.now c.blocks-2.source c.pass_block.new.source c.args.self.now c.blocks-2.self _ inv.moved
     (ap (λ (s : NgReading). record s { over = true }) same) c.in-Err.why c.self-in-blocks-2.inside.offset c.in-Err.ensures.moves.0 (λ e. c.in-Err.ensures.ended (ap Err e)))
+
+pub returns-in-Ok-Some-clause-given : goal.returns-in-Ok-Some-clause-given
+returns-in-Ok-Some-clause-given g c =
+    let Moved : Option Packet → Type 0 = λ packet. MovesOn g.S.Source.reads (Ok packet) c.blocks-2.source c.pass_block.new.source c.blocks-2.self c.pass_block.new.self in
+    let moved : Moved (Some c.in-Ok-Some.packet) = subst Moved c.in-Ok-Some.field-0-is c.in-Ok-Some.ensures.moves in
+    moves_whole g.S.Source.reads c.blocks-2.source c.pass_block.new.source c.blocks-2.self c.pass_block.new.self c.in-Ok-Some.packet moved.0

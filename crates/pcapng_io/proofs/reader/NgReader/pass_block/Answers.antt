@@ -1,9 +1,8 @@
-use Rattle.std.proofs.Common.{◌≡◌, ◌+◌, ◌≤◌, ◌==◌, ◌++◌, List, ℕ, length, Some, None, ap, sym, subst, ◌∙◌, arith, append_assoc}
-use Rattle.std.specs.Prelude.{Ok, Err, is_some, option_to_list}
+use Rattle.std.proofs.Common.{◌≡◌, ◌+◌, ◌==◌, ◌++◌, length, ap, sym, subst, ◌∙◌, arith, append_assoc}
+use Rattle.std.specs.Prelude.{Err, is_some, option_to_list}
 use Rattle.std.specs.Int.{from_bool}
-use Rattle.plain_text.specs.declared.packet.Packet.{Packet}
 use Rattle.pcapng_io.specs.Blocks.{kind_of, gives_packet, block_bytes}
-use Rattle.pcapng_io.specs.Contents.{Content, TellsContent, content}
+use Rattle.pcapng_io.specs.Contents.{TellsContent, content}
 use Rattle.pcapng_io.specs.declared.packet.BlockError.{BlockError}
 use Rattle.pcapng_io.specs.Reader.{NgReading}
 use Rattle.pcapng_io.specs.Stops.{held_type}
