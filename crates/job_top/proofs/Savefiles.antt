@@ -3,6 +3,7 @@ use Rattle.std.proofs.Common.{◌≡◌, ℕ, ◌≤◌, true, false, List, leng
 use Rattle.std.specs.Prelude.{All, ◌↔◌, not, nat_lt, ◌==◌}
 use Rattle.plain_text.specs.Octets.{IsOfBytes}
 use Rattle.plain_text.specs.declared.packet.Packet.{Packet}
+use Rattle.plain_text.specs.declared.packet.Unit.{Unit as TimeUnit}
 use Rattle.plain_text.specs.declared.packet.Unit.TheVariants.{Nano}
 use Rattle.pcap_io.specs.declared.capture.Captured.TheVariants as savefile
 use Rattle.pcap_io.specs.Capture.{written}
@@ -49,16 +50,14 @@ module _ (name bytes : List ℕ) (packets : List Packet) (ng : IsNg bytes packet
   only shown all capture has says accepted =
       let same = same_bytes shown accepted.0 all accepted.1 has in
       let one : captured.Capture Nano packets ≡ captured.Capture capture.unit capture.packets = one_any_answer all _ _ tt tt says (subst (λ (l : List ℕ). SaysAny l (captured.Capture capture.unit capture.packets)) same accepted.2) in
-      parts capture one
-    where
-      parts : (c : Capture) → captured.Capture Nano packets ≡ captured.Capture c.unit c.packets → record { unit = Nano; packets = packets } ≡ c
-      parts (record { unit = u; packets = ps }) is = cc
+      let unit_is : Nano ≡ capture.unit = cc in
+      let packets_are : packets ≡ capture.packets = cc in
+      ap (λ (unit : TimeUnit). record { unit = unit; packets = packets }) unit_is ∙ ap (λ (list : List Packet). record { unit = capture.unit; packets = list }) packets_are
 
   pub alike : (shown other : Shown) (capture : Capture) → HasBytes name shown bytes → HasBytes name other (written Nano packets) → AcceptsCapture name capture shown ↔ AcceptsCapture name capture other
   alike shown other capture has has_written =
       let ng_is = ng_says has.1 in
-      let written_is = written_says has_written.1 in
-      (
+      let written_is = written_says has_written.1 in (
         λ accepted. subst (λ (c : Capture). AcceptsCapture name c other) (only shown bytes capture has ng_is accepted) (accepts other (written Nano packets) has_written written_is),
         λ accepted. subst (λ (c : Capture). AcceptsCapture name c shown) (only other (written Nano packets) capture has_written written_is accepted) (accepts shown bytes has ng_is),
       )

@@ -5,6 +5,9 @@ use Rattle.job_top.proofs.Runs.{not_at_inputs}
 use Rattle.job_top.proofs.HealthyWorlds.{run_completes, outcome_completes}
 use Rattle.job_top.proofs.top.ftmb.Goals as goal
 
+pub returns-in-Some-Run-clause-done : goal.returns-in-Some-Run-clause-done
+returns-in-Some-Run-clause-done g c told done = rw (c.in-Some-Run.ensures, c.in-Some-Run.field-0-is) (c.run.ensures.done told done)
+
 pub returns-in-Some-Run-clause-completes : goal.returns-in-Some-Run-clause-completes
 returns-in-Some-Run-clause-completes g c ok told =
     rw (c.in-Some-Run.ensures, c.in-Some-Run.field-0-is)
