@@ -1,11 +1,10 @@
 -- What is true of the parts of an output logger, as it takes entries and outputs.
-use Rattle.std.proofs.Common.{◌≡◌, ◌≢◌, ℕ, ◌≤◌, ◌<◌, ◌⊎◌, ◌↔◌, true, cond, List, [], ◌∷◌, ◌++◌, Option, Some, None, IsSome, Result, Ok, Err, OnOk, OnErr, length, slice_index, refl, sym, ap, ◌∙◌, subst, inl, inr, ⊎_elim, arith}
+use Rattle.std.proofs.Common.{◌≡◌, ◌≢◌, ℕ, ◌≤◌, ◌<◌, ◌⊎◌, ◌↔◌, true, cond, List, [], ◌∷◌, Option, Some, None, IsSome, Result, Ok, Err, OnOk, OnErr, length, slice_index, refl, sym, ap, ◌∙◌, subst, inl, inr, ⊎_elim, arith}
 use Rattle.std.specs.Result.{is_err}
 use Rattle.std.specs.Ordering.{nat_cmp}
 use Rattle.std.specs.List.Sorted.{IsStrictlySortedBy}
 use Rattle.std.specs.Map.{keys_of, values_of}
 use Rattle.std.proofs.lemmas.Bool.{cases_lt, cases_eq}
-use Rattle.std.proofs.lemmas.List.{map-append}
 use Rattle.std.proofs.lemmas.Map.Keys.{sorted_tail}
 use Rattle.plain_text.specs.declared.memory.NoMemory.{NoMemory}
 use Rattle.access_log.specs.declared.entry.Output.{Output}
@@ -15,12 +14,12 @@ use Rattle.access_log.specs.declared.entry.StampedEntry.{StampedEntry}
 use Rattle.access_log.specs.Held.{Lane, lane, entry_at, IsKnown}
 use Rattle.access_log.specs.Lanes.{PutsEntry, CoversUpTo}
 use Rattle.access_log.proofs.LaneLemmas.{lane_past, one_frontier, AtMost-IsWithin}
-use Rattle.dup_filter.specs.Numbers.{Numbers, numbers, IsMarked, HasRoom, WasMarked, IsAwaited, Marks, KeepsRoom}
+use Rattle.dup_filter.specs.Numbers.{Numbers, numbers, HasRoom, WasMarked, IsAwaited, Marks, KeepsRoom}
 use Rattle.output_logger.specs.Logger.{Logger, IsDue, IsCalled, IsNamed, IsAmong, AreApart, Parts, appended, ReleasesOnce, ReleasesDue}
 use Rattle.output_logger.specs.Reach.{AreFrontiers}
 use Rattle.output_logger.specs.Kept.{arrived, IsReady, IsWaiting, IsIndexed, IsDueBy, HaveNames, PartsBy, Arrives, IsNoted, Gone, AreKept}
 use Rattle.output_logger.proofs.KeyLemmas.{at_same, at_apart}
-use Rattle.output_logger.proofs.ArrivalLemmas.{some_of, some_is, arrived_head, arrived_tail, arrived_above}
+use Rattle.output_logger.proofs.ArrivalLemmas.{some_of, arrived_head, arrived_tail, arrived_above}
 use Rattle.output_logger.proofs.ReachLemmas.{not_covered}
 use Rattle.output_logger.proofs.NameLemmas.{appended_none}
 use Rattle.output_logger.proofs.GoneLemmas.{noted_awaited, once_none, once_more}
@@ -135,14 +134,6 @@ parts_after count old new before after es rest index ready go reached kept will 
       λ q. (due a).1 (o, h, within.1 q),
     )) gone.parts
 
--- what the search for due outputs asks
-
-pub waits_for : (count : ℕ) (held : List Lane) (released : List Numbers) (es : Arrivals) (index : List (ℕ × ℕ × ℕ)) (from : List ℕ) → AreKept count held released es index → AreFrontiers held from → (a : ℕ) → IsDueBy es from a → ⊥
-waits_for count held released es index from kept are a due = kept.none_due a due.0 due.1 ((AtMost-IsWithin held from due.0.stamp are).0 due.2)
-
-pub small_of : (count : ℕ) (held : List Lane) (released : List Numbers) (es : Arrivals) (index : List (ℕ × ℕ × ℕ)) → AreKept count held released es index → (a : ℕ) → IsSome (arrived es a) → a < 18446744073709551615
-small_of count held released es index kept a h = let some = some_is (arrived es a) h in kept.small a some.0 some.1
-
 -- An output that was released at once
 
 pub kept_noted : (count : ℕ) (held : List Lane) (before after : List Numbers) (es : Arrivals) (index : List (ℕ × ℕ × ℕ)) (o : Output) → AreKept count held before es index → IsNoted before after o → (IsAwaited before o.thread o.number → ⊥) → length after ≡ length before → AreKept count held after es index
@@ -193,24 +184,6 @@ room_awaited before after o room others t n = (
       (cases_eq o.thread t),
 )
 
-room_marked : (before after : List Numbers) (o : Output) → KeepsRoom (numbers before o.thread) (numbers after o.thread) o.number → ((t : ℕ) → t ≢ o.thread → numbers after t ≡ numbers before t) → (t n : ℕ) → WasMarked after t n ↔ WasMarked before t n
-room_marked before after o room others t n = (
-  λ h. ⊎_elim
-      (λ (same : o.thread ≡ t). subst (λ (u : ℕ). WasMarked before u n) same ((room.marked n).0 (subst (λ (u : ℕ). WasMarked after u n) (sym same) h)))
-      (λ (apart : o.thread ≢ t). let other : t ≢ o.thread = λ q. apart (sym q) in subst (λ (s : Numbers). IsMarked s n) (others t other) h)
-      (cases_eq o.thread t),
-  λ h. ⊎_elim
-      (λ (same : o.thread ≡ t). subst (λ (u : ℕ). WasMarked after u n) same ((room.marked n).1 (subst (λ (u : ℕ). WasMarked before u n) (sym same) h)))
-      (λ (apart : o.thread ≢ t). let other : t ≢ o.thread = λ q. apart (sym q) in subst (λ (s : Numbers). IsMarked s n) (sym (others t other)) h)
-      (cases_eq o.thread t),
-)
-
-pub once_same : (before after : List Numbers) → ((t n : ℕ) → WasMarked after t n ↔ WasMarked before t n) → ReleasesOnce before after []
-once_same before after same = record { fresh = λ t n h. absurd h; apart = tt; marked = λ t n. (λ h. inr ((same t n).0 h), λ h. ⊎_elim (λ q. absurd q) (λ q. (same t n).1 q) h) }
-
-pub once_room : (before after : List Numbers) (o : Output) → KeepsRoom (numbers before o.thread) (numbers after o.thread) o.number → ((t : ℕ) → t ≢ o.thread → numbers after t ≡ numbers before t) → ReleasesOnce before after []
-once_room before after o room others = once_same before after (room_marked before after o room others)
-
 pub kept_pushed : (count : ℕ) (held : List Lane) (before after : List Numbers) (old new : Arrivals) (index keys : List (ℕ × ℕ × ℕ)) (a : ℕ) (o : Output) (from : List ℕ) → AreKept count held before old index → Arrives old new a o → KeepsRoom (numbers before o.thread) (numbers after o.thread) o.number → ((t : ℕ) → t ≢ o.thread → numbers after t ≡ numbers before t) → length after ≡ length before → (IsAwaited before o.thread o.number → ⊥) → (IsDue held o → ⊥) → AreFrontiers held from → ((u : ℕ) → slice_index from u < slice_index o.stamp u → IsIndexed keys u (slice_index o.stamp u) a) → ((u n b : ℕ) → IsSome (arrived old b) → IsIndexed index u n b → IsIndexed keys u n b) → AreKept count held after new keys
 kept_pushed count held before after old new index keys a o from kept is room others same fresh early are enters keeps =
     let split = arrives_some old new a o is in
@@ -233,26 +206,6 @@ kept_pushed count held before after old new index keys a o from kept is room oth
           (λ x. ⊎_elim (λ y. absurd (alone b p x (thread ∙ ap (λ (z : Output). z.thread) y.1) (number ∙ ap (λ (z : Output). z.number) y.1))) (λ y. kept.apart b d p q x y thread number) (split d q k))
           (split b p h);
       none_due = λ b p h due. ⊎_elim (λ q. early (subst (λ (x : Output). IsDue held x) q.1 due)) (λ q. kept.none_due b p q due) (split b p h);
-    }
-
-pub values_pushed : (old new : Arrivals) (a : ℕ) (o : Output) → Arrives old new a o → values_of new ≡ values_of old ++ o ∷ []
-values_pushed old new a o is = ap values_of is.added ∙ map-append (λ (e : ℕ × Output). e.1) old ((a, o) ∷ [])
-
--- The outputs stay, and the index keeps them
-
-pub kept_same : (count : ℕ) (held : List Lane) (released : List Numbers) (old new : Arrivals) (index keys : List (ℕ × ℕ × ℕ)) → AreKept count held released old index → new ≡ old → ((u n b : ℕ) → IsSome (arrived old b) → IsIndexed index u n b → IsIndexed keys u n b) → AreKept count held released new keys
-kept_same count held released old new index keys kept same keeps =
-    let there : (b : ℕ) (p : Output) → arrived new b ≡ Some p → arrived old b ≡ Some p = λ b p h. ap (λ (l : Arrivals). arrived l b) (sym same) ∙ h in
-    let back : (b : ℕ) (p : Output) → arrived old b ≡ Some p → arrived new b ≡ Some p = λ b p h. ap (λ (l : Arrivals). arrived l b) same ∙ h in
-    record {
-      counted = kept.counted;
-      threads = kept.threads;
-      sorted = subst (λ (l : Arrivals). IsStrictlySortedBy nat_cmp (keys_of l)) (sym same) kept.sorted;
-      small = λ b p h. kept.small b p (there b p h);
-      indexed = λ b p u f h is above. keeps u (slice_index p.stamp u) b (some_of _ p (there b p h)) (kept.indexed b p u f (there b p h) is above);
-      awaited = λ t n. (λ h. let w = (kept.awaited t n).0 h in (w.0, w.1, back w.0 w.1 w.2, w.3), λ w. (kept.awaited t n).1 (w.0, w.1, there w.0 w.1 w.2, w.3));
-      apart = λ a b o p q r. kept.apart a b o p (there a o q) (there b p r);
-      none_due = λ b p h. kept.none_due b p (there b p h);
     }
 
 -- Nothing waits
