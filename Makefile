@@ -18,11 +18,15 @@ all: build/ftmb
 build/ftmb: words := --version
 build/bench_headers: words := 1 1
 build/bench_moves: words := master 1 1
+build/bench_frames: words := 1 1
 build/bench_held: words := 1
+build/bench_logger: words := 1 1
 build/bench_scripts: words := 1
 
 # All crates that the program stands on are proved, side by side, before it is linked. The prover's output goes to build/proof.log.
-build/ftmb build/bench_headers build/bench_moves build/bench_held build/bench_scripts: build/%: $(SOURCES)
+BENCHES := build/bench_moves build/bench_frames build/bench_held build/bench_logger build/bench_scripts
+
+build/ftmb build/bench_headers $(BENCHES): build/%: $(SOURCES)
 	scripts/build $(RT) $(JOBS) $* $(words)
 
 # The example at once, by the kit's unproved run: nothing is proved.
@@ -37,14 +41,15 @@ test:
 example: build/ftmb
 	scripts/example build/ftmb crates/ftmb/data build/example
 
-# The bytes summed and the frames rewritten in a second; the packets made and run in a second; the moves that a master makes in a
-# second, beside those of the plain player; the log entries held in a second; and the lines of a script read in a second.
-bench: build/bench_headers build/bench_moves build/bench_held build/bench_scripts build/ftmb
+# The bytes summed and the packets rewritten in a second; the packets made and run in a second; the moves that a master makes in a
+# second, beside those of the plain player; the frames written and read, the log entries held, the outputs released, and the lines of a
+# script read.
+bench: build/bench_headers $(BENCHES) build/ftmb
 	scripts/bench build/bench_headers
-	scripts/bench_run build/ftmb build/bench_moves build/bench_held build/bench_scripts build/bench
+	scripts/bench_run build/ftmb $(BENCHES) build/bench
 
-# Runs the program on captures in all four forms, and has tcpdump and Wireshark's tools read what was released; and has tshark verify
-# the checksums of generated packets.
+# Runs the program on captures in all four forms and on pcapng captures, and has tcpdump and Wireshark's tools read what was released;
+# and has tshark verify the checksums of generated packets.
 interop: build/ftmb
 	scripts/interop build/ftmb build/interop
 

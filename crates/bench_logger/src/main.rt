@@ -96,8 +96,9 @@ fn in_reverse(alloc: Global, count: u64) -> Result<usize, NoMemory> {
 
 fn main(rt: HostRuntime) -> anyhow::Result<()> {
     let mut words = env::args(&rt)?.skip(1);
-    let count: u64 = words.next().context("how many outputs?")?.parse()?;
-    let first = in_order(rt.alloc(), count)?;
-    let second = in_reverse(rt.alloc(), count)?;
+    let forward: u64 = words.next().context("how many outputs in order?")?.parse()?;
+    let reverse: u64 = words.next().context("how many in reverse?")?.parse()?;
+    let first = in_order(rt.alloc(), forward)?;
+    let second = in_reverse(rt.alloc(), reverse)?;
     println!(rt; "{first} released in order, {second} in reverse").map_err(anyhow::Error::from)
 }
