@@ -9,7 +9,7 @@ Runs a box on the packets of a capture, one after another, each on the
 thread that its flow is steered to.
 
   BOX       text that names the box, read
-  CAPTURE   libpcap savefile of the packets to play, read
+  CAPTURE   capture of the packets to play, pcap or pcapng, read
   SCRIPT    text of what is to happen, `settle` so far, read
   RELEASED  capture of the packets that were released, written
   SCHEDULE  text of the moves that were made, written
