@@ -1,5 +1,5 @@
 use crate::{AnyCaptured, AnyNext, AnyReader, AnyStarted, open_capture, read_any_capture};
-use plain_text::{Bytes, Packet, Unit};
+use plain_text::{Bytes, NoMemory, Packet, Unit};
 use sample_frames::{LITTLE_MICRO, QUERY};
 use std::alloc::Global;
 use std::process::Abort;
@@ -286,6 +286,12 @@ fn a_savefile_is_read_as_before(rt: HostRuntime) -> Result<(), Fail> {
 /// The block of a simple packet of no bytes.
 const EMPTY: &[u8] = b"\x03\0\0\0\x10\0\0\0\0\0\0\0\x10\0\0\0";
 
+/// What reading two parts of a file comes to, in words.
+fn told_of_parts(alloc: Global, first: &[u8], last: &[u8]) -> Result<String, Fail> {
+    let bytes = joined(alloc, &[first, last])?;
+    told(alloc, bytes.as_slice())
+}
+
 #[test]
 fn the_type_of_the_65537th_packet_is_too_large(rt: HostRuntime) -> Result<(), Fail> {
     let alloc = rt.alloc();
@@ -300,28 +306,36 @@ fn the_type_of_the_65537th_packet_is_too_large(rt: HostRuntime) -> Result<(), Fa
         (b"\x06\0\0\0", "too large: packets"),
         (b"\x01\0\0\0", "offset 1048624: short block"),
         (b"\x0b\0\0\0\x0c\0\0\0\x0c\0\0\0", "65536 packets"),
-        (SECTION, "65536 packets"),
     ] {
-        let whole = joined(alloc, &[bytes.as_slice(), more])?;
-        assert_eq!(rt; told(alloc, whole.as_slice())?.as_str(), want, "{more:?}");
+        let told = told_of_parts(alloc, bytes.as_slice(), more)?;
+        assert_eq!(rt; told.as_str(), want, "{more:?}");
     }
+    let told = told_of_parts(alloc, bytes.as_slice(), SECTION)?;
+    assert_eq!(rt; told.as_str(), "65536 packets");
     Ok(())
+}
+
+const ZEROS: [u8; 1024] = [0; 1024];
+
+/// Appends a block that is passed over, of this total length: 16,383 times 1,024 zeros, and the rest.
+fn add_block(bytes: &mut Bytes, total: &[u8], rest: &[u8]) -> Result<(), NoMemory> {
+    bytes.extend(b"\x0b\0\0\0")?;
+    bytes.extend(total)?;
+    for _ in 0..16_383 {
+        bytes.extend(&ZEROS)?;
+    }
+    bytes.extend(rest)?;
+    bytes.extend(total)
 }
 
 #[test]
 fn a_byte_past_67_108_864_is_too_large(rt: HostRuntime) -> Result<(), Fail> {
     let alloc = rt.alloc();
-    let body = vec![in alloc; 0u8; 16_777_204]?;
     let mut bytes = Bytes::of(alloc, SECTION)?;
     for _ in 0..3 {
-        bytes.extend(b"\x0b\0\0\0\0\0\0\x01")?;
-        bytes.extend(&body)?;
-        bytes.extend(b"\0\0\0\x01")?;
+        add_block(&mut bytes, b"\0\0\0\x01", &ZEROS[..1012])?;
     }
-    bytes.extend(b"\x0b\0\0\0\xe4\xff\xff\0")?;
-    bytes.extend(&body[..16_777_176])?;
-    bytes.extend(b"\xe4\xff\xff\0")?;
-    assert_eq!(rt; bytes.len(), 67_108_864);
+    add_block(&mut bytes, b"\xe4\xff\xff\0", &ZEROS[..984])?;
     assert_eq!(rt; told(alloc, bytes.as_slice())?.as_str(), "0 packets");
     bytes.push(0)?;
     assert_eq!(rt; told(alloc, bytes.as_slice())?.as_str(), "too large: file");
