@@ -1,5 +1,5 @@
 use super::*;
-use plain_text::{Bytes, NoMemory};
+use plain_text::{Bytes, Kind, NoMemory};
 use std::alloc::Global;
 use std::test::Fail;
 
