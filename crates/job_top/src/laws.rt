@@ -32,8 +32,8 @@ pub fn one_verdict()
 /// A pcapng capture is accepted as the savefile of its packets in nanoseconds is, where neither passes a limit: as one and the same
 /// capture. The clauses of the top call speak of an accepted capture by this alone, so its answers and files are the same for both.
 pub fn pcapng_captures_are_savefiles()
-    ensures { (name bytes : List ℕ) (packets : List Packet) (shown other : Shown) (capture : Capture)
-        → IsNg bytes packets → length packets ≤ MOST_PACKETS
+    ensures { (name bytes : List ℕ) (packets : List Packet) (shown other : Shown)
+        (capture : Capture) → IsNg bytes packets → length packets ≤ MOST_PACKETS
         → HasBytes name shown bytes → HasBytes name other (written Nano packets)
         → AcceptsCapture name capture shown ↔ AcceptsCapture name capture other }
 {}

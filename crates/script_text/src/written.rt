@@ -13,12 +13,12 @@ pub fn put_event(alloc: Global, event: &Event) -> Result<Text, NoMemory>
     ensures fits { AreNumbers (values_of event.now) }
 {
     let mut text = String::new(alloc);
-    put_words(&mut text, *event)?;
+    write_event(&mut text, *event)?;
     Text::of(alloc, text.as_str())
 }
 
-/// Appends the line of an event.
-fn put_words(text: &mut String, event: Event) -> Result<(), NoMemory>
+/// Appends the line of an event, without the line feed.
+pub fn write_event(text: &mut String, event: Event) -> Result<(), NoMemory>
     ensures line { OnOk result
         (string_bytes text.new ≡ string_bytes text.old ++ event_words event) }
     ensures fits { AreNumbers (values_of event) }
@@ -80,21 +80,21 @@ fn word_of(kind: Kind) -> &'static str
     }
 }
 
-fn put_word(text: &mut String, word: &str) -> Result<(), NoMemory>
+pub(crate) fn put_word(text: &mut String, word: &str) -> Result<(), NoMemory>
     ensures { OnOk result (string_bytes text.new ≡ string_bytes text.old ++ word.now) }
 {
     text.push_str(word)?;
     Ok(())
 }
 
-fn put_one(text: &mut String, word: &str, number: u64) -> Result<(), NoMemory>
+pub(crate) fn put_one(text: &mut String, word: &str, number: u64) -> Result<(), NoMemory>
     ensures { OnOk result (string_bytes text.new ≡ string_bytes text.old ++ one word.now number) }
 {
     text.push_str(word)?;
     put_decimal(text, number)
 }
 
-fn put_two(text: &mut String, word: &str, a: u64, other: &str, b: u64) -> Result<(), NoMemory>
+pub(crate) fn put_two(text: &mut String, word: &str, a: u64, other: &str, b: u64) -> Result<(), NoMemory>
     ensures { OnOk result (string_bytes text.new
         ≡ string_bytes text.old ++ two word.now a other.now b) }
 {

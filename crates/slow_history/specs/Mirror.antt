@@ -62,11 +62,6 @@ abbrev pub AllFit : {V : Type 0} → (ℕ → V → Type 0) → List (MadeStep V
 AllFit fits [] = Unit {0}
 AllFit fits (x ∷ steps) = FitsMade fits x.made × AllFit fits steps
 
--- the thread and number of each output
-abbrev pub names : List Sent → List (ℕ × ℕ)
-names [] = []
-names (o ∷ os) = (o.emission.thread, o.emission.number) ∷ names os
-
 -- one of the entries is of the thread
 abbrev pub HasOneOf : List Entry → ℕ → Type 0
 HasOneOf set u = (f : Entry) × IsIn f set × (f.thread ≡ u)

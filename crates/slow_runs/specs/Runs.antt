@@ -12,16 +12,16 @@ use Rattle.recovery_world.specs.World.{Setting, Sent, World, inputs_fed, all_inp
 use Rattle.recovery_world.specs.Events.{Wakes}
 use Rattle.recovery_world.specs.Limits.{OnWithin, Passes}
 use Rattle.recovery_world.specs.Many.{OnAny, Autos, chosen}
-use Rattle.slow_history.specs.Mirror.{names}
+use Rattle.recovery_world.specs.Files.{sent_names}
 use Rattle.slow_world.specs.declared.world.Reply.{Reply}
 
 -- the event has this reply and passes no limit
 abbrev pub Performs : {V : Type 0} → Setting V → World V → Event → Reply → World V → Type 0
-Performs s w ev reply new = (freed : List Sent) × (reply.freed.items ≡ names freed) × OnWithin s w ev reply.outcome freed new
+Performs s w ev reply new = (freed : List Sent) × (reply.freed.items ≡ sent_names freed) × OnWithin s w ev reply.outcome freed new
 
 -- the same of any event of a script
 abbrev pub PerformsAny : {V : Type 0} → Setting V → World V → Event → Reply → World V → Type 0
-PerformsAny s w ev reply new = (freed : List Sent) × (reply.freed.items ≡ names freed) × OnAny s w ev reply.outcome freed new
+PerformsAny s w ev reply new = (freed : List Sent) × (reply.freed.items ≡ sent_names freed) × OnAny s w ev reply.outcome freed new
 
 -- an event by which no master makes a move
 abbrev pub MakesNoMove : Event → Type 0

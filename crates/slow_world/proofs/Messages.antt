@@ -7,12 +7,13 @@ use Rattle.recovery_world.specs.declared.event.Outcome.{Outcome}
 use Rattle.recovery_world.specs.World.{Sent, World}
 use Rattle.recovery_world.specs.Events.{IsEntryOf, IsKnown, MayGo, Parts, Releases, Recovers, HasArrived, IsAmong}
 use Rattle.slow_history.specs.declared.history.SentOut.{SentOut}
-use Rattle.slow_history.specs.Mirror.{sents, names}
+use Rattle.slow_history.specs.Mirror.{sents}
+use Rattle.recovery_world.specs.Files.{sent_names}
 use Rattle.slow_world.specs.declared.world.Reply.{Reply}
 use Rattle.slow_world.specs.Mirror.{HasOneOf}
 
 -- a reply that releases nothing
-pub releases_none : (P : Outcome → List Sent → Type 0) (r : Reply) (to : Outcome) → r.outcome ≡ to → r.freed.items ≡ [] → P to [] → (freed : List Sent) × (r.freed.items ≡ names freed) × P r.outcome freed
+pub releases_none : (P : Outcome → List Sent → Type 0) (r : Reply) (to : Outcome) → r.outcome ≡ to → r.freed.items ≡ [] → P to [] → (freed : List Sent) × (r.freed.items ≡ sent_names freed) × P r.outcome freed
 releases_none P r to is none p = ([], none, subst (λ (o : Outcome). P o []) (sym is) p)
 
 pub entry_there : {V : Type 0} (w : World V) (log : List Entry) (t n : ℕ) (e : Entry) → log ≡ log_of w.past → IsIn e log × (e.thread ≡ t) × (e.number ≡ n) → IsEntryOf w t n e

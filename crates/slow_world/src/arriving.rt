@@ -4,7 +4,7 @@ ghost use Rattle.plain_machine.specs.Program.{Meaning};
 ghost use Rattle.recovery_world.specs.Events.{Releases, OnLog, OnOut, OnLate, OnCut, Arrives, EndedWith, WasSent, HasNone, On, count_of};
 ghost use Rattle.plain_text.specs.declared.kind.Kind.TheVariants as kind_is;
 ghost use Rattle.recovery_world.specs.declared.event.Event.TheVariants as event_is;
-ghost use Rattle.slow_history.specs.Mirror.{names};
+ghost use Rattle.recovery_world.specs.Files.{sent_names};
 ghost use Rattle.slow_world.specs.Mirror.{world_is, setting_is, ended_is, EntryFrame, OutputFrame, FrameOf, KeepsHistories};
 
 use crate::outputs::{has_arrived, is_known, joined, missing_for, names_of, part_due};
@@ -33,7 +33,7 @@ pub fn release<V: Drop>(
     world: &mut SlowWorld<V>,
     alloc: Global,
 ) -> Result<Vec<(u32, u64)>, NoMemory>
-    ensures releases { IfOk result (λ list. (freed : List Sent) × (list.items ≡ names freed)
+    ensures releases { IfOk result (λ list. (freed : List Sent) × (list.items ≡ sent_names freed)
         × Releases (world_is world.old) freed (world_is world.new)) }
     ensures keeps { KeepsHistories world.old world.new }
 {
@@ -54,7 +54,7 @@ fn log_arrives<V: Drop>(
     thread: u32,
     number: u64,
 ) -> Result<Reply, NoMemory>
-    ensures on { IfOk result (λ r. (freed : List Sent) × (r.freed.items ≡ names freed)
+    ensures on { IfOk result (λ r. (freed : List Sent) × (r.freed.items ≡ sent_names freed)
         × OnLog (world_is world.old) thread number r.outcome freed (world_is world.new)) }
     ensures keeps { KeepsHistories world.old world.new }
 {
@@ -118,7 +118,7 @@ fn arrives<V: Drop>(
     thread: u32,
     number: u64,
 ) -> Result<Reply, NoMemory>
-    ensures on { IfOk result (λ r. (freed : List Sent) × (r.freed.items ≡ names freed)
+    ensures on { IfOk result (λ r. (freed : List Sent) × (r.freed.items ≡ sent_names freed)
         × Arrives (world_is world.old) kind thread number r.outcome freed (world_is world.new)) }
     ensures keeps { KeepsHistories world.old world.new }
 {
@@ -194,7 +194,7 @@ fn late_arrives<V: Drop>(
     thread: u32,
     number: u64,
 ) -> Result<Reply, NoMemory>
-    ensures on { IfOk result (λ r. (freed : List Sent) × (r.freed.items ≡ names freed)
+    ensures on { IfOk result (λ r. (freed : List Sent) × (r.freed.items ≡ sent_names freed)
         × OnLate (world_is world.old) epoch kind thread number r.outcome freed
         (world_is world.new)) }
     ensures keeps { KeepsHistories world.old world.new }
@@ -283,7 +283,7 @@ fn cut_arrives<V: Drop>(
     length: u64,
 ) -> Result<Reply, NoMemory>
     ensures on { IfOk result (λ r. (m : Meaning V)
-        → (freed : List Sent) × (r.freed.items ≡ names freed)
+        → (freed : List Sent) × (r.freed.items ≡ sent_names freed)
         × OnCut (setting_is m setup.now) (world_is world.old) kind thread number length
         r.outcome freed (world_is world.new)) }
     ensures keeps { KeepsHistories world.old world.new }
@@ -308,7 +308,7 @@ pub fn on_log<V: Drop>(
     number: u64,
 ) -> Result<Reply, NoMemory>
     ensures on { IfOk result (λ r. (m : Meaning V)
-        → (freed : List Sent) × (r.freed.items ≡ names freed)
+        → (freed : List Sent) × (r.freed.items ≡ sent_names freed)
         × On (setting_is m setup.now) (world_is world.old) (event_is.Log thread number) r.outcome
         freed (world_is world.new)) }
     ensures keeps { KeepsHistories world.old world.new }
@@ -328,7 +328,7 @@ pub fn on_out<V: Drop>(
     number: u64,
 ) -> Result<Reply, NoMemory>
     ensures on { IfOk result (λ r. (m : Meaning V)
-        → (freed : List Sent) × (r.freed.items ≡ names freed)
+        → (freed : List Sent) × (r.freed.items ≡ sent_names freed)
         × On (setting_is m setup.now) (world_is world.old) (event_is.Out thread number) r.outcome
         freed (world_is world.new)) }
     ensures keeps { KeepsHistories world.old world.new }
@@ -351,7 +351,7 @@ pub fn on_late<V: Drop>(
     number: u64,
 ) -> Result<Reply, NoMemory>
     ensures on { IfOk result (λ r. (m : Meaning V)
-        → (freed : List Sent) × (r.freed.items ≡ names freed)
+        → (freed : List Sent) × (r.freed.items ≡ sent_names freed)
         × On (setting_is m setup.now) (world_is world.old) (event_is.Late epoch kind thread number)
         r.outcome freed (world_is world.new)) }
     ensures keeps { KeepsHistories world.old world.new }
@@ -373,7 +373,7 @@ pub fn on_cut<V: Drop>(
     length: u64,
 ) -> Result<Reply, NoMemory>
     ensures on { IfOk result (λ r. (m : Meaning V)
-        → (freed : List Sent) × (r.freed.items ≡ names freed)
+        → (freed : List Sent) × (r.freed.items ≡ sent_names freed)
         × On (setting_is m setup.now) (world_is world.old) (event_is.Cut kind thread number length)
         r.outcome freed (world_is world.new)) }
     ensures keeps { KeepsHistories world.old world.new }

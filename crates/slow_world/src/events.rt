@@ -2,7 +2,8 @@ ghost use Rattle.std.specs.Prelude.{◌≡◌, ◌+◌, ◌∷◌, List, IfOk};
 ghost use Rattle.plain_machine.specs.Program.{Meaning};
 ghost use Rattle.recovery_world.specs.World.{Sent, opening as opening_is};
 ghost use Rattle.recovery_world.specs.Events.{On, OnStep, OnSnap, OnStore, OnCrash, entry_outcome as outcome_is, move_outcome, bytes_sent};
-ghost use Rattle.slow_history.specs.Mirror.{names, act_is, step_is};
+ghost use Rattle.slow_history.specs.Mirror.{act_is, step_is};
+ghost use Rattle.recovery_world.specs.Files.{sent_names};
 ghost use Rattle.slow_world.specs.Mirror.{world_is, setting_is, WorldFits, KeepsHistories, StoresCopy, DropsCopy, IsSingle, FeedsTo};
 ghost use Rattle.slow_world.specs.Moves.{after_move};
 
@@ -189,7 +190,7 @@ fn on_snap<P: Program>(
 
 /// The snapshot arrives at the store.
 fn on_store<V: Drop>(world: &mut SlowWorld<V>, alloc: Global) -> Result<Reply, NoMemory>
-    ensures on { IfOk result (λ r. (freed : List Sent) × (r.freed.items ≡ names freed)
+    ensures on { IfOk result (λ r. (freed : List Sent) × (r.freed.items ≡ sent_names freed)
         × OnStore (world_is world.old) r.outcome freed (world_is world.new)) }
     ensures histories { IfOk result (λ _. StoresCopy world.old world.new) }
 {
@@ -228,7 +229,7 @@ pub fn on_one<P: Program>(
 ) -> Result<Reply, NoMemory>
     requires single { IsSingle event }
     requires fits { WorldFits (P.fits program.now) world.old }
-    ensures on { IfOk result (λ r. (freed : List Sent) × (r.freed.items ≡ names freed)
+    ensures on { IfOk result (λ r. (freed : List Sent) × (r.freed.items ≡ sent_names freed)
         × On (setting_is (P.meaning program.now) setup.now) (world_is world.old) event
         r.outcome freed (world_is world.new)) }
     ensures fits { IfOk result (λ _. WorldFits (P.fits program.now) world.new) }

@@ -2,7 +2,8 @@ ghost use Rattle.std.specs.Prelude.{◌≡◌, ◌++◌, ◌↔◌, ◌⊎◌, I
 ghost use Rattle.entry_order.specs.Log.{IsIn};
 ghost use Rattle.entry_order.specs.Closed.{IsDue, IsFirstMissing};
 ghost use Rattle.recovery_world.specs.Events.{Parts};
-ghost use Rattle.slow_history.specs.Mirror.{sents, names};
+ghost use Rattle.slow_history.specs.Mirror.{sents};
+ghost use Rattle.recovery_world.specs.Files.{sent_names};
 ghost use Rattle.slow_world.specs.Mirror.{HasOneOf};
 
 use entry_order::{LogEntry, contains, first_missing};
@@ -43,7 +44,7 @@ pub fn has_arrived(released: &[SentOut], waiting: &[SentOut], thread: u32, numbe
 
 /// The thread and number of each output.
 pub fn names_of(alloc: Global, outputs: &[SentOut]) -> Result<Vec<(u32, u64)>, NoMemory>
-    ensures { IfOk result (λ list. list.items ≡ names (sents outputs.now)) }
+    ensures { IfOk result (λ list. list.items ≡ sent_names (sents outputs.now)) }
 {
     match outputs {
         [] => Ok(Vec::new(alloc)),

@@ -1,0 +1,169 @@
+ghost use Rattle.std.specs.Prelude.{◌≡◌, ◌<◌, ◌≤◌, [], IfOk, length};
+ghost use Rattle.recovery_world.specs.declared.event.Event.TheVariants as event_is;
+ghost use Rattle.recovery_core.specs.Standing.{StandsForSome};
+ghost use Rattle.recovery_core.specs.Arriving.{NotesReleased, arrival_of};
+ghost use Rattle.recovery_core.specs.Performing.{AddsFresh, MovesOn, Replies};
+
+use crate::core::Core;
+use crate::{Releases, Reply};
+use box_program::Program;
+use output_logger::{EntryTook, OutputTook};
+use plain_text::{Kind, NoMemory};
+use recovery_world::Outcome;
+use std::alloc::Global;
+
+/// A reply that releases nothing.
+pub fn only(alloc: Global, outcome: Outcome) -> Reply
+    ensures { result ≡ record { outcome = outcome; released = [] } }
+{
+    Reply {
+        outcome,
+        released: Releases::new(alloc),
+    }
+}
+
+/// Takes note of the outputs that were released behind this number of those not handed over, and lists them.
+fn note_released<P: Program>(core: &mut Core<P>, before: usize) -> Result<Releases, NoMemory>
+    requires { before ≤ length core.old.fresh }
+    ensures noted { IfOk result (λ list. NotesReleased before list core.old core.new) }
+    ensures fresh { core.new.fresh ≡ core.old.fresh }
+    ensures handed { core.new.handed ≡ core.old.handed }
+{
+    let mut list = Releases::new(core.alloc);
+    for output in &core.fresh.as_slice()[before..] {
+        list.push((output.thread, output.number))?;
+        core.released.push((output.thread, output.number))?;
+    }
+    Ok(list)
+}
+
+/// An entry of a thread arrives at the output logger.
+fn take_entry<P: Program>(core: &mut Core<P>, thread: u32, number: u64) -> Result<Reply, NoMemory>
+    requires stands { StandsForSome (P.meaning core.old.program) core.old }
+    requires thread_in { thread < core.old.inputs.threads }
+    ensures on { IfOk result (λ reply.
+        MovesOn (P.meaning core.old.program) (Replies (event_is.Log thread number) reply) core.old core.new) }
+    ensures fresh { AddsFresh core.old core.new }
+    ensures handed { core.new.handed ≡ core.old.handed }
+{
+    if number == 0 || number > core.master.counts(thread).entries {
+        return Ok(only(core.alloc, Outcome::Nothing));
+    }
+    let Some(entry) = core.sent.entry(thread, number)? else {
+        return Ok(only(core.alloc, Outcome::Known));
+    };
+    let before = core.fresh.len();
+    let epoch = core.logger.epoch();
+    match core.logger.entry(epoch, entry, &mut core.fresh)? {
+        EntryTook::New => {
+            let known = core.logger.held().frontier(thread);
+            core.sent.forget_entries(thread, known);
+            let released = note_released(core, before)?;
+            Ok(Reply {
+                outcome: Outcome::New,
+                released,
+            })
+        }
+        EntryTook::Known | EntryTook::OldEpoch => Ok(only(core.alloc, Outcome::Known)),
+    }
+}
+
+/// An output of a thread arrives at the output logger.
+fn take_output<P: Program>(core: &mut Core<P>, thread: u32, number: u64) -> Result<Reply, NoMemory>
+    requires stands { StandsForSome (P.meaning core.old.program) core.old }
+    requires thread_in { thread < core.old.inputs.threads }
+    ensures on { IfOk result (λ reply.
+        MovesOn (P.meaning core.old.program) (Replies (event_is.Out thread number) reply) core.old core.new) }
+    ensures fresh { AddsFresh core.old core.new }
+    ensures handed { core.new.handed ≡ core.old.handed }
+{
+    if number == 0 || number > core.master.counts(thread).outputs {
+        return Ok(only(core.alloc, Outcome::Nothing));
+    }
+    let Some(output) = core.sent.output(thread, number)? else {
+        return Ok(only(core.alloc, Outcome::Again));
+    };
+    let epoch = core.logger.epoch();
+    match core.logger.output(epoch, output, &mut core.fresh)? {
+        OutputTook::Release => {
+            core.released.push((thread, number))?;
+            Ok(only(core.alloc, Outcome::Released))
+        }
+        OutputTook::Wait { thread, number } => Ok(only(
+            core.alloc,
+            Outcome::Waits {
+                thread: u64::from(thread),
+                number,
+            },
+        )),
+        OutputTook::Again | OutputTook::OldEpoch => Ok(only(core.alloc, Outcome::Again)),
+    }
+}
+
+/// An entry or an output of the present epoch arrives. Of a thread that there is none of, nothing arrives.
+pub fn arrive<P: Program>(
+    core: &mut Core<P>,
+    kind: Kind,
+    thread: u64,
+    number: u64,
+) -> Result<Reply, NoMemory>
+    requires stands { StandsForSome (P.meaning core.old.program) core.old }
+    ensures on { IfOk result (λ reply.
+        MovesOn (P.meaning core.old.program) (Replies (arrival_of kind thread number) reply) core.old core.new) }
+    ensures fresh { AddsFresh core.old core.new }
+    ensures handed { core.new.handed ≡ core.old.handed }
+{
+    if thread >= u64::from(core.inputs.threads()) {
+        return Ok(only(core.alloc, Outcome::Nothing));
+    }
+    match kind {
+        Kind::Log => take_entry(core, thread as u32, number),
+        Kind::Out => take_output(core, thread as u32, number),
+    }
+}
+
+/// An entry or an output of this epoch arrives. There was no earlier epoch than the present one.
+pub fn arrive_late<P: Program>(
+    core: &mut Core<P>,
+    epoch: u64,
+    kind: Kind,
+    thread: u64,
+    number: u64,
+) -> Result<Reply, NoMemory>
+    requires stands { StandsForSome (P.meaning core.old.program) core.old }
+    ensures on { IfOk result (λ reply. MovesOn (P.meaning core.old.program)
+        (Replies (event_is.Late epoch kind thread number) reply) core.old core.new) }
+    ensures fresh { AddsFresh core.old core.new }
+    ensures handed { core.new.handed ≡ core.old.handed }
+{
+    if epoch != u64::from(core.logger.epoch()) {
+        return Ok(only(core.alloc, Outcome::Nothing));
+    }
+    arrive(core, kind, thread, number)
+}
+
+/// Of the frame of an entry or an output, this many bytes arrive.
+pub fn arrive_cut<P: Program>(
+    core: &mut Core<P>,
+    kind: Kind,
+    thread: u64,
+    number: u64,
+    length: u64,
+) -> Result<Reply, NoMemory>
+    requires stands { StandsForSome (P.meaning core.old.program) core.old }
+    ensures on { IfOk result (λ reply. MovesOn (P.meaning core.old.program)
+        (Replies (event_is.Cut kind thread number length) reply) core.old core.new) }
+    ensures fresh { AddsFresh core.old core.new }
+    ensures handed { core.new.handed ≡ core.old.handed }
+{
+    if thread >= u64::from(core.inputs.threads()) {
+        return Ok(only(core.alloc, Outcome::Nothing));
+    }
+    let Some(whole) = core.sent.length(kind, thread as u32, number) else {
+        return Ok(only(core.alloc, Outcome::Nothing));
+    };
+    if length < whole {
+        return Ok(only(core.alloc, Outcome::Short));
+    }
+    arrive(core, kind, thread, number)
+}

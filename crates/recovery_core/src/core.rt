@@ -1,0 +1,143 @@
+ghost use Rattle.std.specs.Prelude.{◌≡◌, ◌≤◌, ℕ, All, IfOk, length};
+ghost use Rattle.plain_text.specs.declared.limit.TheConstants.{MOST_PACKETS};
+ghost use Rattle.plain_text.specs.declared.packet.Packet as packet_of;
+ghost use Rattle.plain_text.specs.declared.packet.Unit as unit_of;
+ghost use Rattle.recovery_world.specs.World.{Setting, World, opening};
+ghost use Rattle.recovery_core.specs.Parts.{IsShort};
+ghost use Rattle.recovery_core.specs.Standing.{StandsFor};
+
+use crate::Releases;
+use crate::sending::SentFrames;
+use access_log::Outputs;
+use box_program::Program;
+use input_logger::InputLog;
+use master_core::Master;
+use output_logger::OutputLogger;
+use plain_machine::Schedule;
+use plain_text::{NoMemory, Packet, Packets, Unit};
+use rand_pcg::Pcg32;
+use std::alloc::Global;
+use std::marker::Model;
+
+/// The stream of the generator from which free draws are answered.
+const STREAM: u64 = 54;
+
+/// The parts of a system, put together.
+#[derive(Drop)]
+pub struct Core<P: Program> {
+    pub alloc: Global,
+    pub program: P,
+    pub unit: Unit,
+    /// The time, in microseconds.
+    pub clock: u64,
+    pub generator: Pcg32,
+    /// The packets of the capture that are not fed yet, the next one last.
+    pub left: Vec<Packet>,
+    pub inputs: InputLog,
+    pub master: Master<P>,
+    /// The moves that the master made.
+    pub schedule: Schedule,
+    /// How many moves all masters made.
+    pub moves: u64,
+    /// How many bytes they sent out.
+    pub bytes: u64,
+    pub sent: SentFrames,
+    pub logger: OutputLogger,
+    /// Each released output, in order of release.
+    pub released: Releases,
+    /// How many of them were handed over.
+    pub handed: usize,
+    /// The others.
+    pub fresh: Outputs,
+}
+
+impl<P: Program> Model for Core<P> {
+    ghost use Rattle.std.specs.Prelude.{reverse};
+    ghost use Rattle.recovery_core.specs.Parts.{Parts, AreParts};
+
+    ghost Value = { Parts P P.Value };
+
+    ghost view = { λ y. record {
+      program = y.program;
+      fractions = y.unit;
+      clock = y.clock;
+      generator = y.generator;
+      left = reverse y.left.items;
+      inputs = y.inputs;
+      master = y.master;
+      schedule = y.schedule;
+      moves = y.moves;
+      bytes = y.bytes;
+      sent = y.sent;
+      logger = y.logger;
+      released = y.released;
+      handed = y.handed;
+      fresh = y.fresh;
+    } };
+
+    ghost invariant = { λ y. AreParts (P.meaning y.program) (P.fits y.program) (record {
+      program = y.program;
+      fractions = y.unit;
+      clock = y.clock;
+      generator = y.generator;
+      left = reverse y.left.items;
+      inputs = y.inputs;
+      master = y.master;
+      schedule = y.schedule;
+      moves = y.moves;
+      bytes = y.bytes;
+      sent = y.sent;
+      logger = y.logger;
+      released = y.released;
+      handed = y.handed;
+      fresh = y.fresh;
+    }) };
+}
+
+impl<P: Program> Core<P> {
+    /// The parts of a system on these packets, before the first event.
+    pub fn new(
+        alloc: Global,
+        program: P,
+        threads: u32,
+        seed: u64,
+        unit: Unit,
+        packets: Packets,
+    ) -> Result<Self, NoMemory>
+        requires some_threads { 1 ≤ threads }
+        requires few_threads { threads ≤ 16 }
+        requires few_packets { length packets ≤ MOST_PACKETS }
+        requires short { All IsShort packets }
+        ensures stands { IfOk result (λ y. StandsFor (P.meaning program) (record {
+          meaning = P.meaning program;
+          threads = threads;
+          fractions = unit;
+          packets = packets;
+          seed = seed;
+        }) (opening P.Value) y) }
+        ensures program { IfOk result (λ y. y.program ≡ program) }
+        ensures none { IfOk result (λ y. y.handed ≡ 0) }
+    {
+        let master = Master::fresh(alloc, &program, threads)?;
+        let mut left = packets.into_vec();
+        left.reverse();
+        Ok(Core {
+            alloc,
+            program,
+            unit,
+            clock: 0,
+            generator: Pcg32::new(seed, STREAM),
+            left,
+            inputs: InputLog::new(alloc, threads)?,
+            master,
+            schedule: Schedule::new(alloc),
+            moves: 0,
+            bytes: 0,
+            sent: SentFrames::new(alloc, threads)?,
+            logger: OutputLogger::new(alloc, threads)?,
+            released: Releases::new(alloc),
+            handed: 0,
+            fresh: Outputs::new(alloc),
+        })
+    }
+}

@@ -1,0 +1,24 @@
+ghost use Rattle.std.specs.Prelude.{◌≡◌, List, IfOk};
+ghost use Rattle.recovery_world.specs.World.{Sent};
+ghost use Rattle.recovery_world.specs.Files.{reply_line, sent_names};
+
+use crate::Reply;
+use plain_text::{NoMemory, Text};
+use recovery_world::Event;
+use script_text::{write_event, write_outcome, write_released};
+use std::alloc::Global;
+
+/// The line of the report for an event: its words, its outcome, and each output that it released as THREAD:NUMBER, with a line
+/// feed behind them.
+pub fn put_line(alloc: Global, event: &Event, reply: &Reply) -> Result<Text, NoMemory>
+    ensures { IfOk result (λ text. (freed : List Sent) → reply.now.released ≡ sent_names freed
+        → text ≡ reply_line event.now reply.now.outcome freed) }
+{
+    let mut text = String::new(alloc);
+    write_event(&mut text, *event)?;
+    text.push(' ')?;
+    write_outcome(&mut text, &reply.outcome)?;
+    write_released(&mut text, reply.released.as_slice())?;
+    text.push('\n')?;
+    Text::of(alloc, text.as_str())
+}

@@ -1,0 +1,24 @@
+ghost use Rattle.std.specs.Prelude.{◌≡◌, ℕ, IfOk};
+ghost use Rattle.recovery_world.specs.declared.event.Event.TheVariants as event_is;
+ghost use Rattle.recovery_world.specs.World.{Setting, World};
+ghost use Rattle.recovery_world.specs.Limits.{OnWithin};
+ghost use Rattle.recovery_core.specs.Standing.{StandsFor};
+ghost use Rattle.recovery_core.specs.Performing.{ComesTo};
+
+use crate::core::Core;
+use box_program::Program;
+use plain_text::NoMemory;
+use recovery_world::Outcome;
+
+/// Shows the value of a variable.
+pub fn show<P: Program>(core: &Core<P>, var: u64) -> Result<Outcome, NoMemory>
+    ensures on { IfOk result (λ to. (s : Setting P.Value) (w : World P.Value)
+        → StandsFor (P.meaning core.now.program) s w core.now → ComesTo (event_is.Show var) to s w w) }
+{
+    if var >= u64::from(core.program.vars()) {
+        return Ok(Outcome::Nothing);
+    }
+    let var = var as u32;
+    let value = core.master.value(var);
+    Ok(Outcome::Shown(core.program.show(core.alloc, var, value)?))
+}

@@ -1,0 +1,248 @@
+ghost use Rattle.std.specs.Prelude.{◌≡◌, ◌↔◌, ◌<◌, ◌≤◌, ℕ, All, List, [], IsTrue, IfOk, OnOk, OnErr, Err, true, false, drop, length, map};
+ghost use Rattle.plain_text.specs.declared.limit.Limit.{Limit as LimitKind};
+ghost use Rattle.plain_text.specs.declared.limit.TheConstants.{MOST_PACKETS};
+ghost use Rattle.plain_text.specs.declared.packet.Packet as packet_of;
+ghost use Rattle.access_log.specs.declared.entry.Output as output_of;
+ghost use Rattle.entry_order.specs.Log.{entries};
+ghost use Rattle.plain_machine.specs.History.{log_of, sent_of, outputs, thread_after};
+ghost use Rattle.recovery_world.specs.World.{Setting, World, opening};
+ghost use Rattle.recovery_world.specs.Files.{packets_of};
+ghost use Rattle.recovery_core.specs.Parts.{IsShort};
+ghost use Rattle.recovery_core.specs.Standing.{HasReleased, StandsFor, StandsForSome};
+ghost use Rattle.recovery_core.specs.Performing.{AddsFresh, IsPerformed, MovesOn, StopsAt, RepliesAny, IsStopped, FinishesAs};
+
+use crate::arriving::{arrive, arrive_cut, arrive_late, only};
+use crate::core::Core;
+use crate::feeding::{feed, set_time};
+use crate::settling::settle;
+use crate::showing::show;
+use crate::stepping::step;
+use crate::{Finished, Reply, Stop};
+use access_log::Outputs;
+use box_program::Program;
+use master_core::Counts;
+use plain_text::{Kind, NoMemory, Packets, Unit};
+use recovery_world::Event;
+use std::alloc::Global;
+use std::marker::Model;
+use std::mem;
+
+/// A recovering system on the packets of a capture: an input logger, a master that runs a box, the links behind it, and an output
+/// logger.
+///
+/// It performs events one by one. An event that does not end, since memory ran out or a limit would be passed, stops it for good;
+/// what it released until then can still be taken.
+#[derive(Drop)]
+pub struct System<P: Program> {
+    core: Core<P>,
+    stopped: bool,
+}
+
+impl<P: Program> Model for System<P> {
+    ghost use Rattle.std.specs.Prelude.{◌≡◌, false};
+    ghost use Rattle.recovery_core.specs.Parts.{Systemed};
+    ghost use Rattle.recovery_core.specs.Standing.{StandsForSome};
+
+    ghost Value = { Systemed P P.Value };
+
+    ghost view = { λ y. record { parts = y.core; stopped = y.stopped } };
+
+    ghost invariant = { λ y. y.stopped ≡ false → StandsForSome (P.meaning y.core.program) y.core };
+}
+
+/// Whether a system performs such an event: any but those of snapshots, crashes and chosen events.
+pub fn is_performed(event: &Event) -> bool
+    ensures { IsTrue result ↔ IsPerformed event.now }
+{
+    match event {
+        Event::Snap | Event::Store | Event::Crash | Event::Recover | Event::Auto { .. } => false,
+        Event::Feed(_)
+        | Event::Time(_)
+        | Event::Step { .. }
+        | Event::Log { .. }
+        | Event::Out { .. }
+        | Event::Late { .. }
+        | Event::Cut { .. }
+        | Event::Show(_)
+        | Event::Settle => true,
+    }
+}
+
+/// Performs an event.
+fn perform<P: Program>(core: &mut Core<P>, event: Event) -> Result<Reply, Stop>
+    requires stands { StandsForSome (P.meaning core.old.program) core.old }
+    requires built { IsPerformed event }
+    ensures on { IfOk result (λ reply. MovesOn (P.meaning core.old.program) (RepliesAny event reply) core.old core.new) }
+    ensures limit { (limit : LimitKind) → result ≡ Err (Stop.Limit limit)
+        → StopsAt (P.meaning core.old.program) (IsStopped event limit) core.old core.new }
+    ensures fresh { AddsFresh core.old core.new }
+    ensures handed { core.new.handed ≡ core.old.handed }
+{
+    let alloc = core.alloc;
+    match event {
+        Event::Feed(n) => Ok(only(alloc, feed(core, n)?)),
+        Event::Time(n) => Ok(only(alloc, set_time(core, n))),
+        Event::Step { thread, answer } => Ok(only(alloc, step(core, thread, answer)?)),
+        Event::Log { thread, number } => Ok(arrive(core, Kind::Log, thread, number)?),
+        Event::Out { thread, number } => Ok(arrive(core, Kind::Out, thread, number)?),
+        Event::Late {
+            epoch,
+            kind,
+            thread,
+            number,
+        } => Ok(arrive_late(core, epoch, kind, thread, number)?),
+        Event::Cut {
+            kind,
+            thread,
+            number,
+            length,
+        } => Ok(arrive_cut(core, kind, thread, number, length)?),
+        Event::Show(var) => Ok(only(alloc, show(core, var)?)),
+        Event::Settle => Ok(only(alloc, settle(core)?)),
+        Event::Snap | Event::Store | Event::Crash | Event::Recover | Event::Auto { .. } => {
+            unreachable!()
+        }
+    }
+}
+
+impl<P: Program> System<P> {
+    /// A system of 1 to 16 threads on these packets, before the first event. Random words come from the generator of the seed.
+    pub fn new(
+        alloc: Global,
+        program: P,
+        threads: u32,
+        seed: u64,
+        unit: Unit,
+        packets: Packets,
+    ) -> Result<Self, NoMemory>
+        requires some_threads { 1 ≤ threads }
+        requires few_threads { threads ≤ 16 }
+        requires few_packets { length packets ≤ MOST_PACKETS }
+        requires short { All IsShort packets }
+        ensures stands { IfOk result (λ y. StandsFor (P.meaning program) (record {
+          meaning = P.meaning program;
+          threads = threads;
+          fractions = unit;
+          packets = packets;
+          seed = seed;
+        }) (opening P.Value) y.parts) }
+        ensures program { IfOk result (λ y. y.parts.program ≡ program) }
+        ensures runs { IfOk result (λ y. y.stopped ≡ false) }
+        ensures none { IfOk result (λ y. y.parts.handed ≡ 0) }
+    {
+        let core = Core::new(alloc, program, threads, seed, unit, packets)?;
+        Ok(System {
+            core,
+            stopped: false,
+        })
+    }
+
+    /// Performs one event: any but those of snapshots, crashes and chosen events.
+    ///
+    /// After an error the system is stopped. Of a limit, what the event released before the move that would pass it is there to be
+    /// taken; where memory ran out, nothing that the event released.
+    pub fn on(&mut self, event: &Event) -> Result<Reply, Stop>
+        requires runs { self.old.stopped ≡ false }
+        requires performed { IsPerformed event.now }
+
+        // For every world that the system stood for, it stands for that of the event, and the reply is that of the event.
+        ensures on { IfOk result (λ reply.
+            MovesOn (P.meaning self.old.parts.program) (RepliesAny event.now reply) self.old.parts self.new.parts) }
+        ensures goes_on { OnOk result (self.new.stopped ≡ false) }
+
+        // A limit stops it exactly where the event of the definitions stops.
+        ensures limit { (limit : LimitKind) → result ≡ Err (Stop.Limit limit)
+            → StopsAt (P.meaning self.old.parts.program) (IsStopped event.now limit) self.old.parts self.new.parts }
+        ensures stops { OnErr result (self.new.stopped ≡ true) }
+        ensures no_memory { result ≡ Err Stop.NoMemory
+            → (self.new.parts.fresh ≡ self.old.parts.fresh)
+            × (self.new.parts.handed ≡ self.old.parts.handed) }
+    {
+        let before = self.core.fresh.len();
+        let done = perform(&mut self.core, *event);
+        if let Err(stop) = &done {
+            self.stopped = true;
+            if matches!(stop, Stop::NoMemory) {
+                self.core.fresh.truncate(before);
+            }
+        }
+        done
+    }
+
+    /// Whether an event did not end, so that no other can be performed.
+    pub fn stopped(&self) -> bool
+        ensures { result ≡ self.now.stopped }
+    {
+        self.stopped
+    }
+
+    /// Hands over the outputs that were released since the last such call, in order of release.
+    pub fn take_released(&mut self) -> Outputs
+        ensures outputs { result ≡ self.old.parts.fresh }
+        ensures rest { self.new.parts.fresh ≡ [] }
+        ensures packets { (w : World P.Value) → HasReleased w self.old.parts
+            → (map (λ (o : output_of.Output). o.packet) result
+            ≡ packets_of (drop self.old.parts.handed w.released))
+            × HasReleased w self.new.parts × (self.new.parts.handed ≡ length w.released) }
+        ensures stands { (s : Setting P.Value) (w : World P.Value)
+            → StandsFor (P.meaning self.old.parts.program) s w self.old.parts
+            → StandsFor (P.meaning self.old.parts.program) s w self.new.parts }
+        ensures stopped { self.new.stopped ≡ self.old.stopped }
+    {
+        self.core.handed = self.core.released.len();
+        mem::replace(&mut self.core.fresh, Outputs::new(self.core.alloc))
+    }
+
+    /// Whether a master is up. As long as none crashes, one is.
+    pub fn up(&self) -> bool
+        ensures { self.now.stopped ≡ false → (s : Setting P.Value) (w : World P.Value)
+            → StandsFor (P.meaning self.now.parts.program) s w self.now.parts → result ≡ w.up }
+    {
+        true
+    }
+
+    /// The epoch, from 1.
+    pub fn epoch(&self) -> u32
+        ensures { (s : Setting P.Value) (w : World P.Value) → StandsFor (P.meaning self.now.parts.program) s w self.now.parts
+            → result ≡ w.epoch }
+    {
+        self.core.logger.epoch()
+    }
+
+    /// How many packets of the capture are not fed yet.
+    pub fn left(&self) -> u64
+        ensures { (s : Setting P.Value) (w : World P.Value) → StandsFor (P.meaning self.now.parts.program) s w self.now.parts
+            → result ≡ length (drop w.fed s.packets) }
+    {
+        self.core.left.len() as u64
+    }
+
+    /// How many inputs a thread took, entries it logged and outputs it sent out.
+    pub fn counts(&self, thread: u32) -> Counts
+        requires { thread < self.now.parts.inputs.threads }
+        ensures { (s : Setting P.Value) (w : World P.Value) → StandsFor (P.meaning self.now.parts.program) s w self.now.parts
+            → (result.taken ≡ (thread_after w.past thread).taken)
+            × (result.entries ≡ entries thread (log_of w.past))
+            × (result.outputs ≡ outputs thread (sent_of w.past)) }
+    {
+        self.core.master.counts(thread)
+    }
+
+    /// The run that the script amounts to, once its last event was performed: the schedule, and the counts of the last line of the
+    /// report.
+    pub fn finish(self) -> Result<Finished, NoMemory>
+        requires { self.stopped ≡ false }
+        ensures { IfOk result (λ f. (s : Setting P.Value) (w : World P.Value)
+            → StandsFor (P.meaning self.parts.program) s w self.parts → FinishesAs s w f) }
+    {
+        let fed = self.core.inputs.fed();
+        let epoch = self.core.logger.epoch();
+        let released = self.core.released.len() as u64;
+        Ok(Finished {
+            schedule: self.core.schedule,
+            fed,
+            epoch,
+            released,
+        })
+    }
+}

@@ -1,0 +1,129 @@
+ghost use Rattle.std.specs.Prelude.{◌≡◌, ◌≤◌, All, IsTrue, IfOk, IfSome, false, length};
+ghost use Rattle.plain_text.specs.declared.limit.TheConstants.{MOST_PACKETS};
+ghost use Rattle.recovery_core.specs.Parts.{IsShort};
+
+use box_program::Program;
+use plain_text::{Bytes, MOST_CAPTURED, MOST_PACKETS, NoMemory, Packet, Packets, Unit};
+use recovery_core::{System, is_performed, put_line};
+use recovery_world::Event;
+use script_text::read_script;
+use std::alloc::Global;
+
+/// The seed of each system.
+pub const SEED: u64 = 42;
+
+/// A packet of 100 seconds and a fraction.
+fn packet_of(alloc: Global, fraction: u32, frame: &[u8]) -> Result<Packet, NoMemory> {
+    Ok(Packet {
+        seconds: 100,
+        fraction,
+        original: frame.len().min(65_535) as u32,
+        bytes: Bytes::of(alloc, frame)?,
+    })
+}
+
+/// A capture of these frames: the first packet comes at 100.000005 seconds, the next a microsecond later.
+pub fn capture_of(alloc: Global, frames: &[&[u8]]) -> Result<Packets, NoMemory> {
+    let mut packets = Packets::new(alloc);
+    let mut fraction: u32 = 5;
+    for frame in frames {
+        packets.push(packet_of(alloc, fraction, frame)?)?;
+        fraction = fraction.wrapping_add(1);
+    }
+    Ok(packets)
+}
+
+/// Whether a system takes these packets.
+fn are_taken(packets: &[Packet]) -> bool
+    ensures few { IsTrue result → length packets.now ≤ MOST_PACKETS }
+    ensures short { IsTrue result → All IsShort packets.now }
+{
+    packets.len() <= MOST_PACKETS as usize
+        && packets
+            .iter()
+            .all(|packet| packet.bytes.len() <= MOST_CAPTURED as usize)
+}
+
+/// A system on a capture of these frames.
+pub fn system_of<P: Program>(
+    alloc: Global,
+    program: P,
+    threads: u32,
+    frames: &[&[u8]],
+) -> Result<Option<System<P>>, NoMemory>
+    requires some { 1 ≤ threads }
+    requires few { threads ≤ 16 }
+    ensures { IfOk result (λ found. IfSome found (λ system. system.stopped ≡ false)) }
+{
+    let packets = capture_of(alloc, frames)?;
+    if !are_taken(packets.as_slice()) {
+        return Ok(None);
+    }
+    let system = System::new(alloc, program, threads, SEED, Unit::Micro, packets)?;
+    Ok(Some(system))
+}
+
+/// Performs the events, and appends their lines; whether all were performed.
+fn perform<P: Program>(
+    alloc: Global,
+    system: &mut System<P>,
+    events: &[Event],
+    report: &mut String,
+) -> Result<bool, NoMemory>
+    requires { system.old.stopped ≡ false }
+    ensures { IfOk result (λ done. IsTrue done → system.new.stopped ≡ false) }
+{
+    match events {
+        [] => Ok(true),
+        [event, rest @ ..] => {
+            if !is_performed(event) {
+                return Ok(false);
+            }
+            let Ok(reply) = system.on(event) else {
+                return Ok(false);
+            };
+            let line = put_line(alloc, event, &reply)?;
+            report.push_str(line.as_str())?;
+            perform(alloc, system, rest, report)
+        }
+    }
+}
+
+/// Appends a move.
+fn put_move(alloc: Global, text: &mut String, thread: u32, answer: Option<u64>) -> Result<(), NoMemory> {
+    match answer {
+        None => text.push_str(format!(in alloc; " {thread}")?.as_str())?,
+        Some(told) => text.push_str(format!(in alloc; " {thread}={told}")?.as_str())?,
+    }
+    Ok(())
+}
+
+/// The report of a script, with the moves of its schedule in a last line; no text where it was not performed.
+pub fn report_of<P: Program>(
+    alloc: Global,
+    program: P,
+    threads: u32,
+    frames: &[&[u8]],
+    script: &str,
+) -> Result<String, NoMemory>
+    requires some { 1 ≤ threads }
+    requires few { threads ≤ 16 }
+{
+    let mut report = String::new(alloc);
+    let Ok(events) = read_script(alloc, script.as_bytes()) else {
+        return Ok(report);
+    };
+    let Some(mut system) = system_of(alloc, program, threads, frames)? else {
+        return Ok(report);
+    };
+    if !perform(alloc, &mut system, events.as_slice(), &mut report)? {
+        return Ok(String::new(alloc));
+    }
+    let end = system.finish()?;
+    let (fed, epoch, released) = (end.fed, end.epoch, end.released);
+    report.push_str(format!(in alloc; "done fed {fed} epoch {epoch} released {released}\nmoves")?.as_str())?;
+    for plain in end.schedule.as_slice() {
+        put_move(alloc, &mut report, plain.thread, plain.answer)?;
+    }
+    Ok(report)
+}
