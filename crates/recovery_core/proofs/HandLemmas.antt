@@ -16,9 +16,8 @@ use Rattle.box_program.proofs.HandLemmas.{no_hand}
 use Rattle.line_order.proofs.Hands.{hand_input}
 use Rattle.master_core.specs.declared.parts.ThreadPart.{ThreadPart}
 use Rattle.master_core.specs.declared.parts.Counts.{Counts}
-use Rattle.master_core.specs.declared.wants.Wants.{Wants}
 use Rattle.master_core.specs.declared.wants.Wants.TheVariants as wants
-use Rattle.master_core.specs.Mastered.{Mastered, input_in_hand, moves_made, HasRoom}
+use Rattle.master_core.specs.Mastered.{Mastered, input_in_hand, HasRoom}
 use Rattle.master_core.specs.Standing.{Stands}
 use Rattle.master_core.specs.Stepping.{wanted, wanted_in, wanted_by, told_in, told_for}
 use Rattle.rand_pcg.specs.Lcg.{Lcg}
@@ -30,9 +29,11 @@ use Rattle.recovery_world.specs.Events.{Tells, TellsHand}
 
 -- The input that a master in memory asks for is the one that its next move is made with.
 
+-- a part for a thread that is not there
 pub none_part : ThreadPart
 none_part = record { counts = record { taken = 0; entries = 0; outputs = 0 }; hand = None; stamp = [] }
 
+-- a place in hand is that of a packet in hand
 some_hand : (h : Option Hand) (place : Local) → place_of h ≡ Some place → (k : Hand) × (h ≡ Some k)
 some_hand None place e = absurd (cc)
 some_hand (Some h) place e = (h, refl)
@@ -86,6 +87,7 @@ pub record Asks {V : Type 0} (m : Meaning V) (hand : Option Hand) (next : Move) 
   pub hand_is : hand ≡ Some packet
   pub next_is : m.next packet.place ≡ next
 
+-- a master that wants a clock, or a draw, asks for it
 pub asks_clock : {V : Type 0} (m : Meaning V) (steps : List (Step V)) (t n : ℕ) → wanted m steps t ≡ wants.Clock n → Asks m (thread_after steps t).hand move.Clock
 asks_clock {V} m steps t n e = go (thread_after steps t).hand e
   where
@@ -125,9 +127,11 @@ asked_draw m hand a k = ap (λ (o : Option Hand). told_in m o a) k.hand_is ∙ a
 
 -- Where nothing is followed, nothing is told from the log.
 
+-- no entry is followed
 none_followed : {V : Type 0} (w : World V) → w.followed ≡ [] → (e : Entry) → IsIn e w.followed → ⊥
 none_followed w free e i = subst (λ (l : List Entry). IsIn e l) free i
 
+-- a clock is told the given answer or the time, and a draw the given answer or the next word
 pub tells_clock : {V : Type 0} (s : Setting V) (w : World V) (t : ℕ) (given : Option ℕ) (a : ℕ) (hand : Option Hand) → w.followed ≡ [] → Asks s.meaning hand move.Clock
     → a ≡ unwrap_or given w.clock → TellsHand s w t given (Some a) w.drawn hand
 tells_clock {V} s w t given a hand free k is =

@@ -1,15 +1,12 @@
 -- What a move of the master needs, and what it logs and sends out has a frame.
-use Rattle.std.proofs.Common.{◌≡◌, ℕ, zero, suc, ◌+◌, ◌<◌, ◌≤◌, ◌≢◌, ◌^◌, List, [], ◌∷◌, length, refl, sym, ap, ◌∙◌, subst, inl, inr, ◌⊎◌, arith, Option, Some, None, Ok, true, false, lit≤}
-use Rattle.std.specs.Prelude.{slice_get, slice_index, slice_index_or, filter, is_some, IsTrue, IsSome, All, ◌==◌}
+use Rattle.std.proofs.Common.{◌≡◌, ℕ, zero, suc, ◌+◌, ◌<◌, ◌≤◌, ◌≢◌, List, [], ◌∷◌, length, refl, sym, ap, ◌∙◌, subst, inl, inr, ◌⊎◌, arith, Option, Some, None, true, lit≤}
+use Rattle.std.specs.Prelude.{slice_get, slice_index, slice_index_or, is_some, IsTrue, IsSome, All, ◌==◌}
 use Rattle.std.specs.Option.{option_map}
-use Rattle.std.proofs.lemmas.Bool.{cases_lt}
 use Rattle.std.proofs.lemmas.List.Elements.{All-filter, All-get_or}
 use Rattle.std.proofs.lemmas.Option.{slice_get-get_or}
 use Rattle.plain_text.specs.declared.limit.TheConstants.{MOST_CAPTURED, MOST_MOVES}
 use Rattle.plain_text.specs.declared.packet.Packet.{Packet}
 use Rattle.input_logger.specs.Inputs.{Fed, inputs_of, thread_of}
-use Rattle.entry_order.specs.declared.what.What.{What}
-use Rattle.entry_order.specs.declared.what.What.TheVariants as what
 use Rattle.entry_order.specs.Log.{Entry, entries, places, IsIn, PrecedesOrIs, PrecedesOutput}
 use Rattle.entry_order.specs.Stamps.{IsStamp, IsOutputStamp}
 use Rattle.access_log.specs.declared.entry.StampedEntry.{StampedEntry}
@@ -19,10 +16,9 @@ use Rattle.plain_machine.specs.declared.local.Local.{Local}
 use Rattle.plain_machine.specs.declared.local.Move.{Move}
 use Rattle.plain_machine.specs.declared.local.Move.TheVariants as move
 use Rattle.plain_machine.specs.declared.emission.Emission.{Emission}
-use Rattle.plain_machine.specs.declared.plain_move.PlainMove.{PlainMove}
 use Rattle.plain_machine.specs.Program.{Meaning, IsLawful}
 use Rattle.plain_machine.specs.Machine.{Hand, Thread, Effect, Takes, Touches, Looks, HearsClock, HearsDraw, Sends, Ends, Moves, holding, sent_packet, take_move, hand_move, held_move, thread_move}
-use Rattle.plain_machine.specs.History.{Act, Took, Did, Emitted, Ended, Step, log_of, sent_of, outputs, moves_of, act_of, entry_of, emission_of, thread_after, value_after, plain_move, IsStep, IsHistory}
+use Rattle.plain_machine.specs.History.{Act, Did, Emitted, Step, log_of, sent_of, moves_of, act_of, emission_of, thread_after, value_after, IsHistory}
 use Rattle.plain_machine.proofs.Histories.{moves_step, did_entry, did_emission}
 use Rattle.plain_machine.proofs.LoggedEffects.{entry_thread}
 use Rattle.box_program.specs.Hands.{place_of, input_for, hand_of, has_hand, IsInputAfter}
@@ -32,12 +28,13 @@ use Rattle.master_core.specs.Mastered.{Mastered, place_in_hand, HasRoom}
 use Rattle.master_core.specs.Standing.{Stands}
 use Rattle.master_core.specs.Stepping.{plain_entry, emission_of_output}
 use Rattle.recovery_world.specs.Files.{answer_of}
-use Rattle.recovery_laws.proofs.LedMoves.{EntryFor, Made, made_move, made_step, move_entry}
+use Rattle.recovery_laws.proofs.LedMoves.{EntryFor, Made, made_step, move_entry}
 use Rattle.recovery_core.specs.Parts.{IsShort}
 use Rattle.recovery_core.proofs.HandLemmas.{none_part}
 
 -- A thread has room for another move
 
+-- a thread made no more moves than all
 moves_low : {V : Type 0} (t : ℕ) (xs : List (Step V)) → moves_of t xs ≤ length xs
 moves_low t [] = omega arith
 moves_low {V} t (x ∷ xs) = go (moves_step t x xs) (moves_low t xs)
@@ -77,6 +74,7 @@ input_there {V} {A} m inputs threads steps p t f o is below input has = go (thre
 
 -- The answer of a move
 
+-- what an effect says that its move was told
 abbrev effect_answer : {V : Type 0} → Effect V → Option ℕ
 effect_answer Takes = None
 effect_answer (Touches v left) = None
@@ -129,6 +127,7 @@ made_answer {V} m inputs threads A t a x h =
 
 -- What a step sent out
 
+-- what is sent out is sent with a packet in hand, and no input is taken then
 hand_sends : {V : Type 0} (m : Meaning V) (value : ℕ → V) (taken : ℕ) (h : Hand) (a : Option ℕ) (k : Move) (after : Thread) (p : Packet) → hand_move m value taken h a k ≡ Moves after (Sends p) → after.taken ≡ taken
 hand_sends m value taken h None move.Emit after p e = let q : holding taken h.packet (m.emitted h.place) ≡ after = cc in ap (λ (t : Thread). t.taken) (sym q)
 hand_sends m value taken h None (move.Access v) after p e = absurd (cc)
@@ -153,6 +152,7 @@ held_sends {V} m packets value taken a None after p e = absurd (go a (slice_get 
     go None None e = cc
     go None (Some q) e = cc
 
+-- an output has the number of the input that was taken last
 did_send : {V : Type 0} (t taken : ℕ) (A : List (Step V)) (d : Effect V) (o : Emission) → act_of t A taken d ≡ Emitted o → (p : Packet) × (d ≡ Sends p) × (o.input ≡ taken)
 did_send t taken A Takes o e = absurd (cc)
 did_send t taken A (Touches v left) o e = absurd (cc)
@@ -179,6 +179,7 @@ sends_input {V} m inputs threads A t a x o hist made act =
     let last = hand_input m inputs threads A hist t held.0 held.1 in
     record { packet = held.0; hand_is = held.1; number = last.0; there = last.2; input = sent.2 ∙ held.2 ∙ last.1 }
 
+-- an item that was found is one of the list
 got_within : (xs : List Packet) (k : ℕ) (p : Packet) → slice_get xs k ≡ Some p → k < length xs
 got_within [] k p e = absurd (cc)
 got_within (x ∷ xs) zero p e = omega arith
@@ -196,6 +197,7 @@ input_short fed t k p all e = all_got (inputs_of fed t) k p (All-filter (λ pack
 
 -- What was logged or sent out has a frame
 
+-- what an entry tells can be written
 tell : {V : Type 0} (m : Meaning V) (fits : ℕ → V → Type 0) → IsLawful m fits → (l : Local) (t : ℕ) (log : List Entry) (a : Option ℕ) (e : Entry) (k : Move) → m.next l ≡ k → EntryFor t k log a e → CanTell e.what
 tell m fits lawful l t log a e (move.Access v) is same =
     subst (λ (x : Entry). CanTell x.what) (sym same) (let w = lawful.touches_var l v is in let few = lawful.few_vars in let low : v < 256 = omega (arith, w, few) in let one : 1 ≤ places v log + 1 = omega arith in (low, one))
@@ -229,6 +231,7 @@ can_send m inputs epoch threads there steps t thread number stamp Before hist on
   none = λ u high. none_above m inputs threads steps (λ v. slice_index stamp v) Before hist reached u (omega (arith, same, high));
 }
 
+-- the frame of an entry, and of an output
 pub can_put_entry : {V : Type 0} (m : Meaning V) (fits : ℕ → V → Type 0) (inputs : ℕ → List Packet) (epoch threads there : ℕ) (A : List (Step V)) (t : ℕ) (a : Option ℕ) (x : Step V) (e : StampedEntry) (left : Option V)
     → IsLawful m fits → IsHistory m inputs threads A → epoch ≡ 1 → there ≡ threads → 1 ≤ threads → threads ≤ 16 → Made m inputs threads A t a x → x.act ≡ Did (plain_entry e) left
     → IsStamp (log_of (x ∷ A)) (plain_entry e) (λ u. slice_index e.stamp u) → CanPutEntry epoch there e

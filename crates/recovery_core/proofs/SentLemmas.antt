@@ -1,10 +1,9 @@
 -- What is on the links after a move of the master.
-use Rattle.std.proofs.Common.{◌≡◌, ℕ, zero, suc, ◌+◌, ◌<◌, ◌≤◌, ◌≢◌, List, [], ◌∷◌, ◌++◌, length, length-append, refl, sym, ap, ◌∙◌, subst, inl, inr, ◌⊎◌, arith, add-one, Option, Some, None, true, false, nat_eq}
-use Rattle.std.specs.Prelude.{slice_get, slice_index, slice_index_or, slice_set}
+use Rattle.std.proofs.Common.{◌≡◌, ℕ, zero, suc, ◌+◌, ◌<◌, ◌≢◌, List, [], ◌∷◌, ◌++◌, length, length-append, refl, sym, ap, ◌∙◌, subst, inl, inr, ◌⊎◌, arith, add-one, Option, Some, None, true, false, nat_eq}
+use Rattle.std.specs.Prelude.{slice_get, slice_index}
 use Rattle.std.proofs.lemmas.List.{get_or-set_same, get_or-set_other}
 use Rattle.rand_pcg.specs.Lcg.{Lcg}
 use Rattle.plain_text.specs.declared.packet.Packet.{Packet}
-use Rattle.plain_text.specs.declared.kind.Kind.{Kind}
 use Rattle.plain_text.specs.declared.kind.Kind.TheVariants.{Log, Out}
 use Rattle.entry_order.specs.Log.{Entry, entries, IsLog, IsIn}
 use Rattle.entry_order.specs.Stamps.{IsStamp, IsOutputStamp}
@@ -38,12 +37,14 @@ use Rattle.recovery_core.specs.Standing.{IsSentEntry, IsSentOutput, HasSent}
 
 -- One more length
 
+-- the lengths of the thread, and of another
 lengths_same : (lengths : List (List ℕ)) (t size : ℕ) → t < length lengths → lengths_of (one_longer lengths t size) t ≡ lengths_of lengths t ++ size ∷ []
 lengths_same lengths t size low = get_or-set_same lengths t (lengths_of lengths t ++ size ∷ []) [] low
 
 lengths_other : (lengths : List (List ℕ)) (t u size : ℕ) → u ≢ t → lengths_of (one_longer lengths t size) u ≡ lengths_of lengths u
 lengths_other lengths t u size other = get_or-set_other lengths t u (lengths_of lengths t ++ size ∷ []) [] other
 
+-- the items of a list with one more
 get_old : (xs : List ℕ) (n k size : ℕ) → slice_get xs n ≡ Some k → slice_get (xs ++ size ∷ []) n ≡ Some k
 get_old [] n k size e = absurd (cc)
 get_old (x ∷ xs) zero k size e = e
@@ -82,6 +83,7 @@ count_other lengths t u size other = ap length (lengths_other lengths t u size o
 
 -- Frames that stay
 
+-- the frame at its address stays
 pub entry_frame_stays : (old new : Sending) (e : StampedEntry) → new.epoch ≡ old.epoch → new.threads ≡ old.threads
     → frame_at new.frames (entry_address old e.thread e.number) ≡ frame_at old.frames (entry_address old e.thread e.number) → HasEntryFrame old e → HasEntryFrame new e
 entry_frame_stays old new e epoch threads same h = record {
