@@ -1,7 +1,7 @@
 -- What taking note of a master's move does to the parts of a system.
-use Rattle.std.specs.Prelude.{◌≡◌, ℕ, ◌+◌, List, [], ◌∷◌, ◌++◌, length, Option, Some, None, Result, Ok, Err}
-use Rattle.plain_text.specs.declared.limit.Limit.{Limit}
-use Rattle.plain_machine.specs.declared.plain_move.PlainMove.{PlainMove}
+use Rattle.std.specs.Prelude.{◌≡◌, ℕ, ◌+◌, ◌<◌, [], ◌∷◌, ◌++◌, length, Option, Some, None, Result, Ok, Err}
+use Rattle.access_log.specs.declared.entry.StampedEntry.{StampedEntry}
+use Rattle.access_log.specs.declared.entry.Output.{Output}
 use Rattle.master_core.specs.declared.step.Stepped.{Stepped}
 use Rattle.master_core.specs.declared.step.Stepped.TheVariants as stepped
 use Rattle.wire_frames.specs.Writing.{CanPutEntry, CanPutOutput}
@@ -46,6 +46,13 @@ NotesAs t answer bytes to Sends old (Err stop.NoMemory) new = KeepsReleased old 
 abbrev pub SendsNothing : Sending → Sending → Type 0
 SendsNothing old new = new ≡ old
 
+-- the entry, or the output, was sent as the next one of its thread, which is one of those there
+abbrev pub AddsEntry : StampedEntry → Sending → Sending → Type 0
+AddsEntry e old new = (e.thread < length old.entries) × SendsEntry old new e
+
+abbrev pub AddsOutput : Output → Sending → Sending → Type 0
+AddsOutput o old new = (o.thread < length old.outputs) × SendsOutput old new o
+
 -- The master made no move, with this outcome.
 abbrev pub NotesNone : {P V : Type 0} → Outcome → Parts P V → Result Outcome Stop → Parts P V → Type 0
 NotesNone to old r new = (r ≡ Ok to) × (new ≡ old)
@@ -53,8 +60,8 @@ NotesNone to old r new = (r ≡ Ok to) × (new ≡ old)
 -- what is noted of a master's answer
 abbrev pub Notes : {P V : Type 0} → ℕ → Option ℕ → Stepped → Parts P V → Result Outcome Stop → Parts P V → Type 0
 Notes t answer (stepped.Took k) old r new = NotesAs t answer 0 (outcome.Take k) SendsNothing old r new
-Notes t answer (stepped.Did e) old r new = NotesAs t answer 0 (entry_outcome e.number e.what) (λ before after. SendsEntry before after e) old r new
-Notes t answer (stepped.Emitted o) old r new = NotesAs t answer (length o.packet.bytes) (outcome.Emitted o.number) (λ before after. SendsOutput before after o) old r new
+Notes t answer (stepped.Did e) old r new = NotesAs t answer 0 (entry_outcome e.number e.what) (AddsEntry e) old r new
+Notes t answer (stepped.Emitted o) old r new = NotesAs t answer (length o.packet.bytes) (outcome.Emitted o.number) (AddsOutput o) old r new
 Notes t answer (stepped.Ended k) old r new = NotesAs t answer 0 (outcome.Ended k) SendsNothing old r new
 Notes t answer stepped.Idle old r new = NotesNone outcome.Idle old r new
 Notes t answer (stepped.NotTurn u n) old r new = NotesNone (outcome.Waits u n) old r new

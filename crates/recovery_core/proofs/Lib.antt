@@ -1,0 +1,5 @@
+pub mod HandLemmas
+pub mod NoteLemmas
+pub mod SentLemmas
+pub mod MoveLemmas
+pub mod StepLemmas
