@@ -1,0 +1,2 @@
+pub mod SettlingMoves
+pub mod SettlingRounds
