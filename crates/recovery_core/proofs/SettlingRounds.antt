@@ -1,6 +1,7 @@
 -- Threads that step until they are idle, round after round, and packets that are fed between.
-use Rattle.std.proofs.Common.{◌≡◌, ℕ, suc, zero, ◌+◌, ◌-◌, ◌≤◌, ◌<◌, Bool, true, false, List, [], ◌∷◌, ◌++◌, length, drop, refl, sym, ap, ◌∙◌, subst, inl, inr, ◌⊎◌, Option, Some, None, arith, nat_lt, length-drop}
-use Rattle.std.specs.Prelude.{Result, Ok, Err, ◌&&◌, if◌then◌else◌}
+use Rattle.std.proofs.Common.{◌≡◌, ℕ, suc, zero, ◌+◌, ◌-◌, ◌≤◌, ◌<◌, Bool, true, false, List, [], ◌∷◌, ◌++◌, length, drop, refl, sym, ap, ◌∙◌, subst, inl, inr, ◌⊎◌, Option, Some, None, arith, nat_lt, length-drop, min}
+use Rattle.std.specs.Prelude.{Result, Ok, Err, ◌&&◌, ◌==◌, if◌then◌else◌}
+use Rattle.std.proofs.lemmas.Bool.Decides.{nat_tests}
 use Rattle.std.proofs.lemmas.Grind.{common_steps}
 use Rattle.plain_text.specs.declared.limit.Limit.{Limit}
 use Rattle.plain_text.specs.declared.limit.Limit.TheVariants as limit_is
@@ -20,7 +21,7 @@ use Rattle.recovery_world.specs.World.{Setting, Sent, World}
 use Rattle.recovery_world.specs.Events.{On, OnStep, WaitsFor, entry_outcome, move_outcome}
 use Rattle.recovery_world.specs.Turns.{Awaits, IsAwaited}
 use Rattle.recovery_world.specs.Limits.{limit_passed, IsWithin, OnWithin, Passes}
-use Rattle.recovery_world.specs.Many.{StepsOut, IsIdle, Halts, Steps, Round, NoThread, Thread, HaltsBefore, HaltsThere, Rounds, Rests, HaltsIn, Feeds, Empties, HaltsOn, More}
+use Rattle.recovery_world.specs.Many.{StepsOut, IsIdle, Waits, Halts, Steps, Round, NoThread, Thread, HaltsBefore, HaltsThere, Rounds, Rests, HaltsIn, Again, Feeds, Empties, HaltsOn, More}
 use Rattle.recovery_core.specs.Parts.{Parts}
 use Rattle.recovery_core.specs.Standing.{IsFirst, StandsFor, StandsForSome}
 use Rattle.recovery_core.specs.Performing.{MovesOn, StopsAt, ComesTo, WouldPass}
@@ -143,6 +144,9 @@ moves_fall m t to old new low busy some a =
 abbrev pub RoundFirst : {V : Type 0} → ℕ → Bool → Setting V → World V → World V → Type 0
 RoundFirst n idle s w next = Round s w n (Ok idle) next
 
+pub round_none : {V : Type 0} (s : Setting V) (w : World V) → RoundFirst 0 true s w w
+round_none s w = NoThread
+
 pub round_more : {V : Type 0} (s : Setting V) (t : ℕ) (before own idle : Bool) (w here next : World V) → idle ≡ (before && own) → RoundFirst t before s w here → StepsTo t own s here next → RoundFirst (t + 1) idle s w next
 round_more {V} s t before own idle w here next is a b =
     subst (λ (i : ℕ). Round s w i (Ok idle) next) (sym (more t)) (Thread before own idle a b is)
@@ -168,22 +172,92 @@ round_halts {V} s t before limit w here next low a b =
     there : (i n : ℕ) → i < n → suc i + (n - suc i) ≡ n
     there i n low = omega arith
 
+pub round_whole : {V : Type 0} (s : Setting V) (n : ℕ) (idle : Bool) (w next : World V) → n ≡ s.threads → RoundFirst n idle s w next → GoesRound idle s w next
+round_whole {V} s n idle w next is a = subst (λ (i : ℕ). Round s w i (Ok idle) next) is a
+
+pub both_idle : (before own idle : Bool) → idle ≡ (before && own) → before ≡ true → own ≡ true → idle ≡ true
+both_idle before own idle is a b = is ∙ (ap (λ (x : Bool). x && own) a ∙ b)
+
+pub rounds_rest : {V : Type 0} (s : Setting V) (idle : Bool) (w next : World V) → idle ≡ true → GoesRound idle s w next → GoesRounds s w next
+rounds_rest {V} s idle w next is a = Rests (subst (λ (b : Bool). Round s w s.threads (Ok b) next) is a)
+
+-- What was fed stays as it is, whichever moves the threads make
+
+step_fed : {V : Type 0} (s : Setting V) (w : World V) (t : ℕ) (given : Option ℕ) (to : Outcome) (new : World V) → OnStep s w t given to new → new.fed ≡ w.fed
+step_fed {V} s w t given to new (inl k) = ap (λ (z : World V). z.fed) k.2
+step_fed {V} s w t given to new (inr (inl k)) = ap (λ (z : World V). z.fed) k.3
+step_fed {V} s w t given to new (inr (inr (inl k))) = ap (λ (z : World V). z.fed) k.4
+step_fed {V} s w t given to new (inr (inr (inr (inl k)))) = ap (λ (z : World V). z.fed) k.3
+step_fed {V} s w t given to new (inr (inr (inr (inr k)))) = ap (λ (z : World V). z.fed) k.2.new_is
+
+steps_fed : {V : Type 0} (s : Setting V) (t : ℕ) (w new : World V) (end : Result Bool Limit) → StepsOut s t w end new → new.fed ≡ w.fed
+steps_fed s t w new end (IsIdle here on) = refl
+steps_fed s t w new end (Waits here u n on) = refl
+steps_fed s t w new end (Halts here limit passes) = refl
+steps_fed s t w new end (Steps {mid = mid} to on busy free rest) = steps_fed s t mid new end rest ∙ step_fed s w t None to mid on.0.0
+
+round_fed : {V : Type 0} (s : Setting V) (w : World V) (n : ℕ) (new : World V) (end : Result Bool Limit) → Round s w n end new → new.fed ≡ w.fed
+round_fed s w n new end NoThread = refl
+round_fed s w n new end (Thread {t = t} {mid = mid} before own idle first rest is) = steps_fed s t mid new (Ok own) rest ∙ round_fed s w t mid (Ok before) first
+round_fed s w n new end (HaltsBefore {t = t} limit first) = round_fed s w t new (Err limit) first
+round_fed s w n new end (HaltsThere {t = t} {mid = mid} before limit first rest) = steps_fed s t mid new (Err limit) rest ∙ round_fed s w t mid (Ok before) first
+
+rounds_fed : {V : Type 0} (s : Setting V) (w new : World V) (end : Option Limit) → Rounds s w end new → new.fed ≡ w.fed
+rounds_fed s w new end (Rests first) = round_fed s w s.threads new (Ok true) first
+rounds_fed s w new end (HaltsIn limit first) = round_fed s w s.threads new (Err limit) first
+rounds_fed s w new end (Again {mid = mid} first rest) = rounds_fed s mid new end rest ∙ round_fed s w s.threads mid (Ok false) first
+
 -- Feeding
 
 -- rounds and packets fed led from the one world to the other
 abbrev pub FeedsFirst : {V : Type 0} → Setting V → World V → World V → Type 0
 FeedsFirst {V} s w next = (end : Option Limit) (new : World V) → Feeds s next end new → Feeds s w end new
 
+-- and then rounds
+abbrev pub FeedsRounds : {V : Type 0} → Setting V → World V → World V → Type 0
+FeedsRounds {V} s w next = (mid : World V) × FeedsFirst s w mid × GoesRounds s mid next
+
+-- none is left, or some are, as a test says
+pub none_left : (b : Bool) (count items all : ℕ) → b ≡ (count == 0) → b ≡ true → count ≡ items → items ≡ all → all ≡ 0
+none_left b count items all test is a r = let none = none_of b count test is in omega (arith, none, a, r)
+  where
+    none_of : (c : Bool) (n : ℕ) → c ≡ (n == 0) → c ≡ true → n ≡ 0
+    none_of c n h k = grind (arith, nat_tests)
+
+pub some_left : (b : Bool) (count items all : ℕ) → b ≡ (count == 0) → b ≡ false → count ≡ items → items ≡ all → 0 < all
+some_left b count items all test is a r = let some = some_of b count test is in omega (arith, some, a, r)
+  where
+    some_of : (c : Bool) (n : ℕ) → c ≡ (n == 0) → c ≡ false → 0 < n
+    some_of c n h k = grind (arith, nat_tests)
+
 -- what is left of the capture
-pub left_over : {P V : Type 0} (m : Meaning V) (s : Setting V) (w : World V) (y : Parts P V) → StandsFor m s w y → length y.left ≡ length s.packets - w.fed
+left_over : {P V : Type 0} (m : Meaning V) (s : Setting V) (w : World V) (y : Parts P V) → StandsFor m s w y → length y.left ≡ length s.packets - w.fed
 left_over m s w y st = ap length st.inputs.left ∙ length-drop w.fed s.packets
 
-pub left_falls : {P V : Type 0} (m : Meaning V) (to : Outcome) (old new : Parts P V) → 0 < length old.left → StandsForSome m old → MovesOn m (ComesTo (event.Feed 1) to) old new → length new.left < length old.left
-left_falls m to old new left some a =
+pub feeds_empty : {P V : Type 0} (m : Meaning V) (s : Setting V) (w next : World V) (y : Parts P V) → length y.left ≡ 0 → StandsFor m s next y → FeedsRounds s w next → FeedsAll s w next
+feeds_empty m s w next y none st a =
+    let over = left_over m s next y st in
+    let all : length s.packets ≤ next.fed = omega (arith, over, none) in
+    a.1 None next (Empties a.2 all)
+
+pub feeds_halt : {V : Type 0} (s : Setting V) (limit : Limit) (w here next : World V) → FeedsFirst s w here → HaltsInRounds limit s here next → HaltsFeeding limit s w next
+feeds_halt s limit w here next a b = a (Some limit) next (HaltsOn limit b)
+
+pub feeds_more : {P V : Type 0} (m : Meaning V) (s : Setting V) (to : Outcome) (w here next : World V) (y : Parts P V) → 0 < length y.left → StandsFor m s here y → FeedsRounds s w here → ComesTo (event.Feed 1) to s here next → FeedsFirst s w next
+feeds_more m s to w here next y some st a on =
+    let over = left_over m s here y st in
+    let low : here.fed < length s.packets = omega (arith, over, some) in
+    λ end new rest. a.1 end new (More to a.2 low on rest)
+
+-- fewer are left
+pub left_falls : {P V : Type 0} (m : Meaning V) (to : Outcome) (old mid new : Parts P V) → 0 < length mid.left → StandsForSome m old → MovesOn m GoesRounds old mid → MovesOn m (ComesTo (event.Feed 1) to) mid new → length new.left < length old.left
+left_falls m to old mid new left some a b =
     let s = some.0 in
     let w = some.1 in
     let k = a.2 s w some.2 in
-    let before = left_over m s w old some.2 in
-    let after = left_over m s k.0 new k.2 in
-    let fed = ap (λ z. z.fed) k.1.0.2 in
-    omega (arith, before, after, fed, left)
+    let l = b.2 s k.0 k.2 in
+    falls (length s.packets) w.fed k.0.fed l.0.fed (length old.left) (length mid.left) (length new.left) (left_over m s w old some.2) (left_over m s k.0 mid k.2) (left_over m s l.0 new l.2)
+    (rounds_fed s w k.0 None k.1) (ap (λ z. z.fed) l.1.0.2) left
+  where
+    falls : (all a b c x y z : ℕ) → x ≡ all - a → y ≡ all - b → z ≡ all - c → b ≡ a → c ≡ min (b + 1) all → 0 < y → z < x
+    falls all a b c x y z i j k l m n = omega (arith, i, j, k, l, m, n)
