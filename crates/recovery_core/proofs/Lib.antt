@@ -1,2 +1,3 @@
 pub mod SettlingMoves
 pub mod SettlingRounds
+pub mod SettlingArrivals
