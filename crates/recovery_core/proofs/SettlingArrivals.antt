@@ -1,20 +1,29 @@
 -- Entries and outputs that arrive one after another, and a settling made of its parts.
 use Rattle.std.proofs.Common.{◌≡◌, ℕ, suc, zero, ◌+◌, ◌-◌, ◌≤◌, ◌<◌, List, [], ◌∷◌, ◌++◌, length, refl, sym, ap, ◌∙◌, subst, inl, inr, ◌⊎◌, Option, Some, None, arith}
+use Rattle.std.specs.Prelude.{HoldsAt}
 use Rattle.plain_text.specs.declared.limit.Limit.{Limit}
 use Rattle.plain_text.specs.declared.kind.Kind.{Kind}
 use Rattle.plain_text.specs.declared.kind.Kind.TheVariants as kind
-use Rattle.plain_machine.specs.History.{Step}
+use Rattle.entry_order.specs.Log.{entries}
+use Rattle.plain_machine.specs.Program.{Meaning}
+use Rattle.plain_machine.specs.History.{Step, log_of, sent_of, outputs}
+use Rattle.master_core.specs.declared.parts.Counts.{Counts}
+use Rattle.master_core.specs.declared.parts.ThreadPart.{ThreadPart}
 use Rattle.recovery_world.specs.declared.event.Event.{Event}
 use Rattle.recovery_world.specs.declared.event.Event.TheVariants as event
 use Rattle.recovery_world.specs.declared.event.Outcome.{Outcome}
+use Rattle.recovery_world.specs.declared.event.Outcome.TheVariants as outcome
 use Rattle.recovery_world.specs.World.{Setting, Sent, World}
 use Rattle.recovery_world.specs.Events.{On, OnLog, OnOut, OfThread}
+use Rattle.recovery_world.specs.Files.{sent_names}
 use Rattle.recovery_world.specs.Limits.{OnWithin}
-use Rattle.recovery_world.specs.Many.{Does, Stays, Goes, numbers_of, threads_of}
+use Rattle.recovery_world.specs.Many.{Does, Stays, Goes, numbers_of, threads_of, Settles, SettlesNot, Settling, SettlingStops, summary_of}
 use Rattle.recovery_core.specs.declared.reply.Reply.{Reply}
 use Rattle.recovery_core.specs.Arriving.{arrival_of}
-use Rattle.recovery_core.specs.Performing.{Replies}
-use Rattle.recovery_core.specs.Settling.{ArriveEach, ArriveAll, count_in}
+use Rattle.recovery_core.specs.Parts.{Parts}
+use Rattle.recovery_core.specs.Standing.{StandsFor, HasReleased}
+use Rattle.recovery_core.specs.Performing.{Replies, SettlesTo, IsStopped}
+use Rattle.recovery_core.specs.Settling.{FeedsAll, HaltsFeeding, ArriveEach, ArriveAll, count_in}
 use Rattle.recovery_core.proofs.SettlingMoves.{Relation}
 
 -- What arrives leaves the past
@@ -87,3 +96,64 @@ first_whole {V} k n s w next is a = record {
   does = subst (λ (i : ℕ). Does s w (threads_of (arrival_of k) (count_in k w.past) i) next) is a.does;
   past = a.past;
 }
+
+-- The master's counts of a thread are those of the past
+
+any_part : ThreadPart
+any_part = record { counts = record { taken = 0; entries = 0; outputs = 0 }; hand = None; stamp = [] }
+
+counts_of_past : {P V : Type 0} (m : Meaning V) (s : Setting V) (w : World V) (y : Parts P V) (t : ℕ) (counts : Counts) → StandsFor m s w y → t < s.threads → HoldsAt (λ part. counts ≡ part.counts) y.master.threads t
+    → (counts.entries ≡ entries t (log_of w.past)) × (counts.outputs ≡ outputs t (sent_of w.past))
+counts_of_past m s w y t counts st low holds =
+    let part = st.master.stands.thread t any_part low in
+    let is = holds any_part in
+    (ap (λ (c : Counts). c.entries) is ∙ part.logged, ap (λ (c : Counts). c.outputs) is ∙ part.outputs)
+
+pub count_of_log : {P V : Type 0} (m : Meaning V) (s : Setting V) (w : World V) (y : Parts P V) (k : Kind) (t count : ℕ) (counts : Counts) → k ≡ kind.Log → count ≡ counts.entries → StandsFor m s w y → t < s.threads → HoldsAt (λ part. counts ≡ part.counts) y.master.threads t
+    → count ≡ count_in k w.past t
+count_of_log m s w y k t count counts which is st low holds = (is ∙ (counts_of_past m s w y t counts st low holds).0) ∙ ap (λ (x : Kind). count_in x w.past t) (sym which)
+
+pub count_of_out : {P V : Type 0} (m : Meaning V) (s : Setting V) (w : World V) (y : Parts P V) (k : Kind) (t count : ℕ) (counts : Counts) → k ≡ kind.Out → count ≡ counts.outputs → StandsFor m s w y → t < s.threads → HoldsAt (λ part. counts ≡ part.counts) y.master.threads t
+    → count ≡ count_in k w.past t
+count_of_out m s w y k t count counts which is st low holds = (is ∙ (counts_of_past m s w y t counts st low holds).1) ∙ ap (λ (x : Kind). count_in x w.past t) (sym which)
+
+-- Settling
+
+-- the threads went to the end of the capture, and then all entries arrived
+abbrev pub FeedsLogs : {V : Type 0} → Setting V → World V → World V → Type 0
+FeedsLogs {V} s w next = (ran : World V) × FeedsAll s w ran × ArriveAll kind.Log s ran next
+
+names_length : (l : List Sent) → length (sent_names l) ≡ length l
+names_length [] = refl
+names_length (o ∷ l) = ap suc (names_length l)
+
+how_many : {P V : Type 0} (w : World V) (y : Parts P V) → HasReleased w y → length y.released ≡ length w.released
+how_many w y h = ap length h.names ∙ names_length w.released
+
+pub settles_to : {P V : Type 0} (m : Meaning V) (s : Setting V) (w here next : World V) (old new : Parts P V) (moves released epoch : ℕ) → StandsFor m s w old → StandsFor m s next new
+    → moves ≡ new.moves - old.moves → released ≡ length new.released - length old.released → epoch ≡ new.logger.epoch → FeedsLogs s w here → ArriveAll kind.Out s here next → SettlesTo (outcome.Summary moves released epoch) s w next
+settles_to {P} {V} m s w here next old new moves released epoch st sn a b d logs outs =
+    Settling (outcome.Summary moves released epoch) next (record {
+      up = w;
+      wakes = inl (st.first.up, refl);
+      ran = logs.0;
+      runs = logs.1;
+      logged = here;
+      logs = logs.2.does;
+      outs = subst (λ (p : List (Step V)). Does s here (threads_of (arrival_of kind.Out) (count_in kind.Out p) s.threads) next) logs.2.past outs.does;
+    }) sums
+  where
+    moves_are : moves ≡ next.moves - w.moves
+    moves_are = let x = st.master.moves in let y = sn.master.moves in cc
+
+    released_are : released ≡ length next.released - length w.released
+    released_are = let x = how_many w old st.released in let y = how_many next new sn.released in cc
+
+    epoch_is : epoch ≡ next.epoch
+    epoch_is = d ∙ sn.logger.epoch
+
+    sums : outcome.Summary moves released epoch ≡ summary_of w next
+    sums = let x = moves_are in let y = released_are in let z = epoch_is in cc
+
+pub settle_stops : {P V : Type 0} (m : Meaning V) (s : Setting V) (w next : World V) (old : Parts P V) (limit : Limit) → StandsFor m s w old → HaltsFeeding limit s w next → IsStopped event.Settle limit s w next
+settle_stops m s w next old limit st a = SettlingStops limit next (record { up = w; wakes = inl (st.first.up, refl); runs = a })
