@@ -1,4 +1,4 @@
-use Rattle.std.proofs.Common.{◌≡◌, ◌+◌, ◌<◌, sym, ◌∙◌, ap, subst, refl, length, arith}
+use Rattle.std.proofs.Common.{◌≡◌, ◌+◌, ◌<◌, ◌∙◌, ap, subst, arith}
 use Rattle.std.specs.Prelude.{HoldsAt}
 use Rattle.recovery_core.specs.Settling.{ArriveEach, ArriveAll, count_in}
 use Rattle.recovery_core.proofs.SettlingMoves.{moves_as, moves_none, moves_then, stands_then, threads_stay, threads_of_setting, fresh_none, fresh_then}
@@ -41,9 +41,10 @@ threads-preserved g c =
           (λ s w here next st sh sn a b.
           let low : c.threads.thread < s.threads = subst (λ n. c.threads.thread < n) (c.threads.invariant.end ∙ threads_of_setting _ s w c.args.core.now st) c.threads-test.true in
           let count : c.match-kind.count ≡ count_in c.args.kind here.past c.threads.thread =
-              elim c.match-kind.branch [
-              | in-Log w ↦ count_of_log _ s here c.threads.core c.args.kind c.threads.thread c.match-kind.count c.counts-counts.result w.in-Log.is w.count-is sh low holds
-              | in-Out w ↦ count_of_out _ s here c.threads.core c.args.kind c.threads.thread c.match-kind.count c.counts-counts.result w.in-Out.is w.count-is sh low holds ] in
+          elim c.match-kind.branch [
+            | in-Log w ↦ count_of_log _ s here c.threads.core c.args.kind c.threads.thread c.match-kind.count c.counts-counts.result w.in-Log.is w.count-is sh low holds
+            | in-Out w ↦ count_of_out _ s here c.threads.core c.args.kind c.threads.thread c.match-kind.count c.counts-counts.result w.in-Out.is w.count-is sh low holds
+          ] in
           first_more c.args.kind c.threads.thread c.match-kind.count s w here next count a b)
           c.threads.invariant.moved c.in_ok-arrive_each.ensures.on;
       fresh = fresh_then c.args.core.now c.threads.core c.arrive_each.new.core c.threads.invariant.fresh c.arrive_each.ensures.fresh;

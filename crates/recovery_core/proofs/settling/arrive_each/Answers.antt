@@ -1,4 +1,4 @@
-use Rattle.std.proofs.Common.{◌≡◌, ◌+◌, sym, ◌∙◌, ap, refl, arith}
+use Rattle.std.proofs.Common.{◌≡◌, ◌+◌, ◌∙◌, ap, arith}
 use Rattle.recovery_core.specs.Arriving.{arrival_of}
 use Rattle.recovery_core.specs.Performing.{Replies}
 use Rattle.recovery_core.specs.Settling.{ArriveEach}

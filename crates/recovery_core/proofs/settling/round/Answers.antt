@@ -1,4 +1,4 @@
-use Rattle.std.proofs.Common.{◌≡◌, ◌+◌, ◌≤◌, ◌<◌, sym, ◌∙◌, ap, subst, refl, true, Bool, arith}
+use Rattle.std.proofs.Common.{◌≡◌, ◌+◌, ◌<◌, sym, ◌∙◌, ap, subst, refl, true, Bool, arith}
 use Rattle.std.specs.Prelude.{◌&&◌}
 use Rattle.std.proofs.lemmas.Result.{err_from_is_err_and}
 use Rattle.recovery_core.specs.declared.reply.Stop.TheVariants as stop
@@ -46,9 +46,10 @@ returns-in_err-idle-clause-handed g c = c.step_out.ensures.handed ∙ c.threads.
 pub threads-preserved : goal.threads-preserved
 threads-preserved g c =
     let both : c.if-all_idle.all_idle ≡ (c.threads.all_idle && c.in_ok-idle.idle) =
-        elim c.if-all_idle.branch [
-        | then-all_idle w ↦ w.all_idle-is ∙ ap (λ (b : Bool). b && c.in_ok-idle.idle) (sym w.if-all_idle.true)
-        | else-all_idle w ↦ w.all_idle-is ∙ (w.if-all_idle.false ∙ ap (λ (b : Bool). b && c.in_ok-idle.idle) (sym w.if-all_idle.false)) ] in
+    elim c.if-all_idle.branch [
+      | then-all_idle w ↦ w.all_idle-is ∙ ap (λ (b : Bool). b && c.in_ok-idle.idle) (sym w.if-all_idle.true)
+      | else-all_idle w ↦ w.all_idle-is ∙ (w.if-all_idle.false ∙ ap (λ (b : Bool). b && c.in_ok-idle.idle) (sym w.if-all_idle.false))
+    ] in
     record {
       moved =
           moves_then _ _ (RoundFirst c.threads.thread c.threads.all_idle) (StepsTo c.threads.thread c.in_ok-idle.idle) (RoundFirst (c.threads.thread + 1) c.if-all_idle.all_idle) c.args.core.now c.threads.core c.step_out.new.core (ap g.P.Program.meaning c.threads.invariant.moved.0)

@@ -4,7 +4,7 @@ use Rattle.std.proofs.lemmas.List.{length-reverse}
 use Rattle.std.proofs.lemmas.Result.{err_from_is_err_and}
 use Rattle.recovery_world.specs.declared.event.Event.TheVariants as event
 use Rattle.recovery_core.specs.declared.reply.Stop.TheVariants as stop
-use Rattle.recovery_core.specs.Performing.{MovesOn, StopsAt, ComesTo}
+use Rattle.recovery_core.specs.Performing.{MovesOn, ComesTo}
 use Rattle.recovery_core.specs.Settling.{GoesRounds, HaltsInRounds, FeedsAll, HaltsFeeding}
 use Rattle.recovery_core.proofs.SettlingMoves.{moves_none, moves_as, moves_then, stops_then, stands_then, exits_as}
 use Rattle.recovery_core.proofs.SettlingRounds.{FeedsFirst, FeedsRounds, feeds_empty, feeds_halt, feeds_more, left_falls, none_left, some_left}
@@ -38,8 +38,8 @@ returns-then-is_empty-clause-on g c =
     let items = ap (λ y. length y.left) c.core.view_is in
     let none : length c.rounds.new.core.left ≡ 0 = none_left c.is_empty.result (vec_len c.core.inside.left) _ _ c.is_empty.ensures c.if-is_empty.true (c.core.inside.left.ok.0 ∙ sym (length-reverse c.core.inside.left.items)) items in
     let rounded =
-        moves_then _ _ FeedsFirst GoesRounds FeedsRounds c.args.core.now c.feeds.core c.rounds.new.core (ap g.P.Program.meaning c.feeds.invariant.moved.0)
-        (λ s w here next st sh sn a b. (here, a, b)) c.feeds.invariant.moved c.in_ok-rounds.ensures.on in
+    moves_then _ _ FeedsFirst GoesRounds FeedsRounds c.args.core.now c.feeds.core c.rounds.new.core (ap g.P.Program.meaning c.feeds.invariant.moved.0)
+    (λ s w here next st sh sn a b. (here, a, b)) c.feeds.invariant.moved c.in_ok-rounds.ensures.on in
     moves_as _ FeedsRounds FeedsAll c.args.core.now c.rounds.new.core (λ s w next st sn a. feeds_empty _ s w next c.rounds.new.core none sn a) rounded
 
 pub returns-then-is_empty-clause-fresh : goal.returns-then-is_empty-clause-fresh
@@ -67,8 +67,8 @@ feeds-preserved-in_ok-feed g c =
     let items = ap (λ y. length y.left) c.core.view_is in
     let some : 0 < length c.rounds.new.core.left = some_left c.is_empty.result (vec_len c.core.inside.left) _ _ c.is_empty.ensures c.if-is_empty.false (c.core.inside.left.ok.0 ∙ sym (length-reverse c.core.inside.left.items)) items in
     let rounded =
-        moves_then _ _ FeedsFirst GoesRounds FeedsRounds c.args.core.now c.feeds.core c.rounds.new.core (ap g.P.Program.meaning c.feeds.invariant.moved.0)
-        (λ s w here next st sh sn a b. (here, a, b)) c.feeds.invariant.moved c.in_ok-rounds.ensures.on in
+    moves_then _ _ FeedsFirst GoesRounds FeedsRounds c.args.core.now c.feeds.core c.rounds.new.core (ap g.P.Program.meaning c.feeds.invariant.moved.0)
+    (λ s w here next st sh sn a b. (here, a, b)) c.feeds.invariant.moved c.in_ok-rounds.ensures.on in
     record {
       moved =
           moves_then _ _ FeedsRounds (ComesTo (event.Feed 1) c.in_ok-feed.field-0) FeedsFirst c.args.core.now c.rounds.new.core c.feed.new.core (ap g.P.Program.meaning rounded.0)
@@ -89,8 +89,8 @@ feeds-preserved g c =
     let items = ap (λ y. length y.left) c.core.view_is in
     let some : 0 < length c.rounds.new.core.left = some_left c.is_empty.result (vec_len c.core.inside.left) _ _ c.is_empty.ensures c.if-is_empty.false (c.core.inside.left.ok.0 ∙ sym (length-reverse c.core.inside.left.items)) items in
     let rounded =
-        moves_then _ _ FeedsFirst GoesRounds FeedsRounds c.args.core.now c.feeds.core c.rounds.new.core (ap g.P.Program.meaning c.feeds.invariant.moved.0)
-        (λ s w here next st sh sn a b. (here, a, b)) c.feeds.invariant.moved c.in_ok-rounds.ensures.on in
+    moves_then _ _ FeedsFirst GoesRounds FeedsRounds c.args.core.now c.feeds.core c.rounds.new.core (ap g.P.Program.meaning c.feeds.invariant.moved.0)
+    (λ s w here next st sh sn a b. (here, a, b)) c.feeds.invariant.moved c.in_ok-rounds.ensures.on in
     record {
       moved =
           moves_then _ _ FeedsRounds (ComesTo (event.Feed 1) c.in_ok-feed.field-0) FeedsFirst c.args.core.now c.rounds.new.core c.feed.new.core (ap g.P.Program.meaning rounded.0)

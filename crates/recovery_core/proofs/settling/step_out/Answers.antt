@@ -1,9 +1,8 @@
-use Rattle.std.proofs.Common.{◌≡◌, ◌<◌, sym, ◌∙◌, ap, subst, refl, true}
+use Rattle.std.proofs.Common.{◌<◌, sym, ◌∙◌, ap, subst, refl, true}
 use Rattle.std.proofs.lemmas.Result.{err_from_is_err_and}
 use Rattle.recovery_world.specs.declared.event.Outcome.TheVariants as outcome
 use Rattle.recovery_core.specs.declared.reply.Stop.TheVariants as stop
 use Rattle.recovery_core.specs.Standing.{StandsForSome}
-use Rattle.recovery_core.specs.Performing.{MovesOn, ComesTo, WouldPass}
 use Rattle.recovery_core.specs.Settling.{StepsTo, HaltsStepping}
 use Rattle.recovery_core.proofs.SettlingMoves.{moves_none, moves_then, stops_then, stands_then, threads_stay, exits_as}
 use Rattle.recovery_core.proofs.SettlingRounds.{StepsFirst, step_as, halt_as, steps_rest, steps_more, steps_halt, no_wait, moves_fall}
@@ -45,9 +44,11 @@ returns-in-Idle-clause-fresh g c = c.step.ensures.fresh ∙ c.steps.invariant.fr
 pub returns-in-Idle-clause-handed : goal.returns-in-Idle-clause-handed
 returns-in-Idle-clause-handed g c = c.step.ensures.handed ∙ c.steps.invariant.moved.1
 
+-- it stands for some world before the step
 stands_now : (g : _) (c : goal.In-Waits g) → StandsForSome (g.P.Program.meaning c.steps.core.program) c.steps.core
 stands_now g c = stands_then _ _ (StepsFirst c.args.thread) c.args.core.now c.steps.core (ap g.P.Program.meaning c.steps.invariant.moved.0) c.steps.invariant.moved c.requires.stands
 
+-- so the thread does not wait
 no_wait_here : (g : _) (c : goal.In-Waits g) → ⊥
 no_wait_here g c =
     no_wait (g.P.Program.meaning c.steps.core.program) c.args.thread c.in-Waits.thread c.in-Waits.number c.steps.core c.step.new.core (stands_now g c)
