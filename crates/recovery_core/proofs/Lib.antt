@@ -3,3 +3,6 @@ pub mod NoteLemmas
 pub mod SentLemmas
 pub mod MoveLemmas
 pub mod StepLemmas
+pub mod SettlingMoves
+pub mod SettlingRounds
+pub mod SettlingArrivals

@@ -147,7 +147,15 @@ fn right_events<P: Program>(
         return Ok(0);
     };
     let mut world = opening(alloc, program);
-    same_replies(alloc, program, &setup, &mut world, &mut system, place, EVENTS)
+    same_replies(
+        alloc,
+        program,
+        &setup,
+        &mut world,
+        &mut system,
+        place,
+        EVENTS,
+    )
 }
 
 #[test]
@@ -155,7 +163,13 @@ fn random_events_of_the_counting_box(rt: HostRuntime) -> Result<(), Fail> {
     for i in 0..20u32 {
         let threads = i % 3 + 1;
         let place = u64::from(i) * EVENTS;
-        let right = right_events(rt.alloc(), &CountBox::new(), CountBox::new(), threads, place)?;
+        let right = right_events(
+            rt.alloc(),
+            &CountBox::new(),
+            CountBox::new(),
+            threads,
+            place,
+        )?;
         assert_eq!(rt; right, EVENTS);
     }
     Ok(())
@@ -177,7 +191,13 @@ fn random_events_of_the_monitor(rt: HostRuntime) -> Result<(), Fail> {
     for i in 40..60u32 {
         let threads = i % 3 + 1;
         let place = u64::from(i) * EVENTS;
-        let right = right_events(rt.alloc(), &MonitorBox::new(2), MonitorBox::new(2), threads, place)?;
+        let right = right_events(
+            rt.alloc(),
+            &MonitorBox::new(2),
+            MonitorBox::new(2),
+            threads,
+            place,
+        )?;
         assert_eq!(rt; right, EVENTS);
     }
     Ok(())

@@ -90,7 +90,12 @@ fn perform<P: Program>(
 }
 
 /// Appends a move.
-fn put_move(alloc: Global, text: &mut String, thread: u32, answer: Option<u64>) -> Result<(), NoMemory> {
+fn put_move(
+    alloc: Global,
+    text: &mut String,
+    thread: u32,
+    answer: Option<u64>,
+) -> Result<(), NoMemory> {
     match answer {
         None => text.push_str(format!(in alloc; " {thread}")?.as_str())?,
         Some(told) => text.push_str(format!(in alloc; " {thread}={told}")?.as_str())?,
@@ -121,7 +126,9 @@ pub fn report_of<P: Program>(
     }
     let end = system.finish()?;
     let (fed, epoch, released) = (end.fed, end.epoch, end.released);
-    report.push_str(format!(in alloc; "done fed {fed} epoch {epoch} released {released}\nmoves")?.as_str())?;
+    report.push_str(format!(in alloc;
+        "done fed {fed} epoch {epoch} released {released}\nmoves"
+    )?.as_str())?;
     for plain in end.schedule.as_slice() {
         put_move(alloc, &mut report, plain.thread, plain.answer)?;
     }

@@ -83,7 +83,13 @@ fn scripts_with_reads(rt: HostRuntime) -> Result<(), Fail> {
     for (script, report) in PEEKS {
         let alloc = rt.alloc();
         let frame = longer(alloc)?;
-        let made = report_of(alloc, PeekBox::new(), 2, &[&QUERY, frame.as_slice()], script)?;
+        let made = report_of(
+            alloc,
+            PeekBox::new(),
+            2,
+            &[&QUERY, frame.as_slice()],
+            script,
+        )?;
         assert_eq!(rt; made.as_str(), report);
     }
     Ok(())
