@@ -138,5 +138,7 @@ fn main(rt: HostRuntime) -> anyhow::Result<()> {
         _ => bail!("{which} is neither count nor monitor"),
     };
     let (events, released) = done.map_err(|stop| anyhow!("{stop:?}"))?;
-    println!(rt; "{which}, {how}: {events} events, {released} released").map_err(anyhow::Error::from)
+    println!(rt; "{which}, {how}: {events} events, {released} released").map_err(
+        anyhow::Error::from,
+    )
 }
