@@ -1,1 +1,4 @@
 pub mod FrameLemmas
+pub mod OutputLists
+pub mod OutputNumbers
+pub mod EntryArrivals
