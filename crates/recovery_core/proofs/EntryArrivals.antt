@@ -1,12 +1,15 @@
 -- An entry arrives at the output logger of a system: it stands for the world after it.
-use Rattle.std.proofs.Common.{◌≡◌, ℕ, ◌+◌, ◌<◌, ◌≤◌, ◌≢◌, List, [], ◌∷◌, ◌++◌, length, refl, sym, ap, ◌∙◌, subst, inl, inr, ◌⊎◌, Option, Some, None, arith}
+use Rattle.std.proofs.Common.{◌≡◌, ℕ, ◌+◌, ◌<◌, ◌≤◌, ◌≢◌, List, [], ◌∷◌, ◌++◌, length, refl, sym, ap, ◌∙◌, subst, inl, inr, ◌⊎◌, Option, Some, None, Result, Ok, arith}
+use Rattle.plain_text.specs.declared.memory.NoMemory.{NoMemory}
+use Rattle.output_logger.specs.declared.took.EntryTook.{EntryTook}
+use Rattle.output_logger.specs.declared.took.EntryTook.TheVariants as took_of
 use Rattle.std.proofs.lemmas.Bool.{cases_lt}
-use Rattle.std.specs.Prelude.{slice_index, ◌↔◌, HoldsAt}
+use Rattle.std.specs.Prelude.{slice_index, ◌↔◌, HoldsAt, drop}
 use Rattle.input_logger.specs.Inputs.{Fed}
 use Rattle.master_core.specs.declared.parts.Counts.{Counts}
 use Rattle.master_core.specs.declared.parts.ThreadPart.{ThreadPart}
 use Rattle.entry_order.proofs.ClosedParts.{Or, in_or}
-use Rattle.std.proofs.lemmas.List.{length-append}
+use Rattle.std.proofs.lemmas.List.{length-append, append-nil}
 use Rattle.plain_text.specs.declared.kind.Kind.TheVariants.{Log, Out}
 use Rattle.entry_order.specs.Log.{Entry, IsLog, IsIn, entries}
 use Rattle.entry_order.specs.Closed.{IsMissing}
@@ -31,7 +34,7 @@ use Rattle.master_core.specs.Stepping.{plain_entry, emission_of_output}
 use Rattle.master_core.proofs.Holdings.{one_more_holds, one_more_held}
 use Rattle.master_core.proofs.Frontiers.{frontier_of, within_frontiers, frontiers_within, frontiers_are_defined, known_is_there, there_is_known}
 use Rattle.master_core.proofs.Moments.{moment_log}
-use Rattle.output_logger.specs.Logger.{Logger, IsDue, ReleasesOnce, Parts as LoggerParts}
+use Rattle.output_logger.specs.Logger.{Logger, IsDue, ReleasesOnce, appended, Parts as LoggerParts}
 use Rattle.output_logger.proofs.KeptLemmas.{more_with_entry}
 use Rattle.recovery_world.specs.declared.event.Event.{Event}
 use Rattle.recovery_world.specs.declared.event.Event.TheVariants as event
@@ -46,9 +49,9 @@ use Rattle.recovery_laws.proofs.Sets.{parts_go, among_either}
 use Rattle.recovery_core.specs.declared.reply.Reply.{Reply}
 use Rattle.recovery_core.specs.Sending.{Sending, length_at, lengths_of, entry_address, output_address, HasEntryFrame, HasOutputFrame, ForgetsEntries}
 use Rattle.recovery_core.specs.Parts.{Parts}
-use Rattle.recovery_core.specs.Standing.{IsSentEntry, IsSentOutput, AreOutputs, StandsFor}
-use Rattle.recovery_core.specs.Performing.{Replies}
-use Rattle.recovery_core.specs.Arriving.{names_of}
+use Rattle.recovery_core.specs.Standing.{IsSentEntry, IsSentOutput, AreOutputs, StandsFor, StandsForSome}
+use Rattle.recovery_core.specs.Performing.{Replies, MovesOn}
+use Rattle.recovery_core.specs.Arriving.{names_of, NotesReleased}
 use Rattle.recovery_core.proofs.OutputLists.{parts_world, names_as, noted_more, packets_more, sent_names_both}
 
 -- Frames, where those of the first entries of a thread are forgotten
@@ -328,3 +331,52 @@ module _ {P V : Type 0} (m : Meaning V) (s : Setting V) (w : World V) (y : Parts
           emitted : (o : Sent) → IsAmong o w.released ⊎ IsAmong o r.0 → SendsAfter w.past o.emission o.after
           emitted o (inl i) = st.emitted o i
           emitted o (inr i) = st.sound.firm.sent o (parts_go (MayGo (record w { held = plain_entry x ∷ w.held })) w.waiting r.0 r.1 r.2 o i).0
+
+-- From the parts of a system as its code has them to those before and after a call.
+
+pub came : {P V : Type 0} (m : Meaning V) (view now known new : Parts P V) (ev : Event) (reply : Reply) → view ≡ now → known ≡ new → known.program ≡ view.program → known.handed ≡ view.handed
+    → ((s : Setting V) (w : World V) → StandsFor m s w view → (next : World V) × Replies ev reply s w next × StandsFor m s next known) → MovesOn m (Replies ev reply) now new
+came {P} {V} m view now known new ev reply same is program handed on = (
+  sym (ap (λ (q : Parts P V). q.program) is) ∙ program ∙ ap (λ (q : Parts P V). q.program) same,
+  sym (ap (λ (q : Parts P V). q.handed) is) ∙ handed ∙ ap (λ (q : Parts P V). q.handed) same,
+  λ s w st.
+  subst (λ (q : Parts P V). (next : World V) × Replies ev reply s w next × StandsFor m s next q) is (on s w (subst (λ (q : Parts P V). StandsFor m s w q) (sym same) st)),
+)
+
+-- nothing was appended
+pub adds_none : {P V : Type 0} (view now : Parts P V) (out : List Output) → view ≡ now → out ≡ view.fresh → (more : List Output) × (out ≡ now.fresh ++ more)
+adds_none {P} {V} view now out same is = ([], is ∙ ap (λ (q : Parts P V). q.fresh) same ∙ sym (append-nil now.fresh))
+
+-- what was appended is noted and listed
+pub noted_new : {P V : Type 0} (view now new : Parts P V) (links : Sending) (logger : Logger) (out : List Output) (before : ℕ) (list : List (ℕ × ℕ)) → view ≡ now → before ≡ length view.fresh → out ≡ view.fresh ++ appended view.fresh out
+    → NotesReleased before list (record view { sent = links; logger = logger; fresh = out }) new
+    → (list ≡ names_of (appended view.fresh out)) × (record view { sent = links; logger = logger; released = view.released ++ names_of (appended view.fresh out); fresh = view.fresh ++ appended view.fresh out } ≡ new)
+noted_new {P} {V} view now new links logger out before list at count appends noted = (names, same)
+  where
+    names : list ≡ names_of (appended view.fresh out)
+    names = noted.list_is ∙ ap (λ (k : ℕ). names_of (drop k out)) count
+
+    same : record view { sent = links; logger = logger; released = view.released ++ names_of (appended view.fresh out); fresh = view.fresh ++ appended view.fresh out } ≡ new
+    same =
+        ap (λ (l : List (ℕ × ℕ)). record view { sent = links; logger = logger; released = view.released ++ l; fresh = view.fresh ++ appended view.fresh out }) (sym names)
+        ∙ ap (λ (l : List Output). record view { sent = links; logger = logger; released = view.released ++ list; fresh = l }) (sym appends)
+        ∙ sym noted.new_is
+
+-- a system stands for the same worlds as its parts as its code has them
+pub at_view : {P V : Type 0} (m : Meaning V) (view now : Parts P V) → view ≡ now → StandsForSome m now → StandsForSome m view
+at_view {P} {V} m view now same st = subst (λ (q : Parts P V). StandsForSome m q) (sym same) st
+
+-- one answer is not the other
+pub not_known : (r : Result EntryTook NoMemory) → r ≡ Ok took_of.New → r ≡ Ok took_of.Known → ⊥
+not_known r a b = cc
+
+-- the entry was known, where it is not new and of the present epoch
+pub was_known : (r : Result EntryTook NoMemory) (took : EntryTook) (epoch present : ℕ) → r ≡ Ok took → (took ≡ took_of.Known) ⊎ (took ≡ took_of.OldEpoch) → epoch ≡ present → (r ≡ Ok took_of.OldEpoch → epoch < present)
+    → (r ≡ Ok took_of.Known) × (r ≢ Ok took_of.New)
+was_known r took epoch present is (inl known) same old = (is ∙ ap Ok known, λ new. let at = is ∙ ap Ok known in cc)
+was_known r took epoch present is (inr other) same old = let late = old (is ∙ ap Ok other) in absurd (omega (arith, late, same))
+
+-- nothing changed
+pub same_parts : {P V : Type 0} (view now : Parts P V) (logger : Logger) (out : List Output) → view ≡ now → logger ≡ view.logger → out ≡ view.fresh → view ≡ record view { logger = logger; fresh = out }
+same_parts {P} {V} view now logger out at a b =
+    ap (λ (l : Logger). record view { logger = l; fresh = view.fresh }) (sym a) ∙ ap (λ (l : List Output). record view { logger = logger; fresh = l }) (sym b)
