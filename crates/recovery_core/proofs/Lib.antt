@@ -2,3 +2,4 @@ pub mod FrameLemmas
 pub mod OutputLists
 pub mod OutputNumbers
 pub mod EntryArrivals
+pub mod OutputArrivals

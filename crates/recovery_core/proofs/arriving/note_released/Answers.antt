@@ -1,4 +1,3 @@
-use Rattle.recovery_core.proofs.EntryArrivals.{entry_still}
 use Rattle.recovery_core.proofs.OutputLists.{notes_them}
 use Rattle.recovery_core.proofs.arriving.note_released.Goals as goal
 
