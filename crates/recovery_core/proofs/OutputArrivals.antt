@@ -290,3 +290,25 @@ parts_still m may_have y now names out are held = record {
   moves = are.moves;
   bytes = are.bytes;
 }
+
+-- its thread and number are noted
+pub pushed_parts : {P V : Type 0} (view now : Parts P V) (logger : Logger) (out : List Output) (names : List (ℕ × ℕ)) (name : ℕ × ℕ) → view ≡ now → names ≡ view.released ++ name ∷ []
+    → record view { logger = logger; released = view.released ++ name ∷ []; fresh = out } ≡ record view { logger = logger; released = names; fresh = out }
+pushed_parts {P} {V} view now logger out names name at is = ap (λ (l : List (ℕ × ℕ)). record view { logger = logger; released = l; fresh = out }) (sym is)
+
+-- One answer is not another.
+
+pub not_again_released : (r : Result OutputTook NoMemory) → r ≡ Ok took_of.Release → r ≡ Ok took_of.Again → ⊥
+not_again_released r a b = cc
+
+pub not_again_waits : (r : Result OutputTook NoMemory) (u k : ℕ) → r ≡ Ok (took_of.Wait u k) → r ≡ Ok took_of.Again → ⊥
+not_again_waits r u k a b = cc
+
+pub waits_not_released : (r : Result OutputTook NoMemory) (u k : ℕ) → r ≡ Ok (took_of.Wait u k) → r ≢ Ok took_of.Release
+waits_not_released r u k a b = cc
+
+-- it arrived before, where it is of the present epoch
+pub was_again : (r : Result OutputTook NoMemory) (took : OutputTook) (epoch present : ℕ) → r ≡ Ok took → (took ≡ took_of.Again) ⊎ (took ≡ took_of.OldEpoch) → epoch ≡ present → (r ≡ Ok took_of.OldEpoch → epoch < present)
+    → (r ≡ Ok took_of.Again) × (r ≢ Ok took_of.Release) × ((u k : ℕ) → r ≢ Ok (took_of.Wait u k))
+was_again r took epoch present is (inl again) same old = (is ∙ ap Ok again, (λ new. let at = is ∙ ap Ok again in cc), λ u k new. let at = is ∙ ap Ok again in cc)
+was_again r took epoch present is (inr other) same old = let late = old (is ∙ ap Ok other) in absurd (omega (arith, late, same))
