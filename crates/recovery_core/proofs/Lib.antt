@@ -6,3 +6,8 @@ pub mod StepLemmas
 pub mod SettlingMoves
 pub mod SettlingRounds
 pub mod SettlingArrivals
+pub mod FrameLemmas
+pub mod OutputLists
+pub mod OutputNumbers
+pub mod EntryArrivals
+pub mod OutputArrivals

@@ -1,11 +1,12 @@
-ghost use Rattle.std.specs.Prelude.{◌≡◌, ◌<◌, ◌≤◌, [], IfOk, length};
+ghost use Rattle.std.specs.Prelude.{◌≡◌, ◌<◌, ◌≤◌, ◌++◌, [], IfOk, OnOk, length};
 ghost use Rattle.recovery_world.specs.declared.event.Event.TheVariants as event_is;
 ghost use Rattle.recovery_core.specs.Standing.{StandsForSome};
-ghost use Rattle.recovery_core.specs.Arriving.{NotesReleased, arrival_of};
+ghost use Rattle.recovery_core.specs.Arriving.{NotesReleased, arrival_of, names_of};
 ghost use Rattle.recovery_core.specs.Performing.{AddsFresh, MovesOn, Replies};
 
 use crate::core::Core;
 use crate::{Releases, Reply};
+use access_log::Output;
 use box_program::Program;
 use output_logger::{EntryTook, OutputTook};
 use plain_text::{Kind, NoMemory};
@@ -22,6 +23,16 @@ pub fn only(alloc: Global, outcome: Outcome) -> Reply
     }
 }
 
+/// Appends the thread and number of each of these outputs.
+fn add_names(outputs: &[Output], names: &mut Releases) -> Result<(), NoMemory>
+    ensures { OnOk result (names.new ≡ names.old ++ names_of outputs.now) }
+{
+    for output in outputs {
+        names.push((output.thread, output.number))?;
+    }
+    Ok(())
+}
+
 /// Takes note of the outputs that were released behind this number of those not handed over, and lists them.
 fn note_released<P: Program>(core: &mut Core<P>, before: usize) -> Result<Releases, NoMemory>
     requires { before ≤ length core.old.fresh }
@@ -30,10 +41,8 @@ fn note_released<P: Program>(core: &mut Core<P>, before: usize) -> Result<Releas
     ensures handed { core.new.handed ≡ core.old.handed }
 {
     let mut list = Releases::new(core.alloc);
-    for output in &core.fresh.as_slice()[before..] {
-        list.push((output.thread, output.number))?;
-        core.released.push((output.thread, output.number))?;
-    }
+    add_names(&core.fresh.as_slice()[before..], &mut list)?;
+    add_names(&core.fresh.as_slice()[before..], &mut core.released)?;
     Ok(list)
 }
 
