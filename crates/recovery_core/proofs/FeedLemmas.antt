@@ -1,6 +1,6 @@
 -- Feeding: the world with more packets fed, and another time, is that of the system with them.
 use Rattle.std.proofs.Common.{◌≡◌, ℕ, zero, suc, ◌+◌, ◌-◌, ◌<◌, ◌≤◌, min, max, true, false, List, [], ◌∷◌, ◌++◌, All, length, map, take, drop, reverse, refl, sym, ap, ◌∙◌, subst, arith, Some, None, Option, append_assoc, length-append, length-drop, length-take}
-use Rattle.std.proofs.lemmas.List.{reverse-append, drop-drop}
+use Rattle.std.proofs.lemmas.List.{reverse-append, append-nil, drop-drop}
 use Rattle.std.proofs.lemmas.List.Elements.{All-append, All-take, All-drop}
 use Rattle.std.proofs.Math.Seq.{take-add}
 use Rattle.plain_text.specs.declared.packet.Packet.{Packet}
@@ -14,7 +14,7 @@ use Rattle.recovery_world.specs.Events.{fed_after, after_feed}
 use Rattle.recovery_world.specs.Limits.{OnWithin}
 use Rattle.recovery_laws.specs.Sound.{Sound}
 use Rattle.recovery_laws.proofs.KeptWorlds.{within_sound}
-use Rattle.recovery_core.specs.Parts.{Parts, IsShort}
+use Rattle.recovery_core.specs.Parts.{Parts, IsShort, AreParts}
 use Rattle.recovery_core.specs.Standing.{HasInputs, StandsFor}
 use Rattle.recovery_core.specs.Performing.{MovesOn, ComesTo}
 
@@ -71,17 +71,27 @@ take_next {X} k xs p rest is = (
 -- one more packet, where it is the last of a vector whose first is fed last
 pub feeds_next : {P V : Type 0} (k : ℕ) (old now next : Parts P V) (before after : List Packet) (p : Packet)
     → now ≡ with_fed k old → now.left ≡ reverse before → before ≡ after ++ p ∷ []
-    → next ≡ record now { left = reverse after; inputs = with_packet now.inputs p; clock = max now.clock (microseconds now.fractions p) }
+    → next ≡ record now { left = reverse after; inputs = next.inputs; clock = next.clock } → next.inputs ≡ with_packet now.inputs p → next.clock ≡ max now.clock (microseconds now.fractions p)
     → next ≡ with_fed (k + 1) old
-feeds_next {P} {V} k old now next before after p is left popped moved =
+feeds_next {P} {V} k old now next before after p is left popped same fed_is clock_is =
     let first : drop k old.left ≡ p ∷ reverse after = sym (ap (λ (y : Parts P V). y.left) is) ∙ left ∙ ap (λ (l : List Packet). reverse l) popped ∙ reverse-append after (p ∷ []) in
     let n = take_next k old.left p (reverse after) first in
     let fed : now.inputs ≡ record old.inputs { packets = old.inputs.packets ++ take k old.left } = ap (λ (y : Parts P V). y.inputs) is in
     let clock : now.clock ≡ time_after old.fractions old.clock (take k old.left) = ap (λ (y : Parts P V). y.clock) is in
-    moved ∙ ap (λ (y : Parts P V). record y { left = reverse after; inputs = with_packet y.inputs p; clock = max y.clock (microseconds y.fractions p) }) is
+    same ∙ ap (λ (f : Fed). record now { left = reverse after; inputs = f; clock = next.clock }) fed_is
+    ∙ ap (λ (j : ℕ). record now { left = reverse after; inputs = with_packet now.inputs p; clock = j }) clock_is
+    ∙ ap (λ (y : Parts P V). record y { left = reverse after; inputs = with_packet y.inputs p; clock = max y.clock (microseconds y.fractions p) }) is
     ∙ ap (λ (l : List Packet). record old { left = l; inputs = record old.inputs { packets = (old.inputs.packets ++ take k old.left) ++ p ∷ [] }; clock = max (time_after old.fractions old.clock (take k old.left)) (microseconds old.fractions p) }) (sym n.1)
     ∙ ap (λ (l : List Packet). record old { left = drop (k + 1) old.left; inputs = record old.inputs { packets = l }; clock = max (time_after old.fractions old.clock (take k old.left)) (microseconds old.fractions p) }) (append_assoc old.inputs.packets (take k old.left) (p ∷ []) ∙ ap (λ (l : List Packet). old.inputs.packets ++ l) (sym n.0))
     ∙ ap (λ (c : ℕ). record old { left = drop (k + 1) old.left; inputs = record old.inputs { packets = old.inputs.packets ++ take (k + 1) old.left }; clock = c }) (sym (time_last old.fractions old.clock (take k old.left) p) ∙ ap (λ (l : List Packet). time_after old.fractions old.clock l) (sym n.0))
+
+-- and there was one to be fed
+pub more_left : {P V : Type 0} (k : ℕ) (old now : Parts P V) (before after : List Packet) (p : Packet) → now ≡ with_fed k old → now.left ≡ reverse before → before ≡ after ++ p ∷ [] → k + 1 ≤ length old.left
+more_left {P} {V} k old now before after p is left popped =
+    let first : drop k old.left ≡ p ∷ reverse after = sym (ap (λ (y : Parts P V). y.left) is) ∙ left ∙ ap (λ (l : List Packet). reverse l) popped ∙ reverse-append after (p ∷ []) in
+    let n : length (drop k old.left) ≡ suc (length (reverse after)) = ap length first in
+    let d = length-drop k old.left in
+    omega (arith, n, d)
 
 -- The next n packets, or as many as were left, are fed.
 pub feed_moves : {P V : Type 0} (m : Meaning V) (n k : ℕ) (old new : Parts P V) → new ≡ with_fed k old → k ≡ min n (length old.left) → MovesOn m (ComesTo (event.Feed n) (outcome.Total (length new.inputs.packets))) old new
@@ -151,6 +161,73 @@ feed_moves {P} {V} m n k old new is few = (
     on : (s : Setting V) (w : World V) → StandsFor m s w old → OnWithin s w (event.Feed n) (outcome.Total (length new.inputs.packets)) [] (after_feed s w n)
     on s w st = ((ap (λ (j : ℕ). outcome.Total j) (total s w st), refl, refl), st.within)
 
+-- The parts of a system, in the loop that feeds
+
+pub fed_none : {P V : Type 0} {y old : Parts P V} → y ≡ old → y ≡ with_fed 0 old
+fed_none {P} {V} {y} {old} is = is ∙ ap (λ (l : List Packet). record old { inputs = record old.inputs { packets = l } }) (sym (append-nil old.inputs.packets))
+
 -- what is fed and what is left of short packets is short
-pub short_fed : {P V : Type 0} (k : ℕ) (y : Parts P V) → All IsShort y.left → All IsShort y.inputs.packets → All IsShort (with_fed k y).left × All IsShort (with_fed k y).inputs.packets
-short_fed k y left fed = (All-drop IsShort k y.left left, All-append IsShort y.inputs.packets (take k y.left) fed (All-take IsShort k y.left left))
+pub fed_are_parts : {P V : Type 0} (mean : P → Meaning V) (fits : P → ℕ → V → Type 0) (k : ℕ) (old now : Parts P V) → now ≡ with_fed k old → AreParts (mean old.program) (fits old.program) old → AreParts (mean now.program) (fits now.program) now
+fed_are_parts {P} {V} mean fits k old now is are = subst (λ (q : Parts P V). AreParts (mean q.program) (fits q.program) q) (sym is) (record {
+  fits = are.fits;
+  some_threads = are.some_threads;
+  few_threads = are.few_threads;
+  master = are.master;
+  logger = are.logger;
+  sent = are.sent;
+  left = All-drop IsShort k old.left are.left;
+  fed = All-append IsShort old.inputs.packets (take k old.left) are.fed (All-take IsShort k old.left are.left);
+  moves = are.moves;
+  bytes = are.bytes;
+})
+
+-- the same, where one more packet was taken, and not fed
+pub popped_are_parts : {P V : Type 0} (mean : P → Meaning V) (fits : P → ℕ → V → Type 0) (k : ℕ) (old now next : Parts P V) (before after : List Packet) (p : Packet) (clock : ℕ)
+    → now ≡ with_fed k old → now.left ≡ reverse before → before ≡ after ++ p ∷ [] → next ≡ record now { left = reverse after; inputs = next.inputs; clock = clock } → next.inputs ≡ now.inputs
+    → AreParts (mean old.program) (fits old.program) old → AreParts (mean next.program) (fits next.program) next
+popped_are_parts {P} {V} mean fits k old now next before after p clock is left popped moved same old_are = subst (λ (q : Parts P V). AreParts (mean q.program) (fits q.program) q) (sym (moved ∙ ap (λ (f : Fed). record now { left = reverse after; inputs = f; clock = clock }) same)) (record {
+  fits = are.fits;
+  some_threads = are.some_threads;
+  few_threads = are.few_threads;
+  master = are.master;
+  logger = are.logger;
+  sent = are.sent;
+  left = All-drop IsShort 1 (p ∷ reverse after) short;
+  fed = are.fed;
+  moves = are.moves;
+  bytes = are.bytes;
+})
+  where
+    are : AreParts (mean now.program) (fits now.program) now
+    are = fed_are_parts mean fits k old now is old_are
+
+    short : All IsShort (p ∷ reverse after)
+    short = subst (λ (l : List Packet). All IsShort l) (left ∙ ap (λ (l : List Packet). reverse l) popped ∙ reverse-append after (p ∷ [])) are.left
+
+-- The loop is over: of the packets that were left, as many are fed as were asked for, or all.
+pub record FedAll {P V : Type 0} (n : ℕ) (old new : Parts P V) : Type 0 where
+  pub count : ℕ
+  pub is : new ≡ with_fed count old
+  pub few : count ≡ min n (length old.left)
+
+pub fed_whole : {P V : Type 0} (n k : ℕ) {now old : Parts P V} → now ≡ with_fed k old → k ≤ length old.left → k ≤ n → n ≤ k → FedAll n old now
+fed_whole n k {now} {old} is within low high = record { count = k; is = is; few = omega (arith, within, low, high) }
+
+pub fed_until : {P V : Type 0} (n k : ℕ) {now old : Parts P V} (next : Parts P V) (before after : List Packet) → now ≡ with_fed k old → k ≤ length old.left → k ≤ n
+    → now.left ≡ reverse before → before ≡ after ++ [] → after ≡ [] → next ≡ record now { left = reverse after } → FedAll n old next
+fed_until {P} {V} n k {now} {old} next before after is within low left same none moved = record { count = k; is = moved ∙ ap (λ (l : List Packet). record now { left = l }) (empty ∙ sym gone) ∙ is; few = omega (arith, within, low, all) }
+  where
+    empty : reverse after ≡ []
+    empty = ap (λ (l : List Packet). reverse l) none
+
+    gone : now.left ≡ []
+    gone = left ∙ ap (λ (l : List Packet). reverse l) (same ∙ append-nil after ∙ none)
+
+    all : length old.left ≤ k
+    all =
+        let d : length (drop k old.left) ≡ 0 = ap (λ (y : Parts P V). length y.left) (sym is) ∙ ap length gone in
+        let e = length-drop k old.left in
+        omega (arith, d, e)
+
+pub all_fed : {P V : Type 0} (m : Meaning V) (n : ℕ) {old : Parts P V} (new : Parts P V) (total : ℕ) → FedAll n old new → total ≡ length new.inputs.packets → MovesOn m (ComesTo (event.Feed n) (outcome.Total total)) old new
+all_fed {P} {V} m n {old} new total fed is = subst (λ (k : ℕ). MovesOn m (ComesTo (event.Feed n) (outcome.Total k)) old new) (sym is) (feed_moves m n fed.count old new fed.is fed.few)

@@ -1,3 +1,4 @@
+pub mod CoreParts
 pub mod FeedLemmas
 pub mod FinishLemmas
 pub mod ReadLemmas
