@@ -2,3 +2,4 @@ pub mod CoreParts
 pub mod FeedLemmas
 pub mod FinishLemmas
 pub mod ReadLemmas
+pub mod OpeningLemmas
