@@ -3,3 +3,4 @@ pub mod FeedLemmas
 pub mod FinishLemmas
 pub mod ReadLemmas
 pub mod OpeningLemmas
+pub mod RepliesLemmas
