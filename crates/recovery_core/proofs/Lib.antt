@@ -11,3 +11,9 @@ pub mod OutputLists
 pub mod OutputNumbers
 pub mod EntryArrivals
 pub mod OutputArrivals
+pub mod CoreParts
+pub mod FeedLemmas
+pub mod FinishLemmas
+pub mod ReadLemmas
+pub mod OpeningLemmas
+pub mod RepliesLemmas

@@ -12,11 +12,10 @@ use recovery_world::Outcome;
 fn microseconds(unit: Unit, packet: &Packet) -> u64
     ensures { result ≡ microseconds_of unit packet.now }
 {
-    let seconds = u64::from(packet.seconds) * 1_000_000;
-    let fraction = u64::from(packet.fraction);
+    let whole = u64::from(packet.seconds) * 1_000_000;
     match unit {
-        Unit::Micro => seconds + fraction,
-        Unit::Nano => seconds + fraction / 1_000,
+        Unit::Micro => whole + u64::from(packet.fraction),
+        Unit::Nano => whole + u64::from(packet.fraction) / 1000,
     }
 }
 

@@ -1,0 +1,23 @@
+-- The parts of a system that is opened.
+use Rattle.std.proofs.Common.{reverse}
+use Rattle.recovery_core.specs.declared.core.Core.TheInside.{Inside}
+use Rattle.recovery_core.specs.Parts.{Parts}
+
+abbrev pub parts_in : {P V : Type 0} → Inside P V → Parts P V
+parts_in y = record {
+  program = y.program;
+  fractions = y.unit;
+  clock = y.clock;
+  generator = y.generator;
+  left = reverse y.left.items;
+  inputs = y.inputs;
+  master = y.master;
+  schedule = y.schedule;
+  moves = y.moves;
+  bytes = y.bytes;
+  sent = y.sent;
+  logger = y.logger;
+  released = y.released;
+  handed = y.handed;
+  fresh = y.fresh;
+}

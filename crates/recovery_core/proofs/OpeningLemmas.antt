@@ -1,0 +1,114 @@
+-- Before the first event a system stands for the opening.
+use Rattle.std.proofs.Common.{◌≡◌, ℕ, zero, suc, ◌≤◌, true, All, List, [], ◌∷◌, length, replicate, slice_index_or, map, drop, Option, Some, None, refl, sym, ap, ◌∙◌, subst, inl, inr, ◌⊎◌, arith}
+use Rattle.std.specs.Prelude.{◌↔◌}
+use Rattle.rand_pcg.specs.Lcg.{Lcg, state_after, started, increment_of}
+use Rattle.rand_pcg.specs.Pcg.{multiplier_64}
+use Rattle.plain_text.specs.declared.packet.Packet.{Packet}
+use Rattle.plain_text.specs.declared.packet.Unit.{Unit as FractionUnit}
+use Rattle.traffic_gen.specs.Generated.{generator_after}
+use Rattle.input_logger.specs.Inputs.{Fed}
+use Rattle.entry_order.specs.Log.{Entry, IsIn}
+use Rattle.access_log.specs.Held.{Lane, fresh_lane}
+use Rattle.dup_filter.specs.Numbers.{Numbers, no_numbers, IsMarked, WasMarked}
+use Rattle.plain_machine.specs.Program.{Meaning}
+use Rattle.box_program.specs.Hands.{FitsProgram}
+use Rattle.master_core.specs.Mastered.{value_of}
+use Rattle.master_core.specs.Standing.{Stands}
+use Rattle.master_core.specs.Holding.{held_entries, HoldsOf}
+use Rattle.master_core.proofs.HeldEntries.{held_at}
+use Rattle.master_core.proofs.Holdings.{fresh_holds, fresh_holds_none}
+use Rattle.output_logger.specs.Logger.{Logger}
+use Rattle.recovery_world.specs.World.{Setting, Sent, World, opening}
+use Rattle.recovery_world.specs.Files.{packets_of}
+use Rattle.access_log.specs.declared.entry.Output.{Output}
+use Rattle.std.proofs.lemmas.List.{length-replicate}
+use Rattle.std.proofs.Math.Seq.{drop-nil}
+use Rattle.std.proofs.lemmas.List.Elements.{All-nil}
+use Rattle.recovery_world.specs.Events.{HasNumber, IsAmong}
+use Rattle.recovery_laws.proofs.KeptWorlds.{opening_sound}
+use Rattle.recovery_core.specs.Sending.{Sending, lengths_of, IsUnsent}
+use Rattle.recovery_core.specs.Parts.{Parts, IsShort, AreParts}
+use Rattle.recovery_core.specs.Standing.{HasLogger, HasSent, StandsFor}
+
+-- where all items are one, each read gives it
+one_of_all : {X : Type 0} (n t : ℕ) (x : X) → slice_index_or (replicate n x) t x ≡ x
+one_of_all zero t x = refl
+one_of_all (suc n) zero x = refl
+one_of_all (suc n) (suc t) x = one_of_all n t x
+
+-- a new generator used no word
+pub first_generator : (seed : ℕ) → started 64 multiplier_64 seed (increment_of 64 54) ≡ generator_after seed 0
+unfolding state_after
+first_generator seed = refl
+
+abbrev pub fresh_logger : ℕ → Logger
+fresh_logger threads = record { epoch = 1; held = replicate threads fresh_lane; released = replicate threads no_numbers; waiting = [] }
+
+none_held : (threads : ℕ) (e : Entry) → IsIn e (held_entries (replicate threads fresh_lane)) → ⊥
+none_held threads e here = let r = held_at (replicate threads fresh_lane) e here in fresh_holds_none threads r.0 r.1 r.2 r.3
+
+none_marked : (threads t n : ℕ) → WasMarked (replicate threads no_numbers) t n → ⊥
+none_marked threads t n was = go (subst (λ (k : Numbers). IsMarked k n) (one_of_all threads t no_numbers) was)
+  where
+    go : IsMarked no_numbers n → ⊥
+    go (inl up) = omega (arith, up.0, up.1)
+    go (inr there) = absurd (cc)
+
+opening_logger : {V : Type 0} (threads : ℕ) → HasLogger (opening V) (fresh_logger threads)
+opening_logger threads = record {
+  epoch = refl;
+  holds = fresh_holds [] threads;
+  held = λ e. ((λ here. absurd (none_held threads e here)), (λ both. absurd both.0));
+  waiting = tt;
+  released = λ t n. ((λ was. absurd (none_marked threads t n was)), (λ some. absurd some.2));
+}
+
+opening_sent : {P V : Type 0} (threads : ℕ) (y : Parts P V) → IsUnsent threads y.sent → HasSent (opening V) y
+opening_sent {P} {V} threads y unsent = record {
+  epoch = unsent.epoch;
+  entry_sent = λ e here. absurd here;
+  output_sent = λ o sends. absurd sends;
+  entry_counts = λ t. ap (λ (l : List (List ℕ)). length (lengths_of l t)) unsent.entries ∙ ap length (one_of_all threads t []);
+  output_counts = λ t. ap (λ (l : List (List ℕ)). length (lengths_of l t)) unsent.outputs ∙ ap length (one_of_all threads t []);
+}
+
+-- The system stands for the opening.
+pub opening_stands : {P V : Type 0} (m : Meaning V) (threads seed : ℕ) (fractions : FractionUnit) (packets : List Packet) (y : Parts P V)
+    → y.fractions ≡ fractions → y.clock ≡ 0 → y.generator ≡ generator_after seed 0 → y.left ≡ packets → y.inputs ≡ record { threads = threads; packets = [] }
+    → Stands m threads [] y.master → y.schedule ≡ [] → y.moves ≡ 0 → y.bytes ≡ 0 → IsUnsent threads y.sent → y.logger ≡ fresh_logger threads
+    → y.released ≡ [] → y.handed ≡ 0 → y.fresh ≡ []
+    → StandsFor m (record { meaning = m; threads = threads; fractions = fractions; packets = packets; seed = seed }) (opening V) y
+opening_stands {P} {V} m threads seed fractions packets y fractions_are clock generator left inputs master schedule moves bytes sent logger released handed fresh = record {
+  sound = opening_sound (record { meaning = m; threads = threads; fractions = fractions; packets = packets; seed = seed });
+  within = refl;
+  inputs = record { meaning = refl; fractions = sym fractions_are; inputs = inputs; left = left; clock = clock; generator = generator };
+  first = record { epoch = refl; up = refl; stored = refl; copy = refl; followed = refl; ended = refl };
+  master = record { stands = master; schedule = schedule; past = omega arith; moves = moves; bytes = bytes };
+  sent = opening_sent threads y sent;
+  logger = subst (λ (l : Logger). HasLogger (opening V) l) (sym logger) (opening_logger threads);
+  released = record { names = released; handed = omega (arith, handed); fresh = ap (λ (l : List Output). map (λ (o : Output). o.packet) l) fresh ∙ none };
+  emitted = λ o here. absurd here;
+}
+  where
+    none : [] ≡ packets_of (drop y.handed [])
+    none = sym (ap packets_of (drop-nil y.handed))
+
+-- What is true of the parts of every system is true of these.
+pub opening_are_parts : {P V : Type 0} (m : Meaning V) (fits : ℕ → V → Type 0) (threads : ℕ) (packets : List Packet) (y : Parts P V)
+    → 1 ≤ threads → threads ≤ 16 → All IsShort packets → FitsProgram m fits value_of y.master.vars
+    → y.left ≡ packets → y.inputs ≡ record { threads = threads; packets = [] } → Stands m threads [] y.master → y.moves ≡ 0 → y.bytes ≡ 0 → IsUnsent threads y.sent → y.logger ≡ fresh_logger threads → AreParts m fits y
+opening_are_parts {P} {V} m fits threads packets y some few short all left inputs master moves bytes sent logger = record {
+  fits = all;
+  some_threads = subst (λ (f : Fed). 1 ≤ f.threads) (sym inputs) some;
+  few_threads = subst (λ (f : Fed). f.threads ≤ 16) (sym inputs) few;
+  master = master.threads_are ∙ sym threads_are;
+  logger = ap (λ (l : Logger). length l.held) logger ∙ length-replicate threads fresh_lane ∙ sym threads_are;
+  sent = sent.threads_are ∙ sym threads_are;
+  left = subst (λ (l : List Packet). All IsShort l) (sym left) short;
+  fed = subst (λ (f : Fed). All IsShort f.packets) (sym inputs) (All-nil IsShort);
+  moves = omega (arith, moves);
+  bytes = omega (arith, bytes);
+}
+  where
+    threads_are : y.inputs.threads ≡ threads
+    threads_are = ap (λ (f : Fed). f.threads) inputs

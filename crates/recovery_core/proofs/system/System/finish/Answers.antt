@@ -1,0 +1,9 @@
+use Rattle.std.proofs.Common.{refl, sym, ap, ◌∙◌, subst}
+use Rattle.recovery_core.specs.Standing.{StandsFor}
+use Rattle.recovery_core.proofs.FinishLemmas.{finishes}
+use Rattle.recovery_core.proofs.system.System.finish.Goals as goal
+
+pub returns : goal.returns
+returns g c = λ s w st.
+    let m = g.P.Program.meaning c.args.self.parts.program in
+    finishes m s w _ (subst (λ q. StandsFor m s w q) (sym (ap (λ i. i.core) c.self-inside.view_is ∙ ap (λ q. q.parts) c.self.view_is)) st) _ refl c.fed-fed.ensures c.epoch-epoch.ensures c.len-released.ensures
