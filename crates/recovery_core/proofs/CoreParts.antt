@@ -1,6 +1,6 @@
 -- The parts of a system that is opened.
 use Rattle.std.proofs.Common.{reverse}
-use Rattle.recovery_core.specs.declared.core.Core.TheInside.{Inside}
+use Rattle.recovery_core.specs.declared.assembly.Core.TheInside.{Inside}
 use Rattle.recovery_core.specs.Parts.{Parts}
 
 abbrev pub parts_in : {P V : Type 0} → Inside P V → Parts P V

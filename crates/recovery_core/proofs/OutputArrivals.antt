@@ -98,13 +98,17 @@ module _ {P V : Type 0} (m : Meaning V) (s : Setting V) (w : World V) (y : Parts
   out_found found gives from_one few = go (output_there s.meaning (inputs_fed s w.fed) s.threads w.past t j legal from_one few)
     where
       go : HasOutput w.past t j → (x : Output) × (found ≡ Some x) × IsSentByPast w t j x
-      go (o, k, sends, a, b) = (sent.stamped, gives sent.stamped sent.there (ap (λ (q : Emission). q.thread) sent.plain ∙ a) (ap (λ (q : Emission). q.number) sent.plain ∙ b), record {
-        sent = record { emission = o; after = k };
-        plain = sent.plain;
-        stamp = sent.stamp;
-        sends = sends;
-        named = (a, b);
-      })
+      go (o, k, sends, a, b) = (
+        sent.stamped,
+        gives sent.stamped sent.there (ap (λ (q : Emission). q.thread) sent.plain ∙ a) (ap (λ (q : Emission). q.number) sent.plain ∙ b),
+        record {
+          sent = record { emission = o; after = k };
+          plain = sent.plain;
+          stamp = sent.stamp;
+          sends = sends;
+          named = (a, b);
+        },
+      )
         where
           sent : IsSentOutput (log_of w.past) y.sent (record { emission = o; after = k })
           sent = st.sent.output_sent (record { emission = o; after = k }) sends
@@ -269,8 +273,21 @@ module _ {P V : Type 0} (m : Meaning V) (s : Setting V) (w : World V) (y : Parts
 
           on : On s w (event.Out t j) (outcome.Waits u k) [] next
           on =
-              inr (here, (inr (inr (inr (of.sent, (of.sends, of.named), (λ h. fresh (from_own (arrived_there h))), missing.0, missing.1,
-              ap (λ (v : ℕ). outcome.Waits v k) (sym missing.2) ∙ ap (λ (i : ℕ). outcome.Waits missing.0.thread i) (sym missing.3), refl))), refl))
+              inr (
+                here,
+                (
+                  inr (inr (inr (
+                    of.sent,
+                    (of.sends, of.named),
+                    (λ h. fresh (from_own (arrived_there h))),
+                    missing.0,
+                    missing.1,
+                    ap (λ (v : ℕ). outcome.Waits v k) (sym missing.2) ∙ ap (λ (i : ℕ). outcome.Waits missing.0.thread i) (sym missing.3),
+                    refl,
+                  ))),
+                  refl,
+                ),
+              )
 
           once_none : ReleasesOnce y.logger.released now.released []
           once_none = subst (λ (l : List Output). ReleasesOnce y.logger.released now.released l) (ap (appended y.fresh) (same ∙ sym (append-nil y.fresh)) ∙ appended_append y.fresh []) once

@@ -4,7 +4,7 @@ ghost use Rattle.recovery_core.specs.Standing.{StandsForSome};
 ghost use Rattle.recovery_core.specs.Arriving.{NotesReleased, arrival_of, names_of};
 ghost use Rattle.recovery_core.specs.Performing.{AddsFresh, MovesOn, Replies};
 
-use crate::core::Core;
+use crate::assembly::Core;
 use crate::{Releases, Reply};
 use access_log::Output;
 use box_program::Program;

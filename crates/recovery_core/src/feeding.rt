@@ -3,7 +3,7 @@ ghost use Rattle.recovery_world.specs.declared.event.Event.TheVariants as event_
 ghost use Rattle.recovery_world.specs.World.{microseconds as microseconds_of};
 ghost use Rattle.recovery_core.specs.Performing.{MovesOn, ComesTo};
 
-use crate::core::Core;
+use crate::assembly::Core;
 use box_program::Program;
 use plain_text::{NoMemory, Packet, Unit};
 use recovery_world::Outcome;

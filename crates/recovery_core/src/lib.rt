@@ -7,7 +7,7 @@
 #![tactic(auto)]
 
 mod arriving;
-mod core;
+mod assembly;
 mod feeding;
 mod lines;
 mod reply;

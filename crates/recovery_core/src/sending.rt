@@ -136,6 +136,7 @@ impl SentFrames {
     pub fn send_entry(&mut self, entry: &StampedEntry) -> Result<(), NoMemory>
         requires can { CanPutEntry self.old.epoch self.old.threads entry.now }
         ensures ok { OnOk result (SendsEntry self.old self.new entry.now) }
+        ensures there { entry.now.thread < length self.old.entries }
         ensures threads { self.new.threads ≡ self.old.threads }
     {
         let frame = put_entry(self.alloc, self.epoch, self.threads, entry)?;
@@ -148,6 +149,7 @@ impl SentFrames {
     pub fn send_output(&mut self, output: &Output) -> Result<(), NoMemory>
         requires can { CanPutOutput self.old.epoch self.old.threads output.now }
         ensures ok { OnOk result (SendsOutput self.old self.new output.now) }
+        ensures there { output.now.thread < length self.old.outputs }
         ensures threads { self.new.threads ≡ self.old.threads }
     {
         let frame = put_output(self.alloc, self.epoch, self.threads, output)?;

@@ -7,7 +7,7 @@ ghost use Rattle.recovery_core.specs.Performing.{AddsFresh, MovesOn, StopsAt, Se
 
 use crate::Stop;
 use crate::arriving::arrive;
-use crate::core::Core;
+use crate::assembly::Core;
 use crate::feeding::feed;
 use crate::stepping::step;
 use box_program::Program;

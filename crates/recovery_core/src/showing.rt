@@ -5,7 +5,7 @@ ghost use Rattle.recovery_world.specs.Limits.{OnWithin};
 ghost use Rattle.recovery_core.specs.Standing.{StandsFor};
 ghost use Rattle.recovery_core.specs.Performing.{ComesTo};
 
-use crate::core::Core;
+use crate::assembly::Core;
 use box_program::Program;
 use plain_text::NoMemory;
 use recovery_world::Outcome;

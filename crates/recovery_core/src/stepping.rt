@@ -20,7 +20,7 @@ ghost use Rattle.recovery_core.specs.Performing.{MovesOn, StopsAt, ComesTo, Woul
 ghost use Rattle.recovery_core.specs.Stepping.{CanNote, Notes, NotesMove};
 
 use crate::Stop;
-use crate::core::Core;
+use crate::assembly::Core;
 use access_log::{Output, StampedEntry, Turn, What};
 use box_program::Program;
 use input_logger::InputLog;

@@ -12,7 +12,7 @@ ghost use Rattle.recovery_core.specs.Standing.{HasReleased, StandsFor, StandsFor
 ghost use Rattle.recovery_core.specs.Performing.{AddsFresh, IsPerformed, MovesOn, StopsAt, RepliesAny, IsStopped, FinishesAs};
 
 use crate::arriving::{arrive, arrive_cut, arrive_late, only};
-use crate::core::Core;
+use crate::assembly::Core;
 use crate::feeding::{feed, set_time};
 use crate::settling::settle;
 use crate::showing::show;

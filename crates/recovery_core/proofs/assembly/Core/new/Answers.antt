@@ -4,7 +4,7 @@ use Rattle.box_program.specs.Hands.{FitsProgram}
 use Rattle.master_core.specs.Mastered.{value_of}
 use Rattle.master_core.specs.Standing.{Stands}
 use Rattle.recovery_core.proofs.OpeningLemmas.{first_generator, opening_stands, opening_are_parts}
-use Rattle.recovery_core.proofs.core.Core.new.Goals as goal
+use Rattle.recovery_core.proofs.assembly.Core.new.Goals as goal
 
 pub invariant_of-result-2 : goal.invariant_of-result-2
 invariant_of-result-2 g c =
