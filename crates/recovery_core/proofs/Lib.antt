@@ -3,3 +3,5 @@ pub mod OutputLists
 pub mod OutputNumbers
 pub mod EntryArrivals
 pub mod OutputArrivals
+pub mod ThreadCounts
+pub mod Arrivals
