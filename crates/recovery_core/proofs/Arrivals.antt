@@ -34,10 +34,16 @@ use Rattle.recovery_core.proofs.OutputNumbers.{HasOutput, output_there}
 use Rattle.recovery_core.proofs.ThreadCounts.{entry_long, output_long}
 
 -- what the one comes to, the other comes to
-pub moves_as : {P V : Type 0} (m : Meaning V) (ev other : Event) (reply : Reply) (now new : Parts P V)
-    → ((s : Setting V) (w : World V) → StandsFor m s w now → (to : Outcome) (freed : List Sent) (next : World V) → On s w ev to freed next → On s w other to freed next)
+pub moves_as : {P V : Type 0} (m : Meaning V) (ev other : Event) (reply : Reply) (view now new : Parts P V) → view ≡ now
+    → ((s : Setting V) (w : World V) → StandsFor m s w view → (to : Outcome) (freed : List Sent) (next : World V) → On s w ev to freed next → On s w other to freed next)
     → MovesOn m (Replies ev reply) now new → MovesOn m (Replies other reply) now new
-moves_as {P} {V} m ev other reply now new as_other moves = (moves.0, moves.1, λ s w st. let r = moves.2 s w st in (r.0, (r.1.0, (as_other s w st reply.outcome r.1.0 r.0 r.1.1.0, r.1.1.1), r.1.2), r.2))
+moves_as {P} {V} m ev other reply view now new same as_other moves = (
+  moves.0,
+  moves.1,
+  λ s w st.
+  let r = moves.2 s w st in
+  (r.0, (r.1.0, (as_other s w (subst (λ (q : Parts P V). StandsFor m s w q) (sym same) st) reply.outcome r.1.0 r.0 r.1.1.0, r.1.1.1), r.1.2), r.2),
+)
 
 some_same : (a b : ℕ) → Some a ≡ Some b → a ≡ b
 some_same a b is = cc

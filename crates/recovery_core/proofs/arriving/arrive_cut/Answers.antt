@@ -3,7 +3,6 @@ use Rattle.std.proofs.lemmas.Result.{IfOk-weaker}
 use Rattle.recovery_world.specs.declared.event.Event.TheVariants as event_is
 use Rattle.recovery_world.specs.declared.event.Outcome.TheVariants as outcome
 use Rattle.recovery_core.specs.Arriving.{arrival_of}
-use Rattle.recovery_core.specs.Standing.{StandsFor}
 use Rattle.recovery_core.proofs.EntryArrivals.{came, stays}
 use Rattle.recovery_core.proofs.Arrivals.{moves_as, cut_nowhere, cut_nothing, cut_short, cut_whole}
 use Rattle.recovery_core.proofs.arriving.arrive_cut.Goals as goal
@@ -32,7 +31,6 @@ returns-then-length-whole-clause-on g c =
 pub returns-clause-on : goal.returns-clause-on
 returns-clause-on g c =
     IfOk-weaker c.arrive.result _ _ (λ reply moves.
-    moves_as _ (arrival_of c.args.kind c.args.thread c.args.number) (event_is.Cut c.args.kind c.args.thread c.args.number c.args.length) reply _ _ (λ s w st.
-    let now = subst (λ q. StandsFor _ s w q) (sym c.core.view_is) st in
+    moves_as _ (arrival_of c.args.kind c.args.thread c.args.number) (event_is.Cut c.args.kind c.args.thread c.args.number c.args.length) reply _ _ _ c.core.view_is (λ s w st.
     let low : c.args.thread < c.core.inside.inputs.threads = omega (arith, c.if-thread-from.false, c.from.ensures, c.threads.ensures.value) in
-    cut_whole _ s w _ now c.args.kind c.args.thread c.args.number c.args.length c.in-Some.whole low c.in-Some.ensures.entry c.in-Some.ensures.output c.if-length-whole.false) moves) c.arrive.ensures.on
+    cut_whole _ s w _ st c.args.kind c.args.thread c.args.number c.args.length c.in-Some.whole low c.in-Some.ensures.entry c.in-Some.ensures.output c.if-length-whole.false) moves) c.arrive.ensures.on

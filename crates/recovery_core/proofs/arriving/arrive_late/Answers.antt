@@ -3,7 +3,6 @@ use Rattle.std.proofs.lemmas.Result.{IfOk-weaker}
 use Rattle.recovery_world.specs.declared.event.Event.TheVariants as event_is
 use Rattle.recovery_world.specs.declared.event.Outcome.TheVariants as outcome
 use Rattle.recovery_core.specs.Arriving.{arrival_of}
-use Rattle.recovery_core.specs.Standing.{StandsFor}
 use Rattle.recovery_core.proofs.EntryArrivals.{came, stays}
 use Rattle.recovery_core.proofs.Arrivals.{moves_as, late_now, late_never}
 use Rattle.recovery_core.proofs.arriving.arrive_late.Goals as goal
@@ -17,6 +16,5 @@ returns-then-epoch-from-clause-on g c =
 pub returns-clause-on : goal.returns-clause-on
 returns-clause-on g c =
     IfOk-weaker c.arrive.result _ _ (λ reply moves.
-    moves_as _ (arrival_of c.args.kind c.args.thread c.args.number) (event_is.Late c.args.epoch c.args.kind c.args.thread c.args.number) reply _ _ (λ s w st.
-    let now = subst (λ q. StandsFor _ s w q) (sym c.core.view_is) st in
-    late_now _ s w _ now c.args.epoch c.args.kind c.args.thread c.args.number (c.if-epoch-from.false ∙ c.from.ensures ∙ c.epoch.ensures)) moves) c.arrive.ensures.on
+    moves_as _ (arrival_of c.args.kind c.args.thread c.args.number) (event_is.Late c.args.epoch c.args.kind c.args.thread c.args.number) reply _ _ _ c.core.view_is (λ s w st.
+    late_now _ s w _ st c.args.epoch c.args.kind c.args.thread c.args.number (c.if-epoch-from.false ∙ c.from.ensures ∙ c.epoch.ensures)) moves) c.arrive.ensures.on
