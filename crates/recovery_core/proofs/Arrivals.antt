@@ -1,36 +1,33 @@
 -- What arrives by its kind, from an earlier epoch, or cut.
-use Rattle.std.proofs.Common.{◌≡◌, ℕ, zero, suc, ◌+◌, ◌*◌, ◌<◌, ◌≤◌, ◌≢◌, List, [], ◌∷◌, length, refl, sym, ap, ◌∙◌, subst, inl, inr, ◌⊎◌, Option, Some, None, arith}
-use Rattle.std.specs.Prelude.{slice_get, slice_index, ◌-◌}
+use Rattle.std.proofs.Common.{◌≡◌, ℕ, zero, suc, ◌+◌, ◌*◌, ◌<◌, ◌≤◌, List, [], length, refl, sym, ap, ◌∙◌, subst, inl, inr, ◌⊎◌, Some, None, arith}
+use Rattle.std.specs.Prelude.{slice_get, ◌-◌}
 use Rattle.std.proofs.lemmas.Bool.{cases_lt}
 use Rattle.std.proofs.lemmas.Option.{slice_get_within}
 use Rattle.plain_text.specs.declared.kind.Kind.{Kind}
 use Rattle.plain_text.specs.declared.kind.Kind.TheVariants as kind
-use Rattle.entry_order.specs.Log.{Entry, IsLog, IsIn, entries}
+use Rattle.entry_order.specs.Log.{Entry, IsLog, IsIn}
 use Rattle.entry_order.proofs.Order.{entry_there}
-use Rattle.access_log.specs.declared.entry.StampedEntry.{StampedEntry}
-use Rattle.access_log.specs.declared.entry.Output.{Output}
 use Rattle.input_logger.specs.Inputs.{Fed}
 use Rattle.plain_machine.specs.declared.emission.Emission.{Emission}
 use Rattle.plain_machine.specs.Program.{Meaning}
-use Rattle.plain_machine.specs.History.{log_of, sent_of, outputs, IsHistory}
+use Rattle.plain_machine.specs.History.{log_of, IsHistory}
 use Rattle.plain_machine.proofs.Histories.{history_log}
 use Rattle.plain_machine.proofs.LoggedEffects.{entry_thread}
-use Rattle.master_core.specs.Stepping.{plain_entry, emission_of_output}
 use Rattle.wire_frames.specs.Layout.{nonzero}
 use Rattle.recovery_world.specs.declared.event.Event.{Event}
 use Rattle.recovery_world.specs.declared.event.Event.TheVariants as event
 use Rattle.recovery_world.specs.declared.event.Outcome.{Outcome}
 use Rattle.recovery_world.specs.declared.event.Outcome.TheVariants as outcome
 use Rattle.recovery_world.specs.World.{Setting, Sent, Ended as EndedEpoch, World, inputs_fed}
-use Rattle.recovery_world.specs.Events.{IsEntryOf, IsOutputOf, Arrives, WasSent, OnLog, OnOut, OnLate, IsFrameLength, HasNone, OnCut, OfThread, On}
+use Rattle.recovery_world.specs.Events.{WasSent, IsFrameLength, HasNone, On}
 use Rattle.recovery_core.specs.declared.reply.Reply.{Reply}
-use Rattle.recovery_core.specs.Sending.{Sending, length_at, lengths_of, entry_size, output_size}
+use Rattle.recovery_core.specs.Sending.{length_at, lengths_of, entry_size, output_size}
 use Rattle.recovery_core.specs.Parts.{Parts}
-use Rattle.recovery_core.specs.Standing.{IsSentEntry, IsSentOutput, StandsFor}
+use Rattle.recovery_core.specs.Standing.{StandsFor}
 use Rattle.recovery_core.specs.Performing.{Replies, MovesOn}
 use Rattle.recovery_core.specs.Arriving.{arrival_of}
-use Rattle.recovery_core.proofs.EntryArrivals.{in_setting, stays}
-use Rattle.recovery_core.proofs.OutputNumbers.{HasOutput, output_there}
+use Rattle.recovery_core.proofs.EntryArrivals.{in_setting}
+use Rattle.recovery_core.proofs.OutputNumbers.{output_there}
 use Rattle.recovery_core.proofs.ThreadCounts.{entry_long, output_long}
 
 -- what the one comes to, the other comes to
@@ -41,8 +38,8 @@ moves_as {P} {V} m ev other reply view now new same as_other moves = (
   moves.0,
   moves.1,
   λ s w st.
-  let r = moves.2 s w st in
-  (r.0, (r.1.0, (as_other s w (subst (λ (q : Parts P V). StandsFor m s w q) (sym same) st) reply.outcome r.1.0 r.0 r.1.1.0, r.1.1.1), r.1.2), r.2),
+      let r = moves.2 s w st in
+      (r.0, (r.1.0, (as_other s w (subst (λ (q : Parts P V). StandsFor m s w q) (sym same) st) reply.outcome r.1.0 r.0 r.1.1.0, r.1.1.1), r.1.2), r.2),
 )
 
 some_same : (a b : ℕ) → Some a ≡ Some b → a ≡ b
@@ -113,18 +110,24 @@ module _ {P V : Type 0} (m : Meaning V) (s : Setting V) (w : World V) (y : Parts
       let few = counted_length y.sent.entries t n whole (entry refl) in
       let count = st.sent.entry_counts t in
       let e = entry_there (log_of w.past) t n good few.0 (omega (arith, few, count)) in
-      let sent = st.sent.entry_sent e.0 e.1 in
-      (e.0, (e.1, e.2, e.3), entry_long (log_of w.past) s.threads e.0 sent.stamped.stamp whole good own sent.stamp
-      (some_same whole (entry_size sent.stamped) (entry refl ∙ ap (λ (u : ℕ). length_at y.sent.entries u n) (sym e.2) ∙ ap (λ (j : ℕ). length_at y.sent.entries e.0.thread j) (sym e.3) ∙ sent.size)))
+      let sent = st.sent.entry_sent e.0 e.1 in (
+        e.0,
+        (e.1, e.2, e.3),
+        entry_long (log_of w.past) s.threads e.0 sent.stamped.stamp whole good own sent.stamp
+            (some_same whole (entry_size sent.stamped) (entry refl ∙ ap (λ (u : ℕ). length_at y.sent.entries u n) (sym e.2) ∙ ap (λ (j : ℕ). length_at y.sent.entries e.0.thread j) (sym e.3) ∙ sent.size)),
+      )
   frame_length kind.Out t n whole entry output =
       let few = counted_length y.sent.outputs t n whole (output refl) in
       let count = st.sent.output_counts t in
       let o = output_there s.meaning (inputs_fed s w.fed) s.threads w.past t n legal few.0 (omega (arith, few, count)) in
       let here : Sent = record { emission = o.0; after = o.1 } in
-      let sent = st.sent.output_sent here o.2 in
-      (here, (o.2, (o.3, o.4)), output_long (log_of w.past) s.threads here sent.stamped.stamp whole good own sent.stamp
-      (some_same whole (output_size sent.stamped) (output refl ∙ ap (λ (u : ℕ). length_at y.sent.outputs u n) (sym o.3) ∙ ap (λ (j : ℕ). length_at y.sent.outputs o.0.thread j) (sym o.4) ∙ sent.size)
-      ∙ ap (λ (q : Emission). 47 + 8 * length (nonzero sent.stamped.stamp) + length q.packet.bytes) sent.plain))
+      let sent = st.sent.output_sent here o.2 in (
+        here,
+        (o.2, (o.3, o.4)),
+        output_long (log_of w.past) s.threads here sent.stamped.stamp whole good own sent.stamp
+            (some_same whole (output_size sent.stamped) (output refl ∙ ap (λ (u : ℕ). length_at y.sent.outputs u n) (sym o.3) ∙ ap (λ (j : ℕ). length_at y.sent.outputs o.0.thread j) (sym o.4) ∙ sent.size)
+            ∙ ap (λ (q : Emission). 47 + 8 * length (nonzero sent.stamped.stamp) + length q.packet.bytes) sent.plain),
+      )
 
   pub cut_nowhere : (k : Kind) (t n len : ℕ) → y.inputs.threads ≤ t → On s w (event.Cut k t n len) outcome.Nothing [] w
   cut_nowhere k t n len high = inl (no_thread t high, refl, refl, refl)

@@ -1,5 +1,5 @@
 -- An entry arrives at the output logger of a system: it stands for the world after it.
-use Rattle.std.proofs.Common.{◌≡◌, ℕ, ◌+◌, ◌<◌, ◌≤◌, ◌≢◌, List, [], ◌∷◌, ◌++◌, length, refl, sym, ap, ◌∙◌, subst, inl, inr, ◌⊎◌, Option, Some, None, Result, Ok, arith}
+use Rattle.std.proofs.Common.{◌≡◌, ℕ, ◌<◌, ◌≤◌, ◌≢◌, List, [], ◌∷◌, ◌++◌, length, refl, sym, ap, ◌∙◌, subst, inl, inr, ◌⊎◌, Option, Some, None, Result, Ok, arith}
 use Rattle.plain_text.specs.declared.memory.NoMemory.{NoMemory}
 use Rattle.output_logger.specs.declared.took.EntryTook.{EntryTook}
 use Rattle.output_logger.specs.declared.took.EntryTook.TheVariants as took_of
@@ -18,9 +18,8 @@ use Rattle.entry_order.proofs.Missing.{due_within, within_due}
 use Rattle.entry_order.proofs.Order.{is_or, number_within, entry_there}
 use Rattle.access_log.specs.declared.entry.StampedEntry.{StampedEntry}
 use Rattle.access_log.specs.declared.entry.Output.{Output}
-use Rattle.access_log.specs.Held.{Lane, lane, IsFrontier, IsKnown as IsKnownLane, IsWithin as IsWithinLanes}
+use Rattle.access_log.specs.Held.{Lane, lane, IsFrontier, IsKnown as IsKnownLane}
 use Rattle.access_log.specs.Lanes.{PutsEntry}
-use Rattle.link_store.specs.declared.address.Address.{Address}
 use Rattle.link_store.specs.Links.{address, frame_at, IsUpTo}
 use Rattle.wire_frames.specs.declared.frame.Frame.TheVariants as frame
 use Rattle.wire_frames.specs.Layout.{IsFrame}
@@ -41,13 +40,12 @@ use Rattle.recovery_world.specs.declared.event.Event.TheVariants as event
 use Rattle.recovery_world.specs.declared.event.Outcome.{Outcome}
 use Rattle.recovery_world.specs.declared.event.Outcome.TheVariants as outcome
 use Rattle.recovery_world.specs.World.{Setting, Sent, World, inputs_fed}
-use Rattle.recovery_world.specs.Events.{IsKnown, IsEntryOf, IsAmong, MayGo, OnLog, On, Parts as WorldParts}
-use Rattle.recovery_world.specs.Limits.{OnWithin}
+use Rattle.recovery_world.specs.Events.{IsKnown, IsEntryOf, IsAmong, MayGo, On, Parts as WorldParts}
 use Rattle.recovery_world.specs.Files.{sent_names}
 use Rattle.recovery_laws.proofs.KeptWorlds.{within_sound}
 use Rattle.recovery_laws.proofs.Sets.{parts_go, among_either}
 use Rattle.recovery_core.specs.declared.reply.Reply.{Reply}
-use Rattle.recovery_core.specs.Sending.{Sending, length_at, lengths_of, entry_address, output_address, HasEntryFrame, HasOutputFrame, ForgetsEntries}
+use Rattle.recovery_core.specs.Sending.{Sending, length_at, lengths_of, entry_address, output_address, HasEntryFrame, ForgetsEntries}
 use Rattle.recovery_core.specs.Parts.{Parts}
 use Rattle.recovery_core.specs.Standing.{IsSentEntry, IsSentOutput, AreOutputs, StandsFor, StandsForSome}
 use Rattle.recovery_core.specs.Performing.{Replies, MovesOn}
@@ -114,7 +112,7 @@ module _ (held now_held : List Lane) (sent now_sent : Sending) (t known : ℕ) (
       bytes = h.there.bytes;
       is = subst (λ (k : ℕ). IsFrame h.there.bytes (frame.Output now_sent.epoch k h.stamped)) (sym forgets.threads) (subst (λ (k : ℕ). IsFrame h.there.bytes (frame.Output k sent.threads h.stamped)) (sym forgets.epoch) h.there.is);
       there = ap (λ (k : ℕ). frame_at now_sent.frames (address k Out h.stamped.thread h.stamped.number)) forgets.epoch
-      ∙ forgets.forgets.others (output_address sent h.stamped.thread h.stamped.number) (λ up. other_kind up.kind) ∙ h.there.there;
+          ∙ forgets.forgets.others (output_address sent h.stamped.thread h.stamped.number) (λ up. other_kind up.kind) ∙ h.there.there;
     };
   }
     where
@@ -272,12 +270,12 @@ module _ {P V : Type 0} (m : Meaning V) (s : Setting V) (w : World V) (y : Parts
       due_is : (o : Output) (z : Sent) → emission_of_output o ≡ z.emission → IsOutputStamp (log_of w.past) z.emission.thread z.after (λ u. slice_index o.stamp u) → IsDue now.held o ↔ MayGo (record w { held = plain_entry x ∷ w.held }) z
       due_is o z is stamp = (
         λ within e miss.
-        due_within (log_of w.past) (log_of w.stored) (held_entries now.held) z.emission.thread z.after (λ u. slice_index o.stamp u) (frontier_of now.held) good stamp
-        (frontiers_are_defined (log_of w.past) (log_of w.stored) now.held good good_stored stored_in holds) (within_frontiers now.held o.stamp within) e (miss_in z.emission.thread z.after e miss),
+            due_within (log_of w.past) (log_of w.stored) (held_entries now.held) z.emission.thread z.after (λ u. slice_index o.stamp u) (frontier_of now.held) good stamp
+            (frontiers_are_defined (log_of w.past) (log_of w.stored) now.held good good_stored stored_in holds) (within_frontiers now.held o.stamp within) e (miss_in z.emission.thread z.after e miss),
         λ may.
-        frontiers_within now.held o.stamp
-        (within_due (log_of w.past) (log_of w.stored) (held_entries now.held) z.emission.thread z.after (λ u. slice_index o.stamp u) (frontier_of now.held) good stamp
-        (frontiers_are_defined (log_of w.past) (log_of w.stored) now.held good good_stored stored_in holds) (λ e miss. may e (miss_out z.emission.thread z.after e miss))),
+            frontiers_within now.held o.stamp
+            (within_due (log_of w.past) (log_of w.stored) (held_entries now.held) z.emission.thread z.after (λ u. slice_index o.stamp u) (frontier_of now.held) good stamp
+            (frontiers_are_defined (log_of w.past) (log_of w.stored) now.held good good_stored stored_in holds) (λ e miss. may e (miss_out z.emission.thread z.after e miss))),
       )
 
       -- it is held now, and what is due then is released
@@ -340,7 +338,7 @@ came {P} {V} m view now known new ev reply same is program handed on = (
   sym (ap (λ (q : Parts P V). q.program) is) ∙ program ∙ ap (λ (q : Parts P V). q.program) same,
   sym (ap (λ (q : Parts P V). q.handed) is) ∙ handed ∙ ap (λ (q : Parts P V). q.handed) same,
   λ s w st.
-  subst (λ (q : Parts P V). (next : World V) × Replies ev reply s w next × StandsFor m s next q) is (on s w (subst (λ (q : Parts P V). StandsFor m s w q) (sym same) st)),
+      subst (λ (q : Parts P V). (next : World V) × Replies ev reply s w next × StandsFor m s next q) is (on s w (subst (λ (q : Parts P V). StandsFor m s w q) (sym same) st)),
 )
 
 -- nothing was appended

@@ -1,5 +1,5 @@
 -- Frames as they are sent, and what comes back.
-use Rattle.std.proofs.Common.{◌≡◌, ℕ, ◌+◌, ◌*◌, ◌^◌, ◌<◌, ◌≤◌, ◌==◌, not, List, [], ◌∷◌, ◌++◌, length, refl, sym, ap, ◌∙◌, subst, Option, Some, None, Result, Ok, Err, arith}
+use Rattle.std.proofs.Common.{◌≡◌, ℕ, ◌<◌, ◌≤◌, ◌==◌, not, List, [], ◌∷◌, ◌++◌, length, refl, sym, ap, ◌∙◌, subst, Option, Some, Result, Err, arith}
 use Rattle.std.specs.Prelude.{slice_set, slice_index_or}
 use Rattle.std.proofs.lemmas.List.{append-nil, get_or_default}
 use Rattle.std.proofs.lemmas.List.Sums.{length-filter, count_by-le-length}
@@ -72,13 +72,13 @@ pub sends_entry : (old now : Sending) (frames : List (Address × List ℕ)) (e :
     → SendsEntry now (sent_entry old frames e lengths) e
 sends_entry old now frames e bytes lengths as_now can is sends longer =
     subst (λ (q : Sending). SendsEntry q (sent_entry old frames e lengths) e) as_now (record {
-  frame = record { can = can; bytes = bytes; is = is; there = sends.sent };
-  sends = sends;
-  entries = ap (λ (l : List ℕ). slice_set old.entries e.thread l) longer;
-  outputs = refl;
-  epoch = refl;
-  threads = refl;
-})
+      frame = record { can = can; bytes = bytes; is = is; there = sends.sent };
+      sends = sends;
+      entries = ap (λ (l : List ℕ). slice_set old.entries e.thread l) longer;
+      outputs = refl;
+      epoch = refl;
+      threads = refl;
+    })
 
 pub sends_output : (old now : Sending) (frames : List (Address × List ℕ)) (o : Output) (bytes : List ℕ) (lengths : List ℕ) → old ≡ now → CanPutOutput old.epoch old.threads o
     → IsFrame bytes (frame.Output old.epoch old.threads o) → Sends old.frames frames (output_address old o.thread o.number) bytes
@@ -86,13 +86,13 @@ pub sends_output : (old now : Sending) (frames : List (Address × List ℕ)) (o 
     → SendsOutput now (sent_output old frames o lengths) o
 sends_output old now frames o bytes lengths as_now can is sends longer =
     subst (λ (q : Sending). SendsOutput q (sent_output old frames o lengths) o) as_now (record {
-  frame = record { can = can; bytes = bytes; is = is; there = sends.sent };
-  sends = sends;
-  outputs = ap (λ (l : List ℕ). slice_set old.outputs o.thread l) longer;
-  entries = refl;
-  epoch = refl;
-  threads = refl;
-})
+      frame = record { can = can; bytes = bytes; is = is; there = sends.sent };
+      sends = sends;
+      outputs = ap (λ (l : List ℕ). slice_set old.outputs o.thread l) longer;
+      entries = refl;
+      epoch = refl;
+      threads = refl;
+    })
 
 -- the lengths of a thread with one more behind
 pub one_longer_is : (lengths : List (List ℕ)) (t threads : ℕ) (now longer : List ℕ) (size is_size : ℕ) → now ≡ slice_index_or lengths t now → longer ≡ now ++ size ∷ [] → size ≡ is_size

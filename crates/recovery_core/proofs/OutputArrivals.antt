@@ -3,12 +3,12 @@ use Rattle.std.proofs.Common.{◌≡◌, ℕ, ◌+◌, ◌<◌, ◌≤◌, ◌�
 use Rattle.std.specs.Prelude.{slice_index, ◌↔◌, drop, map}
 use Rattle.std.proofs.lemmas.List.{length-append, append-nil}
 use Rattle.plain_text.specs.declared.memory.NoMemory.{NoMemory}
-use Rattle.entry_order.specs.Log.{Entry, IsLog, IsIn, entries}
+use Rattle.entry_order.specs.Log.{Entry, IsLog, IsIn}
 use Rattle.entry_order.specs.Closed.{IsMissing, IsFirstMissing}
 use Rattle.entry_order.specs.Stamps.{IsOutputStamp}
 use Rattle.entry_order.proofs.Missing.{due_within, first_missing}
 use Rattle.access_log.specs.declared.entry.Output.{Output}
-use Rattle.access_log.specs.Held.{Lane, lane, IsWithin as IsWithinLanes, IsFirstMissing as IsFirstMissingLane}
+use Rattle.access_log.specs.Held.{Lane, IsFirstMissing as IsFirstMissingLane}
 use Rattle.plain_machine.specs.declared.emission.Emission.{Emission}
 use Rattle.plain_machine.specs.Program.{Meaning}
 use Rattle.plain_machine.specs.History.{log_of, sent_of, outputs, IsHistory}
@@ -21,19 +21,19 @@ use Rattle.master_core.proofs.Moments.{moment_log}
 use Rattle.dup_filter.specs.Numbers.{Numbers, WasMarked}
 use Rattle.output_logger.specs.declared.took.OutputTook.{OutputTook}
 use Rattle.output_logger.specs.declared.took.OutputTook.TheVariants as took_of
-use Rattle.output_logger.specs.Logger.{Logger, IsDue, ReleasesOnce, IsNamed, appended, HasArrived as HasArrivedThere}
+use Rattle.output_logger.specs.Logger.{Logger, IsDue, ReleasesOnce, appended, HasArrived as HasArrivedThere}
 use Rattle.output_logger.proofs.NameLemmas.{appended_append}
 use Rattle.recovery_world.specs.declared.event.Event.TheVariants as event
 use Rattle.recovery_world.specs.declared.event.Outcome.{Outcome}
 use Rattle.recovery_world.specs.declared.event.Outcome.TheVariants as outcome
 use Rattle.recovery_world.specs.World.{Setting, Sent, World, inputs_fed}
-use Rattle.recovery_world.specs.Events.{HasNumber, IsOutputOf, HasArrived, IsAmong, MayGo, OnOut, On}
+use Rattle.recovery_world.specs.Events.{HasNumber, IsOutputOf, HasArrived, IsAmong, MayGo, On}
 use Rattle.recovery_world.specs.Files.{sent_names, packets_of}
 use Rattle.recovery_laws.proofs.KeptWorlds.{within_sound}
 use Rattle.recovery_laws.proofs.Sets.{among_either}
 use Rattle.recovery_laws.proofs.Settlings.{number_high}
 use Rattle.recovery_core.specs.declared.reply.Reply.{Reply}
-use Rattle.recovery_core.specs.Sending.{Sending, HasOutputFrame}
+use Rattle.recovery_core.specs.Sending.{HasOutputFrame}
 use Rattle.recovery_core.specs.Parts.{Parts, AreParts}
 use Rattle.recovery_core.specs.Standing.{IsSentEntry, IsSentOutput, AreOutputs, StandsFor}
 use Rattle.recovery_core.specs.Performing.{Replies}
@@ -98,13 +98,17 @@ module _ {P V : Type 0} (m : Meaning V) (s : Setting V) (w : World V) (y : Parts
   out_found found gives from_one few = go (output_there s.meaning (inputs_fed s w.fed) s.threads w.past t j legal from_one few)
     where
       go : HasOutput w.past t j → (x : Output) × (found ≡ Some x) × IsSentByPast w t j x
-      go (o, k, sends, a, b) = (sent.stamped, gives sent.stamped sent.there (ap (λ (q : Emission). q.thread) sent.plain ∙ a) (ap (λ (q : Emission). q.number) sent.plain ∙ b), record {
-        sent = record { emission = o; after = k };
-        plain = sent.plain;
-        stamp = sent.stamp;
-        sends = sends;
-        named = (a, b);
-      })
+      go (o, k, sends, a, b) = (
+        sent.stamped,
+        gives sent.stamped sent.there (ap (λ (q : Emission). q.thread) sent.plain ∙ a) (ap (λ (q : Emission). q.number) sent.plain ∙ b),
+        record {
+          sent = record { emission = o; after = k };
+          plain = sent.plain;
+          stamp = sent.stamp;
+          sends = sends;
+          named = (a, b);
+        },
+      )
         where
           sent : IsSentOutput (log_of w.past) y.sent (record { emission = o; after = k })
           sent = st.sent.output_sent (record { emission = o; after = k }) sends
@@ -269,8 +273,21 @@ module _ {P V : Type 0} (m : Meaning V) (s : Setting V) (w : World V) (y : Parts
 
           on : On s w (event.Out t j) (outcome.Waits u k) [] next
           on =
-              inr (here, (inr (inr (inr (of.sent, (of.sends, of.named), (λ h. fresh (from_own (arrived_there h))), missing.0, missing.1,
-              ap (λ (v : ℕ). outcome.Waits v k) (sym missing.2) ∙ ap (λ (i : ℕ). outcome.Waits missing.0.thread i) (sym missing.3), refl))), refl))
+              inr (
+                here,
+                (
+                  inr (inr (inr (
+                    of.sent,
+                    (of.sends, of.named),
+                    (λ h. fresh (from_own (arrived_there h))),
+                    missing.0,
+                    missing.1,
+                    ap (λ (v : ℕ). outcome.Waits v k) (sym missing.2) ∙ ap (λ (i : ℕ). outcome.Waits missing.0.thread i) (sym missing.3),
+                    refl,
+                  ))),
+                  refl,
+                ),
+              )
 
           once_none : ReleasesOnce y.logger.released now.released []
           once_none = subst (λ (l : List Output). ReleasesOnce y.logger.released now.released l) (ap (appended y.fresh) (same ∙ sym (append-nil y.fresh)) ∙ appended_append y.fresh []) once

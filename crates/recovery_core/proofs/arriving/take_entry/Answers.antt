@@ -1,12 +1,10 @@
-use Rattle.std.proofs.Common.{◌≡◌, ◌<◌, ◌≤◌, ◌++◌, ℕ, List, refl, sym, ap, ◌∙◌, subst, inl, inr, ◌⊎◌, Ok, Some, arith}
+use Rattle.std.proofs.Common.{◌≡◌, ◌<◌, ℕ, List, refl, sym, ap, ◌∙◌, subst, inl, inr, ◌⊎◌, Ok, arith}
 use Rattle.entry_order.specs.Log.{entries}
-use Rattle.access_log.specs.declared.entry.Output.{Output}
 use Rattle.plain_machine.specs.History.{log_of}
 use Rattle.access_log.specs.Held.{Lane, lane, IsFrontier}
 use Rattle.output_logger.specs.Logger.{appended}
 use Rattle.recovery_world.specs.declared.event.Outcome.TheVariants as outcome
 use Rattle.recovery_world.specs.declared.event.Event.TheVariants as event_is
-use Rattle.recovery_core.specs.Standing.{StandsFor}
 use Rattle.recovery_core.proofs.EntryArrivals.{counted, log_none, log_old, log_found, log_known, log_new, not_known, was_known, same_parts, at_view, came, adds_none, noted_new}
 use Rattle.recovery_core.proofs.arriving.take_entry.Goals as goal
 use Rattle.recovery_core.proofs.arriving.take_entry.Goals.{then-number-eq0-via-then-number-eq0, then-number-eq0-via-else-number-eq0+then-number-counts}
@@ -16,7 +14,7 @@ returns-then-number-eq0-clause-on g c =
     came _ _ _ _ _ (event_is.Log c.args.thread c.args.number) c.only.result c.core.view_is c.core.view_is refl refl (λ s w st.
     let low = subst (λ q. c.args.thread < q.inputs.threads) (sym c.core.view_is) c.requires.thread_in in
     let none = elim c.then-number-eq0.branch as (λ _. (c.args.number ≡ 0) ⊎ (entries c.args.thread (log_of w.past) < c.args.number)) [
-      then-number-eq0-via-then-number-eq0 k ↦ inl k.if-number-eq0.true
+      | then-number-eq0-via-then-number-eq0 k ↦ inl k.if-number-eq0.true
       | then-number-eq0-via-else-number-eq0+then-number-counts k ↦ inr (let count = counted _ s w _ st c.args.thread k.counts.result low k.counts.ensures in let high = k.if-number-counts.true in omega (arith, count.0, high))
     ] in
     log_none _ s w _ st c.args.thread c.args.number low c.only.result c.only.ensures none)
@@ -66,10 +64,10 @@ returns-in-Known g c =
     let same = same_parts _ _ c.entry-2.new.self c.entry-2.new.out c.core.view_is (c.entry-2.ensures.same took.1) (c.entry-2.ensures.none took.1) in
     record {
       on = came _ _ _ _ _ (event_is.Log c.args.thread c.args.number) c.only-in-Known.result c.core.view_is same refl refl (λ s w st.
-      let low = subst (λ q. c.args.thread < q.inputs.threads) (sym c.core.view_is) c.requires.thread_in in
-      let count = counted _ s w _ st c.args.thread c.counts.result low c.counts.ensures in
-      let of = log_found _ s w _ st c.args.thread c.args.number low c.in_ok-entry.field-0 c.in-Some.entry c.in_ok-entry.ensures.there c.in_ok-entry.ensures.forgotten c.in-Some.is (omega arith) (omega (arith, count.0)) in
-      log_known _ s w _ st c.args.thread c.args.number low c.in-Some.entry of (c.entry-2.ensures.known.0 took.0).1 c.only-in-Known.result c.only-in-Known.ensures);
+          let low = subst (λ q. c.args.thread < q.inputs.threads) (sym c.core.view_is) c.requires.thread_in in
+          let count = counted _ s w _ st c.args.thread c.counts.result low c.counts.ensures in
+          let of = log_found _ s w _ st c.args.thread c.args.number low c.in_ok-entry.field-0 c.in-Some.entry c.in_ok-entry.ensures.there c.in_ok-entry.ensures.forgotten c.in-Some.is (omega arith) (omega (arith, count.0)) in
+          log_known _ s w _ st c.args.thread c.args.number low c.in-Some.entry of (c.entry-2.ensures.known.0 took.0).1 c.only-in-Known.result c.only-in-Known.ensures);
       fresh = adds_none _ _ c.entry-2.new.out c.core.view_is (c.entry-2.ensures.none took.1);
       handed = ap (λ q. q.handed) c.core.view_is;
     }

@@ -1,4 +1,4 @@
-use Rattle.std.proofs.Common.{◌≡◌, ◌<◌, ◌≤◌, ◌++◌, ℕ, List, [], ◌∷◌, refl, sym, ap, ◌∙◌, subst, inl, inr, ◌⊎◌, Ok, Some, arith}
+use Rattle.std.proofs.Common.{◌≡◌, ◌<◌, ℕ, [], refl, sym, ap, ◌∙◌, subst, inl, inr, ◌⊎◌, Ok, arith}
 use Rattle.plain_machine.specs.History.{sent_of, outputs}
 use Rattle.recovery_world.specs.declared.event.Event.TheVariants as event_is
 use Rattle.recovery_world.specs.declared.event.Outcome.TheVariants as outcome
@@ -12,7 +12,7 @@ returns-then-number-eq0-clause-on g c =
     came _ _ _ _ _ (event_is.Out c.args.thread c.args.number) c.only.result c.core.view_is c.core.view_is refl refl (λ s w st.
     let low = subst (λ q. c.args.thread < q.inputs.threads) (sym c.core.view_is) c.requires.thread_in in
     let none = elim c.then-number-eq0.branch as (λ _. (c.args.number ≡ 0) ⊎ (outputs c.args.thread (sent_of w.past) < c.args.number)) [
-      then-number-eq0-via-then-number-eq0 k ↦ inl k.if-number-eq0.true
+      | then-number-eq0-via-then-number-eq0 k ↦ inl k.if-number-eq0.true
       | then-number-eq0-via-else-number-eq0+then-number-counts k ↦ inr (let count = counted _ s w _ st c.args.thread k.counts.result low k.counts.ensures in let high = k.if-number-counts.true in omega (arith, count.1, high))
     ] in
     out_none _ s w _ st c.args.thread c.args.number low c.only.result c.only.ensures none)
