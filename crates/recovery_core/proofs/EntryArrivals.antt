@@ -1,5 +1,5 @@
 -- An entry arrives at the output logger of a system: it stands for the world after it.
-use Rattle.std.proofs.Common.{◌≡◌, ℕ, ◌+◌, ◌<◌, ◌≤◌, ◌≢◌, List, [], ◌∷◌, ◌++◌, length, refl, sym, ap, ◌∙◌, subst, inl, inr, ◌⊎◌, Option, Some, None, Result, Ok, arith}
+use Rattle.std.proofs.Common.{◌≡◌, ℕ, ◌<◌, ◌≤◌, ◌≢◌, List, [], ◌∷◌, ◌++◌, length, refl, sym, ap, ◌∙◌, subst, inl, inr, ◌⊎◌, Option, Some, None, Result, Ok, arith}
 use Rattle.plain_text.specs.declared.memory.NoMemory.{NoMemory}
 use Rattle.output_logger.specs.declared.took.EntryTook.{EntryTook}
 use Rattle.output_logger.specs.declared.took.EntryTook.TheVariants as took_of
@@ -18,9 +18,8 @@ use Rattle.entry_order.proofs.Missing.{due_within, within_due}
 use Rattle.entry_order.proofs.Order.{is_or, number_within, entry_there}
 use Rattle.access_log.specs.declared.entry.StampedEntry.{StampedEntry}
 use Rattle.access_log.specs.declared.entry.Output.{Output}
-use Rattle.access_log.specs.Held.{Lane, lane, IsFrontier, IsKnown as IsKnownLane, IsWithin as IsWithinLanes}
+use Rattle.access_log.specs.Held.{Lane, lane, IsFrontier, IsKnown as IsKnownLane}
 use Rattle.access_log.specs.Lanes.{PutsEntry}
-use Rattle.link_store.specs.declared.address.Address.{Address}
 use Rattle.link_store.specs.Links.{address, frame_at, IsUpTo}
 use Rattle.wire_frames.specs.declared.frame.Frame.TheVariants as frame
 use Rattle.wire_frames.specs.Layout.{IsFrame}
@@ -41,13 +40,12 @@ use Rattle.recovery_world.specs.declared.event.Event.TheVariants as event
 use Rattle.recovery_world.specs.declared.event.Outcome.{Outcome}
 use Rattle.recovery_world.specs.declared.event.Outcome.TheVariants as outcome
 use Rattle.recovery_world.specs.World.{Setting, Sent, World, inputs_fed}
-use Rattle.recovery_world.specs.Events.{IsKnown, IsEntryOf, IsAmong, MayGo, OnLog, On, Parts as WorldParts}
-use Rattle.recovery_world.specs.Limits.{OnWithin}
+use Rattle.recovery_world.specs.Events.{IsKnown, IsEntryOf, IsAmong, MayGo, On, Parts as WorldParts}
 use Rattle.recovery_world.specs.Files.{sent_names}
 use Rattle.recovery_laws.proofs.KeptWorlds.{within_sound}
 use Rattle.recovery_laws.proofs.Sets.{parts_go, among_either}
 use Rattle.recovery_core.specs.declared.reply.Reply.{Reply}
-use Rattle.recovery_core.specs.Sending.{Sending, length_at, lengths_of, entry_address, output_address, HasEntryFrame, HasOutputFrame, ForgetsEntries}
+use Rattle.recovery_core.specs.Sending.{Sending, length_at, lengths_of, entry_address, output_address, HasEntryFrame, ForgetsEntries}
 use Rattle.recovery_core.specs.Parts.{Parts}
 use Rattle.recovery_core.specs.Standing.{IsSentEntry, IsSentOutput, AreOutputs, StandsFor, StandsForSome}
 use Rattle.recovery_core.specs.Performing.{Replies, MovesOn}

@@ -17,3 +17,5 @@ pub mod FinishLemmas
 pub mod ReadLemmas
 pub mod OpeningLemmas
 pub mod RepliesLemmas
+pub mod ThreadCounts
+pub mod Arrivals

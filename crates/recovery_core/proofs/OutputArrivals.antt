@@ -3,12 +3,12 @@ use Rattle.std.proofs.Common.{◌≡◌, ℕ, ◌+◌, ◌<◌, ◌≤◌, ◌�
 use Rattle.std.specs.Prelude.{slice_index, ◌↔◌, drop, map}
 use Rattle.std.proofs.lemmas.List.{length-append, append-nil}
 use Rattle.plain_text.specs.declared.memory.NoMemory.{NoMemory}
-use Rattle.entry_order.specs.Log.{Entry, IsLog, IsIn, entries}
+use Rattle.entry_order.specs.Log.{Entry, IsLog, IsIn}
 use Rattle.entry_order.specs.Closed.{IsMissing, IsFirstMissing}
 use Rattle.entry_order.specs.Stamps.{IsOutputStamp}
 use Rattle.entry_order.proofs.Missing.{due_within, first_missing}
 use Rattle.access_log.specs.declared.entry.Output.{Output}
-use Rattle.access_log.specs.Held.{Lane, lane, IsWithin as IsWithinLanes, IsFirstMissing as IsFirstMissingLane}
+use Rattle.access_log.specs.Held.{Lane, IsFirstMissing as IsFirstMissingLane}
 use Rattle.plain_machine.specs.declared.emission.Emission.{Emission}
 use Rattle.plain_machine.specs.Program.{Meaning}
 use Rattle.plain_machine.specs.History.{log_of, sent_of, outputs, IsHistory}
@@ -21,19 +21,19 @@ use Rattle.master_core.proofs.Moments.{moment_log}
 use Rattle.dup_filter.specs.Numbers.{Numbers, WasMarked}
 use Rattle.output_logger.specs.declared.took.OutputTook.{OutputTook}
 use Rattle.output_logger.specs.declared.took.OutputTook.TheVariants as took_of
-use Rattle.output_logger.specs.Logger.{Logger, IsDue, ReleasesOnce, IsNamed, appended, HasArrived as HasArrivedThere}
+use Rattle.output_logger.specs.Logger.{Logger, IsDue, ReleasesOnce, appended, HasArrived as HasArrivedThere}
 use Rattle.output_logger.proofs.NameLemmas.{appended_append}
 use Rattle.recovery_world.specs.declared.event.Event.TheVariants as event
 use Rattle.recovery_world.specs.declared.event.Outcome.{Outcome}
 use Rattle.recovery_world.specs.declared.event.Outcome.TheVariants as outcome
 use Rattle.recovery_world.specs.World.{Setting, Sent, World, inputs_fed}
-use Rattle.recovery_world.specs.Events.{HasNumber, IsOutputOf, HasArrived, IsAmong, MayGo, OnOut, On}
+use Rattle.recovery_world.specs.Events.{HasNumber, IsOutputOf, HasArrived, IsAmong, MayGo, On}
 use Rattle.recovery_world.specs.Files.{sent_names, packets_of}
 use Rattle.recovery_laws.proofs.KeptWorlds.{within_sound}
 use Rattle.recovery_laws.proofs.Sets.{among_either}
 use Rattle.recovery_laws.proofs.Settlings.{number_high}
 use Rattle.recovery_core.specs.declared.reply.Reply.{Reply}
-use Rattle.recovery_core.specs.Sending.{Sending, HasOutputFrame}
+use Rattle.recovery_core.specs.Sending.{HasOutputFrame}
 use Rattle.recovery_core.specs.Parts.{Parts, AreParts}
 use Rattle.recovery_core.specs.Standing.{IsSentEntry, IsSentOutput, AreOutputs, StandsFor}
 use Rattle.recovery_core.specs.Performing.{Replies}

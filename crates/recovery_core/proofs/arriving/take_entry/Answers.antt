@@ -1,12 +1,10 @@
-use Rattle.std.proofs.Common.{◌≡◌, ◌<◌, ◌≤◌, ◌++◌, ℕ, List, refl, sym, ap, ◌∙◌, subst, inl, inr, ◌⊎◌, Ok, Some, arith}
+use Rattle.std.proofs.Common.{◌≡◌, ◌<◌, ℕ, List, refl, sym, ap, ◌∙◌, subst, inl, inr, ◌⊎◌, Ok, arith}
 use Rattle.entry_order.specs.Log.{entries}
-use Rattle.access_log.specs.declared.entry.Output.{Output}
 use Rattle.plain_machine.specs.History.{log_of}
 use Rattle.access_log.specs.Held.{Lane, lane, IsFrontier}
 use Rattle.output_logger.specs.Logger.{appended}
 use Rattle.recovery_world.specs.declared.event.Outcome.TheVariants as outcome
 use Rattle.recovery_world.specs.declared.event.Event.TheVariants as event_is
-use Rattle.recovery_core.specs.Standing.{StandsFor}
 use Rattle.recovery_core.proofs.EntryArrivals.{counted, log_none, log_old, log_found, log_known, log_new, not_known, was_known, same_parts, at_view, came, adds_none, noted_new}
 use Rattle.recovery_core.proofs.arriving.take_entry.Goals as goal
 use Rattle.recovery_core.proofs.arriving.take_entry.Goals.{then-number-eq0-via-then-number-eq0, then-number-eq0-via-else-number-eq0+then-number-counts}

@@ -1,4 +1,4 @@
-use Rattle.std.proofs.Common.{◌≡◌, ◌+◌, ◌*◌, ◌^◌, ◌<◌, ◌≤◌, ℕ, List, [], ◌∷◌, ◌++◌, None, Some, Option, Ok, Err, length, refl, sym, ap, ◌∙◌, subst, arith}
+use Rattle.std.proofs.Common.{Some, Err, length, ap, ◌∙◌}
 use Rattle.recovery_core.proofs.FrameLemmas.{whole_begins, gives_no_fault}
 use Rattle.recovery_core.proofs.sending.frame_in.Goals as goal
 

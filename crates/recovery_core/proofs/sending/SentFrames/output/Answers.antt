@@ -1,4 +1,4 @@
-use Rattle.std.proofs.Common.{◌≡◌, ◌+◌, ◌*◌, ◌^◌, ◌<◌, ◌≤◌, ℕ, List, [], ◌∷◌, ◌++◌, None, Some, Option, Ok, Err, length, refl, sym, ap, ◌∙◌, subst, arith}
+use Rattle.std.proofs.Common.{sym, subst}
 use Rattle.recovery_core.specs.Sending.{Sending, HasOutputFrame}
 use Rattle.recovery_core.proofs.FrameLemmas.{output_bytes}
 use Rattle.recovery_core.proofs.sending.SentFrames.output.Goals as goal

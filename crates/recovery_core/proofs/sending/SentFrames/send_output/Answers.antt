@@ -1,7 +1,7 @@
-use Rattle.std.proofs.Common.{◌≡◌, ◌+◌, ◌*◌, ◌^◌, ◌<◌, ◌≤◌, ℕ, List, [], ◌∷◌, ◌++◌, None, Some, Option, Ok, Err, length, refl, sym, ap, ◌∙◌, subst, arith}
+use Rattle.std.proofs.Common.{sym, subst, arith}
 use Rattle.std.proofs.lemmas.Result.{on_ok_weaker}
 use Rattle.wire_frames.specs.Writing.{CanPutOutput}
-use Rattle.recovery_core.specs.Sending.{Sending, SendsOutput}
+use Rattle.recovery_core.specs.Sending.{Sending}
 use Rattle.recovery_core.proofs.FrameLemmas.{sends_output, one_longer_is, nonzero_few}
 use Rattle.recovery_core.proofs.sending.SentFrames.send_output.Goals as goal
 
