@@ -102,8 +102,8 @@ feed_moves {P} {V} m n k old new is few = (
     after_feed s w n,
     on s w st,
     subst (λ (y : Parts P V). StandsFor m s (after_feed s w n) y) (sym (is ∙ same s w st))
-    (stands_with_inputs m s w old (drop k old.left) (record old.inputs { packets = old.inputs.packets ++ take k old.left }) (fed_after s w n) (after_feed s w n).clock st
-    (within_sound s w (event.Feed n) _ [] (after_feed s w n) st.sound (on s w st)) (has s w st)),
+        (stands_with_inputs m s w old (drop k old.left) (record old.inputs { packets = old.inputs.packets ++ take k old.left }) (fed_after s w n) (after_feed s w n).clock st
+        (within_sound s w (event.Feed n) _ [] (after_feed s w n) st.sound (on s w st)) (has s w st)),
   ),
 )
   where

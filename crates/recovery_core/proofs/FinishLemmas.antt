@@ -64,11 +64,15 @@ greatest_within t n (o ∷ released) low = go (is_or o.emission.thread t) (great
 -- every thread sent out what was released, and stays
 all_stay : {V : Type 0} (released : List Sent) (n : ℕ) (past : List (Step V)) → ((t : ℕ) → greatest t released ≤ outputs t (sent_of past)) → AllGoOn released n past past
 all_stay released zero past enough = refl
-all_stay released (suc t) past enough = (past, all_stay released t past enough, record {
-  quiet = stays_quietly t past;
-  enough = enough t;
-  soonest = λ mid from to there. earlier_both mid past to from;
-})
+all_stay released (suc t) past enough = (
+  past,
+  all_stay released t past enough,
+  record {
+    quiet = stays_quietly t past;
+    enough = enough t;
+    soonest = λ mid from to there. earlier_both mid past to from;
+  },
+)
 
 module _ {P V : Type 0} (m : Meaning V) (s : Setting V) (w : World V) (y : Parts P V) (st : StandsFor m s w y) where
   -- the past is a run on the whole capture
@@ -122,11 +126,14 @@ abbrev pub with_taken : {P V : Type 0} → Parts P V → Parts P V
 with_taken y = record y { fresh = []; handed = length y.released }
 
 pub taken_released : {P V : Type 0} (w : World V) (y : Parts P V) → HasReleased w y → HasReleased w (with_taken y) × (length y.released ≡ length w.released)
-taken_released w y has = (record {
-  names = has.names;
-  handed = omega (arith, count);
-  fresh = sym (ap packets_of (drop_all (length y.released) w.released (omega (arith, count))));
-}, count)
+taken_released w y has = (
+  record {
+    names = has.names;
+    handed = omega (arith, count);
+    fresh = sym (ap packets_of (drop_all (length y.released) w.released (omega (arith, count))));
+  },
+  count,
+)
   where
     count : length y.released ≡ length w.released
     count = ap length has.names ∙ names_length w.released

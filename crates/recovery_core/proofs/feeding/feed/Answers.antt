@@ -29,7 +29,7 @@ packets-preserved g c = record {
 -- what the loop came to
 ended : (g : _) (c : goal.After-fed g) → FedAll c.args.n c.args.core.now (parts_in c.packets-test.core-inside)
 ended g c = elim c.packets-test.branch [
-  else-packets-test w ↦
+  | else-packets-test w ↦
       subst (λ i. FedAll c.args.n c.args.core.now (parts_in i)) (sym w.core-inside-is)
       (fed_whole c.args.n c.packets.counter c.packets.invariant.fed c.packets.invariant.within c.packets.auto.counter-end w.packets-test.false)
   | then-packets-test+in_default w ↦
