@@ -1,23 +1,20 @@
 -- The end: with nothing followed, and a master that is up, the world ends in its past.
-use Rattle.std.proofs.Common.{◌≡◌, ◌≢◌, ℕ, zero, suc, ◌+◌, ◌<◌, ◌≤◌, max, true, false, cond, Bool, nat_eq, List, [], ◌∷◌, length, take, drop, map, refl, sym, ap, ◌∙◌, subst, inl, inr, ◌⊎◌, arith, length-take, length-drop}
-use Rattle.std.specs.Prelude.{◌↔◌}
+use Rattle.std.proofs.Common.{◌≡◌, ◌≢◌, ℕ, zero, suc, ◌<◌, ◌≤◌, max, true, false, cond, Bool, nat_eq, List, [], ◌∷◌, length, drop, map, refl, sym, ap, ◌∙◌, subst, inl, inr, ◌⊎◌, arith, length-take}
 use Rattle.std.proofs.lemmas.List.{drop_all}
 use Rattle.std.proofs.lemmas.Bool.Decides.{nat_tests}
-use Rattle.plain_text.specs.declared.packet.Packet.{Packet}
 use Rattle.access_log.specs.declared.entry.Output.{Output}
 use Rattle.input_logger.specs.Inputs.{Fed}
 use Rattle.entry_order.specs.Log.{Entry, IsIn}
 use Rattle.entry_order.proofs.Order.{is_or}
 use Rattle.plain_machine.specs.Program.{Meaning}
-use Rattle.plain_machine.specs.History.{Step, log_of, sent_of, outputs, IsHistory}
-use Rattle.plain_machine.specs.Agree.{IsEarlier, SendsAfter}
-use Rattle.plain_machine.specs.Continue.{GoesQuietly}
+use Rattle.plain_machine.specs.History.{Step, sent_of, outputs, IsHistory}
+use Rattle.plain_machine.specs.Agree.{IsEarlier}
 use Rattle.plain_machine.proofs.Continuations.{stays_quietly}
 use Rattle.line_order.proofs.Runs.{history_more}
 use Rattle.recovery_world.specs.World.{Setting, Sent, World, inputs_fed, all_inputs}
 use Rattle.recovery_world.specs.Events.{IsAmong}
-use Rattle.recovery_world.specs.Finish.{IsToCome, IsLine, greatest, GoesOn, AllGoOn, IsFinish}
-use Rattle.recovery_world.specs.Files.{sent_names, packets_of, moves_made}
+use Rattle.recovery_world.specs.Finish.{IsToCome, greatest, AllGoOn, IsFinish}
+use Rattle.recovery_world.specs.Files.{sent_names, packets_of}
 use Rattle.recovery_laws.proofs.Worlds.{fed_found}
 use Rattle.recovery_laws.proofs.Settlings.{number_high}
 use Rattle.recovery_core.specs.Parts.{Parts}

@@ -1,32 +1,30 @@
 -- Before the first event a system stands for the opening.
-use Rattle.std.proofs.Common.{◌≡◌, ℕ, zero, suc, ◌≤◌, true, All, List, [], ◌∷◌, length, replicate, slice_index_or, map, drop, Option, Some, None, refl, sym, ap, ◌∙◌, subst, inl, inr, ◌⊎◌, arith}
-use Rattle.std.specs.Prelude.{◌↔◌}
-use Rattle.rand_pcg.specs.Lcg.{Lcg, state_after, started, increment_of}
+use Rattle.std.proofs.Common.{◌≡◌, ℕ, zero, suc, ◌≤◌, true, All, List, [], length, replicate, slice_index_or, map, drop, refl, sym, ap, ◌∙◌, subst, inl, inr, arith}
+use Rattle.rand_pcg.specs.Lcg.{state_after, started, increment_of}
 use Rattle.rand_pcg.specs.Pcg.{multiplier_64}
 use Rattle.plain_text.specs.declared.packet.Packet.{Packet}
 use Rattle.plain_text.specs.declared.packet.Unit.{Unit as FractionUnit}
 use Rattle.traffic_gen.specs.Generated.{generator_after}
 use Rattle.input_logger.specs.Inputs.{Fed}
 use Rattle.entry_order.specs.Log.{Entry, IsIn}
-use Rattle.access_log.specs.Held.{Lane, fresh_lane}
+use Rattle.access_log.specs.Held.{fresh_lane}
 use Rattle.dup_filter.specs.Numbers.{Numbers, no_numbers, IsMarked, WasMarked}
 use Rattle.plain_machine.specs.Program.{Meaning}
 use Rattle.box_program.specs.Hands.{FitsProgram}
 use Rattle.master_core.specs.Mastered.{value_of}
 use Rattle.master_core.specs.Standing.{Stands}
-use Rattle.master_core.specs.Holding.{held_entries, HoldsOf}
+use Rattle.master_core.specs.Holding.{held_entries}
 use Rattle.master_core.proofs.HeldEntries.{held_at}
 use Rattle.master_core.proofs.Holdings.{fresh_holds, fresh_holds_none}
 use Rattle.output_logger.specs.Logger.{Logger}
-use Rattle.recovery_world.specs.World.{Setting, Sent, World, opening}
+use Rattle.recovery_world.specs.World.{opening}
 use Rattle.recovery_world.specs.Files.{packets_of}
 use Rattle.access_log.specs.declared.entry.Output.{Output}
 use Rattle.std.proofs.lemmas.List.{length-replicate}
 use Rattle.std.proofs.Math.Seq.{drop-nil}
 use Rattle.std.proofs.lemmas.List.Elements.{All-nil}
-use Rattle.recovery_world.specs.Events.{HasNumber, IsAmong}
 use Rattle.recovery_laws.proofs.KeptWorlds.{opening_sound}
-use Rattle.recovery_core.specs.Sending.{Sending, lengths_of, IsUnsent}
+use Rattle.recovery_core.specs.Sending.{lengths_of, IsUnsent}
 use Rattle.recovery_core.specs.Parts.{Parts, IsShort, AreParts}
 use Rattle.recovery_core.specs.Standing.{HasLogger, HasSent, StandsFor}
 

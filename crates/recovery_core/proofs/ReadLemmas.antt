@@ -1,5 +1,5 @@
 -- What is read of a system: the value of a variable, and the counts of a thread.
-use Rattle.std.proofs.Common.{◌≡◌, ℕ, ◌<◌, ◌≤◌, List, [], slice_index_or, refl, sym, ap, ◌∙◌, subst, inl, inr, arith, None}
+use Rattle.std.proofs.Common.{◌≡◌, ℕ, ◌<◌, List, [], slice_index_or, refl, sym, ap, ◌∙◌, subst, inr, None}
 use Rattle.std.specs.Prelude.{HoldsAt}
 use Rattle.entry_order.specs.Log.{entries}
 use Rattle.input_logger.specs.Inputs.{Fed}

@@ -1,5 +1,5 @@
 -- What a single event comes to is what any event comes to.
-use Rattle.std.proofs.Common.{◌≡◌, ℕ, List, [], refl, sym, subst}
+use Rattle.std.proofs.Common.{◌≡◌, [], refl, sym, subst}
 use Rattle.plain_text.specs.declared.limit.Limit.{Limit}
 use Rattle.plain_machine.specs.Program.{Meaning}
 use Rattle.recovery_world.specs.declared.event.Event.{Event}

@@ -5,7 +5,8 @@ use box_program::Program;
 use plain_machine::PlainMove;
 use plain_text::{Bytes, NoMemory, Packet, Unit, put_u64};
 use recovery_world::Event;
-use slow_runs::{finish, on, put_reply_end};
+use script_text::{write_outcome, write_released};
+use slow_runs::{finish, on};
 use slow_world::{Setup, SlowWorld, opening};
 use std::alloc::Global;
 
@@ -65,9 +66,10 @@ fn replies<P: Program>(
     let Ok(made) = on(world, alloc, program, setup, event)? else {
         return Ok(false);
     };
-    let mut text = Bytes::new(alloc);
-    put_reply_end(&mut text, &made)?;
-    Ok(text.as_slice() == reply.as_bytes())
+    let mut text = String::new(alloc);
+    write_outcome(&mut text, &made.outcome)?;
+    write_released(&mut text, &made.freed)?;
+    Ok(text.as_str() == reply)
 }
 
 /// The number of events, from the front on, that have their replies.

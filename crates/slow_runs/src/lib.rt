@@ -1,5 +1,4 @@
-//! Runs of the slow recovering system: the events of several, the schedule of the run in which a world ends, and the words of
-//! reply lines.
+//! Runs of the slow recovering system: the events of several, and the schedule of the run in which a world ends.
 //!
 //! `on` performs every event of a script, and its contract is the definition: what a settling and chosen events make of the
 //! world, step by step, and that an event stops before a move that would pass a limit.
@@ -13,10 +12,8 @@
 #![tactic(auto)]
 
 mod ending;
-mod lines;
 mod many;
 mod within;
 
 pub use ending::finish;
-pub use lines::{put_outcome, put_reply_end};
 pub use many::on;

@@ -1,4 +1,4 @@
-use Rattle.std.proofs.Common.{◌≡◌, ap, ◌∙◌}
+use Rattle.std.proofs.Common.{ap, ◌∙◌}
 use Rattle.recovery_core.proofs.ReadLemmas.{counts_stand}
 use Rattle.recovery_core.proofs.system.System.counts.Goals as goal
 

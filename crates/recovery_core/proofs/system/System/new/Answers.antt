@@ -1,5 +1,4 @@
 use Rattle.std.proofs.Common.{sym, subst}
-use Rattle.recovery_world.specs.World.{opening}
 use Rattle.recovery_core.specs.Standing.{StandsForSome}
 use Rattle.recovery_core.proofs.system.System.new.Goals as goal
 

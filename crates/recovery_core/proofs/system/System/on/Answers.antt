@@ -1,4 +1,4 @@
-use Rattle.std.proofs.Common.{◌≡◌, ap, subst, IfOk}
+use Rattle.std.proofs.Common.{ap, subst, IfOk}
 use Rattle.recovery_core.specs.Performing.{MovesOn, RepliesAny}
 use Rattle.recovery_core.proofs.RepliesLemmas.{moves_some}
 use Rattle.recovery_core.proofs.system.System.on.Goals as goal
