@@ -27,8 +27,7 @@ const MOST_STEPS: u32 = 64;
 /// This number of generated packets.
 fn make_packets(alloc: Global, count: u64) -> Result<Packets, NoMemory>
     requires { count ≤ MOST_PACKETS }
-    ensures few { IfOk result (λ packets. length packets ≤ MOST_PACKETS) }
-    ensures short { IfOk result (All IsShort) }
+    ensures { IfOk result (All IsShort) }
 {
     make(alloc, 1, count)
 }
@@ -102,8 +101,7 @@ fn perform_all<P: Program>(
     packets: Packets,
     settles: bool,
 ) -> Result<(u64, usize), Stop>
-    requires few { length packets ≤ MOST_PACKETS }
-    requires short { All IsShort packets }
+    requires { All IsShort packets }
 {
     let count = packets.len();
     let mut system = System::new(alloc, program, 1, 0, Unit::Micro, packets)?;

@@ -1,5 +1,5 @@
 -- Before the first event a system stands for the opening.
-use Rattle.std.proofs.Common.{◌≡◌, ℕ, zero, suc, ◌≤◌, true, All, List, [], length, replicate, slice_index_or, map, drop, refl, sym, ap, ◌∙◌, subst, inl, inr, arith}
+use Rattle.std.proofs.Common.{◌≡◌, ℕ, zero, suc, ◌≤◌, All, List, [], length, replicate, slice_index_or, map, drop, refl, sym, ap, ◌∙◌, subst, inl, inr, arith}
 use Rattle.rand_pcg.specs.Lcg.{state_after, started, increment_of}
 use Rattle.rand_pcg.specs.Pcg.{multiplier_64}
 use Rattle.plain_text.specs.declared.packet.Packet.{Packet}

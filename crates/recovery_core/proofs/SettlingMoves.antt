@@ -1,5 +1,5 @@
 -- Events one after another: what they make of each world that a system stood for.
-use Rattle.std.proofs.Common.{◌≡◌, ◌+◌, List, [], ◌++◌, refl, sym, ap, ◌∙◌, subst, arith, append_assoc}
+use Rattle.std.proofs.Common.{◌≡◌, List, [], ◌++◌, refl, sym, ap, ◌∙◌, subst, arith, append_assoc}
 use Rattle.std.specs.Prelude.{Result, Err}
 use Rattle.std.proofs.lemmas.Grind.{common_steps}
 use Rattle.access_log.specs.declared.entry.Output.{Output}

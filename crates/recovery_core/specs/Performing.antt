@@ -1,8 +1,6 @@
 -- What performing an event answers, and what it makes of the system, for each world that the system stood for.
-use Rattle.std.specs.Prelude.{◌≡◌, ◌≢◌, ℕ, List, [], ◌++◌, length}
-use Rattle.plain_text.specs.declared.kind.Kind.{Kind}
+use Rattle.std.specs.Prelude.{◌≡◌, List, [], ◌++◌, length}
 use Rattle.plain_text.specs.declared.limit.Limit.{Limit}
-use Rattle.plain_machine.specs.declared.plain_move.PlainMove.{PlainMove}
 use Rattle.plain_machine.specs.Program.{Meaning}
 use Rattle.plain_machine.specs.History.{Step}
 use Rattle.access_log.specs.declared.entry.Output.{Output}

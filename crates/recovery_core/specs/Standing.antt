@@ -1,8 +1,6 @@
 -- Which worlds a recovering system stands for: a record for each of its parts.
-use Rattle.std.specs.Prelude.{◌≡◌, ℕ, ◌≤◌, ◌⊎◌, ◌↔◌, true, List, [], ◌∷◌, length, map, take, drop, slice_index, Option, Some, None}
+use Rattle.std.specs.Prelude.{◌≡◌, ℕ, ◌≤◌, ◌⊎◌, ◌↔◌, true, List, [], ◌∷◌, length, map, take, drop, slice_index, Some, None}
 use Rattle.traffic_gen.specs.Generated.{generator_after}
-use Rattle.plain_text.specs.declared.packet.Packet.{Packet}
-use Rattle.input_logger.specs.Inputs.{Fed}
 use Rattle.entry_order.specs.Log.{Entry, entries, IsIn}
 use Rattle.entry_order.specs.Stamps.{IsStamp, IsOutputStamp}
 use Rattle.access_log.specs.declared.entry.StampedEntry.{StampedEntry}

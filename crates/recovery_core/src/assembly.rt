@@ -1,5 +1,4 @@
 ghost use Rattle.std.specs.Prelude.{◌≡◌, ◌≤◌, ℕ, All, IfOk, length};
-ghost use Rattle.plain_text.specs.declared.limit.TheConstants.{MOST_PACKETS};
 ghost use Rattle.plain_text.specs.declared.packet.Packet as packet_of;
 ghost use Rattle.plain_text.specs.declared.packet.Unit as unit_of;
 ghost use Rattle.recovery_world.specs.World.{Setting, World, opening};
@@ -106,7 +105,6 @@ impl<P: Program> Core<P> {
     ) -> Result<Self, NoMemory>
         requires some_threads { 1 ≤ threads }
         requires few_threads { threads ≤ 16 }
-        requires few_packets { length packets ≤ MOST_PACKETS }
         requires short { All IsShort packets }
         ensures stands { IfOk result (λ y. StandsFor (P.meaning program) (record {
           meaning = P.meaning program;

@@ -1,6 +1,5 @@
 ghost use Rattle.std.specs.Prelude.{◌≡◌, ◌↔◌, ◌<◌, ◌≤◌, ℕ, All, List, [], IsTrue, IfOk, OnOk, OnErr, Err, true, false, drop, length, map};
 ghost use Rattle.plain_text.specs.declared.limit.Limit.{Limit as LimitKind};
-ghost use Rattle.plain_text.specs.declared.limit.TheConstants.{MOST_PACKETS};
 ghost use Rattle.plain_text.specs.declared.packet.Packet as packet_of;
 ghost use Rattle.access_log.specs.declared.entry.Output as output_of;
 ghost use Rattle.entry_order.specs.Log.{entries};
@@ -117,7 +116,6 @@ impl<P: Program> System<P> {
     ) -> Result<Self, NoMemory>
         requires some_threads { 1 ≤ threads }
         requires few_threads { threads ≤ 16 }
-        requires few_packets { length packets ≤ MOST_PACKETS }
         requires short { All IsShort packets }
         ensures stands { IfOk result (λ y. StandsFor (P.meaning program) (record {
           meaning = P.meaning program;

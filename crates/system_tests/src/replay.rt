@@ -1,9 +1,8 @@
-ghost use Rattle.std.specs.Prelude.{◌≡◌, ◌≤◌, All, IsTrue, IfOk, IfSome, false, length};
-ghost use Rattle.plain_text.specs.declared.limit.TheConstants.{MOST_PACKETS};
+ghost use Rattle.std.specs.Prelude.{◌≡◌, ◌≤◌, All, IsTrue, IfOk, IfSome, false};
 ghost use Rattle.recovery_core.specs.Parts.{IsShort};
 
 use box_program::Program;
-use plain_text::{Bytes, MOST_CAPTURED, MOST_PACKETS, NoMemory, Packet, Packets, Unit};
+use plain_text::{Bytes, MOST_CAPTURED, NoMemory, Packet, Packets, Unit};
 use recovery_core::{System, is_performed, put_line};
 use recovery_world::Event;
 use script_text::read_script;
@@ -35,13 +34,11 @@ pub fn capture_of(alloc: Global, frames: &[&[u8]]) -> Result<Packets, NoMemory> 
 
 /// Whether a system takes these packets.
 fn are_taken(packets: &[Packet]) -> bool
-    ensures few { IsTrue result → length packets.now ≤ MOST_PACKETS }
-    ensures short { IsTrue result → All IsShort packets.now }
+    ensures { IsTrue result → All IsShort packets.now }
 {
-    packets.len() <= MOST_PACKETS as usize
-        && packets
-            .iter()
-            .all(|packet| packet.bytes.len() <= MOST_CAPTURED as usize)
+    packets
+        .iter()
+        .all(|packet| packet.bytes.len() <= MOST_CAPTURED as usize)
 }
 
 /// A system on a capture of these frames.
