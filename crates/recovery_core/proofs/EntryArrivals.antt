@@ -46,7 +46,7 @@ use Rattle.recovery_laws.proofs.KeptWorlds.{within_sound}
 use Rattle.recovery_laws.proofs.Sets.{parts_go, among_either}
 use Rattle.recovery_core.specs.declared.reply.Reply.{Reply}
 use Rattle.recovery_core.specs.Sending.{Sending, length_at, lengths_of, entry_address, output_address, HasEntryFrame, ForgetsEntries}
-use Rattle.recovery_core.specs.Parts.{Parts}
+use Rattle.recovery_core.specs.Parts.{Parts, AreParts}
 use Rattle.recovery_core.specs.Standing.{IsSentEntry, IsSentOutput, AreOutputs, StandsFor, StandsForSome}
 use Rattle.recovery_core.specs.Performing.{Replies, MovesOn}
 use Rattle.recovery_core.specs.Arriving.{names_of, NotesReleased}
@@ -378,3 +378,19 @@ was_known r took epoch present is (inr other) same old = let late = old (is ∙ 
 pub same_parts : {P V : Type 0} (view now : Parts P V) (logger : Logger) (out : List Output) → view ≡ now → logger ≡ view.logger → out ≡ view.fresh → view ≡ record view { logger = logger; fresh = out }
 same_parts {P} {V} view now logger out at a b =
     ap (λ (l : Logger). record view { logger = l; fresh = view.fresh }) (sym a) ∙ ap (λ (l : List Output). record view { logger = logger; fresh = l }) (sym b)
+
+-- the parts of a system stay such, where an entry or an output was taken
+pub parts_still : {P V : Type 0} (m : Meaning V) (may_have : ℕ → V → Type 0) (y : Parts P V) (links : Sending) (now : Logger) (names : List (ℕ × ℕ)) (out : List Output) → AreParts m may_have y
+    → links.threads ≡ y.sent.threads → length now.held ≡ length y.logger.held → AreParts m may_have (record y { sent = links; logger = now; released = names; fresh = out })
+parts_still {P} {V} m may_have y links now names out are sent held = record {
+  fits = are.fits;
+  some_threads = are.some_threads;
+  few_threads = are.few_threads;
+  master = are.master;
+  logger = held ∙ are.logger;
+  sent = sent ∙ are.sent;
+  left = are.left;
+  fed = are.fed;
+  moves = are.moves;
+  bytes = are.bytes;
+}

@@ -1,5 +1,5 @@
 -- An output arrives at the output logger of a system: it stands for the world after it.
-use Rattle.std.proofs.Common.{◌≡◌, ℕ, ◌+◌, ◌<◌, ◌≤◌, ◌≢◌, List, [], ◌∷◌, ◌++◌, length, refl, sym, ap, ◌∙◌, subst, inl, inr, ◌⊎◌, Option, Some, None, Result, Ok, arith}
+use Rattle.std.proofs.Common.{◌≡◌, ℕ, ◌+◌, ◌<◌, ◌≤◌, ◌≢◌, List, [], ◌∷◌, ◌++◌, refl, sym, ap, ◌∙◌, subst, inl, inr, ◌⊎◌, Option, Some, None, Result, Ok, arith}
 use Rattle.std.specs.Prelude.{slice_index, ◌↔◌, drop, map}
 use Rattle.std.proofs.lemmas.List.{length-append, append-nil}
 use Rattle.plain_text.specs.declared.memory.NoMemory.{NoMemory}
@@ -34,7 +34,7 @@ use Rattle.recovery_laws.proofs.Sets.{among_either}
 use Rattle.recovery_laws.proofs.Settlings.{number_high}
 use Rattle.recovery_core.specs.declared.reply.Reply.{Reply}
 use Rattle.recovery_core.specs.Sending.{HasOutputFrame}
-use Rattle.recovery_core.specs.Parts.{Parts, AreParts}
+use Rattle.recovery_core.specs.Parts.{Parts}
 use Rattle.recovery_core.specs.Standing.{IsSentEntry, IsSentOutput, AreOutputs, StandsFor}
 use Rattle.recovery_core.specs.Performing.{Replies}
 use Rattle.recovery_core.proofs.OutputLists.{outputs_more, named_as, noted_more, packets_more, sent_names_both}
@@ -291,22 +291,6 @@ module _ {P V : Type 0} (m : Meaning V) (s : Setting V) (w : World V) (y : Parts
 
           once_none : ReleasesOnce y.logger.released now.released []
           once_none = subst (λ (l : List Output). ReleasesOnce y.logger.released now.released l) (ap (appended y.fresh) (same ∙ sym (append-nil y.fresh)) ∙ appended_append y.fresh []) once
-
--- the parts of a system stay such, where an output was taken
-pub parts_still : {P V : Type 0} (m : Meaning V) (may_have : ℕ → V → Type 0) (y : Parts P V) (now : Logger) (names : List (ℕ × ℕ)) (out : List Output) → AreParts m may_have y → now.held ≡ y.logger.held
-    → AreParts m may_have (record y { logger = now; released = names; fresh = out })
-parts_still m may_have y now names out are held = record {
-  fits = are.fits;
-  some_threads = are.some_threads;
-  few_threads = are.few_threads;
-  master = are.master;
-  logger = ap (λ (h : List Lane). length h) held ∙ are.logger;
-  sent = are.sent;
-  left = are.left;
-  fed = are.fed;
-  moves = are.moves;
-  bytes = are.bytes;
-}
 
 -- its thread and number are noted
 pub pushed_parts : {P V : Type 0} (view now : Parts P V) (logger : Logger) (out : List Output) (names : List (ℕ × ℕ)) (name : ℕ × ℕ) → view ≡ now → names ≡ view.released ++ name ∷ []

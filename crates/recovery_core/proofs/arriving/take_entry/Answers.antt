@@ -5,7 +5,7 @@ use Rattle.access_log.specs.Held.{Lane, lane, IsFrontier}
 use Rattle.output_logger.specs.Logger.{appended}
 use Rattle.recovery_world.specs.declared.event.Outcome.TheVariants as outcome
 use Rattle.recovery_world.specs.declared.event.Event.TheVariants as event_is
-use Rattle.recovery_core.proofs.EntryArrivals.{counted, log_none, log_old, log_found, log_known, log_new, not_known, was_known, same_parts, at_view, came, adds_none, noted_new}
+use Rattle.recovery_core.proofs.EntryArrivals.{parts_still, counted, log_none, log_old, log_found, log_known, log_new, not_known, was_known, same_parts, at_view, came, adds_none, noted_new}
 use Rattle.recovery_core.proofs.arriving.take_entry.Goals as goal
 use Rattle.recovery_core.proofs.arriving.take_entry.Goals.{then-number-eq0-via-then-number-eq0, then-number-eq0-via-else-number-eq0+then-number-counts}
 
@@ -71,3 +71,9 @@ returns-in-Known g c =
       fresh = adds_none _ _ c.entry-2.new.out c.core.view_is (c.entry-2.ensures.none took.1);
       handed = ap (λ q. q.handed) c.core.view_is;
     }
+
+pub invariant_of-core-in-New : goal.invariant_of-core-in-New
+invariant_of-core-in-New g c = parts_still _ _ _ c.forget_entries.new.self c.entry-2.new.self c.core.inside.released c.entry-2.new.out c.core.invariant c.forget_entries.ensures.forgets.threads c.entry-2.ensures.threads
+
+pub invariant_of-core-in-Known : goal.invariant_of-core-in-Known
+invariant_of-core-in-Known g c = parts_still _ _ _ c.core.inside.sent c.entry-2.new.self c.core.inside.released c.entry-2.new.out c.core.invariant refl c.entry-2.ensures.threads

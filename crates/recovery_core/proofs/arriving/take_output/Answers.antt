@@ -1,9 +1,9 @@
-use Rattle.std.proofs.Common.{◌≡◌, ◌<◌, ℕ, [], refl, sym, ap, ◌∙◌, subst, inl, inr, ◌⊎◌, Ok, arith}
+use Rattle.std.proofs.Common.{length, ◌≡◌, ◌<◌, ℕ, [], refl, sym, ap, ◌∙◌, subst, inl, inr, ◌⊎◌, Ok, arith}
 use Rattle.plain_machine.specs.History.{sent_of, outputs}
 use Rattle.recovery_world.specs.declared.event.Event.TheVariants as event_is
 use Rattle.recovery_world.specs.declared.event.Outcome.TheVariants as outcome
-use Rattle.recovery_core.proofs.EntryArrivals.{counted, at_view, came, same_parts}
-use Rattle.recovery_core.proofs.OutputArrivals.{out_none, out_there, out_is, own_thread, own_number, out_again, out_released, out_waits, parts_still, was_again, not_again_released, not_again_waits, waits_not_released, pushed_parts}
+use Rattle.recovery_core.proofs.EntryArrivals.{parts_still, counted, at_view, came, same_parts}
+use Rattle.recovery_core.proofs.OutputArrivals.{out_none, out_there, out_is, own_thread, own_number, out_again, out_released, out_waits, was_again, not_again_released, not_again_waits, waits_not_released, pushed_parts}
 use Rattle.recovery_core.proofs.arriving.take_output.Goals as goal
 use Rattle.recovery_core.proofs.arriving.take_output.Goals.{then-number-eq0-via-then-number-eq0, then-number-eq0-via-else-number-eq0+then-number-counts}
 
@@ -45,7 +45,16 @@ output-requires-2-clause-numbered g c =
     omega (arith, from_one, own)
 
 pub invariant_of-core-in-Release : goal.invariant_of-core-in-Release
-invariant_of-core-in-Release g c = parts_still _ _ _ c.output-2.new.self c.push.new.self c.output-2.new.out c.core.invariant c.output-2.ensures.held
+invariant_of-core-in-Release g c = parts_still _ _ _ c.core.inside.sent c.output-2.new.self c.push.new.self c.output-2.new.out c.core.invariant refl (ap (λ held. length held) c.output-2.ensures.held)
+
+pub invariant_of-core-in_err-push-in-Release : goal.invariant_of-core-in_err-push-in-Release
+invariant_of-core-in_err-push-in-Release g c = parts_still _ _ _ c.core.inside.sent c.output-2.new.self c.push.new.self c.output-2.new.out c.core.invariant refl (ap (λ held. length held) c.output-2.ensures.held)
+
+pub invariant_of-core-in-Wait : goal.invariant_of-core-in-Wait
+invariant_of-core-in-Wait g c = parts_still _ _ _ c.core.inside.sent c.output-2.new.self c.core.inside.released c.output-2.new.out c.core.invariant refl (ap (λ held. length held) c.output-2.ensures.held)
+
+pub invariant_of-core-in-Again : goal.invariant_of-core-in-Again
+invariant_of-core-in-Again g c = parts_still _ _ _ c.core.inside.sent c.output-2.new.self c.core.inside.released c.output-2.new.out c.core.invariant refl (ap (λ held. length held) c.output-2.ensures.held)
 
 pub returns-in_ok-push-in-Release-clause-on : goal.returns-in_ok-push-in-Release-clause-on
 returns-in_ok-push-in-Release-clause-on g c =
