@@ -1,0 +1,3 @@
+pub mod OutputsOfInputs
+pub mod BoxMoves
+pub mod Releases

@@ -1,0 +1,87 @@
+-- A settling has released each packet once, where the box sends each out once.
+use Rattle.std.proofs.Common.{◌≡◌, ℕ, ◌+◌, ◌<◌, ◌≤◌, Bool, true, false, cond, List, [], ◌∷◌, ◌++◌, length, refl, sym, ap, ◌∙◌, subst, inl, inr, arith, Some}
+use Rattle.std.specs.Prelude.{slice_get, nat_eq, ◌&&◌}
+use Rattle.std.proofs.lemmas.Bool.Decides.{nat_tests}
+use Rattle.std.proofs.lemmas.Option.{slice_get_within}
+use Rattle.plain_text.specs.declared.packet.Packet.{Packet}
+use Rattle.plain_machine.specs.declared.emission.Emission.{Emission}
+use Rattle.plain_machine.specs.declared.local.Local.{Local}
+use Rattle.plain_machine.specs.declared.plain_move.PlainMove.{PlainMove}
+use Rattle.plain_machine.specs.Program.{Meaning}
+use Rattle.plain_machine.specs.History.{Step, IsHistory, sent_of, outputs, thread_after}
+use Rattle.plain_machine.specs.Agree.{SendsAfter}
+use Rattle.recovery_world.specs.declared.event.Event.{Event}
+use Rattle.recovery_world.specs.declared.event.Event.TheVariants.{Settle}
+use Rattle.recovery_world.specs.World.{Setting, Sent, World, all_inputs}
+use Rattle.recovery_world.specs.Events.{IsAmong}
+use Rattle.recovery_world.specs.Files.{Leaves}
+use Rattle.recovery_laws.specs.Sound.{times}
+use Rattle.recovery_laws.specs.Settled.{IsSettled}
+use Rattle.recovery_laws.proofs.AcceptedRuns.{among_times}
+use Rattle.recovery_laws.proofs.Finishes.{sent_there}
+use Rattle.recovery_laws.proofs.Settlings.{script_settled}
+use Rattle.settled_boxes.specs.EachOnce.{ReleasesEachOnce}
+use Rattle.settled_boxes.proofs.OutputsOfInputs.{SendsOnce, rest_outputs, made_of_input}
+
+-- an output of this number that is counted once stands there once
+first_alone : (x q : Sent) (t j : ℕ) (xs : List Sent) → x.emission.thread ≡ t → x.emission.number ≡ j → q.emission.thread ≡ t → q.emission.number ≡ j → times t j (x ∷ xs) ≤ 1 → IsAmong q xs → ⊥
+first_alone x q t j xs xt xj qt qj one among =
+    let a : nat_eq x.emission.thread t ≡ true = grind (arith, nat_tests) in
+    let b : nat_eq x.emission.number j ≡ true = grind (arith, nat_tests) in
+    let few : times t j xs + 1 ≤ 1 = rw (a, b) at one in
+    let there : 1 ≤ times t j xs = subst (λ (u : ℕ). 1 ≤ times u j xs) qt (subst (λ (i : ℕ). 1 ≤ times q.emission.thread i xs) qj (among_times q xs among)) in
+    omega arith
+
+fewer : (t j : ℕ) (x : Sent) (xs : List Sent) → times t j (x ∷ xs) ≤ 1 → times t j xs ≤ 1
+fewer t j x xs = go (nat_eq x.emission.thread t && nat_eq x.emission.number j)
+  where
+    go : (b : Bool) → cond b (times t j xs + 1) (times t j xs) ≤ 1 → times t j xs ≤ 1
+    go true k = omega arith
+    go false k = k
+
+one_output : (t j : ℕ) (xs : List Sent) (o q : Sent) → times t j xs ≤ 1 → IsAmong o xs → IsAmong q xs → o.emission.thread ≡ t → o.emission.number ≡ j → q.emission.thread ≡ t → q.emission.number ≡ j → o ≡ q
+one_output t j [] o q one a b ot oj qt qj = absurd a
+one_output t j (x ∷ xs) o q one (inl a) (inl b) ot oj qt qj = sym a ∙ b
+one_output t j (x ∷ xs) o q one (inl a) (inr b) ot oj qt qj =
+    absurd (first_alone x q t j xs (ap (λ (y : Sent). y.emission.thread) a ∙ ot) (ap (λ (y : Sent). y.emission.number) a ∙ oj) qt qj one b)
+one_output t j (x ∷ xs) o q one (inr a) (inl b) ot oj qt qj =
+    absurd (first_alone x o t j xs (ap (λ (y : Sent). y.emission.thread) b ∙ qt) (ap (λ (y : Sent). y.emission.number) b ∙ qj) ot oj one a)
+one_output t j (x ∷ xs) o q one (inr a) (inr b) ot oj qt qj = one_output t j xs o q (fewer t j x xs one) a b ot oj qt qj
+
+module _ {V : Type 0} (m : Meaning V) (SentAs : Packet → Packet → Type 0) (Went : Local → Type 0) (box : SendsOnce m SentAs Went)
+    (s : Setting V) (w : World V) (steps : List (Step V)) (legal : IsHistory m (all_inputs s) s.threads steps) (settled : IsSettled s w steps) where
+  -- what was released was made of the input of its number
+  made : (o : Sent) → IsAmong o w.released
+      → (k : ℕ) × (p : Packet) × (o.emission.number ≡ k + 1) × (o.emission.input ≡ k + 1) × (slice_get (all_inputs s o.emission.thread) k ≡ Some p) × SentAs p o.emission.packet
+  made o among = made_of_input m SentAs Went box (all_inputs s) s.threads steps o.emission o.after legal (settled.only o among)
+
+  own_number : (o : Sent) → IsAmong o w.released → o.emission.number ≡ o.emission.input
+  own_number o among = let r = made o among in r.2 ∙ sym r.3
+
+  each : (t k : ℕ) (p : Packet) → t < s.threads → slice_get (all_inputs s t) k ≡ Some p
+      → (o : Sent) × IsAmong o w.released × (o.emission.thread ≡ t) × (o.emission.input ≡ k + 1) × SentAs p o.emission.packet
+  each t k p low is =
+      let within : k < length (all_inputs s t) = slice_get_within (all_inputs s t) k p is in
+      let all : outputs t (sent_of steps) ≡ length (all_inputs s t) = rest_outputs m SentAs Went box (all_inputs s) s.threads steps legal t (settled.ended t low) ∙ settled.taken t low in
+      let r = sent_there m (all_inputs s) s.threads t (k + 1) steps legal (omega arith) (omega arith) in
+      let o : Sent = record { emission = r.0; after = r.1 } in
+      let among : IsAmong o w.released = settled.released o r.2 in
+      let from = made o among in
+      let same : from.0 ≡ k = let a = from.2 in let b = r.4 in omega arith in
+      let input : Some from.1 ≡ Some p = sym from.4 ∙ (ap (λ (u : ℕ). slice_get (all_inputs s u) from.0) r.3 ∙ (ap (λ (i : ℕ). slice_get (all_inputs s t) i) same ∙ is)) in
+      let packet : from.1 ≡ p = cc in
+      (o, among, r.3, from.3 ∙ ap (λ (i : ℕ). i + 1) same, subst (λ (x : Packet). SentAs x r.0.packet) packet from.5)
+
+  pub releases_each_once : ReleasesEachOnce s w SentAs
+  releases_each_once = record {
+    each = each;
+    only = λ o among. let r = made o among in (r.0, r.1, r.3, r.4, r.5);
+    once = λ o q a b thread input. one_output q.emission.thread q.emission.number w.released o q (settled.once q.emission.thread q.emission.number) a b thread (own_number o a ∙ (input ∙ sym (own_number q b))) refl refl;
+  }
+
+-- the run in which the world of a script ends that ends in a settling
+pub script_releases : {V : Type 0} (m : Meaning V) (SentAs : Packet → Packet → Type 0) (Went : Local → Type 0) → SendsOnce m SentAs Went
+    → (s : Setting V) (events : List Event) (report : List ℕ) (released : List Packet) (schedule : List PlainMove) → s.meaning ≡ m
+    → (l : Leaves s (events ++ Settle ∷ []) report released schedule) → ReleasesEachOnce s l.world SentAs
+script_releases {V} m SentAs Went box s events report released schedule is l =
+    releases_each_once m SentAs Went box s l.world l.steps (subst (λ (x : Meaning V). IsHistory x (all_inputs s) s.threads l.steps) is l.finish.history) (script_settled s events report released schedule l)
