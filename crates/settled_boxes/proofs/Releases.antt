@@ -58,19 +58,31 @@ module _ {V : Type 0} (m : Meaning V) (SentAs : Packet → Packet → Type 0) (W
   own_number : (o : Sent) → IsAmong o w.released → o.emission.number ≡ o.emission.input
   own_number o among = let r = made o among in r.2 ∙ sym r.3
 
+  -- the packet of one input is one
+  one_packet : (t u k j : ℕ) (p q : Packet) → u ≡ t → j ≡ k → slice_get (all_inputs s u) j ≡ Some q → slice_get (all_inputs s t) k ≡ Some p → q ≡ p
+  one_packet t u k j p q thread place there here =
+      let a : slice_get (all_inputs s t) k ≡ Some q = subst (λ (i : ℕ). slice_get (all_inputs s t) i ≡ Some q) place (subst (λ (v : ℕ). slice_get (all_inputs s v) j ≡ Some q) thread there) in
+      let b : Some q ≡ Some p = sym a ∙ here in cc
+
+  -- an output of this number is of this input
+  of_output : (o : Sent) (t k : ℕ) (p : Packet) → IsAmong o w.released → o.emission.thread ≡ t → o.emission.number ≡ k + 1 → slice_get (all_inputs s t) k ≡ Some p
+      → ((j : ℕ) × (q : Packet) × (o.emission.number ≡ j + 1) × (o.emission.input ≡ j + 1) × (slice_get (all_inputs s o.emission.thread) j ≡ Some q) × SentAs q o.emission.packet)
+      → (o : Sent) × IsAmong o w.released × (o.emission.thread ≡ t) × (o.emission.input ≡ k + 1) × SentAs p o.emission.packet
+  of_output o t k p among thread number here (j, q, own, input, there, sent) =
+      let same : j ≡ k = omega arith in
+      (o, among, thread, omega arith, subst (λ (x : Packet). SentAs x o.emission.packet) (one_packet t o.emission.thread k j p q thread same there here) sent)
+
   each : (t k : ℕ) (p : Packet) → t < s.threads → slice_get (all_inputs s t) k ≡ Some p
       → (o : Sent) × IsAmong o w.released × (o.emission.thread ≡ t) × (o.emission.input ≡ k + 1) × SentAs p o.emission.packet
-  each t k p low is =
-      let within : k < length (all_inputs s t) = slice_get_within (all_inputs s t) k p is in
-      let all : outputs t (sent_of steps) ≡ length (all_inputs s t) = rest_outputs m SentAs Went box (all_inputs s) s.threads steps legal t (settled.ended t low) ∙ settled.taken t low in
-      let r = sent_there m (all_inputs s) s.threads t (k + 1) steps legal (omega arith) (omega arith) in
-      let o : Sent = record { emission = r.0; after = r.1 } in
-      let among : IsAmong o w.released = settled.released o r.2 in
-      let from = made o among in
-      let same : from.0 ≡ k = let a = from.2 in let b = r.4 in omega arith in
-      let input : Some from.1 ≡ Some p = sym from.4 ∙ (ap (λ (u : ℕ). slice_get (all_inputs s u) from.0) r.3 ∙ (ap (λ (i : ℕ). slice_get (all_inputs s t) i) same ∙ is)) in
-      let packet : from.1 ≡ p = cc in
-      (o, among, r.3, from.3 ∙ ap (λ (i : ℕ). i + 1) same, subst (λ (x : Packet). SentAs x r.0.packet) packet from.5)
+  each t k p low is = go (sent_there m (all_inputs s) s.threads t (k + 1) steps legal (omega arith) (enough (slice_get_within (all_inputs s t) k p is) (rest_outputs m SentAs Went box (all_inputs s) s.threads steps legal t (settled.ended t low)) (settled.taken t low)))
+    where
+      enough : k < length (all_inputs s t) → outputs t (sent_of steps) ≡ (thread_after steps t).taken → (thread_after steps t).taken ≡ length (all_inputs s t) → k + 1 ≤ outputs t (sent_of steps)
+      enough within sent taken = omega arith
+
+      go : ((o : Emission) × (n : ℕ) × SendsAfter steps o n × (o.thread ≡ t) × (o.number ≡ k + 1)) → (o : Sent) × IsAmong o w.released × (o.emission.thread ≡ t) × (o.emission.input ≡ k + 1) × SentAs p o.emission.packet
+      go (o, n, sends, thread, number) =
+          let among : IsAmong (record { emission = o; after = n }) w.released = settled.released (record { emission = o; after = n }) sends in
+          of_output (record { emission = o; after = n }) t k p among thread number is (made (record { emission = o; after = n }) among)
 
   pub releases_each_once : ReleasesEachOnce s w SentAs
   releases_each_once = record {
