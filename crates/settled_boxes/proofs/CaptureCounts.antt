@@ -1,10 +1,9 @@
 -- A settling has counted the capture, with the monitor.
-use Rattle.std.proofs.Common.{◌≡◌, ℕ, ◌<◌, ◌≤◌, ◌%◌, ◌^◌, List, [], ◌∷◌, ◌++◌, length, refl, ap, ◌∙◌, subst, arith}
-use Rattle.std.specs.Prelude.{All, take}
+use Rattle.std.proofs.Common.{◌≡◌, ℕ, ◌≤◌, ◌%◌, ◌^◌, List, [], ◌∷◌, ◌++◌, length, ap, ◌∙◌, subst, arith}
+use Rattle.std.specs.Prelude.{All}
 use Rattle.std.proofs.lemmas.List.{take_all}
 use Rattle.plain_text.specs.Octets.{IsOfBytes}
 use Rattle.plain_text.specs.declared.packet.Packet.{Packet}
-use Rattle.entry_order.specs.Stamps.{sum_below}
 use Rattle.entry_order.proofs.Weights.{sum_below_same}
 use Rattle.plain_machine.specs.declared.plain_move.PlainMove.{PlainMove}
 use Rattle.plain_machine.specs.Program.{Meaning}

@@ -1,5 +1,5 @@
 -- Of a program that sends each packet out once, between its take and its end, output j of a thread is made of its input j.
-use Rattle.std.proofs.Common.{◌≡◌, ◌≢◌, ℕ, zero, suc, ◌+◌, List, [], ◌∷◌, refl, sym, ap, ◌∙◌, subst, ◌⊎◌, inl, inr, arith, Option, Some, None}
+use Rattle.std.proofs.Common.{◌≡◌, ◌≢◌, ℕ, ◌+◌, List, [], ◌∷◌, refl, sym, ap, ◌∙◌, subst, ◌⊎◌, inl, inr, arith, Option, Some, None}
 use Rattle.std.specs.Prelude.{slice_get}
 use Rattle.plain_text.specs.declared.packet.Packet.{Packet}
 use Rattle.entry_order.proofs.Order.{is_or}
@@ -178,7 +178,7 @@ module _ {V : Type 0} (m : Meaning V) (SentAs : Packet → Packet → Type 0) (W
           let s = held_sends m (inputs x.thread) (value_after m earlier) (thread_after earlier x.thread).taken made.0.1 (thread_after earlier x.thread).hand x.after p moved in
           let last = hand_input m inputs threads earlier made.1 x.thread s.0 s.1 in
           let stood : StandsAt Went (Some s.0) (thread_after earlier x.thread).taken (outputs x.thread (sent_of earlier)) =
-              subst (λ (y : Option Hand). StandsAt Went y (thread_after earlier x.thread).taken (outputs x.thread (sent_of earlier))) s.1 (run_stands inputs threads earlier made.1 x.thread) in
+          subst (λ (y : Option Hand). StandsAt Went y (thread_after earlier x.thread).taken (outputs x.thread (sent_of earlier))) s.1 (run_stands inputs threads earlier made.1 x.thread) in
           let number = next_number (outputs x.thread (sent_of earlier)) (thread_after earlier x.thread).taken s.0 s.2 stood in
           subst (λ (e : Emission). (k : ℕ) × (p : Packet) × (e.number ≡ k + 1) × (e.input ≡ k + 1) × (slice_get (inputs e.thread) k ≡ Some p) × SentAs p e.packet) same
           (last.0, s.0.packet, number ∙ last.1, s.4 ∙ last.1, last.2, subst (λ (q : Packet). SentAs s.0.packet q) (sym s.3) (one.packet s.0 s.2))

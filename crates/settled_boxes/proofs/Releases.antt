@@ -1,7 +1,6 @@
 -- A settling has released each packet once, where the box sends each out once.
-use Rattle.std.proofs.Common.{◌≡◌, ℕ, ◌+◌, ◌<◌, ◌≤◌, Bool, true, false, cond, List, [], ◌∷◌, ◌++◌, length, refl, sym, ap, ◌∙◌, subst, inl, inr, arith, Some}
-use Rattle.std.specs.Prelude.{slice_get, nat_eq, ◌&&◌}
-use Rattle.std.proofs.lemmas.Bool.Decides.{nat_tests}
+use Rattle.std.proofs.Common.{◌≡◌, ℕ, ◌+◌, ◌<◌, ◌≤◌, List, [], ◌∷◌, ◌++◌, length, refl, sym, ◌∙◌, subst, inl, inr, arith, Some}
+use Rattle.std.specs.Prelude.{slice_get}
 use Rattle.std.proofs.lemmas.Option.{slice_get_within}
 use Rattle.plain_text.specs.declared.packet.Packet.{Packet}
 use Rattle.plain_machine.specs.declared.emission.Emission.{Emission}
@@ -17,36 +16,15 @@ use Rattle.recovery_world.specs.Events.{IsAmong}
 use Rattle.recovery_world.specs.Files.{Leaves}
 use Rattle.recovery_laws.specs.Sound.{times}
 use Rattle.recovery_laws.specs.Settled.{IsSettled}
-use Rattle.recovery_laws.proofs.AcceptedRuns.{among_times}
 use Rattle.recovery_laws.proofs.Finishes.{sent_there}
 use Rattle.recovery_laws.proofs.Settlings.{script_settled}
-use Rattle.settled_boxes.specs.EachOnce.{ReleasesEachOnce}
+use Rattle.settled_boxes.specs.EachOnce.{times_sent, ReleasesEachOnce}
 use Rattle.settled_boxes.proofs.OutputsOfInputs.{SendsOnce, rest_outputs, made_of_input}
 
--- an output of this number that is counted once stands there once
-first_alone : (x q : Sent) (t j : ℕ) (xs : List Sent) → x.emission.thread ≡ t → x.emission.number ≡ j → q.emission.thread ≡ t → q.emission.number ≡ j → times t j (x ∷ xs) ≤ 1 → IsAmong q xs → ⊥
-first_alone x q t j xs xt xj qt qj one among =
-    let a : nat_eq x.emission.thread t ≡ true = grind (arith, nat_tests) in
-    let b : nat_eq x.emission.number j ≡ true = grind (arith, nat_tests) in
-    let few : times t j xs + 1 ≤ 1 = rw (a, b) at one in
-    let there : 1 ≤ times t j xs = subst (λ (u : ℕ). 1 ≤ times u j xs) qt (subst (λ (i : ℕ). 1 ≤ times q.emission.thread i xs) qj (among_times q xs among)) in
-    omega arith
-
-fewer : (t j : ℕ) (x : Sent) (xs : List Sent) → times t j (x ∷ xs) ≤ 1 → times t j xs ≤ 1
-fewer t j x xs = go (nat_eq x.emission.thread t && nat_eq x.emission.number j)
-  where
-    go : (b : Bool) → cond b (times t j xs + 1) (times t j xs) ≤ 1 → times t j xs ≤ 1
-    go true k = omega arith
-    go false k = k
-
-one_output : (t j : ℕ) (xs : List Sent) (o q : Sent) → times t j xs ≤ 1 → IsAmong o xs → IsAmong q xs → o.emission.thread ≡ t → o.emission.number ≡ j → q.emission.thread ≡ t → q.emission.number ≡ j → o ≡ q
-one_output t j [] o q one a b ot oj qt qj = absurd a
-one_output t j (x ∷ xs) o q one (inl a) (inl b) ot oj qt qj = sym a ∙ b
-one_output t j (x ∷ xs) o q one (inl a) (inr b) ot oj qt qj =
-    absurd (first_alone x q t j xs (ap (λ (y : Sent). y.emission.thread) a ∙ ot) (ap (λ (y : Sent). y.emission.number) a ∙ oj) qt qj one b)
-one_output t j (x ∷ xs) o q one (inr a) (inl b) ot oj qt qj =
-    absurd (first_alone x o t j xs (ap (λ (y : Sent). y.emission.thread) b ∙ qt) (ap (λ (y : Sent). y.emission.number) b ∙ qj) ot oj one a)
-one_output t j (x ∷ xs) o q one (inr a) (inr b) ot oj qt qj = one_output t j xs o q (fewer t j x xs one) a b ot oj qt qj
+-- where outputs have the numbers of their inputs, both are counted alike
+sent_by_number : (t j : ℕ) (xs : List Sent) → ((o : Sent) → IsAmong o xs → o.emission.number ≡ o.emission.input) → times_sent t j xs ≡ times t j xs
+sent_by_number t j [] own = refl
+sent_by_number t j (x ∷ xs) own = rw (own x (inl refl), sent_by_number t j xs (λ o among. own o (inr among))) refl
 
 module _ {V : Type 0} (m : Meaning V) (SentAs : Packet → Packet → Type 0) (Went : Local → Type 0) (box : SendsOnce m SentAs Went)
     (s : Setting V) (w : World V) (steps : List (Step V)) (legal : IsHistory m (all_inputs s) s.threads steps) (settled : IsSettled s w steps) where
@@ -88,7 +66,7 @@ module _ {V : Type 0} (m : Meaning V) (SentAs : Packet → Packet → Type 0) (W
   releases_each_once = record {
     each = each;
     only = λ o among. let r = made o among in (r.0, r.1, r.3, r.4, r.5);
-    once = λ o q a b thread input. one_output q.emission.thread q.emission.number w.released o q (settled.once q.emission.thread q.emission.number) a b thread (own_number o a ∙ (input ∙ sym (own_number q b))) refl refl;
+    once = λ t j. rw (sent_by_number t j w.released own_number) (settled.once t j);
   }
 
 -- the run in which the world of a script ends that ends in a settling

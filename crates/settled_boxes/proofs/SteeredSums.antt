@@ -1,6 +1,6 @@
 -- A number summed over the inputs of all threads is its sum over the packets of the capture.
-use Rattle.std.proofs.Common.{◌≡◌, ◌≢◌, ℕ, zero, suc, ◌+◌, ◌<◌, ◌≤◌, Bool, true, false, cond, List, [], ◌∷◌, refl, sym, ap, ◌∙◌, subst, arith, Some}
-use Rattle.std.specs.Prelude.{All, filter, slice_get, nat_eq, ◌==◌, Result, Ok, Err}
+use Rattle.std.proofs.Common.{◌≡◌, ◌≢◌, ℕ, ◌+◌, ◌<◌, ◌≤◌, true, false, List, [], ◌∷◌, refl, sym, ◌∙◌, subst, arith}
+use Rattle.std.specs.Prelude.{All, filter, ◌==◌, Result, Ok, Err}
 use Rattle.std.proofs.lemmas.Nat.{mod_below}
 use Rattle.std.proofs.lemmas.Bool.Decides.{nat_tests}
 use Rattle.std.proofs.lemmas.List.Elements.{All-filter}
@@ -18,19 +18,21 @@ use Rattle.monitor_box.specs.Standing.{HaveBytes}
 use Rattle.monitor_box.specs.Arrivals.{shares}
 use Rattle.monitor_box.proofs.ChangedSums.{one_changes, sum_of_none}
 
+-- a packet is steered to one of the threads
 thread_below : (seen : Result Flow NotFlow) (threads : ℕ) → 1 ≤ threads → thread_of_view seen threads < threads
 thread_below (Ok flow) threads some = mod_below (steering_sum flow) threads (omega arith)
 thread_below (Err answer) threads some = omega arith
 
--- the packets of one thread
+-- the packets that are steered to one thread
 abbrev of_thread : ℕ → List Packet → ℕ → List Packet
 of_thread threads packets t = filter (λ packet. thread_of packet threads == t) packets
 
-own_share : (number : Packet → ℕ) (threads t : ℕ) (p : Packet) (ps : List Packet) → thread_of p threads ≡ t → shares number (of_thread threads (p ∷ ps) t) ≡ number p + shares number (of_thread threads ps t)
-own_share number threads t p ps own = let k : (thread_of p threads == t) ≡ true = grind (arith, nat_tests) in rw k refl
+-- one more packet counts with its own thread, and with no other
+share_of_own : (number : Packet → ℕ) (threads t : ℕ) (p : Packet) (ps : List Packet) → thread_of p threads ≡ t → shares number (of_thread threads (p ∷ ps) t) ≡ number p + shares number (of_thread threads ps t)
+share_of_own number threads t p ps own = let k : (thread_of p threads == t) ≡ true = grind (arith, nat_tests) in rw k refl
 
-other_share : (number : Packet → ℕ) (threads t : ℕ) (p : Packet) (ps : List Packet) → thread_of p threads ≢ t → shares number (of_thread threads (p ∷ ps) t) ≡ shares number (of_thread threads ps t)
-other_share number threads t p ps other = let k : (thread_of p threads == t) ≡ false = grind (arith, nat_tests) in rw k refl
+share_of_other : (number : Packet → ℕ) (threads t : ℕ) (p : Packet) (ps : List Packet) → thread_of p threads ≢ t → shares number (of_thread threads (p ∷ ps) t) ≡ shares number (of_thread threads ps t)
+share_of_other number threads t p ps other = let k : (thread_of p threads == t) ≡ false = grind (arith, nat_tests) in rw k refl
 
 pub steered_sum : (number : Packet → ℕ) (threads : ℕ) (packets : List Packet) → 1 ≤ threads → sum_below threads (λ t. shares number (of_thread threads packets t)) ≡ shares number packets
 steered_sum number threads [] some = sum_of_none threads _ (λ t low. refl)
@@ -39,8 +41,8 @@ steered_sum number threads (p ∷ ps) some = more (thread_of p threads) refl (th
     more : (u : ℕ) → thread_of p threads ≡ u → u < threads → sum_below threads (λ t. shares number (of_thread threads ps t)) ≡ shares number ps
         → sum_below threads (λ t. shares number (of_thread threads (p ∷ ps) t)) ≡ number p + shares number ps
     more u is low rest =
-        let one = one_changes threads u (λ t. shares number (of_thread threads (p ∷ ps) t)) (λ t. shares number (of_thread threads ps t)) low (λ k other. other_share number threads k p ps (λ e. other (sym e ∙ is))) in
-        let own = own_share number threads u p ps is in
+        let one = one_changes threads u (λ t. shares number (of_thread threads (p ∷ ps) t)) (λ t. shares number (of_thread threads ps t)) low (λ k other. share_of_other number threads k p ps (λ e. other (sym e ∙ is))) in
+        let own = share_of_own number threads u p ps is in
         omega arith
 
 -- where the packets of a capture are of bytes, so are the inputs of each thread

@@ -1,6 +1,6 @@
 -- The tables of the monitor have, over all flows, the packets of flows that were taken.
-use Rattle.std.proofs.Common.{◌≡◌, ◌≢◌, ℕ, zero, suc, ◌+◌, ◌%◌, ◌^◌, ◌<◌, ◌≤◌, Bool, true, false, List, [], ◌∷◌, refl, sym, ap, ◌∙◌, ◌⊎◌, inl, inr, arith, Option, Some, None}
-use Rattle.std.specs.Prelude.{slice_get, slice_index, take, nat_eq, cond, ◌==◌, Result, Ok, Err}
+use Rattle.std.proofs.Common.{◌≡◌, ◌≢◌, ℕ, zero, suc, ◌+◌, ◌%◌, ◌^◌, ◌<◌, ◌≤◌, Bool, true, false, List, [], ◌∷◌, refl, sym, ap, ◌⊎◌, inl, inr, arith, Option, Some, None}
+use Rattle.std.specs.Prelude.{slice_get, slice_index, take, nat_eq, cond, Result, Ok, Err}
 use Rattle.plain_text.specs.declared.packet.Packet.{Packet}
 use Rattle.entry_order.specs.Stamps.{sum_below}
 use Rattle.packet_headers.specs.declared.flow.Flow.{Flow}
@@ -21,14 +21,14 @@ use Rattle.monitor_box.specs.Monitor.{next_move, begun, noted_flow, noted_length
 use Rattle.monitor_box.specs.Lawful.{touches}
 use Rattle.monitor_box.specs.Sums.{flows_sum, value_sum, tables_sum, totals_of, IsAtRest}
 use Rattle.monitor_box.specs.Coming.{coming_by}
-use Rattle.monitor_box.specs.Arrivals.{key_of, flow_of_packet, shares, taken_sum}
+use Rattle.monitor_box.specs.Arrivals.{shares, taken_sum}
 use Rattle.monitor_box.proofs.ChangedSums.{one_changes, sum_of_none}
 use Rattle.monitor_box.proofs.ComingSums.{comes_none, comes_nothing}
 use Rattle.monitor_box.proofs.ThreadMoves.{hand_of, at_access, at_emit, by_move}
 use Rattle.monitor_box.proofs.OneMoveTotals.{IsCounted}
 use Rattle.monitor_box.proofs.MatchedTotals.{rest_is_sum}
 use Rattle.monitor_box.proofs.CountedPackets.{Adds, run_counts}
-use Rattle.settled_boxes.specs.Counted.{if_flow, flow_share}
+use Rattle.settled_boxes.specs.Counted.{flow_share}
 
 ends_past : (tables at sum : ℕ) → next_move tables at sum ≡ End → at ≢ 0
 ends_past tables zero sum e k = absurd (grind arith)

@@ -1,9 +1,14 @@
 -- Each packet of the capture is released exactly once.
-use Rattle.std.specs.Prelude.{◌≡◌, ℕ, ◌+◌, ◌<◌, Some, slice_get}
+use Rattle.std.specs.Prelude.{◌≡◌, ℕ, ◌+◌, ◌≤◌, ◌<◌, ◌&&◌, cond, nat_eq, List, [], ◌∷◌, Some, slice_get}
 use Rattle.plain_text.specs.declared.packet.Packet.{Packet}
 use Rattle.box_program.specs.Count.{numbered}
 use Rattle.recovery_world.specs.World.{Setting, Sent, World, all_inputs}
 use Rattle.recovery_world.specs.Events.{IsAmong}
+
+-- how often an output of input j of thread t is in the list
+abbrev pub times_sent : ℕ → ℕ → List Sent → ℕ
+times_sent t j [] = 0
+times_sent t j (o ∷ sent) = cond (nat_eq o.emission.thread t && nat_eq o.emission.input j) (times_sent t j sent + 1) (times_sent t j sent)
 
 -- Inputs are numbered from 1; `SentAs p q` says that the packet p goes out as q.
 pub record ReleasesEachOnce {V : Type 0} (s : Setting V) (w : World V) (SentAs : Packet → Packet → Type 0) : Type 0 where
@@ -13,9 +18,8 @@ pub record ReleasesEachOnce {V : Type 0} (s : Setting V) (w : World V) (SentAs :
   -- nothing else was
   pub only : (o : Sent) → IsAmong o w.released
       → (k : ℕ) × (p : Packet) × (o.emission.input ≡ k + 1) × (slice_get (all_inputs s o.emission.thread) k ≡ Some p) × SentAs p o.emission.packet
-  -- and no input twice
-  pub once : (o q : Sent) → IsAmong o w.released → IsAmong q w.released
-      → o.emission.thread ≡ q.emission.thread → o.emission.input ≡ q.emission.input → o ≡ q
+  -- and none twice
+  pub once : (t j : ℕ) → times_sent t j w.released ≤ 1
 
 -- the counting box writes some number into bytes 2 to 5, and leaves the rest
 abbrev pub IsNumbered : Packet → Packet → Type 0

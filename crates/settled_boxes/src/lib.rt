@@ -1,6 +1,5 @@
-//! What a settling comes to, with the boxes that count: each packet of the capture is released exactly
-//! once, and the monitor's counts are the capture's. Proved, and it does nothing: a caller has it by
-//! the call.
+//! What a settling comes to with the counting box and with the monitor. The law is proved, and does
+//! nothing: a caller has it by the call.
 #![tactic(auto)]
 
 ghost use Rattle.std.specs.Prelude.{◌≡◌, ◌≤◌, ℕ, All, List, [], ◌∷◌, ◌++◌};
@@ -18,10 +17,10 @@ ghost use Rattle.recovery_world.specs.Files.{Leaves};
 ghost use Rattle.settled_boxes.specs.EachOnce.{ReleasesEachOnce, IsNumbered, IsUnchanged};
 ghost use Rattle.settled_boxes.specs.Counted.{CountsCapture};
 
-/// A script that ends in a settling, whatever came before it, as crashes: the counting box and the
-/// monitor have released each packet of the capture exactly once, the monitor unchanged; and in the
-/// run in which the world ends the monitor's tables and totals count exactly the packets of the
-/// capture, where these are of bytes.
+/// A script that ends in a settling, whatever came before it: the counting box and the monitor have
+/// released each packet of the capture exactly once, the monitor unchanged. And in the run in which
+/// its world ends, the monitor's tables and totals count exactly the packets of the capture, where
+/// these are of bytes.
 pub fn settlings_release_each_packet_once()
     ensures count { (s : Setting ℕ) (events : List Event) (report : List ℕ)
         (released : List Packet) (schedule : List PlainMove) → s.meaning ≡ count_meaning
