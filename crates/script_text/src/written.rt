@@ -94,7 +94,13 @@ pub(crate) fn put_one(text: &mut String, word: &str, number: u64) -> Result<(), 
     put_decimal(text, number)
 }
 
-pub(crate) fn put_two(text: &mut String, word: &str, a: u64, other: &str, b: u64) -> Result<(), NoMemory>
+pub(crate) fn put_two(
+    text: &mut String,
+    word: &str,
+    a: u64,
+    other: &str,
+    b: u64,
+) -> Result<(), NoMemory>
     ensures { OnOk result (string_bytes text.new
         ≡ string_bytes text.old ++ two word.now a other.now b) }
 {
