@@ -92,6 +92,11 @@ impl Numbers {
         ensures ok { OnOk result (Marks self.old self.new number) }
         ensures err { OnErr result (self.new ≡ self.old) }
     {
+        if self.above.is_empty() && number - 1 == self.floor {
+            self.floor = number;
+            self.greatest = self.greatest.max(number);
+            return Ok(());
+        }
         self.above.insert(number, true)?;
         self.floor = raise(self.floor, &mut self.above);
         self.greatest = self.greatest.max(number);

@@ -1,1 +1,3 @@
 pub mod AddressOrder
+pub mod AllLemmas
+pub mod RunLemmas

@@ -1,3 +1,6 @@
+ghost use Rattle.std.specs.Prelude.{IsTrue, ◌↔◌};
+ghost use Rattle.link_store.specs.Beside.{IsBeside};
+
 use plain_text::Kind;
 
 /// Where a frame is looked up: it tells the `number`-th entry or output of `thread`, counted from 1, that the master of
@@ -8,4 +11,13 @@ pub struct Address {
     pub kind: Kind,
     pub thread: u32,
     pub number: u64,
+}
+
+impl Address {
+    /// Whether the other address is of the same epoch, kind and thread.
+    pub(crate) fn is_beside(&self, other: &Address) -> bool
+        ensures { IsTrue result ↔ IsBeside self.now other.now }
+    {
+        self.thread == other.thread && self.kind == other.kind && self.epoch == other.epoch
+    }
 }

@@ -3,6 +3,7 @@
 
 mod address;
 mod links;
+mod run;
 #[cfg(test)]
 mod tests;
 

@@ -1,31 +1,100 @@
-ghost use Rattle.std.specs.Prelude.{◌≡◌, None, IsSome, OnOk, OnErr, IfOk, IfSome, IfNone, option_copied};
+ghost use Rattle.std.specs.Prelude.{◌≡◌, ◌<◌, ℕ, List, [], Some, None, IsSome, OnOk, OnErr, IfOk, IfSome, IfNone, length, option_copied, slice_index_or};
 ghost use Rattle.link_store.specs.declared.address.Address.{Address};
 ghost use Rattle.link_store.specs.Links.{address, frame_at, Sends, Forgets, IsUpTo, IsOfEpoch};
+ghost use Rattle.link_store.specs.Runs.{Run as RunValue, all_of, IsFirstTaker, NoneTakes, ForgetsEach};
 
 use crate::Address;
+use crate::run::Run;
 use plain_text::{Bytes, Kind, NoMemory};
 use std::alloc::Global;
 use std::collections::BTreeMap;
 use std::marker::Model;
 
+/// The most runs of frames: as many as a master of 16 threads needs in one epoch, and some more.
+const MOST_RUNS: usize = 64;
+
 /// The frames that were sent on the links between the nodes and are not forgotten, each under its epoch, kind, thread and
 /// number. A frame sent again takes the place of the one before. Contracts see the frames with their addresses, and read
 /// them by `frame_at`.
 ///
-/// The time of a call grows as the logarithm of the number of frames, and that of `forget` and `forget_epoch` as this for
-/// each frame that they forget. Memory is held for the frames that are there alone.
+/// Frames whose numbers follow one another stand in a run, of which there are at most 64: one is found by its number, sent
+/// behind the others, and forgotten before them, in a time that does not grow. What has no place in a run stands in a map,
+/// and there a call takes the time of its look-ups. Forgetting takes no memory, and gives back that of the frames alone.
 #[derive(Debug, Drop)]
 pub struct Links {
-    frames: BTreeMap<Address, Bytes>,
+    alloc: Global,
+    runs: Vec<Run>,
+    others: BTreeMap<Address, Bytes>,
 }
 
 impl Model for Links {
     ghost use Rattle.std.specs.Prelude.{List, ℕ};
     ghost use Rattle.link_store.specs.declared.address.Address.{Address};
+    ghost use Rattle.link_store.specs.Runs.{all_of};
 
     ghost Value = { List (Address × List ℕ) };
 
-    ghost view = { λ l. l.frames.entries };
+    ghost view = { λ l. all_of l.runs.items l.others.entries };
+}
+
+/// The first of the runs that has a place for a frame at this address.
+fn taker(runs: &Vec<Run>, at: &Address) -> Option<usize>
+    ensures found { IfSome result (IsFirstTaker runs.now.items at.now) }
+    ensures none { IfNone result (NoneTakes runs.now.items at.now) }
+{
+    for i in 0..runs.len() {
+        if runs[i].takes(at) {
+            return Some(i);
+        }
+    }
+    None
+}
+
+/// A run without frames.
+fn empty_run(runs: &Vec<Run>) -> Option<usize>
+    ensures { IfSome result (λ i. (i < length runs.now.items)
+        × ((d : RunValue) → (slice_index_or runs.now.items i d).frames ≡ [])) }
+{
+    for i in 0..runs.len() {
+        if runs[i].is_empty() {
+            return Some(i);
+        }
+    }
+    None
+}
+
+/// The frame at this address in the runs.
+fn in_runs<'a>(runs: &'a Vec<Run>, at: &Address) -> Option<&'a Bytes>
+    ensures found { (others : List (Address × List ℕ)) → IfSome result (λ frame.
+        frame_at (all_of runs.now.items others) at.now ≡ Some frame.now) }
+    ensures none { (others : List (Address × List ℕ)) → IfNone result
+        (frame_at (all_of runs.now.items others) at.now ≡ frame_at others at.now) }
+{
+    for i in 0..runs.len() {
+        let frame = runs[i].get(at);
+        if frame.is_some() {
+            return frame;
+        }
+    }
+    None
+}
+
+/// Forgets the frames of the runs up to this address.
+fn forget_in_runs(runs: &mut Vec<Run>, last: &Address)
+    ensures { ForgetsEach (IsUpTo last.now) runs.old.items runs.new.items }
+{
+    for i in 0..runs.len() {
+        runs[i].forget(last);
+    }
+}
+
+/// Forgets the frames of the runs of this epoch.
+fn forget_epoch_in_runs(runs: &mut Vec<Run>, epoch: u32)
+    ensures { ForgetsEach (IsOfEpoch epoch) runs.old.items runs.new.items }
+{
+    for i in 0..runs.len() {
+        runs[i].forget_epoch(epoch);
+    }
 }
 
 /// The first address of this epoch, kind and thread, where its number is at most this one.
@@ -76,13 +145,39 @@ fn drop_epoch(frames: &mut BTreeMap<Address, Bytes>, epoch: u32)
     }
 }
 
+/// Keeps a frame at an address for which no run has a place.
+fn send_apart(
+    alloc: Global,
+    runs: &mut Vec<Run>,
+    others: &mut BTreeMap<Address, Bytes>,
+    at: Address,
+    frame: Bytes,
+) -> Result<(), NoMemory>
+    requires { NoneTakes runs.old.items at }
+    ensures ok { OnOk result (Sends (all_of runs.old.items others.old.entries)
+        (all_of runs.new.items others.new.entries) at frame) }
+    ensures err { OnErr result (all_of runs.new.items others.new.entries
+        ≡ all_of runs.old.items others.old.entries) }
+{
+    if let Some(i) = empty_run(runs) {
+        runs[i] = Run::of(alloc, at, frame)?;
+    } else if runs.len() < MOST_RUNS {
+        runs.push(Run::of(alloc, at, frame)?)?;
+    } else {
+        others.insert(at, frame)?;
+    }
+    Ok(())
+}
+
 impl Links {
     /// Nothing was sent.
     pub fn new(alloc: Global) -> Result<Self, NoMemory>
         ensures empty { IfOk result (λ links. (a : Address) → frame_at links a ≡ None) }
     {
         Ok(Links {
-            frames: BTreeMap::new(alloc),
+            alloc,
+            runs: Vec::new(alloc),
+            others: BTreeMap::new(alloc),
         })
     }
 
@@ -105,8 +200,10 @@ impl Links {
             thread,
             number,
         };
-        self.frames.insert(address, frame)?;
-        Ok(())
+        match taker(&self.runs, &address) {
+            Some(i) => self.runs[i].put(&address, frame),
+            None => send_apart(self.alloc, &mut self.runs, &mut self.others, address, frame),
+        }
     }
 
     /// The frame last sent under these numbers and not forgotten since; `None` exactly where there is none. It takes no
@@ -120,7 +217,10 @@ impl Links {
             thread,
             number,
         };
-        Some(self.frames.get(&address)?.as_slice())
+        match in_runs(&self.runs, &address) {
+            Some(frame) => Some(frame.as_slice()),
+            None => Some(self.others.get(&address)?.as_slice()),
+        }
     }
 
     /// Forgets the frames of this epoch, kind and thread with numbers up to this one. It takes no memory.
@@ -133,13 +233,15 @@ impl Links {
             thread,
             number: up_to,
         };
-        drop_up_to(&mut self.frames, last);
+        forget_in_runs(&mut self.runs, &last);
+        drop_up_to(&mut self.others, last);
     }
 
     /// Forgets all frames of this epoch. It takes no memory.
     pub fn forget_epoch(&mut self, epoch: u32)
         ensures forgotten { Forgets (IsOfEpoch epoch) self.old self.new }
     {
-        drop_epoch(&mut self.frames, epoch);
+        forget_epoch_in_runs(&mut self.runs, epoch);
+        drop_epoch(&mut self.others, epoch);
     }
 }

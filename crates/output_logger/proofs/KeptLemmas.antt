@@ -249,3 +249,19 @@ marked_kept (Err x) count held before after es index o kept ok err others same f
 
 pub once_one : (before after : List Numbers) (o : Output) → IsNoted before after o → ReleasesOnce before after (o ∷ [])
 once_one before after o noted = once_more before before after [] o (once_none before) noted
+
+-- Nothing waits
+
+pub kept_alone : (count : ℕ) (old new : List Lane) (released : List Numbers) (es : Arrivals) (index : List (ℕ × ℕ × ℕ)) → AreKept count old released es index → values_of es ≡ []
+    → length new ≡ length old → AreKept count new released es index
+kept_alone count old new released [] index kept none same = record {
+  counted = kept.counted ∙ sym same;
+  threads = kept.threads ∙ sym same;
+  sorted = kept.sorted;
+  small = kept.small;
+  indexed = λ a o u f h is above. absurd (cc);
+  awaited = kept.awaited;
+  apart = kept.apart;
+  none_due = λ a o h is. absurd (cc);
+}
+kept_alone count old new released (e ∷ es) index kept none same = absurd (cc)

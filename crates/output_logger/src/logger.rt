@@ -155,11 +155,35 @@ impl OutputLogger {
         if is_known(&self.held, entry.thread, entry.number) {
             return Ok(EntryTook::Known);
         }
+        if self.waiting.outputs.is_empty() {
+            self.hold_alone(entry)?;
+            return Ok(EntryTook::New);
+        }
         let mut items = take_items(self.alloc, out);
         let held = self.hold(entry, &mut items);
         *out = Outputs::from_vec(items);
         held?;
         Ok(EntryTook::New)
+    }
+
+    /// Holds one more entry. No output waits, so none is due then.
+    fn hold_alone(&mut self, entry: StampedEntry) -> Result<(), NoMemory>
+        requires thread_in { entry.thread < length self.old.held }
+        requires numbered { 1 ≤ entry.number }
+        requires unknown { IsKnown (lane self.old.held entry.thread) entry.number → ⊥ }
+        requires none { self.old.waiting ≡ [] }
+        ensures err { OnErr result (self.new ≡ self.old) }
+        ensures puts { OnOk result (PutsEntry (lane self.old.held entry.thread)
+            (lane self.new.held entry.thread) entry.number entry) }
+        ensures others { (t : ℕ) → t ≢ entry.thread → lane self.new.held t ≡ lane self.old.held t }
+        ensures counted { OnOk result (held_count self.new.held ≡ held_count self.old.held + 1) }
+        ensures waiting { self.new.waiting ≡ [] }
+        ensures released { self.new.released ≡ self.old.released }
+        ensures epoch { self.new.epoch ≡ self.old.epoch }
+        ensures threads { length self.new.held ≡ length self.old.held }
+    {
+        let _added = self.held.add(entry)?;
+        Ok(())
     }
 
     /// Holds one more entry, and releases the outputs that are due then.

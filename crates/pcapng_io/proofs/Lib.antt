@@ -3,6 +3,7 @@ pub mod Packets
 pub mod Powers
 pub mod Frames
 pub mod Blocks
+pub mod Taken
 pub mod Takes
 pub mod Standing
 pub mod Readings

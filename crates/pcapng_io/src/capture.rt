@@ -1,5 +1,6 @@
 ghost use Rattle.std.specs.Prelude.{◌≡◌, ◌≢◌, ◌≤◌, IsTrue};
 ghost use Rattle.world_io.specs.Stream.{Rose};
+ghost use Rattle.world_io.specs.Taking.{TakesSome};
 ghost use Rattle.pcapng_io.specs.Captured.{SaysAny, CapturesPackets};
 
 use crate::{AnyFault, AnyNext, AnyStarted, open_capture};
@@ -24,6 +25,7 @@ pub enum AnyCaptured {
 /// Reads a capture of either format to its end.
 pub fn read_any_capture<S: Source>(alloc: Global, source: &mut S) -> AnyCaptured
     ensures told { IsTrue S.tells → SaysAny (S.left source.old) result }
+    ensures reads { TakesSome S.reads source.old source.new }
     ensures packets { CapturesPackets result }
     ensures later { S.faults source.old ≤ S.faults source.new }
     ensures cause { result ≡ AnyCaptured.ReadFault

@@ -1,5 +1,6 @@
 -- Which histories of the plain machine a player stands for, and what one call of it does.
 use Rattle.std.specs.Prelude.{◌≡◌, ℕ, ◌+◌, ◌<◌, ◌≤◌, ◌++◌, List, length, Option, Some, None, slice_get, slice_index_or, option_to_list, Result, Ok, Err, MatchResult}
+use Rattle.std.specs.Option.{option_map_or}
 use Rattle.plain_text.specs.declared.packet.Packet.{Packet}
 use Rattle.plain_machine.specs.declared.local.Local.{Local}
 use Rattle.plain_machine.specs.declared.emission.Emission.{Emission}
@@ -40,6 +41,15 @@ pub record Stands {V : Type 0} (m : Meaning V) (threads : ℕ) (steps : List (St
 -- where the thread is with its packet in hand, if there is one
 abbrev pub place_in_hand : {V : Type 0} → Playing V → ℕ → Option Local
 place_in_hand p t = hand_of (λ seat. seat.hand) (slice_get p.seats t)
+
+-- the number, from 1, of the input that the next move of a thread in this seat is made with: the one in hand, or else the next
+abbrev pub input_of_seat : ℕ → Option Local → ℕ
+input_of_seat taken None = taken + 1
+input_of_seat taken (Some place) = taken
+
+-- and so of a thread; a thread that is not there has input 0
+abbrev pub next_input : {V : Type 0} → Playing V → ℕ → ℕ
+next_input p t = option_map_or (λ seat. input_of_seat seat.taken seat.hand) (slice_get p.seats t) 0
 
 -- A call made the move of the definition and sent what it sends, or named the cause by which it is none.
 abbrev pub Follows : {V : Type 0} → Meaning V → (ℕ → List Packet) → ℕ → List (Step V) → PlainMove → Result (Option Emission) MoveError → Playing V → Type 0

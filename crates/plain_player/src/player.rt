@@ -4,12 +4,12 @@ ghost use Rattle.plain_machine.specs.History.{Step};
 ghost use Rattle.plain_player.specs.Hands.{HasValues, TakesInput, seat_after};
 ghost use Rattle.plain_machine.specs.Machine.{take_move};
 ghost use Rattle.box_program.specs.Hands.{FitsProgram, IsInputAfter, has_hand, moves_left};
-ghost use Rattle.plain_player.specs.Playing.{Stands, Follows, place_in_hand};
+ghost use Rattle.plain_player.specs.Playing.{Stands, Follows, place_in_hand, next_input, input_of_seat as input_for_seat};
 
 use crate::hand::{HandMove, MoveError, play_hand};
 use crate::seat::Seat;
 use box_program::Program;
-use plain_machine::{Emission, PlainMove, PlayCause};
+use plain_machine::{Emission, Local, PlainMove, PlayCause};
 use plain_text::{NoMemory, Packet};
 use std::alloc::Global;
 use std::marker::Model;
@@ -66,6 +66,18 @@ impl<V: Drop> Player<V> {
         match self.seats.get(thread as usize) {
             Some(seat) => seat.hand.is_some(),
             None => false,
+        }
+    }
+
+    /// The number, from 1, of the input that the thread's next move is made with: the one in hand, or else its next. For a thread
+    /// that is not there it is 0.
+    pub fn next_input(&self, thread: u32) -> u64
+        requires { self.now.made + 1 < 2 ^ 64 }
+        ensures { result ≡ next_input self.now thread }
+    {
+        match self.seats.get(thread as usize) {
+            Some(seat) => input_of_seat(seat.taken, seat.hand),
+            None => 0,
         }
     }
 
@@ -135,6 +147,17 @@ impl<V: Drop> Player<V> {
                 Ok(sent)
             }
         }
+    }
+}
+
+/// The number of the input that the next move is made with, where this number is taken and this is in hand.
+fn input_of_seat(taken: u64, hand: Option<Local>) -> u64
+    requires { taken + 1 < 2 ^ 64 }
+    ensures { result ≡ input_for_seat taken hand }
+{
+    match hand {
+        Some(_) => taken,
+        None => taken + 1,
     }
 }
 

@@ -1,9 +1,85 @@
-ghost use Rattle.std.specs.Prelude.{◌≡◌, ◌++◌, IfOk, OnOk};
+ghost use Rattle.std.specs.Prelude.{◌≡◌, ◌≤◌, ◌++◌, Some, length, IfOk, IfErr, OnOk};
+ghost use Rattle.plain_text.specs.declared.limit.TheConstants.{MOST_EVENTS as most_lines};
+ghost use Rattle.plain_text.specs.Lines.{words_of};
+ghost use Rattle.plain_player.specs.Reading.{answer_in};
 ghost use Rattle.plain_player.specs.ScheduleText.{move_line, schedule_text};
+ghost use Rattle.plain_player.specs.Schedules.{IsSchedule, IsRefused, SaysMove, move_fault};
 
 use plain_machine::{PlainMove, Schedule};
-use plain_text::{Bytes, NoMemory, put_u64};
+use plain_text::{
+    Bytes, LineCause, LineFault, MOST_EVENTS, NoMemory, ReadError, WordIter, lines, put_u64,
+    read_u64, words,
+};
 use std::alloc::Global;
+
+/// Reads a schedule: one move on each line that counts, `T`, or `T = A` where the move is told the answer A. Its time and memory
+/// grow with the length of the text, and no faster.
+///
+/// It answers `TooMany` where more than `MOST_EVENTS` lines count before the first faulty one, or at all. Else it answers `Fault`
+/// with the first faulty line, if there is one. A first word that is no number is a bad number, and a thread above 2^32 - 1
+/// is out of range.
+pub fn read_schedule(alloc: Global, text: &[u8]) -> Result<Schedule, ReadError>
+    ensures schedule { IfOk result (IsSchedule text.now) }
+    ensures few { IfOk result (λ moves. length moves ≤ most_lines) }
+    ensures refused { IfErr result (IsRefused text.now) }
+{
+    let mut moves = Schedule::new(alloc);
+    for line in lines(text) {
+        let plain = match read_move(line.bytes) {
+            Ok(plain) => plain,
+            Err(cause) => {
+                let line = line.number;
+                return Err(ReadError::Fault(LineFault { line, cause }));
+            }
+        };
+        if moves.len() >= MOST_EVENTS as usize {
+            return Err(ReadError::TooMany);
+        }
+        moves.push(plain)?;
+    }
+    Ok(moves)
+}
+
+/// The move that a line says, or its fault.
+fn read_move(line: &[u8]) -> Result<PlainMove, LineCause>
+    ensures says { IfOk result (SaysMove (words_of line.now)) }
+    ensures fault { IfErr result (λ cause. move_fault (words_of line.now) ≡ Some cause) }
+{
+    let mut left = words(line);
+    let Some(word) = left.next() else {
+        return Err(LineCause::MissingWord);
+    };
+    let Some(number) = read_u64(word) else {
+        return Err(LineCause::BadNumber);
+    };
+    let answer = read_answer(left)?;
+    match u32::try_from(number) {
+        Ok(thread) => Ok(PlainMove { thread, answer }),
+        Err(_) => Err(LineCause::OutOfRange),
+    }
+}
+
+/// The answer that the words behind the thread tell, or their fault.
+fn read_answer(mut words: WordIter<'_>) -> Result<Option<u64>, LineCause>
+    ensures { result ≡ answer_in words.entry }
+{
+    let Some(sign) = words.next() else {
+        return Ok(None);
+    };
+    if sign != b"=".as_slice() {
+        return Err(LineCause::UnknownWord);
+    }
+    let Some(word) = words.next() else {
+        return Err(LineCause::MissingWord);
+    };
+    let Some(answer) = read_u64(word) else {
+        return Err(LineCause::BadNumber);
+    };
+    match words.next() {
+        None => Ok(Some(answer)),
+        Some(_) => Err(LineCause::ExtraWord),
+    }
+}
 
 /// The text of a schedule: a line for each move, `T`, or `T = A` where the move is told the answer A.
 pub fn put_schedule(alloc: Global, schedule: &Schedule) -> Result<Bytes, NoMemory>

@@ -1,10 +1,11 @@
 ghost use Rattle.std.specs.Prelude.{◌+◌, ◌<◌, ◌≤◌, ◌^◌};
 ghost use Rattle.box_program.specs.Hands.{FitsProgram};
 
-use crate::{MoveError, Player, put_schedule};
+use crate::{MoveError, PlayError, Player, play, put_schedule, read_schedule};
 use box_program::{CountBox, PeekBox, Program};
-use plain_machine::{Emission, PlainMove, PlayCause, Schedule};
-use plain_text::{Bytes, NoMemory, Packet};
+use input_logger::InputLog;
+use plain_machine::{Emission, PlainMove, PlayCause, PlayFault, Schedule};
+use plain_text::{Bytes, LineCause, LineFault, NoMemory, Packet, ReadError};
 use std::alloc::Global;
 use std::test::Fail;
 
@@ -171,5 +172,91 @@ fn puts_a_schedule(rt: HostRuntime) -> Result<(), Fail> {
     })?;
     let text = put_schedule(alloc, &schedule)?;
     assert_eq!(rt; text.as_slice(), b"0\n1 = 5\n".as_slice());
+    Ok(())
+}
+
+/// How many packets the counting box sends out by a schedule of one thread with two inputs, or the first illegal move.
+fn sent_by(alloc: Global, schedule: &Schedule) -> Result<Result<usize, PlayFault>, NoMemory> {
+    let mut inputs = InputLog::new(alloc, 1)?;
+    inputs.feed(packet_of(alloc, 42)?)?;
+    inputs.feed(packet_of(alloc, 60)?)?;
+    match play(alloc, &CountBox::new(), &inputs, schedule) {
+        Ok(played) => Ok(Ok(played.emissions.len())),
+        Err(PlayError::Fault(fault)) => Ok(Err(fault)),
+        Err(PlayError::NoMemory) => Err(NoMemory),
+    }
+}
+
+fn fault(number: u64, cause: PlayCause) -> Result<usize, PlayFault> {
+    Err(PlayFault { number, cause })
+}
+
+/// The first fault of a text that is no schedule.
+fn fault_in(alloc: Global, text: &[u8]) -> Option<LineFault> {
+    match read_schedule(alloc, text) {
+        Err(ReadError::Fault(fault)) => Some(fault),
+        _ => None,
+    }
+}
+
+/// The moves of the two inputs and two more that are illegal, without the one at this place.
+fn moves_without(alloc: Global, place: usize) -> Result<Schedule, NoMemory> {
+    let mut schedule = Schedule::new(alloc);
+    for at in 0..10 {
+        if at != place {
+            schedule.push(silent(if at == 9 { 1 } else { 0 }))?;
+        }
+    }
+    Ok(schedule)
+}
+
+#[test]
+fn an_unwanted_answer_is_the_second_move(rt: HostRuntime) -> Result<(), Fail> {
+    let alloc = rt.alloc();
+    let schedule = read_schedule(alloc, b"0\n0 = 5\n".as_slice())?;
+    assert_eq!(rt;
+        sent_by(alloc, &schedule)?,
+        fault(2, PlayCause::UnwantedAnswer)
+    );
+    Ok(())
+}
+
+#[test]
+fn plays_a_schedule_with_each_move_dropped(rt: HostRuntime) -> Result<(), Fail> {
+    let alloc = rt.alloc();
+    let whole = moves_without(alloc, 10)?;
+    assert_eq!(rt; sent_by(alloc, &whole)?, fault(9, PlayCause::NothingToTake));
+    for place in 0..9 {
+        let schedule = moves_without(alloc, place)?;
+        assert_eq!(rt;
+            sent_by(alloc, &schedule)?,
+            fault(9, PlayCause::NoSuchThread),
+            "{place}"
+        );
+    }
+    let legal = read_schedule(alloc, b"0\n0\n0\n0\n0\n0\n0\n0".as_slice())?;
+    assert_eq!(rt; sent_by(alloc, &legal)?, Ok(2));
+    Ok(())
+}
+
+#[test]
+fn names_the_first_faulty_line(rt: HostRuntime) -> Result<(), Fail> {
+    let alloc = rt.alloc();
+    let text = b"# moves\n\n 1\t=  7 \r\n0".as_slice();
+    let moves = read_schedule(alloc, text)?;
+    assert_eq!(rt;
+        put_schedule(alloc, &moves)?.as_slice(),
+        b"1 = 7\n0\n".as_slice()
+    );
+    for (text, cause) in [
+        (b"0\nx".as_slice(), LineCause::BadNumber),
+        (b"0\n4294967296".as_slice(), LineCause::OutOfRange),
+        (b"0\n0 5".as_slice(), LineCause::UnknownWord),
+        (b"0\n0 =".as_slice(), LineCause::MissingWord),
+        (b"0\n0 = x".as_slice(), LineCause::BadNumber),
+        (b"0\n0 = 1 2".as_slice(), LineCause::ExtraWord),
+    ] {
+        assert_eq!(rt; fault_in(alloc, text), Some(LineFault { line: 2, cause }));
+    }
     Ok(())
 }

@@ -1,4 +1,5 @@
 pub mod All
+pub mod Beginning
 pub mod Buffered
 pub mod Calls
 pub mod Files
@@ -6,4 +7,5 @@ pub mod Memory
 pub mod Names
 pub mod OneFile
 pub mod Stream
+pub mod Taking
 pub mod World

@@ -2,6 +2,7 @@
 #![tactic(auto)]
 
 mod all;
+mod beginning;
 mod buffered;
 mod calls;
 mod files;
@@ -15,6 +16,7 @@ mod world;
 mod world_stream;
 
 pub use all::{ReadError, WriteError, read_all, write_all};
+pub use beginning::{Front, FrontError, read_front};
 pub use buffered::BufferedSource;
 pub use memory_world::MemoryWorld;
 pub use stream::{Filled, Put, Sink, SliceSource, Source};

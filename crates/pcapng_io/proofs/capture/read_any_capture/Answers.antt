@@ -7,6 +7,7 @@ use Rattle.plain_text.specs.declared.packet.Unit.{Unit as TimeUnit}
 use Rattle.pcapng_io.specs.declared.capture.AnyCaptured.TheVariants.{Capture}
 use Rattle.pcapng_io.specs.Captured.{SaysAny}
 use Rattle.pcapng_io.proofs.Captures.{HasReadAny, any_begins, any_on, any_few, format_start, format_on, refused_start, any_refused, any_large, any_end, any_recorded}
+use Rattle.pcapng_io.proofs.Taken.{some_at_start, some_more}
 use Rattle.pcapng_io.proofs.capture.read_any_capture.Goals as goal
 
 pub returns-in-Refused-clause-told : goal.returns-in-Refused-clause-told
@@ -18,6 +19,7 @@ records-init g c =
     record {
       read = subst Has (sym c.new-packets.ensures) (any_begins g.S.Source.reads g.met.S.Source.reads_nothing g.met.S.Source.reads_more c.args.source.now c.open_capture.new.source c.in-Reader.reader c.in-Reader.ensures.taken);
       format = λ told. format_start (g.S.Source.left c.args.source.now) c.in-Reader.reader (c.in-Reader.ensures.told told);
+      some = some_at_start g.S.Source.reads c.open_capture.result c.args.source.now c.open_capture.new.source c.open_capture.ensures.taken;
       octets = rw c.new-packets.ensures (λ k d few. absurd (omega arith));
       later = c.in-Reader.ensures.later;
       healthy = λ well. c.in-Reader.ensures.stays_healthy well;
@@ -36,6 +38,7 @@ records-preserved g c =
     record {
       read = any_on g.S.Source.reads g.met.S.Source.reads_nothing g.met.S.Source.reads_more c.args.source.now c.records.source c.next_packet.new.source c.records.reader c.next_packet.new.self c.records.packets c.push.new.self c.in-Packet.packet c.in-Ok.ensures.ok inv.read c.in-Packet.ensures.taken;
       format = λ told. format_on g.S.Source.reads c.records.source c.next_packet.new.source (g.S.Source.left c.args.source.now) c.records.reader c.next_packet.new.self _ (inv.format told) c.in-Packet.ensures.taken;
+      some = some_more g.S.Source.reads g.met.S.Source.reads_more c.next_packet.result c.args.source.now c.records.source c.next_packet.new.source c.records.reader c.next_packet.new.self inv.some c.next_packet.ensures.taken;
       octets = rw c.in-Ok.ensures.ok (All-push IsOfBytes c.records.packets c.in-Packet.packet inv.octets c.in-Packet.ensures.given.1);
       later = omega (arith, inv.later, c.in-Packet.ensures.later);
       healthy = λ well. c.in-Packet.ensures.stays_healthy (inv.healthy well);
@@ -65,3 +68,21 @@ returns-clause-packets g c =
       inv.octets,
       any_few g.S.Source.reads c.args.source.now c.records.source c.records.reader c.records.packets inv.read,
     )
+
+pub returns-in_default-clause-reads : goal.returns-in_default-clause-reads
+returns-in_default-clause-reads g c = some_more g.S.Source.reads g.met.S.Source.reads_more c.next_packet.result c.args.source.now c.records.source c.next_packet.new.source c.records.reader c.next_packet.new.self c.records.invariant.some c.next_packet.ensures.taken
+
+pub returns-in-Refused-next_packet-clause-reads : goal.returns-in-Refused-next_packet-clause-reads
+returns-in-Refused-next_packet-clause-reads g c = some_more g.S.Source.reads g.met.S.Source.reads_more c.next_packet.result c.args.source.now c.records.source c.next_packet.new.source c.records.reader c.next_packet.new.self c.records.invariant.some c.next_packet.ensures.taken
+
+pub returns-in-TooLarge-clause-reads : goal.returns-in-TooLarge-clause-reads
+returns-in-TooLarge-clause-reads g c = some_more g.S.Source.reads g.met.S.Source.reads_more c.next_packet.result c.args.source.now c.records.source c.next_packet.new.source c.records.reader c.next_packet.new.self c.records.invariant.some c.next_packet.ensures.taken
+
+pub returns-in-ReadFault-next_packet-clause-reads : goal.returns-in-ReadFault-next_packet-clause-reads
+returns-in-ReadFault-next_packet-clause-reads g c = some_more g.S.Source.reads g.met.S.Source.reads_more c.next_packet.result c.args.source.now c.records.source c.next_packet.new.source c.records.reader c.next_packet.new.self c.records.invariant.some c.next_packet.ensures.taken
+
+pub returns-in-NoMemory-next_packet-clause-reads : goal.returns-in-NoMemory-next_packet-clause-reads
+returns-in-NoMemory-next_packet-clause-reads g c = some_more g.S.Source.reads g.met.S.Source.reads_more c.next_packet.result c.args.source.now c.records.source c.next_packet.new.source c.records.reader c.next_packet.new.self c.records.invariant.some c.next_packet.ensures.taken
+
+pub returns-clause-reads : goal.returns-clause-reads
+returns-clause-reads g c = some_more g.S.Source.reads g.met.S.Source.reads_more c.next_packet.result c.args.source.now c.records.source c.next_packet.new.source c.records.reader c.next_packet.new.self c.records.invariant.some c.next_packet.ensures.taken

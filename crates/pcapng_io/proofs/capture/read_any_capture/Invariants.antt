@@ -2,6 +2,7 @@ use Rattle.std.proofs.Common.{◌-◌, ◌≤◌, length}
 use Rattle.std.specs.Prelude.{IsTrue, All}
 use Rattle.plain_text.specs.declared.limit.TheConstants.{MOST_PACKETS}
 use Rattle.plain_text.specs.Octets.{IsOfBytes}
+use Rattle.world_io.specs.Taking.{TakesSome}
 use Rattle.pcapng_io.proofs.Captures.{HasReadAny, IsFormatOf}
 use Rattle.pcapng_io.proofs.capture.read_any_capture.Given as goal
 
@@ -12,6 +13,7 @@ invariant-records g l =
     record {
       read : HasReadAny source.reads l.fn.source l.source l.reader l.packets;
       format : IsTrue source.tells → IsFormatOf (source.left l.fn.source) l.reader;
+      some : TakesSome source.reads l.fn.source l.source;
       octets : All IsOfBytes l.packets;
       later : source.faults l.fn.source ≤ source.faults l.source;
       healthy : source.healthy l.fn.source → source.healthy l.source;

@@ -1,0 +1,10 @@
+use Rattle.link_store.specs.Links.{address, IsUpTo}
+use Rattle.link_store.proofs.AllLemmas.{forgets_all}
+use Rattle.link_store.proofs.links.Links.forget.Goals as goal
+
+pub returns : goal.returns
+returns c =
+    let s = c.self.inside in
+    rw (← c.self.view_is) (record {
+      forgotten = forgets_all (IsUpTo (address c.args.epoch c.args.kind c.args.thread c.args.up_to)) s.runs.items c.forget_in_runs.new.runs.items s.others.entries c.drop_up_to.new.frames.entries c.forget_in_runs.ensures c.drop_up_to.ensures;
+    })

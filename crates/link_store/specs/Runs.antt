@@ -1,0 +1,46 @@
+-- The frames on the links as a few runs, each of frames whose numbers follow one another, and the rest one by one.
+use Rattle.std.specs.Prelude.{◌≡◌, ℕ, ◌+◌, ◌<◌, ◌≤◌, List, [], ◌∷◌, ◌++◌, length, slice_index_or}
+use Rattle.link_store.specs.declared.address.Address.{Address}
+use Rattle.link_store.specs.Links.{address, Forgets}
+
+-- the address this many numbers on
+abbrev pub later : Address → ℕ → Address
+later a i = address a.epoch a.kind a.thread (a.number + i)
+
+-- the frames, the first of them at this address
+abbrev pub in_turn : Address → List (List ℕ) → List (Address × List ℕ)
+in_turn first [] = []
+in_turn first (frame ∷ rest) = (first, frame) ∷ in_turn (later first 1) rest
+
+-- frames whose numbers follow one another, and the address of the first
+pub record Run : Type 0 where
+  pub first : Address
+  pub frames : List (List ℕ)
+
+abbrev pub frames_of : Run → List (Address × List ℕ)
+frames_of run = in_turn run.first run.frames
+
+-- the frames of the runs, and the others
+abbrev pub all_of : List Run → List (Address × List ℕ) → List (Address × List ℕ)
+all_of [] others = others
+all_of (run ∷ runs) others = frames_of run ++ all_of runs others
+
+-- the address is that of a frame of the run, or of its next one
+pub record Takes (run : Run) (a : Address) : Type 0 where
+  pub place : ℕ
+  pub within : place ≤ length run.frames
+  pub is : a ≡ later run.first place
+
+-- the i-th run is the first one that takes the address
+pub record IsFirstTaker (runs : List Run) (a : Address) (i : ℕ) : Type 0 where
+  pub in_range : i < length runs
+  pub takes : (d : Run) → Takes (slice_index_or runs i d) a
+  pub before : (j : ℕ) (d : Run) → j < i → Takes (slice_index_or runs j d) a → ⊥
+
+abbrev pub NoneTakes : List Run → Address → Type 0
+NoneTakes runs a = (j : ℕ) (d : Run) → j < length runs → Takes (slice_index_or runs j d) a → ⊥
+
+-- each of the new runs has no frame at the addresses with this property, and at each other one what the old run has
+pub record ForgetsEach (P : Address → Type 0) (old new : List Run) : Type 0 where
+  pub as_many : length new ≡ length old
+  pub each : (j : ℕ) (d : Run) → j < length old → Forgets P (frames_of (slice_index_or old j d)) (frames_of (slice_index_or new j d))
