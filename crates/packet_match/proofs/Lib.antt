@@ -1,0 +1,4 @@
+pub mod Alike
+pub mod Tables
+pub mod Counted
+pub mod FirstOnes

@@ -1,0 +1,93 @@
+use crate::{Checked, Refutation, check, emit, feed_all};
+use box_program::CountBox;
+use input_logger::InputLog;
+use plain_machine::{PlayCause, PlayFault, Schedule};
+use plain_player::{PlayError, read_schedule};
+use plain_text::{Bytes, NoMemory, Packet, Packets, Unit};
+use std::alloc::Global;
+use std::test::Fail;
+
+/// A packet of 42 bytes, each of them 9, at 5 microseconds.
+fn packet(alloc: Global) -> Result<Packet, NoMemory> {
+    Ok(Packet {
+        seconds: 1,
+        fraction: 5,
+        original: 60,
+        bytes: Bytes::from_vec(vec![in alloc; 9u8; 42]?),
+    })
+}
+
+/// The log of one thread that was fed one packet.
+fn one_input(alloc: Global) -> Result<InputLog, NoMemory> {
+    let mut packets = Packets::new(alloc);
+    packets.push(packet(alloc)?)?;
+    feed_all(alloc, 1, packets)
+}
+
+/// What the counting box sends out of one packet, once or twice.
+fn released(alloc: Global, times: usize, schedule: &Schedule) -> Result<Packets, PlayError> {
+    let inputs = one_input(alloc)?;
+    let mut packets = Packets::new(alloc);
+    for _ in 0..times {
+        for packet in emit(alloc, &CountBox::new(), &inputs, schedule)?.into_vec() {
+            packets.push(packet)?;
+        }
+    }
+    Ok(packets)
+}
+
+/// What is found of packets that were released so often, and of a schedule.
+fn checked(
+    alloc: Global,
+    times: usize,
+    legal: &Schedule,
+    schedule: &Schedule,
+) -> Result<Checked, PlayError> {
+    let inputs = one_input(alloc)?;
+    let packets = released(alloc, times, legal)?;
+    let (unit, packets) = (Unit::Micro, packets.as_slice());
+    Ok(check(
+        alloc,
+        &CountBox::new(),
+        &inputs,
+        unit,
+        schedule,
+        packets,
+        unit,
+    )?)
+}
+
+#[test]
+fn checks_a_schedule_and_what_was_released(rt: HostRuntime) -> Result<(), Fail> {
+    let alloc = rt.alloc();
+    let legal = read_schedule(alloc, b"0\n0\n0\n0\n".as_slice())?;
+    let Ok(found) = checked(alloc, 1, &legal, &legal) else {
+        return Err(Fail::from(NoMemory));
+    };
+    assert_eq!(rt; found, Checked::Found(1));
+    let Ok(twice) = checked(alloc, 2, &legal, &legal) else {
+        return Err(Fail::from(NoMemory));
+    };
+    assert_eq!(rt; twice, Checked::Refuted(Refutation::Packet(2)));
+    Ok(())
+}
+
+#[test]
+fn refutes_an_illegal_schedule_first(rt: HostRuntime) -> Result<(), Fail> {
+    let alloc = rt.alloc();
+    let legal = read_schedule(alloc, b"0\n0\n0\n0\n".as_slice())?;
+    let answered = read_schedule(alloc, b"0\n0 = 5\n".as_slice())?;
+    let fault = PlayFault {
+        number: 2,
+        cause: PlayCause::UnwantedAnswer,
+    };
+    let Ok(refuted) = checked(alloc, 2, &legal, &answered) else {
+        return Err(Fail::from(NoMemory));
+    };
+    assert_eq!(rt; refuted, Checked::Refuted(Refutation::Moves(fault)));
+    assert_eq!(rt;
+        released(alloc, 1, &answered).err(),
+        Some(PlayError::Fault(fault))
+    );
+    Ok(())
+}
