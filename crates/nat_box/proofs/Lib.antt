@@ -1,0 +1,9 @@
+pub mod Summing
+pub mod Effects
+pub mod Noting
+pub mod Moving
+pub mod Standing
+pub mod Sentences
+pub mod Making
+pub mod HeldInputs
+pub mod Emissions

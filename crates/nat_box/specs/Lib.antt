@@ -1,0 +1,9 @@
+pub mod Places
+pub mod Nat
+pub mod Noting
+pub mod Lawful
+pub mod Standing
+pub mod Sentences
+pub mod Emissions
+pub mod Shown
+pub mod Boxes

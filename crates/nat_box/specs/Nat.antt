@@ -1,0 +1,276 @@
+-- The box that gives inside endpoints ports of one outside address (RFC 3022). Variable 0 counts drops by reason, variable 1 is
+-- the pool of free ports, the next S variables are the forward tables, and the next S the reverse tables.
+use Rattle.std.specs.Prelude.{◌≡◌, ℕ, ◌+◌, ◌-◌, ◌*◌, ◌/◌, ◌%◌, ◌^◌, ◌<◌, ◌≤◌, Bool, true, false, ◌==◌, ◌&&◌, nat_lt, if◌then◌else◌, List, [], slice_index, slice_set, replicate, Option, Some, None, Result, Ok, Err}
+use Rattle.packet_headers.specs.declared.flow.Flow.{Flow}
+use Rattle.packet_headers.specs.declared.flow.NotFlow.{NotFlow}
+use Rattle.packet_headers.specs.declared.flow.NotFlow.TheVariants.{Short, NotIpv4, BadHeaderLength, Fragment, OtherProtocol, BadTotalLength}
+use Rattle.packet_headers.specs.View.{viewed}
+use Rattle.packet_headers.specs.Rewriting.{with_source, with_dest}
+use Rattle.plain_machine.specs.declared.local.Local.{Local}
+use Rattle.plain_machine.specs.declared.local.Move.{Move}
+use Rattle.plain_machine.specs.declared.local.Move.TheVariants.{Access, Read, Clock, Draw, Emit, End}
+use Rattle.plain_machine.specs.Program.{Meaning}
+use Rattle.nat_tables.specs.declared.entries.Endpoint.{Endpoint}
+use Rattle.nat_tables.specs.declared.entries.PortKey.{PortKey}
+use Rattle.nat_tables.specs.declared.entries.Find.{Find}
+use Rattle.nat_tables.specs.declared.entries.Find.TheVariants.{Live, Absent}
+use Rattle.nat_tables.specs.declared.entries.Bind.{Bind}
+use Rattle.nat_tables.specs.declared.entries.Bind.TheVariants.{Bound, Other}
+use Rattle.nat_tables.specs.Ports.{reserve, give_back, full_pool, ArePorts}
+use Rattle.nat_tables.specs.Keys.{port_key}
+use Rattle.nat_tables.specs.Forwards.{find, find_or_bind, lives, AreMappings}
+use Rattle.nat_tables.specs.Reverses.{endpoint_of, bind, unbind, AreBound}
+use Rattle.nat_box.specs.declared.place.Place.{Place}
+use Rattle.nat_box.specs.declared.place.Place.TheVariants.{HearsTime, FindsMapping, UnbindsFreed, GivesBackFreed, DrawsWord, ReservesPort, BindsPort, FindsOrBinds, UnbindsLost, GivesBackLost, FindsEndpoint, AsksIfLives, CountsDrop, SendsOut, Ends}
+use Rattle.nat_box.specs.declared.place.Class.{Class}
+use Rattle.nat_box.specs.declared.place.Class.TheVariants.{Outbound, Hairpin, Inbound}
+use Rattle.nat_box.specs.declared.place.Noted.{Noted}
+use Rattle.nat_box.specs.declared.place.Goes.{Goes}
+use Rattle.nat_box.specs.declared.value.Drops.{Drops}
+use Rattle.nat_box.specs.declared.value.NatValue.{NatValue}
+use Rattle.nat_box.specs.declared.value.NatValue.TheVariants.{Dropped, Free, Mapped, Taken}
+use Rattle.nat_box.specs.Shown.{shown_value}
+use Rattle.nat_box.specs.Places.{place_of, noted, local_of, source_key, dest_key, endpoint}
+
+pub record Settings : Type 0 where
+  -- how many forward tables there are, and how many reverse tables
+  pub shards : ℕ
+  -- the inside network: an address of it, and how many leading bits all its addresses share
+  pub inside : ℕ
+  pub length : ℕ
+  pub outside : ℕ
+  -- the range of outside ports, both ends included
+  pub low : ℕ
+  pub high : ℕ
+
+abbrev pub goes : Place → Noted → Goes
+goes place n = record { place = place; noted = n }
+
+abbrev pub forward_table : Settings → Endpoint → ℕ
+forward_table s key = 2 + (key.protocol + key.address + key.port) % s.shards
+
+abbrev pub reverse_table : Settings → PortKey → ℕ
+reverse_table s key = 2 + s.shards + key.port % s.shards
+
+-- What comes next
+
+abbrev pub next_move : Settings → Place → Noted → Move
+next_move s HearsTime n = Clock
+next_move s FindsMapping n = Access (forward_table s n.source)
+next_move s UnbindsFreed n = Access (reverse_table s n.freed)
+next_move s GivesBackFreed n = Access 1
+next_move s DrawsWord n = Draw
+next_move s ReservesPort n = Access 1
+next_move s BindsPort n = Access (reverse_table s (source_key n))
+next_move s FindsOrBinds n = Access (forward_table s n.source)
+next_move s UnbindsLost n = Access (reverse_table s n.freed)
+next_move s GivesBackLost n = Access 1
+next_move s FindsEndpoint n = Read (reverse_table s (dest_key n))
+next_move s AsksIfLives n = Read (forward_table s n.target)
+next_move s CountsDrop n = Access 0
+next_move s SendsOut n = Emit
+next_move s Ends n = End
+
+abbrev pub moves_left : Place → ℕ
+moves_left HearsTime = 13
+moves_left FindsMapping = 12
+moves_left UnbindsFreed = 11
+moves_left GivesBackFreed = 10
+moves_left DrawsWord = 9
+moves_left ReservesPort = 8
+moves_left BindsPort = 7
+moves_left FindsOrBinds = 6
+moves_left UnbindsLost = 5
+moves_left GivesBackLost = 4
+moves_left FindsEndpoint = 3
+moves_left AsksIfLives = 2
+moves_left CountsDrop = 1
+moves_left SendsOut = 1
+moves_left Ends = 0
+
+-- The beginning
+
+abbrev pub reason_of : NotFlow → ℕ
+reason_of Short = 1
+reason_of NotIpv4 = 2
+reason_of BadHeaderLength = 3
+reason_of Fragment = 4
+reason_of OtherProtocol = 5
+reason_of BadTotalLength = 6
+
+abbrev pub no_mapping : ℕ
+no_mapping = 7
+
+abbrev pub no_free_port : ℕ
+no_free_port = 8
+
+abbrev pub stray : ℕ
+stray = 9
+
+abbrev pub is_inside : Settings → ℕ → Bool
+is_inside s address = address / 2 ^ (32 - s.length) == s.inside / 2 ^ (32 - s.length)
+
+-- the class of a flow; none of one that is dropped
+abbrev pub class_of_flow : Settings → ℕ → ℕ → Option Class
+class_of_flow s source dest =
+    if is_inside s source then
+    if dest == s.outside then Some Hairpin else if is_inside s dest then None else Some Outbound
+    else if dest == s.outside then Some Inbound else None
+
+abbrev pub nothing_noted : ℕ → Noted
+nothing_noted reason = record {
+  class = Outbound;
+  source = endpoint 0 0 0;
+  dest_port = 0;
+  time = 0;
+  word = reason;
+  port = 0;
+  freed = port_key 0 0;
+  target = endpoint 0 0 0;
+}
+
+abbrev pub noted_flow : Flow → Class → Noted
+noted_flow flow class = record {
+  class = class;
+  source = endpoint flow.protocol flow.source flow.source_port;
+  dest_port = flow.dest_port;
+  time = 0;
+  word = 0;
+  port = 0;
+  freed = port_key 0 0;
+  target = endpoint flow.protocol 0 0;
+}
+
+abbrev pub begun_as : Flow → Option Class → Goes
+begun_as flow (Some class) = goes HearsTime (noted_flow flow class)
+begun_as flow None = goes CountsDrop (nothing_noted stray)
+
+abbrev pub begun : Settings → Result Flow NotFlow → Goes
+begun s (Ok flow) = begun_as flow (class_of_flow s flow.source flow.dest)
+begun s (Err answer) = goes CountsDrop (nothing_noted (reason_of answer))
+
+-- Touches
+
+-- a packet is dropped for this reason
+abbrev pub dropped : Noted → ℕ → Goes
+dropped n reason = goes CountsDrop (record n { word = reason })
+
+-- where a packet goes whose source has its mapping
+abbrev pub mapped : Noted → Class → Goes
+mapped n Hairpin = goes FindsEndpoint n
+mapped n Outbound = goes SendsOut n
+mapped n Inbound = goes SendsOut n
+
+abbrev pub after_find : Noted → Find → Goes
+after_find n (Live port) = let m : Noted = record n { port = port } in mapped m m.class
+after_find n (Absent (Some freed)) = goes UnbindsFreed (record n { freed = freed })
+after_find n (Absent None) = goes DrawsWord n
+
+abbrev pub after_reserve : Noted → Option ℕ → Goes
+after_reserve n (Some port) = goes BindsPort (record n { port = port })
+after_reserve n None = dropped n no_free_port
+
+abbrev pub after_bind : Noted → Bind → Goes
+after_bind n Bound = mapped n n.class
+after_bind n (Other port) = goes UnbindsLost (record n { port = port; freed = source_key n })
+
+abbrev pub with_drop : ℕ → Drops → Drops
+with_drop reason d =
+    if nat_lt 0 reason && nat_lt reason 10 then record { counts = slice_set d.counts (reason - 1) ((slice_index d.counts (reason - 1) + 1) % 2 ^ 64) } else d
+
+-- at each place the value of its variable, and where the packet goes; the other cases do not come
+abbrev pub touched : Place → NatValue → Noted → NatValue × Goes
+touched FindsMapping (Mapped es) n =
+    let r = find n.source n.time es in (Mapped r.1, after_find n r.0)
+touched UnbindsFreed (Taken bs) n = (Taken (unbind n.freed bs), goes GivesBackFreed n)
+touched GivesBackFreed (Free pool) n = (Free (give_back n.freed.protocol n.freed.port pool), goes DrawsWord n)
+touched ReservesPort (Free pool) n =
+    let r = reserve n.source.protocol n.source.port n.word pool in (Free r.1, after_reserve n r.0)
+touched BindsPort (Taken bs) n = (Taken (bind (source_key n) n.source bs), goes FindsOrBinds n)
+touched FindsOrBinds (Mapped es) n =
+    let r = find_or_bind n.source n.port n.time es in (Mapped r.1, after_bind n r.0)
+touched UnbindsLost (Taken bs) n = (Taken (unbind n.freed bs), goes GivesBackLost n)
+touched GivesBackLost (Free pool) n = (Free (give_back n.freed.protocol n.freed.port pool), mapped n n.class)
+touched CountsDrop (Dropped d) n = (Dropped (with_drop n.word d), goes Ends n)
+touched _ x n = (x, goes Ends n)
+
+-- Reads
+
+abbrev pub after_endpoint : Noted → Option Endpoint → Goes
+after_endpoint n (Some key) = goes AsksIfLives (record n { target = endpoint n.source.protocol key.address key.port })
+after_endpoint n None = dropped n no_mapping
+
+abbrev pub looked_by : Noted → Bool → Goes
+looked_by n true = goes SendsOut n
+looked_by n false = dropped n no_mapping
+
+abbrev pub looked : Place → NatValue → Noted → Goes
+looked FindsEndpoint (Taken bs) n = after_endpoint n (endpoint_of (dest_key n) bs)
+looked AsksIfLives (Mapped es) n = looked_by n (lives n.target n.dest_port n.time es)
+looked _ x n = goes Ends n
+
+-- Answers
+
+abbrev pub after_time : Noted → Class → Goes
+after_time n Outbound = goes FindsMapping n
+after_time n Hairpin = goes FindsMapping n
+after_time n Inbound = goes FindsEndpoint n
+
+abbrev pub told : Place → ℕ → Noted → Goes
+told HearsTime time n = let m : Noted = record n { time = time } in after_time m m.class
+told DrawsWord word n = goes ReservesPort (record n { word = word })
+told _ answer n = goes Ends n
+
+-- What goes out: the frames of RFC 3022
+
+abbrev pub frame_out : Settings → Class → List ℕ → Flow → Noted → List ℕ
+frame_out s Outbound bytes flow n = with_source bytes flow s.outside n.port
+frame_out s Inbound bytes flow n = with_dest bytes flow n.target.address n.target.port
+frame_out s Hairpin bytes flow n = with_dest (with_source bytes flow s.outside n.port) flow n.target.address n.target.port
+
+abbrev pub bytes_out : Settings → List ℕ → Noted → Result Flow NotFlow → List ℕ
+bytes_out s bytes n (Ok flow) = frame_out s n.class bytes flow n
+bytes_out s bytes n (Err answer) = bytes
+
+-- The whole
+
+abbrev pub local_at : Goes → Local
+local_at g = local_of g.place g.noted
+
+abbrev pub no_drops : Drops
+no_drops = record { counts = replicate 9 0 }
+
+abbrev pub fresh_value : Settings → ℕ → NatValue
+fresh_value s v =
+    if v == 0 then Dropped no_drops else if v == 1 then Free (full_pool s.low s.high)
+    else if nat_lt v (2 + s.shards) then Mapped [] else Taken []
+
+abbrev pub nat_meaning : Settings → Meaning NatValue
+nat_meaning s = record {
+  vars = 2 + 2 * s.shards;
+  fresh = fresh_value s;
+  begin = λ p. local_at (begun s (viewed p.bytes p.original));
+  next = λ l. next_move s (place_of l.at) (noted l);
+  touch = λ _ x l. let r = touched (place_of l.at) x (noted l) in (r.0, local_at r.1);
+  look = λ _ x l. local_at (looked (place_of l.at) x (noted l));
+  told = λ a l. local_at (told (place_of l.at) a (noted l));
+  emitted = λ l. local_at (goes Ends (noted l));
+  out = λ p l. bytes_out s p.bytes (noted l) (viewed p.bytes p.original);
+  shown = λ _ x. shown_value x;
+  rank = λ l. moves_left (place_of l.at);
+}
+
+-- Each variable has a value of its kind. In a forward table, mappings stand by their endpoints, and no endpoint has two; in a
+-- reverse table, bound ports stand by their numbers, and none twice.
+
+abbrev pub MayMap : Settings → ℕ → Endpoint → ℕ → Type 0
+MayMap s v key port = (v ≡ forward_table s key) × (key.protocol < 2 ^ 8) × (port < 2 ^ 16)
+
+abbrev pub MayBind : Settings → ℕ → PortKey → Endpoint → Type 0
+MayBind s v port key = (v ≡ reverse_table s port) × (key.address < 2 ^ 32) × (key.port < 2 ^ 16)
+
+abbrev pub Fits : Settings → ℕ → NatValue → Type 0
+Fits s v (Dropped d) = v ≡ 0
+Fits s v (Free pool) = (v ≡ 1) × (pool.low ≡ s.low) × (pool.high ≡ s.high) × ArePorts pool
+Fits s v (Mapped es) = (2 ≤ v) × (v < 2 + s.shards) × AreMappings (MayMap s v) es
+Fits s v (Taken bs) = (2 + s.shards ≤ v) × AreBound (MayBind s v) bs

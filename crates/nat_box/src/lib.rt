@@ -1,0 +1,17 @@
+//! The box `nat`, which gives inside endpoints ports of one outside address (RFC 3022).
+#![tactic(auto)]
+
+mod laws;
+mod nat;
+mod place;
+mod program;
+mod touching;
+mod translating;
+mod value;
+
+pub use laws::{
+    emissions_are_translations, entries_stand_for_one_endpoint, ports_stand_in_one_place,
+};
+pub use nat::NatBox;
+pub use place::{Class, Goes, Noted, Place};
+pub use value::{Drops, NatValue};

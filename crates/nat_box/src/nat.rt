@@ -1,0 +1,99 @@
+ghost use Rattle.std.specs.Prelude.{◌≤◌, ◌<◌, ◌^◌};
+
+use crate::Class;
+use nat_tables::{Endpoint, PortKey};
+
+/// The box `nat`: it gives endpoints of an inside network ports of one outside address (RFC 3022).
+///
+/// A mapping is of an inside endpoint, whatever remote it speaks with (RFC 4787, REQ-1). An outside port stands for one inside
+/// endpoint (REQ-3), and is of the parity of the inside port while one of this parity is free (REQ-4). Outbound packets
+/// refresh a mapping, inbound packets do not (REQ-6). A packet from inside to a mapped outside port goes back inside, with the
+/// outside address and port of its source (REQ-9). What comes to a mapped port from any remote is let in (REQ-8, endpoint-independent
+/// filtering).
+///
+/// Variable 0 counts drops by reason, variable 1 is the pool of free ports, the next `shards` variables are the forward tables, and
+/// the next `shards` the reverse tables.
+#[derive(Debug, Drop)]
+pub struct NatBox {
+    /// The number of forward tables, and of reverse tables, 1 to 64.
+    pub shards: u32,
+    /// An address of the inside network. Its bits past `length` do not matter.
+    pub inside: u32,
+    /// How many leading bits the addresses of the inside network share, 1 to 32.
+    pub length: u32,
+    /// The outside address.
+    pub outside: u32,
+    /// The first outside port, at least 1.
+    pub low: u16,
+    /// The last outside port.
+    pub high: u16,
+    pub ghost some: { 1 ≤ shards },
+    pub ghost few: { shards ≤ 64 },
+    pub ghost long: { 1 ≤ length },
+    pub ghost short: { length ≤ 32 },
+    pub ghost above: { 1 ≤ low },
+    pub ghost order: { low ≤ high },
+    pub ghost below: { high < 2 ^ 16 },
+}
+
+impl NatBox {
+    ghost use Rattle.std.specs.Prelude.{◌≡◌, ◌≤◌};
+    ghost use Rattle.nat_box.specs.Nat.{is_inside, class_of_flow, forward_table, reverse_table};
+    ghost use Rattle.nat_box.specs.Boxes.{settings_of, box_with};
+
+    /// The box with this number of tables of each kind, this inside network, outside address and range of outside ports.
+    pub fn new(shards: u32, inside: u32, length: u32, outside: u32, low: u16, high: u16) -> Self
+        requires some { 1 ≤ shards }
+        requires few { shards ≤ 64 }
+        requires long { 1 ≤ length }
+        requires short { length ≤ 32 }
+        requires above { 1 ≤ low }
+        requires order { low ≤ high }
+        ensures { result ≡ box_with shards inside length outside low high }
+    {
+        NatBox {
+            shards,
+            inside,
+            length,
+            outside,
+            low,
+            high,
+        }
+    }
+
+    /// Whether an address is of the inside network.
+    fn is_inside(&self, address: u32) -> bool
+        ensures { result ≡ is_inside (settings_of self.now) address }
+    {
+        let hidden = 32 - self.length;
+        address >> hidden == self.inside >> hidden
+    }
+
+    /// The class of a flow; None where it is dropped as stray.
+    pub(crate) fn class_of(&self, source: u32, dest: u32) -> Option<Class>
+        ensures { result ≡ class_of_flow (settings_of self.now) source dest }
+    {
+        match (self.is_inside(source), dest == self.outside) {
+            (true, true) => Some(Class::Hairpin),
+            (true, false) if self.is_inside(dest) => None,
+            (true, false) => Some(Class::Outbound),
+            (false, true) => Some(Class::Inbound),
+            (false, false) => None,
+        }
+    }
+
+    /// The forward table of an inside endpoint.
+    pub(crate) fn forward_table(&self, key: &Endpoint) -> u32
+        ensures { result ≡ forward_table (settings_of self.now) key.now }
+    {
+        let sum = u64::from(key.protocol) + u64::from(key.address) + u64::from(key.port);
+        2 + (sum % u64::from(self.shards)) as u32
+    }
+
+    /// The reverse table of an outside port.
+    pub(crate) fn reverse_table(&self, port: &PortKey) -> u32
+        ensures { result ≡ reverse_table (settings_of self.now) port.now }
+    {
+        2 + self.shards + u32::from(port.port) % self.shards
+    }
+}

@@ -1,0 +1,224 @@
+ghost use Rattle.std.specs.Prelude.{◌≡◌};
+ghost use Rattle.nat_box.specs.Places.{number_of, place_of, number_of_class, class_of, noted, local_of, source_key, dest_key};
+
+use box_program::Local;
+use nat_tables::{Endpoint, PortKey};
+
+/// What is done next with a packet.
+#[derive(Clone, Copy, Debug, PartialEq, Eq)]
+pub enum Place {
+    /// It is told the time.
+    HearsTime,
+    /// It looks its source up in the source's forward table.
+    FindsMapping,
+    /// It unbinds the port of an idle mapping that was removed.
+    UnbindsFreed,
+    /// It gives this port back to the pool.
+    GivesBackFreed,
+    /// It is told a random word.
+    DrawsWord,
+    /// It takes a port out of the pool.
+    ReservesPort,
+    /// It binds this port to its source, in the port's reverse table.
+    BindsPort,
+    /// It maps its source to this port, unless the source has a mapping by now.
+    FindsOrBinds,
+    /// It unbinds the port that it took in vain.
+    UnbindsLost,
+    /// It gives this port back to the pool.
+    GivesBackLost,
+    /// It reads which endpoint its destination port is bound to.
+    FindsEndpoint,
+    /// It reads whether this endpoint's mapping to the port lives.
+    AsksIfLives,
+    /// It is counted as dropped.
+    CountsDrop,
+    /// It goes out.
+    SendsOut,
+    /// It is done.
+    Ends,
+}
+
+impl Place {
+    /// The number of the place in a Local.
+    fn number(self) -> u32
+        ensures { result ≡ number_of self }
+    {
+        match self {
+            Place::HearsTime => 0,
+            Place::FindsMapping => 1,
+            Place::UnbindsFreed => 2,
+            Place::GivesBackFreed => 3,
+            Place::DrawsWord => 4,
+            Place::ReservesPort => 5,
+            Place::BindsPort => 6,
+            Place::FindsOrBinds => 7,
+            Place::UnbindsLost => 8,
+            Place::GivesBackLost => 9,
+            Place::FindsEndpoint => 10,
+            Place::AsksIfLives => 11,
+            Place::CountsDrop => 12,
+            Place::SendsOut => 13,
+            Place::Ends => 14,
+        }
+    }
+
+    /// The place of a number; the end for a number of no place.
+    pub(crate) fn numbered(number: u32) -> Place
+        ensures { result ≡ place_of number }
+    {
+        match number {
+            0 => Place::HearsTime,
+            1 => Place::FindsMapping,
+            2 => Place::UnbindsFreed,
+            3 => Place::GivesBackFreed,
+            4 => Place::DrawsWord,
+            5 => Place::ReservesPort,
+            6 => Place::BindsPort,
+            7 => Place::FindsOrBinds,
+            8 => Place::UnbindsLost,
+            9 => Place::GivesBackLost,
+            10 => Place::FindsEndpoint,
+            11 => Place::AsksIfLives,
+            12 => Place::CountsDrop,
+            13 => Place::SendsOut,
+            _ => Place::Ends,
+        }
+    }
+}
+
+/// Where a flow comes from and goes to.
+#[derive(Clone, Copy, Debug, PartialEq, Eq)]
+pub enum Class {
+    /// From inside to outside.
+    Outbound,
+    /// From inside to the outside address, and so to the inside again (RFC 4787, REQ-9, hairpinning).
+    Hairpin,
+    /// From outside to the outside address.
+    Inbound,
+}
+
+impl Class {
+    fn number(self) -> u64
+        ensures { result ≡ number_of_class self }
+    {
+        match self {
+            Class::Outbound => 0,
+            Class::Hairpin => 1,
+            Class::Inbound => 2,
+        }
+    }
+
+    fn numbered(number: u64) -> Class
+        ensures { result ≡ class_of number }
+    {
+        match number {
+            0 => Class::Outbound,
+            1 => Class::Hairpin,
+            _ => Class::Inbound,
+        }
+    }
+}
+
+/// What is noted of a packet in hand.
+#[derive(Clone, Copy, Debug, PartialEq, Eq)]
+pub struct Noted {
+    pub class: Class,
+    /// Where it comes from.
+    pub source: Endpoint,
+    /// The port that it goes to.
+    pub dest_port: u16,
+    /// The time that it was told, in microseconds.
+    pub time: u64,
+    /// The word that it was told, or the reason for which it is dropped.
+    pub word: u64,
+    /// The outside port of its source, or the one that is about to be.
+    pub port: u16,
+    /// A port that is to be given back.
+    pub freed: PortKey,
+    /// The inside endpoint that it goes to, of the protocol of its source.
+    pub target: Endpoint,
+}
+
+impl Noted {
+    /// What a Local has noted.
+    pub(crate) fn read_from(local: &Local) -> Noted
+        ensures { result ≡ noted local.now }
+    {
+        let protocol = (local.regs[1] % (1 << 8)) as u8;
+        Noted {
+            class: Class::numbered(local.regs[0]),
+            source: Endpoint {
+                protocol,
+                address: (local.regs[2] % (1 << 32)) as u32,
+                port: (local.regs[3] % (1 << 16)) as u16,
+            },
+            dest_port: (local.regs[4] % (1 << 16)) as u16,
+            time: local.regs[5],
+            word: local.regs[6],
+            port: (local.regs[7] % (1 << 16)) as u16,
+            freed: PortKey {
+                protocol: (local.regs[8] % (1 << 8)) as u8,
+                port: (local.regs[9] % (1 << 16)) as u16,
+            },
+            target: Endpoint {
+                protocol,
+                address: (local.regs[10] % (1 << 32)) as u32,
+                port: (local.regs[11] % (1 << 16)) as u16,
+            },
+        }
+    }
+
+    /// The outside port of its source.
+    pub(crate) fn source_key(&self) -> PortKey
+        ensures { result ≡ source_key self.now }
+    {
+        PortKey {
+            protocol: self.source.protocol,
+            port: self.port,
+        }
+    }
+
+    /// The outside port that it goes to.
+    pub(crate) fn dest_key(&self) -> PortKey
+        ensures { result ≡ dest_key self.now }
+    {
+        PortKey {
+            protocol: self.source.protocol,
+            port: self.dest_port,
+        }
+    }
+}
+
+/// Where a packet goes from here.
+#[derive(Clone, Copy, Debug, PartialEq, Eq)]
+pub struct Goes {
+    pub place: Place,
+    pub noted: Noted,
+}
+
+impl Goes {
+    /// The Local that says so.
+    pub(crate) fn local(&self) -> Local
+        ensures { result ≡ local_of self.now.place self.now.noted }
+    {
+        let noted = &self.noted;
+        Local {
+            at: self.place.number(),
+            regs: [
+                noted.class.number(),
+                u64::from(noted.source.protocol),
+                u64::from(noted.source.address),
+                u64::from(noted.source.port),
+                u64::from(noted.dest_port),
+                noted.time,
+                noted.word,
+                u64::from(noted.port),
+                u64::from(noted.freed.protocol),
+                u64::from(noted.freed.port),
+                u64::from(noted.target.address),
+                u64::from(noted.target.port),
+            ],
+        }
+    }
+}

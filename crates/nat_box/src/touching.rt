@@ -1,0 +1,220 @@
+ghost use Rattle.std.specs.Prelude.{◌≡◌, IfOk, OnErr};
+ghost use Rattle.nat_box.specs.Nat.{goes, dropped, mapped, after_find, after_reserve, after_bind, touched, after_endpoint, looked, told};
+ghost use Rattle.nat_box.specs.declared.value.NatValue.TheVariants.{Dropped, Free, Mapped, Taken};
+
+use crate::{Class, Drops, Goes, Noted, Place};
+use nat_tables::{Bind, Endpoint, Find, Forward, Freed, Pool, Reverse};
+use plain_text::NoMemory;
+
+/// The reason for which a packet is dropped that goes to a port with no mapping.
+const NO_MAPPING: u64 = 7;
+
+/// The reason for which a packet is dropped that finds no free port.
+const NO_FREE_PORT: u64 = 8;
+
+impl Goes {
+    pub(crate) fn to(place: Place, noted: Noted) -> Goes
+        ensures { result ≡ goes place noted }
+    {
+        Goes { place, noted }
+    }
+}
+
+impl Noted {
+    /// The packet is dropped for this reason.
+    fn dropped(self, reason: u64) -> Goes
+        ensures { result ≡ dropped self reason }
+    {
+        Goes::to(
+            Place::CountsDrop,
+            Noted {
+                word: reason,
+                ..self
+            },
+        )
+    }
+
+    /// Its source has its mapping.
+    fn mapped(self) -> Goes
+        ensures { result ≡ mapped self self.class }
+    {
+        match self.class {
+            Class::Hairpin => Goes::to(Place::FindsEndpoint, self),
+            Class::Outbound | Class::Inbound => Goes::to(Place::SendsOut, self),
+        }
+    }
+
+    fn after_find(self, found: Find) -> Goes
+        ensures { result ≡ after_find self found }
+    {
+        match found {
+            Find::Live(port) => Noted { port, ..self }.mapped(),
+            Find::Absent(Some(freed)) => Goes::to(Place::UnbindsFreed, Noted { freed, ..self }),
+            Find::Absent(None) => Goes::to(Place::DrawsWord, self),
+        }
+    }
+
+    fn after_reserve(self, reserved: Option<u16>) -> Goes
+        ensures { result ≡ after_reserve self reserved }
+    {
+        match reserved {
+            Some(port) => Goes::to(Place::BindsPort, Noted { port, ..self }),
+            None => self.dropped(NO_FREE_PORT),
+        }
+    }
+
+    /// A port that another packet's mapping made needless is given up.
+    fn after_bind(self, bind: Bind) -> Goes
+        ensures { result ≡ after_bind self bind }
+    {
+        match bind {
+            Bind::Bound => self.mapped(),
+            Bind::Other(port) => {
+                let freed: Freed = self.source_key();
+                Goes::to(
+                    Place::UnbindsLost,
+                    Noted {
+                        port,
+                        freed,
+                        ..self
+                    },
+                )
+            }
+        }
+    }
+
+    fn after_endpoint(self, found: Option<Endpoint>) -> Goes
+        ensures { result ≡ after_endpoint self found }
+    {
+        match found {
+            Some(key) => {
+                let target = Endpoint {
+                    protocol: self.source.protocol,
+                    address: key.address,
+                    port: key.port,
+                };
+                Goes::to(Place::AsksIfLives, Noted { target, ..self })
+            }
+            None => self.dropped(NO_MAPPING),
+        }
+    }
+
+    /// Touches the counts of drops.
+    pub(crate) fn touch_drops(self, place: Place, drops: &mut Drops) -> Goes
+        ensures { (Dropped drops.new, result) ≡ touched place (Dropped drops.old) self }
+    {
+        if place == Place::CountsDrop {
+            drops.add(self.word);
+        }
+        Goes::to(Place::Ends, self)
+    }
+
+    /// Touches the pool.
+    pub(crate) fn touch_pool(self, place: Place, pool: &mut Pool) -> Goes
+        ensures { (Free pool.new, result) ≡ touched place (Free pool.old) self }
+    {
+        match place {
+            Place::ReservesPort => {
+                self.after_reserve(pool.reserve(self.source.protocol, self.source.port, self.word))
+            }
+            Place::GivesBackFreed => {
+                pool.give_back(self.freed.protocol, self.freed.port);
+                Goes::to(Place::DrawsWord, self)
+            }
+            Place::GivesBackLost => {
+                pool.give_back(self.freed.protocol, self.freed.port);
+                self.mapped()
+            }
+            _ => Goes::to(Place::Ends, self),
+        }
+    }
+
+    /// Touches a forward table.
+    pub(crate) fn touch_mappings(self, place: Place, table: &mut Forward) -> Result<Goes, NoMemory>
+        ensures ok { IfOk result (λ goes. (Mapped table.new, goes)
+            ≡ touched place (Mapped table.old) self) }
+        ensures err { OnErr result (table.new ≡ table.old) }
+    {
+        match place {
+            Place::FindsMapping => Ok(self.after_find(table.find(&self.source, self.time))),
+            Place::FindsOrBinds => {
+                let bind = table.find_or_bind(&self.source, self.port, self.time)?;
+                Ok(self.after_bind(bind))
+            }
+            _ => Ok(Goes::to(Place::Ends, self)),
+        }
+    }
+
+    /// Touches a reverse table.
+    pub(crate) fn touch_bound(self, place: Place, table: &mut Reverse) -> Result<Goes, NoMemory>
+        ensures ok { IfOk result (λ goes. (Taken table.new, goes)
+            ≡ touched place (Taken table.old) self) }
+        ensures err { OnErr result (table.new ≡ table.old) }
+    {
+        match place {
+            Place::BindsPort => {
+                table.bind(self.source.protocol, self.port, &self.source)?;
+                Ok(Goes::to(Place::FindsOrBinds, self))
+            }
+            Place::UnbindsFreed => {
+                table.unbind(self.freed.protocol, self.freed.port);
+                Ok(Goes::to(Place::GivesBackFreed, self))
+            }
+            Place::UnbindsLost => {
+                table.unbind(self.freed.protocol, self.freed.port);
+                Ok(Goes::to(Place::GivesBackLost, self))
+            }
+            _ => Ok(Goes::to(Place::Ends, self)),
+        }
+    }
+
+    /// Reads a forward table: whether the mapping of the endpoint that the packet goes to lives. It refreshes nothing.
+    pub(crate) fn look_at_mappings(self, place: Place, table: &Forward) -> Goes
+        ensures { result ≡ looked place (Mapped table.now) self }
+    {
+        if place != Place::AsksIfLives {
+            return Goes::to(Place::Ends, self);
+        }
+        if table.lives(&self.target, self.dest_port, self.time) {
+            Goes::to(Place::SendsOut, self)
+        } else {
+            self.dropped(NO_MAPPING)
+        }
+    }
+
+    /// Reads a reverse table: the endpoint that the packet's destination port is bound to.
+    pub(crate) fn look_at_bound(self, place: Place, table: &Reverse) -> Goes
+        ensures { result ≡ looked place (Taken table.now) self }
+    {
+        if place != Place::FindsEndpoint {
+            return Goes::to(Place::Ends, self);
+        }
+        self.after_endpoint(table.find(self.source.protocol, self.dest_port))
+    }
+
+    /// Notes an answer: the time, or a random word.
+    pub(crate) fn told(self, place: Place, answer: u64) -> Goes
+        ensures { result ≡ told place answer self }
+    {
+        match place {
+            Place::HearsTime => {
+                let noted = Noted {
+                    time: answer,
+                    ..self
+                };
+                match self.class {
+                    Class::Outbound | Class::Hairpin => Goes::to(Place::FindsMapping, noted),
+                    Class::Inbound => Goes::to(Place::FindsEndpoint, noted),
+                }
+            }
+            Place::DrawsWord => Goes::to(
+                Place::ReservesPort,
+                Noted {
+                    word: answer,
+                    ..self
+                },
+            ),
+            _ => Goes::to(Place::Ends, self),
+        }
+    }
+}

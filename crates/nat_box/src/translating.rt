@@ -1,0 +1,148 @@
+ghost use Rattle.std.specs.Prelude.{◌≡◌, IfOk};
+ghost use Rattle.packet_headers.specs.Rewriting.{CanRewrite};
+ghost use Rattle.nat_box.specs.Nat.{begun, frame_out, bytes_out, noted_flow, nothing_noted, reason_of};
+ghost use Rattle.nat_box.specs.Boxes.{settings_of};
+
+use crate::{Class, Goes, NatBox, Noted, Place};
+use nat_tables::{Endpoint, PortKey};
+use packet_headers::{Flow, NotFlow, set_dest, set_source};
+use plain_text::{Bytes, NoMemory};
+use std::alloc::Global;
+
+/// The reason for which a packet is dropped that is of no class.
+const STRAY: u64 = 9;
+
+/// The reason for which a packet is dropped that is no flow.
+fn reason_of(answer: NotFlow) -> u64
+    ensures { result ≡ reason_of answer }
+{
+    match answer {
+        NotFlow::Short => 1,
+        NotFlow::NotIpv4 => 2,
+        NotFlow::BadHeaderLength => 3,
+        NotFlow::Fragment => 4,
+        NotFlow::OtherProtocol => 5,
+        NotFlow::BadTotalLength => 6,
+    }
+}
+
+impl Noted {
+    /// Nothing is noted but the reason for which the packet is dropped.
+    fn reason(reason: u64) -> Noted
+        ensures { result ≡ nothing_noted reason }
+    {
+        let nowhere = Endpoint {
+            protocol: 0,
+            address: 0,
+            port: 0,
+        };
+        Noted {
+            class: Class::Outbound,
+            source: nowhere,
+            dest_port: 0,
+            time: 0,
+            word: reason,
+            port: 0,
+            freed: PortKey {
+                protocol: 0,
+                port: 0,
+            },
+            target: nowhere,
+        }
+    }
+
+    /// What is noted of a flow as its packet begins. The endpoint of the remote is no part of a mapping's key.
+    fn flow(flow: &Flow, class: Class) -> Noted
+        ensures { result ≡ noted_flow flow.now class }
+    {
+        Noted {
+            class,
+            source: Endpoint {
+                protocol: flow.protocol,
+                address: flow.source,
+                port: flow.source_port,
+            },
+            dest_port: flow.dest_port,
+            time: 0,
+            word: 0,
+            port: 0,
+            freed: PortKey {
+                protocol: 0,
+                port: 0,
+            },
+            target: Endpoint {
+                protocol: flow.protocol,
+                address: 0,
+                port: 0,
+            },
+        }
+    }
+}
+
+impl NatBox {
+    /// Where a packet begins, by its view.
+    pub(crate) fn begun(&self, seen: Result<Flow, NotFlow>) -> Goes
+        ensures { result ≡ begun (settings_of self.now) seen }
+    {
+        match seen {
+            Ok(flow) => match self.class_of(flow.source, flow.dest) {
+                Some(class) => Goes::to(Place::HearsTime, Noted::flow(&flow, class)),
+                None => Goes::to(Place::CountsDrop, Noted::reason(STRAY)),
+            },
+            Err(answer) => Goes::to(Place::CountsDrop, Noted::reason(reason_of(answer))),
+        }
+    }
+
+    /// Translates a flow's frame (RFC 3022, section 4.1): an outbound frame comes from the outside address and its source's port,
+    /// an inbound one goes to the inside endpoint, and in a hairpin both are set, the source first.
+    pub(crate) fn translate(&self, frame: &mut [u8], flow: &Flow, noted: &Noted)
+        requires { CanRewrite frame.old flow.now }
+        ensures { frame.new
+            ≡ frame_out (settings_of self.now) noted.now.class frame.old flow.now noted.now }
+    {
+        let target = &noted.target;
+        match noted.class {
+            Class::Outbound => set_source(frame, flow, self.outside, noted.port),
+            Class::Inbound => set_dest(frame, flow, target.address, target.port),
+            Class::Hairpin => {
+                set_source(frame, flow, self.outside, noted.port);
+                set_dest(frame, flow, target.address, target.port);
+            }
+        }
+    }
+
+    /// A copy of a flow's frame, translated.
+    fn translated(
+        &self,
+        alloc: Global,
+        frame: &[u8],
+        flow: &Flow,
+        noted: &Noted,
+    ) -> Result<Bytes, NoMemory>
+        requires { CanRewrite frame.now flow.now }
+        ensures { IfOk result (λ bytes. bytes
+            ≡ frame_out (settings_of self.now) noted.now.class frame.now flow.now noted.now) }
+    {
+        let mut copy = Vec::from_slice(alloc, frame)?;
+        self.translate(&mut copy, flow, noted);
+        Ok(Bytes::from_vec(copy))
+    }
+
+    /// The bytes that go out of a packet with these bytes, by its view.
+    pub(crate) fn sent(
+        &self,
+        alloc: Global,
+        frame: &[u8],
+        seen: Result<Flow, NotFlow>,
+        noted: &Noted,
+    ) -> Result<Bytes, NoMemory>
+        requires { IfOk seen (λ flow. CanRewrite frame.now flow) }
+        ensures { IfOk result (λ bytes. bytes
+            ≡ bytes_out (settings_of self.now) frame.now noted.now seen) }
+    {
+        match seen {
+            Ok(flow) => self.translated(alloc, frame, &flow, noted),
+            Err(_) => Bytes::of(alloc, frame),
+        }
+    }
+}

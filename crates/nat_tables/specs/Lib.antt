@@ -1,0 +1,5 @@
+pub mod Ports
+pub mod Keys
+pub mod Forwards
+pub mod Reverses
+pub mod Shown

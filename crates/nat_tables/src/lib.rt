@@ -1,0 +1,18 @@
+//! The tables of the box `nat`: the pool of free ports, the mappings of inside endpoints, and the bound outside ports.
+#![tactic(auto)]
+
+mod entries;
+mod forward;
+mod free_ports;
+mod laws;
+mod pool;
+mod reverse;
+mod showing;
+mod slot;
+
+pub use entries::{Bind, BoundPort, Endpoint, Find, Freed, Mapping, PortKey};
+pub use forward::Forward;
+pub use laws::reserve_keeps_parity;
+pub use pool::Pool;
+pub use reverse::Reverse;
+pub use slot::Slot;
