@@ -5,12 +5,13 @@
 #![tactic(auto)]
 
 ghost use Rattle.plain_text.specs.declared.limit.TheConstants.{MOST_PACKETS};
-ghost use Rattle.std.specs.Prelude.{◌≤◌, All, length, IfOk};
-ghost use Rattle.job_top.specs.Running.{IsShort};
+ghost use Rattle.std.specs.Prelude.{◌≡◌, ◌<◌, ◌≤◌, length, IfOk};
+ghost use Rattle.box_program.specs.Hands.{FitsProgram};
+ghost use Rattle.master_core.specs.Mastered.{value_of};
 
 use anyhow::{Context, anyhow, bail, ensure};
 use box_program::{CountBox, Program};
-use job_top::play_packets;
+use master_core::{Master, Stepped, Turn};
 use plain_machine::{PlainMove, Schedule};
 use plain_player::{MoveError, Player};
 use plain_text::{MOST_PACKETS, NoMemory, Packet, Packets};
@@ -56,23 +57,84 @@ fn play_plainly<P: Program>(
     })
 }
 
-/// Plays each packet to its end with a master.
-fn play_with_master(alloc: Global, packets: &Packets) -> Result<Done, NoMemory>
-    requires few { length packets.now ≤ MOST_PACKETS }
-    requires short { All IsShort packets.now }
+/// The moves that a packet takes at most, with its take and its end.
+const MOST_MOVES_OF_ONE: u32 = 64;
+
+/// Makes one move of thread 0 with a master; whether a packet was sent out.
+fn step_once<P: Program>(
+    alloc: Global,
+    master: &mut Master<P>,
+    program: &P,
+    packet: &Packet,
+) -> Result<bool, NoMemory>
+    requires program { FitsProgram (P.meaning program.now) (P.fits program.now)
+        value_of master.old.vars }
+    requires thread_in { 0 < length master.old.threads }
+    ensures fits { FitsProgram (P.meaning program.now) (P.fits program.now)
+        value_of master.new.vars }
+    ensures threads { length master.new.threads ≡ length master.old.threads }
 {
-    let run = play_packets(alloc, &CountBox::new(), 1, packets.as_slice())?;
-    Ok(Done {
-        moves: run.schedule.len(),
-        sent: run.sent.len(),
-    })
+    let counts = master.counts(0);
+    if counts.taken > MOST_COUNT || counts.entries > MOST_COUNT || counts.outputs > MOST_COUNT {
+        return Err(NoMemory);
+    }
+    match master.step(alloc, program, 0, Turn::Free, 0, Some(packet)) {
+        Stepped::Emitted(_) => Ok(true),
+        Stepped::NoMemory => Err(NoMemory),
+        _ => Ok(false),
+    }
+}
+
+/// No master of this program comes to so many inputs, entries or outputs.
+const MOST_COUNT: u64 = 1 << 40;
+
+/// Plays a packet to its end with a master.
+fn play_one<P: Program>(
+    alloc: Global,
+    master: &mut Master<P>,
+    program: &P,
+    packet: &Packet,
+    done: Done,
+) -> Result<Done, NoMemory>
+    requires program { FitsProgram (P.meaning program.now) (P.fits program.now)
+        value_of master.old.vars }
+    requires thread_in { 0 < length master.old.threads }
+    ensures fits { FitsProgram (P.meaning program.now) (P.fits program.now)
+        value_of master.new.vars }
+    ensures threads { length master.new.threads ≡ length master.old.threads }
+{
+    let mut moves = done.moves;
+    let mut sent = done.sent;
+    'moves: for _ in 0..MOST_MOVES_OF_ONE {
+        if step_once(alloc, master, program, packet)? {
+            sent = sent.saturating_add(1);
+        }
+        moves = moves.saturating_add(1);
+        if master.in_hand(0).is_none() {
+            break;
+        }
+    }
+    Ok(Done { moves, sent })
+}
+
+/// Plays each packet to its end with a master.
+fn play_with_master<P: Program>(
+    alloc: Global,
+    program: &P,
+    packets: &[Packet],
+) -> Result<Done, NoMemory> {
+    let mut master = Master::fresh(alloc, program, 1)?;
+    let mut done = Done { moves: 0, sent: 0 };
+    for packet in packets {
+        done = play_one(alloc, &mut master, program, packet, done)?;
+    }
+    Ok(done)
 }
 
 /// This number of generated packets.
 fn make_packets(alloc: Global, count: u64) -> Result<Packets, NoMemory>
     requires { count ≤ MOST_PACKETS }
-    ensures few { IfOk result (λ packets. length packets ≤ MOST_PACKETS) }
-    ensures short { IfOk result (All IsShort) }
+    ensures { IfOk result (λ packets. length packets ≤ MOST_PACKETS) }
 {
     make(alloc, 1, count)
 }
@@ -91,7 +153,7 @@ fn main(rt: HostRuntime) -> anyhow::Result<()> {
     let mut sent = 0usize;
     for _ in 0..rounds {
         let done = match who.as_str() {
-            "master" => play_with_master(rt.alloc(), &packets)?,
+            "master" => play_with_master(rt.alloc(), &CountBox::new(), packets.as_slice())?,
             "player" => play_plainly(rt.alloc(), &CountBox::new(), packets.as_slice()).map_err(
                 |error| anyhow!("{error:?}"),
             )?,

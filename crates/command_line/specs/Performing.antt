@@ -2,10 +2,12 @@
 use Rattle.std.specs.Prelude.{◌≡◌, ℕ, List, IfSome}
 use Rattle.world_io.specs.World.{Shown}
 use Rattle.job_top.specs.declared.status.Status.{Status}
-use Rattle.job_top.specs.declared.status.Status.TheVariants.{Done}
-use Rattle.job_top.specs.Commands.{Leaves, LeavesInOrder, JudgesInputsOf, AcceptsInputsOf, KeepsNames}
-use Rattle.job_top.specs.Run.{KeepsShown}
-use Rattle.job_top.specs.Status.{stage_of, AtInputs, Completes}
+use Rattle.job_top.specs.declared.status.Status.TheVariants.{Done, TooLarge}
+use Rattle.plain_text.specs.declared.limit.Limit.{Limit}
+use Rattle.job_top.specs.Commands.{Leaves, LeavesInOrder, StopsAtLimit, JudgesInputsOf, AcceptsInputsOf, KeepsNames}
+use Rattle.script_run.specs.Run.{KeepsShown}
+use Rattle.job_top.specs.Headline.{KeepsPromiseOf}
+use Rattle.job_top.specs.Status.{stage_of, stage_of_limit, AtInputs, AtOutputs, Completes}
 use Rattle.job_top.specs.Words.{asked}
 use Rattle.command_line.specs.Printing.{asked_text, Prints}
 
@@ -13,6 +15,8 @@ use Rattle.command_line.specs.Printing.{asked_text, Prints}
 pub record Performs (healthy : Type 0) (words : List (List ℕ)) (status : Status) (old new : Shown) : Type 0 where
   pub prints : IfSome (asked_text words) (λ text. Prints text status old new)
   pub done : status ≡ Done → IfSome (asked words) (λ command. Leaves command old new)
+  pub headline : status ≡ Done → IfSome (asked words) (λ command. KeepsPromiseOf command old new)
+  pub limit : (limit : Limit) → status ≡ TooLarge limit → stage_of_limit limit ≡ AtOutputs → IfSome (asked words) (λ command. StopsAtLimit command limit old new)
   pub judged : IfSome (asked words) (λ command. JudgesInputsOf healthy command status old)
   pub completes : healthy → IfSome (asked words) (λ command. AcceptsInputsOf command old → Completes status)
   pub in_order : IfSome (asked words) (λ command. LeavesInOrder command old new)

@@ -12,7 +12,7 @@ use Rattle.pcapng_io.specs.declared.fault.NgCause.{NgCause}
 use Rattle.pcapng_io.specs.declared.fault.NgCause.TheVariants as ng
 use Rattle.pcapng_io.specs.declared.fault.NgFault.{NgFault}
 use Rattle.job_top.specs.declared.status.InputFault.{InputFault}
-use Rattle.job_top.specs.declared.status.InputFault.TheVariants.{BoxFile, Capture, NgCapture}
+use Rattle.job_top.specs.declared.status.InputFault.TheVariants.{BoxFile, Capture, NgCapture, Script}
 use Rattle.job_top.specs.declared.status.Status.{Status}
 use Rattle.job_top.specs.declared.status.Status.TheVariants.{Done, BadWords, ReadFault, WriteFault, NoMemory, BadInput, TooLarge, NotBuilt}
 
@@ -55,6 +55,7 @@ limit_text OutputBytes = codes "output bytes"
 abbrev pub fault_text : InputFault → List ℕ
 fault_text (BoxFile fault) = codes "bad input: box: line " ++ decimal fault.line ++ codes ": " ++ cause_text fault.cause
 fault_text (Capture fault) = codes "bad input: capture: offset " ++ decimal fault.offset ++ codes ": " ++ capture_cause_text fault.cause
+fault_text (Script fault) = codes "bad input: script: line " ++ decimal fault.line ++ codes ": " ++ cause_text fault.cause
 fault_text (NgCapture fault) = codes "bad input: capture: offset " ++ decimal fault.offset ++ codes ": " ++ ng_cause_text fault.cause
 
 abbrev pub status_text : Status → List ℕ

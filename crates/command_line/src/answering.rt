@@ -7,7 +7,8 @@ ghost use Rattle.command_line.specs.Printing.{Prints, asked_text};
 ghost use Rattle.command_line.specs.Words.{Refuses, words_of};
 
 use crate::{Request, help, read_request, read_words, version};
-use job_top::{OutputError, REPORT, Status, append, ftmb};
+use job_top::{Status, ftmb};
+use output_files::{OutputError, report};
 use plain_text::Text;
 use std::alloc::Global;
 use std::env::Args;
@@ -15,7 +16,7 @@ use std::io;
 use world_io::World;
 
 /// Prints a text where the report goes.
-#[tactic(auto, using(crate::proofs::Printed::prints_prefix))]
+#[tactic(auto, using(crate::proofs::Printed::prints_prefix, crate::proofs::Printed::prints_whole))]
 fn print<W: World>(world: &mut W, text: &str) -> Status
     ensures prints { IsTrue W.tells
         → Prints text.now result (W.shown world.old) (W.shown world.new) }
@@ -26,7 +27,7 @@ fn print<W: World>(world: &mut W, text: &str) -> Status
         → Rose (W.ledger world.old).write_faults (W.ledger world.new).write_faults }
     ensures never_fails { W.healthy world.old → ¬ (result ≡ Status.WriteFault) }
 {
-    match append(world, REPORT, text.as_bytes()) {
+    match report(world, text.as_bytes()) {
         Ok(()) => Status::Done,
         Err(OutputError::WriteFault) => Status::WriteFault,
         Err(OutputError::NoMemory) => Status::NoMemory,

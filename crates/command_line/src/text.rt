@@ -30,6 +30,10 @@ impl fmt::Display for StatusText {
                 let cause = ng_cause(cause);
                 write!(f, "bad input: capture: offset {offset}: {cause}")
             }
+            Status::BadInput(InputFault::Script(LineFault { line, cause })) => {
+                let cause = line_cause(cause);
+                write!(f, "bad input: script: line {line}: {cause}")
+            }
             Status::TooLarge(limit) => {
                 let limit = limit_name(limit);
                 write!(f, "too large: {limit}")

@@ -5,14 +5,17 @@ pub const VERSION: &str = "ftmb 0.1.0\n";
 pub const HELP: &str = "\
 ftmb run BOX CAPTURE SCRIPT RELEASED SCHEDULE
 
-Runs a box on the packets of a capture, one after another, each on the
-thread that its flow is steered to.
+Performs a script on the packets of a capture, with a box. After each event
+what it released is written, and then its line of the report.
 
   BOX       text that names the box, read
   CAPTURE   capture of the packets to play, pcap or pcapng, read
-  SCRIPT    text of what is to happen, `settle` so far, read
+  SCRIPT    text of what is to happen, an event on each line, read: `feed N`,
+            `time N`, `step T`, `step T = V`, `log T N`, `out T J`,
+            `late E log T N`, `late E out T J`, `cut log T N LEN`,
+            `cut out T J LEN`, `show V`, `settle`
   RELEASED  capture of the packets that were released, written
-  SCHEDULE  text of the moves that were made, written
+  SCHEDULE  text of the moves of the run in which it ends, written
 
 ftmb make SEED N CAPTURE
 

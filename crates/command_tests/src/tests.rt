@@ -247,7 +247,7 @@ const MADE_REPORT: &[u8] =
 fn releases_what_was_made(alloc: Global, world: &mut MemoryWorld) -> Result<bool, NoMemory>
     requires { length world.old.files ≡ 0 }
 {
-    add_file(alloc, world, "box", b"box monitor\nthreads 4")?;
+    add_file(alloc, world, "box", b"box monitor")?;
     add_file(alloc, world, "script", b"settle")?;
     let made = give_words(alloc, world, &["make", "7", "1000", "in"])?;
     let ran = give_words(alloc, world, &RUN)?;
@@ -274,6 +274,10 @@ fn judges_the_inputs_in_their_order(rt: HostRuntime) -> Result<(), Fail> {
         offset: 24,
         cause: CaptureCause::ShortRecord,
     }));
+    let no_event = Status::BadInput(InputFault::Script(LineFault {
+        line: 1,
+        cause: LineCause::UnknownWord,
+    }));
     let cases = [
         Case {
             box_file: b"box count\nthreads 17",
@@ -289,6 +293,11 @@ fn judges_the_inputs_in_their_order(rt: HostRuntime) -> Result<(), Fail> {
         },
         Case {
             script: b"stop 1",
+            status: no_event,
+            ..REFUSED
+        },
+        Case {
+            script: b"settle\ncrash\n",
             status: Status::NotBuilt,
             ..REFUSED
         },
@@ -321,27 +330,88 @@ fn names_a_read_that_failed(rt: HostRuntime) -> Result<(), Fail> {
     Ok(())
 }
 
-/// What the released capture and the schedule have where the first, the second and so on of the writes of the case `ONE` fails: that
-/// creates the released capture, its header, that creates the schedule, the records, the schedule's lines, the report.
-const LEFT: [(Option<&[u8]>, Option<&[u8]>); 6] = [
-    (None, None),
-    (Some(b""), None),
-    (Some(WRITTEN_MICRO), None),
-    (Some(WRITTEN_MICRO), Some(b"")),
-    (Some(ONE_COUNTED), Some(b"")),
-    (Some(ONE_COUNTED), Some(b"0\n0\n0\n0\n")),
+/// What two threads that count leave: the second's output waits for an entry of the first, and leaves with it.
+const WAITED: Case<'static> = Case {
+    box_file: b"box count\nthreads 2\n",
+    capture: TWO_PACKETS,
+    script: b"feed 2\nstep 1\nstep 1\nstep 0\nstep 0\nstep 0\nlog 0 1\nout 0 1\nlog 1 1\n",
+    status: Status::Done,
+    released: Some(WAITED_RELEASED),
+    schedule: Some(b"1\n1\n0\n0\n0\n"),
+    report: b"feed 2 total 2\nstep 1 take 1\nstep 1 entry 1 touch 0 place 1\nstep 0 take 1\nstep 0 entry 1 touch 0 place 2\nstep 0 output 1\nlog 0 1 new\nout 0 1 waits 1 1\nlog 1 1 new 0:1\ndone fed 2 epoch 1 released 1\n",
+};
+
+/// The first packet, with the count 2.
+const WAITED_RELEASED: &[u8] =
+    b"\xd4\xc3\xb2\xa1\x02\0\x04\0\0\0\0\0\0\0\0\0\0\0\x04\0\x01\0\0\0d\0\0\0\x05\0\0\0*\0\0\0*\0\0\0\x02\0\0\0\0\x02\x02\0\0\0\0\x01\x08\0E\0\0\x1c\0\x01\0\0@\x11F\x91\n\0\0\x05\xc63d\x07\x13\x88\05\0\x08\xb7\xe1";
+
+/// The lines of its report before the packet leaves.
+const WAITED_BEFORE: &[u8] =
+    b"feed 2 total 2\nstep 1 take 1\nstep 1 entry 1 touch 0 place 1\nstep 0 take 1\nstep 0 entry 1 touch 0 place 2\nstep 0 output 1\nlog 0 1 new\nout 0 1 waits 1 1\n";
+
+/// The lines of its report before the last one.
+const WAITED_AFTER: &[u8] =
+    b"feed 2 total 2\nstep 1 take 1\nstep 1 entry 1 touch 0 place 1\nstep 0 take 1\nstep 0 entry 1 touch 0 place 2\nstep 0 output 1\nlog 0 1 new\nout 0 1 waits 1 1\nlog 1 1 new 0:1\n";
+
+#[test]
+fn performs_scripts(rt: HostRuntime) -> Result<(), Fail> {
+    let cases = [
+        WAITED,
+        Case {
+            script: b"feed 1\nstep 0\nstep 0\ncut log 0 1 46\ncut log 0 1 47\nlog 0 1\nout 0 1\n",
+            released: Some(WRITTEN_MICRO),
+            schedule: Some(b"0\n0\n"),
+            report: b"feed 1 total 1\nstep 0 take 1\nstep 0 entry 1 touch 0 place 1\ncut log 0 1 46 short\ncut log 0 1 47 new\nlog 0 1 known\nout 0 1 none\ndone fed 1 epoch 1 released 0\n",
+            ..ONE
+        },
+        Case {
+            script: b"# nothing\n",
+            released: Some(WRITTEN_MICRO),
+            schedule: Some(b""),
+            report: b"done fed 0 epoch 1 released 0\n",
+            ..ONE
+        },
+        Case {
+            script: b"settle\nshow 0\nshow 1\ntime 7\nlate 2 log 0 1\nlate 1 log 0 1\n",
+            report: b"settle moves 4 released 1 epoch 1\nshow 0 1\nshow 1 none\ntime 7 set\nlate 2 log 0 1 none\nlate 1 log 0 1 known\ndone fed 1 epoch 1 released 1\n",
+            ..ONE
+        },
+    ];
+    assert_eq!(rt; first_wrong(rt.alloc(), &cases)?, None);
+    Ok(())
+}
+
+/// What is left where a write fails: the released capture, the schedule, and the report.
+type Left = (Option<&'static [u8]>, Option<&'static [u8]>, &'static [u8]);
+
+/// What is left where the first, the second and so on of the writes of the case `WAITED` fails: that creates the released capture, its
+/// header, that creates the schedule, the lines before a packet leaves, its record, the line behind it, the schedule, the last line.
+const LEFT: [Left; 8] = [
+    (None, None, b""),
+    (Some(b""), None, b""),
+    (Some(WRITTEN_MICRO), None, b""),
+    (Some(WRITTEN_MICRO), Some(b""), b""),
+    (Some(WRITTEN_MICRO), Some(b""), WAITED_BEFORE),
+    (Some(WAITED_RELEASED), Some(b""), WAITED_BEFORE),
+    (Some(WAITED_RELEASED), Some(b""), WAITED_AFTER),
+    (
+        Some(WAITED_RELEASED),
+        Some(b"1\n1\n0\n0\n0\n"),
+        WAITED_AFTER,
+    ),
 ];
 
 /// The first of the writes of a run that fails, and does not come to a write fault with what is to be left.
 fn first_wrong_write(alloc: Global) -> Result<Option<u64>, NoMemory> {
     let mut nth = 0u64;
-    for (released, schedule) in &LEFT {
+    for (released, schedule, report) in &LEFT {
         nth = nth.saturating_add(1);
         let case = Case {
             status: Status::WriteFault,
             released: *released,
             schedule: *schedule,
-            ..REFUSED
+            report,
+            ..WAITED
         };
         if !holds_where_writing_fails(alloc, nth, case)? {
             return Ok(Some(nth));
@@ -353,7 +423,7 @@ fn first_wrong_write(alloc: Global) -> Result<Option<u64>, NoMemory> {
 #[test]
 fn names_a_write_that_failed(rt: HostRuntime) -> Result<(), Fail> {
     assert_eq!(rt; first_wrong_write(rt.alloc())?, None);
-    assert!(rt; holds_where_writing_fails(rt.alloc(), LEFT.len() as u64 + 1, ONE)?);
+    assert!(rt; holds_where_writing_fails(rt.alloc(), LEFT.len() as u64 + 1, WAITED)?);
     Ok(())
 }
 

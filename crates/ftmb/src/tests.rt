@@ -263,6 +263,10 @@ fn says_its_status(rt: HostRuntime) -> Result<(), Fail> {
         offset: 48,
         cause: NgCause::NoInterface,
     }));
+    let no_event = Status::BadInput(InputFault::Script(LineFault {
+        line: 1,
+        cause: LineCause::UnknownWord,
+    }));
     let texts = [
         (Status::Done, "done", 0),
         (Status::BadWords, "bad words", 2),
@@ -280,7 +284,9 @@ fn says_its_status(rt: HostRuntime) -> Result<(), Fail> {
             "bad input: capture: offset 48: no interface",
             6,
         ),
+        (no_event, "bad input: script: line 1: unknown word", 6),
         (Status::TooLarge(Limit::File), "too large: file", 7),
+        (Status::TooLarge(Limit::Moves), "too large: moves", 7),
         (Status::TooLarge(Limit::Packets), "too large: packets", 7),
         (Status::NotBuilt, "not built", 8),
     ];

@@ -1,23 +1,15 @@
--- The packets of a capture are ones that records can have, and of bytes where its own are.
-use Rattle.std.proofs.Common.{◌≡◌, ℕ, zero, suc, List, [], ◌∷◌, arith, subst, Some}
-use Rattle.std.specs.Prelude.{All, slice_get, ◌==◌}
+-- The inputs of each thread are of bytes, where the packets of the capture are.
+use Rattle.std.proofs.Common.{subst}
+use Rattle.std.specs.Prelude.{All, ◌==◌}
 use Rattle.std.proofs.lemmas.List.Elements.{All-filter}
 use Rattle.std.proofs.lemmas.Option.{slice_get_within, get_or_from_slice_get}
 use Rattle.plain_text.specs.Octets.{IsOfBytes}
-use Rattle.plain_text.specs.declared.packet.Packet.{Packet}
 use Rattle.input_logger.specs.Inputs.{thread_of}
 use Rattle.monitor_box.specs.Standing.{HaveBytes}
-use Rattle.pcap_io.specs.Capture.{AreRecorded}
-use Rattle.job_top.specs.Running.{IsShort, inputs_on}
+use Rattle.recovery_world.specs.World.{Setting, all_inputs}
 
-pub are_short : (packets : List Packet) → AreRecorded packets → All IsShort packets
-are_short [] r k d h = absurd (omega arith)
-are_short (p ∷ ps) r zero d h = r.0.captured
-are_short (p ∷ ps) r (suc k) d h = are_short ps r.1 k d (omega arith)
-
--- so the inputs of each thread are of bytes
-pub inputs_have_bytes : (threads : ℕ) (packets : List Packet) → All IsOfBytes packets → HaveBytes (inputs_on threads packets)
-inputs_have_bytes threads packets all t k p e =
-    let inputs = inputs_on threads packets t in
-    let kept : All IsOfBytes inputs = All-filter (λ packet. thread_of packet threads == t) IsOfBytes packets all in
+pub inputs_have_bytes : {V : Type 0} (s : Setting V) → All IsOfBytes s.packets → HaveBytes (all_inputs s)
+inputs_have_bytes s all t k p e =
+    let inputs = all_inputs s t in
+    let kept : All IsOfBytes inputs = All-filter (λ packet. thread_of packet s.threads == t) IsOfBytes s.packets all in
     subst IsOfBytes (get_or_from_slice_get inputs k p p e) (kept k p (slice_get_within inputs k p e))

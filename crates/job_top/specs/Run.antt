@@ -1,65 +1,77 @@
--- What the command `run` leaves.
-use Rattle.std.specs.Prelude.{◌≡◌, ◌⊎◌, ℕ, ◌≤◌, All, List, length}
+-- What the command `run` does: a run of the script that the inputs ask for.
+use Rattle.std.specs.Prelude.{◌⊎◌, ℕ, ◌≤◌, All, List}
+use Rattle.plain_text.specs.declared.limit.Limit.{Limit}
 use Rattle.plain_text.specs.declared.packet.Packet.{Packet}
-use Rattle.pcap_io.specs.Capture.{written_header, records_of}
-use Rattle.pcap_io.specs.declared.order.Order.TheVariants as order
 use Rattle.plain_machine.specs.declared.plain_move.PlainMove.{PlainMove}
-use Rattle.plain_machine.specs.Program.{Meaning}
-use Rattle.plain_player.specs.ScheduleText.{schedule_text}
-use Rattle.world_io.specs.World.{Shown}
-use Rattle.job_top.specs.declared.inputs.Inputs.{Inputs}
-use Rattle.job_top.specs.Judging.{AcceptsInputs}
 use Rattle.box_conf.specs.Kinds.{meaning_of}
-use Rattle.plain_text.specs.declared.limit.TheConstants.{MOST_PACKETS}
-use Rattle.job_top.specs.Outputs.{Output, WritesInOrder, WritesWhole}
-use Rattle.job_top.specs.Report.{report_text}
-use Rattle.job_top.specs.Running.{IsSettled, IsShort}
+use Rattle.world_io.specs.World.{Shown}
+use Rattle.recovery_world.specs.World.{Setting}
+use Rattle.recovery_world.specs.Files.{Leaves, LeavesAt}
+use Rattle.recovery_core.specs.Parts.{IsShort}
+use Rattle.recovery_core.specs.Performing.{IsPerformed}
+use Rattle.script_run.specs.declared.run.ScriptRun.{ScriptRun}
+use Rattle.script_run.specs.Run.{OutputNames, setting_of, KeepsShown, HasRun, HasStopped, HasBegunRun}
+use Rattle.input_files.specs.Judging.{AcceptsBox, AcceptsCapture, AcceptsScript}
+use Rattle.job_top.specs.declared.inputs.Inputs.{Inputs}
 use Rattle.job_top.specs.Words.{RunNames}
 
--- nothing was created or written
-pub record KeepsShown (old new : Shown) : Type 0 where
-  pub names : new.names ≡ old.names
-  pub sent : new.sent ≡ old.sent
+-- all input files are accepted
+pub record AcceptsInputs (names : RunNames) (inputs : Inputs) (shown : Shown) : Type 0 where
+  pub box_accepted : AcceptsBox names.box_file inputs.conf shown
+  pub capture_accepted : AcceptsCapture names.capture inputs.capture shown
+  pub script_accepted : AcceptsScript names.script inputs.events shown
 
--- inputs that a box can run on: 1 to 16 threads, and the packets of a capture
-pub record CanRun (inputs : Inputs) : Type 0 where
-  pub some_threads : 1 ≤ inputs.conf.threads
-  pub few_threads : inputs.conf.threads ≤ 16
-  pub few_packets : length inputs.capture.packets ≤ MOST_PACKETS
-  pub short : All IsShort inputs.capture.packets
-
--- what is written of these moves and of these packets that they sent out
-abbrev pub output_from : Inputs → List PlainMove → List Packet → Output
-output_from inputs moves sent = record {
-  header = written_header inputs.capture.unit;
-  records = records_of order.Little sent;
-  schedule = schedule_text moves;
-  report = report_text (length moves) (length sent) (length inputs.capture.packets);
+-- the run that inputs ask for
+abbrev pub script_of : Inputs → ScriptRun
+script_of inputs = record {
+  threads = inputs.conf.threads;
+  seed = inputs.conf.seed;
+  unit = inputs.capture.unit;
+  packets = inputs.capture.packets;
+  events = inputs.events;
 }
 
--- a program that means this ran on the inputs, and this is its output
-pub record Gives {V : Type 0} (m : Meaning V) (inputs : Inputs) (output : Output) : Type 0 where
-  pub moves : List PlainMove
-  pub sent : List Packet
-  pub settled : IsSettled m inputs.conf.threads inputs.capture.packets moves sent
-  pub output_is : output ≡ output_from inputs moves sent
+-- inputs that fit a run: 1 to 16 threads, and packets that a record can have
+pub record FitsRun (inputs : Inputs) : Type 0 where
+  pub some_threads : 1 ≤ inputs.conf.threads
+  pub few_threads : inputs.conf.threads ≤ 16
+  pub short : All IsShort inputs.capture.packets
 
--- the program's output was written whole
-abbrev pub GivesWhole : {V : Type 0} → Meaning V → Inputs → RunNames → Shown → Shown → Type 0
-GivesWhole m inputs names old new = (output : Output) × Gives m inputs output × WritesWhole names output old new
+-- its setting, which has the meaning of the box
+abbrev pub setting_for : (inputs : Inputs) → Setting (meaning_of inputs.conf.kind).value
+setting_for inputs = setting_of (meaning_of inputs.conf.kind).meaning (script_of inputs)
 
--- nothing was written, or the program's output was written in order, maybe not to its end
-abbrev pub GivesInOrder : {V : Type 0} → Meaning V → Inputs → RunNames → Shown → Shown → Type 0
-GivesInOrder m inputs names old new =
-    KeepsShown old new ⊎ ((output : Output) × Gives m inputs output × WritesInOrder names output old new)
+abbrev pub outputs_of : RunNames → OutputNames
+outputs_of names = record { released = names.released; schedule = names.schedule }
 
--- the inputs are accepted, and the outputs have all that their box gives
+-- What a run comes to
+
+-- its events come to their end within the limits, and leave files
+abbrev pub EndsRun : Inputs → Type 0
+EndsRun inputs =
+    (report : List ℕ) × (released : List Packet) × (schedule : List PlainMove) × Leaves (setting_for inputs) inputs.events report released schedule
+
+-- one of them stops at this limit
+abbrev pub StopsRun : Inputs → Limit → Type 0
+StopsRun inputs limit = (report : List ℕ) × (released : List Packet) × LeavesAt (setting_for inputs) inputs.events limit report released
+
+-- the inputs are accepted, and their events are performed
+pub record AsksForRun (names : RunNames) (inputs : Inputs) (shown : Shown) : Type 0 where
+  pub accepted : AcceptsInputs names inputs shown
+  pub performed : All IsPerformed inputs.events
+
+-- What the command leaves
+
+-- the outputs are the files that the run leaves
 abbrev pub RunsWhole : RunNames → Shown → Shown → Type 0
-RunsWhole names old new =
-    (inputs : Inputs) × AcceptsInputs names inputs old × GivesWhole (meaning_of inputs.conf.kind).meaning inputs names old new
+RunsWhole names old new = (inputs : Inputs) × AsksForRun names inputs old × HasRun (setting_for inputs) (outputs_of names) inputs.events old new
 
--- nothing was written, or the inputs are accepted, and what their box gives was written in order
+-- the run stopped at this limit
+abbrev pub RunsToLimit : RunNames → Limit → Shown → Shown → Type 0
+RunsToLimit names limit old new =
+    (inputs : Inputs) × AsksForRun names inputs old × HasStopped (setting_for inputs) (outputs_of names) inputs.events limit old new
+
+-- nothing was written, or some first part of what the run writes, in its order, and nothing else
 abbrev pub RunsInOrder : RunNames → Shown → Shown → Type 0
 RunsInOrder names old new =
-    KeepsShown old new
-    ⊎ ((inputs : Inputs) × AcceptsInputs names inputs old × GivesInOrder (meaning_of inputs.conf.kind).meaning inputs names old new)
+    KeepsShown old new ⊎ ((inputs : Inputs) × AsksForRun names inputs old × HasBegunRun (setting_for inputs) (outputs_of names) inputs.events old new)

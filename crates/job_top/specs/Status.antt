@@ -1,17 +1,18 @@
 -- The statuses of the commands: their exit numbers, at which stage they come, and which error of a stage gives which.
 use Rattle.std.specs.Prelude.{◌≡◌, ◌⊎◌, ℕ, Result, Ok, Err}
 use Rattle.plain_text.specs.declared.fault.LineFault.{LineFault}
-use Rattle.plain_text.specs.declared.limit.Limit.TheVariants.{File}
+use Rattle.plain_text.specs.declared.limit.Limit.{Limit}
+use Rattle.plain_text.specs.declared.limit.Limit.TheVariants as limit_of
 use Rattle.pcapng_io.specs.declared.fault.AnyFault.{AnyFault}
 use Rattle.pcapng_io.specs.declared.fault.AnyFault.TheVariants as any
-use Rattle.job_top.specs.declared.errors.InputError.{InputError}
-use Rattle.job_top.specs.declared.errors.InputError.TheVariants as of_input
-use Rattle.world_io.specs.declared.all.ReadError.{ReadError}
-use Rattle.world_io.specs.declared.all.ReadError.TheVariants as of_reading
-use Rattle.job_top.specs.declared.errors.OutputError.{OutputError}
-use Rattle.job_top.specs.declared.errors.OutputError.TheVariants as of_output
+use Rattle.input_files.specs.declared.errors.InputError.{InputError}
+use Rattle.input_files.specs.declared.errors.InputError.TheVariants as of_input
+use Rattle.output_files.specs.declared.error.OutputError.{OutputError}
+use Rattle.output_files.specs.declared.error.OutputError.TheVariants as of_output
+use Rattle.script_run.specs.declared.error.RunError.{RunError}
+use Rattle.script_run.specs.declared.error.RunError.TheVariants as of_run
 use Rattle.job_top.specs.declared.status.InputFault.{InputFault}
-use Rattle.job_top.specs.declared.status.InputFault.TheVariants.{BoxFile, Capture, NgCapture}
+use Rattle.job_top.specs.declared.status.InputFault.TheVariants.{BoxFile, Capture, NgCapture, Script}
 use Rattle.job_top.specs.declared.status.Status.{Status}
 use Rattle.job_top.specs.declared.status.Status.TheVariants.{Done, BadWords, ReadFault, WriteFault, NoMemory, BadInput, TooLarge, NotBuilt}
 
@@ -33,6 +34,14 @@ pub data Stage : Type 0 where
   AtOutputs : Stage
   AtAnyTime : Stage
 
+-- the stage at which a limit is passed: those of files when they are read, those of a run when it is performed
+abbrev pub stage_of_limit : Limit → Stage
+stage_of_limit limit_of.File = AtInputs
+stage_of_limit limit_of.Packets = AtInputs
+stage_of_limit limit_of.Events = AtInputs
+stage_of_limit limit_of.Moves = AtOutputs
+stage_of_limit limit_of.OutputBytes = AtOutputs
+
 -- the stage at which a status comes; memory may run out at any time
 abbrev pub stage_of : Status → Stage
 stage_of Done = AtOutputs
@@ -41,23 +50,35 @@ stage_of ReadFault = AtInputs
 stage_of WriteFault = AtOutputs
 stage_of NoMemory = AtAnyTime
 stage_of (BadInput fault) = AtInputs
-stage_of (TooLarge limit) = AtInputs
+stage_of (TooLarge limit) = stage_of_limit limit
 stage_of NotBuilt = AtInputs
 
 -- the status comes at this stage, or says that memory ran out
 abbrev pub ComesAt : Stage → Status → Type 0
 ComesAt stage status = (stage_of status ≡ stage) ⊎ (stage_of status ≡ AtAnyTime)
 
-abbrev pub of_script_error : ReadError → Status
-of_script_error of_reading.Failed = ReadFault
-of_script_error of_reading.TooLarge = TooLarge File
-of_script_error of_reading.NoMemory = NoMemory
+-- a status that may come before an output is created, once the words are right
+abbrev pub EndsReading : Status → Type 0
+EndsReading Done = ⊥
+EndsReading BadWords = ⊥
+EndsReading ReadFault = Unit {0}
+EndsReading WriteFault = ⊥
+EndsReading NoMemory = Unit {0}
+EndsReading (BadInput fault) = Unit {0}
+EndsReading (TooLarge limit) = Unit {0}
+EndsReading NotBuilt = Unit {0}
 
 abbrev pub of_box_error : InputError LineFault → Status
 of_box_error of_input.ReadFault = ReadFault
 of_box_error of_input.NoMemory = NoMemory
 of_box_error (of_input.TooLarge limit) = TooLarge limit
 of_box_error (of_input.Fault fault) = BadInput (BoxFile fault)
+
+abbrev pub of_script_error : InputError LineFault → Status
+of_script_error of_input.ReadFault = ReadFault
+of_script_error of_input.NoMemory = NoMemory
+of_script_error (of_input.TooLarge limit) = TooLarge limit
+of_script_error (of_input.Fault fault) = BadInput (Script fault)
 
 abbrev pub of_capture_fault : AnyFault → InputFault
 of_capture_fault (any.Capture fault) = Capture fault
@@ -77,6 +98,16 @@ of_output_error of_output.NoMemory = NoMemory
 abbrev pub outcome_of : {A : Type 0} → Result A OutputError → Status
 outcome_of (Ok done) = Done
 outcome_of (Err error) = of_output_error error
+
+-- what `run` comes to
+abbrev pub of_run_error : RunError → Status
+of_run_error (of_run.Limit limit) = TooLarge limit
+of_run_error of_run.WriteFault = WriteFault
+of_run_error of_run.NoMemory = NoMemory
+
+abbrev pub run_outcome : {A : Type 0} → Result A RunError → Status
+run_outcome (Ok done) = Done
+run_outcome (Err error) = of_run_error error
 
 -- the command is done, or memory ran out
 abbrev pub Completes : Status → Type 0

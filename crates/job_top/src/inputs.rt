@@ -1,98 +1,98 @@
-ghost use Rattle.std.specs.Prelude.{◌≡◌, ◌<◌, ◌≤◌, ◌-◌, ◌^◌, All, length, IsTrue, IfOk, IsErrOf};
+ghost use Rattle.std.specs.Prelude.{◌≡◌, ◌<◌, ◌-◌, ◌^◌, ◌↔◌, All, IsTrue, IfOk, IfErr, IsErrOf};
 ghost use Rattle.world_io.specs.Stream.{Rose};
-ghost use Rattle.job_top.specs.Files.{KeepsOutputs, AfterReading};
-ghost use Rattle.job_top.specs.Judging.{JudgesBox, JudgesCapture, JudgesScript};
-ghost use Rattle.plain_text.specs.declared.limit.TheConstants.{MOST_PACKETS};
-ghost use Rattle.plain_text.specs.Octets.{IsOfBytes};
-ghost use Rattle.job_top.specs.Running.{IsShort};
+ghost use Rattle.recovery_core.specs.Performing.{IsPerformed};
+ghost use Rattle.script_run.specs.Run.{CanRun};
+ghost use Rattle.input_files.specs.Files.{KeepsOutputs};
+ghost use Rattle.job_top.specs.Judging.{JudgesFiles, JudgesInputs};
+ghost use Rattle.job_top.specs.Reading.{AfterInputs};
+ghost use Rattle.job_top.specs.Run.{FitsRun, script_of};
+ghost use Rattle.job_top.specs.Status.{AtInputs, ComesAt, EndsReading};
+ghost use Rattle.job_top.specs.Words.{names_of};
 
-use crate::{InputError, is_settle, read_file};
-use box_conf::{BoxConf, read_box};
-use pcapng_io::{AnyCaptured, AnyFault, read_any_capture};
-use plain_text::{LineFault, Packets, Text, Unit};
+use crate::status::{box_status, capture_status, script_status};
+use crate::{RunWords, Status};
+use box_conf::BoxConf;
+use input_files::{Capture, read_box_file, read_capture_file, read_script_file};
+use recovery_core::is_performed;
+use recovery_world::Event;
+use script_text::Events;
 use std::alloc::Global;
-use world_io::{ReadError, SliceSource, World};
-
-/// The packets of a capture, and what their fractions count.
-#[derive(Debug, Drop)]
-pub struct Capture {
-    pub unit: Unit,
-    pub packets: Packets,
-}
+use world_io::World;
 
 /// The inputs of a run that were accepted.
 #[derive(Debug, Drop)]
 pub struct Inputs {
     pub conf: BoxConf,
     pub capture: Capture,
+    pub events: Events,
 }
 
-/// Reads and judges the box file.
-pub fn read_box_file<W: World>(
-    alloc: Global,
-    world: &mut W,
-    name: &Text,
-) -> Result<BoxConf, InputError<LineFault>>
-    requires { (W.ledger world.old).given < 2 ^ 32 - 1 }
+/// Whether each event is one that is performed.
+fn are_performed(events: &[Event]) -> bool
+    ensures { IsTrue result ↔ All IsPerformed events.now }
+{
+    for event in events {
+        if !is_performed(event) {
+            return false;
+        }
+    }
+    true
+}
+
+/// Reads the input files, in their order: box, capture, script.
+fn read_files<W: World>(alloc: Global, world: &mut W, names: RunWords<'_>) -> Result<Inputs, Status>
+    requires { (W.ledger world.old).given < 2 ^ 31 }
     ensures judged { IsTrue W.tells
-        → JudgesBox (W.healthy world.old) name.now result (W.shown world.old) }
-    ensures threads { IfOk result (λ conf. (1 ≤ conf.threads) × (conf.threads ≤ 16)) }
+        → JudgesFiles (W.healthy world.old) (names_of names.entry) result (W.shown world.old) }
+    ensures stage { IsTrue W.tells → IfErr result (ComesAt AtInputs) }
+    ensures quiet { IfErr result EndsReading }
+    ensures can_run { IfOk result FitsRun }
     ensures outputs { IsTrue W.tells → KeepsOutputs (W.shown world.old) (W.shown world.new) }
-    ensures ledger { AfterReading (W.ledger world.old) (W.ledger world.new) }
-    ensures cause { IsErrOf result InputError.ReadFault
+    ensures ledger { AfterInputs (W.ledger world.old) (W.ledger world.new) }
+    ensures cause { IsErrOf result Status.ReadFault
         → Rose (W.ledger world.old).read_faults (W.ledger world.new).read_faults }
     ensures stays_healthy { W.healthy world.old → W.healthy world.new }
 {
-    let bytes = read_file(alloc, world, name)?;
-    match read_box(bytes.as_slice()) {
-        Ok(conf) => Ok(conf),
-        Err(fault) => Err(InputError::Fault(fault)),
+    let conf = match read_box_file(alloc, world, names.box_file) {
+        Ok(conf) => conf,
+        Err(error) => return Err(box_status(error)),
+    };
+    let capture = match read_capture_file(alloc, world, names.capture) {
+        Ok(capture) => capture,
+        Err(error) => return Err(capture_status(error)),
+    };
+    match read_script_file(alloc, world, names.script) {
+        Ok(events) => Ok(Inputs {
+            conf,
+            capture,
+            events,
+        }),
+        Err(error) => Err(script_status(error)),
     }
 }
 
-/// Reads and judges the capture.
-pub fn read_capture_file<W: World>(
+/// Reads and judges the input files, in their order. Only when all are accepted it is judged whether each event is performed.
+pub fn read_inputs<W: World>(
     alloc: Global,
     world: &mut W,
-    name: &Text,
-) -> Result<Capture, InputError<AnyFault>>
-    requires { (W.ledger world.old).given < 2 ^ 32 - 1 }
+    names: RunWords<'_>,
+) -> Result<Inputs, Status>
+    requires { (W.ledger world.old).given < 2 ^ 31 }
     ensures judged { IsTrue W.tells
-        → JudgesCapture (W.healthy world.old) name.now result (W.shown world.old) }
-    ensures few { IfOk result (λ capture. length capture.packets ≤ MOST_PACKETS) }
-    ensures short { IfOk result (λ capture. All IsShort capture.packets) }
-    ensures bytes { IfOk result (λ capture. All IsOfBytes capture.packets) }
+        → JudgesInputs (W.healthy world.old) (names_of names.entry) result (W.shown world.old) }
+    ensures stage { IsTrue W.tells → IfErr result (ComesAt AtInputs) }
+    ensures quiet { IfErr result EndsReading }
+    ensures can_run { IfOk result (λ inputs. CanRun (script_of inputs)) }
     ensures outputs { IsTrue W.tells → KeepsOutputs (W.shown world.old) (W.shown world.new) }
-    ensures ledger { AfterReading (W.ledger world.old) (W.ledger world.new) }
-    ensures cause { IsErrOf result InputError.ReadFault
+    ensures ledger { AfterInputs (W.ledger world.old) (W.ledger world.new) }
+    ensures cause { IsErrOf result Status.ReadFault
         → Rose (W.ledger world.old).read_faults (W.ledger world.new).read_faults }
     ensures stays_healthy { W.healthy world.old → W.healthy world.new }
 {
-    let bytes = read_file(alloc, world, name)?;
-    match read_any_capture(alloc, &mut SliceSource::of(bytes.as_slice())) {
-        AnyCaptured::Capture { unit, packets } => Ok(Capture { unit, packets }),
-        AnyCaptured::Refused(fault) => Err(InputError::Fault(fault)),
-        AnyCaptured::TooLarge(limit) => Err(InputError::TooLarge(limit)),
-        AnyCaptured::ReadFault => unreachable!(),
-        AnyCaptured::NoMemory => Err(InputError::NoMemory),
+    let inputs = read_files(alloc, world, names)?;
+    if are_performed(inputs.events.as_slice()) {
+        Ok(inputs)
+    } else {
+        Err(Status::NotBuilt)
     }
-}
-
-/// Reads the script, and says whether it is `settle`.
-pub fn read_script_file<W: World>(
-    alloc: Global,
-    world: &mut W,
-    name: &Text,
-) -> Result<bool, ReadError>
-    requires { (W.ledger world.old).given < 2 ^ 32 - 1 }
-    ensures judged { IsTrue W.tells
-        → JudgesScript (W.healthy world.old) name.now result (W.shown world.old) }
-    ensures outputs { IsTrue W.tells → KeepsOutputs (W.shown world.old) (W.shown world.new) }
-    ensures ledger { AfterReading (W.ledger world.old) (W.ledger world.new) }
-    ensures cause { IsErrOf result ReadError.Failed
-        → Rose (W.ledger world.old).read_faults (W.ledger world.new).read_faults }
-    ensures stays_healthy { W.healthy world.old → W.healthy world.new }
-{
-    let bytes = read_file(alloc, world, name)?;
-    Ok(is_settle(bytes.as_slice()))
 }

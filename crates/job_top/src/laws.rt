@@ -1,24 +1,18 @@
 //! Laws of the commands. Each is proved, and does nothing: a caller has it by the call.
-ghost use Rattle.std.specs.Prelude.{◌≡◌, ◌≤◌, ◌↔◌, ℕ, All, Bool, List, IsTrue, Ok, Err, length};
+ghost use Rattle.std.specs.Prelude.{◌≡◌, ◌≤◌, ◌↔◌, ℕ, All, Bool, List, IsTrue, Some, length};
 ghost use Rattle.plain_text.specs.Octets.{IsOfBytes};
 ghost use Rattle.plain_text.specs.declared.packet.Packet.{Packet};
-ghost use Rattle.packet_headers.specs.declared.flow.Flow.{Flow};
-ghost use Rattle.packet_headers.specs.declared.flow.NotFlow.{NotFlow};
-ghost use Rattle.packet_headers.specs.View.{viewed};
-ghost use Rattle.box_program.specs.Count.{count_meaning};
-ghost use Rattle.monitor_box.specs.Monitor.{monitor_meaning};
-ghost use Rattle.monitor_box.specs.Standing.{HaveBytes};
-ghost use Rattle.plain_text.specs.declared.limit.TheConstants.{MOST_PACKETS};
+ghost use Rattle.plain_text.specs.declared.limit.TheConstants.{MOST_FILE_BYTES, MOST_PACKETS};
 ghost use Rattle.plain_text.specs.declared.packet.Unit.TheVariants.{Nano};
 ghost use Rattle.pcap_io.specs.Capture.{written};
 ghost use Rattle.pcapng_io.specs.Capture.{IsNg};
+ghost use Rattle.monitor_box.specs.Standing.{HaveBytes};
+ghost use Rattle.recovery_world.specs.World.{Setting, all_inputs};
 ghost use Rattle.world_io.specs.World.{Shown};
-ghost use Rattle.job_top.specs.declared.inputs.Capture.{Capture};
-ghost use Rattle.job_top.specs.Files.{HasBytes};
-ghost use Rattle.job_top.specs.Inputs.{AcceptsCapture};
+ghost use Rattle.input_files.specs.declared.capture_file.Capture.{Capture};
+ghost use Rattle.input_files.specs.Judging.{AcceptsCapture};
 ghost use Rattle.job_top.specs.declared.status.Status.{Status};
 ghost use Rattle.job_top.specs.Judging.{Judges, IsDecided};
-ghost use Rattle.job_top.specs.Running.{inputs_on, moves_for};
 ghost use Rattle.job_top.specs.Words.{RunNames};
 
 /// The input files decide the status: of those that they decide at most one is true of them. So each comes exactly where it is
@@ -34,23 +28,13 @@ pub fn one_verdict()
 pub fn pcapng_captures_are_savefiles()
     ensures { (name bytes : List ℕ) (packets : List Packet) (shown other : Shown)
         (capture : Capture) → IsNg bytes packets → length packets ≤ MOST_PACKETS
-        → HasBytes name shown bytes → HasBytes name other (written Nano packets)
+        → length bytes ≤ MOST_FILE_BYTES → length (written Nano packets) ≤ MOST_FILE_BYTES
+        → shown.names name ≡ Some bytes → other.names name ≡ Some (written Nano packets)
         → AcceptsCapture name capture shown ↔ AcceptsCapture name capture other }
 {}
 
 /// Where each packet of a capture is of bytes, as of one that was accepted, so is each input of each thread: what the laws of the
 /// monitor's runs ask for.
-pub fn inputs_are_of_bytes()
-    ensures { (threads : ℕ) (packets : List Packet)
-        → All IsOfBytes packets → HaveBytes (inputs_on threads packets) }
-{}
-
-/// The number of moves that each box makes of a packet: the counting box four, and the monitor five of a flow and four of another
-/// packet.
-pub fn moves_of_each_box()
-    ensures count { (p : Packet) → moves_for count_meaning p ≡ 4 }
-    ensures monitor_flow { (tables : ℕ) (p : Packet) (flow : Flow)
-        → viewed p.bytes p.original ≡ Ok flow → moves_for (monitor_meaning tables) p ≡ 5 }
-    ensures monitor_other { (tables : ℕ) (p : Packet) (answer : NotFlow)
-        → viewed p.bytes p.original ≡ Err answer → moves_for (monitor_meaning tables) p ≡ 4 }
+pub fn inputs_are_of_bytes<X>()
+    ensures { (s : Setting X) → All IsOfBytes s.packets → HaveBytes (all_inputs s) }
 {}

@@ -1,11 +1,12 @@
 ghost use Rattle.std.specs.Prelude.{◌≡◌};
-ghost use Rattle.job_top.specs.Status.{exit_code_of};
+ghost use Rattle.job_top.specs.Status.{exit_code_of, of_box_error, of_capture_error, of_script_error, outcome_of, run_outcome as run_outcome_of};
 
-use crate::{InputError, OutputError};
+use input_files::InputError;
+use output_files::OutputError;
 use pcap_io::CaptureFault;
 use pcapng_io::{AnyFault, NgFault};
 use plain_text::{Limit, LineFault};
-use world_io::ReadError;
+use script_run::RunError;
 
 /// An input file that leaves its grammar: which, where and why.
 #[derive(Clone, Copy, Debug, PartialEq, Eq)]
@@ -13,6 +14,7 @@ pub enum InputFault {
     BoxFile(LineFault),
     Capture(CaptureFault),
     NgCapture(NgFault),
+    Script(LineFault),
 }
 
 /// What a command came to.
@@ -28,8 +30,9 @@ pub enum Status {
     NoMemory,
     /// The first input file, in the order of the words, that leaves its grammar.
     BadInput(InputFault),
+    /// A file passes a limit, or the run would.
     TooLarge(Limit),
-    /// The inputs are accepted, and ask for what is not there: a script other than `settle`.
+    /// The inputs are accepted, and the script has an event that is not performed yet.
     NotBuilt,
 }
 
@@ -65,63 +68,61 @@ impl From<AnyFault> for InputFault {
     }
 }
 
-impl From<InputError<LineFault>> for Status {
-    ghost use Rattle.std.specs.Prelude.{◌≡◌};
-    ghost use Rattle.job_top.specs.Status.{of_box_error};
-
-    ghost from_gives = { λ error status. status ≡ of_box_error error };
-
-    fn from(error: InputError<LineFault>) -> Self {
-        match error {
-            InputError::ReadFault => Status::ReadFault,
-            InputError::TooLarge(limit) => Status::TooLarge(limit),
-            InputError::Fault(fault) => Status::BadInput(InputFault::BoxFile(fault)),
-            InputError::NoMemory => Status::NoMemory,
-        }
+/// What a command comes to whose box file is not accepted.
+pub fn box_status(error: InputError<LineFault>) -> Status
+    ensures { result ≡ of_box_error error }
+{
+    match error {
+        InputError::ReadFault => Status::ReadFault,
+        InputError::TooLarge(limit) => Status::TooLarge(limit),
+        InputError::Fault(fault) => Status::BadInput(InputFault::BoxFile(fault)),
+        InputError::NoMemory => Status::NoMemory,
     }
 }
 
-impl From<InputError<AnyFault>> for Status {
-    ghost use Rattle.std.specs.Prelude.{◌≡◌};
-    ghost use Rattle.job_top.specs.Status.{of_capture_error};
-
-    ghost from_gives = { λ error status. status ≡ of_capture_error error };
-
-    fn from(error: InputError<AnyFault>) -> Self {
-        match error {
-            InputError::ReadFault => Status::ReadFault,
-            InputError::TooLarge(limit) => Status::TooLarge(limit),
-            InputError::Fault(fault) => Status::BadInput(fault.into()),
-            InputError::NoMemory => Status::NoMemory,
-        }
+/// What a command comes to whose capture is not accepted.
+pub fn capture_status(error: InputError<AnyFault>) -> Status
+    ensures { result ≡ of_capture_error error }
+{
+    match error {
+        InputError::ReadFault => Status::ReadFault,
+        InputError::TooLarge(limit) => Status::TooLarge(limit),
+        InputError::Fault(fault) => Status::BadInput(fault.into()),
+        InputError::NoMemory => Status::NoMemory,
     }
 }
 
-impl From<ReadError> for Status {
-    ghost use Rattle.std.specs.Prelude.{◌≡◌};
-    ghost use Rattle.job_top.specs.Status.{of_script_error};
-
-    ghost from_gives = { λ error status. status ≡ of_script_error error };
-
-    fn from(error: ReadError) -> Self {
-        match error {
-            ReadError::Failed => Status::ReadFault,
-            ReadError::TooLarge => Status::TooLarge(Limit::File),
-            ReadError::NoMemory => Status::NoMemory,
-        }
+/// What a command comes to whose script is not accepted.
+pub fn script_status(error: InputError<LineFault>) -> Status
+    ensures { result ≡ of_script_error error }
+{
+    match error {
+        InputError::ReadFault => Status::ReadFault,
+        InputError::TooLarge(limit) => Status::TooLarge(limit),
+        InputError::Fault(fault) => Status::BadInput(InputFault::Script(fault)),
+        InputError::NoMemory => Status::NoMemory,
     }
 }
 
-impl From<OutputError> for Status {
-    ghost use Rattle.std.specs.Prelude.{◌≡◌};
-    ghost use Rattle.job_top.specs.Status.{of_output_error};
+/// What `make` comes to.
+pub fn outcome(written: Result<(), OutputError>) -> Status
+    ensures { result ≡ outcome_of written }
+{
+    match written {
+        Ok(()) => Status::Done,
+        Err(OutputError::WriteFault) => Status::WriteFault,
+        Err(OutputError::NoMemory) => Status::NoMemory,
+    }
+}
 
-    ghost from_gives = { λ error status. status ≡ of_output_error error };
-
-    fn from(error: OutputError) -> Self {
-        match error {
-            OutputError::WriteFault => Status::WriteFault,
-            OutputError::NoMemory => Status::NoMemory,
-        }
+/// What `run` comes to.
+pub fn run_outcome(run: Result<(), RunError>) -> Status
+    ensures { result ≡ run_outcome_of run }
+{
+    match run {
+        Ok(()) => Status::Done,
+        Err(RunError::Limit(limit)) => Status::TooLarge(limit),
+        Err(RunError::WriteFault) => Status::WriteFault,
+        Err(RunError::NoMemory) => Status::NoMemory,
     }
 }

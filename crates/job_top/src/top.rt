@@ -1,84 +1,60 @@
-ghost use Rattle.std.specs.Prelude.{◌≡◌, ◌+◌, ◌<◌, ◌≤◌, ◌-◌, ◌^◌, ◌↔◌, None, IsTrue, IfErr, IfOk, IfSome, OnOk, IsErrOf};
+ghost use Rattle.std.specs.Prelude.{◌≡◌, ◌+◌, ◌<◌, ◌≤◌, ◌-◌, ◌^◌, ◌↔◌, None, Err, IsTrue, IfSome, OnOk, IsErrOf};
+ghost use Rattle.plain_text.specs.declared.limit.Limit.{Limit as LimitKind};
 ghost use Rattle.world_io.specs.Stream.{Rose};
-ghost use Rattle.job_top.specs.Commands.{AcceptsInputsOf, Leaves, LeavesInOrder, JudgesInputsOf, KeepsNames};
-ghost use Rattle.job_top.specs.Files.{KeepsOutputs};
-ghost use Rattle.job_top.specs.Judging.{Judges, JudgesInputs};
 ghost use Rattle.box_conf.specs.Kinds.{meaning_of};
-ghost use Rattle.job_top.specs.Outputs.{AfterWriting};
-ghost use Rattle.job_top.specs.Reading.{AfterInputs};
-ghost use Rattle.job_top.specs.Run.{CanRun, GivesInOrder, GivesWhole, KeepsShown, RunsInOrder, RunsWhole};
-ghost use Rattle.job_top.specs.Status.{AtInputs, ComesAt, Completes, stage_of, outcome_of};
+ghost use Rattle.output_files.specs.Written.{AfterWriting};
+ghost use Rattle.script_run.specs.Run.{CanRun, HasBegunRun, HasRun, HasStopped, KeepsShown};
+ghost use Rattle.job_top.specs.Commands.{AcceptsInputsOf, Leaves, LeavesInOrder, JudgesInputsOf, KeepsNames, StopsAtLimit};
+ghost use Rattle.job_top.specs.Headline.{KeepsPromise, KeepsPromiseOf};
+ghost use Rattle.job_top.specs.Judging.{Judges};
+ghost use Rattle.job_top.specs.Run.{RunsInOrder, RunsToLimit, RunsWhole, outputs_of, script_of, setting_for};
+ghost use Rattle.job_top.specs.Status.{AtInputs, AtOutputs, Completes, stage_of, stage_of_limit};
 ghost use Rattle.job_top.specs.Words.{asked, names_of};
 
-use crate::{
-    Command, Inputs, OutputError, RunWords, Status, make_capture, read_box_file, read_capture_file,
-    read_command, read_script_file, run_program,
-};
+use crate::status::{outcome, run_outcome};
+use crate::{Command, Inputs, RunWords, Status, make_capture, read_command, read_inputs};
 use box_conf::BoxKind;
 use plain_text::Text;
+use script_run::{RunError, RunFiles, ScriptRun, run_script};
 use std::alloc::Global;
 use world_io::World;
 
-/// Reads and judges the input files, in their order.
-fn read_inputs<W: World>(
-    alloc: Global,
-    world: &mut W,
-    names: RunWords<'_>,
-) -> Result<Inputs, Status>
-    requires { (W.ledger world.old).given < 2 ^ 31 }
-    ensures judged { IsTrue W.tells
-        → JudgesInputs (W.healthy world.old) (names_of names.entry) result (W.shown world.old) }
-    ensures stage { IfErr result (ComesAt AtInputs) }
-    ensures can_run { IfOk result CanRun }
-    ensures outputs { IsTrue W.tells → KeepsOutputs (W.shown world.old) (W.shown world.new) }
-    ensures ledger { AfterInputs (W.ledger world.old) (W.ledger world.new) }
-    ensures cause { IsErrOf result Status.ReadFault
-        → Rose (W.ledger world.old).read_faults (W.ledger world.new).read_faults }
-    ensures stays_healthy { W.healthy world.old → W.healthy world.new }
-{
-    let conf = read_box_file(alloc, world, names.box_file)?;
-    let capture = read_capture_file(alloc, world, names.capture)?;
-    let settle = read_script_file(alloc, world, names.script)?;
-    if !settle {
-        return Err(Status::NotBuilt);
-    }
-    Ok(Inputs { conf, capture })
-}
-
-/// Runs the box on the inputs, and writes the outputs.
+/// Runs the box on the inputs, by the events of the script, and writes the outputs.
 fn run_box<W: World>(
     alloc: Global,
     world: &mut W,
     names: RunWords<'_>,
-    inputs: &Inputs,
-) -> Result<(), OutputError>
-    requires inputs { CanRun inputs.now }
+    inputs: Inputs,
+) -> Result<(), RunError>
+    requires inputs { CanRun (script_of inputs) }
     requires room { (W.ledger world.old).given < 2 ^ 32 - 2 }
     requires apart { names.released.now ≡ names.schedule.now → ⊥ }
-    ensures whole { IsTrue W.tells → OnOk result
-        (GivesWhole (meaning_of inputs.now.conf.kind).meaning inputs.now
-        (names_of names.entry) (W.shown world.old) (W.shown world.new)) }
-    ensures in_order { IsTrue W.tells
-        → GivesInOrder (meaning_of inputs.now.conf.kind).meaning inputs.now
-        (names_of names.entry) (W.shown world.old) (W.shown world.new) }
-    ensures ledger { AfterWriting (W.ledger world.old) (W.ledger world.new) }
-    ensures cause { IsErrOf result OutputError.WriteFault
+    ensures whole { IsTrue W.tells → OnOk result (HasRun (setting_for inputs)
+        (outputs_of (names_of names.entry)) inputs.events (W.shown world.old) (W.shown world.new)) }
+    ensures limit { IsTrue W.tells → (limit : LimitKind) → result ≡ Err (RunError.Limit limit)
+        → HasStopped (setting_for inputs) (outputs_of (names_of names.entry)) inputs.events limit
+        (W.shown world.old) (W.shown world.new) }
+    ensures in_order { IsTrue W.tells → HasBegunRun (setting_for inputs)
+        (outputs_of (names_of names.entry)) inputs.events (W.shown world.old) (W.shown world.new) }
+    ensures ledger { AfterWriting 2 (W.ledger world.old) (W.ledger world.new) }
+    ensures cause { IsErrOf result RunError.WriteFault
         → Rose (W.ledger world.old).write_faults (W.ledger world.new).write_faults }
-    ensures never_fails { W.healthy world.old → ¬ IsErrOf result OutputError.WriteFault }
+    ensures never_fails { W.healthy world.old → ¬ IsErrOf result RunError.WriteFault }
 {
-    match &inputs.conf.kind {
-        BoxKind::Count(count) => run_program(alloc, world, names, inputs, count),
-        BoxKind::Monitor(monitor) => run_program(alloc, world, names, inputs, monitor),
-    }
-}
-
-/// What a command comes to whose outputs were written so.
-fn outcome(written: Result<(), OutputError>) -> Status
-    ensures { result ≡ outcome_of written }
-{
-    match written {
-        Ok(()) => Status::Done,
-        Err(error) => Status::from(error),
+    let files = RunFiles {
+        released: names.released,
+        schedule: names.schedule,
+    };
+    let run = ScriptRun {
+        threads: inputs.conf.threads,
+        seed: inputs.conf.seed,
+        unit: inputs.capture.unit,
+        packets: inputs.capture.packets,
+        events: inputs.events,
+    };
+    match inputs.conf.kind {
+        BoxKind::Count(count) => run_script(alloc, world, files, run, count),
+        BoxKind::Monitor(monitor) => run_script(alloc, world, files, run, monitor),
     }
 }
 
@@ -88,6 +64,11 @@ fn run<W: World>(alloc: Global, world: &mut W, names: RunWords<'_>) -> Status
     requires apart { names.released.now ≡ names.schedule.now → ⊥ }
     ensures done { IsTrue W.tells → result ≡ Status.Done
         → RunsWhole (names_of names.entry) (W.shown world.old) (W.shown world.new) }
+    ensures headline { IsTrue W.tells → result ≡ Status.Done
+        → KeepsPromise (names_of names.entry) (W.shown world.old) (W.shown world.new) }
+    ensures limit { IsTrue W.tells → (limit : LimitKind) → result ≡ Status.TooLarge limit
+        → stage_of_limit limit ≡ AtOutputs
+        → RunsToLimit (names_of names.entry) limit (W.shown world.old) (W.shown world.new) }
     ensures judged { IsTrue W.tells
         → Judges (W.healthy world.old) (names_of names.entry) result (W.shown world.old) }
     ensures in_order { IsTrue W.tells
@@ -103,7 +84,7 @@ fn run<W: World>(alloc: Global, world: &mut W, names: RunWords<'_>) -> Status
     ensures never_fails { W.healthy world.old → ¬ (result ≡ Status.WriteFault) }
 {
     match read_inputs(alloc, world, names) {
-        Ok(inputs) => outcome(run_box(alloc, world, names, &inputs)),
+        Ok(inputs) => run_outcome(run_box(alloc, world, names, inputs)),
         Err(status) => status,
     }
 }
@@ -111,15 +92,16 @@ fn run<W: World>(alloc: Global, world: &mut W, names: RunWords<'_>) -> Status
 /// The top call: does what the words ask of the world, and answers what it came to.
 ///
 /// `run BOX CAPTURE SCRIPT RELEASED SCHEDULE`, five names of files of which the two outputs differ: the box is run on the packets of
-/// the capture, one after another, each on the thread that it is steered to. RELEASED is the capture of the packets that it sent
-/// out, SCHEDULE the list of the moves that it made, and the report has one line for the script's event and a last one. An output
-/// is created only when all input files are accepted; the first that is refused, in the order of the words, decides the status.
-/// SCHEDULE is created only once RELEASED has its header, and the report begins only once both are whole.
+/// the capture by the events of the script. RELEASED is the capture of the packets that were released, SCHEDULE the moves of the run in
+/// which it ends, and the report has a line for each event and a last one. An output is created only when all input files are accepted;
+/// the first that is refused, in the order of the words, decides the status. After each event the records of what it released are
+/// written, and then its line, so the report never tells of a packet that RELEASED lacks; SCHEDULE comes at the end, before the last
+/// line. Where the run would pass a limit it stops, and what was released before stays.
 ///
 /// `make SEED N CAPTURE`, two numbers of which N is at most 65,536, and the name of a file: N packets are made from the seed and
 /// written to CAPTURE, and then the report says how many.
 ///
-/// In a healthy world that tells its bytes, a command whose words are right, and whose inputs are there, are accepted and pass no
+/// In a healthy world that tells its bytes, a command whose words are right, whose inputs are there and are accepted, and that passes no
 /// limit, is done, unless memory runs out. There a read fault says that the first input that is not accepted is not there.
 ///
 /// A world that has given fewer than 2^31 numbers has room for the files of any command, which are five at most.
@@ -129,6 +111,11 @@ pub fn ftmb<W: World>(alloc: Global, words: &[Text], world: &mut W) -> Status
     ensures nothing_asked { result ≡ Status.BadWords → world.new ≡ world.old }
     ensures done { IsTrue W.tells → result ≡ Status.Done → IfSome (asked words.now)
         (λ command. Leaves command (W.shown world.old) (W.shown world.new)) }
+    ensures headline { IsTrue W.tells → result ≡ Status.Done → IfSome (asked words.now)
+        (λ command. KeepsPromiseOf command (W.shown world.old) (W.shown world.new)) }
+    ensures limit { IsTrue W.tells → (limit : LimitKind) → result ≡ Status.TooLarge limit
+        → stage_of_limit limit ≡ AtOutputs → IfSome (asked words.now)
+        (λ command. StopsAtLimit command limit (W.shown world.old) (W.shown world.new)) }
     ensures judged { IsTrue W.tells → IfSome (asked words.now)
         (λ command. JudgesInputsOf (W.healthy world.old) command result (W.shown world.old)) }
     ensures completes { W.healthy world.old → IsTrue W.tells → IfSome (asked words.now)

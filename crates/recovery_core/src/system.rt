@@ -185,6 +185,7 @@ impl<P: Program> System<P> {
         ensures stands { (s : Setting P.Value) (w : World P.Value)
             → StandsFor (P.meaning self.old.parts.program) s w self.old.parts
             → StandsFor (P.meaning self.old.parts.program) s w self.new.parts }
+        ensures program { self.new.parts.program ≡ self.old.parts.program }
         ensures stopped { self.new.stopped ≡ self.old.stopped }
     {
         self.core.handed = self.core.released.len();

@@ -2,4 +2,4 @@ use Rattle.job_top.proofs.Recorded.{inputs_have_bytes}
 use Rattle.job_top.proofs.laws.inputs_are_of_bytes.Goals as goal
 
 pub returns : goal.returns
-returns c = λ threads packets. inputs_have_bytes threads packets
+returns g c = λ s packets. inputs_have_bytes s packets

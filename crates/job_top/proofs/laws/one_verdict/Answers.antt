@@ -1,5 +1,5 @@
 use Rattle.std.specs.Prelude.{IsTrue}
-use Rattle.job_top.proofs.InputVerdicts.{one_verdict}
+use Rattle.job_top.proofs.OneVerdict.{one_verdict}
 use Rattle.job_top.proofs.laws.one_verdict.Goals as goal
 
 pub returns : goal.returns

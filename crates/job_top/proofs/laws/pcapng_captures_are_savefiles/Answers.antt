@@ -2,4 +2,4 @@ use Rattle.job_top.proofs.Savefiles.{alike}
 use Rattle.job_top.proofs.laws.pcapng_captures_are_savefiles.Goals as goal
 
 pub returns : goal.returns
-returns c = λ name bytes packets shown other capture ng few has written. alike name bytes packets ng few shown other capture has written
+returns c = λ name bytes packets shown other capture ng few size written_size has has_written. alike name bytes packets ng few shown other capture size written_size has has_written

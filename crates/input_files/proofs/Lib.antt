@@ -1,0 +1,5 @@
+pub mod JudgedTexts
+pub mod OneAnswer
+pub mod Records
+pub mod Verdicts
+pub mod WholeLines

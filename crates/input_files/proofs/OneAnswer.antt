@@ -1,0 +1,210 @@
+-- A file decides the answer to it.
+use Rattle.std.proofs.Common.{◌≡◌, ℕ, ◌<◌, ◌≤◌, ◌⊎◌, inl, inr, List, length, refl, sym, ap, ◌∙◌, subst, arith, Result, Ok, Err}
+use Rattle.std.specs.Prelude.{Some, None}
+use Rattle.plain_text.specs.declared.fault.LineCause.{LineCause}
+use Rattle.plain_text.specs.declared.fault.LineFault.{LineFault}
+use Rattle.plain_text.specs.declared.limit.Limit.{Limit}
+use Rattle.plain_text.specs.declared.limit.Limit.TheVariants as limit
+use Rattle.pcapng_io.specs.declared.capture.AnyCaptured.{AnyCaptured}
+use Rattle.pcapng_io.specs.declared.capture.AnyCaptured.TheVariants as captured
+use Rattle.pcapng_io.specs.declared.fault.AnyFault.{AnyFault}
+use Rattle.pcapng_io.specs.Captured.{SaysAny, IsDecidedAny}
+use Rattle.pcapng_io.proofs.Written.{one_any_answer}
+use Rattle.box_conf.specs.declared.kind.BoxConf.{BoxConf}
+use Rattle.box_conf.specs.BoxFile as box
+use Rattle.box_conf.proofs.OneFile as box_file
+use Rattle.recovery_world.specs.declared.event.Event.{Event}
+use Rattle.script_text.specs.Scripts.{IsScript, HasTooMany, count_of}
+use Rattle.script_text.proofs.WholeText as script_file
+use Rattle.world_io.specs.World.{Shown}
+use Rattle.input_files.specs.declared.capture_file.Capture.{Capture}
+use Rattle.input_files.specs.declared.errors.InputError.{InputError}
+use Rattle.input_files.specs.declared.errors.InputError.TheVariants as error
+use Rattle.input_files.specs.Answers.{SaysBox, SaysScript, SaysCapture, BoxPasses, ScriptPasses, MayGoOn, SaysNoFault}
+use Rattle.input_files.specs.Files.{IsMissing}
+use Rattle.input_files.specs.Judging.{Judges, IsDecided}
+use Rattle.input_files.specs.Texts.{judged_text}
+use Rattle.input_files.proofs.JudgedTexts.{within}
+
+-- an answer that the bytes of a file decide
+abbrev OfBytes : {A F : Type 0} → Result A (InputError F) → Type 0
+OfBytes (Ok value) = Unit {0}
+OfBytes (Err (error.Fault fault)) = Unit {0}
+OfBytes (Err (error.TooLarge passed)) = Unit {0}
+OfBytes (Err error.ReadFault) = ⊥
+OfBytes (Err error.NoMemory) = ⊥
+
+-- Where bytes have one answer, a file has one.
+module _ {A F : Type 0} (says : List ℕ → Result A (InputError F) → Type 0)
+    (one_says : (bytes : List ℕ) (a b : Result A (InputError F)) → OfBytes a → OfBytes b → says bytes a → says bytes b → a ≡ b)
+    (healthy : Type 0) (name : List ℕ) (shown : Shown) where
+  -- the file is not there, or its bytes have this answer
+  abbrev Reads : Result A (InputError F) → Type 0
+  Reads r = ((r ≡ Err error.ReadFault) × IsMissing name shown)
+      ⊎ ((bytes : List ℕ) × (shown.names name ≡ Some bytes) × OfBytes r × says bytes r)
+
+  reads : (r : Result A (InputError F)) → IsDecided healthy r → Judges says healthy name r shown → Reads r
+  reads (Ok value) d h = inr (h.0, h.1, tt, h.2)
+  reads (Err (error.Fault fault)) d h = inr (h.0, h.1, tt, h.2)
+  reads (Err (error.TooLarge passed)) d h = inr (h.0, h.1, tt, h.2)
+  reads (Err error.ReadFault) d h = inl (refl, h d)
+  reads (Err error.NoMemory) d h = absurd d
+
+  same_bytes : (a b : List ℕ) → shown.names name ≡ Some a → shown.names name ≡ Some b → a ≡ b
+  same_bytes a b x y =
+      let some : Some a ≡ Some b = sym x ∙ y in
+      cc
+
+  not_there : (a : List ℕ) → IsMissing name shown → shown.names name ≡ Some a → ⊥
+  not_there a x y = none (sym x ∙ y)
+    where
+      none : None ≡ Some a → ⊥
+      none e = cc
+
+  one_read : (r q : Result A (InputError F)) → Reads r → Reads q → r ≡ q
+  one_read r q (inl a) (inl b) = a.0 ∙ sym b.0
+  one_read r q (inl a) (inr b) = absurd (not_there b.0 a.1 b.1)
+  one_read r q (inr a) (inl b) = absurd (not_there a.0 b.1 a.1)
+  one_read r q (inr a) (inr b) =
+      let same : a.0 ≡ b.0 = same_bytes a.0 b.0 a.1 b.1 in
+      one_says b.0 r q a.2 b.2 (subst (λ (bytes : List ℕ). says bytes r) same a.3) b.3
+
+  pub one_answer : (r q : Result A (InputError F)) → IsDecided healthy r → IsDecided healthy q → Judges says healthy name r shown → Judges says healthy name q shown → r ≡ q
+  one_answer r q dr dq hr hq = one_read r q (reads r dr hr) (reads q dq hq)
+
+same_fault : (f g : LineFault) → (f.line ≡ g.line) × (f.cause ≡ g.cause) → f ≡ g
+same_fault f g same =
+    let line : f.line ≡ g.line = same.0 in
+    let cause : f.cause ≡ g.cause = same.1 in
+    let first : f ≡ record { line = g.line; cause = f.cause } = ap (λ (n : ℕ). record f { line = n }) line in
+    first ∙ ap (λ (c : LineCause). record g { cause = c }) cause
+
+no_room : {P : Type 0} (n : ℕ) → n ≤ 67108864 → 67108864 < n → P
+no_room n low high = absurd (omega arith)
+
+-- Box files
+
+box_limit : (bytes : List ℕ) (passed : Limit) → BoxPasses bytes passed → (passed ≡ limit.File) × (67108864 < length bytes) × MayGoOn (judged_text bytes)
+box_limit bytes limit.File h = (refl, h.0, h.1)
+box_limit bytes limit.Packets h = absurd h
+box_limit bytes limit.Events h = absurd h
+box_limit bytes limit.Moves h = absurd h
+box_limit bytes limit.OutputBytes h = absurd h
+
+box_both : (bytes : List ℕ) (conf : BoxConf) (fault : LineFault) → SaysBox bytes (Ok conf) → SaysBox bytes (Err (error.Fault fault)) → ⊥
+box_both bytes conf fault a b =
+    let First : List ℕ → Type 0 = λ text. box.FirstFault text fault.line fault.cause in
+    box_file.box_or_fault bytes conf fault.line fault.cause a.1 (subst First (within bytes a.0) b.0)
+
+pub one_box : (bytes : List ℕ) (a b : Result BoxConf (InputError LineFault)) → OfBytes a → OfBytes b → SaysBox bytes a → SaysBox bytes b → a ≡ b
+one_box bytes (Ok a) (Ok b) d e x y = ap (λ (c : BoxConf). Ok c) (box_file.one_box bytes a b x.1 y.1)
+one_box bytes (Ok a) (Err (error.Fault f)) d e x y = absurd (box_both bytes a f x y)
+one_box bytes (Ok a) (Err (error.TooLarge l)) d e x y = no_room (length bytes) x.0 (box_limit bytes l y).1
+one_box bytes (Ok a) (Err error.ReadFault) d e x y = absurd e
+one_box bytes (Ok a) (Err error.NoMemory) d e x y = absurd e
+one_box bytes (Err (error.Fault f)) (Ok b) d e x y = absurd (box_both bytes b f y x)
+one_box bytes (Err (error.Fault f)) (Err (error.Fault g)) d e x y =
+    ap (λ (h : LineFault). Err (error.Fault h)) (same_fault f g (box_file.one_fault (judged_text bytes) f.line g.line f.cause g.cause x.0 y.0))
+one_box bytes (Err (error.Fault f)) (Err (error.TooLarge l)) d e x y =
+    let large = box_limit bytes l y in absurd (x.1 large.1 (large.2 f.line f.cause x.0))
+one_box bytes (Err (error.Fault f)) (Err error.ReadFault) d e x y = absurd e
+one_box bytes (Err (error.Fault f)) (Err error.NoMemory) d e x y = absurd e
+one_box bytes (Err (error.TooLarge l)) (Ok b) d e x y = no_room (length bytes) y.0 (box_limit bytes l x).1
+one_box bytes (Err (error.TooLarge l)) (Err (error.Fault f)) d e x y =
+    let large = box_limit bytes l x in absurd (y.1 large.1 (large.2 f.line f.cause y.0))
+one_box bytes (Err (error.TooLarge l)) (Err (error.TooLarge m)) d e x y =
+    ap (λ (n : Limit). Err (error.TooLarge n)) ((box_limit bytes l x).0 ∙ sym (box_limit bytes m y).0)
+one_box bytes (Err (error.TooLarge l)) (Err error.ReadFault) d e x y = absurd e
+one_box bytes (Err (error.TooLarge l)) (Err error.NoMemory) d e x y = absurd e
+one_box bytes (Err error.ReadFault) b d e x y = absurd d
+one_box bytes (Err error.NoMemory) b d e x y = absurd d
+
+-- Scripts
+
+script_limit : (bytes : List ℕ) (passed : Limit) → ScriptPasses bytes passed
+    → ((passed ≡ limit.Events) × HasTooMany (judged_text bytes)) ⊎ ((passed ≡ limit.File) × (67108864 < length bytes) × SaysNoFault (judged_text bytes))
+script_limit bytes limit.File h = inr (refl, h.0, h.1)
+script_limit bytes limit.Packets h = absurd h
+script_limit bytes limit.Events h = inl (refl, h)
+script_limit bytes limit.Moves h = absurd h
+script_limit bytes limit.OutputBytes h = absurd h
+
+script_both : (bytes : List ℕ) (events : List Event) (fault : LineFault) → SaysScript bytes (Ok events) → SaysScript bytes (Err (error.Fault fault)) → ⊥
+script_both bytes events fault a b =
+    let Is : List ℕ → Type 0 = λ text. IsScript text events in
+    script_file.not_both (judged_text bytes) events fault.line fault.cause (subst Is (sym (within bytes a.0)) a.1) b.0
+
+script_fits : (bytes : List ℕ) (events : List Event) (passed : Limit) → SaysScript bytes (Ok events) → ScriptPasses bytes passed → ⊥
+script_fits bytes events passed a b = by_limit (script_limit bytes passed b)
+  where
+    few : HasTooMany bytes → ⊥
+    few many = over (script_file.too_many bytes events a.1).0 many a.2
+      where
+        over : (HasTooMany bytes → 4000000 < count_of events) → HasTooMany bytes → count_of events ≤ 4000000 → ⊥
+        over f h low = let high = f h in omega arith
+
+    by_limit : ((passed ≡ limit.Events) × HasTooMany (judged_text bytes)) ⊎ ((passed ≡ limit.File) × (67108864 < length bytes) × SaysNoFault (judged_text bytes)) → ⊥
+    by_limit (inl h) = few (subst HasTooMany (within bytes a.0) h.1)
+    by_limit (inr h) = no_room (length bytes) a.0 h.1
+
+script_faulty : (bytes : List ℕ) (fault : LineFault) (passed : Limit) → SaysScript bytes (Err (error.Fault fault)) → ScriptPasses bytes passed → ⊥
+script_faulty bytes fault passed a b = by_limit (script_limit bytes passed b)
+  where
+    by_limit : ((passed ≡ limit.Events) × HasTooMany (judged_text bytes)) ⊎ ((passed ≡ limit.File) × (67108864 < length bytes) × SaysNoFault (judged_text bytes)) → ⊥
+    by_limit (inl h) = a.1 h.1
+    by_limit (inr h) = h.2.0 fault.line fault.cause a.0
+
+one_limit : (bytes : List ℕ) (l m : Limit) → ScriptPasses bytes l → ScriptPasses bytes m → l ≡ m
+one_limit bytes l m x y = by_limits (script_limit bytes l x) (script_limit bytes m y)
+  where
+    by_limits : ((l ≡ limit.Events) × HasTooMany (judged_text bytes)) ⊎ ((l ≡ limit.File) × (67108864 < length bytes) × SaysNoFault (judged_text bytes))
+        → ((m ≡ limit.Events) × HasTooMany (judged_text bytes)) ⊎ ((m ≡ limit.File) × (67108864 < length bytes) × SaysNoFault (judged_text bytes)) → l ≡ m
+    by_limits (inl a) (inl b) = a.0 ∙ sym b.0
+    by_limits (inl a) (inr b) = absurd (b.2.1 a.1)
+    by_limits (inr a) (inl b) = absurd (a.2.1 b.1)
+    by_limits (inr a) (inr b) = a.0 ∙ sym b.0
+
+pub one_script : (bytes : List ℕ) (a b : Result (List Event) (InputError LineFault)) → OfBytes a → OfBytes b → SaysScript bytes a → SaysScript bytes b → a ≡ b
+one_script bytes (Ok a) (Ok b) d e x y = ap (λ (c : List Event). Ok c) (script_file.one_script bytes a b x.1 y.1)
+one_script bytes (Ok a) (Err (error.Fault f)) d e x y = absurd (script_both bytes a f x y)
+one_script bytes (Ok a) (Err (error.TooLarge l)) d e x y = absurd (script_fits bytes a l x y)
+one_script bytes (Ok a) (Err error.ReadFault) d e x y = absurd e
+one_script bytes (Ok a) (Err error.NoMemory) d e x y = absurd e
+one_script bytes (Err (error.Fault f)) (Ok b) d e x y = absurd (script_both bytes b f y x)
+one_script bytes (Err (error.Fault f)) (Err (error.Fault g)) d e x y =
+    ap (λ (h : LineFault). Err (error.Fault h)) (same_fault f g (script_file.one_fault (judged_text bytes) f.line g.line f.cause g.cause x.0 y.0))
+one_script bytes (Err (error.Fault f)) (Err (error.TooLarge l)) d e x y = absurd (script_faulty bytes f l x y)
+one_script bytes (Err (error.Fault f)) (Err error.ReadFault) d e x y = absurd e
+one_script bytes (Err (error.Fault f)) (Err error.NoMemory) d e x y = absurd e
+one_script bytes (Err (error.TooLarge l)) (Ok b) d e x y = absurd (script_fits bytes b l y x)
+one_script bytes (Err (error.TooLarge l)) (Err (error.Fault f)) d e x y = absurd (script_faulty bytes f l y x)
+one_script bytes (Err (error.TooLarge l)) (Err (error.TooLarge m)) d e x y = ap (λ (n : Limit). Err (error.TooLarge n)) (one_limit bytes l m x y)
+one_script bytes (Err (error.TooLarge l)) (Err error.ReadFault) d e x y = absurd e
+one_script bytes (Err (error.TooLarge l)) (Err error.NoMemory) d e x y = absurd e
+one_script bytes (Err error.ReadFault) b d e x y = absurd d
+one_script bytes (Err error.NoMemory) b d e x y = absurd d
+
+-- Captures
+
+abbrev capture_said : AnyCaptured → Result Capture (InputError AnyFault)
+capture_said (captured.Capture unit packets) = Ok (record { unit = unit; packets = packets })
+capture_said (captured.Refused fault) = Err (error.Fault fault)
+capture_said (captured.TooLarge passed) = Err (error.TooLarge passed)
+capture_said captured.ReadFault = Err error.ReadFault
+capture_said captured.NoMemory = Err error.NoMemory
+
+abbrev Answered : List ℕ → Result Capture (InputError AnyFault) → Type 0
+Answered bytes r = (answer : AnyCaptured) × IsDecidedAny answer × SaysAny bytes answer × (r ≡ capture_said answer)
+
+answered : (bytes : List ℕ) (r : Result Capture (InputError AnyFault)) → OfBytes r → SaysCapture bytes r → Answered bytes r
+answered bytes (Ok capture) d h = (captured.Capture capture.unit capture.packets, tt, h.0, refl)
+answered bytes (Err (error.Fault fault)) d h = (captured.Refused fault, tt, h, refl)
+answered bytes (Err (error.TooLarge passed)) d h = (captured.TooLarge passed, tt, h, refl)
+answered bytes (Err error.ReadFault) d h = absurd d
+answered bytes (Err error.NoMemory) d h = absurd d
+
+pub one_capture : (bytes : List ℕ) (a b : Result Capture (InputError AnyFault)) → OfBytes a → OfBytes b → SaysCapture bytes a → SaysCapture bytes b → a ≡ b
+one_capture bytes a b d e x y =
+    let r = answered bytes a d x in
+    let q = answered bytes b e y in
+    r.3 ∙ ap capture_said (one_any_answer bytes r.0 q.0 r.1 q.1 r.2 q.2) ∙ sym q.3

@@ -1,0 +1,102 @@
+-- What the readers of texts answer, of the front of a file, is so of the file.
+use Rattle.std.proofs.Common.{◌≡◌, ℕ, ◌<◌, ◌≤◌, List, sym, ap, ◌∙◌, subst, arith, Result, Ok, Err}
+use Rattle.plain_text.specs.declared.fault.LineCause.TheVariants.{MissingLine}
+use Rattle.plain_text.specs.declared.fault.LineFault.{LineFault}
+use Rattle.plain_text.specs.declared.limit.Limit.{Limit}
+use Rattle.plain_text.specs.declared.limit.Limit.TheVariants as limit
+use Rattle.world_io.specs.declared.beginning.Front.TheVariants.{All, More}
+use Rattle.world_io.specs.World.{Shown}
+use Rattle.box_conf.specs.declared.kind.BoxConf.{BoxConf}
+use Rattle.box_conf.specs.BoxFile.{IsBoxFile}
+use Rattle.box_conf.specs.BoxFile as box
+use Rattle.box_conf.proofs.OneFile.{box_or_fault, one_fault}
+use Rattle.recovery_world.specs.declared.event.Event.{Event}
+use Rattle.script_text.specs.Scripts.{IsScript, HasTooMany, count_of}
+use Rattle.script_text.proofs.WholeText.{not_both, too_many}
+use Rattle.input_files.specs.declared.errors.InputError.{InputError}
+use Rattle.input_files.specs.declared.errors.InputError.TheVariants as error
+use Rattle.input_files.specs.Answers.{SaysBox, SaysScript, SaysLines}
+use Rattle.input_files.specs.Judging.{IsToldOf, JudgesScript}
+use Rattle.input_files.specs.Texts.{IsFrontOf, judged_text, whole_lines}
+use Rattle.input_files.proofs.JudgedTexts.{within, beyond}
+
+-- a fact of what was read of a file is one of the text that is judged of it
+all_judged : (P : List ℕ → Type 0) (front bytes : List ℕ) → P front → IsFrontOf (All front) bytes → P (judged_text bytes)
+all_judged P front bytes p is = subst P (sym is.0 ∙ sym (within bytes is.1)) p
+
+cut_judged : (P : List ℕ → Type 0) (front bytes : List ℕ) → P (whole_lines front) → IsFrontOf (More front) bytes → P (judged_text bytes)
+cut_judged P front bytes p is = subst P (ap whole_lines is.0 ∙ sym (beyond bytes is.1)) p
+
+-- Box files
+
+pub box_accepted : (front bytes : List ℕ) (conf : BoxConf) → IsBoxFile front conf → IsFrontOf (All front) bytes → SaysBox bytes (Ok conf)
+box_accepted front bytes conf is all =
+    let Is : List ℕ → Type 0 = λ text. IsBoxFile text conf in
+    (all.1, subst Is (sym all.0) is)
+
+pub box_faulty : (front bytes : List ℕ) (fault : LineFault) → box.FirstFault front fault.line fault.cause → IsFrontOf (All front) bytes
+    → SaysBox bytes (Err (error.Fault fault))
+box_faulty front bytes fault is all =
+    (all_judged (λ text. box.FirstFault text fault.line fault.cause) front bytes is all, λ large. absurd (omega (arith, large, all.1)))
+
+pub cut_box_faulty : (front bytes : List ℕ) (fault : LineFault) → box.FirstFault (whole_lines front) fault.line fault.cause → ¬ (fault.cause ≡ MissingLine)
+    → IsFrontOf (More front) bytes → SaysBox bytes (Err (error.Fault fault))
+cut_box_faulty front bytes fault is other cut =
+    (cut_judged (λ text. box.FirstFault text fault.line fault.cause) front bytes is cut, λ large. other)
+
+pub cut_box_whole : (front bytes : List ℕ) (conf : BoxConf) → IsBoxFile (whole_lines front) conf → IsFrontOf (More front) bytes
+    → SaysBox bytes (Err (error.TooLarge limit.File))
+cut_box_whole front bytes conf is cut =
+    let judged = cut_judged (λ text. IsBoxFile text conf) front bytes is cut in
+    (cut.1, λ number cause first. absurd (box_or_fault (judged_text bytes) conf number cause judged first))
+
+pub cut_box_missing : (front bytes : List ℕ) (line : ℕ) → box.FirstFault (whole_lines front) line MissingLine → IsFrontOf (More front) bytes
+    → SaysBox bytes (Err (error.TooLarge limit.File))
+cut_box_missing front bytes line is cut =
+    let judged = cut_judged (λ text. box.FirstFault text line MissingLine) front bytes is cut in
+    (cut.1, λ number cause first. (one_fault (judged_text bytes) number line cause MissingLine first judged).1)
+
+-- Scripts
+
+script_many : (bytes : List ℕ) (passed : Limit) → passed ≡ limit.Events → HasTooMany (judged_text bytes) → SaysScript bytes (Err (error.TooLarge passed))
+script_many bytes passed is many = subst (λ (l : Limit). SaysScript bytes (Err (error.TooLarge l))) (sym is) many
+
+script_refused : (bytes : List ℕ) (e : InputError LineFault) → SaysLines (judged_text bytes) (Err e) → SaysScript bytes (Err e)
+script_refused bytes (error.Fault fault) says = says
+script_refused bytes (error.TooLarge passed) says = script_many bytes passed says.0 says.1
+script_refused bytes error.ReadFault says = absurd says
+script_refused bytes error.NoMemory says = tt
+
+-- all of a script was read
+pub whole_script : (front : List ℕ) (bytes : List ℕ) (r : Result (List Event) (InputError LineFault)) → SaysLines front r → IsFrontOf (All front) bytes → SaysScript bytes r
+whole_script front bytes (Ok events) says all =
+    let Is : List ℕ → Type 0 = λ text. IsScript text events in
+    (all.1, subst Is (sym all.0) says.0, says.1)
+whole_script front bytes (Err e) says all = script_refused bytes e (all_judged (λ text. SaysLines text (Err e)) front bytes says all)
+
+-- the front of a larger script was read
+pub cut_script : (front bytes : List ℕ) (events : List Event) → SaysLines (whole_lines front) (Ok events) → IsFrontOf (More front) bytes
+    → SaysScript bytes (Err (error.TooLarge limit.File))
+cut_script front bytes events says cut =
+    let judged = cut_judged (λ text. SaysLines text (Ok events)) front bytes says cut in (
+      cut.1,
+      (
+        (λ number cause first. not_both (judged_text bytes) events number cause judged.0 first),
+        λ many. passes (count_of events) judged.1 ((too_many (judged_text bytes) events judged.0).0 many),
+      ),
+    )
+  where
+    passes : (n : ℕ) → n ≤ 4000000 → 4000000 < n → ⊥
+    passes n low high = omega arith
+
+pub cut_script_refused : (front bytes : List ℕ) (e : InputError LineFault) → SaysLines (whole_lines front) (Err e) → IsFrontOf (More front) bytes → SaysScript bytes (Err e)
+cut_script_refused front bytes e says cut = script_refused bytes e (cut_judged (λ text. SaysLines text (Err e)) front bytes says cut)
+
+-- what is said of the bytes of a script is said of the file of its name
+pub script_judged : (healthy : Type 0) (name : List ℕ) (shown : Shown) (r : Result (List Event) (InputError LineFault))
+    → IsToldOf name (λ bytes. SaysScript bytes r) shown → JudgesScript healthy name r shown
+script_judged healthy name shown (Ok events) told = told
+script_judged healthy name shown (Err (error.Fault fault)) told = told
+script_judged healthy name shown (Err (error.TooLarge passed)) told = told
+script_judged healthy name shown (Err error.ReadFault) told = absurd told.2
+script_judged healthy name shown (Err error.NoMemory) told = tt

@@ -1,0 +1,52 @@
+use Rattle.std.proofs.Common.{◌≤◌, ◌∙◌, ◌++◌, List, ℕ, ap, subst, sym}
+use Rattle.pcapng_io.specs.Captured.{SaysAny}
+use Rattle.world_io.specs.Stream.{Rose}
+use Rattle.input_files.proofs.capture_file.read_buffered.Goals as goal
+
+pub returns-clause-told : goal.returns-clause-told
+returns-clause-told g c = λ told.
+    let start = ap (λ b. b.1 ++ g.S.Source.left b.0.now) c.of-buffered.ensures in
+    subst (λ (left : List ℕ). SaysAny left c.read_any_capture-captured.result) start (c.read_any_capture-captured.ensures.told told)
+
+pub returns-clause-reads : goal.returns-clause-reads
+returns-clause-reads g c =
+    let taken = c.read_any_capture-captured.ensures.reads in
+    let start = ap (λ b. b.0.now) c.of-buffered.ensures in
+    let name = ap (λ b. b.0.ghost_name) (sym c.of-buffered.ensures) ∙ sym taken.1.below.0 ∙ ap (λ s. s.ghost_name) (sym c.into_inner-below.ensures) in
+    let last = ap (λ s. s.now) (sym c.into_inner-below.ensures) ∙ sym (c.source-1.given.1 name) in
+    let below = subst (λ s. g.S.Source.reads s taken.1.fetched c.read_any_capture-captured.new.source.0.now) start taken.1.below.1 in
+    (taken.1.fetched, subst (λ s. g.S.Source.reads c.args.source.now taken.1.fetched s) last below)
+
+pub returns-clause-packets : goal.returns-clause-packets
+returns-clause-packets g c = c.read_any_capture-captured.ensures.packets
+
+pub returns-clause-later : goal.returns-clause-later
+returns-clause-later g c =
+    let taken = c.read_any_capture-captured.ensures.reads in
+    let start = ap (λ b. b.0.now) c.of-buffered.ensures in
+    let name = ap (λ b. b.0.ghost_name) (sym c.of-buffered.ensures) ∙ sym taken.1.below.0 ∙ ap (λ s. s.ghost_name) (sym c.into_inner-below.ensures) in
+    let last = ap (λ s. s.now) (sym c.into_inner-below.ensures) ∙ sym (c.source-1.given.1 name) in
+    let later = subst (λ s. g.S.Source.faults s ≤ g.S.Source.faults c.read_any_capture-captured.new.source.0.now) start c.read_any_capture-captured.ensures.later in
+    subst (λ s. g.S.Source.faults c.args.source.now ≤ g.S.Source.faults s) last later
+
+pub returns-clause-cause : goal.returns-clause-cause
+returns-clause-cause g c = λ fault.
+    let taken = c.read_any_capture-captured.ensures.reads in
+    let start = ap (λ b. b.0.now) c.of-buffered.ensures in
+    let name = ap (λ b. b.0.ghost_name) (sym c.of-buffered.ensures) ∙ sym taken.1.below.0 ∙ ap (λ s. s.ghost_name) (sym c.into_inner-below.ensures) in
+    let last = ap (λ s. s.now) (sym c.into_inner-below.ensures) ∙ sym (c.source-1.given.1 name) in
+    let cause = subst (λ s. Rose (g.S.Source.faults s) (g.S.Source.faults c.read_any_capture-captured.new.source.0.now)) start (c.read_any_capture-captured.ensures.cause fault) in
+    subst (λ s. Rose (g.S.Source.faults c.args.source.now) (g.S.Source.faults s)) last cause
+
+pub returns-clause-never_fails : goal.returns-clause-never_fails
+returns-clause-never_fails g c = λ healthy.
+    let start = ap (λ b. b.0.now) c.of-buffered.ensures in
+    c.read_any_capture-captured.ensures.never_fails (subst (λ s. g.S.Source.healthy s) (sym start) healthy)
+
+pub returns-clause-stays_healthy : goal.returns-clause-stays_healthy
+returns-clause-stays_healthy g c = λ healthy.
+    let taken = c.read_any_capture-captured.ensures.reads in
+    let start = ap (λ b. b.0.now) c.of-buffered.ensures in
+    let name = ap (λ b. b.0.ghost_name) (sym c.of-buffered.ensures) ∙ sym taken.1.below.0 ∙ ap (λ s. s.ghost_name) (sym c.into_inner-below.ensures) in
+    let last = ap (λ s. s.now) (sym c.into_inner-below.ensures) ∙ sym (c.source-1.given.1 name) in
+    subst (λ s. g.S.Source.healthy s) last (c.read_any_capture-captured.ensures.stays_healthy (subst (λ s. g.S.Source.healthy s) (sym start) healthy))

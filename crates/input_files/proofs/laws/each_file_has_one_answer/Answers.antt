@@ -1,0 +1,13 @@
+use Rattle.std.specs.Prelude.{IsTrue}
+use Rattle.input_files.specs.Answers.{SaysBox, SaysCapture, SaysScript}
+use Rattle.input_files.proofs.OneAnswer.{one_answer, one_box, one_capture, one_script}
+use Rattle.input_files.proofs.laws.each_file_has_one_answer.Goals as goal
+
+pub returns-clause-box_file : goal.returns-clause-box_file
+returns-clause-box_file c = λ healthy name shown a b. one_answer SaysBox one_box (IsTrue healthy) name shown a b
+
+pub returns-clause-capture : goal.returns-clause-capture
+returns-clause-capture c = λ healthy name shown a b. one_answer SaysCapture one_capture (IsTrue healthy) name shown a b
+
+pub returns-clause-script : goal.returns-clause-script
+returns-clause-script c = λ healthy name shown a b. one_answer SaysScript one_script (IsTrue healthy) name shown a b

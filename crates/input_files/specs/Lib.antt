@@ -1,0 +1,5 @@
+pub mod Answers
+pub mod Errors
+pub mod Files
+pub mod Judging
+pub mod Texts

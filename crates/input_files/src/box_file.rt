@@ -1,0 +1,58 @@
+ghost use Rattle.std.specs.Prelude.{◌≡◌, ◌<◌, ◌≤◌, ◌-◌, ◌^◌, IsTrue, IfOk, IsErrOf, List, ℕ};
+ghost use Rattle.world_io.specs.Stream.{Rose};
+ghost use Rattle.input_files.specs.Answers.{SaysBox};
+ghost use Rattle.input_files.specs.Files.{KeepsOutputs, AfterReading};
+ghost use Rattle.input_files.specs.Judging.{JudgesBox};
+ghost use Rattle.input_files.specs.Texts.{IsFrontOf};
+
+use crate::InputError;
+use crate::texts::{read_front_of, whole_lines};
+use box_conf::{BoxConf, read_box};
+use plain_text::{Limit, LineCause, LineFault, Text};
+use std::alloc::Global;
+use world_io::{Front, World};
+
+/// Reads and judges the box file.
+///
+/// Of a file that is larger than `MOST_FILE_BYTES` the lines that end within these bytes are judged. Their faults come first,
+/// but not that a line is missing; otherwise the file is too large.
+pub fn read_box_file<W: World>(
+    alloc: Global,
+    world: &mut W,
+    name: &Text,
+) -> Result<BoxConf, InputError<LineFault>>
+    requires { (W.ledger world.old).given < 2 ^ 32 - 1 }
+    ensures judged { IsTrue W.tells
+        → JudgesBox (W.healthy world.old) name.now result (W.shown world.old) }
+    ensures threads { IfOk result (λ conf. (1 ≤ conf.threads) × (conf.threads ≤ 16)) }
+    ensures outputs { IsTrue W.tells → KeepsOutputs (W.shown world.old) (W.shown world.new) }
+    ensures ledger { AfterReading (W.ledger world.old) (W.ledger world.new) }
+    ensures cause { IsErrOf result InputError.ReadFault
+        → Rose (W.ledger world.old).read_faults (W.ledger world.new).read_faults }
+    ensures stays_healthy { W.healthy world.old → W.healthy world.new }
+{
+    let front = read_front_of(alloc, world, name)?;
+    judge_box(&front)
+}
+
+/// Judges the box file of which this was read.
+fn judge_box(front: &Front) -> Result<BoxConf, InputError<LineFault>>
+    ensures says { (bytes : List ℕ) → IsFrontOf front.now bytes → SaysBox bytes result }
+    ensures threads { IfOk result (λ conf. (1 ≤ conf.threads) × (conf.threads ≤ 16)) }
+    ensures quiet { ¬ IsErrOf result InputError.ReadFault }
+    ensures memory { ¬ IsErrOf result InputError.NoMemory }
+{
+    match front {
+        Front::All(bytes) => match read_box(bytes.as_slice()) {
+            Ok(conf) => Ok(conf),
+            Err(fault) => Err(InputError::Fault(fault)),
+        },
+        Front::More(bytes) => match read_box(whole_lines(bytes.as_slice())) {
+            Ok(_) => Err(InputError::TooLarge(Limit::File)),
+            Err(fault) => match fault.cause {
+                LineCause::MissingLine => Err(InputError::TooLarge(Limit::File)),
+                _ => Err(InputError::Fault(fault)),
+            },
+        },
+    }
+}

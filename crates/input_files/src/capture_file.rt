@@ -1,0 +1,99 @@
+ghost use Rattle.std.specs.Prelude.{◌≡◌, ◌≢◌, ◌<◌, ◌≤◌, ◌-◌, ◌^◌, All, length, vec_len, IsTrue, IfOk, IsErrOf, List, ℕ};
+ghost use Rattle.plain_text.specs.declared.limit.TheConstants.{MOST_PACKETS};
+ghost use Rattle.plain_text.specs.Octets.{IsOfBytes};
+ghost use Rattle.pcapng_io.specs.Captured.{SaysAny, CapturesPackets};
+ghost use Rattle.world_io.specs.Stream.{Rose};
+ghost use Rattle.world_io.specs.Taking.{TakesSome};
+ghost use Rattle.input_files.specs.Answers.{IsShort, SaysCapture};
+ghost use Rattle.input_files.specs.Files.{KeepsOutputs, AfterReading};
+ghost use Rattle.input_files.specs.Judging.{JudgesCapture};
+
+use crate::InputError;
+use pcapng_io::{AnyCaptured, AnyFault, read_any_capture};
+use plain_text::{NoMemory, Packets, Text, Unit};
+use std::alloc::Global;
+use world_io::{BufferedSource, OpenFault, Source, World, WorldSource};
+
+/// The bytes of a capture that are held at once.
+const BUFFER: usize = 65_536;
+
+/// The packets of a capture, and what their fractions count.
+#[derive(Debug, Drop)]
+pub struct Capture {
+    pub unit: Unit,
+    pub packets: Packets,
+}
+
+/// Reads and judges the capture, of either format, in pieces.
+pub fn read_capture_file<W: World>(
+    alloc: Global,
+    world: &mut W,
+    name: &Text,
+) -> Result<Capture, InputError<AnyFault>>
+    requires { (W.ledger world.old).given < 2 ^ 32 - 1 }
+    ensures judged { IsTrue W.tells
+        → JudgesCapture (W.healthy world.old) name.now result (W.shown world.old) }
+    ensures few { IfOk result (λ capture. length capture.packets ≤ MOST_PACKETS) }
+    ensures short { IfOk result (λ capture. All IsShort capture.packets) }
+    ensures bytes { IfOk result (λ capture. All IsOfBytes capture.packets) }
+    ensures outputs { IsTrue W.tells → KeepsOutputs (W.shown world.old) (W.shown world.new) }
+    ensures ledger { AfterReading (W.ledger world.old) (W.ledger world.new) }
+    ensures cause { IsErrOf result InputError.ReadFault
+        → Rose (W.ledger world.old).read_faults (W.ledger world.new).read_faults }
+    ensures stays_healthy { W.healthy world.old → W.healthy world.new }
+{
+    let file = match world.open_file(name) {
+        Ok(file) => file,
+        Err(OpenFault::Failed) => return Err(InputError::ReadFault),
+        Err(OpenFault::NoMemory) => return Err(InputError::NoMemory),
+    };
+    let Ok(buffer) = new_buffer(alloc) else {
+        return Err(InputError::NoMemory);
+    };
+    let mut source = WorldSource::of(world, file);
+    accepted(read_buffered(alloc, &mut source, buffer))
+}
+
+/// The room for the bytes that are held.
+fn new_buffer(alloc: Global) -> Result<Vec<u8>, NoMemory>
+    ensures { IfOk result (λ buffer. 0 < vec_len buffer) }
+{
+    Ok(vec![in alloc; 0u8; BUFFER]?)
+}
+
+/// The capture, where what was read is one.
+fn accepted(captured: AnyCaptured) -> Result<Capture, InputError<AnyFault>>
+    requires { CapturesPackets captured }
+    ensures says { (bytes : List ℕ) → SaysAny bytes captured
+        → ¬ IsErrOf result InputError.ReadFault → SaysCapture bytes result }
+    ensures failed { IsErrOf result InputError.ReadFault → captured ≡ AnyCaptured.ReadFault }
+    ensures few { IfOk result (λ capture. length capture.packets ≤ MOST_PACKETS) }
+    ensures short { IfOk result (λ capture. All IsShort capture.packets) }
+    ensures bytes { IfOk result (λ capture. All IsOfBytes capture.packets) }
+{
+    match captured {
+        AnyCaptured::Capture { unit, packets } => Ok(Capture { unit, packets }),
+        AnyCaptured::Refused(fault) => Err(InputError::Fault(fault)),
+        AnyCaptured::TooLarge(limit) => Err(InputError::TooLarge(limit)),
+        AnyCaptured::ReadFault => Err(InputError::ReadFault),
+        AnyCaptured::NoMemory => Err(InputError::NoMemory),
+    }
+}
+
+/// Reads a capture through a buffer.
+fn read_buffered<S: Source>(alloc: Global, source: &mut S, buffer: Vec<u8>) -> AnyCaptured
+    requires { 0 < vec_len buffer }
+    ensures told { IsTrue S.tells → SaysAny (S.left source.old) result }
+    ensures reads { TakesSome S.reads source.old source.new }
+    ensures packets { CapturesPackets result }
+    ensures later { S.faults source.old ≤ S.faults source.new }
+    ensures cause { result ≡ AnyCaptured.ReadFault
+        → Rose (S.faults source.old) (S.faults source.new) }
+    ensures never_fails { S.healthy source.old → result ≢ AnyCaptured.ReadFault }
+    ensures stays_healthy { S.healthy source.old → S.healthy source.new }
+{
+    let mut buffered = BufferedSource::of(source, buffer);
+    let captured = read_any_capture(alloc, &mut buffered);
+    let _below = buffered.into_inner();
+    captured
+}

@@ -1,0 +1,15 @@
+//! The input files of a command, each read and judged by itself.
+#![tactic(auto)]
+
+mod box_file;
+mod capture_file;
+mod errors;
+mod laws;
+mod script_file;
+mod texts;
+
+pub use box_file::read_box_file;
+pub use capture_file::{Capture, read_capture_file};
+pub use errors::InputError;
+pub use laws::each_file_has_one_answer;
+pub use script_file::read_script_file;

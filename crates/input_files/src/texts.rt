@@ -1,0 +1,46 @@
+ghost use Rattle.std.specs.Prelude.{◌≡◌, ◌<◌, ◌-◌, ◌^◌, IsTrue, IsErrOf};
+ghost use Rattle.world_io.specs.Stream.{Rose};
+ghost use Rattle.input_files.specs.Files.{ReadsFrontOf, KeepsOutputs, AfterReading};
+ghost use Rattle.input_files.specs.Texts.{whole_lines};
+
+use plain_text::{MOST_FILE_BYTES, Text};
+use std::alloc::Global;
+use world_io::{Front, FrontError, OpenFault, World, WorldSource, read_front};
+
+/// Reads the first bytes under a name, as many as a file may have.
+pub(crate) fn read_front_of<W: World>(
+    alloc: Global,
+    world: &mut W,
+    name: &Text,
+) -> Result<Front, FrontError>
+    requires { (W.ledger world.old).given < 2 ^ 32 - 1 }
+    ensures judged { IsTrue W.tells
+        → ReadsFrontOf (W.healthy world.old) name.now result (W.shown world.old) }
+    ensures outputs { IsTrue W.tells → KeepsOutputs (W.shown world.old) (W.shown world.new) }
+    ensures ledger { AfterReading (W.ledger world.old) (W.ledger world.new) }
+    ensures cause { IsErrOf result FrontError.Failed
+        → Rose (W.ledger world.old).read_faults (W.ledger world.new).read_faults }
+    ensures stays_healthy { W.healthy world.old → W.healthy world.new }
+{
+    let file = match world.open_file(name) {
+        Ok(file) => file,
+        Err(OpenFault::Failed) => return Err(FrontError::Failed),
+        Err(OpenFault::NoMemory) => return Err(FrontError::NoMemory),
+    };
+    let mut source = WorldSource::of(world, file);
+    read_front(alloc, &mut source, MOST_FILE_BYTES)
+}
+
+/// The lines of a text that end in it.
+pub(crate) fn whole_lines(text: &[u8]) -> &[u8]
+    ensures { result.now ≡ whole_lines text.now }
+{
+    let mut rest = text;
+    while let [front @ .., last] = rest {
+        if *last == b'\n' {
+            return rest;
+        }
+        rest = front;
+    }
+    rest
+}

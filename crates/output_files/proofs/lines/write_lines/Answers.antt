@@ -1,0 +1,9 @@
+use Rattle.output_files.proofs.Effects.{err_writes, lines_done, lines_cut}
+use Rattle.output_files.proofs.lines.write_lines.Goals as goal
+
+pub returns-in_err-put_all-clause-told : goal.returns-in_err-put_all-clause-told
+returns-in_err-put_all-clause-told g c told before writes gathered =
+    err_writes _ writes before _ c.from_residual.ensures.0 (lines_cut writes _ _ before _ _ c.as_slice.ensures gathered (c.in_err-put_all.ensures.told told))
+
+pub returns-clause-told : goal.returns-clause-told
+returns-clause-told g c told before writes gathered = lines_done writes _ _ before _ _ c.as_slice.ensures gathered (c.in_ok-put_all.ensures.told told)

@@ -1,0 +1,55 @@
+ghost use Rattle.std.specs.Prelude.{◌≡◌, ◌∷◌, ◌++◌, [], ℕ, List, IsTrue, OnOk, IsErrOf};
+ghost use Rattle.world_io.specs.Stream.{Rose};
+ghost use Rattle.world_io.specs.World.{Shown, KeepsLedgerWriting, is_writable};
+ghost use Rattle.output_files.specs.Writes.{Write, Appends, HasGathered, IsOutput, KeepsOutputs};
+ghost use Rattle.output_files.specs.Written.{Writes, WritesGathered};
+
+use crate::writing::put_all;
+use crate::{OutputError, REPORT, append};
+use plain_text::Bytes;
+use world_io::World;
+
+/// Appends the gathered lines to the report, so that none is gathered any more.
+pub fn write_lines<W: World>(world: &mut W, lines: &mut Bytes) -> Result<(), OutputError>
+    ensures told { IsTrue W.tells → (before : Shown) (writes : List Write)
+        → HasGathered writes lines.old before (W.shown world.old)
+        → Writes result writes before (W.shown world.new) }
+    ensures none { OnOk result (lines.new ≡ []) }
+    ensures outputs { IsTrue W.tells → KeepsOutputs (W.shown world.old) (W.shown world.new) }
+    ensures ledger { KeepsLedgerWriting (W.ledger world.old) (W.ledger world.new) }
+    ensures cause { IsErrOf result OutputError.WriteFault
+        → Rose (W.ledger world.old).write_faults (W.ledger world.new).write_faults }
+    ensures never_fails { W.healthy world.old → ¬ IsErrOf result OutputError.WriteFault }
+    ensures stays_healthy { W.healthy world.old → W.healthy world.new }
+{
+    put_all(world, REPORT, lines.as_slice())?;
+    lines.truncate(0);
+    Ok(())
+}
+
+/// Appends records to an output, behind the gathered lines: where there are records, the lines go to the report first.
+pub fn write_records<W: World>(
+    world: &mut W,
+    file: u32,
+    lines: &mut Bytes,
+    records: &[u8],
+) -> Result<(), OutputError>
+    requires { IsTrue (is_writable (W.ledger world.old) file) }
+    ensures told { IsTrue W.tells → (before : Shown) (writes : List Write) (name : List ℕ)
+        → IsOutput file name (W.shown world.old)
+        → HasGathered writes lines.old before (W.shown world.old)
+        → WritesGathered result (writes ++ Appends name records.now ∷ []) lines.new before
+        (W.shown world.new) }
+    ensures outputs { IsTrue W.tells → KeepsOutputs (W.shown world.old) (W.shown world.new) }
+    ensures ledger { KeepsLedgerWriting (W.ledger world.old) (W.ledger world.new) }
+    ensures cause { IsErrOf result OutputError.WriteFault
+        → Rose (W.ledger world.old).write_faults (W.ledger world.new).write_faults }
+    ensures never_fails { W.healthy world.old → ¬ IsErrOf result OutputError.WriteFault }
+    ensures stays_healthy { W.healthy world.old → W.healthy world.new }
+{
+    if records.is_empty() {
+        return Ok(());
+    }
+    write_lines(world, lines)?;
+    append(world, file, records)
+}

@@ -1,0 +1,84 @@
+ghost use Rattle.std.specs.Prelude.{◌≡◌, ◌<◌, ◌-◌, ◌^◌, ◌∷◌, [], ℕ, List, IsTrue, IfOk, OnErr, IsErrOf};
+ghost use Rattle.world_io.specs.Stream.{Rose};
+ghost use Rattle.world_io.specs.World.{GivesCreated, KeepsLedgerWriting, is_writable};
+ghost use Rattle.output_files.specs.Writes.{Creates, Appends, Reports, IsOutput, KeepsOutputs};
+ghost use Rattle.output_files.specs.Written.{AppendsTo, Writes};
+
+use crate::OutputError;
+use plain_text::Text;
+use world_io::{World, WorldSink, WriteError, write_all};
+
+/// The number of the report, which is there from the beginning.
+pub const REPORT: u32 = 0;
+
+/// Creates an output under a name, which has no bytes then, and gives its number.
+pub fn create<W: World>(world: &mut W, name: &Text) -> Result<u32, OutputError>
+    requires { (W.ledger world.old).given < 2 ^ 32 - 1 }
+    ensures told { IsTrue W.tells
+        → Writes result (Creates name.now ∷ []) (W.shown world.old) (W.shown world.new) }
+    ensures output { IsTrue W.tells
+        → IfOk result (λ file. IsOutput file name.now (W.shown world.new)) }
+    ensures outputs { IsTrue W.tells → (k : ℕ) (other : List ℕ)
+        → IsTrue ((W.ledger world.old).created k) → ¬ (other ≡ name.now)
+        → IsOutput k other (W.shown world.old)
+        → IfOk result (λ file. IsOutput k other (W.shown world.new)) }
+    ensures given { IfOk result
+        (λ file. GivesCreated file (W.ledger world.old) (W.ledger world.new)) }
+    ensures not_given { OnErr result
+        (KeepsLedgerWriting (W.ledger world.old) (W.ledger world.new)) }
+    ensures cause { IsErrOf result OutputError.WriteFault
+        → Rose (W.ledger world.old).write_faults (W.ledger world.new).write_faults }
+    ensures never_fails { W.healthy world.old → ¬ IsErrOf result OutputError.WriteFault }
+    ensures stays_healthy { W.healthy world.old → W.healthy world.new }
+{
+    let file = world.create_file(name)?;
+    Ok(file)
+}
+
+/// Appends all these bytes to a created file, or to the report.
+pub fn put_all<W: World>(world: &mut W, file: u32, bytes: &[u8]) -> Result<(), OutputError>
+    requires { IsTrue (is_writable (W.ledger world.old) file) }
+    ensures told { IsTrue W.tells
+        → AppendsTo result file bytes.now (W.shown world.old) (W.shown world.new) }
+    ensures ledger { KeepsLedgerWriting (W.ledger world.old) (W.ledger world.new) }
+    ensures cause { IsErrOf result OutputError.WriteFault
+        → Rose (W.ledger world.old).write_faults (W.ledger world.new).write_faults }
+    ensures never_fails { W.healthy world.old → ¬ IsErrOf result OutputError.WriteFault }
+    ensures stays_healthy { W.healthy world.old → W.healthy world.new }
+{
+    let mut sink = WorldSink::of(world, file);
+    match write_all(&mut sink, bytes) {
+        Ok(()) => Ok(()),
+        Err(WriteError::Failed(_)) => Err(OutputError::WriteFault),
+        Err(WriteError::NoMemory(_)) => Err(OutputError::NoMemory),
+    }
+}
+
+/// Appends these bytes to an output.
+pub fn append<W: World>(world: &mut W, file: u32, bytes: &[u8]) -> Result<(), OutputError>
+    requires { IsTrue (is_writable (W.ledger world.old) file) }
+    ensures told { IsTrue W.tells → (name : List ℕ) → IsOutput file name (W.shown world.old)
+        → Writes result (Appends name bytes.now ∷ []) (W.shown world.old) (W.shown world.new) }
+    ensures outputs { IsTrue W.tells → KeepsOutputs (W.shown world.old) (W.shown world.new) }
+    ensures ledger { KeepsLedgerWriting (W.ledger world.old) (W.ledger world.new) }
+    ensures cause { IsErrOf result OutputError.WriteFault
+        → Rose (W.ledger world.old).write_faults (W.ledger world.new).write_faults }
+    ensures never_fails { W.healthy world.old → ¬ IsErrOf result OutputError.WriteFault }
+    ensures stays_healthy { W.healthy world.old → W.healthy world.new }
+{
+    put_all(world, file, bytes)
+}
+
+/// Appends these bytes to the report.
+pub fn report<W: World>(world: &mut W, bytes: &[u8]) -> Result<(), OutputError>
+    ensures told { IsTrue W.tells
+        → Writes result (Reports bytes.now ∷ []) (W.shown world.old) (W.shown world.new) }
+    ensures outputs { IsTrue W.tells → KeepsOutputs (W.shown world.old) (W.shown world.new) }
+    ensures ledger { KeepsLedgerWriting (W.ledger world.old) (W.ledger world.new) }
+    ensures cause { IsErrOf result OutputError.WriteFault
+        → Rose (W.ledger world.old).write_faults (W.ledger world.new).write_faults }
+    ensures never_fails { W.healthy world.old → ¬ IsErrOf result OutputError.WriteFault }
+    ensures stays_healthy { W.healthy world.old → W.healthy world.new }
+{
+    put_all(world, REPORT, bytes)
+}

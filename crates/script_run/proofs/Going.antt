@@ -1,0 +1,208 @@
+-- A run goes on event by event.
+use Rattle.std.proofs.Common.{◌≡◌, ℕ, ◌+◌, ◌<◌, ◌≤◌, List, [], ◌∷◌, ◌++◌, take, drop, length, refl, sym, ap, ◌∙◌, append-nil, append_assoc, subst, inl, inr, Result, Ok, Err, zero, suc, arith, add-one, get_or}
+use Rattle.std.specs.Prelude.{⊤, All, IsErrOf, OnOk}
+use Rattle.plain_text.specs.declared.limit.Limit.{Limit}
+use Rattle.access_log.specs.declared.entry.Output.{Output}
+use Rattle.plain_machine.specs.Program.{Meaning}
+use Rattle.world_io.specs.World.{Shown}
+use Rattle.recovery_world.specs.declared.event.Event.{Event}
+use Rattle.recovery_world.specs.World.{Setting, Sent, World}
+use Rattle.recovery_world.specs.Many.{OnAny, Stops}
+use Rattle.recovery_world.specs.Files.{reply_line, sent_names}
+use Rattle.recovery_core.specs.declared.reply.Reply.{Reply as SystemReply}
+use Rattle.recovery_core.specs.declared.reply.Stop.{Stop}
+use Rattle.recovery_core.specs.declared.reply.Stop.TheVariants as stop
+use Rattle.recovery_core.specs.Parts.{IsShort, Systemed}
+use Rattle.output_files.specs.declared.error.OutputError.{OutputError}
+use Rattle.output_files.specs.declared.error.OutputError.TheVariants as output
+use Rattle.output_files.specs.Writes.{Write, Appends, Reports, IsOutput, HasWritten, HasBegun, HasGathered}
+use Rattle.output_files.specs.Written.{Writes, WritesGathered}
+use Rattle.output_files.proofs.Effects.{gathered_begun, begun_all}
+use Rattle.script_run.specs.declared.error.RunError.{RunError}
+use Rattle.script_run.specs.declared.error.RunError.TheVariants as run
+use Rattle.script_run.specs.Errors.{run_error_of, run_result_of, stopped_result}
+use Rattle.script_run.specs.Replies.{Reply, Answers, Goes, newly_released}
+use Rattle.script_run.specs.Run.{OutputNames, opening_writes, release_writes, reply_writes, replies_writes, writes_of, WritesSome, WritesUntil, WritesAll, IsWritten, HasBegunRun}
+use Rattle.plain_text.specs.declared.packet.Packet.{Packet}
+use Rattle.script_run.specs.Running.{HasBegunSome, packets_in, IsAt, ComesTo, IsSomewhere, HasCome, StoppedThere, GoesOn}
+
+-- an error of a run is a write fault only where that of its outputs is
+pub fault_written : (r : Result ⊤ OutputError) → IsErrOf (run_result_of r) run.WriteFault → IsErrOf r output.WriteFault
+fault_written (Ok done) h = absurd (cc)
+fault_written (Err output.WriteFault) h = refl
+fault_written (Err output.NoMemory) h = absurd (cc)
+
+pub fault_stopped : (r : Result ⊤ OutputError) (limit : Limit) → IsErrOf (stopped_result r limit) run.WriteFault → IsErrOf r output.WriteFault
+fault_stopped (Ok done) limit h = absurd (cc)
+fault_stopped (Err output.WriteFault) limit h = refl
+fault_stopped (Err output.NoMemory) limit h = absurd (cc)
+
+replies_more : (name : List ℕ) (replies : List Reply) (r : Reply) → replies_writes name (replies ++ r ∷ []) ≡ replies_writes name replies ++ reply_writes name r
+replies_more name [] r = append-nil (reply_writes name r)
+replies_more name (x ∷ replies) r = ap (λ l. reply_writes name x ++ l) (replies_more name replies r) ∙ sym (append_assoc (reply_writes name x) (replies_writes name replies) (reply_writes name r))
+
+module _ {P V : Type 0} (m : Meaning V) (s : Setting V) (names : OutputNames) (events : List Event) (y : Systemed P V) (lines : List ℕ) (a b : Shown) (come : HasCome m s names events y lines a b) where
+  with_reply : (r : Reply) → writes_of names s.fractions (come.replies ++ r ∷ []) ≡ writes_of names s.fractions come.replies ++ reply_writes names.released r
+  with_reply r = ap (λ l. opening_writes names s.fractions ++ l) (replies_more names.released come.replies r) ∙ sym (append_assoc (opening_writes names s.fractions) (replies_writes names.released come.replies) (reply_writes names.released r))
+
+  -- an event was performed, and what it leaves was written
+  pub reply_goes : (ev : Event) (reply : SystemReply) (outputs : List Output) (w : Result ⊤ OutputError) (new : Systemed P V) (more : List ℕ) (c : Shown) → ComesTo m ev (Ok reply) outputs y new
+      → ((freed : List Sent) → reply.released ≡ sent_names freed
+      → WritesGathered w (writes_of names s.fractions come.replies ++ reply_writes names.released (record { released = packets_in outputs; line = reply_line ev reply.outcome freed })) more a c)
+      → GoesOn (run_result_of w) m s names (events ++ ev ∷ []) new more a c
+  reply_goes ev reply outputs w new more c comes written = go w here
+    where
+      came : (next : World V) × (freed : List Sent) × OnAny s come.world ev reply.outcome freed next × (reply.released ≡ sent_names freed) × (packets_in outputs ≡ newly_released come.world next) × IsAt m s next new
+      came = comes s come.world come.at
+
+      r : Reply
+      r = record { released = newly_released come.world came.0; line = reply_line ev reply.outcome came.1 }
+
+      answered : Answers s (events ++ ev ∷ []) (come.replies ++ r ∷ []) came.0
+      answered = Goes ev reply.outcome came.1 come.answers came.2
+
+      same : writes_of names s.fractions come.replies ++ reply_writes names.released (record { released = packets_in outputs; line = reply_line ev reply.outcome came.1 }) ≡ writes_of names s.fractions (come.replies ++ r ∷ [])
+      same = ap (λ (l : List Packet). writes_of names s.fractions come.replies ++ reply_writes names.released (record { released = l; line = reply_line ev reply.outcome came.1 })) came.4 ∙ sym (with_reply r)
+
+      here : WritesGathered w (writes_of names s.fractions (come.replies ++ r ∷ [])) more a c
+      here = subst (λ (ws : List Write). WritesGathered w ws more a c) same (written came.1 came.3)
+
+      begun : HasBegun (writes_of names s.fractions (come.replies ++ r ∷ [])) a c → HasBegunSome s names (events ++ ev ∷ []) a c
+      begun h = (
+        writes_of names s.fractions (come.replies ++ r ∷ []),
+        inl (record { before = events ++ ev ∷ []; after = []; events_are = sym (append-nil (events ++ ev ∷ [])); replies = come.replies ++ r ∷ []; world = came.0; answers = answered; writes_are = refl }),
+        h,
+      )
+
+      go : (w : Result ⊤ OutputError) → WritesGathered w (writes_of names s.fractions (come.replies ++ r ∷ [])) more a c → GoesOn (run_result_of w) m s names (events ++ ev ∷ []) new more a c
+      go (Ok done) h = record { replies = come.replies ++ r ∷ []; world = came.0; answers = answered; at = came.5; gathered = h }
+      go (Err output.WriteFault) h = begun h
+      go (Err output.NoMemory) h = begun h
+
+  -- an event stopped at a limit, and what it released before was written
+  pub stopped_goes : (ev : Event) (limit : Limit) (outputs : List Output) (w : Result ⊤ OutputError) (new : Systemed P V) (more : List ℕ) (c : Shown) → ComesTo m ev (Err (stop.Limit limit)) outputs y new
+      → Writes w (writes_of names s.fractions come.replies ++ release_writes names.released (packets_in outputs)) a c
+      → GoesOn (stopped_result w limit) m s names (events ++ ev ∷ []) new more a c
+  stopped_goes ev limit outputs w new more c comes written = go w here
+    where
+      came : (next : World V) × Stops s come.world ev limit next × (packets_in outputs ≡ newly_released come.world next)
+      came = comes s come.world come.at
+
+      here : Writes w (writes_of names s.fractions come.replies ++ release_writes names.released (newly_released come.world came.0)) a c
+      here = subst (λ (l : List Packet). Writes w (writes_of names s.fractions come.replies ++ release_writes names.released l) a c) came.2 written
+
+      until : WritesUntil s names (events ++ ev ∷ []) limit (writes_of names s.fractions come.replies ++ release_writes names.released (newly_released come.world came.0))
+      until = record { before = events; event = ev; after = []; events_are = refl; replies = come.replies; there = come.world; answers = come.answers; world = came.0; stops = came.1; writes_are = refl }
+
+      go : (w : Result ⊤ OutputError) → Writes w (writes_of names s.fractions come.replies ++ release_writes names.released (newly_released come.world came.0)) a c → GoesOn (stopped_result w limit) m s names (events ++ ev ∷ []) new more a c
+      go (Ok done) h = record { writes = _; until = until; written = h }
+      go (Err output.WriteFault) h = (_, inr (limit, until), h)
+      go (Err output.NoMemory) h = (_, inr (limit, until), h)
+
+  -- nothing more was written
+  pub nothing_more : (rest : List Event) → HasBegunSome s names (events ++ rest) a b
+  nothing_more rest = (
+    writes_of names s.fractions come.replies ++ [],
+    inl (record { before = events; after = rest; events_are = refl; replies = come.replies; world = come.world; answers = come.answers; writes_are = append-nil (writes_of names s.fractions come.replies) }),
+    gathered_begun (writes_of names s.fractions come.replies) [] lines a b come.gathered,
+  )
+
+until_longer : {V : Type 0} (s : Setting V) (names : OutputNames) (events rest : List Event) (limit : Limit) (writes : List Write) → WritesUntil s names events limit writes → WritesUntil s names (events ++ rest) limit writes
+until_longer s names events rest limit writes until =
+    record {
+      before = until.before;
+      event = until.event;
+      after = until.after ++ rest;
+      events_are = ap (λ l. l ++ rest) until.events_are ∙ append_assoc until.before (until.event ∷ until.after) rest;
+      replies = until.replies;
+      there = until.there;
+      answers = until.answers;
+      world = until.world;
+      stops = until.stops;
+      writes_are = until.writes_are;
+    }
+
+-- what these events write is some of what they write with more behind them
+some_longer : {V : Type 0} (s : Setting V) (names : OutputNames) (events rest : List Event) (a b : Shown) → HasBegunSome s names events a b → HasBegunSome s names (events ++ rest) a b
+some_longer s names events rest a b (writes, (inl some), begun) = (
+  writes,
+  inl (record {
+    before = some.before;
+    after = some.after ++ rest;
+    events_are = ap (λ l. l ++ rest) some.events_are ∙ append_assoc some.before some.after rest;
+    replies = some.replies;
+    world = some.world;
+    answers = some.answers;
+    writes_are = some.writes_are;
+  }),
+  begun,
+)
+some_longer s names events rest a b (writes, (inr (limit, until)), begun) = (
+  writes,
+  inr (limit, until_longer s names events rest limit writes until),
+  begun,
+)
+
+-- what the first events came to that did not come to their end is what all come to
+pub goes_longer : {P V : Type 0} (e : RunError) (m n : Meaning V) (s : Setting V) (names : OutputNames) (events rest all : List Event) (y z : Systemed P V) (lines more : List ℕ) (a b : Shown) → all ≡ events ++ rest
+    → GoesOn (Err e) m s names events y lines a b → GoesOn (Err e) n s names all z more a b
+goes_longer {P} {V} e m n s names events rest all y z lines more a b same goes = subst (λ (l : List Event). GoesOn (Err e) n s names l z more a b) (sym same) (longer e goes)
+  where
+    longer : (e : RunError) → GoesOn (Err e) m s names events y lines a b → GoesOn (Err e) n s names (events ++ rest) z more a b
+    longer (run.Limit limit) h = record { writes = h.writes; until = until_longer s names events rest limit h.writes h.until; written = h.written }
+    longer run.WriteFault h = some_longer s names events rest a b h
+    longer run.NoMemory h = some_longer s names events rest a b h
+
+-- the system is somewhere again
+pub somewhere_again : {P V : Type 0} (m : Meaning V) (ev : Event) (reply : SystemReply) (outputs : List Output) (y new : Systemed P V) → ComesTo m ev (Ok reply) outputs y new → IsSomewhere m y → IsSomewhere m new
+somewhere_again m ev reply outputs y new comes here = let came = comes here.0 here.1 here.2 in (here.0, came.0, came.5, here.3)
+
+pub on_ok : {A E P : Type 0} (r : Result A E) → P → OnOk r P
+on_ok (Ok x) p = p
+on_ok (Err e) p = tt
+
+-- the first events, with one more, and those behind it
+pub split_here : (events : List Event) (i : ℕ) (x : Event) → i < length events → x ≡ get_or events i x → events ≡ (take i events ++ x ∷ []) ++ drop (suc i) events
+split_here [] i x low is = absurd (omega arith)
+split_here (y ∷ events) zero x low is = ap (λ (z : Event). z ∷ events) (sym is)
+split_here (y ∷ events) (suc i) x low is = ap (λ l. y ∷ l) (split_here events i x (omega arith) is)
+
+pub take_here : (events : List Event) (i : ℕ) (x : Event) → i < length events → x ≡ get_or events i x → take (suc i) events ≡ take i events ++ x ∷ []
+take_here [] i x low is = absurd (omega arith)
+take_here (y ∷ events) zero x low is = ap (λ (z : Event). z ∷ []) (sym is)
+take_here (y ∷ events) (suc i) x low is = ap (λ l. y ∷ l) (take_here events i x (omega arith) is)
+
+-- it has come one event further
+pub come_on : {P V : Type 0} (m n : Meaning V) (s : Setting V) (names : OutputNames) (events : List Event) (i : ℕ) (x : Event) (y : Systemed P V) (lines : List ℕ) (a b : Shown) → n ≡ m → i < length events → x ≡ get_or events i x
+    → HasCome n s names (take i events ++ x ∷ []) y lines a b → HasCome m s names (take (i + 1) events) y lines a b
+come_on {P} {V} m n s names events i x y lines a b same low is h =
+    rw add-one (subst (λ (l : List Event). HasCome m s names l y lines a b) (sym (take_here events i x low is)) (subst (λ (k : Meaning V). HasCome k s names (take i events ++ x ∷ []) y lines a b) same h))
+
+-- the meaning of the same program
+pub come_same : {P V : Type 0} (m n : Meaning V) (s : Setting V) (names : OutputNames) (events : List Event) (y : Systemed P V) (lines : List ℕ) (a b : Shown) → m ≡ n → HasCome m s names events y lines a b → HasCome n s names events y lines a b
+come_same {P} {V} m n s names events y lines a b same h = subst (λ (k : Meaning V). HasCome k s names events y lines a b) same h
+
+pub somewhere_same : {P V : Type 0} (m n : Meaning V) (y : Systemed P V) → m ≡ n → IsSomewhere m y → IsSomewhere n y
+somewhere_same {P} {V} m n y same h = subst (λ (k : Meaning V). IsSomewhere k y) same h
+
+any_item : (l : List Event) (i : ℕ) (d e : Event) → i < length l → get_or l i d ≡ get_or l i e
+any_item [] i d e low = absurd (omega arith)
+any_item (y ∷ l) zero d e low = refl
+any_item (y ∷ l) (suc i) d e low = any_item l i d e (omega arith)
+
+-- an element is itself, whatever stands for one that is not there
+pub same_item : (events : List Event) (i : ℕ) (d : Event) → i < length events → get_or events i d ≡ get_or events i (get_or events i d)
+same_item events i d low = any_item events i d (get_or events i d) low
+
+take_all : (events : List Event) (n : ℕ) → length events ≤ n → take n events ≡ events
+take_all [] zero low = refl
+take_all [] (suc n) low = refl
+take_all (y ∷ events) zero low = absurd (omega arith)
+take_all (y ∷ events) (suc n) low = ap (λ l. y ∷ l) (take_all events n (omega arith))
+
+pub come_all : {P V : Type 0} (m : Meaning V) (s : Setting V) (names : OutputNames) (events : List Event) (n : ℕ) (y : Systemed P V) (lines : List ℕ) (a b : Shown) → length events ≤ n → HasCome m s names (take n events) y lines a b → HasCome m s names events y lines a b
+come_all {P} {V} m s names events n y lines a b low h = subst (λ (l : List Event). HasCome m s names l y lines a b) (take_all events n low) h
+
+-- an event that stopped at a limit
+pub limit_comes : {P V : Type 0} (m : Meaning V) (ev : Event) (e : Stop) (limit : Limit) (outputs : List Output) (y new : Systemed P V) → e ≡ stop.Limit limit → ComesTo m ev (Err e) outputs y new → ComesTo m ev (Err (stop.Limit limit)) outputs y new
+limit_comes {P} {V} m ev e limit outputs y new is h = subst (λ (x : Stop). ComesTo m ev (Err x) outputs y new) is h

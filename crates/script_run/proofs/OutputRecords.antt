@@ -1,0 +1,26 @@
+-- The records of outputs, one after another.
+use Rattle.std.proofs.Common.{◌≡◌, ℕ, zero, suc, ◌+◌, ◌<◌, List, [], ◌∷◌, ◌++◌, take, length, refl, sym, ap, ◌∙◌, append-nil, append_assoc, subst, arith, add-one, get_or}
+use Rattle.std.specs.Prelude.{All, map}
+use Rattle.std.proofs.lemmas.List.Elements.{All-head, All-tail}
+use Rattle.plain_text.specs.declared.packet.Packet.{Packet}
+use Rattle.pcap_io.specs.Capture.{record_of, records_of}
+use Rattle.pcap_io.specs.declared.order.Order.TheVariants as order
+use Rattle.access_log.specs.declared.entry.Output.{Output}
+use Rattle.recovery_core.specs.Parts.{IsShort}
+use Rattle.script_run.specs.Running.{packets_in}
+
+pub short_one : (outputs : List Output) (i : ℕ) (x : Output) → All IsShort (packets_in outputs) → i < length outputs → x ≡ get_or outputs i x → IsShort x.packet
+short_one [] i x short low is = absurd (omega arith)
+short_one (y ∷ outputs) zero x short low is = subst (λ (o : Output). IsShort o.packet) (sym is) (All-head IsShort y.packet (packets_in outputs) short)
+short_one (y ∷ outputs) (suc i) x short low is = short_one outputs i x (All-tail IsShort y.packet (packets_in outputs) short) (omega arith) is
+
+one_more : (outputs : List Output) (i : ℕ) (x : Output) → i < length outputs → x ≡ get_or outputs i x → records_of order.Little (packets_in (take (suc i) outputs)) ≡ records_of order.Little (packets_in (take i outputs)) ++ record_of order.Little x.packet
+one_more [] i x low is = absurd (omega arith)
+one_more (y ∷ outputs) zero x low is = append-nil (record_of order.Little y.packet) ∙ ap (λ (o : Output). record_of order.Little o.packet) (sym is)
+one_more (y ∷ outputs) (suc i) x low is =
+    ap (λ l. record_of order.Little y.packet ++ l) (one_more outputs i x (omega arith) is) ∙ sym (append_assoc (record_of order.Little y.packet) (records_of order.Little (packets_in (take i outputs))) (record_of order.Little x.packet))
+
+pub records_grow : (outputs : List Output) (i : ℕ) (x : Output) (had record_bytes now : List ℕ) → i < length outputs → x ≡ get_or outputs i x → had ≡ records_of order.Little (packets_in (take i outputs)) → record_bytes ≡ record_of order.Little x.packet
+    → now ≡ had ++ record_bytes → now ≡ records_of order.Little (packets_in (take (i + 1) outputs))
+records_grow outputs i x had bytes now low is had_is bytes_are now_is =
+    rw add-one (now_is ∙ ap (λ l. l ++ bytes) had_is ∙ ap (λ l. records_of order.Little (packets_in (take i outputs)) ++ l) bytes_are ∙ sym (one_more outputs i x low is))

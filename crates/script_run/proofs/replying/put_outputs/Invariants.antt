@@ -1,0 +1,9 @@
+use Rattle.std.proofs.Common.{◌≡◌, take}
+use Rattle.pcap_io.specs.Capture.{records_of}
+use Rattle.pcap_io.specs.declared.order.Order.TheVariants as order
+use Rattle.script_run.specs.Running.{packets_in}
+use Rattle.script_run.proofs.replying.put_outputs.Given as goal
+
+-- the records of the packets so far
+abbrev pub invariant-loop-output : goal.invariant-loop-output
+invariant-loop-output l = l.records ≡ records_of order.Little (packets_in (take l.output-index l.outputs))

@@ -1,0 +1,5 @@
+pub mod Replies
+pub mod Run
+pub mod Running
+pub mod Errors
+pub mod Steps

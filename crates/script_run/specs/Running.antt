@@ -1,0 +1,77 @@
+-- A run within its script: the system that performs the events, and what was written so far.
+use Rattle.std.specs.Prelude.{◌≡◌, ℕ, All, List, [], ◌++◌, length, map, codes, Result, Ok, Err, ⊤, ◌⊎◌}
+use Rattle.plain_text.specs.declared.packet.Packet.{Packet}
+use Rattle.access_log.specs.declared.entry.Output.{Output}
+use Rattle.plain_machine.specs.Program.{Meaning}
+use Rattle.world_io.specs.World.{Shown}
+use Rattle.recovery_world.specs.declared.event.Event.{Event}
+use Rattle.recovery_world.specs.World.{Setting, Sent, World}
+use Rattle.recovery_world.specs.Many.{OnAny, Stops}
+use Rattle.recovery_world.specs.Files.{one, two, sent_names}
+use Rattle.plain_text.specs.declared.limit.Limit.{Limit}
+use Rattle.recovery_core.specs.declared.reply.Reply.{Reply as SystemReply}
+use Rattle.recovery_core.specs.declared.reply.Stop.{Stop}
+use Rattle.recovery_core.specs.declared.reply.Stop.TheVariants as stop
+use Rattle.recovery_core.specs.declared.reply.Finished.{Finished}
+use Rattle.recovery_core.specs.Parts.{IsShort, Systemed}
+use Rattle.recovery_core.specs.Standing.{StandsFor}
+use Rattle.output_files.specs.Writes.{Write, HasWritten, HasBegun, HasGathered}
+use Rattle.script_run.specs.Replies.{Reply, Answers, newly_released}
+use Rattle.script_run.specs.Run.{OutputNames, writes_of, WritesSome, WritesUntil}
+use Rattle.script_run.specs.declared.error.RunError.{RunError}
+use Rattle.script_run.specs.declared.error.RunError.TheVariants as run
+
+-- the packets of outputs
+abbrev pub packets_in : List Output → List Packet
+packets_in outputs = map (λ (o : Output). o.packet) outputs
+
+-- The system stands for the world, and all that was released was handed over.
+pub record IsAt {P V : Type 0} (m : Meaning V) (s : Setting V) (w : World V) (y : Systemed P V) : Type 0 where
+  pub stands : StandsFor m s w y.parts
+  pub fresh : y.parts.fresh ≡ []
+  pub handed : y.parts.handed ≡ length w.released
+
+-- What performing an event came to, for each world that the system was at: the reply is that of the event, or the event stops at the
+-- limit; and these are the outputs that it released. Where memory ran out, none is handed over.
+abbrev pub ComesTo : {P V : Type 0} → Meaning V → Event → Result SystemReply Stop → List Output → Systemed P V → Systemed P V → Type 0
+ComesTo {P} {V} m ev (Ok reply) outputs old new =
+    (s : Setting V) (w : World V) → IsAt m s w old
+    → (next : World V) × (freed : List Sent) × OnAny s w ev reply.outcome freed next × (reply.released ≡ sent_names freed)
+    × (packets_in outputs ≡ newly_released w next) × IsAt m s next new
+ComesTo {P} {V} m ev (Err (stop.Limit limit)) outputs old new =
+    (s : Setting V) (w : World V) → IsAt m s w old → (next : World V) × Stops s w ev limit next × (packets_in outputs ≡ newly_released w next)
+ComesTo {P} {V} m ev (Err stop.NoMemory) outputs old new = (s : Setting V) (w : World V) → IsAt m s w old → outputs ≡ []
+
+-- The system is at some world, on packets that a record can have.
+abbrev pub IsSomewhere : {P V : Type 0} → Meaning V → Systemed P V → Type 0
+IsSomewhere {P} {V} m y = (s : Setting V) × (w : World V) × IsAt m s w y × All IsShort s.packets
+
+-- the last line of a report, with these counts
+abbrev pub counts_line : Finished → List ℕ
+counts_line f = one (codes "done fed ") f.fed ++ two (codes " epoch ") f.epoch (codes " released ") f.released ++ codes "\n"
+
+-- The events were performed, the system is at their world, and what they write was written but for the lines that are gathered.
+pub record HasCome {P V : Type 0} (m : Meaning V) (s : Setting V) (names : OutputNames) (events : List Event) (y : Systemed P V) (lines : List ℕ) (old new : Shown) : Type 0 where
+  pub replies : List Reply
+  pub world : World V
+  pub answers : Answers s events replies world
+  pub at : IsAt m s world y
+  pub gathered : HasGathered (writes_of names s.fractions replies) lines old new
+
+-- An event stopped at a limit, and all that is to be written until then was written.
+pub record StoppedThere {V : Type 0} (s : Setting V) (names : OutputNames) (events : List Event) (limit : Limit) (old new : Shown) : Type 0 where
+  pub writes : List Write
+  pub until : WritesUntil s names events limit writes
+  pub written : HasWritten writes old new
+
+-- some first part of what these events write was written, where they may have stopped at a limit
+abbrev pub HasBegunSome : {V : Type 0} → Setting V → OutputNames → List Event → Shown → Shown → Type 0
+HasBegunSome s names events old new =
+    (writes : List Write) × (WritesSome s names events writes ⊎ ((limit : Limit) × WritesUntil s names events limit writes)) × HasBegun writes old new
+
+-- What performing and writing the events came to: all of it was done; or it stopped at a limit; or a first part of it was written.
+abbrev pub GoesOn : {P V : Type 0} → Result ⊤ RunError → Meaning V → Setting V → OutputNames → List Event → Systemed P V → List ℕ → Shown → Shown → Type 0
+GoesOn (Ok done) m s names events y lines old new = HasCome m s names events y lines old new
+GoesOn (Err (run.Limit limit)) m s names events y lines old new = StoppedThere s names events limit old new
+GoesOn (Err run.WriteFault) m s names events y lines old new = HasBegunSome s names events old new
+GoesOn (Err run.NoMemory) m s names events y lines old new = HasBegunSome s names events old new
