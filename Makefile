@@ -65,4 +65,4 @@ clean:
 
 # Also what the kit keeps of its proofs, so that the next make proves from nothing.
 distclean: clean
-	rm -rf crates/*/out
+	rm -rf crates/*/out .git/build-tree
