@@ -1,3 +1,5 @@
 pub mod OneFile
 pub mod OneLine
+pub mod Places
+pub mod Ranges
 pub mod WholeFile

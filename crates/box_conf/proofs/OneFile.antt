@@ -1,20 +1,21 @@
 -- A text is the file of one box at most, or has one first fault.
-use Rattle.std.proofs.Common.{◌≡◌, ℕ, ◌+◌, ◌⊎◌, inl, inr, List, [], ◌∷◌, length, refl, sym, ap, ◌∙◌, subst, Some, None, Ok, Err, true, false}
+use Rattle.std.proofs.Common.{◌≡◌, ℕ, inl, inr, List, [], ◌∷◌, length, refl, sym, ap, ◌∙◌, subst, Some, None, Ok, Err}
 use Rattle.std.specs.Prelude.{Result, IfOk, IfErr, slice_get}
 use Rattle.std.specs.Str.Lines.{lines as lines_of}
 use Rattle.plain_text.specs.declared.fault.LineCause.{LineCause}
 use Rattle.plain_text.specs.declared.fault.LineFault.{LineFault}
-use Rattle.plain_text.specs.Grammar.{Row, LineSays, AreLines, FirstToLeave, line_fault}
+use Rattle.plain_text.specs.Grammar.{AllStand, AreLines, FirstOfFile}
 use Rattle.plain_text.specs.Lines.{words_of, words_count, counted_lines}
 use Rattle.plain_text.proofs.Rows.{says_no_fault, one_reading}
-use Rattle.plain_text.proofs.Faults.{Rising, counted_rise, not_both, one_first, one_setting}
+use Rattle.plain_text.proofs.Faults.{Rising, counted_rise, not_in_whole, one_of_file, one_setting}
 use Rattle.box_conf.specs.declared.kind.BoxConf.{BoxConf}
 use Rattle.box_conf.specs.declared.kind.KindWord.{KindWord}
-use Rattle.box_conf.specs.declared.table.NumberLine.{NumberLine}
-use Rattle.box_conf.specs.BoxFile.{AreOfKind, IsBoxFile, Names, NamesNone, FirstFault, Has as HasNumber}
+use Rattle.box_conf.specs.declared.table.BoxLine.{BoxLine}
+use Rattle.box_conf.specs.BoxFile.{AreOfKind, IsBoxFile, Names, NamesNone, FirstFault, Has as HasValues}
 use Rattle.box_conf.specs.Reading.{box_of, fault_at}
+use Rattle.box_conf.specs.Settings.{usual_or_none}
 use Rattle.box_conf.specs.Kinds.{box_row, conf_from, kinds, rows_of}
-use Rattle.box_conf.specs.Table.{row_of, numbers_of}
+use Rattle.box_conf.specs.Table.{row_of, values_from}
 use Rattle.box_conf.proofs.WholeFile.{Reads, reads_text}
 
 abbrev Line : Type 0
@@ -44,14 +45,15 @@ no_fault (first ∷ lines) kind number cause x y =
     let bad : None ≡ Some cause = sym none ∙ y.1 in
     absurd (cc)
 
-one_number : (text : List ℕ) (kind : KindWord) → AreLines (rows_of kind) (counted_lines text) → (line : NumberLine) (n m : ℕ) → HasNumber kind (counted_lines text) line n → HasNumber kind (counted_lines text) line m → n ≡ m
-one_number text kind rows line n m x y = one_setting (rows_of kind) (counted_lines text) 1 (rising text) rows (row_of line) (numbers_of line).usual n m refl x y
+one_list : (text : List ℕ) (kind : KindWord) → AreLines (rows_of kind) (counted_lines text) → (line : BoxLine) (ns ms : List ℕ) → HasValues kind (counted_lines text) line ns
+    → HasValues kind (counted_lines text) line ms → ns ≡ ms
+one_list text kind rows line ns ms x y = one_setting (rows_of kind) (counted_lines text) 1 (rising text) rows (row_of line) (usual_or_none line) ns ms refl x y
 
 of_one_kind : (text : List ℕ) (kind : KindWord) (a b : BoxConf) → AreOfKind kind (counted_lines text) a → AreOfKind kind (counted_lines text) b → a ≡ b
 of_one_kind text kind a b x y =
-    let same : (line : NumberLine) → x.numbers line ≡ y.numbers line = λ line. one_number text kind x.rows line (x.numbers line) (y.numbers line) (x.set line) (y.set line) in
-    let numbers : x.numbers ≡ y.numbers = λ i line. same line i in
-    x.says ∙ ap (conf_from kind) numbers ∙ sym y.says
+    let same : (line : BoxLine) → x.values line ≡ y.values line = λ line. one_list text kind x.rows line (x.values line) (y.values line) (x.set line) (y.set line) in
+    let values : x.values ≡ y.values = λ i line. same line i in
+    x.says ∙ ap (λ (values : BoxLine → List ℕ). conf_from kind (λ line. values_from (values line))) values ∙ sym y.says
 
 pub one_box : (text : List ℕ) (a b : BoxConf) → IsBoxFile text a → IsBoxFile text b → a ≡ b
 one_box text a b x y =
@@ -64,7 +66,8 @@ box_or_fault text conf number cause x (inr (inl first)) = no_fault (counted_line
 box_or_fault text conf number cause x (inr (inr later)) =
     let kind = one_kind (counted_lines text) x.0 later.0 x.1.names later.1 in
     let rows : AreLines (rows_of later.0) (counted_lines text) = subst (λ (k : KindWord). AreLines (rows_of k) (counted_lines text)) kind x.1.rows in
-    not_both (rows_of later.0) (counted_lines text) number cause rows later.2
+    let whole : AllStand (rows_of later.0) (counted_lines text) = subst (λ (k : KindWord). AllStand (rows_of k) (counted_lines text)) kind x.1.whole in
+    not_in_whole (rows_of later.0) (counted_lines text) (length (lines_of text)) number cause rows whole later.2
 
 one_naming : (lines : List Line) (x y : ℕ) (a b : LineCause) → NamesNone lines x a → NamesNone lines y b → (x ≡ y) × (a ≡ b)
 one_naming [] x y a b f g = absurd f
@@ -85,8 +88,9 @@ one_fault text x y a b (inr (inr f)) (inl g) = absurd (no_empty (counted_lines t
 one_fault text x y a b (inr (inr f)) (inr (inl g)) = absurd (no_fault (counted_lines text) f.0 y b f.1 g)
 one_fault text x y a b (inr (inr f)) (inr (inr g)) =
     let kind = one_kind (counted_lines text) f.0 g.0 f.1 g.1 in
-    let first : FirstToLeave (rows_of g.0) (counted_lines text) x a = subst (λ (k : KindWord). FirstToLeave (rows_of k) (counted_lines text) x a) kind f.2 in
-    one_first (rows_of g.0) (counted_lines text) 1 (rising text) x y a b first g.2
+    let first : FirstOfFile (rows_of g.0) (counted_lines text) (length (lines_of text)) x a =
+    subst (λ (k : KindWord). FirstOfFile (rows_of k) (counted_lines text) (length (lines_of text)) x a) kind f.2 in
+    one_of_file (rows_of g.0) (counted_lines text) 1 (length (lines_of text)) (rising text) x y a b first g.2
 
 -- So the reader's answer is the one that the relation has
 

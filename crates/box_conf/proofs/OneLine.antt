@@ -3,28 +3,26 @@ use Rattle.std.proofs.Common.{◌≡◌, ℕ, ◌+◌, ◌⊎◌, arith, inl, in
 use Rattle.std.specs.Prelude.{Result, codes, is_some, option_map, find, map, slice_get, suc}
 use Rattle.std.specs.Str.{bytes_eq}
 use Rattle.plain_text.specs.declared.fault.LineCause.{LineCause}
-use Rattle.plain_text.specs.declared.fault.LineCause.TheVariants.{UnknownWord, MissingWord, ExtraWord, BadNumber, OutOfRange, Twice}
-use Rattle.plain_text.specs.Fields.{number_or_bad, with_rest, and_fields, fields_of}
-use Rattle.plain_text.specs.Grammar.{Place, Number, OneOf, Row, value_at, index_in, is_within, row_named, PlacesSay, LineSays, form_at, form_fault, range_at, range_fault, row_fault, or_else, line_fault}
-use Rattle.plain_text.specs.Lines.{number_of}
+use Rattle.plain_text.specs.declared.fault.LineCause.TheVariants.{UnknownWord, ExtraWord, Twice}
+use Rattle.plain_text.specs.Fields.{fields_of}
+use Rattle.plain_text.specs.Grammar.{Place, OneOf, Row, index_in, row_named, PlacesSay, LineSays, form_at, form_fault, range_at, range_fault, row_fault, or_else, line_fault, values_in}
+use Rattle.plain_text.proofs.Rows.{row_says, says_values}
 use Rattle.box_conf.specs.declared.settings.Settings.{Settings}
 use Rattle.box_conf.specs.declared.kind.KindWord.{KindWord}
-use Rattle.box_conf.specs.declared.table.NumberLine.{NumberLine}
+use Rattle.box_conf.specs.declared.table.BoxLine.{BoxLine}
+use Rattle.box_conf.specs.declared.table.Values.{Values}
 use Rattle.box_conf.specs.Reading.{and_end, box_line, first_line, second_box, set_by, set_line}
-use Rattle.box_conf.specs.Settings.{setting, with_setting, once, in_range, number_line, set_number}
+use Rattle.box_conf.specs.Settings.{setting, with_setting, once, line_read, set_values}
 use Rattle.box_conf.specs.Kinds.{box_row, kind_named, kind_word, kinds, line_named, lines_of, rows_of}
-use Rattle.box_conf.specs.Table.{numbers_of, row_of, word_of}
-
-abbrev places_fault : List Place → List (List ℕ) → Option LineCause
-places_fault places words = or_else (form_fault places words) (range_fault places words)
+use Rattle.box_conf.specs.Table.{row_of, values_from, word_of}
 
 -- The row that a word begins
 
-row_of_line : (word : List ℕ) (lines : List NumberLine) → row_named word (map row_of lines) ≡ option_map row_of (find (λ line. bytes_eq word (word_of line)) lines)
+row_of_line : (word : List ℕ) (lines : List BoxLine) → row_named word (map row_of lines) ≡ option_map row_of (find (λ line. bytes_eq word (word_of line)) lines)
 row_of_line word [] = refl
 row_of_line word (line ∷ lines) = go (bytes_eq word (word_of line)) (row_named word (map row_of lines)) (find (λ line. bytes_eq word (word_of line)) lines) (row_of_line word lines)
   where
-    go : (b : Bool) (row : Option Row) (found : Option NumberLine) → row ≡ option_map row_of found → cond b (Some (row_of line)) row ≡ option_map row_of (cond b (Some line) found)
+    go : (b : Bool) (row : Option Row) (found : Option BoxLine) → row ≡ option_map row_of found → cond b (Some (row_of line)) row ≡ option_map row_of (cond b (Some line) found)
     go true row found e = refl
     go false row found e = e
 
@@ -34,51 +32,31 @@ row_of_word kind word = ap (cond (bytes_eq word (codes "box")) (Some box_row)) (
 -- the row `box` is one of each kind
 pub box_is_a_row : (kind : KindWord) (words : List (List ℕ)) (values : List ℕ) → LineSays (box_row ∷ []) words box_row values → LineSays (rows_of kind) words box_row values
 box_is_a_row kind [] values says = absurd says
-box_is_a_row kind (word ∷ words) values says = (go (bytes_eq word (codes "box")) _ says.0, says.1)
+box_is_a_row kind (word ∷ words) values says = (go (bytes_eq word (codes "box")) _ says.0, says.1, says.2)
   where
     go : (b : Bool) (more : Option Row) → cond b (Some box_row) None ≡ Some box_row → cond b (Some box_row) more ≡ Some box_row
     go true more e = refl
     go false more e = absurd (cc)
 
--- A line with one number
+-- A line that sets values
 
-abbrev NumberSays : ℕ → ℕ → Bool → List (List ℕ) → Result ℕ LineCause → Type 0
-NumberSays low high had words (Ok n) = PlacesSay (Number low high ∷ []) words (n ∷ []) × (had ≡ false)
-NumberSays low high had words (Err cause) =
-    (places_fault (Number low high ∷ []) words ≡ Some cause)
-    ⊎ ((n : ℕ) × PlacesSay (Number low high ∷ []) words (n ∷ []) × (had ≡ true) × (cause ≡ Twice))
+abbrev ValuesSay : BoxLine → Bool → List (List ℕ) → Result Values LineCause → Type 0
+ValuesSay line had words (Ok set) =
+    (values : List ℕ) × PlacesSay (row_of line).places words values × ((row_of line).fits values ≡ true) × (set ≡ values_from values) × (had ≡ false)
+ValuesSay line had words (Err cause) =
+    (row_fault (Some (row_of line)) words ≡ Some cause)
+    ⊎ ((values : List ℕ) × PlacesSay (row_of line).places words values × ((row_of line).fits values ≡ true) × (had ≡ true) × (cause ≡ Twice))
 
-abbrev reading : ℕ → ℕ → Bool → Option ℕ → List (List ℕ) → Result ℕ LineCause
-reading low high had value words = in_range low high had (and_fields (with_rest (number_or_bad value) words) (λ rest. fields_of [] rest))
-
-abbrev fault_by : Place → Option ℕ → List (List ℕ) → Option LineCause
-fault_by place value words = or_else (form_at place value (form_fault [] words)) (range_at place value (range_fault [] words))
-
-number_says : (low high : ℕ) (had : Bool) (words : List (List ℕ)) → NumberSays low high had words (number_line low high had words)
-number_says low high had [] = inl refl
-number_says low high had (word ∷ []) = by_number had (number_of word) refl
+values_say : (line : BoxLine) (had : Bool) (words : List (List ℕ)) → ValuesSay line had words (line_read line had words)
+values_say line had words = by_fault (row_fault (Some (row_of line)) words) refl had
   where
-    place : Place
-    place = Number low high
-
-    by_range : (h b : Bool) (n : ℕ) → number_of word ≡ Some n → is_within place n ≡ b → NumberSays low high h (word ∷ []) (cond b (once h n) (Err OutOfRange))
-    by_range h false n e w =
-        inl (subst (λ (o : Option ℕ). fault_by place o [] ≡ Some OutOfRange) (sym e)
-        (subst (λ (b : Bool). cond b None (Some OutOfRange) ≡ Some OutOfRange) (sym w) refl))
-    by_range false true n e w = ((e, w, tt), refl)
-    by_range true true n e w = inr (n, (e, w, tt), refl, refl)
-
-    by_number : (h : Bool) (o : Option ℕ) → number_of word ≡ o → NumberSays low high h (word ∷ []) (reading low high h o [])
-    by_number h None e = inl (subst (λ (o : Option ℕ). fault_by place o [] ≡ Some BadNumber) (sym e) refl)
-    by_number h (Some n) e = by_range h (is_within place n) n e refl
-number_says low high had (word ∷ extra ∷ words) = by_number (number_of word) refl
-  where
-    place : Place
-    place = Number low high
-
-    by_number : (o : Option ℕ) → number_of word ≡ o → NumberSays low high had (word ∷ extra ∷ words) (reading low high had o (extra ∷ words))
-    by_number None e = inl (subst (λ (o : Option ℕ). fault_by place o (extra ∷ words) ≡ Some BadNumber) (sym e) refl)
-    by_number (Some n) e = inl (subst (λ (o : Option ℕ). fault_by place o (extra ∷ words) ≡ Some ExtraWord) (sym e) refl)
+    by_fault : (f : Option LineCause) → row_fault (Some (row_of line)) words ≡ f → (h : Bool)
+        → ValuesSay line h words (once f h (values_from (values_in (row_of line).places words)))
+    by_fault (Some cause) e h = inl e
+    by_fault None e true = let says = row_says (row_of line) words e in inr (says.0, says.1, says.2, refl, refl)
+    by_fault None e false =
+        let says = row_says (row_of line) words e in
+        (says.0, says.1, says.2, ap values_from (says_values (row_of line).places words says.0 says.1), refl)
 
 -- The line that names the kind
 
@@ -101,18 +79,21 @@ found (first ∷ all) word = go (bytes_eq word (kind_word first)) refl (find (λ
 abbrev kind_place : Place
 kind_place = OneOf (map kind_word kinds)
 
+abbrev box_fault : Option ℕ → List (List ℕ) → Option LineCause
+box_fault value words = or_else (form_at kind_place value (form_fault [] words)) (or_else (range_at kind_place value (range_fault [] words)) None)
+
 abbrev BoxSays : List (List ℕ) → Result KindWord LineCause → Type 0
 BoxSays words (Ok kind) = (n : ℕ) × PlacesSay (kind_place ∷ []) words (n ∷ []) × (slice_get kinds n ≡ Some kind)
-BoxSays words (Err cause) = places_fault (kind_place ∷ []) words ≡ Some cause
+BoxSays words (Err cause) = row_fault (Some box_row) words ≡ Some cause
 
 box_says : (words : List (List ℕ)) → BoxSays words (box_line words)
 box_says [] = refl
 box_says (word ∷ words) = by_kind (kind_named word) words (found kinds word)
   where
     by_kind : (o : Option KindWord) (rest : List (List ℕ)) → Found kinds word o → BoxSays (word ∷ rest) (and_end o (fields_of [] rest))
-    by_kind None rest e = subst (λ (o : Option ℕ). fault_by kind_place o rest ≡ Some UnknownWord) (sym e) refl
+    by_kind None rest e = subst (λ (o : Option ℕ). box_fault o rest ≡ Some UnknownWord) (sym e) refl
     by_kind (Some kind) [] e = (e.0, (e.1, refl, tt), e.2)
-    by_kind (Some kind) (extra ∷ rest) e = subst (λ (o : Option ℕ). fault_by kind_place o (extra ∷ rest) ≡ Some ExtraWord) (sym e.1) refl
+    by_kind (Some kind) (extra ∷ rest) e = subst (λ (o : Option ℕ). box_fault o (extra ∷ rest) ≡ Some ExtraWord) (sym e.1) refl
 
 abbrev pub FirstSays : List (List ℕ) → Result KindWord LineCause → Type 0
 FirstSays words (Ok kind) = (n : ℕ) × LineSays (box_row ∷ []) words box_row (n ∷ []) × (slice_get kinds n ≡ Some kind)
@@ -123,7 +104,7 @@ first_says [] = refl
 first_says (word ∷ words) = by_box (bytes_eq word (codes "box")) refl
   where
     by_line : (r : Result KindWord LineCause) → row_named word (box_row ∷ []) ≡ Some box_row → BoxSays words r → FirstSays (word ∷ words) r
-    by_line (Ok kind) row says = (says.0, (row, says.1), says.2)
+    by_line (Ok kind) row says = (says.0, (row, says.1, refl), says.2)
     by_line (Err cause) row fault = subst (λ (o : Option Row). row_fault o words ≡ Some cause) (sym row) fault
 
     by_box : (b : Bool) → bytes_eq word (codes "box") ≡ b → FirstSays (word ∷ words) (cond b (box_line words) (Err UnknownWord))
@@ -136,22 +117,23 @@ first_says (word ∷ words) = by_box (bytes_eq word (codes "box")) refl
 
 -- the row stood before, by the settings
 abbrev pub Stood : Settings → Row → Type 0
-Stood s row = (row ≡ box_row) ⊎ ((line : NumberLine) × (n : ℕ) × (row ≡ row_of line) × (setting s line ≡ Some n))
+Stood s row = (row ≡ box_row) ⊎ ((line : BoxLine) × (set : Values) × (row ≡ row_of line) × (setting s line ≡ Some set))
 
--- a line sets a number that was not set; or it has a fault; or its row stood before
+-- a line sets values that were not set; or it has a fault; or its row stood before
 abbrev pub StepSays : KindWord → Settings → List (List ℕ) → Result Settings LineCause → Type 0
-StepSays kind s words (Ok next) = (line : NumberLine) × (n : ℕ) × LineSays (rows_of kind) words (row_of line) (n ∷ []) × (setting s line ≡ None) × (next ≡ with_setting s line n)
+StepSays kind s words (Ok next) =
+    (line : BoxLine) × (values : List ℕ) × LineSays (rows_of kind) words (row_of line) values × (setting s line ≡ None) × (next ≡ with_setting s line (values_from values))
 StepSays kind s words (Err cause) =
     (line_fault (rows_of kind) words ≡ Some cause)
     ⊎ ((row : Row) × (values : List ℕ) × LineSays (rows_of kind) words row values × (row.again ≡ false) × Stood s row × (cause ≡ Twice))
 
-unset : (o : Option ℕ) → is_some o ≡ false → o ≡ None
+unset : (o : Option Values) → is_some o ≡ false → o ≡ None
 unset None e = refl
-unset (Some n) e = absurd (cc)
+unset (Some set) e = absurd (cc)
 
-was_set : (o : Option ℕ) → is_some o ≡ true → (n : ℕ) × (o ≡ Some n)
+was_set : (o : Option Values) → is_some o ≡ true → (set : Values) × (o ≡ Some set)
 was_set None e = absurd (cc)
-was_set (Some n) e = (n, refl)
+was_set (Some set) e = (set, refl)
 
 pub step_says : (kind : KindWord) (s : Settings) (words : List (List ℕ)) → StepSays kind s words (set_line kind s words)
 step_says kind s [] = inl refl
@@ -164,21 +146,20 @@ step_says kind s (word ∷ words) = by_box (bytes_eq word (codes "box")) refl
     faulty o cause row fault = inl (subst (λ (o : Option Row). row_fault o words ≡ Some cause) (sym row) fault)
 
     by_kind : (r : Result KindWord LineCause) → Row_is (Some box_row) → BoxSays words r → StepSays kind s (word ∷ words) (second_box r)
-    by_kind (Ok named) row says = inr (box_row, says.0 ∷ [], (row, says.1), refl, inl refl, refl)
+    by_kind (Ok named) row says = inr (box_row, says.0 ∷ [], (row, says.1, refl), refl, inl refl, refl)
     by_kind (Err cause) row fault = faulty (Some box_row) cause row fault
 
-    by_number : (line : NumberLine) (r : Result ℕ LineCause) → Row_is (Some (row_of line)) → NumberSays (numbers_of line).low (numbers_of line).high (is_some (setting s line)) words r
-        → StepSays kind s (word ∷ words) (set_number s line r)
-    by_number line (Ok n) row says = (line, n, (row, says.0), unset (setting s line) says.1, refl)
-    by_number line (Err cause) row (inl fault) = faulty (Some (row_of line)) cause row fault
-    by_number line (Err cause) row (inr twice) =
-        let before = was_set (setting s line) twice.2 in
-        inr (row_of line, twice.0 ∷ [], (row, twice.1), refl, inr (line, before.0, refl, before.1), twice.3)
+    by_values : (line : BoxLine) (r : Result Values LineCause) → Row_is (Some (row_of line)) → ValuesSay line (is_some (setting s line)) words r
+        → StepSays kind s (word ∷ words) (set_values s line r)
+    by_values line (Ok set) row says = (line, says.0, (row, says.1, says.2), unset (setting s line) says.4, ap (with_setting s line) says.3)
+    by_values line (Err cause) row (inl fault) = faulty (Some (row_of line)) cause row fault
+    by_values line (Err cause) row (inr twice) =
+        let before = was_set (setting s line) twice.3 in
+        inr (row_of line, twice.0, (row, twice.1, twice.2), refl, inr (line, before.0, refl, before.1), twice.4)
 
-    by_line : (o : Option NumberLine) → Row_is (option_map row_of o) → StepSays kind s (word ∷ words) (set_by kind s o words)
+    by_line : (o : Option BoxLine) → Row_is (option_map row_of o) → StepSays kind s (word ∷ words) (set_by kind s o words)
     by_line None row = faulty None UnknownWord row refl
-    by_line (Some line) row =
-        by_number line _ row (number_says (numbers_of line).low (numbers_of line).high (is_some (setting s line)) words)
+    by_line (Some line) row = by_values line _ row (values_say line (is_some (setting s line)) words)
 
     by_box : (b : Bool) → bytes_eq word (codes "box") ≡ b → StepSays kind s (word ∷ words) (cond b (second_box (box_line words)) (set_by kind s (line_named kind word) words))
     by_box true e =

@@ -1,102 +1,109 @@
 -- What the reader does with all lines is what the relation of box files says: it goes along the lines, and its settings are what
 -- the lines so far set.
 use Rattle.std.proofs.Common.{◌≡◌, ◌≢◌, ℕ, ◌+◌, ◌<◌, ◌≤◌, ◌⊎◌, inl, inr, List, [], ◌∷◌, length, refl, sym, ap, ◌∙◌, subst, arith, Option, Some, None, true, false, Bool, Ok, Err}
-use Rattle.std.specs.Prelude.{Result, unwrap_or}
+use Rattle.std.specs.Prelude.{Result, unwrap_or, find, is_none, map, cond, ◌&&◌}
+use Rattle.std.specs.Str.{bytes_eq}
 use Rattle.std.specs.Str.Lines.{lines as lines_of}
 use Rattle.plain_text.specs.declared.fault.LineCause.{LineCause}
-use Rattle.plain_text.specs.declared.fault.LineCause.TheVariants.{MissingLine, Twice}
+use Rattle.plain_text.specs.declared.fault.LineCause.TheVariants.{MissingLine}
 use Rattle.plain_text.specs.declared.fault.LineFault.{LineFault}
-use Rattle.plain_text.specs.Grammar.{Row, LineSays, Has as HasLine, Says, Leaves, Repeats, AreLines, FirstToLeave, Sets, line_fault}
+use Rattle.plain_text.specs.Grammar.{Row, LineSays, Has as HasLine, Says, Leaves, AreLines, FirstToLeave, FirstOfFile, IsRow, AllStand, Lacks}
 use Rattle.plain_text.specs.Lines.{words_of, words_count, counted_lines}
 use Rattle.plain_text.proofs.Rows.{one_row}
 use Rattle.plain_text.proofs.Faults.{Rising, counted_rise, from_rising, only_repeats, all_of_table}
 use Rattle.box_conf.specs.declared.kind.BoxConf.{BoxConf}
 use Rattle.box_conf.specs.declared.settings.Settings.{Settings}
 use Rattle.box_conf.specs.declared.kind.KindWord.{KindWord}
-use Rattle.box_conf.specs.declared.table.NumberLine.{NumberLine}
-use Rattle.box_conf.specs.declared.table.NumberLine.TheVariants.{Threads, Seed, Shards}
-use Rattle.box_conf.specs.BoxFile.{AreOfKind, IsBoxFile, Names, NamesNone, FirstFault, Has as HasNumber}
-use Rattle.box_conf.specs.Reading.{and_kind, and_lines, box_of, box_of_lines, conf_of, fault_at, first_line, no_settings, set_line, set_lines}
-use Rattle.box_conf.specs.Settings.{setting, with_setting, number_in}
-use Rattle.box_conf.specs.Kinds.{box_row, rows_of}
-use Rattle.box_conf.specs.Table.{row_of, numbers_of}
+use Rattle.box_conf.specs.declared.table.BoxLine.{BoxLine}
+use Rattle.box_conf.specs.declared.table.BoxLine.TheVariants.{Threads, Seed, Shards, Inside, Outside, Ports}
+use Rattle.box_conf.specs.declared.table.Values.{Values}
+use Rattle.box_conf.specs.BoxFile.{AreOfKind, Names, NamesNone, Has as HasValues}
+use Rattle.box_conf.specs.Reading.{and_kind, and_lines, box_of, box_of_lines, conf_of, whole_box, first_line, no_settings, set_line, set_lines}
+use Rattle.box_conf.specs.Settings.{setting, with_setting, usual_or_none, values_set}
+use Rattle.box_conf.specs.Kinds.{box_row, conf_from, lines_of as lines_in, missing_line, rows_of}
+use Rattle.box_conf.specs.Table.{row_of, usual_of, values_from, word_of}
 use Rattle.box_conf.proofs.OneLine.{StepSays, Stood, step_says, FirstSays, first_says, box_is_a_row}
 
 abbrev Line : Type 0
 Line = ℕ × List ℕ
 
--- Rows differ by their words
+-- A row's word says which line it is
 
-apart : (m n : ℕ) → (m < n) ⊎ (n < m) → m ≡ n → ⊥
-apart m n (inl less) e = absurd (omega arith)
-apart m n (inr more) e = absurd (omega arith)
+abbrev line_in : List ℕ → Option BoxLine
+line_in word = find (λ line. bytes_eq word (word_of line)) (Threads ∷ Seed ∷ Shards ∷ Inside ∷ Outside ∷ Ports ∷ [])
 
-not_box : (line : NumberLine) → box_row ≡ row_of line → ⊥
-not_box Threads e = apart 3 7 (inl (omega arith)) (ap (λ (r : Row). length r.word) e)
-not_box Seed e = apart 3 4 (inl (omega arith)) (ap (λ (r : Row). length r.word) e)
-not_box Shards e = apart 3 6 (inl (omega arith)) (ap (λ (r : Row). length r.word) e)
+line_back : (line : BoxLine) → line_in (word_of line) ≡ Some line
+line_back Threads = refl
+line_back Seed = refl
+line_back Shards = refl
+line_back Inside = refl
+line_back Outside = refl
+line_back Ports = refl
 
-same_line : (a b : NumberLine) → row_of a ≡ row_of b → a ≡ b
-same_line Threads Threads e = refl
-same_line Seed Seed e = refl
-same_line Shards Shards e = refl
-same_line Threads Seed e = absurd (apart 7 4 (inr (omega arith)) (ap (λ (r : Row). length r.word) e))
-same_line Threads Shards e = absurd (apart 7 6 (inr (omega arith)) (ap (λ (r : Row). length r.word) e))
-same_line Seed Threads e = absurd (apart 4 7 (inl (omega arith)) (ap (λ (r : Row). length r.word) e))
-same_line Seed Shards e = absurd (apart 4 6 (inl (omega arith)) (ap (λ (r : Row). length r.word) e))
-same_line Shards Threads e = absurd (apart 6 7 (inl (omega arith)) (ap (λ (r : Row). length r.word) e))
-same_line Shards Seed e = absurd (apart 6 4 (inr (omega arith)) (ap (λ (r : Row). length r.word) e))
+not_box : (line : BoxLine) → box_row ≡ row_of line → ⊥
+not_box line e =
+    let bad : None ≡ Some line = ap (λ (r : Row). line_in r.word) e ∙ line_back line in
+    absurd (cc)
 
--- a line is another, or the number that was set is its own
-set_or : (s : Settings) (a b : NumberLine) (n : ℕ) → (a ≢ b × (setting (with_setting s a n) b ≡ setting s b)) ⊎ ((a ≡ b) × (setting (with_setting s a n) b ≡ Some n))
-set_or s Threads Threads n = inr (refl, refl)
-set_or s Seed Seed n = inr (refl, refl)
-set_or s Shards Shards n = inr (refl, refl)
-set_or s Threads Seed n = inl ((λ e. cc), refl)
-set_or s Threads Shards n = inl ((λ e. cc), refl)
-set_or s Seed Threads n = inl ((λ e. cc), refl)
-set_or s Seed Shards n = inl ((λ e. cc), refl)
-set_or s Shards Threads n = inl ((λ e. cc), refl)
-set_or s Shards Seed n = inl ((λ e. cc), refl)
+same_line : (a b : BoxLine) → row_of a ≡ row_of b → a ≡ b
+same_line a b e =
+    let same : Some a ≡ Some b = sym (line_back a) ∙ ap (λ (r : Row). line_in r.word) e ∙ line_back b in
+    cc
+
+-- a line is another, or the values that were set are its own
+pub set_or : (s : Settings) (a b : BoxLine) (v : Values) → (a ≢ b × (setting (with_setting s a v) b ≡ setting s b)) ⊎ ((a ≡ b) × (setting (with_setting s a v) b ≡ Some v))
+set_or s Threads Threads v = inr (refl, refl)
+set_or s Seed Seed v = inr (refl, refl)
+set_or s Shards Shards v = inr (refl, refl)
+set_or s Inside Inside v = inr (refl, refl)
+set_or s Outside Outside v = inr (refl, refl)
+set_or s Ports Ports v = inr (refl, refl)
+set_or s Threads other v = inl ((λ e. cc), refl)
+set_or s Seed other v = inl ((λ e. cc), refl)
+set_or s Shards other v = inl ((λ e. cc), refl)
+set_or s Inside other v = inl ((λ e. cc), refl)
+set_or s Outside other v = inl ((λ e. cc), refl)
+set_or s Ports other v = inl ((λ e. cc), refl)
 
 -- What the lines so far have set
 
-abbrev IsSet : KindWord → List Line → NumberLine → Option ℕ → Type 0
+abbrev IsSet : KindWord → List Line → BoxLine → Option Values → Type 0
 IsSet kind lines line None = (x : Line) (values : List ℕ) → HasLine lines x → Says (rows_of kind) x (row_of line) values → ⊥
-IsSet kind lines line (Some n) = (x : Line) × HasLine lines x × Says (rows_of kind) x (row_of line) (n ∷ [])
+IsSet kind lines line (Some v) = (x : Line) × (values : List ℕ) × HasLine lines x × Says (rows_of kind) x (row_of line) values × (v ≡ values_from values)
 
 record Stands (kind : KindWord) (s : Settings) (lines : List Line) : Type 0 where
   pub named : (x : Line) × (values : List ℕ) × HasLine lines x × Says (rows_of kind) x box_row values
-  pub set : (line : NumberLine) → IsSet kind lines line (setting s line)
+  pub set : (line : BoxLine) → IsSet kind lines line (setting s line)
 
 -- one more line
-stands_more : (kind : KindWord) (s : Settings) (before : List Line) (x : Line) (line : NumberLine) (n : ℕ) → Stands kind s before → Says (rows_of kind) x (row_of line) (n ∷ [])
-    → Stands kind (with_setting s line n) (x ∷ before)
-stands_more kind s before x line n stands says = record {
+stands_more : (kind : KindWord) (s : Settings) (before : List Line) (x : Line) (line : BoxLine) (values : List ℕ) → Stands kind s before → Says (rows_of kind) x (row_of line) values
+    → Stands kind (with_setting s line (values_from values)) (x ∷ before)
+stands_more kind s before x line values stands says = record {
   named = (stands.named.0, stands.named.1, inr stands.named.2, stands.named.3);
   set = set_of;
 }
   where
-    older : (other : NumberLine) (o : Option ℕ) → line ≢ other → IsSet kind before other o → IsSet kind (x ∷ before) other o
-    older other None differs none = λ y values there other_says. by_place y values other_says there
+    older : (other : BoxLine) (o : Option Values) → line ≢ other → IsSet kind before other o → IsSet kind (x ∷ before) other o
+    older other None differs none = λ y ns there other_says. by_place y ns other_says there
       where
-        by_place : (y : Line) (values : List ℕ) → Says (rows_of kind) y (row_of other) values → HasLine (x ∷ before) y → ⊥
-        by_place y values other_says (inl e) =
-            let here : Says (rows_of kind) x (row_of other) values = subst (λ (l : Line). Says (rows_of kind) l (row_of other) values) e other_says in
-            let row = one_row (rows_of kind) (words_of x.1) (row_of line) (row_of other) (n ∷ []) values says here in
+        by_place : (y : Line) (ns : List ℕ) → Says (rows_of kind) y (row_of other) ns → HasLine (x ∷ before) y → ⊥
+        by_place y ns other_says (inl e) =
+            let here : Says (rows_of kind) x (row_of other) ns = subst (λ (l : Line). Says (rows_of kind) l (row_of other) ns) e other_says in
+            let row = one_row (rows_of kind) (words_of x.1) (row_of line) (row_of other) values ns says here in
             differs (same_line line other row)
-        by_place y values other_says (inr there) = none y values there other_says
-    older other (Some m) differs some = (some.0, inr some.1, some.2)
+        by_place y ns other_says (inr there) = none y ns there other_says
+    older other (Some v) differs some = (some.0, some.1, inr some.2, some.3, some.4)
 
-    set_of : (other : NumberLine) → IsSet kind (x ∷ before) other (setting (with_setting s line n) other)
-    set_of other = by_set (set_or s line other n)
+    set_of : (other : BoxLine) → IsSet kind (x ∷ before) other (setting (with_setting s line (values_from values)) other)
+    set_of other = by_set (set_or s line other (values_from values))
       where
-        by_set : (line ≢ other × (setting (with_setting s line n) other ≡ setting s other)) ⊎ ((line ≡ other) × (setting (with_setting s line n) other ≡ Some n))
-            → IsSet kind (x ∷ before) other (setting (with_setting s line n) other)
+        by_set : (line ≢ other × (setting (with_setting s line (values_from values)) other ≡ setting s other))
+            ⊎ ((line ≡ other) × (setting (with_setting s line (values_from values)) other ≡ Some (values_from values)))
+            → IsSet kind (x ∷ before) other (setting (with_setting s line (values_from values)) other)
         by_set (inl differs) = subst (IsSet kind (x ∷ before) other) (sym differs.1) (older other (setting s other) differs.0 (stands.set other))
         by_set (inr same) =
-            let here : Says (rows_of kind) x (row_of other) (n ∷ []) = subst (λ (l : NumberLine). Says (rows_of kind) x (row_of l) (n ∷ [])) same.0 says in
-            subst (IsSet kind (x ∷ before) other) (sym same.1) (x, inl refl, here)
+            let here : Says (rows_of kind) x (row_of other) values = subst (λ (l : BoxLine). Says (rows_of kind) x (row_of l) values) same.0 says in
+            subst (IsSet kind (x ∷ before) other) (sym same.1) (x, values, inl refl, here, refl)
 
 -- Along the lines
 
@@ -127,9 +134,9 @@ stands_all kind all s n before a = (
     only_before x (inl there) = there
     only_before x (inr none) = absurd none
 
-    set_of : (line : NumberLine) (o : Option ℕ) → IsSet kind before line o → IsSet kind all line o
+    set_of : (line : BoxLine) (o : Option Values) → IsSet kind before line o → IsSet kind all line o
     set_of line None none = λ x values there says. none x values (only_before x (a.split x there)) says
-    set_of line (Some m) some = (some.0, a.from_before some.0 some.1, some.2)
+    set_of line (Some v) some = (some.0, some.1, a.from_before some.0 some.2, some.3, some.4)
 
 along : (kind : KindWord) (all rest before : List Line) (s : Settings) (n : ℕ) → Progress kind all s n before rest → Comes kind all (set_lines kind s rest)
 along kind all [] before s n a = stands_all kind all s n before a
@@ -174,9 +181,9 @@ along kind all (line ∷ rest) before s n a = by_step (set_line kind s (words_of
 
         here_stays : (cause : LineCause) → Leaves (rows_of kind) all line cause → ⊥
         here_stays cause leaves =
-            let again = (only_repeats (rows_of kind) all line (row_of says.0) (says.1 ∷ []) cause says.2 leaves).0 in
+            let again = (only_repeats (rows_of kind) all line (row_of says.0) says.1 cause says.2 leaves).0 in
             let stood = again.stood in
-            let row = one_row (rows_of kind) (words_of line.1) again.row (row_of says.0) again.values (says.1 ∷ []) again.says says.2 in
+            let row = one_row (rows_of kind) (words_of line.1) again.row (row_of says.0) again.values says.1 again.says says.2 in
             let there = earlier stood.earlier stood.stands stood.before in
             let said : Says (rows_of kind) stood.earlier (row_of says.0) stood.values = subst (λ (r : Row). Says (rows_of kind) stood.earlier r stood.values) row stood.says in
             let none : IsSet kind before says.0 None = subst (IsSet kind before says.0) says.3 (a.stands.set says.0) in
@@ -192,7 +199,7 @@ along kind all (line ∷ rest) before s n a = by_step (set_line kind s (words_of
         (named.0, named.1, named.2, subst (λ (r : Row). Says (rows_of kind) named.0 r named.1) (sym e) named.3)
     stood_before row (inr set) =
         let some : IsSet kind before set.0 (Some set.1) = subst (IsSet kind before set.0) set.3 (a.stands.set set.0) in
-        (some.0, set.1 ∷ [], some.1, subst (λ (r : Row). Says (rows_of kind) some.0 r (set.1 ∷ [])) (sym set.2) some.2)
+        (some.0, some.1, some.2, subst (λ (r : Row). Says (rows_of kind) some.0 r some.1) (sym set.2) some.3)
 
     leaves_here : (cause : LineCause) → StepSays kind s (words_of line.1) (Err cause) → Leaves (rows_of kind) all line cause
     leaves_here cause (inl fault) = inl fault
@@ -266,16 +273,19 @@ begins kind first rest n index rising names = record {
     by_number x (inl e) = let k : x.0 ≡ first.0 = ap (λ (l : Line). l.0) e in omega arith
     by_number x (inr none) = absurd none
 
-    none_of : (line : NumberLine) (x : Line) (values : List ℕ) → HasLine (first ∷ []) x → Says (rows_of kind) x (row_of line) values → ⊥
+    none_of : (line : BoxLine) (x : Line) (values : List ℕ) → HasLine (first ∷ []) x → Says (rows_of kind) x (row_of line) values → ⊥
     none_of line x values (inl e) other =
         let here : Says (rows_of kind) first (row_of line) values = subst (λ (l : Line). Says (rows_of kind) l (row_of line) values) e other in
         not_box line (one_row (rows_of kind) (words_of first.1) box_row (row_of line) (index ∷ []) values says here)
     none_of line x values (inr none) other = absurd none
 
-    unset : (line : NumberLine) → IsSet kind (first ∷ []) line (setting no_settings line)
+    unset : (line : BoxLine) → IsSet kind (first ∷ []) line (setting no_settings line)
     unset Threads = none_of Threads
     unset Seed = none_of Seed
     unset Shards = none_of Shards
+    unset Inside = none_of Inside
+    unset Outside = none_of Outside
+    unset Ports = none_of Ports
 
     here_stays : (cause : LineCause) → Leaves (rows_of kind) (first ∷ rest) first cause → ⊥
     here_stays cause leaves =
@@ -289,12 +299,77 @@ begins kind first rest n index rising names = record {
     by_leaving x cause (inl e) leaves = here_stays cause (subst (λ (l : Line). Leaves (rows_of kind) (first ∷ rest) l cause) e leaves)
     by_leaving x cause (inr none) leaves = absurd none
 
-number_of_line : (kind : KindWord) (lines : List Line) (s : Settings) (line : NumberLine) → Stands kind s lines → HasNumber kind lines line (number_in s line)
-number_of_line kind lines s line stands = by_set (setting s line) (stands.set line)
+-- What the settings come to
+
+values_of_line : (kind : KindWord) (lines : List Line) (s : Settings) (line : BoxLine) → Stands kind s lines
+    → (values : List ℕ) × HasValues kind lines line values × (values_from values ≡ values_set s line)
+values_of_line kind lines s line stands = by_set (setting s line) (stands.set line)
   where
-    by_set : (o : Option ℕ) → IsSet kind lines line o → HasNumber kind lines line (unwrap_or o (numbers_of line).usual)
-    by_set None none = inr (refl, none)
-    by_set (Some n) some = inl some
+    by_set : (o : Option Values) → IsSet kind lines line o → (values : List ℕ) × HasValues kind lines line values × (values_from values ≡ unwrap_or o (values_from (usual_or_none line)))
+    by_set None none = (usual_or_none line, inr (refl, none), refl)
+    by_set (Some v) some = (some.1, inl (some.0, some.2, some.3), sym some.4)
+
+-- a line has to stand, and has set nothing
+abbrev is_missing : Settings → BoxLine → Bool
+is_missing s line = is_none (usual_of line) && is_none (setting s line)
+
+was_set : (required : Bool) (o : Option Values) → required ≡ true → (required && is_none o) ≡ false → (v : Values) × (o ≡ Some v)
+was_set true None e f = absurd (cc)
+was_set false None e f = absurd (cc)
+was_set required (Some v) e f = (v, refl)
+
+both_true : (a b : Bool) → (a && b) ≡ true → (a ≡ true) × (b ≡ true)
+both_true true true e = (refl, refl)
+both_true true false e = absurd (cc)
+both_true false b e = absurd (cc)
+
+none_set : (o : Option Values) → is_none o ≡ true → o ≡ None
+none_set None e = refl
+none_set (Some v) e = absurd (cc)
+
+-- where no line is missing, those that have to stand are set
+all_set : (s : Settings) (lines : List BoxLine) → find (is_missing s) lines ≡ None → (row : Row) → IsRow (map row_of lines) row → row.required ≡ true
+    → (line : BoxLine) × (v : Values) × (row ≡ row_of line) × (setting s line ≡ Some v)
+all_set s [] none row there required = absurd there
+all_set s (line ∷ lines) none row there required = by (is_missing s line) refl none there (all_set s lines)
+  where
+    by : (b : Bool) → is_missing s line ≡ b → cond b (Some line) (find (is_missing s) lines) ≡ None → (row ≡ row_of line) ⊎ IsRow (map row_of lines) row
+        → (find (is_missing s) lines ≡ None → (row : Row) → IsRow (map row_of lines) row → row.required ≡ true
+        → (line : BoxLine) × (v : Values) × (row ≡ row_of line) × (setting s line ≡ Some v))
+        → (line : BoxLine) × (v : Values) × (row ≡ row_of line) × (setting s line ≡ Some v)
+    by true m none there more = absurd (cc)
+    by false m none (inl e) more =
+        let set = was_set (is_none (usual_of line)) (setting s line) (sym (ap (λ (r : Row). r.required) e) ∙ required) m in
+        (line, set.0, e, set.1)
+    by false m none (inr there) more = more none row there required
+
+-- a line that is missing is one of these, and has to stand
+one_missing : (s : Settings) (lines : List BoxLine) (line : BoxLine) → find (is_missing s) lines ≡ Some line → IsRow (map row_of lines) (row_of line) × (is_missing s line ≡ true)
+one_missing s [] line e = absurd (cc)
+one_missing s (first ∷ lines) line e = by (is_missing s first) refl e (one_missing s lines line)
+  where
+    by : (b : Bool) → is_missing s first ≡ b → cond b (Some first) (find (is_missing s) lines) ≡ Some line
+        → (find (is_missing s) lines ≡ Some line → IsRow (map row_of lines) (row_of line) × (is_missing s line ≡ true))
+        → ((row_of line ≡ row_of first) ⊎ IsRow (map row_of lines) (row_of line)) × (is_missing s line ≡ true)
+    by true m e more = let same : first ≡ line = cc in (inl (sym (ap row_of same)), sym (ap (is_missing s) same) ∙ m)
+    by false m e more = let rest = more e in (inr rest.0, rest.1)
+
+-- so no row lacks a line, or one does
+all_stand : (kind : KindWord) (lines : List Line) (s : Settings) → Stands kind s lines → missing_line kind s ≡ None → AllStand (rows_of kind) lines
+all_stand kind lines s stands none row (inl e) required =
+    let named = stands.named in
+    (named.0, named.1, named.2, subst (λ (r : Row). Says (rows_of kind) named.0 r named.1) (sym e) named.3)
+all_stand kind lines s stands none row (inr there) required =
+    let set = all_set s (lines_in kind) none row there required in
+    let some : IsSet kind lines set.0 (Some set.1) = subst (IsSet kind lines set.0) set.3 (stands.set set.0) in
+    (some.0, some.1, some.2, subst (λ (r : Row). Says (rows_of kind) some.0 r some.1) (sym set.2) some.3)
+
+one_lacks : (kind : KindWord) (lines : List Line) (s : Settings) (line : BoxLine) → Stands kind s lines → missing_line kind s ≡ Some line → Lacks (rows_of kind) lines
+one_lacks kind lines s line stands e =
+    let missing = one_missing s (lines_in kind) line e in
+    let both = both_true (is_none (usual_of line)) (is_none (setting s line)) missing.1 in
+    let unset : IsSet kind lines line None = subst (IsSet kind lines line) (none_set (setting s line) both.1) (stands.set line) in
+    record { row = row_of line; listed = inr missing.0; required = both.0; absent = unset }
 
 -- what the reader comes to
 abbrev pub Reads : List Line → ℕ → Result BoxConf LineFault → Type 0
@@ -302,28 +377,39 @@ Reads lines count (Ok conf) = (kind : KindWord) × AreOfKind kind lines conf
 Reads lines count (Err fault) =
     ((lines ≡ []) × (fault.line ≡ count + 1) × (fault.cause ≡ MissingLine))
     ⊎ NamesNone lines fault.line fault.cause
-    ⊎ (kind : KindWord) × Names lines kind × FirstToLeave (rows_of kind) lines fault.line fault.cause
+    ⊎ (kind : KindWord) × Names lines kind × FirstOfFile (rows_of kind) lines count fault.line fault.cause
 
 reads_lines : (lines : List Line) (count n : ℕ) → Rising n lines → Reads lines count (box_of_lines count lines)
 reads_lines [] count n rising = inl (refl, refl, refl)
 reads_lines (first ∷ rest) count n rising = by_first (first_line (words_of first.1)) (first_says (words_of first.1))
   where
-    by_lines : (kind : KindWord) (r : Result Settings LineFault) → Names (first ∷ rest) kind → Comes kind (first ∷ rest) r
-        → Reads (first ∷ rest) count (conf_of kind r)
-    by_lines kind (Ok s) names comes = (
-      kind,
-      record {
-        names = names;
-        rows = comes.1;
-        numbers = number_in s;
-        set = λ line. number_of_line kind (first ∷ rest) s line comes.0;
-        says = refl;
-      },
-    )
-    by_lines kind (Err fault) names comes = inr (inr (kind, names, comes))
+    all : List Line
+    all = first ∷ rest
 
-    by_first : (r : Result KindWord LineCause) → FirstSays (words_of first.1) r → Reads (first ∷ rest) count (and_kind first.0 r rest)
-    by_first (Ok kind) names = by_lines kind (set_lines kind no_settings rest) names (along kind (first ∷ rest) rest (first ∷ []) no_settings (first.0 + 1) (begins kind first rest n names.0 rising names.1))
+    by_missing : (kind : KindWord) (s : Settings) (o : Option BoxLine) → Names all kind → Stands kind s all → AreLines (rows_of kind) all → missing_line kind s ≡ o
+        → Reads all count (whole_box count kind s o)
+    by_missing kind s None names stands rows none =
+        let of_line : (line : BoxLine) → (values : List ℕ) × HasValues kind all line values × (values_from values ≡ values_set s line) =
+        λ line. values_of_line kind all s line stands in
+        let same : (λ line. values_from (of_line line).0) ≡ values_set s = λ i line. (of_line line).2 i in (
+          kind,
+          record {
+            names = names;
+            rows = rows;
+            whole = all_stand kind all s stands none;
+            values = λ line. (of_line line).0;
+            set = λ line. (of_line line).1;
+            says = ap (conf_from kind) (sym same);
+          },
+        )
+    by_missing kind s (Some line) names stands rows e = inr (inr (kind, names, inr (rows, one_lacks kind all s line stands e, refl, refl)))
+
+    by_lines : (kind : KindWord) (r : Result Settings LineFault) → Names all kind → Comes kind all r → Reads all count (conf_of count kind r)
+    by_lines kind (Ok s) names comes = by_missing kind s (missing_line kind s) names comes.0 comes.1 refl
+    by_lines kind (Err fault) names comes = inr (inr (kind, names, inl comes))
+
+    by_first : (r : Result KindWord LineCause) → FirstSays (words_of first.1) r → Reads all count (and_kind count first.0 r rest)
+    by_first (Ok kind) names = by_lines kind (set_lines kind no_settings rest) names (along kind all rest (first ∷ []) no_settings (first.0 + 1) (begins kind first rest n names.0 rising names.1))
     by_first (Err cause) fault = inr (inl (refl, fault))
 
 pub reads_text : (text : List ℕ) → Reads (counted_lines text) (length (lines_of text)) (box_of text)

@@ -11,10 +11,9 @@ use Rattle.plain_text.specs.Lines.{words_of, counted_lines}
 use Rattle.box_conf.specs.declared.kind.BoxConf.{BoxConf}
 use Rattle.box_conf.specs.declared.settings.Settings.{Settings}
 use Rattle.box_conf.specs.declared.kind.KindWord.{KindWord}
-use Rattle.box_conf.specs.declared.table.NumberLine.{NumberLine}
-use Rattle.box_conf.specs.Settings.{setting, number_in, number_line, set_number}
-use Rattle.box_conf.specs.Kinds.{kind_named, line_named, conf_from}
-use Rattle.box_conf.specs.Table.{numbers_of}
+use Rattle.box_conf.specs.declared.table.BoxLine.{BoxLine}
+use Rattle.box_conf.specs.Settings.{setting, values_set, line_read, set_values}
+use Rattle.box_conf.specs.Kinds.{kind_named, line_named, missing_line, conf_from}
 
 abbrev pub and_end : Option KindWord → Result (List ℕ) LineCause → Result KindWord LineCause
 and_end None end = Err UnknownWord
@@ -36,10 +35,10 @@ abbrev pub second_box : Result KindWord LineCause → Result Settings LineCause
 second_box (Ok k) = Err Twice
 second_box (Err cause) = Err cause
 
--- a line that sets a number, if it is one of the kind
-abbrev pub set_by : KindWord → Settings → Option NumberLine → List (List ℕ) → Result Settings LineCause
+-- a line that sets values, if it is one of the kind
+abbrev pub set_by : KindWord → Settings → Option BoxLine → List (List ℕ) → Result Settings LineCause
 set_by k s None words = Err UnknownWord
-set_by k s (Some line) words = set_number s line (number_line (numbers_of line).low (numbers_of line).high (is_some (setting s line)) words)
+set_by k s (Some line) words = set_values s line (line_read line (is_some (setting s line)) words)
 
 -- the settings after a later line with these words
 abbrev pub set_line : KindWord → Settings → List (List ℕ) → Result Settings LineCause
@@ -59,20 +58,25 @@ set_lines k s [] = Ok s
 set_lines k s (line ∷ lines) = and_lines line.0 (set_line k s (words_of line.1)) (λ next. set_lines k next lines)
 
 abbrev pub no_settings : Settings
-no_settings = record { threads = None; seed = None; shards = None }
+no_settings = record { threads = None; seed = None; shards = None; inside = None; outside = None; ports = None }
 
-abbrev pub conf_of : KindWord → Result Settings LineFault → Result BoxConf LineFault
-conf_of k (Ok s) = Ok (conf_from k (number_in s))
-conf_of k (Err fault) = Err fault
+-- the box of these settings, if no line is missing, where the file has this count of lines
+abbrev pub whole_box : ℕ → KindWord → Settings → Option BoxLine → Result BoxConf LineFault
+whole_box count k s None = Ok (conf_from k (values_set s))
+whole_box count k s (Some line) = Err (fault_at (count + 1) MissingLine)
 
-abbrev pub and_kind : ℕ → Result KindWord LineCause → List (ℕ × List ℕ) → Result BoxConf LineFault
-and_kind line (Ok k) lines = conf_of k (set_lines k no_settings lines)
-and_kind line (Err cause) lines = Err (fault_at line cause)
+abbrev pub conf_of : ℕ → KindWord → Result Settings LineFault → Result BoxConf LineFault
+conf_of count k (Ok s) = whole_box count k s (missing_line k s)
+conf_of count k (Err fault) = Err fault
 
--- the lines that count, of a file with this number of lines
+abbrev pub and_kind : ℕ → ℕ → Result KindWord LineCause → List (ℕ × List ℕ) → Result BoxConf LineFault
+and_kind count line (Ok k) lines = conf_of count k (set_lines k no_settings lines)
+and_kind count line (Err cause) lines = Err (fault_at line cause)
+
+-- the lines that count, of a file with this count of lines
 abbrev pub box_of_lines : ℕ → List (ℕ × List ℕ) → Result BoxConf LineFault
 box_of_lines count [] = Err (fault_at (count + 1) MissingLine)
-box_of_lines count (line ∷ lines) = and_kind line.0 (first_line (words_of line.1)) lines
+box_of_lines count (line ∷ lines) = and_kind count line.0 (first_line (words_of line.1)) lines
 
 -- the box that a file describes, or its first fault
 abbrev pub box_of : List ℕ → Result BoxConf LineFault

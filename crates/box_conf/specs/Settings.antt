@@ -1,53 +1,76 @@
 -- What the lines of a box file have set, as the reader keeps it.
-use Rattle.std.specs.Prelude.{ℕ, ◌≤◌, Option, Some, None, ◌&&◌, List, [], ◌∷◌, nat_le, unwrap_or, if◌then◌else◌, Bool, true, false, Result, Ok, Err}
+use Rattle.std.specs.Prelude.{◌≡◌, ℕ, ◌^◌, ◌<◌, ◌≤◌, Option, Some, None, ◌||◌, ◌&&◌, List, [], is_some, unwrap_or, if◌then◌else◌, Bool, true, false, Result, Ok, Err, IfSome}
 use Rattle.plain_text.specs.declared.fault.LineCause.{LineCause}
-use Rattle.plain_text.specs.declared.fault.LineCause.TheVariants.{MissingWord, OutOfRange, Twice}
-use Rattle.plain_text.specs.declared.field.Field.TheVariants.{Number}
-use Rattle.plain_text.specs.Fields.{fields_of}
+use Rattle.plain_text.specs.declared.fault.LineCause.TheVariants.{OutOfRange, Twice}
+use Rattle.plain_text.specs.Grammar.{form_fault, range_fault, row_fault, values_in}
 use Rattle.box_conf.specs.declared.settings.Settings.{Settings}
-use Rattle.box_conf.specs.declared.table.NumberLine.{NumberLine}
-use Rattle.box_conf.specs.declared.table.NumberLine.TheVariants.{Threads, Seed, Shards}
-use Rattle.box_conf.specs.Table.{numbers_of}
+use Rattle.box_conf.specs.declared.table.BoxLine.{BoxLine}
+use Rattle.box_conf.specs.declared.table.BoxLine.TheVariants.{Threads, Seed, Shards, Inside, Outside, Ports}
+use Rattle.box_conf.specs.declared.table.Places.{Places}
+use Rattle.box_conf.specs.declared.table.Values.{Values}
+use Rattle.box_conf.specs.Table.{all_places, are_within, fits_of, places_of, row_of, usual_of, values_from}
 
-abbrev pub setting : Settings → NumberLine → Option ℕ
+abbrev pub setting : Settings → BoxLine → Option Values
 setting s Threads = s.threads
 setting s Seed = s.seed
 setting s Shards = s.shards
+setting s Inside = s.inside
+setting s Outside = s.outside
+setting s Ports = s.ports
 
-abbrev pub with_setting : Settings → NumberLine → ℕ → Settings
-with_setting s Threads n = record s { threads = Some n }
-with_setting s Seed n = record s { seed = Some n }
-with_setting s Shards n = record s { shards = Some n }
+abbrev pub with_setting : Settings → BoxLine → Values → Settings
+with_setting s Threads values = record s { threads = Some values }
+with_setting s Seed values = record s { seed = Some values }
+with_setting s Shards values = record s { shards = Some values }
+with_setting s Inside values = record s { inside = Some values }
+with_setting s Outside values = record s { outside = Some values }
+with_setting s Ports values = record s { ports = Some values }
 
--- what a line has set, or its usual number
-abbrev pub number_in : Settings → NumberLine → ℕ
-number_in s line = unwrap_or (setting s line) (numbers_of line).usual
+-- the usual values of a line, and none where it has to stand
+abbrev pub usual_or_none : BoxLine → List ℕ
+usual_or_none line = unwrap_or (usual_of line) []
+
+-- what a line has set, or its usual values
+abbrev pub values_set : Settings → BoxLine → Values
+values_set s line = unwrap_or (setting s line) (values_from (usual_or_none line))
+
+abbrev pub has_values : Settings → BoxLine → Bool
+has_values s line = is_some (usual_of line) || is_some (setting s line)
+
+-- of words that have the forms of these places, these are the values; out of range where one is
+pub record AreRead (places : Places) (words : List (List ℕ)) (values : Values) : Type 0 where
+  pub form : form_fault (all_places places) words ≡ None
+  pub are : values ≡ values_from (values_in (all_places places) words)
+  pub range : range_fault (all_places places) words ≡ (if are_within places values then None else Some OutOfRange)
+
+-- values of which one is out of its range, or that do not fit one another
+abbrev pub values_fault : BoxLine → Values → Option LineCause
+values_fault line values = if are_within (places_of line) values && fits_of line values then None else Some OutOfRange
 
 -- a line that may stand once, and stood before or not
-abbrev pub once : Bool → ℕ → Result ℕ LineCause
-once false n = Ok n
-once true n = Err Twice
+abbrev pub once : Option LineCause → Bool → Values → Result Values LineCause
+once (Some cause) had values = Err cause
+once None true values = Err Twice
+once None false values = Ok values
 
-abbrev pub in_range : ℕ → ℕ → Bool → Result (List ℕ) LineCause → Result ℕ LineCause
-in_range low high had (Ok (n ∷ numbers)) = if nat_le low n && nat_le n high then once had n else Err OutOfRange
-in_range low high had (Ok []) = Err MissingWord
-in_range low high had (Err cause) = Err cause
+-- the values of a line's words after its first, or the first fault
+abbrev pub line_read : BoxLine → Bool → List (List ℕ) → Result Values LineCause
+line_read line had words = once (row_fault (Some (row_of line)) words) had (values_from (values_in (row_of line).places words))
 
--- the number of a line with one number from low to high, which may stand once
-abbrev pub number_line : ℕ → ℕ → Bool → List (List ℕ) → Result ℕ LineCause
-number_line low high had words = in_range low high had (fields_of (Number ∷ []) words)
+-- the settings with what a line gave
+abbrev pub set_values : Settings → BoxLine → Result Values LineCause → Result Settings LineCause
+set_values s line (Ok values) = Ok (with_setting s line values)
+set_values s line (Err cause) = Err cause
 
--- the settings with a number that a line gave
-abbrev pub set_number : Settings → NumberLine → Result ℕ LineCause → Result Settings LineCause
-set_number s line (Ok n) = Ok (with_setting s line n)
-set_number s line (Err cause) = Err cause
+-- the values that a line may set
+abbrev pub IsWithin : BoxLine → Values → Type 0
+IsWithin Threads values = (1 ≤ values.first) × (values.first ≤ 16)
+IsWithin Seed values = Unit {0}
+IsWithin Shards values = (1 ≤ values.first) × (values.first ≤ 64)
+IsWithin Inside values = (values.first < 2 ^ 32) × (1 ≤ values.second) × (values.second ≤ 32)
+IsWithin Outside values = values.first < 2 ^ 32
+IsWithin Ports values = (1 ≤ values.first) × (values.first ≤ values.second) × (values.second ≤ 65535)
 
--- a number that was set is in this range
-abbrev pub IsIn : ℕ → ℕ → Option ℕ → Type 0
-IsIn low high None = Unit {0}
-IsIn low high (Some n) = (low ≤ n) × (n ≤ high)
-
--- each number that was set is in the range of its line
-pub record AreInRange (s : Settings) : Type 0 where
-  pub threads : IsIn 1 16 s.threads
-  pub shards : IsIn 1 64 s.shards
+-- each line has set what it may
+abbrev pub AreInRange : Settings → Type 0
+AreInRange s = (line : BoxLine) → IfSome (setting s line) (IsWithin line)

@@ -1,19 +1,80 @@
--- The lines of box files that set a number, as a table: the word of each, its numbers, and that it may stand once.
-use Rattle.std.specs.Prelude.{ℕ, ◌-◌, ◌^◌, false, List, [], ◌∷◌, codes}
-use Rattle.plain_text.specs.Grammar.{Row, Number}
-use Rattle.box_conf.specs.declared.table.NumberLine.{NumberLine}
-use Rattle.box_conf.specs.declared.table.NumberLine.TheVariants.{Threads, Seed, Shards}
-use Rattle.box_conf.specs.declared.table.Numbers.{Numbers}
+-- The lines of box files that set values, as a table: the word of each, what stands after it, how its values fit one another, and
+-- the usual values. Each may stand once, and has to stand where it has no usual values.
+use Rattle.std.specs.Prelude.{ℕ, ◌-◌, ◌^◌, ◌&&◌, Bool, true, false, List, [], ◌∷◌, codes, is_none, nat_le, slice_index, Option, Some, None}
+use Rattle.plain_text.specs.declared.field.Field.{Field}
+use Rattle.plain_text.specs.declared.field.Field.TheVariants as field
+use Rattle.plain_text.specs.Grammar.{Place, Row, is_within}
+use Rattle.plain_text.specs.Grammar as place
+use Rattle.box_conf.specs.declared.table.BoxLine.{BoxLine}
+use Rattle.box_conf.specs.declared.table.BoxLine.TheVariants.{Threads, Seed, Shards, Inside, Outside, Ports}
+use Rattle.box_conf.specs.declared.table.LinePlace.{LinePlace}
+use Rattle.box_conf.specs.declared.table.LinePlace.TheVariants.{Number, Address}
+use Rattle.box_conf.specs.declared.table.Places.{Places}
+use Rattle.box_conf.specs.declared.table.Places.TheVariants.{One, Two}
+use Rattle.box_conf.specs.declared.table.Values.{Values}
 
-abbrev pub word_of : NumberLine → List ℕ
+-- Line by line
+
+abbrev pub word_of : BoxLine → List ℕ
 word_of Threads = codes "threads"
 word_of Seed = codes "seed"
 word_of Shards = codes "shards"
+word_of Inside = codes "inside"
+word_of Outside = codes "outside"
+word_of Ports = codes "ports"
 
-abbrev pub numbers_of : NumberLine → Numbers
-numbers_of Threads = record { low = 1; high = 16; usual = 1 }
-numbers_of Seed = record { low = 0; high = 2 ^ 64 - 1; usual = 0 }
-numbers_of Shards = record { low = 1; high = 64; usual = 16 }
+abbrev pub places_of : BoxLine → Places
+places_of Threads = One (Number 1 16)
+places_of Seed = One (Number 0 (2 ^ 64 - 1))
+places_of Shards = One (Number 1 64)
+places_of Inside = Two Address (Number 1 32)
+places_of Outside = One Address
+places_of Ports = Two (Number 1 65535) (Number 1 65535)
 
-abbrev pub row_of : NumberLine → Row
-row_of line = record { word = word_of line; places = Number (numbers_of line).low (numbers_of line).high ∷ []; again = false }
+-- the first port is not above the last
+abbrev pub fits_of : BoxLine → Values → Bool
+fits_of Threads values = true
+fits_of Seed values = true
+fits_of Shards values = true
+fits_of Inside values = true
+fits_of Outside values = true
+fits_of Ports values = nat_le values.first values.second
+
+abbrev pub usual_of : BoxLine → Option (List ℕ)
+usual_of Threads = Some (1 ∷ [])
+usual_of Seed = Some (0 ∷ [])
+usual_of Shards = Some (16 ∷ [])
+usual_of Inside = None
+usual_of Outside = None
+usual_of Ports = Some (1024 ∷ 65535 ∷ [])
+
+-- Of all lines
+
+abbrev pub place_of : LinePlace → Place
+place_of (Number low high) = place.Number low high
+place_of Address = place.Address
+
+abbrev pub field_of : LinePlace → Field
+field_of (Number low high) = field.Number
+field_of Address = field.Address
+
+abbrev pub all_places : Places → List Place
+all_places (One place) = place_of place ∷ []
+all_places (Two first second) = place_of first ∷ place_of second ∷ []
+
+abbrev pub are_within : Places → Values → Bool
+are_within (One place) values = is_within (place_of place) values.first
+are_within (Two first second) values = is_within (place_of first) values.first && is_within (place_of second) values.second
+
+-- the values of a line as a pair, where those that are not there are 0
+abbrev pub values_from : List ℕ → Values
+values_from values = record { first = slice_index values 0; second = slice_index values 1 }
+
+abbrev pub row_of : BoxLine → Row
+row_of line = record {
+  word = word_of line;
+  places = all_places (places_of line);
+  fits = λ values. fits_of line (values_from values);
+  again = false;
+  required = is_none (usual_of line);
+}

@@ -4,8 +4,8 @@ ghost use Rattle.box_conf.specs.Reading.{box_of, box_line, first_line, set_line}
 ghost use Rattle.box_conf.specs.Settings.{AreInRange};
 
 use crate::kind::{BoxConf, KindWord};
-use crate::settings::{Settings, read_number_line};
-use crate::table::NumberLine;
+use crate::settings::{Settings, read_line};
+use crate::table::BoxLine;
 use plain_text::{LineCause, LineFault, WordIter, count_lines, end_of_line, lines, words};
 
 /// The word of the line that names the kind.
@@ -13,9 +13,17 @@ const BOX: &[u8] = b"box";
 
 /// Reads a box file, or names its first fault. It takes no memory.
 ///
-/// Its first line that counts is `box KIND`; the others come in any order, each at most once: `threads N` with 1 to 16
-/// threads (1 where it is not there), `seed S` with any number (0 where it is not there), and for the kind `monitor` also `shards S`
-/// with 1 to 64 tables (16 where it is not there). The kind is `count` or `monitor`.
+/// Its first line that counts is `box KIND`, where the kind is `count`, `monitor` or `nat`; the others come in any order, each at
+/// most once.
+///
+/// | Line | Kinds | Range | Where it is not there |
+/// |---|---|---|---|
+/// | `threads N` | all | 1 to 16 | 1 |
+/// | `seed S` | all | any number | 0 |
+/// | `shards S` | `monitor`, `nat` | 1 to 64 | 16 |
+/// | `inside ADDRESS LENGTH` | `nat` | a length of 1 to 32 bits | a fault |
+/// | `outside ADDRESS` | `nat` | any address | a fault |
+/// | `ports LOW HIGH` | `nat` | 1 to 65,535, LOW at most HIGH | 1024 65535 |
 pub fn read_box(text: &[u8]) -> Result<BoxConf, LineFault>
     ensures value { IfOk result (IsBoxFile text.now) }
     ensures threads { IfOk result (λ conf. (1 ≤ conf.threads) × (conf.threads ≤ 16)) }
@@ -41,6 +49,9 @@ fn read_lines(text: &[u8]) -> Result<BoxConf, LineFault>
         threads: None,
         seed: None,
         shards: None,
+        inside: None,
+        outside: None,
+        ports: None,
     };
     for line in left {
         match set_by_line(kind, settings, words(line.bytes)) {
@@ -48,11 +59,14 @@ fn read_lines(text: &[u8]) -> Result<BoxConf, LineFault>
             Err(cause) => return Err(fault_at(line.number, cause)),
         }
     }
-    Ok(BoxConf {
-        threads: settings.number(NumberLine::Threads) as u32,
-        seed: settings.number(NumberLine::Seed),
-        kind: kind.make(settings),
-    })
+    match kind.missing_line(settings) {
+        None => Ok(BoxConf {
+            threads: settings.values(BoxLine::Threads).first as u32,
+            seed: settings.values(BoxLine::Seed).first,
+            kind: kind.make(settings),
+        }),
+        Some(_) => Err(fault_at(count_lines(text) + 1, LineCause::MissingLine)),
+    }
 }
 
 fn fault_at(line: u64, cause: LineCause) -> LineFault
@@ -114,6 +128,6 @@ fn set_by_line(
         return Err(LineCause::UnknownWord);
     };
     let had = settings.get(line).is_some();
-    let number = read_number_line(words, line.numbers(), had)?;
-    Ok(settings.with(line, number))
+    let values = read_line(words, line, had)?;
+    Ok(settings.with(line, values))
 }

@@ -1,17 +1,20 @@
-ghost use Rattle.std.specs.Prelude.{◌≡◌};
-ghost use Rattle.box_conf.specs.Kinds.{kind_named, lines_of, line_named, box_from};
-ghost use Rattle.box_conf.specs.Settings.{AreInRange, number_in};
+ghost use Rattle.std.specs.Prelude.{◌≡◌, true, None, is_some};
+ghost use Rattle.box_conf.specs.Kinds.{kind_named, lines_of, line_named, missing_line, box_from, nat_from};
+ghost use Rattle.box_conf.specs.Settings.{AreInRange, setting, values_set};
+ghost use Rattle.box_conf.specs.declared.table.BoxLine.TheVariants.{Inside, Outside};
 
 use crate::settings::Settings;
-use crate::table::NumberLine;
+use crate::table::BoxLine;
 use box_program::CountBox;
 use monitor_box::MonitorBox;
+use nat_box::NatBox;
 
 /// Which box runs.
 #[derive(Debug, Drop)]
 pub enum BoxKind {
     Count(CountBox),
     Monitor(MonitorBox),
+    Nat(NatBox),
 }
 
 /// What a box file says.
@@ -29,6 +32,7 @@ pub struct BoxConf {
 pub enum KindWord {
     Count,
     Monitor,
+    Nat,
 }
 
 impl KindWord {
@@ -40,37 +44,57 @@ impl KindWord {
             Some(KindWord::Count)
         } else if word == b"monitor".as_slice() {
             Some(KindWord::Monitor)
+        } else if word == b"nat".as_slice() {
+            Some(KindWord::Nat)
         } else {
             None
         }
     }
 
-    /// The lines that set a number in a file of this kind.
-    fn lines(self) -> &'static [NumberLine]
+    /// The lines that may follow the first in a file of this kind.
+    fn lines(self) -> &'static [BoxLine]
         ensures { result.now ≡ lines_of self }
     {
         match self {
-            KindWord::Count => &[NumberLine::Threads, NumberLine::Seed],
-            KindWord::Monitor => &[NumberLine::Threads, NumberLine::Seed, NumberLine::Shards],
+            KindWord::Count => &[BoxLine::Threads, BoxLine::Seed],
+            KindWord::Monitor => &[BoxLine::Threads, BoxLine::Seed, BoxLine::Shards],
+            KindWord::Nat => &[
+                BoxLine::Threads,
+                BoxLine::Seed,
+                BoxLine::Shards,
+                BoxLine::Inside,
+                BoxLine::Outside,
+                BoxLine::Ports,
+            ],
         }
     }
 
-    /// The box of this kind, where its lines have set these numbers.
+    /// The box of this kind, where its lines have set these values and none is missing.
     pub fn make(self, settings: Settings) -> BoxKind
-        requires { AreInRange settings }
-        ensures { result ≡ box_from self (number_in settings) }
+        requires in_range { AreInRange settings }
+        requires whole { missing_line self settings ≡ None }
+        ensures { result ≡ box_from self (values_set settings) }
     {
         match self {
             KindWord::Count => BoxKind::Count(CountBox::new()),
             KindWord::Monitor => {
-                let shards = settings.number(NumberLine::Shards);
+                let shards = settings.values(BoxLine::Shards).first;
                 BoxKind::Monitor(MonitorBox::new(shards as u32))
             }
+            KindWord::Nat => BoxKind::Nat(make_nat(settings)),
         }
     }
 
-    /// The line of this kind that a word begins, if it begins one that sets a number.
-    pub fn line_named(self, word: &[u8]) -> Option<NumberLine>
+    /// A line that has to stand in a file of this kind, and has not set anything.
+    pub fn missing_line(self, settings: Settings) -> Option<BoxLine>
+        ensures { result ≡ missing_line self settings }
+    {
+        self.lines().iter().copied().find(|line| line.usual().is_none()
+            && settings.get(*line).is_none())
+    }
+
+    /// The line of this kind that a word begins, if it begins one that sets values.
+    pub fn line_named(self, word: &[u8]) -> Option<BoxLine>
         ensures { result ≡ line_named self word.now }
     {
         self.lines()
@@ -78,4 +102,25 @@ impl KindWord {
             .copied()
             .find(|line| word == line.word())
     }
+}
+
+/// The NAT of these settings.
+fn make_nat(settings: Settings) -> NatBox
+    requires in_range { AreInRange settings }
+    requires inside { is_some (setting settings Inside) ≡ true }
+    requires outside { is_some (setting settings Outside) ≡ true }
+    ensures { result ≡ nat_from (values_set settings) }
+{
+    let shards = settings.values(BoxLine::Shards).first;
+    let inside = settings.values(BoxLine::Inside);
+    let outside = settings.values(BoxLine::Outside).first;
+    let ports = settings.values(BoxLine::Ports);
+    NatBox::new(
+        shards as u32,
+        inside.first as u32,
+        inside.second as u32,
+        outside as u32,
+        ports.first as u16,
+        ports.second as u16,
+    )
 }

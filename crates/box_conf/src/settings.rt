@@ -1,71 +1,131 @@
-ghost use Rattle.std.specs.Prelude.{◌≡◌, ◌≤◌, IfOk, Some};
-ghost use Rattle.box_conf.specs.Settings.{setting, with_setting, number_line, number_in, AreInRange};
+ghost use Rattle.std.specs.Prelude.{◌≡◌, IfOk, IfErr, IsTrue, Some};
+ghost use Rattle.plain_text.specs.Grammar.{form_fault};
+ghost use Rattle.box_conf.specs.Settings.{setting, with_setting, values_set, values_fault, line_read, once, AreRead, AreInRange, IsWithin, has_values};
+ghost use Rattle.box_conf.specs.Table.{all_places};
+ghost use Rattle.box_conf.specs.declared.table.Places.TheVariants.{One, Two};
 
-use crate::table::{NumberLine, Numbers};
-use plain_text::{Field, LineCause, WordIter, end_of_line, read_field};
+use crate::table::{BoxLine, LinePlace, Places, Values};
+use plain_text::{LineCause, WordIter, end_of_line, read_field};
 
 /// What the lines of a box file have set.
 #[derive(Clone, Copy, Debug, PartialEq, Eq)]
 pub struct Settings {
-    pub threads: Option<u64>,
-    pub seed: Option<u64>,
-    pub shards: Option<u64>,
+    pub threads: Option<Values>,
+    pub seed: Option<Values>,
+    pub shards: Option<Values>,
+    pub inside: Option<Values>,
+    pub outside: Option<Values>,
+    pub ports: Option<Values>,
 }
 
 impl Settings {
     /// What a line has set.
-    pub fn get(self, line: NumberLine) -> Option<u64>
+    pub fn get(self, line: BoxLine) -> Option<Values>
         ensures { result ≡ setting self line }
     {
         match line {
-            NumberLine::Threads => self.threads,
-            NumberLine::Seed => self.seed,
-            NumberLine::Shards => self.shards,
+            BoxLine::Threads => self.threads,
+            BoxLine::Seed => self.seed,
+            BoxLine::Shards => self.shards,
+            BoxLine::Inside => self.inside,
+            BoxLine::Outside => self.outside,
+            BoxLine::Ports => self.ports,
         }
     }
 
-    /// The settings after a line that sets this number.
-    pub fn with(self, line: NumberLine, number: u64) -> Settings
-        ensures { result ≡ with_setting self line number }
+    /// The settings after a line that sets these values.
+    pub fn with(self, line: BoxLine, values: Values) -> Settings
+        ensures { result ≡ with_setting self line values }
     {
-        let set = Some(number);
+        let set = Some(values);
         match line {
-            NumberLine::Threads => Settings {
+            BoxLine::Threads => Settings {
                 threads: set,
                 ..self
             },
-            NumberLine::Seed => Settings { seed: set, ..self },
-            NumberLine::Shards => Settings {
+            BoxLine::Seed => Settings { seed: set, ..self },
+            BoxLine::Shards => Settings {
                 shards: set,
                 ..self
             },
+            BoxLine::Inside => Settings {
+                inside: set,
+                ..self
+            },
+            BoxLine::Outside => Settings {
+                outside: set,
+                ..self
+            },
+            BoxLine::Ports => Settings { ports: set, ..self },
         }
     }
 
-    /// The number of a line: what it has set, or what holds where it is not there.
-    pub fn number(self, line: NumberLine) -> u64
-        ensures { result ≡ number_in self line }
+    /// The values of a line: what it has set, or the usual ones where it is not there.
+    pub fn values(self, line: BoxLine) -> Values
+        requires { AreInRange self }
+        ensures value { result ≡ values_set self line }
+        ensures within { IsTrue (has_values self line) → IsWithin line result }
     {
-        self.get(line).unwrap_or(line.numbers().usual)
+        match self.get(line) {
+            Some(values) => values,
+            None => line.usual().unwrap_or(Values {
+                first: 0,
+                second: 0,
+            }),
+        }
     }
 }
 
-/// The number of a line with one number, which may stand once; `had` says that it stood before.
-pub fn read_number_line(
-    mut words: WordIter<'_>,
-    numbers: Numbers,
-    had: bool,
-) -> Result<u64, LineCause>
-    ensures value { result ≡ number_line numbers.low numbers.high had words.entry }
-    ensures within { IfOk result (λ n. (numbers.low ≤ n) × (n ≤ numbers.high)) }
+/// The values of a line, which may stand once; `had` says that it stood before.
+pub fn read_line(words: WordIter<'_>, line: BoxLine, had: bool) -> Result<Values, LineCause>
+    ensures { result ≡ line_read line had words.entry }
 {
-    let number = read_field(&mut words, Field::Number)?;
+    let values = read_places(words, line.places())?;
+    accepted(line, values, had)
+}
+
+/// The values of the words after the first of a line, of which each has to have the form that its place asks for.
+fn read_places(words: WordIter<'_>, places: Places) -> Result<Values, LineCause>
+    ensures values { IfOk result (AreRead places words.entry) }
+    ensures fault { IfErr result (λ cause. form_fault (all_places places) words.entry ≡ Some cause) }
+{
+    match places {
+        Places::One(place) => read_one(words, place),
+        Places::Two(first, second) => read_two(words, first, second),
+    }
+}
+
+/// The value of a line's one word after its first.
+fn read_one(mut words: WordIter<'_>, place: LinePlace) -> Result<Values, LineCause>
+    ensures values { IfOk result (AreRead (One place) words.entry) }
+    ensures fault { IfErr result (λ cause. form_fault (all_places (One place)) words.entry ≡ Some cause) }
+{
+    let first = read_field(&mut words, place.field())?;
     end_of_line(words)?;
-    if number < numbers.low || number > numbers.high {
+    Ok(Values { first, second: 0 })
+}
+
+/// The values of a line's two words after its first.
+fn read_two(mut words: WordIter<'_>, front: LinePlace, back: LinePlace) -> Result<Values, LineCause>
+    ensures values { IfOk result (AreRead (Two front back) words.entry) }
+    ensures fault { IfErr result (λ cause. form_fault (all_places (Two front back)) words.entry
+        ≡ Some cause) }
+{
+    let first = read_field(&mut words, front.field())?;
+    let second = read_field(&mut words, back.field())?;
+    end_of_line(words)?;
+    Ok(Values { first, second })
+}
+
+/// The values, where they are in their ranges and the line stands once.
+fn accepted(line: BoxLine, values: Values, had: bool) -> Result<Values, LineCause>
+    ensures { result ≡ once (values_fault line values) had values }
+{
+    if !line.places().have(values) || !line.fits(values) {
         return Err(LineCause::OutOfRange);
     }
     if had {
         return Err(LineCause::Twice);
     }
-    Ok(number)
+    Ok(values)
 }

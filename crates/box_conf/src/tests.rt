@@ -2,7 +2,7 @@ use crate::{BoxKind, read_box};
 use std::alloc::Global;
 use std::test::Fail;
 
-/// What a box file comes to: its threads, its seed and its tables, or the text of its error.
+/// What a box file comes to: its threads, its seed and what is set of its box, or the text of its error.
 fn told(alloc: Global, text: &str) -> Result<String, Fail> {
     match read_box(text.as_bytes()) {
         Ok(conf) => match conf.kind {
@@ -10,6 +10,17 @@ fn told(alloc: Global, text: &str) -> Result<String, Fail> {
             BoxKind::Monitor(monitor) => Ok(format!(in alloc;
                 "{} {} of {} tables",
                 conf.threads, conf.seed, monitor.shards
+            )?),
+            BoxKind::Nat(nat) => Ok(format!(in alloc;
+                "{} {} of {} tables, {} {} behind {} from {} to {}",
+                conf.threads,
+                conf.seed,
+                nat.shards,
+                nat.inside,
+                nat.length,
+                nat.outside,
+                nat.low,
+                nat.high
             )?),
         },
         Err(fault) => Ok(format!(in alloc; "{fault}")?),
@@ -33,6 +44,18 @@ fn reads_box_files(rt: HostRuntime) -> Result<(), Fail> {
         ("box monitor", "1 0 of 16 tables"),
         ("box monitor\nshards 64\nthreads 3", "3 0 of 64 tables"),
         ("box monitor\nseed 5\nshards 01", "1 5 of 1 tables"),
+        (
+            "box nat\ninside 10.0.0.0 8\noutside 203.0.113.1",
+            "1 0 of 16 tables, 167772160 8 behind 3405803777 from 1024 to 65535",
+        ),
+        (
+            "box nat\nports 1 65535\noutside 0.0.0.0\nseed 42\n\nshards 64\n#\ninside 255.255.255.255 32\nthreads 16",
+            "16 42 of 64 tables, 4294967295 32 behind 0 from 1 to 65535",
+        ),
+        (
+            "box nat\nports 39276 39276\noutside 203.00.0113.1\ninside 10.0.0.5 1",
+            "1 0 of 16 tables, 167772165 1 behind 3405803777 from 39276 to 39276",
+        ),
     ] {
         assert_eq!(rt; told(rt.alloc(), text)?.as_str(), numbers, "at {text:?}");
     }
@@ -71,6 +94,40 @@ fn names_the_first_fault(rt: HostRuntime) -> Result<(), Fail> {
             "box count\nseed 000000000000000000009",
             "line 2: bad number",
         ),
+    ] {
+        assert_eq!(rt; told(rt.alloc(), text)?.as_str(), fault, "at {text:?}");
+    }
+    Ok(())
+}
+
+#[test]
+fn names_the_first_fault_of_a_nat(rt: HostRuntime) -> Result<(), Fail> {
+    for (text, fault) in [
+        ("box nat\n\n", "line 3: missing line"),
+        ("box nat\ninside 10.0.0.0 8", "line 3: missing line"),
+        ("box nat\noutside 10.0.0.0\n# x\n", "line 4: missing line"),
+        ("box nat\nshards 65", "line 2: out of range"),
+        ("box nat\nvirtual 10.0.0.1 53", "line 2: unknown word"),
+        ("box monitor\noutside 10.0.0.1", "line 2: unknown word"),
+        ("box count\nports 1 2", "line 2: unknown word"),
+        ("box nat\ninside", "line 2: missing word"),
+        ("box nat\ninside 10.0.0 8", "line 2: bad number"),
+        ("box nat\ninside 10.0.0.256 0", "line 2: bad number"),
+        ("box nat\ninside 10.0.0.0", "line 2: missing word"),
+        ("box nat\ninside 10.0.0.0 x", "line 2: bad number"),
+        ("box nat\ninside 10.0.0.0 33 8", "line 2: extra word"),
+        ("box nat\ninside 10.0.0.0 0", "line 2: out of range"),
+        ("box nat\ninside 10.0.0.0 33", "line 2: out of range"),
+        ("box nat\noutside 203.0.113.1.", "line 2: bad number"),
+        ("box nat\noutside 203.0.113.1 8", "line 2: extra word"),
+        ("box nat\noutside 1.2.3.4\noutside 1.2.3.4", "line 3: twice"),
+        ("box nat\nports 1024", "line 2: missing word"),
+        ("box nat\nports 0 65535", "line 2: out of range"),
+        ("box nat\nports 1 65536", "line 2: out of range"),
+        ("box nat\nports 39277 39276", "line 2: out of range"),
+        ("box nat\nports 1 2\nports 2 1", "line 3: out of range"),
+        ("box nat\nports 1 2\nports 1 2", "line 3: twice"),
+        ("box nat\nports 1 2\nseed 1\nseed 1", "line 4: twice"),
     ] {
         assert_eq!(rt; told(rt.alloc(), text)?.as_str(), fault, "at {text:?}");
     }

@@ -55,6 +55,7 @@ fn run_box<W: World>(
     match inputs.conf.kind {
         BoxKind::Count(count) => run_script(alloc, world, files, run, count),
         BoxKind::Monitor(monitor) => run_script(alloc, world, files, run, monitor),
+        BoxKind::Nat(nat) => run_script(alloc, world, files, run, nat),
     }
 }
 

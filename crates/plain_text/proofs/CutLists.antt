@@ -1,12 +1,11 @@
 -- A list that is cut at the first element that passes a test.
-use Rattle.std.proofs.Common.{◌≡◌, ℕ, zero, suc, ◌+◌, ◌<◌, ◌≤◌, Bool, true, false, not, cond, List, [], ◌∷◌, length, take, drop, refl, sym, ap, ◌∙◌, arith, Option, Some, None, add-one}
-use Rattle.std.specs.Prelude.{position, nat_lt, filter, if◌then◌else◌}
+use Rattle.std.proofs.Common.{◌≡◌, ℕ, suc, ◌+◌, ◌<◌, ◌≤◌, Bool, true, false, List, [], ◌∷◌, length, take, drop, refl, ap, arith, Some, None, add-one}
+use Rattle.std.specs.Prelude.{position, nat_lt}
 use Rattle.std.specs.List.{slice_split, onto_first, position_or_len}
 use Rattle.std.proofs.Common.{inl, inr, ◌⊎◌, ◌≢◌, ◌==◌}
-use Rattle.std.specs.Str.Lines.{lines, lines_of_parts, strip_carriage_return}
+use Rattle.std.specs.Str.Lines.{lines, strip_carriage_return}
 use Rattle.std.proofs.lemmas.Bool.{cases_lt}
 use Rattle.std.proofs.lemmas.Bool.Decides.{nat_tests}
-use Rattle.std.proofs.lemmas.Grind.{common_steps}
 
 pub split_none : {X : Type 0} (p : X → Bool) (xs : List X) → length xs ≤ position_or_len p xs → slice_split p xs ≡ xs ∷ []
 split_none p [] h = refl
@@ -47,7 +46,7 @@ split_at_some {X} p xs i e = go (cases_lt (position_or_len p xs) (length xs))
 pub lines_none : (xs : List ℕ) → 0 < length xs → position (λ b. b == 10) xs ≡ None → lines xs ≡ xs ∷ []
 lines_none xs some e = let k : length xs ≢ 0 = λ z. absurd (omega arith) in rw (split_at_none (λ b. b == 10) xs e) (grind (arith, nat_tests))
 
-some_parts : (p : ℕ → Bool) (xs : List ℕ) → (y : List ℕ) × (ys : List (List ℕ)) × (slice_split p xs ≡ y ∷ ys)
+pub some_parts : (p : ℕ → Bool) (xs : List ℕ) → (y : List ℕ) × (ys : List (List ℕ)) × (slice_split p xs ≡ y ∷ ys)
 some_parts p [] = ([], [], refl)
 some_parts p (x ∷ xs) = go (p x) refl (some_parts p xs)
   where

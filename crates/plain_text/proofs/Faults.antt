@@ -1,14 +1,13 @@
 -- The lines of a file by a table: all are of it, or there is a first that leaves it; and that is one line, for one cause.
-use Rattle.std.proofs.Common.{◌≡◌, ℕ, ◌<◌, ◌≤◌, ◌+◌, ◌⊎◌, inl, inr, List, [], ◌∷◌, refl, sym, ap, ◌∙◌, subst, arith, Option, Some, None, true, false, Bool, not}
+use Rattle.std.proofs.Common.{◌≡◌, ℕ, ◌<◌, ◌≤◌, ◌+◌, ◌⊎◌, inl, inr, List, [], ◌∷◌, refl, sym, ap, ◌∙◌, subst, arith, Option, Some, None, true, false, Bool}
 use Rattle.std.proofs.lemmas.Bool.{cases_lt}
 use Rattle.std.specs.Prelude.{filter, cond}
 use Rattle.std.specs.List.{enumerate_from}
-use Rattle.std.specs.Str.Lines.{lines as lines_of}
 use Rattle.plain_text.specs.declared.fault.LineCause.{LineCause}
 use Rattle.plain_text.specs.declared.fault.LineCause.TheVariants.{Twice}
-use Rattle.plain_text.specs.Lines.{words_of, counted_from, words_count}
-use Rattle.plain_text.specs.Grammar.{Row, LineSays, line_fault, Has, Says, StandsBefore, Repeats, Leaves, AreLines, FirstToLeave, Sets}
-use Rattle.plain_text.proofs.Rows.{says_no_fault, no_fault_says, one_row, one_reading}
+use Rattle.plain_text.specs.Lines.{words_of}
+use Rattle.plain_text.specs.Grammar.{Row, line_fault, Has, Says, Repeats, Leaves, AreLines, FirstToLeave, AllStand, Lacks, FirstOfFile, Sets}
+use Rattle.plain_text.proofs.Rows.{says_no_fault, no_fault_says, one_reading}
 
 abbrev Line : Type 0
 Line = ℕ × List ℕ
@@ -129,14 +128,29 @@ module _ (rows : List Row) (lines : List Line) where
       let line : f.line ≡ g.line = one_line n lines f.line g.line rising f.stands g.stands (fx ∙ number ∙ sym gy) in
       (number, one_cause g.line a b (subst (λ (l : Line). Leaves rows lines l a) line f.leaves) g.leaves)
 
-  -- what a row that may stand once sets is one number
-  pub one_setting : (n : ℕ) → Rising n lines → AreLines rows lines → (row : Row) (usual a b : ℕ) → row.again ≡ false → Sets rows lines row usual a → Sets rows lines row usual b → a ≡ b
+  -- a row that has to stand has a line, or lacks one
+  pub not_lacking : AllStand rows lines → Lacks rows lines → ⊥
+  not_lacking all lacks = let there = all lacks.row lacks.listed lacks.required in lacks.absent there.0 there.1 there.2 there.3
+
+  -- so a file that is whole has no fault
+  pub not_in_whole : (count number : ℕ) (cause : LineCause) → AreLines rows lines → AllStand rows lines → FirstOfFile rows lines count number cause → ⊥
+  not_in_whole count number cause are all (inl first) = not_both number cause are first
+  not_in_whole count number cause are all (inr ends) = not_lacking all ends.1
+
+  -- and a file has one
+  pub one_of_file : (n count : ℕ) → Rising n lines → (x y : ℕ) (a b : LineCause) → FirstOfFile rows lines count x a → FirstOfFile rows lines count y b → (x ≡ y) × (a ≡ b)
+  one_of_file n count rising x y a b (inl f) (inl g) = one_first n rising x y a b f g
+  one_of_file n count rising x y a b (inl f) (inr ends) = absurd (not_both x a ends.0 f)
+  one_of_file n count rising x y a b (inr ends) (inl g) = absurd (not_both y b ends.0 g)
+  one_of_file n count rising x y a b (inr e) (inr f) = (e.2 ∙ sym f.2, e.3 ∙ sym f.3)
+
+  -- what a row that may stand once sets are one list of values
+  pub one_setting : (n : ℕ) → Rising n lines → AreLines rows lines → (row : Row) (usual a b : List ℕ) → row.again ≡ false → Sets rows lines row usual a → Sets rows lines row usual b → a ≡ b
   one_setting n rising are row usual a b once (inl x) (inl y) =
-      let number = are.once x.0 y.0 row (a ∷ []) (b ∷ []) x.1 y.1 once x.2 y.2 in
+      let number = are.once x.0 y.0 row a b x.1 y.1 once x.2 y.2 in
       let line : x.0 ≡ y.0 = one_line n lines x.0 y.0 rising x.1 y.1 number in
-      let says : Says rows y.0 row (a ∷ []) = subst (λ (l : Line). Says rows l row (a ∷ [])) line x.2 in
-      let values : a ∷ [] ≡ b ∷ [] = (one_reading rows (words_of y.0.1) row row (a ∷ []) (b ∷ []) says y.2).1 in
-      cc
-  one_setting n rising are row usual a b once (inl x) (inr none) = absurd (none.1 x.0 (a ∷ []) x.1 x.2)
-  one_setting n rising are row usual a b once (inr none) (inl y) = absurd (none.1 y.0 (b ∷ []) y.1 y.2)
+      let says : Says rows y.0 row a = subst (λ (l : Line). Says rows l row a) line x.2 in
+      (one_reading rows (words_of y.0.1) row row a b says y.2).1
+  one_setting n rising are row usual a b once (inl x) (inr none) = absurd (none.1 x.0 a x.1 x.2)
+  one_setting n rising are row usual a b once (inr none) (inl y) = absurd (none.1 y.0 b y.1 y.2)
   one_setting n rising are row usual a b once (inr x) (inr y) = x.0 ∙ sym y.0

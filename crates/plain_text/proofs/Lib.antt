@@ -1,3 +1,4 @@
+pub mod Addresses
 pub mod CutLists
 pub mod Faults
 pub mod Numbers

@@ -1,12 +1,12 @@
 -- The words of a line after its first, by a table of what stands at each place. In this order the first fault is named: word
--- by word a missing word, a fixed word that is another, a number that is none; then a word too many.
+-- by word a missing word, a fixed word that is another, a number or an address that is none; then a word too many.
 use Rattle.std.specs.Prelude.{ℕ, List, [], ◌∷◌, if◌then◌else◌, Option, Some, None, Result, Ok, Err}
 use Rattle.std.specs.Str.{bytes_eq}
 use Rattle.plain_text.specs.declared.fault.LineCause.{LineCause}
 use Rattle.plain_text.specs.declared.fault.LineCause.TheVariants.{UnknownWord, MissingWord, ExtraWord, BadNumber}
 use Rattle.plain_text.specs.declared.field.Field.{Field}
-use Rattle.plain_text.specs.declared.field.Field.TheVariants.{Number, Fixed}
-use Rattle.plain_text.specs.Lines.{number_of}
+use Rattle.plain_text.specs.declared.field.Field.TheVariants.{Number, Address, Fixed}
+use Rattle.plain_text.specs.Lines.{address_of, number_of}
 
 abbrev pub number_or_bad : Option ℕ → Result ℕ LineCause
 number_or_bad (Some n) = Ok n
@@ -15,6 +15,7 @@ number_or_bad None = Err BadNumber
 -- a fixed word counts as 0
 abbrev pub field_value : Field → List ℕ → Result ℕ LineCause
 field_value Number word = number_or_bad (number_of word)
+field_value Address word = number_or_bad (address_of word)
 field_value (Fixed fixed) word = if bytes_eq word fixed.now then Ok 0 else Err UnknownWord
 
 abbrev pub with_rest : Result ℕ LineCause → List (List ℕ) → Result (ℕ × List (List ℕ)) LineCause

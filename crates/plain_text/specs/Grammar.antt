@@ -1,11 +1,12 @@
 -- Grammars of text files as tables. A row of a table is a line that may stand: its first word, what stands at each place after
--- it, and whether it may stand again. A table says of each line which row it is and which values it has, or its first fault;
--- and of a file's lines whether all are lines of the table, or which is the first that is not.
-use Rattle.std.specs.Prelude.{◌≡◌, ◌⊎◌, ℕ, ◌<◌, ◌≤◌, ◌&&◌, Bool, true, false, List, [], ◌∷◌, nat_le, if◌then◌else◌, Option, Some, None, option_map, ◌+◌}
+-- it, how its values fit one another, whether it may stand again, and whether it has to stand. A table says of each line which
+-- row it is and which values it has, or its first fault; and of a file's lines whether all are lines of the table, or which is
+-- the first that is not; and where all are, whether one is missing.
+use Rattle.std.specs.Prelude.{◌≡◌, ◌⊎◌, ℕ, ◌<◌, ◌≤◌, ◌&&◌, Bool, true, false, List, [], ◌∷◌, nat_le, if◌then◌else◌, Option, Some, None, unwrap_or, option_map, ◌+◌}
 use Rattle.std.specs.Str.{bytes_eq}
 use Rattle.plain_text.specs.declared.fault.LineCause.{LineCause}
-use Rattle.plain_text.specs.declared.fault.LineCause.TheVariants.{UnknownWord, MissingWord, ExtraWord, BadNumber, OutOfRange, Twice}
-use Rattle.plain_text.specs.Lines.{number_of, words_of}
+use Rattle.plain_text.specs.declared.fault.LineCause.TheVariants.{UnknownWord, MissingWord, ExtraWord, BadNumber, OutOfRange, Twice, MissingLine}
+use Rattle.plain_text.specs.Lines.{address_of, number_of, words_of}
 
 -- what may stand at a place of a line
 pub data Place : Type 0 where
@@ -13,12 +14,22 @@ pub data Place : Type 0 where
   Number : ℕ → ℕ → Place
   -- one of these words, whose value is its index among them
   OneOf : List (List ℕ) → Place
+  -- an address, whose value is its number of 32 bits
+  Address : Place
 
 pub record Row : Type 0 where
   pub word : List ℕ
   pub places : List Place
+  -- whether values, each in its range, fit one another
+  pub fits : List ℕ → Bool
   -- whether more than one line of the row may stand
   pub again : Bool
+  -- whether a line of the row has to stand
+  pub required : Bool
+
+-- a row of which any number of lines may stand, with whatever values its places allow
+abbrev pub free_row : List ℕ → List Place → Row
+free_row word places = record { word = word; places = places; fits = λ values. true; again = true; required = false }
 
 -- Of one line
 
@@ -31,15 +42,18 @@ index_in word (known ∷ words) = if bytes_eq word known then Some 0 else option
 abbrev pub value_at : Place → List ℕ → Option ℕ
 value_at (Number low high) word = number_of word
 value_at (OneOf words) word = index_in word words
+value_at Address word = address_of word
 
 -- the fault of a word that has another form
 abbrev pub misfit : Place → LineCause
 misfit (Number low high) = BadNumber
 misfit (OneOf words) = UnknownWord
+misfit Address = BadNumber
 
 abbrev pub is_within : Place → ℕ → Bool
 is_within (Number low high) n = nat_le low n && nat_le n high
 is_within (OneOf words) n = true
+is_within Address n = true
 
 -- the row of the table that begins with this word
 abbrev pub row_named : List ℕ → List Row → Option Row
@@ -59,10 +73,10 @@ PlacesSay (place ∷ places) (word ∷ words) (n ∷ values) =
 -- a line with these words is one of this row, and has these values
 abbrev pub LineSays : List Row → List (List ℕ) → Row → List ℕ → Type 0
 LineSays rows [] row values = ⊥
-LineSays rows (word ∷ words) row values = (row_named word rows ≡ Some row) × PlacesSay row.places words values
+LineSays rows (word ∷ words) row values = (row_named word rows ≡ Some row) × PlacesSay row.places words values × (row.fits values ≡ true)
 
 -- The first fault, in this order: word by word, a missing one or one of another form; a word too many; a number out of its
--- range.
+-- range; numbers that do not fit one another, which are out of range too.
 
 abbrev pub or_else : Option LineCause → Option LineCause → Option LineCause
 or_else (Some cause) next = Some cause
@@ -88,9 +102,22 @@ range_fault [] words = None
 range_fault (place ∷ places) [] = None
 range_fault (place ∷ places) (word ∷ words) = range_at place (value_at place word) (range_fault places words)
 
+-- the values of words that have the forms of these places
+abbrev pub values_in : List Place → List (List ℕ) → List ℕ
+values_in [] words = []
+values_in (place ∷ places) [] = []
+values_in (place ∷ places) (word ∷ words) = unwrap_or (value_at place word) 0 ∷ values_in places words
+
+abbrev pub fit_fault : Row → List (List ℕ) → Option LineCause
+fit_fault row words = if row.fits (values_in row.places words) then None else Some OutOfRange
+
+-- of words that have the forms of their places
+abbrev pub numbers_fault : Row → List (List ℕ) → Option LineCause
+numbers_fault row words = or_else (range_fault row.places words) (fit_fault row words)
+
 abbrev pub row_fault : Option Row → List (List ℕ) → Option LineCause
 row_fault None words = Some UnknownWord
-row_fault (Some row) words = or_else (form_fault row.places words) (range_fault row.places words)
+row_fault (Some row) words = or_else (form_fault row.places words) (numbers_fault row words)
 
 -- the first fault of a line with these words, whatever lines stand before it
 abbrev pub line_fault : List Row → List (List ℕ) → Option LineCause
@@ -140,12 +167,38 @@ pub record FirstToLeave (rows : List Row) (lines : List (ℕ × List ℕ)) (numb
   pub leaves : Leaves rows lines line cause
   pub least : (other : ℕ × List ℕ) (why : LineCause) → Has lines other → Leaves rows lines other why → number ≤ other.0
 
--- a row with one number, or its default where no line of the row stands
-abbrev pub Sets : List Row → List (ℕ × List ℕ) → Row → ℕ → ℕ → Type 0
-Sets rows lines row usual n = Stated ⊎ Left
+-- Of a whole file
+
+abbrev pub IsRow : List Row → Row → Type 0
+IsRow [] row = ⊥
+IsRow (first ∷ rows) row = (row ≡ first) ⊎ IsRow rows row
+
+-- each row that has to stand has a line
+abbrev pub AllStand : List Row → List (ℕ × List ℕ) → Type 0
+AllStand rows lines =
+    (row : Row) → IsRow rows row → row.required ≡ true → (line : ℕ × List ℕ) × (values : List ℕ) × Has lines line × Says rows line row values
+
+-- a row has to stand, and no line is one of it
+pub record Lacks (rows : List Row) (lines : List (ℕ × List ℕ)) : Type 0 where
+  pub row : Row
+  pub listed : IsRow rows row
+  pub required : row.required ≡ true
+  pub absent : (line : ℕ × List ℕ) (values : List ℕ) → Has lines line → Says rows line row values → ⊥
+
+-- The first fault of a file that has this count of lines in all: its first line that leaves the table; or, where none does, a
+-- line that is missing, behind all lines.
+abbrev pub FirstOfFile : List Row → List (ℕ × List ℕ) → ℕ → ℕ → LineCause → Type 0
+FirstOfFile rows lines count number cause = FirstToLeave rows lines number cause ⊎ Ends
+  where
+    Ends : Type 0
+    Ends = AreLines rows lines × Lacks rows lines × (number ≡ count + 1) × (cause ≡ MissingLine)
+
+-- the values of a row's line, or the usual ones where no line of the row stands
+abbrev pub Sets : List Row → List (ℕ × List ℕ) → Row → List ℕ → List ℕ → Type 0
+Sets rows lines row usual values = Stated ⊎ Left
   where
     Stated : Type 0
-    Stated = (line : ℕ × List ℕ) × Has lines line × Says rows line row (n ∷ [])
+    Stated = (line : ℕ × List ℕ) × Has lines line × Says rows line row values
 
     Left : Type 0
-    Left = (n ≡ usual) × ((line : ℕ × List ℕ) (values : List ℕ) → Has lines line → Says rows line row values → ⊥)
+    Left = (values ≡ usual) × ((line : ℕ × List ℕ) (ns : List ℕ) → Has lines line → Says rows line row ns → ⊥)

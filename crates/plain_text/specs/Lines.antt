@@ -3,7 +3,7 @@
 -- A line ends at a line feed, which the last line may lack; a carriage return just before the line feed is dropped. That
 -- is std's `lines`, here over any bytes. Words are separated by spaces and tabs. Lines are numbered from 1, and a line
 -- without words, or whose first word begins with `#`, does not count.
-use Rattle.std.specs.Prelude.{◌≡◌, ℕ, ◌^◌, ◌<◌, ◌||◌, ◌&&◌, ◌==◌, Bool, false, not, List, [], ◌∷◌, length, filter, slice_index, nat_lt, nat_le, if◌then◌else◌, Option, Some, None}
+use Rattle.std.specs.Prelude.{ℕ, zero, suc, ◌+◌, ◌*◌, ◌^◌, ◌||◌, ◌&&◌, ◌==◌, Bool, false, not, List, [], ◌∷◌, length, filter, slice_index, nat_lt, nat_le, if◌then◌else◌, Option, Some, None}
 use Rattle.std.specs.List.{slice_split, enumerate_from, list_all}
 use Rattle.std.specs.Str.Lines.{lines}
 use Rattle.std.specs.Str.Parse.{digits_value}
@@ -35,3 +35,22 @@ is_number word = nat_lt 0 (length word) && nat_le (length word) 20 && list_all i
 
 abbrev pub number_of : List ℕ → Option ℕ
 number_of word = if is_number word then Some (digits_value 10 word) else None
+
+-- An address is four octets, which are numbers of 0 to 255, joined by dots; the first octet is the highest of its 32 bits
+-- (RFC 1123, section 2.1).
+
+abbrev pub is_dot : ℕ → Bool
+is_dot b = b == 46
+
+abbrev pub is_octet : List ℕ → Bool
+is_octet word = is_number word && nat_lt (digits_value 10 word) 256
+
+-- the number whose octets are those of a value and then these, if there are as many
+abbrev pub with_octets : ℕ → ℕ → List (List ℕ) → Option ℕ
+with_octets zero value [] = Some value
+with_octets zero value (part ∷ parts) = None
+with_octets (suc count) value [] = None
+with_octets (suc count) value (part ∷ parts) = if is_octet part then with_octets count (value * 256 + digits_value 10 part) parts else None
+
+abbrev pub address_of : List ℕ → Option ℕ
+address_of word = with_octets 4 0 (slice_split is_dot word)

@@ -28,7 +28,7 @@ pub use limit::{
 };
 pub use line::{Line, LineIter, count_lines, lines};
 pub use memory::NoMemory;
-pub use number::{put_decimal, put_u64, read_u64};
+pub use number::{put_decimal, put_u64, read_address, read_u64};
 pub use packet::{Packet, Packets, Unit};
 pub use sequence::Sequence;
 pub use text::Text;

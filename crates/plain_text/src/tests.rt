@@ -1,6 +1,6 @@
 use crate::{
     Bytes, Field, LineCause, NoMemory, Sequence, Text, count_lines, end_of_line, lines, put_u64,
-    read_field, read_u64, words,
+    read_address, read_field, read_u64, words,
 };
 use std::alloc::Global;
 use std::test::Fail;
@@ -17,6 +17,15 @@ fn lines_told(alloc: Global, text: &[u8]) -> Result<Bytes, NoMemory> {
         told.push(b';')?;
     }
     Ok(told)
+}
+
+/// The address and the number of a line `ADDRESS N`.
+fn address_and_number(line: &[u8]) -> Result<(u64, u64), LineCause> {
+    let mut left = words(line);
+    let address = read_field(&mut left, Field::Address)?;
+    let number = read_field(&mut left, Field::Number)?;
+    end_of_line(left)?;
+    Ok((address, number))
 }
 
 /// The two numbers of a line `N = M`.
@@ -96,6 +105,33 @@ fn reads_numbers(rt: HostRuntime) {
 }
 
 #[test]
+fn reads_addresses(rt: HostRuntime) {
+    for (word, address) in [
+        ("", None),
+        ("0.0.0.0", Some(0)),
+        ("10.0.0.5", Some(167_772_165)),
+        ("203.0.113.1", Some(3_405_803_777)),
+        ("255.255.255.255", Some(u32::MAX)),
+        ("010.000.000000.00000000000000000005", Some(167_772_165)),
+        ("10.0.0.000000000000000000005", None),
+        ("10.0.0.256", None),
+        ("256.0.0.10", None),
+        ("10.0.0", None),
+        ("10.0.0.", None),
+        ("10..0.0", None),
+        (".10.0.0", None),
+        ("10.0.0.5.6", None),
+        ("10.0.0.5.", None),
+        ("10.0.0.x", None),
+        ("10,0,0,5", None),
+        ("10.0.0.-5", None),
+        ("167772165", None),
+    ] {
+        assert_eq!(rt; read_address(word.as_bytes()), address, "at {word:?}");
+    }
+}
+
+#[test]
 fn names_the_first_fault_of_a_line(rt: HostRuntime) {
     for (line, numbers) in [
         ("1 = 5", Ok((1, 5))),
@@ -106,5 +142,12 @@ fn names_the_first_fault_of_a_line(rt: HostRuntime) {
         ("1 = 5 6", Err(LineCause::ExtraWord)),
     ] {
         assert_eq!(rt; two_numbers(line.as_bytes()), numbers, "at {line:?}");
+    }
+    for (line, numbers) in [
+        ("0.0.1.0 8", Ok((256, 8))),
+        ("0.0.1 8", Err(LineCause::BadNumber)),
+        ("0.0.1.0", Err(LineCause::MissingWord)),
+    ] {
+        assert_eq!(rt; address_and_number(line.as_bytes()), numbers, "at {line:?}");
     }
 }

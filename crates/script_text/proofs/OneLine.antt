@@ -8,7 +8,7 @@ use Rattle.std.specs.List.{list_all}
 use Rattle.std.proofs.lemmas.Bool.Decides.{nat_tests}
 use Rattle.plain_text.specs.declared.fault.LineCause.{LineCause}
 use Rattle.plain_text.specs.declared.fault.LineCause.TheVariants.{UnknownWord}
-use Rattle.plain_text.specs.Grammar.{Place, Row, value_at, index_in, misfit, is_within, row_named, PlacesSay, form_at, form_fault, range_fault, row_fault, or_else}
+use Rattle.plain_text.specs.Grammar.{Place, Row, value_at, index_in, misfit, is_within, row_named, PlacesSay, form_at, form_fault, numbers_fault, row_fault, or_else}
 use Rattle.plain_text.specs.Lines.{is_number, number_of}
 use Rattle.plain_text.proofs.Rows.{says_no_fault, one_reading}
 use Rattle.recovery_world.specs.declared.event.Event.{Event}
@@ -240,7 +240,7 @@ says_from word left form values e says =
     let row : row_named word (rows_for (word ∷ left)) ≡ Some (row_of form) = row_of_form word (forms (has_third (word ∷ left))) ∙ ap (option_map row_of) e in
     let first : row_named word (rows_for (word ∷ left)) ≡ Some (row_of (form_of (event_from form values))) = row ∙ sym (ap (λ (f : Form). Some (row_of f)) made.0) in
     let places : PlacesSay (map place_of (parts_of (form_of (event_from form values)))) left values = subst (λ (f : Form). PlacesSay (map place_of (parts_of f)) left values) (sym made.0) says in
-    (first, subst (PlacesSay (map place_of (parts_of (form_of (event_from form values)))) left) (sym made.1) places)
+    (first, subst (PlacesSay (map place_of (parts_of (form_of (event_from form values)))) left) (sym made.1) places, refl)
 
 -- As the reader finds it
 
@@ -260,7 +260,7 @@ no_values words third word left form cause is front some bad =
     let third2 : has_third (word ∷ left) ≡ third = ap has_third (sym front) ∙ sym is in
     let named : form_named (has_third (word ∷ left)) word ≡ Some form = ap (λ (t : Bool). form_named t word) third2 ∙ some in
     ap event_fault front ∙ fault_is word left (Some form) named
-    ∙ ap (λ (o : Option LineCause). or_else o (range_fault (map place_of (parts_of form)) left)) (values_fault (map place_of (parts_of form)) left cause bad)
+    ∙ ap (λ (o : Option LineCause). or_else o (numbers_fault (row_of form) left)) (values_fault (map place_of (parts_of form)) left cause bad)
 
 pub says_read : (words : List (List ℕ)) (third : Bool) (word : List ℕ) (left : List (List ℕ)) (form : Form) (values : List ℕ) → third ≡ has_third words → words ≡ word ∷ left
     → form_named third word ≡ Some form → length values ≡ 4 → values_at (map place_of (parts_of form)) left ≡ Ok (take (length (parts_of form)) values)
@@ -290,7 +290,7 @@ no_fault_says_event (word ∷ left) e = by_form (form_named (has_third (word ∷
         → (ev : Event) × SaysEvent (word ∷ left) ev
     by_values form (Ok values) named good = (event_from form values, says_from word left form values named (values_say (parts_of form) left values good))
     by_values form (Err cause) named bad =
-        let none : form_fault (map place_of (parts_of form)) left ≡ None = or_none (form_fault (map place_of (parts_of form)) left) (range_fault (map place_of (parts_of form)) left) (sym (fault_is word left (Some form) named) ∙ e) in
+        let none : form_fault (map place_of (parts_of form)) left ≡ None = or_none (form_fault (map place_of (parts_of form)) left) (numbers_fault (row_of form) left) (sym (fault_is word left (Some form) named) ∙ e) in
         let some = values_fault (map place_of (parts_of form)) left cause bad in
         let clash : None ≡ Some cause = sym none ∙ some in
         absurd (cc)

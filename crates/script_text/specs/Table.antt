@@ -1,7 +1,7 @@
 -- The lines of scripts, as a table: the first word of each form of line, and what stands at the places after it.
 use Rattle.std.specs.Prelude.{ℕ, ◌-◌, ◌^◌, Bool, true, false, List, [], ◌∷◌, length, map, codes, nat_lt, find, Option}
 use Rattle.std.specs.Str.{bytes_eq}
-use Rattle.plain_text.specs.Grammar.{Place, Row, OneOf}
+use Rattle.plain_text.specs.Grammar.{Place, Row, OneOf, free_row}
 use Rattle.plain_text.specs.Grammar as place
 use Rattle.script_text.specs.declared.form.Form.{Form}
 use Rattle.script_text.specs.declared.form.Form.TheVariants.{Feed, Time, Step, Answered, Log, Out, Late, Cut, Snap, Store, Crash, Recover, Show, Settle, Auto}
@@ -54,7 +54,7 @@ parts_of Auto = Number ∷ Number ∷ []
 
 -- each may stand again
 abbrev pub row_of : Form → Row
-row_of form = record { word = word_of form; places = map place_of (parts_of form); again = true }
+row_of form = free_row (word_of form) (map place_of (parts_of form))
 
 -- The forms that a line may have. A line `step` with a third word gives an answer, and one without does not; so the forms are
 -- those of lines with a third word, or of lines without.

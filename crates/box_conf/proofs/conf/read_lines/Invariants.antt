@@ -1,4 +1,6 @@
 use Rattle.std.proofs.Common.{◌≡◌}
+use Rattle.std.specs.Prelude.{length}
+use Rattle.std.specs.Str.Lines.{lines as lines_of}
 use Rattle.box_conf.specs.Reading.{box_of, conf_of, set_lines}
 use Rattle.box_conf.specs.Settings.{AreInRange}
 use Rattle.box_conf.proofs.conf.read_lines.Given as goal
@@ -6,6 +8,6 @@ use Rattle.box_conf.proofs.conf.read_lines.Given as goal
 -- the text comes to what the settings so far and the lines left come to; what was set is in its range
 abbrev pub invariant-loop-line : goal.invariant-loop-line
 invariant-loop-line l = record {
-  text : box_of l.text ≡ conf_of l.kind (set_lines l.kind l.settings l.line-iterator);
+  text : box_of l.text ≡ conf_of (length (lines_of l.text)) l.kind (set_lines l.kind l.settings l.line-iterator);
   in_range : AreInRange l.settings;
 }

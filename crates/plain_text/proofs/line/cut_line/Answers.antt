@@ -1,4 +1,4 @@
-use Rattle.std.proofs.Common.{refl, arith, rules}
+use Rattle.std.proofs.Common.{arith, rules}
 use Rattle.std.proofs.lemmas.Grind.{common_steps}
 use Rattle.plain_text.proofs.CutLists.{lines_none, lines_some}
 use Rattle.plain_text.proofs.line.cut_line.Goals as goal

@@ -1,6 +1,4 @@
-use Rattle.std.proofs.Common.{◌≡◌, ◌+◌, ◌-◌, ◌*◌, ◌^◌, ◌≤◌, true, refl, arith, rules, sym, ap, ◌∙◌, length, take}
-use Rattle.std.specs.Char.{is_ascii_digit}
-use Rattle.std.proofs.lemmas.Grind.{common_steps}
+use Rattle.std.proofs.Common.{◌+◌, ◌*◌, ◌^◌, ◌≤◌, refl, arith, rules, sym, ◌∙◌}
 use Rattle.plain_text.proofs.Numbers.{too_large, value_more, digits_more, is_whole, not_below}
 use Rattle.plain_text.proofs.number.read_u64.Goals as goal
 

@@ -1,4 +1,4 @@
-use Rattle.std.proofs.Common.{refl, arith, sym, ◌∙◌, ap, rules}
+use Rattle.std.proofs.Common.{arith, rules}
 use Rattle.std.proofs.lemmas.Grind.{common_steps}
 use Rattle.plain_text.specs.Lines.{is_blank}
 use Rattle.plain_text.proofs.CutLists.{split_at_none, split_at_some}
