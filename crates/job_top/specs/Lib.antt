@@ -3,6 +3,7 @@ pub mod Making
 pub mod Status
 pub mod Judging
 pub mod Run
+pub mod Schedules
 pub mod Commands
 pub mod Reading
 pub mod Headline

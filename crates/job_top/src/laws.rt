@@ -13,14 +13,23 @@ ghost use Rattle.input_files.specs.declared.capture_file.Capture.{Capture};
 ghost use Rattle.input_files.specs.Judging.{AcceptsCapture};
 ghost use Rattle.job_top.specs.declared.status.Status.{Status};
 ghost use Rattle.job_top.specs.Judging.{Judges, IsDecided};
-ghost use Rattle.job_top.specs.Words.{RunNames};
+ghost use Rattle.job_top.specs.Schedules.{JudgesCheck, JudgesPlay};
+ghost use Rattle.job_top.specs.Words.{CheckNames, PlayNames, RunNames};
 
 /// The input files decide the status: of those that they decide at most one is true of them. So each comes exactly where it is
 /// true, unless memory runs out or, in a world that is not healthy, reading or writing fails.
 pub fn one_verdict()
-    ensures { (healthy : Bool) (names : RunNames) (s r : Status) (shown : Shown)
+    ensures run { (healthy : Bool) (names : RunNames) (s r : Status) (shown : Shown)
         → IsDecided (IsTrue healthy) s → IsDecided (IsTrue healthy) r
         → Judges (IsTrue healthy) names s shown → Judges (IsTrue healthy) names r shown → s ≡ r }
+    ensures play { (healthy : Bool) (names : PlayNames) (s r : Status) (shown : Shown)
+        → IsDecided (IsTrue healthy) s → IsDecided (IsTrue healthy) r
+        → JudgesPlay (IsTrue healthy) names s shown
+        → JudgesPlay (IsTrue healthy) names r shown → s ≡ r }
+    ensures check { (healthy : Bool) (names : CheckNames) (s r : Status) (shown : Shown)
+        → IsDecided (IsTrue healthy) s → IsDecided (IsTrue healthy) r
+        → JudgesCheck (IsTrue healthy) names s shown
+        → JudgesCheck (IsTrue healthy) names r shown → s ≡ r }
 {}
 
 /// A pcapng capture is accepted as the savefile of its packets in nanoseconds is, where neither passes a limit: as one and the same
