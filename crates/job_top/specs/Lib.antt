@@ -4,6 +4,7 @@ pub mod Status
 pub mod Judging
 pub mod Run
 pub mod Schedules
+pub mod Checked
 pub mod Commands
 pub mod Reading
 pub mod Headline

@@ -17,7 +17,9 @@ mod top;
 pub use checking::check_released;
 pub use command::{Command, read_command};
 pub use inputs::{Inputs, read_inputs};
-pub use laws::{inputs_are_of_bytes, one_verdict, pcapng_captures_are_savefiles};
+pub use laws::{
+    inputs_are_of_bytes, one_verdict, pcapng_captures_are_savefiles, what_run_leaves_is_accepted,
+};
 pub use make_words::{MakeWords, read_make_words};
 pub use making::make_capture;
 pub use playing::play_capture;
