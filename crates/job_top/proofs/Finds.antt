@@ -27,7 +27,7 @@ use Rattle.job_top.specs.Schedules.{AcceptsCheckInputs, AreFound, EndsCheck, Jud
 use Rattle.job_top.specs.Status.{AtInputs, AtOutputs, Completes, check_outcome, stage_of, stage_of_limit}
 use Rattle.job_top.specs.Words.{CheckNames}
 use Rattle.job_top.proofs.Outcomes.{written_since, begun_writes_since, kept_shown}
-use Rattle.job_top.proofs.ScheduleFiles.{four_accepted, four_one, four_pass}
+use Rattle.job_top.proofs.FilesInTurn.{four_accepted, four_one, four_pass}
 
 abbrev Answer : Type 0
 Answer = Result ⊤ (ScheduleError Refutation)

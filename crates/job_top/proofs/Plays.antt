@@ -20,7 +20,7 @@ use Rattle.job_top.specs.Schedules.{AcceptsScheduleInputs, EndsPlay, JudgesPlay,
 use Rattle.job_top.specs.Status.{AtInputs, AtOutputs, Completes, play_outcome, stage_of, stage_of_limit}
 use Rattle.job_top.specs.Words.{PlayNames}
 use Rattle.job_top.proofs.Outcomes.{written_since, begun_writes_since, kept_shown}
-use Rattle.job_top.proofs.ScheduleFiles.{three_accepted, three_one, three_pass}
+use Rattle.job_top.proofs.FilesInTurn.{three_accepted, three_one, three_pass}
 
 -- The status, where the inputs are accepted.
 

@@ -32,7 +32,7 @@ use Rattle.job_top.specs.Run.{AcceptsInputs, outputs_of, setting_for}
 use Rattle.job_top.specs.Schedules.{AcceptsCheckInputs, AreFound, EndsCheck, JudgesCheck, outcome_for}
 use Rattle.job_top.specs.Words.{RunNames}
 use Rattle.job_top.proofs.Finds.{one_check}
-use Rattle.job_top.proofs.ScheduleFiles.{four_accepted}
+use Rattle.job_top.proofs.FilesInTurn.{four_accepted}
 
 -- a written savefile does not begin as a pcapng capture
 is_savefile : (u : FractionUnit) (packets : List Packet) → begins_ng (written u packets) ≡ false

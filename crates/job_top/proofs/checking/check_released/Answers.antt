@@ -3,7 +3,7 @@ use Rattle.job_top.specs.Status.{stage_of}
 use Rattle.job_top.specs.Words.{check_names_of}
 use Rattle.job_top.proofs.Outcomes.{kept, not_of_run}
 use Rattle.job_top.proofs.Stages.{quiet_words, quiet_writing, quiet_done}
-use Rattle.job_top.proofs.ScheduleFiles.{four_refused}
+use Rattle.job_top.proofs.FilesInTurn.{four_refused}
 use Rattle.job_top.proofs.Finds.{check_judged, check_done, check_in_order, check_refused, check_limit, check_words, check_reads, check_fault}
 use Rattle.job_top.specs.Schedules.{EndsCheck}
 use Rattle.job_top.proofs.checking.check_released.Goals as goal

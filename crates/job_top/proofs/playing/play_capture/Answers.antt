@@ -3,7 +3,7 @@ use Rattle.job_top.specs.Status.{stage_of}
 use Rattle.job_top.specs.Words.{play_names_of}
 use Rattle.job_top.proofs.Outcomes.{kept, not_of_run}
 use Rattle.job_top.proofs.Stages.{quiet_words, quiet_writing, quiet_done}
-use Rattle.job_top.proofs.ScheduleFiles.{three_refused}
+use Rattle.job_top.proofs.FilesInTurn.{three_refused}
 use Rattle.job_top.proofs.Plays.{play_judged, play_done, play_in_order, play_refused, play_limit, play_words, play_reads, play_fault}
 use Rattle.job_top.specs.Schedules.{EndsPlay}
 use Rattle.job_top.proofs.playing.play_capture.Goals as goal
