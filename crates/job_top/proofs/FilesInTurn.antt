@@ -113,19 +113,6 @@ module _ (healthy : Type 0) (names : CheckNames) (shown : Shown) (behind : Check
           passes healthy (λ r. JudgesCapture healthy names.released r shown) of_released_error (λ released. behind (record { played = inputs.played; released = released }))
           (one_answer SaysCapture one_capture healthy names.released shown) ok inputs.released a.released_accepted s h
 
--- The files, read one after another, are judged as they stood at first.
-
-pub accepts_since : (names : ScheduleNames) (inputs : ScheduleInputs) (a b c : Shown) → b.names ≡ a.names → c.names ≡ a.names
-    → AcceptsBox names.box_file inputs.conf a → AcceptsCapture names.capture inputs.capture b → JudgesSchedule ⊥ names.schedule (Ok inputs.schedule) c → AcceptsScheduleInputs names inputs a
-accepts_since names inputs a b c one two box capture schedule = record {
-  box_accepted = box;
-  capture_accepted = judged_since SaysCapture ⊥ ⊥ (λ no. no) a b one names.capture (Ok inputs.capture) capture;
-  schedule_accepted = judged_since SaysSchedule ⊥ ⊥ (λ no. no) a c two names.schedule (Ok inputs.schedule) schedule;
-}
-
-pub check_accepts_since : (names : CheckNames) (inputs : CheckInputs) (a b : Shown) → b.names ≡ a.names
-    → AcceptsScheduleInputs names.files inputs.played a → AcceptsCapture names.released inputs.released b → AcceptsCheckInputs names inputs a
-check_accepts_since names inputs a b same played released = record {
-  played_accepted = played;
-  released_accepted = judged_since SaysCapture ⊥ ⊥ (λ no. no) a b same names.released (Ok inputs.released) released;
-}
+-- a file of the schedule is not accepted
+pub three_end : (healthy : Type 0) (names : CheckNames) (shown : Shown) (s : Status) → JudgesThree healthy names.files (λ inputs other. ⊥) s shown → JudgesFour healthy names (λ inputs other. ⊥) s shown
+three_end healthy names shown s h = three_refused healthy names.files shown (BehindThree healthy names shown (λ inputs other. ⊥)) s h

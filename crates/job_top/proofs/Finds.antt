@@ -40,17 +40,17 @@ Says inputs r = SaysCheck (outcome_for inputs.played) inputs.played.capture.unit
 
 module _ (healthy : Type 0) (names : CheckNames) (inputs : CheckInputs) (a b c : Shown) (keeps : KeepsOutputs a b) (accepts : AcceptsCheckInputs names inputs a) where
   pub check_judged : (r : Answer) → Says inputs r → (healthy → ¬ IsErrOf r error.WriteFault) → JudgesCheck healthy names (check_outcome r) a
-  check_judged r says never = four_accepted healthy names a (EndsCheck healthy) inputs (check_outcome r) accepts (r, says, (never, refl))
+  check_judged r says never = four_accepted healthy names a (EndsCheck healthy) inputs (check_outcome r) accepts (r, says, never, refl)
 
   pub check_done : (r : Answer) → check_outcome r ≡ status.Done → Says inputs r → OnOk r (HasWritten (found_writes (length inputs.released.packets)) b c) → FindsAll names a c
-  check_done (Ok done) e says written = (inputs, accepts, (says, written_since a b c keeps (found_writes (length inputs.released.packets)) written))
+  check_done (Ok done) e says written = (inputs, accepts, says, written_since a b c keeps (found_writes (length inputs.released.packets)) written)
   check_done (Err (error.Refused refutation)) e says written = absurd (cc)
   check_done (Err error.WriteFault) e says written = absurd (cc)
   check_done (Err error.NoMemory) e says written = absurd (cc)
 
   pub check_in_order : (b ≡ c) ⊎ (AreFound inputs × HasBegun (found_writes (length inputs.released.packets)) b c) → FindsInOrder names a c
   check_in_order (inl same) = inl (kept_shown a b c keeps same)
-  check_in_order (inr (found, begun)) = inr (inputs, accepts, (found, begun_writes_since a b c keeps (found_writes (length inputs.released.packets)) begun))
+  check_in_order (inr (found, begun)) = inr (inputs, accepts, found, begun_writes_since a b c keeps (found_writes (length inputs.released.packets)) begun)
 
   pub check_refused : (r : Answer) → stage_of (check_outcome r) ≡ AtInputs → ((refutation : Refutation) → r ≡ Err (error.Refused refutation) → b ≡ c) → KeepsShown a c
   check_refused (Ok done) e same = absurd (cc)
@@ -117,7 +117,7 @@ module _ (healthy : Type 0) where
   decided r d never = (λ e. d.0 (ap check_outcome e), λ e. never (d.1.1 (ap check_outcome e)) e)
 
   ends_one : (inputs : CheckInputs) (s r : Status) → IsDecided healthy s → IsDecided healthy r → EndsCheck healthy inputs s → EndsCheck healthy inputs r → s ≡ r
-  ends_one inputs s r d g (x, says, (never, q)) (y, tells, (keeps, p)) =
+  ends_one inputs s r d g (x, says, never, q) (y, tells, keeps, p) =
       q ∙ same_end inputs.played.capture.unit inputs.released.unit inputs.released.packets (outcome_for inputs.played) x y
       (decided x (subst (IsDecided healthy) q d) never) (decided y (subst (IsDecided healthy) p g) keeps) says tells ∙ sym p
 
@@ -137,4 +137,4 @@ module _ (healthy : Type 0) where
 
       go : (s ≡ status.NoMemory) ⊎ EndsCheck healthy inputs s → Completes s ⊎ ((refutation : Refutation) × (s ≡ status.Refuted refutation))
       go (inl q) = inl (inr q)
-      go (inr (r, says, (never, q))) = by r never q
+      go (inr (r, says, never, q)) = by r never q

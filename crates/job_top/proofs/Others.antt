@@ -84,4 +84,4 @@ play_others names a b (inr (inputs, accepts, begun)) name one = begun_spares nam
 
 pub check_others : (names : CheckNames) (a b : Shown) → FindsInOrder names a b → (name : List ℕ) → b.names name ≡ a.names name
 check_others names a b (inl kept) name = ap (λ f. f name) kept.names
-check_others names a b (inr (inputs, accepts, (found, begun))) name = begun_spares name _ a b begun (tt, tt)
+check_others names a b (inr (inputs, accepts, found, begun)) name = begun_spares name _ a b begun (tt, tt)

@@ -26,7 +26,7 @@ use Rattle.job_top.proofs.FilesInTurn.{three_accepted, three_one, three_pass}
 
 module _ (healthy : Type 0) (names : PlayNames) (inputs : ScheduleInputs) (a b c : Shown) (keeps : KeepsOutputs a b) (accepts : AcceptsScheduleInputs names.files inputs a) where
   pub play_judged : (r : Result ⊤ (ScheduleError PlayFault)) → SaysPlay (outcome_for inputs) r → (healthy → ¬ IsErrOf r error.WriteFault) → JudgesPlay healthy names (play_outcome r) a
-  play_judged r says never = three_accepted healthy names.files a (EndsPlay healthy) inputs (play_outcome r) accepts (r, says, (never, refl))
+  play_judged r says never = three_accepted healthy names.files a (EndsPlay healthy) inputs (play_outcome r) accepts (r, says, never, refl)
 
   pub play_done : (r : Result ⊤ (ScheduleError PlayFault)) → play_outcome r ≡ status.Done → OnOk r (HasPlayed (outcome_for inputs) names.out inputs.capture.unit b c) → PlaysWhole names a c
   play_done (Ok done) e played =
@@ -73,7 +73,7 @@ play_fault (Err error.NoMemory) e = absurd (cc)
 -- The inputs decide the status.
 
 legal_not_refused : {V : Type 0} (outcome : Result (List (Step V)) PlayFault) (fault : PlayFault) → IsLegal outcome → outcome ≡ Err fault → ⊥
-legal_not_refused outcome fault legal e = let no : Ok legal.1.0 ≡ Err fault = sym legal.1 ∙ e in cc
+legal_not_refused outcome fault legal e = let no : Ok legal.0 ≡ Err fault = sym legal.1 ∙ e in cc
 
 module _ (healthy : Type 0) where
   decided : (r : Result ⊤ (ScheduleError PlayFault)) → IsDecided healthy (play_outcome r) → (healthy → ¬ IsErrOf r error.WriteFault) → ¬ (r ≡ Err error.NoMemory) × ¬ (r ≡ Err error.WriteFault)
@@ -96,7 +96,7 @@ module _ (healthy : Type 0) where
   same_end outcome (Err (error.Refused fault)) (Err error.NoMemory) d g x y = absurd (g.0 refl)
 
   ends_one : (inputs : ScheduleInputs) (s r : Status) → IsDecided healthy s → IsDecided healthy r → EndsPlay healthy inputs s → EndsPlay healthy inputs r → s ≡ r
-  ends_one inputs s r d g (x, says, (never, q)) (y, tells, (keeps, p)) =
+  ends_one inputs s r d g (x, says, never, q) (y, tells, keeps, p) =
       q ∙ same_end (outcome_for inputs) x y (decided x (subst (IsDecided healthy) q d) never) (decided y (subst (IsDecided healthy) p g) keeps) says tells ∙ sym p
 
   pub one_play : (names : PlayNames) (shown : Shown) (s r : Status) → IsDecided healthy s → IsDecided healthy r → JudgesPlay healthy names s shown → JudgesPlay healthy names r shown → s ≡ r
@@ -115,4 +115,4 @@ module _ (healthy : Type 0) where
 
       go : (s ≡ status.NoMemory) ⊎ EndsPlay healthy inputs s → Completes s ⊎ ((fault : PlayFault) × (s ≡ status.BadInput (input.Moves fault)))
       go (inl q) = inl (inr q)
-      go (inr (r, says, (never, q))) = by r never q
+      go (inr (r, says, never, q)) = by r never q

@@ -63,7 +63,7 @@ module _ (names : RunNames) (inputs : Inputs) (old new later : Shown) (accepted 
     played_accepted = record {
       box_accepted = still_told names.box_file _ old later stand.box_file accepted.box_accepted;
       capture_accepted = still_told names.capture _ old later stand.capture accepted.capture_accepted;
-      schedule_accepted = (schedule_text ran.schedule, stand.schedule ∙ ran.files.schedule_is, (fits.schedule_size, (read_back ran.schedule fits.fit_lines, fits.few_moves)));
+      schedule_accepted = (schedule_text ran.schedule, stand.schedule ∙ ran.files.schedule_is, (fits.schedule_size, read_back ran.schedule fits.fit_lines, fits.few_moves));
     };
     released_accepted = (
       written inputs.capture.unit ran.released,
@@ -79,7 +79,7 @@ module _ (names : RunNames) (inputs : Inputs) (old new later : Shown) (accepted 
       subst Finds (sym is.plays) (is.matched, refl)
 
   pub run_is_checked : (healthy : Type 0) → JudgesCheck healthy (checked names) status.Done later
-  run_is_checked healthy = four_accepted healthy (checked names) later (EndsCheck healthy) Read status.Done accepts (Ok tt, found, ((λ ok e. cc), refl))
+  run_is_checked healthy = four_accepted healthy (checked names) later (EndsCheck healthy) Read status.Done accepts (Ok tt, found, (λ ok e. cc), refl)
 
   pub run_is_checked_only : (healthy : Type 0) (s : Status) → IsDecided healthy s → JudgesCheck healthy (checked names) s later → s ≡ status.Done
   run_is_checked_only healthy s decided judged = one_check healthy (checked names) later s status.Done decided (λ e. cc, (λ e. cc, λ e. cc)) judged (run_is_checked healthy)

@@ -84,7 +84,10 @@ pub fn read_check_inputs<W: World>(
         → Rose (W.ledger world.old).read_faults (W.ledger world.new).read_faults }
     ensures stays_healthy { W.healthy world.old → W.healthy world.new }
 {
-    let played = read_schedule_inputs(alloc, world, names.files)?;
+    let played = match read_schedule_inputs(alloc, world, names.files) {
+        Ok(played) => played,
+        Err(status) => return Err(status),
+    };
     match read_capture_file(alloc, world, names.released) {
         Ok(released) => Ok(CheckInputs { played, released }),
         Err(error) => Err(released_status(error)),

@@ -1,7 +1,7 @@
 use Rattle.std.proofs.Common.{◌∙◌, Ok, Err}
 use Rattle.input_files.specs.Answers.{SaysCapture, SaysSchedule}
 use Rattle.job_top.specs.Words.{files_of}
-use Rattle.job_top.proofs.FilesInTurn.{box_refused, capture_refused, schedule_refused, accepts_since}
+use Rattle.job_top.proofs.FilesInTurn.{box_refused, capture_refused, schedule_refused}
 use Rattle.job_top.proofs.Stages.{capture_stage}
 use Rattle.job_top.proofs.Turns.{judged_since}
 use Rattle.job_top.proofs.schedule_inputs.read_schedule_inputs.Goals as goal

@@ -18,7 +18,7 @@ returns-in-Some-Run-clause-completes g c ok told =
 
 pub returns-in-Some-Make-clause-completes : goal.returns-in-Some-Make-clause-completes
 returns-in-Some-Make-clause-completes g c ok told =
-    rw c.in-Some-Make.ensures (λ _. rw c.outcome.ensures (made_completes c.make_capture.result (c.make_capture.ensures.never_fails ok)))
+    rw (c.in-Some-Make.ensures, c.in-Some-Make.field-0-is) (λ _. rw c.outcome.ensures (made_completes c.make_capture.result (c.make_capture.ensures.never_fails ok)))
 
 pub returns-in-Some-Make-clause-refused : goal.returns-in-Some-Make-clause-refused
 returns-in-Some-Make-clause-refused g c told e = absurd (made_not_at_inputs c.make_capture.result (ap stage_of (sym c.outcome.ensures) ∙ e))
