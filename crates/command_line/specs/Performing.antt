@@ -4,10 +4,10 @@ use Rattle.world_io.specs.World.{Shown}
 use Rattle.job_top.specs.declared.status.Status.{Status}
 use Rattle.job_top.specs.declared.status.Status.TheVariants.{Done, TooLarge}
 use Rattle.plain_text.specs.declared.limit.Limit.{Limit}
-use Rattle.job_top.specs.Commands.{Leaves, LeavesInOrder, StopsAtLimit, JudgesInputsOf, AcceptsInputsOf, KeepsNames}
+use Rattle.job_top.specs.Commands.{Leaves, LeavesInOrder, StopsAtLimit, JudgesInputsOf, AcceptsInputsOf, CompletesAs, KeepsNames}
 use Rattle.script_run.specs.Run.{KeepsShown}
 use Rattle.job_top.specs.Headline.{KeepsPromiseOf}
-use Rattle.job_top.specs.Status.{stage_of, stage_of_limit, AtInputs, AtOutputs, Completes}
+use Rattle.job_top.specs.Status.{stage_of, stage_of_limit, AtInputs, AtOutputs}
 use Rattle.job_top.specs.Words.{asked}
 use Rattle.command_line.specs.Printing.{asked_text, Prints}
 
@@ -18,7 +18,7 @@ pub record Performs (healthy : Type 0) (words : List (List ℕ)) (status : Statu
   pub headline : status ≡ Done → IfSome (asked words) (λ command. KeepsPromiseOf command old new)
   pub limit : (limit : Limit) → status ≡ TooLarge limit → stage_of_limit limit ≡ AtOutputs → IfSome (asked words) (λ command. StopsAtLimit command limit old new)
   pub judged : IfSome (asked words) (λ command. JudgesInputsOf healthy command status old)
-  pub completes : healthy → IfSome (asked words) (λ command. AcceptsInputsOf command old → Completes status)
+  pub completes : healthy → IfSome (asked words) (λ command. AcceptsInputsOf command old → CompletesAs command status)
   pub in_order : IfSome (asked words) (λ command. LeavesInOrder command old new)
   pub refused : stage_of status ≡ AtInputs → KeepsShown old new
   pub others : IfSome (asked words) (λ command. KeepsNames command old new)

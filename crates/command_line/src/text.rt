@@ -1,10 +1,12 @@
 ghost use Rattle.std.specs.Prelude.{◌≡◌, Some};
-ghost use Rattle.command_line.specs.Text.{cause_text, capture_cause_text, ng_cause_text, limit_text};
+ghost use Rattle.command_line.specs.Text.{cause_text, capture_cause_text, move_cause_text, ng_cause_text, limit_text};
 
 use job_top::{InputFault, Status};
 use pcap_io::{CaptureCause, CaptureFault};
 use pcapng_io::{NgCause, NgFault};
+use plain_machine::{PlayCause, PlayFault};
 use plain_text::{Limit, LineCause, LineFault};
+use schedule_check::Refutation;
 use std::fmt;
 
 /// A status as the program tells it on standard error. It takes no memory.
@@ -33,6 +35,29 @@ impl fmt::Display for StatusText {
             Status::BadInput(InputFault::Script(LineFault { line, cause })) => {
                 let cause = line_cause(cause);
                 write!(f, "bad input: script: line {line}: {cause}")
+            }
+            Status::BadInput(InputFault::Schedule(LineFault { line, cause })) => {
+                let cause = line_cause(cause);
+                write!(f, "bad input: schedule: line {line}: {cause}")
+            }
+            Status::BadInput(InputFault::Moves(PlayFault { number, cause })) => {
+                let cause = move_cause(cause);
+                write!(f, "bad input: schedule: move {number}: {cause}")
+            }
+            Status::BadInput(InputFault::Released(CaptureFault { offset, cause })) => {
+                let cause = capture_cause(cause);
+                write!(f, "bad input: released: offset {offset}: {cause}")
+            }
+            Status::BadInput(InputFault::NgReleased(NgFault { offset, cause })) => {
+                let cause = ng_cause(cause);
+                write!(f, "bad input: released: offset {offset}: {cause}")
+            }
+            Status::Refuted(Refutation::Moves(PlayFault { number, cause })) => {
+                let cause = move_cause(cause);
+                write!(f, "refuted: schedule: move {number}: {cause}")
+            }
+            Status::Refuted(Refutation::Packet(number)) => {
+                write!(f, "refuted: released: packet {number}")
             }
             Status::TooLarge(limit) => {
                 let limit = limit_name(limit);
@@ -88,6 +113,17 @@ fn ng_cause(cause: NgCause) -> &'static str
         NgCause::NoInterface => "no interface",
         NgCause::BadPacket => "bad packet",
         NgCause::BadTime => "bad time",
+    }
+}
+
+fn move_cause(cause: PlayCause) -> &'static str
+    ensures { result.now ≡ move_cause_text cause }
+{
+    match cause {
+        PlayCause::NoSuchThread => "no such thread",
+        PlayCause::NothingToTake => "nothing to take",
+        PlayCause::MissingAnswer => "missing answer",
+        PlayCause::UnwantedAnswer => "unwanted answer",
     }
 }
 

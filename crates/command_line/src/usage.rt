@@ -17,6 +17,21 @@ what it released is written, and then its line of the report.
   RELEASED  capture of the packets that were released, written
   SCHEDULE  text of the moves of the run in which it ends, written
 
+ftmb play BOX CAPTURE SCHEDULE OUT
+
+Plays a schedule on the whole capture, with a box that logs nothing and never
+crashes, and writes the packets that it sends out.
+
+  SCHEDULE  text of moves, one on each line, read: `T`, `T = V`
+  OUT       capture of the packets that were sent out, written
+
+ftmb check BOX CAPTURE SCHEDULE RELEASED
+
+Checks that a schedule is legal, and that each packet of a released capture
+has an emission of its own in it.
+
+  RELEASED  capture of the packets that were released, read
+
 ftmb make SEED N CAPTURE
 
 Makes N packets, at most 65,536, from a number, always the same ones.
@@ -25,7 +40,7 @@ Makes N packets, at most 65,536, from a number, always the same ones.
 
 The report is written on standard output.
 
-Exit status: 0 done, 2 bad words, 3 read fault, 4 write fault, 5 no memory,
+Exit status: 0 done, 1 refuted, 2 bad words, 3 read fault, 4 write fault, 5 no memory,
 6 bad input, 7 too large, 8 not built. What is not done is told on standard error.
 ";
 

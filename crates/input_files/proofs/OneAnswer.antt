@@ -27,7 +27,7 @@ use Rattle.input_files.specs.Texts.{judged_text}
 use Rattle.input_files.proofs.JudgedTexts.{within}
 
 -- an answer that the bytes of a file decide
-abbrev OfBytes : {A F : Type 0} → Result A (InputError F) → Type 0
+abbrev pub OfBytes : {A F : Type 0} → Result A (InputError F) → Type 0
 OfBytes (Ok value) = Unit {0}
 OfBytes (Err (error.Fault fault)) = Unit {0}
 OfBytes (Err (error.TooLarge passed)) = Unit {0}
@@ -72,14 +72,14 @@ module _ {A F : Type 0} (says : List ℕ → Result A (InputError F) → Type 0)
   pub one_answer : (r q : Result A (InputError F)) → IsDecided healthy r → IsDecided healthy q → Judges says healthy name r shown → Judges says healthy name q shown → r ≡ q
   one_answer r q dr dq hr hq = one_read r q (reads r dr hr) (reads q dq hq)
 
-same_fault : (f g : LineFault) → (f.line ≡ g.line) × (f.cause ≡ g.cause) → f ≡ g
+pub same_fault : (f g : LineFault) → (f.line ≡ g.line) × (f.cause ≡ g.cause) → f ≡ g
 same_fault f g same =
     let line : f.line ≡ g.line = same.0 in
     let cause : f.cause ≡ g.cause = same.1 in
     let first : f ≡ record { line = g.line; cause = f.cause } = ap (λ (n : ℕ). record f { line = n }) line in
     first ∙ ap (λ (c : LineCause). record g { cause = c }) cause
 
-no_room : {P : Type 0} (n : ℕ) → n ≤ 67108864 → 67108864 < n → P
+pub no_room : {P : Type 0} (n : ℕ) → n ≤ 67108864 → 67108864 < n → P
 no_room n low high = absurd (omega arith)
 
 -- Box files

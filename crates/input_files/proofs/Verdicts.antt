@@ -21,10 +21,10 @@ use Rattle.input_files.specs.Texts.{IsFrontOf, judged_text, whole_lines}
 use Rattle.input_files.proofs.JudgedTexts.{within, beyond}
 
 -- a fact of what was read of a file is one of the text that is judged of it
-all_judged : (P : List ℕ → Type 0) (front bytes : List ℕ) → P front → IsFrontOf (All front) bytes → P (judged_text bytes)
+pub all_judged : (P : List ℕ → Type 0) (front bytes : List ℕ) → P front → IsFrontOf (All front) bytes → P (judged_text bytes)
 all_judged P front bytes p is = subst P (sym is.0 ∙ sym (within bytes is.1)) p
 
-cut_judged : (P : List ℕ → Type 0) (front bytes : List ℕ) → P (whole_lines front) → IsFrontOf (More front) bytes → P (judged_text bytes)
+pub cut_judged : (P : List ℕ → Type 0) (front bytes : List ℕ) → P (whole_lines front) → IsFrontOf (More front) bytes → P (judged_text bytes)
 cut_judged P front bytes p is = subst P (ap whole_lines is.0 ∙ sym (beyond bytes is.1)) p
 
 -- Box files

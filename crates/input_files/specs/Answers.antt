@@ -20,6 +20,9 @@ use Rattle.box_conf.specs.BoxFile as box
 use Rattle.recovery_world.specs.declared.event.Event.{Event}
 use Rattle.script_text.specs.Scripts.{IsScript, HasTooMany, count_of}
 use Rattle.script_text.specs.Scripts as script
+use Rattle.plain_machine.specs.declared.plain_move.PlainMove.{PlainMove}
+use Rattle.plain_player.specs.Schedules.{IsSchedule}
+use Rattle.plain_player.specs.Schedules as schedule
 use Rattle.input_files.specs.declared.capture_file.Capture.{Capture}
 use Rattle.input_files.specs.declared.errors.InputError.{InputError}
 use Rattle.input_files.specs.declared.errors.InputError.TheVariants as error
@@ -74,6 +77,33 @@ SaysScript bytes (Err (error.Fault fault)) =
 SaysScript bytes (Err (error.TooLarge passed)) = ScriptPasses bytes passed
 SaysScript bytes (Err error.ReadFault) = ⊥
 SaysScript bytes (Err error.NoMemory) = Unit {0}
+
+-- the lines of a schedule that are judged have no fault, and not too many moves
+abbrev pub HasNoFault : List ℕ → Type 0
+HasNoFault text = ((number : ℕ) (cause : LineCause) → schedule.FirstFault text number cause → ⊥) × (schedule.HasTooMany text → ⊥)
+
+abbrev pub SchedulePasses : List ℕ → Limit → Type 0
+SchedulePasses bytes limit.File = (MOST_FILE_BYTES < length bytes) × HasNoFault (judged_text bytes)
+SchedulePasses bytes limit.Packets = ⊥
+SchedulePasses bytes limit.Events = schedule.HasTooMany (judged_text bytes)
+SchedulePasses bytes limit.Moves = ⊥
+SchedulePasses bytes limit.OutputBytes = ⊥
+
+-- what an answer says of the lines of a schedule by themselves
+abbrev pub SaysMoves : List ℕ → Result (List PlainMove) (InputError LineFault) → Type 0
+SaysMoves text (Ok moves) = IsSchedule text moves × (length moves ≤ MOST_EVENTS)
+SaysMoves text (Err (error.Fault fault)) = schedule.FirstFault text fault.line fault.cause × (schedule.HasTooMany text → ⊥)
+SaysMoves text (Err (error.TooLarge passed)) = (passed ≡ limit.Events) × schedule.HasTooMany text
+SaysMoves text (Err error.ReadFault) = ⊥
+SaysMoves text (Err error.NoMemory) = Unit {0}
+
+abbrev pub SaysSchedule : List ℕ → Result (List PlainMove) (InputError LineFault) → Type 0
+SaysSchedule bytes (Ok moves) = (length bytes ≤ MOST_FILE_BYTES) × IsSchedule bytes moves × (length moves ≤ MOST_EVENTS)
+SaysSchedule bytes (Err (error.Fault fault)) =
+    schedule.FirstFault (judged_text bytes) fault.line fault.cause × (schedule.HasTooMany (judged_text bytes) → ⊥)
+SaysSchedule bytes (Err (error.TooLarge passed)) = SchedulePasses bytes passed
+SaysSchedule bytes (Err error.ReadFault) = ⊥
+SaysSchedule bytes (Err error.NoMemory) = Unit {0}
 
 -- no limit of the whole file goes before: the records or blocks are judged one by one
 abbrev pub SaysCapture : List ℕ → Result Capture (InputError AnyFault) → Type 0

@@ -5,6 +5,7 @@ mod box_file;
 mod capture_file;
 mod errors;
 mod laws;
+mod schedule_file;
 mod script_file;
 mod texts;
 
@@ -12,4 +13,5 @@ pub use box_file::read_box_file;
 pub use capture_file::{Capture, read_capture_file};
 pub use errors::InputError;
 pub use laws::each_file_has_one_answer;
+pub use schedule_file::read_schedule_file;
 pub use script_file::read_script_file;

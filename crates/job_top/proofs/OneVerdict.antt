@@ -73,6 +73,7 @@ module _ (healthy : Type 0) (names : RunNames) (shown : Shown) where
 
   verdict : (s : Status) → IsDecided healthy s → Judges healthy names s shown → Verdict s
   verdict status.Done decided (inputs, asked, ends) = OfRun inputs asked ends refl
+  verdict (status.Refuted refutation) decided h = absurd h
   verdict status.BadWords decided h = absurd h
   verdict status.ReadFault decided h = let ok = decided.1.0 refl in missing (h ok) ok
   verdict status.WriteFault decided h = absurd (h.0 (decided.1.1 refl))
@@ -81,6 +82,10 @@ module _ (healthy : Type 0) (names : RunNames) (shown : Shown) where
   verdict (status.BadInput (input.Capture fault)) decided (conf, box, h) = OfCapture conf box (error.Fault (any.Capture fault)) tt h refl
   verdict (status.BadInput (input.NgCapture fault)) decided (conf, box, h) = OfCapture conf box (error.Fault (any.Ng fault)) tt h refl
   verdict (status.BadInput (input.Script fault)) decided (conf, box, (capture, accepted, h)) = OfScript conf box capture accepted (error.Fault fault) tt h refl
+  verdict (status.BadInput (input.Schedule fault)) decided h = absurd h
+  verdict (status.BadInput (input.Moves fault)) decided h = absurd h
+  verdict (status.BadInput (input.Released fault)) decided h = absurd h
+  verdict (status.BadInput (input.NgReleased fault)) decided h = absurd h
   verdict (status.TooLarge limit) decided (inl h) = too_large limit h
   verdict (status.TooLarge limit) decided (inr (inputs, asked, stops)) = OfLimit inputs asked limit stops refl
   verdict status.NotBuilt decided (inputs, accepted, more) = NotPerformed inputs accepted more refl
@@ -185,6 +190,7 @@ module _ (healthy : Type 0) (names : RunNames) (shown : Shown) where
   pub run_completes : healthy → AreAccepted names shown → (s : Status) → Judges healthy names s shown → Completes s
   run_completes ok accepted status.NoMemory h = inr refl
   run_completes ok accepted status.Done h = inl refl
+  run_completes ok accepted (status.Refuted refutation) h = absurd h
   run_completes ok accepted status.BadWords h = absurd h
   run_completes ok accepted status.WriteFault h = absurd (h.0 ok)
   run_completes ok (x, a, within) status.ReadFault h = absurd (accepts_no_other x a.accepted (missing (h ok) ok))

@@ -14,7 +14,8 @@ use Rattle.script_run.specs.Run.{OutputNames, KeepsOthers, IsWritten, writes_of,
 use Rattle.script_run.proofs.RunWrites.{other_name}
 use Rattle.job_top.specs.Making.{made_writes}
 use Rattle.job_top.specs.Run.{RunsInOrder, outputs_of, setting_for}
-use Rattle.job_top.specs.Words.{RunNames, MakeNames}
+use Rattle.job_top.specs.Schedules.{PlaysInOrder, FindsInOrder}
+use Rattle.job_top.specs.Words.{RunNames, MakeNames, PlayNames, CheckNames}
 
 module _ (name : List ℕ) where
   -- no write is to this name
@@ -76,3 +77,11 @@ run_others names a b (inr (inputs, asked, (writes, is, begun))) name one two =
 pub made_others : (names : MakeNames) (r : Result ⊤ OutputError) (a b : Shown) → Writes r (made_writes names) a b → (name : List ℕ) → ¬ (name ≡ names.capture) → b.names name ≡ a.names name
 made_others names (Ok done) a b written name one = begun_spares name (made_writes names) a b (begun_all (made_writes names) a b written) (one, (one, (one, (tt, tt))))
 made_others names (Err error) a b begun name one = begun_spares name (made_writes names) a b begun (one, (one, (one, (tt, tt))))
+
+pub play_others : (names : PlayNames) (a b : Shown) → PlaysInOrder names a b → (name : List ℕ) → ¬ (name ≡ names.out) → b.names name ≡ a.names name
+play_others names a b (inl kept) name one = ap (λ f. f name) kept.names
+play_others names a b (inr (inputs, accepts, begun)) name one = begun_spares name _ a b begun.begun (one, (one, (one, (tt, tt))))
+
+pub check_others : (names : CheckNames) (a b : Shown) → FindsInOrder names a b → (name : List ℕ) → b.names name ≡ a.names name
+check_others names a b (inl kept) name = ap (λ f. f name) kept.names
+check_others names a b (inr (inputs, accepts, found, begun)) name = begun_spares name _ a b begun (tt, tt)

@@ -10,7 +10,7 @@ use Rattle.recovery_world.specs.World.{Setting}
 use Rattle.recovery_laws.proofs.ScriptFiles.{leaves_ends}
 use Rattle.output_files.specs.declared.error.OutputError.{OutputError}
 use Rattle.output_files.specs.declared.error.OutputError.TheVariants as output
-use Rattle.output_files.specs.Writes.{report_file, Write, after_writes, reported, HasWritten}
+use Rattle.output_files.specs.Writes.{report_file, Write, after_writes, reported, HasWritten, HasBegun}
 use Rattle.pcap_io.specs.Capture.{written}
 use Rattle.script_run.specs.declared.error.RunError.{RunError}
 use Rattle.script_run.specs.declared.error.RunError.TheVariants as run_error
@@ -34,11 +34,14 @@ module _ (a b c : Shown) (keeps : KeepsOutputs a b) where
   same_report : b.sent report_file ≡ a.sent report_file
   same_report = ap (λ (f : ℕ → List ℕ). f report_file) keeps.sent
 
-  written_since : (writes : List Write) → HasWritten writes b c → HasWritten writes a c
+  pub written_since : (writes : List Write) → HasWritten writes b c → HasWritten writes a c
   written_since writes w = record {
     names = λ name. w.names name ∙ ap (after_writes name writes) (same_names name);
     report = w.report ∙ ap (λ l. l ++ reported writes) same_report;
   }
+
+  pub begun_writes_since : (writes : List Write) → HasBegun writes b c → HasBegun writes a c
+  begun_writes_since writes begun = record { done = begun.done; cut = begun.cut; written = written_since begun.done begun.written }
 
   files_since : (names : OutputNames) (u : FractionUnit) (released : List Packet) (schedule report : List ℕ) → HasFiles names u released schedule report b c → HasFiles names u released schedule report a c
   files_since names u released schedule report f = record {
@@ -70,7 +73,7 @@ module _ (a b c : Shown) (keeps : KeepsOutputs a b) where
   }
 
   pub begun_since : {V : Type 0} (s : Setting V) (names : OutputNames) (events : List Event) → HasBegunRun s names events b c → HasBegunRun s names events a c
-  begun_since s names events (writes, is, begun) = (writes, is, record { done = begun.done; cut = begun.cut; written = written_since begun.done begun.written })
+  begun_since s names events (writes, is, begun) = (writes, is, begun_writes_since writes begun)
 
   pub kept_shown : b ≡ c → KeepsShown a c
   kept_shown same = subst (λ (z : Shown). KeepsShown a z) same (record { names = keeps.names; sent = keeps.sent })

@@ -19,7 +19,7 @@ use Rattle.input_files.specs.declared.errors.InputError.TheVariants as error
 use Rattle.input_files.specs.Judging.{JudgesCapture}
 use Rattle.job_top.specs.declared.status.Status.{Status}
 use Rattle.job_top.specs.declared.status.Status.TheVariants as status
-use Rattle.job_top.specs.Status.{AtInputs, ComesAt, EndsReading, stage_of_limit, of_capture_error}
+use Rattle.job_top.specs.Status.{AtInputs, ComesAt, EndsReading, stage_of_limit, of_capture_error, of_released_error}
 
 abbrev IsOfFile : Limit → Type 0
 IsOfFile limit = stage_of_limit limit ≡ AtInputs
@@ -59,6 +59,12 @@ capture_stage healthy name shown (error.Fault fault) h = inl refl
 capture_stage healthy name shown (error.TooLarge limit) h = inl (capture_limit h.0 limit h.2)
 capture_stage healthy name shown error.ReadFault h = inl refl
 capture_stage healthy name shown error.NoMemory h = inr refl
+
+pub released_stage : (healthy : Type 0) (name : List ℕ) (shown : Shown) (e : InputError AnyFault) → JudgesCapture healthy name (Err e) shown → ComesAt AtInputs (of_released_error e)
+released_stage healthy name shown (error.Fault fault) h = inl refl
+released_stage healthy name shown (error.TooLarge limit) h = inl (capture_limit h.0 limit h.2)
+released_stage healthy name shown error.ReadFault h = inl refl
+released_stage healthy name shown error.NoMemory h = inr refl
 
 -- None of them is of another stage.
 

@@ -11,7 +11,7 @@ use Rattle.recovery_world.specs.Files.{Performs, packets_of}
 use Rattle.recovery_laws.specs.Ends.{Ends}
 use Rattle.job_top.specs.declared.inputs.Inputs.{Inputs}
 use Rattle.job_top.specs.Run.{AsksForRun, setting_for}
-use Rattle.job_top.specs.Words.{RunNames, Asked, Runs, Makes}
+use Rattle.job_top.specs.Words.{RunNames, Asked, Runs, Makes, Plays, Checks}
 
 -- The written schedule, played by the plain machine on the captured packets, is a legal crash-free run. It performs every log entry that
 -- is held with all its predecessors, in its recorded place and with its recorded value; it sends out every packet that was released, and
@@ -35,3 +35,5 @@ pub record KeepsPromise (names : RunNames) (old new : Shown) : Type 0 where
 abbrev pub KeepsPromiseOf : Asked → Shown → Shown → Type 0
 KeepsPromiseOf (Runs names) old new = KeepsPromise names old new
 KeepsPromiseOf (Makes names) old new = Unit {0}
+KeepsPromiseOf (Plays names) old new = Unit {0}
+KeepsPromiseOf (Checks names) old new = Unit {0}

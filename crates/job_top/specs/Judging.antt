@@ -1,4 +1,4 @@
--- What each status says of the input files and of the run. The files are judged in the order box, capture, script; the first that is
+-- What each status of `run` says of its input files and of the run. The files are judged in the order box, capture, script; the first that is
 -- not accepted decides.
 --
 -- In a healthy world reading fails only where a name is not there, and writing never does.
@@ -45,6 +45,7 @@ AsksForMore names shown = (inputs : Inputs) × AcceptsInputs names inputs shown 
 -- What a status says. Running out of memory says nothing, nor does a fault of reading in a world that is not healthy.
 abbrev pub Judges : Type 0 → RunNames → Status → Shown → Type 0
 Judges healthy names status.Done shown = (inputs : Inputs) × AsksForRun names inputs shown × EndsRun inputs
+Judges healthy names (status.Refuted refutation) shown = ⊥
 Judges healthy names status.BadWords shown = ⊥
 Judges healthy names status.ReadFault shown = healthy → FirstIsMissing names shown
 Judges healthy names status.WriteFault shown = (healthy → ⊥) × (inputs : Inputs) × AsksForRun names inputs shown
@@ -53,6 +54,10 @@ Judges healthy names (status.BadInput (input.BoxFile fault)) shown = FaultsBox n
 Judges healthy names (status.BadInput (input.Capture fault)) shown = BehindBox names shown (FaultsCapture names.capture (any.Capture fault) shown)
 Judges healthy names (status.BadInput (input.NgCapture fault)) shown = BehindBox names shown (FaultsCapture names.capture (any.Ng fault) shown)
 Judges healthy names (status.BadInput (input.Script fault)) shown = BehindCapture names shown (FaultsScript names.script fault shown)
+Judges healthy names (status.BadInput (input.Schedule fault)) shown = ⊥
+Judges healthy names (status.BadInput (input.Moves fault)) shown = ⊥
+Judges healthy names (status.BadInput (input.Released fault)) shown = ⊥
+Judges healthy names (status.BadInput (input.NgReleased fault)) shown = ⊥
 Judges healthy names (status.TooLarge limit) shown =
     FirstIsTooLarge names limit shown ⊎ ((inputs : Inputs) × AsksForRun names inputs shown × StopsRun inputs limit)
 Judges healthy names status.NotBuilt shown = AsksForMore names shown

@@ -11,14 +11,19 @@ use Rattle.output_files.specs.declared.error.OutputError.{OutputError}
 use Rattle.output_files.specs.declared.error.OutputError.TheVariants as of_output
 use Rattle.script_run.specs.declared.error.RunError.{RunError}
 use Rattle.script_run.specs.declared.error.RunError.TheVariants as of_run
+use Rattle.plain_machine.specs.declared.plain_move.PlayFault.{PlayFault}
+use Rattle.schedule_check.specs.declared.checking.Refutation.{Refutation}
+use Rattle.schedule_run.specs.declared.error.ScheduleError.{ScheduleError}
+use Rattle.schedule_run.specs.declared.error.ScheduleError.TheVariants as of_schedule
 use Rattle.job_top.specs.declared.status.InputFault.{InputFault}
-use Rattle.job_top.specs.declared.status.InputFault.TheVariants.{BoxFile, Capture, NgCapture, Script}
+use Rattle.job_top.specs.declared.status.InputFault.TheVariants.{BoxFile, Capture, NgCapture, Script, Schedule, Moves, Released, NgReleased}
 use Rattle.job_top.specs.declared.status.Status.{Status}
-use Rattle.job_top.specs.declared.status.Status.TheVariants.{Done, BadWords, ReadFault, WriteFault, NoMemory, BadInput, TooLarge, NotBuilt}
+use Rattle.job_top.specs.declared.status.Status.TheVariants.{Done, Refuted, BadWords, ReadFault, WriteFault, NoMemory, BadInput, TooLarge, NotBuilt}
 
--- the exit number of the program; 1 is kept for a schedule or a capture that a check refutes
+-- the exit number of the program
 abbrev pub exit_code_of : Status → ℕ
 exit_code_of Done = 0
+exit_code_of (Refuted refutation) = 1
 exit_code_of BadWords = 2
 exit_code_of ReadFault = 3
 exit_code_of WriteFault = 4
@@ -45,6 +50,7 @@ stage_of_limit limit_of.OutputBytes = AtOutputs
 -- the stage at which a status comes; memory may run out at any time
 abbrev pub stage_of : Status → Stage
 stage_of Done = AtOutputs
+stage_of (Refuted refutation) = AtInputs
 stage_of BadWords = AtWords
 stage_of ReadFault = AtInputs
 stage_of WriteFault = AtOutputs
@@ -60,6 +66,7 @@ ComesAt stage status = (stage_of status ≡ stage) ⊎ (stage_of status ≡ AtAn
 -- a status that may come before an output is created, once the words are right
 abbrev pub EndsReading : Status → Type 0
 EndsReading Done = ⊥
+EndsReading (Refuted refutation) = ⊥
 EndsReading BadWords = ⊥
 EndsReading ReadFault = Unit {0}
 EndsReading WriteFault = ⊥
@@ -90,6 +97,22 @@ of_capture_error of_input.NoMemory = NoMemory
 of_capture_error (of_input.TooLarge limit) = TooLarge limit
 of_capture_error (of_input.Fault fault) = BadInput (of_capture_fault fault)
 
+abbrev pub of_schedule_error : InputError LineFault → Status
+of_schedule_error of_input.ReadFault = ReadFault
+of_schedule_error of_input.NoMemory = NoMemory
+of_schedule_error (of_input.TooLarge limit) = TooLarge limit
+of_schedule_error (of_input.Fault fault) = BadInput (Schedule fault)
+
+abbrev pub of_released_fault : AnyFault → InputFault
+of_released_fault (any.Capture fault) = Released fault
+of_released_fault (any.Ng fault) = NgReleased fault
+
+abbrev pub of_released_error : InputError AnyFault → Status
+of_released_error of_input.ReadFault = ReadFault
+of_released_error of_input.NoMemory = NoMemory
+of_released_error (of_input.TooLarge limit) = TooLarge limit
+of_released_error (of_input.Fault fault) = BadInput (of_released_fault fault)
+
 abbrev pub of_output_error : OutputError → Status
 of_output_error of_output.WriteFault = WriteFault
 of_output_error of_output.NoMemory = NoMemory
@@ -108,6 +131,20 @@ of_run_error of_run.NoMemory = NoMemory
 abbrev pub run_outcome : {A : Type 0} → Result A RunError → Status
 run_outcome (Ok done) = Done
 run_outcome (Err error) = of_run_error error
+
+-- what `play` comes to
+abbrev pub play_outcome : {A : Type 0} → Result A (ScheduleError PlayFault) → Status
+play_outcome (Ok done) = Done
+play_outcome (Err (of_schedule.Refused fault)) = BadInput (Moves fault)
+play_outcome (Err of_schedule.WriteFault) = WriteFault
+play_outcome (Err of_schedule.NoMemory) = NoMemory
+
+-- what `check` comes to
+abbrev pub check_outcome : {A : Type 0} → Result A (ScheduleError Refutation) → Status
+check_outcome (Ok done) = Done
+check_outcome (Err (of_schedule.Refused refutation)) = Refuted refutation
+check_outcome (Err of_schedule.WriteFault) = WriteFault
+check_outcome (Err of_schedule.NoMemory) = NoMemory
 
 -- the command is done, or memory ran out
 abbrev pub Completes : Status → Type 0

@@ -48,7 +48,7 @@ fn read_files<W: World>(alloc: Global, world: &mut W, names: RunWords<'_>) -> Re
     ensures quiet { IfErr result EndsReading }
     ensures can_run { IfOk result FitsRun }
     ensures outputs { IsTrue W.tells → KeepsOutputs (W.shown world.old) (W.shown world.new) }
-    ensures ledger { AfterInputs (W.ledger world.old) (W.ledger world.new) }
+    ensures ledger { AfterInputs 3 (W.ledger world.old) (W.ledger world.new) }
     ensures cause { IsErrOf result Status.ReadFault
         → Rose (W.ledger world.old).read_faults (W.ledger world.new).read_faults }
     ensures stays_healthy { W.healthy world.old → W.healthy world.new }
@@ -84,7 +84,7 @@ pub fn read_inputs<W: World>(
     ensures quiet { IfErr result EndsReading }
     ensures can_run { IfOk result (λ inputs. CanRun (script_of inputs)) }
     ensures outputs { IsTrue W.tells → KeepsOutputs (W.shown world.old) (W.shown world.new) }
-    ensures ledger { AfterInputs (W.ledger world.old) (W.ledger world.new) }
+    ensures ledger { AfterInputs 3 (W.ledger world.old) (W.ledger world.new) }
     ensures cause { IsErrOf result Status.ReadFault
         → Rose (W.ledger world.old).read_faults (W.ledger world.new).read_faults }
     ensures stays_healthy { W.healthy world.old → W.healthy world.new }

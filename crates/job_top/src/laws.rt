@@ -13,14 +13,45 @@ ghost use Rattle.input_files.specs.declared.capture_file.Capture.{Capture};
 ghost use Rattle.input_files.specs.Judging.{AcceptsCapture};
 ghost use Rattle.job_top.specs.declared.status.Status.{Status};
 ghost use Rattle.job_top.specs.Judging.{Judges, IsDecided};
-ghost use Rattle.job_top.specs.Words.{RunNames};
+ghost use Rattle.job_top.specs.Schedules.{JudgesCheck, JudgesPlay};
+ghost use Rattle.script_run.specs.Run.{HasRun};
+ghost use Rattle.job_top.specs.declared.inputs.Inputs.{Inputs};
+ghost use Rattle.job_top.specs.Checked.{CanBeRead, StillStand, checked};
+ghost use Rattle.job_top.specs.Run.{AcceptsInputs, outputs_of, setting_for};
+ghost use Rattle.job_top.specs.Words.{CheckNames, PlayNames, RunNames};
 
 /// The input files decide the status: of those that they decide at most one is true of them. So each comes exactly where it is
 /// true, unless memory runs out or, in a world that is not healthy, reading or writing fails.
 pub fn one_verdict()
-    ensures { (healthy : Bool) (names : RunNames) (s r : Status) (shown : Shown)
+    ensures run { (healthy : Bool) (names : RunNames) (s r : Status) (shown : Shown)
         → IsDecided (IsTrue healthy) s → IsDecided (IsTrue healthy) r
         → Judges (IsTrue healthy) names s shown → Judges (IsTrue healthy) names r shown → s ≡ r }
+    ensures play { (healthy : Bool) (names : PlayNames) (s r : Status) (shown : Shown)
+        → IsDecided (IsTrue healthy) s → IsDecided (IsTrue healthy) r
+        → JudgesPlay (IsTrue healthy) names s shown
+        → JudgesPlay (IsTrue healthy) names r shown → s ≡ r }
+    ensures check { (healthy : Bool) (names : CheckNames) (s r : Status) (shown : Shown)
+        → IsDecided (IsTrue healthy) s → IsDecided (IsTrue healthy) r
+        → JudgesCheck (IsTrue healthy) names s shown
+        → JudgesCheck (IsTrue healthy) names r shown → s ≡ r }
+{}
+
+/// What `run` leaves is accepted by `check`, with the same box and the same capture: the check of the schedule and the released capture is
+/// done, and no other status that the files decide is true of it. This is so for each script that leaves something by the definitions,
+/// whatever crashes and is lost in it; the files stand as the run found and left them, and are within the limits of files that are read.
+pub fn what_run_leaves_is_accepted()
+    ensures done { (healthy : Bool) (names : RunNames) (inputs : Inputs) (old new later : Shown)
+        → AcceptsInputs names inputs old
+        → (ran : HasRun (setting_for inputs) (outputs_of names) inputs.events old new)
+        → CanBeRead inputs.capture.unit ran.released ran.schedule
+        → StillStand names old new later
+        → JudgesCheck (IsTrue healthy) (checked names) Status.Done later }
+    ensures only { (healthy : Bool) (names : RunNames) (inputs : Inputs) (old new later : Shown)
+        → AcceptsInputs names inputs old
+        → (ran : HasRun (setting_for inputs) (outputs_of names) inputs.events old new)
+        → CanBeRead inputs.capture.unit ran.released ran.schedule
+        → StillStand names old new later → (s : Status) → IsDecided (IsTrue healthy) s
+        → JudgesCheck (IsTrue healthy) (checked names) s later → s ≡ Status.Done }
 {}
 
 /// A pcapng capture is accepted as the savefile of its packets in nanoseconds is, where neither passes a limit: as one and the same

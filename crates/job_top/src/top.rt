@@ -4,15 +4,18 @@ ghost use Rattle.world_io.specs.Stream.{Rose};
 ghost use Rattle.box_conf.specs.Kinds.{meaning_of};
 ghost use Rattle.output_files.specs.Written.{AfterWriting};
 ghost use Rattle.script_run.specs.Run.{CanRun, HasBegunRun, HasRun, HasStopped, KeepsShown};
-ghost use Rattle.job_top.specs.Commands.{AcceptsInputsOf, Leaves, LeavesInOrder, JudgesInputsOf, KeepsNames, StopsAtLimit};
+ghost use Rattle.job_top.specs.Commands.{AcceptsInputsOf, CompletesAs, Leaves, LeavesInOrder, JudgesInputsOf, KeepsNames, StopsAtLimit};
 ghost use Rattle.job_top.specs.Headline.{KeepsPromise, KeepsPromiseOf};
 ghost use Rattle.job_top.specs.Judging.{Judges};
 ghost use Rattle.job_top.specs.Run.{RunsInOrder, RunsToLimit, RunsWhole, outputs_of, script_of, setting_for};
-ghost use Rattle.job_top.specs.Status.{AtInputs, AtOutputs, Completes, stage_of, stage_of_limit};
+ghost use Rattle.job_top.specs.Status.{AtInputs, AtOutputs, stage_of, stage_of_limit};
 ghost use Rattle.job_top.specs.Words.{asked, names_of};
 
 use crate::status::{outcome, run_outcome};
-use crate::{Command, Inputs, RunWords, Status, make_capture, read_command, read_inputs};
+use crate::{
+    Command, Inputs, RunWords, Status, check_released, make_capture, play_capture, read_command,
+    read_inputs,
+};
 use box_conf::BoxKind;
 use plain_text::Text;
 use script_run::{RunError, RunFiles, ScriptRun, run_script};
@@ -102,8 +105,16 @@ fn run<W: World>(alloc: Global, world: &mut W, names: RunWords<'_>) -> Status
 /// `make SEED N CAPTURE`, two numbers of which N is at most 65,536, and the name of a file: N packets are made from the seed and
 /// written to CAPTURE, and then the report says how many.
 ///
+/// `play BOX CAPTURE SCHEDULE OUT`, four names: the schedule is played by the box without logs and crashes, on the whole capture. OUT is
+/// the capture of what it sends out, in its order, and the report says how many packets that are. Where the schedule is not legal, its
+/// first illegal move is told as bad input, and nothing is created.
+///
+/// `check BOX CAPTURE SCHEDULE RELEASED`, four names of inputs: is the schedule legal, and has each packet of the capture RELEASED an
+/// emission of its own in it? Then the report says how many packets were found. Else it is refuted: by the first illegal move, or else
+/// by the first such packet.
+///
 /// In a healthy world that tells its bytes, a command whose words are right, whose inputs are there and are accepted, and that passes no
-/// limit, is done, unless memory runs out. There a read fault says that the first input that is not accepted is not there.
+/// limit, is done, unless memory runs out or the schedule or the released packets are refused. There a read fault says that the first input that is not accepted is not there.
 ///
 /// A world that has given fewer than 2^31 numbers has room for the files of any command, which are five at most.
 pub fn ftmb<W: World>(alloc: Global, words: &[Text], world: &mut W) -> Status
@@ -120,7 +131,7 @@ pub fn ftmb<W: World>(alloc: Global, words: &[Text], world: &mut W) -> Status
     ensures judged { IsTrue W.tells → IfSome (asked words.now)
         (λ command. JudgesInputsOf (W.healthy world.old) command result (W.shown world.old)) }
     ensures completes { W.healthy world.old → IsTrue W.tells → IfSome (asked words.now)
-        (λ command. AcceptsInputsOf command (W.shown world.old) → Completes result) }
+        (λ command. AcceptsInputsOf command (W.shown world.old) → CompletesAs command result) }
     ensures in_order { IsTrue W.tells → IfSome (asked words.now)
         (λ command. LeavesInOrder command (W.shown world.old) (W.shown world.new)) }
     ensures refused { IsTrue W.tells → stage_of result ≡ AtInputs
@@ -137,6 +148,8 @@ pub fn ftmb<W: World>(alloc: Global, words: &[Text], world: &mut W) -> Status
     match read_command(words) {
         Some(Command::Run(names)) => run(alloc, world, names),
         Some(Command::Make(words)) => outcome(make_capture(alloc, world, words)),
+        Some(Command::Play(names)) => play_capture(alloc, world, names),
+        Some(Command::Check(names)) => check_released(alloc, world, names),
         None => Status::BadWords,
     }
 }

@@ -1,6 +1,7 @@
 use Rattle.std.specs.Prelude.{IsTrue}
-use Rattle.input_files.specs.Answers.{SaysBox, SaysCapture, SaysScript}
+use Rattle.input_files.specs.Answers.{SaysBox, SaysCapture, SaysSchedule, SaysScript}
 use Rattle.input_files.proofs.OneAnswer.{one_answer, one_box, one_capture, one_script}
+use Rattle.input_files.proofs.ScheduleVerdicts.{one_schedule}
 use Rattle.input_files.proofs.laws.each_file_has_one_answer.Goals as goal
 
 pub returns-clause-box_file : goal.returns-clause-box_file
@@ -11,3 +12,6 @@ returns-clause-capture c = λ healthy name shown a b. one_answer SaysCapture one
 
 pub returns-clause-script : goal.returns-clause-script
 returns-clause-script c = λ healthy name shown a b. one_answer SaysScript one_script (IsTrue healthy) name shown a b
+
+pub returns-clause-schedule : goal.returns-clause-schedule
+returns-clause-schedule c = λ healthy name shown a b. one_answer SaysSchedule one_schedule (IsTrue healthy) name shown a b

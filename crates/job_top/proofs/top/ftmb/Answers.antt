@@ -1,9 +1,11 @@
 use Rattle.std.proofs.Common.{ap, sym, ◌∙◌}
 use Rattle.job_top.specs.Status.{stage_of}
-use Rattle.job_top.specs.Words.{names_of, made_of}
+use Rattle.job_top.specs.Words.{check_names_of, made_of, names_of, play_names_of}
 use Rattle.job_top.proofs.Outcomes.{made_completes, made_not_at_inputs}
 use Rattle.job_top.proofs.OneVerdict.{run_completes}
-use Rattle.job_top.proofs.Others.{run_others, made_others}
+use Rattle.job_top.proofs.Plays.{play_completes}
+use Rattle.job_top.proofs.Finds.{check_completes}
+use Rattle.job_top.proofs.Others.{run_others, made_others, play_others, check_others}
 use Rattle.job_top.proofs.top.ftmb.Goals as goal
 
 pub returns-in-Some-Run-clause-done : goal.returns-in-Some-Run-clause-done
@@ -16,7 +18,7 @@ returns-in-Some-Run-clause-completes g c ok told =
 
 pub returns-in-Some-Make-clause-completes : goal.returns-in-Some-Make-clause-completes
 returns-in-Some-Make-clause-completes g c ok told =
-    rw c.in-Some-Make.ensures (λ _. rw c.outcome.ensures (made_completes c.make_capture.result (c.make_capture.ensures.never_fails ok)))
+    rw (c.in-Some-Make.ensures, c.in-Some-Make.field-0-is) (λ _. rw c.outcome.ensures (made_completes c.make_capture.result (c.make_capture.ensures.never_fails ok)))
 
 pub returns-in-Some-Make-clause-refused : goal.returns-in-Some-Make-clause-refused
 returns-in-Some-Make-clause-refused g c told e = absurd (made_not_at_inputs c.make_capture.result (ap stage_of (sym c.outcome.ensures) ∙ e))
@@ -31,3 +33,33 @@ returns-in-Some-Run-clause-others g c told =
 pub returns-in-Some-Make-clause-others : goal.returns-in-Some-Make-clause-others
 returns-in-Some-Make-clause-others g c told =
     rw (c.in-Some-Make.ensures, c.in-Some-Make.field-0-is) (made_others (made_of c.in-Some-Make.words) c.make_capture.result (g.W.World.shown c.args.world.now) (g.W.World.shown c.make_capture.new.world) (c.make_capture.ensures.told told))
+
+pub returns-in-Some-Play-clause-done : goal.returns-in-Some-Play-clause-done
+returns-in-Some-Play-clause-done g c told done = rw (c.in-Some-Play.ensures, c.in-Some-Play.field-0-is) (c.play_capture.ensures.done told done)
+
+pub returns-in-Some-Play-clause-completes : goal.returns-in-Some-Play-clause-completes
+returns-in-Some-Play-clause-completes g c ok told =
+    rw (c.in-Some-Play.ensures, c.in-Some-Play.field-0-is)
+    (λ accepted. play_completes (g.W.World.healthy c.args.world.now) (play_names_of c.in-Some-Play.names) (g.W.World.shown c.args.world.now) ok accepted c.play_capture.result (c.play_capture.ensures.judged told))
+
+pub returns-in-Some-Play-clause-limit : goal.returns-in-Some-Play-clause-limit
+returns-in-Some-Play-clause-limit g c told limit e stage = absurd (c.play_capture.ensures.no_limit told limit e stage)
+
+pub returns-in-Some-Play-clause-others : goal.returns-in-Some-Play-clause-others
+returns-in-Some-Play-clause-others g c told =
+    rw (c.in-Some-Play.ensures, c.in-Some-Play.field-0-is) (play_others (play_names_of c.in-Some-Play.names) (g.W.World.shown c.args.world.now) (g.W.World.shown c.play_capture.new.world) (c.play_capture.ensures.in_order told))
+
+pub returns-in-Some-Check-clause-done : goal.returns-in-Some-Check-clause-done
+returns-in-Some-Check-clause-done g c told done = rw (c.in-Some-Check.ensures, c.in-Some-Check.field-0-is) (c.check_released.ensures.done told done)
+
+pub returns-in-Some-Check-clause-completes : goal.returns-in-Some-Check-clause-completes
+returns-in-Some-Check-clause-completes g c ok told =
+    rw (c.in-Some-Check.ensures, c.in-Some-Check.field-0-is)
+    (λ accepted. check_completes (g.W.World.healthy c.args.world.now) (check_names_of c.in-Some-Check.names) (g.W.World.shown c.args.world.now) ok accepted c.check_released.result (c.check_released.ensures.judged told))
+
+pub returns-in-Some-Check-clause-limit : goal.returns-in-Some-Check-clause-limit
+returns-in-Some-Check-clause-limit g c told limit e stage = absurd (c.check_released.ensures.no_limit told limit e stage)
+
+pub returns-in-Some-Check-clause-others : goal.returns-in-Some-Check-clause-others
+returns-in-Some-Check-clause-others g c told =
+    rw (c.in-Some-Check.ensures, c.in-Some-Check.field-0-is) (check_others (check_names_of c.in-Some-Check.names) (g.W.World.shown c.args.world.now) (g.W.World.shown c.check_released.new.world) (c.check_released.ensures.in_order told))

@@ -1,7 +1,7 @@
 use Rattle.std.proofs.Common.{◌≡◌, take}
 use Rattle.pcap_io.specs.Capture.{records_of}
 use Rattle.pcap_io.specs.declared.order.Order.TheVariants as order
-use Rattle.job_top.proofs.making.put_records.Given as goal
+use Rattle.schedule_run.proofs.texts.put_records.Given as goal
 
 -- the records of the packets so far
 abbrev pub invariant-loop-packet : goal.invariant-loop-packet

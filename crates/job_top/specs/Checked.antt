@@ -1,0 +1,37 @@
+-- The check of what a run left: with the same box and the same capture, of the schedule and the released capture that it wrote.
+use Rattle.std.specs.Prelude.{◌≡◌, ℕ, ◌≤◌, All, List, length}
+use Rattle.plain_text.specs.Octets.{IsOfBytes}
+use Rattle.plain_text.specs.declared.limit.TheConstants.{MOST_EVENTS, MOST_FILE_BYTES, MOST_PACKETS}
+use Rattle.plain_text.specs.declared.packet.Packet.{Packet}
+use Rattle.plain_text.specs.declared.packet.Unit.{Unit as FractionUnit}
+use Rattle.pcap_io.specs.Capture.{AreRecorded, written}
+use Rattle.plain_machine.specs.declared.plain_move.PlainMove.{PlainMove}
+use Rattle.plain_player.specs.Schedules.{FitLines}
+use Rattle.plain_player.specs.ScheduleText.{schedule_text}
+use Rattle.world_io.specs.World.{Shown}
+use Rattle.job_top.specs.Words.{RunNames, CheckNames}
+
+-- the names of a run, as those of a check
+abbrev pub checked : RunNames → CheckNames
+checked names = record {
+  files = record { box_file = names.box_file; capture = names.capture; schedule = names.schedule };
+  released = names.released;
+}
+
+-- The box file and the capture have the bytes that they had when the run began, and the outputs those that it left.
+pub record StillStand (names : RunNames) (old new later : Shown) : Type 0 where
+  pub box_file : later.names names.box_file ≡ old.names names.box_file
+  pub capture : later.names names.capture ≡ old.names names.capture
+  pub released : later.names names.released ≡ new.names names.released
+  pub schedule : later.names names.schedule ≡ new.names names.schedule
+
+-- The two files are within the limits of files that are read, and their numbers fit lines and records, as those of each `PlainMove` and
+-- of each `Packet` do.
+pub record CanBeRead (u : FractionUnit) (released : List Packet) (schedule : List PlainMove) : Type 0 where
+  pub few_moves : length schedule ≤ MOST_EVENTS
+  pub schedule_size : length (schedule_text schedule) ≤ MOST_FILE_BYTES
+  pub fit_lines : FitLines schedule
+  pub few_packets : length released ≤ MOST_PACKETS
+  pub released_size : length (written u released) ≤ MOST_FILE_BYTES
+  pub fit_records : AreRecorded released
+  pub of_bytes : All IsOfBytes released

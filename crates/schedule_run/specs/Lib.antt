@@ -1,0 +1,4 @@
+pub mod Checking
+pub mod Errors
+pub mod Playing
+pub mod Runs
