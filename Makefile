@@ -40,7 +40,8 @@ test:
 
 # Runs a box on a packet, the one of the program's stored run, and on two threads by a script of single events, and shows what was written.
 example: build/ftmb
-	scripts/example build/ftmb crates/ftmb/data build/example crates/ftmb_two_threads/data build/example/two_threads
+	scripts/example build/ftmb build/example $(addprefix crates/ftmb/data/,box capture script)
+	scripts/example build/ftmb build/example/two_threads $(addprefix crates/ftmb_runs/data/,box_two_threads capture_two_packets script_two_threads)
 
 # The bytes summed and the packets rewritten in a second; the packets made and run in a second; the moves that a master makes in a
 # second, beside those of the plain player; the frames written and read, the log entries held, the outputs released, the lines of a

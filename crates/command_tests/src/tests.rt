@@ -1,49 +1,20 @@
 ghost use Rattle.std.specs.Prelude.{◌≡◌, ◌+◌, ◌≤◌, length};
 
-use job_top::{InputFault, Status, ftmb};
+use crate::runs::{
+    Case, ONE, REFUSED, RUN, add_file, first_wrong, give_words, has_file, holds,
+    holds_where_reading_fails, holds_where_writing_fails,
+};
+use job_top::{InputFault, Status};
 use pcap_io::{CaptureCause, CaptureFault};
 use pcapng_io::{NgCause, NgFault};
-use plain_text::{Bytes, Limit, LineCause, LineFault, NoMemory, Sequence, Text};
+use plain_text::{LineCause, LineFault, NoMemory, Text};
 use sample_frames::{
-    LITTLE_MICRO, ONE_COUNTED, ONE_CUT, ONE_CUT_COUNTED, ONE_PACKET, ONE_UNCHANGED, TWO_COUNTED,
-    TWO_PACKETS, WRITTEN_MICRO,
+    LITTLE_MICRO, ONE_CUT, ONE_CUT_COUNTED, ONE_PACKET, ONE_UNCHANGED, TWO_COUNTED, TWO_PACKETS,
+    WRITTEN_MICRO,
 };
 use std::alloc::Global;
 use std::test::Fail;
 use world_io::MemoryWorld;
-
-const ONE_REPORT: &[u8] = b"settle moves 4 released 1 epoch 1\ndone fed 1 epoch 1 released 1\n";
-
-/// The input files of a run, and what it comes to: its status, its outputs, where they are there, and its report.
-#[derive(Clone, Copy)]
-struct Case<'a> {
-    box_file: &'a [u8],
-    capture: &'a [u8],
-    script: &'a [u8],
-    status: Status,
-    released: Option<&'a [u8]>,
-    schedule: Option<&'a [u8]>,
-    report: &'a [u8],
-}
-
-/// One packet through the counting box.
-const ONE: Case<'static> = Case {
-    box_file: b"box count",
-    capture: ONE_PACKET,
-    script: b"settle",
-    status: Status::Done,
-    released: Some(ONE_COUNTED),
-    schedule: Some(b"0\n0\n0\n0\n"),
-    report: ONE_REPORT,
-};
-
-/// The same, but it ends before anything is created.
-const REFUSED: Case<'static> = Case {
-    released: None,
-    schedule: None,
-    report: b"",
-    ..ONE
-};
 
 /// A pcapng capture of one packet, `QUERY`, as `ONE_PACKET` has it: a section header, an interface, an enhanced packet.
 const ONE_NG: &[u8] =
@@ -56,87 +27,6 @@ const NANO_COUNTED: &[u8] =
 /// The same capture, but its packet is of a second interface, which there is none of.
 const NO_INTERFACE: &[u8] =
     b"\x0a\x0d\x0d\x0a\x1c\0\0\0M<+\x1a\x01\0\0\0\xff\xff\xff\xff\xff\xff\xff\xff\x1c\0\0\0\x01\0\0\0\x14\0\0\0\x01\0\0\0\0\0\x04\0\x14\0\0\0\x06\0\0\0L\0\0\0\x01\0\0\0\0\0\0\0\x05\xe1\xf5\x05*\0\0\0*\0\0\0\x02\0\xaa\xaa\xaa\xaa\x02\0\0\0\0\x01\x08\0E\0\0\x1c\0\x01\0\0@\x11F\x91\x0a\0\0\x05\xc63d\x07\x13\x88\x005\0\x08\xb7\xe1\0\0L\0\0\0";
-
-/// The words of a run on the files of a case.
-const RUN: [&str; 6] = ["run", "box", "in", "script", "out", "moves"];
-
-/// Sets the bytes of a name.
-fn add_file(
-    alloc: Global,
-    world: &mut MemoryWorld,
-    name: &str,
-    bytes: &[u8],
-) -> Result<(), NoMemory>
-    ensures { length world.new.files ≡ length world.old.files }
-{
-    let name = Text::of(alloc, name)?;
-    world.add(&name, Bytes::of(alloc, bytes)?)
-}
-
-/// What words come to.
-fn give_words(alloc: Global, world: &mut MemoryWorld, words: &[&str]) -> Result<Status, NoMemory>
-    requires { length world.old.files ≤ 1000 }
-    ensures { length world.new.files ≤ length world.old.files + 5 }
-{
-    let mut texts = Sequence::new(alloc);
-    for word in words {
-        texts.push(Text::of(alloc, word)?)?;
-    }
-    Ok(ftmb(alloc, texts.as_slice(), world))
-}
-
-/// Whether a name has these bytes, or is not there.
-fn has_file(
-    alloc: Global,
-    world: &MemoryWorld,
-    name: &str,
-    bytes: Option<&[u8]>,
-) -> Result<bool, NoMemory> {
-    let name = Text::of(alloc, name)?;
-    Ok(world.bytes(&name) == bytes)
-}
-
-/// Whether the run of a case comes to what the case says, in a world that has given no numbers.
-fn comes_to(alloc: Global, world: &mut MemoryWorld, case: Case<'_>) -> Result<bool, NoMemory>
-    requires { length world.old.files ≡ 0 }
-{
-    add_file(alloc, world, "box", case.box_file)?;
-    add_file(alloc, world, "in", case.capture)?;
-    add_file(alloc, world, "script", case.script)?;
-    let status = give_words(alloc, world, &RUN)?;
-    let released = has_file(alloc, world, "out", case.released)?;
-    let schedule = has_file(alloc, world, "moves", case.schedule)?;
-    Ok(status == case.status && released && schedule && world.report() == case.report)
-}
-
-fn holds(alloc: Global, case: Case<'_>) -> Result<bool, NoMemory> {
-    let mut world = MemoryWorld::new(alloc)?;
-    comes_to(alloc, &mut world, case)
-}
-
-/// The place of the first case that does not come to what it says.
-fn first_wrong(alloc: Global, cases: &[Case<'_>]) -> Result<Option<usize>, NoMemory> {
-    for place in 0..cases.len() {
-        if !holds(alloc, cases[place])? {
-            return Ok(Some(place));
-        }
-    }
-    Ok(None)
-}
-
-/// Whether a run whose calls of writing fail at this one comes to what the case says.
-fn holds_where_writing_fails(alloc: Global, nth: u64, case: Case<'_>) -> Result<bool, NoMemory> {
-    let mut world = MemoryWorld::new(alloc)?;
-    world.fail_write(nth)?;
-    comes_to(alloc, &mut world, case)
-}
-
-/// Whether a run whose calls of reading fail at this one comes to what the case says.
-fn holds_where_reading_fails(alloc: Global, nth: u64, case: Case<'_>) -> Result<bool, NoMemory> {
-    let mut world = MemoryWorld::new(alloc)?;
-    world.fail_read(nth)?;
-    comes_to(alloc, &mut world, case)
-}
 
 /// What words come to in a world without files.
 fn answer(alloc: Global, words: &[&str]) -> Result<Status, NoMemory> {
@@ -306,14 +196,17 @@ fn judges_the_inputs_in_their_order(rt: HostRuntime) -> Result<(), Fail> {
     Ok(())
 }
 
-/// The reads of the case `ONE`: each of its three files is opened, gives its bytes, and then gives none.
+/// The reads of the case `WAITED`: each of its three files is opened, gives its bytes, and then gives none.
 const READS: u64 = 9;
 
 /// The first of the reads of a run that fails, and does not come to a read fault with nothing left.
 fn first_wrong_read(alloc: Global) -> Result<Option<u64>, NoMemory> {
     let read_fault = Case {
         status: Status::ReadFault,
-        ..REFUSED
+        released: None,
+        schedule: None,
+        report: b"",
+        ..WAITED
     };
     for nth in 1..READS + 1 {
         if !holds_where_reading_fails(alloc, nth, read_fault)? {
@@ -326,7 +219,35 @@ fn first_wrong_read(alloc: Global) -> Result<Option<u64>, NoMemory> {
 #[test]
 fn names_a_read_that_failed(rt: HostRuntime) -> Result<(), Fail> {
     assert_eq!(rt; first_wrong_read(rt.alloc())?, None);
-    assert!(rt; holds_where_reading_fails(rt.alloc(), READS + 1, ONE)?);
+    assert!(rt; holds_where_reading_fails(rt.alloc(), READS + 1, WAITED)?);
+    Ok(())
+}
+
+/// What a run comes to that names these inputs, where those of the case `ONE` are there.
+fn run_with(alloc: Global, world: &mut MemoryWorld, inputs: [&str; 3]) -> Result<Status, NoMemory>
+    requires { length world.old.files ≡ 0 }
+{
+    add_file(alloc, world, "box", ONE.box_file)?;
+    add_file(alloc, world, "in", ONE.capture)?;
+    add_file(alloc, world, "script", ONE.script)?;
+    let words = ["run", inputs[0], inputs[1], inputs[2], "out", "moves"];
+    give_words(alloc, world, &words)
+}
+
+/// Whether it ends with a read fault, and creates nothing.
+fn refuses_inputs(alloc: Global, inputs: [&str; 3]) -> Result<bool, NoMemory> {
+    let mut world = MemoryWorld::new(alloc)?;
+    let status = run_with(alloc, &mut world, inputs)?;
+    let nothing_created = has_file(alloc, &world, "out", None)?;
+    Ok(status == Status::ReadFault && nothing_created && world.report() == b"".as_slice())
+}
+
+#[test]
+fn names_an_input_that_is_not_there(rt: HostRuntime) -> Result<(), Fail> {
+    let alloc = rt.alloc();
+    assert!(rt; refuses_inputs(alloc, ["nowhere", "in", "script"])?);
+    assert!(rt; refuses_inputs(alloc, ["box", "nowhere", "script"])?);
+    assert!(rt; refuses_inputs(alloc, ["box", "in", "nowhere"])?);
     Ok(())
 }
 
@@ -463,22 +384,6 @@ fn refuses_other_words(rt: HostRuntime) -> Result<(), Fail> {
         assert_eq!(rt; answer(alloc, words)?, Status::BadWords);
     }
     assert_eq!(rt; answer(alloc, &RUN)?, Status::ReadFault);
-    Ok(())
-}
-
-#[test]
-fn stops_at_too_many_packets(rt: HostRuntime) -> Result<(), Fail> {
-    let alloc = rt.alloc();
-    let mut capture = Bytes::of(alloc, LITTLE_MICRO)?;
-    for _ in 0..65_537 {
-        capture.extend(&[0; 16])?;
-    }
-    let case = Case {
-        capture: capture.as_slice(),
-        status: Status::TooLarge(Limit::Packets),
-        ..REFUSED
-    };
-    assert!(rt; holds(alloc, case)?);
     Ok(())
 }
 

@@ -1,9 +1,0 @@
-//! The program once more, for a stored run: the help.
-#![tactic(auto)]
-
-use command_line::run_program;
-use std::process::ExitCode;
-
-fn main(rt: HostRuntime) -> ExitCode {
-    run_program(&rt)
-}
