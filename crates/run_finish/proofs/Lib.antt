@@ -1,0 +1,5 @@
+pub mod InputLemmas
+pub mod Rooms
+pub mod NextMoves
+pub mod Ways
+pub mod Endings

@@ -26,7 +26,7 @@ pub record IsEndOf {V : Type 0} (m : Meaning V) (s : Setting V) (w : World V) (f
   pub meaning : s.meaning ≡ m
   pub inputs : fed ≡ record { threads = s.threads; packets = take w.fed s.packets }
   pub master : IsAt s.meaning s.threads w.past p schedule
-  pub order : IsOrder s w order
+  pub in_order : IsOrder s w order
   pub released : AreGreatest w.released s.threads numbers
 
 -- it is that of some world

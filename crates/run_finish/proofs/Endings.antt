@@ -1,0 +1,178 @@
+-- A world ends in a run that takes no more than what was fed.
+use Rattle.std.proofs.Common.{◌≡◌, ℕ, ◌≤◌, ◌<◌, true, false, List, [], ◌∷◌, ◌++◌, length, take, refl, sym, ap, ◌∙◌, subst, inl, inr, ◌⊎◌, arith, length-take}
+use Rattle.std.specs.Prelude.{reverse, ◌↔◌}
+use Rattle.std.proofs.lemmas.List.{take-take, reverse-append}
+use Rattle.plain_text.specs.declared.packet.Packet.{Packet}
+use Rattle.input_logger.specs.Inputs.{Fed, inputs_of}
+use Rattle.entry_order.specs.Log.{Entry, IsLog, IsIn}
+use Rattle.entry_order.proofs.KeptEntries.{in_left, in_right, in_either}
+use Rattle.line_order.specs.Line.{IsByWeight}
+use Rattle.line_order.proofs.Runs.{history_more}
+use Rattle.line_order.proofs.SortedEntries.{sorted_once}
+use Rattle.plain_machine.specs.declared.plain_move.PlainMove.{PlainMove}
+use Rattle.plain_machine.specs.Program.{Meaning}
+use Rattle.plain_machine.specs.History.{Step, log_of, IsHistory}
+use Rattle.plain_machine.specs.Continue.{IsLed}
+use Rattle.plain_machine.proofs.Histories.{history_log}
+use Rattle.plain_machine.proofs.LoggedEffects.{entry_thread}
+use Rattle.master_core.specs.Mastered.{Mastered}
+use Rattle.master_core.specs.Standing.{Stands}
+use Rattle.recovery_world.specs.World.{Setting, Sent, World, inputs_fed, all_inputs}
+use Rattle.recovery_world.specs.Events.{Wakes, IsAmong, Recovers}
+use Rattle.recovery_world.specs.Finish.{IsToCome, IsLine, AllGoOn, IsFinish}
+use Rattle.recovery_laws.specs.Sound.{IsKept, Firm, Sound}
+use Rattle.recovery_laws.proofs.LedMoves.{led_log}
+use Rattle.recovery_laws.proofs.Worlds.{fed_found}
+use Rattle.recovery_laws.proofs.Finishes.{finish_there}
+use Rattle.run_finish.specs.Playing.{IsAt, LeadsBy, AreGreatest, SendsAll}
+use Rattle.run_finish.specs.Ending.{IsOrder, IsEndOf}
+
+-- the members of a list are those of its reverse
+in_reverse : (e : Entry) (xs : List Entry) → IsIn e xs → IsIn e (reverse xs)
+in_reverse e [] i = absurd i
+in_reverse e (x ∷ xs) i = subst (λ (l : List Entry). IsIn e l) (sym (reverse-append (x ∷ []) xs)) (go i (λ k. in_reverse e xs k))
+  where
+    go : (x ≡ e) ⊎ IsIn e xs → (IsIn e xs → IsIn e (reverse xs)) → IsIn e (reverse xs ++ x ∷ [])
+    go (inl same) rest = in_right e (reverse xs) (x ∷ []) (inl same)
+    go (inr k) rest = in_left e (reverse xs) (x ∷ []) (rest k)
+
+reverse_in : (e : Entry) (xs : List Entry) → IsIn e (reverse xs) → IsIn e xs
+reverse_in e [] i = absurd i
+reverse_in e (x ∷ xs) i = go (in_either e (reverse xs) (x ∷ []) (subst (λ (l : List Entry). IsIn e l) (reverse-append (x ∷ []) xs) i)) (λ k. reverse_in e xs k)
+  where
+    go : IsIn e (reverse xs) ⊎ IsIn e (x ∷ []) → (IsIn e (reverse xs) → IsIn e xs) → (x ≡ e) ⊎ IsIn e xs
+    go (inl k) rest = inr (rest k)
+    go (inr (inl same)) rest = inl same
+    go (inr (inr k)) rest = absurd k
+
+module _ {V : Type 0} (s : Setting V) (w : World V) (h : Sound s w) where
+  -- the setting in which the capture ends with what was fed
+  abbrev cut : Setting V
+  cut = record s { packets = take w.fed s.packets }
+
+  -- a run on what was fed is one there
+  same_inputs : (n : ℕ) (steps : List (Step V)) → IsHistory s.meaning (inputs_fed s n) s.threads steps → n ≡ w.fed → IsHistory s.meaning (inputs_fed cut w.fed) s.threads steps
+  same_inputs n steps k is =
+      subst (λ (l : List Packet). IsHistory s.meaning (inputs_of (record { threads = s.threads; packets = l })) s.threads steps) (ap (λ (j : ℕ). take j s.packets) is ∙ sym (take-take w.fed w.fed s.packets (omega arith))) k
+
+  kept_there : (log : List Entry) (o : Sent) → IsKept s w log o → IsKept cut w log o
+  kept_there log o k = record {
+    run = k.run;
+    history = same_inputs w.fed k.run k.history refl;
+    sends = k.sends;
+    before = k.before;
+    precedes = k.precedes;
+    of_run = k.of_run;
+    closed_there = k.closed_there;
+    known = k.known;
+    closed_here = k.closed_here;
+  }
+
+  -- the world is sound there too
+  cut_sound : Sound cut w
+  cut_sound = record {
+    firm = record {
+      fed = let n = h.firm.fed in let l = length-take w.fed s.packets in omega (arith, n, l);
+      legal = same_inputs w.fed w.past h.firm.legal refl;
+      stored = h.firm.stored;
+      copied = h.firm.copied;
+      down = h.firm.down;
+      more = h.firm.more;
+      to_come = h.firm.to_come;
+      log = h.firm.log;
+      known = h.firm.known;
+      closed = h.firm.closed;
+      here = h.firm.here;
+      follows = h.firm.follows;
+      only = h.firm.only;
+      origin = h.firm.origin;
+      origin_is = same_inputs w.fed h.firm.origin h.firm.origin_is refl;
+      made = h.firm.made;
+      held = h.firm.held;
+      held_once = h.firm.held_once;
+      held_on = h.firm.held_on;
+      released = λ o i. kept_there (h.firm.more ++ log_of w.past) o (h.firm.released o i);
+      sent = h.firm.sent;
+      once = h.firm.once;
+    };
+    waits = h.waits;
+  }
+
+  -- a run on what was fed is one on the whole capture
+  whole : (steps : List (Step V)) → IsHistory s.meaning (inputs_fed s w.fed) s.threads steps → IsHistory s.meaning (all_inputs s) s.threads steps
+  whole steps k = history_more s.meaning (inputs_fed s w.fed) (all_inputs s) s.threads (λ t i q e. fed_found s w.fed t i q e) steps k
+
+  -- The line and the run in which the world ends, which take no more than what was fed.
+  pub record FedFinish : Type 0 where
+    pub line : List (Step V)
+    pub line_is : IsLine s w line
+    pub line_fed : IsHistory s.meaning (inputs_fed s w.fed) s.threads line
+    pub steps : List (Step V)
+    pub finish : IsFinish s w steps
+    pub steps_fed : IsHistory s.meaning (inputs_fed s w.fed) s.threads steps
+    pub goes_on : AllGoOn w.released s.threads line steps
+
+  pub fed_finish : w.up ≡ true → FedFinish
+  fed_finish up = found (finish_there cut w cut_sound)
+    where
+      awake : (u : World V) → Wakes w u → u ≡ w
+      awake u (inl k) = k.1
+      awake u (inr k) = absurd (let d = k.0 in cc)
+
+      found : ((steps : List (Step V)) × IsFinish cut w steps) → FedFinish
+      found (steps, f) = record {
+        line = f.line;
+        line_is = line_is;
+        line_fed = there.history;
+        steps = steps;
+        finish = record { up = w; up_is = inl (up, refl); line = f.line; line_is = line_is; history = whole steps f.history; goes_on = goes };
+        steps_fed = f.history;
+        goes_on = goes;
+      }
+        where
+          same : f.up ≡ w
+          same = awake f.up f.up_is
+
+          there : IsLine cut w f.line
+          there = subst (λ (u : World V). IsLine cut u f.line) same f.line_is
+
+          goes : AllGoOn w.released s.threads f.line steps
+          goes = subst (λ (u : World V). AllGoOn u.released s.threads f.line steps) same f.goes_on
+
+          line_is : IsLine s w f.line
+          line_is = record { history = whole f.line there.history; more = there.more; to_come = there.to_come; order = there.order; led = there.led }
+
+  -- a line makes the entries to come in their order
+  pub order_is : (order : List Entry) (line : List (Step V)) → IsOrder s w order → (l : IsLine s w line) → l.more ≡ reverse order
+  order_is order line o l =
+      sorted_once s.threads (log_of line) (history_log s.meaning (all_inputs s) s.threads line l.history) (λ f i. entry_thread s.meaning (all_inputs s) s.threads line f l.history i)
+      l.more (reverse order)
+      (λ g i. subst (λ (log : List Entry). IsIn g log) (sym (led_log w.past l.more line l.led)) (in_left g l.more (log_of w.past) i))
+      (λ g i. in_reverse g order ((o.to_come g).1 ((l.to_come g).0 i)))
+      (λ g i. (l.to_come g).1 ((o.to_come g).0 (reverse_in g order i)))
+      l.order (o.by_weight line l)
+
+-- The ways that a master goes to the end of its world.
+pub record EndWays {V : Type 0} (m : Meaning V) (s : Setting V) (w : World V) (fed : Fed) (p : Mastered V) (schedule : List PlainMove) (order : List Entry) (numbers : List ℕ) : Type 0 where
+  pub line : List (Step V)
+  pub steps : List (Step V)
+  pub at : IsAt m s.threads w.past p schedule
+  pub leads : LeadsBy m fed order s.threads w.past line
+  pub sends : SendsAll m fed numbers s.threads line steps
+  pub finish : IsFinish s w steps
+
+pub end_ways : {V : Type 0} (m : Meaning V) (s : Setting V) (w : World V) (fed : Fed) (p : Mastered V) (schedule : List PlainMove) (order : List Entry) (numbers : List ℕ) → IsEndOf m s w fed p schedule order numbers → EndWays m s w fed p schedule order numbers
+end_ways {V} m s w fed p schedule order numbers e = record {
+  line = f.line;
+  steps = f.steps;
+  at = subst (λ (n : Meaning V). IsAt n s.threads w.past p schedule) e.meaning e.master;
+  leads = (as_fed f.line f.line_fed, subst (λ (l : List Entry). IsLed w.past l f.line) (order_is s w e.sound order f.line e.in_order f.line_is) f.line_is.led);
+  sends = (sym (ap (λ (i : Fed). i.threads) e.inputs), as_fed f.steps f.steps_fed, w.released, e.released, f.goes_on);
+  finish = f.finish;
+}
+  where
+    f : FedFinish s w e.sound
+    f = fed_finish s w e.sound e.up
+
+    as_fed : (xs : List (Step V)) → IsHistory s.meaning (inputs_fed s w.fed) s.threads xs → IsHistory m (inputs_of fed) s.threads xs
+    as_fed xs k = subst (λ (n : Meaning V). IsHistory n (inputs_of fed) s.threads xs) e.meaning (subst (λ (i : Fed). IsHistory s.meaning (inputs_of i) s.threads xs) (sym e.inputs) k)
