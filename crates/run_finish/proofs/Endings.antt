@@ -24,8 +24,8 @@ use Rattle.recovery_laws.specs.Sound.{IsKept, Firm, Sound}
 use Rattle.recovery_laws.proofs.LedMoves.{led_log}
 use Rattle.recovery_laws.proofs.Worlds.{fed_found}
 use Rattle.recovery_laws.proofs.Finishes.{finish_there}
-use Rattle.run_finish.specs.Playing.{IsAt, LeadsBy, AreGreatest, SendsAll}
-use Rattle.run_finish.specs.Ending.{IsOrder, IsEndOf}
+use Rattle.run_finish.specs.Playing.{IsAt, StandsBefore, PlaysOn, LeadsBy, AreGreatest, SendsAll}
+use Rattle.run_finish.specs.Ending.{IsOrder, IsEndOf, IsEndOfSome, EndsIn}
 
 -- the members of a list are those of its reverse
 in_reverse : (e : Entry) (xs : List Entry) → IsIn e xs → IsIn e (reverse xs)
@@ -176,3 +176,22 @@ end_ways {V} m s w fed p schedule order numbers e = record {
 
     as_fed : (xs : List (Step V)) → IsHistory s.meaning (inputs_fed s w.fed) s.threads xs → IsHistory m (inputs_of fed) s.threads xs
     as_fed xs k = subst (λ (n : Meaning V). IsHistory n (inputs_of fed) s.threads xs) e.meaning (subst (λ (i : Fed). IsHistory s.meaning (inputs_of i) s.threads xs) (sym e.inputs) k)
+
+-- So it makes the entries to come, sends out again what was released, and is at the end of the world.
+module _ {V : Type 0} (m : Meaning V) (fed : Fed) (p : Mastered V) (schedule : List PlainMove) (order : List Entry) (numbers : List ℕ) where
+  pub leads_from : IsEndOfSome m fed p schedule order numbers → StandsBefore (LeadsBy m fed order) m p schedule
+  leads_from some =
+      let k = end_ways m some.0 some.1 fed p schedule order numbers some.2 in
+      (some.0.threads, some.1.past, k.line, k.leads, k.at)
+
+  pub sends_from : (q : Mastered V) (moves : List PlainMove) → IsEndOfSome m fed p schedule order numbers → PlaysOn (LeadsBy m fed order) m p schedule q moves → StandsBefore (SendsAll m fed numbers) m q moves
+  sends_from q moves some follows =
+      let k = end_ways m some.0 some.1 fed p schedule order numbers some.2 in
+      (some.0.threads, k.line, k.steps, k.sends, follows some.0.threads some.1.past k.line k.leads k.at)
+
+  pub ends_from : (q : Mastered V) (moves : List PlainMove) (r : Mastered V) (all : List PlainMove) → PlaysOn (LeadsBy m fed order) m p schedule q moves → PlaysOn (SendsAll m fed numbers) m q moves r all
+      → (s : Setting V) (w : World V) → IsEndOf m s w fed p schedule order numbers → EndsIn s w all
+  ends_from q moves r all follows sends s w e =
+      let k = end_ways m s w fed p schedule order numbers e in
+      let at = sends s.threads k.line k.steps k.sends (follows s.threads w.past k.line k.leads k.at) in
+      record { steps = k.steps; finish = k.finish; schedule_is = at.schedule_is }

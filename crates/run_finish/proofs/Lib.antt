@@ -2,4 +2,5 @@ pub mod InputLemmas
 pub mod Rooms
 pub mod NextMoves
 pub mod Ways
+pub mod Loops
 pub mod Endings
