@@ -1,12 +1,11 @@
 -- A world ends in a run that takes no more than what was fed.
-use Rattle.std.proofs.Common.{◌≡◌, ℕ, ◌≤◌, ◌<◌, true, false, List, [], ◌∷◌, ◌++◌, length, take, refl, sym, ap, ◌∙◌, subst, inl, inr, ◌⊎◌, arith, length-take}
-use Rattle.std.specs.Prelude.{reverse, ◌↔◌}
+use Rattle.std.proofs.Common.{◌≡◌, ℕ, true, List, [], ◌∷◌, ◌++◌, take, refl, sym, ap, ◌∙◌, subst, inl, inr, ◌⊎◌, arith, length-take}
+use Rattle.std.specs.Prelude.{reverse}
 use Rattle.std.proofs.lemmas.List.{take-take, reverse-append}
 use Rattle.plain_text.specs.declared.packet.Packet.{Packet}
 use Rattle.input_logger.specs.Inputs.{Fed, inputs_of}
-use Rattle.entry_order.specs.Log.{Entry, IsLog, IsIn}
+use Rattle.entry_order.specs.Log.{Entry, IsIn}
 use Rattle.entry_order.proofs.KeptEntries.{in_left, in_right, in_either}
-use Rattle.line_order.specs.Line.{IsByWeight}
 use Rattle.line_order.proofs.Runs.{history_more}
 use Rattle.line_order.proofs.SortedEntries.{sorted_once}
 use Rattle.plain_machine.specs.declared.plain_move.PlainMove.{PlainMove}
@@ -16,15 +15,14 @@ use Rattle.plain_machine.specs.Continue.{IsLed}
 use Rattle.plain_machine.proofs.Histories.{history_log}
 use Rattle.plain_machine.proofs.LoggedEffects.{entry_thread}
 use Rattle.master_core.specs.Mastered.{Mastered}
-use Rattle.master_core.specs.Standing.{Stands}
 use Rattle.recovery_world.specs.World.{Setting, Sent, World, inputs_fed, all_inputs}
-use Rattle.recovery_world.specs.Events.{Wakes, IsAmong, Recovers}
-use Rattle.recovery_world.specs.Finish.{IsToCome, IsLine, AllGoOn, IsFinish}
-use Rattle.recovery_laws.specs.Sound.{IsKept, Firm, Sound}
+use Rattle.recovery_world.specs.Events.{Wakes}
+use Rattle.recovery_world.specs.Finish.{IsLine, AllGoOn, IsFinish}
+use Rattle.recovery_laws.specs.Sound.{IsKept, Sound}
 use Rattle.recovery_laws.proofs.LedMoves.{led_log}
 use Rattle.recovery_laws.proofs.Worlds.{fed_found}
 use Rattle.recovery_laws.proofs.Finishes.{finish_there}
-use Rattle.run_finish.specs.Playing.{IsAt, StandsBefore, PlaysOn, LeadsBy, AreGreatest, SendsAll}
+use Rattle.run_finish.specs.Playing.{IsAt, StandsBefore, PlaysOn, LeadsBy, SendsAll}
 use Rattle.run_finish.specs.Ending.{IsOrder, IsEndOf, IsEndOfSome, EndsIn}
 
 -- the members of a list are those of its reverse

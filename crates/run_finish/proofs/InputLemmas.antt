@@ -1,5 +1,5 @@
 -- The packet that a thread's next move is made with.
-use Rattle.std.proofs.Common.{◌≡◌, ℕ, suc, ◌+◌, ◌<◌, List, refl, sym, ap, ◌∙◌, subst, arith, Option, Some, None, add-one, []}
+use Rattle.std.proofs.Common.{◌≡◌, ℕ, suc, ◌+◌, ◌<◌, List, refl, sym, ap, ◌∙◌, arith, Option, Some, None, add-one, []}
 use Rattle.std.specs.Prelude.{◌^◌, slice_get, slice_index_or, is_some, IsTrue, IsSome, true}
 use Rattle.std.specs.Option.{option_map}
 use Rattle.std.proofs.lemmas.Option.{slice_get-get_or}

@@ -1,21 +1,18 @@
 -- A round of each loop.
-use Rattle.std.proofs.Common.{◌≡◌, ℕ, suc, ◌+◌, ◌≤◌, ◌<◌, List, [], ◌∷◌, length, drop, refl, sym, ap, ◌∙◌, subst, inl, inr, ◌⊎◌, arith, add-one, Option}
-use Rattle.std.specs.Prelude.{◌^◌, slice_index_or, slice_index}
+use Rattle.std.proofs.Common.{◌≡◌, ℕ, suc, ◌+◌, ◌≤◌, ◌<◌, List, ◌∷◌, length, drop, sym, ap, ◌∙◌, subst, inl, inr, ◌⊎◌, arith, add-one}
+use Rattle.std.specs.Prelude.{slice_index_or, slice_index}
 use Rattle.std.specs.Option.{unwrap_or}
 use Rattle.std.proofs.Math.Seq.{drop-cons}
-use Rattle.std.proofs.lemmas.List.{drop_all}
 use Rattle.input_logger.specs.Inputs.{Fed}
 use Rattle.entry_order.specs.Log.{Entry, entries}
 use Rattle.plain_machine.specs.declared.plain_move.PlainMove.{PlainMove}
-use Rattle.plain_machine.specs.Program.{Meaning, IsLawful}
+use Rattle.plain_machine.specs.Program.{Meaning}
 use Rattle.plain_machine.specs.History.{Step, log_of, sent_of, outputs}
 use Rattle.master_core.specs.declared.parts.ThreadPart.{ThreadPart}
 use Rattle.master_core.specs.declared.parts.Counts.{Counts}
 use Rattle.master_core.specs.Mastered.{Mastered}
-use Rattle.recovery_world.specs.World.{Sent}
 use Rattle.recovery_world.specs.Files.{answer_of_entry}
-use Rattle.recovery_world.specs.Finish.{greatest}
-use Rattle.run_finish.specs.Playing.{IsAt, StandsBefore, PlaysOn, MakesNext, LeadsTo, LeadsBy, SendsUpTo, AreGreatest, SendsAll}
+use Rattle.run_finish.specs.Playing.{IsAt, StandsBefore, PlaysOn, MakesNext, LeadsTo, LeadsBy, SendsUpTo, SendsAll}
 use Rattle.run_finish.proofs.InputLemmas.{none_part}
 use Rattle.run_finish.proofs.Ways.{IsOnWay, LeadsOrMade, led_count, led_end, led_on, first_led, sends_on, sends_end, SendsRest, sends_first, sends_next, sends_over}
 

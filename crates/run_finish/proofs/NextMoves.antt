@@ -1,9 +1,8 @@
 -- The move that a master makes is the next one on its way.
-use Rattle.std.proofs.Common.{◌≡◌, ℕ, ◌+◌, ◌-◌, ◌*◌, ◌≤◌, ◌<◌, ◌≢◌, List, [], ◌∷◌, ◌++◌, length, refl, sym, ap, ◌∙◌, subst, inl, inr, ◌⊎◌, arith, Option, Some, None, Ok, true, false}
-use Rattle.std.specs.Prelude.{◌^◌, slice_get, slice_index_or, is_some, ◌==◌}
-use Rattle.std.proofs.lemmas.List.Sums.{length-filter, count_by-le-length}
+use Rattle.std.proofs.Common.{◌≡◌, ℕ, ◌<◌, List, [], ◌∷◌, ◌++◌, length, refl, sym, ap, ◌∙◌, subst, Option, Some, None, Ok, false}
+use Rattle.std.specs.Prelude.{◌^◌, is_some}
 use Rattle.plain_text.specs.declared.packet.Packet.{Packet}
-use Rattle.input_logger.specs.Inputs.{Fed, inputs_of, thread_of}
+use Rattle.input_logger.specs.Inputs.{Fed, inputs_of}
 use Rattle.entry_order.specs.declared.what.What.TheVariants as what
 use Rattle.entry_order.specs.Log.{Entry}
 use Rattle.plain_machine.specs.declared.local.Move.{Move}
@@ -11,17 +10,14 @@ use Rattle.plain_machine.specs.declared.local.Move.TheVariants.{Access, Read, Cl
 use Rattle.plain_machine.specs.declared.plain_move.PlainMove.{PlainMove}
 use Rattle.plain_machine.specs.Program.{Meaning, IsLawful}
 use Rattle.plain_machine.specs.Machine.{Hand}
-use Rattle.plain_machine.specs.History.{Act, Took, Did, Emitted, Ended, Step, log_of, moves_of, entry_of, thread_after, value_after, plain_move, IsStep, IsHistory}
-use Rattle.plain_machine.proofs.Histories.{moves_step}
-use Rattle.plain_machine.proofs.Bounds.{few_moves}
+use Rattle.plain_machine.specs.History.{Act, Did, Step, log_of, entry_of, thread_after, value_after, plain_move, IsStep, IsHistory}
 use Rattle.plain_machine.proofs.Seats.{same_step}
 use Rattle.box_program.specs.Hands.{has_hand, IsInputAfter, input_for}
-use Rattle.line_order.proofs.Hands.{taken_within}
 use Rattle.master_core.specs.declared.step.Stepped.{Stepped}
 use Rattle.master_core.specs.declared.step.Stepped.TheVariants as stepped
-use Rattle.master_core.specs.Mastered.{Mastered, moves_made as part_moves, place_in_hand, HasRoom}
+use Rattle.master_core.specs.Mastered.{Mastered, place_in_hand, HasRoom}
 use Rattle.master_core.specs.Standing.{Stands}
-use Rattle.master_core.specs.Stepping.{told_for, told_in, move_of, Makes, Follows, MadeOne, plain_entry}
+use Rattle.master_core.specs.Stepping.{told_for, told_in, move_of, Makes, Follows, MadeOne}
 use Rattle.recovery_world.specs.Files.{answer_of_entry, answer_of, moves_made}
 use Rattle.recovery_laws.proofs.LedMoves.{EntryFor, move_entry, Made, made_move, made_step}
 use Rattle.recovery_laws.proofs.Replays.{no_step}

@@ -1,9 +1,8 @@
 -- The ways on from where a master is, move by move.
-use Rattle.std.proofs.Common.{◌≡◌, ℕ, zero, suc, ◌+◌, ◌≤◌, ◌<◌, List, [], ◌∷◌, ◌++◌, length, refl, sym, ap, ◌∙◌, subst, inl, inr, ◌⊎◌, arith, Option, Some, None}
+use Rattle.std.proofs.Common.{◌≡◌, ℕ, zero, suc, ◌+◌, ◌≤◌, ◌<◌, List, [], ◌∷◌, ◌++◌, refl, sym, ap, ◌∙◌, subst, inl, inr, ◌⊎◌, arith, Option}
 use Rattle.std.specs.Prelude.{reverse}
 use Rattle.std.specs.Option.{unwrap_or}
 use Rattle.std.proofs.lemmas.List.{reverse-append}
-use Rattle.plain_text.specs.declared.packet.Packet.{Packet}
 use Rattle.input_logger.specs.Inputs.{Fed, inputs_of}
 use Rattle.entry_order.specs.Log.{Entry, entries}
 use Rattle.entry_order.proofs.Order.{entries_same}
@@ -16,7 +15,7 @@ use Rattle.plain_machine.proofs.Histories.{earlier_refl, earlier_trans, earlier_
 use Rattle.line_order.proofs.QuietMoves.{quiet_later, quiet_same_log}
 use Rattle.master_core.specs.Mastered.{Mastered}
 use Rattle.recovery_world.specs.World.{Sent}
-use Rattle.recovery_world.specs.Files.{answer_of_entry, answer_of}
+use Rattle.recovery_world.specs.Files.{answer_of_entry}
 use Rattle.recovery_world.specs.Finish.{greatest, GoesOn, AllGoOn}
 use Rattle.run_finish.specs.Playing.{IsAt, IsTold, MakesNext, LeadsTo, LeadsBy, SendsUpTo, AreGreatest, SendsAll}
 
@@ -61,8 +60,7 @@ module _ {V : Type 0} (m : Meaning V) (fed : Fed) (threads : ℕ) (e : Entry) wh
   led_count now [] l = absurd l.1
   led_count now (x ∷ to) l =
       let q : GoesQuietly now e.thread to = subst (λ (z : List (Step V)). GoesQuietly z e.thread to) l.1.3 l.1.2 in
-      let d = did_entry x.thread x.after.taken to l.0.0.2 e l.1.0.0 (sym l.0.0.4 ∙ l.1.0.1) in
-      (
+      let d = did_entry x.thread x.after.taken to l.0.0.2 e l.1.0.0 (sym l.0.0.4 ∙ l.1.0.1) in (
         subst (λ (u : ℕ). u < threads) (sym d.0) l.0.0.0,
         d.1 ∙ (ap (λ (u : ℕ). entries u (log_of to) + 1) (sym d.0) ∙ ap (λ (log : List Entry). entries e.thread log + 1) (quiet_same_log now e.thread to q)),
       )

@@ -1,6 +1,5 @@
 -- How a master plays on: where it is, and the ways on from there.
 use Rattle.std.specs.Prelude.{◌≡◌, ℕ, ◌<◌, List, [], ◌∷◌, reverse, slice_index, Option, Some, None}
-use Rattle.plain_text.specs.declared.packet.Packet.{Packet}
 use Rattle.input_logger.specs.Inputs.{Fed, inputs_of}
 use Rattle.entry_order.specs.Log.{Entry}
 use Rattle.plain_machine.specs.declared.plain_move.PlainMove.{PlainMove}

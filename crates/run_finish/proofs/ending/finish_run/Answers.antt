@@ -1,4 +1,3 @@
-use Rattle.run_finish.specs.Playing.{LeadsBy, SendsAll}
 use Rattle.run_finish.proofs.Endings.{leads_from, sends_from, ends_from}
 use Rattle.run_finish.proofs.ending.finish_run.Goals as goal
 

@@ -37,7 +37,7 @@ moves-preserved g c = record {
   leads =
       one_on (g.P.Program.meaning c.args.program.now) c.args.inputs.now c.entry.inside.thread c.unwrap_or-answer.result (LeadsTo (g.P.Program.meaning c.args.program.now) c.args.inputs.now c.args.entry.now) (LeadsOrMade (g.P.Program.meaning c.args.program.now) c.args.inputs.now c.args.entry.now) c.args.self.now.master c.moves.self.master c.args.self.now.schedule c.moves.self.schedule c.moves.invariant.leads
       (to_goes (g.P.Program.meaning c.args.program.now) c.args.inputs.now c.args.entry.now c.entry.inside.thread c.entry.inside.number c.unwrap_or-answer.result (ap (λ (e : Entry). e.thread) c.entry.view_is) (ap (λ (e : Entry). e.number) c.entry.view_is) (told c.entry.inside.what c.unwrap_or-answer.result c.answer_of.result c.args.entry.now c.unwrap_or-answer.ensures c.answer_of.ensures (ap (λ (e : Entry). e.what) c.entry.view_is))
-    c.moves.self.master c.moves.self.schedule c.counts.result c.counts.ensures c.moves-test.true)
+      c.moves.self.master c.moves.self.schedule c.counts.result c.counts.ensures c.moves-test.true)
       c.play_next.new.self.master c.play_next.new.self.schedule c.in_ok-play_next.ensures.plays;
 }
 

@@ -9,5 +9,5 @@ abbrev pub invariant-threads : goal.invariant-threads
 invariant-threads g l = record {
   fits : FitsProgram (g.P.Program.meaning l.program) (g.P.Program.fits l.program) value_of l.self.master.vars;
   sends : IsOnWay (SendsAll (g.P.Program.meaning l.program) l.inputs l.numbers) (SendsRest (g.P.Program.meaning l.program) l.inputs l.numbers l.thread)
-  (g.P.Program.meaning l.program) l.initial.self.master l.initial.self.schedule l.self.master l.self.schedule;
+      (g.P.Program.meaning l.program) l.initial.self.master l.initial.self.schedule l.self.master l.self.schedule;
 }
