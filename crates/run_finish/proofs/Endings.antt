@@ -5,14 +5,16 @@ use Rattle.std.proofs.lemmas.List.{take-take, reverse-append}
 use Rattle.plain_text.specs.declared.packet.Packet.{Packet}
 use Rattle.input_logger.specs.Inputs.{Fed, inputs_of}
 use Rattle.entry_order.specs.Log.{Entry, IsIn}
+use Rattle.entry_order.proofs.ClosedParts.{Or, in_or}
 use Rattle.entry_order.proofs.KeptEntries.{in_left, in_right, in_either}
+use Rattle.line_order.specs.Line.{IsByWeight, GoesBefore}
 use Rattle.line_order.proofs.Runs.{history_more}
 use Rattle.line_order.proofs.SortedEntries.{sorted_once}
 use Rattle.plain_machine.specs.declared.plain_move.PlainMove.{PlainMove}
 use Rattle.plain_machine.specs.Program.{Meaning}
 use Rattle.plain_machine.specs.History.{Step, log_of, IsHistory}
 use Rattle.plain_machine.specs.Continue.{IsLed}
-use Rattle.plain_machine.proofs.Histories.{history_log}
+use Rattle.plain_machine.proofs.Histories.{history_log, earlier_history, earlier_log}
 use Rattle.plain_machine.proofs.LoggedEffects.{entry_thread}
 use Rattle.master_core.specs.Mastered.{Mastered}
 use Rattle.recovery_world.specs.World.{Setting, Sent, World, inputs_fed, all_inputs}
@@ -22,8 +24,11 @@ use Rattle.recovery_laws.specs.Sound.{IsKept, Sound}
 use Rattle.recovery_laws.proofs.LedMoves.{led_log}
 use Rattle.recovery_laws.proofs.Worlds.{fed_found}
 use Rattle.recovery_laws.proofs.Finishes.{finish_there}
-use Rattle.run_finish.specs.Playing.{IsAt, StandsBefore, PlaysOn, LeadsBy, SendsAll}
-use Rattle.run_finish.specs.Ending.{IsOrder, IsEndOf, IsEndOfSome, EndsIn}
+use Rattle.run_finish.specs.Playing.{IsAt, StandsBefore, PlaysOn, LeadsTo, LeadsBy, SendsAll}
+use Rattle.run_finish.proofs.Ways.{led_later, led_split}
+use Rattle.run_finish.specs.Ending.{AreInOrder, IsOrder, IsEndOf, IsEndOfSome, EndsIn}
+
+-- Entries in order, the oldest one first
 
 -- the members of a list are those of its reverse
 in_reverse : (e : Entry) (xs : List Entry) → IsIn e xs → IsIn e (reverse xs)
@@ -42,6 +47,73 @@ reverse_in e (x ∷ xs) i = go (in_either e (reverse xs) (x ∷ []) (subst (λ (
     go (inl k) rest = inr (rest k)
     go (inr (inl same)) rest = inl same
     go (inr (inr k)) rest = absurd k
+
+-- the newest one first they are by weight
+by_more : (log : List Entry) (x : Entry) (ys : List Entry) → IsByWeight log ys → ((f : Entry) → IsIn f ys → GoesBefore log x f) → IsByWeight log (ys ++ x ∷ [])
+by_more log x [] by all = ((λ f i. absurd i), tt)
+by_more log x (y ∷ ys) by all = ((λ f i. go f (in_either f ys (x ∷ []) i)), by_more log x ys by.1 (λ f i. all f (inr i)))
+  where
+    go : (f : Entry) → IsIn f ys ⊎ IsIn f (x ∷ []) → GoesBefore log f y
+    go f (inl i) = by.0 f i
+    go f (inr (inl same)) = subst (λ (z : Entry). GoesBefore log z y) same (all y (inl refl))
+    go f (inr (inr i)) = absurd i
+
+by_reverse : (log xs : List Entry) → AreInOrder log xs → IsByWeight log (reverse xs)
+by_reverse log [] a = tt
+by_reverse log (x ∷ xs) a = subst (λ (l : List Entry). IsByWeight log l) (sym (reverse-append (x ∷ []) xs)) (by_more log x (reverse xs) (by_reverse log xs a.1) (λ f i. a.0 f (reverse_in f xs i)))
+
+-- those that are not made
+abbrev unmade_if : {P : Type 0} → Or P → Entry → List Entry → List Entry
+unmade_if (inl old) e rest = rest
+unmade_if (inr new) e rest = e ∷ rest
+
+abbrev unmade : List Entry → List Entry → List Entry
+unmade made [] = []
+unmade made (e ∷ later) = unmade_if (in_or e made) e (unmade made later)
+
+unmade_in : (made xs : List Entry) (e : Entry) → IsIn e (unmade made xs) → IsIn e xs × (IsIn e made → ⊥)
+unmade_in made [] e h = absurd h
+unmade_in made (x ∷ xs) e h = go (in_or x made) h (unmade_in made xs e)
+  where
+    go : (o : Or (IsIn x made)) → IsIn e (unmade_if o x (unmade made xs)) → (IsIn e (unmade made xs) → IsIn e xs × (IsIn e made → ⊥)) → IsIn e (x ∷ xs) × (IsIn e made → ⊥)
+    go (inl k) h rest = (inr (rest h).0, (rest h).1)
+    go (inr k) (inl same) rest = (inl same, λ i. k (subst (λ (z : Entry). IsIn z made) (sym same) i))
+    go (inr k) (inr h) rest = (inr (rest h).0, (rest h).1)
+
+in_unmade : (made xs : List Entry) (e : Entry) → IsIn e xs → (IsIn e made → ⊥) → IsIn e (unmade made xs)
+in_unmade made [] e h never = absurd h
+in_unmade made (x ∷ xs) e h never = go (in_or x made) h (λ k. in_unmade made xs e k never)
+  where
+    go : (o : Or (IsIn x made)) → IsIn e (x ∷ xs) → (IsIn e xs → IsIn e (unmade made xs)) → IsIn e (unmade_if o x (unmade made xs))
+    go (inl k) (inl same) rest = absurd (never (subst (λ (z : Entry). IsIn z made) same k))
+    go (inl k) (inr h) rest = rest h
+    go (inr k) (inl same) rest = inl same
+    go (inr k) (inr h) rest = inr (rest h)
+
+-- they are in order too
+order_unmade : (log set xs : List Entry) → AreInOrder log xs → AreInOrder log (unmade set xs)
+order_unmade log set [] a = tt
+order_unmade log set (x ∷ xs) a = go (in_or x set) (order_unmade log set xs a.1)
+  where
+    go : (o : Or (IsIn x set)) → AreInOrder log (unmade set xs) → AreInOrder log (unmade_if o x (unmade set xs))
+    go (inl old) rest = rest
+    go (inr new) rest = ((λ f i. a.0 f (unmade_in set xs f i).0), rest)
+
+-- A run that makes those that are not made yet goes by all of them.
+leads_by : {V : Type 0} (m : Meaning V) (fed : Fed) (threads : ℕ) (made order : List Entry) (now line : List (Step V)) → ((e : Entry) → IsIn e made → IsIn e (log_of now)) → IsHistory m (inputs_of fed) threads line
+    → IsLed now (reverse (unmade made order)) line → LeadsBy m fed order threads now line
+leads_by m fed threads made [] now line old h led = (h, led)
+leads_by {V} m fed threads made (e ∷ order) now line old h led = go (in_or e made) led (λ mid grows l. leads_by m fed threads made order mid line grows h l)
+  where
+    history : (mid : List (Step V)) (more : List Entry) → IsLed mid more line → IsHistory m (inputs_of fed) threads mid
+    history mid more l = earlier_history m (inputs_of fed) threads mid line (led_later mid more line l) h
+
+    go : (o : Or (IsIn e made)) → IsLed now (reverse (unmade_if o e (unmade made order))) line → ((mid : List (Step V)) → ((f : Entry) → IsIn f made → IsIn f (log_of mid)) → IsLed mid (reverse (unmade made order)) line → LeadsBy m fed order threads mid line)
+        → (mid : List (Step V)) × LeadsTo m fed e threads now mid × LeadsBy m fed order threads mid line
+    go (inl there) l rest = (now, (history now (reverse (unmade made order)) l, inl (old e there, refl)), rest now old l)
+    go (inr new) l rest =
+        let r = led_split now (reverse (unmade made order)) e line (subst (λ (more : List Entry). IsLed now more line) (reverse-append (e ∷ []) (unmade made order)) l) in
+        (r.0, (history r.0 (reverse (unmade made order)) r.2, inr r.1), rest r.0 (λ f i. earlier_log now r.0 f (led_later now (e ∷ []) r.0 r.1) (old f i)) r.2)
 
 module _ {V : Type 0} (s : Setting V) (w : World V) (h : Sound s w) where
   -- the setting in which the capture ends with what was fed
@@ -141,14 +213,14 @@ module _ {V : Type 0} (s : Setting V) (w : World V) (h : Sound s w) where
           line_is = record { history = whole f.line there.history; more = there.more; to_come = there.to_come; order = there.order; led = there.led }
 
   -- a line makes the entries to come in their order
-  pub order_is : (order : List Entry) (line : List (Step V)) → IsOrder s w order → (l : IsLine s w line) → l.more ≡ reverse order
+  pub order_is : (order : List Entry) (line : List (Step V)) → IsOrder s w order → (l : IsLine s w line) → l.more ≡ reverse (unmade (log_of w.past) order)
   order_is order line o l =
       sorted_once s.threads (log_of line) (history_log s.meaning (all_inputs s) s.threads line l.history) (λ f i. entry_thread s.meaning (all_inputs s) s.threads line f l.history i)
-      l.more (reverse order)
+      l.more (reverse (unmade (log_of w.past) order))
       (λ g i. subst (λ (log : List Entry). IsIn g log) (sym (led_log w.past l.more line l.led)) (in_left g l.more (log_of w.past) i))
-      (λ g i. in_reverse g order ((o.to_come g).1 ((l.to_come g).0 i)))
-      (λ g i. (l.to_come g).1 ((o.to_come g).0 (reverse_in g order i)))
-      l.order (o.by_weight line l)
+      (λ g i. let k = (l.to_come g).0 i in in_reverse g (unmade (log_of w.past) order) (in_unmade (log_of w.past) order g (o.all g k) k.1))
+      (λ g i. let k = unmade_in (log_of w.past) order g (reverse_in g (unmade (log_of w.past) order) i) in (l.to_come g).1 (o.followed g k.0, k.1))
+      l.order (by_reverse (log_of line) (unmade (log_of w.past) order) (order_unmade (log_of line) (log_of w.past) order (o.in_order line l)))
 
 -- The ways that a master goes to the end of its world.
 pub record EndWays {V : Type 0} (m : Meaning V) (s : Setting V) (w : World V) (fed : Fed) (p : Mastered V) (schedule : List PlainMove) (order : List Entry) (numbers : List ℕ) : Type 0 where
@@ -164,7 +236,7 @@ end_ways {V} m s w fed p schedule order numbers e = record {
   line = f.line;
   steps = f.steps;
   at = subst (λ (n : Meaning V). IsAt n s.threads w.past p schedule) e.meaning e.master;
-  leads = (as_fed f.line f.line_fed, subst (λ (l : List Entry). IsLed w.past l f.line) (order_is s w e.sound order f.line e.in_order f.line_is) f.line_is.led);
+  leads = leads_by m fed s.threads (log_of w.past) order w.past f.line (λ g i. i) (as_fed f.line f.line_fed) (subst (λ (l : List Entry). IsLed w.past l f.line) (order_is s w e.sound order f.line e.in_order f.line_is) f.line_is.led);
   sends = (sym (ap (λ (i : Fed). i.threads) e.inputs), as_fed f.steps f.steps_fed, w.released, e.released, f.goes_on);
   finish = f.finish;
 }

@@ -14,7 +14,7 @@ use Rattle.master_core.specs.Mastered.{Mastered}
 use Rattle.recovery_world.specs.Files.{answer_of_entry}
 use Rattle.run_finish.specs.Playing.{IsAt, StandsBefore, PlaysOn, MakesNext, LeadsTo, LeadsBy, SendsUpTo, SendsAll}
 use Rattle.run_finish.proofs.InputLemmas.{none_part}
-use Rattle.run_finish.proofs.Ways.{IsOnWay, LeadsOrMade, led_count, led_end, led_on, first_led, sends_on, sends_end, SendsRest, sends_first, sends_next, sends_over}
+use Rattle.run_finish.proofs.Ways.{IsOnWay, LedOn, LeadsOrMade, led_count, led_on, led_start, led_low, led_high, sends_on, sends_end, SendsRest, sends_first, sends_next, sends_over}
 
 -- the counts are those of the thread's part
 abbrev pub IsCounted : {V : Type 0} → Mastered V → ℕ → Counts → Type 0
@@ -43,7 +43,21 @@ module _ {V : Type 0} (m : Meaning V) (fed : Fed) (t answer : ℕ) (Leads Rests 
       let g = goes threads now steps k.0 leads k.1 k.2 in
       (g.next ∷ k.0, g.rests, plays threads k.0 (g.next ∷ k.0) g.makes k.2)
 
--- To an entry, whose thread, number and answer these are
+-- To an entry, which may be made
+
+pub to_starts : {V : Type 0} (m : Meaning V) (fed : Fed) (e : Entry) (p : Mastered V) (moves : List PlainMove) → IsOnWay (LeadsTo m fed e) (LeadsOrMade m fed e) m p moves p moves
+to_starts m fed e p moves = λ threads now steps leads at. (now, led_start m fed threads e now steps leads, at)
+
+-- there is its thread
+pub to_low : {V : Type 0} (m : Meaning V) (fed : Fed) (e : Entry) (old p : Mastered V) (before moves : List PlainMove) → IsOnWay (LeadsTo m fed e) (LeadsOrMade m fed e) m old before p moves → StandsBefore (LeadsTo m fed e) m old before
+    → e.thread < length p.threads
+to_low m fed e old p before moves way some =
+    let k = way some.0 some.1 some.2 some.3 some.4 in
+    let low = led_low m fed some.0 e some.1 some.2 some.3 in
+    let all = k.2.stands.threads_are in
+    omega (arith, low, all)
+
+-- its thread, number and answer are these
 module _ {V : Type 0} (m : Meaning V) (fed : Fed) (e : Entry) (t number answer : ℕ) (th : t ≡ e.thread) (num : number ≡ e.number) (ans : answer ≡ unwrap_or (answer_of_entry e.what) 0) (p : Mastered V) (moves : List PlainMove) (counts : Counts) (counted : IsCounted p t counts) where
   count_is : (threads : ℕ) (mid : List (Step V)) → t < threads → IsAt m threads mid p moves → counts.entries ≡ entries e.thread (log_of mid)
   count_is threads mid low at = ap (λ (c : Counts). c.entries) (counted none_part) ∙ ((at.stands.thread t none_part low).logged ∙ ap (λ (u : ℕ). entries u (log_of mid)) th)
@@ -53,9 +67,9 @@ module _ {V : Type 0} (m : Meaning V) (fed : Fed) (e : Entry) (t number answer :
   to_goes few threads now steps mid leads rest at = go rest
     where
       low : t < threads
-      low = subst (λ (u : ℕ). u < threads) (sym th) (led_count m fed threads e now steps leads).0
+      low = subst (λ (u : ℕ). u < threads) (sym th) (led_low m fed threads e now steps leads)
 
-      go : LeadsTo m fed e threads mid steps ⊎ (steps ≡ mid) → GoesOneOn m fed t answer threads (LeadsOrMade m fed e) mid steps
+      go : LedOn m fed e threads mid steps ⊎ (steps ≡ mid) → GoesOneOn m fed t answer threads (LeadsOrMade m fed e) mid steps
       go (inl l) =
           let k = led_on m fed threads e mid steps l in
           record {
@@ -64,7 +78,7 @@ module _ {V : Type 0} (m : Meaning V) (fed : Fed) (e : Entry) (t number answer :
             rests = k.2;
           }
       go (inr same) =
-          let there = led_end m fed threads e now steps leads in
+          let there = led_high m fed threads e now steps leads in
           let here = count_is threads mid low at in
           let one : entries e.thread (log_of steps) ≡ entries e.thread (log_of mid) = ap (λ (l : List (Step V)). entries e.thread (log_of l)) same in
           absurd (omega (arith, there, here, one, few, num))
@@ -107,7 +121,7 @@ module _ {V : Type 0} (m : Meaning V) (fed : Fed) (order : List Entry) (i : ℕ)
   split = rw (add-one, drop-cons order i e low) (ap (λ (f : Entry). f ∷ drop (suc i) order) (sym is))
 
   first : (threads : ℕ) (now steps mid : List (Step V)) → LeadsBy m fed (drop i order) threads mid steps → (next : List (Step V)) × LeadsTo m fed e threads mid next × LeadsBy m fed (drop (i + 1) order) threads next steps
-  first threads now steps mid l = first_led m fed threads e (drop (i + 1) order) mid steps (subst (λ (xs : List Entry). LeadsBy m fed xs threads mid steps) split l)
+  first threads now steps mid l = subst (λ (xs : List Entry). LeadsBy m fed xs threads mid steps) split l
 
   pub entry_stands : StandsBefore (LeadsBy m fed order) m old before → StandsBefore (LeadsTo m fed e) m p moves
   entry_stands some =

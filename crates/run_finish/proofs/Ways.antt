@@ -1,23 +1,22 @@
 -- The ways on from where a master is, move by move.
 use Rattle.std.proofs.Common.{◌≡◌, ℕ, zero, suc, ◌+◌, ◌≤◌, ◌<◌, List, [], ◌∷◌, ◌++◌, refl, sym, ap, ◌∙◌, subst, inl, inr, ◌⊎◌, arith, Option}
-use Rattle.std.specs.Prelude.{reverse}
 use Rattle.std.specs.Option.{unwrap_or}
-use Rattle.std.proofs.lemmas.List.{reverse-append}
 use Rattle.input_logger.specs.Inputs.{Fed, inputs_of}
-use Rattle.entry_order.specs.Log.{Entry, entries}
-use Rattle.entry_order.proofs.Order.{entries_same}
+use Rattle.entry_order.specs.Log.{Entry, entries, IsIn}
+use Rattle.entry_order.proofs.Order.{entries_same, number_within}
 use Rattle.plain_machine.specs.declared.plain_move.PlainMove.{PlainMove}
 use Rattle.plain_machine.specs.Program.{Meaning}
 use Rattle.plain_machine.specs.History.{Act, Took, Did, Emitted, Ended, Step, log_of, sent_of, outputs, IsHistory}
 use Rattle.plain_machine.specs.Agree.{IsEarlier}
 use Rattle.plain_machine.specs.Continue.{IsQuiet, GoesQuietly, IsLed}
-use Rattle.plain_machine.proofs.Histories.{earlier_refl, earlier_trans, earlier_history, did_entry}
+use Rattle.plain_machine.proofs.Histories.{history_log, earlier_refl, earlier_trans, earlier_history, did_entry}
+use Rattle.plain_machine.proofs.LoggedEffects.{entry_thread}
 use Rattle.line_order.proofs.QuietMoves.{quiet_later, quiet_same_log}
 use Rattle.master_core.specs.Mastered.{Mastered}
 use Rattle.recovery_world.specs.World.{Sent}
 use Rattle.recovery_world.specs.Files.{answer_of_entry}
 use Rattle.recovery_world.specs.Finish.{greatest, GoesOn, AllGoOn}
-use Rattle.run_finish.specs.Playing.{IsAt, IsTold, MakesNext, LeadsTo, LeadsBy, SendsUpTo, AreGreatest, SendsAll}
+use Rattle.run_finish.specs.Playing.{IsAt, IsTold, MakesNext, LeadsTo, SendsUpTo, AreGreatest, SendsAll}
 
 -- Wherever a way of the one kind begins where the master was, one of the other kind goes on from where it is, to the same end.
 abbrev pub IsOnWay : {V : Type 0} → (ℕ → List (Step V) → List (Step V) → Type 0) → (ℕ → List (Step V) → List (Step V) → Type 0) → Meaning V → Mastered V → List PlainMove → Mastered V → List PlainMove → Type 0
@@ -46,9 +45,13 @@ quiet_told (Ended k) answer q = λ told e. absurd (cc)
 
 -- To an entry
 
+-- the moves of the entry's thread that lead to it, and then the entry
+abbrev pub LedOn : {V : Type 0} → Meaning V → Fed → Entry → ℕ → List (Step V) → List (Step V) → Type 0
+LedOn m fed e threads now steps = IsHistory m (inputs_of fed) threads steps × IsLed now (e ∷ []) steps
+
 -- the entry is still to be made, or was made
 abbrev pub LeadsOrMade : {V : Type 0} → Meaning V → Fed → Entry → ℕ → List (Step V) → List (Step V) → Type 0
-LeadsOrMade m fed e threads now steps = LeadsTo m fed e threads now steps ⊎ (steps ≡ now)
+LeadsOrMade m fed e threads now steps = LedOn m fed e threads now steps ⊎ (steps ≡ now)
 
 -- what is told for an entry is its recorded value
 entry_told : {V : Type 0} (e : Entry) (left : Option V) → IsTold (Did e left) (unwrap_or (answer_of_entry e.what) 0)
@@ -56,7 +59,7 @@ entry_told e left = λ told k. sym (ap (λ (o : Option ℕ). unwrap_or o 0) k)
 
 module _ {V : Type 0} (m : Meaning V) (fed : Fed) (threads : ℕ) (e : Entry) where
   -- the entry is the next one of its thread, which there is
-  pub led_count : (now steps : List (Step V)) → LeadsTo m fed e threads now steps → (e.thread < threads) × (e.number ≡ entries e.thread (log_of now) + 1)
+  pub led_count : (now steps : List (Step V)) → LedOn m fed e threads now steps → (e.thread < threads) × (e.number ≡ entries e.thread (log_of now) + 1)
   led_count now [] l = absurd l.1
   led_count now (x ∷ to) l =
       let q : GoesQuietly now e.thread to = subst (λ (z : List (Step V)). GoesQuietly z e.thread to) l.1.3 l.1.2 in
@@ -66,14 +69,14 @@ module _ {V : Type 0} (m : Meaning V) (fed : Fed) (threads : ℕ) (e : Entry) wh
       )
 
   -- and is its last one then
-  pub led_end : (now steps : List (Step V)) → LeadsTo m fed e threads now steps → entries e.thread (log_of steps) ≡ e.number
+  pub led_end : (now steps : List (Step V)) → LedOn m fed e threads now steps → entries e.thread (log_of steps) ≡ e.number
   led_end now [] l = absurd l.1
   led_end now (x ∷ to) l =
       let d = did_entry x.thread x.after.taken to l.0.0.2 e l.1.0.0 (sym l.0.0.4 ∙ l.1.0.1) in
       rw l.1.0.1 (entries_same e.thread e (log_of to) refl ∙ (ap (λ (u : ℕ). entries u (log_of to) + 1) d.0 ∙ sym d.1))
 
   -- one move on the way
-  pub led_on : (now steps : List (Step V)) → LeadsTo m fed e threads now steps
+  pub led_on : (now steps : List (Step V)) → LedOn m fed e threads now steps
       → (y : Step V) × MakesNext m fed e.thread (unwrap_or (answer_of_entry e.what) 0) threads now (y ∷ now) × LeadsOrMade m fed e threads (y ∷ now) steps
   led_on now [] l = absurd l.1
   led_on now (x ∷ to) l = go (first_quiet now e.thread to q)
@@ -106,24 +109,32 @@ module _ {V : Type 0} (m : Meaning V) (fed : Fed) (threads : ℕ) (e : Entry) wh
         inl (l.0, (l.1.0, y ∷ now, rest, refl)),
       )
 
+  -- A way to it begins so; there is its thread; and it is made at the end.
+  pub led_start : (now steps : List (Step V)) → LeadsTo m fed e threads now steps → LeadsOrMade m fed e threads now steps
+  led_start now steps (h, inl made) = inr made.1
+  led_start now steps (h, inr led) = inl (h, led)
+
+  pub led_low : (now steps : List (Step V)) → LeadsTo m fed e threads now steps → e.thread < threads
+  led_low now steps (h, inl made) = entry_thread m (inputs_of fed) threads now e (subst (λ (l : List (Step V)). IsHistory m (inputs_of fed) threads l) made.1 h) made.0
+  led_low now steps (h, inr led) = (led_count now steps (h, led)).0
+
+  pub led_high : (now steps : List (Step V)) → LeadsTo m fed e threads now steps → e.number ≤ entries e.thread (log_of steps)
+  led_high now steps (h, inl made) =
+      (number_within (log_of steps) e (history_log m (inputs_of fed) threads steps h) (subst (λ (l : List (Step V)). IsIn e (log_of l)) (sym made.1) made.0)).1
+  led_high now steps (h, inr led) = let k = led_end now steps (h, led) in omega (arith, k)
+
 -- By entries in order
 
-led_later : {V : Type 0} (past : List (Step V)) (more : List Entry) (steps : List (Step V)) → IsLed past more steps → IsEarlier past steps
+pub led_later : {V : Type 0} (past : List (Step V)) (more : List Entry) (steps : List (Step V)) → IsLed past more steps → IsEarlier past steps
 led_later {V} past [] steps l = subst (λ (z : List (Step V)). IsEarlier past z) (sym l) (earlier_refl past)
 led_later past (e ∷ more) [] l = absurd l
 led_later past (e ∷ more) (x ∷ steps) l = inr (earlier_trans past l.1 steps (led_later past more l.1 l.3) (quiet_later l.1 e.thread steps l.2))
 
 -- the first of the entries, and then the others
-led_split : {V : Type 0} (past : List (Step V)) (more : List Entry) (e : Entry) (steps : List (Step V)) → IsLed past (more ++ e ∷ []) steps → (mid : List (Step V)) × IsLed past (e ∷ []) mid × IsLed mid more steps
+pub led_split : {V : Type 0} (past : List (Step V)) (more : List Entry) (e : Entry) (steps : List (Step V)) → IsLed past (more ++ e ∷ []) steps → (mid : List (Step V)) × IsLed past (e ∷ []) mid × IsLed mid more steps
 led_split past [] e steps l = (steps, l, refl)
 led_split past (f ∷ more) e [] l = absurd l
 led_split past (f ∷ more) e (x ∷ steps) l = let r = led_split past more e l.1 l.3 in (r.0, r.1, (l.0, l.1, l.2, r.2))
-
-pub first_led : {V : Type 0} (m : Meaning V) (fed : Fed) (threads : ℕ) (e : Entry) (order : List Entry) (now steps : List (Step V)) → LeadsBy m fed (e ∷ order) threads now steps
-    → (mid : List (Step V)) × LeadsTo m fed e threads now mid × LeadsBy m fed order threads mid steps
-first_led m fed threads e order now steps l =
-    let r = led_split now (reverse order) e steps (subst (λ (more : List Entry). IsLed now more steps) (reverse-append (e ∷ []) order) l.1) in
-    (r.0, (earlier_history m (inputs_of fed) threads r.0 steps (led_later r.0 (reverse order) steps r.2) l.0, r.1), (l.0, r.2))
 
 -- To an output
 

@@ -1,8 +1,8 @@
 -- From where a run is finished, and that it was.
-use Rattle.std.specs.Prelude.{◌≡◌, ℕ, true, List, take, reverse, ◌↔◌}
+use Rattle.std.specs.Prelude.{◌≡◌, ℕ, true, List, [], ◌∷◌, take}
 use Rattle.input_logger.specs.Inputs.{Fed}
 use Rattle.entry_order.specs.Log.{Entry, IsIn}
-use Rattle.line_order.specs.Line.{IsByWeight}
+use Rattle.line_order.specs.Line.{GoesBefore}
 use Rattle.plain_machine.specs.declared.plain_move.PlainMove.{PlainMove}
 use Rattle.plain_machine.specs.Program.{Meaning}
 use Rattle.plain_machine.specs.History.{Step, log_of}
@@ -13,13 +13,19 @@ use Rattle.recovery_world.specs.Finish.{IsToCome, IsLine, IsFinish}
 use Rattle.recovery_laws.specs.Sound.{Sound}
 use Rattle.run_finish.specs.Playing.{IsAt, AreGreatest}
 
--- The followed entries that are still to come, each once: by weight in the line, then thread, the first one first.
+-- Oldest first: by weight, then thread.
+abbrev pub AreInOrder : List Entry → List Entry → Type 0
+AreInOrder log [] = Unit {0}
+AreInOrder log (e ∷ later) = ((f : Entry) → IsIn f later → GoesBefore log e f) × AreInOrder log later
+
+-- Followed entries in their order in the line: all that are still to come, and any that were made.
 pub record IsOrder {V : Type 0} (s : Setting V) (w : World V) (order : List Entry) : Type 0 where
-  pub to_come : (e : Entry) → IsIn e order ↔ IsToCome w e
-  pub by_weight : (line : List (Step V)) → IsLine s w line → IsByWeight (log_of line) (reverse order)
+  pub followed : (e : Entry) → IsIn e order → IsIn e w.followed
+  pub all : (e : Entry) → IsToCome w e → IsIn e order
+  pub in_order : (line : List (Step V)) → IsLine s w line → AreInOrder (log_of line) order
 
 -- What is at hand is that of a sound world whose master is up: the program, the inputs that were fed, the master with the
--- schedule of its moves, the entries to come in order, and the greatest released output of each thread.
+-- schedule of its moves, the followed entries in order, and the greatest released output of each thread.
 pub record IsEndOf {V : Type 0} (m : Meaning V) (s : Setting V) (w : World V) (fed : Fed) (p : Mastered V) (schedule : List PlainMove) (order : List Entry) (numbers : List ℕ) : Type 0 where
   pub sound : Sound s w
   pub up : w.up ≡ true

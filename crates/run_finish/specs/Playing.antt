@@ -1,10 +1,10 @@
 -- How a master plays on: where it is, and the ways on from there.
-use Rattle.std.specs.Prelude.{◌≡◌, ℕ, ◌<◌, List, [], ◌∷◌, reverse, slice_index, Option, Some, None}
+use Rattle.std.specs.Prelude.{◌≡◌, ◌⊎◌, ℕ, ◌<◌, List, [], ◌∷◌, slice_index, Option, Some, None}
 use Rattle.input_logger.specs.Inputs.{Fed, inputs_of}
-use Rattle.entry_order.specs.Log.{Entry}
+use Rattle.entry_order.specs.Log.{Entry, IsIn}
 use Rattle.plain_machine.specs.declared.plain_move.PlainMove.{PlainMove}
 use Rattle.plain_machine.specs.Program.{Meaning}
-use Rattle.plain_machine.specs.History.{Act, Step, IsHistory}
+use Rattle.plain_machine.specs.History.{Act, Step, log_of, IsHistory}
 use Rattle.plain_machine.specs.Continue.{IsLed}
 use Rattle.master_core.specs.Mastered.{Mastered}
 use Rattle.master_core.specs.Standing.{Stands}
@@ -38,13 +38,15 @@ abbrev pub MakesNext : {V : Type 0} → Meaning V → Fed → ℕ → ℕ → �
 MakesNext {V} m fed t answer threads now steps =
     (x : Step V) × (steps ≡ x ∷ now) × IsHistory m (inputs_of fed) threads steps × (x.thread ≡ t) × IsTold x.act answer
 
--- the moves of the entry's thread that lead to it, and then the entry
+-- the moves of the entry's thread that lead to it, and then the entry; none where it was made before
 abbrev pub LeadsTo : {V : Type 0} → Meaning V → Fed → Entry → ℕ → List (Step V) → List (Step V) → Type 0
-LeadsTo m fed e threads now steps = IsHistory m (inputs_of fed) threads steps × IsLed now (e ∷ []) steps
+LeadsTo m fed e threads now steps =
+    IsHistory m (inputs_of fed) threads steps × ((IsIn e (log_of now) × (steps ≡ now)) ⊎ IsLed now (e ∷ []) steps)
 
--- the same for each of these entries, the first one first
+-- the same for each of these entries, one after another
 abbrev pub LeadsBy : {V : Type 0} → Meaning V → Fed → List Entry → ℕ → List (Step V) → List (Step V) → Type 0
-LeadsBy m fed order threads now steps = IsHistory m (inputs_of fed) threads steps × IsLed now (reverse order) steps
+LeadsBy m fed [] threads now steps = IsHistory m (inputs_of fed) threads steps × (steps ≡ now)
+LeadsBy {V} m fed (e ∷ later) threads now steps = (mid : List (Step V)) × LeadsTo m fed e threads now mid × LeadsBy m fed later threads mid steps
 
 -- the moves of the thread, not logged, until it has sent out this number of packets
 abbrev pub SendsUpTo : {V : Type 0} → Meaning V → Fed → ℕ → ℕ → ℕ → List (Step V) → List (Step V) → Type 0
