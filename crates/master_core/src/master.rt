@@ -11,6 +11,10 @@ ghost use Rattle.master_core.specs.Standing.{Stands};
 ghost use Rattle.master_core.specs.Stepping.{wanted, move_of, Follows, MadeNone, MadeOne};
 ghost use Rattle.master_core.specs.Effects.{HasFresh, DoneTake, DoneTouch, DoneLook, DoneHear, DoneEmit, DoneEnd, HasPlayed};
 
+mod copies;
+
+pub use copies::Delta;
+
 use crate::effects::{log_entry, stamped};
 use crate::{Counts, Stepped, ThreadPart, VarPart, Wants};
 use access_log::{Output, Turn, What};
