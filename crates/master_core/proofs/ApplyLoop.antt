@@ -1,5 +1,5 @@
 -- The loop that changes variables one by one.
-use Rattle.std.proofs.Common.{◌≡◌, ◌≢◌, ℕ, zero, suc, ◌+◌, ◌≤◌, ◌<◌, List, [], ◌∷◌, length, length-set, refl, sym, ap, ◌∙◌, subst, inl, inr, ◌⊎◌, arith, Option, None}
+use Rattle.std.proofs.Common.{◌≡◌, ◌≢◌, ℕ, ◌+◌, ◌≤◌, ◌<◌, List, [], length, length-set, refl, sym, ap, ◌∙◌, inl, inr, ◌⊎◌, arith, Option, None}
 use Rattle.std.specs.Prelude.{slice_index_or, slice_set}
 use Rattle.std.proofs.lemmas.List.{get_or-set_same, get_or-set_other, get_or_default, same_lists}
 use Rattle.entry_order.proofs.Order.{is_or}
@@ -49,6 +49,6 @@ pub applied_all : {V : Type 0} (parts new : List (VarPart V)) (changes left : Li
 applied_all {V} parts new changes left n so_far same over =
     let k : length (applied_parts parts changes) ≡ length parts = length-applied parts changes same in
     same_lists new (applied_parts parts changes) (omega (arith, so_far.count)) (λ v y low.
-        let none : VarPart (Option V) = record { value = None; places = 0; stamp = []; readers = [] } in
-        so_far.done v y y none (omega (arith, so_far.count)) (omega (arith, so_far.count))
-        ∙ sym (at-applied parts changes v y y none (omega (arith, so_far.count)) (omega (arith, so_far.count))))
+    let none : VarPart (Option V) = record { value = None; places = 0; stamp = []; readers = [] } in
+    so_far.done v y y none (omega (arith, so_far.count)) (omega (arith, so_far.count))
+    ∙ sym (at-applied parts changes v y y none (omega (arith, so_far.count)) (omega (arith, so_far.count))))

@@ -1,25 +1,23 @@
 -- Deltas by their places, and by the moments of a run: only a touch changes a value.
 use Rattle.std.proofs.Common.{◌≡◌, ◌≢◌, ℕ, zero, suc, ◌+◌, ◌≤◌, ◌<◌, Bool, true, false, List, [], ◌∷◌, ◌++◌, length, take, refl, sym, ap, ◌∙◌, subst, inl, inr, ◌⊎◌, arith, cond, Option, Some, None, unwrap_or}
-use Rattle.std.specs.Prelude.{◌↔◌, slice_index, slice_index_or, nat_eq, IsSome}
+use Rattle.std.specs.Prelude.{◌↔◌, slice_index_or, nat_eq, IsSome}
 use Rattle.plain_text.specs.declared.packet.Packet.{Packet}
 use Rattle.entry_order.specs.declared.what.What.{What}
 use Rattle.entry_order.specs.declared.what.What.TheVariants.{Access, Read, Clock, Draw}
-use Rattle.entry_order.specs.Log.{Entry, places, touches, IsIn, IsLog}
-use Rattle.entry_order.specs.Stamps.{IsStamp}
+use Rattle.entry_order.specs.Log.{Entry, places, touches}
 use Rattle.entry_order.proofs.Order.{is_or, touch_there}
 use Rattle.entry_order.proofs.Joins.{stamp_unique}
 use Rattle.plain_machine.specs.Program.{Meaning}
 use Rattle.plain_machine.specs.History.{Act, Took, Did, Emitted, Ended, Step, log_more, log_of, left_by, left_by_entry, value_after, IsHistory}
 use Rattle.plain_machine.specs.Agree.{IsEarlier}
 use Rattle.plain_machine.proofs.Histories.{is_eq, not_eq, earlier_log, history_log, earlier_history}
-use Rattle.box_program.specs.Hands.{FitsProgram}
 use Rattle.master_core.specs.declared.parts.VarPart.{VarPart}
 use Rattle.master_core.specs.declared.parts.ThreadPart.{ThreadPart}
-use Rattle.master_core.specs.Mastered.{Mastered, IsBounded, value_of}
+use Rattle.master_core.specs.Mastered.{Mastered, IsBounded}
 use Rattle.master_core.specs.Stamped.{IsTouchStamp}
-use Rattle.master_core.specs.Standing.{IsVariable, Stands}
+use Rattle.master_core.specs.Standing.{IsVariable}
 use Rattle.master_core.specs.Effects.{fresh_var}
-use Rattle.master_core.specs.Deltas.{changed_part, changed_parts, delta_of, applied_part, applied_parts, applied, HasTouched, LeadsVariable, Leads, LeadsOn, StandsAfter}
+use Rattle.master_core.specs.Deltas.{changed_part, changed_parts, delta_of, applied_part, applied_parts, applied, HasTouched, LeadsVariable, LeadsOn, StandsAfter}
 use Rattle.master_core.proofs.Moments.{moment_stamp}
 
 -- Lists of parts, by their places

@@ -13,12 +13,11 @@ ghost use Rattle.master_core.specs.Effects.{HasFresh, DoneTake, DoneTouch, DoneL
 
 mod copies;
 
-pub use copies::Delta;
-
 use crate::effects::{log_entry, stamped};
 use crate::{Counts, Stepped, ThreadPart, VarPart, Wants};
 use access_log::{Output, Turn, What};
 use box_program::Program;
+pub use copies::Delta;
 use plain_machine::{Local, Move};
 use plain_text::{NoMemory, Packet};
 use std::alloc::Global;

@@ -58,12 +58,7 @@ impl<P: Program> Master<P> {
 
     /// What changed since the master was as `base` is. It copies the values of the variables that were touched since then, and no
     /// other.
-    pub fn delta(
-        &self,
-        alloc: Global,
-        program: &P,
-        base: &Master<P>,
-    ) -> Result<Delta<P>, NoMemory>
+    pub fn delta(&self, alloc: Global, program: &P, base: &Master<P>) -> Result<Delta<P>, NoMemory>
         requires program { FitsProgram (P.meaning program.now) (P.fits program.now)
             value_of self.now.vars }
         requires base { length base.now.vars ≡ length self.now.vars }

@@ -1,4 +1,4 @@
-use Rattle.std.proofs.Common.{rules, arith, ◌≡◌, length, sym, subst, Option}
+use Rattle.std.proofs.Common.{rules, ◌≡◌, length, sym, subst}
 use Rattle.master_core.specs.Mastered.{Mastered}
 use Rattle.master_core.specs.Deltas.{applied, StandsAfter}
 use Rattle.master_core.proofs.DeltaLemmas.{applied_bounded, stands_after}

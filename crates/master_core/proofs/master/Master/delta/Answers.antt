@@ -1,5 +1,5 @@
-use Rattle.std.proofs.Common.{rules, arith, ◌≡◌, length, sym, ◌∙◌, subst, Option}
-use Rattle.master_core.specs.Mastered.{Mastered, IsBounded}
+use Rattle.std.proofs.Common.{rules, ◌≡◌, length, sym, subst, Option}
+use Rattle.master_core.specs.Mastered.{Mastered}
 use Rattle.master_core.specs.Deltas.{changed_parts, delta_of, HasTouched, LeadsOn}
 use Rattle.master_core.proofs.DeltaLemmas.{delta_bounded, has_touched, delta_leads}
 use Rattle.master_core.proofs.master.Master.delta.Goals as goal

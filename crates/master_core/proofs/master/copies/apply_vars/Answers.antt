@@ -1,4 +1,4 @@
-use Rattle.std.proofs.Common.{rules, arith}
+use Rattle.std.proofs.Common.{arith}
 use Rattle.master_core.proofs.ApplyLoop.{applied_none, applied_one, applied_all}
 use Rattle.master_core.proofs.master.copies.apply_vars.Goals as goal
 

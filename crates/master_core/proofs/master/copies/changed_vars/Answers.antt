@@ -1,4 +1,4 @@
-use Rattle.std.proofs.Common.{rules, arith, add-one, ◌<◌, length}
+use Rattle.std.proofs.Common.{arith, add-one, ◌<◌, length}
 use Rattle.master_core.proofs.DeltaLemmas.{changed-more}
 use Rattle.master_core.proofs.master.copies.changed_vars.Goals as goal
 
