@@ -12,6 +12,13 @@ use Rattle.master_core.specs.Deltas.{changed_part, changed_parts, delta_of, appl
 use Rattle.master_core.proofs.DeltaLemmas.{length-changed, at-changed, length-applied, at-applied, stands_after}
 use Rattle.snapshot_store.specs.Stored.{Snapshot, HasTaken}
 
+pub of_some : {T : Type 0} (P : T → Type 0) (y : T) → P y → (x : T) → Some y ≡ Some x → P x
+of_some P y h x e = let k : y ≡ x = cc in subst P k h
+
+-- the delta has a part for each variable of the stored master
+pub delta_length : {V : Type 0} (base now : Mastered V) (delta : Mastered (Option V)) → delta ≡ delta_of base now → length base.vars ≡ length now.vars → length delta.vars ≡ length base.vars
+delta_length {V} base now delta is same = subst (λ (d : Mastered (Option V)). length d.vars ≡ length base.vars) (sym is) (length-changed base.vars now.vars same ∙ sym same)
+
 -- the snapshot that is kept as this delta
 abbrev pub snapshot_by : {V : Type 0} → Mastered V → Mastered (Option V) → ℕ → List Output → Snapshot V
 snapshot_by base delta moves outbox = record { master = applied base delta; moves = moves; outbox = outbox }
@@ -23,7 +30,7 @@ has_taken {V} m stored master moves outbox delta is same leads = record {
   copy = snapshot_by stored.master delta moves outbox;
   is = refl;
   stands = λ threads earlier now a b e.
-      stands_after stored.master delta (subst (λ (d : Mastered (Option V)). length d.vars ≡ length stored.master.vars) (sym is) (length-changed stored.master.vars master.vars same ∙ sym same))
+      stands_after stored.master delta (delta_length stored.master master delta is same)
       m threads earlier now a (leads threads earlier now a b e);
   threads_are = rw is refl;
   moves_are = refl;

@@ -1,4 +1,5 @@
-ghost use Rattle.std.specs.Prelude.{◌≡◌, ◌↔◌, ℕ, ◌≤◌, [], IsTrue, IsSome, IfOk, OnOk, OnErr, ForSome, None};
+ghost use Rattle.std.specs.Prelude.{◌≡◌, ◌↔◌, ℕ, ◌≤◌, [], IsTrue, IsSome, IfOk, OnOk, OnErr, None};
+ghost use Rattle.std.specs.Option.{ForSome};
 ghost use Rattle.box_program.specs.Hands.{FitsProgram};
 ghost use Rattle.master_core.specs.Mastered.{value_of};
 ghost use Rattle.master_core.specs.Standing.{Stands};
@@ -43,7 +44,8 @@ pub struct Store<P: Program> {
 }
 
 impl<P: Program> Model for Store<P> {
-    ghost use Rattle.std.specs.Prelude.{◌≡◌, length, option_map, ForSome};
+    ghost use Rattle.std.specs.Prelude.{◌≡◌, length};
+    ghost use Rattle.std.specs.Option.{option_map, ForSome};
     ghost use Rattle.master_core.specs.Deltas.{applied};
     ghost use Rattle.snapshot_store.specs.Stored.{Snapshots};
 
