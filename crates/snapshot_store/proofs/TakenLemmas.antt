@@ -1,5 +1,5 @@
 -- A snapshot under way, kept as what changed since the stored one.
-use Rattle.std.proofs.Common.{◌≡◌, ◌≢◌, ℕ, ◌<◌, List, [], length, refl, sym, ◌∙◌, subst, inl, inr, ◌⊎◌, arith, cond, Option, Some, None, unwrap_or}
+use Rattle.std.proofs.Common.{◌≡◌, ◌≢◌, ℕ, List, [], length, refl, sym, ◌∙◌, subst, inl, inr, ◌⊎◌, arith, cond, Option, Some, None, unwrap_or}
 use Rattle.std.specs.Prelude.{slice_index_or, nat_eq}
 use Rattle.entry_order.proofs.Order.{is_or}
 use Rattle.access_log.specs.declared.entry.Output.{Output}
@@ -8,8 +8,8 @@ use Rattle.plain_machine.proofs.Histories.{is_eq, not_eq}
 use Rattle.box_program.specs.Hands.{FitsProgram}
 use Rattle.master_core.specs.declared.parts.VarPart.{VarPart}
 use Rattle.master_core.specs.Mastered.{Mastered, value_of}
-use Rattle.master_core.specs.Deltas.{changed_part, changed_parts, delta_of, applied_part, applied_parts, applied, LeadsOn}
-use Rattle.master_core.proofs.DeltaLemmas.{length-changed, at-changed, length-applied, at-applied, stands_after}
+use Rattle.master_core.specs.Deltas.{changed_part, changed_parts, delta_of, applied_part, applied, Leads}
+use Rattle.master_core.proofs.DeltaLemmas.{length-changed, at-changed, length-applied, at-applied, delta_leads, stands_after}
 use Rattle.snapshot_store.specs.Stored.{Snapshot, HasTaken}
 
 pub of_some : {T : Type 0} (P : T → Type 0) (y : T) → P y → (x : T) → Some y ≡ Some x → P x
@@ -24,14 +24,14 @@ abbrev pub snapshot_by : {V : Type 0} → Mastered V → Mastered (Option V) →
 snapshot_by base delta moves outbox = record { master = applied base delta; moves = moves; outbox = outbox }
 
 pub has_taken : {V : Type 0} (m : Meaning V) (stored : Snapshot V) (master : Mastered V) (moves : ℕ) (outbox : List Output) (delta : Mastered (Option V))
-    → delta ≡ delta_of stored.master master → length stored.master.vars ≡ length master.vars → LeadsOn m stored.master master delta
+    → delta ≡ delta_of stored.master master → length master.vars ≡ m.vars → length stored.master.vars ≡ length master.vars
     → HasTaken m stored master moves outbox (Some (snapshot_by stored.master delta moves outbox))
-has_taken {V} m stored master moves outbox delta is same leads = record {
+has_taken {V} m stored master moves outbox delta is count same = record {
   copy = snapshot_by stored.master delta moves outbox;
   is = refl;
   stands = λ threads earlier now a b e.
-      stands_after stored.master delta (delta_length stored.master master delta is same)
-      m threads earlier now a (leads threads earlier now a b e);
+      stands_after stored.master delta (delta_length stored.master master delta is same) m threads earlier now a
+      (subst (λ (d : Mastered (Option V)). Leads m threads earlier now d) (sym is) (delta_leads m stored.master master count same threads earlier now a b e));
   threads_are = rw is refl;
   moves_are = refl;
   outbox_is = refl;

@@ -4,7 +4,6 @@ use Rattle.access_log.specs.declared.entry.Output.{Output}
 use Rattle.plain_machine.specs.Program.{Meaning}
 use Rattle.plain_machine.specs.History.{Step}
 use Rattle.plain_machine.specs.Agree.{IsEarlier}
-use Rattle.master_core.specs.declared.parts.ThreadPart.{ThreadPart}
 use Rattle.master_core.specs.Mastered.{Mastered}
 use Rattle.master_core.specs.Standing.{Stands}
 

@@ -1,9 +1,9 @@
-ghost use Rattle.std.specs.Prelude.{◌≡◌, ◌↔◌, ℕ, ◌≤◌, [], IsTrue, IsSome, IfOk, OnOk, OnErr, None};
+ghost use Rattle.std.specs.Prelude.{◌≡◌, ◌↔◌, ℕ, ◌≤◌, [], length, IsTrue, IsSome, IfOk, OnOk, OnErr, None};
 ghost use Rattle.std.specs.Option.{ForSome};
 ghost use Rattle.box_program.specs.Hands.{FitsProgram};
 ghost use Rattle.master_core.specs.Mastered.{value_of};
 ghost use Rattle.master_core.specs.Standing.{Stands};
-ghost use Rattle.master_core.specs.Deltas.{HasCounts};
+ghost use Rattle.master_core.specs.Deltas.{delta_of, HasCounts};
 ghost use Rattle.snapshot_store.specs.Stored.{HasTaken};
 
 use crate::outbox::copy_outputs;
@@ -107,11 +107,7 @@ impl<P: Program> Store<P> {
         ensures stored { self.new.stored ≡ self.old.stored }
         ensures unchanged { OnErr result (self.new ≡ self.old) }
     {
-        let taken = Taken {
-            delta: master.delta(alloc, program, &self.master)?,
-            moves,
-            outbox: copy_outputs(alloc, outbox)?,
-        };
+        let taken = taken_since(alloc, program, &self.master, master, moves, outbox)?;
         self.taken = Some(taken);
         Ok(())
     }
@@ -176,4 +172,27 @@ impl<P: Program> Store<P> {
     {
         self.master.entry_counts()
     }
+}
+
+/// A snapshot of a master, as what changed since it was as `stored` is.
+fn taken_since<P: Program>(
+    alloc: Global,
+    program: &P,
+    stored: &Master<P>,
+    master: &Master<P>,
+    moves: u64,
+    outbox: &Outputs,
+) -> Result<Taken<P>, NoMemory>
+    requires program { FitsProgram (P.meaning program.now) (P.fits program.now)
+        value_of master.now.vars }
+    requires stored { length stored.now.vars ≡ length master.now.vars }
+    ensures delta { IfOk result (λ taken. taken.delta ≡ delta_of stored.now master.now) }
+    ensures moves { IfOk result (λ taken. taken.moves ≡ moves) }
+    ensures outbox { IfOk result (λ taken. taken.outbox ≡ outbox.now) }
+{
+    Ok(Taken {
+        delta: master.delta(alloc, program, stored)?,
+        moves,
+        outbox: copy_outputs(alloc, outbox)?,
+    })
 }
