@@ -14,3 +14,5 @@ pub mod HeldEntries
 pub mod Frontiers
 pub mod Moments
 pub mod Holdings
+pub mod DeltaLemmas
+pub mod ApplyLoop

@@ -5,3 +5,4 @@ pub mod Stepping
 pub mod Effects
 pub mod Lists
 pub mod Holding
+pub mod Deltas

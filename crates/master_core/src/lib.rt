@@ -8,6 +8,7 @@ mod lists;
 mod master;
 mod parts;
 mod step;
+mod untouched;
 mod wants;
 
 pub use access_log::Turn;
@@ -16,7 +17,8 @@ pub use laws::{
     held_entries_are_looked_up, holding_one_more, known_is_held_or_stored, missing_is_defined,
 };
 pub use lists::lists_are_followed;
-pub use master::Master;
+pub use master::{Delta, Master};
 pub use parts::{Counts, ThreadPart, VarPart};
 pub use step::{Stepped, Trace, Woven, WovenStep};
+pub use untouched::untouched_variables_stay;
 pub use wants::Wants;

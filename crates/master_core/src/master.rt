@@ -11,10 +11,13 @@ ghost use Rattle.master_core.specs.Standing.{Stands};
 ghost use Rattle.master_core.specs.Stepping.{wanted, move_of, Follows, MadeNone, MadeOne};
 ghost use Rattle.master_core.specs.Effects.{HasFresh, DoneTake, DoneTouch, DoneLook, DoneHear, DoneEmit, DoneEnd, HasPlayed};
 
+mod copies;
+
 use crate::effects::{log_entry, stamped};
 use crate::{Counts, Stepped, ThreadPart, VarPart, Wants};
 use access_log::{Output, Turn, What};
 use box_program::Program;
+pub use copies::Delta;
 use plain_machine::{Local, Move};
 use plain_text::{NoMemory, Packet};
 use std::alloc::Global;

@@ -1,0 +1,8 @@
+//! Snapshots of a master: the one that is stored, from which a new master starts after a crash, and the one that is under way to the
+//! store.
+#![tactic(auto)]
+
+mod outbox;
+mod store;
+
+pub use store::{Restored, Store};
