@@ -1,0 +1,5 @@
+pub mod Following
+pub mod Turns
+pub mod Orders
+pub mod Indexes
+pub mod Walks

@@ -1,0 +1,9 @@
+//! What a new master follows after a crash: the log entries that were held, each as it is recorded. The guide tells whose turn it is at
+//! a variable, what a clock or a draw was told, how many entries are left, and in which order they can all be made.
+#![tactic(auto)]
+
+mod guide;
+mod index;
+mod lane;
+
+pub use guide::{Guide, Order};
