@@ -5,7 +5,7 @@ use Rattle.access_log.specs.declared.entry.StampedEntry.{StampedEntry}
 use Rattle.access_log.specs.Held.{Lane, lane, entry_at}
 
 -- the sum of the 16 components of its stamp: in a log, the number of entries that precede it or are it
-abbrev pub weight_of : StampedEntry → ℕ
+unfoldable pub weight_of : StampedEntry → ℕ
 weight_of e = sum_below 16 (λ u. slice_index e.stamp u)
 
 -- the list has entry (t, n)

@@ -1,11 +1,13 @@
-ghost use Rattle.std.specs.Prelude.{◌≡◌, ℕ, ◌↔◌, [], IfOk, IfSome, IsSome, length, option_copied};
+ghost use Rattle.std.specs.Prelude.{◌≡◌, ℕ, ◌+◌, ◌↔◌, [], IfOk, IfSome, IfNone, IsSome, IsTrue, false, length, map, option_copied};
+ghost use Rattle.std.specs.List.Sorted.{IsStrictlySortedBy};
+ghost use Rattle.entry_order.specs.declared.what.What.TheVariants as what_of;
 ghost use Rattle.access_log.specs.declared.entry.Turn.TheVariants as turn_of;
 ghost use Rattle.access_log.specs.Held.{lane, entry_at};
 ghost use Rattle.access_log.specs.Lanes.{IsHeldSet};
 ghost use Rattle.access_log.specs.Members.{IsMemberAbove, IsNumberOf};
-ghost use Rattle.replay_guide.specs.Following.{CanBeFollowed, recorded};
-ghost use Rattle.replay_guide.specs.Turns.{WaitsFor, IsFollowed, IsFree};
-ghost use Rattle.replay_guide.specs.Walks.{IsTurn};
+ghost use Rattle.replay_guide.specs.Following.{Follows, CanBeFollowed, recorded};
+ghost use Rattle.replay_guide.specs.Turns.{WaitsFor, IsFollowed, IsFree, IsFirstPending, NoneIsPending};
+ghost use Rattle.replay_guide.specs.Walks.{IsTurn, weighed_cmp};
 ghost use Rattle.replay_guide.specs.Orders.{IsNamed, IsInOrder};
 
 use crate::index::Index;
@@ -39,6 +41,19 @@ impl Model for Guide {
     ghost view = { λ g. g.lanes.items };
 
     ghost invariant = { λ g. IsGuide g.lanes.items g.index.touches.entries g.index.reads.keys };
+}
+
+/// The threads and numbers of weighed entries, in their order.
+fn names_of(alloc: Global, weighed: &BTreeSet<(u128, u32, u64)>) -> Result<Order, NoMemory>
+    ensures names { IfOk result (λ order. order ≡ map (λ k. (k.1, k.2)) weighed.now.keys) }
+    ensures sorted { IsStrictlySortedBy weighed_cmp weighed.now.keys }
+{
+    let _sorted = weighed.len();
+    let mut order = Order::new(alloc);
+    for (_, thread, number) in weighed {
+        order.push((*thread, *number))?;
+    }
+    Ok(order)
 }
 
 impl Guide {
@@ -104,6 +119,7 @@ impl Guide {
         ensures free { (result ≡ turn_of.Free)
             ↔ IsFree self.now thread number var read places readers.now }
     {
+        let _lanes = &self.lanes;
         self.find_turn(thread, number, var, read, places, readers)
     }
 
@@ -119,25 +135,60 @@ impl Guide {
     ) -> Turn
         ensures { IsTurn self.now thread number var read places readers.now result }
     {
-        let own = What::Read { var, after: places };
-        if self.get(thread, number).is_some_and(|entry| entry.what == own) {
+        if self.follows_read(thread, number, var, places) {
             return Turn::Follow;
         }
-        if !read && let Some((thread, number)) = self.index.first_read_past(var, places, readers) {
+        if let Some((thread, number)) = self.first_pending(var, read, places, readers) {
             return Turn::Wait { thread, number };
         }
-        match self.index.touch_after(var, places) {
-            None => Turn::Free,
-            Some((of, at)) => {
-                if of == thread && at == number {
-                    return Turn::Follow;
-                }
-                Turn::Wait {
-                    thread: of,
-                    number: at,
-                }
-            }
+        let Some(next) = self.next_touch(var, places) else {
+            return Turn::Free;
+        };
+        if next == (thread, number) {
+            return Turn::Follow;
         }
+        Turn::Wait {
+            thread: next.0,
+            number: next.1,
+        }
+    }
+
+    /// Whether the followed entry is a read of the variable after this number of touches.
+    fn follows_read(&self, thread: u32, number: u64, var: u32, places: u64) -> bool
+        ensures { IsTrue result ↔ Follows self.now thread number (what_of.Read var places) }
+    {
+        match self.get(thread, number) {
+            Some(entry) => entry.what == What::Read { var, after: places },
+            None => false,
+        }
+    }
+
+    /// The first of the followed reads that the move waits for.
+    fn first_pending(
+        &self,
+        var: u32,
+        read: bool,
+        places: u64,
+        readers: &Stamp,
+    ) -> Option<(u32, u64)>
+        ensures some { IfSome result (λ x. (read ≡ false)
+            × IsFirstPending self.now var places readers.now x.0 x.1) }
+        ensures none { IfNone result (NoneIsPending self.now var read places readers.now) }
+    {
+        if read {
+            return None;
+        }
+        self.index.first_read_past(var, places, readers)
+    }
+
+    /// The followed touch that is next on the variable.
+    fn next_touch(&self, var: u32, places: u64) -> Option<(u32, u64)>
+        ensures some { IfSome result (λ x.
+            Follows self.now x.0 x.1 (what_of.Access var (places + 1))) }
+        ensures none { IfNone result ((u m : ℕ)
+            → Follows self.now u m (what_of.Access var (places + 1)) → ⊥) }
+    {
+        self.index.touch_after(var, places)
     }
 
     /// The clock or the random word that the followed entry was told; `None` exactly where the entry is not followed, or is a
@@ -173,10 +224,6 @@ impl Guide {
         for i in 0..self.lanes.len() {
             self.lanes[i].weigh(&mut weighed)?;
         }
-        let mut order = Order::new(alloc);
-        for (_, thread, number) in &weighed {
-            order.push((*thread, *number))?;
-        }
-        Ok(order)
+        names_of(alloc, &weighed)
     }
 }

@@ -1,5 +1,5 @@
 //! The followed touches and reads, by the variable and its number of touches before them.
-ghost use Rattle.std.specs.Prelude.{◌≡◌, ℕ, ◌+◌, ◌<◌, List, [], None, IfSome, IfNone, MatchOption, OnOk, slice_index};
+ghost use Rattle.std.specs.Prelude.{◌≡◌, ℕ, ◌+◌, ◌<◌, ◌≤◌, List, [], None, IfSome, IfNone, MatchOption, OnOk, slice_index};
 ghost use Rattle.access_log.specs.declared.entry.StampedEntry as stamped;
 ghost use Rattle.replay_guide.specs.Turns.{GoesFirst};
 ghost use Rattle.replay_guide.specs.Indexes.{touch_after, HasRead, AddsEntry};

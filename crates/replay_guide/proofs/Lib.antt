@@ -1,0 +1,5 @@
+pub mod Keys
+pub mod IndexLemmas
+pub mod LaneLists
+pub mod TurnLemmas
+pub mod OrderLemmas
