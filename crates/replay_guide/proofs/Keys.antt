@@ -1,12 +1,17 @@
 -- The keys of the guide's indexes: equal to themselves alone, and in order by their parts.
-use Rattle.std.proofs.Common.{◌≡◌, ◌≢◌, ℕ, ◌+◌, ◌<◌, ◌≤◌, ◌⊎◌, ◌↔◌, Bool, true, false, cond, Less, Equal, Greater, refl, sym, ap, ◌∙◌, subst, inl, inr, ⊎_elim, arith}
+use Rattle.std.proofs.Common.{◌≡◌, ◌≢◌, ℕ, ◌+◌, ◌<◌, ◌≤◌, ◌⊎◌, ◌↔◌, Bool, true, false, cond, List, [], ◌∷◌, IsTrue, IfSome, slice_get, Less, Equal, Greater, refl, sym, ap, ◌∙◌, subst, inl, inr, ⊎_elim, arith}
 use Rattle.std.specs.declared.cmp.Ordering.{Ordering}
-use Rattle.std.specs.Ordering.{nat_cmp, ordering_then, is_eq}
+use Rattle.std.specs.declared.ops.Bound.TheVariants.{Excluded}
+use Rattle.std.specs.Ordering.{nat_cmp, ordering_then, is_eq, is_gt}
+use Rattle.std.specs.List.{list_any}
+use Rattle.std.specs.BTreeMap.Range.{IsInRange, IsLeBy}
+use Rattle.std.specs.BTreeSet.{BTreeSet, IsKeyRangeOf, IsKeyInRange, contains}
+use Rattle.std.proofs.lemmas.Map.Keys.{le_from_not_gt}
 use Rattle.std.specs.BTreeMap.{is_at}
 use Rattle.std.proofs.lemmas.Bool.{cases_lt, cases_eq}
 use Rattle.std.proofs.lemmas.Bool.Decides.{nat_tests}
 use Rattle.std.proofs.lemmas.Grind.{common_steps}
-use Rattle.replay_guide.specs.Indexes.{touch_cmp, read_cmp}
+use Rattle.replay_guide.specs.Indexes.{touch_cmp, read_cmp, HasRead}
 use Rattle.replay_guide.specs.Walks.{weighed_cmp}
 
 pub nat_same : (a : ℕ) → nat_cmp a a ≡ Equal
@@ -120,3 +125,39 @@ weighed_less k q h = go2 (then_less (ordering_then (nat_cmp k.0 q.0) (nat_cmp k.
     go2 : (ordering_then (nat_cmp k.0 q.0) (nat_cmp k.1 q.1) ≡ Less) ⊎ ((ordering_then (nat_cmp k.0 q.0) (nat_cmp k.1 q.1) ≡ Equal) × (nat_cmp k.2 q.2 ≡ Less)) → (k.0 < q.0) ⊎ ((k.0 ≡ q.0) × ((k.1 < q.1) ⊎ ((k.1 ≡ q.1) × (k.2 < q.2))))
     go2 (inl a) = go1 (then_less (nat_cmp k.0 q.0) (nat_cmp k.1 q.1) a)
     go2 (inr a) = let both = then_equal (nat_cmp k.0 q.0) (nat_cmp k.1 q.1) a.0 in inr (equal_nat k.0 q.0 both.0, inr (equal_nat k.1 q.1 both.1, less_nat k.2 q.2 a.1))
+
+-- the first key of a range of reads: the thread's least number above
+abbrev pub ReadKey : Type 0
+ReadKey = ℕ × ℕ × ℕ × ℕ
+
+abbrev pub RangeOf : BTreeSet ReadKey → ℕ → ℕ → ℕ → ℕ → List ReadKey → Type 0
+RangeOf set v s t n r = IsKeyRangeOf read_cmp (Excluded (v, s, t, n)) (Excluded (v, s, t + 1, 0)) set r
+
+pub none_of_range : (set : BTreeSet ReadKey) (v s t n : ℕ) (r : List ReadKey) → RangeOf set v s t n r → r ≡ [] → (m : ℕ) → n < m → HasRead set.keys v s t m → ⊥
+none_of_range set v s t n r is empty m above has =
+    let no : list_any (is_at (read_cmp (v, s, t, m))) set.keys ≡ false = is.5 empty (v, s, t, m) (read_after v s t n m above, read_before v s t m) in
+    cc
+
+read_key : (x : ReadKey) (v s t : ℕ) → x.0 ≡ v → x.1 ≡ s → x.2 ≡ t → x ≡ (v, s, t, x.3)
+read_key x v s t a b c = made x.0 v x.1 s x.2 t x.3 a b c
+  where
+    made : (i j k l m n p : ℕ) → i ≡ j → k ≡ l → m ≡ n → Path ReadKey (i, k, m, p) (j, l, n, p)
+    made i j k l m n p a b c = rw (a, b, c) refl
+
+not_greater : (v s t m k : ℕ) → is_gt (read_cmp (v, s, t, m) (v, s, t, k)) ≡ false → m ≤ k
+not_greater v s t m k h = le_from_not_gt m k (rw (sym (steps v s t m k)) h)
+  where
+    steps : (v s t m k : ℕ) → read_cmp (v, s, t, m) (v, s, t, k) ≡ nat_cmp m k
+    steps v s t m k = rw (nat_same v, nat_same s, nat_same t) refl
+
+pub first_of_range : (set : BTreeSet ReadKey) (v s t n : ℕ) (r rest : List ReadKey) (x : ReadKey) → RangeOf set v s t n r → r ≡ x ∷ rest → HasRead set.keys v s t x.3 × ((k : ℕ) → n < k → HasRead set.keys v s t k → x.3 ≤ k)
+first_of_range set v s t n r rest x is first =
+    let here : IfSome (slice_get (x ∷ rest) 0) (IsKeyInRange read_cmp (Excluded (v, s, t, n)) (Excluded (v, s, t + 1, 0)) set) = subst (λ (l : List ReadKey). IfSome (slice_get l 0) (IsKeyInRange read_cmp (Excluded (v, s, t, n)) (Excluded (v, s, t + 1, 0)) set)) first is.1 in
+    let parts = read_between v s t n x here.0.0 here.0.1 in
+    let key : x ≡ (v, s, t, x.3) = read_key x v s t parts.0 parts.1 parts.2 in
+    let has : list_any (is_at (read_cmp x)) set.keys ≡ true = here.1 in
+    let least : (q : ReadKey) → IsInRange read_cmp (Excluded (v, s, t, n)) (Excluded (v, s, t + 1, 0)) q → IsTrue (contains read_cmp set q) → IfSome (slice_get (x ∷ rest) 0) (λ k. IsLeBy read_cmp k q) = subst (λ (l : List ReadKey). (q : ReadKey) → IsInRange read_cmp (Excluded (v, s, t, n)) (Excluded (v, s, t + 1, 0)) q → IsTrue (contains read_cmp set q) → IfSome (slice_get l 0) (λ k. IsLeBy read_cmp k q)) first is.2 in
+    (
+      subst (λ (q : ReadKey). list_any (is_at (read_cmp q)) set.keys ≡ true) key has,
+      λ k above other. not_greater v s t x.3 k (subst (λ (q : ReadKey). is_gt (read_cmp q (v, s, t, k)) ≡ false) key (least (v, s, t, k) (read_after v s t n k above, read_before v s t k) other)),
+    )

@@ -98,16 +98,20 @@ same_lane l m p q = made l.covered m.covered l.entries m.entries p q
 -- What can be followed ends at the frontier.
 
 none : (o : Option StampedEntry) → (IsSome o → ⊥) → o ≡ None
-none None no = refl
-none (Some e) no = absurd (no refl)
+none None never = refl
+none (Some e) never = absurd (never refl)
 
 known_past : (l : Lane) (f k : ℕ) → IsFrontier l f → entry_at l (f + 1 + k) ≡ None → IsKnown l (f + 1 + k) → ⊥
-known_past l f k is no (inl low) = is.ends (inl (omega arith))
-known_past l f k is no (inr some) = let both = subst (λ (o : Option StampedEntry). IsSome o) no some in absurd cc
+known_past l f k is gone (inl low) = is.ends (inl (omega arith))
+known_past l f k is gone (inr some) = let both = subst (λ (o : Option StampedEntry). IsSome o) gone some in absurd cc
 
 none_past : (held : List Lane) (t f : ℕ) → CanBeFollowed held → IsFrontier (lane held t) f → (k : ℕ) → entry_at (lane held t) (f + 1 + k) ≡ None
-none_past held t f can is zero = none (entry_at (lane held t) (f + 1)) (λ some. is.ends (inr some))
-none_past held t f can is (suc k) = none (entry_at (lane held t) (f + 1 + k + 1)) (λ some. known_past (lane held t) f k is (none_past held t f can is k) (can.gapless t (f + 1 + k) some))
+none_past held t f can is zero =
+    let place : f + 1 ≡ f + 1 + 0 = omega arith in
+    subst (λ (n : ℕ). entry_at (lane held t) n ≡ None) place (none (entry_at (lane held t) (f + 1)) (λ some. is.ends (inr some)))
+none_past held t f can is (suc k) =
+    let place : f + 1 + k + 1 ≡ f + 1 + suc k = omega arith in
+    subst (λ (n : ℕ). entry_at (lane held t) n ≡ None) place (none (entry_at (lane held t) (f + 1 + k + 1)) (λ some. known_past (lane held t) f k is (none_past held t f can is k) (can.gapless t (f + 1 + k) some)))
 
 pub no_entry_past : (held : List Lane) (t f n : ℕ) → CanBeFollowed held → IsFrontier (lane held t) f → f < n → entry_at (lane held t) n ≡ None
 no_entry_past held t f n can is h = let place : f + 1 + (n - f - 1) ≡ n = omega arith in subst (λ k. entry_at (lane held t) k ≡ None) place (none_past held t f can is (n - f - 1))
@@ -170,12 +174,12 @@ at-above number (x ∷ es) n =
     ⊎_elim
     (λ (h : number < x.0). let is : ltb number x.0 ≡ true = grind (arith, nat_tests) in rw is (
     ⊎_elim
-    (λ (q : n ≡ x.0). let past : leb n number ≡ false = grind (arith, nat_tests) in at_here x (above number es) n q ∙ sym (at_here x es n q) ∙ sym (ap (λ b. cond b None (at (x ∷ es) n)) past))
+    (λ (q : n ≡ x.0). let up : number < n = omega arith in let past : leb n number ≡ false = grind (arith, nat_tests) in at_here x (above number es) n q ∙ sym (at_here x es n q) ∙ sym (ap (λ b. cond b None (at (x ∷ es) n)) past))
     (λ (q : n ≢ x.0). at_later x (above number es) n q ∙ rest ∙ ap (λ o. cond (leb n number) None o) (sym (at_later x es n q)))
     (is_or n x.0)))
-    (λ h. let is : ltb number x.0 ≡ false = grind (arith, nat_tests) in rw is (
+    (λ (h : x.0 ≤ number). let is : ltb number x.0 ≡ false = grind (arith, nat_tests) in rw is (
     ⊎_elim
-    (λ (q : n ≡ x.0). let low : leb n number ≡ true = grind (arith, nat_tests) in rest ∙ ap (λ b. cond b None (at es n)) low ∙ sym (ap (λ b. cond b None (at (x ∷ es) n)) low))
+    (λ (q : n ≡ x.0). let down : n ≤ number = omega arith in let low : leb n number ≡ true = grind (arith, nat_tests) in rest ∙ ap (λ b. cond b None (at es n)) low ∙ sym (ap (λ b. cond b None (at (x ∷ es) n)) low))
     (λ (q : n ≢ x.0). rest ∙ ap (λ o. cond (leb n number) None o) (sym (at_later x es n q)))
     (is_or n x.0)))
     (cases_lt number x.0)

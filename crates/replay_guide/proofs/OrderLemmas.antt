@@ -173,12 +173,12 @@ weighs_lane first new covered es i long all w t n = (λ h. to ((all w t n).0 h),
   where
     to : IsWeighed first w t n ⊎ WeighsUpTo es i w t n → IsWeighed first w t n ⊎ ((k : ℕ) × (e : StampedEntry) × (entry_at (lane_of covered (numbered covered es)) k ≡ Some e) × (weight_of e ≡ w) × (e.thread ≡ t) × (e.number ≡ n))
     to (inl h) = inl h
-    to (inr (j, e, low, at, rest)) = inr (covered + j + 1, e, at-numbered covered es (covered + j + 1) j refl ∙ at, rest)
+    to (inr (j, e, low, at, weight, thread, number)) = inr (covered + j + 1, e, at-numbered covered es (covered + j + 1) j refl ∙ at, weight, thread, number)
     from : IsWeighed first w t n ⊎ ((k : ℕ) × (e : StampedEntry) × (entry_at (lane_of covered (numbered covered es)) k ≡ Some e) × (weight_of e ≡ w) × (e.thread ≡ t) × (e.number ≡ n)) → IsWeighed first w t n ⊎ WeighsUpTo es i w t n
     from (inl h) = inl h
-    from (inr (k, e, at, rest)) =
+    from (inr (k, e, at, weight, thread, number)) =
         ⊎_elim
-        (λ (above : covered < k). let there : slice_get es (k - covered - 1) ≡ Some e = sym (at-numbered covered es k (k - covered - 1) (omega arith)) ∙ at in let within = slice_get_within es (k - covered - 1) e there in inr (k - covered - 1, e, omega arith, there, rest))
+        (λ (above : covered < k). let there : slice_get es (k - covered - 1) ≡ Some e = sym (at-numbered covered es k (k - covered - 1) (omega arith)) ∙ at in let within = slice_get_within es (k - covered - 1) e there in inr (k - covered - 1, e, omega arith, there, weight, thread, number))
         (λ low. let none = at-numbered_before covered es k low in absurd cc)
         (cases_lt covered k)
 
@@ -187,13 +187,13 @@ pub weighs_next : (old new : List Weighed) (guide : List Lane) (i : ℕ) → ((w
 weighs_next old new guide i was adds w t n = (λ h. to ((adds w t n).0 h), λ h. (adds w t n).1 (from h))
   where
     up : WeighsBelow guide i w t n → WeighsBelow guide (i + 1) w t n
-    up (u, k, e, low, rest) = (u, k, e, omega arith, rest)
+    up (u, k, e, low, here, weight, thread, number) = (u, k, e, omega arith, here, weight, thread, number)
     to : IsWeighed old w t n ⊎ ((k : ℕ) × (e : StampedEntry) × (entry_at (lane guide i) k ≡ Some e) × (weight_of e ≡ w) × (e.thread ≡ t) × (e.number ≡ n)) → WeighsBelow guide (i + 1) w t n
     to (inl h) = up ((was w t n).0 h)
-    to (inr (k, e, rest)) = (i, k, e, omega arith, rest)
+    to (inr (k, e, here, weight, thread, number)) = (i, k, e, omega arith, here, weight, thread, number)
     from : WeighsBelow guide (i + 1) w t n → IsWeighed old w t n ⊎ ((k : ℕ) × (e : StampedEntry) × (entry_at (lane guide i) k ≡ Some e) × (weight_of e ≡ w) × (e.thread ≡ t) × (e.number ≡ n))
-    from (u, k, e, low, here, rest) =
+    from (u, k, e, low, here, weight, thread, number) =
         ⊎_elim
-        (λ (q : u ≡ i). inr (k, e, subst (λ (x : ℕ). entry_at (lane guide x) k ≡ Some e) q here, rest))
-        (λ (q : u ≢ i). inl ((was w t n).1 (u, k, e, grind arith, here, rest)))
+        (λ (q : u ≡ i). inr (k, e, subst (λ (x : ℕ). entry_at (lane guide x) k ≡ Some e) q here, weight, thread, number))
+        (λ (q : u ≢ i). inl ((was w t n).1 (u, k, e, grind arith, here, weight, thread, number)))
         (is_or u i)

@@ -1,18 +1,19 @@
 -- A thread has one turn.
-use Rattle.std.proofs.Common.{◌≡◌, ℕ, ◌+◌, ◌<◌, ◌≤◌, ◌⊎◌, ◌↔◌, Bool, true, false, List, Option, Some, None, IsSome, IfSome, IfNone, length, refl, sym, ap, ◌∙◌, subst, inl, inr, ⊎_elim, arith}
+use Rattle.std.proofs.Common.{◌≡◌, ℕ, ◌+◌, ◌<◌, ◌≤◌, ◌⊎◌, ◌↔◌, Bool, true, false, List, slice_index, Option, Some, None, IsSome, IfSome, IfNone, length, refl, sym, ap, ◌∙◌, subst, inl, inr, ⊎_elim, arith}
 use Rattle.std.proofs.lemmas.Bool.{cases_lt}
 use Rattle.entry_order.specs.declared.what.What.{What}
 use Rattle.entry_order.specs.declared.what.What.TheVariants.{Access, Read}
 use Rattle.access_log.specs.declared.entry.StampedEntry.{StampedEntry}
 use Rattle.access_log.specs.declared.entry.Turn.{Turn}
 use Rattle.access_log.specs.declared.entry.Turn.TheVariants.{Follow, Free, Wait}
-use Rattle.access_log.specs.Held.{Lane, lane, entry_at}
+use Rattle.access_log.specs.Held.{Lane, lane, entry_at, IsRising}
 use Rattle.access_log.specs.Lanes.{IsHeldSet}
 use Rattle.access_log.proofs.LaneLemmas.{lane_past}
-use Rattle.replay_guide.specs.Following.{Follows}
+use Rattle.replay_guide.specs.Following.{Follows, CanBeFollowed}
 use Rattle.replay_guide.specs.Turns.{IsPendingRead, GoesFirst, IsFirstPending, NoneIsPending, WaitsFor, IsFollowed, IsFree}
-use Rattle.replay_guide.specs.Indexes.{touch_after}
-use Rattle.replay_guide.specs.Walks.{IsTurn, IsGuide}
+use Rattle.replay_guide.specs.Indexes.{touch_after, HasRead, IsIndexOf}
+use Rattle.replay_guide.specs.Walks.{IsTurn, IsGuide, FollowsBelow}
+use Rattle.replay_guide.proofs.IndexLemmas.{IsIndexOf-same}
 
 abbrev pub PlacesApart : List Lane → Type 0
 PlacesApart guide = (v place t n u m : ℕ) → Follows guide t n (Access v place) → Follows guide u m (Access v place) → (t ≡ u) × (n ≡ m)
@@ -90,3 +91,30 @@ next_of_index guide touches reads v places (Some x) is found = is.indexed.touch 
 pub none_of_index : (guide : List Lane) (touches : List ((ℕ × ℕ) × (ℕ × ℕ))) (reads : List (ℕ × ℕ × ℕ × ℕ)) (v places : ℕ) (o : Option (ℕ × ℕ)) → IsGuide guide touches reads → o ≡ touch_after touches v places → IfNone o ((u m : ℕ) → Follows guide u m (Access v (places + 1)) → ⊥)
 none_of_index guide touches reads v places None is found = λ u m follows. let some = is.indexed.has_touch v places u m follows in let none = subst (λ (o : Option (ℕ × ℕ)). IsSome o) (sym found) some in cc
 none_of_index guide touches reads v places (Some x) is found = tt
+
+-- the pending read that the index finds first
+pub first_of_index : (guide : List Lane) (touches : List ((ℕ × ℕ) × (ℕ × ℕ))) (reads : List (ℕ × ℕ × ℕ × ℕ)) (v places : ℕ) (read : Bool) (readers : List ℕ) (o : Option (ℕ × ℕ)) → IsGuide guide touches reads → read ≡ false → IfSome o (λ x. slice_index readers x.0 < x.1) → IfSome o (λ x. HasRead reads v places x.0 x.1) → IfSome o (λ x. (w k : ℕ) → w < 16 → slice_index readers w < k → HasRead reads v places w k → GoesFirst x.0 x.1 w k) → IfSome o (λ x. (read ≡ false) × IsFirstPending guide v places readers x.0 x.1)
+first_of_index guide touches reads v places read readers None is no_read above there first = tt
+first_of_index guide touches reads v places read readers (Some x) is no_read above there first = (no_read, record {
+  pending = ((is.indexed.read v places x.0 x.1).0 there, above);
+  first = λ w k pending. first w k (follows_low guide w k (Read v places) is.held pending.0) pending.1 ((is.indexed.read v places w k).1 pending.0);
+})
+
+pub nothing_in_index : (guide : List Lane) (touches : List ((ℕ × ℕ) × (ℕ × ℕ))) (reads : List (ℕ × ℕ × ℕ × ℕ)) (v places : ℕ) (read : Bool) (readers : List ℕ) (o : Option (ℕ × ℕ)) → IsGuide guide touches reads → IfNone o ((u m : ℕ) → u < 16 → slice_index readers u < m → HasRead reads v places u m → ⊥) → IfNone o (NoneIsPending guide v read places readers)
+nothing_in_index guide touches reads v places read readers None is none = λ no_read u m pending. none u m (follows_low guide u m (Read v places) is.held pending.0) pending.1 ((is.indexed.read v places u m).1 pending.0)
+nothing_in_index guide touches reads v places read readers (Some x) is none = tt
+
+-- the guide that follows a held set
+pub guide_of : (followed lanes : List Lane) (touches : List ((ℕ × ℕ) × (ℕ × ℕ))) (reads : List (ℕ × ℕ × ℕ × ℕ)) (i : ℕ) → 16 ≤ i → i ≤ 16 → length lanes ≡ i → ((t : ℕ) → t < i → lane lanes t ≡ lane followed t) → IsHeldSet followed → CanBeFollowed followed → IsIndexOf (FollowsBelow followed i) touches reads → IsGuide lanes touches reads
+guide_of followed lanes touches reads i high low long same is can indexed = record {
+  held = record { few = omega arith; named = λ t n e here. is.named t n e (subst (λ (l : Lane). entry_at l n ≡ Some e) (lanes_same t) here); rising = λ t. subst (λ (l : Lane). IsRising l.covered l.entries) (sym (lanes_same t)) (is.rising t) };
+  apart = λ v place t n u m a b. can.apart v place t n u m (to t n (Access v place) a) (to u m (Access v place) b);
+  indexed = IsIndexOf-same (FollowsBelow followed i) (Follows lanes) touches reads (λ t n w. (λ h. from t n w h.1, λ h. let up = follows_low followed t n w is (to t n w h) in (omega arith, to t n w h))) indexed;
+}
+  where
+    lanes_same : (t : ℕ) → lane lanes t ≡ lane followed t
+    lanes_same t = ⊎_elim (λ (h : t < i). same t h) (λ h. let few = is.few in lane_past lanes t (omega arith) ∙ sym (lane_past followed t (omega arith))) (cases_lt t i)
+    to : (t n : ℕ) (w : What) → Follows lanes t n w → Follows followed t n w
+    to t n w (e, here, what) = (e, subst (λ (l : Lane). entry_at l n ≡ Some e) (lanes_same t) here, what)
+    from : (t n : ℕ) (w : What) → Follows followed t n w → Follows lanes t n w
+    from t n w (e, here, what) = (e, subst (λ (l : Lane). entry_at l n ≡ Some e) (sym (lanes_same t)) here, what)
