@@ -3,3 +3,4 @@ pub mod Turns
 pub mod Orders
 pub mod Indexes
 pub mod Walks
+pub mod Worlds
