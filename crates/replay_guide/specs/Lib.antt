@@ -1,0 +1,6 @@
+pub mod Following
+pub mod Turns
+pub mod Orders
+pub mod Indexes
+pub mod Walks
+pub mod Worlds
