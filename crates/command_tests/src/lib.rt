@@ -3,4 +3,6 @@
 #![tactic(auto)]
 
 #[cfg(test)]
+mod nat;
+#[cfg(test)]
 mod tests;

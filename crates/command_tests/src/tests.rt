@@ -16,18 +16,18 @@ const ONE_REPORT: &[u8] = b"settle moves 4 released 1 epoch 1\ndone fed 1 epoch 
 
 /// The input files of a run, and what it comes to: its status, its outputs, where they are there, and its report.
 #[derive(Clone, Copy)]
-struct Case<'a> {
-    box_file: &'a [u8],
-    capture: &'a [u8],
-    script: &'a [u8],
-    status: Status,
-    released: Option<&'a [u8]>,
-    schedule: Option<&'a [u8]>,
-    report: &'a [u8],
+pub struct Case<'a> {
+    pub box_file: &'a [u8],
+    pub capture: &'a [u8],
+    pub script: &'a [u8],
+    pub status: Status,
+    pub released: Option<&'a [u8]>,
+    pub schedule: Option<&'a [u8]>,
+    pub report: &'a [u8],
 }
 
 /// One packet through the counting box.
-const ONE: Case<'static> = Case {
+pub const ONE: Case<'static> = Case {
     box_file: b"box count",
     capture: ONE_PACKET,
     script: b"settle",
@@ -115,7 +115,7 @@ fn holds(alloc: Global, case: Case<'_>) -> Result<bool, NoMemory> {
 }
 
 /// The place of the first case that does not come to what it says.
-fn first_wrong(alloc: Global, cases: &[Case<'_>]) -> Result<Option<usize>, NoMemory> {
+pub fn first_wrong(alloc: Global, cases: &[Case<'_>]) -> Result<Option<usize>, NoMemory> {
     for place in 0..cases.len() {
         if !holds(alloc, cases[place])? {
             return Ok(Some(place));
