@@ -38,10 +38,12 @@ try:
 test:
 	$(RT) ci
 
-# Runs a box on a packet, the one of the program's stored run, and on two threads by a script of single events, and shows what was written.
+# Runs a box on a packet, the one of the program's stored run, and on two threads by a script of single events, and the NAT on packets of two
+# hosts, and shows what was written.
 example: build/ftmb
 	scripts/example build/ftmb build/example $(addprefix crates/ftmb/data/,box capture script)
 	scripts/example build/ftmb build/example/two_threads $(addprefix crates/ftmb_runs/data/,box_two_threads capture_two_packets script_two_threads)
+	scripts/example build/ftmb build/example/nat $(addprefix crates/ftmb_runs/data/,box_nat capture_two_hosts script_nat)
 
 # The bytes summed and the packets rewritten in a second; the packets made and run in a second; the moves that a master makes in a
 # second, beside those of the plain player; the frames written and read, the log entries held, the outputs released, the lines of a

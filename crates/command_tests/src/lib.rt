@@ -5,6 +5,8 @@
 #[cfg(test)]
 mod limits;
 #[cfg(test)]
+mod nat;
+#[cfg(test)]
 mod runs;
 #[cfg(test)]
 mod tests;

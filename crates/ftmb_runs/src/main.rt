@@ -15,7 +15,7 @@ const COMMANDS: [&str; 15] = [
     "run box capture script released schedule",
     "check box capture schedule released",
     "play box capture schedule emitted",
-    "run box_nat capture script released schedule",
+    "run box_nat capture_two_hosts script_nat released schedule",
     "run box_two_threads capture_two_packets script_two_threads released schedule",
     "run box capture script_cut_frame released schedule",
     "make 7 1000 made",
