@@ -38,7 +38,8 @@ try:
 test:
 	$(RT) ci
 
-# Runs a box on a packet, the one of the program's stored run, and on two threads by a script of single events, and shows what was written.
+# Runs a box on a packet, the one of the program's stored run, and on two threads by a script of single events, and shows what was written;
+# and checks what the first run wrote.
 example: build/ftmb
 	scripts/example build/ftmb crates/ftmb/data build/example crates/ftmb_two_threads/data build/example/two_threads
 
