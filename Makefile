@@ -38,10 +38,11 @@ try:
 test:
 	$(RT) ci
 
-# Runs a box on a packet, the one of the program's stored run, and on two threads by a script of single events, and the NAT on packets of two
-# hosts, and shows what was written.
+# Runs a box on a packet, the one of the program's stored run, and checks what it wrote; and runs a box on two threads by a script of single
+# events, and the NAT on packets of two hosts. Shows what was written.
 example: build/ftmb
 	scripts/example build/ftmb build/example $(addprefix crates/ftmb/data/,box capture script)
+	scripts/example_check build/ftmb build/example
 	scripts/example build/ftmb build/example/two_threads $(addprefix crates/ftmb_runs/data/,box_two_threads capture_two_packets script_two_threads)
 	scripts/example build/ftmb build/example/nat $(addprefix crates/ftmb_runs/data/,box_nat capture_two_hosts script_nat)
 

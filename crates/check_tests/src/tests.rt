@@ -370,11 +370,7 @@ fn refutes_a_schedule_with_any_move_dropped(rt: HostRuntime) -> Result<(), Fail>
 const READS: u64 = 12;
 
 /// Whether a check whose calls of reading fail at this one comes to what the case says.
-fn checks_where_reading_fails(
-    alloc: Global,
-    nth: u64,
-    case: Case<'_>,
-) -> Result<bool, NoMemory> {
+fn checks_where_reading_fails(alloc: Global, nth: u64, case: Case<'_>) -> Result<bool, NoMemory> {
     let mut world = MemoryWorld::new(alloc)?;
     world.fail_read(nth)?;
     checks_in(alloc, &mut world, case)
@@ -468,7 +464,13 @@ fn refuses_other_words(rt: HostRuntime) -> Result<(), Fail> {
     for words in &bad {
         assert_eq!(rt; answer(alloc, words)?, Status::BadWords);
     }
-    assert_eq!(rt; answer(alloc, &["play", "o", "o", "o", "o"])?, Status::ReadFault);
-    assert_eq!(rt; answer(alloc, &["check", "b", "c", "m", "m"])?, Status::ReadFault);
+    assert_eq!(rt;
+        answer(alloc, &["play", "o", "o", "o", "o"])?,
+        Status::ReadFault
+    );
+    assert_eq!(rt;
+        answer(alloc, &["check", "b", "c", "m", "m"])?,
+        Status::ReadFault
+    );
     Ok(())
 }

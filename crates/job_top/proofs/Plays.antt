@@ -7,7 +7,6 @@ use Rattle.plain_machine.specs.History.{Step}
 use Rattle.world_io.specs.World.{Shown}
 use Rattle.schedule_run.specs.declared.error.ScheduleError.{ScheduleError}
 use Rattle.schedule_run.specs.declared.error.ScheduleError.TheVariants as error
-use Rattle.schedule_run.specs.Runs.{IsLegal}
 use Rattle.schedule_run.specs.Playing.{SaysPlay, HasPlayed, HasBegunPlay, emitted_writes}
 use Rattle.script_run.specs.Run.{KeepsShown}
 use Rattle.input_files.specs.Files.{KeepsOutputs}
@@ -72,9 +71,6 @@ play_fault (Err error.NoMemory) e = absurd (cc)
 
 -- The inputs decide the status.
 
-legal_not_refused : {V : Type 0} (outcome : Result (List (Step V)) PlayFault) (fault : PlayFault) → IsLegal outcome → outcome ≡ Err fault → ⊥
-legal_not_refused outcome fault legal e = let no : Ok legal.0 ≡ Err fault = sym legal.1 ∙ e in cc
-
 module _ (healthy : Type 0) where
   decided : (r : Result ⊤ (ScheduleError PlayFault)) → IsDecided healthy (play_outcome r) → (healthy → ¬ IsErrOf r error.WriteFault) → ¬ (r ≡ Err error.NoMemory) × ¬ (r ≡ Err error.WriteFault)
   decided r d never = (λ e. d.0 (ap play_outcome e), λ e. never (d.1.1 (ap play_outcome e)) e)
@@ -84,14 +80,14 @@ module _ (healthy : Type 0) where
   same_end outcome (Err error.WriteFault) q d g x y = absurd (d.1 refl)
   same_end outcome (Err error.NoMemory) q d g x y = absurd (d.0 refl)
   same_end outcome (Ok done) (Ok other) d g x y = refl
-  same_end outcome (Ok done) (Err (error.Refused fault)) d g x y = absurd (legal_not_refused outcome fault x y)
+  same_end (Ok steps) (Ok done) (Err (error.Refused fault)) d g x y = absurd y
+  same_end (Err first) (Ok done) (Err (error.Refused fault)) d g x y = absurd x
   same_end outcome (Ok done) (Err error.WriteFault) d g x y = absurd (g.1 refl)
   same_end outcome (Ok done) (Err error.NoMemory) d g x y = absurd (g.0 refl)
-  same_end outcome (Err (error.Refused fault)) (Ok done) d g x y = absurd (legal_not_refused outcome fault y x)
-  same_end {V} outcome (Err (error.Refused fault)) (Err (error.Refused other)) d g x y =
-      let both : Err fault ≡ Err other = sym x ∙ y in
-      let same : fault ≡ other = cc in
-      ap (λ (f : PlayFault). status.BadInput (input.Moves f)) same
+  same_end (Ok steps) (Err (error.Refused fault)) (Ok done) d g x y = absurd x
+  same_end (Err first) (Err (error.Refused fault)) (Ok done) d g x y = absurd y
+  same_end (Ok steps) (Err (error.Refused fault)) (Err (error.Refused other)) d g x y = absurd x
+  same_end (Err first) (Err (error.Refused fault)) (Err (error.Refused other)) d g x y = ap (λ (f : PlayFault). status.BadInput (input.Moves f)) (x ∙ sym y)
   same_end outcome (Err (error.Refused fault)) (Err error.WriteFault) d g x y = absurd (g.1 refl)
   same_end outcome (Err (error.Refused fault)) (Err error.NoMemory) d g x y = absurd (g.0 refl)
 

@@ -25,8 +25,6 @@ pub use making::make_capture;
 pub use playing::play_capture;
 pub use run_words::{RunWords, read_run_words};
 pub use schedule_inputs::{CheckInputs, ScheduleInputs, read_check_inputs, read_schedule_inputs};
-pub use schedule_words::{
-    CheckWords, PlayWords, ScheduleFiles, read_check_words, read_play_words,
-};
+pub use schedule_words::{CheckWords, PlayWords, ScheduleFiles, read_check_words, read_play_words};
 pub use status::{InputFault, Status};
 pub use top::ftmb;

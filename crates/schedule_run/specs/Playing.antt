@@ -1,5 +1,5 @@
 -- What the command `play` writes: the packets that a schedule sends out, in its order, as a capture, and how many there are.
-use Rattle.std.specs.Prelude.{◌≡◌, ◌⊎◌, ℕ, List, ◌++◌, codes, decimal, length, Result, Ok, Err, ⊤}
+use Rattle.std.specs.Prelude.{◌≡◌, ℕ, List, ◌++◌, codes, decimal, length, Result, Ok, Err, ⊤}
 use Rattle.plain_text.specs.declared.packet.Packet.{Packet}
 use Rattle.plain_text.specs.declared.packet.Unit.{Unit as FractionUnit}
 use Rattle.pcap_io.specs.Capture.{written_header, records_of}
@@ -12,7 +12,6 @@ use Rattle.output_files.specs.Writes.{Write, HasWritten, HasBegun}
 use Rattle.output_files.specs.Written.{single_writes}
 use Rattle.schedule_run.specs.declared.error.ScheduleError.{ScheduleError}
 use Rattle.schedule_run.specs.declared.error.ScheduleError.TheVariants as error
-use Rattle.schedule_run.specs.Runs.{IsLegal}
 
 -- the report: how many packets were sent out
 abbrev pub emitted_text : ℕ → List ℕ
@@ -27,10 +26,14 @@ emitted_writes name u steps = packet_writes name u (packets_of (emissions steps)
 
 -- What an answer says of what the schedule comes to. Writing is begun only where it is legal; running out of memory says nothing.
 abbrev pub SaysPlay : {V : Type 0} → Result (List (Step V)) PlayFault → Result ⊤ (ScheduleError PlayFault) → Type 0
-SaysPlay outcome (Ok done) = IsLegal outcome
-SaysPlay outcome (Err (error.Refused fault)) = outcome ≡ Err fault
-SaysPlay outcome (Err error.WriteFault) = IsLegal outcome
-SaysPlay outcome (Err error.NoMemory) = Unit {0}
+SaysPlay (Ok steps) (Ok done) = Unit {0}
+SaysPlay (Ok steps) (Err (error.Refused named)) = ⊥
+SaysPlay (Ok steps) (Err error.WriteFault) = Unit {0}
+SaysPlay (Ok steps) (Err error.NoMemory) = Unit {0}
+SaysPlay (Err fault) (Ok done) = ⊥
+SaysPlay (Err fault) (Err (error.Refused named)) = named ≡ fault
+SaysPlay (Err fault) (Err error.WriteFault) = ⊥
+SaysPlay (Err fault) (Err error.NoMemory) = Unit {0}
 
 -- the schedule is legal, and what it sends out was written
 pub record HasPlayed {V : Type 0} (outcome : Result (List (Step V)) PlayFault) (name : List ℕ) (u : FractionUnit) (old new : Shown) : Type 0 where

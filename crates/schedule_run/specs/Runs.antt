@@ -1,5 +1,5 @@
 -- A schedule that is played on a whole capture, and what it comes to.
-use Rattle.std.specs.Prelude.{◌≡◌, ℕ, ◌≤◌, All, List, length, Result, Ok}
+use Rattle.std.specs.Prelude.{◌≤◌, All, List, length, Result}
 use Rattle.plain_text.specs.declared.limit.TheConstants.{MOST_CAPTURED}
 use Rattle.plain_text.specs.declared.packet.Packet.{Packet}
 use Rattle.input_logger.specs.Inputs.{inputs_of}
@@ -21,7 +21,3 @@ pub record CanPlay (run : ScheduleRun) : Type 0 where
 -- what a box that means this comes to by the schedule: the history of its moves, or the first illegal one
 abbrev pub outcome_of : {V : Type 0} → Meaning V → ScheduleRun → Result (List (Step V)) PlayFault
 outcome_of m run = play m (inputs_of (record { threads = run.threads; packets = run.packets })) run.threads run.schedule
-
--- the schedule is legal
-abbrev pub IsLegal : {V : Type 0} → Result (List (Step V)) PlayFault → Type 0
-IsLegal {V} outcome = (steps : List (Step V)) × (outcome ≡ Ok steps)

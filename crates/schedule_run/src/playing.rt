@@ -69,8 +69,9 @@ pub fn play_schedule<P: Program, W: World>(
     requires inputs { CanPlay run }
     requires room { (W.ledger world.old).given < 2 ^ 32 - 1 }
     ensures says { SaysPlay (outcome_of (P.meaning program.now) run) result }
-    ensures played { IsTrue W.tells → OnOk result (HasPlayed (outcome_of (P.meaning program.now) run)
-        out.now run.unit (W.shown world.old) (W.shown world.new)) }
+    ensures played { IsTrue W.tells → OnOk result (HasPlayed
+        (outcome_of (P.meaning program.now) run) out.now run.unit
+        (W.shown world.old) (W.shown world.new)) }
     ensures in_order { IsTrue W.tells → (world.new ≡ world.old)
         ⊎ HasBegunPlay (outcome_of (P.meaning program.now) run)
         out.now run.unit (W.shown world.old) (W.shown world.new) }

@@ -1,0 +1,16 @@
+-- Words that no command has are bad words.
+use Rattle.std.proofs.Common.{◌≡◌, ℕ, List, ap, ◌∙◌, ◌⊎◌, inl, None, Result, Ok, Err}
+use Rattle.std.specs.Prelude.{IfOk}
+use Rattle.std.specs.declared.string.String.{String}
+use Rattle.std.specs.declared.vec.IntoIter.{IntoIter}
+use Rattle.job_top.specs.declared.status.Status.{Status}
+use Rattle.job_top.specs.declared.status.Status.TheVariants.{BadWords, NoMemory}
+use Rattle.job_top.specs.Words.{asked}
+use Rattle.command_line.specs.Printing.{asked_text}
+use Rattle.command_line.specs.Words.{words_of}
+
+pub no_command : {Y Z E : Type 0} (arguments : Result (IntoIter (String Y) Z) E) (texts words : List (List ℕ)) (s : Status) → IfOk arguments (λ all. texts ≡ words_of all) → words ≡ texts
+    → (asked words ≡ None → asked_text words ≡ None → s ≡ BadWords)
+    → IfOk arguments (λ all. asked (words_of all) ≡ None → asked_text (words_of all) ≡ None → (s ≡ BadWords) ⊎ (s ≡ NoMemory))
+no_command (Ok all) texts words s same copied none = λ command text. inl (none (ap asked (copied ∙ same) ∙ command) (ap asked_text (copied ∙ same) ∙ text))
+no_command (Err error) texts words s same copied none = tt
