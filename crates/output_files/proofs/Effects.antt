@@ -9,7 +9,7 @@ use Rattle.world_io.specs.World.{Shown, WritesFile, CreatesFile, CreatesNothing}
 use Rattle.std.specs.Result.{IsErr}
 use Rattle.output_files.specs.declared.error.OutputError.{OutputError}
 use Rattle.output_files.specs.Written.{AppendsTo, Writes, WritesGathered}
-use Rattle.output_files.specs.Writes.{report_file, Write, Creates, Appends, Reports, longer, after_write, after_writes, reported_by, reported, HasWritten, IsPrefix, IsPartOf, IsCut, HasBegun, IsOutput, KeepsOutputs, AreOnlyReports, HasGathered}
+use Rattle.output_files.specs.Writes.{report_file, Write, Creates, Appends, Reports, longer, after_write, after_writes, reported_by, reported, HasWritten, IsPrefix, IsCut, HasBegun, IsOutput, KeepsOutputs, AreOnlyReports, HasGathered}
 
 -- Names
 

@@ -1,5 +1,5 @@
 -- What the calls that write do to a world.
-use Rattle.std.specs.Prelude.{◌≡◌, ◌+◌, ◌≤◌, List, [], ◌∷◌, ◌++◌, Result, Ok, Err, ℕ, take}
+use Rattle.std.specs.Prelude.{◌≡◌, ◌+◌, ◌≤◌, List, [], ◌∷◌, Result, Ok, Err, ℕ, take}
 use Rattle.world_io.specs.World.{Shown, Ledger, WritesFile}
 use Rattle.world_io.specs.declared.world.OpenFault.{OpenFault}
 use Rattle.world_io.specs.declared.world.OpenFault.TheVariants as opening

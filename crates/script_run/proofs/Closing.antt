@@ -6,16 +6,16 @@ use Rattle.plain_machine.specs.Program.{Meaning}
 use Rattle.plain_player.specs.ScheduleText.{schedule_text}
 use Rattle.world_io.specs.World.{Shown}
 use Rattle.recovery_world.specs.declared.event.Event.{Event}
-use Rattle.recovery_world.specs.World.{Setting, World}
+use Rattle.recovery_world.specs.World.{Setting}
 use Rattle.recovery_world.specs.Files.{done_line, moves_made}
 use Rattle.recovery_core.specs.declared.reply.Finished.{Finished}
 use Rattle.recovery_core.specs.Parts.{Systemed}
 use Rattle.recovery_core.specs.Performing.{FinishesAs}
 use Rattle.output_files.specs.declared.error.OutputError.{OutputError}
-use Rattle.output_files.specs.Writes.{Write, Appends, Reports, HasWritten, HasBegun, HasGathered}
+use Rattle.output_files.specs.Writes.{Write, Appends, Reports, HasWritten, HasBegun}
 use Rattle.output_files.specs.Written.{Writes}
-use Rattle.output_files.proofs.Effects.{begun_before, begun_behind, begun_all, gathered_begun, written_more, then_writes}
-use Rattle.script_run.specs.Run.{OutputNames, writes_of, closing_writes, WritesSome, WritesUntil, WritesAll, IsWritten, HasBegunRun, Finishes}
+use Rattle.output_files.proofs.Effects.{begun_before, begun_behind, gathered_begun, written_more, then_writes}
+use Rattle.script_run.specs.Run.{OutputNames, writes_of, closing_writes, WritesAll, HasBegunRun, Finishes}
 use Rattle.script_run.specs.Running.{HasCome, counts_line}
 
 pub err_finishes : {V : Type 0} (r : Result ⊤ OutputError) (s : Setting V) (names : OutputNames) (events : List Event) (a b : Shown) → IsErr r → HasBegunRun s names events a b → Finishes r s names events a b

@@ -1,8 +1,7 @@
 -- What performing an event comes to, from what the system promises.
 use Rattle.std.proofs.Common.{◌≡◌, ℕ, List, [], drop, length, refl, sym, ap, ◌∙◌, subst, Result, Ok, Err, arith}
-use Rattle.std.specs.Prelude.{All, IfOk, map}
+use Rattle.std.specs.Prelude.{All, IfOk}
 use Rattle.plain_text.specs.declared.limit.Limit.{Limit}
-use Rattle.plain_text.specs.declared.packet.Packet.{Packet}
 use Rattle.access_log.specs.declared.entry.Output.{Output}
 use Rattle.plain_machine.specs.Program.{Meaning, IsLawful}
 use Rattle.recovery_world.specs.declared.event.Event.{Event}
@@ -12,10 +11,9 @@ use Rattle.recovery_laws.proofs.KeptWorlds.{any_sound, stops_sound}
 use Rattle.recovery_core.specs.declared.reply.Reply.{Reply as SystemReply}
 use Rattle.recovery_core.specs.declared.reply.Stop.{Stop}
 use Rattle.recovery_core.specs.declared.reply.Stop.TheVariants as stop
-use Rattle.recovery_core.specs.Parts.{IsShort, Parts, Systemed}
+use Rattle.recovery_core.specs.Parts.{IsShort, Systemed}
 use Rattle.recovery_core.specs.Standing.{HasReleased, StandsFor}
 use Rattle.recovery_core.specs.Performing.{MovesOn, StopsAt, RepliesAny, IsStopped}
-use Rattle.script_run.specs.Replies.{newly_released}
 use Rattle.script_run.specs.Running.{packets_in, IsAt, ComesTo}
 use Rattle.script_run.proofs.ShortPackets.{released_short}
 

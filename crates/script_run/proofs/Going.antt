@@ -1,6 +1,6 @@
 -- A run goes on event by event.
 use Rattle.std.proofs.Common.{◌≡◌, ℕ, ◌+◌, ◌<◌, ◌≤◌, List, [], ◌∷◌, ◌++◌, take, drop, length, refl, sym, ap, ◌∙◌, append-nil, append_assoc, subst, inl, inr, Result, Ok, Err, zero, suc, arith, add-one, get_or}
-use Rattle.std.specs.Prelude.{⊤, All, IsErrOf, OnOk}
+use Rattle.std.specs.Prelude.{⊤, IsErrOf, OnOk}
 use Rattle.plain_text.specs.declared.limit.Limit.{Limit}
 use Rattle.access_log.specs.declared.entry.Output.{Output}
 use Rattle.plain_machine.specs.Program.{Meaning}
@@ -12,19 +12,19 @@ use Rattle.recovery_world.specs.Files.{reply_line, sent_names}
 use Rattle.recovery_core.specs.declared.reply.Reply.{Reply as SystemReply}
 use Rattle.recovery_core.specs.declared.reply.Stop.{Stop}
 use Rattle.recovery_core.specs.declared.reply.Stop.TheVariants as stop
-use Rattle.recovery_core.specs.Parts.{IsShort, Systemed}
+use Rattle.recovery_core.specs.Parts.{Systemed}
 use Rattle.output_files.specs.declared.error.OutputError.{OutputError}
 use Rattle.output_files.specs.declared.error.OutputError.TheVariants as output
-use Rattle.output_files.specs.Writes.{Write, Appends, Reports, IsOutput, HasWritten, HasBegun, HasGathered}
+use Rattle.output_files.specs.Writes.{Write, HasBegun}
 use Rattle.output_files.specs.Written.{Writes, WritesGathered}
-use Rattle.output_files.proofs.Effects.{gathered_begun, begun_all}
+use Rattle.output_files.proofs.Effects.{gathered_begun}
 use Rattle.script_run.specs.declared.error.RunError.{RunError}
 use Rattle.script_run.specs.declared.error.RunError.TheVariants as run
-use Rattle.script_run.specs.Errors.{run_error_of, run_result_of, stopped_result}
+use Rattle.script_run.specs.Errors.{run_result_of, stopped_result}
 use Rattle.script_run.specs.Replies.{Reply, Answers, Goes, newly_released}
-use Rattle.script_run.specs.Run.{OutputNames, opening_writes, release_writes, reply_writes, replies_writes, writes_of, WritesSome, WritesUntil, WritesAll, IsWritten, HasBegunRun}
+use Rattle.script_run.specs.Run.{OutputNames, opening_writes, release_writes, reply_writes, replies_writes, writes_of, WritesUntil}
 use Rattle.plain_text.specs.declared.packet.Packet.{Packet}
-use Rattle.script_run.specs.Running.{HasBegunSome, packets_in, IsAt, ComesTo, IsSomewhere, HasCome, StoppedThere, GoesOn}
+use Rattle.script_run.specs.Running.{HasBegunSome, packets_in, IsAt, ComesTo, IsSomewhere, HasCome, GoesOn}
 
 -- an error of a run is a write fault only where that of its outputs is
 pub fault_written : (r : Result ⊤ OutputError) → IsErrOf (run_result_of r) run.WriteFault → IsErrOf r output.WriteFault

@@ -1,5 +1,5 @@
 -- Wherever a list of writes is cut, the released capture and the report keep step.
-use Rattle.std.proofs.Common.{◌≡◌, ℕ, ◌+◌, ◌<◌, ◌≤◌, List, [], ◌∷◌, ◌++◌, length, length-append, refl, sym, ap, ◌∙◌, append-nil, append_assoc, subst, inl, inr, ◌⊎◌, arith, true, false, Option, Some, None}
+use Rattle.std.proofs.Common.{◌≡◌, ℕ, ◌+◌, ◌<◌, List, [], ◌∷◌, ◌++◌, length, length-append, refl, sym, ap, ◌∙◌, append-nil, append_assoc, subst, inl, inr, ◌⊎◌, arith, true, Some, None}
 use Rattle.std.specs.Prelude.{cond}
 use Rattle.std.specs.Str.{bytes_eq}
 use Rattle.plain_text.specs.declared.packet.Packet.{Packet}
@@ -7,13 +7,12 @@ use Rattle.plain_text.specs.declared.packet.Unit.{Unit as FractionUnit}
 use Rattle.pcap_io.specs.Capture.{written, written_header, record_of, records_of}
 use Rattle.pcap_io.specs.declared.order.Order.TheVariants as order
 use Rattle.recovery_world.specs.declared.event.Event.{Event}
-use Rattle.recovery_world.specs.declared.event.Outcome.{Outcome}
-use Rattle.recovery_world.specs.World.{Setting, Sent, World}
-use Rattle.recovery_world.specs.Files.{reply_line, event_words, outcome_words, freed_words}
-use Rattle.output_files.specs.Writes.{Write, Creates, Appends, Reports, longer, after_write, after_writes, reported_by, reported, IsPrefix, IsPartOf, IsCut}
+use Rattle.recovery_world.specs.World.{Setting, World}
+use Rattle.recovery_world.specs.Files.{reply_line}
+use Rattle.output_files.specs.Writes.{Write, Creates, Appends, Reports, after_write, after_writes, reported_by, reported, IsPrefix, IsPartOf, IsCut}
 use Rattle.output_files.proofs.Effects.{Compared, IsSame, Differs, compared, reported_more}
 use Rattle.script_run.specs.Replies.{Reply, Answers, Opens, Goes, newly_released, released_in, lines_in}
-use Rattle.script_run.specs.Run.{OutputNames, opening_writes, release_writes, reply_writes, replies_writes, writes_of, closing_writes}
+use Rattle.script_run.specs.Run.{OutputNames, reply_writes, replies_writes, writes_of}
 use Rattle.script_run.specs.Steps.{KeepStep, HaveLines}
 use Rattle.script_run.proofs.RunWrites.{same_name, other_name}
 

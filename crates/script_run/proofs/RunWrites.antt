@@ -1,23 +1,22 @@
 -- What stands after the writes of a run.
-use Rattle.std.proofs.Common.{◌≡◌, ℕ, List, [], ◌∷◌, ◌++◌, refl, sym, ap, ◌∙◌, append-nil, append_assoc, subst, Option, Some, None, inl, inr, true, false}
-use Rattle.std.specs.List.{flat_map}
+use Rattle.std.proofs.Common.{◌≡◌, ℕ, List, [], ◌∷◌, ◌++◌, refl, sym, ap, ◌∙◌, append-nil, append_assoc, subst, Option, Some, inl, true, false}
 use Rattle.std.specs.Str.{bytes_eq}
 use Rattle.plain_text.specs.declared.limit.Limit.{Limit}
 use Rattle.plain_text.specs.declared.packet.Packet.{Packet}
 use Rattle.plain_text.specs.declared.packet.Unit.{Unit as FractionUnit}
-use Rattle.pcap_io.specs.Capture.{written, written_header, record_of, records_of}
+use Rattle.pcap_io.specs.Capture.{written_header, record_of, records_of}
 use Rattle.pcap_io.specs.declared.order.Order.TheVariants as order
 use Rattle.plain_machine.specs.declared.plain_move.PlainMove.{PlainMove}
 use Rattle.plain_player.specs.ScheduleText.{schedule_text}
 use Rattle.world_io.specs.World.{Shown}
 use Rattle.recovery_world.specs.declared.event.Event.{Event}
-use Rattle.recovery_world.specs.World.{Setting, World, opening}
-use Rattle.recovery_world.specs.Files.{done_line, moves_made, packets_of, Leaves, LeavesAt}
+use Rattle.recovery_world.specs.World.{Setting, opening}
+use Rattle.recovery_world.specs.Files.{done_line, moves_made, packets_of}
 use Rattle.recovery_laws.proofs.ReleasedOutputs.{stops_grow}
-use Rattle.output_files.specs.Writes.{report_file, Write, Creates, Appends, Reports, longer, after_write, after_writes, reported, HasWritten, HasBegun}
+use Rattle.output_files.specs.Writes.{report_file, Write, after_write, after_writes, reported, HasWritten, HasBegun}
 use Rattle.output_files.proofs.Effects.{Compared, IsSame, Differs, compared, reported_more, begun_before}
-use Rattle.script_run.specs.Replies.{Reply, Answers, Opens, newly_released, released_in, lines_in}
-use Rattle.script_run.specs.Run.{OutputNames, opening_writes, release_writes, reply_writes, replies_writes, writes_of, closing_writes, WritesSome, WritesUntil, WritesAll, KeepsOthers, HasFiles, HasRun, HasStopped, HasBegunRun}
+use Rattle.script_run.specs.Replies.{Reply, Opens, newly_released, released_in, lines_in}
+use Rattle.script_run.specs.Run.{OutputNames, opening_writes, release_writes, replies_writes, writes_of, closing_writes, WritesUntil, WritesAll, HasFiles, HasRun, HasStopped, HasBegunRun}
 use Rattle.script_run.proofs.ScriptAnswers.{answers_perform, answers_release, released_then}
 
 after_more : (name : List ℕ) (first more : List Write) (had : Option (List ℕ)) → after_writes name (first ++ more) had ≡ after_writes name more (after_writes name first had)

@@ -1,9 +1,8 @@
 -- A packet goes out with as many bytes as its input has, so what is released is short enough for a record.
-use Rattle.std.proofs.Common.{◌≡◌, ℕ, ◌≤◌, List, [], ◌∷◌, length, refl, sym, ap, ◌∙◌, subst, arith, Option, Some, None, zero, suc, inl, inr}
-use Rattle.std.specs.Prelude.{All, slice_get, map, take, drop}
+use Rattle.std.proofs.Common.{◌≡◌, ℕ, List, [], ◌∷◌, length, refl, sym, ap, ◌∙◌, subst, arith, Option, Some, None, zero, suc, inl, inr}
+use Rattle.std.specs.Prelude.{All, slice_get, take, drop}
 use Rattle.std.proofs.lemmas.List.Elements.{All-filter, All-take, All-drop, All-head, All-tail, All-cons}
 use Rattle.plain_text.specs.declared.packet.Packet.{Packet}
-use Rattle.input_logger.specs.Inputs.{inputs_of, thread_of}
 use Rattle.plain_machine.specs.declared.emission.Emission.{Emission}
 use Rattle.plain_machine.specs.declared.local.Move.{Move}
 use Rattle.plain_machine.specs.declared.local.Move.TheVariants.{Access, Read, Clock, Draw, Emit, End}

@@ -1,13 +1,12 @@
 -- A run from its opening to its end.
-use Rattle.std.proofs.Common.{◌≡◌, ℕ, List, [], ◌∷◌, ◌++◌, length, refl, sym, ap, ◌∙◌, append-nil, subst, inl, inr, Result, Ok, Err}
+use Rattle.std.proofs.Common.{◌≡◌, ℕ, List, [], ◌∷◌, refl, sym, ap, ◌∙◌, append-nil, subst, inl, inr, Result, Ok, Err}
 use Rattle.std.specs.Prelude.{⊤, OnOk, IsTrue, ◌||◌, nat_eq, Bool, true, false}
-use Rattle.std.specs.Result.{IsErr}
 use Rattle.plain_text.specs.declared.limit.Limit.{Limit}
 use Rattle.access_log.specs.declared.entry.Output.{Output}
 use Rattle.plain_machine.specs.Program.{Meaning}
 use Rattle.world_io.specs.World.{Shown, Ledger, KeepsLedgerWriting, GivesCreated, is_writable}
 use Rattle.recovery_world.specs.declared.event.Event.{Event}
-use Rattle.recovery_world.specs.World.{Setting, World, opening}
+use Rattle.recovery_world.specs.World.{Setting, opening}
 use Rattle.recovery_core.specs.Parts.{Systemed}
 use Rattle.recovery_core.specs.Standing.{StandsFor}
 use Rattle.output_files.specs.declared.error.OutputError.{OutputError}
@@ -17,9 +16,9 @@ use Rattle.output_files.proofs.Effects.{begun_all, none_gathered}
 use Rattle.script_run.specs.declared.error.RunError.{RunError}
 use Rattle.script_run.specs.declared.error.RunError.TheVariants as run
 use Rattle.script_run.specs.Errors.{run_error_of, run_result_of}
-use Rattle.script_run.specs.Replies.{Answers, Opens}
-use Rattle.script_run.specs.Run.{OutputNames, opening_writes, writes_of, WritesSome, WritesUntil, WritesAll, HasRun, HasStopped, HasBegunRun, Finishes}
-use Rattle.script_run.specs.Running.{packets_in, IsAt, HasCome, HasBegunSome, StoppedThere, GoesOn}
+use Rattle.script_run.specs.Replies.{Opens}
+use Rattle.script_run.specs.Run.{OutputNames, opening_writes, writes_of, HasRun, HasStopped, HasBegunRun, Finishes}
+use Rattle.script_run.specs.Running.{packets_in, IsAt, HasCome, HasBegunSome, GoesOn}
 use Rattle.script_run.proofs.RunWrites.{has_run, has_stopped}
 
 no_outputs : (outputs : List Output) → packets_in outputs ≡ [] → outputs ≡ []

@@ -1,5 +1,5 @@
 -- What the events of a script leave, one by one: the packets that each released, and its line of the report.
-use Rattle.std.specs.Prelude.{◌≡◌, ℕ, List, [], ◌∷◌, ◌++◌, drop, length}
+use Rattle.std.specs.Prelude.{ℕ, List, [], ◌∷◌, ◌++◌, drop, length}
 use Rattle.std.specs.List.{flat_map}
 use Rattle.plain_text.specs.declared.packet.Packet.{Packet}
 use Rattle.recovery_world.specs.declared.event.Event.{Event}

@@ -77,8 +77,8 @@ pub fn write_reply<W: World>(
     ensures never_fails { W.healthy world.old → ¬ IsErrOf result OutputError.WriteFault }
     ensures stays_healthy { W.healthy world.old → W.healthy world.new }
 {
-    let records = put_outputs(alloc, outputs)?;
-    write_records(world, file, lines, records.as_slice())?;
+    let released = put_outputs(alloc, outputs)?;
+    write_records(world, file, lines, released.as_slice())?;
     let line = put_line(alloc, event, reply)?;
     lines.extend(line.as_str().as_bytes())?;
     if lines.len() > GATHERED {

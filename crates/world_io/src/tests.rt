@@ -3,8 +3,8 @@ ghost use Rattle.world_io.specs.All.{WriteFailed};
 ghost use Rattle.world_io.specs.Memory.{IsHealthy};
 
 use crate::{
-    BufferedSource, Filled, MemoryWorld, OpenFault, ReadError, SliceSource, Source, World,
-    WorldSink, WorldSource, WriteError, read_all, write_all,
+    BufferedSource, Filled, Front, FrontError, MemoryWorld, OpenFault, ReadError, SliceSource,
+    Source, World, WorldSink, WorldSource, WriteError, read_all, read_front, write_all,
 };
 use plain_text::{Bytes, NoMemory, Text};
 use std::alloc::Global;
@@ -77,6 +77,21 @@ fn read_name<W: World>(
     }
 }
 
+fn read_front_of<W: World>(
+    alloc: Global,
+    world: &mut W,
+    name: &Text,
+    limit: u64,
+) -> Result<Front, FrontError>
+    requires { (W.ledger world.old).given < 1000 }
+{
+    match world.open_file(name) {
+        Ok(file) => read_front(alloc, &mut WorldSource::of(world, file), limit),
+        Err(OpenFault::Failed) => Err(FrontError::Failed),
+        Err(OpenFault::NoMemory) => Err(FrontError::NoMemory),
+    }
+}
+
 fn write_name<W: World>(world: &mut W, name: &Text, bytes: &[u8]) -> Result<(), WriteError>
     requires { (W.ledger world.old).given < 1000 }
     ensures given { (W.ledger world.new).given ≤ (W.ledger world.old).given + 1 }
@@ -112,6 +127,26 @@ fn reading_fails(alloc: Global, nth: u64) -> Result<bool, NoMemory> {
     ))
 }
 
+/// Whether reading "in" up to a limit failed, where this call of reading is told to fail.
+fn reading_a_front_fails(alloc: Global, nth: u64, limit: u64) -> Result<bool, NoMemory> {
+    let mut world = world_of_one(alloc)?;
+    world.fail_read(nth)?;
+    let name = Text::of(alloc, "in")?;
+    Ok(matches!(
+        read_front_of(alloc, &mut world, &name, limit),
+        Err(FrontError::Failed)
+    ))
+}
+
+/// Whether these are the first bytes of "hello" up to a limit, and whether they are all.
+fn front_is(alloc: Global, limit: u64, text: &str, is_all: bool) -> Result<bool, FrontError> {
+    let mut source = SliceSource::of(b"hello");
+    match read_front(alloc, &mut source, limit)? {
+        Front::All(bytes) => Ok(is_all && bytes.as_slice() == text.as_bytes()),
+        Front::More(bytes) => Ok(!is_all && bytes.as_slice() == text.as_bytes()),
+    }
+}
+
 /// How many bytes "out" has after it was written, where this call of writing is told to fail.
 fn written_length(alloc: Global, nth: u64) -> Result<Option<usize>, NoMemory> {
     let mut world = world_of_one(alloc)?;
@@ -143,6 +178,40 @@ fn reads_up_to_a_limit(rt: HostRuntime) -> Result<(), Fail> {
 fn fails_where_reading_is_told_to(rt: HostRuntime) -> Result<(), Fail> {
     for (nth, fails) in [(1, true), (2, true), (3, true), (4, false)] {
         assert_eq!(rt; reading_fails(rt.alloc(), nth)?, fails);
+    }
+    Ok(())
+}
+
+#[test]
+fn reads_the_first_bytes_up_to_a_limit(rt: HostRuntime) -> Result<(), Fail> {
+    let fronts = [
+        (6, "hello", true),
+        (5, "hello", true),
+        (4, "hell", false),
+        (0, "", false),
+    ];
+    for (limit, text, is_all) in fronts {
+        assert_eq!(rt;
+            front_is(rt.alloc(), limit, text, is_all),
+            Ok(true),
+            "{limit}"
+        );
+    }
+    Ok(())
+}
+
+#[test]
+fn fails_within_the_first_bytes(rt: HostRuntime) -> Result<(), Fail> {
+    // Where the file is longer than the limit, its end is not looked for.
+    let calls = [
+        (1, 10, true),
+        (2, 10, true),
+        (3, 10, true),
+        (4, 10, false),
+        (3, 4, false),
+    ];
+    for (nth, limit, fails) in calls {
+        assert_eq!(rt; reading_a_front_fails(rt.alloc(), nth, limit)?, fails);
     }
     Ok(())
 }

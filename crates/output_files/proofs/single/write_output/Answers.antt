@@ -1,5 +1,5 @@
 use Rattle.std.proofs.Common.{[], ◌∷◌}
-use Rattle.output_files.specs.Writes.{Creates, Appends, Reports}
+use Rattle.output_files.specs.Writes.{Creates, Appends}
 use Rattle.output_files.proofs.Effects.{err_writes, begun_before, begun_behind, then_writes, written_more}
 use Rattle.output_files.proofs.single.write_output.Goals as goal
 

@@ -1,4 +1,4 @@
-use Rattle.std.proofs.Common.{◌≡◌, List, [], ◌++◌, append-nil, sym, ◌∙◌, subst}
+use Rattle.std.proofs.Common.{List, [], append-nil, sym, ◌∙◌, subst}
 use Rattle.output_files.specs.Writes.{Write, IsCut}
 use Rattle.script_run.proofs.KeepingStep.{keeps_step, have_lines}
 use Rattle.script_run.proofs.laws.outputs_keep_step.Goals as goal

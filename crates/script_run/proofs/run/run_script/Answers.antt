@@ -1,4 +1,4 @@
-use Rattle.std.proofs.Common.{◌≡◌, ap, sym, ◌∙◌, rules, Err, [], refl}
+use Rattle.std.proofs.Common.{◌≡◌, ap, sym, ◌∙◌, rules, Err, []}
 use Rattle.output_files.proofs.Effects.{begun_none}
 use Rattle.script_run.specs.Errors.{run_error_of}
 use Rattle.script_run.specs.Run.{setting_of, names_of}

@@ -1,4 +1,4 @@
-use Rattle.std.proofs.Common.{◌≡◌, ◌<◌, ◌≤◌, ◌∷◌, [], ap, sym, ◌∙◌, arith, rules, length, take, drop, add-one, Err}
+use Rattle.std.proofs.Common.{◌≡◌, ◌<◌, ap, sym, ◌∙◌, arith, rules, length, take, Err}
 use Rattle.world_io.specs.OneFile.{KeepsLedgerWriting-more}
 use Rattle.script_run.proofs.Going.{goes_longer, split_here, come_on, come_all, come_same, somewhere_same, same_item}
 use Rattle.script_run.proofs.running.perform_events.Goals as goal

@@ -1,4 +1,4 @@
-use Rattle.std.proofs.Common.{◌≡◌, List, [], take, false}
+use Rattle.std.proofs.Common.{◌≡◌, [], take, false}
 use Rattle.std.specs.Prelude.{IsTrue}
 use Rattle.world_io.specs.World.{Shown, KeepsLedgerWriting}
 use Rattle.recovery_world.specs.World.{Setting}
