@@ -16,3 +16,4 @@ pub mod Moments
 pub mod Holdings
 pub mod DeltaLemmas
 pub mod ApplyLoop
+pub mod CountedEntries

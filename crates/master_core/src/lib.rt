@@ -2,6 +2,7 @@
 //! is held of its log: what is missing, and the closed part, are those that the order of entries defines.
 #![tactic(auto)]
 
+mod counting;
 mod effects;
 mod laws;
 mod lists;
@@ -12,6 +13,7 @@ mod untouched;
 mod wants;
 
 pub use access_log::Turn;
+pub use counting::entries_are_counted;
 pub use laws::{
     closed_part_is_defined, covering_a_later_moment, fresh_lanes_hold_nothing,
     held_entries_are_looked_up, holding_one_more, known_is_held_or_stored, missing_is_defined,

@@ -285,3 +285,23 @@ fn only_touched_values_are_copied(rt: HostRuntime) -> Result<(), Fail> {
     assert!(rt; store.restore(alloc, &program).is_err());
     Ok(())
 }
+
+/// Whether what changed in a master over one packet has the values of variables 0 and 1.
+fn has_values(alloc: Global, program: &PinnedBox, input: &Packet) -> Option<(bool, bool)> {
+    let base = Master::fresh(alloc, program, 1).ok()?;
+    let mut master = Master::fresh(alloc, program, 1).ok()?;
+    let mut outbox = Outputs::new(alloc);
+    pass(alloc, program, &mut master, input, &mut outbox)?;
+    let delta = master.delta(alloc, program, &base).ok()?;
+    Some((delta.has(0), delta.has(1)))
+}
+
+/// A delta has the variable that was touched, and not the other.
+#[test]
+fn a_delta_has_what_was_touched(rt: HostRuntime) -> Result<(), Fail> {
+    let alloc = rt.alloc();
+    let input = packet(alloc, &[0; 6])?;
+    let has = has_values(alloc, &PinnedBox::new(), &input);
+    assert_eq!(rt; has, Some((true, false)));
+    Ok(())
+}

@@ -63,6 +63,7 @@ impl<P: Program> Master<P> {
             value_of self.now.vars }
         requires base { length base.now.vars ≡ length self.now.vars }
         ensures delta { IfOk result (λ delta. delta ≡ delta_of base.now self.now) }
+        ensures vars { IfOk result (λ delta. length delta.vars ≡ length self.now.vars) }
         ensures touched { IfOk result (λ delta. HasTouched base.now self.now delta) }
 
         // Where `base` stands for an earlier moment of this master's moves.

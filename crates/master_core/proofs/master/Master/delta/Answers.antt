@@ -1,7 +1,7 @@
 use Rattle.std.proofs.Common.{rules, ◌≡◌, length, sym, subst, Option}
 use Rattle.master_core.specs.Mastered.{Mastered}
 use Rattle.master_core.specs.Deltas.{changed_parts, delta_of, HasTouched, LeadsOn}
-use Rattle.master_core.proofs.DeltaLemmas.{delta_bounded, has_touched, delta_leads}
+use Rattle.master_core.proofs.DeltaLemmas.{length-changed, delta_bounded, has_touched, delta_leads}
 use Rattle.master_core.proofs.master.Master.delta.Goals as goal
 
 pub invariant_of-result : goal.invariant_of-result
@@ -14,6 +14,10 @@ invariant_of-result g c =
 -- what is made is the delta
 is_delta : (g : _) (c : goal.In_ok-from_slice g) → (let new : Mastered (Option g.row.P-Value.Denot) = record { vars = c.in_ok-changed_vars.field-0.items; threads = c.in_ok-from_slice.field-0.items } in new ≡ delta_of c.args.base.now c.args.self.now)
 is_delta g c = search rules
+
+pub returns-clause-vars : goal.returns-clause-vars
+returns-clause-vars g c =
+    subst (λ (d : Mastered (Option g.row.P-Value.Denot)). length d.vars ≡ length c.args.self.now.vars) (sym (is_delta g c)) (length-changed c.args.base.now.vars c.args.self.now.vars c.requires.base)
 
 pub returns-clause-touched : goal.returns-clause-touched
 returns-clause-touched g c =
