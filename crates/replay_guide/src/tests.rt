@@ -1,0 +1,202 @@
+//! Worked by hand: the example of two threads that count, reads between two touches, and what a clock was told.
+ghost use Rattle.std.specs.Prelude.{◌≡◌, ◌<◌, ◌≤◌, IfOk, IsTrue, length};
+ghost use Rattle.replay_guide.specs.Examples.{IsPlaced, IsFirst, AreFirst};
+
+use crate::{Guide, Order};
+use access_log::{Held, StampedEntry, Turn, What};
+use plain_text::NoMemory;
+use std::alloc::Global;
+use std::marker::{Send, Sync};
+use std::test::Fail;
+use thread_clock::Stamp;
+
+/// That a value may be used by other threads, and handed to one.
+fn goes_between_threads<T: Send + Sync>(_value: &T) {}
+
+/// The stamp with these components for the first four threads.
+fn stamp(first: [u64; 4]) -> Stamp {
+    let mut components = [0; 16];
+    for i in 0..4 {
+        components[i] = first[i];
+    }
+    Stamp::new(components)
+}
+
+/// The first entry of a thread.
+fn first_entry(thread: u32, what: What, components: [u64; 4]) -> StampedEntry {
+    StampedEntry {
+        thread,
+        number: 1,
+        what,
+        stamp: stamp(components),
+    }
+}
+
+const FIRST_TOUCH: What = What::Access { var: 0, place: 1 };
+const SECOND_TOUCH: What = What::Access { var: 0, place: 2 };
+const READ_BETWEEN: What = What::Read { var: 0, after: 1 };
+
+/// Whether it is the first entry of its thread, and if a touch, that of thread 1 at place 1 or that of thread 0 at place 2.
+fn is_first(entry: &StampedEntry) -> bool
+    ensures { IsTrue result → IsFirst entry.now }
+{
+    entry.thread < 16 && entry.number == 1 && is_placed(entry.thread, entry.what)
+}
+
+fn is_placed(thread: u32, what: What) -> bool
+    ensures { IsTrue result → IsPlaced thread what }
+{
+    match what {
+        What::Access { place, .. } => place == 2 && thread == 0 || place == 1 && thread == 1,
+        What::Read { .. } | What::Clock(_) | What::Draw(_) => true,
+    }
+}
+
+/// Holds one more entry, if it is of an example.
+fn hold(held: &mut Held, entry: &StampedEntry) -> Result<(), NoMemory>
+    requires threads { length held.old ≡ 16 }
+    requires example { AreFirst held.old }
+    ensures threads { length held.new ≡ 16 }
+    ensures example { AreFirst held.new }
+{
+    if is_first(entry) {
+        held.add(*entry)?;
+    }
+    Ok(())
+}
+
+/// Nothing held, for 16 threads.
+fn nothing_held(alloc: Global) -> Result<Held, NoMemory>
+    ensures threads { IfOk result (λ held. length held ≡ 16) }
+    ensures example { IfOk result AreFirst }
+{
+    Held::new(alloc, 16)
+}
+
+/// A guide that follows an example.
+fn follow(alloc: Global, held: &Held) -> Result<Guide, NoMemory>
+    requires { AreFirst held.now }
+{
+    Guide::of(alloc, held)
+}
+
+/// A guide that follows these entries of an example.
+fn guide_of(alloc: Global, entries: &[StampedEntry]) -> Result<Guide, NoMemory> {
+    let mut held = nothing_held(alloc)?;
+    for entry in entries {
+        hold(&mut held, entry)?;
+    }
+    follow(alloc, &held)
+}
+
+/// A move that a thread wants, with the places of variable 0 and the readers' stamp, and whose turn it is.
+#[derive(Drop)]
+struct Asked {
+    thread: u32,
+    read: bool,
+    places: u64,
+    readers: [u64; 4],
+    turn: Turn,
+}
+
+/// A touch, or a read, that a thread wants as its first entry, and whose turn it is.
+fn first_move(thread: u32, read: bool, places: u64, readers: [u64; 4], turn: Turn) -> Asked {
+    Asked {
+        thread,
+        read,
+        places,
+        readers,
+        turn,
+    }
+}
+
+/// Whether the guide says so.
+fn says(guide: &Guide, asked: &Asked) -> bool {
+    let readers = stamp(asked.readers);
+    guide.turn(asked.thread, 1, 0, asked.read, asked.places, &readers) == asked.turn
+}
+
+const FOLLOW: Turn = Turn::Follow;
+const FREE: Turn = Turn::Free;
+const NONE: [u64; 4] = [0; 4];
+
+/// That the turn waits for the first entry of this thread.
+fn wait(thread: u32) -> Turn {
+    Turn::Wait { thread, number: 1 }
+}
+
+/// Thread 1 makes touch 1, then thread 0 touch 2. After the crash thread 0 waits.
+#[test]
+fn two_threads_count(rt: HostRuntime) -> Result<(), Fail> {
+    let entries = [
+        first_entry(0, SECOND_TOUCH, [1, 1, 0, 0]),
+        first_entry(1, FIRST_TOUCH, [0, 1, 0, 0]),
+    ];
+    let guide = guide_of(rt.alloc(), &entries)?;
+    goes_between_threads(&guide);
+    for asked in &[
+        first_move(0, false, 0, NONE, wait(1)),
+        first_move(0, true, 0, NONE, wait(1)),
+        first_move(1, false, 0, NONE, FOLLOW),
+        first_move(0, false, 1, NONE, FOLLOW),
+        first_move(1, false, 1, NONE, wait(0)),
+        first_move(1, false, 2, NONE, FREE),
+        first_move(1, true, 2, NONE, FREE),
+    ] {
+        assert!(rt; says(&guide, asked));
+    }
+    assert_eq!(rt; guide.left(&stamp(NONE)), 2);
+    assert_eq!(rt; guide.left(&stamp([0, 1, 0, 0])), 1);
+    assert_eq!(rt; guide.answer(0, 1), None);
+    let order = guide.order(rt.alloc())?;
+    assert_eq!(rt; order.as_slice(), [(1, 1), (0, 1)].as_slice());
+    Ok(())
+}
+
+/// Between the two touches threads 2 and 3 read. The second touch waits for both, and a free read for it.
+#[test]
+fn reads_stand_between_touches(rt: HostRuntime) -> Result<(), Fail> {
+    let entries = [
+        first_entry(0, SECOND_TOUCH, [1, 1, 1, 1]),
+        first_entry(1, FIRST_TOUCH, [0, 1, 0, 0]),
+        first_entry(2, READ_BETWEEN, [0, 1, 1, 0]),
+        first_entry(3, READ_BETWEEN, [0, 1, 0, 1]),
+    ];
+    let guide = guide_of(rt.alloc(), &entries)?;
+    for asked in &[
+        first_move(2, true, 0, NONE, wait(1)),
+        first_move(3, true, 1, NONE, FOLLOW),
+        first_move(0, false, 1, NONE, wait(2)),
+        first_move(0, false, 1, [0, 0, 1, 0], wait(3)),
+        first_move(0, false, 1, [0, 0, 1, 1], FOLLOW),
+        first_move(4, false, 1, [0, 0, 0, 1], wait(2)),
+        first_move(4, true, 1, NONE, wait(0)),
+        first_move(4, true, 2, NONE, FREE),
+    ] {
+        assert!(rt; says(&guide, asked));
+    }
+    let order = guide.order(rt.alloc())?;
+    assert_eq!(rt; order.as_slice(), [(1, 1), (2, 1), (3, 1), (0, 1)].as_slice());
+    Ok(())
+}
+
+/// What a clock and a draw were told is recorded. Where nothing is followed, everything is free.
+#[test]
+fn answers_are_recorded(rt: HostRuntime) -> Result<(), Fail> {
+    let entries = [
+        first_entry(2, What::Clock(7), [0, 0, 1, 0]),
+        first_entry(3, What::Draw(9), [0, 0, 0, 1]),
+        first_entry(1, FIRST_TOUCH, [0, 1, 0, 0]),
+    ];
+    let guide = guide_of(rt.alloc(), &entries)?;
+    assert_eq!(rt; guide.answer(2, 1), Some(7));
+    assert_eq!(rt; guide.answer(3, 1), Some(9));
+    assert_eq!(rt; guide.answer(1, 1), None);
+    assert_eq!(rt; guide.answer(2, 2), None);
+    assert_eq!(rt; guide.get(3, 1), Some(&entries[1]));
+    let free = Guide::none(rt.alloc());
+    assert!(rt; says(&free, &first_move(0, false, 0, NONE, FREE)));
+    assert_eq!(rt; free.left(&stamp(NONE)), 0);
+    assert!(rt; free.order(rt.alloc())?.is_empty());
+    Ok(())
+}
