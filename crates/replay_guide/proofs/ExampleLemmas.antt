@@ -1,5 +1,5 @@
 -- The held sets of the worked examples can be followed.
-use Rattle.std.proofs.Common.{◌≡◌, ◌≢◌, ℕ, ◌+◌, ◌<◌, ◌≤◌, ◌⊎◌, List, Option, Some, None, IsSome, replicate, refl, sym, ap, ◌∙◌, subst, inl, inr, ⊎_elim, arith}
+use Rattle.std.proofs.Common.{◌≡◌, ◌≢◌, ℕ, ◌+◌, List, Option, Some, None, IsSome, replicate, refl, sym, ap, ◌∙◌, subst, inl, ⊎_elim, arith}
 use Rattle.entry_order.specs.declared.what.What.{What}
 use Rattle.entry_order.specs.declared.what.What.TheVariants.{Access}
 use Rattle.entry_order.proofs.Order.{is_or, touch_only}
@@ -9,7 +9,7 @@ use Rattle.access_log.specs.declared.entry.Added.TheVariants.{New, Known}
 use Rattle.access_log.specs.Held.{Lane, lane, entry_at, fresh_lane, IsKnown}
 use Rattle.access_log.specs.Lanes.{PutsEntry}
 use Rattle.access_log.proofs.LaneLemmas.{lane_of_replicate}
-use Rattle.replay_guide.specs.Following.{Follows, CanBeFollowed}
+use Rattle.replay_guide.specs.Following.{CanBeFollowed}
 use Rattle.replay_guide.specs.Examples.{IsPlaced, IsFirst, AreFirst}
 
 pub placed_touch : (t v place : ℕ) → t + place ≡ 2 → IsPlaced t (Access v place)

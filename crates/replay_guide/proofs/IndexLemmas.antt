@@ -1,14 +1,14 @@
 -- One more entry in the index.
-use Rattle.std.proofs.Common.{◌≡◌, ◌≢◌, ℕ, ◌+◌, ◌-◌, ◌<◌, ◌≤◌, ◌⊎◌, ◌↔◌, ◌||◌, Bool, true, false, cond, List, [], ◌∷◌, Option, Some, None, IsSome, refl, sym, ap, ◌∙◌, subst, inl, inr, ⊎_elim, arith}
+use Rattle.std.proofs.Common.{◌≡◌, ◌≢◌, ℕ, ◌+◌, ◌<◌, ◌≤◌, ◌⊎◌, ◌↔◌, Bool, true, false, cond, List, [], Option, Some, None, IsSome, refl, sym, ap, ◌∙◌, subst, inl, inr, ⊎_elim, arith}
 use Rattle.std.specs.List.{list_any}
 use Rattle.std.specs.Map.{lookup}
 use Rattle.std.specs.BTreeMap.{is_at}
 use Rattle.std.proofs.lemmas.Bool.{cases_lt}
 use Rattle.entry_order.specs.declared.what.What.{What}
-use Rattle.entry_order.specs.declared.what.What.TheVariants.{Access, Read, Clock, Draw}
+use Rattle.entry_order.specs.declared.what.What.TheVariants.{Access, Read}
 use Rattle.entry_order.proofs.Order.{touch_only, read_only, is_or}
 use Rattle.access_log.specs.declared.entry.StampedEntry.{StampedEntry}
-use Rattle.access_log.specs.Held.{Lane, lane, entry_at, IsKnown}
+use Rattle.access_log.specs.Held.{Lane, lane, entry_at}
 use Rattle.replay_guide.specs.Following.{Follows}
 use Rattle.replay_guide.specs.Indexes.{touch_cmp, read_cmp, touch_after, HasRead, AddsEntry, IsIndexOf}
 use Rattle.replay_guide.specs.Walks.{FollowsBelow, FollowsDownTo}
@@ -48,6 +48,7 @@ adds_touch old new reads v s e what h = record {
     go : (w p : ℕ) (x : ℕ × ℕ) → (touch_after old w p ≡ Some x) ⊎ ((is_at (touch_cmp (v, s)) (w, p) ≡ true) × (x ≡ (e.thread, e.number))) → (touch_after old w p ≡ Some x) ⊎ ((e.what ≡ Access w (p + 1)) × (x ≡ (e.thread, e.number)))
     go w p x (inl k) = inl k
     go w p x (inr k) = let same = touch_equal (v, s) (w, p) k.0 in let v_is : v ≡ w = same.0 in let s_is : s ≡ p = same.1 in inr (what ∙ rw (v_is, s_is) refl, k.1)
+
     there : (w p : ℕ) → w ≡ v → p ≡ s → touch_after new v s ≡ Some (e.thread, e.number) → IsSome (touch_after new w p)
     there w p v_is s_is here = rw (v_is, s_is, here) refl
 
@@ -63,8 +64,10 @@ adds_read touches old new v s e what h = record {
     go : (w p t n : ℕ) → HasRead old w p t n ⊎ (is_at (read_cmp (v, s, e.thread, e.number)) (w, p, t, n) ≡ true) → HasRead old w p t n ⊎ ((e.what ≡ Read w p) × (e.thread ≡ t) × (e.number ≡ n))
     go w p t n (inl k) = inl k
     go w p t n (inr k) = let same = read_equal (v, s, e.thread, e.number) (w, p, t, n) k in let v_is : v ≡ w = same.0 in let s_is : s ≡ p = same.1 in inr (what ∙ rw (v_is, s_is) refl, same.2, same.3)
+
     here : HasRead new v s e.thread e.number
     here = h (v, s, e.thread, e.number) ∙ ap (λ b. cond b true (list_any (is_at (read_cmp (v, s, e.thread, e.number))) old)) (read_same (v, s, e.thread, e.number))
+
     back : (w p t n : ℕ) → (v ≡ w) × (s ≡ p) → e.thread ≡ t → e.number ≡ n → HasRead new w p t n
     back w p t n both thread number = let v_is : w ≡ v = sym both.0 in let s_is : p ≡ s = sym both.1 in let t_is : t ≡ e.thread = sym thread in let n_is : n ≡ e.number = sym number in rw (v_is, s_is, t_is, n_is) here
 
@@ -102,9 +105,11 @@ index_down held thread number old new before after e here thread_is number_is is
         let there : entry_at (lane held thread) (number + 1) ≡ Some f = rw (sym t_is, sym n_is) at in
         let same : e ≡ f = cc in
         (thread_is ∙ sym t_is, number_is ∙ sym n_is, ap (λ (g : StampedEntry). g.what) same ∙ what)
+
     to : (t n : ℕ) (w : What) → FollowsDownTo held thread number t n w → FollowsDownTo held thread (number + 1) t n w ⊎ ((e.thread ≡ t) × (e.number ≡ n) × (e.what ≡ w))
     to t n w (inl below) = inl (inl below)
     to t n w (inr (t_is, up, follows)) = ⊎_elim (λ (q : n ≡ number + 1). inr (found t n w t_is q follows)) (λ (q : n ≢ number + 1). inl (inr (t_is, grind arith, follows))) (is_or n (number + 1))
+
     from : (t n : ℕ) (w : What) → FollowsDownTo held thread (number + 1) t n w ⊎ ((e.thread ≡ t) × (e.number ≡ n) × (e.what ≡ w)) → FollowsDownTo held thread number t n w
     from t n w (inl (inl below)) = inl below
     from t n w (inl (inr (t_is, up, follows))) = inr (t_is, omega arith, follows)
@@ -131,7 +136,9 @@ index_after held thread number touches reads none = IsIndexOf-same (FollowsDownT
     to : (t n : ℕ) (w : What) → FollowsDownTo held thread number t n w → FollowsBelow held (thread + 1) t n w
     to t n w (inl h) = (let low = h.0 in omega arith, h.1)
     to t n w (inr h) = (let same = h.0 in omega arith, h.2)
+
     above : (t n : ℕ) (w : What) → t ≡ thread → Follows held t n w → number < n
     above t n w t_is (e, here, what) = ⊎_elim (λ (h : number < n). h) (λ h. let no = none n h in let there : entry_at (lane held thread) n ≡ Some e = subst (λ (u : ℕ). entry_at (lane held u) n ≡ Some e) t_is here in absurd cc) (cases_lt number n)
+
     from : (t n : ℕ) (w : What) → FollowsBelow held (thread + 1) t n w → FollowsDownTo held thread number t n w
     from t n w (low, h) = ⊎_elim (λ (q : t ≡ thread). inr (q, above t n w q h, h)) (λ (q : t ≢ thread). inl (grind arith, h)) (is_or t thread)

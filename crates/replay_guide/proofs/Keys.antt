@@ -1,5 +1,5 @@
 -- The keys of the guide's indexes: equal to themselves alone, and in order by their parts.
-use Rattle.std.proofs.Common.{◌≡◌, ◌≢◌, ℕ, ◌+◌, ◌<◌, ◌≤◌, ◌⊎◌, ◌↔◌, Bool, true, false, cond, List, [], ◌∷◌, IsTrue, IfSome, slice_get, Less, Equal, Greater, refl, sym, ap, ◌∙◌, subst, inl, inr, ⊎_elim, arith}
+use Rattle.std.proofs.Common.{◌≡◌, ◌≢◌, ℕ, ◌+◌, ◌<◌, ◌≤◌, ◌⊎◌, true, false, List, [], ◌∷◌, IsTrue, IfSome, slice_get, Less, Equal, Greater, refl, sym, subst, inl, inr, ⊎_elim, arith}
 use Rattle.std.specs.declared.cmp.Ordering.{Ordering}
 use Rattle.std.specs.declared.ops.Bound.TheVariants.{Excluded}
 use Rattle.std.specs.Ordering.{nat_cmp, ordering_then, is_eq, is_gt}
@@ -10,7 +10,6 @@ use Rattle.std.proofs.lemmas.Map.Keys.{le_from_not_gt}
 use Rattle.std.specs.BTreeMap.{is_at}
 use Rattle.std.proofs.lemmas.Bool.{cases_lt, cases_eq}
 use Rattle.std.proofs.lemmas.Bool.Decides.{nat_tests}
-use Rattle.std.proofs.lemmas.Grind.{common_steps}
 use Rattle.replay_guide.specs.Indexes.{touch_cmp, read_cmp, HasRead}
 use Rattle.replay_guide.specs.Walks.{weighed_cmp}
 
@@ -79,9 +78,11 @@ read_steps k q h = go3 (then_less (ordering_then (ordering_then (nat_cmp k.0 q.0
     go1 : (nat_cmp k.0 q.0 ≡ Less) ⊎ ((nat_cmp k.0 q.0 ≡ Equal) × (nat_cmp k.1 q.1 ≡ Less)) → (k.0 < q.0) ⊎ ((k.0 ≡ q.0) × ((k.1 < q.1) ⊎ ((k.1 ≡ q.1) × ((k.2 < q.2) ⊎ ((k.2 ≡ q.2) × (k.3 < q.3))))))
     go1 (inl a) = inl (less_nat k.0 q.0 a)
     go1 (inr a) = inr (equal_nat k.0 q.0 a.0, inl (less_nat k.1 q.1 a.1))
+
     go2 : (ordering_then (nat_cmp k.0 q.0) (nat_cmp k.1 q.1) ≡ Less) ⊎ ((ordering_then (nat_cmp k.0 q.0) (nat_cmp k.1 q.1) ≡ Equal) × (nat_cmp k.2 q.2 ≡ Less)) → (k.0 < q.0) ⊎ ((k.0 ≡ q.0) × ((k.1 < q.1) ⊎ ((k.1 ≡ q.1) × ((k.2 < q.2) ⊎ ((k.2 ≡ q.2) × (k.3 < q.3))))))
     go2 (inl a) = go1 (then_less (nat_cmp k.0 q.0) (nat_cmp k.1 q.1) a)
     go2 (inr a) = let both = then_equal (nat_cmp k.0 q.0) (nat_cmp k.1 q.1) a.0 in inr (equal_nat k.0 q.0 both.0, inr (equal_nat k.1 q.1 both.1, inl (less_nat k.2 q.2 a.1)))
+
     go3 : (ordering_then (ordering_then (nat_cmp k.0 q.0) (nat_cmp k.1 q.1)) (nat_cmp k.2 q.2) ≡ Less) ⊎ ((ordering_then (ordering_then (nat_cmp k.0 q.0) (nat_cmp k.1 q.1)) (nat_cmp k.2 q.2) ≡ Equal) × (nat_cmp k.3 q.3 ≡ Less)) → (k.0 < q.0) ⊎ ((k.0 ≡ q.0) × ((k.1 < q.1) ⊎ ((k.1 ≡ q.1) × ((k.2 < q.2) ⊎ ((k.2 ≡ q.2) × (k.3 < q.3))))))
     go3 (inl a) = go2 (then_less (ordering_then (nat_cmp k.0 q.0) (nat_cmp k.1 q.1)) (nat_cmp k.2 q.2) a)
     go3 (inr a) =
@@ -122,6 +123,7 @@ weighed_less k q h = go2 (then_less (ordering_then (nat_cmp k.0 q.0) (nat_cmp k.
     go1 : (nat_cmp k.0 q.0 ≡ Less) ⊎ ((nat_cmp k.0 q.0 ≡ Equal) × (nat_cmp k.1 q.1 ≡ Less)) → (k.0 < q.0) ⊎ ((k.0 ≡ q.0) × ((k.1 < q.1) ⊎ ((k.1 ≡ q.1) × (k.2 < q.2))))
     go1 (inl a) = inl (less_nat k.0 q.0 a)
     go1 (inr a) = inr (equal_nat k.0 q.0 a.0, inl (less_nat k.1 q.1 a.1))
+
     go2 : (ordering_then (nat_cmp k.0 q.0) (nat_cmp k.1 q.1) ≡ Less) ⊎ ((ordering_then (nat_cmp k.0 q.0) (nat_cmp k.1 q.1) ≡ Equal) × (nat_cmp k.2 q.2 ≡ Less)) → (k.0 < q.0) ⊎ ((k.0 ≡ q.0) × ((k.1 < q.1) ⊎ ((k.1 ≡ q.1) × (k.2 < q.2))))
     go2 (inl a) = go1 (then_less (nat_cmp k.0 q.0) (nat_cmp k.1 q.1) a)
     go2 (inr a) = let both = then_equal (nat_cmp k.0 q.0) (nat_cmp k.1 q.1) a.0 in inr (equal_nat k.0 q.0 both.0, inr (equal_nat k.1 q.1 both.1, less_nat k.2 q.2 a.1))
@@ -156,8 +158,7 @@ first_of_range set v s t n r rest x is first =
     let parts = read_between v s t n x here.0.0 here.0.1 in
     let key : x ≡ (v, s, t, x.3) = read_key x v s t parts.0 parts.1 parts.2 in
     let has : list_any (is_at (read_cmp x)) set.keys ≡ true = here.1 in
-    let least : (q : ReadKey) → IsInRange read_cmp (Excluded (v, s, t, n)) (Excluded (v, s, t + 1, 0)) q → IsTrue (contains read_cmp set q) → IfSome (slice_get (x ∷ rest) 0) (λ k. IsLeBy read_cmp k q) = subst (λ (l : List ReadKey). (q : ReadKey) → IsInRange read_cmp (Excluded (v, s, t, n)) (Excluded (v, s, t + 1, 0)) q → IsTrue (contains read_cmp set q) → IfSome (slice_get l 0) (λ k. IsLeBy read_cmp k q)) first is.2 in
-    (
+    let least : (q : ReadKey) → IsInRange read_cmp (Excluded (v, s, t, n)) (Excluded (v, s, t + 1, 0)) q → IsTrue (contains read_cmp set q) → IfSome (slice_get (x ∷ rest) 0) (λ k. IsLeBy read_cmp k q) = subst (λ (l : List ReadKey). (q : ReadKey) → IsInRange read_cmp (Excluded (v, s, t, n)) (Excluded (v, s, t + 1, 0)) q → IsTrue (contains read_cmp set q) → IfSome (slice_get l 0) (λ k. IsLeBy read_cmp k q)) first is.2 in (
       subst (λ (q : ReadKey). list_any (is_at (read_cmp q)) set.keys ≡ true) key has,
       λ k above other. not_greater v s t x.3 k (subst (λ (q : ReadKey). is_gt (read_cmp q (v, s, t, k)) ≡ false) key (least (v, s, t, k) (read_after v s t n k above, read_before v s t k) other)),
     )

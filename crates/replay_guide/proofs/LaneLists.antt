@@ -1,16 +1,12 @@
 -- The entries of a lane with their numbers: what is found, what is left above a number, and that lanes with equal look-ups are one.
-use Rattle.std.proofs.Common.{◌≡◌, ◌≢◌, ℕ, zero, suc, ◌+◌, ◌-◌, ◌<◌, ◌≤◌, ◌⊎◌, ◌↔◌, Bool, true, false, cond, ltb, leb, List, [], ◌∷◌, Option, Some, None, IsSome, length, slice_get, slice_index, drop, get_or, option_copied, IfSome, Bor, refl, sym, ap, ◌∙◌, subst, inl, inr, ⊎_elim, arith}
+use Rattle.std.proofs.Common.{◌≡◌, ◌≢◌, ℕ, zero, suc, ◌+◌, ◌-◌, ◌<◌, ◌≤◌, ◌↔◌, Bool, true, false, cond, ltb, leb, List, [], ◌∷◌, Option, Some, None, IsSome, length, slice_get, slice_index, drop, get_or, option_copied, IfSome, Bor, refl, sym, ap, ◌∙◌, subst, inl, inr, ⊎_elim, arith}
 use Rattle.std.proofs.lemmas.Option.{slice_get_past, slice_get_read}
-use Rattle.std.specs.Map.{lookup}
-use Rattle.std.specs.BTreeMap.{is_at}
-use Rattle.std.specs.Ordering.{nat_cmp}
-use Rattle.std.proofs.lemmas.Bool.{cases_lt, cases_eq}
+use Rattle.std.proofs.lemmas.Bool.{cases_lt}
 use Rattle.std.proofs.lemmas.Bool.Decides.{nat_tests}
-use Rattle.std.proofs.lemmas.Grind.{common_steps}
 use Rattle.std.proofs.lemmas.List.Sums.{sum_by-cons}
 use Rattle.entry_order.proofs.Order.{is_or}
 use Rattle.access_log.specs.declared.entry.StampedEntry.{StampedEntry}
-use Rattle.access_log.specs.Held.{Lane, lane, entry_at, fresh_lane, IsKnown, IsFrontier, IsRising, held_count}
+use Rattle.access_log.specs.Held.{Lane, lane, entry_at, IsKnown, IsFrontier, IsRising, held_count}
 use Rattle.access_log.specs.Lanes.{CoversUpTo, IsHeldSet}
 use Rattle.access_log.specs.Members.{IsMemberAbove, IsNumberOf}
 use Rattle.access_log.proofs.SlotLemmas.{at, is_at-same, is_at-apart}
@@ -210,6 +206,7 @@ number_left lanes done is =
         let same = lane_above 0 done lanes t h in
         let place : 0 + t ≡ t = omega arith in
         rw (same, place) (record { covered = refl; held = λ n. at-above (slice_index done t) (lane lanes t).entries n })
+
     rising : (t : ℕ) → t < length lanes → IsRising (lane (lanes_above 0 done lanes) t).covered (lane (lanes_above 0 done lanes) t).entries
     rising t h =
         let same = lane_above 0 done lanes t h in

@@ -150,15 +150,19 @@ weighs_more first old new es i e weight here weight_is ins all w t n = (λ h. to
     up : IsWeighed first w t n ⊎ WeighsUpTo es i w t n → IsWeighed first w t n ⊎ WeighsUpTo es (i + 1) w t n
     up (inl h) = inl h
     up (inr (j, f, low, at, weight, thread, number)) = inr (j, f, omega arith, at, weight, thread, number)
+
     to : IsWeighed old w t n ⊎ (Path Weighed (weight, e.thread, e.number) (w, t, n)) → IsWeighed first w t n ⊎ WeighsUpTo es (i + 1) w t n
     to (inl h) = up ((all w t n).0 h)
     to (inr q) = inr (i, e, omega arith, here, weight_is ∙ ap (λ (k : Weighed). k.0) q, ap (λ (k : Weighed). k.1) q, ap (λ (k : Weighed). k.2) q)
+
     old_one : IsWeighed old w t n → IsWeighed new w t n
     old_one h = kept old new (weight, e.thread, e.number) (w, t, n) ins h
+
     new_one : (f : StampedEntry) → e ≡ f → weight_of f ≡ w → f.thread ≡ t → f.number ≡ n → IsWeighed new w t n
     new_one f same weight_f thread number =
         let k : Path Weighed (weight, e.thread, e.number) (w, t, n) = key_is (weight, e.thread, e.number) (w, t, n) (sym weight_is ∙ ap weight_of same ∙ weight_f) (ap (λ (g : StampedEntry). g.thread) same ∙ thread) (ap (λ (g : StampedEntry). g.number) same ∙ number) in
         subst (λ (q : Weighed). IsWeighed new q.0 q.1 q.2) k (here_now old new (weight, e.thread, e.number) ins)
+
     from : IsWeighed first w t n ⊎ WeighsUpTo es (i + 1) w t n → IsWeighed new w t n
     from (inl h) = old_one ((all w t n).1 (inl h))
     from (inr (j, f, low, at, weight_f, thread, number)) =
@@ -174,6 +178,7 @@ weighs_lane first new covered es i long all w t n = (λ h. to ((all w t n).0 h),
     to : IsWeighed first w t n ⊎ WeighsUpTo es i w t n → IsWeighed first w t n ⊎ ((k : ℕ) × (e : StampedEntry) × (entry_at (lane_of covered (numbered covered es)) k ≡ Some e) × (weight_of e ≡ w) × (e.thread ≡ t) × (e.number ≡ n))
     to (inl h) = inl h
     to (inr (j, e, low, at, weight, thread, number)) = inr (covered + j + 1, e, at-numbered covered es (covered + j + 1) j refl ∙ at, weight, thread, number)
+
     from : IsWeighed first w t n ⊎ ((k : ℕ) × (e : StampedEntry) × (entry_at (lane_of covered (numbered covered es)) k ≡ Some e) × (weight_of e ≡ w) × (e.thread ≡ t) × (e.number ≡ n)) → IsWeighed first w t n ⊎ WeighsUpTo es i w t n
     from (inl h) = inl h
     from (inr (k, e, at, weight, thread, number)) =
@@ -188,9 +193,11 @@ weighs_next old new guide i was adds w t n = (λ h. to ((adds w t n).0 h), λ h.
   where
     up : WeighsBelow guide i w t n → WeighsBelow guide (i + 1) w t n
     up (u, k, e, low, here, weight, thread, number) = (u, k, e, omega arith, here, weight, thread, number)
+
     to : IsWeighed old w t n ⊎ ((k : ℕ) × (e : StampedEntry) × (entry_at (lane guide i) k ≡ Some e) × (weight_of e ≡ w) × (e.thread ≡ t) × (e.number ≡ n)) → WeighsBelow guide (i + 1) w t n
     to (inl h) = up ((was w t n).0 h)
     to (inr (k, e, here, weight, thread, number)) = (i, k, e, omega arith, here, weight, thread, number)
+
     from : WeighsBelow guide (i + 1) w t n → IsWeighed old w t n ⊎ ((k : ℕ) × (e : StampedEntry) × (entry_at (lane guide i) k ≡ Some e) × (weight_of e ≡ w) × (e.thread ≡ t) × (e.number ≡ n))
     from (u, k, e, low, here, weight, thread, number) =
         ⊎_elim

@@ -1,5 +1,5 @@
 -- A thread has one turn.
-use Rattle.std.proofs.Common.{◌≡◌, ℕ, ◌+◌, ◌<◌, ◌≤◌, ◌⊎◌, ◌↔◌, Bool, true, false, List, slice_index, Option, Some, None, IsSome, IfSome, IfNone, length, refl, sym, ap, ◌∙◌, subst, inl, inr, ⊎_elim, arith}
+use Rattle.std.proofs.Common.{◌≡◌, ℕ, ◌+◌, ◌<◌, ◌≤◌, ◌⊎◌, ◌↔◌, Bool, false, List, slice_index, Option, Some, None, IsSome, IfSome, IfNone, length, refl, sym, ap, ◌∙◌, subst, inl, inr, ⊎_elim, arith}
 use Rattle.std.proofs.lemmas.Bool.{cases_lt}
 use Rattle.entry_order.specs.declared.what.What.{What}
 use Rattle.entry_order.specs.declared.what.What.TheVariants.{Access, Read}
@@ -10,7 +10,7 @@ use Rattle.access_log.specs.Held.{Lane, lane, entry_at, IsRising}
 use Rattle.access_log.specs.Lanes.{IsHeldSet}
 use Rattle.access_log.proofs.LaneLemmas.{lane_past}
 use Rattle.replay_guide.specs.Following.{Follows, CanBeFollowed}
-use Rattle.replay_guide.specs.Turns.{IsPendingRead, GoesFirst, IsFirstPending, NoneIsPending, WaitsFor, IsFollowed, IsFree}
+use Rattle.replay_guide.specs.Turns.{GoesFirst, IsFirstPending, NoneIsPending, WaitsFor, IsFollowed, IsFree}
 use Rattle.replay_guide.specs.Indexes.{touch_after, HasRead, IsIndexOf}
 use Rattle.replay_guide.specs.Walks.{IsTurn, IsGuide, FollowsBelow}
 use Rattle.replay_guide.proofs.IndexLemmas.{IsIndexOf-same}
@@ -95,10 +95,13 @@ none_of_index guide touches reads v places (Some x) is found = tt
 -- the pending read that the index finds first
 pub first_of_index : (guide : List Lane) (touches : List ((ℕ × ℕ) × (ℕ × ℕ))) (reads : List (ℕ × ℕ × ℕ × ℕ)) (v places : ℕ) (read : Bool) (readers : List ℕ) (o : Option (ℕ × ℕ)) → IsGuide guide touches reads → read ≡ false → IfSome o (λ x. slice_index readers x.0 < x.1) → IfSome o (λ x. HasRead reads v places x.0 x.1) → IfSome o (λ x. (w k : ℕ) → w < 16 → slice_index readers w < k → HasRead reads v places w k → GoesFirst x.0 x.1 w k) → IfSome o (λ x. (read ≡ false) × IsFirstPending guide v places readers x.0 x.1)
 first_of_index guide touches reads v places read readers None is no_read above there first = tt
-first_of_index guide touches reads v places read readers (Some x) is no_read above there first = (no_read, record {
-  pending = ((is.indexed.read v places x.0 x.1).0 there, above);
-  first = λ w k pending. first w k (follows_low guide w k (Read v places) is.held pending.0) pending.1 ((is.indexed.read v places w k).1 pending.0);
-})
+first_of_index guide touches reads v places read readers (Some x) is no_read above there first = (
+  no_read,
+  record {
+    pending = ((is.indexed.read v places x.0 x.1).0 there, above);
+    first = λ w k pending. first w k (follows_low guide w k (Read v places) is.held pending.0) pending.1 ((is.indexed.read v places w k).1 pending.0);
+  },
+)
 
 pub nothing_in_index : (guide : List Lane) (touches : List ((ℕ × ℕ) × (ℕ × ℕ))) (reads : List (ℕ × ℕ × ℕ × ℕ)) (v places : ℕ) (read : Bool) (readers : List ℕ) (o : Option (ℕ × ℕ)) → IsGuide guide touches reads → IfNone o ((u m : ℕ) → u < 16 → slice_index readers u < m → HasRead reads v places u m → ⊥) → IfNone o (NoneIsPending guide v read places readers)
 nothing_in_index guide touches reads v places read readers None is none = λ no_read u m pending. none u m (follows_low guide u m (Read v places) is.held pending.0) pending.1 ((is.indexed.read v places u m).1 pending.0)
@@ -114,7 +117,9 @@ guide_of followed lanes touches reads i high low long same is can indexed = reco
   where
     lanes_same : (t : ℕ) → lane lanes t ≡ lane followed t
     lanes_same t = ⊎_elim (λ (h : t < i). same t h) (λ h. let few = is.few in lane_past lanes t (omega arith) ∙ sym (lane_past followed t (omega arith))) (cases_lt t i)
+
     to : (t n : ℕ) (w : What) → Follows lanes t n w → Follows followed t n w
     to t n w (e, here, what) = (e, subst (λ (l : Lane). entry_at l n ≡ Some e) (lanes_same t) here, what)
+
     from : (t n : ℕ) (w : What) → Follows followed t n w → Follows lanes t n w
     from t n w (e, here, what) = (e, subst (λ (l : Lane). entry_at l n ≡ Some e) (sym (lanes_same t)) here, what)

@@ -1,8 +1,8 @@
 -- The answers of a guide are those that its world tells.
 use Rattle.std.proofs.Common.{◌≡◌, ℕ, ◌+◌, ◌⊎◌, ◌↔◌, List, Option, Some, None, refl, sym, ap, ◌∙◌, subst, inl, inr}
 use Rattle.entry_order.specs.declared.what.What.{What}
-use Rattle.entry_order.specs.declared.what.What.TheVariants.{Access, Read, Clock, Draw}
-use Rattle.entry_order.specs.Log.{Entry, entries, IsIn}
+use Rattle.entry_order.specs.declared.what.What.TheVariants.{Clock, Draw}
+use Rattle.entry_order.specs.Log.{entries, IsIn}
 use Rattle.plain_machine.specs.declared.local.Move.{Move}
 use Rattle.plain_machine.specs.declared.local.Move.TheVariants as move
 use Rattle.plain_machine.specs.Machine.{Hand}

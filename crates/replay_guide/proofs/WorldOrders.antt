@@ -1,7 +1,7 @@
 -- Names in order are entries by weight, then thread.
-use Rattle.std.proofs.Common.{◌≡◌, ℕ, ◌+◌, ◌<◌, ◌⊎◌, ◌↔◌, List, [], ◌∷◌, Option, Some, None, IsSome, slice_index, refl, sym, ap, ◌∙◌, subst, inl, inr, ⊎_elim, arith}
+use Rattle.std.proofs.Common.{◌≡◌, ℕ, ◌<◌, ◌⊎◌, ◌↔◌, List, [], ◌∷◌, Option, Some, None, IsSome, slice_index, refl, sym, ap, ◌∙◌, subst, inl, inr, ⊎_elim, arith}
 use Rattle.entry_order.specs.Log.{Entry, IsLog, IsIn, PrecedesOrIs}
-use Rattle.entry_order.specs.Stamps.{IsStamp, IsWeight, sum_below}
+use Rattle.entry_order.specs.Stamps.{IsWeight}
 use Rattle.entry_order.proofs.Order.{thread_by_number}
 use Rattle.entry_order.proofs.Weights.{weight_is_sum, weight_falls, count_unique}
 use Rattle.line_order.specs.Line.{GoesBefore, IsByWeight}
@@ -82,6 +82,7 @@ put_from guide (x ∷ names) older e h = go (put_from guide names (and_found (en
     here : IsIn e older ⊎ ((s : StampedEntry) × (entry_at (lane guide x.0) x.1 ≡ Some s) × (plain_entry s ≡ e)) → IsIn e older ⊎ IsEntryOf guide (x ∷ names) e
     here (inl k) = inl k
     here (inr (s, at, same)) = inr (x.0, x.1, s, inl (refl, refl), at, same)
+
     go : IsIn e (and_found (entry_at (lane guide x.0) x.1) older) ⊎ IsEntryOf guide names e → IsIn e older ⊎ IsEntryOf guide (x ∷ names) e
     go (inl k) = here (found_one (entry_at (lane guide x.0) x.1) older e k)
     go (inr (t, n, s, named, at, same)) = inr (t, n, s, inr named, at, same)

@@ -1,8 +1,8 @@
 -- The turn of a guide and that of the world that it guides are one.
-use Rattle.std.proofs.Common.{◌≡◌, ℕ, ◌+◌, ◌-◌, ◌<◌, ◌≤◌, ◌⊎◌, ◌↔◌, ◌++◌, Bool, true, false, List, [], ◌∷◌, Option, Some, None, IsSome, slice_index, refl, sym, ap, ◌∙◌, subst, inl, inr, ⊎_elim, arith}
+use Rattle.std.proofs.Common.{◌≡◌, ℕ, ◌+◌, ◌<◌, ◌≤◌, ◌⊎◌, ◌↔◌, ◌++◌, Bool, false, List, Option, Some, None, IsSome, slice_index, refl, sym, ap, ◌∙◌, subst, inl, inr, ⊎_elim, arith}
 use Rattle.std.proofs.lemmas.Bool.{cases_lt}
 use Rattle.entry_order.specs.declared.what.What.{What}
-use Rattle.entry_order.specs.declared.what.What.TheVariants.{Access, Read, Clock, Draw}
+use Rattle.entry_order.specs.declared.what.What.TheVariants.{Access, Read}
 use Rattle.entry_order.specs.Log.{Entry, entries, places, IsLog, IsIn, Keeps, PrecedesOrIs}
 use Rattle.entry_order.specs.Stamps.{IsStamp}
 use Rattle.entry_order.specs.Closed.{IsNoLater, IsClosedOver}
@@ -22,7 +22,7 @@ use Rattle.recovery_world.specs.World.{Setting, World, inputs_fed}
 use Rattle.recovery_world.specs.Turns.{IsReadToCome, IsTouchToCome, IsAwaited}
 use Rattle.recovery_laws.specs.Sound.{Sound}
 use Rattle.replay_guide.specs.Following.{Follows, CanBeFollowed}
-use Rattle.replay_guide.specs.Turns.{IsPendingRead, GoesFirst, IsFirstPending, NoneIsPending, WaitsFor}
+use Rattle.replay_guide.specs.Turns.{IsPendingRead, IsFirstPending, NoneIsPending, WaitsFor}
 use Rattle.replay_guide.specs.Worlds.{Guides}
 
 abbrev entry_as : ℕ → ℕ → What → Entry
@@ -70,12 +70,14 @@ module _ (line past followed : List Entry) (guide : List Lane) (good_line : IsLo
             let g = entry_there past e.thread e.number good one up in
             let same : g.0 ≡ e = same_number line g.0 e good_line (keeps g.0 g.1) (of_line e here) g.2 g.3 in
             subst (λ (f : Entry). IsIn f past) same g.1
+
         by_stamp : 1 ≤ e.number → (st : ℕ → ℕ) (f : Entry) → IsStamp past f st → st e.thread ≡ slice_index readers e.thread → (st e.thread ≡ 0) ⊎ ((g : Entry) × IsIn g past × (g.thread ≡ e.thread) × (g.number ≡ st e.thread) × PrecedesOrIs past g f) → IsIn e past
         by_stamp one st f is same (inl zero) = absurd (omega arith)
         by_stamp one st f is same (inr (g, at, thread, number, rest)) =
             let within = (number_within past g good at).1 in
             let up : g.number ≤ entries e.thread past = subst (λ (t : ℕ). g.number ≤ entries t past) thread within in
             made one (omega arith)
+
         go : 1 ≤ e.number → (slice_index readers e.thread ≡ 0) ⊎ ((f : Entry) × (st : ℕ → ℕ) × IsIn f past × (f.what ≡ Read v (places v past)) × IsStamp past f st × (st e.thread ≡ slice_index readers e.thread)) → IsIn e past
         go one (inl zero) = absurd (omega arith)
         go one (inr (f, st, at, what, is, same)) = by_stamp one st f is same (is.reached e.thread)
@@ -101,6 +103,7 @@ module _ (line past followed : List Entry) (guide : List Lane) (good_line : IsLo
         where
           own : IsIn (entry_of t past (Read v (places v past))) followed → ⊥
           own h = w.not_own_read ((next_followed t (Read v (places v past))).0 h)
+
           go : ((read ≡ false) × IsFirstPending guide v (places v past) readers u m) ⊎ (NoneIsPending guide v read (places v past) readers × Follows guide u m (Access v (places v past + 1)) × ((u ≡ t) × (m ≡ entries t past + 1) → ⊥)) → (e : Entry) × IsAwaited followed past t v read e × (e.thread ≡ u) × (e.number ≡ m)
           go (inl (is, first)) = (entry_as u m (Read v (places v past)), record { not_own_read = own; which = inl (is, read_from u m first.pending, λ f to_come. first.first f.thread f.number (read_to f to_come)) }, refl, refl)
           go (inr (none, follows, other)) = (entry_as u m (Access v (places v past + 1)), record { not_own_read = own; which = inr (none_to none, touch_from v u m follows, other) }, refl, refl)
@@ -146,6 +149,7 @@ closed_can log stored held good stored_good holds closed = record { gapless = λ
         let covered = holds.covered t in
         let up : g.number ≤ entries t stored = subst (λ (u : ℕ). g.number ≤ entries u stored) thread within in
         inl (omega arith)
+
     before : (t n : ℕ) (s : StampedEntry) → entry_at (lane held t) (n + 1) ≡ Some s → 1 ≤ n → IsKnown (lane held t) n
     before t n s here one =
         let of = holds.of_log t (n + 1) s here in
@@ -157,9 +161,11 @@ closed_can log stored held good stored_good holds closed = record { gapless = λ
         let of_thread : g.0.thread ≡ s.thread = g.2 ∙ sym thread in
         let next : s.number ≡ g.0.number + 1 = omega (arith, g.3) in
         known t n g.0 g.0 g.2 g.3 (closed g.0 (plain_entry s) g.1 (at_held held (plain_entry s) t (n + 1) s here refl) (inl (of_thread, next)))
+
     gap : (t n : ℕ) (o : Option StampedEntry) → entry_at (lane held t) (n + 1) ≡ o → IsSome o → IsKnown (lane held t) n
     gap t n None here some = absurd cc
     gap t n (Some s) here some = ⊎_elim (λ (h : 0 < n). before t n s here (omega arith)) (λ h. inl (omega arith)) (cases_lt 0 n)
+
     apart : (v place t n u m : ℕ) → Follows held t n (Access v place) → Follows held u m (Access v place) → (t ≡ u) × (n ≡ m)
     apart v place t n u m (a, at_a, what_a) (b, at_b, what_b) =
         let of_a = holds.of_log t n a at_a in
@@ -173,11 +179,13 @@ held_follows log stored held guide e holds same = (to, from)
   where
     to : IsIn e (held_entries held) → Follows guide e.thread e.number e.what
     to h = let r = held_named log stored held e holds h in (r.0, subst (λ (l : Lane). entry_at l e.number ≡ Some r.0) (sym (same e.thread)) r.1, ap (λ (f : Entry). f.what) r.2)
+
     named : (s : StampedEntry) → s.thread ≡ e.thread → s.number ≡ e.number → s.what ≡ e.what → plain_entry s ≡ e
     named s a b c = made s.thread e.thread s.number e.number s.what e.what a b c
       where
         made : (i j k l : ℕ) (p q : What) → i ≡ j → k ≡ l → p ≡ q → entry_as i k p ≡ entry_as j l q
         made i j k l p q a b c = rw (a, b, c) refl
+
     from : Follows guide e.thread e.number e.what → IsIn e (held_entries held)
     from (s, here, what) =
         let there : entry_at (lane held e.thread) e.number ≡ Some s = subst (λ (l : Lane). entry_at l e.number ≡ Some s) (same e.thread) here in

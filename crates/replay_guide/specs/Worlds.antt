@@ -1,5 +1,5 @@
 -- Which entries of a world a guide follows, and the entries that an order names.
-use Rattle.std.specs.Prelude.{◌≡◌, ℕ, ◌↔◌, List, [], ◌∷◌}
+use Rattle.std.specs.Prelude.{ℕ, ◌↔◌, List, [], ◌∷◌}
 use Rattle.entry_order.specs.Log.{Entry, IsIn}
 use Rattle.access_log.specs.Held.{Lane, lane, entry_at}
 use Rattle.master_core.specs.Holding.{and_found}

@@ -44,8 +44,7 @@ impl Index {
                 }
             }
             What::Read { var, after } => {
-                self.reads
-                    .insert((var, after, entry.thread, entry.number))?;
+                self.reads.insert((var, after, entry.thread, entry.number))?;
             }
             What::Clock(_) | What::Draw(_) => {}
         }

@@ -33,7 +33,9 @@ fn first_entry(thread: u32, what: What, components: [u64; 4]) -> StampedEntry {
 }
 
 const FIRST_TOUCH: What = What::Access { var: 0, place: 1 };
+
 const SECOND_TOUCH: What = What::Access { var: 0, place: 2 };
+
 const READ_BETWEEN: What = What::Read { var: 0, after: 1 };
 
 /// Whether it is the first entry of its thread, and if a touch, that of thread 1 at place 1 or that of thread 0 at place 2.
@@ -117,7 +119,9 @@ fn says(guide: &Guide, asked: &Asked) -> bool {
 }
 
 const FOLLOW: Turn = Turn::Follow;
+
 const FREE: Turn = Turn::Free;
+
 const NONE: [u64; 4] = [0; 4];
 
 /// That the turn waits for the first entry of this thread.
@@ -176,7 +180,10 @@ fn reads_stand_between_touches(rt: HostRuntime) -> Result<(), Fail> {
         assert!(rt; says(&guide, asked));
     }
     let order = guide.order(rt.alloc())?;
-    assert_eq!(rt; order.as_slice(), [(1, 1), (2, 1), (3, 1), (0, 1)].as_slice());
+    assert_eq!(rt;
+        order.as_slice(),
+        [(1, 1), (2, 1), (3, 1), (0, 1)].as_slice()
+    );
     Ok(())
 }
 

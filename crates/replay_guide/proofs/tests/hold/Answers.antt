@@ -1,5 +1,4 @@
-use Rattle.std.proofs.Common.{◌≡◌, ◌≢◌, List, Ok, Err, sym, ap, subst}
-use Rattle.access_log.specs.declared.entry.Added.TheVariants.{New}
+use Rattle.std.proofs.Common.{◌≡◌, List, Ok, sym, ap, subst}
 use Rattle.access_log.specs.Held.{Lane}
 use Rattle.replay_guide.specs.Examples.{AreFirst}
 use Rattle.replay_guide.proofs.ExampleLemmas.{first_added}

@@ -1,4 +1,4 @@
-use Rattle.std.proofs.Common.{◌≡◌, ℕ, List, Result, Ok, Err, IfOk, length, replicate, refl, sym, subst}
+use Rattle.std.proofs.Common.{◌≡◌, List, Result, Ok, Err, IfOk, length, replicate, refl, sym, subst}
 use Rattle.access_log.specs.Held.{Lane, fresh_lane}
 use Rattle.replay_guide.specs.Examples.{AreFirst}
 use Rattle.replay_guide.proofs.ExampleLemmas.{first_none}

@@ -1,4 +1,4 @@
-use Rattle.std.proofs.Common.{◌≡◌, ◌≤◌, length, subst, sym, arith}
+use Rattle.std.proofs.Common.{◌≤◌, length, subst, sym, arith}
 use Rattle.access_log.specs.Members.{IsMemberAbove, IsNumberOf}
 use Rattle.replay_guide.proofs.LaneLists.{count_step, number_left}
 use Rattle.replay_guide.proofs.guide.Guide.left.Goals as goal

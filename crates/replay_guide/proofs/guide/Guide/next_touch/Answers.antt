@@ -1,4 +1,3 @@
-use Rattle.std.proofs.Common.{arith}
 use Rattle.replay_guide.proofs.TurnLemmas.{next_of_index, none_of_index}
 use Rattle.replay_guide.proofs.guide.Guide.next_touch.Goals as goal
 

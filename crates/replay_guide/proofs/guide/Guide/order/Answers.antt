@@ -1,4 +1,4 @@
-use Rattle.std.proofs.Common.{◌≡◌, ◌≤◌, ℕ, ◌↔◌, List, Result, Ok, Err, IfOk, IsSome, length, map, subst, sym, arith}
+use Rattle.std.proofs.Common.{◌≡◌, ℕ, ◌↔◌, List, Result, Ok, Err, IfOk, IsSome, length, map, subst, sym, arith}
 use Rattle.access_log.specs.Held.{lane, entry_at}
 use Rattle.access_log.specs.Lanes.{IsHeldSet}
 use Rattle.replay_guide.specs.Orders.{IsNamed, IsInOrder}

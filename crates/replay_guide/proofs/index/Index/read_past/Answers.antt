@@ -1,4 +1,4 @@
-use Rattle.std.proofs.Common.{◌≡◌, Option, None, Some, IfNone}
+use Rattle.std.proofs.Common.{Option, None, Some, IfNone}
 use Rattle.replay_guide.proofs.Keys.{none_of_range, first_of_range}
 use Rattle.replay_guide.proofs.index.Index.read_past.Goals as goal
 

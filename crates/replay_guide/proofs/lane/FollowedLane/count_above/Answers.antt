@@ -1,4 +1,4 @@
-use Rattle.std.proofs.Common.{◌≡◌, arith}
+use Rattle.std.proofs.Common.{arith}
 use Rattle.replay_guide.proofs.LaneLists.{length-above}
 use Rattle.replay_guide.proofs.lane.FollowedLane.count_above.Goals as goal
 

@@ -1,4 +1,4 @@
-use Rattle.std.proofs.Common.{◌≡◌, ℕ, ◌+◌, ◌-◌, ◌<◌, sym, ◌∙◌, arith}
+use Rattle.std.proofs.Common.{◌≡◌, ℕ, ◌+◌, ◌-◌, sym, ◌∙◌, arith}
 use Rattle.replay_guide.proofs.LaneLists.{at-numbered, at-numbered_before, copied_get}
 use Rattle.replay_guide.proofs.lane.FollowedLane.get.Goals as goal
 

@@ -1,4 +1,4 @@
-use Rattle.std.proofs.Common.{◌≡◌, ℕ, ◌+◌, ◌-◌, ◌<◌, ◌≤◌, Some, None, length, refl, sym, ◌∙◌, arith}
+use Rattle.std.proofs.Common.{◌≡◌, ◌+◌, ◌-◌, Some, None, refl, sym, arith}
 use Rattle.access_log.specs.Held.{lane, entry_at}
 use Rattle.replay_guide.proofs.LaneLists.{no_entry_past, covered_low, one_down, all_covered, walked_lane, at_low}
 use Rattle.replay_guide.proofs.IndexLemmas.{index_before, index_down_from, index_after}

@@ -1,4 +1,4 @@
-use Rattle.std.proofs.Common.{◌≡◌, ◌≤◌, length, ◌∙◌, sym, arith}
+use Rattle.std.proofs.Common.{◌≤◌, length, ◌∙◌, sym, arith}
 use Rattle.std.proofs.lemmas.Option.{slice_get_read}
 use Rattle.replay_guide.proofs.OrderLemmas.{weight_is_sum, weighs_more, weighs_lane}
 use Rattle.replay_guide.proofs.lane.FollowedLane.weigh.Goals as goal
