@@ -1,5 +1,5 @@
 -- The files of a schedule, judged in their turn: what is true of them, and that they decide one status.
-use Rattle.std.proofs.Common.{◌≡◌, ℕ, List, refl, sym, ap, ◌∙◌, subst, ◌⊎◌, inl, inr, Result, Ok, Err}
+use Rattle.std.proofs.Common.{◌≡◌, List, refl, ◌⊎◌, inl, inr, Ok, Err}
 use Rattle.plain_text.specs.declared.fault.LineFault.{LineFault}
 use Rattle.pcapng_io.specs.declared.fault.AnyFault.{AnyFault}
 use Rattle.plain_machine.specs.declared.plain_move.PlainMove.{PlainMove}
@@ -8,7 +8,7 @@ use Rattle.world_io.specs.World.{Shown}
 use Rattle.input_files.specs.declared.capture_file.Capture.{Capture}
 use Rattle.input_files.specs.declared.errors.InputError.{InputError}
 use Rattle.input_files.specs.Answers.{SaysBox, SaysCapture, SaysSchedule}
-use Rattle.input_files.specs.Judging.{JudgesBox, JudgesCapture, JudgesSchedule, AcceptsBox, AcceptsCapture}
+use Rattle.input_files.specs.Judging.{JudgesBox, JudgesCapture, JudgesSchedule}
 use Rattle.input_files.proofs.OneAnswer.{one_answer, one_box, one_capture}
 use Rattle.input_files.proofs.ScheduleVerdicts.{one_schedule}
 use Rattle.job_top.specs.declared.schedule_inputs.ScheduleInputs.{ScheduleInputs}
@@ -19,7 +19,7 @@ use Rattle.job_top.specs.Judging.{IsDecided}
 use Rattle.job_top.specs.Schedules.{AcceptsScheduleInputs, AcceptsCheckInputs, InTurn, JudgesThree, JudgesFour}
 use Rattle.job_top.specs.Status.{of_box_error, of_capture_error, of_schedule_error, of_released_error}
 use Rattle.job_top.specs.Words.{ScheduleNames, CheckNames}
-use Rattle.job_top.proofs.Turns.{one_in_turn, passes, box_decides, capture_decides, schedule_decides, released_decides, judged_since}
+use Rattle.job_top.proofs.Turns.{one_in_turn, passes, box_decides, capture_decides, schedule_decides, released_decides}
 
 module _ (healthy : Type 0) (names : ScheduleNames) (shown : Shown) (behind : ScheduleInputs → Status → Type 0) where
   -- the first file that is not accepted decides

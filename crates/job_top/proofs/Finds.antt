@@ -9,14 +9,13 @@ use Rattle.plain_machine.specs.History.{Step, emissions}
 use Rattle.packet_match.proofs.FirstOnes.{none_unmatched, one_first}
 use Rattle.world_io.specs.World.{Shown}
 use Rattle.output_files.specs.Writes.{HasWritten, HasBegun}
-use Rattle.schedule_check.specs.declared.checking.Checked.{Checked}
 use Rattle.schedule_check.specs.declared.checking.Checked.TheVariants.{Found, Refuted}
 use Rattle.schedule_check.specs.declared.checking.Refutation.{Refutation}
 use Rattle.schedule_check.specs.declared.checking.Refutation.TheVariants as refuted
 use Rattle.schedule_check.specs.Checking.{IsChecked}
 use Rattle.schedule_run.specs.declared.error.ScheduleError.{ScheduleError}
 use Rattle.schedule_run.specs.declared.error.ScheduleError.TheVariants as error
-use Rattle.schedule_run.specs.Checking.{IsFound, SaysCheck, found_writes}
+use Rattle.schedule_run.specs.Checking.{SaysCheck, found_writes}
 use Rattle.script_run.specs.Run.{KeepsShown}
 use Rattle.input_files.specs.Files.{KeepsOutputs}
 use Rattle.job_top.specs.declared.schedule_inputs.CheckInputs.{CheckInputs}
@@ -24,7 +23,7 @@ use Rattle.job_top.specs.declared.status.Status.{Status}
 use Rattle.job_top.specs.declared.status.Status.TheVariants as status
 use Rattle.job_top.specs.Judging.{IsDecided}
 use Rattle.job_top.specs.Schedules.{AcceptsCheckInputs, AreFound, EndsCheck, JudgesCheck, FindsAll, FindsInOrder, outcome_for}
-use Rattle.job_top.specs.Status.{AtInputs, AtOutputs, Completes, check_outcome, stage_of, stage_of_limit}
+use Rattle.job_top.specs.Status.{AtInputs, Completes, check_outcome, stage_of}
 use Rattle.job_top.specs.Words.{CheckNames}
 use Rattle.job_top.proofs.Outcomes.{written_since, begun_writes_since, kept_shown}
 use Rattle.job_top.proofs.FilesInTurn.{four_accepted, four_one, four_pass}

@@ -1,5 +1,5 @@
 -- What the command `play` comes to, from what is played.
-use Rattle.std.proofs.Common.{◌≡◌, ℕ, List, refl, sym, ap, ◌∙◌, subst, ◌⊎◌, inl, inr, Result, Ok, Err}
+use Rattle.std.proofs.Common.{◌≡◌, List, refl, sym, ap, ◌∙◌, subst, ◌⊎◌, inl, inr, Result, Ok, Err}
 use Rattle.std.specs.Prelude.{⊤, IsErrOf, OnOk}
 use Rattle.plain_text.specs.declared.limit.Limit.{Limit}
 use Rattle.plain_machine.specs.declared.plain_move.PlayFault.{PlayFault}
@@ -16,7 +16,7 @@ use Rattle.job_top.specs.declared.status.Status.TheVariants as status
 use Rattle.job_top.specs.declared.status.InputFault.TheVariants as input
 use Rattle.job_top.specs.Judging.{IsDecided}
 use Rattle.job_top.specs.Schedules.{AcceptsScheduleInputs, EndsPlay, JudgesPlay, PlaysWhole, PlaysInOrder, outcome_for}
-use Rattle.job_top.specs.Status.{AtInputs, AtOutputs, Completes, play_outcome, stage_of, stage_of_limit}
+use Rattle.job_top.specs.Status.{AtInputs, Completes, play_outcome, stage_of}
 use Rattle.job_top.specs.Words.{PlayNames}
 use Rattle.job_top.proofs.Outcomes.{written_since, begun_writes_since, kept_shown}
 use Rattle.job_top.proofs.FilesInTurn.{three_accepted, three_one, three_pass}

@@ -1,5 +1,5 @@
 -- What a run left is accepted by a check.
-use Rattle.std.proofs.Common.{◌≡◌, ℕ, ◌≤◌, true, false, List, length, refl, sym, ap, ◌∙◌, subst, Some, Result, Ok, Err}
+use Rattle.std.proofs.Common.{◌≡◌, ℕ, ◌≤◌, true, false, List, length, refl, sym, ◌∙◌, subst, Result, Ok}
 use Rattle.std.specs.Prelude.{not, nat_lt}
 use Rattle.plain_text.specs.declared.packet.Packet.{Packet}
 use Rattle.plain_text.specs.declared.packet.Unit.{Unit as FractionUnit}
@@ -19,7 +19,6 @@ use Rattle.world_io.specs.World.{Shown}
 use Rattle.recovery_laws.proofs.ScriptFiles.{leaves_accepted}
 use Rattle.schedule_check.specs.Checking.{IsChecked}
 use Rattle.schedule_check.specs.declared.checking.Checked.TheVariants.{Found}
-use Rattle.schedule_run.specs.declared.error.ScheduleError.TheVariants as error
 use Rattle.script_run.specs.Run.{HasRun}
 use Rattle.input_files.specs.Judging.{IsToldOf}
 use Rattle.job_top.specs.declared.inputs.Inputs.{Inputs}
@@ -29,7 +28,7 @@ use Rattle.job_top.specs.declared.status.Status.TheVariants as status
 use Rattle.job_top.specs.Checked.{CanBeRead, StillStand, checked}
 use Rattle.job_top.specs.Judging.{IsDecided}
 use Rattle.job_top.specs.Run.{AcceptsInputs, outputs_of, setting_for}
-use Rattle.job_top.specs.Schedules.{AcceptsCheckInputs, AreFound, EndsCheck, JudgesCheck, outcome_for}
+use Rattle.job_top.specs.Schedules.{AcceptsCheckInputs, AreFound, EndsCheck, JudgesCheck}
 use Rattle.job_top.specs.Words.{RunNames}
 use Rattle.job_top.proofs.Finds.{one_check}
 use Rattle.job_top.proofs.FilesInTurn.{four_accepted}

@@ -1,14 +1,10 @@
 -- Files that are judged one after another, each in its turn, decide one status.
 use Rattle.std.proofs.Common.{◌≡◌, ℕ, List, refl, sym, ap, ◌∙◌, subst, ◌⊎◌, inl, inr, Result, Ok, Err}
-use Rattle.plain_text.specs.declared.fault.LineFault.{LineFault}
-use Rattle.pcapng_io.specs.declared.fault.AnyFault.{AnyFault}
-use Rattle.pcapng_io.specs.declared.fault.AnyFault.TheVariants as any
 use Rattle.world_io.specs.World.{Shown}
 use Rattle.input_files.specs.declared.errors.InputError.{InputError}
 use Rattle.input_files.specs.declared.errors.InputError.TheVariants as error
 use Rattle.input_files.specs.Judging.{Judges as JudgesFile, IsDecided as FileDecides}
 use Rattle.job_top.specs.declared.status.Status.{Status}
-use Rattle.job_top.specs.declared.status.Status.TheVariants as status
 use Rattle.job_top.specs.Judging.{IsDecided}
 use Rattle.job_top.specs.Schedules.{InTurn}
 use Rattle.job_top.specs.Status.{of_box_error, of_capture_error, of_schedule_error, of_released_error}

@@ -2,11 +2,9 @@
 --
 -- The input files are judged one after another: the first that is not accepted decides the status. Where all are accepted, the
 -- schedule decides it, and then the released packets.
-use Rattle.std.specs.Prelude.{◌≡◌, ◌⊎◌, ℕ, List, length, Result, Ok, Err, ⊤, IsErrOf}
+use Rattle.std.specs.Prelude.{◌≡◌, ◌⊎◌, List, length, Result, Ok, Err, ⊤, IsErrOf}
 use Rattle.plain_machine.specs.declared.plain_move.PlayFault.{PlayFault}
-use Rattle.plain_machine.specs.declared.plain_move.PlainMove.{PlainMove}
 use Rattle.plain_machine.specs.History.{Step}
-use Rattle.box_conf.specs.declared.kind.BoxConf.{BoxConf}
 use Rattle.box_conf.specs.Kinds.{meaning_of}
 use Rattle.world_io.specs.World.{Shown}
 use Rattle.output_files.specs.Writes.{HasWritten, HasBegun}
@@ -18,7 +16,6 @@ use Rattle.schedule_run.specs.Runs.{outcome_of}
 use Rattle.schedule_run.specs.Playing.{SaysPlay, HasPlayed, HasBegunPlay}
 use Rattle.schedule_run.specs.Checking.{IsFound, SaysCheck, found_writes}
 use Rattle.script_run.specs.Run.{KeepsShown}
-use Rattle.input_files.specs.declared.capture_file.Capture.{Capture}
 use Rattle.input_files.specs.declared.errors.InputError.{InputError}
 use Rattle.input_files.specs.Judging.{JudgesBox, JudgesCapture, JudgesSchedule, AcceptsBox, AcceptsCapture, AcceptsSchedule}
 use Rattle.job_top.specs.declared.schedule_inputs.ScheduleInputs.{ScheduleInputs}

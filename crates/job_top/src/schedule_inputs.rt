@@ -1,4 +1,4 @@
-ghost use Rattle.std.specs.Prelude.{◌≡◌, ◌<◌, ◌-◌, ◌^◌, IsTrue, IfOk, IfErr, IsErrOf};
+ghost use Rattle.std.specs.Prelude.{◌<◌, ◌^◌, IsTrue, IfOk, IfErr, IsErrOf};
 ghost use Rattle.world_io.specs.Stream.{Rose};
 ghost use Rattle.schedule_run.specs.Runs.{CanPlay};
 ghost use Rattle.input_files.specs.Files.{KeepsOutputs};

@@ -1,9 +1,8 @@
-ghost use Rattle.std.specs.Prelude.{◌≡◌, ◌⊎◌, ◌<◌, ◌-◌, ◌^◌, All, Err, IfOk, IfErr, IsTrue, OnOk, IsErrOf};
+ghost use Rattle.std.specs.Prelude.{◌≡◌, ◌⊎◌, ◌<◌, ◌-◌, ◌^◌, All, Err, IfOk, IsTrue, OnOk, IsErrOf};
 ghost use Rattle.plain_machine.specs.declared.plain_move.PlayFault as move_fault;
 ghost use Rattle.world_io.specs.Stream.{Rose};
 ghost use Rattle.output_files.specs.Written.{AfterWriting, Writes};
 ghost use Rattle.schedule_check.specs.Checking.{IsEmitted};
-ghost use Rattle.schedule_run.specs.Errors.{of_playing};
 ghost use Rattle.schedule_run.specs.Playing.{HasBegunPlay, HasPlayed, SaysPlay, packet_writes};
 ghost use Rattle.schedule_run.specs.Runs.{CanPlay, IsShort, outcome_of};
 

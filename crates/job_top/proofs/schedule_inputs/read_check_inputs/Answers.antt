@@ -1,4 +1,4 @@
-use Rattle.std.proofs.Common.{Ok, Err}
+use Rattle.std.proofs.Common.{Err}
 use Rattle.input_files.specs.Answers.{SaysCapture}
 use Rattle.job_top.specs.Words.{check_names_of}
 use Rattle.job_top.proofs.FilesInTurn.{released_refused, three_end}
