@@ -67,7 +67,9 @@ fn a_query_and_its_answer(rt: HostRuntime) -> Result<(), Fail> {
         capture: QUERY_AND_ANSWER,
         script: b"settle\nshow 0\nshow 1\nshow 2\nshow 3\nshow 4",
         released: Some(OUT_AND_BACK),
-        schedule: Some(b"0\n0 = 100000005\n0\n0 = 2707161783\n0\n0\n0\n0\n0\n0\n0 = 100000006\n0\n0\n0\n0\n"),
+        schedule: Some(
+            b"0\n0 = 100000005\n0\n0 = 2707161783\n0\n0\n0\n0\n0\n0\n0 = 100000006\n0\n0\n0\n0\n",
+        ),
         report: b"settle moves 15 released 2 epoch 1\nshow 0 -\nshow 1 tcp 1 udp 0\nshow 2 udp 10.0.0.5:5000 39276 100000005\nshow 3 udp 39276 10.0.0.5:5000\nshow 4 none\ndone fed 2 epoch 1 released 2\n",
         ..ONE
     };
@@ -93,7 +95,9 @@ fn two_threads_race_on_one_endpoint(rt: HostRuntime) -> Result<(), Fail> {
         capture: QUERY_AND_OTHER,
         script: b"feed 2\nstep 0\nstep 0\nstep 0\nstep 1\nstep 1\nstep 1\nstep 0 = 0\nstep 1 = 0\nstep 0\nstep 1\nstep 0\nstep 1\nstep 1\nstep 0\nstep 0\nstep 0\nshow 2\nshow 1\nshow 3\nsettle\nshow 3",
         released: Some(FROM_ONE_PORT),
-        schedule: Some(b"0\n0 = 100000006\n0\n1\n1 = 100000006\n1\n0 = 0\n1 = 0\n0\n1\n0\n1\n1\n0\n0\n0\n0\n0\n1\n1\n"),
+        schedule: Some(
+            b"0\n0 = 100000006\n0\n1\n1 = 100000006\n1\n0 = 0\n1 = 0\n0\n1\n0\n1\n1\n0\n0\n0\n0\n0\n1\n1\n",
+        ),
         report: b"feed 2 total 2\nstep 0 take 1\nstep 0 entry 1 clock 100000006\nstep 0 entry 2 touch 2 place 1\nstep 1 take 1\nstep 1 entry 1 clock 100000006\nstep 1 entry 2 touch 2 place 2\nstep 0 = 0 entry 3 draw 0\nstep 1 = 0 entry 3 draw 0\nstep 0 entry 4 touch 1 place 1\nstep 1 entry 4 touch 1 place 2\nstep 0 entry 5 touch 3 place 1\nstep 1 entry 5 touch 3 place 2\nstep 1 entry 6 touch 2 place 3\nstep 0 entry 6 touch 2 place 4\nstep 0 entry 7 touch 3 place 3\nstep 0 entry 8 touch 1 place 3\nshow 2 udp 10.0.0.5:5000 39278 100000006\nshow 1 tcp 4 udp 3\nshow 3 udp 39278 10.0.0.5:5000\nsettle moves 4 released 2 epoch 1\nshow 3 udp 39278 10.0.0.5:5000\ndone fed 2 epoch 1 released 2\n",
         ..ONE
     };
@@ -110,7 +114,9 @@ fn no_port_is_free_and_a_hairpin(rt: HostRuntime) -> Result<(), Fail> {
         capture: TWO_PACKETS,
         script: b"settle\nshow 0",
         released: Some(ONE_OUT),
-        schedule: Some(b"0\n0 = 100000005\n0\n0 = 2707161783\n0\n0\n0\n0\n0\n0\n0 = 100000006\n0\n0 = 2068313097\n0\n0\n0\n"),
+        schedule: Some(
+            b"0\n0 = 100000005\n0\n0 = 2707161783\n0\n0\n0\n0\n0\n0\n0 = 100000006\n0\n0 = 2068313097\n0\n0\n0\n",
+        ),
         report: b"settle moves 16 released 1 epoch 1\nshow 0 8:1\ndone fed 2 epoch 1 released 1\n",
         ..ONE
     };
@@ -119,7 +125,9 @@ fn no_port_is_free_and_a_hairpin(rt: HostRuntime) -> Result<(), Fail> {
         capture: QUERY_AND_HAIRPIN,
         script: b"settle\nshow 3",
         released: Some(OUT_AND_HAIRPIN),
-        schedule: Some(b"0\n0 = 100000005\n0\n0 = 2707161783\n0\n0\n0\n0\n0\n0\n0 = 100000006\n0\n0 = 2068313097\n0\n0\n0\n0\n0\n0\n0\n"),
+        schedule: Some(
+            b"0\n0 = 100000005\n0\n0 = 2707161783\n0\n0\n0\n0\n0\n0\n0 = 100000006\n0\n0 = 2068313097\n0\n0\n0\n0\n0\n0\n0\n",
+        ),
         report: b"settle moves 20 released 2 epoch 1\nshow 3 udp 39276 10.0.0.5:5000; udp 39277 10.0.0.6:6000\ndone fed 2 epoch 1 released 2\n",
         ..ONE
     };
@@ -135,7 +143,9 @@ fn an_idle_mapping_gives_its_port_back(rt: HostRuntime) -> Result<(), Fail> {
         capture: AFTER_300_SECONDS,
         script: b"settle\nshow 2",
         released: Some(TWICE_OUT),
-        schedule: Some(b"0\n0 = 100000000\n0\n0 = 2707161783\n0\n0\n0\n0\n0\n0\n0 = 400000000\n0\n0\n0\n0 = 2068313097\n0\n0\n0\n0\n0\n"),
+        schedule: Some(
+            b"0\n0 = 100000000\n0\n0 = 2707161783\n0\n0\n0\n0\n0\n0\n0 = 400000000\n0\n0\n0\n0 = 2068313097\n0\n0\n0\n0\n0\n",
+        ),
         report: b"settle moves 20 released 2 epoch 1\nshow 2 udp 10.0.0.5:5000 39276 400000000\ndone fed 2 epoch 1 released 2\n",
         ..ONE
     };
@@ -144,7 +154,9 @@ fn an_idle_mapping_gives_its_port_back(rt: HostRuntime) -> Result<(), Fail> {
         capture: BEFORE_300_SECONDS,
         script: b"settle\nshow 2",
         released: Some(TWICE_OUT_SOONER),
-        schedule: Some(b"0\n0 = 100000000\n0\n0 = 2707161783\n0\n0\n0\n0\n0\n0\n0 = 399999999\n0\n0\n0\n"),
+        schedule: Some(
+            b"0\n0 = 100000000\n0\n0 = 2707161783\n0\n0\n0\n0\n0\n0\n0 = 399999999\n0\n0\n0\n",
+        ),
         report: b"settle moves 14 released 2 epoch 1\nshow 2 udp 10.0.0.5:5000 39276 399999999\ndone fed 2 epoch 1 released 2\n",
         ..ONE
     };
@@ -160,7 +172,9 @@ fn a_port_that_ran_out_comes_back(rt: HostRuntime) -> Result<(), Fail> {
         capture: AGAIN_LATER,
         script: b"settle\nshow 0\nshow 1\nshow 2\nshow 3",
         released: Some(OUT_ONE_AFTER_THE_OTHER),
-        schedule: Some(b"0\n0 = 100000005\n0\n0 = 2707161783\n0\n0\n0\n0\n0\n0\n0 = 100000006\n0\n0 = 2068313097\n0\n0\n0\n0\n0 = 400000005\n0\n0\n0\n0 = 3122475824\n0\n0\n0\n0\n0\n"),
+        schedule: Some(
+            b"0\n0 = 100000005\n0\n0 = 2707161783\n0\n0\n0\n0\n0\n0\n0 = 100000006\n0\n0 = 2068313097\n0\n0\n0\n0\n0 = 400000005\n0\n0\n0\n0 = 3122475824\n0\n0\n0\n0\n0\n",
+        ),
         report: b"settle moves 27 released 2 epoch 1\nshow 0 8:1\nshow 1 tcp 1 udp 0\nshow 2 udp 10.0.0.5:5001 39276 400000005\nshow 3 udp 39276 10.0.0.5:5001\ndone fed 3 epoch 1 released 2\n",
         ..ONE
     };
