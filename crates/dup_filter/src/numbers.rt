@@ -68,6 +68,13 @@ impl Numbers {
         }
     }
 
+    /// The number up to which all are marked.
+    pub fn floor(&self) -> u64
+        ensures { result ≡ self.now.floor }
+    {
+        self.floor
+    }
+
     /// Whether room is kept for the number.
     pub fn has_room(&self, number: u64) -> bool
         ensures { IsTrue result ↔ HasRoom self.now number }

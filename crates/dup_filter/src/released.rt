@@ -68,6 +68,16 @@ impl Released {
         }
     }
 
+    /// The number up to which all numbers of the thread were marked, as far as they are kept as one. It takes no memory.
+    pub fn floor(&self, thread: u32) -> u64
+        ensures { result ≡ (numbers self.now thread).floor }
+    {
+        match self.threads.get(thread as usize) {
+            Some(numbers) => numbers.floor(),
+            None => 0,
+        }
+    }
+
     /// Marks a number of a thread that was not marked before.
     pub fn mark(&mut self, thread: u32, number: u64) -> Result<(), NoMemory>
         requires thread_in { thread < length self.old }

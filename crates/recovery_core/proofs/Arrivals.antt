@@ -1,8 +1,8 @@
 -- What arrives by its kind, from an earlier epoch, or cut.
-use Rattle.std.proofs.Common.{◌≡◌, ℕ, zero, suc, ◌+◌, ◌*◌, ◌<◌, ◌≤◌, List, [], length, refl, sym, ap, ◌∙◌, subst, inl, inr, ◌⊎◌, Some, None, arith}
-use Rattle.std.specs.Prelude.{slice_get, ◌-◌}
+use Rattle.std.proofs.Common.{◌∷◌, ◌≡◌, ℕ, zero, suc, ◌+◌, ◌*◌, ◌<◌, ◌≤◌, List, [], length, refl, sym, ap, ◌∙◌, subst, inl, inr, ◌⊎◌, Some, None, arith}
+use Rattle.std.specs.Prelude.{slice_get, slice_index_or, ◌-◌}
 use Rattle.std.proofs.lemmas.Bool.{cases_lt}
-use Rattle.std.proofs.lemmas.Option.{slice_get_within}
+use Rattle.std.proofs.lemmas.Option.{slice_get_within, slice_get-get_or}
 use Rattle.plain_text.specs.declared.kind.Kind.{Kind}
 use Rattle.plain_text.specs.declared.kind.Kind.TheVariants as kind
 use Rattle.entry_order.specs.Log.{Entry, IsLog, IsIn}
@@ -19,13 +19,14 @@ use Rattle.recovery_world.specs.declared.event.Event.TheVariants as event
 use Rattle.recovery_world.specs.declared.event.Outcome.{Outcome}
 use Rattle.recovery_world.specs.declared.event.Outcome.TheVariants as outcome
 use Rattle.recovery_world.specs.World.{Setting, Sent, Ended as EndedEpoch, World, inputs_fed}
-use Rattle.recovery_world.specs.Events.{WasSent, IsFrameLength, HasNone, On}
+use Rattle.recovery_world.specs.Events.{EndedWith, count_of, WasSent, IsFrameLength, HasNone, On}
+use Rattle.master_core.specs.declared.parts.Counts.{Counts}
 use Rattle.recovery_core.specs.declared.reply.Reply.{Reply}
 use Rattle.recovery_core.specs.Sending.{length_at, lengths_of, entry_size, output_size}
 use Rattle.recovery_core.specs.Parts.{Parts}
-use Rattle.recovery_core.specs.Standing.{StandsFor}
+use Rattle.recovery_core.specs.Standing.{AreCounts, StandsFor}
 use Rattle.recovery_core.specs.Performing.{Replies, MovesOn}
-use Rattle.recovery_core.specs.Arriving.{arrival_of}
+use Rattle.recovery_core.specs.Arriving.{HadSent, arrival_of, counted}
 use Rattle.recovery_core.proofs.EntryArrivals.{in_setting}
 use Rattle.recovery_core.proofs.OutputNumbers.{output_there}
 use Rattle.recovery_core.proofs.ThreadCounts.{entry_long, output_long}
@@ -53,9 +54,11 @@ counted_length : (lengths : List (List ℕ)) (t n whole : ℕ) → Some whole �
 counted_length lengths t zero whole is = absurd (none_is_none whole (sym is))
 counted_length lengths t (suc n) whole is = let low = slice_get_within (lengths_of lengths t) n whole (sym is) in (omega arith, omega (arith, low))
 
--- no epoch ended
-none_ended : (xs : List EndedEpoch) (i : ℕ) (x : EndedEpoch) → xs ≡ [] → slice_get xs i ≡ Some x → ⊥
-none_ended xs i x none is = let gone = subst (λ (l : List EndedEpoch). slice_get l i ≡ Some x) none is in cc
+-- an epoch whose counts were found is there
+some_within : (ended : List (List Counts)) (i t : ℕ) (c : Counts) → slice_get (slice_index_or ended i []) t ≡ Some c → i < length ended
+some_within [] i t c is = absurd (cc)
+some_within (x ∷ ended) zero t c is = omega arith
+some_within (x ∷ ended) (suc i) t c is = let low = some_within ended i t c is in omega (arith, low)
 
 module _ {P V : Type 0} (m : Meaning V) (s : Setting V) (w : World V) (y : Parts P V) (st : StandsFor m s w y) where
   legal : IsHistory s.meaning (inputs_fed s w.fed) s.threads w.past
@@ -83,15 +86,68 @@ module _ {P V : Type 0} (m : Meaning V) (s : Setting V) (w : World V) (y : Parts
   late_now epoch kind.Out t n is to freed next (inl none) = inl none
   late_now epoch kind.Out t n is to freed next (inr (low, on)) = inr (low, inl (is ∙ st.logger.epoch, on))
 
-  pub late_never : (epoch : ℕ) (k : Kind) (t n : ℕ) → (epoch ≡ y.logger.epoch → ⊥) → On s w (event.Late epoch k t n) outcome.Nothing [] w
-  late_never epoch k t n other = go (cases_lt t s.threads)
-    where
-      not_sent : WasSent w epoch k t n → ⊥
-      not_sent (ended, with, low, high) = none_ended w.ended (w.epoch - epoch - 1) ended st.first.ended with.2
+  -- what the counts in memory say of an earlier epoch is what its master did
+  module _ (epoch : ℕ) (k : Kind) (t n : ℕ) where
+    epoch_in : HadSent y.ended epoch k t n → epoch < w.epoch
+    epoch_in h =
+        let low = some_within y.ended (epoch - 1) t h.counts h.there in
+        let there = st.ended.there in
+        let all = st.ended.all in
+        let from = h.from in
+        omega (arith, low, there, all, from)
 
-      go : (t < s.threads) ⊎ (s.threads ≤ t) → On s w (event.Late epoch k t n) outcome.Nothing [] w
-      go (inl low) = inr (low, inr (inr ((λ is. other (is ∙ sym st.logger.epoch)), not_sent, refl, refl, refl)))
-      go (inr high) = inl (high, refl, refl, refl)
+    epoch_there : HadSent y.ended epoch k t n → (x : EndedEpoch) × EndedWith w epoch x
+    epoch_there h =
+        let before = epoch_in h in
+        let all = st.ended.all in
+        let from = h.from in
+        let none : EndedEpoch = record { entries = λ u. 0; outputs = λ u. 0 } in
+        let low : w.epoch - epoch - 1 < length w.ended = omega (arith, before, all, from) in
+        (slice_index_or w.ended (w.epoch - epoch - 1) none, (from, before, slice_get-get_or w.ended (w.epoch - epoch - 1) none low))
+
+    counts_are : (x : EndedEpoch) → EndedWith w epoch x → AreCounts s.threads x (slice_index_or y.ended (epoch - 1) [])
+    counts_are x with = st.ended.each epoch x with.0 with.1 with.2
+
+    kind_counts : (j : Kind) (x : EndedEpoch) (c : Counts) → (c.entries ≡ x.entries t) × (c.outputs ≡ x.outputs t) → counted j c ≡ count_of j x t
+    kind_counts kind.Log x c is = is.0
+    kind_counts kind.Out x c is = is.1
+
+    was_sent : HadSent y.ended epoch k t n → WasSent w epoch k t n
+    was_sent h =
+        let x = epoch_there h in
+        let c = (counts_are x.0 x.1).each t h.counts h.there in
+        (x.0, x.1, h.first, subst (λ (j : ℕ). n ≤ j) (kind_counts k x.0 h.counts c) h.last)
+
+    thread_in : HadSent y.ended epoch k t n → t < s.threads
+    thread_in h =
+        let x = epoch_there h in
+        let low = slice_get_within (slice_index_or y.ended (epoch - 1) []) t h.counts h.there in
+        let long = (counts_are x.0 x.1).long in
+        omega (arith, low, long)
+
+    had_sent : t < s.threads → WasSent w epoch k t n → HadSent y.ended epoch k t n
+    had_sent low (x, with, first, last) =
+        let is = counts_are x with in
+        let none : Counts = record { taken = 0; entries = 0; outputs = 0 } in
+        let long = is.long in
+        let there = slice_get-get_or (slice_index_or y.ended (epoch - 1) []) t none (omega (arith, low, long)) in
+        record {
+          from = with.0;
+          counts = slice_index_or (slice_index_or y.ended (epoch - 1) []) t none;
+          there = there;
+          first = first;
+          last = subst (λ (j : ℕ). n ≤ j) (sym (kind_counts k x _ (is.each t _ there))) last;
+        }
+
+    pub late_old : (epoch ≡ y.logger.epoch → ⊥) → HadSent y.ended epoch k t n → On s w (event.Late epoch k t n) outcome.Old [] w
+    late_old other h = inr (thread_in h, inr (inl ((λ is. other (is ∙ sym st.logger.epoch)), was_sent h, refl, refl, refl)))
+
+    pub late_never : (epoch ≡ y.logger.epoch → ⊥) → (HadSent y.ended epoch k t n → ⊥) → On s w (event.Late epoch k t n) outcome.Nothing [] w
+    late_never other none = go (cases_lt t s.threads)
+      where
+        go : (t < s.threads) ⊎ (s.threads ≤ t) → On s w (event.Late epoch k t n) outcome.Nothing [] w
+        go (inl low) = inr (low, inr (inr ((λ is. other (is ∙ sym st.logger.epoch)), (λ sent. none (had_sent low sent)), refl, refl, refl)))
+        go (inr high) = inl (high, refl, refl, refl)
 
   -- Frames that come cut
 

@@ -20,7 +20,9 @@ use Rattle.access_log.specs.declared.entry.StampedEntry.{StampedEntry}
 use Rattle.access_log.specs.declared.entry.Output.{Output}
 use Rattle.access_log.specs.Held.{Lane, lane, IsFrontier, IsKnown as IsKnownLane}
 use Rattle.access_log.specs.Lanes.{PutsEntry}
+use Rattle.link_store.specs.declared.address.Address.{Address}
 use Rattle.link_store.specs.Links.{address, frame_at, IsUpTo}
+use Rattle.dup_filter.specs.Numbers.{Numbers, WasMarked}
 use Rattle.wire_frames.specs.declared.frame.Frame.TheVariants as frame
 use Rattle.wire_frames.specs.Layout.{IsFrame}
 use Rattle.wire_frames.specs.Writing.{CanPutEntry, CanPutOutput}
@@ -40,16 +42,18 @@ use Rattle.recovery_world.specs.declared.event.Event.TheVariants as event
 use Rattle.recovery_world.specs.declared.event.Outcome.{Outcome}
 use Rattle.recovery_world.specs.declared.event.Outcome.TheVariants as outcome
 use Rattle.recovery_world.specs.World.{Setting, Sent, World, inputs_fed}
-use Rattle.recovery_world.specs.Events.{IsKnown, IsEntryOf, IsAmong, MayGo, On, Parts as WorldParts}
+use Rattle.recovery_world.specs.Events.{IsKnown, IsEntryOf, IsAmong, MayGo, On, Parts as WorldParts, entries_of_line}
 use Rattle.recovery_world.specs.Files.{sent_names}
 use Rattle.recovery_laws.proofs.KeptWorlds.{within_sound}
 use Rattle.recovery_laws.proofs.Sets.{parts_go, among_either}
 use Rattle.recovery_core.specs.declared.reply.Reply.{Reply}
-use Rattle.recovery_core.specs.Sending.{Sending, length_at, lengths_of, entry_address, output_address, HasEntryFrame, ForgetsEntries}
+use Rattle.recovery_core.specs.Sending.{Sending, length_at, lengths_of, entry_address, output_address, HasEntryFrame, HasOutputFrame, ForgetsEntries}
 use Rattle.recovery_core.specs.Parts.{Parts, AreParts}
 use Rattle.recovery_core.specs.Standing.{IsSentEntry, IsSentOutput, AreOutputs, StandsFor, StandsForSome}
 use Rattle.recovery_core.specs.Performing.{Replies, MovesOn}
 use Rattle.recovery_core.specs.Arriving.{names_of, NotesReleased}
+use Rattle.recovery_core.proofs.LineLemmas.{line_log, past_in, past_stamp, past_of_line, holds_log, known_there, there_known, frontiers}
+use Rattle.recovery_core.proofs.SnapshotLemmas.{marks_stay, snapshots_on}
 use Rattle.recovery_core.proofs.OutputLists.{parts_world, names_as, noted_more, packets_more, sent_names_both}
 
 -- Frames, where those of the first entries of a thread are forgotten
@@ -62,7 +66,7 @@ abbrev Kept : List Lane → Sending → StampedEntry → Type 0
 Kept held sent x = HasEntryFrame sent x ⊎ ((frame_at sent.frames (entry_address sent x.thread x.number) ≡ None) × IsKnownLane (lane held x.thread) x.number)
 
 module _ (held now_held : List Lane) (sent now_sent : Sending) (t known : ℕ) (forgets : ForgetsEntries sent now_sent t known) (frontier : IsFrontier (lane now_held t) known)
-    (grows : (u n : ℕ) → IsKnownLane (lane held u) n → IsKnownLane (lane now_held u) n) where
+    (grows : (u n : ℕ) → IsKnownLane (lane held u) n → IsKnownLane (lane now_held u) n) (noted now_noted : List Numbers) (marks : (u n : ℕ) → WasMarked noted u n → WasMarked now_noted u n) where
   entry_stays : (x : StampedEntry) → (IsUpTo (entry_address sent t known) (entry_address sent x.thread x.number) → ⊥) → HasEntryFrame sent x → HasEntryFrame now_sent x
   entry_stays x apart h = record {
     can = subst (λ (k : ℕ). CanPutEntry now_sent.epoch k x) (sym forgets.threads) (subst (λ (k : ℕ). CanPutEntry k sent.threads x) (sym forgets.epoch) h.can);
@@ -101,23 +105,38 @@ module _ (held now_held : List Lane) (sent now_sent : Sending) (t known : ℕ) (
   }
 
   -- so was an output's
-  pub output_still : (log : List Entry) (o : Sent) → IsSentOutput log sent o → IsSentOutput log now_sent o
+  pub output_still : (log : List Entry) (o : Sent) → IsSentOutput log noted sent o → IsSentOutput log now_noted now_sent o
   output_still log o h = record {
     stamped = h.stamped;
     plain = h.plain;
     stamp = h.stamp;
     size = ap (λ (l : List (List ℕ)). length_at l o.emission.thread o.emission.number) forgets.outputs ∙ h.size;
-    there = record {
-      can = subst (λ (k : ℕ). CanPutOutput now_sent.epoch k h.stamped) (sym forgets.threads) (subst (λ (k : ℕ). CanPutOutput k sent.threads h.stamped) (sym forgets.epoch) h.there.can);
-      bytes = h.there.bytes;
-      is = subst (λ (k : ℕ). IsFrame h.there.bytes (frame.Output now_sent.epoch k h.stamped)) (sym forgets.threads) (subst (λ (k : ℕ). IsFrame h.there.bytes (frame.Output k sent.threads h.stamped)) (sym forgets.epoch) h.there.is);
-      there = ap (λ (k : ℕ). frame_at now_sent.frames (address k Out h.stamped.thread h.stamped.number)) forgets.epoch
-          ∙ forgets.forgets.others (output_address sent h.stamped.thread h.stamped.number) (λ up. other_kind up.kind) ∙ h.there.there;
-    };
+    there = go h.there;
   }
     where
       other_kind : Out ≡ Log → ⊥
       other_kind is = cc
+
+      go : HasOutputFrame sent h.stamped ⊎ ((frame_at sent.frames (output_address sent o.emission.thread o.emission.number) ≡ None) × WasMarked noted o.emission.thread o.emission.number)
+          → HasOutputFrame now_sent h.stamped ⊎ ((frame_at now_sent.frames (output_address now_sent o.emission.thread o.emission.number) ≡ None) × WasMarked now_noted o.emission.thread o.emission.number)
+      go (inl k) = inl (record {
+        can = subst (λ (n : ℕ). CanPutOutput now_sent.epoch n h.stamped) (sym forgets.threads) (subst (λ (n : ℕ). CanPutOutput n sent.threads h.stamped) (sym forgets.epoch) k.can);
+        bytes = k.bytes;
+        is = subst (λ (n : ℕ). IsFrame k.bytes (frame.Output now_sent.epoch n h.stamped)) (sym forgets.threads) (subst (λ (n : ℕ). IsFrame k.bytes (frame.Output n sent.threads h.stamped)) (sym forgets.epoch) k.is);
+        there = ap (λ (n : ℕ). frame_at now_sent.frames (address n Out h.stamped.thread h.stamped.number)) forgets.epoch
+            ∙ forgets.forgets.others (output_address sent h.stamped.thread h.stamped.number) (λ up. other_kind up.kind) ∙ k.there;
+      })
+      go (inr (none, was)) = inr (
+        ap (λ (n : ℕ). frame_at now_sent.frames (address n Out o.emission.thread o.emission.number)) forgets.epoch
+            ∙ forgets.forgets.others (output_address sent o.emission.thread o.emission.number) (λ up. other_kind up.kind) ∙ none,
+        marks o.emission.thread o.emission.number was,
+      )
+
+-- no frame of a later epoch comes to be there
+none_later_forgotten : (now : ℕ) (sent links : Sending) (t known : ℕ) → ForgetsEntries sent links t known → sent.epoch ≡ now → ((a : Address) → now < a.epoch → frame_at sent.frames a ≡ None)
+    → (a : Address) → now < a.epoch → frame_at links.frames a ≡ None
+none_later_forgotten now sent links t known forgets at none a later =
+    forgets.forgets.others a (λ up. let e : a.epoch ≡ sent.epoch = up.epoch in absurd (omega (arith, e, at, later))) ∙ none a later
 
 -- the entry of the past that this one is, with its stamp
 pub record IsOfPast {V : Type 0} (w : World V) (t n : ℕ) (x : StampedEntry) : Type 0 where
@@ -194,7 +213,7 @@ module _ {P V : Type 0} (m : Meaning V) (s : Setting V) (w : World V) (y : Parts
         → (next : World V) × Replies (event.Log t n) reply s w next × StandsFor m s next y
     known_here e of k reply is =
         stays (event.Log t n) outcome.Known reply is
-        (inr (in_setting t low, inr (inl (e, of, to_world e (known_is_there (log_of w.past) (log_of w.stored) y.logger.held e good good_stored stored_in st.logger.holds of.0 k), refl, refl, refl))))
+        (inr (in_setting t low, inr (inl (e, of, to_world e (known_there s w st.sound.firm y.logger.held st.logger.holds e of.0 k), refl, refl, refl))))
 
     pub log_known : (x : StampedEntry) → IsOfPast w t n x → IsKnownLane (lane y.logger.held x.thread) x.number → (reply : Reply) → reply ≡ record { outcome = outcome.Known; released = [] }
         → (next : World V) × Replies (event.Log t n) reply s w next × StandsFor m s next y
@@ -240,17 +259,19 @@ module _ {P V : Type 0} (m : Meaning V) (s : Setting V) (w : World V) (y : Parts
 
     module _ (x : StampedEntry) (of : IsOfPast w t n x) (now : Logger) (fresh : IsKnownLane (lane y.logger.held x.thread) x.number → ⊥)
         (puts : PutsEntry (lane y.logger.held x.thread) (lane now.held x.thread) x.number x) (others : (u : ℕ) → u ≢ x.thread → lane now.held u ≡ lane y.logger.held u) where
-      holds : HoldsOf (log_of w.past) (log_of w.stored) now.held
-      holds = one_more_holds (log_of w.past) (log_of w.stored) y.logger.held now.held x st.logger.holds of.here of.stamp puts others
+      holds : HoldsOf (entries_of_line w) (log_of w.stored) now.held
+      holds =
+          one_more_holds (entries_of_line w) (log_of w.stored) y.logger.held now.held x st.logger.holds (past_of_line s w st.sound.firm (plain_entry x) of.here)
+          (past_stamp s w st.sound.firm (plain_entry x) (λ u. slice_index x.stamp u) of.here of.stamp) puts others
 
       new_one : IsIn (plain_entry x) (log_of w.stored) → ⊥
-      new_one i = fresh (there_is_known (log_of w.past) (log_of w.stored) y.logger.held (plain_entry x) good_stored st.logger.holds (inr i))
+      new_one i = fresh (there_known s w st.sound.firm y.logger.held st.logger.holds (plain_entry x) (inr i))
 
       held_is : (e : Entry) → IsIn e (held_entries now.held) ↔ (IsIn e (plain_entry x ∷ w.held) × (IsIn e (log_of w.stored) → ⊥))
       held_is e = (λ i. out (k.0 i), λ h. k.1 (back h.0 h.1))
         where
           k : IsIn e (held_entries now.held) ↔ ((plain_entry x ≡ e) ⊎ IsIn e (held_entries y.logger.held))
-          k = one_more_held (log_of w.past) (log_of w.stored) y.logger.held now.held x e good st.logger.holds of.here puts others
+          k = one_more_held (line_log s w st.sound.firm) (log_of w.stored) y.logger.held now.held x e st.sound.firm.log (holds_log s w st.sound.firm y.logger.held st.logger.holds) (past_in s w st.sound.firm (plain_entry x) of.here) puts others
 
           out : (plain_entry x ≡ e) ⊎ IsIn e (held_entries y.logger.held) → IsIn e (plain_entry x ∷ w.held) × (IsIn e (log_of w.stored) → ⊥)
           out (inl same) = (inl same, λ i. new_one (subst (λ (z : Entry). IsIn z (log_of w.stored)) (sym same) i))
@@ -271,11 +292,11 @@ module _ {P V : Type 0} (m : Meaning V) (s : Setting V) (w : World V) (y : Parts
       due_is o z is stamp = (
         λ within e miss.
             due_within (log_of w.past) (log_of w.stored) (held_entries now.held) z.emission.thread z.after (λ u. slice_index o.stamp u) (frontier_of now.held) good stamp
-            (frontiers_are_defined (log_of w.past) (log_of w.stored) now.held good good_stored stored_in holds) (within_frontiers now.held o.stamp within) e (miss_in z.emission.thread z.after e miss),
+            (frontiers s w st.sound.firm now.held holds) (within_frontiers now.held o.stamp within) e (miss_in z.emission.thread z.after e miss),
         λ may.
             frontiers_within now.held o.stamp
             (within_due (log_of w.past) (log_of w.stored) (held_entries now.held) z.emission.thread z.after (λ u. slice_index o.stamp u) (frontier_of now.held) good stamp
-            (frontiers_are_defined (log_of w.past) (log_of w.stored) now.held good good_stored stored_in holds) (λ e miss. may e (miss_out z.emission.thread z.after e miss))),
+            (frontiers s w st.sound.firm now.held holds) (λ e miss. may e (miss_out z.emission.thread z.after e miss))),
       )
 
       -- it is held now, and what is due then is released
@@ -289,14 +310,17 @@ module _ {P V : Type 0} (m : Meaning V) (s : Setting V) (w : World V) (y : Parts
           sound = within_sound s w (event.Log t n) outcome.New r.0 next st.sound (on, st.within);
           within = st.within;
           inputs = record { meaning = st.inputs.meaning; fractions = st.inputs.fractions; inputs = st.inputs.inputs; left = st.inputs.left; clock = st.inputs.clock; generator = st.inputs.generator };
-          first = record { epoch = st.first.epoch; up = st.first.up; stored = st.first.stored; copy = st.first.copy; followed = st.first.followed; ended = st.first.ended };
-          master = record { stands = st.master.stands; schedule = st.master.schedule; past = st.master.past; moves = st.master.moves; bytes = st.master.bytes };
+          snapshots = snapshots_on y.sent links y.logger.released now.released forgets.threads (λ u k size is. ap (λ (l : List (List ℕ)). length_at l u k) forgets.outputs ∙ is) marks s w.stored w.copy y.store st.snapshots;
+          ended = st.ended;
+          guide = st.guide;
+          master = record { up = st.master.up; stands = st.master.stands; schedule = st.master.schedule; past = st.master.past; moves = st.master.moves; bytes = st.master.bytes };
           sent = record {
             epoch = forgets.epoch ∙ st.sent.epoch;
-            entry_sent = λ e i. entry_still y.logger.held now.held y.sent links t known forgets frontier grows (log_of w.past) e (st.sent.entry_sent e i);
-            output_sent = λ o sends. output_still y.logger.held now.held y.sent links t known forgets frontier grows (log_of w.past) o (st.sent.output_sent o sends);
+            entry_sent = λ e i. entry_still y.logger.held now.held y.sent links t known forgets frontier grows y.logger.released now.released marks (log_of w.past) e (st.sent.entry_sent e i);
+            output_sent = λ o sends. output_still y.logger.held now.held y.sent links t known forgets frontier grows y.logger.released now.released marks (log_of w.past) o (st.sent.output_sent o sends);
             entry_counts = λ u. ap (λ (l : List (List ℕ)). length (lengths_of l u)) forgets.entries ∙ st.sent.entry_counts u;
             output_counts = λ u. ap (λ (l : List (List ℕ)). length (lengths_of l u)) forgets.outputs ∙ st.sent.output_counts u;
+            none_later = none_later_forgotten w.epoch y.sent links t known forgets st.sent.epoch st.sent.none_later;
           };
           logger = record {
             epoch = epoch ∙ st.logger.epoch;
@@ -310,7 +334,6 @@ module _ {P V : Type 0} (m : Meaning V) (s : Setting V) (w : World V) (y : Parts
             handed = let count = length-append w.released r.0 in let few = st.released.handed in omega (arith, count, few);
             fresh = packets_more (log_of w.past) y.fresh go w.released r.0 y.handed r.3 st.released.handed st.released.fresh;
           };
-          emitted = λ o i. emitted o (among_either o w.released r.0 i);
         },
       )
         where
@@ -321,14 +344,13 @@ module _ {P V : Type 0} (m : Meaning V) (s : Setting V) (w : World V) (y : Parts
           next = record w { held = plain_entry x ∷ w.held; waiting = r.1; released = w.released ++ r.0 }
 
           on : On s w (event.Log t n) outcome.New r.0 next
-          on = inr (in_setting t low, inr (inr (plain_entry x, (of.here, of.thread, of.number), (λ k. fresh (there_is_known (log_of w.past) (log_of w.stored) y.logger.held (plain_entry x) good_stored st.logger.holds (to_system (plain_entry x) k))), refl, record { stay = r.1; parts = r.2; new_is = refl })))
+          on = inr (in_setting t low, inr (inr (plain_entry x, (of.here, of.thread, of.number), (λ k. fresh (there_known s w st.sound.firm y.logger.held st.logger.holds (plain_entry x) (to_system (plain_entry x) k))), refl, record { stay = r.1; parts = r.2; new_is = refl })))
 
           grows : (u k : ℕ) → IsKnownLane (lane y.logger.held u) k → IsKnownLane (lane now.held u) k
           grows u k h = more_with_entry y.logger.held now.held x.thread x.number x puts others u k h
 
-          emitted : (o : Sent) → IsAmong o w.released ⊎ IsAmong o r.0 → SendsAfter w.past o.emission o.after
-          emitted o (inl i) = st.emitted o i
-          emitted o (inr i) = st.sound.firm.sent o (parts_go (MayGo (record w { held = plain_entry x ∷ w.held })) w.waiting r.0 r.1 r.2 o i).0
+          marks : (u k : ℕ) → WasMarked y.logger.released u k → WasMarked now.released u k
+          marks = marks_stay y.logger.released now.released go once
 
 -- From the parts of a system as its code has them to those before and after a call.
 
@@ -389,6 +411,11 @@ parts_still {P} {V} m may_have y links now names out are sent held = record {
   master = are.master;
   logger = held ∙ are.logger;
   sent = sent ∙ are.sent;
+  stored_fits = are.stored_fits;
+  copy_fits = are.copy_fits;
+  stored = are.stored;
+  copied = are.copied;
+  few_packets = are.few_packets;
   left = are.left;
   fed = are.fed;
   moves = are.moves;

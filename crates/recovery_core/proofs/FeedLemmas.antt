@@ -1,6 +1,6 @@
 -- Feeding: the world with more packets fed, and another time, is that of the system with them.
 use Rattle.std.proofs.Common.{◌≡◌, ℕ, suc, ◌+◌, ◌-◌, ◌≤◌, min, max, List, [], ◌∷◌, ◌++◌, All, length, take, drop, reverse, refl, sym, ap, ◌∙◌, subst, arith, append_assoc, length-drop, length-take}
-use Rattle.std.proofs.lemmas.List.{reverse-append, append-nil, drop-drop}
+use Rattle.std.proofs.lemmas.List.{reverse-append, append-nil, drop-drop, length-append}
 use Rattle.std.proofs.lemmas.List.Elements.{All-append, All-take, All-drop}
 use Rattle.std.proofs.Math.Seq.{take-add}
 use Rattle.plain_text.specs.declared.packet.Packet.{Packet}
@@ -35,12 +35,13 @@ stands_with_inputs m s w y left inputs fed clock st sound has = record {
   sound = sound;
   within = st.within;
   inputs = has;
-  first = record { epoch = st.first.epoch; up = st.first.up; stored = st.first.stored; copy = st.first.copy; followed = st.first.followed; ended = st.first.ended };
-  master = record { stands = st.master.stands; schedule = st.master.schedule; past = st.master.past; moves = st.master.moves; bytes = st.master.bytes };
-  sent = record { epoch = st.sent.epoch; entry_sent = st.sent.entry_sent; output_sent = st.sent.output_sent; entry_counts = st.sent.entry_counts; output_counts = st.sent.output_counts };
+  snapshots = st.snapshots;
+  ended = st.ended;
+  guide = st.guide;
+  master = record { up = st.master.up; stands = st.master.stands; schedule = st.master.schedule; past = st.master.past; moves = st.master.moves; bytes = st.master.bytes };
+  sent = st.sent;
   logger = record { epoch = st.logger.epoch; holds = st.logger.holds; held = st.logger.held; waiting = st.logger.waiting; released = st.logger.released };
   released = record { names = st.released.names; handed = st.released.handed; fresh = st.released.fresh };
-  emitted = st.emitted;
 }
 
 -- The clock is set.
@@ -175,6 +176,11 @@ fed_are_parts {P} {V} mean fits k old now is are = subst (λ (q : Parts P V). Ar
   master = are.master;
   logger = are.logger;
   sent = are.sent;
+  stored_fits = are.stored_fits;
+  copy_fits = are.copy_fits;
+  stored = are.stored;
+  copied = are.copied;
+  few_packets = let a = length-append old.inputs.packets (take k old.left) in let b = length-take k old.left in let d = length-drop k old.left in let few = are.few_packets in omega (arith, a, b, d, few);
   left = All-drop IsShort k old.left are.left;
   fed = All-append IsShort old.inputs.packets (take k old.left) are.fed (All-take IsShort k old.left are.left);
   moves = are.moves;
@@ -192,6 +198,11 @@ popped_are_parts {P} {V} mean fits k old now next before after p clock is left p
   master = are.master;
   logger = are.logger;
   sent = are.sent;
+  stored_fits = are.stored_fits;
+  copy_fits = are.copy_fits;
+  stored = are.stored;
+  copied = are.copied;
+  few_packets = let a : length now.left ≡ length (p ∷ reverse after) = ap length (left ∙ ap (λ (l : List Packet). reverse l) popped ∙ reverse-append after (p ∷ [])) in let few = are.few_packets in omega (arith, a, few);
   left = All-drop IsShort 1 (p ∷ reverse after) short;
   fed = are.fed;
   moves = are.moves;

@@ -1,4 +1,4 @@
--- The end: with nothing followed, and a master that is up, the world ends in its past.
+-- The end: the counts of the last line, and what was released is taken.
 use Rattle.std.proofs.Common.{◌≡◌, ◌≢◌, ℕ, zero, suc, ◌<◌, ◌≤◌, max, true, false, cond, Bool, nat_eq, List, [], ◌∷◌, length, drop, map, refl, sym, ap, ◌∙◌, subst, inl, inr, ◌⊎◌, arith, length-take}
 use Rattle.std.proofs.lemmas.List.{drop_all}
 use Rattle.std.proofs.lemmas.Bool.Decides.{nat_tests}
@@ -17,6 +17,7 @@ use Rattle.recovery_world.specs.Finish.{IsToCome, greatest, AllGoOn, IsFinish}
 use Rattle.recovery_world.specs.Files.{sent_names, packets_of}
 use Rattle.recovery_laws.proofs.Worlds.{fed_found}
 use Rattle.recovery_laws.proofs.Settlings.{number_high}
+use Rattle.run_finish.specs.Ending.{EndsIn}
 use Rattle.recovery_core.specs.Parts.{Parts}
 use Rattle.recovery_core.specs.Standing.{HasReleased, StandsFor}
 use Rattle.recovery_core.specs.declared.reply.Finished.{Finished}
@@ -26,80 +27,7 @@ pub names_length : (sent : List Sent) → length (sent_names sent) ≡ length se
 names_length [] = refl
 names_length (o ∷ sent) = ap suc (names_length sent)
 
--- a moment of a history is the history, or shorter
-earlier_shorter : {V : Type 0} (xs ys : List (Step V)) → IsEarlier xs ys → (xs ≡ ys) ⊎ (length xs < length ys)
-earlier_shorter xs [] e = inl e
-earlier_shorter xs (y ∷ ys) (inl same) = inl same
-earlier_shorter {V} xs (y ∷ ys) (inr e) = go (earlier_shorter xs ys e)
-  where
-    go : (xs ≡ ys) ⊎ (length xs < length ys) → (xs ≡ y ∷ ys) ⊎ (length xs < length (y ∷ ys))
-    go (inl same) = let n = ap length same in inr (omega (arith, n))
-    go (inr less) = inr (omega (arith, less))
-
-earlier_both : {V : Type 0} (xs ys : List (Step V)) → IsEarlier xs ys → IsEarlier ys xs → xs ≡ ys
-earlier_both xs ys there back = go (earlier_shorter xs ys there) (earlier_shorter ys xs back)
-  where
-    go : (xs ≡ ys) ⊎ (length xs < length ys) → (ys ≡ xs) ⊎ (length ys < length xs) → xs ≡ ys
-    go (inl same) other = same
-    go (inr less) (inl same) = sym same
-    go (inr less) (inr more) = absurd (omega (arith, less, more))
-
--- none of the released outputs has a greater number than the thread sent out
-greatest_within : (t n : ℕ) (released : List Sent) → ((o : Sent) → IsAmong o released → o.emission.thread ≡ t → o.emission.number ≤ n) → greatest t released ≤ n
-greatest_within t n [] low = omega arith
-greatest_within t n (o ∷ released) low = go (is_or o.emission.thread t) (greatest_within t n released (λ p i. low p (inr i)))
-  where
-    go : (o.emission.thread ≡ t) ⊎ (o.emission.thread ≢ t) → greatest t released ≤ n → greatest t (o ∷ released) ≤ n
-    go (inl same) rest =
-        let b : nat_eq o.emission.thread t ≡ true = grind (arith, nat_tests) in
-        let here = low o (inl refl) same in
-        subst (λ (q : Bool). cond q (max o.emission.number (greatest t released)) (greatest t released) ≤ n) (sym b) (omega (arith, here, rest))
-    go (inr apart) rest =
-        let b : nat_eq o.emission.thread t ≡ false = grind (arith, nat_tests) in
-        subst (λ (q : Bool). cond q (max o.emission.number (greatest t released)) (greatest t released) ≤ n) (sym b) rest
-
--- every thread sent out what was released, and stays
-all_stay : {V : Type 0} (released : List Sent) (n : ℕ) (past : List (Step V)) → ((t : ℕ) → greatest t released ≤ outputs t (sent_of past)) → AllGoOn released n past past
-all_stay released zero past enough = refl
-all_stay released (suc t) past enough = (
-  past,
-  all_stay released t past enough,
-  record {
-    quiet = stays_quietly t past;
-    enough = enough t;
-    soonest = λ mid from to there. earlier_both mid past to from;
-  },
-)
-
 module _ {P V : Type 0} (m : Meaning V) (s : Setting V) (w : World V) (y : Parts P V) (st : StandsFor m s w y) where
-  -- the past is a run on the whole capture
-  whole : IsHistory s.meaning (all_inputs s) s.threads w.past
-  whole = history_more s.meaning (inputs_fed s w.fed) (all_inputs s) s.threads (λ t k p. fed_found s w.fed t k p) w.past st.sound.firm.legal
-
-  none_to_come : (e : Entry) → IsToCome w e → ⊥
-  none_to_come e come = subst (λ (l : List Entry). IsIn e l) st.first.followed come.0
-
-  sent_enough : (t : ℕ) → greatest t w.released ≤ outputs t (sent_of w.past)
-  sent_enough t = greatest_within t (outputs t (sent_of w.past)) w.released (λ o i same.
-      subst (λ (u : ℕ). o.emission.number ≤ outputs u (sent_of w.past)) same (number_high s.meaning (inputs_fed s w.fed) s.threads w.past o.emission o.after st.sound.firm.legal (st.emitted o i)))
-
-  -- The world ends in its past.
-  pub past_finishes : IsFinish s w w.past
-  past_finishes = record {
-    up = w;
-    up_is = inl (st.first.up, refl);
-    line = w.past;
-    line_is = record {
-      history = whole;
-      more = [];
-      to_come = λ e. ((λ h. absurd h), none_to_come e);
-      order = tt;
-      led = refl;
-    };
-    history = whole;
-    goes_on = all_stay w.released s.threads w.past sent_enough;
-  }
-
   fed_count : length y.inputs.packets ≡ w.fed
   fed_count = let f = st.sound.firm.fed in let n = ap (λ (l : Fed). length l.packets) st.inputs.inputs in let k = length-take w.fed s.packets in omega (arith, f, n, k)
 
@@ -107,11 +35,11 @@ module _ {P V : Type 0} (m : Meaning V) (s : Setting V) (w : World V) (y : Parts
   released_count = ap length st.released.names ∙ names_length w.released
 
   -- The counts at the end are those of the world.
-  pub finishes : (f : Finished) → f.schedule ≡ y.schedule → f.fed ≡ length y.inputs.packets → f.epoch ≡ y.logger.epoch → f.released ≡ length y.released → FinishesAs s w f
-  finishes f schedule fed epoch released = record {
-    steps = w.past;
-    finish = past_finishes;
-    schedule = schedule ∙ st.master.schedule;
+  pub finishes : (f : Finished) → EndsIn s w f.schedule → f.fed ≡ length y.inputs.packets → f.epoch ≡ y.logger.epoch → f.released ≡ length y.released → FinishesAs s w f
+  finishes f ends fed epoch released = record {
+    steps = ends.steps;
+    finish = ends.finish;
+    schedule = ends.schedule_is;
     fed = fed ∙ fed_count;
     epoch = epoch ∙ st.logger.epoch;
     released = released ∙ released_count;
@@ -141,12 +69,13 @@ taken_stands m s w y st = record {
   sound = st.sound;
   within = st.within;
   inputs = record { meaning = st.inputs.meaning; fractions = st.inputs.fractions; inputs = st.inputs.inputs; left = st.inputs.left; clock = st.inputs.clock; generator = st.inputs.generator };
-  first = st.first;
-  master = record { stands = st.master.stands; schedule = st.master.schedule; past = st.master.past; moves = st.master.moves; bytes = st.master.bytes };
-  sent = record { epoch = st.sent.epoch; entry_sent = st.sent.entry_sent; output_sent = st.sent.output_sent; entry_counts = st.sent.entry_counts; output_counts = st.sent.output_counts };
+  snapshots = st.snapshots;
+  ended = st.ended;
+  guide = st.guide;
+  master = record { up = st.master.up; stands = st.master.stands; schedule = st.master.schedule; past = st.master.past; moves = st.master.moves; bytes = st.master.bytes };
+  sent = st.sent;
   logger = st.logger;
   released = (taken_released w y st.released).0;
-  emitted = st.emitted;
 }
 
 -- the same, of a system as it was and the parts that it was opened to

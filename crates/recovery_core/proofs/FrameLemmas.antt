@@ -16,7 +16,7 @@ use Rattle.wire_frames.specs.declared.frame.FrameFault.{FrameFault}
 use Rattle.wire_frames.specs.Layout.{nonzero, IsFrame, BeginsWith}
 use Rattle.wire_frames.specs.Writing.{CanPutEntry, CanPutOutput}
 use Rattle.wire_frames.specs.Faults.{Gives}
-use Rattle.recovery_core.specs.Sending.{Sending, HasEntryFrame, HasOutputFrame, SendsEntry, SendsOutput, entry_address, output_address, entry_size, output_size, lengths_of}
+use Rattle.recovery_core.specs.Sending.{Sending, HasEntryFrame, HasOutputFrame, SendsEntry, SendsOutput, SendsAgain, entry_address, output_address, entry_size, output_size, lengths_of}
 
 -- a frame is one with nothing behind it
 pub whole_begins : (bytes : List ℕ) (f : Frame) → IsFrame bytes f → BeginsWith bytes f (length bytes)
@@ -89,6 +89,19 @@ sends_output old now frames o bytes lengths as_now can is sends longer =
       frame = record { can = can; bytes = bytes; is = is; there = sends.sent };
       sends = sends;
       outputs = ap (λ (l : List ℕ). slice_set old.outputs o.thread l) longer;
+      entries = refl;
+      epoch = refl;
+      threads = refl;
+    })
+
+-- the same, of an output of which the length is known
+pub sends_again : (old now : Sending) (frames : List (Address × List ℕ)) (o : Output) (bytes : List ℕ) → old ≡ now → CanPutOutput old.epoch old.threads o
+    → IsFrame bytes (frame.Output old.epoch old.threads o) → Sends old.frames frames (output_address old o.thread o.number) bytes → SendsAgain now (record old { frames = frames }) o
+sends_again old now frames o bytes as_now can is sends =
+    subst (λ (q : Sending). SendsAgain q (record old { frames = frames }) o) as_now (record {
+      frame = record { can = can; bytes = bytes; is = is; there = sends.sent };
+      sends = sends;
+      outputs = refl;
       entries = refl;
       epoch = refl;
       threads = refl;

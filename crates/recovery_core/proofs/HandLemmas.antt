@@ -3,14 +3,13 @@ use Rattle.std.proofs.Common.{◌≡◌, ℕ, suc, ◌+◌, ◌<◌, List, [], r
 use Rattle.std.specs.Prelude.{◌^◌, slice_get, slice_index_or}
 use Rattle.std.specs.Option.{unwrap_or}
 use Rattle.input_logger.specs.Inputs.{Fed, inputs_of, input_at}
-use Rattle.entry_order.specs.declared.what.What.TheVariants as what
-use Rattle.entry_order.specs.Log.{Entry, IsIn}
+use Rattle.entry_order.specs.Log.{entries}
 use Rattle.plain_machine.specs.declared.local.Local.{Local}
 use Rattle.plain_machine.specs.declared.local.Move.{Move}
 use Rattle.plain_machine.specs.declared.local.Move.TheVariants as move
 use Rattle.plain_machine.specs.Program.{Meaning}
 use Rattle.plain_machine.specs.Machine.{Hand}
-use Rattle.plain_machine.specs.History.{Step, log_of, entry_of, thread_after, IsHistory}
+use Rattle.plain_machine.specs.History.{Step, log_of, thread_after, IsHistory}
 use Rattle.box_program.specs.Hands.{place_of, input_for, IsInputAfter}
 use Rattle.box_program.proofs.HandLemmas.{no_hand}
 use Rattle.line_order.proofs.Hands.{hand_input}
@@ -25,7 +24,14 @@ use Rattle.rand_pcg.specs.Pcg.{pcg32}
 use Rattle.traffic_gen.specs.Generated.{generator_after, word_of}
 use Rattle.traffic_gen.proofs.Packets.{generator_after-suc}
 use Rattle.recovery_world.specs.World.{Setting, World}
+use Rattle.recovery_world.specs.Turns.{TellsClock, TellsDraw}
 use Rattle.recovery_world.specs.Events.{Tells, TellsHand}
+use Rattle.recovery_laws.specs.Sound.{Sound}
+use Rattle.access_log.specs.Held.{Lane, lane, entry_at}
+use Rattle.replay_guide.specs.Following.{recorded}
+use Rattle.replay_guide.specs.Worlds.{Guides}
+use Rattle.replay_guide.proofs.WorldAnswers.{tells_clock as recorded_clock, tells_draw as recorded_draw, tells_free_clock as free_clock, tells_free_draw as free_draw}
+use Rattle.recovery_core.specs.Following.{or_given}
 
 -- The input that a master in memory asks for is the one that its next move is made with.
 
@@ -125,29 +131,72 @@ asked_clock m hand a k = ap (λ (o : Option Hand). told_in m o a) k.hand_is ∙ 
 pub asked_draw : {V : Type 0} (m : Meaning V) (hand : Option Hand) (a : ℕ) → Asks m hand move.Draw → told_in m hand a ≡ Some a
 asked_draw m hand a k = ap (λ (o : Option Hand). told_in m o a) k.hand_is ∙ ap (λ (n : Move). told_for n a) k.next_is
 
--- Where nothing is followed, nothing is told from the log.
-
--- no entry is followed
-none_followed : {V : Type 0} (w : World V) → w.followed ≡ [] → (e : Entry) → IsIn e w.followed → ⊥
-none_followed w free e i = subst (λ (l : List Entry). IsIn e l) free i
-
--- a clock is told the given answer or the time, and a draw the given answer or the next word
-pub tells_clock : {V : Type 0} (s : Setting V) (w : World V) (t : ℕ) (given : Option ℕ) (a : ℕ) (hand : Option Hand) → w.followed ≡ [] → Asks s.meaning hand move.Clock
-    → a ≡ unwrap_or given w.clock → TellsHand s w t given (Some a) w.drawn hand
-tells_clock {V} s w t given a hand free k is =
-    subst (λ (o : Option Hand). TellsHand s w t given (Some a) w.drawn o) (sym k.hand_is)
-    (subst (λ (n : Move). Tells s w t given (Some a) w.drawn n) (sym k.next_is) (go given is))
+-- the number of the entry that a clock, or a draw, will be
+pub clock_number : {V : Type 0} (m : Meaning V) (steps : List (Step V)) (t n : ℕ) → wanted m steps t ≡ wants.Clock n → n ≡ entries t (log_of steps) + 1
+clock_number {V} m steps t n e = go (thread_after steps t).hand e
   where
-    go : (given : Option ℕ) → a ≡ unwrap_or given w.clock → Tells s w t given (Some a) w.drawn move.Clock
-    go None is = (a, refl, refl, inr ((λ b i. none_followed w free (entry_of t (log_of w.past) (what.Clock b)) i), inr (refl, is)))
-    go (Some b) is = (a, refl, refl, inr ((λ b i. none_followed w free (entry_of t (log_of w.past) (what.Clock b)) i), inl (ap Some (sym is))))
+    at : (k : Move) → wanted_by t (log_of steps) k ≡ wants.Clock n → n ≡ entries t (log_of steps) + 1
+    at move.Clock e = cc
+    at (move.Access v) e = absurd (cc)
+    at (move.Read v) e = absurd (cc)
+    at move.Draw e = absurd (cc)
+    at move.Emit e = absurd (cc)
+    at move.End e = absurd (cc)
 
-pub tells_draw : {V : Type 0} (s : Setting V) (w : World V) (t : ℕ) (given : Option ℕ) (a drawn : ℕ) (hand : Option Hand) → w.followed ≡ [] → Asks s.meaning hand move.Draw
-    → ((given ≡ Some a) × (drawn ≡ w.drawn)) ⊎ ((given ≡ None) × (a ≡ word_of s.seed w.drawn) × (drawn ≡ w.drawn + 1)) → TellsHand s w t given (Some a) drawn hand
-tells_draw s w t given a drawn hand free k is =
-    subst (λ (o : Option Hand). TellsHand s w t given (Some a) drawn o) (sym k.hand_is)
-    (subst (λ (n : Move). Tells s w t given (Some a) drawn n) (sym k.next_is)
-    (a, refl, inr ((λ b i. none_followed w free (entry_of t (log_of w.past) (what.Draw b)) i), is)))
+    go : (o : Option Hand) → wanted_in m t (log_of steps) (thread_after steps t).taken o ≡ wants.Clock n → n ≡ entries t (log_of steps) + 1
+    go None e = absurd (cc)
+    go (Some h) e = at (m.next h.place) e
+
+pub draw_number : {V : Type 0} (m : Meaning V) (steps : List (Step V)) (t n : ℕ) → wanted m steps t ≡ wants.Draw n → n ≡ entries t (log_of steps) + 1
+draw_number {V} m steps t n e = go (thread_after steps t).hand e
+  where
+    at : (k : Move) → wanted_by t (log_of steps) k ≡ wants.Draw n → n ≡ entries t (log_of steps) + 1
+    at move.Draw e = cc
+    at (move.Access v) e = absurd (cc)
+    at (move.Read v) e = absurd (cc)
+    at move.Clock e = absurd (cc)
+    at move.Emit e = absurd (cc)
+    at move.End e = absurd (cc)
+
+    go : (o : Option Hand) → wanted_in m t (log_of steps) (thread_after steps t).taken o ≡ wants.Draw n → n ≡ entries t (log_of steps) + 1
+    go None e = absurd (cc)
+    go (Some h) e = at (m.next h.place) e
+
+-- What a clock and a draw are told: what is recorded of a followed one, else the given answer, else the time or the next word.
+
+module _ {V : Type 0} (s : Setting V) (w : World V) (guide : List Lane) (sound : Sound s w) (guides : Guides w.followed (log_of w.past) guide) (t : ℕ) (given : Option ℕ) where
+  -- what the guide has of the thread's next entry
+  abbrev pub next_recorded : Option ℕ
+  next_recorded = recorded (entry_at (lane guide t) (entries t (log_of w.past) + 1))
+
+  pub tells_clock : (a : ℕ) → Asks s.meaning (thread_after w.past t).hand move.Clock → a ≡ unwrap_or (or_given next_recorded given) w.clock → TellsHand s w t given (Some a) w.drawn (thread_after w.past t).hand
+  tells_clock a k is =
+      subst (λ (o : Option Hand). TellsHand s w t given (Some a) w.drawn o) (sym k.hand_is)
+      (subst (λ (n : Move). Tells s w t given (Some a) w.drawn n) (sym k.next_is) (a, refl, refl, go next_recorded refl is))
+    where
+      pick : (q : Option ℕ) → a ≡ unwrap_or q w.clock → (q ≡ Some a) ⊎ ((q ≡ None) × (a ≡ w.clock))
+      pick None is = inr (refl, is)
+      pick (Some b) is = inl (ap Some (sym is))
+
+      go : (o : Option ℕ) → next_recorded ≡ o → a ≡ unwrap_or (or_given o given) w.clock → TellsClock w.followed (log_of w.past) t given w.clock a
+      go (Some b) at is = subst (λ (n : ℕ). TellsClock w.followed (log_of w.past) t given w.clock n) (sym is) (recorded_clock s w guide sound guides t b k.packet given w.clock k.hand_is k.next_is at)
+      go None at is = free_clock s w guide sound guides t a given w.clock at (pick given is)
+
+  pub tells_draw : (a drawn : ℕ) (q : Option ℕ) → q ≡ or_given next_recorded given → Asks s.meaning (thread_after w.past t).hand move.Draw
+      → ((q ≡ Some a) × (drawn ≡ w.drawn)) ⊎ ((q ≡ None) × (a ≡ word_of s.seed w.drawn) × (drawn ≡ w.drawn + 1)) → TellsHand s w t given (Some a) drawn (thread_after w.past t).hand
+  tells_draw a drawn q q_is k is =
+      subst (λ (o : Option Hand). TellsHand s w t given (Some a) drawn o) (sym k.hand_is)
+      (subst (λ (n : Move). Tells s w t given (Some a) drawn n) (sym k.next_is) (a, refl, go next_recorded refl q_is is))
+    where
+      go : (o : Option ℕ) → next_recorded ≡ o → q ≡ or_given o given → ((q ≡ Some a) × (drawn ≡ w.drawn)) ⊎ ((q ≡ None) × (a ≡ word_of s.seed w.drawn) × (drawn ≡ w.drawn + 1))
+          → TellsDraw w.followed (log_of w.past) t given (word_of s.seed) w.drawn a drawn
+      go (Some b) at q_is (inl (some, same)) =
+          let b_is : b ≡ a = cc in
+          subst (λ (n : ℕ). TellsDraw w.followed (log_of w.past) t given (word_of s.seed) w.drawn a n) (sym same)
+          (subst (λ (n : ℕ). TellsDraw w.followed (log_of w.past) t given (word_of s.seed) w.drawn n w.drawn) b_is (recorded_draw s w guide sound guides t b k.packet given (word_of s.seed) w.drawn k.hand_is k.next_is at))
+      go (Some b) at q_is (inr (none, word, next)) = absurd (cc)
+      go None at q_is (inl (some, same)) = free_draw s w guide sound guides t a given (word_of s.seed) w.drawn drawn at (inl (sym q_is ∙ some, same))
+      go None at q_is (inr (none, word, next)) = free_draw s w guide sound guides t a given (word_of s.seed) w.drawn drawn at (inr (sym q_is ∙ none, word, next))
 
 -- no other move is told anything
 pub tells_none : {V : Type 0} (s : Setting V) (w : World V) (t : ℕ) (given : Option ℕ) → ((n : ℕ) → wanted s.meaning w.past t ≡ wants.Clock n → ⊥)

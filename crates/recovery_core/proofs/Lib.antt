@@ -1,4 +1,7 @@
+pub mod LineLemmas
+pub mod SnapshotLemmas
 pub mod HandLemmas
+pub mod TurnLemmas
 pub mod NoteLemmas
 pub mod SentLemmas
 pub mod MoveLemmas
@@ -11,7 +14,12 @@ pub mod OutputLists
 pub mod OutputNumbers
 pub mod EntryArrivals
 pub mod OutputArrivals
+pub mod UnreleasedLemmas
+pub mod TakingLemmas
+pub mod EndingLemmas
 pub mod CoreParts
+pub mod CrashLemmas
+pub mod StoreLemmas
 pub mod FeedLemmas
 pub mod FinishLemmas
 pub mod ReadLemmas
@@ -19,3 +27,8 @@ pub mod OpeningLemmas
 pub mod RepliesLemmas
 pub mod ThreadCounts
 pub mod Arrivals
+pub mod RecoveryLinks
+pub mod RecoveryCounts
+pub mod RecoverySent
+pub mod RecoveryHeld
+pub mod RecoveryWorlds

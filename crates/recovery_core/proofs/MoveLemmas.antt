@@ -62,6 +62,11 @@ hand_is m threads steps p t is below =
     same None = refl
     same (Some h) = refl
 
+-- and where the program is with it
+pub place_is : {V : Type 0} (m : Meaning V) (threads : ℕ) (steps : List (Step V)) (p : Mastered V) (t : ℕ) → Stands m threads steps p → t < threads → place_in_hand p t ≡ place_of (thread_after steps t).hand
+place_is m threads steps p t is below =
+    ap (λ (o : Option ThreadPart). hand_of (λ (part : ThreadPart). part.hand) o) (slice_get-get_or p.threads t none_part (omega (arith, is.threads_are))) ∙ (is.thread t none_part below).hand
+
 -- then there is a packet for the next move
 pub input_there : {V A : Type 0} (m : Meaning V) (inputs : ℕ → List Packet) (threads : ℕ) (steps : List (Step V)) (p : Mastered V) (t : ℕ) (f : A → Packet) (o : Option A) → Stands m threads steps p → t < threads
     → IsInputAfter inputs t steps (option_map f o) → IsTrue (has_hand (place_in_hand p t)) → IsSome o
@@ -219,11 +224,11 @@ none_above m inputs threads steps stamp Before hist reached u high = go (reached
 
 -- what an entry, or an output, needs of the thread, its number and its stamp
 can_send : {V : Type 0} (m : Meaning V) (inputs : ℕ → List Packet) (epoch threads there : ℕ) (steps : List (Step V)) (t thread number : ℕ) (stamp : List ℕ) (Before : Entry → Type 0)
-    → IsHistory m inputs threads steps → epoch ≡ 1 → there ≡ threads → 1 ≤ threads → threads ≤ 16 → t < threads → thread ≡ t → 1 ≤ number
+    → IsHistory m inputs threads steps → 1 ≤ epoch → there ≡ threads → 1 ≤ threads → threads ≤ 16 → t < threads → thread ≡ t → 1 ≤ number
     → ((u : ℕ) → (slice_index stamp u ≡ 0) ⊎ ((f : Entry) × IsIn f (log_of steps) × (f.thread ≡ u) × (f.number ≡ slice_index stamp u) × Before f))
     → CanSend epoch there thread number stamp
 can_send m inputs epoch threads there steps t thread number stamp Before hist one same some few low th from reached = record {
-  epoch_from = omega (arith, one);
+  epoch_from = one;
   threads_from = omega (arith, same, some);
   threads_to = omega (arith, same, few);
   of_these = omega (arith, same, low, th);
@@ -233,7 +238,7 @@ can_send m inputs epoch threads there steps t thread number stamp Before hist on
 
 -- the frame of an entry, and of an output
 pub can_put_entry : {V : Type 0} (m : Meaning V) (fits : ℕ → V → Type 0) (inputs : ℕ → List Packet) (epoch threads there : ℕ) (A : List (Step V)) (t : ℕ) (a : Option ℕ) (x : Step V) (e : StampedEntry) (left : Option V)
-    → IsLawful m fits → IsHistory m inputs threads A → epoch ≡ 1 → there ≡ threads → 1 ≤ threads → threads ≤ 16 → Made m inputs threads A t a x → x.act ≡ Did (plain_entry e) left
+    → IsLawful m fits → IsHistory m inputs threads A → 1 ≤ epoch → there ≡ threads → 1 ≤ threads → threads ≤ 16 → Made m inputs threads A t a x → x.act ≡ Did (plain_entry e) left
     → IsStamp (log_of (x ∷ A)) (plain_entry e) (λ u. slice_index e.stamp u) → CanPutEntry epoch there e
 can_put_entry m fits inputs epoch threads there A t a x e left lawful hist one same some few made act stamp =
     let did = did_entry t x.after.taken A made.effect (plain_entry e) left (sym made.act ∙ act) in
@@ -245,7 +250,7 @@ can_put_entry m fits inputs epoch threads there A t a x e left lawful hist one s
     }
 
 pub can_put_output : {V : Type 0} (m : Meaning V) (inputs : ℕ → List Packet) (epoch threads there : ℕ) (A : List (Step V)) (t : ℕ) (a : Option ℕ) (x : Step V) (o : Output) (i : Option Packet)
-    → IsHistory m inputs threads A → epoch ≡ 1 → there ≡ threads → 1 ≤ threads → threads ≤ 16 → Made m inputs threads A t a x → x.act ≡ Emitted (emission_of_output o)
+    → IsHistory m inputs threads A → 1 ≤ epoch → there ≡ threads → 1 ≤ threads → threads ≤ 16 → Made m inputs threads A t a x → x.act ≡ Emitted (emission_of_output o)
     → IsOutputStamp (log_of A) o.thread (entries o.thread (log_of A)) (λ u. slice_index o.stamp u) → IsInputAfter inputs t A i
     → ((p : Packet) → i ≡ Some p → length o.packet.bytes ≡ length p.bytes) → ((k : ℕ) (p : Packet) → slice_get (inputs t) k ≡ Some p → IsShort p) → CanPutOutput epoch there o
 can_put_output m inputs epoch threads there A t a x o i hist one same some few made act stamp input as_long short =

@@ -27,18 +27,21 @@ use Rattle.recovery_world.specs.declared.event.Event.TheVariants as event
 use Rattle.recovery_world.specs.declared.event.Outcome.{Outcome}
 use Rattle.recovery_world.specs.declared.event.Outcome.TheVariants as outcome
 use Rattle.recovery_world.specs.World.{Setting, Sent, World, inputs_fed}
-use Rattle.recovery_world.specs.Events.{HasNumber, IsOutputOf, HasArrived, IsAmong, MayGo, On}
+use Rattle.recovery_world.specs.Events.{HasNumber, IsOutputOf, HasArrived, IsAmong, MayGo, On, entries_of_line}
 use Rattle.recovery_world.specs.Files.{sent_names, packets_of}
 use Rattle.recovery_laws.proofs.KeptWorlds.{within_sound}
 use Rattle.recovery_laws.proofs.Sets.{among_either}
 use Rattle.recovery_laws.proofs.Settlings.{number_high}
 use Rattle.recovery_core.specs.declared.reply.Reply.{Reply}
-use Rattle.recovery_core.specs.Sending.{HasOutputFrame}
+use Rattle.recovery_core.specs.Sending.{Sending, output_address, HasOutputFrame}
 use Rattle.recovery_core.specs.Parts.{Parts}
 use Rattle.recovery_core.specs.Standing.{IsSentEntry, IsSentOutput, AreOutputs, StandsFor}
 use Rattle.recovery_core.specs.Performing.{Replies}
 use Rattle.recovery_core.proofs.OutputLists.{outputs_more, named_as, noted_more, packets_more, sent_names_both}
 use Rattle.recovery_core.proofs.OutputNumbers.{HasOutput, output_there, output_from_one}
+use Rattle.recovery_core.proofs.LineLemmas.{frontiers}
+use Rattle.recovery_core.proofs.SnapshotLemmas.{marks_stay, snapshots_on}
+use Rattle.link_store.specs.Links.{frame_at}
 use Rattle.recovery_core.proofs.EntryArrivals.{in_setting, stays}
 
 -- the output of the past that this one is, with the stamp of its predecessors
@@ -54,6 +57,15 @@ not_both found x none some = cc
 
 same_some : (found : Option Output) (x z : Output) → found ≡ Some x → found ≡ Some z → z ≡ x
 same_some found x z a b = cc
+
+-- an output that was sent is so, where more were released
+more_released : (log : List Entry) (sent : Sending) (noted now_noted : List Numbers) (o : Sent) → ((t n : ℕ) → WasMarked noted t n → WasMarked now_noted t n) → IsSentOutput log noted sent o → IsSentOutput log now_noted sent o
+more_released log sent noted now_noted o marks h = record { stamped = h.stamped; plain = h.plain; stamp = h.stamp; size = h.size; there = go h.there }
+  where
+    go : HasOutputFrame sent h.stamped ⊎ ((frame_at sent.frames (output_address sent o.emission.thread o.emission.number) ≡ None) × WasMarked noted o.emission.thread o.emission.number)
+        → HasOutputFrame sent h.stamped ⊎ ((frame_at sent.frames (output_address sent o.emission.thread o.emission.number) ≡ None) × WasMarked now_noted o.emission.thread o.emission.number)
+    go (inl k) = inl k
+    go (inr (none, was)) = inr (none, marks o.emission.thread o.emission.number was)
 
 -- nothing more was noted
 noted_same : (old new : List Numbers) (before : List Sent) → ReleasesOnce old new [] → ((t n : ℕ) → WasMarked old t n ↔ ((o : Sent) × HasNumber t n o × IsAmong o before))
@@ -92,33 +104,32 @@ module _ {P V : Type 0} (m : Meaning V) (s : Setting V) (w : World V) (y : Parts
           let same : outputs o.emission.thread (sent_of w.past) ≡ outputs t (sent_of w.past) = ap (λ (u : ℕ). outputs u (sent_of w.past)) of.1.0 in
           absurd (omega (arith, k, of.1.1, high, same))
 
-  -- the output that its frame says: there is one
-  pub out_found : (found : Option Output) → ((o : Output) → HasOutputFrame y.sent o → o.thread ≡ t → o.number ≡ j → found ≡ Some o) → 1 ≤ j → j ≤ outputs t (sent_of w.past)
-      → (x : Output) × (found ≡ Some x) × IsSentByPast w t j x
-  out_found found gives from_one few = go (output_there s.meaning (inputs_fed s w.fed) s.threads w.past t j legal from_one few)
+  -- what was sent of the output: there is one
+  pub there_sent : 1 ≤ j → j ≤ outputs t (sent_of w.past) → (o : Sent) × SendsAfter w.past o.emission o.after × HasNumber t j o × IsSentOutput (log_of w.past) y.logger.released y.sent o
+  there_sent from_one few = go (output_there s.meaning (inputs_fed s w.fed) s.threads w.past t j legal from_one few)
     where
-      go : HasOutput w.past t j → (x : Output) × (found ≡ Some x) × IsSentByPast w t j x
-      go (o, k, sends, a, b) = (
-        sent.stamped,
-        gives sent.stamped sent.there (ap (λ (q : Emission). q.thread) sent.plain ∙ a) (ap (λ (q : Emission). q.number) sent.plain ∙ b),
-        record {
-          sent = record { emission = o; after = k };
-          plain = sent.plain;
-          stamp = sent.stamp;
-          sends = sends;
-          named = (a, b);
-        },
-      )
+      go : HasOutput w.past t j → (o : Sent) × SendsAfter w.past o.emission o.after × HasNumber t j o × IsSentOutput (log_of w.past) y.logger.released y.sent o
+      go (o, k, sends, a, b) = let here : Sent = record { emission = o; after = k } in (here, sends, (a, b), st.sent.output_sent here sends)
+
+  -- it is that of its frame
+  pub out_is : (found : Option Output) (x : Output) → ((o : Output) → HasOutputFrame y.sent o → o.thread ≡ t → o.number ≡ j → found ≡ Some o)
+      → (frame_at y.sent.frames (output_address y.sent t j) ≡ None → found ≡ None) → found ≡ Some x → 1 ≤ j → j ≤ outputs t (sent_of w.past) → IsSentByPast w t j x
+  out_is found x gives forgotten some from_one few = go (there_sent from_one few)
+    where
+      go : (o : Sent) × SendsAfter w.past o.emission o.after × HasNumber t j o × IsSentOutput (log_of w.past) y.logger.released y.sent o → IsSentByPast w t j x
+      go (o, sends, named, sent) = at sent.there
         where
-          sent : IsSentOutput (log_of w.past) y.sent (record { emission = o; after = k })
-          sent = st.sent.output_sent (record { emission = o; after = k }) sends
+          of : IsSentByPast w t j sent.stamped
+          of = record { sent = o; plain = sent.plain; stamp = sent.stamp; sends = sends; named = named }
 
-  pub out_is : (found : Option Output) (x : Output) → ((o : Output) → HasOutputFrame y.sent o → o.thread ≡ t → o.number ≡ j → found ≡ Some o) → found ≡ Some x → 1 ≤ j → j ≤ outputs t (sent_of w.past)
-      → IsSentByPast w t j x
-  out_is found x gives some from_one few = let r = out_found found gives from_one few in subst (λ (z : Output). IsSentByPast w t j z) (same_some found x r.0 some r.1) r.2
-
-  pub out_there : (found : Option Output) → ((o : Output) → HasOutputFrame y.sent o → o.thread ≡ t → o.number ≡ j → found ≡ Some o) → found ≡ None → 1 ≤ j → j ≤ outputs t (sent_of w.past) → ⊥
-  out_there found gives none from_one few = let r = out_found found gives from_one few in not_both found r.0 none r.1
+          at : HasOutputFrame y.sent sent.stamped ⊎ ((frame_at y.sent.frames (output_address y.sent o.emission.thread o.emission.number) ≡ None) × WasMarked y.logger.released o.emission.thread o.emission.number)
+              → IsSentByPast w t j x
+          at (inl h) =
+              let q = gives sent.stamped h (ap (λ (z : Emission). z.thread) sent.plain ∙ named.0) (ap (λ (z : Emission). z.number) sent.plain ∙ named.1) in
+              subst (λ (z : Output). IsSentByPast w t j z) (same_some found x sent.stamped some q) of
+          at (inr (none, was)) =
+              let gone = forgotten (ap (λ (u : ℕ). frame_at y.sent.frames (output_address y.sent u j)) (sym named.0) ∙ ap (λ (k : ℕ). frame_at y.sent.frames (output_address y.sent o.emission.thread k)) (sym named.1) ∙ none) in
+              absurd (not_both found x gone some)
 
   -- what arrived before
   arrived_here : HasArrivedThere y.logger t j → HasArrived w t j
@@ -128,6 +139,23 @@ module _ {P V : Type 0} (m : Meaning V) (s : Setting V) (w : World V) (y : Parts
   arrived_there : HasArrived w t j → HasArrivedThere y.logger t j
   arrived_there (o, is, inl i) = inl ((st.logger.released t j).1 (o, is, i))
   arrived_there (o, is, inr i) = inr ((named_as (log_of w.past) y.logger.waiting w.waiting st.logger.waiting t j).1 (o, is, i))
+
+  -- its frame is not on the links any more
+  pub out_old : (found : Option Output) → ((o : Output) → HasOutputFrame y.sent o → o.thread ≡ t → o.number ≡ j → found ≡ Some o) → found ≡ None → 1 ≤ j → j ≤ outputs t (sent_of w.past)
+      → (reply : Reply) → reply ≡ record { outcome = outcome.Again; released = [] } → (next : World V) × Replies (event.Out t j) reply s w next × StandsFor m s next y
+  out_old found gives none from_one few reply is = go (there_sent from_one few)
+    where
+      go : (o : Sent) × SendsAfter w.past o.emission o.after × HasNumber t j o × IsSentOutput (log_of w.past) y.logger.released y.sent o → (next : World V) × Replies (event.Out t j) reply s w next × StandsFor m s next y
+      go (o, sends, named, sent) = at sent.there
+        where
+          at : HasOutputFrame y.sent sent.stamped ⊎ ((frame_at y.sent.frames (output_address y.sent o.emission.thread o.emission.number) ≡ None) × WasMarked y.logger.released o.emission.thread o.emission.number)
+              → (next : World V) × Replies (event.Out t j) reply s w next × StandsFor m s next y
+          at (inl h) =
+              let q = gives sent.stamped h (ap (λ (z : Emission). z.thread) sent.plain ∙ named.0) (ap (λ (z : Emission). z.number) sent.plain ∙ named.1) in
+              absurd (not_both found sent.stamped none q)
+          at (inr (gone, was)) =
+              let marked : WasMarked y.logger.released t j = subst (λ (k : ℕ). WasMarked y.logger.released t k) named.1 (subst (λ (u : ℕ). WasMarked y.logger.released u o.emission.number) named.0 was) in
+              stays m s w y st (event.Out t j) outcome.Again reply is (inr (here, (inr (inl (o, (sends, named), arrived_here (inl marked), refl, refl)), refl)))
 
   module _ (x : Output) (of : IsSentByPast w t j x) where
     pub own_thread : x.thread ≡ t
@@ -157,7 +185,7 @@ module _ {P V : Type 0} (m : Meaning V) (s : Setting V) (w : World V) (y : Parts
     may_go : IsDue y.logger.held x → MayGo w of.sent
     may_go within e miss =
         due_within (log_of w.past) (log_of w.stored) (held_entries y.logger.held) of.sent.emission.thread of.sent.after (λ u. slice_index x.stamp u) (frontier_of y.logger.held) good of.stamp
-        (frontiers_are_defined (log_of w.past) (log_of w.stored) y.logger.held good good_stored stored_in st.logger.holds) (within_frontiers y.logger.held x.stamp within) e (miss_in e miss)
+        (frontiers s w st.sound.firm y.logger.held st.logger.holds) (within_frontiers y.logger.held x.stamp within) e (miss_in e miss)
 
     lacks : (u k : ℕ) → IsFirstMissingLane y.logger.held x.stamp u k
         → (e : Entry) × IsFirstMissing (log_of w.past) (log_of w.stored) w.held of.sent.emission.thread of.sent.after e × (e.thread ≡ u) × (e.number ≡ k)
@@ -169,7 +197,7 @@ module _ {P V : Type 0} (m : Meaning V) (s : Setting V) (w : World V) (y : Parts
         r : (e : Entry) × IsFirstMissing (log_of w.past) (log_of w.stored) (held_entries y.logger.held) of.sent.emission.thread of.sent.after e × (e.thread ≡ u) × (e.number ≡ frontier_of y.logger.held u + 1)
         r =
             first_missing (log_of w.past) (log_of w.stored) (held_entries y.logger.held) of.sent.emission.thread of.sent.after (λ v. slice_index x.stamp v) (frontier_of y.logger.held) u good of.stamp
-            (frontiers_are_defined (log_of w.past) (log_of w.stored) y.logger.held good good_stored stored_in st.logger.holds) above.0 (λ v less. first.least v (frontier_of y.logger.held v) less (frontier_is y.logger.held v))
+            (frontiers s w st.sound.firm y.logger.held st.logger.holds) above.0 (λ v less. first.least v (frontier_of y.logger.held v) less (frontier_is y.logger.held v))
 
     module _ (now : Logger) (held : now.held ≡ y.logger.held) (epoch : now.epoch ≡ y.logger.epoch) (fresh : HasArrivedThere y.logger x.thread x.number → ⊥) where
       -- it is released
@@ -183,18 +211,21 @@ module _ {P V : Type 0} (m : Meaning V) (s : Setting V) (w : World V) (y : Parts
           sound = within_sound s w (event.Out t j) outcome.Released [] next st.sound (on, st.within);
           within = st.within;
           inputs = record { meaning = st.inputs.meaning; fractions = st.inputs.fractions; inputs = st.inputs.inputs; left = st.inputs.left; clock = st.inputs.clock; generator = st.inputs.generator };
-          first = record { epoch = st.first.epoch; up = st.first.up; stored = st.first.stored; copy = st.first.copy; followed = st.first.followed; ended = st.first.ended };
-          master = record { stands = st.master.stands; schedule = st.master.schedule; past = st.master.past; moves = st.master.moves; bytes = st.master.bytes };
+          snapshots = snapshots_on y.sent y.sent y.logger.released now.released refl (λ u k size i. i) marks s w.stored w.copy y.store st.snapshots;
+          ended = st.ended;
+          guide = st.guide;
+          master = record { up = st.master.up; stands = st.master.stands; schedule = st.master.schedule; past = st.master.past; moves = st.master.moves; bytes = st.master.bytes };
           sent = record {
             epoch = st.sent.epoch;
             entry_sent = λ e i. subst (λ (h : List Lane). IsSentEntry (log_of w.past) h y.sent e) (sym held) (st.sent.entry_sent e i);
-            output_sent = st.sent.output_sent;
+            output_sent = λ o i. more_released (log_of w.past) y.sent y.logger.released now.released o marks (st.sent.output_sent o i);
             entry_counts = st.sent.entry_counts;
             output_counts = st.sent.output_counts;
+            none_later = st.sent.none_later;
           };
           logger = record {
             epoch = epoch ∙ st.logger.epoch;
-            holds = subst (λ (h : List Lane). HoldsOf (log_of w.past) (log_of w.stored) h) (sym held) st.logger.holds;
+            holds = subst (λ (h : List Lane). HoldsOf (entries_of_line w) (log_of w.stored) h) (sym held) st.logger.holds;
             held = λ e. subst (λ (h : List Lane). IsIn e (held_entries h) ↔ (IsIn e w.held × (IsIn e (log_of w.stored) → ⊥))) (sym held) (st.logger.held e);
             waiting = subst (λ (l : List Output). AreOutputs (log_of w.past) l w.waiting) (sym waiting) st.logger.waiting;
             released = noted_more (log_of w.past) y.logger.released now.released (x ∷ []) w.released (of.sent ∷ []) once_one are st.logger.released;
@@ -208,7 +239,6 @@ module _ {P V : Type 0} (m : Meaning V) (s : Setting V) (w : World V) (y : Parts
             handed = let count = length-append w.released (of.sent ∷ []) in let few = st.released.handed in omega (arith, count, few);
             fresh = subst (λ (l : List Output). map (λ (o : Output). o.packet) l ≡ packets_of (drop y.handed (w.released ++ of.sent ∷ []))) (sym more) (packets_more (log_of w.past) y.fresh (x ∷ []) w.released (of.sent ∷ []) y.handed are st.released.handed st.released.fresh);
           };
-          emitted = λ o i. emitted o (among_either o w.released (of.sent ∷ []) i);
         },
       )
         where
@@ -224,10 +254,8 @@ module _ {P V : Type 0} (m : Meaning V) (s : Setting V) (w : World V) (y : Parts
           once_one : ReleasesOnce y.logger.released now.released (x ∷ [])
           once_one = subst (λ (l : List Output). ReleasesOnce y.logger.released now.released l) (ap (appended y.fresh) more ∙ appended_append y.fresh (x ∷ [])) once
 
-          emitted : (o : Sent) → IsAmong o w.released ⊎ IsAmong o (of.sent ∷ []) → SendsAfter w.past o.emission o.after
-          emitted o (inl i) = st.emitted o i
-          emitted o (inr (inl same)) = subst (λ (z : Sent). SendsAfter w.past z.emission z.after) same of.sends
-          emitted o (inr (inr i)) = absurd i
+          marks : (u k : ℕ) → WasMarked y.logger.released u k → WasMarked now.released u k
+          marks = marks_stay y.logger.released now.released (x ∷ []) once_one
 
       -- it waits for an entry
       pub out_waits : (out : List Output) (reply : Reply) (u k : ℕ) → IsFirstMissingLane y.logger.held x.stamp u k → now.waiting ≡ y.logger.waiting ++ x ∷ [] → out ≡ y.fresh
@@ -240,18 +268,21 @@ module _ {P V : Type 0} (m : Meaning V) (s : Setting V) (w : World V) (y : Parts
           sound = within_sound s w (event.Out t j) (outcome.Waits u k) [] next st.sound (on, st.within);
           within = st.within;
           inputs = record { meaning = st.inputs.meaning; fractions = st.inputs.fractions; inputs = st.inputs.inputs; left = st.inputs.left; clock = st.inputs.clock; generator = st.inputs.generator };
-          first = record { epoch = st.first.epoch; up = st.first.up; stored = st.first.stored; copy = st.first.copy; followed = st.first.followed; ended = st.first.ended };
-          master = record { stands = st.master.stands; schedule = st.master.schedule; past = st.master.past; moves = st.master.moves; bytes = st.master.bytes };
+          snapshots = snapshots_on y.sent y.sent y.logger.released now.released refl (λ u k size i. i) marks s w.stored w.copy y.store st.snapshots;
+          ended = st.ended;
+          guide = st.guide;
+          master = record { up = st.master.up; stands = st.master.stands; schedule = st.master.schedule; past = st.master.past; moves = st.master.moves; bytes = st.master.bytes };
           sent = record {
             epoch = st.sent.epoch;
             entry_sent = λ e i. subst (λ (h : List Lane). IsSentEntry (log_of w.past) h y.sent e) (sym held) (st.sent.entry_sent e i);
-            output_sent = st.sent.output_sent;
+            output_sent = λ o i. more_released (log_of w.past) y.sent y.logger.released now.released o marks (st.sent.output_sent o i);
             entry_counts = st.sent.entry_counts;
             output_counts = st.sent.output_counts;
+            none_later = st.sent.none_later;
           };
           logger = record {
             epoch = epoch ∙ st.logger.epoch;
-            holds = subst (λ (h : List Lane). HoldsOf (log_of w.past) (log_of w.stored) h) (sym held) st.logger.holds;
+            holds = subst (λ (h : List Lane). HoldsOf (entries_of_line w) (log_of w.stored) h) (sym held) st.logger.holds;
             held = λ e. subst (λ (h : List Lane). IsIn e (held_entries h) ↔ (IsIn e w.held × (IsIn e (log_of w.stored) → ⊥))) (sym held) (st.logger.held e);
             waiting = subst (λ (l : List Output). AreOutputs (log_of w.past) l (w.waiting ++ of.sent ∷ [])) (sym waiting) (outputs_more (log_of w.past) y.logger.waiting w.waiting x of.sent st.logger.waiting of.plain of.stamp);
             released = noted_same y.logger.released now.released w.released once_none st.logger.released;
@@ -261,7 +292,6 @@ module _ {P V : Type 0} (m : Meaning V) (s : Setting V) (w : World V) (y : Parts
             handed = st.released.handed;
             fresh = subst (λ (l : List Output). map (λ (o : Output). o.packet) l ≡ packets_of (drop y.handed w.released)) (sym same) st.released.fresh;
           };
-          emitted = st.emitted;
         },
       )
         where
@@ -291,6 +321,9 @@ module _ {P V : Type 0} (m : Meaning V) (s : Setting V) (w : World V) (y : Parts
 
           once_none : ReleasesOnce y.logger.released now.released []
           once_none = subst (λ (l : List Output). ReleasesOnce y.logger.released now.released l) (ap (appended y.fresh) (same ∙ sym (append-nil y.fresh)) ∙ appended_append y.fresh []) once
+
+          marks : (u k : ℕ) → WasMarked y.logger.released u k → WasMarked now.released u k
+          marks = marks_stay y.logger.released now.released [] once_none
 
 -- its thread and number are noted
 pub pushed_parts : {P V : Type 0} (view now : Parts P V) (logger : Logger) (out : List Output) (names : List (ℕ × ℕ)) (name : ℕ × ℕ) → view ≡ now → names ≡ view.released ++ name ∷ []

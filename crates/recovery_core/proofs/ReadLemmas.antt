@@ -1,5 +1,5 @@
 -- What is read of a system: the value of a variable, and the counts of a thread.
-use Rattle.std.proofs.Common.{◌≡◌, ℕ, ◌<◌, List, [], slice_index_or, refl, sym, ap, ◌∙◌, subst, inr, None}
+use Rattle.std.proofs.Common.{◌≡◌, ℕ, ◌<◌, List, [], slice_index_or, refl, sym, ap, ◌∙◌, subst, inr, None, true}
 use Rattle.std.specs.Prelude.{HoldsAt}
 use Rattle.entry_order.specs.Log.{entries}
 use Rattle.input_logger.specs.Inputs.{Fed}
@@ -21,8 +21,8 @@ part_with value = record { value = value; places = 0; stamp = []; readers = [] }
 
 -- The variable has the value that the past left.
 pub shown_moves : {P V : Type 0} (m : Meaning V) (v : ℕ) (value : V) (text : List ℕ) (d : VarPart V) {y old : Parts P V} → y ≡ old → v < m.vars → value ≡ (slice_index_or y.master.vars v d).value
-    → text ≡ m.shown v value → (s : Setting V) (w : World V) → StandsFor m s w old → ComesTo (event.Show v) (outcome.Shown text) s w w
-shown_moves {P} {V} m v value text d {y} {old} is low value_is text_is s w st = ((inr (inr (few, st.first.up, ap (λ (l : List ℕ). outcome.Shown l) shown)), refl, refl), st.within)
+    → y.up ≡ true → text ≡ m.shown v value → (s : Setting V) (w : World V) → StandsFor m s w old → ComesTo (event.Show v) (outcome.Shown text) s w w
+shown_moves {P} {V} m v value text d {y} {old} is low value_is up text_is s w st = ((inr (inr (few, sym st.master.up ∙ sym (ap (λ (q : Parts P V). q.up) is) ∙ up, ap (λ (l : List ℕ). outcome.Shown l) shown)), refl, refl), st.within)
   where
     few : v < s.meaning.vars
     few = subst (λ (n : Meaning V). v < n.vars) (sym st.inputs.meaning) low

@@ -13,7 +13,7 @@ use Rattle.access_log.specs.declared.entry.StampedEntry.{StampedEntry}
 use Rattle.access_log.specs.declared.entry.Output.{Output}
 use Rattle.access_log.specs.Held.{Lane, lane, IsKnown}
 use Rattle.link_store.specs.declared.address.Address.{Address}
-use Rattle.link_store.specs.Links.{frame_at}
+use Rattle.link_store.specs.Links.{frame_at, Sends}
 use Rattle.wire_frames.specs.declared.frame.Frame.TheVariants as frame_of
 use Rattle.wire_frames.specs.Layout.{IsFrame}
 use Rattle.wire_frames.specs.Writing.{CanPutEntry, CanPutOutput}
@@ -34,6 +34,7 @@ use Rattle.recovery_laws.proofs.Settlings.{number_high}
 use Rattle.recovery_core.specs.Sending.{Sending, lengths_of, length_at, one_longer, entry_size, output_size, entry_address, output_address, HasEntryFrame, HasOutputFrame, SendsEntry, SendsOutput}
 use Rattle.recovery_core.specs.Parts.{Parts}
 use Rattle.recovery_core.specs.Standing.{IsSentEntry, IsSentOutput, HasSent}
+use Rattle.dup_filter.specs.Numbers.{Numbers, WasMarked}
 
 -- One more length
 
@@ -123,19 +124,31 @@ entry_stays_sent log more held old new e epoch threads stamps lengths same h = r
         (subst (λ (f : Entry). frame_at new.frames (entry_address old f.thread f.number) ≡ frame_at old.frames (entry_address old f.thread f.number)) (sym h.plain) same) there)
     go (inr (none, known)) = inr (subst (λ (n : ℕ). frame_at new.frames (record { epoch = n; kind = Log; thread = e.thread; number = e.number }) ≡ None) (sym epoch) (same ∙ none), known)
 
-pub output_stays_sent : (log more : List Entry) (old new : Sending) (o : Sent) → new.epoch ≡ old.epoch → new.threads ≡ old.threads
+pub output_stays_sent : (log more : List Entry) (released : List Numbers) (old new : Sending) (o : Sent) → new.epoch ≡ old.epoch → new.threads ≡ old.threads
     → ((stamp : ℕ → ℕ) → IsOutputStamp log o.emission.thread o.after stamp → IsOutputStamp more o.emission.thread o.after stamp)
     → ((k : ℕ) → length_at old.outputs o.emission.thread o.emission.number ≡ Some k → length_at new.outputs o.emission.thread o.emission.number ≡ Some k)
     → frame_at new.frames (output_address old o.emission.thread o.emission.number) ≡ frame_at old.frames (output_address old o.emission.thread o.emission.number)
-    → IsSentOutput log old o → IsSentOutput more new o
-output_stays_sent log more old new o epoch threads stamps lengths same h = record {
+    → IsSentOutput log released old o → IsSentOutput more released new o
+output_stays_sent log more released old new o epoch threads stamps lengths same h = record {
   stamped = h.stamped;
   plain = h.plain;
   stamp = stamps (λ u. slice_index h.stamped.stamp u) h.stamp;
   size = lengths (output_size h.stamped) h.size;
-  there = output_frame_stays old new h.stamped epoch threads
-      (subst (λ (f : Emission). frame_at new.frames (output_address old f.thread f.number) ≡ frame_at old.frames (output_address old f.thread f.number)) (sym h.plain) same) h.there;
+  there = go h.there;
 }
+  where
+    go : HasOutputFrame old h.stamped ⊎ ((frame_at old.frames (output_address old o.emission.thread o.emission.number) ≡ None) × WasMarked released o.emission.thread o.emission.number)
+        → HasOutputFrame new h.stamped ⊎ ((frame_at new.frames (output_address new o.emission.thread o.emission.number) ≡ None) × WasMarked released o.emission.thread o.emission.number)
+    go (inl there) =
+        inl (output_frame_stays old new h.stamped epoch threads
+        (subst (λ (f : Emission). frame_at new.frames (output_address old f.thread f.number) ≡ frame_at old.frames (output_address old f.thread f.number)) (sym h.plain) same) there)
+    go (inr (none, marked)) = inr (subst (λ (n : ℕ). frame_at new.frames (record { epoch = n; kind = Out; thread = o.emission.thread; number = o.emission.number }) ≡ None) (sym epoch) (same ∙ none), marked)
+
+-- a frame sent in this epoch is none of a later one
+none_later_still : (now : ℕ) (old new : Sending) (at : Address) (frame : List ℕ) → at.epoch ≡ now → Sends old.frames new.frames at frame
+    → ((a : Address) → now < a.epoch → frame_at old.frames a ≡ None) → (a : Address) → now < a.epoch → frame_at new.frames a ≡ None
+none_later_still now old new at frame here sends none a later =
+    sends.others a (λ same. let q : a.epoch ≡ at.epoch = ap (λ (z : Address). z.epoch) same in absurd (omega (arith, q, here, later))) ∙ none a later
 
 -- how many outputs a thread has, with one more
 outputs_same : (o : Emission) (sent : List Emission) → outputs o.thread (o ∷ sent) ≡ outputs o.thread sent + 1
@@ -145,6 +158,10 @@ outputs_other : (u : ℕ) (o : Emission) (sent : List Emission) → o.thread ≢
 outputs_other u o sent other = let k : nat_eq o.thread u ≡ false = not_eq o.thread u other in rw k refl
 
 -- What was sent after a move
+
+-- what the parts have sent of the world
+abbrev pub SentOf : {P V : Type 0} → World V → Parts P V → Type 0
+SentOf w y = HasSent w.epoch w.past y.logger.held y.logger.released y.sent
 
 -- the world after a move, and the parts after it was noted
 abbrev pub after_step : {V : Type 0} → World V → Step V → ℕ → World V
@@ -159,34 +176,37 @@ sends_old : {V : Type 0} (a : Act V) (past : List (Step V)) (o : Emission) (n : 
 sends_old a past o n none (inl (is, at)) = absurd (none o is)
 sends_old a past o n none (inr i) = i
 
-module _ {P V : Type 0} (w : World V) (y : Parts P V) (drawn : ℕ) (g : Lcg) (q : Mastered V) (schedule : List PlainMove) (moves bytes : ℕ) (t : ℕ) (after : Thread) (h : HasSent w y) where
-  pub sent_took : (k : ℕ) → HasSent (after_step w (record { thread = t; act = Took k; after = after }) drawn) (after_note y g q schedule moves bytes y.sent)
+module _ {P V : Type 0} (w : World V) (y : Parts P V) (drawn : ℕ) (g : Lcg) (q : Mastered V) (schedule : List PlainMove) (moves bytes : ℕ) (t : ℕ) (after : Thread) (h : SentOf w y) where
+  pub sent_took : (k : ℕ) → SentOf (after_step w (record { thread = t; act = Took k; after = after }) drawn) (after_note y g q schedule moves bytes y.sent)
   sent_took k = record {
     epoch = h.epoch;
     entry_sent = h.entry_sent;
     output_sent = λ o i. h.output_sent o (sends_old (Took k) w.past o.emission o.after (λ p e. cc) i);
     entry_counts = h.entry_counts;
     output_counts = h.output_counts;
+    none_later = h.none_later;
   }
 
-  pub sent_ended : (k : ℕ) → HasSent (after_step w (record { thread = t; act = Ended k; after = after }) drawn) (after_note y g q schedule moves bytes y.sent)
+  pub sent_ended : (k : ℕ) → SentOf (after_step w (record { thread = t; act = Ended k; after = after }) drawn) (after_note y g q schedule moves bytes y.sent)
   sent_ended k = record {
     epoch = h.epoch;
     entry_sent = h.entry_sent;
     output_sent = λ o i. h.output_sent o (sends_old (Ended k) w.past o.emission o.after (λ p e. cc) i);
     entry_counts = h.entry_counts;
     output_counts = h.output_counts;
+    none_later = h.none_later;
   }
 
   pub sent_did : (e : StampedEntry) (left : Option V) (sent : Sending) → IsLog (plain_entry e ∷ log_of w.past) → e.thread < length y.sent.entries
       → IsStamp (plain_entry e ∷ log_of w.past) (plain_entry e) (λ u. slice_index e.stamp u) → SendsEntry y.sent sent e
-      → HasSent (after_step w (record { thread = t; act = Did (plain_entry e) left; after = after }) drawn) (after_note y g q schedule moves bytes sent)
+      → SentOf (after_step w (record { thread = t; act = Did (plain_entry e) left; after = after }) drawn) (after_note y g q schedule moves bytes sent)
   sent_did e left sent good low stamp sends = record {
     epoch = sends.epoch ∙ h.epoch;
     entry_sent = entry;
     output_sent = λ o i. output o (sends_old (Did (plain_entry e) left) w.past o.emission o.after (λ p is. cc) i);
     entry_counts = λ u. counts u (entries_step u (plain_entry e) log);
     output_counts = λ u. ap (λ (l : List (List ℕ)). length (lengths_of l u)) sends.outputs ∙ h.output_counts u;
+    none_later = none_later_still w.epoch y.sent sent (entry_address y.sent e.thread e.number) sends.frame.bytes h.epoch sends.sends h.none_later;
   }
     where
       log : List Entry
@@ -217,9 +237,9 @@ module _ {P V : Type 0} (w : World V) (y : Parts P V) (drawn : ℕ) (g : Lcg) (q
               let next = good.0 in
               omega (arith, no, within, count, next)
 
-      output : (o : Sent) → SendsAfter w.past o.emission o.after → IsSentOutput (plain_entry e ∷ log) sent o
+      output : (o : Sent) → SendsAfter w.past o.emission o.after → IsSentOutput (plain_entry e ∷ log) y.logger.released sent o
       output o i =
-          output_stays_sent log (plain_entry e ∷ log) y.sent sent o sends.epoch sends.threads
+          output_stays_sent log (plain_entry e ∷ log) y.logger.released y.sent sent o sends.epoch sends.threads
           (λ s k. other_output log (plain_entry e) o.emission.thread o.after s good (sent_after w.past o.emission o.after i) k)
           (λ k is. subst (λ (l : List (List ℕ)). length_at l o.emission.thread o.emission.number ≡ Some k) (sym sends.outputs) is)
           (sends.sends.others (output_address y.sent o.emission.thread o.emission.number) (λ same. let kind : Out ≡ Log = ap (λ (a : Address). a.kind) same in cc)) (h.output_sent o i)
@@ -235,13 +255,14 @@ module _ {P V : Type 0} (w : World V) (y : Parts P V) (drawn : ℕ) (g : Lcg) (q
   pub sent_emitted : (m : Meaning V) (inputs : ℕ → List Packet) (threads : ℕ) (o : Output) (sent : Sending) → IsHistory m inputs threads w.past → IsLog (log_of w.past)
       → o.number ≡ outputs o.thread (sent_of w.past) + 1 → o.thread < length y.sent.outputs
       → IsOutputStamp (log_of w.past) o.thread (entries o.thread (log_of w.past)) (λ u. slice_index o.stamp u) → SendsOutput y.sent sent o
-      → HasSent (after_step w (record { thread = t; act = Emitted (emission_of_output o); after = after }) drawn) (after_note y g q schedule moves bytes sent)
+      → SentOf (after_step w (record { thread = t; act = Emitted (emission_of_output o); after = after }) drawn) (after_note y g q schedule moves bytes sent)
   sent_emitted m inputs threads o sent hist good numbered low stamp sends = record {
     epoch = sends.epoch ∙ h.epoch;
     entry_sent = entry;
     output_sent = output;
     entry_counts = λ u. ap (λ (l : List (List ℕ)). length (lengths_of l u)) sends.entries ∙ h.entry_counts u;
     output_counts = λ u. counts u (is_or o.thread u);
+    none_later = none_later_still w.epoch y.sent sent (output_address y.sent o.thread o.number) sends.frame.bytes h.epoch sends.sends h.none_later;
   }
     where
       log : List Entry
@@ -256,7 +277,7 @@ module _ {P V : Type 0} (w : World V) (y : Parts P V) (drawn : ℕ) (g : Lcg) (q
           (λ k is. subst (λ (l : List (List ℕ)). length_at l f.thread f.number ≡ Some k) (sym sends.entries) is)
           (sends.sends.others (entry_address y.sent f.thread f.number) (λ same. let kind : Log ≡ Out = ap (λ (a : Address). a.kind) same in cc)) (h.entry_sent f i)
 
-      output : (x : Sent) → ((let a : Act V = Emitted (emission_of_output o) in a ≡ Emitted x.emission) × (entries x.emission.thread log ≡ x.after)) ⊎ SendsAfter w.past x.emission x.after → IsSentOutput log sent x
+      output : (x : Sent) → ((let a : Act V = Emitted (emission_of_output o) in a ≡ Emitted x.emission) × (entries x.emission.thread log ≡ x.after)) ⊎ SendsAfter w.past x.emission x.after → IsSentOutput log y.logger.released sent x
       output x (inl (is, at)) =
           let same : emission_of_output o ≡ x.emission = cc in
           record {
@@ -266,10 +287,10 @@ module _ {P V : Type 0} (w : World V) (y : Parts P V) (drawn : ℕ) (g : Lcg) (q
                 (subst (λ (z : Emission). IsOutputStamp log z.thread (entries z.thread log) (λ u. slice_index o.stamp u)) same stamp);
             size = subst (λ (z : Emission). length_at sent.outputs z.thread z.number ≡ Some (output_size o)) same
                 (subst (λ (l : List (List ℕ)). length_at l o.thread o.number ≡ Some (output_size o)) (sym sends.outputs) (length_new y.sent.outputs o.thread (output_size o) o.number low number));
-            there = sends.frame;
+            there = inl sends.frame;
           }
       output x (inr i) =
-          output_stays_sent log log y.sent sent x sends.epoch sends.threads (λ s k. k)
+          output_stays_sent log log y.logger.released y.sent sent x sends.epoch sends.threads (λ s k. k)
           (λ k is. subst (λ (l : List (List ℕ)). length_at l x.emission.thread x.emission.number ≡ Some k) (sym sends.outputs) (length_stays y.sent.outputs o.thread (output_size o) x.emission.thread x.emission.number k low is))
           (sends.sends.others (output_address y.sent x.emission.thread x.emission.number) other) (h.output_sent x i)
         where

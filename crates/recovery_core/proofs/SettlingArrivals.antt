@@ -14,7 +14,7 @@ use Rattle.recovery_world.specs.declared.event.Event.TheVariants as event
 use Rattle.recovery_world.specs.declared.event.Outcome.{Outcome}
 use Rattle.recovery_world.specs.declared.event.Outcome.TheVariants as outcome
 use Rattle.recovery_world.specs.World.{Setting, Sent, World}
-use Rattle.recovery_world.specs.Events.{On, OnLog, OnOut, OfThread}
+use Rattle.recovery_world.specs.Events.{On, OnLog, OnOut, OfThread, Wakes}
 use Rattle.recovery_world.specs.Files.{sent_names}
 use Rattle.recovery_world.specs.Limits.{OnWithin}
 use Rattle.recovery_world.specs.Many.{Does, Stays, Goes, numbers_of, threads_of, Settling, SettlingStops, summary_of}
@@ -133,9 +133,12 @@ count_of_out m s w y k t count counts which is st low holds = (is ∙ (counts_of
 
 -- Settling
 
--- the threads went to the end of the capture, and then all entries arrived
+-- the master is up, the threads went to the end of the capture, and then all entries arrived
+abbrev pub FeedsUp : {V : Type 0} → Setting V → World V → World V → Type 0
+FeedsUp {V} s w next = (up : World V) × Wakes w up × FeedsAll s up next
+
 abbrev pub FeedsLogs : {V : Type 0} → Setting V → World V → World V → Type 0
-FeedsLogs {V} s w next = (ran : World V) × FeedsAll s w ran × ArriveAll kind.Log s ran next
+FeedsLogs {V} s w next = (ran : World V) × FeedsUp s w ran × ArriveAll kind.Log s ran next
 
 -- as many names as outputs
 names_length : (l : List Sent) → length (sent_names l) ≡ length l
@@ -151,10 +154,10 @@ pub settles_to : {P V : Type 0} (m : Meaning V) (s : Setting V) (w here next : W
     → moves ≡ new.moves - old.moves → released ≡ length new.released - length old.released → epoch ≡ new.logger.epoch → FeedsLogs s w here → ArriveAll kind.Out s here next → SettlesTo (outcome.Summary moves released epoch) s w next
 settles_to {P} {V} m s w here next old new moves released epoch st sn a b d logs outs =
     Settling (outcome.Summary moves released epoch) next (record {
-      up = w;
-      wakes = inl (st.first.up, refl);
+      up = logs.1.0;
+      wakes = logs.1.1;
       ran = logs.0;
-      runs = logs.1;
+      runs = logs.1.2;
       logged = here;
       logs = logs.2.does;
       outs = subst (λ (p : List (Step V)). Does s here (threads_of (arrival_of kind.Out) (count_in kind.Out p) s.threads) next) logs.2.past outs.does;
@@ -173,5 +176,5 @@ settles_to {P} {V} m s w here next old new moves released epoch st sn a b d logs
     sums = let x = moves_are in let y = released_are in let z = epoch_is in cc
 
 -- a move on the way would pass a limit
-pub settle_stops : {P V : Type 0} (m : Meaning V) (s : Setting V) (w next : World V) (old : Parts P V) (limit : Limit) → StandsFor m s w old → HaltsFeeding limit s w next → IsStopped event.Settle limit s w next
-settle_stops m s w next old limit st a = SettlingStops limit next (record { up = w; wakes = inl (st.first.up, refl); runs = a })
+pub settle_stops : {P V : Type 0} (m : Meaning V) (s : Setting V) (w next : World V) (old : Parts P V) (limit : Limit) → StandsFor m s w old → (up : World V) → Wakes w up → HaltsFeeding limit s up next → IsStopped event.Settle limit s w next
+settle_stops m s w next old limit st up wakes a = SettlingStops limit next (record { up = up; wakes = wakes; runs = a })

@@ -1,6 +1,6 @@
 -- A system whose master made a move stands for the world after it.
 use Rattle.std.proofs.Common.{◌≡◌, ℕ, ◌+◌, ◌<◌, ◌≤◌, List, [], ◌∷◌, ◌++◌, length, refl, sym, ap, ◌∙◌, subst, inl, inr, ◌⊎◌, arith, Option, Some, None, Result, Ok, Err, Bool, true, false}
-use Rattle.std.specs.Prelude.{slice_get, slice_index, is_some, IsTrue, IsSome, IfOk, All}
+use Rattle.std.specs.Prelude.{◌↔◌, slice_get, slice_index, is_some, IsTrue, IsSome, IfOk, All}
 use Rattle.std.specs.Option.{unwrap_or, option_map}
 use Rattle.rand_pcg.specs.Lcg.{Lcg}
 use Rattle.traffic_gen.specs.Generated.{generator_after}
@@ -9,7 +9,6 @@ use Rattle.plain_text.specs.declared.limit.TheConstants.{MOST_MOVES}
 use Rattle.plain_text.specs.declared.packet.Packet.{Packet}
 use Rattle.input_logger.specs.Inputs.{Fed, inputs_of}
 use Rattle.entry_order.specs.Log.{Entry, entries, IsLog}
-use Rattle.entry_order.specs.Closed.{IsNoLater}
 use Rattle.entry_order.specs.Stamps.{IsStamp}
 use Rattle.access_log.specs.declared.entry.Output.{Output}
 use Rattle.plain_machine.specs.declared.local.Move.{Move}
@@ -18,21 +17,20 @@ use Rattle.plain_machine.specs.declared.plain_move.PlainMove.{PlainMove}
 use Rattle.plain_machine.specs.Program.{Meaning, IsLawful}
 use Rattle.plain_machine.specs.Machine.{Hand}
 use Rattle.plain_machine.specs.History.{Act, Took, Did, Emitted, Ended, Step, log_more, log_of, sent_of, outputs, thread_after, plain_move, IsHistory}
-use Rattle.plain_machine.proofs.Histories.{history_log, earlier_refl, did_emission}
-use Rattle.box_program.specs.Hands.{input_for, has_hand, IsInputAfter}
-use Rattle.master_core.specs.Mastered.{Mastered, place_in_hand, HasRoom}
+use Rattle.plain_machine.proofs.Histories.{history_log, earlier_refl, earlier_log, did_emission}
+use Rattle.box_program.specs.Hands.{place_of, input_for, has_hand, IsInputAfter}
+use Rattle.master_core.specs.Mastered.{Mastered, place_in_hand, HasRoom, IsOnVariable, WantsVariable}
 use Rattle.master_core.specs.Standing.{Stands}
-use Rattle.master_core.specs.Stepping.{told_in, move_of, Follows, MadeNone, plain_entry, emission_of_output}
+use Rattle.master_core.specs.Stepping.{told_in, move_of, Follows, MadeNone, MadeOne, plain_entry, emission_of_output}
 use Rattle.master_core.specs.declared.step.Stepped.{Stepped}
 use Rattle.master_core.specs.declared.step.Stepped.TheVariants as stepped
-use Rattle.master_core.proofs.Moments.{holds_later}
 use Rattle.master_core.proofs.StampedLemmas.{other_output}
 use Rattle.recovery_world.specs.declared.event.Event.TheVariants as event
 use Rattle.recovery_world.specs.declared.event.Outcome.{Outcome}
 use Rattle.recovery_world.specs.declared.event.Outcome.TheVariants as outcome
 use Rattle.recovery_world.specs.World.{Setting, Sent, World, inputs_fed}
-use Rattle.recovery_world.specs.Turns.{IsAwaited, IsReadToCome, IsTouchToCome, Awaits, HandHasTurn}
-use Rattle.recovery_world.specs.Events.{TellsHand, WantsMore, OnStep, IsAmong, entry_outcome, move_outcome, bytes_sent}
+use Rattle.recovery_world.specs.Turns.{Awaits, HandHasTurn}
+use Rattle.recovery_world.specs.Events.{Tells, TellsHand, WantsMore, WaitsFor, OnStep, IsAmong, entry_outcome, move_outcome, bytes_sent}
 use Rattle.recovery_world.specs.Limits.{limit_passed, IsWithin}
 use Rattle.recovery_world.specs.Files.{moves_made, answer_of}
 use Rattle.recovery_laws.proofs.SoundParts.{sent_after}
@@ -40,37 +38,21 @@ use Rattle.recovery_laws.proofs.KeptWorlds.{within_sound}
 use Rattle.recovery_laws.proofs.LedMoves.{Made, made_move, made_step}
 use Rattle.recovery_core.specs.declared.reply.Stop.{Stop}
 use Rattle.recovery_core.specs.declared.reply.Stop.TheVariants as stop
-use Rattle.recovery_core.specs.Sending.{Sending}
+use Rattle.recovery_core.specs.Sending.{Sending, length_at, output_size}
 use Rattle.recovery_core.specs.Parts.{Parts, IsShort}
-use Rattle.recovery_core.specs.Standing.{AreOutputs, HasSent, HasReleased, StandsFor}
+use Rattle.recovery_core.specs.Standing.{AreOutputs, HasSnapshots, HasGuide, HasReleased, StandsFor}
+use Rattle.recovery_core.specs.Following.{HasTurnBy}
+use Rattle.recovery_core.proofs.LineLemmas.{holds_later_line}
+use Rattle.recovery_core.proofs.SnapshotLemmas.{snapshots_on}
+use Rattle.access_log.specs.declared.entry.Turn.{Turn}
+use Rattle.access_log.specs.declared.entry.Turn.TheVariants as turn_of
+use Rattle.plain_machine.specs.declared.local.Local.{Local}
+use Rattle.plain_machine.specs.Agree.{IsEarlier}
+use Rattle.recovery_laws.specs.Sound.{Sound}
 use Rattle.recovery_core.specs.Stepping.{with_move, AddsEntry, AddsOutput, NotesAs, Notes, CanNote}
 use Rattle.recovery_core.specs.Performing.{MovesOn, StopsAt, ComesTo, WouldPass}
-use Rattle.recovery_core.proofs.SentLemmas.{after_step, sent_took, sent_did, sent_emitted, sent_ended}
-use Rattle.recovery_core.proofs.MoveLemmas.{made_answer, has_room, hand_is, input_there, can_put_entry, can_put_output, input_short}
-
--- Where nothing is followed, each move has its turn.
-
--- a thread waits for nothing
-no_wait : (log : List Entry) (t v : ℕ) (reads : Bool) (e : Entry) → IsAwaited [] log t v reads e → ⊥
-no_wait log t v reads e a = go a.which
-  where
-    go : ((reads ≡ false) × IsReadToCome [] log v e × ((f : Entry) → IsReadToCome [] log v f → IsNoLater e f))
-        ⊎ ((reads ≡ false → (f : Entry) → IsReadToCome [] log v f → ⊥) × IsTouchToCome [] log v e × ((e.thread ≡ t) × (e.number ≡ entries t log + 1) → ⊥)) → ⊥
-    go (inl b) = b.1.0
-    go (inr b) = b.1.0
-
--- so its hand has its turn
-free_turn : {V : Type 0} (m : Meaning V) (log : List Entry) (t : ℕ) (hand : Option Hand) → HandHasTurn m [] log t hand
-free_turn m log t None = tt
-free_turn m log t (Some h) = λ e a. go (m.next h.place) e a
-  where
-    go : (w : Move) (e : Entry) → Awaits [] log t w e → ⊥
-    go (move.Access v) e a = no_wait log t v false e a
-    go (move.Read v) e a = no_wait log t v true e a
-    go move.Clock e a = a
-    go move.Draw e a = a
-    go move.Emit e a = a
-    go move.End e a = a
+use Rattle.recovery_core.proofs.SentLemmas.{SentOf, length_stays, after_step, sent_took, sent_did, sent_emitted, sent_ended}
+use Rattle.recovery_core.proofs.MoveLemmas.{made_answer, has_room, hand_is, place_is, input_there, can_put_entry, can_put_output, input_short}
 
 -- The waiting outputs stay as the log grows.
 
@@ -106,12 +88,12 @@ abbrev pub StopsBefore : {P V : Type 0} → Setting V → World V → ℕ → Op
 StopsBefore {P} {V} s w t given limit new = (next : World V) × WouldPass (event.Step t given) limit s w next × HasReleased next new
 
 module _ {P V : Type 0} (m : Meaning V) (s : Setting V) (w : World V) (y : Parts P V) (st : StandsFor m s w y) (t : ℕ) (given : Option ℕ) (low : t < s.threads) (g : Lcg) (q : Mastered V)
-    (answer : Option ℕ) (drawn : ℕ) (tells : TellsHand s w t given answer drawn (thread_after w.past t).hand) (gen : g ≡ generator_after s.seed drawn) where
+    (answer : Option ℕ) (drawn : ℕ) (tells : TellsHand s w t given answer drawn (thread_after w.past t).hand) (gen : g ≡ generator_after s.seed drawn) (up : w.up ≡ true) where
   abbrev pub mid : Parts P V
   mid = record y { generator = g; master = q }
 
   -- A move was made.
-  module _ (step : Step V) (moves : plain_move s.meaning (inputs_fed s w.fed) s.threads w.past (record { thread = t; answer = answer }) ≡ Ok (step ∷ w.past)) (stands : Stands s.meaning s.threads (step ∷ w.past) q) where
+  module _ (turn : HandHasTurn s.meaning w.followed (log_of w.past) t (thread_after w.past t).hand) (step : Step V) (moves : plain_move s.meaning (inputs_fed s w.fed) s.threads w.past (record { thread = t; answer = answer }) ≡ Ok (step ∷ w.past)) (stands : Stands s.meaning s.threads (step ∷ w.past) q) where
     abbrev new : World V
     new = after_step w step drawn
 
@@ -119,9 +101,9 @@ module _ {P V : Type 0} (m : Meaning V) (s : Setting V) (w : World V) (y : Parts
     on : (o : Outcome) → o ≡ move_outcome step.act → OnStep s w t given o new
     on o is = inr (inr (inr (inr (
       low,
-      st.first.up,
+      up,
       record {
-        turn = subst (λ (l : List Entry). HandHasTurn s.meaning l (log_of w.past) t (thread_after w.past t).hand) (sym st.first.followed) (free_turn s.meaning (log_of w.past) t (thread_after w.past t).hand);
+        turn = turn;
         answer = answer;
         drawn = drawn;
         tells = tells;
@@ -148,12 +130,12 @@ module _ {P V : Type 0} (m : Meaning V) (s : Setting V) (w : World V) (y : Parts
 
     -- within the limits the parts stand for the world after it
     goes : (o : Outcome) (bytes : ℕ) (sent : Sending) → o ≡ move_outcome step.act → bytes ≡ bytes_sent step.act → limit_passed (y.moves + 1) (y.bytes + bytes) ≡ None
-        → HasSent new (record (with_move t answer bytes mid) { sent = sent }) → GoesTo m s w t given o (record (with_move t answer bytes mid) { sent = sent })
-    goes o bytes sent is size within has = (
+        → SentOf new (record (with_move t answer bytes mid) { sent = sent }) → HasSnapshots s w.stored w.copy sent y.logger.released y.store → GoesTo m s w t given o (record (with_move t answer bytes mid) { sent = sent })
+    goes o bytes sent is size within has snaps = (
       new,
       ((on o is, refl), inside),
       record {
-        sound = within_sound s w (event.Step t given) o [] new st.sound ((on o is, refl), inside);
+        sound = next_sound;
         within = inside;
         inputs = record {
           meaning = st.inputs.meaning;
@@ -163,15 +145,16 @@ module _ {P V : Type 0} (m : Meaning V) (s : Setting V) (w : World V) (y : Parts
           clock = st.inputs.clock;
           generator = gen;
         };
-        first = record {
-          epoch = st.first.epoch;
-          up = st.first.up;
-          stored = st.first.stored;
-          copy = st.first.copy;
-          followed = st.first.followed;
-          ended = st.first.ended;
+        snapshots = snaps;
+        ended = st.ended;
+        guide = record {
+          follows = λ e out. st.guide.follows e (λ i. out (earlier_log w.past (step ∷ w.past) e earlier i));
+          only = st.guide.only;
+          began = st.guide.began;
+          holds = holds_later_line s w new st.sound.firm next_sound.firm refl refl earlier st.guide.began y.guide st.guide.holds;
         };
         master = record {
+          up = st.master.up;
           stands = stands;
           schedule = schedule;
           past = let k = st.master.past in omega (arith, k);
@@ -181,7 +164,7 @@ module _ {P V : Type 0} (m : Meaning V) (s : Setting V) (w : World V) (y : Parts
         sent = has;
         logger = record {
           epoch = st.logger.epoch;
-          holds = holds_later s.meaning (inputs_fed s w.fed) s.threads (step ∷ w.past) w.past (log_of w.stored) y.logger.held history (inr (earlier_refl w.past)) st.logger.holds;
+          holds = holds_later_line s w new st.sound.firm next_sound.firm refl refl earlier (log_of w.stored) y.logger.held st.logger.holds;
           held = st.logger.held;
           waiting = outputs_step step.act (log_of w.past) y.logger.waiting w.waiting (history_log s.meaning (inputs_fed s w.fed) s.threads (step ∷ w.past) history) (λ x i. sent_after w.past x.emission x.after (st.sound.firm.sent x i)) st.logger.waiting;
           released = st.logger.released;
@@ -191,12 +174,17 @@ module _ {P V : Type 0} (m : Meaning V) (s : Setting V) (w : World V) (y : Parts
           handed = st.released.handed;
           fresh = st.released.fresh;
         };
-        emitted = λ x i. inr (st.emitted x i);
       },
     )
       where
         inside : IsWithin new
         inside = counted bytes None size within
+
+        earlier : IsEarlier w.past (step ∷ w.past)
+        earlier = inr (earlier_refl w.past)
+
+        next_sound : Sound s new
+        next_sound = within_sound s w (event.Step t given) o [] new st.sound ((on o is, refl), inside)
 
         schedule : y.schedule ++ (record { thread = t; answer = answer }) ∷ [] ≡ moves_made w.past ++ (record { thread = step.thread; answer = answer_of step.act }) ∷ []
         schedule =
@@ -233,50 +221,59 @@ module _ {P V : Type 0} (m : Meaning V) (s : Setting V) (w : World V) (y : Parts
     passes bytes size to Adds (Err (stop.Limit found)) after n limit is = stops bytes limit after size (n.0 ∙ ap Some (limit_is found limit is)) n.1
 
   -- No move was made, and the world stays.
+  still : q ≡ y.master → drawn ≡ w.drawn → StandsFor m s w mid
+  still same none =
+      record {
+        sound = st.sound;
+        within = st.within;
+        inputs = record {
+          meaning = st.inputs.meaning;
+          fractions = st.inputs.fractions;
+          inputs = st.inputs.inputs;
+          left = st.inputs.left;
+          clock = st.inputs.clock;
+          generator = gen ∙ ap (generator_after s.seed) none;
+        };
+        snapshots = st.snapshots;
+        ended = st.ended;
+        guide = st.guide;
+        master = record {
+          up = st.master.up;
+          stands = subst (λ (z : Mastered V). Stands s.meaning s.threads w.past z) (sym same) st.master.stands;
+          schedule = st.master.schedule;
+          past = st.master.past;
+          moves = st.master.moves;
+          bytes = st.master.bytes;
+        };
+        sent = st.sent;
+        logger = st.logger;
+        released = record {
+          names = st.released.names;
+          handed = st.released.handed;
+          fresh = st.released.fresh;
+        };
+      }
+
   rests : WantsMore s w t → q ≡ y.master → drawn ≡ w.drawn → GoesTo m s w t given outcome.Idle mid
   rests wants same none = (
     w,
-    ((inr (inr (inl (low, st.first.up, wants, refl, refl))), refl), st.within),
-    record {
-      sound = st.sound;
-      within = st.within;
-      inputs = record {
-        meaning = st.inputs.meaning;
-        fractions = st.inputs.fractions;
-        inputs = st.inputs.inputs;
-        left = st.inputs.left;
-        clock = st.inputs.clock;
-        generator = gen ∙ ap (generator_after s.seed) none;
-      };
-      first = st.first;
-      master = record {
-        stands = subst (λ (z : Mastered V). Stands s.meaning s.threads w.past z) (sym same) st.master.stands;
-        schedule = st.master.schedule;
-        past = st.master.past;
-        moves = st.master.moves;
-        bytes = st.master.bytes;
-      };
-      sent = record {
-        epoch = st.sent.epoch;
-        entry_sent = st.sent.entry_sent;
-        output_sent = st.sent.output_sent;
-        entry_counts = st.sent.entry_counts;
-        output_counts = st.sent.output_counts;
-      };
-      logger = st.logger;
-      released = record {
-        names = st.released.names;
-        handed = st.released.handed;
-        fresh = st.released.fresh;
-      };
-      emitted = st.emitted;
-    },
+    ((inr (inr (inl (low, up, wants, refl, refl))), refl), st.within),
+    (still same none),
+  )
+
+  -- and where the thread waits
+  waits : (u n : ℕ) → WaitsFor s w t (outcome.Waits u n) → q ≡ y.master → drawn ≡ w.drawn → GoesTo m s w t given (outcome.Waits u n) mid
+  waits u n for same none = (
+    w,
+    ((inr (inr (inr (inl (low, up, for, refl)))), refl), st.within),
+    (still same none),
   )
 
   -- what a call that made no move tells
   pub record Rests (r : Stepped) : Type 0 where
     pub idle : r ≡ stepped.Idle → WantsMore s w t × (drawn ≡ w.drawn)
-    pub free : (u n : ℕ) → r ≡ stepped.NotTurn u n → ⊥
+    pub turn : MadeOne r → HandHasTurn s.meaning w.followed (log_of w.past) t (thread_after w.past t).hand
+    pub waits_for : (u n : ℕ) → r ≡ stepped.NotTurn u n → WaitsFor s w t (outcome.Waits u n) × (drawn ≡ w.drawn)
     pub unchanged : MadeNone r → q ≡ y.master
 
   -- The move was noted, and the world comes to the outcome.
@@ -285,64 +282,71 @@ module _ {P V : Type 0} (m : Meaning V) (s : Setting V) (w : World V) (y : Parts
   goes_on (stepped.Took k) f rest (Err e) after n = tt
   goes_on (stepped.Took k) f rest (Ok to) after n =
       let note = n.1 in
-      let has : HasSent (after_step w f.step drawn) (record (with_move t answer 0 mid) { sent = y.sent }) =
-      subst (λ (a : Act V). HasSent (after_step w (record f.step { act = a }) drawn) (record (with_move t answer 0 mid) { sent = y.sent })) (sym f.does)
-      (sent_took w y drawn g q _ _ _ f.step.thread f.step.after st.sent k) in
+      let has : SentOf (after_step w f.step drawn) (record (with_move t answer 0 mid) { sent = y.sent }) =
+      subst (λ (a : Act V). SentOf (after_step w (record f.step { act = a }) drawn) (record (with_move t answer 0 mid) { sent = y.sent })) (sym f.does)
+      (sent_took w y drawn g q y.schedule y.moves y.bytes f.step.thread f.step.after st.sent k) in
       subst (λ (z : Parts P V). GoesTo m s w t given to z) (sym (note.new_is ∙ ap (λ (l : Sending). let z : Parts P V = record (with_move t answer 0 mid) { sent = l } in z) note.sends))
-      (goes f.step f.plain_is f.stands to 0 y.sent (n.0 ∙ ap move_outcome (sym f.does)) (ap bytes_sent (sym f.does)) note.within has)
+      (goes (rest.turn tt) f.step f.plain_is f.stands to 0 y.sent (n.0 ∙ ap move_outcome (sym f.does)) (ap bytes_sent (sym f.does)) note.within has st.snapshots)
   goes_on (stepped.Did e) f rest (Err x) after n = tt
   goes_on (stepped.Did e) f rest (Ok to) after n =
       let note = n.1 in
       let act = f.does.0.1 in
       let log : log_of (f.step ∷ w.past) ≡ plain_entry e ∷ log_of w.past = ap (λ (a : Act V). log_more a (log_of w.past)) act in
-      let hist = history f.step f.plain_is f.stands in
+      let hist = history (rest.turn tt) f.step f.plain_is f.stands in
       let good : IsLog (plain_entry e ∷ log_of w.past) = subst IsLog log (history_log s.meaning (inputs_fed s w.fed) s.threads (f.step ∷ w.past) hist) in
       let stamp = subst (λ (l : List Entry). IsStamp l (plain_entry e) (λ u. slice_index e.stamp u)) log f.does.1 in
-      let has : HasSent (after_step w f.step drawn) (record (with_move t answer 0 mid) { sent = after.sent }) =
-      subst (λ (a : Act V). HasSent (after_step w (record f.step { act = a }) drawn) (record (with_move t answer 0 mid) { sent = after.sent })) (sym act)
-      (sent_did w y drawn g q _ _ _ f.step.thread f.step.after st.sent e f.does.0.0 after.sent good note.sends.0 stamp note.sends.1) in
+      let has : SentOf (after_step w f.step drawn) (record (with_move t answer 0 mid) { sent = after.sent }) =
+      subst (λ (a : Act V). SentOf (after_step w (record f.step { act = a }) drawn) (record (with_move t answer 0 mid) { sent = after.sent })) (sym act)
+      (sent_did w y drawn g q y.schedule y.moves y.bytes f.step.thread f.step.after st.sent e f.does.0.0 after.sent good note.sends.0 stamp note.sends.1) in
       subst (λ (z : Parts P V). GoesTo m s w t given to z) (sym note.new_is)
-      (goes f.step f.plain_is f.stands to 0 after.sent (n.0 ∙ ap move_outcome (sym act)) (ap bytes_sent (sym act)) note.within has)
+      (goes (rest.turn tt) f.step f.plain_is f.stands to 0 after.sent (n.0 ∙ ap move_outcome (sym act)) (ap bytes_sent (sym act)) note.within has
+      (snapshots_on y.sent after.sent y.logger.released y.logger.released note.sends.1.threads (λ u k size i. subst (λ (l : List (List ℕ)). length_at l u k ≡ Some size) (sym note.sends.1.outputs) i) (λ u k i. i) s w.stored w.copy y.store st.snapshots))
   goes_on (stepped.Emitted o) f rest (Err x) after n = tt
   goes_on (stepped.Emitted o) f rest (Ok to) after n =
       let note = n.1 in
       let act = f.does.0 in
-      let step = made f.step f.plain_is f.stands in
+      let step = made (rest.turn tt) f.step f.plain_is f.stands in
       let did = did_emission t f.step.after.taken w.past step.effect (emission_of_output o) (sym step.act ∙ act) in
       let number : o.number ≡ outputs o.thread (sent_of w.past) + 1 = did.1 ∙ ap (λ (u : ℕ). outputs u (sent_of w.past) + 1) (sym did.0) in
-      let has : HasSent (after_step w f.step drawn) (record (with_move t answer (length o.packet.bytes) mid) { sent = after.sent }) =
-      subst (λ (a : Act V). HasSent (after_step w (record f.step { act = a }) drawn) (record (with_move t answer (length o.packet.bytes) mid) { sent = after.sent })) (sym act)
-      (sent_emitted w y drawn g q _ _ _ f.step.thread f.step.after st.sent s.meaning (inputs_fed s w.fed) s.threads o after.sent st.sound.firm.legal
+      let has : SentOf (after_step w f.step drawn) (record (with_move t answer (length o.packet.bytes) mid) { sent = after.sent }) =
+      subst (λ (a : Act V). SentOf (after_step w (record f.step { act = a }) drawn) (record (with_move t answer (length o.packet.bytes) mid) { sent = after.sent })) (sym act)
+      (sent_emitted w y drawn g q y.schedule y.moves y.bytes f.step.thread f.step.after st.sent s.meaning (inputs_fed s w.fed) s.threads o after.sent st.sound.firm.legal
       (history_log s.meaning (inputs_fed s w.fed) s.threads w.past st.sound.firm.legal) number note.sends.0 f.does.1 note.sends.1) in
       subst (λ (z : Parts P V). GoesTo m s w t given to z) (sym note.new_is)
-      (goes f.step f.plain_is f.stands to (length o.packet.bytes) after.sent (n.0 ∙ ap move_outcome (sym act)) (ap bytes_sent (sym act)) note.within has)
+      (goes (rest.turn tt) f.step f.plain_is f.stands to (length o.packet.bytes) after.sent (n.0 ∙ ap move_outcome (sym act)) (ap bytes_sent (sym act)) note.within has
+      (snapshots_on y.sent after.sent y.logger.released y.logger.released note.sends.1.threads
+      (λ u k size i. subst (λ (l : List (List ℕ)). length_at l u k ≡ Some size) (sym note.sends.1.outputs) (length_stays y.sent.outputs o.thread (output_size o) u k size note.sends.0 i)) (λ u k i. i) s w.stored w.copy y.store st.snapshots))
   goes_on (stepped.Ended k) f rest (Err e) after n = tt
   goes_on (stepped.Ended k) f rest (Ok to) after n =
       let note = n.1 in
-      let has : HasSent (after_step w f.step drawn) (record (with_move t answer 0 mid) { sent = y.sent }) =
-      subst (λ (a : Act V). HasSent (after_step w (record f.step { act = a }) drawn) (record (with_move t answer 0 mid) { sent = y.sent })) (sym f.does)
-      (sent_ended w y drawn g q _ _ _ f.step.thread f.step.after st.sent k) in
+      let has : SentOf (after_step w f.step drawn) (record (with_move t answer 0 mid) { sent = y.sent }) =
+      subst (λ (a : Act V). SentOf (after_step w (record f.step { act = a }) drawn) (record (with_move t answer 0 mid) { sent = y.sent })) (sym f.does)
+      (sent_ended w y drawn g q y.schedule y.moves y.bytes f.step.thread f.step.after st.sent k) in
       subst (λ (z : Parts P V). GoesTo m s w t given to z) (sym (note.new_is ∙ ap (λ (l : Sending). let z : Parts P V = record (with_move t answer 0 mid) { sent = l } in z) note.sends))
-      (goes f.step f.plain_is f.stands to 0 y.sent (n.0 ∙ ap move_outcome (sym f.does)) (ap bytes_sent (sym f.does)) note.within has)
+      (goes (rest.turn tt) f.step f.plain_is f.stands to 0 y.sent (n.0 ∙ ap move_outcome (sym f.does)) (ap bytes_sent (sym f.does)) note.within has st.snapshots)
   goes_on stepped.Idle f rest (Err e) after n = tt
   goes_on stepped.Idle f rest (Ok to) after n =
       let idle = rest.idle refl in
       subst (λ (z : Parts P V). GoesTo m s w t given to z) (sym n.1)
       (subst (λ (o : Outcome). GoesTo m s w t given o mid) (sym (ok_is to outcome.Idle n.0)) (rests idle.0 (rest.unchanged tt) idle.1))
-  goes_on (stepped.NotTurn u k) f rest res after n = absurd (rest.free u k refl)
+  goes_on (stepped.NotTurn u k) f rest (Err e) after n = tt
+  goes_on (stepped.NotTurn u k) f rest (Ok to) after n =
+      let wait = rest.waits_for u k refl in
+      subst (λ (z : Parts P V). GoesTo m s w t given to z) (sym n.1)
+      (subst (λ (o : Outcome). GoesTo m s w t given o mid) (sym (ok_is to (outcome.Waits u k) n.0)) (waits u k wait.0 (rest.unchanged tt) wait.1))
   goes_on stepped.NoMemory f rest (Err e) after n = tt
   goes_on stepped.NoMemory f rest (Ok to) after n = let e : Answer = Ok to in let none : e ≡ Err stop.NoMemory = n.0 in absurd (cc)
 
   -- The move would pass a limit, and is not noted.
-  pub stops_at : (r : Stepped) → Follows s.meaning (inputs_fed s w.fed) s.threads w.past (record { thread = t; answer = answer }) r q
+  pub stops_at : (r : Stepped) → (MadeOne r → HandHasTurn s.meaning w.followed (log_of w.past) t (thread_after w.past t).hand) → Follows s.meaning (inputs_fed s w.fed) s.threads w.past (record { thread = t; answer = answer }) r q
       → (res : Answer) (after : Parts P V) → Notes t answer r mid res after → (limit : Limit) → res ≡ Err (stop.Limit limit) → StopsBefore s w t given limit after
-  stops_at (stepped.Took k) f res after n limit is = passes f.step f.plain_is f.stands 0 (ap bytes_sent (sym f.does)) (outcome.Take k) (λ (a b : Sending). b ≡ a) res after n limit is
-  stops_at (stepped.Did e) f res after n limit is = passes f.step f.plain_is f.stands 0 (ap bytes_sent (sym f.does.0.1)) (entry_outcome e.number e.what) (AddsEntry e) res after n limit is
-  stops_at (stepped.Emitted o) f res after n limit is = passes f.step f.plain_is f.stands (length o.packet.bytes) (ap bytes_sent (sym f.does.0)) (outcome.Emitted o.number) (AddsOutput o) res after n limit is
-  stops_at (stepped.Ended k) f res after n limit is = passes f.step f.plain_is f.stands 0 (ap bytes_sent (sym f.does)) (outcome.Ended k) (λ (a b : Sending). b ≡ a) res after n limit is
-  stops_at stepped.Idle f res after n limit is = let e : res ≡ Ok outcome.Idle = n.0 in absurd (cc)
-  stops_at (stepped.NotTurn u k) f res after n limit is = let e : res ≡ Ok (outcome.Waits u k) = n.0 in absurd (cc)
-  stops_at stepped.NoMemory f res after n limit is = let e : res ≡ Err stop.NoMemory = n.0 in absurd (cc)
+  stops_at (stepped.Took k) turn f res after n limit is = passes (turn tt) f.step f.plain_is f.stands 0 (ap bytes_sent (sym f.does)) (outcome.Take k) (λ (a b : Sending). b ≡ a) res after n limit is
+  stops_at (stepped.Did e) turn f res after n limit is = passes (turn tt) f.step f.plain_is f.stands 0 (ap bytes_sent (sym f.does.0.1)) (entry_outcome e.number e.what) (AddsEntry e) res after n limit is
+  stops_at (stepped.Emitted o) turn f res after n limit is = passes (turn tt) f.step f.plain_is f.stands (length o.packet.bytes) (ap bytes_sent (sym f.does.0)) (outcome.Emitted o.number) (AddsOutput o) res after n limit is
+  stops_at (stepped.Ended k) turn f res after n limit is = passes (turn tt) f.step f.plain_is f.stands 0 (ap bytes_sent (sym f.does)) (outcome.Ended k) (λ (a b : Sending). b ≡ a) res after n limit is
+  stops_at stepped.Idle turn f res after n limit is = let e : res ≡ Ok outcome.Idle = n.0 in absurd (cc)
+  stops_at (stepped.NotTurn u k) turn f res after n limit is = let e : res ≡ Ok (outcome.Waits u k) = n.0 in absurd (cc)
+  stops_at stepped.NoMemory turn f res after n limit is = let e : res ≡ Err stop.NoMemory = n.0 in absurd (cc)
 
 -- What is noted keeps the program and what was released.
 
@@ -373,8 +377,8 @@ pub can_note : {P V : Type 0} (m : Meaning V) (fits : ℕ → V → Type 0) (s :
     → ((o : Output) (p : Packet) → r ≡ stepped.Emitted o → i ≡ Some p → length o.packet.bytes ≡ length p.bytes) → CanNote (record y { generator = g; master = q }) r
 can_note {P} {V} m fits s w y t answer g i r q lawful st threads some few short follows input as_long = go r follows as_long
   where
-    epoch : y.sent.epoch ≡ 1
-    epoch = st.sent.epoch ∙ st.first.epoch
+    epoch : 1 ≤ y.sent.epoch
+    epoch = let e = st.sent.epoch in let all = st.ended.all in omega (arith, e, all)
 
     count : y.inputs.threads ≡ s.threads
     count = ap (λ (f : Fed). f.threads) st.inputs.inputs
@@ -402,7 +406,7 @@ can_note {P} {V} m fits s w y t answer g i r q lawful st threads some few short 
 -- What the calls of a step tell: its thread is there; what it is told; its input; and what the master answers.
 pub record Calls {P V : Type 0} (m : Meaning V) (y : Parts P V) (t : ℕ) (given answer : Option ℕ) (g : Lcg) (i : Option Packet) (r : Stepped) (q : Mastered V) : Type 0 where
   pub low : t < y.inputs.threads
-  pub tells : (s : Setting V) (w : World V) → s.meaning ≡ m → w.followed ≡ [] → Stands s.meaning s.threads w.past y.master → w.clock ≡ y.clock → y.generator ≡ generator_after s.seed w.drawn
+  pub tells : (s : Setting V) (w : World V) → s.meaning ≡ m → Sound s w → HasGuide w.followed w.past y.guide → Stands s.meaning s.threads w.past y.master → w.clock ≡ y.clock → y.generator ≡ generator_after s.seed w.drawn
       → (drawn : ℕ) × TellsHand s w t given answer drawn (thread_after w.past t).hand × (g ≡ generator_after s.seed drawn)
   pub asked : (s : Setting V) (w : World V) → s.meaning ≡ m → Stands s.meaning s.threads w.past y.master → told_in s.meaning (thread_after w.past t).hand (unwrap_or answer 0) ≡ answer
   pub number : ℕ
@@ -410,7 +414,10 @@ pub record Calls {P V : Type 0} (m : Meaning V) (y : Parts P V) (t : ℕ) (given
   pub input : (n : Meaning V) (threads : ℕ) (steps : List (Step V)) → IsHistory n (inputs_of y.inputs) threads steps → Stands n threads steps y.master → t < threads → IsInputAfter (inputs_of y.inputs) t steps i
   pub follows : (inputs : ℕ → List Packet) (threads : ℕ) (steps : List (Step V)) → Stands m threads steps y.master → IsInputAfter inputs t steps i → Follows m inputs threads steps (move_of m steps t number) r q
   pub idle : r ≡ stepped.Idle → (has_hand (place_in_hand y.master t) ≡ false) × (i ≡ None)
-  pub free : (u n : ℕ) → r ≡ stepped.NotTurn u n → ⊥
+  pub up : y.up ≡ true
+  pub turn : Turn
+  pub turn_is : (s : Setting V) (w : World V) → StandsFor m s w y → HasTurnBy s w t turn
+  pub not_turn : (u n : ℕ) → (r ≡ stepped.NotTurn u n) ↔ (WantsVariable m (place_in_hand y.master t) × (turn ≡ turn_of.Wait u n))
   pub unchanged : MadeNone r → q ≡ y.master
 
 -- the thread is one of the setting
@@ -432,6 +439,24 @@ pub input_now : {P V A : Type 0} (m : Meaning V) (s : Setting V) (w : World V) (
 input_now m s w y t f o st low gives has =
     input_there s.meaning (inputs_of y.inputs) s.threads w.past y.master t f o st.master.stands (low_now m s w y t st low) (gives s.meaning s.threads w.past (legal_now m s w y st) st.master.stands (low_now m s w y t st low)) has
 
+-- a thread that waits is about to touch or to read, and is told nothing
+
+awaits_wants : (followed log : List Entry) (t : ℕ) (next : Move) (e : Entry) → Awaits followed log t next e → (v : ℕ) × IsOnVariable next v
+awaits_wants followed log t (move.Access v) e a = (v, inl refl)
+awaits_wants followed log t (move.Read v) e a = (v, inr refl)
+awaits_wants followed log t move.Clock e a = absurd a
+awaits_wants followed log t move.Draw e a = absurd a
+awaits_wants followed log t move.Emit e a = absurd a
+awaits_wants followed log t move.End e a = absurd a
+
+awaits_draws : {V : Type 0} (s : Setting V) (w : World V) (t : ℕ) (given answer : Option ℕ) (drawn : ℕ) (next : Move) (e : Entry) → Awaits w.followed (log_of w.past) t next e → Tells s w t given answer drawn next → drawn ≡ w.drawn
+awaits_draws s w t given answer drawn (move.Access v) e a tells = tells.1
+awaits_draws s w t given answer drawn (move.Read v) e a tells = tells.1
+awaits_draws s w t given answer drawn move.Clock e a tells = absurd a
+awaits_draws s w t given answer drawn move.Draw e a tells = absurd a
+awaits_draws s w t given answer drawn move.Emit e a tells = absurd a
+awaits_draws s w t given answer drawn move.End e a tells = absurd a
+
 -- The parts are given by the equation that tells what they were.
 module _ {P V : Type 0} (m : Meaning V) (y old : Parts P V) (same : y ≡ old) (t : ℕ) (given answer : Option ℕ) (g : Lcg) (i : Option Packet) (r : Stepped) (q : Mastered V) (calls : Calls m y t given answer g i r q) where
   -- the input, the master's answer and what was told, for the setting and the world
@@ -447,7 +472,7 @@ module _ {P V : Type 0} (m : Meaning V) (y old : Parts P V) (same : y ≡ old) (
       (ap (λ (n : ℕ). told_in s.meaning (thread_after w.past t).hand n) calls.number_is ∙ calls.asked s w st.inputs.meaning st.master.stands) here
 
   told_is : (s : Setting V) (w : World V) → StandsFor m s w y → (drawn : ℕ) × TellsHand s w t given answer drawn (thread_after w.past t).hand × (g ≡ generator_after s.seed drawn)
-  told_is s w st = calls.tells s w st.inputs.meaning st.first.followed st.master.stands (sym st.inputs.clock) st.inputs.generator
+  told_is s w st = calls.tells s w st.inputs.meaning st.sound st.guide st.master.stands (sym st.inputs.clock) st.inputs.generator
 
   -- where the master is idle the thread wants an input that was not fed
   wants_more : (s : Setting V) (w : World V) (drawn : ℕ) → StandsFor m s w y → TellsHand s w t given answer drawn (thread_after w.past t).hand → r ≡ stepped.Idle → WantsMore s w t × (drawn ≡ w.drawn)
@@ -463,18 +488,43 @@ module _ {P V : Type 0} (m : Meaning V) (y old : Parts P V) (same : y ≡ old) (
         (subst (λ (h : Option Hand). TellsHand s w t given answer drawn h) at tells).1,
       )
 
+  up_is : (s : Setting V) (w : World V) → StandsFor m s w y → w.up ≡ true
+  up_is s w st = sym st.master.up ∙ calls.up
+
+  -- a thread that waits has its packet in hand before a touch or a read
+  waits_here : (s : Setting V) (w : World V) (u n : ℕ) → StandsFor m s w y → WaitsFor s w t (outcome.Waits u n) → WantsVariable m (place_in_hand y.master t)
+  waits_here s w u n st for =
+      let wants = awaits_wants w.followed (log_of w.past) t (s.meaning.next for.hand.place) for.entry for.awaits in
+      let at : place_in_hand y.master t ≡ Some for.hand.place = place_is s.meaning s.threads w.past y.master t st.master.stands (low_now m s w y t st calls.low) ∙ ap place_of for.hand_is in
+      subst (λ (o : Option Local). WantsVariable m o) (sym at) (subst (λ (n : Meaning V). WantsVariable n (Some for.hand.place)) st.inputs.meaning wants)
+
+  -- a thread that made a move had its turn
+  had_turn : (s : Setting V) (w : World V) → StandsFor m s w y → MadeOne r → HandHasTurn s.meaning w.followed (log_of w.past) t (thread_after w.past t).hand
+  had_turn s w st made = go calls.turn refl (calls.turn_is s w st)
+    where
+      go : (now : Turn) → calls.turn ≡ now → HasTurnBy s w t now → HandHasTurn s.meaning w.followed (log_of w.past) t (thread_after w.past t).hand
+      go turn_of.Follow is has = has
+      go turn_of.Free is has = has
+      go (turn_of.Wait u n) is for = absurd (subst (λ (x : Stepped). MadeOne x) ((calls.not_turn u n).1 (waits_here s w u n st for, is)) made)
+
+  -- and one that made none waits for what the guide says
+  waits_now : (s : Setting V) (w : World V) (drawn : ℕ) → StandsFor m s w y → TellsHand s w t given answer drawn (thread_after w.past t).hand → (u n : ℕ) → r ≡ stepped.NotTurn u n → WaitsFor s w t (outcome.Waits u n) × (drawn ≡ w.drawn)
+  waits_now s w drawn st tells u n is =
+      let for : WaitsFor s w t (outcome.Waits u n) = subst (λ (x : Turn). HasTurnBy s w t x) ((calls.not_turn u n).0 is).1 (calls.turn_is s w st) in
+      (for, awaits_draws s w t given answer drawn (s.meaning.next for.hand.place) for.entry for.awaits (subst (λ (h : Option Hand). TellsHand s w t given answer drawn h) for.hand_is tells))
+
   -- the move is that of the world, or stops at a limit; and it can be noted
   pub step_goes : (s : Setting V) (w : World V) → StandsFor m s w y → (res : Answer) (after : Parts P V) → Notes t answer r (record y { generator = g; master = q }) res after → IfOk res (λ (to : Outcome). GoesTo m s w t given to after)
   step_goes s w st res after n =
       let told = told_is s w st in
-      goes_on m s w y st t given (low_now m s w y t st calls.low) g q answer told.0 told.1 told.2 r (follows_is s w st)
-      (record { idle = wants_more s w told.0 st told.1; free = calls.free; unchanged = calls.unchanged }) res after n
+      goes_on m s w y st t given (low_now m s w y t st calls.low) g q answer told.0 told.1 told.2 (up_is s w st) r (follows_is s w st)
+      (record { idle = wants_more s w told.0 st told.1; turn = had_turn s w st; waits_for = waits_now s w told.0 st told.1; unchanged = calls.unchanged }) res after n
 
   pub step_stops : (s : Setting V) (w : World V) → StandsFor m s w y → (res : Answer) (after : Parts P V) → Notes t answer r (record y { generator = g; master = q }) res after
       → (limit : Limit) → res ≡ Err (stop.Limit limit) → StopsBefore s w t given limit after
   step_stops s w st res after n limit is =
       let told = told_is s w st in
-      stops_at m s w y st t given (low_now m s w y t st calls.low) g q answer told.0 told.1 told.2 r (follows_is s w st) res after n limit is
+      stops_at m s w y st t given (low_now m s w y t st calls.low) g q answer told.0 told.1 told.2 (up_is s w st) r (had_turn s w st) (follows_is s w st) res after n limit is
 
   pub step_can : (fits : ℕ → V → Type 0) (s : Setting V) (w : World V) → IsLawful m fits → StandsFor m s w y → y.sent.threads ≡ y.inputs.threads → 1 ≤ y.inputs.threads → y.inputs.threads ≤ 16
       → All IsShort y.inputs.packets → ((o : Output) (p : Packet) → r ≡ stepped.Emitted o → i ≡ Some p → length o.packet.bytes ≡ length p.bytes) → CanNote (record y { generator = g; master = q }) r

@@ -1,8 +1,9 @@
 -- What arrives at the output logger, and what is noted of the outputs that are released then.
-use Rattle.std.specs.Prelude.{◌≡◌, ℕ, List, ◌++◌, drop, map}
+use Rattle.std.specs.Prelude.{◌≡◌, ℕ, ◌-◌, ◌≤◌, List, [], ◌++◌, drop, map, slice_get, slice_index_or, Some}
 use Rattle.plain_text.specs.declared.kind.Kind.{Kind}
 use Rattle.plain_text.specs.declared.kind.Kind.TheVariants as kind
 use Rattle.access_log.specs.declared.entry.Output.{Output}
+use Rattle.master_core.specs.declared.parts.Counts.{Counts}
 use Rattle.recovery_world.specs.declared.event.Event.{Event}
 use Rattle.recovery_world.specs.declared.event.Event.TheVariants as event
 use Rattle.recovery_core.specs.Parts.{Parts}
@@ -19,3 +20,16 @@ names_of outputs = map (λ (o : Output). (o.thread, o.number)) outputs
 pub record NotesReleased {P V : Type 0} (before : ℕ) (list : List (ℕ × ℕ)) (old new : Parts P V) : Type 0 where
   pub list_is : list ≡ names_of (drop before old.fresh)
   pub new_is : new ≡ record old { released = old.released ++ list }
+
+-- how many entries, or outputs, a thread had
+abbrev pub counted : Kind → Counts → ℕ
+counted kind.Log c = c.entries
+counted kind.Out c = c.outputs
+
+-- The master of this epoch had such an entry or output, by what its threads did until its end.
+pub record HadSent (ended : List (List Counts)) (epoch : ℕ) (k : Kind) (t n : ℕ) : Type 0 where
+  pub from : 1 ≤ epoch
+  pub counts : Counts
+  pub there : slice_get (slice_index_or ended (epoch - 1) []) t ≡ Some counts
+  pub first : 1 ≤ n
+  pub last : n ≤ counted k counts

@@ -1,7 +1,11 @@
 pub mod Sending
 pub mod Parts
 pub mod Standing
+pub mod Unreleased
+pub mod Ending
+pub mod Following
 pub mod Stepping
 pub mod Arriving
+pub mod Recovering
 pub mod Settling
 pub mod Performing

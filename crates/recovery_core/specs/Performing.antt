@@ -17,7 +17,7 @@ use Rattle.recovery_core.specs.declared.reply.Finished.{Finished}
 use Rattle.recovery_core.specs.Parts.{Parts}
 use Rattle.recovery_core.specs.Standing.{HasReleased, StandsFor}
 
--- an event that a system performs as long as no master crashes
+-- an event that a system performs: any but chosen events
 abbrev pub IsPerformed : Event → Type 0
 IsPerformed (event.Feed n) = Unit {0}
 IsPerformed (event.Time n) = Unit {0}
@@ -26,10 +26,10 @@ IsPerformed (event.Log t n) = Unit {0}
 IsPerformed (event.Out t n) = Unit {0}
 IsPerformed (event.Late e k t n) = Unit {0}
 IsPerformed (event.Cut k t n len) = Unit {0}
-IsPerformed event.Snap = ⊥
-IsPerformed event.Store = ⊥
-IsPerformed event.Crash = ⊥
-IsPerformed event.Recover = ⊥
+IsPerformed event.Snap = Unit {0}
+IsPerformed event.Store = Unit {0}
+IsPerformed event.Crash = Unit {0}
+IsPerformed event.Recover = Unit {0}
 IsPerformed (event.Show v) = Unit {0}
 IsPerformed event.Settle = Unit {0}
 IsPerformed (event.Auto seed n) = ⊥

@@ -1,10 +1,10 @@
 -- What a master sent on its links: the frames of its entries and outputs that are not forgotten, and how long each was.
-use Rattle.std.specs.Prelude.{◌≡◌, ℕ, zero, suc, ◌+◌, ◌*◌, ◌≤◌, List, [], ◌∷◌, ◌++◌, length, replicate, slice_get, slice_index_or, slice_set, Option, Some, None}
+use Rattle.std.specs.Prelude.{◌≡◌, ℕ, zero, suc, ◌+◌, ◌*◌, ◌≤◌, ◌⊎◌, List, [], ◌∷◌, ◌++◌, length, replicate, slice_get, slice_index, slice_index_or, slice_set, take, Option, Some, None}
 use Rattle.plain_text.specs.declared.kind.Kind.TheVariants.{Log, Out}
 use Rattle.access_log.specs.declared.entry.StampedEntry.{StampedEntry}
 use Rattle.access_log.specs.declared.entry.Output.{Output}
 use Rattle.link_store.specs.declared.address.Address.{Address}
-use Rattle.link_store.specs.Links.{address, frame_at, Sends, Forgets, IsUpTo}
+use Rattle.link_store.specs.Links.{address, frame_at, Sends, Forgets, IsUpTo, IsOfEpoch}
 use Rattle.wire_frames.specs.declared.frame.Frame.TheVariants as frame_of
 use Rattle.wire_frames.specs.Layout.{nonzero, IsFrame}
 use Rattle.wire_frames.specs.Writing.{CanPutEntry, CanPutOutput}
@@ -74,11 +74,53 @@ pub record SendsOutput (old new : Sending) (o : Output) : Type 0 where
   pub epoch : new.epoch ≡ old.epoch
   pub threads : new.threads ≡ old.threads
 
+-- An output of which the length is known was sent again.
+pub record SendsAgain (old new : Sending) (o : Output) : Type 0 where
+  pub frame : HasOutputFrame new o
+  pub sends : Sends old.frames new.frames (output_address old o.thread o.number) frame.bytes
+  pub entries : new.entries ≡ old.entries
+  pub outputs : new.outputs ≡ old.outputs
+  pub epoch : new.epoch ≡ old.epoch
+  pub threads : new.threads ≡ old.threads
+
 -- The frames of a thread's first entries are forgotten; their lengths are not.
 pub record ForgetsEntries (old new : Sending) (t up_to : ℕ) : Type 0 where
   pub forgets : Forgets (IsUpTo (entry_address old t up_to)) old.frames new.frames
   pub entries : new.entries ≡ old.entries
   pub outputs : new.outputs ≡ old.outputs
+  pub epoch : new.epoch ≡ old.epoch
+  pub threads : new.threads ≡ old.threads
+
+-- Frames of entries up to these counts may be forgotten, and no others.
+pub record ForgetsCovered (old new : Sending) (counts : List ℕ) : Type 0 where
+  pub each : (a : Address) → (frame_at new.frames a ≡ frame_at old.frames a)
+      ⊎ ((frame_at new.frames a ≡ None) × (a.epoch ≡ old.epoch) × (a.kind ≡ Log) × (a.number ≤ slice_index counts a.thread))
+  pub entries : new.entries ≡ old.entries
+  pub outputs : new.outputs ≡ old.outputs
+  pub epoch : new.epoch ≡ old.epoch
+  pub threads : new.threads ≡ old.threads
+
+-- So are those of its first outputs.
+pub record ForgetsOutputs (old new : Sending) (t up_to : ℕ) : Type 0 where
+  pub forgets : Forgets (IsUpTo (output_address old t up_to)) old.frames new.frames
+  pub entries : new.entries ≡ old.entries
+  pub outputs : new.outputs ≡ old.outputs
+  pub epoch : new.epoch ≡ old.epoch
+  pub threads : new.threads ≡ old.threads
+
+-- The next epoch begins, and the frames of the one before are forgotten.
+pub record BeginsEpoch (old new : Sending) : Type 0 where
+  pub forgets : Forgets (IsOfEpoch old.epoch) old.frames new.frames
+  pub entries : new.entries ≡ old.entries
+  pub outputs : new.outputs ≡ old.outputs
+  pub epoch : new.epoch ≡ old.epoch + 1
+  pub threads : new.threads ≡ old.threads
+
+-- Of this thread only the first ones count as sent: so many entries, and so many outputs.
+pub record TurnsBack (old new : Sending) (t logged emitted : ℕ) : Type 0 where
+  pub frames : new.frames ≡ old.frames
+  pub entries : new.entries ≡ slice_set old.entries t (take logged (lengths_of old.entries t))
+  pub outputs : new.outputs ≡ slice_set old.outputs t (take emitted (lengths_of old.outputs t))
   pub epoch : new.epoch ≡ old.epoch
   pub threads : new.threads ≡ old.threads
 

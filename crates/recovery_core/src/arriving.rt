@@ -1,15 +1,16 @@
-ghost use Rattle.std.specs.Prelude.{◌≡◌, ◌<◌, ◌≤◌, ◌++◌, [], IfOk, OnOk, length};
+ghost use Rattle.std.specs.Prelude.{◌≡◌, ◌<◌, ◌≤◌, ◌++◌, ◌↔◌, IsTrue, [], IfOk, OnOk, length};
 ghost use Rattle.recovery_world.specs.declared.event.Event.TheVariants as event_is;
 ghost use Rattle.recovery_core.specs.Standing.{StandsForSome};
-ghost use Rattle.recovery_core.specs.Arriving.{NotesReleased, arrival_of, names_of};
+ghost use Rattle.recovery_core.specs.Arriving.{NotesReleased, HadSent, arrival_of, names_of};
 ghost use Rattle.recovery_core.specs.Performing.{AddsFresh, MovesOn, Replies};
 
 use crate::assembly::Core;
 use crate::{Releases, Reply};
 use access_log::Output;
 use box_program::Program;
+use master_core::Counts;
 use output_logger::{EntryTook, OutputTook};
-use plain_text::{Kind, NoMemory};
+use plain_text::{Kind, NoMemory, Sequence};
 use recovery_world::Outcome;
 use std::alloc::Global;
 
@@ -34,7 +35,7 @@ fn add_names(outputs: &[Output], names: &mut Releases) -> Result<(), NoMemory>
 }
 
 /// Takes note of the outputs that were released behind this number of those not handed over, and lists them.
-fn note_released<P: Program>(core: &mut Core<P>, before: usize) -> Result<Releases, NoMemory>
+pub fn note_released<P: Program>(core: &mut Core<P>, before: usize) -> Result<Releases, NoMemory>
     requires { before ≤ length core.old.fresh }
     ensures noted { IfOk result (λ list. NotesReleased before list core.old core.new) }
     ensures fresh { core.new.fresh ≡ core.old.fresh }
@@ -131,7 +132,27 @@ pub fn arrive<P: Program>(
     }
 }
 
-/// An entry or an output of this epoch arrives. There was no earlier epoch than the present one.
+/// Whether the master of this earlier epoch had such an entry or output.
+fn was_sent(ended: &[Sequence<Counts>], epoch: u64, kind: Kind, thread: u64, number: u64) -> bool
+    ensures { IsTrue result ↔ HadSent ended.now epoch kind thread number }
+{
+    let Some(earlier) = epoch.checked_sub(1) else {
+        return false;
+    };
+    let Some(threads) = ended.get(earlier as usize) else {
+        return false;
+    };
+    let Some(counts) = threads.as_slice().get(thread as usize) else {
+        return false;
+    };
+    let count = match kind {
+        Kind::Log => counts.entries,
+        Kind::Out => counts.outputs,
+    };
+    1 <= number && number <= count
+}
+
+/// An entry or an output of this epoch arrives. What a master of an earlier epoch sent changes nothing.
 pub fn arrive_late<P: Program>(
     core: &mut Core<P>,
     epoch: u64,
@@ -145,10 +166,13 @@ pub fn arrive_late<P: Program>(
     ensures fresh { AddsFresh core.old core.new }
     ensures handed { core.new.handed ≡ core.old.handed }
 {
-    if epoch != u64::from(core.logger.epoch()) {
-        return Ok(only(core.alloc, Outcome::Nothing));
+    if epoch == u64::from(core.logger.epoch()) {
+        return arrive(core, kind, thread, number);
     }
-    arrive(core, kind, thread, number)
+    if was_sent(&core.ended, epoch, kind, thread, number) {
+        return Ok(only(core.alloc, Outcome::Old));
+    }
+    Ok(only(core.alloc, Outcome::Nothing))
 }
 
 /// Of the frame of an entry or an output, this many bytes arrive.

@@ -10,16 +10,21 @@ use crate::sending::SentFrames;
 use access_log::Outputs;
 use box_program::Program;
 use input_logger::InputLog;
-use master_core::Master;
+use master_core::{Counts, Master};
 use output_logger::OutputLogger;
 use plain_machine::Schedule;
-use plain_text::{NoMemory, Packet, Packets, Unit};
+use plain_text::{NoMemory, Packet, Packets, Sequence, Unit};
 use rand_pcg::Pcg32;
+use replay_guide::Guide;
+use snapshot_store::Store;
 use std::alloc::Global;
 use std::marker::Model;
 
 /// The stream of the generator from which free draws are answered.
 const STREAM: u64 = 54;
+
+/// More packets than this are taken for more than memory has.
+const MOST_PACKETS: usize = 1 << 50;
 
 /// The parts of a system, put together.
 #[derive(Drop)]
@@ -33,9 +38,16 @@ pub struct Core<P: Program> {
     /// The packets of the capture that are not fed yet, the next one last.
     pub left: Vec<Packet>,
     pub inputs: InputLog,
+    /// Whether the master is up. The one that crashed stays until there is a new one.
+    pub up: bool,
     pub master: Master<P>,
     /// The moves that the master made.
     pub schedule: Schedule,
+    /// What the master follows of the log of those before it.
+    pub guide: Guide,
+    pub store: Store<P>,
+    /// How much each thread did until the end of each earlier epoch, the first epoch first.
+    pub ended: Vec<Sequence<Counts>>,
     /// How many moves all masters made.
     pub moves: u64,
     /// How many bytes they sent out.
@@ -63,8 +75,12 @@ impl<P: Program> Model for Core<P> {
       generator = y.generator;
       left = reverse y.left.items;
       inputs = y.inputs;
+      up = y.up;
       master = y.master;
       schedule = y.schedule;
+      guide = y.guide;
+      store = y.store;
+      ended = y.ended.items;
       moves = y.moves;
       bytes = y.bytes;
       sent = y.sent;
@@ -81,8 +97,12 @@ impl<P: Program> Model for Core<P> {
       generator = y.generator;
       left = reverse y.left.items;
       inputs = y.inputs;
+      up = y.up;
       master = y.master;
       schedule = y.schedule;
+      guide = y.guide;
+      store = y.store;
+      ended = y.ended.items;
       moves = y.moves;
       bytes = y.bytes;
       sent = y.sent;
@@ -116,7 +136,11 @@ impl<P: Program> Core<P> {
         ensures program { IfOk result (λ y. y.program ≡ program) }
         ensures none { IfOk result (λ y. y.handed ≡ 0) }
     {
+        if packets.len() >= MOST_PACKETS {
+            return Err(NoMemory);
+        }
         let master = Master::fresh(alloc, &program, threads)?;
+        let store = Store::new(alloc, &program, threads)?;
         let mut left = packets.into_vec();
         left.reverse();
         Ok(Core {
@@ -127,8 +151,12 @@ impl<P: Program> Core<P> {
             generator: Pcg32::new(seed, STREAM),
             left,
             inputs: InputLog::new(alloc, threads)?,
+            up: true,
             master,
             schedule: Schedule::new(alloc),
+            guide: Guide::none(alloc),
+            store,
+            ended: Vec::new(alloc),
             moves: 0,
             bytes: 0,
             sent: SentFrames::new(alloc, threads)?,

@@ -1,5 +1,5 @@
-//! The recovering system, for a master that does not crash: the input log, a master, the links, and the output logger, put
-//! together. It performs the events of a script one by one.
+//! The recovering system: the input log, a master, its snapshots, what it follows after a crash, the links, and the output logger,
+//! put together. It performs the events of a script one by one.
 //!
 //! A system stands for a world of the definitions (`StandsFor`). Each event that it performs is that of the definitions, for every
 //! world that it stands for: the reply is the same, and afterwards it stands for the world of the event. It keeps counts and
@@ -8,12 +8,15 @@
 
 mod arriving;
 mod assembly;
+mod crashing;
+mod ending;
 mod feeding;
 mod lines;
 mod reply;
 mod sending;
 mod settling;
 mod showing;
+mod snapshots;
 mod stepping;
 mod system;
 

@@ -1,4 +1,4 @@
-ghost use Rattle.std.specs.Prelude.{◌≡◌, ◌<◌, ◌≤◌, ◌+◌, ◌^◌, ℕ, [], None, Some, IfOk, OnOk, length, replicate};
+ghost use Rattle.std.specs.Prelude.{◌≡◌, ◌<◌, ◌≤◌, ◌+◌, ◌-◌, ◌^◌, ℕ, [], None, Some, IfOk, OnOk, length, replicate};
 ghost use Rattle.access_log.specs.declared.entry.StampedEntry.{StampedEntry};
 ghost use Rattle.access_log.specs.declared.entry.Output.{Output as OutputValue};
 ghost use Rattle.wire_frames.specs.declared.frame.Frame.{Frame as FrameValue};
@@ -7,7 +7,7 @@ ghost use Rattle.link_store.specs.Links.{frame_at};
 ghost use Rattle.wire_frames.specs.Writing.{CanPutEntry, CanPutOutput};
 ghost use Rattle.wire_frames.specs.declared.frame.Frame.TheVariants as frame_is;
 ghost use Rattle.wire_frames.specs.Layout.{IsFrame};
-ghost use Rattle.recovery_core.specs.Sending.{IsUnsent, SendsEntry, SendsOutput, ForgetsEntries, HasEntryFrame, HasOutputFrame, entry_address, output_address, length_at};
+ghost use Rattle.recovery_core.specs.Sending.{IsUnsent, SendsEntry, SendsOutput, SendsAgain, ForgetsEntries, ForgetsOutputs, BeginsEpoch, TurnsBack, HasEntryFrame, HasOutputFrame, entry_address, output_address, length_at};
 
 use access_log::{Output, StampedEntry};
 use link_store::Links;
@@ -20,7 +20,8 @@ use wire_frames::{
 
 /// What a master sends on its links: each entry and each output as a frame, and how long each frame was.
 ///
-/// A frame is there until it is forgotten; its length stays.
+/// A frame is there until it is forgotten; its length stays. A new master has a new epoch: the frames of the one before are
+/// forgotten, and the lengths of what it did not make.
 #[derive(Drop)]
 pub struct SentFrames {
     alloc: Global,
@@ -158,6 +159,17 @@ impl SentFrames {
             .send(self.epoch, Kind::Out, output.thread, output.number, frame)
     }
 
+    /// Sends an output again, of which the length is known. After `NoMemory` the links are of no use any more.
+    pub fn send_again(&mut self, output: &Output) -> Result<(), NoMemory>
+        requires can { CanPutOutput self.old.epoch self.old.threads output.now }
+        ensures ok { OnOk result (SendsAgain self.old self.new output.now) }
+        ensures threads { self.new.threads ≡ self.old.threads }
+    {
+        let frame = put_output(self.alloc, self.epoch, self.threads, output)?;
+        self.links
+            .send(self.epoch, Kind::Out, output.thread, output.number, frame)
+    }
+
     /// The entry that was sent under this number, if its frame is not forgotten.
     pub fn entry(&self, thread: u32, number: u64) -> Result<Option<StampedEntry>, NoMemory>
         ensures there { IfOk result (λ found. (e : StampedEntry) → HasEntryFrame self.now e
@@ -174,10 +186,12 @@ impl SentFrames {
         }
     }
 
-    /// The output that was sent under this number.
+    /// The output that was sent under this number, if its frame is not forgotten.
     pub fn output(&self, thread: u32, number: u64) -> Result<Option<Output>, NoMemory>
-        ensures { IfOk result (λ found. (o : OutputValue) → HasOutputFrame self.now o
+        ensures there { IfOk result (λ found. (o : OutputValue) → HasOutputFrame self.now o
             → o.thread ≡ thread → o.number ≡ number → found ≡ Some o) }
+        ensures forgotten { frame_at self.now.frames (output_address self.now thread number) ≡ None
+            → IfOk result (λ found. found ≡ None) }
     {
         let Some(bytes) = self.links.fetch(self.epoch, Kind::Out, thread, number) else {
             return Ok(None);
@@ -204,5 +218,31 @@ impl SentFrames {
         ensures forgets { ForgetsEntries self.old self.new thread up_to }
     {
         self.links.forget(self.epoch, Kind::Log, thread, up_to);
+    }
+
+    /// Forgets the frames of a thread's outputs up to this number. It takes no memory.
+    pub fn forget_outputs(&mut self, thread: u32, up_to: u64)
+        ensures forgets { ForgetsOutputs self.old self.new thread up_to }
+    {
+        self.links.forget(self.epoch, Kind::Out, thread, up_to);
+    }
+
+    /// Ends the epoch: its frames are forgotten, and the next one begins. It takes no memory.
+    pub fn begin_epoch(&mut self)
+        requires { self.old.epoch < 2 ^ 32 - 1 }
+        ensures begins { BeginsEpoch self.old self.new }
+    {
+        self.links.forget_epoch(self.epoch);
+        self.epoch += 1;
+    }
+
+    /// Counts only this number of a thread's entries as sent, and only this number of its outputs: the first ones. It takes no
+    /// memory.
+    pub fn turn_back(&mut self, thread: u32, entries: u64, outputs: u64)
+        requires { thread < self.old.threads }
+        ensures { TurnsBack self.old self.new thread entries outputs }
+    {
+        self.entries[thread as usize].truncate(entries as usize);
+        self.outputs[thread as usize].truncate(outputs as usize);
     }
 }

@@ -18,6 +18,9 @@ pub fn show<P: Program>(core: &Core<P>, var: u64) -> Result<Outcome, NoMemory>
     if var >= u64::from(core.program.vars()) {
         return Ok(Outcome::Nothing);
     }
+    if !core.up {
+        return Ok(Outcome::Down);
+    }
     let var = var as u32;
     let value = core.master.value(var);
     Ok(Outcome::Shown(core.program.show(core.alloc, var, value)?))

@@ -15,7 +15,11 @@ ghost use Rattle.recovery_world.specs.declared.event.Event.TheVariants as event_
 ghost use Rattle.recovery_world.specs.World.{Setting, World};
 ghost use Rattle.recovery_world.specs.Events.{TellsHand, entry_outcome as outcome_is};
 ghost use Rattle.recovery_world.specs.Limits.{limit_passed as passed};
-ghost use Rattle.recovery_core.specs.Standing.{StandsFor, StandsForSome};
+ghost use Rattle.recovery_laws.specs.Sound.{Sound};
+ghost use Rattle.recovery_core.specs.Standing.{HasGuide, StandsFor, StandsForSome};
+ghost use Rattle.recovery_core.specs.Following.{HasTurnBy, or_given};
+ghost use Rattle.replay_guide.specs.Following.{recorded};
+ghost use Rattle.access_log.specs.Held.{lane, entry_at};
 ghost use Rattle.recovery_core.specs.Performing.{MovesOn, StopsAt, ComesTo, WouldPass};
 ghost use Rattle.recovery_core.specs.Stepping.{CanNote, Notes, NotesMove};
 
@@ -30,6 +34,7 @@ use plain_text::{Limit, MOST_MOVES, MOST_OUTPUT_BYTES, Packet};
 use rand_core::utils::NextWord;
 use rand_pcg::Pcg32;
 use recovery_world::Outcome;
+use replay_guide::Guide;
 
 /// The outcome of a logged move.
 fn entry_outcome(entry: &StampedEntry) -> Outcome
@@ -90,10 +95,50 @@ fn input_of<'a, P: Program>(
     }
 }
 
-/// What the thread's next move is told, if it asks: the given answer, else the time or the next word of the generator.
+/// Whether the thread may make its next move now, where it wants a variable.
+fn turn_of<P: Program>(core: &Core<P>, thread: u32) -> Turn
+    requires stands { StandsForSome (P.meaning core.now.program) core.now }
+    requires thread_in { thread < core.now.inputs.threads }
+    ensures { (s : Setting P.Value) (w : World P.Value) → StandsFor (P.meaning core.now.program) s w core.now
+        → HasTurnBy s w thread result }
+{
+    match core.master.wants(&core.program, thread) {
+        Wants::Touch {
+            number,
+            var,
+            places,
+        } => {
+            let readers = core.master.readers(var);
+            core.guide.turn(thread, number, var, false, places, readers)
+        }
+        Wants::Read {
+            number,
+            var,
+            places,
+        } => {
+            let readers = core.master.readers(var);
+            core.guide.turn(thread, number, var, true, places, readers)
+        }
+        _ => Turn::Free,
+    }
+}
+
+/// The recorded answer of an entry, else the given one.
+fn recorded_or(guide: &Guide, thread: u32, number: u64, given: Option<u64>) -> Option<u64>
+    ensures { result ≡ or_given (recorded (entry_at (lane guide.now thread) number)) given }
+{
+    match guide.answer(thread, number) {
+        Some(recorded) => Some(recorded),
+        None => given,
+    }
+}
+
+/// What the thread's next move is told, if it asks: what is recorded, else the given answer, else the time or the next word of the
+/// generator.
 fn told<P: Program>(
     program: &P,
     master: &Master<P>,
+    guide: &Guide,
     generator: &mut Pcg32,
     clock: u64,
     thread: u32,
@@ -103,7 +148,7 @@ fn told<P: Program>(
         value_of master.now.vars }
     requires thread_in { thread < length master.now.threads }
     ensures tells { (s : Setting P.Value) (w : World P.Value)
-        → s.meaning ≡ P.meaning program.now → w.followed ≡ []
+        → s.meaning ≡ P.meaning program.now → Sound s w → HasGuide w.followed w.past guide.now
         → Stands s.meaning s.threads w.past master.now → w.clock ≡ clock
         → generator.old ≡ generator_after s.seed w.drawn
         → (drawn : ℕ) × TellsHand s w thread given result drawn (thread_after w.past thread).hand
@@ -113,8 +158,8 @@ fn told<P: Program>(
         → told_in s.meaning (thread_after w.past thread).hand (unwrap_or result 0) ≡ result }
 {
     match master.wants(program, thread) {
-        Wants::Clock(_) => Some(given.unwrap_or(clock)),
-        Wants::Draw(_) => match given {
+        Wants::Clock(number) => Some(recorded_or(guide, thread, number, given).unwrap_or(clock)),
+        Wants::Draw(number) => match recorded_or(guide, thread, number, given) {
             Some(answer) => Some(answer),
             None => Some(u64::from(generator.next_word())),
         },
@@ -201,10 +246,15 @@ pub fn step<P: Program>(
     if thread >= u64::from(core.inputs.threads()) {
         return Ok(Outcome::Nothing);
     }
+    if !core.up {
+        return Ok(Outcome::Down);
+    }
     let thread = thread as u32;
+    let turn = turn_of(core, thread);
     let answer = told(
         &core.program,
         &core.master,
+        &core.guide,
         &mut core.generator,
         core.clock,
         thread,
@@ -215,7 +265,7 @@ pub fn step<P: Program>(
         core.alloc,
         &core.program,
         thread,
-        Turn::Free,
+        turn,
         answer.unwrap_or(0),
         input,
     );

@@ -12,9 +12,12 @@ ghost use Rattle.recovery_core.specs.Performing.{AddsFresh, IsPerformed, MovesOn
 
 use crate::arriving::{arrive, arrive_cut, arrive_late, only};
 use crate::assembly::Core;
+use crate::crashing::{crash, recover};
+use crate::ending::end;
 use crate::feeding::{feed, set_time};
 use crate::settling::settle;
 use crate::showing::show;
+use crate::snapshots::{snap, store};
 use crate::stepping::step;
 use crate::{Finished, Reply, Stop};
 use access_log::Outputs;
@@ -26,8 +29,8 @@ use std::alloc::Global;
 use std::marker::Model;
 use std::mem;
 
-/// A recovering system on the packets of a capture: an input logger, a master that runs a box, the links behind it, and an output
-/// logger.
+/// A recovering system on the packets of a capture: an input logger, a master that runs a box, its snapshots, the links behind it, and
+/// an output logger.
 ///
 /// It performs events one by one. An event that does not end, since memory ran out or a limit would be passed, stops it for good;
 /// what it released until then can still be taken.
@@ -49,12 +52,12 @@ impl<P: Program> Model for System<P> {
     ghost invariant = { λ y. y.stopped ≡ false → StandsForSome (P.meaning y.core.program) y.core };
 }
 
-/// Whether a system performs such an event: any but those of snapshots, crashes and chosen events.
+/// Whether a system performs such an event: any but chosen events.
 pub fn is_performed(event: &Event) -> bool
     ensures { IsTrue result ↔ IsPerformed event.now }
 {
     match event {
-        Event::Snap | Event::Store | Event::Crash | Event::Recover | Event::Auto { .. } => false,
+        Event::Auto { .. } => false,
         Event::Feed(_)
         | Event::Time(_)
         | Event::Step { .. }
@@ -62,6 +65,10 @@ pub fn is_performed(event: &Event) -> bool
         | Event::Out { .. }
         | Event::Late { .. }
         | Event::Cut { .. }
+        | Event::Snap
+        | Event::Store
+        | Event::Crash
+        | Event::Recover
         | Event::Show(_)
         | Event::Settle => true,
     }
@@ -96,11 +103,13 @@ fn perform<P: Program>(core: &mut Core<P>, event: Event) -> Result<Reply, Stop>
             number,
             length,
         } => Ok(arrive_cut(core, kind, thread, number, length)?),
+        Event::Snap => Ok(only(alloc, snap(core)?)),
+        Event::Store => Ok(store(core)?),
+        Event::Crash => Ok(only(alloc, crash(core))),
+        Event::Recover => Ok(only(alloc, recover(core)?)),
         Event::Show(var) => Ok(only(alloc, show(core, var)?)),
         Event::Settle => Ok(only(alloc, settle(core)?)),
-        Event::Snap | Event::Store | Event::Crash | Event::Recover | Event::Auto { .. } => {
-            unreachable!()
-        }
+        Event::Auto { .. } => unreachable!(),
     }
 }
 
@@ -135,7 +144,7 @@ impl<P: Program> System<P> {
         })
     }
 
-    /// Performs one event: any but those of snapshots, crashes and chosen events.
+    /// Performs one event: any but chosen events.
     ///
     /// After an error the system is stopped. Of a limit, what the event released before the move that would pass it is there to be
     /// taken; where memory ran out, nothing that the event released.
@@ -192,12 +201,12 @@ impl<P: Program> System<P> {
         mem::replace(&mut self.core.fresh, Outputs::new(self.core.alloc))
     }
 
-    /// Whether a master is up. As long as none crashes, one is.
+    /// Whether the master is up.
     pub fn up(&self) -> bool
         ensures { self.now.stopped ≡ false → (s : Setting P.Value) (w : World P.Value)
             → StandsFor (P.meaning self.now.parts.program) s w self.now.parts → result ≡ w.up }
     {
-        true
+        self.core.up
     }
 
     /// The epoch, from 1.
@@ -228,7 +237,7 @@ impl<P: Program> System<P> {
     }
 
     /// The run that the script amounts to, once its last event was performed: the schedule, and the counts of the last line of the
-    /// report.
+    /// report. Where the master is down, the schedule is that after one more recovery, and the counts are those before it.
     pub fn finish(self) -> Result<Finished, NoMemory>
         requires { self.stopped ≡ false }
         ensures { IfOk result (λ f. (s : Setting P.Value) (w : World P.Value)
@@ -238,7 +247,7 @@ impl<P: Program> System<P> {
         let epoch = self.core.logger.epoch();
         let released = self.core.released.len() as u64;
         Ok(Finished {
-            schedule: self.core.schedule,
+            schedule: end(self.core)?,
             fed,
             epoch,
             released,

@@ -5,6 +5,8 @@
 #[cfg(test)]
 mod random;
 #[cfg(test)]
+mod recoveries;
+#[cfg(test)]
 mod replay;
 #[cfg(test)]
 mod rows;

@@ -35,7 +35,7 @@ fn message(word: u64, thread: u64) -> Event {
             length: 30 + word / 512 % 100,
         },
         _ => Event::Late {
-            epoch: word / 32 % 3,
+            epoch: word / 32 % 4,
             kind,
             thread,
             number,
@@ -57,12 +57,23 @@ fn chosen(word: u64, threads: u32) -> Event {
             answer: Some(rest),
         },
         4 | 5 => message(rest, thread),
-        6 => Event::Feed(rest % 2),
+        6 => recovery(rest),
         _ => match rest % 8 {
             0 => Event::Settle,
-            1..=3 => Event::Time(rest),
-            _ => Event::Show(rest % 4),
+            1 => Event::Time(rest),
+            2 | 3 => Event::Show(rest % 4),
+            _ => Event::Feed(rest % 2),
         },
+    }
+}
+
+/// An event of the master or of the store, by a word.
+fn recovery(word: u64) -> Event {
+    match word % 8 {
+        0 | 1 => Event::Snap,
+        2 | 3 => Event::Store,
+        4 | 5 => Event::Crash,
+        _ => Event::Recover,
     }
 }
 

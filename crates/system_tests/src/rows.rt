@@ -7,7 +7,7 @@ use std::alloc::Global;
 use std::test::Fail;
 
 /// A script, and the report and the moves that it leaves.
-type Row = (&'static str, &'static str);
+pub type Row = (&'static str, &'static str);
 
 /// Two threads count: an output waits for an entry of the other thread.
 const COUNTS: [Row; 5] = [
@@ -51,9 +51,9 @@ const PEEKS: [Row; 1] = [(
     "feed 2 total 2\nstep 1 take 1\nstep 1 entry 1 read 0 after 0\nstep 0 take 1\nstep 0 entry 1 touch 0 place 1\nstep 1 output 1\nout 1 1 waits 1 1\nlog 0 1 new\nlog 1 1 new 1:1\ndone fed 2 epoch 1 released 1\nmoves 1 1 0 0 1",
 )];
 
-/// `NEXT_QUERY` with a byte of 0 behind it.
-fn longer(alloc: Global) -> Result<Vec<u8>, NoMemory> {
-    let mut frame = Vec::from_slice(alloc, &NEXT_QUERY)?;
+/// A frame with a byte of 0 behind it.
+pub fn longer(alloc: Global, query: &[u8]) -> Result<Vec<u8>, NoMemory> {
+    let mut frame = Vec::from_slice(alloc, query)?;
     frame.push(0)?;
     Ok(frame)
 }
@@ -82,7 +82,7 @@ fn scripts_of_the_monitor(rt: HostRuntime) -> Result<(), Fail> {
 fn scripts_with_reads(rt: HostRuntime) -> Result<(), Fail> {
     for (script, report) in PEEKS {
         let alloc = rt.alloc();
-        let frame = longer(alloc)?;
+        let frame = longer(alloc, &NEXT_QUERY)?;
         let made = report_of(
             alloc,
             PeekBox::new(),

@@ -3,7 +3,7 @@ use Rattle.plain_machine.specs.History.{sent_of, outputs}
 use Rattle.recovery_world.specs.declared.event.Event.TheVariants as event_is
 use Rattle.recovery_world.specs.declared.event.Outcome.TheVariants as outcome
 use Rattle.recovery_core.proofs.EntryArrivals.{parts_still, counted, at_view, came, same_parts}
-use Rattle.recovery_core.proofs.OutputArrivals.{out_none, out_there, out_is, own_thread, own_number, out_again, out_released, out_waits, was_again, not_again_released, not_again_waits, waits_not_released, pushed_parts}
+use Rattle.recovery_core.proofs.OutputArrivals.{out_none, out_old, out_is, own_thread, own_number, out_again, out_released, out_waits, was_again, not_again_released, not_again_waits, waits_not_released, pushed_parts}
 use Rattle.recovery_core.proofs.arriving.take_output.Goals as goal
 use Rattle.recovery_core.proofs.arriving.take_output.Goals.{then-number-eq0-via-then-number-eq0, then-number-eq0-via-else-number-eq0+then-number-counts}
 
@@ -19,17 +19,17 @@ returns-then-number-eq0-clause-on g c =
 
 pub returns-in_default-clause-on : goal.returns-in_default-clause-on
 returns-in_default-clause-on g c =
-    let some = at_view _ _ _ c.core.view_is c.requires.stands in
+    came _ _ _ _ _ (event_is.Out c.args.thread c.args.number) c.only-in_default.result c.core.view_is c.core.view_is refl refl (λ s w st.
     let low = subst (λ q. c.args.thread < q.inputs.threads) (sym c.core.view_is) c.requires.thread_in in
-    let count = counted _ _ _ _ some.2 c.args.thread c.counts.result low c.counts.ensures in
-    absurd (out_there _ _ _ _ some.2 c.args.thread c.args.number low c.in_ok-output.field-0 c.in_ok-output.ensures c.in_default.is (omega arith) (omega (arith, count.1)))
+    let count = counted _ s w _ st c.args.thread c.counts.result low c.counts.ensures in
+    out_old _ s w _ st c.args.thread c.args.number low c.in_ok-output.field-0 c.in_ok-output.ensures.there c.in_default.is (omega arith) (omega (arith, count.1)) c.only-in_default.result c.only-in_default.ensures)
 
 pub output-requires-2-clause-thread_in : goal.output-requires-2-clause-thread_in
 output-requires-2-clause-thread_in g c =
     let some = at_view _ _ _ c.core.view_is c.requires.stands in
     let low = subst (λ q. c.args.thread < q.inputs.threads) (sym c.core.view_is) c.requires.thread_in in
     let count = counted _ _ _ _ some.2 c.args.thread c.counts.result low c.counts.ensures in
-    let of = out_is _ _ _ _ some.2 c.args.thread c.args.number low c.in_ok-output.field-0 c.in-Some.output c.in_ok-output.ensures c.in-Some.is (omega arith) (omega (arith, count.1)) in
+    let of = out_is _ _ _ _ some.2 c.args.thread c.args.number low c.in_ok-output.field-0 c.in-Some.output c.in_ok-output.ensures.there c.in_ok-output.ensures.forgotten c.in-Some.is (omega arith) (omega (arith, count.1)) in
     let own = own_thread _ _ _ _ some.2 c.args.thread c.args.number low c.in-Some.output of in
     let lanes = c.core.invariant.logger in
     omega (arith, low, lanes, own)
@@ -39,7 +39,7 @@ output-requires-2-clause-numbered g c =
     let some = at_view _ _ _ c.core.view_is c.requires.stands in
     let low = subst (λ q. c.args.thread < q.inputs.threads) (sym c.core.view_is) c.requires.thread_in in
     let count = counted _ _ _ _ some.2 c.args.thread c.counts.result low c.counts.ensures in
-    let of = out_is _ _ _ _ some.2 c.args.thread c.args.number low c.in_ok-output.field-0 c.in-Some.output c.in_ok-output.ensures c.in-Some.is (omega arith) (omega (arith, count.1)) in
+    let of = out_is _ _ _ _ some.2 c.args.thread c.args.number low c.in_ok-output.field-0 c.in-Some.output c.in_ok-output.ensures.there c.in_ok-output.ensures.forgotten c.in-Some.is (omega arith) (omega (arith, count.1)) in
     let own = own_number _ _ _ _ some.2 c.args.thread c.args.number low c.in-Some.output of in
     let from_one = c.if-number-eq0.false in
     omega (arith, from_one, own)
@@ -63,7 +63,7 @@ returns-in_ok-push-in-Release-clause-on g c =
     came _ _ _ _ _ (event_is.Out c.args.thread c.args.number) c.only-in-Release.result c.core.view_is same refl refl (λ s w st.
     let low = subst (λ q. c.args.thread < q.inputs.threads) (sym c.core.view_is) c.requires.thread_in in
     let count = counted _ s w _ st c.args.thread c.counts.result low c.counts.ensures in
-    let of = out_is _ s w _ st c.args.thread c.args.number low c.in_ok-output.field-0 c.in-Some.output c.in_ok-output.ensures c.in-Some.is (omega arith) (omega (arith, count.1)) in
+    let of = out_is _ s w _ st c.args.thread c.args.number low c.in_ok-output.field-0 c.in-Some.output c.in_ok-output.ensures.there c.in_ok-output.ensures.forgotten c.in-Some.is (omega arith) (omega (arith, count.1)) in
     out_released _ s w _ st c.args.thread c.args.number low c.in-Some.output of c.output-2.new.self c.output-2.ensures.held c.output-2.ensures.epoch (λ h. not_again_released _ took (c.output-2.ensures.again.1 (c.epoch-epoch.ensures, h)))
     c.output-2.new.out c.only-in-Release.result (c.output-2.ensures.due took) (c.output-2.ensures.waiting took) (c.output-2.ensures.released took) c.output-2.ensures.once c.only-in-Release.ensures)
 
@@ -73,7 +73,7 @@ returns-in-Wait-clause-on g c =
     came _ _ _ _ _ (event_is.Out c.args.thread c.args.number) c.only-in-Wait.result c.core.view_is refl refl refl (λ s w st.
     let low = subst (λ q. c.args.thread < q.inputs.threads) (sym c.core.view_is) c.requires.thread_in in
     let count = counted _ s w _ st c.args.thread c.counts.result low c.counts.ensures in
-    let of = out_is _ s w _ st c.args.thread c.args.number low c.in_ok-output.field-0 c.in-Some.output c.in_ok-output.ensures c.in-Some.is (omega arith) (omega (arith, count.1)) in
+    let of = out_is _ s w _ st c.args.thread c.args.number low c.in_ok-output.field-0 c.in-Some.output c.in_ok-output.ensures.there c.in_ok-output.ensures.forgotten c.in-Some.is (omega arith) (omega (arith, count.1)) in
     out_waits _ s w _ st c.args.thread c.args.number low c.in-Some.output of c.output-2.new.self c.output-2.ensures.held c.output-2.ensures.epoch (λ h. not_again_waits _ _ _ took (c.output-2.ensures.again.1 (c.epoch-epoch.ensures, h)))
     c.output-2.new.out c.only-in-Wait.result c.in-Wait.thread c.in-Wait.number (c.output-2.ensures.missing _ _ took) (c.output-2.ensures.waits _ _ took) (c.output-2.ensures.none (waits_not_released _ _ _ took)) c.output-2.ensures.once (c.only-in-Wait.ensures ∙ ap (λ (u : ℕ). record { outcome = outcome.Waits u c.in-Wait.number; released = [] }) c.from.ensures))
 
@@ -84,5 +84,5 @@ returns-in-Again-clause-on g c =
     came _ _ _ _ _ (event_is.Out c.args.thread c.args.number) c.only-in-Again.result c.core.view_is same refl refl (λ s w st.
     let low = subst (λ q. c.args.thread < q.inputs.threads) (sym c.core.view_is) c.requires.thread_in in
     let count = counted _ s w _ st c.args.thread c.counts.result low c.counts.ensures in
-    let of = out_is _ s w _ st c.args.thread c.args.number low c.in_ok-output.field-0 c.in-Some.output c.in_ok-output.ensures c.in-Some.is (omega arith) (omega (arith, count.1)) in
+    let of = out_is _ s w _ st c.args.thread c.args.number low c.in_ok-output.field-0 c.in-Some.output c.in_ok-output.ensures.there c.in_ok-output.ensures.forgotten c.in-Some.is (omega arith) (omega (arith, count.1)) in
     out_again _ s w _ st c.args.thread c.args.number low c.in-Some.output of (c.output-2.ensures.again.0 took.0).1 c.only-in-Again.result c.only-in-Again.ensures)

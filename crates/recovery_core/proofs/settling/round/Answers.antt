@@ -4,7 +4,7 @@ use Rattle.std.proofs.lemmas.Result.{err_from_is_err_and}
 use Rattle.recovery_core.specs.declared.reply.Stop.TheVariants as stop
 use Rattle.recovery_core.specs.Settling.{StepsTo, HaltsStepping, GoesRound, HaltsInRound}
 use Rattle.recovery_core.proofs.SettlingMoves.{moves_as, moves_none, moves_then, stops_then, stands_then, threads_stay, threads_of_setting, exits_as}
-use Rattle.recovery_core.proofs.SettlingRounds.{RoundFirst, round_none, round_more, round_halts, round_whole, both_idle}
+use Rattle.recovery_core.proofs.SettlingRounds.{RoundFirst, round_none, round_more, round_halts, round_whole, round_falls}
 use Rattle.recovery_core.proofs.settling.round.Goals as goal
 use Rattle.recovery_core.proofs.settling.round.Goals.{then-all_idle, else-all_idle}
 
@@ -12,7 +12,7 @@ pub threads-init : goal.threads-init
 threads-init g c = record {
   moved = moves_none (g.P.Program.meaning c.args.core.now.program) (RoundFirst 0 true) c.args.core.now (λ s w. round_none s w);
   fresh = refl;
-  idle = refl;
+  up = c.requires.up;
   end = c.threads-thread-end.ensures.value ∙ ap (λ y. y.inputs.threads) c.core.view_is;
 }
 
@@ -26,6 +26,9 @@ step_out-requires-clause-thread_in g c κs within =
     let end = c.threads.invariant.end in
     let test = c.threads-test.true in
     omega (arith, same, end, test)
+
+pub step_out-requires-clause-up : goal.step_out-requires-clause-up
+step_out-requires-clause-up g c κs within = c.threads.invariant.up
 
 pub returns-in_err-idle-clause-limit : goal.returns-in_err-idle-clause-limit
 returns-in_err-idle-clause-limit g c = λ limit is.
@@ -56,7 +59,7 @@ threads-preserved g c =
           (λ s w here next st sh sn a b. round_more s c.threads.thread c.threads.all_idle c.in_ok-idle.idle c.if-all_idle.all_idle w here next both a b)
           c.threads.invariant.moved c.in_ok-idle.ensures.on;
       fresh = c.step_out.ensures.fresh ∙ c.threads.invariant.fresh;
-      idle = both_idle c.threads.all_idle c.in_ok-idle.idle c.if-all_idle.all_idle both c.threads.invariant.idle c.in_ok-idle.ensures.idle;
+      up = c.in_ok-idle.ensures.up;
       end = c.threads.invariant.end;
     }
 
@@ -67,8 +70,16 @@ returns-clause-on g c =
     (λ s w next st sn a. round_whole s c.threads.thread c.threads.all_idle w next (last ∙ (c.threads.invariant.end ∙ threads_of_setting _ s w c.args.core.now st)) a)
     c.threads.invariant.moved
 
-pub returns-clause-idle : goal.returns-clause-idle
-returns-clause-idle g c = c.threads.invariant.idle
+pub returns-clause-up : goal.returns-clause-up
+returns-clause-up g c = c.threads.invariant.up
+
+pub returns-clause-moves : goal.returns-clause-moves
+returns-clause-moves g c = λ no.
+    let last : c.threads.thread ≡ c.threads-thread-end.result = let a = c.threads-test.false in let b = c.threads.auto.thread-end in omega (arith, a, b) in
+    round_falls _ c.threads.all_idle c.args.core.now c.threads.core no c.requires.up c.requires.stands
+    (moves_as _ (RoundFirst c.threads.thread c.threads.all_idle) (GoesRound c.threads.all_idle) c.args.core.now c.threads.core
+    (λ s w next st sn a. round_whole s c.threads.thread c.threads.all_idle w next (last ∙ (c.threads.invariant.end ∙ threads_of_setting _ s w c.args.core.now st)) a)
+    c.threads.invariant.moved)
 
 pub returns-clause-fresh : goal.returns-clause-fresh
 returns-clause-fresh g c = c.threads.invariant.fresh

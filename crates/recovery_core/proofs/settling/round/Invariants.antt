@@ -8,6 +8,6 @@ abbrev pub invariant-threads : goal.invariant-threads
 invariant-threads g l = record {
   moved : MovesOn (g.P.Program.meaning l.fn.core.program) (RoundFirst l.thread l.all_idle) l.fn.core l.core;
   fresh : l.core.fresh ≡ l.fn.core.fresh;
-  idle : l.all_idle ≡ true;
+  up : l.core.up ≡ true;
   end : l.thread-end ≡ l.fn.core.inputs.threads;
 }

@@ -1,43 +1,57 @@
 use Rattle.std.proofs.Common.{sym, ◌∙◌, ap, subst, refl}
 use Rattle.std.proofs.lemmas.Result.{err_from_is_err_and}
-use Rattle.recovery_world.specs.Many.{HaltsIn}
 use Rattle.recovery_core.specs.declared.reply.Stop.TheVariants as stop
-use Rattle.recovery_core.specs.Standing.{StandsForSome}
-use Rattle.recovery_core.specs.Performing.{MovesOn, StopsAt}
 use Rattle.recovery_core.specs.Settling.{GoesRound, HaltsInRound, GoesRounds, HaltsInRounds}
-use Rattle.recovery_core.proofs.SettlingMoves.{moves_as, stops_as, exits_as}
-use Rattle.recovery_core.proofs.SettlingRounds.{rounds_rest}
+use Rattle.recovery_core.proofs.SettlingMoves.{moves_none, moves_then, stops_then, stands_then, exits_as}
+use Rattle.recovery_core.proofs.SettlingRounds.{RoundsFirst, rounds_more, rounds_last, rounds_halt}
 use Rattle.recovery_core.proofs.settling.rounds.Goals as goal
 
 pub rounds-init : goal.rounds-init
-rounds-init g c = refl
+rounds-init g c = record {
+  moved = moves_none (g.P.Program.meaning c.args.core.now.program) RoundsFirst c.args.core.now (λ s w. λ end new h. h);
+  fresh = refl;
+  up = c.requires.up;
+}
 
 pub round-requires-clause-stands : goal.round-requires-clause-stands
-round-requires-clause-stands g c κs within = subst (λ y. StandsForSome (g.P.Program.meaning y.program) y) (sym c.rounds.invariant) c.requires.stands
+round-requires-clause-stands g c κs within =
+    stands_then _ _ RoundsFirst c.args.core.now c.rounds.core (ap g.P.Program.meaning c.rounds.invariant.moved.0) c.rounds.invariant.moved c.requires.stands
+
+pub round-requires-clause-up : goal.round-requires-clause-up
+round-requires-clause-up g c κs within = c.rounds.invariant.up
 
 pub returns-in_err-round-clause-limit : goal.returns-in_err-round-clause-limit
 returns-in_err-round-clause-limit g c = λ limit is.
     let p = err_from_is_err_and c.from_residual.result c.from_residual.ensures.1 in
     let made = exits_as c.round.result c.from_residual.result c.in_err-round.field-0.0 p.0 (stop.Limit limit) c.in_err-round.was p.1 p.2 is in
-    stops_as _ (HaltsInRound limit) (HaltsInRounds limit) c.args.core.now c.round.new.core (λ s w next st a. HaltsIn limit a)
-    (subst (λ y. StopsAt (g.P.Program.meaning y.program) (HaltsInRound limit) y c.round.new.core) c.rounds.invariant (c.round.ensures.limit limit made))
+    stops_then _ _ RoundsFirst (HaltsInRound limit) (HaltsInRounds limit) c.args.core.now c.rounds.core c.round.new.core (ap g.P.Program.meaning c.rounds.invariant.moved.0)
+    (λ s w here next st sh a b. rounds_halt s limit w here next a b) c.rounds.invariant.moved (c.round.ensures.limit limit made)
 
 pub returns-in_err-round-clause-fresh : goal.returns-in_err-round-clause-fresh
-returns-in_err-round-clause-fresh g c = c.round.ensures.fresh ∙ ap (λ y. y.fresh) c.rounds.invariant
+returns-in_err-round-clause-fresh g c = c.round.ensures.fresh ∙ c.rounds.invariant.fresh
 
 pub returns-in_err-round-clause-handed : goal.returns-in_err-round-clause-handed
-returns-in_err-round-clause-handed g c = c.round.ensures.handed ∙ ap (λ y. y.handed) c.rounds.invariant
+returns-in_err-round-clause-handed g c = c.round.ensures.handed ∙ c.rounds.invariant.moved.1
+
+pub rounds-smaller : goal.rounds-smaller
+rounds-smaller g c = c.in_ok-round.ensures.moves c.if-branch.false
 
 pub rounds-preserved : goal.rounds-preserved
-rounds-preserved g c = let idle = c.in_ok-round.ensures.idle in let busy = c.if-not-branch.true in absurd (cc)
+rounds-preserved g c = record {
+  moved =
+      moves_then _ _ RoundsFirst (GoesRound c.in_ok-round.field-0) RoundsFirst c.args.core.now c.rounds.core c.round.new.core (ap g.P.Program.meaning c.rounds.invariant.moved.0)
+      (λ s w here next st sh sn a b. rounds_more s c.in_ok-round.field-0 w here next c.if-branch.false a b) c.rounds.invariant.moved c.in_ok-round.ensures.on;
+  fresh = c.round.ensures.fresh ∙ c.rounds.invariant.fresh;
+  up = c.in_ok-round.ensures.up;
+}
 
-pub returns-clause-on : goal.returns-clause-on
-returns-clause-on g c =
-    moves_as _ (GoesRound c.in_ok-round.field-0) GoesRounds c.args.core.now c.round.new.core (λ s w next st sn a. rounds_rest s c.in_ok-round.field-0 w next c.in_ok-round.ensures.idle a)
-    (subst (λ y. MovesOn (g.P.Program.meaning y.program) (GoesRound c.in_ok-round.field-0) y c.round.new.core) c.rounds.invariant c.in_ok-round.ensures.on)
+pub returns-then-branch-clause-on : goal.returns-then-branch-clause-on
+returns-then-branch-clause-on g c =
+    moves_then _ _ RoundsFirst (GoesRound c.in_ok-round.field-0) GoesRounds c.args.core.now c.rounds.core c.round.new.core (ap g.P.Program.meaning c.rounds.invariant.moved.0)
+    (λ s w here next st sh sn a b. rounds_last s c.in_ok-round.field-0 w here next c.if-branch.true a b) c.rounds.invariant.moved c.in_ok-round.ensures.on
 
-pub returns-clause-fresh : goal.returns-clause-fresh
-returns-clause-fresh g c = c.round.ensures.fresh ∙ ap (λ y. y.fresh) c.rounds.invariant
+pub returns-then-branch-clause-fresh : goal.returns-then-branch-clause-fresh
+returns-then-branch-clause-fresh g c = c.round.ensures.fresh ∙ c.rounds.invariant.fresh
 
-pub returns-clause-handed : goal.returns-clause-handed
-returns-clause-handed g c = c.round.ensures.handed ∙ ap (λ y. y.handed) c.rounds.invariant
+pub returns-then-branch-clause-handed : goal.returns-then-branch-clause-handed
+returns-then-branch-clause-handed g c = c.round.ensures.handed ∙ c.rounds.invariant.moved.1

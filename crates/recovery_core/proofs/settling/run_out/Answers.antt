@@ -7,18 +7,22 @@ use Rattle.recovery_core.specs.declared.reply.Stop.TheVariants as stop
 use Rattle.recovery_core.specs.Performing.{MovesOn, ComesTo}
 use Rattle.recovery_core.specs.Settling.{GoesRounds, HaltsInRounds, FeedsAll, HaltsFeeding}
 use Rattle.recovery_core.proofs.SettlingMoves.{moves_none, moves_as, moves_then, stops_then, stands_then, exits_as}
-use Rattle.recovery_core.proofs.SettlingRounds.{FeedsFirst, FeedsRounds, feeds_empty, feeds_halt, feeds_more, left_falls, none_left, some_left}
+use Rattle.recovery_core.proofs.SettlingRounds.{FeedsFirst, FeedsRounds, feeds_empty, feeds_halt, feeds_more, left_falls, up_fed, none_left, some_left}
 use Rattle.recovery_core.proofs.settling.run_out.Goals as goal
 
 pub feeds-init : goal.feeds-init
 feeds-init g c = record {
   moved = moves_none (g.P.Program.meaning c.args.core.now.program) FeedsFirst c.args.core.now (λ s w. λ end new h. h);
   fresh = refl;
+  up = c.requires.up;
 }
 
 pub rounds-requires-clause-stands : goal.rounds-requires-clause-stands
 rounds-requires-clause-stands g c κs within =
     stands_then _ _ FeedsFirst c.args.core.now c.feeds.core (ap g.P.Program.meaning c.feeds.invariant.moved.0) c.feeds.invariant.moved c.requires.stands
+
+pub rounds-requires-clause-up : goal.rounds-requires-clause-up
+rounds-requires-clause-up g c κs within = c.feeds.invariant.up
 
 pub returns-in_err-rounds-clause-limit : goal.returns-in_err-rounds-clause-limit
 returns-in_err-rounds-clause-limit g c = λ limit is.
@@ -74,6 +78,10 @@ feeds-preserved-in_ok-feed g c =
           moves_then _ _ FeedsRounds (ComesTo (event.Feed 1) c.in_ok-feed.field-0) FeedsFirst c.args.core.now c.rounds.new.core c.feed.new.core (ap g.P.Program.meaning rounded.0)
           (λ s w here next st sh sn a b. feeds_more _ s c.in_ok-feed.field-0 w here next c.rounds.new.core some sh a b) rounded c.in_ok-feed.ensures.on;
       fresh = c.feed.ensures.fresh ∙ (c.rounds.ensures.fresh ∙ c.feeds.invariant.fresh);
+      up =
+          let begun = stands_then _ (g.P.Program.meaning c.feeds.core.program) FeedsFirst c.args.core.now c.feeds.core (ap g.P.Program.meaning c.feeds.invariant.moved.0) c.feeds.invariant.moved c.requires.stands in
+          let here = stands_then _ (g.P.Program.meaning c.rounds.new.core.program) GoesRounds c.feeds.core c.rounds.new.core (ap g.P.Program.meaning c.in_ok-rounds.ensures.on.0) c.in_ok-rounds.ensures.on begun in
+          up_fed _ 1 c.in_ok-feed.field-0 c.rounds.new.core c.feed.new.core here c.in_ok-rounds.ensures.up c.in_ok-feed.ensures.on;
     }
 
 pub feeds-smaller : goal.feeds-smaller
@@ -96,4 +104,8 @@ feeds-preserved g c =
           moves_then _ _ FeedsRounds (ComesTo (event.Feed 1) c.in_ok-feed.field-0) FeedsFirst c.args.core.now c.rounds.new.core c.feed.new.core (ap g.P.Program.meaning rounded.0)
           (λ s w here next st sh sn a b. feeds_more _ s c.in_ok-feed.field-0 w here next c.rounds.new.core some sh a b) rounded c.in_ok-feed.ensures.on;
       fresh = c.feed.ensures.fresh ∙ (c.rounds.ensures.fresh ∙ c.feeds.invariant.fresh);
+      up =
+          let begun = stands_then _ (g.P.Program.meaning c.feeds.core.program) FeedsFirst c.args.core.now c.feeds.core (ap g.P.Program.meaning c.feeds.invariant.moved.0) c.feeds.invariant.moved c.requires.stands in
+          let here = stands_then _ (g.P.Program.meaning c.rounds.new.core.program) GoesRounds c.feeds.core c.rounds.new.core (ap g.P.Program.meaning c.in_ok-rounds.ensures.on.0) c.in_ok-rounds.ensures.on begun in
+          up_fed _ 1 c.in_ok-feed.field-0 c.rounds.new.core c.feed.new.core here c.in_ok-rounds.ensures.up c.in_ok-feed.ensures.on;
     }

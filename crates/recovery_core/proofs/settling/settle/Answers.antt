@@ -5,24 +5,31 @@ use Rattle.recovery_world.specs.declared.event.Event.TheVariants as event
 use Rattle.recovery_world.specs.declared.event.Outcome.TheVariants as outcome
 use Rattle.recovery_core.specs.declared.reply.Stop.TheVariants as stop
 use Rattle.recovery_core.specs.Performing.{SettlesTo, IsStopped}
-use Rattle.recovery_core.specs.Settling.{FeedsAll, HaltsFeeding, ArriveAll}
-use Rattle.recovery_core.proofs.SettlingMoves.{moves_then, stops_as, stands_then, exits_as}
-use Rattle.recovery_core.proofs.SettlingArrivals.{FeedsLogs, settles_to, settle_stops}
+use Rattle.recovery_core.specs.Settling.{WakesUp, FeedsAll, HaltsFeeding, ArriveAll}
+use Rattle.recovery_core.proofs.SettlingMoves.{moves_then, stops_then, stands_then, exits_as}
+use Rattle.recovery_core.proofs.SettlingArrivals.{FeedsUp, FeedsLogs, settles_to, settle_stops}
 use Rattle.recovery_core.proofs.settling.settle.Goals as goal
 
 pub returns-in_err-run_out-clause-limit : goal.returns-in_err-run_out-clause-limit
 returns-in_err-run_out-clause-limit g c = λ limit is.
-    let p = err_from_is_err_and c.from_residual.result c.from_residual.ensures.1 in
-    let made = exits_as c.run_out.result c.from_residual.result c.in_err-run_out.field-0.0 p.0 (stop.Limit limit) c.in_err-run_out.was p.1 p.2 is in
-    stops_as _ (HaltsFeeding limit) (IsStopped event.Settle limit) c.args.core.now c.run_out.new.core (λ s w next st a. settle_stops _ s w next c.args.core.now limit st a) (c.run_out.ensures.limit limit made)
+    let p = err_from_is_err_and c.from_residual-in_err-run_out.result c.from_residual-in_err-run_out.ensures.1 in
+    let made = exits_as c.run_out.result c.from_residual-in_err-run_out.result c.in_err-run_out.field-0.0 p.0 (stop.Limit limit) c.in_err-run_out.was p.1 p.2 is in
+    stops_then _ _ WakesUp (HaltsFeeding limit) (IsStopped event.Settle limit) c.args.core.now c.wake.new.core c.run_out.new.core (ap g.P.Program.meaning c.in_ok-wake.ensures.on.0)
+    (λ s w here next st sh a b. settle_stops _ s w next c.args.core.now limit st here a b) c.in_ok-wake.ensures.on (c.run_out.ensures.limit limit made)
+
+pub run_out-requires-clause-stands : goal.run_out-requires-clause-stands
+run_out-requires-clause-stands g c κs within =
+    stands_then _ _ WakesUp c.args.core.now c.wake.new.core (ap g.P.Program.meaning c.in_ok-wake.ensures.on.0) c.in_ok-wake.ensures.on c.requires.stands
 
 pub arrive_all-requires-clause-stands : goal.arrive_all-requires-clause-stands
 arrive_all-requires-clause-stands g c κs within =
-    stands_then _ _ FeedsAll c.args.core.now c.run_out.new.core (ap g.P.Program.meaning c.in_ok-run_out.ensures.on.0) c.in_ok-run_out.ensures.on c.requires.stands
+    let some = stands_then _ (g.P.Program.meaning c.wake.new.core.program) WakesUp c.args.core.now c.wake.new.core (ap g.P.Program.meaning c.in_ok-wake.ensures.on.0) c.in_ok-wake.ensures.on c.requires.stands in
+    stands_then _ _ FeedsAll c.wake.new.core c.run_out.new.core (ap g.P.Program.meaning c.in_ok-run_out.ensures.on.0) c.in_ok-run_out.ensures.on some
 
 pub arrive_all-requires-2-clause-stands : goal.arrive_all-requires-2-clause-stands
 arrive_all-requires-2-clause-stands g c κs within =
-    let some = stands_then _ (g.P.Program.meaning c.run_out.new.core.program) FeedsAll c.args.core.now c.run_out.new.core (ap g.P.Program.meaning c.in_ok-run_out.ensures.on.0) c.in_ok-run_out.ensures.on c.requires.stands in
+    let up = stands_then _ (g.P.Program.meaning c.wake.new.core.program) WakesUp c.args.core.now c.wake.new.core (ap g.P.Program.meaning c.in_ok-wake.ensures.on.0) c.in_ok-wake.ensures.on c.requires.stands in
+    let some = stands_then _ (g.P.Program.meaning c.run_out.new.core.program) FeedsAll c.wake.new.core c.run_out.new.core (ap g.P.Program.meaning c.in_ok-run_out.ensures.on.0) c.in_ok-run_out.ensures.on up in
     stands_then _ _ (ArriveAll kind.Log) c.run_out.new.core c.arrive_all.new.core (ap g.P.Program.meaning c.in_ok-arrive_all.ensures.on.0) c.in_ok-arrive_all.ensures.on some
 
 pub returns-clause-on : goal.returns-clause-on
@@ -33,8 +40,11 @@ returns-clause-on g c =
     let after : c.len.result ≡ length c.arrive_all-2.new.core.released = c.len.ensures ∙ ap (λ y. length y.released) c.core-2.view_is in
     let released : c.saturating_sub-2.result ≡ length c.arrive_all-2.new.core.released - length c.args.core.now.released = let a = c.saturating_sub-2.ensures in cc in
     let epoch : c.from.result ≡ c.arrive_all-2.new.core.logger.epoch = c.from.ensures ∙ (c.epoch.ensures ∙ ap (λ y. y.logger.epoch) c.core-2.view_is) in
+    let fed =
+    moves_then _ _ WakesUp FeedsAll FeedsUp c.args.core.now c.wake.new.core c.run_out.new.core (ap g.P.Program.meaning c.in_ok-wake.ensures.on.0)
+    (λ s w here next st sh sn a b. (here, a, b)) c.in_ok-wake.ensures.on c.in_ok-run_out.ensures.on in
     let logged =
-    moves_then _ _ FeedsAll (ArriveAll kind.Log) FeedsLogs c.args.core.now c.run_out.new.core c.arrive_all.new.core (ap g.P.Program.meaning c.in_ok-run_out.ensures.on.0)
-    (λ s w here next st sh sn a b. (here, a, b)) c.in_ok-run_out.ensures.on c.in_ok-arrive_all.ensures.on in
+    moves_then _ _ FeedsUp (ArriveAll kind.Log) FeedsLogs c.args.core.now c.run_out.new.core c.arrive_all.new.core (ap g.P.Program.meaning fed.0)
+    (λ s w here next st sh sn a b. (here, a, b)) fed c.in_ok-arrive_all.ensures.on in
     moves_then _ _ FeedsLogs (ArriveAll kind.Out) (SettlesTo (outcome.Summary c.saturating_sub.result c.saturating_sub-2.result c.from.result)) c.args.core.now c.arrive_all.new.core c.arrive_all-2.new.core (ap g.P.Program.meaning logged.0)
     (λ s w here next st sh sn a b. settles_to _ s w here next c.args.core.now c.arrive_all-2.new.core c.saturating_sub.result c.saturating_sub-2.result c.from.result st sn moves released epoch a b) logged c.in_ok-arrive_all-2.ensures.on

@@ -1,17 +1,17 @@
-use Rattle.std.proofs.Common.{◌<◌, sym, ◌∙◌, ap, subst, refl, true}
+use Rattle.std.proofs.Common.{◌<◌, sym, ◌∙◌, ap, subst, refl, true, false}
 use Rattle.std.proofs.lemmas.Result.{err_from_is_err_and}
 use Rattle.recovery_world.specs.declared.event.Outcome.TheVariants as outcome
 use Rattle.recovery_core.specs.declared.reply.Stop.TheVariants as stop
-use Rattle.recovery_core.specs.Standing.{StandsForSome}
 use Rattle.recovery_core.specs.Settling.{StepsTo, HaltsStepping}
 use Rattle.recovery_core.proofs.SettlingMoves.{moves_none, moves_then, stops_then, stands_then, threads_stay, exits_as}
-use Rattle.recovery_core.proofs.SettlingRounds.{StepsFirst, step_as, halt_as, steps_rest, steps_more, steps_halt, no_wait, moves_fall}
+use Rattle.recovery_core.proofs.SettlingRounds.{StepsFirst, step_as, halt_as, steps_rest, steps_wait, steps_more, steps_halt, moves_fall, up_after}
 use Rattle.recovery_core.proofs.settling.step_out.Goals as goal
 
 pub steps-init : goal.steps-init
 steps-init g c = record {
   moved = moves_none (g.P.Program.meaning c.args.core.now.program) (StepsFirst c.args.thread) c.args.core.now (λ s w. λ end new h. h);
   fresh = refl;
+  up = c.requires.up;
 }
 
 pub step-requires-clause-stands : goal.step-requires-clause-stands
@@ -44,21 +44,23 @@ returns-in-Idle-clause-fresh g c = c.step.ensures.fresh ∙ c.steps.invariant.fr
 pub returns-in-Idle-clause-handed : goal.returns-in-Idle-clause-handed
 returns-in-Idle-clause-handed g c = c.step.ensures.handed ∙ c.steps.invariant.moved.1
 
--- it stands for some world before the step
-stands_now : (g : _) (c : goal.In-Waits g) → StandsForSome (g.P.Program.meaning c.steps.core.program) c.steps.core
-stands_now g c = stands_then _ _ (StepsFirst c.args.thread) c.args.core.now c.steps.core (ap g.P.Program.meaning c.steps.invariant.moved.0) c.steps.invariant.moved c.requires.stands
-
--- so the thread does not wait
-no_wait_here : (g : _) (c : goal.In-Waits g) → ⊥
-no_wait_here g c =
-    no_wait (g.P.Program.meaning c.steps.core.program) c.args.thread c.in-Waits.thread c.in-Waits.number c.steps.core c.step.new.core (stands_now g c)
-    (step_as _ c.from.result c.args.thread c.in_ok-step.field-0 (outcome.Waits c.in-Waits.thread c.in-Waits.number) c.steps.core c.step.new.core c.from.ensures c.in-Waits.is c.in_ok-step.ensures.on)
+pub returns-in-Idle-clause-up : goal.returns-in-Idle-clause-up
+returns-in-Idle-clause-up g c =
+    let some = stands_then _ (g.P.Program.meaning c.steps.core.program) (StepsFirst c.args.thread) c.args.core.now c.steps.core (ap g.P.Program.meaning c.steps.invariant.moved.0) c.steps.invariant.moved c.requires.stands in
+    up_after _ c.args.thread c.in_ok-step.field-0 c.steps.core c.step.new.core some c.steps.invariant.up
+    (step_as _ c.from.result c.args.thread c.in_ok-step.field-0 c.in_ok-step.field-0 c.steps.core c.step.new.core c.from.ensures refl c.in_ok-step.ensures.on)
 
 pub returns-in-Waits-clause-on : goal.returns-in-Waits-clause-on
-returns-in-Waits-clause-on g c = absurd (no_wait_here g c)
+returns-in-Waits-clause-on g c =
+    moves_then _ _ (StepsFirst c.args.thread) _ (StepsTo c.args.thread false) c.args.core.now c.steps.core c.step.new.core (ap g.P.Program.meaning c.steps.invariant.moved.0)
+    (λ s w here next st sh sn a b. steps_wait s c.args.thread c.in-Waits.thread c.in-Waits.number w here next a b) c.steps.invariant.moved
+    (step_as _ c.from.result c.args.thread c.in_ok-step.field-0 (outcome.Waits c.in-Waits.thread c.in-Waits.number) c.steps.core c.step.new.core c.from.ensures c.in-Waits.is c.in_ok-step.ensures.on)
 
-pub returns-in-Waits-clause-idle : goal.returns-in-Waits-clause-idle
-returns-in-Waits-clause-idle g c = absurd (no_wait_here g c)
+pub returns-in-Waits-clause-up : goal.returns-in-Waits-clause-up
+returns-in-Waits-clause-up g c =
+    let some = stands_then _ (g.P.Program.meaning c.steps.core.program) (StepsFirst c.args.thread) c.args.core.now c.steps.core (ap g.P.Program.meaning c.steps.invariant.moved.0) c.steps.invariant.moved c.requires.stands in
+    up_after _ c.args.thread c.in_ok-step.field-0 c.steps.core c.step.new.core some c.steps.invariant.up
+    (step_as _ c.from.result c.args.thread c.in_ok-step.field-0 c.in_ok-step.field-0 c.steps.core c.step.new.core c.from.ensures refl c.in_ok-step.ensures.on)
 
 pub returns-in-Waits-clause-fresh : goal.returns-in-Waits-clause-fresh
 returns-in-Waits-clause-fresh g c = c.step.ensures.fresh ∙ c.steps.invariant.fresh
@@ -70,7 +72,7 @@ pub steps-smaller-in_default : goal.steps-smaller-in_default
 steps-smaller-in_default g c =
     let some = stands_then _ (g.P.Program.meaning c.steps.core.program) (StepsFirst c.args.thread) c.args.core.now c.steps.core (ap g.P.Program.meaning c.steps.invariant.moved.0) c.steps.invariant.moved c.requires.stands in
     let low = subst (λ n. c.args.thread < n) (sym (threads_stay _ (StepsFirst c.args.thread) c.args.core.now c.steps.core c.steps.invariant.moved c.requires.stands)) c.requires.thread_in in
-    moves_fall _ c.args.thread c.in_ok-step.field-0 c.steps.core c.step.new.core low c.in_default.not-Idle some
+    moves_fall _ c.args.thread c.in_ok-step.field-0 c.steps.core c.step.new.core low c.in_default.not-Idle c.in_default.not-Waits c.steps.invariant.up some
     (step_as _ c.from.result c.args.thread c.in_ok-step.field-0 c.in_ok-step.field-0 c.steps.core c.step.new.core c.from.ensures refl c.in_ok-step.ensures.on)
 
 pub steps-preserved-in_default : goal.steps-preserved-in_default
@@ -80,13 +82,17 @@ steps-preserved-in_default g c = record {
       (λ s w here next st sh sn a b. steps_more s c.args.thread c.in_ok-step.field-0 w here next c.in_default.not-Idle c.in_default.not-Waits a b) c.steps.invariant.moved
       (step_as _ c.from.result c.args.thread c.in_ok-step.field-0 c.in_ok-step.field-0 c.steps.core c.step.new.core c.from.ensures refl c.in_ok-step.ensures.on);
   fresh = c.step.ensures.fresh ∙ c.steps.invariant.fresh;
+  up =
+      let some = stands_then _ (g.P.Program.meaning c.steps.core.program) (StepsFirst c.args.thread) c.args.core.now c.steps.core (ap g.P.Program.meaning c.steps.invariant.moved.0) c.steps.invariant.moved c.requires.stands in
+      up_after _ c.args.thread c.in_ok-step.field-0 c.steps.core c.step.new.core some c.steps.invariant.up
+      (step_as _ c.from.result c.args.thread c.in_ok-step.field-0 c.in_ok-step.field-0 c.steps.core c.step.new.core c.from.ensures refl c.in_ok-step.ensures.on);
 }
 
 pub steps-smaller : goal.steps-smaller
 steps-smaller g c =
     let some = stands_then _ (g.P.Program.meaning c.steps.core.program) (StepsFirst c.args.thread) c.args.core.now c.steps.core (ap g.P.Program.meaning c.steps.invariant.moved.0) c.steps.invariant.moved c.requires.stands in
     let low = subst (λ n. c.args.thread < n) (sym (threads_stay _ (StepsFirst c.args.thread) c.args.core.now c.steps.core c.steps.invariant.moved c.requires.stands)) c.requires.thread_in in
-    moves_fall _ c.args.thread c.in_ok-step.field-0 c.steps.core c.step.new.core low c.in_default.not-Idle some
+    moves_fall _ c.args.thread c.in_ok-step.field-0 c.steps.core c.step.new.core low c.in_default.not-Idle c.in_default.not-Waits c.steps.invariant.up some
     (step_as _ c.from.result c.args.thread c.in_ok-step.field-0 c.in_ok-step.field-0 c.steps.core c.step.new.core c.from.ensures refl c.in_ok-step.ensures.on)
 
 pub steps-preserved : goal.steps-preserved
@@ -96,4 +102,8 @@ steps-preserved g c = record {
       (λ s w here next st sh sn a b. steps_more s c.args.thread c.in_ok-step.field-0 w here next c.in_default.not-Idle c.in_default.not-Waits a b) c.steps.invariant.moved
       (step_as _ c.from.result c.args.thread c.in_ok-step.field-0 c.in_ok-step.field-0 c.steps.core c.step.new.core c.from.ensures refl c.in_ok-step.ensures.on);
   fresh = c.step.ensures.fresh ∙ c.steps.invariant.fresh;
+  up =
+      let some = stands_then _ (g.P.Program.meaning c.steps.core.program) (StepsFirst c.args.thread) c.args.core.now c.steps.core (ap g.P.Program.meaning c.steps.invariant.moved.0) c.steps.invariant.moved c.requires.stands in
+      up_after _ c.args.thread c.in_ok-step.field-0 c.steps.core c.step.new.core some c.steps.invariant.up
+      (step_as _ c.from.result c.args.thread c.in_ok-step.field-0 c.in_ok-step.field-0 c.steps.core c.step.new.core c.from.ensures refl c.in_ok-step.ensures.on);
 }

@@ -1,6 +1,7 @@
-use Rattle.std.proofs.Common.{◌≡◌}
+use Rattle.std.proofs.Common.{◌≡◌, true}
 use Rattle.recovery_core.specs.Performing.{MovesOn}
-use Rattle.recovery_core.proofs.SettlingRounds.{StepsFirst, moves_left}
+use Rattle.recovery_core.proofs.SettlingRounds.{StepsFirst}
+use Rattle.recovery_core.specs.Settling.{moves_left}
 use Rattle.recovery_core.proofs.settling.step_out.Given as goal
 
 -- whatever the thread comes to from here, it comes to from the beginning
@@ -8,6 +9,7 @@ abbrev pub invariant-steps : goal.invariant-steps
 invariant-steps g l = record {
   moved : MovesOn (g.P.Program.meaning l.initial.core.program) (StepsFirst l.thread) l.initial.core l.core;
   fresh : l.core.fresh ≡ l.initial.core.fresh;
+  up : l.core.up ≡ true;
 }
 
 abbrev pub decreases-steps : goal.decreases-steps

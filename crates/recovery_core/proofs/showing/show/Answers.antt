@@ -14,5 +14,6 @@ returns g c = record {
       shown_moves (g.P.Program.meaning c.args.core.now.program) c.args.var c.value-value.result.now c.in_ok-show.field-0 (part_with c.value-value.result.now) c.core.view_is
       (subst (λ p. c.args.var < (g.P.Program.meaning p).vars) program low)
       (c.value-value.ensures (part_with c.value-value.result.now))
+      c.if-not-core.false
       (subst (λ p. c.in_ok-show.field-0 ≡ (g.P.Program.meaning p).shown c.args.var c.value-value.result.now) program c.in_ok-show.ensures);
 }

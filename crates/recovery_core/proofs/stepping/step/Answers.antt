@@ -42,7 +42,10 @@ note-requires-clause-can g c = λ κs within.
       input = c.input_of-input.ensures;
       follows = c.step-stepped.ensures.follows;
       idle = λ e. c.step-stepped.ensures.idle.0 e;
-      free = λ u n e. let k = ((c.step-stepped.ensures.not_turn u n).0 e).1 in absurd (cc);
+      up = c.if-not-core.false;
+      turn = c.turn_of-turn.result;
+      turn_is = λ s w st. c.turn_of-turn.ensures s w (subst (λ q. StandsFor (g.P.Program.meaning q.program) s w q) c.core.view_is st);
+      not_turn = c.step-stepped.ensures.not_turn;
       unchanged = c.step-stepped.ensures.unchanged;
     })
     (g.P.Program.fits c.core.inside.program) s w (g.met.P.Program.lawful c.core.inside.program) st c.core.invariant.sent c.core.invariant.some_threads c.core.invariant.few_threads c.core.invariant.fed
@@ -61,7 +64,10 @@ returns-clause-on g c =
       input = c.input_of-input.ensures;
       follows = c.step-stepped.ensures.follows;
       idle = λ e. c.step-stepped.ensures.idle.0 e;
-      free = λ u n e. let k = ((c.step-stepped.ensures.not_turn u n).0 e).1 in absurd (cc);
+      up = c.if-not-core.false;
+      turn = c.turn_of-turn.result;
+      turn_is = λ s w st. c.turn_of-turn.ensures s w (subst (λ q. StandsFor (g.P.Program.meaning q.program) s w q) c.core.view_is st);
+      not_turn = c.step-stepped.ensures.not_turn;
       unchanged = c.step-stepped.ensures.unchanged;
     })
     s w st c.note.result c.note.new.core c.note.ensures)
@@ -79,7 +85,10 @@ returns-clause-limit g c = λ limit is.
       input = c.input_of-input.ensures;
       follows = c.step-stepped.ensures.follows;
       idle = λ e. c.step-stepped.ensures.idle.0 e;
-      free = λ u n e. let k = ((c.step-stepped.ensures.not_turn u n).0 e).1 in absurd (cc);
+      up = c.if-not-core.false;
+      turn = c.turn_of-turn.result;
+      turn_is = λ s w st. c.turn_of-turn.ensures s w (subst (λ q. StandsFor (g.P.Program.meaning q.program) s w q) c.core.view_is st);
+      not_turn = c.step-stepped.ensures.not_turn;
       unchanged = c.step-stepped.ensures.unchanged;
     })
     s w st c.note.result c.note.new.core c.note.ensures limit is)

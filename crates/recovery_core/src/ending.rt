@@ -1,0 +1,80 @@
+ghost use Rattle.std.specs.Prelude.{◌≡◌, ◌<◌, ℕ, true, IfOk, slice_index};
+ghost use Rattle.dup_filter.specs.Numbers.{numbers, IsGreatest};
+ghost use Rattle.recovery_world.specs.World.{Setting, World};
+ghost use Rattle.recovery_core.specs.Standing.{StandsFor, StandsForSome};
+ghost use Rattle.run_finish.specs.Ending.{EndsIn};
+ghost use Rattle.recovery_core.specs.Ending.{IsOrderOf};
+
+use crate::assembly::Core;
+use crate::settling::wake;
+use box_program::Program;
+use dup_filter::Released;
+use entry_order::LogEntry;
+use plain_machine::Schedule;
+use plain_text::NoMemory;
+use replay_guide::Guide;
+use run_finish::finish_run;
+use std::alloc::Global;
+
+/// The followed entries, in the order in which they can be made.
+fn followed_entries(alloc: Global, guide: &Guide) -> Result<Vec<LogEntry>, NoMemory>
+    ensures { IfOk result (λ entries. IsOrderOf guide.now entries.items) }
+{
+    let order = guide.order(alloc)?;
+    let mut entries = Vec::with_capacity(alloc, order.len())?;
+    for (thread, number) in order.as_slice() {
+        if let Some(entry) = guide.get(*thread, *number) {
+            entries.push(LogEntry {
+                thread: entry.thread,
+                number: entry.number,
+                what: entry.what,
+            })?;
+        }
+    }
+    Ok(entries)
+}
+
+/// The greatest number of a released output of each thread, or 0.
+fn last_released(alloc: Global, released: &Released, threads: u32) -> Result<Vec<u64>, NoMemory>
+    ensures { IfOk result (λ last. (t : ℕ) → t < threads
+        → IsGreatest (numbers released.now t) (slice_index last.items t)) }
+{
+    let mut last = Vec::with_capacity(alloc, threads as usize)?;
+    for thread in 0..threads {
+        last.push(released.greatest(thread))?;
+    }
+    Ok(last)
+}
+
+/// The schedule of the run in which the world ends, of a master that is up.
+fn end_awake<P: Program>(core: Core<P>) -> Result<Schedule, NoMemory>
+    requires stands { StandsForSome (P.meaning core.program) core }
+    requires up { core.up ≡ true }
+    ensures { IfOk result (λ moves. (s : Setting P.Value) (w : World P.Value)
+        → StandsFor (P.meaning core.program) s w core → EndsIn s w moves) }
+{
+    let alloc = core.alloc;
+    let order = followed_entries(alloc, &core.guide)?;
+    let numbers = last_released(alloc, core.logger.released(), core.inputs.threads())?;
+    let master = core.master;
+    let schedule = core.schedule;
+    finish_run(
+        alloc,
+        &core.program,
+        &core.inputs,
+        master,
+        schedule,
+        order.as_slice(),
+        numbers.as_slice(),
+    )
+}
+
+/// The schedule of the run in which the world ends. Where the master is down, it is that of the one that would start now.
+pub fn end<P: Program>(mut core: Core<P>) -> Result<Schedule, NoMemory>
+    requires stands { StandsForSome (P.meaning core.program) core }
+    ensures { IfOk result (λ moves. (s : Setting P.Value) (w : World P.Value)
+        → StandsFor (P.meaning core.program) s w core → EndsIn s w moves) }
+{
+    wake(&mut core)?;
+    end_awake(core)
+}
