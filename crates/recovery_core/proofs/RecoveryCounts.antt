@@ -118,22 +118,29 @@ count_of_members P (x ∷ all) some once other same = go (in_or x some) (λ rest
         let r = split x some i in
         let o = split_once x r.0 r.1 (subst (λ (l : List Entry). IsEachOnce l) r.2 other) in
         let long : length some ≡ length (r.0 ++ r.1) + 1 = ap (λ (l : List Entry). length l) r.2 ∙ long_split x r.0 r.1 in
-        inl (((same x).0 i).1, length (r.0 ++ r.1), long, more (r.0 ++ r.1) o.0 (λ e. (
-          λ k.
-              let there = (same e).0 (subst (λ (l : List Entry). IsIn e l) (sym r.2) (split_in x e r.0 r.1 k)) in
-              (drop_first e there.0 (λ is. o.1 (subst (λ (z : Entry). IsIn z (r.0 ++ r.1)) (sym is) k)), there.1),
-          λ k. other_of e k.0 r.0 r.1 (in_split x e r.0 r.1 (subst (λ (l : List Entry). IsIn e l) r.2 ((same e).1 (inr k.0, k.1)))),
-        )))
+        inl (
+          ((same x).0 i).1,
+          length (r.0 ++ r.1),
+          long,
+          more (r.0 ++ r.1) o.0 (λ e. (
+            λ k.
+                let there = (same e).0 (subst (λ (l : List Entry). IsIn e l) (sym r.2) (split_in x e r.0 r.1 k)) in
+                (drop_first e there.0 (λ is. o.1 (subst (λ (z : Entry). IsIn z (r.0 ++ r.1)) (sym is) k)), there.1),
+            λ k. other_of e k.0 r.0 r.1 (in_split x e r.0 r.1 (subst (λ (l : List Entry). IsIn e l) r.2 ((same e).1 (inr k.0, k.1)))),
+          )),
+        )
       where
         other_of : (e : Entry) → IsIn e all → (pre post : List Entry) → (x ≡ e) ⊎ IsIn e (pre ++ post) → IsIn e (pre ++ post)
         other_of e i pre post (inl is) = absurd (once.0 (subst (λ (z : Entry). IsIn z all) (sym is) i))
         other_of e i pre post (inr k) = k
     go (inr none) more =
-        inr (λ p. none ((same x).1 (inl refl, p)),
-        more some other (λ e. (
-          λ k. let there = (same e).0 k in (drop_first e there.0 (λ is. none (subst (λ (z : Entry). IsIn z some) (sym is) k)), there.1),
-          λ k. (same e).1 (inr k.0, k.1),
-        )))
+        inr (
+          λ p. none ((same x).1 (inl refl, p)),
+          more some other (λ e. (
+            λ k. let there = (same e).0 k in (drop_first e there.0 (λ is. none (subst (λ (z : Entry). IsIn z some) (sym is) k)), there.1),
+            λ k. (same e).1 (inr k.0, k.1),
+          )),
+        )
 
 -- Stamped entries that are counted, without their stamps
 

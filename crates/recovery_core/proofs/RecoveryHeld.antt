@@ -99,9 +99,12 @@ module _ {V : Type 0} (s : Setting V) (w : World V) (h : Firm s w) (held new : L
       of_log = λ t n x at.
           let there : entry_at (lane new t) n ≡ Some x = subst (λ (l : Lane). entry_at l n ≡ Some x) (lanes t) at in
           let k = new_holds.of_log t n x there in
-          let kept : IsIn (plain_entry x) (part ++ log_of w.stored) = in_left (plain_entry x) part (log_of w.stored) ((part_held (plain_entry x)).0 (at_held new (plain_entry x) t n x there refl)).0 in
-          (k.0, k.1, kept,
-          closed_stamp (line_log s w h) (part ++ log_of w.stored) (part ++ log_of w.stored) (plain_entry x) (λ u. slice_index x.stamp u) followed_closed followed_here (λ d f i j m. i) (λ d i. i) kept k.3);
+          let kept : IsIn (plain_entry x) (part ++ log_of w.stored) = in_left (plain_entry x) part (log_of w.stored) ((part_held (plain_entry x)).0 (at_held new (plain_entry x) t n x there refl)).0 in (
+            k.0,
+            k.1,
+            kept,
+            closed_stamp (line_log s w h) (part ++ log_of w.stored) (part ++ log_of w.stored) (plain_entry x) (λ u. slice_index x.stamp u) followed_closed followed_here (λ d f i j m. i) (λ d i. i) kept k.3,
+          );
     }
 
     -- the guide of it

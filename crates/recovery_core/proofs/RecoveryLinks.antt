@@ -55,9 +55,10 @@ turned_more {V} master t counts old mid new is h b = record {
   outputs = λ u low. one_outputs u (is_or u t) low;
   others = λ u high.
       let apart : u ≢ t = omega (arith, high) in
-      let before = h.others u (omega (arith, high)) in
-      (ap (λ (l : List (List ℕ)). lengths_of l u) b.entries ∙ (turned_other mid.entries t u counts.entries apart ∙ before.0),
-      ap (λ (l : List (List ℕ)). lengths_of l u) b.outputs ∙ (turned_other mid.outputs t u counts.outputs apart ∙ before.1));
+      let before = h.others u (omega (arith, high)) in (
+        ap (λ (l : List (List ℕ)). lengths_of l u) b.entries ∙ (turned_other mid.entries t u counts.entries apart ∙ before.0),
+        ap (λ (l : List (List ℕ)). lengths_of l u) b.outputs ∙ (turned_other mid.outputs t u counts.outputs apart ∙ before.1),
+      );
   epoch = b.epoch ∙ h.epoch;
   threads = b.threads ∙ h.threads;
 }

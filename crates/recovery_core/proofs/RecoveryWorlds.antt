@@ -246,10 +246,13 @@ module _ {P V : Type 0} (m : Meaning V) (s : Setting V) (w : World V) (y : Parts
 pub start_moves : {P V : Type 0} (meaning : P → Meaning V) (y old : Parts P V) (kept : Kept) (counts : List Counts) (now : Logger) (guide : List Lane) (mid sent : Sending) → y ≡ old → old.up ≡ false → StartsOver y kept counts now guide mid sent
     → MovesOn (meaning old.program) (RecoversTo kept) old (started y counts now guide sent)
 start_moves {P} {V} meaning y old kept counts now guide mid sent same down d =
-    subst (λ (z : Parts P V). MovesOn (meaning z.program) (RecoversTo kept) z (started y counts now guide sent)) same
-    (refl, refl, λ s w st.
-    let r = (recovers_there s w st.sound.firm).1 in
-    starts_over (meaning y.program) s w y st (ap (λ (z : Parts P V). z.up) same ∙ down) kept counts now guide mid sent d r.part r.part_of r.closed)
+    subst (λ (z : Parts P V). MovesOn (meaning z.program) (RecoversTo kept) z (started y counts now guide sent)) same (
+      refl,
+      refl,
+      λ s w st.
+          let r = (recovers_there s w st.sound.firm).1 in
+          starts_over (meaning y.program) s w y st (ap (λ (z : Parts P V). z.up) same ∙ down) kept counts now guide mid sent d r.part r.part_of r.closed,
+    )
 
 -- what is held then can be followed
 pub follows_then : {P V : Type 0} (meaning : P → Meaning V) (y old : Parts P V) (now : Logger) → y ≡ old → StandsForSome (meaning old.program) old
