@@ -68,3 +68,27 @@ returns-in_ok-settle-in-Settle-clause-on g c =
     let m = g.P.Program.meaning c.args.core.now.program in
     subst (λ e. MovesOn m (RepliesAny e c.only-in-Settle.result) c.args.core.now c.settle.new.core) (sym c.in-Settle.is)
     (settles_any m c.in_ok-settle-in-Settle.field-0 c.only-in-Settle.result c.args.core.now c.settle.new.core c.only-in-Settle.ensures c.in_ok-settle-in-Settle.ensures.on)
+
+pub returns-in_ok-snap-in-Snap-clause-on : goal.returns-in_ok-snap-in-Snap-clause-on
+returns-in_ok-snap-in-Snap-clause-on g c =
+    let m = g.P.Program.meaning c.args.core.now.program in
+    subst (λ e. MovesOn m (RepliesAny e c.only-in-Snap.result) c.args.core.now c.snap.new.core) (sym c.in-Snap.is)
+    (comes_any m event.Snap c.in_ok-snap-in-Snap.field-0 c.only-in-Snap.result c.args.core.now c.snap.new.core c.only-in-Snap.ensures c.in_ok-snap-in-Snap.ensures.on)
+
+pub returns-in_ok-store-in-Store-clause-on : goal.returns-in_ok-store-in-Store-clause-on
+returns-in_ok-store-in-Store-clause-on g c =
+    let m = g.P.Program.meaning c.args.core.now.program in
+    subst (λ e. MovesOn m (RepliesAny e c.in_ok-store-in-Store.field-0) c.args.core.now c.store.new.core) (sym c.in-Store.is)
+    (replies_any m event.Store c.in_ok-store-in-Store.field-0 c.args.core.now c.store.new.core c.in_ok-store-in-Store.ensures.on)
+
+pub returns-in-Crash-clause-on : goal.returns-in-Crash-clause-on
+returns-in-Crash-clause-on g c =
+    let m = g.P.Program.meaning c.args.core.now.program in
+    subst (λ e. MovesOn m (RepliesAny e c.only-in-Crash.result) c.args.core.now c.crash.new.core) (sym c.in-Crash.is)
+    (comes_any m event.Crash c.crash.result c.only-in-Crash.result c.args.core.now c.crash.new.core c.only-in-Crash.ensures c.crash.ensures.on)
+
+pub returns-in_ok-recover-in-Recover-clause-on : goal.returns-in_ok-recover-in-Recover-clause-on
+returns-in_ok-recover-in-Recover-clause-on g c =
+    let m = g.P.Program.meaning c.args.core.now.program in
+    subst (λ e. MovesOn m (RepliesAny e c.only-in-Recover.result) c.args.core.now c.recover.new.core) (sym c.in-Recover.is)
+    (comes_any m event.Recover c.in_ok-recover-in-Recover.field-0 c.only-in-Recover.result c.args.core.now c.recover.new.core c.only-in-Recover.ensures c.in_ok-recover-in-Recover.ensures.on)
