@@ -1,0 +1,5 @@
+pub mod Receipts
+pub mod Linked
+pub mod Woven
+pub mod Home
+pub mod Growth

@@ -1,0 +1,41 @@
+//! The laws of a round, of every program. Each is proved, and does nothing: a caller has it by the call.
+ghost use Rattle.std.specs.Prelude.{List};
+ghost use Rattle.round_order.specs.Receipts.{Receipt, Receipts};
+ghost use Rattle.round_order.specs.Woven.{Weaving, WovenLine, WovenThere, IsOrder, IsWoven};
+ghost use Rattle.round_order.specs.Home.{Opening, Closing};
+ghost use Rattle.round_order.specs.Growth.{PrivateMoves, TouchMoves, ReadMoves};
+
+/// Receipts that are linked from a run weave into a legal continuation of it, in any order that keeps those of each thread in
+/// theirs and in which the logged ones rise in weight, as in the woven list. It has exactly their moves and entries, with
+/// their stamps.
+pub fn receipts_weave<X>()
+    ensures weave { Weaving X }
+    ensures woven { (rs : Receipts X) (order : List (Receipt X)) → IsWoven rs order
+        → IsOrder rs order }
+    ensures there { WovenThere X }
+{}
+
+/// The woven list is in the order in which a run is finished after a crash: its entries stand by weight, then thread, each
+/// after the moves of its thread that lead to it.
+pub fn woven_rounds_are_lines<X>()
+    ensures { WovenLine X }
+{}
+
+/// When a round begins, what is at home of each variable and what each thread has are the parts of its master.
+pub fn rounds_open<X>()
+    ensures { Opening X }
+{}
+
+/// What holds between any two moves of a round is kept by the next one, which its thread makes with what it has and what it
+/// found: by a move on no variable, by a touch of what is at home of a variable, and by a read of it. The thread then has
+/// what the move left, the touched or read variable comes home as after it, and all else stays.
+pub fn rounds_grow<X>()
+    ensures private { PrivateMoves X }
+    ensures touch { TouchMoves X }
+    ensures read { ReadMoves X }
+{}
+
+/// At the end of a round, what is at home and what each thread has make a master that stands for the woven list.
+pub fn rounds_close<X>()
+    ensures { Closing X }
+{}

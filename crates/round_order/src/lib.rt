@@ -1,0 +1,7 @@
+//! A round in which threads race: receipts of what each thread did, and the laws by which they weave into one legal list of
+//! moves. It knows no words, locks or threads of a machine.
+#![tactic(auto)]
+
+mod laws;
+
+pub use laws::{receipts_weave, rounds_close, rounds_grow, rounds_open, woven_rounds_are_lines};
