@@ -8,6 +8,7 @@ pub mod OpenedRounds
 pub mod ClosedRounds
 pub mod RisingThreads
 pub mod WovenThere
+pub mod WovenOnce
 pub mod MoreReceipts
 pub mod RoundCounts
 pub mod LastEntries
@@ -16,3 +17,4 @@ pub mod TouchLemmas
 pub mod ReadLemmas
 pub mod SeatLemmas
 pub mod GrownRounds
+pub mod Examples

@@ -54,7 +54,7 @@ among_right : {V : Type 0} (xs ys : List (Receipt V)) (x : Receipt V) → Among 
 among_right [] ys x h = h
 among_right (r ∷ xs) ys x h = inr (among_right xs ys x h)
 
-among_either : {V : Type 0} (xs ys : List (Receipt V)) (x : Receipt V) → Among x (xs ++ ys) → Among x xs ⊎ Among x ys
+pub among_either : {V : Type 0} (xs ys : List (Receipt V)) (x : Receipt V) → Among x (xs ++ ys) → Among x xs ⊎ Among x ys
 among_either [] ys x h = inr h
 among_either (r ∷ xs) ys x (inl same) = inl (inl same)
 among_either (r ∷ xs) ys x (inr h) = go (among_either xs ys x h)

@@ -1,18 +1,20 @@
 //! The laws of a round, of every program. Each is proved, and does nothing: a caller has it by the call.
-ghost use Rattle.std.specs.Prelude.{List};
+ghost use Rattle.std.specs.Prelude.{◌≡◌, List};
 ghost use Rattle.round_order.specs.Receipts.{Receipt, Receipts};
 ghost use Rattle.round_order.specs.Woven.{Weaving, WovenLine, WovenThere, IsOrder, IsWoven};
 ghost use Rattle.round_order.specs.Home.{Opening, Closing};
 ghost use Rattle.round_order.specs.Growth.{PrivateMoves, TouchMoves, ReadMoves};
 
 /// Receipts that are linked from a run weave into a legal continuation of it, in any order that keeps those of each thread in
-/// theirs and in which the logged ones rise in weight, as in the woven list. It has exactly their moves and entries, with
-/// their stamps.
+/// theirs and in which the logged ones rise in weight. It has exactly their moves and entries, with their stamps. The woven
+/// list is such an order, and there is one.
 pub fn receipts_weave<X>()
     ensures weave { Weaving X }
     ensures woven { (rs : Receipts X) (order : List (Receipt X)) → IsWoven rs order
         → IsOrder rs order }
     ensures there { WovenThere X }
+    ensures one { (rs : Receipts X) (order other : List (Receipt X)) → IsWoven rs order
+        → IsWoven rs other → order ≡ other }
 {}
 
 /// The woven list is in the order in which a run is finished after a crash: its entries stand by weight, then thread, each
