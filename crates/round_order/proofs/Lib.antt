@@ -17,4 +17,5 @@ pub mod TouchLemmas
 pub mod ReadLemmas
 pub mod SeatLemmas
 pub mod GrownRounds
+pub mod PartReceipts
 pub mod Examples

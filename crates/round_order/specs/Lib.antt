@@ -3,3 +3,4 @@ pub mod Linked
 pub mod Woven
 pub mod Home
 pub mod Growth
+pub mod PartMoves

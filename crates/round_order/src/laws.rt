@@ -4,6 +4,7 @@ ghost use Rattle.round_order.specs.Receipts.{Receipt, Receipts};
 ghost use Rattle.round_order.specs.Woven.{Weaving, WovenLine, WovenThere, IsOrder, IsWoven};
 ghost use Rattle.round_order.specs.Home.{Opening, Closing};
 ghost use Rattle.round_order.specs.Growth.{PrivateMoves, TouchMoves, ReadMoves};
+ghost use Rattle.round_order.specs.PartMoves.{Takes, Emits, EndsPacket, HearsTime, HearsWord, TouchesHome, ReadsHome};
 
 /// Receipts that are linked from a run weave into a legal continuation of it, in any order that keeps those of each thread in
 /// theirs and in which the logged ones rise in weight. It has exactly their moves and entries, with their stamps. The woven
@@ -35,6 +36,18 @@ pub fn rounds_grow<X>()
     ensures private { PrivateMoves X }
     ensures touch { TouchMoves X }
     ensures read { ReadMoves X }
+{}
+
+/// What a thread does with its own part, and with that of the variable that it has taken, is its next move: the receipts made of
+/// these parts meet what `rounds_grow` asks, and both parts are left as a master leaves them.
+pub fn parts_make_moves<X>()
+    ensures take { Takes X }
+    ensures emit { Emits X }
+    ensures end { EndsPacket X }
+    ensures clock { HearsTime X }
+    ensures draw { HearsWord X }
+    ensures touch { TouchesHome X }
+    ensures read { ReadsHome X }
 {}
 
 /// At the end of a round, what is at home and what each thread has make a master that stands for the woven list.

@@ -4,4 +4,7 @@
 
 mod laws;
 
-pub use laws::{receipts_weave, rounds_close, rounds_grow, rounds_open, woven_rounds_are_lines};
+pub use laws::{
+    parts_make_moves, receipts_weave, rounds_close, rounds_grow, rounds_open,
+    woven_rounds_are_lines,
+};
