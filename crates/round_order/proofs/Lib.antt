@@ -9,6 +9,8 @@ pub mod ClosedRounds
 pub mod RisingThreads
 pub mod WovenThere
 pub mod WovenOnce
+pub mod TurnLemmas
+pub mod TurnSteps
 pub mod MoreReceipts
 pub mod RoundCounts
 pub mod LastEntries

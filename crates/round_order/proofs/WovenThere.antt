@@ -14,10 +14,10 @@ use Rattle.round_order.proofs.SeatLemmas.{one_or_none}
 use Rattle.round_order.proofs.WeightLemmas.{sum_less}
 
 -- none is logged; all are of one thread
-abbrev AreUnlogged : {V : Type 0} → List (Receipt V) → Type 0
+abbrev pub AreUnlogged : {V : Type 0} → List (Receipt V) → Type 0
 AreUnlogged {V} xs = (x : Receipt V) → Among x xs → IsUnlogged x
 
-abbrev AreOf : {V : Type 0} → ℕ → List (Receipt V) → Type 0
+abbrev pub AreOf : {V : Type 0} → ℕ → List (Receipt V) → Type 0
 AreOf {V} t xs = (x : Receipt V) → Among x xs → x.step.thread ≡ t
 
 -- the newest is logged
@@ -88,7 +88,7 @@ rest_by_weight : {V : Type 0} (xs ys : List (Receipt V)) → IsByWeight (xs ++ y
 rest_by_weight [] ys h = h
 rest_by_weight (r ∷ xs) ys h = rest_by_weight xs ys h.1
 
-before_trans : {V : Type 0} (x y z : Receipt V) → GoesBefore x y → GoesBefore y z → GoesBefore x z
+pub before_trans : {V : Type 0} (x y z : Receipt V) → GoesBefore x y → GoesBefore y z → GoesBefore x z
 before_trans x y z (inl a) (inl b) = inl (omega arith)
 before_trans x y z (inl a) (inr b) = inl (omega (arith, b.0))
 before_trans x y z (inr a) (inl b) = inl (omega (arith, a.0))
@@ -193,7 +193,7 @@ led_to : {V : Type 0} (r : Receipt V) (order : List (Receipt V)) → IsLedUp ord
 led_to r [] h = tt
 led_to r (x ∷ earlier) h = (inl h.0, h.1)
 
-leads_on : {V : Type 0} (r : Receipt V) (q order : List (Receipt V)) → AreUnlogged q → AreOf r.step.thread q → IsLedUp order → LeadsTo r (q ++ order)
+pub leads_on : {V : Type 0} (r : Receipt V) (q order : List (Receipt V)) → AreUnlogged q → AreOf r.step.thread q → IsLedUp order → LeadsTo r (q ++ order)
 leads_on r [] order none of_t h = led_to r order h
 leads_on {V} r (x ∷ q) order none of_t h = (
   inr (none x (inl refl), of_t x (inl refl)),

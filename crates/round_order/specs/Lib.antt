@@ -4,3 +4,4 @@ pub mod Woven
 pub mod Home
 pub mod Growth
 pub mod PartMoves
+pub mod Turns

@@ -2,6 +2,7 @@
 ghost use Rattle.std.specs.Prelude.{◌≡◌, List};
 ghost use Rattle.round_order.specs.Receipts.{Receipt, Receipts};
 ghost use Rattle.round_order.specs.Woven.{Weaving, WovenLine, WovenThere, IsOrder, IsWoven};
+ghost use Rattle.round_order.specs.Turns.{TurnsWeave};
 ghost use Rattle.round_order.specs.Home.{Opening, Closing};
 ghost use Rattle.round_order.specs.Growth.{PrivateMoves, TouchMoves, ReadMoves};
 ghost use Rattle.round_order.specs.PartMoves.{Takes, Emits, EndsPacket, HearsTime, HearsWord, TouchesHome, ReadsHome};
@@ -16,6 +17,12 @@ pub fn receipts_weave<X>()
     ensures there { WovenThere X }
     ensures one { (rs : Receipts X) (order other : List (Receipt X)) → IsWoven rs order
         → IsWoven rs other → order ≡ other }
+{}
+
+/// Linked receipts are woven in the turns that their marks tell, each the newest that is left of its thread. These are the
+/// turns that `weave` answers.
+pub fn turns_weave<X>()
+    ensures { TurnsWeave X }
 {}
 
 /// The woven list is in the order in which a run is finished after a crash: its entries stand by weight, then thread, each

@@ -3,8 +3,12 @@
 #![tactic(auto)]
 
 mod laws;
+#[cfg(test)]
+mod tests;
+mod turns;
 
 pub use laws::{
-    parts_make_moves, receipts_weave, rounds_close, rounds_grow, rounds_open,
+    parts_make_moves, receipts_weave, rounds_close, rounds_grow, rounds_open, turns_weave,
     woven_rounds_are_lines,
 };
+pub use turns::{Marks, weave};
