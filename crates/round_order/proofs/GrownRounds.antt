@@ -17,7 +17,7 @@ use Rattle.round_order.proofs.MoreReceipts.{touch_of, read_of, linked_more}
 use Rattle.round_order.proofs.RoundCounts.{own_number, legal_at}
 use Rattle.round_order.proofs.LastEntries.{own_top}
 use Rattle.round_order.proofs.StampJoins.{hear_join, read_join, touch_join, within_more}
-use Rattle.round_order.proofs.SeatLemmas.{number, one_or_none, seat_stays, seat_grows}
+use Rattle.round_order.proofs.SeatLemmas.{number, one_or_none, seat_stays, seat_grows, held_grows}
 use Rattle.round_order.proofs.TouchLemmas.{done_linked, home_done, home_other}
 use Rattle.round_order.proofs.ReadLemmas.{read_linked, home_read}
 
@@ -63,6 +63,7 @@ module _ {V : Type 0} (m : Meaning V) (inputs : ℕ → List Packet) (threads : 
         within = within_more m inputs threads past round.opening rs round.linked round.within r next.alone join one.none (one_or_none r);
       };
       seat = seat_grows m inputs threads past rs part r round next;
+      held = held_grows m inputs threads past rs part r round next;
       seats = seat_stays m inputs threads past rs part r round next;
       homes = λ w z other home. home_other m inputs threads past round.opening rs round.linked r w z next.alone (one.no_touch w) (one.no_read w) home;
     }
@@ -95,6 +96,7 @@ module _ {V : Type 0} (m : Meaning V) (inputs : ℕ → List Packet) (threads : 
               (λ e l. subst (λ (d : Entry). HasJoin past rs r d) (logged_once r t.touch.0 e touched l) touch_joins) (λ none u. absurd (none t.touch.0 touched)) (inl (t.touch.0, touched));
         };
         seat = seat_grows m inputs threads past rs part r round next;
+        held = held_grows m inputs threads past rs part r round next;
         seats = seat_stays m inputs threads past rs part r round next;
         homes = λ w z apart old. home_other m inputs threads past round.opening rs round.linked r w z next.alone (λ left a. apart (of_v w left a)) (no_read_of w) old;
       },
@@ -129,6 +131,7 @@ module _ {V : Type 0} (m : Meaning V) (inputs : ℕ → List Packet) (threads : 
               (λ e l. subst (λ (d : Entry). HasJoin past rs r d) (logged_once r t.read.0 e looked l) read_joins) (λ none u. absurd (none t.read.0 looked)) (inl (t.read.0, looked));
         };
         seat = seat_grows m inputs threads past rs part r round next;
+        held = held_grows m inputs threads past rs part r round next;
         seats = seat_stays m inputs threads past rs part r round next;
         homes = λ w z apart old. home_other m inputs threads past round.opening rs round.linked r w z next.alone (no_touch_of w) (λ a. apart (reads_v w a)) old;
       },

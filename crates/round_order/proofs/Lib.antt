@@ -9,6 +9,7 @@ pub mod ClosedRounds
 pub mod RisingThreads
 pub mod WovenThere
 pub mod WovenOnce
+pub mod RisingPlaces
 pub mod TurnLemmas
 pub mod TurnSteps
 pub mod MoreReceipts

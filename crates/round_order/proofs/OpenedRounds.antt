@@ -13,6 +13,8 @@ use Rattle.master_core.specs.declared.parts.ThreadPart.{ThreadPart}
 use Rattle.master_core.specs.Standing.{IsVariable, IsThread}
 use Rattle.round_order.specs.Receipts.{no_receipts}
 use Rattle.round_order.specs.Linked.{IsKnown, IsJoinOf}
+use Rattle.plain_text.specs.declared.packet.Packet.{Packet}
+use Rattle.round_order.specs.Growth.{IsRound}
 use Rattle.round_order.specs.Home.{IsHome, IsSeat}
 
 module _ {V : Type 0} (m : Meaning V) (past : List (Step V)) (good : IsLog (log_of past)) where
@@ -67,3 +69,18 @@ module _ {V : Type 0} (m : Meaning V) (past : List (Step V)) (good : IsLog (log_
           let e = entry_there (log_of past) t (suc n) good (omega arith) (omega (arith, at)) in
           one (λ d. (d.thread ≡ t) × (d.number ≡ suc n)) e.0 (λ u. slice_index part.stamp u) e.1 (e.2, e.3) (λ d w old. same_number (log_of past) d e.0 good old e.1 (w.0 ∙ sym e.2) (w.1 ∙ sym e.3))
           (output_stamp_of (log_of past) t (suc n) e.0 (λ u. slice_index part.stamp u) good e.1 e.2 e.3 o)
+
+  -- no receipts are linked, and no stamp of theirs is above the counts
+  pub round_begins : (inputs : ℕ → List Packet) (threads : ℕ) → IsRound m inputs threads past no_receipts
+  round_begins inputs threads = record {
+    opening = good;
+    linked = record {
+      alone = λ t. tt;
+      below = λ r here. absurd here;
+      touched = λ r v left here a. absurd here;
+      looked = λ r v here a. absurd here;
+      once = λ f g v x y here there a b same. absurd here;
+      joined = λ r e here l. absurd here;
+    };
+    within = λ q u here. absurd here;
+  }

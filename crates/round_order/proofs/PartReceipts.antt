@@ -1,25 +1,25 @@
 -- A move that is made with the part of its thread and of its variable is the next move of the thread.
-use Rattle.std.proofs.Common.{◌≡◌, ℕ, ◌+◌, ◌<◌, List, [], refl, sym, ap, ◌∙◌, subst, inl, inr, Option, Some, None}
+use Rattle.std.proofs.Common.{◌≡◌, ℕ, ◌+◌, ◌<◌, List, refl, sym, ap, ◌∙◌, subst, Option, Some, None}
 use Rattle.std.specs.Prelude.{max, slice_get, slice_index}
 use Rattle.plain_text.specs.declared.packet.Packet.{Packet}
 use Rattle.entry_order.specs.declared.what.What.{What}
 use Rattle.entry_order.specs.declared.what.What.TheVariants.{Access as Touched, Read as Looked, Clock as Told, Draw as Drawn}
-use Rattle.entry_order.specs.Log.{Entry, entries}
+use Rattle.entry_order.specs.Log.{Entry}
 use Rattle.entry_order.specs.Stamps.{bumped}
 use Rattle.plain_machine.specs.declared.local.Local.{Local}
 use Rattle.plain_machine.specs.declared.local.Move.{Move}
 use Rattle.plain_machine.specs.declared.local.Move.TheVariants.{Access, Read, Clock, Draw, Emit, End}
 use Rattle.plain_machine.specs.Program.{Meaning}
-use Rattle.plain_machine.specs.Machine.{Hand, Thread, Effect, Takes, Touches as TouchesVar, Looks, HearsClock, HearsDraw, Sends, Ends, Moves, Moved, holding, sent_packet, hand_move, held_move, take_move, thread_move}
-use Rattle.plain_machine.specs.History.{Act, Took, Did, Emitted, Ended, Step, log_of, sent_of, outputs, entry_of, emission_of, thread_after}
+use Rattle.plain_machine.specs.Machine.{Hand, Thread, Takes, Touches as TouchesVar, Looks, HearsClock, HearsDraw, Sends, Ends, Moved, sent_packet, hand_move, held_move, take_move, thread_move}
+use Rattle.plain_machine.specs.History.{Took, Did, Emitted, Ended, Step, log_of, entry_of, thread_after}
 use Rattle.master_core.specs.declared.parts.VarPart.{VarPart}
 use Rattle.master_core.specs.declared.parts.ThreadPart.{ThreadPart}
 use Rattle.master_core.specs.Stepping.{plain_entry}
 use Rattle.master_core.specs.Effects.{after_take, after_entry, after_emit, after_end, next_entry, HasStamp, before_touch, before_read}
-use Rattle.round_order.specs.Receipts.{Receipt, Receipts, after, act_at, IsLogged, IsTouch, IsRead}
+use Rattle.round_order.specs.Receipts.{Receipt, Receipts, after}
 use Rattle.round_order.specs.Linked.{IsOwnMove}
 use Rattle.round_order.specs.Home.{IsSeat}
-use Rattle.round_order.specs.Growth.{IsNextOf, IsPrivate, Touches, Reads, part_after}
+use Rattle.round_order.specs.Growth.{IsNextOf, IsPrivate, Touches, Reads}
 use Rattle.round_order.specs.PartMoves as moves
 
 module _ {V : Type 0} (m : Meaning V) (inputs : ℕ → List Packet) (threads : ℕ) (past : List (Step V)) (rs : Receipts V) (t : ℕ) (part : ThreadPart) (has : moves.HasPart threads past rs t part) where

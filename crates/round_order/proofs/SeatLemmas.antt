@@ -133,13 +133,13 @@ module _ {V : Type 0} (m : Meaning V) (inputs : ℕ → List Packet) (threads : 
   here : thread_after (r.step ∷ after (rs r.step.thread) past) r.step.thread ≡ r.step.after
   here = rw (is_eq r.step.thread r.step.thread refl) refl
 
-  abbrev Did' : Effect V → Type 0
-  Did' d = r.step.act ≡ act_at r.step.thread (after (rs r.step.thread) past) r.step.after.taken r.place d
+  abbrev Acts : Effect V → Type 0
+  Acts d = r.step.act ≡ act_at r.step.thread (after (rs r.step.thread) past) r.step.after.taken r.place d
 
-  abbrev Leads' : Effect V → Type 0
-  Leads' d = Leads (thread_after (after (rs r.step.thread) past) r.step.thread).taken (in_hand_count (place_of (thread_after (after (rs r.step.thread) past) r.step.thread).hand)) r.step.after d
+  abbrev LeadsOn : Effect V → Type 0
+  LeadsOn d = Leads (thread_after (after (rs r.step.thread) past) r.step.thread).taken (in_hand_count (place_of (thread_after (after (rs r.step.thread) past) r.step.thread).hand)) r.step.after d
 
-  taken_is : (d : Effect V) → Did' d → Leads' d → (part_after part r).counts.taken ≡ r.step.after.taken
+  taken_is : (d : Effect V) → Acts d → LeadsOn d → (part_after part r).counts.taken ≡ r.step.after.taken
   taken_is Takes is l = rw is (ap (λ n. n + 1) next.seat.taken ∙ sym l.1)
   taken_is (Touches v left) is l = rw is (next.seat.taken ∙ sym l.1)
   taken_is (Looks v) is l = rw is (next.seat.taken ∙ sym l.1)
@@ -148,7 +148,7 @@ module _ {V : Type 0} (m : Meaning V) (inputs : ℕ → List Packet) (threads : 
   taken_is (Sends packet) is l = rw is (next.seat.taken ∙ sym l.1)
   taken_is Ends is l = rw is (next.seat.taken ∙ sym l.1)
 
-  entries_is : (d : Effect V) → Did' d → (part_after part r).counts.entries ≡ entries r.step.thread (log_of (r.step ∷ after (rs r.step.thread) past))
+  entries_is : (d : Effect V) → Acts d → (part_after part r).counts.entries ≡ entries r.step.thread (log_of (r.step ∷ after (rs r.step.thread) past))
   entries_is Takes is = rw is next.seat.logged
   entries_is (Touches v left) is = rw is (rw (is_eq r.step.thread r.step.thread refl) (ap (λ n. n + 1) next.seat.logged))
   entries_is (Looks v) is = rw is (rw (is_eq r.step.thread r.step.thread refl) (ap (λ n. n + 1) next.seat.logged))
@@ -157,7 +157,7 @@ module _ {V : Type 0} (m : Meaning V) (inputs : ℕ → List Packet) (threads : 
   entries_is (Sends packet) is = rw is next.seat.logged
   entries_is Ends is = rw is next.seat.logged
 
-  outputs_is : (d : Effect V) → Did' d → (part_after part r).counts.outputs ≡ outputs r.step.thread (sent_of (r.step ∷ after (rs r.step.thread) past))
+  outputs_is : (d : Effect V) → Acts d → (part_after part r).counts.outputs ≡ outputs r.step.thread (sent_of (r.step ∷ after (rs r.step.thread) past))
   outputs_is Takes is = rw is next.seat.outputs
   outputs_is (Touches v left) is = rw is next.seat.outputs
   outputs_is (Looks v) is = rw is next.seat.outputs
@@ -169,7 +169,7 @@ module _ {V : Type 0} (m : Meaning V) (inputs : ℕ → List Packet) (threads : 
   more : moves_of r.step.thread (r.step ∷ after (rs r.step.thread) past) ≡ moves_of r.step.thread (after (rs r.step.thread) past) + 1
   more = rw (is_eq r.step.thread r.step.thread refl) refl
 
-  made_is : (d : Effect V) → Did' d → Leads' d → moves_made (part_after part r) ≡ moves_of r.step.thread (r.step ∷ after (rs r.step.thread) past)
+  made_is : (d : Effect V) → Acts d → LeadsOn d → moves_made (part_after part r) ≡ moves_of r.step.thread (r.step ∷ after (rs r.step.thread) past)
   made_is Takes is l = rw is (omega (arith, held_is, next.held, next.seat.made, more, l.0, l.2))
   made_is (Touches v left) is l = rw is (omega (arith, held_is, next.held, next.seat.made, more, l.0, l.2))
   made_is (Looks v) is l = rw is (omega (arith, held_is, next.held, next.seat.made, more, l.0, l.2))
@@ -211,6 +211,19 @@ module _ {V : Type 0} (m : Meaning V) (inputs : ℕ → List Packet) (threads : 
           logged =
               let log : log_of (r.step ∷ after (rs r.step.thread) past) ≡ e ∷ log_of (after (rs r.step.thread) past) = ap (λ (a : Act V). log_more a (log_of (after (rs r.step.thread) past))) l.1 in
               ap (λ (k : List Entry). entries r.step.thread k) log ∙ rw (is_eq e.thread r.step.thread (number m inputs threads past rs part r next e l).0) refl
+
+  -- a packet in hand was taken
+  pub held_grows : in_hand_count (part_after part r).hand ≤ (part_after part r).counts.taken
+  held_grows = go next.alone.0 next.alone.2 leads
+    where
+      go : (d : Effect V) → Acts d → LeadsOn d → in_hand_count (place_of r.step.after.hand) ≤ (part_after part r).counts.taken
+      go Takes is l = rw is (omega (arith, l.2))
+      go (Touches v left) is l = rw is (omega (arith, held_is, next.held, l.0, l.2))
+      go (Looks v) is l = rw is (omega (arith, held_is, next.held, l.0, l.2))
+      go (HearsClock a) is l = rw is (omega (arith, held_is, next.held, l.0, l.2))
+      go (HearsDraw a) is l = rw is (omega (arith, held_is, next.held, l.0, l.2))
+      go (Sends packet) is l = rw is (omega (arith, held_is, next.held, l.0, l.2))
+      go Ends is l = rw is (omega (arith, l.2))
 
   pub seat_grows : IsSeat past (with_one rs r) r.step.thread (part_after part r)
   seat_grows = record {

@@ -1,6 +1,6 @@
 -- Receipts that are drawn in turn are woven.
-use Rattle.std.proofs.Common.{◌≡◌, ℕ, zero, suc, ◌+◌, ◌≤◌, ◌<◌, ◌≢◌, List, [], ◌∷◌, ◌++◌, length, length-set, refl, sym, ap, ◌∙◌, subst, inl, inr, ◌⊎◌, arith, cond, Option, Some, None}
-use Rattle.std.specs.Prelude.{nat_eq, slice_index, slice_index_or, slice_set}
+use Rattle.std.proofs.Common.{◌≡◌, ℕ, zero, suc, ◌+◌, ◌≤◌, ◌<◌, ◌≢◌, List, [], ◌∷◌, ◌++◌, length, length-set, refl, sym, ap, ◌∙◌, subst, inl, inr, ◌⊎◌, arith, Option, Some, None}
+use Rattle.std.specs.Prelude.{slice_index, slice_index_or, slice_set}
 use Rattle.std.proofs.lemmas.List.{get_or-set_same, get_or-set_other}
 use Rattle.std.proofs.lemmas.Bool.{cases_lt}
 use Rattle.entry_order.specs.Log.{Entry}
@@ -8,12 +8,12 @@ use Rattle.entry_order.proofs.Order.{is_or}
 use Rattle.plain_machine.specs.History.{Act, Took, Did, Emitted, Ended}
 use Rattle.plain_machine.proofs.Histories.{not_eq, is_eq}
 use Rattle.round_order.specs.Receipts.{Receipt, Receipts, Among, own, IsLogged, IsUnlogged, weight}
-use Rattle.round_order.specs.Woven.{GoesBefore, IsByWeight, LeadsTo, IsLedUp, IsByThread, IsWoven}
+use Rattle.round_order.specs.Woven.{GoesBefore, IsByWeight, IsByThread, IsWoven}
 use Rattle.round_order.specs.Growth.{update}
-use Rattle.round_order.specs.Turns.{mark_of, AreMarked, AreMarksOf, IsLighter, last_mark, newest, GoesFirst, IsLatest, AreTurns, lengths, AreInTurn}
-use Rattle.round_order.proofs.OwnReceipts.{among_own, own_among}
+use Rattle.round_order.specs.Turns.{mark_of, AreMarked, AreMarksOf, IsLighter, last_mark, newest, IsLatest, AreTurns, lengths, AreInTurn}
+use Rattle.round_order.proofs.OwnReceipts.{among_own}
 use Rattle.round_order.proofs.SeatLemmas.{one_or_none}
-use Rattle.round_order.proofs.MoreReceipts.{updated, not_updated}
+use Rattle.round_order.proofs.MoreReceipts.{not_updated}
 use Rattle.round_order.proofs.WovenThere.{AreUnlogged, AreOf, before_trans, leads_on}
 
 -- What a mark tells

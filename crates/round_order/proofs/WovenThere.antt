@@ -50,7 +50,7 @@ among_left [] ys x h = absurd h
 among_left (r ∷ xs) ys x (inl same) = inl same
 among_left (r ∷ xs) ys x (inr h) = inr (among_left xs ys x h)
 
-among_right : {V : Type 0} (xs ys : List (Receipt V)) (x : Receipt V) → Among x ys → Among x (xs ++ ys)
+pub among_right : {V : Type 0} (xs ys : List (Receipt V)) (x : Receipt V) → Among x ys → Among x (xs ++ ys)
 among_right [] ys x h = h
 among_right (r ∷ xs) ys x h = inr (among_right xs ys x h)
 
@@ -84,7 +84,7 @@ unlogged_by_weight : {V : Type 0} (xs ys : List (Receipt V)) → AreUnlogged xs 
 unlogged_by_weight [] ys none h = h
 unlogged_by_weight (r ∷ xs) ys none h = ((λ e d x re a xd. absurd (none r (inl refl) e re)), unlogged_by_weight xs ys (λ x a. none x (inr a)) h)
 
-rest_by_weight : {V : Type 0} (xs ys : List (Receipt V)) → IsByWeight (xs ++ ys) → IsByWeight ys
+pub rest_by_weight : {V : Type 0} (xs ys : List (Receipt V)) → IsByWeight (xs ++ ys) → IsByWeight ys
 rest_by_weight [] ys h = h
 rest_by_weight (r ∷ xs) ys h = rest_by_weight xs ys h.1
 

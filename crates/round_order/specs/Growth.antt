@@ -12,7 +12,7 @@ use Rattle.master_core.specs.declared.parts.ThreadPart.{ThreadPart}
 use Rattle.master_core.specs.declared.parts.Counts.{Counts}
 use Rattle.master_core.specs.Mastered.{in_hand_count}
 use Rattle.master_core.specs.Effects.{before_touch, before_read}
-use Rattle.round_order.specs.Receipts.{Receipt, Receipts, InRound, after, IsLogged, IsUnlogged, IsTouch, IsRead}
+use Rattle.round_order.specs.Receipts.{Receipt, Receipts, no_receipts, InRound, after, IsLogged, IsUnlogged, IsTouch, IsRead}
 use Rattle.round_order.specs.Linked.{IsOwnMove, IsLinked}
 use Rattle.round_order.specs.Home.{IsHome, IsSeat, count}
 
@@ -88,8 +88,13 @@ part_after part r = record { counts = counts_after r.step.act part.counts; hand 
 pub record IsKept {V : Type 0} (m : Meaning V) (inputs : ℕ → List Packet) (threads : ℕ) (past : List (Step V)) (rs : Receipts V) (part : ThreadPart) (r : Receipt V) (IsOther : ℕ → Type 0) : Type 0 where
   pub round : IsRound m inputs threads past (with_one rs r)
   pub seat : IsSeat past (with_one rs r) r.step.thread (part_after part r)
+  pub held : in_hand_count (part_after part r).hand ≤ (part_after part r).counts.taken
   pub seats : (u : ℕ) (other : ThreadPart) → u ≢ r.step.thread → IsSeat past rs u other → IsSeat past (with_one rs r) u other
   pub homes : (w : ℕ) (z : VarPart V) → IsOther w → IsHome m past rs w z → IsHome m past (with_one rs r) w z
+
+-- It holds when the round begins.
+abbrev pub RoundBegins : Type 0 → Type 0
+RoundBegins X = (m : Meaning X) (inputs : ℕ → List Packet) (threads : ℕ) (past : List (Step X)) → IsLog (log_of past) → IsRound m inputs threads past no_receipts
 
 abbrev pub PrivateMoves : Type 0 → Type 0
 PrivateMoves X = (m : Meaning X) (inputs : ℕ → List Packet) (threads : ℕ) (past : List (Step X)) (rs : Receipts X) (part : ThreadPart) (r : Receipt X)

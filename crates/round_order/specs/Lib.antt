@@ -5,3 +5,4 @@ pub mod Home
 pub mod Growth
 pub mod PartMoves
 pub mod Turns
+pub mod Rising

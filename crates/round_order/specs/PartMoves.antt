@@ -1,6 +1,6 @@
 -- The receipts of moves that are made with the part of one thread and, where a move is of a variable, the part of that variable:
 -- what they leave of both parts is what a master leaves of them.
-use Rattle.std.specs.Prelude.{◌≡◌, ℕ, ◌+◌, ◌<◌, ◌≤◌, List, [], Option, Some, None, max, replicate, slice_get, slice_index}
+use Rattle.std.specs.Prelude.{◌≡◌, ℕ, ◌+◌, ◌<◌, ◌≤◌, List, [], Some, None, max, replicate, slice_get, slice_index}
 use Rattle.plain_text.specs.declared.packet.Packet.{Packet}
 use Rattle.entry_order.specs.declared.what.What.{What}
 use Rattle.entry_order.specs.declared.what.What.TheVariants.{Access as Touched, Read as Looked, Clock as Told, Draw as Drawn}

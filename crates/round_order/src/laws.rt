@@ -2,9 +2,10 @@
 ghost use Rattle.std.specs.Prelude.{◌≡◌, List};
 ghost use Rattle.round_order.specs.Receipts.{Receipt, Receipts};
 ghost use Rattle.round_order.specs.Woven.{Weaving, WovenLine, WovenThere, IsOrder, IsWoven};
+ghost use Rattle.round_order.specs.Rising.{PlacesRise};
 ghost use Rattle.round_order.specs.Turns.{TurnsWeave};
 ghost use Rattle.round_order.specs.Home.{Opening, Closing};
-ghost use Rattle.round_order.specs.Growth.{PrivateMoves, TouchMoves, ReadMoves};
+ghost use Rattle.round_order.specs.Growth.{RoundBegins, PrivateMoves, TouchMoves, ReadMoves};
 ghost use Rattle.round_order.specs.PartMoves.{Takes, Emits, EndsPacket, HearsTime, HearsWord, TouchesHome, ReadsHome};
 
 /// Receipts that are linked from a run weave into a legal continuation of it, in any order that keeps those of each thread in
@@ -19,6 +20,12 @@ pub fn receipts_weave<X>()
         → IsWoven rs other → order ≡ other }
 {}
 
+/// The places that a thread finds rise: a touch that it makes later has a higher place than what it touched or read of the
+/// variable before, and a read that it makes later is after no lesser one.
+pub fn places_rise<X>()
+    ensures { PlacesRise X }
+{}
+
 /// Linked receipts are woven in the turns that their marks tell, each the newest that is left of its thread. These are the
 /// turns that `weave` answers.
 pub fn turns_weave<X>()
@@ -31,9 +38,11 @@ pub fn woven_rounds_are_lines<X>()
     ensures { WovenLine X }
 {}
 
-/// When a round begins, what is at home of each variable and what each thread has are the parts of its master.
+/// When a round begins, what is at home of each variable and what each thread has are the parts of its master, and what holds
+/// between any two moves holds.
 pub fn rounds_open<X>()
-    ensures { Opening X }
+    ensures parts { Opening X }
+    ensures begins { RoundBegins X }
 {}
 
 /// What holds between any two moves of a round is kept by the next one, which its thread makes with what it has and what it

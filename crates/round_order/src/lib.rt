@@ -8,7 +8,7 @@ mod tests;
 mod turns;
 
 pub use laws::{
-    parts_make_moves, receipts_weave, rounds_close, rounds_grow, rounds_open, turns_weave,
-    woven_rounds_are_lines,
+    parts_make_moves, places_rise, receipts_weave, rounds_close, rounds_grow, rounds_open,
+    turns_weave, woven_rounds_are_lines,
 };
 pub use turns::{Marks, weave};

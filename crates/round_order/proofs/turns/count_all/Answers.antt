@@ -1,4 +1,3 @@
-use Rattle.std.proofs.Common.{◌∷◌}
 use Rattle.round_order.proofs.TurnSteps.{count_step}
 use Rattle.round_order.proofs.turns.count_all.Goals as goal
 

@@ -1,4 +1,4 @@
-use Rattle.std.proofs.Common.{◌≡◌, ◌∙◌, ap, sym, subst, List, ℕ, reverse}
+use Rattle.std.proofs.Common.{◌∙◌, ap, sym, subst, List, ℕ, reverse}
 use Rattle.std.proofs.lemmas.List.{reverse-reverse}
 use Rattle.round_order.specs.Turns.{AreTurns, lengths}
 use Rattle.round_order.proofs.TurnSteps.{turns_begin, turn_step, turns_end}
