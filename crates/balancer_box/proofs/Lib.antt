@@ -1,0 +1,7 @@
+pub mod LoadLemmas
+pub mod ConnectionLemmas
+pub mod Noting
+pub mod Making
+pub mod Charging
+pub mod Entries
+pub mod Emissions

@@ -1,0 +1,329 @@
+-- The laws of programs, of the box with 1 to 64 tables and 1 to 64 backends.
+use Rattle.std.specs.Prelude.{◌≡◌, ℕ, zero, suc, ◌+◌, ◌-◌, ◌*◌, ◌%◌, ◌^◌, ◌<◌, ◌≤◌, Bool, true, false, List, [], ◌∷◌, length, slice_set, slice_index, replicate, Option, Some, None, Result, Ok, Err, ◌==◌, ◌&&◌, nat_lt, if◌then◌else◌, slice_get, refl}
+use Rattle.std.proofs.Common.{arith, ap, sym, subst, ◌∙◌}
+use Rattle.std.proofs.lemmas.Grind.{common_steps}
+use Rattle.std.proofs.lemmas.Bool.Decides.{nat_tests}
+use Rattle.packet_headers.specs.declared.flow.Flow.{Flow}
+use Rattle.packet_headers.specs.declared.flow.NotFlow.{NotFlow}
+use Rattle.packet_headers.specs.View.{viewed}
+use Rattle.packet_headers.specs.Fields.{put_word, put_long}
+use Rattle.packet_headers.specs.Rewriting.{rewritten}
+use Rattle.plain_machine.specs.declared.local.Move.TheVariants.{Access, Read, Clock, Draw, Emit, End}
+use Rattle.plain_machine.specs.Program.{IsLawful}
+use Rattle.nat_tables.specs.declared.entries.Endpoint.{Endpoint}
+use Rattle.nat_tables.specs.declared.slot.Slot.{Slot}
+use Rattle.nat_tables.specs.declared.entries.Find.{Find}
+use Rattle.nat_tables.specs.declared.entries.Find.TheVariants.{Live, Absent}
+use Rattle.nat_tables.specs.declared.entries.Bind.{Bind}
+use Rattle.nat_tables.specs.declared.entries.Bind.TheVariants.{Bound, Other}
+use Rattle.nat_tables.specs.Forwards.{Forwards, is_idle, slot_of, first_idle, found, find, bound, find_or_bind, lives, AreMappings}
+use Rattle.nat_tables.proofs.Keeping.{keeps_refreshed, keeps_without, keeps_without_idle, keeps_bound}
+use Rattle.balancer_box.specs.declared.backends.Backend.{Backend}
+use Rattle.balancer_box.specs.declared.place.Place.{Place}
+use Rattle.balancer_box.specs.declared.place.Place.TheVariants.{HearsTime, FindsConnection, LowersIdle, RaisesLeast, Connects, LowersSpare, ChecksConnection, CountsDrop, SendsOut, Ends}
+use Rattle.balancer_box.specs.declared.place.Class.{Class}
+use Rattle.balancer_box.specs.declared.place.Class.TheVariants.{Client, Answer}
+use Rattle.balancer_box.specs.declared.place.Noted.{Noted}
+use Rattle.balancer_box.specs.declared.value.BalancerValue.{BalancerValue}
+use Rattle.balancer_box.specs.declared.value.BalancerValue.TheVariants.{Dropped, Loaded, Connected}
+use Rattle.balancer_box.specs.declared.place.Goes.{Goes}
+use Rattle.balancer_box.specs.Loads.{raised, lowered, least_loaded, no_loads}
+use Rattle.balancer_box.specs.Connections.{closed, find_connection, without_if, check_connection}
+use Rattle.balancer_box.specs.Places.{place_of}
+use Rattle.balancer_box.specs.Balancer.{Settings, table_of, next_move, moves_left, is_virtual, backend_at, of_client, begun_answer, begun, begins, goes_to, after_find, after_bind, after_check, touched, after_time, told, frame_to, frame_out, bytes_out, local_at, fresh_value, noted_by, balancer_meaning, MayConnect, Fits}
+use Rattle.balancer_box.specs.Noting.{place_again, IsNoted, is_noted}
+
+-- what may be configured
+pub record AreSettings (s : Settings) : Type 0 where
+  pub some : 1 ≤ s.shards
+  pub few : s.shards ≤ 64
+  pub some_backends : 1 ≤ length s.backends
+  pub few_backends : length s.backends ≤ 64
+
+-- which variable is touched
+
+abbrev pub var_of : Settings → Place → Noted → ℕ
+var_of s HearsTime n = 0
+var_of s FindsConnection n = table_of s n.client
+var_of s LowersIdle n = 1
+var_of s RaisesLeast n = 1
+var_of s Connects n = table_of s n.client
+var_of s LowersSpare n = 1
+var_of s ChecksConnection n = table_of s n.client
+var_of s CountsDrop n = 0
+var_of s SendsOut n = 0
+var_of s Ends n = 0
+
+pub touches_it : (s : Settings) (p : Place) (n : Noted) (v : ℕ) → next_move s p n ≡ Access v → var_of s p n ≡ v
+touches_it s HearsTime n v e = absurd (cc)
+touches_it s FindsConnection n v e = cc
+touches_it s LowersIdle n v e = cc
+touches_it s RaisesLeast n v e = cc
+touches_it s Connects n v e = cc
+touches_it s LowersSpare n v e = cc
+touches_it s ChecksConnection n v e = cc
+touches_it s CountsDrop n v e = cc
+touches_it s SendsOut n v e = absurd (cc)
+touches_it s Ends n v e = absurd (cc)
+
+-- nothing is read
+pub reads_none : (s : Settings) (p : Place) (n : Noted) (v : ℕ) → next_move s p n ≡ Read v → ⊥
+reads_none s HearsTime n v e = absurd (cc)
+reads_none s FindsConnection n v e = absurd (cc)
+reads_none s LowersIdle n v e = absurd (cc)
+reads_none s RaisesLeast n v e = absurd (cc)
+reads_none s Connects n v e = absurd (cc)
+reads_none s LowersSpare n v e = absurd (cc)
+reads_none s ChecksConnection n v e = absurd (cc)
+reads_none s CountsDrop n v e = absurd (cc)
+reads_none s SendsOut n v e = absurd (cc)
+reads_none s Ends n v e = absurd (cc)
+
+pub draws_none : (s : Settings) (p : Place) (n : Noted) → next_move s p n ≡ Draw → ⊥
+draws_none s HearsTime n e = absurd (cc)
+draws_none s FindsConnection n e = absurd (cc)
+draws_none s LowersIdle n e = absurd (cc)
+draws_none s RaisesLeast n e = absurd (cc)
+draws_none s Connects n e = absurd (cc)
+draws_none s LowersSpare n e = absurd (cc)
+draws_none s ChecksConnection n e = absurd (cc)
+draws_none s CountsDrop n e = absurd (cc)
+draws_none s SendsOut n e = absurd (cc)
+draws_none s Ends n e = absurd (cc)
+
+pub below_all : (s : Settings) (p : Place) (n : Noted) → 1 ≤ s.shards → var_of s p n < 2 + s.shards
+below_all s HearsTime n some = omega arith
+below_all s FindsConnection n some = omega arith
+below_all s LowersIdle n some = omega arith
+below_all s RaisesLeast n some = omega arith
+below_all s Connects n some = omega arith
+below_all s LowersSpare n some = omega arith
+below_all s ChecksConnection n some = omega arith
+below_all s CountsDrop n some = omega arith
+below_all s SendsOut n some = omega arith
+below_all s Ends n some = omega arith
+
+-- Ranks fall
+
+rank_at : (g : Goes) → moves_left (place_of (local_at g).at) ≡ moves_left g.place
+rank_at g = ap moves_left (place_again g.place)
+
+begins_falls : (n : Noted) (b : Bool) → moves_left (begins n b).place ≤ 4
+begins_falls n true = omega arith
+begins_falls n false = omega arith
+
+goes_falls : (n : Noted) (b : Bool) (backend : ℕ) → moves_left (goes_to n b backend).place ≤ 2
+goes_falls n true backend = omega arith
+goes_falls n false backend = omega arith
+
+find_falls : (n : Noted) (f : Find) → moves_left (after_find n f).place < 6
+find_falls n (Live backend) = let a = goes_falls n n.resets backend in omega arith
+find_falls n (Absent (Some idle)) = omega arith
+find_falls n (Absent None) = let a = begins_falls n n.resets in omega arith
+
+bind_falls : (n : Noted) (b : Bind) → moves_left (after_bind n b).place < 3
+bind_falls n Bound = omega arith
+bind_falls n (Other backend) = omega arith
+
+check_falls : (n : Noted) (b : Bool) → moves_left (after_check n b).place < 3
+check_falls n true = let a = goes_falls n n.resets n.backend in omega arith
+check_falls n false = omega arith
+
+touch_falls_at : (s : Settings) (p : Place) (x : BalancerValue) (n : Noted) (v : ℕ) → next_move s p n ≡ Access v → moves_left (touched p x n).1.place < moves_left p
+touch_falls_at s HearsTime x n v e = absurd (cc)
+touch_falls_at s FindsConnection (Dropped d) n v e = omega arith
+touch_falls_at s FindsConnection (Loaded loads) n v e = omega arith
+touch_falls_at s FindsConnection (Connected es) n v e = find_falls n (find_connection n.resets n.client n.time es).0
+touch_falls_at s LowersIdle (Dropped d) n v e = omega arith
+touch_falls_at s LowersIdle (Loaded loads) n v e = let a = begins_falls n n.resets in omega arith
+touch_falls_at s LowersIdle (Connected es) n v e = omega arith
+touch_falls_at s RaisesLeast (Dropped d) n v e = omega arith
+touch_falls_at s RaisesLeast (Loaded loads) n v e = omega arith
+touch_falls_at s RaisesLeast (Connected es) n v e = omega arith
+touch_falls_at s Connects (Dropped d) n v e = omega arith
+touch_falls_at s Connects (Loaded loads) n v e = omega arith
+touch_falls_at s Connects (Connected es) n v e = bind_falls n (find_or_bind n.client n.backend n.time es).0
+touch_falls_at s LowersSpare (Dropped d) n v e = omega arith
+touch_falls_at s LowersSpare (Loaded loads) n v e = omega arith
+touch_falls_at s LowersSpare (Connected es) n v e = omega arith
+touch_falls_at s ChecksConnection (Dropped d) n v e = omega arith
+touch_falls_at s ChecksConnection (Loaded loads) n v e = omega arith
+touch_falls_at s ChecksConnection (Connected es) n v e = check_falls n (check_connection n.resets n.client n.backend n.time es).0
+touch_falls_at s CountsDrop (Dropped d) n v e = omega arith
+touch_falls_at s CountsDrop (Loaded loads) n v e = omega arith
+touch_falls_at s CountsDrop (Connected es) n v e = omega arith
+touch_falls_at s SendsOut x n v e = absurd (cc)
+touch_falls_at s Ends x n v e = absurd (cc)
+
+time_falls : (n : Noted) (c : Class) → moves_left (after_time n c).place < 7
+time_falls n Client = omega arith
+time_falls n Answer = omega arith
+
+clock_falls_at : (s : Settings) (p : Place) (a : ℕ) (n : Noted) → next_move s p n ≡ Clock → moves_left (told p a n).place < moves_left p
+clock_falls_at s HearsTime a n e = time_falls (record n { time = a }) n.class
+clock_falls_at s FindsConnection a n e = absurd (cc)
+clock_falls_at s LowersIdle a n e = absurd (cc)
+clock_falls_at s RaisesLeast a n e = absurd (cc)
+clock_falls_at s Connects a n e = absurd (cc)
+clock_falls_at s LowersSpare a n e = absurd (cc)
+clock_falls_at s ChecksConnection a n e = absurd (cc)
+clock_falls_at s CountsDrop a n e = absurd (cc)
+clock_falls_at s SendsOut a n e = absurd (cc)
+clock_falls_at s Ends a n e = absurd (cc)
+
+emit_falls_at : (s : Settings) (p : Place) (n : Noted) → next_move s p n ≡ Emit → 0 < moves_left p
+emit_falls_at s HearsTime n e = absurd (cc)
+emit_falls_at s FindsConnection n e = absurd (cc)
+emit_falls_at s LowersIdle n e = absurd (cc)
+emit_falls_at s RaisesLeast n e = absurd (cc)
+emit_falls_at s Connects n e = absurd (cc)
+emit_falls_at s LowersSpare n e = absurd (cc)
+emit_falls_at s ChecksConnection n e = absurd (cc)
+emit_falls_at s CountsDrop n e = absurd (cc)
+emit_falls_at s SendsOut n e = omega arith
+emit_falls_at s Ends n e = absurd (cc)
+
+ends_at : (s : Settings) (p : Place) (n : Noted) → moves_left p ≡ 0 → next_move s p n ≡ End
+ends_at s HearsTime n e = absurd (omega arith)
+ends_at s FindsConnection n e = absurd (omega arith)
+ends_at s LowersIdle n e = absurd (omega arith)
+ends_at s RaisesLeast n e = absurd (omega arith)
+ends_at s Connects n e = absurd (omega arith)
+ends_at s LowersSpare n e = absurd (omega arith)
+ends_at s ChecksConnection n e = absurd (omega arith)
+ends_at s CountsDrop n e = absurd (omega arith)
+ends_at s SendsOut n e = absurd (omega arith)
+ends_at s Ends n e = refl
+
+few_to_make : (s : Settings) (seen : Result Flow NotFlow) → moves_left (begun s seen).place ≤ 62
+few_to_make s (Ok flow) = by (is_virtual s flow.dest flow.dest_port) refl
+  where
+    by_backend : (o : Option ℕ) → moves_left (begun_answer flow o).place ≤ 62
+    by_backend (Some backend) = omega arith
+    by_backend None = omega arith
+
+    by : (b : Bool) → is_virtual s flow.dest flow.dest_port ≡ b → moves_left (begun s (Ok flow)).place ≤ 62
+    by true q = rw q (omega arith)
+    by false q = rw q (by_backend (backend_at s.backends flow.source flow.source_port))
+few_to_make s (Err answer) = omega arith
+
+-- Values fit
+
+pub long_raised : (number : ℕ) (loads : List ℕ) → length (raised number loads) ≡ length loads
+long_raised number loads = by (nat_lt number (length loads)) refl
+  where
+    by : (b : Bool) → nat_lt number (length loads) ≡ b → length (raised number loads) ≡ length loads
+    by true q = rw q (grind (arith, common_steps))
+    by false q = rw q refl
+
+pub long_lowered : (number : ℕ) (loads : List ℕ) → length (lowered number loads) ≡ length loads
+long_lowered number loads = by (nat_lt number (length loads)) refl
+  where
+    by : (b : Bool) → nat_lt number (length loads) ≡ b → length (lowered number loads) ≡ length loads
+    by true q = rw q (grind (arith, common_steps))
+    by false q = rw q refl
+
+module _ (May : Endpoint → ℕ → Type 0) where
+  fits_found : (key : Endpoint) (now : ℕ) (es : Forwards) (a : Option Slot) (b : Option (Endpoint × Slot)) → AreMappings May es → AreMappings May (found key now es a b).1
+  fits_found key now es (Some slot) b all = by (is_idle now (key, slot)) refl
+    where
+      by : (t : Bool) → is_idle now (key, slot) ≡ t → AreMappings May (found key now es (Some slot) b).1
+      by true q = rw q (keeps_without May key es all)
+      by false q = rw q (keeps_refreshed May key now es all)
+  fits_found key now es None (Some e) all = keeps_without_idle May now es all
+  fits_found key now es None None all = all
+
+  fits_without_if : (b : Bool) (key : Endpoint) (es : Forwards) → AreMappings May es → AreMappings May (without_if b key es)
+  fits_without_if true key es all = keeps_without May key es all
+  fits_without_if false key es all = all
+
+  fits_closed : (f : Find) (resets : Bool) (key : Endpoint) (es : Forwards) → AreMappings May es → AreMappings May (closed f resets key es)
+  fits_closed (Live backend) resets key es all = fits_without_if resets key es all
+  fits_closed (Absent idle) resets key es all = all
+
+  pub fits_find : (resets : Bool) (key : Endpoint) (now : ℕ) (es : Forwards) → AreMappings May es → AreMappings May (find_connection resets key now es).1
+  fits_find resets key now es all =
+      let r = find key now es in
+      fits_closed r.0 resets key r.1 (fits_found key now es (slot_of key es) (first_idle now es) all)
+
+  fits_bound : (key : Endpoint) (backend now : ℕ) (es : Forwards) (a : Option Slot) → slot_of key es ≡ a → May key backend → AreMappings May es → AreMappings May (bound key backend now es a).1
+  fits_bound key backend now es (Some slot) is may all = keeps_refreshed May key now es all
+  fits_bound key backend now es None is may all = keeps_bound May key (record { port = backend; last = now }) es is may all
+
+touched_fits : (s : Settings) (p : Place) (x : BalancerValue) (n : Noted) (v : ℕ) → IsNoted (length s.backends) n → var_of s p n ≡ v → Fits s v x → Fits s v (touched p x n).0
+touched_fits s HearsTime x n v is e fits = fits
+touched_fits s FindsConnection (Dropped d) n v is e fits = fits
+touched_fits s FindsConnection (Loaded loads) n v is e fits = fits
+touched_fits s FindsConnection (Connected es) n v is e fits = (fits.0, fits.1, fits_find (MayConnect s v) n.resets n.client n.time es fits.2)
+touched_fits s LowersIdle (Dropped d) n v is e fits = fits
+touched_fits s LowersIdle (Loaded loads) n v is e fits = (fits.0, long_lowered n.spare loads ∙ fits.1)
+touched_fits s LowersIdle (Connected es) n v is e fits = fits
+touched_fits s RaisesLeast (Dropped d) n v is e fits = fits
+touched_fits s RaisesLeast (Loaded loads) n v is e fits = (fits.0, long_raised (least_loaded loads) loads ∙ fits.1)
+touched_fits s RaisesLeast (Connected es) n v is e fits = fits
+touched_fits s Connects (Dropped d) n v is e fits = fits
+touched_fits s Connects (Loaded loads) n v is e fits = fits
+touched_fits s Connects (Connected es) n v is e fits = (fits.0, fits.1, fits_bound (MayConnect s v) n.client n.backend n.time es (slot_of n.client es) refl (sym e, is.protocol, is.backend) fits.2)
+touched_fits s LowersSpare (Dropped d) n v is e fits = fits
+touched_fits s LowersSpare (Loaded loads) n v is e fits = (fits.0, long_lowered n.spare loads ∙ fits.1)
+touched_fits s LowersSpare (Connected es) n v is e fits = fits
+touched_fits s ChecksConnection (Dropped d) n v is e fits = fits
+touched_fits s ChecksConnection (Loaded loads) n v is e fits = fits
+touched_fits s ChecksConnection (Connected es) n v is e fits = (fits.0, fits.1, fits_without_if (MayConnect s v) (lives n.client n.backend n.time es && n.resets) n.client es fits.2)
+touched_fits s CountsDrop (Dropped d) n v is e fits = fits
+touched_fits s CountsDrop (Loaded loads) n v is e fits = fits
+touched_fits s CountsDrop (Connected es) n v is e fits = fits
+touched_fits s SendsOut x n v is e fits = fits
+touched_fits s Ends x n v is e fits = fits
+
+long_none : (count : ℕ) → length (no_loads count) ≡ count
+long_none count = grind (arith, common_steps)
+
+fresh_fits_at : (s : Settings) (v : ℕ) → v < 2 + s.shards → Fits s v (fresh_value s v)
+fresh_fits_at s v low = by (v == 0) (v == 1) refl refl
+  where
+    by : (a b : Bool) → (v == 0) ≡ a → (v == 1) ≡ b → Fits s v (fresh_value s v)
+    by true b e f = rw e (grind (arith, nat_tests))
+    by false true e f = rw (e, f) (grind (arith, nat_tests), long_none (length s.backends))
+    by false false e f = rw (e, f) (grind (arith, nat_tests), low, tt)
+
+-- Frames keep their length
+
+long_word : (frame : List ℕ) (place word : ℕ) → length (put_word frame place word) ≡ length frame
+long_word frame place word = grind (arith, common_steps)
+
+long_long : (frame : List ℕ) (place number : ℕ) → length (put_long frame place number) ≡ length frame
+long_long frame place number = long_word _ _ _ ∙ long_word _ _ _
+
+long_rewritten : (frame : List ℕ) (flow : Flow) (address_place port_place address port : ℕ) → length (rewritten frame flow address_place port_place address port) ≡ length frame
+long_rewritten frame flow address_place port_place address port = long_word _ _ _ ∙ long_long _ _ _ ∙ long_word _ _ _ ∙ long_word _ _ _
+
+long_to : (bytes : List ℕ) (flow : Flow) (o : Option Backend) → length (frame_to bytes flow o) ≡ length bytes
+long_to bytes flow (Some b) = long_rewritten bytes flow 30 (flow.transport_at + 2) b.address b.port
+long_to bytes flow None = refl
+
+long_out : (s : Settings) (bytes : List ℕ) (n : Noted) (seen : Result Flow NotFlow) → length (bytes_out s bytes n seen) ≡ length bytes
+long_out s bytes n (Err answer) = refl
+long_out s bytes n (Ok flow) = by n.class
+  where
+    by : (c : Class) → length (frame_out s c bytes flow n) ≡ length bytes
+    by Client = long_to bytes flow (slice_get s.backends n.backend)
+    by Answer = long_rewritten bytes flow 26 flow.transport_at s.address s.port
+
+pub balancer_lawful : (s : Settings) → AreSettings s → IsLawful (balancer_meaning s) (Fits s)
+balancer_lawful s is = record {
+  some_vars = omega arith;
+  few_vars = omega (arith, is.few);
+  touches_var = λ l v e. subst (λ (u : ℕ). u < 2 + s.shards) (touches_it s (place_of l.at) (noted_by s l) v e) (below_all s (place_of l.at) (noted_by s l) is.some);
+  reads_var = λ l v e. absurd (reads_none s (place_of l.at) (noted_by s l) v e);
+  begins = λ p. rw (rank_at (begun s (viewed p.bytes p.original))) (few_to_make s (viewed p.bytes p.original));
+  touch_falls = λ v x l e f. rw (rank_at (touched (place_of l.at) x (noted_by s l)).1) (touch_falls_at s (place_of l.at) x (noted_by s l) v e);
+  look_falls = λ v x l e f. absurd (reads_none s (place_of l.at) (noted_by s l) v e);
+  clock_falls = λ a l e. rw (rank_at (told (place_of l.at) a (noted_by s l))) (clock_falls_at s (place_of l.at) a (noted_by s l) e);
+  draw_falls = λ a l e. absurd (draws_none s (place_of l.at) (noted_by s l) e);
+  emit_falls = λ l e. emit_falls_at s (place_of l.at) (noted_by s l) e;
+  ends = λ l e. ends_at s (place_of l.at) (noted_by s l) e;
+  fresh_fits = λ v low. fresh_fits_at s v low;
+  touch_fits = λ v x l e f. touched_fits s (place_of l.at) x (noted_by s l) v (is_noted (length s.backends) l is.some_backends) (touches_it s (place_of l.at) (noted_by s l) v e) f;
+  as_long = λ p l e. long_out s p.bytes (noted_by s l) (viewed p.bytes p.original);
+}

@@ -1,0 +1,11 @@
+pub mod Loads
+pub mod Connections
+pub mod Places
+pub mod Balancer
+pub mod Noting
+pub mod Lawful
+pub mod Shown
+pub mod Boxes
+pub mod Charges
+pub mod Entries
+pub mod Emissions

@@ -1,0 +1,24 @@
+//! The box `balancer`, which spreads the clients of one virtual address and port over backends.
+#![tactic(auto)]
+
+mod backends;
+mod balancer;
+mod connections;
+mod laws;
+mod loads;
+mod place;
+mod program;
+mod sending;
+mod touching;
+mod value;
+
+pub use backends::{Backend, Backends};
+pub use balancer::BalancerBox;
+pub use connections::Connections;
+pub use laws::{
+    chosen_backends_have_least_load, connections_keep_their_backends, emissions_follow_connections,
+    loads_are_charges,
+};
+pub use loads::Loads;
+pub use place::{Class, Goes, Noted, Place};
+pub use value::BalancerValue;

@@ -1,0 +1,122 @@
+ghost use Rattle.std.specs.Prelude.{◌≡◌};
+ghost use Rattle.balancer_box.specs.Balancer.{noted_by};
+ghost use Rattle.balancer_box.specs.Boxes.{settings_of};
+
+use crate::{BalancerBox, BalancerValue, Connections, Goes, Loads, Noted, Place};
+use box_program::{Local, Move, Program};
+use nat_box::Drops;
+use packet_headers::view;
+use plain_text::{Bytes, NoMemory, Packet, Text};
+use std::alloc::Global;
+
+impl BalancerBox {
+    /// What a Local has noted.
+    fn noted(&self, local: &Local) -> Noted
+        ensures { result ≡ noted_by (settings_of self.now) local.now }
+    {
+        Noted::read_from(local, self.backend_count())
+    }
+}
+
+impl Program for BalancerBox {
+    ghost use Rattle.std.specs.Prelude.{◌≡◌, ◌≤◌};
+    ghost use Rattle.balancer_box.specs.Balancer.{Fits};
+    ghost use Rattle.balancer_box.specs.Boxes.{settings_of, box_meaning, box_lawful};
+
+    type Value = BalancerValue;
+
+    ghost meaning = { box_meaning };
+
+    ghost fits = { λ b. Fits (settings_of b) };
+
+    ghost lawful = { box_lawful };
+
+    fn vars(&self) -> u32 {
+        2 + self.shards
+    }
+
+    fn fresh(&self, alloc: Global, var: u32) -> Result<BalancerValue, NoMemory> {
+        if var == 0 {
+            Ok(BalancerValue::Dropped(Drops::new()))
+        } else if var == 1 {
+            Ok(BalancerValue::Loaded(Loads::new(alloc, self.backends.len())?))
+        } else {
+            Ok(BalancerValue::Connected(Connections::new(alloc)))
+        }
+    }
+
+    fn begin(&self, packet: &Packet) -> Local {
+        self.begun(view(packet.bytes.as_slice(), packet.original))
+            .local()
+    }
+
+    fn next(&self, local: &Local) -> Move {
+        match Place::numbered(local.at) {
+            Place::HearsTime => Move::Clock,
+            Place::FindsConnection | Place::Connects | Place::ChecksConnection => {
+                Move::Access(self.table_of(&self.noted(local).client))
+            }
+            Place::LowersIdle | Place::RaisesLeast | Place::LowersSpare => Move::Access(1),
+            Place::CountsDrop => Move::Access(0),
+            Place::SendsOut => Move::Emit,
+            Place::Ends => Move::End,
+        }
+    }
+
+    fn touch(
+        &self,
+        _alloc: Global,
+        _var: u32,
+        value: &mut BalancerValue,
+        local: &mut Local,
+    ) -> Result<(), NoMemory> {
+        let place = Place::numbered(local.at);
+        let noted = self.noted(local);
+        let goes = match value {
+            BalancerValue::Dropped(drops) => noted.touch_drops(place, drops),
+            BalancerValue::Loaded(loads) => noted.touch_loads(place, loads),
+            BalancerValue::Connected(table) => noted.touch_connections(place, table)?,
+        };
+        *local = goes.local();
+        Ok(())
+    }
+
+    fn look(&self, _var: u32, _value: &BalancerValue, local: &mut Local) {
+        *local = Goes::to(Place::Ends, self.noted(local)).local();
+    }
+
+    fn told(&self, answer: u64, local: &mut Local) {
+        let place = Place::numbered(local.at);
+        *local = self.noted(local).told(place, answer).local();
+    }
+
+    fn emitted(&self, local: &mut Local) {
+        *local = Goes::to(Place::Ends, self.noted(local)).local();
+    }
+
+    fn packet_out(&self, alloc: Global, packet: &Packet, local: &Local) -> Result<Bytes, NoMemory> {
+        let seen = view(packet.bytes.as_slice(), packet.original);
+        self.sent(alloc, packet.bytes.as_slice(), seen, &self.noted(local))
+    }
+
+    fn copy_value(
+        &self,
+        _alloc: Global,
+        _var: u32,
+        value: &BalancerValue,
+    ) -> Result<BalancerValue, NoMemory> {
+        match value {
+            BalancerValue::Dropped(drops) => Ok(BalancerValue::Dropped(*drops)),
+            BalancerValue::Loaded(loads) => Ok(BalancerValue::Loaded(loads.copy()?)),
+            BalancerValue::Connected(table) => Ok(BalancerValue::Connected(table.copy()?)),
+        }
+    }
+
+    fn show(&self, alloc: Global, _var: u32, value: &BalancerValue) -> Result<Text, NoMemory> {
+        match value {
+            BalancerValue::Dropped(drops) => drops.text(alloc),
+            BalancerValue::Loaded(loads) => loads.text(alloc),
+            BalancerValue::Connected(table) => table.text(alloc),
+        }
+    }
+}

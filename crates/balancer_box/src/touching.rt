@@ -1,0 +1,178 @@
+ghost use Rattle.std.specs.Prelude.{◌≡◌, ◌≤◌, ◌<◌, ◌^◌, IfOk, OnErr, length};
+ghost use Rattle.balancer_box.specs.Balancer.{goes, dropped, begins, goes_to, after_find, after_bind, after_check, touched, told};
+ghost use Rattle.balancer_box.specs.declared.value.BalancerValue.TheVariants.{Dropped, Loaded, Connected};
+
+use crate::{Class, Connections, Goes, Loads, Noted, Place};
+use nat_box::Drops;
+use nat_tables::{Bind, Find};
+use plain_text::NoMemory;
+
+/// The reason for which a packet is dropped that is of no connection and can begin none.
+const NO_CONNECTION: u64 = 7;
+
+impl Goes {
+    pub(crate) fn to(place: Place, noted: Noted) -> Goes
+        ensures { result ≡ goes place noted }
+    {
+        Goes { place, noted }
+    }
+}
+
+impl Noted {
+    /// The packet is dropped for this reason.
+    fn dropped(self, reason: u64) -> Goes
+        ensures { result ≡ dropped self reason }
+    {
+        Goes::to(Place::CountsDrop, Noted { reason, ..self })
+    }
+
+    /// The packet is of no connection: it begins one, unless it resets it.
+    fn begins(self) -> Goes
+        ensures { result ≡ begins self self.resets }
+    {
+        if self.resets {
+            self.dropped(NO_CONNECTION)
+        } else {
+            Goes::to(Place::RaisesLeast, self)
+        }
+    }
+
+    /// The packet goes to the backend of its connection, or comes from there. Where it resets the connection, the load of the backend
+    /// is lowered first.
+    fn goes_to(self, backend: u16) -> Goes
+        ensures { result ≡ goes_to self self.resets backend }
+    {
+        if self.resets {
+            Goes::to(
+                Place::LowersSpare,
+                Noted {
+                    backend,
+                    spare: backend,
+                    ..self
+                },
+            )
+        } else {
+            Goes::to(Place::SendsOut, Noted { backend, ..self })
+        }
+    }
+
+    fn after_find(self, found: Find) -> Goes
+        ensures { result ≡ after_find self found }
+    {
+        match found {
+            Find::Live(backend) => self.goes_to(backend),
+            Find::Absent(Some(idle)) => Goes::to(
+                Place::LowersIdle,
+                Noted {
+                    spare: idle.port,
+                    ..self
+                },
+            ),
+            Find::Absent(None) => self.begins(),
+        }
+    }
+
+    /// A backend that another packet's connection made needless is given up.
+    fn after_bind(self, bind: Bind) -> Goes
+        ensures { result ≡ after_bind self bind }
+    {
+        match bind {
+            Bind::Bound => Goes::to(Place::SendsOut, self),
+            Bind::Other(backend) => Goes::to(
+                Place::LowersSpare,
+                Noted {
+                    backend,
+                    spare: self.backend,
+                    ..self
+                },
+            ),
+        }
+    }
+
+    fn after_check(self, there: bool) -> Goes
+        ensures { result ≡ after_check self there }
+    {
+        if there {
+            self.goes_to(self.backend)
+        } else {
+            self.dropped(NO_CONNECTION)
+        }
+    }
+
+    /// Touches the counts of drops.
+    pub(crate) fn touch_drops(self, place: Place, drops: &mut Drops) -> Goes
+        ensures { (Dropped drops.new, result) ≡ touched place (Dropped drops.old) self }
+    {
+        if place == Place::CountsDrop {
+            drops.add(self.reason);
+        }
+        Goes::to(Place::Ends, self)
+    }
+
+    /// Touches the loads.
+    pub(crate) fn touch_loads(self, place: Place, loads: &mut Loads) -> Goes
+        requires { length loads.old ≤ 64 }
+        ensures { (Loaded loads.new, result) ≡ touched place (Loaded loads.old) self }
+    {
+        match place {
+            Place::LowersIdle => {
+                loads.lower(self.spare);
+                self.begins()
+            }
+            Place::RaisesLeast => {
+                let backend = loads.least();
+                loads.raise(backend);
+                Goes::to(Place::Connects, Noted { backend, ..self })
+            }
+            Place::LowersSpare => {
+                loads.lower(self.spare);
+                Goes::to(Place::SendsOut, self)
+            }
+            _ => Goes::to(Place::Ends, self),
+        }
+    }
+
+    /// Touches a connection table.
+    pub(crate) fn touch_connections(
+        self,
+        place: Place,
+        table: &mut Connections,
+    ) -> Result<Goes, NoMemory>
+        ensures ok { IfOk result (λ goes. (Connected table.new, goes)
+            ≡ touched place (Connected table.old) self) }
+        ensures err { OnErr result (table.new ≡ table.old) }
+    {
+        match place {
+            Place::FindsConnection => {
+                let found = table.find(&self.client, self.time, self.resets);
+                Ok(self.after_find(found))
+            }
+            Place::Connects => {
+                let bind = table.find_or_bind(&self.client, self.backend, self.time)?;
+                Ok(self.after_bind(bind))
+            }
+            Place::ChecksConnection => {
+                let there = table.check(&self.client, self.backend, self.time, self.resets);
+                Ok(self.after_check(there))
+            }
+            _ => Ok(Goes::to(Place::Ends, self)),
+        }
+    }
+
+    /// Notes the time.
+    pub(crate) fn told(self, place: Place, answer: u64) -> Goes
+        ensures { result ≡ told place answer self }
+    {
+        if place != Place::HearsTime {
+            return Goes::to(Place::Ends, self);
+        }
+        let noted = Noted {
+            time: answer,
+            ..self
+        };
+        match self.class {
+            Class::Client => Goes::to(Place::FindsConnection, noted),
+            Class::Answer => Goes::to(Place::ChecksConnection, noted),
+        }
+    }
+}
