@@ -1,9 +1,8 @@
 -- The load of each backend is its charge after each move of each run.
-use Rattle.std.proofs.Common.{◌≡◌, ◌≢◌, ℕ, ◌+◌, ◌-◌, ◌%◌, ◌^◌, ◌*◌, ◌<◌, ◌≤◌, Bool, true, false, List, [], ◌∷◌, ◌++◌, length, refl, sym, ap, ◌∙◌, subst, ◌⊎◌, inl, inr, arith, Option, Some, None}
+use Rattle.std.proofs.Common.{◌≡◌, ℕ, ◌+◌, ◌-◌, ◌%◌, ◌^◌, ◌<◌, Bool, true, false, List, [], ◌∷◌, length, refl, sym, ap, ◌∙◌, subst, ◌⊎◌, inl, inr, arith, Option, Some, None}
 use Rattle.std.specs.Prelude.{nat_eq, cond, ◌==◌, ◌&&◌, slice_index, Result, Ok, Err}
 use Rattle.std.proofs.lemmas.Bool.{eqb-true}
 use Rattle.std.proofs.lemmas.List.{get_or-replicate}
-use Rattle.std.proofs.lemmas.Bool.Decides.{nat_tests}
 use Rattle.plain_text.specs.declared.packet.Packet.{Packet}
 use Rattle.packet_headers.specs.declared.flow.Flow.{Flow}
 use Rattle.packet_headers.specs.declared.flow.NotFlow.{NotFlow}
@@ -15,15 +14,11 @@ use Rattle.plain_machine.specs.History.{Step, act_of, left_by, thread_after, val
 use Rattle.plain_machine.proofs.Histories.{not_eq, is_eq}
 use Rattle.plain_machine.proofs.Bounds.{values_fit}
 use Rattle.nat_tables.specs.Ports.{one_if}
-use Rattle.nat_tables.specs.Forwards.{Forwards, is_idle, slot_of, refreshed, refresh, without, first_idle, without_idle, found_there, found, bound, lives, total}
+use Rattle.nat_tables.specs.Forwards.{Forwards, is_idle, slot_of, refreshed, refresh, first_idle, found_there, found, bound, lives, total}
 use Rattle.nat_tables.proofs.Counting.{total_refresh, total_without, total_without_idle, total_append}
 use Rattle.nat_box.proofs.Summing.{one_changes, sum_of_none}
 use Rattle.nat_tables.specs.declared.entries.Endpoint.{Endpoint}
 use Rattle.nat_tables.specs.declared.slot.Slot.{Slot}
-use Rattle.nat_tables.specs.declared.entries.Find.{Find}
-use Rattle.nat_tables.specs.declared.entries.Find.TheVariants.{Live, Absent}
-use Rattle.nat_tables.specs.declared.entries.Bind.{Bind}
-use Rattle.nat_tables.specs.declared.entries.Bind.TheVariants.{Bound, Other}
 use Rattle.balancer_box.specs.declared.place.Place.{Place}
 use Rattle.balancer_box.specs.declared.place.Place.TheVariants.{HearsTime, FindsConnection, LowersIdle, RaisesLeast, Connects, LowersSpare, ChecksConnection, CountsDrop, SendsOut, Ends}
 use Rattle.balancer_box.specs.declared.place.Class.{Class}
@@ -33,16 +28,16 @@ use Rattle.balancer_box.specs.declared.value.BalancerValue.{BalancerValue}
 use Rattle.balancer_box.specs.declared.value.BalancerValue.TheVariants.{Dropped, Loaded, Connected}
 use Rattle.balancer_box.specs.declared.place.Goes.{Goes}
 use Rattle.balancer_box.specs.Loads.{raised, lowered, least_loaded, no_loads}
-use Rattle.balancer_box.specs.Connections.{closed, find_connection, without_if, check_connection}
+use Rattle.balancer_box.specs.Connections.{closed, without_if}
 use Rattle.balancer_box.specs.Places.{place_of}
 use Rattle.balancer_box.specs.Balancer.{Settings, next_move, is_virtual, backend_at, begun_answer, begun_flow, begun, begins, goes_to, after_find, after_bind, after_check, touched, after_time, told, local_at, fresh_value, noted_by, balancer_meaning, Fits}
 use Rattle.balancer_box.specs.Noting.{place_again, IsNoted, is_noted, noted_again}
 use Rattle.balancer_box.specs.Lawful.{AreSettings, var_of, touches_it, below_all, balancer_lawful}
 use Rattle.balancer_box.specs.Charges.{load_in, of_backend, connections_of, owed, in_hand, in_values, in_hands, charge, IsCharged, LoadsAreCharges}
 use Rattle.balancer_box.proofs.LoadLemmas.{raised_here, raised_other, lowered_here, lowered_other, one_up, one_down}
-use Rattle.balancer_box.proofs.ConnectionLemmas.{slot_refreshed, without_refreshed, lives_there}
+use Rattle.balancer_box.proofs.ConnectionLemmas.{slot_refreshed, lives_there}
 use Rattle.balancer_box.proofs.Noting.{touched_noted}
-use Rattle.balancer_box.proofs.Making.{goes_on, comes_to, Made, made}
+use Rattle.balancer_box.proofs.Making.{goes_on, Made, made}
 
 -- a packet at this place owes nothing
 abbrev OwesNone : Place → Type 0

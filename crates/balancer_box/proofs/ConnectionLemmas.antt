@@ -1,11 +1,11 @@
 -- Connections after a refresh, a removal and a new one.
-use Rattle.std.proofs.Common.{◌≡◌, ℕ, Bool, true, false, List, [], ◌∷◌, ◌++◌, refl, sym, ap, ◌∙◌, subst, arith, Option, Some, None}
+use Rattle.std.proofs.Common.{◌≡◌, ℕ, Bool, true, false, [], ◌∷◌, ◌++◌, refl, ap, Option, Some, None}
 use Rattle.std.specs.Prelude.{◌==◌, ◌&&◌, not, if◌then◌else◌}
 use Rattle.std.proofs.lemmas.Bool.{eqb-true}
 use Rattle.nat_tables.specs.declared.entries.Endpoint.{Endpoint}
 use Rattle.nat_tables.specs.declared.slot.Slot.{Slot}
 use Rattle.nat_tables.specs.Keys.{same_endpoint}
-use Rattle.nat_tables.specs.Forwards.{Forwards, slot_of, refreshed, refresh, without, is_idle, lives_at, lives, Misses, AreMappings}
+use Rattle.nat_tables.specs.Forwards.{Forwards, slot_of, refreshed, refresh, without, is_idle, lives_at, Misses}
 use Rattle.nat_tables.proofs.Counting.{same_is}
 
 pub slot_refreshed : (key : Endpoint) (now : ℕ) (slot : Slot) (es : Forwards) → slot_of key es ≡ Some slot → slot_of key (refresh key now es) ≡ Some (refreshed now slot)
@@ -36,14 +36,14 @@ without_refreshed key now (e ∷ es) = by (same_endpoint key e.0) refl (without_
 -- a client that no other connection is of
 pub missed : (key : Endpoint) (es : Forwards) → Misses es key → slot_of key es ≡ None
 missed key [] none = refl
-missed key (e ∷ es) none = by (same_endpoint key e.0) refl
+missed key (e ∷ es) none = by (same_endpoint key e.0) refl (missed key es none.1)
   where
-    by : (b : Bool) → same_endpoint key e.0 ≡ b → slot_of key (e ∷ es) ≡ None
-    by true q =
+    by : (b : Bool) → same_endpoint key e.0 ≡ b → slot_of key es ≡ None → slot_of key (e ∷ es) ≡ None
+    by true q rest =
         let k : key ≡ e.0 = same_is key e.0 q in
         let turned : same_endpoint e.0 key ≡ same_endpoint key e.0 = rw k refl in
         let no : same_endpoint e.0 key ≡ false = none.0 in absurd (cc)
-    by false q = rw q (missed key es none.1)
+    by false q rest = rw q rest
 
 and_left : (a b : Bool) → (a && b) ≡ true → a ≡ true
 and_left true b e = refl

@@ -1,6 +1,8 @@
 -- What goes out is the packet in hand, sent on by the connection that its own moves found.
-use Rattle.std.proofs.Common.{◌≡◌, ◌≢◌, ℕ, ◌+◌, ◌-◌, ◌≤◌, ◌*◌, ◌^◌, ◌<◌, Bool, true, false, List, [], ◌∷◌, ◌++◌, length, refl, sym, ap, ◌∙◌, subst, ◌⊎◌, inl, inr, arith, get_or, Option, Some, None}
-use Rattle.std.specs.Prelude.{◌==◌, ◌&&◌, slice_get, option_map, if◌then◌else◌, Result, Ok, Err}
+use Rattle.std.proofs.Common.{◌≡◌, ◌≢◌, ℕ, ◌+◌, ◌-◌, ◌≤◌, ◌^◌, ◌<◌, Bool, true, false, List, [], ◌∷◌, ◌++◌, length, refl, sym, ap, ◌∙◌, subst, ◌⊎◌, inl, inr, arith, get_or, Option, Some, None}
+use Rattle.std.specs.Prelude.{◌==◌, ◌&&◌, slice_get, nat_lt, cond, Result, Ok, Err}
+use Rattle.std.specs.List.{position_or_len}
+use Rattle.std.proofs.lemmas.Bool.Decides.{nat_tests}
 use Rattle.std.proofs.lemmas.Option.{slice_get_cases}
 use Rattle.plain_text.specs.declared.packet.Packet.{Packet}
 use Rattle.entry_order.proofs.Order.{is_or}
@@ -9,7 +11,6 @@ use Rattle.packet_headers.specs.declared.flow.NotFlow.{NotFlow}
 use Rattle.packet_headers.specs.Fields.{AreBytes, word_at, long_at, header_end}
 use Rattle.packet_headers.specs.View.{viewed, flow_of, failures}
 use Rattle.packet_headers.proofs.FirstFailure.{pass_from_ok}
-use Rattle.packet_headers.specs.Rewriting.{with_source, with_dest}
 use Rattle.plain_machine.specs.declared.local.Move.TheVariants.{Access, Clock, Emit}
 use Rattle.plain_machine.specs.Machine.{Hand, Effect, Takes, Touches, Looks, HearsClock, HearsDraw, Sends, Ends as EndsIt}
 use Rattle.plain_machine.specs.History.{Emitted, Step, act_of, emission_of, sent_of, thread_after, value_after, IsHistory}
@@ -23,10 +24,6 @@ use Rattle.nat_box.specs.Emissions.{HaveBytes}
 use Rattle.nat_box.proofs.HeldInputs.{IsHeld, move_holds, run_holds}
 use Rattle.nat_tables.specs.declared.entries.Endpoint.{Endpoint}
 use Rattle.nat_tables.specs.declared.slot.Slot.{Slot}
-use Rattle.nat_tables.specs.declared.entries.Find.{Find}
-use Rattle.nat_tables.specs.declared.entries.Find.TheVariants.{Live, Absent}
-use Rattle.nat_tables.specs.declared.entries.Bind.{Bind}
-use Rattle.nat_tables.specs.declared.entries.Bind.TheVariants.{Bound, Other}
 use Rattle.balancer_box.specs.declared.place.Place.{Place}
 use Rattle.balancer_box.specs.declared.place.Place.TheVariants.{HearsTime, FindsConnection, LowersIdle, RaisesLeast, Connects, LowersSpare, ChecksConnection, CountsDrop, SendsOut, Ends}
 use Rattle.balancer_box.specs.declared.place.Class.{Class}
@@ -38,11 +35,11 @@ use Rattle.balancer_box.specs.declared.backends.Backend.{Backend}
 use Rattle.balancer_box.specs.declared.place.Goes.{Goes}
 use Rattle.balancer_box.specs.Loads.{least_loaded}
 use Rattle.balancer_box.specs.Connections.{closed, without_if}
-use Rattle.balancer_box.specs.Places.{place_of, endpoint}
+use Rattle.balancer_box.specs.Places.{place_of}
 use Rattle.balancer_box.specs.Balancer.{Settings, goes, next_move, resets, is_virtual, backend_at, nothing_noted, of_client, of_answer, begun_answer, begun_flow, begun, begins, goes_to, after_find, after_bind, after_check, touched, after_time, told, frame_to, frame_out, local_at, noted_by, balancer_meaning, Fits}
 use Rattle.balancer_box.specs.Noting.{place_again, IsNoted, is_noted, noted_again}
 use Rattle.balancer_box.specs.Lawful.{AreSettings, var_of, touches_it, below_all, balancer_lawful}
-use Rattle.balancer_box.specs.Emissions.{Trail, no_trail, newer, trail_of_touch, trail_by, trail_of, naming, source_of, dest_of, WasConnected, Lived, ReachesBackend, ComesFromVirtual, IsSentOnOf, EmissionsFollowConnections}
+use Rattle.balancer_box.specs.Emissions.{Trail, no_trail, trail_of_touch, trail_by, trail_of, naming, source_of, dest_of, WasConnected, Lived, ReachesBackend, ComesFromVirtual, IsSentOnOf, EmissionsFollowConnections}
 use Rattle.balancer_box.proofs.ConnectionLemmas.{slot_refreshed, slot_appended}
 use Rattle.balancer_box.proofs.Noting.{touched_noted, told_noted}
 use Rattle.balancer_box.proofs.Making.{goes_on, comes_to, Made, made}
@@ -240,15 +237,15 @@ whole frame bytes = record {
   dest_port = word_fits frame (header_end frame + 2) bytes;
 }
 
-backend_below : (bs : List Backend) (address port k : ℕ) (o : Option ℕ) → backend_at bs address port ≡ o → o ≡ Some k → k < length bs
-backend_below [] address port k o is e = absurd (cc)
-backend_below (b ∷ bs) address port k o is e = by ((b.address == address) && (b.port == port)) (backend_at bs address port) refl (is ∙ e) (λ j h. backend_below bs address port j (Some j) h refl)
+backend_below : (bs : List Backend) (address port k : ℕ) → backend_at bs address port ≡ Some k → k < length bs
+backend_below bs address port k e = by (nat_lt at (length bs)) refl e
   where
-    by : (t : Bool) (rest : Option ℕ) → backend_at bs address port ≡ rest → (if t then Some 0 else option_map (λ n. n + 1) rest) ≡ Some k
-        → ((j : ℕ) → backend_at bs address port ≡ Some j → j < length bs) → k < length (b ∷ bs)
-    by true rest q e low = let z : 0 ≡ k = cc in omega arith
-    by false None q e low = absurd (cc)
-    by false (Some j) q e low = let a : j + 1 ≡ k = cc in let b = low j q in omega arith
+    at : ℕ
+    at = position_or_len (λ b. (b.address == address) && (b.port == port)) bs
+
+    by : (t : Bool) → nat_lt at (length bs) ≡ t → cond t (Some at) None ≡ Some k → k < length bs
+    by true q e = let same : at ≡ k = cc in let low : at < length bs = grind (arith, nat_tests) in omega arith
+    by false q e = absurd (cc)
 
 module _ (s : Settings) (is : AreSettings s) where
   client_noted : (flow : Flow) → IsWhole flow → IsNoted (length s.backends) (of_client flow)
@@ -274,7 +271,7 @@ module _ (s : Settings) (is : AreSettings s) where
       by_backend : (o : Option ℕ) → backend_at s.backends flow.source flow.source_port ≡ o → is_virtual s flow.dest flow.dest_port ≡ false → IsWhole flow → Known s no_trail (Some (hand (begun_answer flow o)))
       by_backend None q v w = known_on s no_trail (hand (begun_answer flow None)) (begun_answer flow None) (nothing_is_noted 9) tt
       by_backend (Some k) q v w =
-          known_on s no_trail (hand (begun_answer flow (Some k))) (begun_answer flow (Some k)) (answer_noted flow k (backend_below s.backends flow.source flow.source_port k (Some k) q refl) w)
+          known_on s no_trail (hand (begun_answer flow (Some k))) (begun_answer flow (Some k)) (answer_noted flow k (backend_below s.backends flow.source flow.source_port k q) w)
           (record { flow = flow; seen = seen; reset = refl; of = (v, refl, q) })
 
       by : (b : Bool) → is_virtual s flow.dest flow.dest_port ≡ b → IsWhole flow → Known s no_trail (Some (hand (begun_flow s flow)))

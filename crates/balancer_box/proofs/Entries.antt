@@ -1,31 +1,25 @@
 -- A connection never changes its backend.
-use Rattle.std.proofs.Common.{◌≡◌, ℕ, ◌+◌, ◌<◌, Bool, true, false, List, [], ◌∷◌, ◌++◌, refl, sym, ap, ◌∙◌, subst, arith, Option, Some, None}
-use Rattle.std.specs.Prelude.{nat_eq, cond, ◌==◌, ◌&&◌, if◌then◌else◌}
+use Rattle.std.proofs.Common.{◌≡◌, ℕ, Bool, true, false, List, [], ◌∷◌, ◌++◌, refl, sym, ap, ◌∙◌, subst, Option, Some, None}
+use Rattle.std.specs.Prelude.{nat_eq, cond, ◌&&◌, if◌then◌else◌}
 use Rattle.std.proofs.lemmas.Bool.{eqb-true}
 use Rattle.plain_text.specs.declared.packet.Packet.{Packet}
 use Rattle.plain_machine.specs.Machine.{Hand, Thread, Effect, Takes, Touches, Looks, HearsClock, HearsDraw, Sends, Ends as EndsIt}
 use Rattle.plain_machine.specs.History.{Step, act_of, left_by, thread_after, value_after}
 use Rattle.plain_machine.proofs.Bounds.{values_fit}
 use Rattle.nat_tables.specs.Keys.{same_endpoint}
-use Rattle.nat_tables.specs.Forwards.{Forwards, is_idle, slot_of, refreshed, refresh, without, first_idle, without_idle, found_there, found, bound, lives, Misses, AreMappings}
+use Rattle.nat_tables.specs.Forwards.{Forwards, is_idle, slot_of, refresh, without, first_idle, without_idle, found_there, found, bound, lives, Misses, AreMappings}
 use Rattle.nat_tables.proofs.Counting.{same_is}
 use Rattle.nat_tables.specs.declared.entries.Endpoint.{Endpoint}
 use Rattle.nat_tables.specs.declared.slot.Slot.{Slot}
-use Rattle.nat_tables.specs.declared.entries.Find.{Find}
-use Rattle.nat_tables.specs.declared.entries.Find.TheVariants.{Live, Absent}
-use Rattle.nat_tables.specs.declared.entries.Bind.{Bind}
-use Rattle.nat_tables.specs.declared.entries.Bind.TheVariants.{Bound, Other}
 use Rattle.balancer_box.specs.declared.place.Place.{Place}
 use Rattle.balancer_box.specs.declared.place.Place.TheVariants.{HearsTime, FindsConnection, LowersIdle, RaisesLeast, Connects, LowersSpare, ChecksConnection, CountsDrop, SendsOut, Ends}
-use Rattle.balancer_box.specs.declared.place.Class.{Class}
-use Rattle.balancer_box.specs.declared.place.Class.TheVariants.{Client, Answer}
 use Rattle.balancer_box.specs.declared.place.Noted.{Noted}
 use Rattle.balancer_box.specs.declared.value.BalancerValue.{BalancerValue}
 use Rattle.balancer_box.specs.declared.value.BalancerValue.TheVariants.{Dropped, Loaded, Connected}
 use Rattle.balancer_box.specs.Connections.{closed, without_if}
 use Rattle.balancer_box.specs.Places.{place_of}
 use Rattle.balancer_box.specs.Balancer.{Settings, touched, noted_by, balancer_meaning, MayConnect, Fits}
-use Rattle.balancer_box.specs.Lawful.{AreSettings, balancer_lawful}
+use Rattle.balancer_box.specs.Lawful.{balancer_lawful}
 use Rattle.balancer_box.specs.Entries.{connections_in, IsKept, AreKept, ConnectionsKeepBackends}
 use Rattle.balancer_box.proofs.ConnectionLemmas.{without_refreshed, missed}
 use Rattle.balancer_box.proofs.Making.{Made, made}
@@ -134,15 +128,15 @@ kept_touch s CountsDrop (Connected es) n v fits = kept_all es
 kept_touch s SendsOut x n v fits = kept_all (connections_in x)
 kept_touch s Ends x n v fits = kept_all (connections_in x)
 
-deed_keeps : (s : Settings) (packets : List Packet) (t taken then : ℕ) (value : ℕ → BalancerValue) (before after : Option Hand) (earlier : List (Step BalancerValue)) (d : Effect BalancerValue) (v : ℕ) → Fits s v (value v)
-    → Made s packets taken value before after d → AreKept (connections_in (value v)) (connections_in (left_by v (act_of t earlier then d) (value v)))
-deed_keeps s packets t taken then value before after earlier Takes v fits m = kept_all (connections_in (value v))
-deed_keeps s packets t taken then value before after earlier (Looks w) v fits m = absurd m
-deed_keeps s packets t taken then value before after earlier (HearsClock a) v fits m = kept_all (connections_in (value v))
-deed_keeps s packets t taken then value before after earlier (HearsDraw a) v fits m = absurd m
-deed_keeps s packets t taken then value before after earlier (Sends q) v fits m = kept_all (connections_in (value v))
-deed_keeps s packets t taken then value before after earlier EndsIt v fits m = kept_all (connections_in (value v))
-deed_keeps s packets t taken then value before after earlier (Touches w left) v fits m = by (nat_eq w v) refl
+deed_keeps : (s : Settings) (packets : List Packet) (t taken taken_then : ℕ) (value : ℕ → BalancerValue) (before after : Option Hand) (earlier : List (Step BalancerValue)) (d : Effect BalancerValue) (v : ℕ) → Fits s v (value v)
+    → Made s packets taken value before after d → AreKept (connections_in (value v)) (connections_in (left_by v (act_of t earlier taken_then d) (value v)))
+deed_keeps s packets t taken taken_then value before after earlier Takes v fits m = kept_all (connections_in (value v))
+deed_keeps s packets t taken taken_then value before after earlier (Looks w) v fits m = absurd m
+deed_keeps s packets t taken taken_then value before after earlier (HearsClock a) v fits m = kept_all (connections_in (value v))
+deed_keeps s packets t taken taken_then value before after earlier (HearsDraw a) v fits m = absurd m
+deed_keeps s packets t taken taken_then value before after earlier (Sends q) v fits m = kept_all (connections_in (value v))
+deed_keeps s packets t taken taken_then value before after earlier EndsIt v fits m = kept_all (connections_in (value v))
+deed_keeps s packets t taken taken_then value before after earlier (Touches w left) v fits m = by (nat_eq w v) refl
   where
     h : Hand
     h = m.0

@@ -1,3 +1,4 @@
+pub mod BoxLemmas
 pub mod LoadLemmas
 pub mod ConnectionLemmas
 pub mod Noting

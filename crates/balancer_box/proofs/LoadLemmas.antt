@@ -1,17 +1,17 @@
 -- The least of the loads, and loads of which one changes.
-use Rattle.std.proofs.Common.{◌≡◌, ◌≢◌, ℕ, zero, suc, ◌+◌, ◌-◌, ◌%◌, ◌^◌, ◌<◌, ◌≤◌, Bool, true, false, List, [], ◌∷◌, length, refl, sym, ap, ◌∙◌, subst, arith, drop, drop-cons, get_or-set_same, get_or-set_other}
-use Rattle.std.specs.Prelude.{◌==◌, nat_lt, slice_index, slice_set, if◌then◌else◌}
+use Rattle.std.proofs.Common.{◌≡◌, ◌≢◌, ℕ, zero, suc, ◌+◌, ◌-◌, ◌%◌, ◌^◌, ◌<◌, ◌≤◌, Bool, true, false, List, [], ◌∷◌, length, refl, sym, ap, ◌∙◌, arith, get_or-set_same, get_or-set_other}
+use Rattle.std.specs.Prelude.{◌==◌, nat_lt, slice_index}
 use Rattle.std.proofs.lemmas.Bool.{eqb-true}
 use Rattle.std.proofs.lemmas.Bool.Decides.{nat_tests}
 use Rattle.balancer_box.specs.Loads.{raised, lowered, least_from, least_loaded, HasLeastLoad}
 
 least_from_below : (least load next : ℕ) (xs : List ℕ) → least < next → least_from least load next xs < next + length xs
 least_from_below least load next [] low = omega arith
-least_from_below least load next (x ∷ xs) low = by (nat_lt x load) refl
+least_from_below least load next (x ∷ xs) low = by (nat_lt x load) refl (λ k l less. least_from_below k l (next + 1) xs less)
   where
-    by : (b : Bool) → nat_lt x load ≡ b → least_from least load next (x ∷ xs) < next + length (x ∷ xs)
-    by true q = let a = least_from_below next x (next + 1) xs (omega arith) in rw q (omega arith)
-    by false q = let a = least_from_below least load (next + 1) xs (omega arith) in rw q (omega arith)
+    by : (b : Bool) → nat_lt x load ≡ b → ((k l : ℕ) → k < next + 1 → least_from k l (next + 1) xs < next + 1 + length xs) → least_from least load next (x ∷ xs) < next + length (x ∷ xs)
+    by true q rest = let a = rest next x (omega arith) in rw q (omega arith)
+    by false q rest = let a = rest least load (omega arith) in rw q (omega arith)
 
 pub least_below : (loads : List ℕ) → 1 ≤ length loads → least_loaded loads < length loads
 least_below [] some = absurd (omega arith)
@@ -33,7 +33,7 @@ least_of_rest all least load next [] rest long so =
       least = λ k low. let a = so.lower k (omega arith) in omega arith;
       first = λ k low. let a = so.first k low in omega arith;
     }
-least_of_rest all least load next (x ∷ xs) rest long so = by (nat_lt x load) refl
+least_of_rest all least load next (x ∷ xs) rest long so = by (nat_lt x load) refl (λ k l. least_of_rest all k l (next + 1) xs)
   where
     at : slice_index all next ≡ x
     at = let a : x ≡ slice_index all (next + 0) = rest 0 in let b : next + 0 ≡ next = omega arith in sym (a ∙ ap (slice_index all) b)
@@ -49,14 +49,16 @@ least_of_rest all least load next (x ∷ xs) rest long so = by (nat_lt x load) r
     by_old more_is k low true q = let e : k ≡ next = eqb-true _ _ q in let a : slice_index all k ≡ x = ap (slice_index all) e ∙ at in omega arith
     by_old more_is k low false q = let o : k < next = grind (arith, nat_tests) in so.lower k o
 
-    by : (b : Bool) → nat_lt x load ≡ b → HasLeastLoad all (least_from least load next (x ∷ xs))
-    by true q =
+    by : (b : Bool) → nat_lt x load ≡ b
+        → ((k l : ℕ) → ((j : ℕ) → slice_index xs j ≡ slice_index all (next + 1 + j)) → next + 1 + length xs ≡ length all → IsLeastSoFar all k l (next + 1) → HasLeastLoad all (least_from k l (next + 1) xs))
+        → HasLeastLoad all (least_from least load next (x ∷ xs))
+    by true q behind =
         let less : x < load = grind (arith, nat_tests) in
-        rw q (least_of_rest all next x (next + 1) xs more (omega arith)
+        rw q (behind next x more (omega arith)
         (record { here = at; there = omega arith; lower = λ k low. by_new less k low (k == next) refl; first = λ k low. let a = so.lower k low in omega arith }))
-    by false q =
+    by false q behind =
         let more_is : load ≤ x = grind (arith, nat_tests) in
-        rw q (least_of_rest all least load (next + 1) xs more (omega arith)
+        rw q (behind least load more (omega arith)
         (record { here = so.here; there = (let a = so.there in omega arith); lower = λ k low. by_old more_is k low (k == next) refl; first = so.first }))
 
 pub has_least : (loads : List ℕ) → 1 ≤ length loads → HasLeastLoad loads (least_loaded loads)

@@ -1,13 +1,9 @@
 -- What a move leaves noted fits its fields.
-use Rattle.std.proofs.Common.{◌≡◌, ℕ, ◌+◌, ◌^◌, ◌<◌, ◌≤◌, Bool, true, false, List, length, refl, subst, arith, Option, Some, None}
+use Rattle.std.proofs.Common.{◌≡◌, ℕ, ◌<◌, ◌≤◌, Bool, true, false, length, refl, arith, Option, Some, None}
 use Rattle.nat_tables.specs.Forwards.{Forwards, is_idle, slot_of, first_idle, found_there, found, bound, lives, port_of, AreMappings}
 use Rattle.nat_tables.proofs.Keeping.{may_slot, may_idle}
 use Rattle.nat_tables.specs.declared.entries.Endpoint.{Endpoint}
 use Rattle.nat_tables.specs.declared.slot.Slot.{Slot}
-use Rattle.nat_tables.specs.declared.entries.Find.{Find}
-use Rattle.nat_tables.specs.declared.entries.Find.TheVariants.{Live, Absent}
-use Rattle.nat_tables.specs.declared.entries.Bind.{Bind}
-use Rattle.nat_tables.specs.declared.entries.Bind.TheVariants.{Bound, Other}
 use Rattle.balancer_box.specs.declared.place.Place.{Place}
 use Rattle.balancer_box.specs.declared.place.Place.TheVariants.{HearsTime, FindsConnection, LowersIdle, RaisesLeast, Connects, LowersSpare, ChecksConnection, CountsDrop, SendsOut, Ends}
 use Rattle.balancer_box.specs.declared.place.Class.{Class}

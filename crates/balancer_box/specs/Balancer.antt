@@ -1,6 +1,6 @@
 -- The box that spreads the clients of one virtual address and port over backends. Variable 0 counts drops by reason, variable 1
 -- is the load of each backend, and the next S variables are the connection tables.
-use Rattle.std.specs.Prelude.{◌≡◌, ℕ, suc, zero, ◌+◌, ◌%◌, ◌^◌, ◌<◌, ◌≤◌, Bool, true, false, not, ◌==◌, ◌&&◌, if◌then◌else◌, List, [], ◌∷◌, length, slice_get, option_map, Option, Some, None, Result, Ok, Err, bit_and}
+use Rattle.std.specs.Prelude.{◌≡◌, ℕ, ◌+◌, ◌%◌, ◌^◌, ◌<◌, ◌≤◌, Bool, true, false, not, ◌==◌, ◌&&◌, if◌then◌else◌, List, [], length, slice_get, position, Option, Some, None, Result, Ok, Err, bit_and}
 use Rattle.packet_headers.specs.declared.flow.Flow.{Flow}
 use Rattle.packet_headers.specs.declared.flow.NotFlow.{NotFlow}
 use Rattle.packet_headers.specs.View.{viewed}
@@ -87,8 +87,7 @@ is_virtual s address port = (address == s.address) && (port == s.port)
 
 -- the number of the backend with this address and port
 abbrev pub backend_at : List Backend → ℕ → ℕ → Option ℕ
-backend_at [] address port = None
-backend_at (b ∷ bs) address port = if (b.address == address) && (b.port == port) then Some 0 else option_map (λ n. n + 1) (backend_at bs address port)
+backend_at backends address port = position (λ b. (b.address == address) && (b.port == port)) backends
 
 abbrev pub nothing_noted : ℕ → Noted
 nothing_noted reason = record {

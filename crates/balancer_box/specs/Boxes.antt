@@ -1,5 +1,5 @@
 -- The box as a value: its settings are in range.
-use Rattle.std.specs.Prelude.{ℕ, ◌+◌, ◌≤◌, min, max, List, [], ◌∷◌, length, take}
+use Rattle.std.specs.Prelude.{ℕ, ◌≤◌, min, max, List, [], ◌∷◌, length, take}
 use Rattle.std.proofs.Common.{arith, length-take}
 use Rattle.plain_machine.specs.Program.{Meaning, IsLawful}
 use Rattle.nat_box.specs.Boxes.{at_least, at_most, one_of_64}

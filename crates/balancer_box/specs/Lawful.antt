@@ -1,5 +1,5 @@
 -- The laws of programs, of the box with 1 to 64 tables and 1 to 64 backends.
-use Rattle.std.specs.Prelude.{◌≡◌, ℕ, zero, suc, ◌+◌, ◌-◌, ◌*◌, ◌%◌, ◌^◌, ◌<◌, ◌≤◌, Bool, true, false, List, [], ◌∷◌, length, slice_set, slice_index, replicate, Option, Some, None, Result, Ok, Err, ◌==◌, ◌&&◌, nat_lt, if◌then◌else◌, slice_get, refl}
+use Rattle.std.specs.Prelude.{◌≡◌, ℕ, ◌+◌, ◌<◌, ◌≤◌, Bool, true, false, List, length, Option, Some, None, Result, Ok, Err, ◌==◌, ◌&&◌, nat_lt, slice_get, refl}
 use Rattle.std.proofs.Common.{arith, ap, sym, subst, ◌∙◌}
 use Rattle.std.proofs.lemmas.Grind.{common_steps}
 use Rattle.std.proofs.lemmas.Bool.Decides.{nat_tests}
@@ -30,7 +30,7 @@ use Rattle.balancer_box.specs.declared.place.Goes.{Goes}
 use Rattle.balancer_box.specs.Loads.{raised, lowered, least_loaded, no_loads}
 use Rattle.balancer_box.specs.Connections.{closed, find_connection, without_if, check_connection}
 use Rattle.balancer_box.specs.Places.{place_of}
-use Rattle.balancer_box.specs.Balancer.{Settings, table_of, next_move, moves_left, is_virtual, backend_at, of_client, begun_answer, begun, begins, goes_to, after_find, after_bind, after_check, touched, after_time, told, frame_to, frame_out, bytes_out, local_at, fresh_value, noted_by, balancer_meaning, MayConnect, Fits}
+use Rattle.balancer_box.specs.Balancer.{Settings, table_of, next_move, moves_left, is_virtual, backend_at, begun_answer, begun, begins, goes_to, after_find, after_bind, after_check, touched, after_time, told, frame_to, frame_out, bytes_out, local_at, fresh_value, noted_by, balancer_meaning, MayConnect, Fits}
 use Rattle.balancer_box.specs.Noting.{place_again, IsNoted, is_noted}
 
 -- what may be configured

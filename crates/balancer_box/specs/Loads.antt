@@ -1,5 +1,5 @@
 -- The load of each backend: how many connections it is counted for. Sums and differences are modulo 2^64.
-use Rattle.std.specs.Prelude.{ℕ, zero, suc, ◌+◌, ◌-◌, ◌%◌, ◌^◌, ◌<◌, ◌≤◌, nat_lt, if◌then◌else◌, List, [], ◌∷◌, length, slice_index, slice_set, replicate}
+use Rattle.std.specs.Prelude.{ℕ, ◌+◌, ◌-◌, ◌%◌, ◌^◌, ◌<◌, ◌≤◌, nat_lt, if◌then◌else◌, List, [], ◌∷◌, length, slice_index, slice_set, replicate}
 
 -- the load of one backend grows by 1; nothing changes where it is not there
 abbrev pub raised : ℕ → List ℕ → List ℕ

@@ -1,6 +1,7 @@
 -- What is noted in a Local is read from it again.
-use Rattle.std.specs.Prelude.{◌≡◌, ℕ, ◌%◌, ◌^◌, ◌<◌, ◌≤◌, Bool, true, false, ◌==◌, refl}
-use Rattle.std.proofs.Common.{arith}
+use Rattle.std.specs.Prelude.{◌≡◌, ℕ, ◌+◌, ◌*◌, ◌%◌, ◌^◌, ◌<◌, ◌≤◌, Bool, true, false, ◌==◌, refl}
+use Rattle.std.proofs.Common.{arith, ap, sym, ◌∙◌}
+use Rattle.std.proofs.lemmas.Nat.{mod-mul-add}
 use Rattle.plain_machine.specs.declared.local.Local.{Local}
 use Rattle.balancer_box.specs.declared.place.Place.{Place}
 use Rattle.balancer_box.specs.declared.place.Place.TheVariants.{HearsTime, FindsConnection, LowersIdle, RaisesLeast, Connects, LowersSpare, ChecksConnection, CountsDrop, SendsOut, Ends}
@@ -47,7 +48,9 @@ is_noted backends l some = record {
 }
 
 small_again : (k n : ℕ) → k < n → k % n ≡ k
-small_again k n low = omega arith
+small_again k n low =
+    let e : 0 * n + k ≡ k = omega arith in
+    sym (ap (λ (x : ℕ). x % n) e) ∙ mod-mul-add 0 n k low
 
 pub noted_again : (backends : ℕ) (p : Place) (n : Noted) → IsNoted backends n → noted backends (local_of p n) ≡ n
 noted_again backends p n is =

@@ -1,6 +1,6 @@
 ghost use Rattle.std.specs.Prelude.{◌≤◌, length};
 
-use crate::{Backend, Backends};
+use crate::Backends;
 use nat_tables::Endpoint;
 
 /// The box `balancer`: it spreads the clients of one virtual address and port over backends, as a load balancer does that
@@ -29,7 +29,7 @@ pub struct BalancerBox {
 }
 
 impl BalancerBox {
-    ghost use Rattle.std.specs.Prelude.{◌≡◌, ◌≤◌, length};
+    ghost use Rattle.std.specs.Prelude.{◌≡◌, ◌≤◌, ◌<◌, length, IfSome};
     ghost use Rattle.balancer_box.specs.Balancer.{is_virtual, backend_at, table_of};
     ghost use Rattle.balancer_box.specs.Boxes.{settings_of, box_with};
 
@@ -64,16 +64,12 @@ impl BalancerBox {
     }
 
     /// The number of the backend with this address and port.
-    pub(crate) fn backend_at(&self, address: u32, port: u16) -> Option<u16>
-        ensures { result ≡ backend_at self.now.backends address port }
+    pub(crate) fn backend_at(&self, address: u32, port: u16) -> Option<usize>
+        ensures value { result ≡ backend_at self.now.backends address port }
+        ensures within { IfSome result (λ number. number < length self.now.backends) }
     {
-        let wanted = Backend { address, port };
-        let at = self
-            .backends
-            .as_slice()
-            .iter()
-            .position(|backend| *backend == wanted)?;
-        Some(at as u16)
+        self.backends.as_slice().iter().position(|backend| backend.address == address
+            && backend.port == port)
     }
 
     /// The connection table of a client.

@@ -1,4 +1,4 @@
-ghost use Rattle.std.specs.Prelude.{◌≡◌, [], ◌∷◌, ◌++◌, Some, None, IfOk, OnOk, OnErr, MatchOption, length};
+ghost use Rattle.std.specs.Prelude.{◌≡◌, ◌+◌, ◌≤◌, [], ◌∷◌, ◌++◌, Some, None, IfOk, OnOk, OnErr, MatchOption, length};
 ghost use Rattle.nat_tables.specs.Forwards.{timer, is_idle, refreshed, slot_of, find, idle_removed, find_or_bind, refresh, without, lives, mapping_at, first_idle, FindsIdle, AreBusyBefore};
 ghost use Rattle.nat_tables.specs.Shown.{mapping_text, mappings_text};
 ghost use Rattle.balancer_box.specs.Connections.{find_connection, check_connection};

@@ -12,7 +12,7 @@ mod sending;
 mod touching;
 mod value;
 
-pub use backends::{Backend, Backends};
+pub use backends::{Backend, Backends, MOST_BACKENDS};
 pub use balancer::BalancerBox;
 pub use connections::Connections;
 pub use laws::{

@@ -1,4 +1,4 @@
-ghost use Rattle.std.specs.Prelude.{◌≡◌, ◌++◌, ◌≤◌, IfOk, length};
+ghost use Rattle.std.specs.Prelude.{◌≡◌, ◌++◌, ◌≤◌, IfOk, OnOk, length};
 ghost use Rattle.std.specs.String.{string_bytes};
 ghost use Rattle.balancer_box.specs.Loads.{raised, lowered, least_loaded, no_loads};
 ghost use Rattle.balancer_box.specs.Shown.{loads_text, further_loads};
@@ -79,14 +79,21 @@ impl Loads {
         ensures { IfOk result (λ text. text ≡ loads_text self.now) }
     {
         let mut text = String::new(alloc);
-        let mut counts = self.counts.iter();
-        if let Some(first) = counts.next() {
+        if let Some((first, others)) = self.counts.split_first() {
             put_decimal(&mut text, *first)?;
-        }
-        for count in counts {
-            text.push_str(" ")?;
-            put_decimal(&mut text, *count)?;
+            put_others(&mut text, others)?;
         }
         Text::of(alloc, text.as_str())
     }
+}
+
+/// Appends further loads, each behind a space.
+fn put_others(text: &mut String, others: &[u64]) -> Result<(), NoMemory>
+    ensures { OnOk result (string_bytes text.new ≡ string_bytes text.old ++ further_loads others.now) }
+{
+    for count in others {
+        text.push_str(" ")?;
+        put_decimal(text, *count)?;
+    }
+    Ok(())
 }

@@ -114,7 +114,7 @@ impl BalancerBox {
             return Goes::to(Place::HearsTime, Noted::of_client(flow));
         }
         match self.backend_at(flow.source, flow.source_port) {
-            Some(backend) => Goes::to(Place::HearsTime, Noted::of_answer(flow, backend)),
+            Some(backend) => Goes::to(Place::HearsTime, Noted::of_answer(flow, backend as u16)),
             None => Goes::to(Place::CountsDrop, Noted::reason(STRAY)),
         }
     }

@@ -1,4 +1,4 @@
-ghost use Rattle.std.specs.Prelude.{◌≡◌, ◌<◌, ◌≤◌, length, IfOk};
+ghost use Rattle.std.specs.Prelude.{◌≡◌, ◌<◌, ◌≤◌, length};
 ghost use Rattle.box_program.specs.Hands.{FitsProgram};
 ghost use Rattle.master_core.specs.Mastered.{value_of};
 
@@ -29,25 +29,18 @@ const FIRST: u64 = 100_000_005;
 
 const SECOND: u64 = 100_000_006;
 
-/// The backends of the examples, 10.1.0.1:53 and 10.1.0.2:53.
-fn backends(alloc: Global) -> Result<Backends, NoMemory>
-    ensures { IfOk result (λ backends. length backends ≡ 2) }
-{
-    let mut backends = Backends::new(alloc);
+/// The box of the examples, with one table, the virtual address 198.51.100.7:53, and the backends 10.1.0.1:53 and 10.1.0.2:53.
+fn balancer() -> BalancerBox {
+    let mut backends = Backends::new();
     backends.push(Backend {
         address: 0x0a01_0001,
         port: 53,
-    })?;
+    });
     backends.push(Backend {
         address: 0x0a01_0002,
         port: 53,
-    })?;
-    Ok(backends)
-}
-
-/// The box of the examples, with one table and the virtual address 198.51.100.7:53.
-fn balancer(alloc: Global) -> Result<BalancerBox, NoMemory> {
-    Ok(BalancerBox::new(1, 0xc633_6407, 53, backends(alloc)?))
+    });
+    BalancerBox::new(1, 0xc633_6407, 53, backends)
 }
 
 /// Whether a packet settles so, on thread 0.
@@ -97,7 +90,7 @@ fn two_settle(
     var: u32,
     text: &str,
 ) -> Result<bool, NoMemory> {
-    let program = balancer(alloc)?;
+    let program = balancer();
     let mut master = Master::fresh(alloc, &program, 1)?;
     if !settles(alloc, &mut master, &program, &rows.0)? {
         return Ok(false);
