@@ -1,3 +1,4 @@
+pub mod NamedBackends
 pub mod OneFile
 pub mod OneLine
 pub mod Places

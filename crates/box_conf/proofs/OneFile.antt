@@ -1,6 +1,7 @@
 -- A text is the file of one box at most, or has one first fault.
-use Rattle.std.proofs.Common.{◌≡◌, ℕ, inl, inr, List, [], ◌∷◌, length, refl, sym, ap, ◌∙◌, subst, Some, None, Ok, Err}
-use Rattle.std.specs.Prelude.{Result, IfOk, IfErr, slice_get}
+use Rattle.std.proofs.Common.{◌≡◌, ℕ, ◌<◌, ◌≤◌, Bool, true, false, Option, arith, inl, inr, List, [], ◌∷◌, length, refl, sym, ap, ◌∙◌, subst, Some, None, Ok, Err}
+use Rattle.std.specs.Prelude.{Result, IfOk, IfErr, slice_get, nat_lt, if◌then◌else◌}
+use Rattle.std.proofs.lemmas.Bool.Decides.{nat_tests}
 use Rattle.std.specs.Str.Lines.{lines as lines_of}
 use Rattle.plain_text.specs.declared.fault.LineCause.{LineCause}
 use Rattle.plain_text.specs.declared.fault.LineFault.{LineFault}
@@ -10,12 +11,16 @@ use Rattle.plain_text.proofs.Rows.{says_no_fault, one_reading}
 use Rattle.plain_text.proofs.Faults.{Rising, counted_rise, not_in_whole, one_of_file, one_setting}
 use Rattle.box_conf.specs.declared.kind.BoxConf.{BoxConf}
 use Rattle.box_conf.specs.declared.kind.KindWord.{KindWord}
+use Rattle.box_conf.specs.declared.kind.KindWord.TheVariants as kind
+use Rattle.balancer_box.specs.declared.backends.Backend.{Backend as Named}
+use Rattle.box_conf.specs.declared.table.BoxLine.TheVariants.{Threads, Seed, Shards, Inside, Outside, Ports, Virtual, Backend}
 use Rattle.box_conf.specs.declared.table.BoxLine.{BoxLine}
-use Rattle.box_conf.specs.BoxFile.{AreOfKind, IsBoxFile, Names, NamesNone, FirstFault, Has as HasValues}
-use Rattle.box_conf.specs.Reading.{box_of, fault_at}
+use Rattle.box_conf.specs.Backends.{backend_fault, backends_after}
+use Rattle.box_conf.specs.BoxFile.{AreOfKind, IsDescribed, IsBoxFile, Names, NamesNone, LeavesTable, NamesInVain, FirstFault, Has as HasValues}
+use Rattle.box_conf.specs.Reading.{box_of, described_box, or_backends, fault_at}
 use Rattle.box_conf.specs.Settings.{usual_or_none}
 use Rattle.box_conf.specs.Kinds.{box_row, conf_from, kinds, rows_of}
-use Rattle.box_conf.specs.Table.{row_of, values_from}
+use Rattle.box_conf.specs.Table.{again_of, row_of, values_from}
 use Rattle.box_conf.proofs.WholeFile.{Reads, reads_text}
 
 abbrev Line : Type 0
@@ -45,25 +50,58 @@ no_fault (first ∷ lines) kind number cause x y =
     let bad : None ≡ Some cause = sym none ∙ y.1 in
     absurd (cc)
 
-one_list : (text : List ℕ) (kind : KindWord) → AreLines (rows_of kind) (counted_lines text) → (line : BoxLine) (ns ms : List ℕ) → HasValues kind (counted_lines text) line ns
+one_list : (text : List ℕ) (kind : KindWord) → AreLines (rows_of kind) (counted_lines text) → (line : BoxLine) (ns ms : List ℕ) → again_of line ≡ false → HasValues kind (counted_lines text) line ns
     → HasValues kind (counted_lines text) line ms → ns ≡ ms
-one_list text kind rows line ns ms x y = one_setting (rows_of kind) (counted_lines text) 1 (rising text) rows (row_of line) (usual_or_none line) ns ms refl x y
+one_list text kind rows line ns ms once x y = one_setting (rows_of kind) (counted_lines text) 1 (rising text) rows (row_of line) (usual_or_none line) ns ms once x y
+
+-- the values of the lines that may stand once; those of the others do not matter
+abbrev of_once : (BoxLine → List ℕ) → (BoxLine → List ℕ) → BoxLine → List ℕ
+of_once values others Threads = values Threads
+of_once values others Seed = values Seed
+of_once values others Shards = values Shards
+of_once values others Inside = values Inside
+of_once values others Outside = values Outside
+of_once values others Ports = values Ports
+of_once values others Virtual = values Virtual
+of_once values others Backend = others Backend
+
+abbrev conf_by : KindWord → (BoxLine → List ℕ) → List Named → BoxConf
+conf_by kind values backends = conf_from kind (λ line. values_from (values line)) backends
+
+conf_of_once : (kind : KindWord) (values others : BoxLine → List ℕ) (backends : List Named) → conf_by kind values backends ≡ conf_by kind (of_once values others) backends
+conf_of_once kind.Count values others backends = refl
+conf_of_once kind.Monitor values others backends = refl
+conf_of_once kind.Nat values others backends = refl
+conf_of_once kind.Balancer values others backends = refl
 
 of_one_kind : (text : List ℕ) (kind : KindWord) (a b : BoxConf) → AreOfKind kind (counted_lines text) a → AreOfKind kind (counted_lines text) b → a ≡ b
 of_one_kind text kind a b x y =
-    let same : (line : BoxLine) → x.values line ≡ y.values line = λ line. one_list text kind x.rows line (x.values line) (y.values line) (x.set line) (y.set line) in
-    let values : x.values ≡ y.values = λ i line. same line i in
-    x.says ∙ ap (λ (values : BoxLine → List ℕ). conf_from kind (λ line. values_from (values line))) values ∙ sym y.says
+    let values : of_once x.values y.values ≡ y.values = λ i line. same line i in
+    let backends : List Named = backends_after [] (counted_lines text) in
+    x.says ∙ conf_of_once kind x.values y.values backends ∙ ap (λ (values : BoxLine → List ℕ). conf_by kind values backends) values ∙ sym y.says
+  where
+    one : (line : BoxLine) → again_of line ≡ false → x.values line ≡ y.values line
+    one line once = one_list text kind x.rows line (x.values line) (y.values line) once (x.set line) (y.set line)
 
-pub one_box : (text : List ℕ) (a b : BoxConf) → IsBoxFile text a → IsBoxFile text b → a ≡ b
-one_box text a b x y =
+    same : (line : BoxLine) → of_once x.values y.values line ≡ y.values line
+    same Threads = one Threads refl
+    same Seed = one Seed refl
+    same Shards = one Shards refl
+    same Inside = one Inside refl
+    same Outside = one Outside refl
+    same Ports = one Ports refl
+    same Virtual = one Virtual refl
+    same Backend = refl
+
+one_described : (text : List ℕ) (a b : BoxConf) → IsDescribed text a → IsDescribed text b → a ≡ b
+one_described text a b x y =
     let kind = one_kind (counted_lines text) x.0 y.0 x.1.names y.1.names in
     of_one_kind text y.0 a b (subst (λ (k : KindWord). AreOfKind k (counted_lines text) a) kind x.1) y.1
 
-pub box_or_fault : (text : List ℕ) (conf : BoxConf) (number : ℕ) (cause : LineCause) → IsBoxFile text conf → FirstFault text number cause → ⊥
-box_or_fault text conf number cause x (inl none) = no_empty (counted_lines text) x.0 x.1.names none.0
-box_or_fault text conf number cause x (inr (inl first)) = no_fault (counted_lines text) x.0 number cause x.1.names first
-box_or_fault text conf number cause x (inr (inr later)) =
+described_or_leaves : (text : List ℕ) (conf : BoxConf) (number : ℕ) (cause : LineCause) → IsDescribed text conf → LeavesTable text number cause → ⊥
+described_or_leaves text conf number cause x (inl none) = no_empty (counted_lines text) x.0 x.1.names none.0
+described_or_leaves text conf number cause x (inr (inl first)) = no_fault (counted_lines text) x.0 number cause x.1.names first
+described_or_leaves text conf number cause x (inr (inr later)) =
     let kind = one_kind (counted_lines text) x.0 later.0 x.1.names later.1 in
     let rows : AreLines (rows_of later.0) (counted_lines text) = subst (λ (k : KindWord). AreLines (rows_of k) (counted_lines text)) kind x.1.rows in
     let whole : AllStand (rows_of later.0) (counted_lines text) = subst (λ (k : KindWord). AllStand (rows_of k) (counted_lines text)) kind x.1.whole in
@@ -77,45 +115,85 @@ none_named : (lines : List Line) (number : ℕ) (cause : LineCause) → lines �
 none_named [] number cause e f = f
 none_named (first ∷ lines) number cause e f = absurd (cc)
 
-pub one_fault : (text : List ℕ) (x y : ℕ) (a b : LineCause) → FirstFault text x a → FirstFault text y b → (x ≡ y) × (a ≡ b)
-one_fault text x y a b (inl f) (inl g) = (f.1 ∙ sym g.1, f.2 ∙ sym g.2)
-one_fault text x y a b (inl f) (inr (inl g)) = absurd (none_named (counted_lines text) y b f.0 g)
-one_fault text x y a b (inl f) (inr (inr g)) = absurd (no_empty (counted_lines text) g.0 g.1 f.0)
-one_fault text x y a b (inr (inl f)) (inl g) = absurd (none_named (counted_lines text) x a g.0 f)
-one_fault text x y a b (inr (inl f)) (inr (inl g)) = one_naming (counted_lines text) x y a b f g
-one_fault text x y a b (inr (inl f)) (inr (inr g)) = absurd (no_fault (counted_lines text) g.0 x a g.1 f)
-one_fault text x y a b (inr (inr f)) (inl g) = absurd (no_empty (counted_lines text) f.0 f.1 g.0)
-one_fault text x y a b (inr (inr f)) (inr (inl g)) = absurd (no_fault (counted_lines text) f.0 y b f.1 g)
-one_fault text x y a b (inr (inr f)) (inr (inr g)) =
+one_leaving : (text : List ℕ) (x y : ℕ) (a b : LineCause) → LeavesTable text x a → LeavesTable text y b → (x ≡ y) × (a ≡ b)
+one_leaving text x y a b (inl f) (inl g) = (f.1 ∙ sym g.1, f.2 ∙ sym g.2)
+one_leaving text x y a b (inl f) (inr (inl g)) = absurd (none_named (counted_lines text) y b f.0 g)
+one_leaving text x y a b (inl f) (inr (inr g)) = absurd (no_empty (counted_lines text) g.0 g.1 f.0)
+one_leaving text x y a b (inr (inl f)) (inl g) = absurd (none_named (counted_lines text) x a g.0 f)
+one_leaving text x y a b (inr (inl f)) (inr (inl g)) = one_naming (counted_lines text) x y a b f g
+one_leaving text x y a b (inr (inl f)) (inr (inr g)) = absurd (no_fault (counted_lines text) g.0 x a g.1 f)
+one_leaving text x y a b (inr (inr f)) (inl g) = absurd (no_empty (counted_lines text) f.0 f.1 g.0)
+one_leaving text x y a b (inr (inr f)) (inr (inl g)) = absurd (no_fault (counted_lines text) f.0 y b f.1 g)
+one_leaving text x y a b (inr (inr f)) (inr (inr g)) =
     let kind = one_kind (counted_lines text) f.0 g.0 f.1 g.1 in
     let first : FirstOfFile (rows_of g.0) (counted_lines text) (length (lines_of text)) x a =
     subst (λ (k : KindWord). FirstOfFile (rows_of k) (counted_lines text) (length (lines_of text)) x a) kind f.2 in
     one_of_file (rows_of g.0) (counted_lines text) 1 (length (lines_of text)) (rising text) x y a b first g.2
 
+-- Backends come in beside the table
+
+one_in_vain : (text : List ℕ) (x y : ℕ) (a b : LineCause) → NamesInVain text x a → NamesInVain text y b → (x ≡ y) × (a ≡ b)
+one_in_vain text x y a b f g =
+    let same : Some (fault_at x a) ≡ Some (fault_at y b) = sym f ∙ g in
+    let fault : fault_at x a ≡ fault_at y b = cc in
+    (ap (λ (h : LineFault). h.line) fault, ap (λ (h : LineFault). h.cause) fault)
+
+pub one_box : (text : List ℕ) (a b : BoxConf) → IsBoxFile text a → IsBoxFile text b → a ≡ b
+one_box text a b x y = one_described text a b x.0 y.0
+
+pub box_or_fault : (text : List ℕ) (conf : BoxConf) (number : ℕ) (cause : LineCause) → IsBoxFile text conf → FirstFault text number cause → ⊥
+box_or_fault text conf number cause x (inl of_table) = described_or_leaves text conf number cause x.0 of_table.0
+box_or_fault text conf number cause x (inr of_backends) = let bad : None ≡ Some (fault_at number cause) = sym x.1 ∙ of_backends.0 in absurd (cc)
+
+pub one_fault : (text : List ℕ) (x y : ℕ) (a b : LineCause) → FirstFault text x a → FirstFault text y b → (x ≡ y) × (a ≡ b)
+one_fault text x y a b (inl f) (inl g) = one_leaving text x y a b f.0 g.0
+one_fault text x y a b (inr f) (inr g) = one_in_vain text x y a b f.0 g.0
+one_fault text x y a b (inl f) (inr g) = let low = f.1 y b g.0 in let high = g.1 x a f.0 in absurd (omega arith)
+one_fault text x y a b (inr f) (inl g) = let low = g.1 x a f.0 in let high = f.1 y b g.0 in absurd (omega arith)
+
 -- So the reader's answer is the one that the relation has
 
-pub box_is_read : (text : List ℕ) (conf : BoxConf) → IsBoxFile text conf → box_of text ≡ Ok conf
-box_is_read text conf x = by_answer (box_of text) (reads_text text)
+abbrev Answers : List ℕ → Result BoxConf LineFault → Type 0
+Answers text (Ok conf) = IsBoxFile text conf
+Answers text (Err fault) = FirstFault text fault.line fault.cause
+
+answers : (text : List ℕ) → Answers text (box_of text)
+answers text = by (described_box text) (backend_fault [] (counted_lines text)) refl (reads_text text)
   where
-    by_answer : (r : Result BoxConf LineFault) → Reads (counted_lines text) (length (lines_of text)) r → r ≡ Ok conf
+    by_both : (a b : LineFault) (t : Bool) → nat_lt b.line a.line ≡ t → backend_fault [] (counted_lines text) ≡ Some b → LeavesTable text a.line a.cause → Answers text (Err (if t then b else a))
+    by_both a b true q e f =
+        inr (e, λ other why g. let same = one_leaving text a.line other a.cause why f g in let low : b.line < a.line = grind (arith, nat_tests) in omega (arith, same.0))
+    by_both a b false q e f =
+        inl (f, λ other why g. let same = one_in_vain text b.line other b.cause why e g in let low : a.line ≤ b.line = grind (arith, nat_tests) in omega (arith, same.0))
+
+    by : (r : Result BoxConf LineFault) (o : Option LineFault) → backend_fault [] (counted_lines text) ≡ o → Reads (counted_lines text) (length (lines_of text)) r → Answers text (or_backends r o)
+    by (Ok conf) None e x = (x, e)
+    by (Ok conf) (Some fault) e x = inr (e, λ other why f. absurd (described_or_leaves text conf other why x f))
+    by (Err fault) None e x = inl (x, λ other why f. let bad : None ≡ Some (fault_at other why) = sym e ∙ f in absurd (cc))
+    by (Err a) (Some b) e x = by_both a b (nat_lt b.line a.line) refl e x
+
+pub box_is_read : (text : List ℕ) (conf : BoxConf) → IsBoxFile text conf → box_of text ≡ Ok conf
+box_is_read text conf x = by_answer (box_of text) (answers text)
+  where
+    by_answer : (r : Result BoxConf LineFault) → Answers text r → r ≡ Ok conf
     by_answer (Ok other) y = ap Ok (one_box text other conf y x)
     by_answer (Err fault) y = absurd (box_or_fault text conf fault.line fault.cause x y)
 
 pub fault_is_read : (text : List ℕ) (fault : LineFault) → FirstFault text fault.line fault.cause → box_of text ≡ Err fault
-fault_is_read text fault x = by_answer (box_of text) (reads_text text)
+fault_is_read text fault x = by_answer (box_of text) (answers text)
   where
     of_parts : (a b : LineFault) → (a.line ≡ b.line) × (a.cause ≡ b.cause) → a ≡ b
     of_parts a b e = ap (λ (n : ℕ). fault_at n a.cause) e.0 ∙ ap (λ (c : LineCause). fault_at b.line c) e.1
 
-    by_answer : (r : Result BoxConf LineFault) → Reads (counted_lines text) (length (lines_of text)) r → r ≡ Err fault
+    by_answer : (r : Result BoxConf LineFault) → Answers text r → r ≡ Err fault
     by_answer (Ok conf) y = absurd (box_or_fault text conf fault.line fault.cause y x)
     by_answer (Err other) y = ap Err (of_parts other fault (one_fault text other.line fault.line other.cause fault.cause y x))
 
 pub read_is_box : (text : List ℕ) (conf : BoxConf) → box_of text ≡ Ok conf → IsBoxFile text conf
-read_is_box text conf e = subst (λ (r : Result BoxConf LineFault). Reads (counted_lines text) (length (lines_of text)) r) e (reads_text text)
+read_is_box text conf e = subst (λ (r : Result BoxConf LineFault). Answers text r) e (answers text)
 
 pub read_is_fault : (text : List ℕ) (fault : LineFault) → box_of text ≡ Err fault → FirstFault text fault.line fault.cause
-read_is_fault text fault e = subst (λ (r : Result BoxConf LineFault). Reads (counted_lines text) (length (lines_of text)) r) e (reads_text text)
+read_is_fault text fault e = subst (λ (r : Result BoxConf LineFault). Answers text r) e (answers text)
 
 pub says_box : (text : List ℕ) (r : Result BoxConf LineFault) → r ≡ box_of text → IfOk r (IsBoxFile text)
 says_box text (Ok conf) e = read_is_box text conf (sym e)

@@ -1,6 +1,6 @@
 -- What the reader does with one line is what the table of the kind says of it.
 use Rattle.std.proofs.Common.{◌≡◌, ℕ, ◌+◌, ◌⊎◌, arith, inl, inr, List, [], ◌∷◌, refl, sym, ap, ◌∙◌, subst, Option, Some, None, true, false, Bool, cond, Ok, Err}
-use Rattle.std.specs.Prelude.{Result, codes, is_some, option_map, find, map, slice_get, suc}
+use Rattle.std.specs.Prelude.{Result, codes, is_some, not, ◌&&◌, option_map, find, map, slice_get, suc}
 use Rattle.std.specs.Str.{bytes_eq}
 use Rattle.plain_text.specs.declared.fault.LineCause.{LineCause}
 use Rattle.plain_text.specs.declared.fault.LineCause.TheVariants.{UnknownWord, ExtraWord, Twice}
@@ -12,9 +12,9 @@ use Rattle.box_conf.specs.declared.kind.KindWord.{KindWord}
 use Rattle.box_conf.specs.declared.table.BoxLine.{BoxLine}
 use Rattle.box_conf.specs.declared.table.Values.{Values}
 use Rattle.box_conf.specs.Reading.{and_end, box_line, first_line, second_box, set_by, set_line}
-use Rattle.box_conf.specs.Settings.{setting, with_setting, once, line_read, set_values}
+use Rattle.box_conf.specs.Settings.{setting, with_setting, has_stood, once, line_read, set_values}
 use Rattle.box_conf.specs.Kinds.{box_row, kind_named, kind_word, kinds, line_named, lines_of, rows_of}
-use Rattle.box_conf.specs.Table.{row_of, values_from, word_of}
+use Rattle.box_conf.specs.Table.{again_of, row_of, values_from, word_of}
 
 -- The row that a word begins
 
@@ -40,14 +40,14 @@ box_is_a_row kind (word ∷ words) values says = (go (bytes_eq word (codes "box"
 
 -- A line that sets values
 
-abbrev ValuesSay : BoxLine → Bool → List (List ℕ) → Result Values LineCause → Type 0
+abbrev pub ValuesSay : BoxLine → Bool → List (List ℕ) → Result Values LineCause → Type 0
 ValuesSay line had words (Ok set) =
     (values : List ℕ) × PlacesSay (row_of line).places words values × ((row_of line).fits values ≡ true) × (set ≡ values_from values) × (had ≡ false)
 ValuesSay line had words (Err cause) =
     (row_fault (Some (row_of line)) words ≡ Some cause)
     ⊎ ((values : List ℕ) × PlacesSay (row_of line).places words values × ((row_of line).fits values ≡ true) × (had ≡ true) × (cause ≡ Twice))
 
-values_say : (line : BoxLine) (had : Bool) (words : List (List ℕ)) → ValuesSay line had words (line_read line had words)
+pub values_say : (line : BoxLine) (had : Bool) (words : List (List ℕ)) → ValuesSay line had words (line_read line had words)
 values_say line had words = by_fault (row_fault (Some (row_of line)) words) refl had
   where
     by_fault : (f : Option LineCause) → row_fault (Some (row_of line)) words ≡ f → (h : Bool)
@@ -119,21 +119,23 @@ first_says (word ∷ words) = by_box (bytes_eq word (codes "box")) refl
 abbrev pub Stood : Settings → Row → Type 0
 Stood s row = (row ≡ box_row) ⊎ ((line : BoxLine) × (set : Values) × (row ≡ row_of line) × (setting s line ≡ Some set))
 
--- a line sets values that were not set; or it has a fault; or its row stood before
+-- a line sets values that were not set, or may stand again; or it has a fault; or its row stood before
 abbrev pub StepSays : KindWord → Settings → List (List ℕ) → Result Settings LineCause → Type 0
 StepSays kind s words (Ok next) =
-    (line : BoxLine) × (values : List ℕ) × LineSays (rows_of kind) words (row_of line) values × (setting s line ≡ None) × (next ≡ with_setting s line (values_from values))
+    (line : BoxLine) × (values : List ℕ) × LineSays (rows_of kind) words (row_of line) values × ((setting s line ≡ None) ⊎ (again_of line ≡ true)) × (next ≡ with_setting s line (values_from values))
 StepSays kind s words (Err cause) =
     (line_fault (rows_of kind) words ≡ Some cause)
     ⊎ ((row : Row) × (values : List ℕ) × LineSays (rows_of kind) words row values × (row.again ≡ false) × Stood s row × (cause ≡ Twice))
 
-unset : (o : Option Values) → is_some o ≡ false → o ≡ None
-unset None e = refl
-unset (Some set) e = absurd (cc)
+unset : (o : Option Values) (again : Bool) → (is_some o && not again) ≡ false → (o ≡ None) ⊎ (again ≡ true)
+unset None again e = inl refl
+unset (Some set) true e = inr refl
+unset (Some set) false e = absurd (cc)
 
-was_set : (o : Option Values) → is_some o ≡ true → (set : Values) × (o ≡ Some set)
-was_set None e = absurd (cc)
-was_set (Some set) e = (set, refl)
+was_set : (o : Option Values) (again : Bool) → (is_some o && not again) ≡ true → (set : Values) × (o ≡ Some set) × (again ≡ false)
+was_set None again e = absurd (cc)
+was_set (Some set) false e = (set, refl, refl)
+was_set (Some set) true e = absurd (cc)
 
 pub step_says : (kind : KindWord) (s : Settings) (words : List (List ℕ)) → StepSays kind s words (set_line kind s words)
 step_says kind s [] = inl refl
@@ -149,17 +151,17 @@ step_says kind s (word ∷ words) = by_box (bytes_eq word (codes "box")) refl
     by_kind (Ok named) row says = inr (box_row, says.0 ∷ [], (row, says.1, refl), refl, inl refl, refl)
     by_kind (Err cause) row fault = faulty (Some box_row) cause row fault
 
-    by_values : (line : BoxLine) (r : Result Values LineCause) → Row_is (Some (row_of line)) → ValuesSay line (is_some (setting s line)) words r
+    by_values : (line : BoxLine) (r : Result Values LineCause) → Row_is (Some (row_of line)) → ValuesSay line (has_stood s line) words r
         → StepSays kind s (word ∷ words) (set_values s line r)
-    by_values line (Ok set) row says = (line, says.0, (row, says.1, says.2), unset (setting s line) says.4, ap (with_setting s line) says.3)
+    by_values line (Ok set) row says = (line, says.0, (row, says.1, says.2), unset (setting s line) (again_of line) says.4, ap (with_setting s line) says.3)
     by_values line (Err cause) row (inl fault) = faulty (Some (row_of line)) cause row fault
     by_values line (Err cause) row (inr twice) =
-        let before = was_set (setting s line) twice.3 in
-        inr (row_of line, twice.0, (row, twice.1, twice.2), refl, inr (line, before.0, refl, before.1), twice.4)
+        let before = was_set (setting s line) (again_of line) twice.3 in
+        inr (row_of line, twice.0, (row, twice.1, twice.2), before.2, inr (line, before.0, refl, before.1), twice.4)
 
     by_line : (o : Option BoxLine) → Row_is (option_map row_of o) → StepSays kind s (word ∷ words) (set_by kind s o words)
     by_line None row = faulty None UnknownWord row refl
-    by_line (Some line) row = by_values line _ row (values_say line (is_some (setting s line)) words)
+    by_line (Some line) row = by_values line _ row (values_say line (has_stood s line) words)
 
     by_box : (b : Bool) → bytes_eq word (codes "box") ≡ b → StepSays kind s (word ∷ words) (cond b (second_box (box_line words)) (set_by kind s (line_named kind word) words))
     by_box true e =

@@ -9,13 +9,13 @@ use Rattle.box_conf.specs.declared.kind.KindWord.{KindWord}
 use Rattle.box_conf.specs.declared.kind.KindWord.TheVariants as kind
 use Rattle.box_conf.specs.declared.settings.Settings.{Settings}
 use Rattle.box_conf.specs.declared.table.BoxLine.{BoxLine}
-use Rattle.box_conf.specs.declared.table.BoxLine.TheVariants.{Threads, Seed, Shards, Inside, Outside, Ports}
+use Rattle.box_conf.specs.declared.table.BoxLine.TheVariants.{Threads, Seed, Shards, Inside, Outside, Ports, Virtual, Backend}
 use Rattle.box_conf.specs.declared.table.Values.{Values}
 use Rattle.box_conf.specs.Kinds.{missing_line, rows_of}
 use Rattle.box_conf.specs.Reading.{set_line}
-use Rattle.box_conf.specs.Settings.{setting, with_setting, AreInRange, IsWithin}
+use Rattle.box_conf.specs.Settings.{setting, with_setting, line_read, AreInRange, IsWithin}
 use Rattle.box_conf.specs.Table.{row_of, values_from}
-use Rattle.box_conf.proofs.OneLine.{StepSays, step_says}
+use Rattle.box_conf.proofs.OneLine.{StepSays, step_says, ValuesSay, values_say}
 use Rattle.box_conf.proofs.WholeFile.{set_or}
 
 within : (low high n : ℕ) → is_within (Number low high) n ≡ true → (low ≤ n) × (n ≤ high)
@@ -56,6 +56,10 @@ length_within low high (word ∷ []) (n ∷ values) s = absurd s.2
 length_within low high (word ∷ next ∷ words) (n ∷ []) s = absurd s.2
 length_within low high (word ∷ next ∷ words) (n ∷ m ∷ values) s = within low high m s.2.1
 
+-- an address and a port
+end_within : (words : List (List ℕ)) (values : List ℕ) → PlacesSay (Address ∷ Number 0 65535 ∷ []) words values → ((values_from values).first < 2 ^ 32) × ((values_from values).second ≤ 65535)
+end_within words values s = (address_within (Number 0 65535 ∷ []) words values s, (length_within 0 65535 words values s).1)
+
 says_within : (line : BoxLine) (words : List (List ℕ)) (values : List ℕ) → PlacesSay (row_of line).places words values → (row_of line).fits values ≡ true
     → IsWithin line (values_from values)
 says_within Threads words values s f = one_within 1 16 words values s
@@ -68,6 +72,16 @@ says_within Outside words values s f = address_within [] words values s
 says_within Ports words values s f =
     let ends = two_within 1 65535 words values s in
     (ends.0, in_order (values_from values).first (values_from values).second f, ends.1)
+says_within Virtual words values s f = end_within words values s
+says_within Backend words values s f = end_within words values s
+
+-- so are the values that a line's words give
+pub read_within : (line : BoxLine) (had : Bool) (words : List (List ℕ)) (r : Result Values LineCause) → r ≡ line_read line had words → IfOk r (IsWithin line)
+read_within line had words r e = subst (λ (r : Result Values LineCause). IfOk r (IsWithin line)) (sym e) (by (line_read line had words) (values_say line had words))
+  where
+    by : (r : Result Values LineCause) → ValuesSay line had words r → IfOk r (IsWithin line)
+    by (Err cause) says = tt
+    by (Ok set) says = subst (IsWithin line) (sym says.3) (says_within line words says.0 says.1 says.2)
 
 line_within : (rows : KindWord) (line : BoxLine) (words : List (List ℕ)) (values : List ℕ) → LineSays (rows_of rows) words (row_of line) values → IsWithin line (values_from values)
 line_within kind line [] values s = absurd s

@@ -15,13 +15,14 @@ use Rattle.box_conf.specs.declared.kind.BoxConf.{BoxConf}
 use Rattle.box_conf.specs.declared.settings.Settings.{Settings}
 use Rattle.box_conf.specs.declared.kind.KindWord.{KindWord}
 use Rattle.box_conf.specs.declared.table.BoxLine.{BoxLine}
-use Rattle.box_conf.specs.declared.table.BoxLine.TheVariants.{Threads, Seed, Shards, Inside, Outside, Ports}
+use Rattle.box_conf.specs.declared.table.BoxLine.TheVariants.{Threads, Seed, Shards, Inside, Outside, Ports, Virtual, Backend}
 use Rattle.box_conf.specs.declared.table.Values.{Values}
+use Rattle.box_conf.specs.Backends.{backends_after}
 use Rattle.box_conf.specs.BoxFile.{AreOfKind, Names, NamesNone, Has as HasValues}
-use Rattle.box_conf.specs.Reading.{and_kind, and_lines, box_of, box_of_lines, conf_of, whole_box, first_line, no_settings, set_line, set_lines}
+use Rattle.box_conf.specs.Reading.{and_kind, and_lines, described_box, box_of_lines, conf_of, whole_box, first_line, no_settings, set_line, set_lines}
 use Rattle.box_conf.specs.Settings.{setting, with_setting, usual_or_none, values_set}
 use Rattle.box_conf.specs.Kinds.{box_row, conf_from, lines_of as lines_in, missing_line, rows_of}
-use Rattle.box_conf.specs.Table.{row_of, usual_of, values_from, word_of}
+use Rattle.box_conf.specs.Table.{again_of, row_of, usual_of, values_from, word_of}
 use Rattle.box_conf.proofs.OneLine.{StepSays, Stood, step_says, FirstSays, first_says, box_is_a_row}
 
 abbrev Line : Type 0
@@ -30,7 +31,7 @@ Line = ℕ × List ℕ
 -- A row's word says which line it is
 
 abbrev line_in : List ℕ → Option BoxLine
-line_in word = find (λ line. bytes_eq word (word_of line)) (Threads ∷ Seed ∷ Shards ∷ Inside ∷ Outside ∷ Ports ∷ [])
+line_in word = find (λ line. bytes_eq word (word_of line)) (Threads ∷ Seed ∷ Shards ∷ Inside ∷ Outside ∷ Ports ∷ Virtual ∷ Backend ∷ [])
 
 line_back : (line : BoxLine) → line_in (word_of line) ≡ Some line
 line_back Threads = refl
@@ -39,13 +40,15 @@ line_back Shards = refl
 line_back Inside = refl
 line_back Outside = refl
 line_back Ports = refl
+line_back Virtual = refl
+line_back Backend = refl
 
 not_box : (line : BoxLine) → box_row ≡ row_of line → ⊥
 not_box line e =
     let bad : None ≡ Some line = ap (λ (r : Row). line_in r.word) e ∙ line_back line in
     absurd (cc)
 
-same_line : (a b : BoxLine) → row_of a ≡ row_of b → a ≡ b
+pub same_line : (a b : BoxLine) → row_of a ≡ row_of b → a ≡ b
 same_line a b e =
     let same : Some a ≡ Some b = sym (line_back a) ∙ ap (λ (r : Row). line_in r.word) e ∙ line_back b in
     cc
@@ -58,12 +61,16 @@ set_or s Shards Shards v = inr (refl, refl)
 set_or s Inside Inside v = inr (refl, refl)
 set_or s Outside Outside v = inr (refl, refl)
 set_or s Ports Ports v = inr (refl, refl)
+set_or s Virtual Virtual v = inr (refl, refl)
+set_or s Backend Backend v = inr (refl, refl)
 set_or s Threads other v = inl ((λ e. cc), refl)
 set_or s Seed other v = inl ((λ e. cc), refl)
 set_or s Shards other v = inl ((λ e. cc), refl)
 set_or s Inside other v = inl ((λ e. cc), refl)
 set_or s Outside other v = inl ((λ e. cc), refl)
 set_or s Ports other v = inl ((λ e. cc), refl)
+set_or s Virtual other v = inl ((λ e. cc), refl)
+set_or s Backend other v = inl ((λ e. cc), refl)
 
 -- What the lines so far have set
 
@@ -186,8 +193,11 @@ along kind all (line ∷ rest) before s n a = by_step (set_line kind s (words_of
             let row = one_row (rows_of kind) (words_of line.1) again.row (row_of says.0) again.values says.1 again.says says.2 in
             let there = earlier stood.earlier stood.stands stood.before in
             let said : Says (rows_of kind) stood.earlier (row_of says.0) stood.values = subst (λ (r : Row). Says (rows_of kind) stood.earlier r stood.values) row stood.says in
-            let none : IsSet kind before says.0 None = subst (IsSet kind before says.0) says.3 (a.stands.set says.0) in
-            none stood.earlier stood.values there said
+            by_once says.3 (ap (λ (r : Row). r.again) (sym row) ∙ again.once) stood.earlier stood.values there said
+          where
+            by_once : (setting s says.0 ≡ None) ⊎ (again_of says.0 ≡ true) → again_of says.0 ≡ false → (x : Line) (values : List ℕ) → HasLine before x → Says (rows_of kind) x (row_of says.0) values → ⊥
+            by_once (inl unset) once = subst (IsSet kind before says.0) unset (a.stands.set says.0)
+            by_once (inr free) once = absurd (cc)
 
         by_leaving : (x : Line) (cause : LineCause) → HasLine (line ∷ before) x → Leaves (rows_of kind) all x cause → ⊥
         by_leaving x cause (inl e) leaves = here_stays cause (subst (λ (l : Line). Leaves (rows_of kind) all l cause) e leaves)
@@ -286,6 +296,8 @@ begins kind first rest n index rising names = record {
     unset Inside = none_of Inside
     unset Outside = none_of Outside
     unset Ports = none_of Ports
+    unset Virtual = none_of Virtual
+    unset Backend = none_of Backend
 
     here_stays : (cause : LineCause) → Leaves (rows_of kind) (first ∷ rest) first cause → ⊥
     here_stays cause leaves =
@@ -387,7 +399,7 @@ reads_lines (first ∷ rest) count n rising = by_first (first_line (words_of fir
     all = first ∷ rest
 
     by_missing : (kind : KindWord) (s : Settings) (o : Option BoxLine) → Names all kind → Stands kind s all → AreLines (rows_of kind) all → missing_line kind s ≡ o
-        → Reads all count (whole_box count kind s o)
+        → Reads all count (whole_box count kind (backends_after [] all) s o)
     by_missing kind s None names stands rows none =
         let of_line : (line : BoxLine) → (values : List ℕ) × HasValues kind all line values × (values_from values ≡ values_set s line) =
         λ line. values_of_line kind all s line stands in
@@ -399,18 +411,18 @@ reads_lines (first ∷ rest) count n rising = by_first (first_line (words_of fir
             whole = all_stand kind all s stands none;
             values = λ line. (of_line line).0;
             set = λ line. (of_line line).1;
-            says = ap (conf_from kind) (sym same);
+            says = ap (λ (values : BoxLine → Values). conf_from kind values (backends_after [] all)) (sym same);
           },
         )
     by_missing kind s (Some line) names stands rows e = inr (inr (kind, names, inr (rows, one_lacks kind all s line stands e, refl, refl)))
 
-    by_lines : (kind : KindWord) (r : Result Settings LineFault) → Names all kind → Comes kind all r → Reads all count (conf_of count kind r)
+    by_lines : (kind : KindWord) (r : Result Settings LineFault) → Names all kind → Comes kind all r → Reads all count (conf_of count kind (backends_after [] all) r)
     by_lines kind (Ok s) names comes = by_missing kind s (missing_line kind s) names comes.0 comes.1 refl
     by_lines kind (Err fault) names comes = inr (inr (kind, names, inl comes))
 
-    by_first : (r : Result KindWord LineCause) → FirstSays (words_of first.1) r → Reads all count (and_kind count first.0 r rest)
+    by_first : (r : Result KindWord LineCause) → FirstSays (words_of first.1) r → Reads all count (and_kind count first.0 (backends_after [] all) r rest)
     by_first (Ok kind) names = by_lines kind (set_lines kind no_settings rest) names (along kind all rest (first ∷ []) no_settings (first.0 + 1) (begins kind first rest n names.0 rising names.1))
     by_first (Err cause) fault = inr (inl (refl, fault))
 
-pub reads_text : (text : List ℕ) → Reads (counted_lines text) (length (lines_of text)) (box_of text)
+pub reads_text : (text : List ℕ) → Reads (counted_lines text) (length (lines_of text)) (described_box text)
 reads_text text = reads_lines (counted_lines text) (length (lines_of text)) 1 (counted_rise 1 (λ line. words_count (words_of line.1)) (lines_of text))

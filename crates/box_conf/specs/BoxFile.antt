@@ -1,11 +1,12 @@
 -- Box files. The first line that counts names the kind of the box, and the others, in any order, are lines of that kind's
 -- table.
-use Rattle.std.specs.Prelude.{◌≡◌, ◌⊎◌, ℕ, ◌+◌, List, [], ◌∷◌, length, slice_get, Some}
+use Rattle.std.specs.Prelude.{◌≡◌, ◌⊎◌, ℕ, ◌+◌, ◌<◌, ◌≤◌, List, [], ◌∷◌, length, slice_get, Some, None}
 use Rattle.std.specs.Str.Lines.{lines}
 use Rattle.plain_text.specs.declared.fault.LineCause.{LineCause}
 use Rattle.plain_text.specs.declared.fault.LineCause.TheVariants.{MissingLine}
 use Rattle.plain_text.specs.Grammar.{AllStand, AreLines, FirstOfFile, LineSays, Sets, line_fault}
 use Rattle.plain_text.specs.Lines.{counted_lines, words_of}
+use Rattle.box_conf.specs.Backends.{backends_after, backend_fault}
 use Rattle.box_conf.specs.declared.kind.BoxConf.{BoxConf}
 use Rattle.box_conf.specs.declared.kind.KindWord.{KindWord}
 use Rattle.box_conf.specs.declared.table.BoxLine.{BoxLine}
@@ -29,11 +30,15 @@ pub record AreOfKind (kind : KindWord) (lines : List (ℕ × List ℕ)) (conf : 
   pub whole : AllStand (rows_of kind) lines
   pub values : BoxLine → List ℕ
   pub set : (line : BoxLine) → Has kind lines line (values line)
-  pub says : conf ≡ conf_from kind (λ line. values_from (values line))
+  pub says : conf ≡ conf_from kind (λ line. values_from (values line)) (backends_after [] lines)
+
+-- by the table of its kind, a text is the file of this box
+abbrev pub IsDescribed : List ℕ → BoxConf → Type 0
+IsDescribed text conf = (kind : KindWord) × AreOfKind kind (counted_lines text) conf
 
 -- a text is the file of this box
 abbrev pub IsBoxFile : List ℕ → BoxConf → Type 0
-IsBoxFile text conf = (kind : KindWord) × AreOfKind kind (counted_lines text) conf
+IsBoxFile text conf = IsDescribed text conf × (backend_fault [] (counted_lines text) ≡ None)
 
 -- the first line has this number and does not name a kind, for this cause
 abbrev pub NamesNone : List (ℕ × List ℕ) → ℕ → LineCause → Type 0
@@ -42,8 +47,22 @@ NamesNone (first ∷ lines) number cause = (number ≡ first.0) × (line_fault (
 
 -- there is no line that counts, and it is missed behind the last line; or the first names no kind; or a later one is the first
 -- that leaves the table of the kind, or one that has to stand is missed behind the last
-abbrev pub FirstFault : List ℕ → ℕ → LineCause → Type 0
-FirstFault text number cause =
+abbrev pub LeavesTable : List ℕ → ℕ → LineCause → Type 0
+LeavesTable text number cause =
     ((counted_lines text ≡ []) × (number ≡ length (lines text) + 1) × (cause ≡ MissingLine))
     ⊎ NamesNone (counted_lines text) number cause
     ⊎ (kind : KindWord) × Names (counted_lines text) kind × FirstOfFile (rows_of kind) (counted_lines text) (length (lines text)) number cause
+
+-- a line is the first that names a backend too many, or one again
+abbrev pub NamesInVain : List ℕ → ℕ → LineCause → Type 0
+NamesInVain text number cause = backend_fault [] (counted_lines text) ≡ Some (record { line = number; cause = cause })
+
+-- the first fault of a text is that of its tables or of its backends, whichever line comes first
+abbrev pub FirstFault : List ℕ → ℕ → LineCause → Type 0
+FirstFault text number cause = OfTable ⊎ OfBackends
+  where
+    OfTable : Type 0
+    OfTable = LeavesTable text number cause × ((other : ℕ) (why : LineCause) → NamesInVain text other why → number ≤ other)
+
+    OfBackends : Type 0
+    OfBackends = NamesInVain text number cause × ((other : ℕ) (why : LineCause) → LeavesTable text other why → number < other)

@@ -8,17 +8,21 @@ use Rattle.plain_machine.specs.Program.{Meaning}
 use Rattle.box_program.specs.Count.{count_meaning}
 use Rattle.monitor_box.specs.declared.value.MonitorValue.{MonitorValue}
 use Rattle.monitor_box.specs.Boxes as monitor
+use Rattle.balancer_box.specs.declared.backends.Backend.{Backend}
+use Rattle.balancer_box.specs.declared.value.BalancerValue.{BalancerValue}
+use Rattle.balancer_box.specs.Boxes as balancer
 use Rattle.nat_box.specs.declared.nat.NatBox.{NatBox}
 use Rattle.nat_box.specs.declared.value.NatValue.{NatValue}
 use Rattle.nat_box.specs.Boxes as nat
 use Rattle.box_conf.specs.declared.kind.BoxConf.{BoxConf}
 use Rattle.box_conf.specs.declared.kind.BoxKind.{BoxKind}
-use Rattle.box_conf.specs.declared.kind.BoxKind.TheVariants.{Count, Monitor, Nat}
+use Rattle.box_conf.specs.declared.kind.BoxKind.TheVariants.{Count, Monitor, Nat, Balancer}
 use Rattle.box_conf.specs.declared.kind.KindWord.{KindWord}
 use Rattle.box_conf.specs.declared.kind.KindWord.TheVariants as kind
 use Rattle.box_conf.specs.declared.settings.Settings.{Settings}
 use Rattle.box_conf.specs.declared.table.BoxLine.{BoxLine}
-use Rattle.box_conf.specs.declared.table.BoxLine.TheVariants.{Threads, Seed, Shards, Inside, Outside, Ports}
+use Rattle.box_conf.specs.declared.table.BoxLine.TheVariants as line
+use Rattle.box_conf.specs.declared.table.BoxLine.TheVariants.{Threads, Seed, Shards, Inside, Outside, Ports, Virtual}
 use Rattle.box_conf.specs.declared.table.Values.{Values}
 use Rattle.box_conf.specs.Settings.{setting}
 use Rattle.box_conf.specs.Table.{row_of, usual_of, word_of}
@@ -26,26 +30,30 @@ use Rattle.box_conf.specs.Table.{row_of, usual_of, word_of}
 -- Kind by kind
 
 abbrev pub kinds : List KindWord
-kinds = kind.Count ∷ kind.Monitor ∷ kind.Nat ∷ []
+kinds = kind.Count ∷ kind.Monitor ∷ kind.Nat ∷ kind.Balancer ∷ []
 
 abbrev pub kind_word : KindWord → List ℕ
 kind_word kind.Count = codes "count"
 kind_word kind.Monitor = codes "monitor"
 kind_word kind.Nat = codes "nat"
+kind_word kind.Balancer = codes "balancer"
 
 abbrev pub lines_of : KindWord → List BoxLine
 lines_of kind.Count = Threads ∷ Seed ∷ []
 lines_of kind.Monitor = Threads ∷ Seed ∷ Shards ∷ []
 lines_of kind.Nat = Threads ∷ Seed ∷ Shards ∷ Inside ∷ Outside ∷ Ports ∷ []
+lines_of kind.Balancer = Threads ∷ Seed ∷ Shards ∷ Virtual ∷ line.Backend ∷ []
 
 abbrev pub nat_from : (BoxLine → Values) → NatBox
 nat_from values = nat.box_with (values Shards).first (values Inside).first (values Inside).second (values Outside).first (values Ports).first (values Ports).second
 
--- the box, where the lines have these values
-abbrev pub box_from : KindWord → (BoxLine → Values) → BoxKind
-box_from kind.Count values = Count (record {})
-box_from kind.Monitor values = Monitor (monitor.box_with (values Shards).first)
-box_from kind.Nat values = Nat (nat_from values)
+-- the box, where the lines have these values and name these backends
+abbrev pub box_from : KindWord → (BoxLine → Values) → List Backend → BoxKind
+box_from kind.Count values backends = Count (record {})
+box_from kind.Monitor values backends = Monitor (monitor.box_with (values Shards).first)
+box_from kind.Nat values backends = Nat (nat_from values)
+box_from kind.Balancer values backends =
+    Balancer (balancer.box_with (values Shards).first (values Virtual).first (values Virtual).second backends)
 
 -- the meaning of a program, with the kind of value that its variables have
 pub record AnyMeaning : Type 1 where
@@ -56,6 +64,7 @@ abbrev pub meaning_of : BoxKind → AnyMeaning
 meaning_of (Count box) = record { value = ℕ; meaning = count_meaning }
 meaning_of (Monitor box) = record { value = MonitorValue; meaning = monitor.box_meaning box }
 meaning_of (Nat box) = record { value = NatValue; meaning = nat.box_meaning box }
+meaning_of (Balancer box) = record { value = BalancerValue; meaning = balancer.box_meaning box }
 
 -- Of all kinds
 
@@ -77,5 +86,12 @@ rows_of kind = box_row ∷ map row_of (lines_of kind)
 abbrev pub missing_line : KindWord → Settings → Option BoxLine
 missing_line kind settings = find (λ line. is_none (usual_of line) && is_none (setting settings line)) (lines_of kind)
 
-abbrev pub conf_from : KindWord → (BoxLine → Values) → BoxConf
-conf_from kind values = record { threads = (values Threads).first; seed = (values Seed).first; kind = box_from kind values }
+abbrev pub conf_from : KindWord → (BoxLine → Values) → List Backend → BoxConf
+conf_from kind values backends = record { threads = (values Threads).first; seed = (values Seed).first; kind = box_from kind values backends }
+
+-- a kind whose file names backends
+abbrev pub IsBalancer : KindWord → Type 0
+IsBalancer kind.Count = ⊥
+IsBalancer kind.Monitor = ⊥
+IsBalancer kind.Nat = ⊥
+IsBalancer kind.Balancer = Unit {0}

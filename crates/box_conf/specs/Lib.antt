@@ -1,3 +1,4 @@
+pub mod Backends
 pub mod BoxFile
 pub mod Kinds
 pub mod Reading

@@ -1,6 +1,6 @@
 -- What the reader of box files does with each line. The law `a_text_is_one_box_file_or_has_a_fault` says that it comes to what
 -- the relation of box files says.
-use Rattle.std.specs.Prelude.{ℕ, ◌+◌, List, [], ◌∷◌, length, codes, if◌then◌else◌, is_some, Option, Some, None, Result, Ok, Err}
+use Rattle.std.specs.Prelude.{ℕ, ◌+◌, List, [], ◌∷◌, length, codes, nat_lt, if◌then◌else◌, Option, Some, None, Result, Ok, Err}
 use Rattle.std.specs.Str.{bytes_eq}
 use Rattle.std.specs.Str.Lines.{lines}
 use Rattle.plain_text.specs.declared.fault.LineCause.{LineCause}
@@ -8,11 +8,13 @@ use Rattle.plain_text.specs.declared.fault.LineCause.TheVariants.{UnknownWord, M
 use Rattle.plain_text.specs.declared.fault.LineFault.{LineFault}
 use Rattle.plain_text.specs.Fields.{fields_of}
 use Rattle.plain_text.specs.Lines.{words_of, counted_lines}
+use Rattle.balancer_box.specs.declared.backends.Backend.{Backend}
+use Rattle.box_conf.specs.Backends.{backends_after, backend_fault}
 use Rattle.box_conf.specs.declared.kind.BoxConf.{BoxConf}
 use Rattle.box_conf.specs.declared.settings.Settings.{Settings}
 use Rattle.box_conf.specs.declared.kind.KindWord.{KindWord}
 use Rattle.box_conf.specs.declared.table.BoxLine.{BoxLine}
-use Rattle.box_conf.specs.Settings.{setting, values_set, line_read, set_values}
+use Rattle.box_conf.specs.Settings.{has_stood, values_set, line_read, set_values}
 use Rattle.box_conf.specs.Kinds.{kind_named, line_named, missing_line, conf_from}
 
 abbrev pub and_end : Option KindWord → Result (List ℕ) LineCause → Result KindWord LineCause
@@ -38,7 +40,7 @@ second_box (Err cause) = Err cause
 -- a line that sets values, if it is one of the kind
 abbrev pub set_by : KindWord → Settings → Option BoxLine → List (List ℕ) → Result Settings LineCause
 set_by k s None words = Err UnknownWord
-set_by k s (Some line) words = set_values s line (line_read line (is_some (setting s line)) words)
+set_by k s (Some line) words = set_values s line (line_read line (has_stood s line) words)
 
 -- the settings after a later line with these words
 abbrev pub set_line : KindWord → Settings → List (List ℕ) → Result Settings LineCause
@@ -58,26 +60,39 @@ set_lines k s [] = Ok s
 set_lines k s (line ∷ lines) = and_lines line.0 (set_line k s (words_of line.1)) (λ next. set_lines k next lines)
 
 abbrev pub no_settings : Settings
-no_settings = record { threads = None; seed = None; shards = None; inside = None; outside = None; ports = None }
+no_settings = record { threads = None; seed = None; shards = None; inside = None; outside = None; ports = None; virtual_end = None; backend = None }
 
 -- the box of these settings, if no line is missing, where the file has this count of lines
-abbrev pub whole_box : ℕ → KindWord → Settings → Option BoxLine → Result BoxConf LineFault
-whole_box count k s None = Ok (conf_from k (values_set s))
-whole_box count k s (Some line) = Err (fault_at (count + 1) MissingLine)
+abbrev pub whole_box : ℕ → KindWord → List Backend → Settings → Option BoxLine → Result BoxConf LineFault
+whole_box count k backends s None = Ok (conf_from k (values_set s) backends)
+whole_box count k backends s (Some line) = Err (fault_at (count + 1) MissingLine)
 
-abbrev pub conf_of : ℕ → KindWord → Result Settings LineFault → Result BoxConf LineFault
-conf_of count k (Ok s) = whole_box count k s (missing_line k s)
-conf_of count k (Err fault) = Err fault
+abbrev pub conf_of : ℕ → KindWord → List Backend → Result Settings LineFault → Result BoxConf LineFault
+conf_of count k backends (Ok s) = whole_box count k backends s (missing_line k s)
+conf_of count k backends (Err fault) = Err fault
 
-abbrev pub and_kind : ℕ → ℕ → Result KindWord LineCause → List (ℕ × List ℕ) → Result BoxConf LineFault
-and_kind count line (Ok k) lines = conf_of count k (set_lines k no_settings lines)
-and_kind count line (Err cause) lines = Err (fault_at line cause)
+abbrev pub and_kind : ℕ → ℕ → List Backend → Result KindWord LineCause → List (ℕ × List ℕ) → Result BoxConf LineFault
+and_kind count line backends (Ok k) lines = conf_of count k backends (set_lines k no_settings lines)
+and_kind count line backends (Err cause) lines = Err (fault_at line cause)
 
 -- the lines that count, of a file with this count of lines
 abbrev pub box_of_lines : ℕ → List (ℕ × List ℕ) → Result BoxConf LineFault
 box_of_lines count [] = Err (fault_at (count + 1) MissingLine)
-box_of_lines count (line ∷ lines) = and_kind count line.0 (first_line (words_of line.1)) lines
+box_of_lines count (line ∷ lines) = and_kind count line.0 (backends_after [] (line ∷ lines)) (first_line (words_of line.1)) lines
+
+-- the box that a file describes by the table of its kind, or the first fault by it
+abbrev pub described_box : List ℕ → Result BoxConf LineFault
+described_box text = box_of_lines (length (lines text)) (counted_lines text)
+
+abbrev pub earlier : LineFault → LineFault → LineFault
+earlier of_table of_backends = if nat_lt of_backends.line of_table.line then of_backends else of_table
+
+abbrev pub or_backends : Result BoxConf LineFault → Option LineFault → Result BoxConf LineFault
+or_backends (Ok conf) None = Ok conf
+or_backends (Ok conf) (Some fault) = Err fault
+or_backends (Err fault) None = Err fault
+or_backends (Err of_table) (Some of_backends) = Err (earlier of_table of_backends)
 
 -- the box that a file describes, or its first fault
 abbrev pub box_of : List ℕ → Result BoxConf LineFault
-box_of text = box_of_lines (length (lines text)) (counted_lines text)
+box_of text = or_backends (described_box text) (backend_fault [] (counted_lines text))

@@ -1,14 +1,14 @@
 -- What the lines of a box file have set, as the reader keeps it.
-use Rattle.std.specs.Prelude.{◌≡◌, ℕ, ◌^◌, ◌<◌, ◌≤◌, Option, Some, None, ◌||◌, ◌&&◌, List, [], is_some, unwrap_or, if◌then◌else◌, Bool, true, false, Result, Ok, Err, IfSome}
+use Rattle.std.specs.Prelude.{◌≡◌, ℕ, ◌^◌, ◌<◌, ◌≤◌, Option, Some, None, ◌||◌, ◌&&◌, List, [], not, is_some, unwrap_or, if◌then◌else◌, Bool, true, false, Result, Ok, Err, IfSome}
 use Rattle.plain_text.specs.declared.fault.LineCause.{LineCause}
 use Rattle.plain_text.specs.declared.fault.LineCause.TheVariants.{OutOfRange, Twice}
 use Rattle.plain_text.specs.Grammar.{form_fault, range_fault, row_fault, values_in}
 use Rattle.box_conf.specs.declared.settings.Settings.{Settings}
 use Rattle.box_conf.specs.declared.table.BoxLine.{BoxLine}
-use Rattle.box_conf.specs.declared.table.BoxLine.TheVariants.{Threads, Seed, Shards, Inside, Outside, Ports}
+use Rattle.box_conf.specs.declared.table.BoxLine.TheVariants.{Threads, Seed, Shards, Inside, Outside, Ports, Virtual, Backend}
 use Rattle.box_conf.specs.declared.table.Places.{Places}
 use Rattle.box_conf.specs.declared.table.Values.{Values}
-use Rattle.box_conf.specs.Table.{all_places, are_within, fits_of, places_of, row_of, usual_of, values_from}
+use Rattle.box_conf.specs.Table.{again_of, all_places, are_within, fits_of, places_of, row_of, usual_of, values_from}
 
 abbrev pub setting : Settings → BoxLine → Option Values
 setting s Threads = s.threads
@@ -17,6 +17,8 @@ setting s Shards = s.shards
 setting s Inside = s.inside
 setting s Outside = s.outside
 setting s Ports = s.ports
+setting s Virtual = s.virtual_end
+setting s Backend = s.backend
 
 abbrev pub with_setting : Settings → BoxLine → Values → Settings
 with_setting s Threads values = record s { threads = Some values }
@@ -25,6 +27,12 @@ with_setting s Shards values = record s { shards = Some values }
 with_setting s Inside values = record s { inside = Some values }
 with_setting s Outside values = record s { outside = Some values }
 with_setting s Ports values = record s { ports = Some values }
+with_setting s Virtual values = record s { virtual_end = Some values }
+with_setting s Backend values = record s { backend = Some values }
+
+-- a line that may stand once stood before
+abbrev pub has_stood : Settings → BoxLine → Bool
+has_stood s line = is_some (setting s line) && not (again_of line)
 
 -- the usual values of a line, and none where it has to stand
 abbrev pub usual_or_none : BoxLine → List ℕ
@@ -70,6 +78,8 @@ IsWithin Shards values = (1 ≤ values.first) × (values.first ≤ 64)
 IsWithin Inside values = (values.first < 2 ^ 32) × (1 ≤ values.second) × (values.second ≤ 32)
 IsWithin Outside values = values.first < 2 ^ 32
 IsWithin Ports values = (1 ≤ values.first) × (values.first ≤ values.second) × (values.second ≤ 65535)
+IsWithin Virtual values = (values.first < 2 ^ 32) × (values.second ≤ 65535)
+IsWithin Backend values = (values.first < 2 ^ 32) × (values.second ≤ 65535)
 
 -- each line has set what it may
 abbrev pub AreInRange : Settings → Type 0

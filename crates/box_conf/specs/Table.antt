@@ -1,12 +1,12 @@
 -- The lines of box files that set values, as a table: the word of each, what stands after it, how its values fit one another, and
--- the usual values. Each may stand once, and has to stand where it has no usual values.
+-- the usual values. Each may stand once, but for `backend`, and has to stand where it has no usual values.
 use Rattle.std.specs.Prelude.{ℕ, ◌-◌, ◌^◌, ◌&&◌, Bool, true, false, List, [], ◌∷◌, codes, is_none, nat_le, slice_index, Option, Some, None}
 use Rattle.plain_text.specs.declared.field.Field.{Field}
 use Rattle.plain_text.specs.declared.field.Field.TheVariants as field
 use Rattle.plain_text.specs.Grammar.{Place, Row, is_within}
 use Rattle.plain_text.specs.Grammar as place
 use Rattle.box_conf.specs.declared.table.BoxLine.{BoxLine}
-use Rattle.box_conf.specs.declared.table.BoxLine.TheVariants.{Threads, Seed, Shards, Inside, Outside, Ports}
+use Rattle.box_conf.specs.declared.table.BoxLine.TheVariants.{Threads, Seed, Shards, Inside, Outside, Ports, Virtual, Backend}
 use Rattle.box_conf.specs.declared.table.LinePlace.{LinePlace}
 use Rattle.box_conf.specs.declared.table.LinePlace.TheVariants.{Number, Address}
 use Rattle.box_conf.specs.declared.table.Places.{Places}
@@ -22,6 +22,8 @@ word_of Shards = codes "shards"
 word_of Inside = codes "inside"
 word_of Outside = codes "outside"
 word_of Ports = codes "ports"
+word_of Virtual = codes "virtual"
+word_of Backend = codes "backend"
 
 abbrev pub places_of : BoxLine → Places
 places_of Threads = One (Number 1 16)
@@ -30,6 +32,8 @@ places_of Shards = One (Number 1 64)
 places_of Inside = Two Address (Number 1 32)
 places_of Outside = One Address
 places_of Ports = Two (Number 1 65535) (Number 1 65535)
+places_of Virtual = Two Address (Number 0 65535)
+places_of Backend = Two Address (Number 0 65535)
 
 -- the first port is not above the last
 abbrev pub fits_of : BoxLine → Values → Bool
@@ -39,6 +43,19 @@ fits_of Shards values = true
 fits_of Inside values = true
 fits_of Outside values = true
 fits_of Ports values = nat_le values.first values.second
+fits_of Virtual values = true
+fits_of Backend values = true
+
+-- there may be several backends
+abbrev pub again_of : BoxLine → Bool
+again_of Threads = false
+again_of Seed = false
+again_of Shards = false
+again_of Inside = false
+again_of Outside = false
+again_of Ports = false
+again_of Virtual = false
+again_of Backend = true
 
 abbrev pub usual_of : BoxLine → Option (List ℕ)
 usual_of Threads = Some (1 ∷ [])
@@ -47,6 +64,8 @@ usual_of Shards = Some (16 ∷ [])
 usual_of Inside = None
 usual_of Outside = None
 usual_of Ports = Some (1024 ∷ 65535 ∷ [])
+usual_of Virtual = None
+usual_of Backend = None
 
 -- Of all lines
 
@@ -75,6 +94,6 @@ row_of line = record {
   word = word_of line;
   places = all_places (places_of line);
   fits = λ values. fits_of line (values_from values);
-  again = false;
+  again = again_of line;
   required = is_none (usual_of line);
 }

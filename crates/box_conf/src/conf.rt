@@ -1,11 +1,16 @@
-ghost use Rattle.std.specs.Prelude.{◌≡◌, ◌≤◌, Ok, Err, IfOk, IfErr};
+ghost use Rattle.std.specs.Prelude.{◌≡◌, ◌≤◌, [], Ok, Err, None, IfOk, IfErr, length};
+ghost use Rattle.plain_text.specs.Lines.{counted_lines};
+ghost use Rattle.box_conf.specs.Backends.{backends_after};
+ghost use Rattle.box_conf.specs.Kinds.{conf_from, missing_line, IsBalancer};
 ghost use Rattle.box_conf.specs.BoxFile.{IsBoxFile, FirstFault};
-ghost use Rattle.box_conf.specs.Reading.{box_of, box_line, first_line, set_line};
-ghost use Rattle.box_conf.specs.Settings.{AreInRange};
+ghost use Rattle.box_conf.specs.Reading.{box_of, described_box, earlier, box_line, first_line, set_line};
+ghost use Rattle.box_conf.specs.Settings.{AreInRange, values_set};
 
+use crate::backends::read_backends;
 use crate::kind::{BoxConf, KindWord};
 use crate::settings::{Settings, read_line};
 use crate::table::BoxLine;
+use balancer_box::Backends;
 use plain_text::{LineCause, LineFault, WordIter, count_lines, end_of_line, lines, words};
 
 /// The word of the line that names the kind.
@@ -13,29 +18,70 @@ const BOX: &[u8] = b"box";
 
 /// Reads a box file, or names its first fault. It takes no memory.
 ///
-/// Its first line that counts is `box KIND`, where the kind is `count`, `monitor` or `nat`; the others come in any order, each at
-/// most once.
+/// Its first line that counts is `box KIND`, where the kind is `count`, `monitor`, `nat` or `balancer`; the others come in any order, each
+/// at most once, but for `backend`.
 ///
 /// | Line | Kinds | Range | Where it is not there |
 /// |---|---|---|---|
 /// | `threads N` | all | 1 to 16 | 1 |
 /// | `seed S` | all | any number | 0 |
-/// | `shards S` | `monitor`, `nat` | 1 to 64 | 16 |
+/// | `shards S` | `monitor`, `nat`, `balancer` | 1 to 64 | 16 |
 /// | `inside ADDRESS LENGTH` | `nat` | a length of 1 to 32 bits | a fault |
 /// | `outside ADDRESS` | `nat` | any address | a fault |
 /// | `ports LOW HIGH` | `nat` | 1 to 65,535, LOW at most HIGH | 1024 65535 |
+/// | `virtual ADDRESS PORT` | `balancer` | a port of 0 to 65,535 | a fault |
+/// | `backend ADDRESS PORT` | `balancer` | a port of 0 to 65,535; 1 to 64 lines, each with another backend | a fault |
 pub fn read_box(text: &[u8]) -> Result<BoxConf, LineFault>
     ensures value { IfOk result (IsBoxFile text.now) }
     ensures threads { IfOk result (λ conf. (1 ≤ conf.threads) × (conf.threads ≤ 16)) }
     ensures fault { IfErr result (λ fault. FirstFault text.now fault.line fault.cause) }
 {
-    read_lines(text)
+    read_both(text)
 }
 
-/// The same, by the steps of the reader.
-fn read_lines(text: &[u8]) -> Result<BoxConf, LineFault>
+/// The same, by the steps of the reader: what the lines set, and the backends that they name; of two faults the earlier one.
+fn read_both(text: &[u8]) -> Result<BoxConf, LineFault>
     ensures value { result ≡ box_of text.now }
     ensures threads { IfOk result (λ conf. (1 ≤ conf.threads) × (conf.threads ≤ 16)) }
+{
+    let backends = read_backends(text);
+    match read_settings(text) {
+        Ok(set) => match backends {
+            Ok(backends) => Ok(make_conf(set.kind, set.settings, backends)),
+            Err(fault) => Err(fault),
+        },
+        Err(of_table) => match backends {
+            Ok(_) => Err(of_table),
+            Err(of_backends) => Err(earlier(of_table, of_backends)),
+        },
+    }
+}
+
+/// The fault of the earlier line.
+fn earlier(of_table: LineFault, of_backends: LineFault) -> LineFault
+    ensures { result ≡ earlier of_table of_backends }
+{
+    if of_backends.line < of_table.line {
+        of_backends
+    } else {
+        of_table
+    }
+}
+
+/// What a box file sets.
+#[derive(Clone, Copy, Debug)]
+struct SetLines {
+    kind: KindWord,
+    settings: Settings,
+}
+
+/// What the lines of a box file set, by the table of its kind.
+fn read_settings(text: &[u8]) -> Result<SetLines, LineFault>
+    ensures value { IfOk result (λ set. described_box text.now
+        ≡ Ok (conf_from set.kind (values_set set.settings) (backends_after [] (counted_lines text.now)))) }
+    ensures in_range { IfOk result (λ set. AreInRange set.settings) }
+    ensures whole { IfOk result (λ set. missing_line set.kind set.settings ≡ None) }
+    ensures fault { IfErr result (λ fault. described_box text.now ≡ Err fault) }
 {
     let mut left = lines(text);
     let Some(first) = left.next() else {
@@ -52,6 +98,8 @@ fn read_lines(text: &[u8]) -> Result<BoxConf, LineFault>
         inside: None,
         outside: None,
         ports: None,
+        virtual_end: None,
+        backend: None,
     };
     for line in left {
         match set_by_line(kind, settings, words(line.bytes)) {
@@ -60,16 +108,28 @@ fn read_lines(text: &[u8]) -> Result<BoxConf, LineFault>
         }
     }
     match kind.missing_line(settings) {
-        None => Ok(BoxConf {
-            threads: settings.values(BoxLine::Threads).first as u32,
-            seed: settings.values(BoxLine::Seed).first,
-            kind: kind.make(settings),
-        }),
+        None => Ok(SetLines { kind, settings }),
         Some(_) => Err(fault_at(count_lines(text) + 1, LineCause::MissingLine)),
     }
 }
 
-fn fault_at(line: u64, cause: LineCause) -> LineFault
+/// The box of these settings and backends.
+fn make_conf(kind: KindWord, settings: Settings, backends: Backends) -> BoxConf
+    requires in_range { AreInRange settings }
+    requires whole { missing_line kind settings ≡ None }
+    requires some { IsBalancer kind → 1 ≤ length backends }
+    requires few { length backends ≤ 64 }
+    ensures value { result ≡ conf_from kind (values_set settings) backends }
+    ensures threads { (1 ≤ result.threads) × (result.threads ≤ 16) }
+{
+    BoxConf {
+        threads: settings.values(BoxLine::Threads).first as u32,
+        seed: settings.values(BoxLine::Seed).first,
+        kind: kind.make(settings, backends),
+    }
+}
+
+pub(crate) fn fault_at(line: u64, cause: LineCause) -> LineFault
     ensures { result ≡ record { line = line; cause = cause } }
 {
     LineFault { line, cause }
@@ -127,7 +187,6 @@ fn set_by_line(
     let Some(line) = kind.line_named(word) else {
         return Err(LineCause::UnknownWord);
     };
-    let had = settings.get(line).is_some();
-    let values = read_line(words, line, had)?;
+    let values = read_line(words, line, settings.has_stood(line))?;
     Ok(settings.with(line, values))
 }

@@ -1,10 +1,11 @@
-ghost use Rattle.std.specs.Prelude.{◌≡◌, true, None, is_some};
-ghost use Rattle.box_conf.specs.Kinds.{kind_named, lines_of, line_named, missing_line, box_from, nat_from};
+ghost use Rattle.std.specs.Prelude.{◌≡◌, ◌≤◌, true, None, is_some, length};
+ghost use Rattle.box_conf.specs.Kinds.{kind_named, lines_of, line_named, missing_line, box_from, nat_from, IsBalancer};
 ghost use Rattle.box_conf.specs.Settings.{AreInRange, setting, values_set};
 ghost use Rattle.box_conf.specs.declared.table.BoxLine.TheVariants.{Inside, Outside};
 
 use crate::settings::Settings;
 use crate::table::BoxLine;
+use balancer_box::{Backends, BalancerBox};
 use box_program::CountBox;
 use monitor_box::MonitorBox;
 use nat_box::NatBox;
@@ -15,6 +16,7 @@ pub enum BoxKind {
     Count(CountBox),
     Monitor(MonitorBox),
     Nat(NatBox),
+    Balancer(BalancerBox),
 }
 
 /// What a box file says.
@@ -33,6 +35,7 @@ pub enum KindWord {
     Count,
     Monitor,
     Nat,
+    Balancer,
 }
 
 impl KindWord {
@@ -46,6 +49,8 @@ impl KindWord {
             Some(KindWord::Monitor)
         } else if word == b"nat".as_slice() {
             Some(KindWord::Nat)
+        } else if word == b"balancer".as_slice() {
+            Some(KindWord::Balancer)
         } else {
             None
         }
@@ -66,14 +71,23 @@ impl KindWord {
                 BoxLine::Outside,
                 BoxLine::Ports,
             ],
+            KindWord::Balancer => &[
+                BoxLine::Threads,
+                BoxLine::Seed,
+                BoxLine::Shards,
+                BoxLine::Virtual,
+                BoxLine::Backend,
+            ],
         }
     }
 
-    /// The box of this kind, where its lines have set these values and none is missing.
-    pub fn make(self, settings: Settings) -> BoxKind
+    /// The box of this kind, where its lines have set these values and named these backends, and none is missing.
+    pub fn make(self, settings: Settings, backends: Backends) -> BoxKind
         requires in_range { AreInRange settings }
         requires whole { missing_line self settings ≡ None }
-        ensures { result ≡ box_from self (values_set settings) }
+        requires some { IsBalancer self → 1 ≤ length backends }
+        requires few { length backends ≤ 64 }
+        ensures { result ≡ box_from self (values_set settings) backends }
     {
         match self {
             KindWord::Count => BoxKind::Count(CountBox::new()),
@@ -82,6 +96,16 @@ impl KindWord {
                 BoxKind::Monitor(MonitorBox::new(shards as u32))
             }
             KindWord::Nat => BoxKind::Nat(make_nat(settings)),
+            KindWord::Balancer => {
+                let shards = settings.values(BoxLine::Shards).first;
+                let end = settings.values(BoxLine::Virtual);
+                BoxKind::Balancer(BalancerBox::new(
+                    shards as u32,
+                    end.first as u32,
+                    end.second as u16,
+                    backends,
+                ))
+            }
         }
     }
 

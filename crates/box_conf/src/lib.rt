@@ -1,6 +1,7 @@
 //! Box files: which box runs, on how many threads, and with which seed.
 #![tactic(auto)]
 
+mod backends;
 mod conf;
 mod kind;
 mod laws;

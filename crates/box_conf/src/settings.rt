@@ -1,6 +1,6 @@
 ghost use Rattle.std.specs.Prelude.{◌≡◌, IfOk, IfErr, IsTrue, Some};
 ghost use Rattle.plain_text.specs.Grammar.{form_fault};
-ghost use Rattle.box_conf.specs.Settings.{setting, with_setting, values_set, values_fault, line_read, once, AreRead, AreInRange, IsWithin, has_values};
+ghost use Rattle.box_conf.specs.Settings.{setting, with_setting, has_stood, values_set, values_fault, line_read, once, AreRead, AreInRange, IsWithin, has_values};
 ghost use Rattle.box_conf.specs.Table.{all_places};
 ghost use Rattle.box_conf.specs.declared.table.Places.TheVariants.{One, Two};
 
@@ -16,6 +16,9 @@ pub struct Settings {
     pub inside: Option<Values>,
     pub outside: Option<Values>,
     pub ports: Option<Values>,
+    pub virtual_end: Option<Values>,
+    /// The newest of the backends.
+    pub backend: Option<Values>,
 }
 
 impl Settings {
@@ -30,6 +33,8 @@ impl Settings {
             BoxLine::Inside => self.inside,
             BoxLine::Outside => self.outside,
             BoxLine::Ports => self.ports,
+            BoxLine::Virtual => self.virtual_end,
+            BoxLine::Backend => self.backend,
         }
     }
 
@@ -57,7 +62,22 @@ impl Settings {
                 ..self
             },
             BoxLine::Ports => Settings { ports: set, ..self },
+            BoxLine::Virtual => Settings {
+                virtual_end: set,
+                ..self
+            },
+            BoxLine::Backend => Settings {
+                backend: set,
+                ..self
+            },
         }
+    }
+
+    /// Whether a line that may stand once stood before.
+    pub fn has_stood(self, line: BoxLine) -> bool
+        ensures { result ≡ has_stood self line }
+    {
+        self.get(line).is_some() && !line.stands_again()
     }
 
     /// The values of a line: what it has set, or the usual ones where it is not there.
@@ -76,8 +96,16 @@ impl Settings {
     }
 }
 
-/// The values of a line, which may stand once; `had` says that it stood before.
+/// The values of a line; `had` says that it may stand once and stood before.
 pub fn read_line(words: WordIter<'_>, line: BoxLine, had: bool) -> Result<Values, LineCause>
+    ensures value { result ≡ line_read line had words.entry }
+    ensures within { IfOk result (IsWithin line) }
+{
+    read_values(words, line, had)
+}
+
+/// The same, by the steps of the reader.
+fn read_values(words: WordIter<'_>, line: BoxLine, had: bool) -> Result<Values, LineCause>
     ensures { result ≡ line_read line had words.entry }
 {
     let values = read_places(words, line.places())?;

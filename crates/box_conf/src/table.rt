@@ -1,10 +1,10 @@
 ghost use Rattle.std.specs.Prelude.{◌≡◌, option_map};
 ghost use Rattle.plain_text.specs.Grammar.{is_within};
-ghost use Rattle.box_conf.specs.Table.{word_of, place_of, places_of, field_of, are_within, usual_of, fits_of, values_from};
+ghost use Rattle.box_conf.specs.Table.{word_of, place_of, places_of, again_of, field_of, are_within, usual_of, fits_of, values_from};
 
 use plain_text::Field;
 
-/// A line of a box file after the first, by its first word. It may stand once.
+/// A line of a box file after the first, by its first word. It may stand once, but for `backend`.
 #[derive(Clone, Copy, Debug, PartialEq, Eq)]
 pub enum BoxLine {
     Threads,
@@ -13,6 +13,8 @@ pub enum BoxLine {
     Inside,
     Outside,
     Ports,
+    Virtual,
+    Backend,
 }
 
 /// What stands at a place of a line.
@@ -84,6 +86,8 @@ impl BoxLine {
             BoxLine::Inside => b"inside",
             BoxLine::Outside => b"outside",
             BoxLine::Ports => b"ports",
+            BoxLine::Virtual => b"virtual",
+            BoxLine::Backend => b"backend",
         }
     }
 
@@ -113,7 +117,21 @@ impl BoxLine {
                     high: 65_535,
                 },
             ),
+            BoxLine::Virtual | BoxLine::Backend => Places::Two(
+                LinePlace::Address,
+                LinePlace::Number {
+                    low: 0,
+                    high: 65_535,
+                },
+            ),
         }
+    }
+
+    /// Whether more than one such line may stand.
+    pub fn stands_again(self) -> bool
+        ensures { result ≡ again_of self }
+    {
+        self == BoxLine::Backend
     }
 
     /// Whether values, each in its range, fit one another: the first port is not above the last.
@@ -126,7 +144,9 @@ impl BoxLine {
             | BoxLine::Seed
             | BoxLine::Shards
             | BoxLine::Inside
-            | BoxLine::Outside => true,
+            | BoxLine::Outside
+            | BoxLine::Virtual
+            | BoxLine::Backend => true,
         }
     }
 
@@ -138,7 +158,7 @@ impl BoxLine {
             BoxLine::Threads => (1, 0),
             BoxLine::Seed => (0, 0),
             BoxLine::Shards => (16, 0),
-            BoxLine::Inside | BoxLine::Outside => return None,
+            BoxLine::Inside | BoxLine::Outside | BoxLine::Virtual | BoxLine::Backend => return None,
             BoxLine::Ports => (1024, 65_535),
         };
         Some(Values { first, second })

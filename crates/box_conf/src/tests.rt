@@ -22,6 +22,19 @@ fn told(alloc: Global, text: &str) -> Result<String, Fail> {
                 nat.low,
                 nat.high
             )?),
+            BoxKind::Balancer(balancer) => {
+                let mut text = format!(in alloc;
+                    "{} {} of {} tables, {} {} before",
+                    conf.threads, conf.seed, balancer.shards, balancer.address, balancer.port
+                )?;
+                for backend in balancer.backends.as_slice() {
+                    text.push_str(format!(in alloc;
+                        " {} {}",
+                        backend.address, backend.port
+                    )?.as_str())?;
+                }
+                Ok(text)
+            }
         },
         Err(fault) => Ok(format!(in alloc; "{fault}")?),
     }
@@ -55,6 +68,14 @@ fn reads_box_files(rt: HostRuntime) -> Result<(), Fail> {
         (
             "box nat\nports 39276 39276\noutside 203.00.0113.1\ninside 10.0.0.5 1",
             "1 0 of 16 tables, 167772165 1 behind 3405803777 from 39276 to 39276",
+        ),
+        (
+            "box balancer\nvirtual 198.51.100.7 53\nbackend 10.1.0.1 53",
+            "1 0 of 16 tables, 3325256711 53 before 167837697 53",
+        ),
+        (
+            "box balancer\nbackend 0.0.0.0 0\nthreads 4\nbackend 10.1.0.1 0053\nshards 1\nvirtual 0.0.0.0 65535\nseed 5\nbackend 10.1.0.1 54",
+            "4 5 of 1 tables, 0 65535 before 0 0 167837697 53 167837697 54",
         ),
     ] {
         assert_eq!(rt; told(rt.alloc(), text)?.as_str(), numbers, "at {text:?}");
@@ -130,6 +151,68 @@ fn names_the_first_fault_of_a_nat(rt: HostRuntime) -> Result<(), Fail> {
         ("box nat\nports 1 2\nseed 1\nseed 1", "line 4: twice"),
     ] {
         assert_eq!(rt; told(rt.alloc(), text)?.as_str(), fault, "at {text:?}");
+    }
+    Ok(())
+}
+
+#[test]
+fn names_the_first_fault_of_a_balancer(rt: HostRuntime) -> Result<(), Fail> {
+    for (text, fault) in [
+        ("box balancer\n\n", "line 3: missing line"),
+        ("box balancer\nvirtual 10.0.0.1 53", "line 3: missing line"),
+        ("box balancer\nbackend 10.0.0.1 53", "line 3: missing line"),
+        ("box balancer\ninside 10.0.0.0 8", "line 2: unknown word"),
+        ("box nat\nbackend 10.0.0.1 53", "line 2: unknown word"),
+        ("box balancer\nvirtual", "line 2: missing word"),
+        ("box balancer\nbackend 10.0.0.1", "line 2: missing word"),
+        ("box balancer\nbackend 10.0.0.256 53", "line 2: bad number"),
+        ("box balancer\nbackend 10.0.0.1 53 8", "line 2: extra word"),
+        (
+            "box balancer\nvirtual 10.0.0.1 65536",
+            "line 2: out of range",
+        ),
+        (
+            "box balancer\nbackend 10.0.0.1 65536",
+            "line 2: out of range",
+        ),
+        (
+            "box balancer\nvirtual 1.1.1.1 1\nvirtual 1.1.1.1 1",
+            "line 3: twice",
+        ),
+        (
+            "box balancer\nbackend 1.1.1.1 1\n\nbackend 1.1.1.1 2\nbackend 1.1.1.1 01",
+            "line 5: twice",
+        ),
+        (
+            "box balancer\nbackend 1.1.1.1 1\nbackend 1.1.1.1 1\nseed x",
+            "line 3: twice",
+        ),
+        (
+            "box balancer\nbackend 1.1.1.1 1\nseed x\nbackend 1.1.1.1 1",
+            "line 3: bad number",
+        ),
+    ] {
+        assert_eq!(rt; told(rt.alloc(), text)?.as_str(), fault, "at {text:?}");
+    }
+    Ok(())
+}
+
+/// A box file with so many backends, the last of which repeats the first.
+fn with_backends(alloc: Global, count: u16) -> Result<String, Fail> {
+    let mut text = format!(in alloc; "box balancer\nvirtual 1.1.1.1 1\n")?;
+    for port in 1..count {
+        text.push_str(format!(in alloc; "backend 2.2.2.2 {port}\n")?.as_str())?;
+    }
+    text.push_str("backend 2.2.2.2 1\n")?;
+    Ok(text)
+}
+
+#[test]
+fn takes_64_backends_at_most(rt: HostRuntime) -> Result<(), Fail> {
+    let alloc = rt.alloc();
+    for (count, fault) in [(64, "line 66: twice"), (65, "line 67: out of range")] {
+        let text = with_backends(alloc, count)?;
+        assert_eq!(rt; told(alloc, text.as_str())?.as_str(), fault);
     }
     Ok(())
 }
