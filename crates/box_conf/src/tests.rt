@@ -1,41 +1,44 @@
 use crate::{BoxKind, read_box};
+use balancer_box::BalancerBox;
 use std::alloc::Global;
 use std::test::Fail;
+
+/// What is set of a balancer.
+fn told_of_balancer(alloc: Global, balancer: &BalancerBox) -> Result<String, Fail> {
+    let mut text = format!(in alloc;
+        "of {} tables, {} {} before",
+        balancer.shards, balancer.address, balancer.port
+    )?;
+    for backend in balancer.backends.as_slice() {
+        let told = format!(in alloc; " {} {}", backend.address, backend.port)?;
+        text.push_str(told.as_str())?;
+    }
+    Ok(text)
+}
+
+/// What is set of a box.
+fn told_of_box(alloc: Global, threads: u32, seed: u64, kind: BoxKind) -> Result<String, Fail> {
+    match kind {
+        BoxKind::Count(_) => Ok(format!(in alloc; "{threads} {seed}")?),
+        BoxKind::Monitor(monitor) => Ok(format!(in alloc;
+            "{threads} {seed} of {} tables",
+            monitor.shards
+        )?),
+        BoxKind::Nat(nat) => Ok(format!(in alloc;
+            "{threads} {seed} of {} tables, {} {} behind {} from {} to {}",
+            nat.shards, nat.inside, nat.length, nat.outside, nat.low, nat.high
+        )?),
+        BoxKind::Balancer(balancer) => {
+            let told = told_of_balancer(alloc, &balancer)?;
+            Ok(format!(in alloc; "{threads} {seed} {}", told.as_str())?)
+        }
+    }
+}
 
 /// What a box file comes to: its threads, its seed and what is set of its box, or the text of its error.
 fn told(alloc: Global, text: &str) -> Result<String, Fail> {
     match read_box(text.as_bytes()) {
-        Ok(conf) => match conf.kind {
-            BoxKind::Count(_) => Ok(format!(in alloc; "{} {}", conf.threads, conf.seed)?),
-            BoxKind::Monitor(monitor) => Ok(format!(in alloc;
-                "{} {} of {} tables",
-                conf.threads, conf.seed, monitor.shards
-            )?),
-            BoxKind::Nat(nat) => Ok(format!(in alloc;
-                "{} {} of {} tables, {} {} behind {} from {} to {}",
-                conf.threads,
-                conf.seed,
-                nat.shards,
-                nat.inside,
-                nat.length,
-                nat.outside,
-                nat.low,
-                nat.high
-            )?),
-            BoxKind::Balancer(balancer) => {
-                let mut text = format!(in alloc;
-                    "{} {} of {} tables, {} {} before",
-                    conf.threads, conf.seed, balancer.shards, balancer.address, balancer.port
-                )?;
-                for backend in balancer.backends.as_slice() {
-                    text.push_str(format!(in alloc;
-                        " {} {}",
-                        backend.address, backend.port
-                    )?.as_str())?;
-                }
-                Ok(text)
-            }
-        },
+        Ok(conf) => told_of_box(alloc, conf.threads, conf.seed, conf.kind),
         Err(fault) => Ok(format!(in alloc; "{fault}")?),
     }
 }
