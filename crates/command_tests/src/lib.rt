@@ -3,6 +3,8 @@
 #![tactic(auto)]
 
 #[cfg(test)]
+mod balancer;
+#[cfg(test)]
 mod limits;
 #[cfg(test)]
 mod nat;

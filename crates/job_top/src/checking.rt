@@ -53,6 +53,9 @@ fn check_box<W: World>(
         BoxKind::Count(count) => check_schedule(alloc, world, run, released, unit, &count),
         BoxKind::Monitor(monitor) => check_schedule(alloc, world, run, released, unit, &monitor),
         BoxKind::Nat(nat) => check_schedule(alloc, world, run, released, unit, &nat),
+        BoxKind::Balancer(balancer) => {
+            check_schedule(alloc, world, run, released, unit, &balancer)
+        }
     }
 }
 

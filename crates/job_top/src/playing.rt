@@ -51,6 +51,7 @@ fn play_box<W: World>(
         BoxKind::Count(count) => play_schedule(alloc, world, out, run, &count),
         BoxKind::Monitor(monitor) => play_schedule(alloc, world, out, run, &monitor),
         BoxKind::Nat(nat) => play_schedule(alloc, world, out, run, &nat),
+        BoxKind::Balancer(balancer) => play_schedule(alloc, world, out, run, &balancer),
     }
 }
 

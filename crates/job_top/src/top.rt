@@ -59,6 +59,7 @@ fn run_box<W: World>(
         BoxKind::Count(count) => run_script(alloc, world, files, run, count),
         BoxKind::Monitor(monitor) => run_script(alloc, world, files, run, monitor),
         BoxKind::Nat(nat) => run_script(alloc, world, files, run, nat),
+        BoxKind::Balancer(balancer) => run_script(alloc, world, files, run, balancer),
     }
 }
 
