@@ -11,10 +11,9 @@ use Rattle.access_log.specs.declared.entry.StampedEntry.{StampedEntry}
 use Rattle.access_log.specs.declared.entry.Output.{Output}
 use Rattle.plain_text.specs.declared.kind.Kind.{Kind}
 use Rattle.plain_text.specs.declared.kind.Kind.TheVariants.{Log, Out}
-use Rattle.wire_frames.specs.declared.field.Version.{Version}
-use Rattle.wire_frames.specs.declared.field.Version.TheVariants.{One, Two}
-use Rattle.wire_frames.specs.declared.field.Field.{Field}
-use Rattle.wire_frames.specs.Layout.{field, spelled, kind_code, version_code, head, code_of, subject_of, place_of, mask_of, nonzero, component_fields, packet_fields, entry_fields, output_fields, AreComponents, IsSent, IsDone}
+use Rattle.wire_frames.specs.declared.version.Version.{Version}
+use Rattle.wire_frames.specs.declared.version.Version.TheVariants.{One, Two}
+use Rattle.wire_frames.specs.Layout.{Field, field, spelled, kind_code, version_code, head, code_of, subject_of, place_of, mask_of, nonzero, component_fields, packet_fields, entry_fields, output_fields, AreComponents, IsSent, IsDone}
 use Rattle.wire_frames.specs.Places.{number_at, length_at, epoch_at, thread_at, code_at, count_at, subject_at, place_at, bits_set, components, components_place, threads_at, mask_at}
 use Rattle.wire_frames.proofs.Fields.{fields_at, fields_at-spelled, spelled-append, length-spelled, widths, Fit}
 use Rattle.wire_frames.proofs.Stamps.{fit_each, components-spelled, present-low, present-mask_of, unset-low, unset-mask_of, bits_set-low, bits_set-mask_of, mask_of-below}

@@ -7,8 +7,7 @@ use Rattle.byteorder.specs.Endian.{big_bytes, big_number}
 use Rattle.byteorder.specs.Numbers.{big_from-take, big_number-reads_back, length-bytes_high_first}
 use Rattle.plain_text.specs.Octets.{AreBytes}
 use Rattle.plain_text.proofs.Octets.{AreBytes-take, AreBytes-drop}
-use Rattle.wire_frames.specs.declared.field.Field.{Field}
-use Rattle.wire_frames.specs.Layout.{field, spelled}
+use Rattle.wire_frames.specs.Layout.{Field, field, spelled}
 use Rattle.wire_frames.specs.Places.{number_at}
 
 abbrev pub total : List ℕ → ℕ

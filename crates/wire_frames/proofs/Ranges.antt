@@ -2,7 +2,7 @@
 use Rattle.std.proofs.Common.{◌≡◌, ℕ, ◌^◌, ◌<◌, List, length, slice_index}
 use Rattle.entry_order.specs.declared.what.What.{What}
 use Rattle.entry_order.specs.declared.what.What.TheVariants.{Access, Read, Clock, Draw}
-use Rattle.wire_frames.specs.declared.field.Version.TheVariants.{Two}
+use Rattle.wire_frames.specs.declared.version.Version.TheVariants.{Two}
 use Rattle.wire_frames.specs.Layout.{IsSent, IsDone}
 use Rattle.wire_frames.specs.Parts.{FitsWord}
 use Rattle.wire_frames.specs.Writing.{CanSend, CanTell}

@@ -10,10 +10,9 @@ use Rattle.access_log.specs.declared.entry.StampedEntry.{StampedEntry}
 use Rattle.access_log.specs.declared.entry.Output.{Output}
 use Rattle.plain_text.specs.declared.kind.Kind.{Kind}
 use Rattle.plain_text.specs.declared.kind.Kind.TheVariants.{Log, Out}
-use Rattle.wire_frames.specs.declared.field.Version.{Version}
-use Rattle.wire_frames.specs.declared.field.Version.TheVariants.{One, Two}
-use Rattle.wire_frames.specs.declared.field.Field.{Field}
-use Rattle.wire_frames.specs.Layout.{field, spelled, head, code_of, subject_of, place_of, mask_of, component_fields, packet_fields, entry_fields, output_fields, IsSent, IsCaptured, BeginsWith}
+use Rattle.wire_frames.specs.declared.version.Version.{Version}
+use Rattle.wire_frames.specs.declared.version.Version.TheVariants.{One, Two}
+use Rattle.wire_frames.specs.Layout.{Field, field, spelled, head, code_of, subject_of, place_of, mask_of, component_fields, packet_fields, entry_fields, output_fields, IsSent, IsCaptured, BeginsWith}
 use Rattle.wire_frames.specs.Places.{number_at, length_at, epoch_at, thread_at, code_at, count_at, subject_at, place_at, components_place, threads_at, stamp_at, stamp_end, what_at, captured_at, packet_at, entry_at, output_at}
 use Rattle.wire_frames.proofs.Fields.{IsWidth, AreWidths, fields_at, spelled-fields_at, spelled-append}
 use Rattle.wire_frames.proofs.Facts.{Facts}

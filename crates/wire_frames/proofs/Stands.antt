@@ -5,8 +5,8 @@ use Rattle.std.proofs.lemmas.List.{length-drop}
 use Rattle.plain_text.specs.Octets.{AreBytes}
 use Rattle.plain_text.proofs.Octets.{AreBytes-drop}
 use Rattle.plain_text.specs.declared.kind.Kind.{Kind}
-use Rattle.wire_frames.specs.declared.field.Version.{Version}
-use Rattle.wire_frames.specs.declared.field.Version.TheVariants.{One, Two}
+use Rattle.wire_frames.specs.declared.version.Version.{Version}
+use Rattle.wire_frames.specs.declared.version.Version.TheVariants.{One, Two}
 use Rattle.wire_frames.specs.Layout.{spelled, mask_of, nonzero, component_fields, AreComponents}
 use Rattle.wire_frames.specs.Places.{bits_set, components, components_place, threads_at, mask_at, stamp_at, stamp_end}
 use Rattle.wire_frames.proofs.Facts.{Facts}

@@ -8,8 +8,8 @@ use Rattle.access_log.specs.declared.entry.StampedEntry.{StampedEntry}
 use Rattle.access_log.specs.declared.entry.Output.{Output}
 use Rattle.plain_text.specs.declared.kind.Kind.{Kind}
 use Rattle.plain_text.specs.declared.kind.Kind.TheVariants.{Log, Out}
-use Rattle.wire_frames.specs.declared.field.Version.{Version}
-use Rattle.wire_frames.specs.declared.field.Version.TheVariants.{One, Two}
+use Rattle.wire_frames.specs.declared.version.Version.{Version}
+use Rattle.wire_frames.specs.declared.version.Version.TheVariants.{One, Two}
 use Rattle.wire_frames.specs.declared.frame.Frame.TheVariants as frame
 use Rattle.wire_frames.specs.Layout.{field, spelled, head, code_of, subject_of, place_of, mask_of, component_fields, packet_fields, entry_fields, output_fields, IsSent, IsDone, IsCaptured}
 use Rattle.wire_frames.specs.Places.{number_at, length_at, place_at, bits_set, components, components_place, threads_at, mask_at, bits_at, stamp_at, stamp_end, what_at, captured_at, packet_from, entry_at, output_at}

@@ -1,13 +1,68 @@
 -- Frames that are written part by part.
-use Rattle.std.proofs.Common.{◌≡◌, ℕ, List, [], ◌++◌, ◌∙◌, sym, ap, append_assoc}
+use Rattle.std.proofs.Common.{◌≡◌, ℕ, ◌<◌, ◌%◌, List, [], ◌∷◌, ◌++◌, ◌∙◌, sym, ap, append_assoc, arith}
 use Rattle.access_log.specs.declared.entry.StampedEntry.{StampedEntry}
 use Rattle.access_log.specs.declared.entry.Output.{Output}
-use Rattle.wire_frames.specs.declared.field.Field.{Field}
-use Rattle.wire_frames.specs.declared.field.Version.TheVariants.{Two}
+use Rattle.wire_frames.specs.declared.version.Version.TheVariants.{Two}
 use Rattle.wire_frames.specs.declared.frame.Frame.TheVariants as frame
-use Rattle.wire_frames.specs.Layout.{spelled, nonzero, component_fields, packet_fields, bytes_of, written, written_length}
+use Rattle.wire_frames.specs.Layout.{Field, field, spelled, code_of, subject_of, place_of, mask_of, nonzero, component_fields, packet_fields, bytes_of, written, written_length}
 use Rattle.wire_frames.specs.Parts.{entry_front, output_front}
 use Rattle.wire_frames.proofs.Fields.{spelled-append}
+
+-- more fields behind those that were put
+pub put_more : (old now next : List ℕ) (fs gs : List Field) → now ≡ old ++ spelled fs → next ≡ now ++ spelled gs → next ≡ old ++ spelled (fs ++ gs)
+put_more old now next fs gs so_far more =
+    more
+    ∙ ap (λ (l : List ℕ). l ++ spelled gs) so_far
+    ∙ append_assoc old (spelled fs) (spelled gs)
+    ∙ ap (λ (l : List ℕ). old ++ l) (sym (spelled-append fs gs))
+
+pub put_two : (old a now : List ℕ) (f g : Field) → a ≡ old ++ spelled (f ∷ []) → now ≡ a ++ spelled (g ∷ []) → now ≡ old ++ spelled (f ∷ g ∷ [])
+put_two old a now f g first second = put_more old a now (f ∷ []) (g ∷ []) first second
+
+pub put_three : (old a b now : List ℕ) (f g h : Field) → a ≡ old ++ spelled (f ∷ []) → b ≡ a ++ spelled (g ∷ []) → now ≡ b ++ spelled (h ∷ [])
+    → now ≡ old ++ spelled (f ∷ g ∷ h ∷ [])
+put_three old a b now f g h first second third = put_more old b now (f ∷ g ∷ []) (h ∷ []) (put_two old a b f g first second) third
+
+pub put_four : (old a b c now : List ℕ) (f g h i : Field) → a ≡ old ++ spelled (f ∷ []) → b ≡ a ++ spelled (g ∷ []) → c ≡ b ++ spelled (h ∷ []) → now ≡ c ++ spelled (i ∷ [])
+    → now ≡ old ++ spelled (f ∷ g ∷ h ∷ i ∷ [])
+put_four old a b c now f g h i first second third fourth = put_more old c now (f ∷ g ∷ h ∷ []) (i ∷ []) (put_three old a b c f g h first second third) fourth
+
+pub put_five : (old a b c d now : List ℕ) (f g h i j : Field) → a ≡ old ++ spelled (f ∷ []) → b ≡ a ++ spelled (g ∷ []) → c ≡ b ++ spelled (h ∷ []) → d ≡ c ++ spelled (i ∷ [])
+    → now ≡ d ++ spelled (j ∷ []) → now ≡ old ++ spelled (f ∷ g ∷ h ∷ i ∷ j ∷ [])
+put_five old a b c d now f g h i j first second third fourth fifth =
+    put_more old d now (f ∷ g ∷ h ∷ i ∷ []) (j ∷ []) (put_four old a b c d f g h i first second third fourth) fifth
+
+-- a number of 8 bits is its one byte
+pub spelled-byte : (n : ℕ) → n < 256 → spelled (field 1 n ∷ []) ≡ n ∷ []
+spelled-byte n fits = let same : n % 256 ≡ n = omega arith in ap (λ (b : ℕ). b ∷ []) same
+
+-- the parts in front of the components of an entry, and of an output
+module _ (size epoch threads : ℕ) (old kind subjected now : List ℕ) where
+  pub entry_begun : (e : StampedEntry) (code subject place : ℕ) (placed : List ℕ) → code ≡ code_of e.what → subject ≡ subject_of e.what → place ≡ place_of e.what
+      → kind ≡ old ++ spelled (field 1 1 ∷ field 1 2 ∷ field 4 size ∷ [])
+      → subjected ≡ kind ++ spelled (field 4 epoch ∷ field 1 e.thread ∷ field 1 code ∷ field 8 e.number ∷ field 8 subject ∷ [])
+      → placed ≡ subjected ++ spelled (field 8 place ∷ [])
+      → now ≡ placed ++ spelled (field 1 threads ∷ field 2 (mask_of e.stamp) ∷ [])
+      → now ≡ old ++ spelled (entry_front size epoch threads e)
+  entry_begun e code subject place placed code_is subject_is place_is first second third fourth =
+      let fs = field 1 1 ∷ field 1 2 ∷ field 4 size ∷ [] in
+      let gs = field 4 epoch ∷ field 1 e.thread ∷ field 1 code ∷ field 8 e.number ∷ field 8 subject ∷ [] in
+      let front : ℕ → ℕ → ℕ → List ℕ = λ c s p.
+      old ++ spelled (fs ++ field 4 epoch ∷ field 1 e.thread ∷ field 1 c ∷ field 8 e.number ∷ field 8 s ∷ field 8 p ∷ field 1 threads ∷ field 2 (mask_of e.stamp) ∷ []) in
+      put_more old placed now ((fs ++ gs) ++ field 8 place ∷ []) (field 1 threads ∷ field 2 (mask_of e.stamp) ∷ [])
+      (put_more old subjected placed (fs ++ gs) (field 8 place ∷ []) (put_more old kind subjected fs gs first second) third) fourth
+      ∙ ap (λ (n : ℕ). front n subject place) code_is
+      ∙ ap (λ (n : ℕ). front (code_of e.what) n place) subject_is
+      ∙ ap (front (code_of e.what) (subject_of e.what)) place_is
+
+  pub output_begun : (o : Output) → kind ≡ old ++ spelled (field 1 2 ∷ field 1 2 ∷ field 4 size ∷ [])
+      → subjected ≡ kind ++ spelled (field 4 epoch ∷ field 1 o.thread ∷ field 1 0 ∷ field 8 o.number ∷ field 8 o.input ∷ [])
+      → now ≡ subjected ++ spelled (field 1 threads ∷ field 2 (mask_of o.stamp) ∷ [])
+      → now ≡ old ++ spelled (output_front size epoch threads o)
+  output_begun o first second third =
+      let fs = field 1 2 ∷ field 1 2 ∷ field 4 size ∷ [] in
+      let gs = field 4 epoch ∷ field 1 o.thread ∷ field 1 0 ∷ field 8 o.number ∷ field 8 o.input ∷ [] in
+      put_more old subjected now (fs ++ gs) (field 1 threads ∷ field 2 (mask_of o.stamp) ∷ []) (put_more old kind subjected fs gs first second) third
 
 pub entry_written : (size epoch threads : ℕ) (e : StampedEntry) (empty first components whole : List ℕ) (front : List Field)
     → empty ≡ [] → first ≡ empty ++ spelled front → front ≡ entry_front size epoch threads e → whole ≡ first ++ spelled (component_fields (nonzero components))

@@ -3,8 +3,8 @@ use Rattle.std.specs.Prelude.{◌≡◌, ℕ, ◌+◌, ◌^◌, ◌==◌, ◌&&�
 use Rattle.plain_text.specs.declared.limit.TheConstants.{MOST_CAPTURED}
 use Rattle.plain_text.specs.declared.kind.Kind.{Kind}
 use Rattle.plain_text.specs.declared.kind.Kind.TheVariants.{Log, Out}
-use Rattle.wire_frames.specs.declared.field.Version.{Version}
-use Rattle.wire_frames.specs.declared.field.Version.TheVariants.{One, Two}
+use Rattle.wire_frames.specs.declared.version.Version.{Version}
+use Rattle.wire_frames.specs.declared.version.Version.TheVariants.{One, Two}
 use Rattle.wire_frames.specs.declared.frame.Frame.{Frame}
 use Rattle.wire_frames.specs.declared.frame.FrameFault.{FrameFault}
 use Rattle.wire_frames.specs.declared.frame.FrameFault.TheVariants.{Short, BadKind, BadVersion, BadLength, OutOfRange}

@@ -6,15 +6,14 @@ use Rattle.access_log.specs.declared.entry.StampedEntry.{StampedEntry}
 use Rattle.access_log.specs.declared.entry.Output.{Output}
 use Rattle.plain_text.specs.declared.kind.Kind.{Kind}
 use Rattle.plain_text.specs.declared.kind.Kind.TheVariants.{Log, Out}
-use Rattle.wire_frames.specs.declared.field.Version.{Version}
-use Rattle.wire_frames.specs.declared.field.Version.TheVariants.{Two}
-use Rattle.wire_frames.specs.declared.field.Field.{Field}
+use Rattle.wire_frames.specs.declared.version.Version.{Version}
+use Rattle.wire_frames.specs.declared.version.Version.TheVariants.{Two}
 use Rattle.wire_frames.specs.declared.layout.Layout.{Layout}
 use Rattle.wire_frames.specs.declared.values.Common.{Common}
 use Rattle.wire_frames.specs.declared.frame.Frame.{Frame}
 use Rattle.wire_frames.specs.declared.frame.FrameError.{FrameError}
 use Rattle.wire_frames.specs.declared.frame.FrameError.TheVariants as error
-use Rattle.wire_frames.specs.Layout.{field, head, code_of, subject_of, place_of, mask_of}
+use Rattle.wire_frames.specs.Layout.{Field, field, head, code_of, subject_of, place_of, mask_of}
 use Rattle.wire_frames.specs.Places.{kind_at, version_at, length_at, threads_at, mask_at, stamp_end, epoch_at, thread_at, count_at, stamp_at, what_at, entry_at, output_at}
 use Rattle.wire_frames.specs.Faults.{first_failure, field_tests}
 

@@ -1,7 +1,7 @@
 //! The laws of frames. Each is proved, and does nothing.
 ghost use Rattle.std.specs.Prelude.{◌≡◌, ℕ, ◌/◌, ◌%◌, ◌^◌, ◌<◌, ◌==◌, if◌then◌else◌, List, ◌++◌, length, take, slice_index, None};
 ghost use Rattle.plain_text.specs.Octets.{AreBytes};
-ghost use Rattle.wire_frames.specs.declared.field.Version.TheVariants.{Two};
+ghost use Rattle.wire_frames.specs.declared.version.Version.TheVariants.{Two};
 ghost use Rattle.wire_frames.specs.declared.frame.Frame.{Frame};
 ghost use Rattle.wire_frames.specs.Faults.{frame_fault};
 ghost use Rattle.wire_frames.specs.Layout.{mask_of, written, IsOfRange, IsFrame, BeginsWith};

@@ -6,8 +6,8 @@ ghost use Rattle.wire_frames.specs.Parts.{layout_of};
 
 use crate::FrameFault;
 use crate::bytes::{byte_at, u16_at, u32_at};
-use crate::field::Version;
 use crate::stamp::bits_set;
+use crate::version::Version;
 use plain_text::{Kind, MOST_CAPTURED};
 
 /// The bytes that tell the kind, the version and the length.

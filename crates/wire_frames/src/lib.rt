@@ -6,7 +6,6 @@
 #![tactic(auto)]
 
 mod bytes;
-mod field;
 mod frame;
 mod laws;
 mod layout;
@@ -15,6 +14,7 @@ mod stamp;
 #[cfg(test)]
 mod tests;
 mod values;
+mod version;
 mod writing;
 
 pub use frame::{Frame, FrameError, FrameFault};

@@ -1,6 +1,6 @@
 ghost use Rattle.std.specs.Prelude.{◌≡◌, ◌+◌, ◌≤◌, ◌^◌, ◌<◌, ◌==◌, not, true, false, length, option_map, Some, None, IfOk, IfErr, IfSome, IfNone};
 ghost use Rattle.plain_text.specs.declared.kind.Kind.TheVariants.{Log, Out};
-ghost use Rattle.wire_frames.specs.declared.field.Version.TheVariants.{One, Two};
+ghost use Rattle.wire_frames.specs.declared.version.Version.TheVariants.{One, Two};
 ghost use Rattle.wire_frames.specs.declared.frame.FrameFault.TheVariants.{OutOfRange};
 ghost use Rattle.wire_frames.specs.Faults.{first_failure, field_tests, has_zero_component, is_not_sent, needed};
 ghost use Rattle.wire_frames.specs.Layout.{mask_of};
@@ -8,9 +8,9 @@ ghost use Rattle.wire_frames.specs.Parts.{common_at, layout_of, IsFieldCause, Is
 ghost use Rattle.wire_frames.specs.Places.{entry_at, kind_at, number_at, output_at, packet_from, stamp_at, version_at, what_at, what_from};
 
 use crate::bytes::{byte_at, u32_at, u64_at};
-use crate::field::Version;
 use crate::layout::{Layout, PACKET_HEADER, place_of_components};
 use crate::stamp::{mask_of, read_stamp};
+use crate::version::Version;
 use crate::{Frame, FrameError, FrameFault};
 use access_log::{Output, StampedEntry};
 use entry_order::What;

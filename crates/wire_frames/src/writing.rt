@@ -1,19 +1,18 @@
 ghost use Rattle.std.specs.Prelude.{◌≡◌, ◌+◌, ◌*◌, ◌^◌, ◌<◌, ◌≤◌, ◌++◌, ◌∷◌, [], ℕ, length, slice_index, OnOk, OnErr, IfOk};
-ghost use Rattle.byteorder.specs.Endian.{big_bytes};
 ghost use Rattle.plain_text.specs.declared.limit.TheConstants.{MOST_CAPTURED};
 ghost use Rattle.plain_text.specs.declared.kind.Kind.TheVariants.{Log, Out};
-ghost use Rattle.wire_frames.specs.declared.field.Version.TheVariants.{Two};
+ghost use Rattle.wire_frames.specs.declared.version.Version.TheVariants.{Two};
 ghost use Rattle.wire_frames.specs.declared.frame.Frame.TheVariants as frame;
-ghost use Rattle.wire_frames.specs.Layout.{code_of, component_fields, field, nonzero, packet_fields, place_of, spelled, subject_of, written, written_length, IsFrame};
-ghost use Rattle.wire_frames.specs.Parts.{entry_front, output_front, AreNarrow, FitsWord};
+ghost use Rattle.wire_frames.specs.Layout.{code_of, component_fields, field, head, kind_code, mask_of, nonzero, packet_fields, place_of, spelled, subject_of, written, written_length, IsFrame};
+ghost use Rattle.wire_frames.specs.Parts.{entry_front, output_front, FitsWord};
 ghost use Rattle.wire_frames.specs.Writing.{CanPutEntry, CanPutOutput};
 
-use crate::field::Field;
 use crate::stamp::{count_nonzero, mask_of};
 use access_log::{Output, StampedEntry};
 use entry_order::What;
-use plain_text::{Bytes, NoMemory, Packet};
+use plain_text::{Bytes, Kind, NoMemory, Packet};
 use std::alloc::Global;
+use thread_clock::Stamp;
 
 /// The bytes of an entry's frame without its components, and of an output's without its components and captured bytes.
 const BARE_ENTRY: usize = 39;
@@ -25,6 +24,7 @@ pub fn entry_length(entry: &StampedEntry) -> usize
     ensures value { result ≡ 39 + 8 * length (nonzero entry.now.stamp) }
     ensures written { (epoch threads : ℕ)
         → length (written (frame.Entry epoch threads entry.now)) ≡ result }
+    ensures small { result < 2 ^ 32 }
 {
     BARE_ENTRY + 8 * count_nonzero(&entry.stamp)
 }
@@ -37,6 +37,7 @@ pub fn output_length(output: &Output) -> usize
         ≡ 47 + 8 * length (nonzero output.now.stamp) + length output.now.packet.bytes }
     ensures written { (epoch threads : ℕ)
         → length (written (frame.Output epoch threads output.now)) ≡ result }
+    ensures small { result < 2 ^ 32 }
 {
     BARE_OUTPUT + 8 * count_nonzero(&output.stamp) + output.packet.bytes.len()
 }
@@ -54,7 +55,7 @@ pub fn put_entry(
 {
     let size = entry_length(entry);
     let mut frame = Bytes::from_vec(Vec::with_capacity(alloc, size)?);
-    put_fields(&mut frame, &entry_front(size as u64, epoch, threads, entry))?;
+    put_entry_front(&mut frame, size as u32, epoch, threads, entry)?;
     put_components(&mut frame, entry.stamp.components())?;
     Ok(frame)
 }
@@ -73,18 +74,15 @@ pub fn put_output(
 {
     let size = output_length(output);
     let mut frame = Bytes::from_vec(Vec::with_capacity(alloc, size)?);
-    put_fields(
-        &mut frame,
-        &output_front(size as u64, epoch, threads, output),
-    )?;
+    put_output_front(&mut frame, size as u32, epoch, threads, output)?;
     put_components(&mut frame, output.stamp.components())?;
-    put_fields(&mut frame, &packet_fields(&output.packet))?;
+    put_packet_fields(&mut frame, &output.packet)?;
     frame.extend(output.packet.bytes.as_slice())?;
     Ok(frame)
 }
 
 /// What an entry did, as its code, its variable or the value that was told, and its place.
-fn numbers_of(what: What) -> (u64, u64, u64)
+fn numbers_of(what: What) -> (u8, u64, u64)
     ensures code { result.0 ≡ code_of what }
     ensures subject { result.1 ≡ subject_of what }
     ensures place { result.2 ≡ place_of what }
@@ -98,61 +96,111 @@ fn numbers_of(what: What) -> (u64, u64, u64)
     }
 }
 
-/// The fields in front of an entry's components.
-fn entry_front(size: u64, epoch: u32, threads: u32, entry: &StampedEntry) -> [Field; 11]
-    ensures value { result ≡ entry_front size epoch threads entry.now }
-    ensures number { entry.now.number < 2 ^ 64 }
+/// Appends the fields in front of an entry's components.
+fn put_entry_front(
+    frame: &mut Bytes,
+    size: u32,
+    epoch: u32,
+    threads: u32,
+    entry: &StampedEntry,
+) -> Result<(), NoMemory>
+    requires of_these { entry.now.thread < threads }
+    requires few { threads ≤ 16 }
+    ensures spelled { OnOk result (frame.new
+        ≡ frame.old ++ spelled (entry_front size epoch threads entry.now)) }
+    ensures number { OnOk result (entry.now.number < 2 ^ 64) }
     ensures fits { FitsWord entry.now.what }
 {
     let (code, subject, place) = numbers_of(entry.what);
-    [
-        field(1, 1), // kind
-        field(1, 2), // version
-        field(4, size),
-        field(4, u64::from(epoch)),
-        field(1, u64::from(entry.thread)),
-        field(1, code),
-        field(8, entry.number),
-        field(8, subject),
-        field(8, place),
-        field(1, u64::from(threads)),
-        field(2, u64::from(mask_of(&entry.stamp))),
-    ]
+    let thread = entry.thread as u8;
+    put_kind(frame, Kind::Log, size)?;
+    put_subject(frame, epoch, thread, code, entry.number, subject)?;
+    put_u64(frame, place)?;
+    put_mask(frame, threads as u8, &entry.stamp)
 }
 
-/// The fields in front of an output's components.
-fn output_front(size: u64, epoch: u32, threads: u32, output: &Output) -> [Field; 10]
-    ensures value { result ≡ output_front size epoch threads output.now }
-    ensures number { output.now.number < 2 ^ 64 }
-    ensures input { output.now.input < 2 ^ 64 }
+/// Appends the fields in front of an output's components.
+fn put_output_front(
+    frame: &mut Bytes,
+    size: u32,
+    epoch: u32,
+    threads: u32,
+    output: &Output,
+) -> Result<(), NoMemory>
+    requires of_these { output.now.thread < threads }
+    requires few { threads ≤ 16 }
+    ensures spelled { OnOk result (frame.new
+        ≡ frame.old ++ spelled (output_front size epoch threads output.now)) }
+    ensures number { OnOk result (output.now.number < 2 ^ 64) }
+    ensures input { OnOk result (output.now.input < 2 ^ 64) }
 {
-    [
-        field(1, 2), // kind
-        field(1, 2), // version
-        field(4, size),
-        field(4, u64::from(epoch)),
-        field(1, u64::from(output.thread)),
-        field(1, 0),
-        field(8, output.number),
-        field(8, output.input),
-        field(1, u64::from(threads)),
-        field(2, u64::from(mask_of(&output.stamp))),
-    ]
+    let thread = output.thread as u8;
+    put_kind(frame, Kind::Out, size)?;
+    put_subject(frame, epoch, thread, 0, output.number, output.input)?;
+    put_mask(frame, threads as u8, &output.stamp)
 }
 
-/// The fields in front of a packet's captured bytes.
-fn packet_fields(packet: &Packet) -> [Field; 4]
-    ensures value { result ≡ packet_fields packet.now }
+/// The first byte of a frame of this kind.
+fn code_of_kind(kind: Kind) -> u8
+    ensures { result ≡ kind_code kind }
+{
+    match kind {
+        Kind::Log => 1,
+        Kind::Out => 2,
+    }
+}
+
+/// Appends the fields that tell the kind, the version and the length.
+fn put_kind(frame: &mut Bytes, kind: Kind, size: u32) -> Result<(), NoMemory>
+    ensures { OnOk result (frame.new
+        ≡ frame.old ++ spelled (field 1 (kind_code kind) ∷ field 1 2 ∷ field 4 size ∷ [])) }
+{
+    put_u8(frame, code_of_kind(kind))?;
+    put_u8(frame, 2)?; // version
+    put_u32(frame, size)
+}
+
+/// Appends the fields that tell whose entry or output it is, and what it did.
+fn put_subject(
+    frame: &mut Bytes,
+    epoch: u32,
+    thread: u8,
+    code: u8,
+    number: u64,
+    subject: u64,
+) -> Result<(), NoMemory>
+    ensures { OnOk result (frame.new ≡ frame.old ++ spelled
+        (field 4 epoch ∷ field 1 thread ∷ field 1 code ∷ field 8 number ∷ field 8 subject ∷ [])) }
+{
+    put_u32(frame, epoch)?;
+    put_u8(frame, thread)?;
+    put_u8(frame, code)?;
+    put_u64(frame, number)?;
+    put_u64(frame, subject)
+}
+
+/// Appends the number of threads, and whose components are not 0.
+fn put_mask(frame: &mut Bytes, threads: u8, stamp: &Stamp) -> Result<(), NoMemory>
+    ensures { OnOk result (frame.new
+        ≡ frame.old ++ spelled (field 1 threads ∷ field 2 (mask_of stamp.now) ∷ [])) }
+{
+    put_u8(frame, threads)?;
+    put_u16(frame, mask_of(stamp))
+}
+
+/// Appends the fields in front of a packet's captured bytes.
+fn put_packet_fields(frame: &mut Bytes, packet: &Packet) -> Result<(), NoMemory>
+    requires { length packet.now.bytes ≤ MOST_CAPTURED }
+    ensures spelled { OnOk result (frame.new ≡ frame.old ++ spelled (packet_fields packet.now)) }
     ensures seconds { packet.now.seconds < 2 ^ 32 }
     ensures fraction { packet.now.fraction < 2 ^ 32 }
     ensures original { packet.now.original < 2 ^ 32 }
 {
-    [
-        field(4, u64::from(packet.seconds)),
-        field(4, u64::from(packet.fraction)),
-        field(4, u64::from(packet.original)),
-        field(4, packet.bytes.len() as u64),
-    ]
+    let (seconds, fraction, original) = (packet.seconds, packet.fraction, packet.original);
+    put_u32(frame, seconds)?;
+    put_u32(frame, fraction)?;
+    put_u32(frame, original)?;
+    put_u32(frame, packet.bytes.len() as u32)
 }
 
 /// Appends the components that are not 0.
@@ -175,31 +223,30 @@ fn put_component(frame: &mut Bytes, component: u64) -> Result<(), NoMemory>
     if component == 0 {
         return Ok(());
     }
-    frame.extend(&component.to_be_bytes())
+    put_u64(frame, component)
 }
 
-fn field(width: usize, value: u64) -> Field
-    ensures value { result ≡ field width value }
-    ensures fits { value < 2 ^ 64 }
+/// Appends a number of 8 bits. Like the longer ones it is written in one piece, since a frame has many.
+fn put_u8(frame: &mut Bytes, value: u8) -> Result<(), NoMemory>
+    ensures { OnOk result (frame.new ≡ frame.old ++ spelled (field 1 value ∷ [])) }
 {
-    Field { width, value }
+    frame.push(value)
 }
 
-/// Appends the bytes of fields.
-fn put_fields(frame: &mut Bytes, fields: &[Field]) -> Result<(), NoMemory>
-    requires { AreNarrow fields.now }
-    ensures { OnOk result (frame.new ≡ frame.old ++ spelled fields.now) }
+fn put_u16(frame: &mut Bytes, value: u16) -> Result<(), NoMemory>
+    ensures { OnOk result (frame.new ≡ frame.old ++ spelled (field 2 value ∷ [])) }
 {
-    for field in fields {
-        put_field(frame, *field)?;
-    }
-    Ok(())
+    frame.extend(&value.to_be_bytes())
 }
 
-/// Appends the bytes of one field: the lowest ones of its value, the highest of them first.
-fn put_field(frame: &mut Bytes, field: Field) -> Result<(), NoMemory>
-    requires { field.width ≤ 8 }
-    ensures { OnOk result (frame.new ≡ frame.old ++ big_bytes field.width field.value) }
+fn put_u32(frame: &mut Bytes, value: u32) -> Result<(), NoMemory>
+    ensures { OnOk result (frame.new ≡ frame.old ++ spelled (field 4 value ∷ [])) }
 {
-    frame.extend(&field.value.to_be_bytes()[8 - field.width..])
+    frame.extend(&value.to_be_bytes())
+}
+
+fn put_u64(frame: &mut Bytes, value: u64) -> Result<(), NoMemory>
+    ensures { OnOk result (frame.new ≡ frame.old ++ spelled (field 8 value ∷ [])) }
+{
+    frame.extend(&value.to_be_bytes())
 }

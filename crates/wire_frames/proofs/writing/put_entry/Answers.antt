@@ -1,6 +1,7 @@
-use Rattle.std.proofs.Common.{◌<◌, ◌^◌, ℕ, List, ◌∙◌, sym, subst, slice_index}
+use Rattle.std.proofs.Common.{◌<◌, ◌^◌, ℕ, List, ◌∙◌, refl, sym, subst, slice_index}
 use Rattle.wire_frames.specs.declared.frame.Frame.TheVariants as frame
 use Rattle.wire_frames.specs.Layout.{IsFrame}
+use Rattle.wire_frames.specs.Parts.{entry_front}
 use Rattle.wire_frames.proofs.Ranges.{is_sent, is_done}
 use Rattle.wire_frames.proofs.Whole.{is_written}
 use Rattle.wire_frames.proofs.Written.{entry_written}
@@ -8,8 +9,9 @@ use Rattle.wire_frames.proofs.writing.put_entry.Goals as goal
 
 pub returns-clause-spelled : goal.returns-clause-spelled
 returns-clause-spelled c =
-    entry_written c.entry_length-size.result c.args.epoch c.args.threads c.args.entry.now c.from_vec-frame.result c.put_fields.new.frame c.components.result.now c.put_components.new.frame c.entry_front.result
-    (c.from_vec-frame.ensures ∙ c.in_ok-with_capacity.ensures.items) c.in_ok-put_fields.ensures c.entry_front.ensures.value c.in_ok-put_components.ensures.spelled c.components.ensures.value c.entry_length-size.ensures.value
+    entry_written c.entry_length-size.result c.args.epoch c.args.threads c.args.entry.now c.from_vec-frame.result c.put_entry_front.new.frame c.components.result.now c.put_components.new.frame
+    (entry_front c.entry_length-size.result c.args.epoch c.args.threads c.args.entry.now)
+    (c.from_vec-frame.ensures ∙ c.in_ok-with_capacity.ensures.items) c.in_ok-put_entry_front.ensures.spelled refl c.in_ok-put_components.ensures.spelled c.components.ensures.value c.entry_length-size.ensures.value
 
 pub returns-clause-frame : goal.returns-clause-frame
 returns-clause-frame c =
@@ -17,6 +19,6 @@ returns-clause-frame c =
     let f = frame.Entry c.args.epoch c.args.threads e in
     let P : List ℕ → Type 0 = λ stamp. (u : ℕ) → slice_index stamp u < 2 ^ 64 in
     let fit = subst P c.components.ensures.value c.put_components.ensures.fit in
-    let sent = is_sent c.args.epoch c.args.threads e.thread e.number e.stamp c.requires.sent c.ranges.epoch.fits c.entry_front.ensures.number c.components.ensures.all fit in
+    let sent = is_sent c.args.epoch c.args.threads e.thread e.number e.stamp c.requires.sent c.ranges.epoch.fits c.in_ok-put_entry_front.ensures.number c.components.ensures.all fit in
     let F : List ℕ → Type 0 = λ l. IsFrame l f in
-    subst F (sym (returns-clause-spelled c)) (is_written f (sent, is_done e.what c.requires.what c.entry_front.ensures.fits))
+    subst F (sym (returns-clause-spelled c)) (is_written f (sent, is_done e.what c.requires.what c.put_entry_front.ensures.fits))

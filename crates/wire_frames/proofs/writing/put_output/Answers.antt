@@ -1,6 +1,7 @@
-use Rattle.std.proofs.Common.{◌<◌, ◌++◌, ◌^◌, ℕ, List, ◌∙◌, sym, ap, subst, slice_index}
+use Rattle.std.proofs.Common.{◌<◌, ◌++◌, ◌^◌, ℕ, List, ◌∙◌, refl, sym, ap, subst, slice_index}
 use Rattle.wire_frames.specs.declared.frame.Frame.TheVariants as frame
-use Rattle.wire_frames.specs.Layout.{IsFrame, IsCaptured}
+use Rattle.wire_frames.specs.Layout.{packet_fields, IsFrame, IsCaptured}
+use Rattle.wire_frames.specs.Parts.{output_front}
 use Rattle.wire_frames.proofs.Ranges.{is_sent}
 use Rattle.wire_frames.proofs.Whole.{is_written}
 use Rattle.wire_frames.proofs.Written.{output_written}
@@ -8,9 +9,10 @@ use Rattle.wire_frames.proofs.writing.put_output.Goals as goal
 
 pub returns-clause-spelled : goal.returns-clause-spelled
 returns-clause-spelled c =
-    output_written c.output_length-size.result c.args.epoch c.args.threads c.args.output.now c.from_vec-frame.result c.put_fields.new.frame c.put_components.new.frame c.put_fields-2.new.frame c.components.result.now c.extend.new.self c.output_front.result c.packet_fields.result
-    (c.from_vec-frame.ensures ∙ c.in_ok-with_capacity.ensures.items) c.in_ok-put_fields.ensures c.output_front.ensures.value c.in_ok-put_components.ensures.spelled c.components.ensures.value
-    c.in_ok-put_fields-2.ensures c.packet_fields.ensures.value (c.in_ok-extend.ensures.ok ∙ ap (λ (l : List ℕ). c.put_fields-2.new.frame ++ l) c.as_slice.ensures) c.output_length-size.ensures.value
+    output_written c.output_length-size.result c.args.epoch c.args.threads c.args.output.now c.from_vec-frame.result c.put_output_front.new.frame c.put_components.new.frame c.put_packet_fields.new.frame c.components.result.now c.extend.new.self
+    (output_front c.output_length-size.result c.args.epoch c.args.threads c.args.output.now) (packet_fields c.args.output.now.packet)
+    (c.from_vec-frame.ensures ∙ c.in_ok-with_capacity.ensures.items) c.in_ok-put_output_front.ensures.spelled refl c.in_ok-put_components.ensures.spelled c.components.ensures.value
+    c.in_ok-put_packet_fields.ensures.spelled refl (c.in_ok-extend.ensures.ok ∙ ap (λ (l : List ℕ). c.put_packet_fields.new.frame ++ l) c.as_slice.ensures) c.output_length-size.ensures.value
 
 pub returns-clause-frame : goal.returns-clause-frame
 returns-clause-frame c =
@@ -18,12 +20,12 @@ returns-clause-frame c =
     let f = frame.Output c.args.epoch c.args.threads o in
     let P : List ℕ → Type 0 = λ stamp. (u : ℕ) → slice_index stamp u < 2 ^ 64 in
     let fit = subst P c.components.ensures.value c.put_components.ensures.fit in
-    let sent = is_sent c.args.epoch c.args.threads o.thread o.number o.stamp c.requires.sent c.ranges.epoch.fits c.output_front.ensures.number c.components.ensures.all fit in
+    let sent = is_sent c.args.epoch c.args.threads o.thread o.number o.stamp c.requires.sent c.ranges.epoch.fits c.in_ok-put_output_front.ensures.number c.components.ensures.all fit in
     let captured : IsCaptured o.packet = record {
-      seconds = c.packet_fields.ensures.seconds;
-      fraction = c.packet_fields.ensures.fraction;
-      original = c.packet_fields.ensures.original;
+      seconds = c.put_packet_fields.ensures.seconds;
+      fraction = c.put_packet_fields.ensures.fraction;
+      original = c.put_packet_fields.ensures.original;
       captured = c.requires.captured;
     } in
     let F : List ℕ → Type 0 = λ l. IsFrame l f in
-    subst F (sym (returns-clause-spelled c)) (is_written f (sent, c.requires.input, c.output_front.ensures.input, captured))
+    subst F (sym (returns-clause-spelled c)) (is_written f (sent, c.requires.input, c.in_ok-put_output_front.ensures.input, captured))

@@ -1,0 +1,11 @@
+use Rattle.std.proofs.lemmas.Result.{on_ok_weaker}
+use Rattle.wire_frames.proofs.Written.{entry_begun}
+use Rattle.wire_frames.proofs.writing.put_entry_front.Goals as goal
+
+pub returns-clause-spelled : goal.returns-clause-spelled
+returns-clause-spelled c =
+    let a = c.args in
+    let told = c.numbers_of-code.ensures in
+    on_ok_weaker c.put_mask.result (λ last.
+    entry_begun a.size a.epoch a.threads a.frame.now c.put_kind.new.frame c.put_subject.new.frame c.put_mask.new.frame a.entry.now _ _ _ c.put_u64.new.frame
+    told.code told.subject told.place c.in_ok-put_kind.ensures c.in_ok-put_subject.ensures c.in_ok-put_u64.ensures last) c.put_mask.ensures

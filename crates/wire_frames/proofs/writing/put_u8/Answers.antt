@@ -1,0 +1,7 @@
+use Rattle.std.proofs.Common.{List, ℕ, ◌++◌, ◌∙◌, sym, ap}
+use Rattle.std.proofs.lemmas.Result.{on_ok_weaker}
+use Rattle.wire_frames.proofs.Written.{spelled-byte}
+use Rattle.wire_frames.proofs.writing.put_u8.Goals as goal
+
+pub returns : goal.returns
+returns c = on_ok_weaker c.push.result (λ is. is ∙ ap (λ (l : List ℕ). c.args.frame.now ++ l) (sym (spelled-byte c.args.value c.ranges.value.fits))) c.push.ensures.ok
