@@ -131,6 +131,9 @@ fn first_of_epoch(frames: &BTreeMap<Address, Bytes>, epoch: u32) -> Option<Addre
 fn drop_up_to(frames: &mut BTreeMap<Address, Bytes>, last: Address)
     ensures { Forgets (IsUpTo last) frames.old.entries frames.new.entries }
 {
+    if frames.is_empty() {
+        return;
+    }
     while let Some(address) = first_up_to(frames, last) {
         frames.remove(&address);
     }
