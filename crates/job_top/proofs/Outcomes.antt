@@ -57,6 +57,8 @@ module _ (a b c : Shown) (keeps : KeepsOutputs a b) where
     released = r.released;
     schedule = r.schedule;
     leaves = r.leaves;
+    fit_records = r.fit_records;
+    fit_lines = r.fit_lines;
     files = files_since names s.fractions r.released _ r.report r.files;
   }
 

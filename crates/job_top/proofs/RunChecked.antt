@@ -1,6 +1,8 @@
 -- What a run left is accepted by a check.
-use Rattle.std.proofs.Common.{◌≡◌, ℕ, ◌≤◌, true, false, List, length, refl, sym, ◌∙◌, subst, Result, Ok}
-use Rattle.std.specs.Prelude.{not, nat_lt}
+use Rattle.std.proofs.Common.{◌≡◌, ℕ, ◌≤◌, true, false, List, [], ◌∷◌, length, refl, sym, ◌∙◌, subst, Result, Ok}
+use Rattle.std.specs.Prelude.{All, not, nat_lt}
+use Rattle.std.proofs.lemmas.List.Elements.{All-head, All-tail, All-weaker}
+use Rattle.plain_text.specs.Octets.{IsOfBytes}
 use Rattle.plain_text.specs.declared.packet.Packet.{Packet}
 use Rattle.plain_text.specs.declared.packet.Unit.{Unit as FractionUnit}
 use Rattle.plain_text.specs.declared.packet.Unit.TheVariants.{Micro, Nano}
@@ -19,13 +21,13 @@ use Rattle.world_io.specs.World.{Shown}
 use Rattle.recovery_laws.proofs.ScriptFiles.{leaves_accepted}
 use Rattle.schedule_check.specs.Checking.{IsChecked}
 use Rattle.schedule_check.specs.declared.checking.Checked.TheVariants.{Found}
-use Rattle.script_run.specs.Run.{HasRun}
+use Rattle.script_run.specs.Run.{FitsRecord, HasRun}
 use Rattle.input_files.specs.Judging.{IsToldOf}
 use Rattle.job_top.specs.declared.inputs.Inputs.{Inputs}
 use Rattle.job_top.specs.declared.schedule_inputs.CheckInputs.{CheckInputs}
 use Rattle.job_top.specs.declared.status.Status.{Status}
 use Rattle.job_top.specs.declared.status.Status.TheVariants as status
-use Rattle.job_top.specs.Checked.{CanBeRead, StillStand, checked}
+use Rattle.job_top.specs.Checked.{AreWithinLimits, StillStand, checked}
 use Rattle.job_top.specs.Judging.{IsDecided}
 use Rattle.job_top.specs.Run.{AcceptsInputs, outputs_of, setting_for}
 use Rattle.job_top.specs.Schedules.{AcceptsCheckInputs, AreFound, EndsCheck, JudgesCheck}
@@ -37,6 +39,10 @@ use Rattle.job_top.proofs.FilesInTurn.{four_accepted}
 is_savefile : (u : FractionUnit) (packets : List Packet) → begins_ng (written u packets) ≡ false
 is_savefile Micro packets = and_false (not (nat_lt (length (written Micro packets)) 4)) _ refl
 is_savefile Nano packets = and_false (not (nat_lt (length (written Nano packets)) 4)) _ refl
+
+are_recorded : (packets : List Packet) → All FitsRecord packets → AreRecorded packets
+are_recorded [] each = tt
+are_recorded (p ∷ packets) each = ((All-head FitsRecord p packets each).recorded, are_recorded packets (All-tail FitsRecord p packets each))
 
 reads_back : (u : FractionUnit) (packets : List Packet) → AreRecorded packets → length packets ≤ 65536 → length (written u packets) ≤ 67108864 → SaysAny (written u packets) (captured.Capture u packets)
 reads_back u packets recorded few size = record {
@@ -50,7 +56,7 @@ still_told name said a b same h = (h.0, same ∙ h.1, h.2)
 
 module _ (names : RunNames) (inputs : Inputs) (old new later : Shown) (accepted : AcceptsInputs names inputs old)
     (ran : HasRun (setting_for inputs) (outputs_of names) inputs.events old new)
-    (fits : CanBeRead inputs.capture.unit ran.released ran.schedule) (stand : StillStand names old new later) where
+    (fits : AreWithinLimits inputs.capture.unit ran.released ran.schedule) (stand : StillStand names old new later) where
   abbrev Read : CheckInputs
   Read = record {
     played = record { conf = inputs.conf; capture = inputs.capture; schedule = ran.schedule };
@@ -62,12 +68,12 @@ module _ (names : RunNames) (inputs : Inputs) (old new later : Shown) (accepted 
     played_accepted = record {
       box_accepted = still_told names.box_file _ old later stand.box_file accepted.box_accepted;
       capture_accepted = still_told names.capture _ old later stand.capture accepted.capture_accepted;
-      schedule_accepted = (schedule_text ran.schedule, stand.schedule ∙ ran.files.schedule_is, (fits.schedule_size, read_back ran.schedule fits.fit_lines, fits.few_moves));
+      schedule_accepted = (schedule_text ran.schedule, stand.schedule ∙ ran.files.schedule_is, (fits.schedule_size, read_back ran.schedule ran.fit_lines, fits.few_moves));
     };
     released_accepted = (
       written inputs.capture.unit ran.released,
       stand.released ∙ ran.files.released_is,
-      (reads_back inputs.capture.unit ran.released fits.fit_records fits.few_packets fits.released_size, fits.of_bytes),
+      (reads_back inputs.capture.unit ran.released (are_recorded ran.released ran.fit_records) fits.few_packets fits.released_size, All-weaker FitsRecord IsOfBytes (λ p fit. fit.of_bytes) ran.released ran.fit_records),
     );
   }
 

@@ -1,12 +1,10 @@
 -- The check of what a run left: with the same box and the same capture, of the schedule and the released capture that it wrote.
-use Rattle.std.specs.Prelude.{◌≡◌, ◌≤◌, All, List, length}
-use Rattle.plain_text.specs.Octets.{IsOfBytes}
+use Rattle.std.specs.Prelude.{◌≡◌, ◌≤◌, List, length}
 use Rattle.plain_text.specs.declared.limit.TheConstants.{MOST_EVENTS, MOST_FILE_BYTES, MOST_PACKETS}
 use Rattle.plain_text.specs.declared.packet.Packet.{Packet}
 use Rattle.plain_text.specs.declared.packet.Unit.{Unit as FractionUnit}
-use Rattle.pcap_io.specs.Capture.{AreRecorded, written}
+use Rattle.pcap_io.specs.Capture.{written}
 use Rattle.plain_machine.specs.declared.plain_move.PlainMove.{PlainMove}
-use Rattle.plain_player.specs.Schedules.{FitLines}
 use Rattle.plain_player.specs.ScheduleText.{schedule_text}
 use Rattle.world_io.specs.World.{Shown}
 use Rattle.job_top.specs.Words.{RunNames, CheckNames}
@@ -25,13 +23,9 @@ pub record StillStand (names : RunNames) (old new later : Shown) : Type 0 where
   pub released : later.names names.released ≡ new.names names.released
   pub schedule : later.names names.schedule ≡ new.names names.schedule
 
--- The two files are within the limits of files that are read, and their numbers fit lines and records, as those of each `PlainMove` and
--- of each `Packet` do.
-pub record CanBeRead (u : FractionUnit) (released : List Packet) (schedule : List PlainMove) : Type 0 where
+-- The schedule and the released capture are within the limits of files that are read.
+pub record AreWithinLimits (u : FractionUnit) (released : List Packet) (schedule : List PlainMove) : Type 0 where
   pub few_moves : length schedule ≤ MOST_EVENTS
   pub schedule_size : length (schedule_text schedule) ≤ MOST_FILE_BYTES
-  pub fit_lines : FitLines schedule
   pub few_packets : length released ≤ MOST_PACKETS
   pub released_size : length (written u released) ≤ MOST_FILE_BYTES
-  pub fit_records : AreRecorded released
-  pub of_bytes : All IsOfBytes released

@@ -16,7 +16,7 @@ ghost use Rattle.job_top.specs.Judging.{Judges, IsDecided};
 ghost use Rattle.job_top.specs.Schedules.{JudgesCheck, JudgesPlay};
 ghost use Rattle.script_run.specs.Run.{HasRun};
 ghost use Rattle.job_top.specs.declared.inputs.Inputs.{Inputs};
-ghost use Rattle.job_top.specs.Checked.{CanBeRead, StillStand, checked};
+ghost use Rattle.job_top.specs.Checked.{AreWithinLimits, StillStand, checked};
 ghost use Rattle.job_top.specs.Run.{AcceptsInputs, outputs_of, setting_for};
 ghost use Rattle.job_top.specs.Words.{CheckNames, PlayNames, RunNames};
 
@@ -38,18 +38,19 @@ pub fn one_verdict()
 
 /// What `run` leaves is accepted by `check`, with the same box and the same capture: the check of the schedule and the released capture is
 /// done, and no other status that the files decide is true of it. This is so for each script that leaves something by the definitions,
-/// whatever crashes and is lost in it; the files stand as the run found and left them, and are within the limits of files that are read.
+/// whatever crashes and is lost in it. The files stand as the run found and left them. The schedule and the released capture are within the
+/// limits of files that are read, 67,108,864 bytes each, 4,000,000 lines and 65,536 packets: a run may leave larger ones.
 pub fn what_run_leaves_is_accepted()
     ensures done { (healthy : Bool) (names : RunNames) (inputs : Inputs) (old new later : Shown)
         → AcceptsInputs names inputs old
         → (ran : HasRun (setting_for inputs) (outputs_of names) inputs.events old new)
-        → CanBeRead inputs.capture.unit ran.released ran.schedule
+        → AreWithinLimits inputs.capture.unit ran.released ran.schedule
         → StillStand names old new later
         → JudgesCheck (IsTrue healthy) (checked names) Status.Done later }
     ensures only { (healthy : Bool) (names : RunNames) (inputs : Inputs) (old new later : Shown)
         → AcceptsInputs names inputs old
         → (ran : HasRun (setting_for inputs) (outputs_of names) inputs.events old new)
-        → CanBeRead inputs.capture.unit ran.released ran.schedule
+        → AreWithinLimits inputs.capture.unit ran.released ran.schedule
         → StillStand names old new later → (s : Status) → IsDecided (IsTrue healthy) s
         → JudgesCheck (IsTrue healthy) (checked names) s later → s ≡ Status.Done }
 {}

@@ -7,12 +7,13 @@ use Rattle.std.specs.Str.Lines.{lines, lines_of_parts, strip_carriage_return}
 use Rattle.std.specs.Str.Parse.{AllDigits, digits_value}
 use Rattle.std.proofs.lemmas.Bool.Decides.{nat_tests}
 use Rattle.std.proofs.lemmas.Fmt.{decimal_is_IsNumeral, length-decimal-le}
+use Rattle.std.proofs.lemmas.List.Elements.{All-head, All-tail}
 use Rattle.std.proofs.lemmas.List.Splits.{slice_split-cons_yes, slice_split-cons_no}
 use Rattle.std.proofs.lemmas.Str.Parse.{digit_from_value}
 use Rattle.plain_text.specs.Lines.{is_blank, words_of, words_count, counted_from, number_of}
 use Rattle.plain_machine.specs.declared.plain_move.PlainMove.{PlainMove}
 use Rattle.plain_player.specs.ScheduleText.{answer_text, schedule_text}
-use Rattle.plain_player.specs.Schedules.{SaysMove, Begins, IsSchedule, IsAnswer, FitLines}
+use Rattle.plain_player.specs.Schedules.{SaysMove, Begins, IsSchedule, IsAnswer, FitsLine, FitLines}
 use Rattle.plain_player.proofs.OneMove.{within}
 
 -- Lists of bytes that are all above one
@@ -210,11 +211,12 @@ text_more thread answer rest =
 read_from : (n : ℕ) (moves : List PlainMove) → FitLines moves → Begins (counted_from n (schedule_text moves)) moves []
 read_from n [] fit = refl
 read_from n (plain ∷ moves) fit =
+    let line = All-head FitsLine plain moves fit in
     let says : SaysMove (words_of (written plain.thread plain.answer)) plain =
-    subst (λ (ws : List (List ℕ)). SaysMove ws plain) (sym (words_written plain.thread plain.answer fit.0 fit.1)) (words_say plain.thread plain.answer fit.0 fit.1) in
+    subst (λ (ws : List (List ℕ)). SaysMove ws plain) (sym (words_written plain.thread plain.answer line.0 line.1)) (words_say plain.thread plain.answer line.0 line.1) in
     subst (λ (ls : List (ℕ × List ℕ)). Begins ls (plain ∷ moves) [])
-    (sym (ap (counted_from n) (text_more plain.thread plain.answer (schedule_text moves)) ∙ first_counted n plain.thread plain.answer (schedule_text moves) fit.0 fit.1))
-    (says, read_from (n + 1) moves fit.2)
+    (sym (ap (counted_from n) (text_more plain.thread plain.answer (schedule_text moves)) ∙ first_counted n plain.thread plain.answer (schedule_text moves) line.0 line.1))
+    (says, read_from (n + 1) moves (All-tail FitsLine plain moves fit))
 
 pub read_back : (moves : List PlainMove) → FitLines moves → IsSchedule (schedule_text moves) moves
 read_back moves fit = read_from 1 moves fit

@@ -1,5 +1,5 @@
 -- Schedules read. Each line that counts says one move, in order; where a line says none, the first such line is the fault.
-use Rattle.std.specs.Prelude.{◌≡◌, ℕ, ◌-◌, ◌<◌, ◌^◌, List, [], ◌∷◌, length, codes, Option, Some, None}
+use Rattle.std.specs.Prelude.{◌≡◌, ℕ, ◌-◌, ◌<◌, ◌^◌, All, List, [], ◌∷◌, length, codes, Option, Some, None}
 use Rattle.plain_text.specs.declared.fault.LineCause.{LineCause}
 use Rattle.plain_text.specs.declared.fault.ReadError.{ReadError}
 use Rattle.plain_text.specs.declared.fault.ReadError.TheVariants.{Fault, TooMany, NoMemory}
@@ -76,7 +76,9 @@ abbrev pub IsAnswer : Option ℕ → Type 0
 IsAnswer None = Unit {0}
 IsAnswer (Some answer) = answer < 2 ^ 64
 
--- all threads are below 2^32, and all answers below 2^64, so that they may stand in a schedule
+-- the thread is below 2^32, and the answer below 2^64, so that they may stand in a schedule
+abbrev pub FitsLine : PlainMove → Type 0
+FitsLine plain = (plain.thread < 2 ^ 32) × IsAnswer plain.answer
+
 abbrev pub FitLines : List PlainMove → Type 0
-FitLines [] = Unit {0}
-FitLines (plain ∷ moves) = (plain.thread < 2 ^ 32) × IsAnswer plain.answer × FitLines moves
+FitLines moves = All FitsLine moves

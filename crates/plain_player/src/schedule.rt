@@ -2,8 +2,8 @@ ghost use Rattle.std.specs.Prelude.{◌≡◌, ◌≤◌, ◌++◌, Some, length
 ghost use Rattle.plain_text.specs.declared.limit.TheConstants.{MOST_EVENTS as most_lines};
 ghost use Rattle.plain_text.specs.Lines.{words_of};
 ghost use Rattle.plain_player.specs.Reading.{answer_in};
-ghost use Rattle.plain_player.specs.ScheduleText.{move_line, schedule_text};
-ghost use Rattle.plain_player.specs.Schedules.{IsSchedule, IsRefused, SaysMove, move_fault};
+ghost use Rattle.plain_player.specs.ScheduleText.{answer_text, move_line, schedule_text};
+ghost use Rattle.plain_player.specs.Schedules.{FitLines, FitsLine, IsAnswer, IsSchedule, IsRefused, SaysMove, move_fault};
 
 use plain_machine::{PlainMove, Schedule};
 use plain_text::{
@@ -81,9 +81,11 @@ fn read_answer(mut words: WordIter<'_>) -> Result<Option<u64>, LineCause>
     }
 }
 
-/// The text of a schedule: a line for each move, `T`, or `T = A` where the move is told the answer A.
+/// The text of a schedule: a line for each move, `T`, or `T = A` where the move is told the answer A. Each move fits its line, so
+/// the text is read back.
 pub fn put_schedule(alloc: Global, schedule: &Schedule) -> Result<Bytes, NoMemory>
-    ensures { IfOk result (λ text. text ≡ schedule_text schedule.now) }
+    ensures text { IfOk result (λ text. text ≡ schedule_text schedule.now) }
+    ensures fit_lines { OnOk result (FitLines schedule.now) }
 {
     let mut text = Bytes::new(alloc);
     for plain in schedule.as_slice() {
@@ -94,12 +96,24 @@ pub fn put_schedule(alloc: Global, schedule: &Schedule) -> Result<Bytes, NoMemor
 
 /// Appends the line of a move.
 fn put_move(text: &mut Bytes, plain: PlainMove) -> Result<(), NoMemory>
-    ensures { OnOk result (text.new ≡ text.old ++ move_line plain) }
+    ensures text { OnOk result (text.new ≡ text.old ++ move_line plain) }
+    ensures fits { OnOk result (FitsLine plain) }
 {
     put_u64(text, u64::from(plain.thread))?;
-    if let Some(answer) = plain.answer {
-        text.extend(b" = ")?;
-        put_u64(text, answer)?;
-    }
+    put_answer(text, plain.answer)?;
     text.push(b'\n')
+}
+
+/// Appends what a move is told, where it is told something.
+fn put_answer(text: &mut Bytes, answer: Option<u64>) -> Result<(), NoMemory>
+    ensures text { OnOk result (text.new ≡ text.old ++ answer_text answer) }
+    ensures fits { OnOk result (IsAnswer answer) }
+{
+    match answer {
+        None => Ok(()),
+        Some(answer) => {
+            text.extend(b" = ")?;
+            put_u64(text, answer)
+        }
+    }
 }

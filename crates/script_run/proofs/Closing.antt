@@ -4,6 +4,7 @@ use Rattle.std.specs.Prelude.{⊤}
 use Rattle.std.specs.Result.{IsErr}
 use Rattle.plain_machine.specs.Program.{Meaning}
 use Rattle.plain_player.specs.ScheduleText.{schedule_text}
+use Rattle.plain_player.specs.Schedules.{FitLines}
 use Rattle.world_io.specs.World.{Shown}
 use Rattle.recovery_world.specs.declared.event.Event.{Event}
 use Rattle.recovery_world.specs.World.{Setting}
@@ -36,9 +37,9 @@ module _ {P V : Type 0} (m : Meaning V) (s : Setting V) (names : OutputNames) (e
       let h = gathered_begun (writes_of names s.fractions come.replies) [] lines a b come.gathered in
       so_far_begun b (subst (λ (ws : List Write). HasBegun ws a b) (append-nil (writes_of names s.fractions come.replies)) h)
 
-  module _ (f : Finished) (ends : FinishesAs s come.world f) where
+  module _ (f : Finished) (ends : FinishesAs s come.world f) (fit : FitLines f.schedule) where
     all : WritesAll s names events (writes_of names s.fractions come.replies ++ closing_writes names (moves_made ends.steps) (done_line come.world))
-    all = record { replies = come.replies; world = come.world; answers = come.answers; steps = ends.steps; finish = ends.finish; writes_are = refl }
+    all = record { replies = come.replies; world = come.world; answers = come.answers; steps = ends.steps; finish = ends.finish; fit_records = come.fit_records; fit_lines = subst FitLines ends.schedule fit; writes_are = refl }
 
     closing_begun : (d : Shown) → HasBegun (writes_of names s.fractions come.replies ++ closing_writes names (moves_made ends.steps) (done_line come.world)) a d → HasBegunRun s names events a d
     closing_begun d h = (_, inr (inr all), h)

@@ -1,6 +1,7 @@
 -- A run goes on event by event.
 use Rattle.std.proofs.Common.{◌≡◌, ℕ, ◌+◌, ◌<◌, ◌≤◌, List, [], ◌∷◌, ◌++◌, take, drop, length, refl, sym, ap, ◌∙◌, append-nil, append_assoc, subst, inl, inr, Result, Ok, Err, zero, suc, arith, add-one, get_or}
-use Rattle.std.specs.Prelude.{⊤, IsErrOf, OnOk}
+use Rattle.std.specs.Prelude.{⊤, All, IsErrOf, OnOk}
+use Rattle.std.proofs.lemmas.List.Elements.{All-append}
 use Rattle.plain_text.specs.declared.limit.Limit.{Limit}
 use Rattle.access_log.specs.declared.entry.Output.{Output}
 use Rattle.plain_machine.specs.Program.{Meaning}
@@ -21,10 +22,11 @@ use Rattle.output_files.proofs.Effects.{gathered_begun}
 use Rattle.script_run.specs.declared.error.RunError.{RunError}
 use Rattle.script_run.specs.declared.error.RunError.TheVariants as run
 use Rattle.script_run.specs.Errors.{run_result_of, stopped_result}
-use Rattle.script_run.specs.Replies.{Reply, Answers, Goes, newly_released}
-use Rattle.script_run.specs.Run.{OutputNames, opening_writes, release_writes, reply_writes, replies_writes, writes_of, WritesUntil}
+use Rattle.script_run.specs.Replies.{Reply, Answers, Goes, newly_released, released_in}
+use Rattle.script_run.specs.Run.{OutputNames, FitsRecord, opening_writes, release_writes, reply_writes, replies_writes, writes_of, WritesUntil}
 use Rattle.plain_text.specs.declared.packet.Packet.{Packet}
 use Rattle.script_run.specs.Running.{HasBegunSome, packets_in, IsAt, ComesTo, IsSomewhere, HasCome, GoesOn}
+use Rattle.script_run.proofs.ScriptAnswers.{released_more}
 
 -- an error of a run is a write fault only where that of its outputs is
 pub fault_written : (r : Result ⊤ OutputError) → IsErrOf (run_result_of r) run.WriteFault → IsErrOf r output.WriteFault
@@ -49,8 +51,9 @@ module _ {P V : Type 0} (m : Meaning V) (s : Setting V) (names : OutputNames) (e
   pub reply_goes : (ev : Event) (reply : SystemReply) (outputs : List Output) (w : Result ⊤ OutputError) (new : Systemed P V) (more : List ℕ) (c : Shown) → ComesTo m ev (Ok reply) outputs y new
       → ((freed : List Sent) → reply.released ≡ sent_names freed
       → WritesGathered w (writes_of names s.fractions come.replies ++ reply_writes names.released (record { released = packets_in outputs; line = reply_line ev reply.outcome freed })) more a c)
+      → OnOk w (All FitsRecord (packets_in outputs))
       → GoesOn (run_result_of w) m s names (events ++ ev ∷ []) new more a c
-  reply_goes ev reply outputs w new more c comes written = go w here
+  reply_goes ev reply outputs w new more c comes written fit = go w here fit
     where
       came : (next : World V) × (freed : List Sent) × OnAny s come.world ev reply.outcome freed next × (reply.released ≡ sent_names freed) × (packets_in outputs ≡ newly_released come.world next) × IsAt m s next new
       came = comes s come.world come.at
@@ -67,6 +70,11 @@ module _ {P V : Type 0} (m : Meaning V) (s : Setting V) (names : OutputNames) (e
       here : WritesGathered w (writes_of names s.fractions (come.replies ++ r ∷ [])) more a c
       here = subst (λ (ws : List Write). WritesGathered w ws more a c) same (written came.1 came.3)
 
+      all_fit : All FitsRecord (packets_in outputs) → All FitsRecord (released_in (come.replies ++ r ∷ []))
+      all_fit each =
+          subst (All FitsRecord) (sym (released_more come.replies r))
+          (All-append FitsRecord (released_in come.replies) (newly_released come.world came.0) come.fit_records (subst (All FitsRecord) came.4 each))
+
       begun : HasBegun (writes_of names s.fractions (come.replies ++ r ∷ [])) a c → HasBegunSome s names (events ++ ev ∷ []) a c
       begun h = (
         writes_of names s.fractions (come.replies ++ r ∷ []),
@@ -74,10 +82,10 @@ module _ {P V : Type 0} (m : Meaning V) (s : Setting V) (names : OutputNames) (e
         h,
       )
 
-      go : (w : Result ⊤ OutputError) → WritesGathered w (writes_of names s.fractions (come.replies ++ r ∷ [])) more a c → GoesOn (run_result_of w) m s names (events ++ ev ∷ []) new more a c
-      go (Ok done) h = record { replies = come.replies ++ r ∷ []; world = came.0; answers = answered; at = came.5; gathered = h }
-      go (Err output.WriteFault) h = begun h
-      go (Err output.NoMemory) h = begun h
+      go : (w : Result ⊤ OutputError) → WritesGathered w (writes_of names s.fractions (come.replies ++ r ∷ [])) more a c → OnOk w (All FitsRecord (packets_in outputs)) → GoesOn (run_result_of w) m s names (events ++ ev ∷ []) new more a c
+      go (Ok done) h each = record { replies = come.replies ++ r ∷ []; world = came.0; answers = answered; at = came.5; fit_records = all_fit each; gathered = h }
+      go (Err output.WriteFault) h each = begun h
+      go (Err output.NoMemory) h each = begun h
 
   -- an event stopped at a limit, and what it released before was written
   pub stopped_goes : (ev : Event) (limit : Limit) (outputs : List Output) (w : Result ⊤ OutputError) (new : Systemed P V) (more : List ℕ) (c : Shown) → ComesTo m ev (Err (stop.Limit limit)) outputs y new

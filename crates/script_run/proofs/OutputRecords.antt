@@ -1,11 +1,12 @@
 -- The records of outputs, one after another.
 use Rattle.std.proofs.Common.{◌≡◌, ℕ, zero, suc, ◌+◌, ◌<◌, List, [], ◌∷◌, ◌++◌, take, length, sym, ap, ◌∙◌, append-nil, append_assoc, subst, arith, add-one, get_or}
 use Rattle.std.specs.Prelude.{All}
-use Rattle.std.proofs.lemmas.List.Elements.{All-head, All-tail}
+use Rattle.std.proofs.lemmas.List.Elements.{All-cons, All-head, All-nil, All-tail}
 use Rattle.pcap_io.specs.Capture.{record_of, records_of}
 use Rattle.pcap_io.specs.declared.order.Order.TheVariants as order
 use Rattle.access_log.specs.declared.entry.Output.{Output}
 use Rattle.recovery_core.specs.Parts.{IsShort}
+use Rattle.script_run.specs.Run.{FitsRecord}
 use Rattle.script_run.specs.Running.{packets_in}
 
 pub short_one : (outputs : List Output) (i : ℕ) (x : Output) → All IsShort (packets_in outputs) → i < length outputs → x ≡ get_or outputs i x → IsShort x.packet
@@ -23,3 +24,13 @@ pub records_grow : (outputs : List Output) (i : ℕ) (x : Output) (had record_by
     → now ≡ had ++ record_bytes → now ≡ records_of order.Little (packets_in (take (i + 1) outputs))
 records_grow outputs i x had bytes now low is had_is bytes_are now_is =
     rw add-one (now_is ∙ ap (λ l. l ++ bytes) had_is ∙ ap (λ l. records_of order.Little (packets_in (take i outputs)) ++ l) bytes_are ∙ sym (one_more outputs i x low is))
+
+one_more_fits : (outputs : List Output) (i : ℕ) (x : Output) → i < length outputs → x ≡ get_or outputs i x → All FitsRecord (packets_in (take i outputs)) → FitsRecord x.packet → All FitsRecord (packets_in (take (suc i) outputs))
+one_more_fits [] i x low is each fits = absurd (omega arith)
+one_more_fits (y ∷ outputs) zero x low is each fits = All-cons FitsRecord y.packet [] (subst (λ (o : Output). FitsRecord o.packet) is fits) (All-nil FitsRecord)
+one_more_fits (y ∷ outputs) (suc i) x low is each fits =
+    All-cons FitsRecord y.packet (packets_in (take (suc i) outputs)) (All-head FitsRecord y.packet (packets_in (take i outputs)) each)
+    (one_more_fits outputs i x (omega arith) is (All-tail FitsRecord y.packet (packets_in (take i outputs)) each) fits)
+
+pub fit_more : (outputs : List Output) (i : ℕ) (x : Output) → i < length outputs → x ≡ get_or outputs i x → All FitsRecord (packets_in (take i outputs)) → FitsRecord x.packet → All FitsRecord (packets_in (take (i + 1) outputs))
+fit_more outputs i x low is each fits = rw add-one (one_more_fits outputs i x low is each fits)

@@ -1,5 +1,6 @@
 -- What stands after the writes of a run.
 use Rattle.std.proofs.Common.{◌≡◌, ℕ, List, [], ◌∷◌, ◌++◌, refl, sym, ap, ◌∙◌, append-nil, append_assoc, subst, Option, Some, inl, true, false}
+use Rattle.std.specs.Prelude.{All}
 use Rattle.std.specs.Str.{bytes_eq}
 use Rattle.plain_text.specs.declared.limit.Limit.{Limit}
 use Rattle.plain_text.specs.declared.packet.Packet.{Packet}
@@ -16,7 +17,7 @@ use Rattle.recovery_laws.proofs.ReleasedOutputs.{stops_grow}
 use Rattle.output_files.specs.Writes.{report_file, Write, after_write, after_writes, reported, HasWritten, HasBegun}
 use Rattle.output_files.proofs.Effects.{Compared, IsSame, Differs, compared, reported_more, begun_before}
 use Rattle.script_run.specs.Replies.{Reply, Opens, newly_released, released_in, lines_in}
-use Rattle.script_run.specs.Run.{OutputNames, opening_writes, release_writes, replies_writes, writes_of, closing_writes, WritesUntil, WritesAll, HasFiles, HasRun, HasStopped, HasBegunRun}
+use Rattle.script_run.specs.Run.{OutputNames, FitsRecord, opening_writes, release_writes, replies_writes, writes_of, closing_writes, WritesUntil, WritesAll, HasFiles, HasRun, HasStopped, HasBegunRun}
 use Rattle.script_run.proofs.ScriptAnswers.{answers_perform, answers_release, released_then}
 
 after_more : (name : List ℕ) (first more : List Write) (had : Option (List ℕ)) → after_writes name (first ++ more) had ≡ after_writes name more (after_writes name first had)
@@ -132,6 +133,8 @@ has_run s names events writes a b apart all w =
         finish = all.finish;
         schedule_is = refl;
       };
+      fit_records = subst (All FitsRecord) (sym (answers_release s events all.replies all.world all.answers)) all.fit_records;
+      fit_lines = all.fit_lines;
       files = files_of names s.fractions (packets_of all.world.released) (released_in all.replies) _ _ a b (answers_release s events all.replies all.world all.answers) files;
     }
 

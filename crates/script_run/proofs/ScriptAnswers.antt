@@ -22,7 +22,7 @@ lines_more : (replies : List Reply) (r : Reply) → lines_in (replies ++ r ∷ [
 lines_more [] r = append-nil r.line
 lines_more (x ∷ replies) r = ap (λ l. x.line ++ l) (lines_more replies r) ∙ sym (append_assoc x.line (lines_in replies) r.line)
 
-released_more : (replies : List Reply) (r : Reply) → released_in (replies ++ r ∷ []) ≡ released_in replies ++ r.released
+pub released_more : (replies : List Reply) (r : Reply) → released_in (replies ++ r ∷ []) ≡ released_in replies ++ r.released
 released_more [] r = append-nil r.released
 released_more (x ∷ replies) r = ap (λ l. x.released ++ l) (released_more replies r) ∙ sym (append_assoc x.released (released_in replies) r.released)
 

@@ -1,6 +1,7 @@
 -- A run from its opening to its end.
 use Rattle.std.proofs.Common.{◌≡◌, ℕ, List, [], ◌∷◌, refl, sym, ap, ◌∙◌, append-nil, subst, inl, inr, Result, Ok, Err}
 use Rattle.std.specs.Prelude.{⊤, OnOk, IsTrue, ◌||◌, nat_eq, Bool, true, false}
+use Rattle.std.proofs.lemmas.List.Elements.{All-nil}
 use Rattle.plain_text.specs.declared.limit.Limit.{Limit}
 use Rattle.access_log.specs.declared.entry.Output.{Output}
 use Rattle.plain_machine.specs.Program.{Meaning}
@@ -17,7 +18,7 @@ use Rattle.script_run.specs.declared.error.RunError.{RunError}
 use Rattle.script_run.specs.declared.error.RunError.TheVariants as run
 use Rattle.script_run.specs.Errors.{run_error_of, run_result_of}
 use Rattle.script_run.specs.Replies.{Opens}
-use Rattle.script_run.specs.Run.{OutputNames, opening_writes, writes_of, HasRun, HasStopped, HasBegunRun, Finishes}
+use Rattle.script_run.specs.Run.{OutputNames, FitsRecord, opening_writes, writes_of, HasRun, HasStopped, HasBegunRun, Finishes}
 use Rattle.script_run.specs.Running.{packets_in, IsAt, HasCome, HasBegunSome, GoesOn}
 use Rattle.script_run.proofs.RunWrites.{has_run, has_stopped}
 
@@ -40,6 +41,7 @@ opens {P} {V} m s names y lines a b none at w = record {
   world = opening V;
   answers = Opens;
   at = at;
+  fit_records = All-nil FitsRecord;
   gathered = subst (λ (l : List ℕ). HasGathered (writes_of names s.fractions []) l a b) (sym none)
       (none_gathered (writes_of names s.fractions []) a b (subst (λ (ws : List Write). HasWritten ws a b) (sym (append-nil (opening_writes names s.fractions))) w));
 }

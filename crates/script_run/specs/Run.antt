@@ -1,15 +1,17 @@
 -- What the command `run` writes, and in which order: the released capture gets its header, and the schedule is created; then, event
 -- by event, the records of what it released, and its line of the report; and then the schedule, and the last line.
 use Rattle.std.specs.Prelude.{◌≡◌, ◌⊎◌, ℕ, ◌≤◌, All, List, [], ◌∷◌, ◌++◌, Some, Result, Ok, Err, ⊤}
+use Rattle.plain_text.specs.Octets.{IsOfBytes}
 use Rattle.plain_text.specs.declared.limit.Limit.{Limit}
 use Rattle.plain_text.specs.declared.packet.Packet.{Packet}
 use Rattle.plain_text.specs.declared.packet.Unit.{Unit as FractionUnit}
-use Rattle.pcap_io.specs.Capture.{written, written_header, records_of}
+use Rattle.pcap_io.specs.Capture.{IsRecorded, written, written_header, records_of}
 use Rattle.pcap_io.specs.declared.order.Order.TheVariants as order
 use Rattle.plain_machine.specs.declared.plain_move.PlainMove.{PlainMove}
 use Rattle.plain_machine.specs.Program.{Meaning}
 use Rattle.plain_machine.specs.History.{Step}
 use Rattle.plain_player.specs.ScheduleText.{schedule_text}
+use Rattle.plain_player.specs.Schedules.{FitLines}
 use Rattle.world_io.specs.World.{Shown}
 use Rattle.recovery_world.specs.declared.event.Event.{Event}
 use Rattle.recovery_world.specs.World.{Setting, World}
@@ -21,7 +23,7 @@ use Rattle.recovery_core.specs.Performing.{IsPerformed}
 use Rattle.output_files.specs.Writes.{report_file, Write, Creates, Appends, Reports, HasWritten, HasBegun}
 use Rattle.script_run.specs.declared.run.ScriptRun.{ScriptRun}
 use Rattle.script_run.specs.declared.run.RunFiles.{RunFiles}
-use Rattle.script_run.specs.Replies.{Reply, Answers, newly_released}
+use Rattle.script_run.specs.Replies.{Reply, Answers, newly_released, released_in}
 
 -- The inputs of a run, and its outputs
 
@@ -51,6 +53,11 @@ abbrev pub names_of : RunFiles → OutputNames
 names_of files = record { released = files.released.now; schedule = files.schedule.now }
 
 -- The writes
+
+-- a packet fits a record, and is of bytes
+pub record FitsRecord (p : Packet) : Type 0 where
+  pub recorded : IsRecorded p
+  pub of_bytes : IsOfBytes p
 
 abbrev pub opening_writes : OutputNames → FractionUnit → List Write
 opening_writes names u = Creates names.released ∷ Appends names.released (written_header u) ∷ Creates names.schedule ∷ []
@@ -102,6 +109,8 @@ pub record WritesAll {V : Type 0} (s : Setting V) (names : OutputNames) (events 
   pub answers : Answers s events replies world
   pub steps : List (Step V)
   pub finish : IsFinish s world steps
+  pub fit_records : All FitsRecord (released_in replies)
+  pub fit_lines : FitLines (moves_made steps)
   pub writes_are : writes ≡ writes_of names s.fractions replies ++ closing_writes names (moves_made steps) (done_line world)
 
 -- a run of these events writes this, so far as it comes
@@ -127,12 +136,14 @@ pub record HasFiles (names : OutputNames) (u : FractionUnit) (released : List Pa
   pub report_is : new.sent report_file ≡ old.sent report_file ++ report
   pub others : KeepsOthers names old new
 
--- the outputs are the files that the events leave
+-- the outputs are the files that the events leave; what was released fits records, and the moves fit lines
 pub record HasRun {V : Type 0} (s : Setting V) (names : OutputNames) (events : List Event) (old new : Shown) : Type 0 where
   pub report : List ℕ
   pub released : List Packet
   pub schedule : List PlainMove
   pub leaves : Leaves s events report released schedule
+  pub fit_records : All FitsRecord released
+  pub fit_lines : FitLines schedule
   pub files : HasFiles names s.fractions released (schedule_text schedule) report old new
 
 -- An event stopped at this limit: the report has the lines of those before it, the released capture has all that was released

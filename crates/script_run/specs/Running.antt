@@ -16,8 +16,8 @@ use Rattle.recovery_core.specs.declared.reply.Finished.{Finished}
 use Rattle.recovery_core.specs.Parts.{IsShort, Systemed}
 use Rattle.recovery_core.specs.Standing.{StandsFor}
 use Rattle.output_files.specs.Writes.{Write, HasWritten, HasBegun, HasGathered}
-use Rattle.script_run.specs.Replies.{Reply, Answers, newly_released}
-use Rattle.script_run.specs.Run.{OutputNames, writes_of, WritesSome, WritesUntil}
+use Rattle.script_run.specs.Replies.{Reply, Answers, newly_released, released_in}
+use Rattle.script_run.specs.Run.{OutputNames, FitsRecord, writes_of, WritesSome, WritesUntil}
 use Rattle.script_run.specs.declared.error.RunError.{RunError}
 use Rattle.script_run.specs.declared.error.RunError.TheVariants as run
 
@@ -56,6 +56,7 @@ pub record HasCome {P V : Type 0} (m : Meaning V) (s : Setting V) (names : Outpu
   pub world : World V
   pub answers : Answers s events replies world
   pub at : IsAt m s world y
+  pub fit_records : All FitsRecord (released_in replies)
   pub gathered : HasGathered (writes_of names s.fractions replies) lines old new
 
 -- An event stopped at a limit, and all that is to be written until then was written.

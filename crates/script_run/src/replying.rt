@@ -1,5 +1,5 @@
-ghost use Rattle.std.specs.Prelude.{◌≡◌, ◌++◌, ℕ, All, List, IfOk, IsTrue, IsErrOf};
-ghost use Rattle.pcap_io.specs.Capture.{records_of};
+ghost use Rattle.std.specs.Prelude.{◌≡◌, ◌++◌, ℕ, All, List, IfOk, OnOk, IsTrue, IsErrOf};
+ghost use Rattle.pcap_io.specs.Capture.{record_of, records_of};
 ghost use Rattle.pcap_io.specs.declared.order.Order.TheVariants as order;
 ghost use Rattle.recovery_world.specs.World.{Sent};
 ghost use Rattle.recovery_world.specs.Files.{reply_line, sent_names};
@@ -8,13 +8,13 @@ ghost use Rattle.world_io.specs.Stream.{Rose};
 ghost use Rattle.world_io.specs.World.{Shown, KeepsLedgerWriting, is_writable};
 ghost use Rattle.output_files.specs.Writes.{Write, HasGathered, IsOutput, KeepsOutputs};
 ghost use Rattle.output_files.specs.Written.{Writes, WritesGathered};
-ghost use Rattle.script_run.specs.Run.{release_writes, reply_writes};
+ghost use Rattle.script_run.specs.Run.{FitsRecord, release_writes, reply_writes};
 ghost use Rattle.script_run.specs.Running.{counts_line, packets_in};
 
 use access_log::Output;
 use output_files::{OutputError, write_lines, write_records};
 use pcap_io::put_packet;
-use plain_text::{Bytes, NoMemory, put_u64};
+use plain_text::{Bytes, NoMemory, Packet, put_u64};
 use recovery_core::{Finished, Reply, put_line};
 use recovery_world::Event;
 use std::alloc::Global;
@@ -23,14 +23,28 @@ use world_io::World;
 /// The bytes of lines that are gathered before they are written, at most, but for the last line.
 const GATHERED: usize = 65_536;
 
+/// The record of a packet, which fits it: its numbers have 32 bits, and its bytes 8.
+fn put_record(alloc: Global, packet: &Packet) -> Result<Bytes, NoMemory>
+    requires { IsShort packet.now }
+    ensures bytes { IfOk result (λ bytes. bytes ≡ record_of order.Little packet.now) }
+    ensures fits { FitsRecord packet.now }
+{
+    // What is read is known to be of its type.
+    let _numbers = [packet.seconds, packet.fraction, packet.original];
+    let _bytes = packet.bytes.as_slice();
+    put_packet(alloc, packet)
+}
+
 /// The records of the packets of outputs, in order.
 pub fn put_outputs(alloc: Global, outputs: &[Output]) -> Result<Bytes, NoMemory>
     requires { All IsShort (packets_in outputs.now) }
-    ensures { IfOk result (λ bytes. bytes ≡ records_of order.Little (packets_in outputs.now)) }
+    ensures records { IfOk result
+        (λ bytes. bytes ≡ records_of order.Little (packets_in outputs.now)) }
+    ensures fit_records { OnOk result (All FitsRecord (packets_in outputs.now)) }
 {
     let mut records = Bytes::new(alloc);
     for output in outputs {
-        let record = put_packet(alloc, &output.packet)?;
+        let record = put_record(alloc, &output.packet)?;
         records.extend(record.as_slice())?;
     }
     Ok(records)
@@ -70,6 +84,7 @@ pub fn write_reply<W: World>(
           released = packets_in outputs.now;
           line = reply_line event.now reply.now.outcome freed;
         })) lines.new before (W.shown world.new) }
+    ensures fit_records { OnOk result (All FitsRecord (packets_in outputs.now)) }
     ensures outputs { IsTrue W.tells → KeepsOutputs (W.shown world.old) (W.shown world.new) }
     ensures ledger { KeepsLedgerWriting (W.ledger world.old) (W.ledger world.new) }
     ensures cause { IsErrOf result OutputError.WriteFault

@@ -1,11 +1,13 @@
 use Rattle.std.proofs.Common.{◌++◌, arith, ap, ◌∙◌}
-use Rattle.script_run.proofs.OutputRecords.{short_one, records_grow}
+use Rattle.script_run.proofs.OutputRecords.{short_one, records_grow, fit_more}
 use Rattle.script_run.proofs.replying.put_outputs.Goals as goal
 
-pub put_packet-requires : goal.put_packet-requires
-put_packet-requires c = short_one c.args.outputs.now c.loop-output.output-index c.output-item.result c.requires (omega arith) c.output-item.is
+pub put_record-requires : goal.put_record-requires
+put_record-requires c = short_one c.args.outputs.now c.loop-output.output-index c.output-item.result c.requires (omega arith) c.output-item.is
 
 pub loop-output-preserved : goal.loop-output-preserved
-loop-output-preserved c =
-    records_grow c.args.outputs.now c.loop-output.output-index c.output-item.result _ _ _ (omega arith) c.output-item.is c.loop-output.invariant c.in_ok-record.ensures
-    (c.in_ok-extend.ensures.ok ∙ ap (λ l. c.loop-output.records ++ l) c.as_slice.ensures)
+loop-output-preserved c = record {
+  records = records_grow c.args.outputs.now c.loop-output.output-index c.output-item.result _ _ _ (omega arith) c.output-item.is c.loop-output.invariant.records c.in_ok-record.ensures.bytes
+      (c.in_ok-extend.ensures.ok ∙ ap (λ l. c.loop-output.records ++ l) c.as_slice.ensures);
+  fit = fit_more c.args.outputs.now c.loop-output.output-index c.output-item.result (omega arith) c.output-item.is c.loop-output.invariant.fit c.in_ok-record.ensures.fits;
+}

@@ -22,7 +22,8 @@ returns-in-Ok-clause-told g c told s names events before is come =
     let here = subst (λ (l : List Output). ComesTo m c.args.event.now (Ok c.in-Ok.reply) l c.args.system.now c.perform-reply.new.system) (sym c.as_slice-outputs.ensures) comes in
     rw c.written.ensures
     (reply_goes m s names events c.args.system.now c.args.lines.now before _ come c.args.event.now c.in-Ok.reply c.as_slice-outputs.result.now c.write_reply-files.result c.perform-reply.new.system _ _ here
-    (λ freed names_are. c.write_reply-files.ensures.told told before _ names.released freed is names_are come.gathered))
+    (λ freed names_are. c.write_reply-files.ensures.told told before _ names.released freed is names_are come.gathered)
+    c.write_reply-files.ensures.fit_records)
 
 pub returns-in-Limit-clause-told : goal.returns-in-Limit-clause-told
 returns-in-Limit-clause-told g c told s names events before is come =
