@@ -390,11 +390,39 @@ fn first_wrong_read(alloc: Global) -> Result<Option<u64>, NoMemory> {
     Ok(None)
 }
 
+/// The reads of the case `EMITTED`, of three files.
+const READS_TO_PLAY: u64 = 9;
+
+/// Whether a play whose calls of reading fail at this one comes to what the case says.
+fn plays_where_reading_fails(alloc: Global, nth: u64, case: Case<'_>) -> Result<bool, NoMemory> {
+    let mut world = MemoryWorld::new(alloc)?;
+    world.fail_read(nth)?;
+    plays_in(alloc, &mut world, case)
+}
+
+/// The first of the reads of a play that fails, and does not come to a read fault with OUT not created and nothing reported.
+fn first_wrong_read_to_play(alloc: Global) -> Result<Option<u64>, NoMemory> {
+    let read_fault = Case {
+        released: None,
+        status: Status::ReadFault,
+        report: b"",
+        ..EMITTED
+    };
+    for nth in 1..READS_TO_PLAY + 1 {
+        if !plays_where_reading_fails(alloc, nth, read_fault)? {
+            return Ok(Some(nth));
+        }
+    }
+    Ok(None)
+}
+
 #[test]
 fn names_a_read_that_failed(rt: HostRuntime) -> Result<(), Fail> {
     let alloc = rt.alloc();
     assert_eq!(rt; first_wrong_read(alloc)?, None);
     assert!(rt; checks_where_reading_fails(alloc, READS + 1, FOUND)?);
+    assert_eq!(rt; first_wrong_read_to_play(alloc)?, None);
+    assert!(rt; plays_where_reading_fails(alloc, READS_TO_PLAY + 1, EMITTED)?);
     Ok(())
 }
 
