@@ -25,6 +25,7 @@ pub mod FinishLemmas
 pub mod ReadLemmas
 pub mod OpeningLemmas
 pub mod RepliesLemmas
+pub mod ChoosingLemmas
 pub mod ThreadCounts
 pub mod Arrivals
 pub mod RecoveryLinks

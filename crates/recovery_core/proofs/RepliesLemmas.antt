@@ -1,5 +1,5 @@
 -- What a single event comes to is what any event comes to.
-use Rattle.std.proofs.Common.{◌≡◌, [], refl, sym, subst}
+use Rattle.std.proofs.Common.{◌≡◌, ℕ, [], refl, sym, subst}
 use Rattle.plain_text.specs.declared.limit.Limit.{Limit}
 use Rattle.plain_machine.specs.Program.{Meaning}
 use Rattle.recovery_world.specs.declared.event.Event.{Event}
@@ -10,6 +10,7 @@ use Rattle.recovery_world.specs.Many.{Single, SingleStops}
 use Rattle.recovery_core.specs.declared.reply.Reply.{Reply}
 use Rattle.recovery_core.specs.Parts.{Parts}
 use Rattle.recovery_core.specs.Standing.{StandsFor, StandsForSome}
+use Rattle.recovery_core.specs.Choosing.{ChoosesTo}
 use Rattle.recovery_core.specs.Performing.{MovesOn, StopsAt, ComesTo, Replies, RepliesAny, SettlesTo, IsStopped, WouldPass}
 
 -- a reply that releases nothing
@@ -41,3 +42,16 @@ pub moves_some : {P V : Type 0} (mean : P → Meaning V) (R : Setting V → Worl
 moves_some {P} {V} mean R old new moves some =
     let r = moves.2 some.0 some.1 some.2 in
     (some.0, r.0, subst (λ (p : P). StandsFor (mean p) some.0 r.0 new) (sym moves.0) r.2)
+
+-- the same, as the reply of a single event
+pub comes_to : {P V : Type 0} (m : Meaning V) (ev : Event) (to : Outcome) (reply : Reply) (old new : Parts P V) → reply ≡ only to → MovesOn m (ComesTo ev to) old new → MovesOn m (Replies ev reply) old new
+comes_to {P} {V} m ev to reply old new is moves = subst (λ (r : Reply). MovesOn m (Replies ev r) old new) (sym is)
+    (moves.0, moves.1, λ s w st. let r = moves.2 s w st in (r.0, ([], r.1, refl), r.2))
+
+pub looks_to : {P V : Type 0} (m : Meaning V) (ev : Event) (to : Outcome) (reply : Reply) (y : Parts P V) → reply ≡ only to → ((s : Setting V) (w : World V) → StandsFor m s w y → ComesTo ev to s w w) → MovesOn m (Replies ev reply) y y
+looks_to {P} {V} m ev to reply y is on = comes_to m ev to reply y y is (refl, refl, λ s w st. (w, on s w st, st))
+
+-- what chosen events come to
+pub chooses_any : {P V : Type 0} (m : Meaning V) (seed n : ℕ) (to : Outcome) (reply : Reply) (old new : Parts P V) → reply ≡ only to → MovesOn m (ChoosesTo seed n to) old new → MovesOn m (RepliesAny (event.Auto seed n) reply) old new
+chooses_any {P} {V} m seed n to reply old new is moves = subst (λ (r : Reply). MovesOn m (RepliesAny (event.Auto seed n) r) old new) (sym is)
+    (moves.0, moves.1, λ s w st. let r = moves.2 s w st in (r.0, ([], r.1, refl), r.2))

@@ -8,4 +8,5 @@ pub mod Stepping
 pub mod Arriving
 pub mod Recovering
 pub mod Settling
+pub mod Choosing
 pub mod Performing

@@ -32,7 +32,7 @@ IsPerformed event.Crash = Unit {0}
 IsPerformed event.Recover = Unit {0}
 IsPerformed (event.Show v) = Unit {0}
 IsPerformed event.Settle = Unit {0}
-IsPerformed (event.Auto seed n) = ⊥
+IsPerformed (event.Auto seed n) = Unit {0}
 
 -- The world moved so, from any that the system stood for, and the system stands for it now. Nothing was handed over.
 abbrev pub MovesOn : {P V : Type 0} → Meaning V → (Setting V → World V → World V → Type 0) → Parts P V → Parts P V → Type 0

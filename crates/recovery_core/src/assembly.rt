@@ -21,7 +21,7 @@ use std::alloc::Global;
 use std::marker::Model;
 
 /// The stream of the generator from which free draws are answered.
-const STREAM: u64 = 54;
+pub const STREAM: u64 = 54;
 
 /// More packets than this are taken for more than memory has.
 const MOST_PACKETS: usize = 1 << 50;

@@ -8,10 +8,12 @@
 
 mod arriving;
 mod assembly;
+mod choosing;
 mod crashing;
 mod ending;
 mod feeding;
 mod lines;
+mod performing;
 mod reply;
 mod sending;
 mod settling;

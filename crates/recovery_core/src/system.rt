@@ -10,20 +10,17 @@ ghost use Rattle.recovery_core.specs.Parts.{IsShort};
 ghost use Rattle.recovery_core.specs.Standing.{HasReleased, StandsFor, StandsForSome};
 ghost use Rattle.recovery_core.specs.Performing.{AddsFresh, IsPerformed, MovesOn, StopsAt, RepliesAny, IsStopped, FinishesAs};
 
-use crate::arriving::{arrive, arrive_cut, arrive_late, only};
+use crate::arriving::only;
 use crate::assembly::Core;
-use crate::crashing::{crash, recover};
+use crate::choosing::auto;
 use crate::ending::end;
-use crate::feeding::{feed, set_time};
+use crate::performing::perform_single;
 use crate::settling::settle;
-use crate::showing::show;
-use crate::snapshots::{snap, store};
-use crate::stepping::step;
 use crate::{Finished, Reply, Stop};
 use access_log::Outputs;
 use box_program::Program;
 use master_core::Counts;
-use plain_text::{Kind, NoMemory, Packets, Unit};
+use plain_text::{NoMemory, Packets, Unit};
 use recovery_world::Event;
 use std::alloc::Global;
 use std::marker::Model;
@@ -52,12 +49,11 @@ impl<P: Program> Model for System<P> {
     ghost invariant = { λ y. y.stopped ≡ false → StandsForSome (P.meaning y.core.program) y.core };
 }
 
-/// Whether a system performs such an event: any but chosen events.
+/// Whether a system performs such an event: it performs any.
 pub fn is_performed(event: &Event) -> bool
     ensures { IsTrue result ↔ IsPerformed event.now }
 {
     match event {
-        Event::Auto { .. } => false,
         Event::Feed(_)
         | Event::Time(_)
         | Event::Step { .. }
@@ -70,14 +66,14 @@ pub fn is_performed(event: &Event) -> bool
         | Event::Crash
         | Event::Recover
         | Event::Show(_)
-        | Event::Settle => true,
+        | Event::Settle
+        | Event::Auto { .. } => true,
     }
 }
 
 /// Performs an event.
 fn perform<P: Program>(core: &mut Core<P>, event: Event) -> Result<Reply, Stop>
     requires stands { StandsForSome (P.meaning core.old.program) core.old }
-    requires built { IsPerformed event }
     ensures on { IfOk result (λ reply. MovesOn (P.meaning core.old.program) (RepliesAny event reply) core.old core.new) }
     ensures limit { (limit : LimitKind) → result ≡ Err (Stop.Limit limit)
         → StopsAt (P.meaning core.old.program) (IsStopped event limit) core.old core.new }
@@ -86,30 +82,9 @@ fn perform<P: Program>(core: &mut Core<P>, event: Event) -> Result<Reply, Stop>
 {
     let alloc = core.alloc;
     match event {
-        Event::Feed(n) => Ok(only(alloc, feed(core, n)?)),
-        Event::Time(n) => Ok(only(alloc, set_time(core, n))),
-        Event::Step { thread, answer } => Ok(only(alloc, step(core, thread, answer)?)),
-        Event::Log { thread, number } => Ok(arrive(core, Kind::Log, thread, number)?),
-        Event::Out { thread, number } => Ok(arrive(core, Kind::Out, thread, number)?),
-        Event::Late {
-            epoch,
-            kind,
-            thread,
-            number,
-        } => Ok(arrive_late(core, epoch, kind, thread, number)?),
-        Event::Cut {
-            kind,
-            thread,
-            number,
-            length,
-        } => Ok(arrive_cut(core, kind, thread, number, length)?),
-        Event::Snap => Ok(only(alloc, snap(core)?)),
-        Event::Store => Ok(store(core)?),
-        Event::Crash => Ok(only(alloc, crash(core))),
-        Event::Recover => Ok(only(alloc, recover(core)?)),
-        Event::Show(var) => Ok(only(alloc, show(core, var)?)),
         Event::Settle => Ok(only(alloc, settle(core)?)),
-        Event::Auto { .. } => unreachable!(),
+        Event::Auto { seed, n } => Ok(only(alloc, auto(core, seed, n)?)),
+        single => perform_single(core, single),
     }
 }
 
@@ -144,13 +119,12 @@ impl<P: Program> System<P> {
         })
     }
 
-    /// Performs one event: any but chosen events.
+    /// Performs one event.
     ///
     /// After an error the system is stopped. Of a limit, what the event released before the move that would pass it is there to be
     /// taken; where memory ran out, nothing that the event released.
     pub fn on(&mut self, event: &Event) -> Result<Reply, Stop>
         requires runs { self.old.stopped ≡ false }
-        requires performed { IsPerformed event.now }
 
         // For every world that the system stood for, it stands for that of the event, and the reply is that of the event.
         ensures on { IfOk result (λ reply.

@@ -1,94 +1,28 @@
 use Rattle.std.proofs.Common.{◌≡◌, Err, sym, subst}
-use Rattle.std.proofs.lemmas.Result.{err_from_is_err_and}
+use Rattle.std.proofs.lemmas.Result.{err_from_is_err_and, IfOk-weaker}
 use Rattle.recovery_world.specs.declared.event.Event.TheVariants as event
 use Rattle.recovery_core.specs.declared.reply.Stop.TheVariants as stop
 use Rattle.recovery_core.specs.Performing.{MovesOn, StopsAt, RepliesAny, IsStopped}
-use Rattle.recovery_core.proofs.RepliesLemmas.{comes_any, replies_any, settles_any, looks_any, stops_any}
+use Rattle.recovery_core.proofs.RepliesLemmas.{replies_any, settles_any, chooses_any, stops_any}
 use Rattle.recovery_core.proofs.system.perform.Goals as goal
-
-pub returns-in_err-step-in-Step-clause-limit : goal.returns-in_err-step-in-Step-clause-limit
-returns-in_err-step-in-Step-clause-limit g c = λ limit is.
-    let m = g.P.Program.meaning c.args.core.now.program in
-    let p = err_from_is_err_and c.from_residual-in_err-step-in-Step.result c.from_residual-in_err-step-in-Step.ensures.1 in
-    let was : c.step.result ≡ Err c.in_err-step-in-Step.field-0.0 = c.in_err-step-in-Step.was in
-    let there : c.step.result ≡ Err (stop.Limit limit) = cc in
-    subst (λ e. StopsAt m (IsStopped e limit) c.args.core.now c.step.new.core) (sym c.in-Step.is)
-    (stops_any m (event.Step c.in-Step.thread c.in-Step.answer) limit c.args.core.now c.step.new.core (c.step.ensures.limit limit there))
-
-pub returns-in_ok-feed-in-Feed-clause-on : goal.returns-in_ok-feed-in-Feed-clause-on
-returns-in_ok-feed-in-Feed-clause-on g c =
-    let m = g.P.Program.meaning c.args.core.now.program in
-    subst (λ e. MovesOn m (RepliesAny e c.only.result) c.args.core.now c.feed.new.core) (sym c.in-Feed.is)
-    (comes_any m (event.Feed c.in-Feed.n) c.in_ok-feed-in-Feed.field-0 c.only.result c.args.core.now c.feed.new.core c.only.ensures c.in_ok-feed-in-Feed.ensures.on)
-
-pub returns-in-Time-clause-on : goal.returns-in-Time-clause-on
-returns-in-Time-clause-on g c =
-    let m = g.P.Program.meaning c.args.core.now.program in
-    subst (λ e. MovesOn m (RepliesAny e c.only-in-Time.result) c.args.core.now c.set_time.new.core) (sym c.in-Time.is)
-    (comes_any m (event.Time c.in-Time.n) c.set_time.result c.only-in-Time.result c.args.core.now c.set_time.new.core c.only-in-Time.ensures c.set_time.ensures.on)
-
-pub returns-in_ok-step-in-Step-clause-on : goal.returns-in_ok-step-in-Step-clause-on
-returns-in_ok-step-in-Step-clause-on g c =
-    let m = g.P.Program.meaning c.args.core.now.program in
-    subst (λ e. MovesOn m (RepliesAny e c.only-in-Step.result) c.args.core.now c.step.new.core) (sym c.in-Step.is)
-    (comes_any m (event.Step c.in-Step.thread c.in-Step.answer) c.in_ok-step-in-Step.field-0 c.only-in-Step.result c.args.core.now c.step.new.core c.only-in-Step.ensures c.in_ok-step-in-Step.ensures.on)
-
-pub returns-in_ok-arrive-in-Log-clause-on : goal.returns-in_ok-arrive-in-Log-clause-on
-returns-in_ok-arrive-in-Log-clause-on g c =
-    let m = g.P.Program.meaning c.args.core.now.program in
-    subst (λ e. MovesOn m (RepliesAny e c.in_ok-arrive-in-Log.field-0) c.args.core.now c.arrive.new.core) (sym c.in-Log.is)
-    (replies_any m (event.Log c.in-Log.thread c.in-Log.number) c.in_ok-arrive-in-Log.field-0 c.args.core.now c.arrive.new.core c.in_ok-arrive-in-Log.ensures.on)
-
-pub returns-in_ok-arrive-in-Out-clause-on : goal.returns-in_ok-arrive-in-Out-clause-on
-returns-in_ok-arrive-in-Out-clause-on g c =
-    let m = g.P.Program.meaning c.args.core.now.program in
-    subst (λ e. MovesOn m (RepliesAny e c.in_ok-arrive-in-Out.field-0) c.args.core.now c.arrive-in-Out.new.core) (sym c.in-Out.is)
-    (replies_any m (event.Out c.in-Out.thread c.in-Out.number) c.in_ok-arrive-in-Out.field-0 c.args.core.now c.arrive-in-Out.new.core c.in_ok-arrive-in-Out.ensures.on)
-
-pub returns-in_ok-arrive_late-in-Late-clause-on : goal.returns-in_ok-arrive_late-in-Late-clause-on
-returns-in_ok-arrive_late-in-Late-clause-on g c =
-    let m = g.P.Program.meaning c.args.core.now.program in
-    subst (λ e. MovesOn m (RepliesAny e c.in_ok-arrive_late-in-Late.field-0) c.args.core.now c.arrive_late.new.core) (sym c.in-Late.is)
-    (replies_any m (event.Late c.in-Late.epoch c.in-Late.kind c.in-Late.thread c.in-Late.number) c.in_ok-arrive_late-in-Late.field-0 c.args.core.now c.arrive_late.new.core c.in_ok-arrive_late-in-Late.ensures.on)
-
-pub returns-in_ok-arrive_cut-in-Cut-clause-on : goal.returns-in_ok-arrive_cut-in-Cut-clause-on
-returns-in_ok-arrive_cut-in-Cut-clause-on g c =
-    let m = g.P.Program.meaning c.args.core.now.program in
-    subst (λ e. MovesOn m (RepliesAny e c.in_ok-arrive_cut-in-Cut.field-0) c.args.core.now c.arrive_cut.new.core) (sym c.in-Cut.is)
-    (replies_any m (event.Cut c.in-Cut.kind c.in-Cut.thread c.in-Cut.number c.in-Cut.length) c.in_ok-arrive_cut-in-Cut.field-0 c.args.core.now c.arrive_cut.new.core c.in_ok-arrive_cut-in-Cut.ensures.on)
-
-pub returns-in_ok-show-in-Show-clause-on : goal.returns-in_ok-show-in-Show-clause-on
-returns-in_ok-show-in-Show-clause-on g c =
-    let m = g.P.Program.meaning c.args.core.now.program in
-    subst (λ e. MovesOn m (RepliesAny e c.only-in-Show.result) c.args.core.now c.args.core.now) (sym c.in-Show.is)
-    (looks_any m (event.Show c.in-Show.var) c.in_ok-show-in-Show.field-0 c.only-in-Show.result c.args.core.now c.only-in-Show.ensures c.in_ok-show-in-Show.ensures.on)
 
 pub returns-in_ok-settle-in-Settle-clause-on : goal.returns-in_ok-settle-in-Settle-clause-on
 returns-in_ok-settle-in-Settle-clause-on g c =
     let m = g.P.Program.meaning c.args.core.now.program in
-    subst (λ e. MovesOn m (RepliesAny e c.only-in-Settle.result) c.args.core.now c.settle.new.core) (sym c.in-Settle.is)
-    (settles_any m c.in_ok-settle-in-Settle.field-0 c.only-in-Settle.result c.args.core.now c.settle.new.core c.only-in-Settle.ensures c.in_ok-settle-in-Settle.ensures.on)
+    subst (λ e. MovesOn m (RepliesAny e c.only.result) c.args.core.now c.settle.new.core) (sym c.in-Settle.is)
+    (settles_any m c.in_ok-settle-in-Settle.field-0 c.only.result c.args.core.now c.settle.new.core c.only.ensures c.in_ok-settle-in-Settle.ensures.on)
 
-pub returns-in_ok-snap-in-Snap-clause-on : goal.returns-in_ok-snap-in-Snap-clause-on
-returns-in_ok-snap-in-Snap-clause-on g c =
+pub returns-in_ok-auto-in-Auto-clause-on : goal.returns-in_ok-auto-in-Auto-clause-on
+returns-in_ok-auto-in-Auto-clause-on g c =
     let m = g.P.Program.meaning c.args.core.now.program in
-    subst (λ e. MovesOn m (RepliesAny e c.only-in-Snap.result) c.args.core.now c.snap.new.core) (sym c.in-Snap.is)
-    (comes_any m event.Snap c.in_ok-snap-in-Snap.field-0 c.only-in-Snap.result c.args.core.now c.snap.new.core c.only-in-Snap.ensures c.in_ok-snap-in-Snap.ensures.on)
+    subst (λ e. MovesOn m (RepliesAny e c.only-in-Auto.result) c.args.core.now c.auto.new.core) (sym c.in-Auto.is)
+    (chooses_any m c.in-Auto.seed c.in-Auto.n c.in_ok-auto-in-Auto.field-0 c.only-in-Auto.result c.args.core.now c.auto.new.core c.only-in-Auto.ensures c.in_ok-auto-in-Auto.ensures.on)
 
-pub returns-in_ok-store-in-Store-clause-on : goal.returns-in_ok-store-in-Store-clause-on
-returns-in_ok-store-in-Store-clause-on g c =
+pub returns-in_default-clause-on : goal.returns-in_default-clause-on
+returns-in_default-clause-on g c =
     let m = g.P.Program.meaning c.args.core.now.program in
-    subst (λ e. MovesOn m (RepliesAny e c.in_ok-store-in-Store.field-0) c.args.core.now c.store.new.core) (sym c.in-Store.is)
-    (replies_any m event.Store c.in_ok-store-in-Store.field-0 c.args.core.now c.store.new.core c.in_ok-store-in-Store.ensures.on)
+    IfOk-weaker c.perform_single.result _ _ (λ reply moves. replies_any m c.args.event reply c.args.core.now c.perform_single.new.core moves) c.perform_single.ensures.on
 
-pub returns-in-Crash-clause-on : goal.returns-in-Crash-clause-on
-returns-in-Crash-clause-on g c =
-    let m = g.P.Program.meaning c.args.core.now.program in
-    subst (λ e. MovesOn m (RepliesAny e c.only-in-Crash.result) c.args.core.now c.crash.new.core) (sym c.in-Crash.is)
-    (comes_any m event.Crash c.crash.result c.only-in-Crash.result c.args.core.now c.crash.new.core c.only-in-Crash.ensures c.crash.ensures.on)
-
-pub returns-in_ok-recover-in-Recover-clause-on : goal.returns-in_ok-recover-in-Recover-clause-on
-returns-in_ok-recover-in-Recover-clause-on g c =
-    let m = g.P.Program.meaning c.args.core.now.program in
-    subst (λ e. MovesOn m (RepliesAny e c.only-in-Recover.result) c.args.core.now c.recover.new.core) (sym c.in-Recover.is)
-    (comes_any m event.Recover c.in_ok-recover-in-Recover.field-0 c.only-in-Recover.result c.args.core.now c.recover.new.core c.only-in-Recover.ensures c.in_ok-recover-in-Recover.ensures.on)
+pub returns-in_default-clause-limit : goal.returns-in_default-clause-limit
+returns-in_default-clause-limit g c = λ limit is.
+    stops_any (g.P.Program.meaning c.args.core.now.program) c.args.event limit c.args.core.now c.perform_single.new.core (c.perform_single.ensures.limit limit is)
