@@ -17,23 +17,6 @@ use Rattle.recovery_core.specs.declared.reply.Finished.{Finished}
 use Rattle.recovery_core.specs.Parts.{Parts}
 use Rattle.recovery_core.specs.Standing.{HasReleased, StandsFor}
 
--- an event that a system performs: any but chosen events
-abbrev pub IsPerformed : Event → Type 0
-IsPerformed (event.Feed n) = Unit {0}
-IsPerformed (event.Time n) = Unit {0}
-IsPerformed (event.Step t given) = Unit {0}
-IsPerformed (event.Log t n) = Unit {0}
-IsPerformed (event.Out t n) = Unit {0}
-IsPerformed (event.Late e k t n) = Unit {0}
-IsPerformed (event.Cut k t n len) = Unit {0}
-IsPerformed event.Snap = Unit {0}
-IsPerformed event.Store = Unit {0}
-IsPerformed event.Crash = Unit {0}
-IsPerformed event.Recover = Unit {0}
-IsPerformed (event.Show v) = Unit {0}
-IsPerformed event.Settle = Unit {0}
-IsPerformed (event.Auto seed n) = Unit {0}
-
 -- The world moved so, from any that the system stood for, and the system stands for it now. Nothing was handed over.
 abbrev pub MovesOn : {P V : Type 0} → Meaning V → (Setting V → World V → World V → Type 0) → Parts P V → Parts P V → Type 0
 MovesOn {P} {V} m R old new =

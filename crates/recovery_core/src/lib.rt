@@ -24,4 +24,4 @@ mod system;
 
 pub use lines::put_line;
 pub use reply::{Finished, Releases, Reply, Stop};
-pub use system::{System, is_performed};
+pub use system::System;

@@ -1,4 +1,4 @@
-ghost use Rattle.std.specs.Prelude.{◌≡◌, ◌↔◌, ◌<◌, ◌≤◌, ℕ, All, List, [], IsTrue, IfOk, OnOk, OnErr, Err, true, false, drop, length, map};
+ghost use Rattle.std.specs.Prelude.{◌≡◌, ◌<◌, ◌≤◌, ℕ, All, List, [], IfOk, OnOk, OnErr, Err, true, false, drop, length, map};
 ghost use Rattle.plain_text.specs.declared.limit.Limit.{Limit as LimitKind};
 ghost use Rattle.plain_text.specs.declared.packet.Packet as packet_of;
 ghost use Rattle.access_log.specs.declared.entry.Output as output_of;
@@ -8,7 +8,7 @@ ghost use Rattle.recovery_world.specs.World.{Setting, World, opening};
 ghost use Rattle.recovery_world.specs.Files.{packets_of};
 ghost use Rattle.recovery_core.specs.Parts.{IsShort};
 ghost use Rattle.recovery_core.specs.Standing.{HasReleased, StandsFor, StandsForSome};
-ghost use Rattle.recovery_core.specs.Performing.{AddsFresh, IsPerformed, MovesOn, StopsAt, RepliesAny, IsStopped, FinishesAs};
+ghost use Rattle.recovery_core.specs.Performing.{AddsFresh, MovesOn, StopsAt, RepliesAny, IsStopped, FinishesAs};
 
 use crate::arriving::only;
 use crate::assembly::Core;
@@ -47,28 +47,6 @@ impl<P: Program> Model for System<P> {
     ghost view = { λ y. record { parts = y.core; stopped = y.stopped } };
 
     ghost invariant = { λ y. y.stopped ≡ false → StandsForSome (P.meaning y.core.program) y.core };
-}
-
-/// Whether a system performs such an event: it performs any.
-pub fn is_performed(event: &Event) -> bool
-    ensures { IsTrue result ↔ IsPerformed event.now }
-{
-    match event {
-        Event::Feed(_)
-        | Event::Time(_)
-        | Event::Step { .. }
-        | Event::Log { .. }
-        | Event::Out { .. }
-        | Event::Late { .. }
-        | Event::Cut { .. }
-        | Event::Snap
-        | Event::Store
-        | Event::Crash
-        | Event::Recover
-        | Event::Show(_)
-        | Event::Settle
-        | Event::Auto { .. } => true,
-    }
 }
 
 /// Performs an event.
