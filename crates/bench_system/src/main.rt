@@ -9,7 +9,6 @@
 ghost use Rattle.plain_text.specs.declared.limit.TheConstants.{MOST_PACKETS};
 ghost use Rattle.std.specs.Prelude.{◌≡◌, ◌≤◌, All, IsTrue, IfOk, false, length};
 ghost use Rattle.recovery_core.specs.Parts.{IsShort};
-ghost use Rattle.recovery_core.specs.Performing.{IsPerformed};
 
 use anyhow::{Context, anyhow, bail, ensure};
 use box_program::{CountBox, Program};
@@ -39,7 +38,6 @@ fn perform<P: Program>(
     events: &mut u64,
 ) -> Result<Outcome, Stop>
     requires runs { system.old.stopped ≡ false }
-    requires performed { IsPerformed event }
     ensures { IfOk result (λ _. system.new.stopped ≡ false) }
 {
     let reply = system.on(&event)?;

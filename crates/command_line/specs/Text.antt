@@ -18,7 +18,7 @@ use Rattle.schedule_check.specs.declared.checking.Refutation.TheVariants as refu
 use Rattle.job_top.specs.declared.status.InputFault.{InputFault}
 use Rattle.job_top.specs.declared.status.InputFault.TheVariants.{BoxFile, Capture, NgCapture, Script, Schedule, Moves, Released, NgReleased}
 use Rattle.job_top.specs.declared.status.Status.{Status}
-use Rattle.job_top.specs.declared.status.Status.TheVariants.{Done, Refuted, BadWords, ReadFault, WriteFault, NoMemory, BadInput, TooLarge, NotBuilt}
+use Rattle.job_top.specs.declared.status.Status.TheVariants.{Done, Refuted, BadWords, ReadFault, WriteFault, NoMemory, BadInput, TooLarge}
 
 abbrev pub cause_text : LineCause → List ℕ
 cause_text line.UnknownWord = codes "unknown word"
@@ -86,4 +86,3 @@ status_text WriteFault = codes "write fault"
 status_text NoMemory = codes "no memory"
 status_text (BadInput fault) = fault_text fault
 status_text (TooLarge limit) = codes "too large: " ++ limit_text limit
-status_text NotBuilt = codes "not built"

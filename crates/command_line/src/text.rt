@@ -68,7 +68,6 @@ impl fmt::Display for StatusText {
             Status::ReadFault => f.write_str("read fault"),
             Status::WriteFault => f.write_str("write fault"),
             Status::NoMemory => f.write_str("no memory"),
-            Status::NotBuilt => f.write_str("not built"),
         }
     }
 }

@@ -13,7 +13,8 @@ what it released is written, and then its line of the report.
   SCRIPT    text of what is to happen, an event on each line, read: `feed N`,
             `time N`, `step T`, `step T = V`, `log T N`, `out T J`,
             `late E log T N`, `late E out T J`, `cut log T N LEN`,
-            `cut out T J LEN`, `show V`, `settle`
+            `cut out T J LEN`, `snap`, `store`, `crash`, `recover`,
+            `show V`, `settle`, `auto S N`
   RELEASED  capture of the packets that were released, written
   SCHEDULE  text of the moves of the run in which it ends, written
 
@@ -41,7 +42,7 @@ Makes N packets, at most 65,536, from a number, always the same ones.
 The report is written on standard output.
 
 Exit status: 0 done, 1 refuted, 2 bad words, 3 read fault, 4 write fault, 5 no memory,
-6 bad input, 7 too large, 8 not built. What is not done is told on standard error.
+6 bad input, 7 too large. What is not done is told on standard error.
 ";
 
 /// What `--help` prints.

@@ -186,11 +186,6 @@ fn judges_the_inputs_in_their_order(rt: HostRuntime) -> Result<(), Fail> {
             status: no_event,
             ..REFUSED
         },
-        Case {
-            script: b"settle\ncrash\n",
-            status: Status::NotBuilt,
-            ..REFUSED
-        },
     ];
     assert_eq!(rt; first_wrong(alloc, &cases)?, None);
     Ok(())

@@ -288,7 +288,6 @@ fn says_its_status(rt: HostRuntime) -> Result<(), Fail> {
         (Status::TooLarge(Limit::File), "too large: file", 7),
         (Status::TooLarge(Limit::Moves), "too large: moves", 7),
         (Status::TooLarge(Limit::Packets), "too large: packets", 7),
-        (Status::NotBuilt, "not built", 8),
     ];
     for (status, text, code) in texts {
         assert_eq!(rt; status.exit_code(), code);

@@ -1,6 +1,5 @@
 -- The input files and the run that they ask for decide the status.
 use Rattle.std.proofs.Common.{◌≡◌, List, refl, sym, ap, ◌∙◌, subst, inl, inr, Result, Ok, Err}
-use Rattle.std.specs.Prelude.{All}
 use Rattle.plain_text.specs.declared.fault.LineFault.{LineFault}
 use Rattle.plain_text.specs.declared.limit.Limit.{Limit}
 use Rattle.pcapng_io.specs.declared.fault.AnyFault.{AnyFault}
@@ -8,7 +7,6 @@ use Rattle.pcapng_io.specs.declared.fault.AnyFault.TheVariants as any
 use Rattle.box_conf.specs.declared.kind.BoxConf.{BoxConf}
 use Rattle.recovery_world.specs.declared.event.Event.{Event}
 use Rattle.world_io.specs.World.{Shown}
-use Rattle.recovery_core.specs.Performing.{IsPerformed}
 use Rattle.recovery_laws.proofs.Scripts.{leaves_or_stops, stops_leave_one}
 use Rattle.input_files.specs.declared.errors.InputError.{InputError}
 use Rattle.input_files.specs.declared.errors.InputError.TheVariants as error
@@ -21,7 +19,7 @@ use Rattle.job_top.specs.declared.status.Status.{Status}
 use Rattle.job_top.specs.declared.status.Status.TheVariants as status
 use Rattle.job_top.specs.declared.status.InputFault.TheVariants as input
 use Rattle.job_top.specs.Judging.{Judges, IsDecided, AreAccepted, FirstIsMissing, FirstIsTooLarge}
-use Rattle.job_top.specs.Run.{AcceptsInputs, AsksForRun, EndsRun, StopsRun, setting_for}
+use Rattle.job_top.specs.Run.{AcceptsInputs, EndsRun, StopsRun, setting_for}
 use Rattle.job_top.specs.Status.{Completes, of_box_error, of_capture_error, of_script_error}
 use Rattle.job_top.specs.Words.{RunNames}
 
@@ -57,9 +55,8 @@ module _ (healthy : Type 0) (names : RunNames) (shown : Shown) where
     OfCapture : (conf : BoxConf) → AcceptsBox names.box_file conf shown → (e : InputError AnyFault) → FileDecides {A = Capture} healthy (Err e) → JudgesCapture healthy names.capture (Err e) shown → s ≡ of_capture_error e → Verdict s
     OfScript : (conf : BoxConf) → AcceptsBox names.box_file conf shown → (capture : Capture) → AcceptsCapture names.capture capture shown
         → (e : InputError LineFault) → FileDecides {A = List Event} healthy (Err e) → JudgesScript healthy names.script (Err e) shown → s ≡ of_script_error e → Verdict s
-    NotPerformed : (inputs : Inputs) → AcceptsInputs names inputs shown → ¬ (All IsPerformed inputs.events) → s ≡ status.NotBuilt → Verdict s
-    OfRun : (inputs : Inputs) → AsksForRun names inputs shown → EndsRun inputs → s ≡ status.Done → Verdict s
-    OfLimit : (inputs : Inputs) → AsksForRun names inputs shown → (limit : Limit) → StopsRun inputs limit → s ≡ status.TooLarge limit → Verdict s
+    OfRun : (inputs : Inputs) → AcceptsInputs names inputs shown → EndsRun inputs → s ≡ status.Done → Verdict s
+    OfLimit : (inputs : Inputs) → AcceptsInputs names inputs shown → (limit : Limit) → StopsRun inputs limit → s ≡ status.TooLarge limit → Verdict s
 
   missing : FirstIsMissing names shown → healthy → Verdict status.ReadFault
   missing (inl box) ok = OfBox error.ReadFault ok (λ _. box) refl
@@ -88,7 +85,6 @@ module _ (healthy : Type 0) (names : RunNames) (shown : Shown) where
   verdict (status.BadInput (input.NgReleased fault)) decided h = absurd h
   verdict (status.TooLarge limit) decided (inl h) = too_large limit h
   verdict (status.TooLarge limit) decided (inr (inputs, asked, stops)) = OfLimit inputs asked limit stops refl
-  verdict status.NotBuilt decided (inputs, accepted, more) = NotPerformed inputs accepted more refl
 
   box_one : (a b : Result BoxConf (InputError LineFault)) → FileDecides healthy a → FileDecides healthy b → JudgesBox healthy names.box_file a shown → JudgesBox healthy names.box_file b shown → a ≡ b
   box_one a b = one_answer SaysBox one_box healthy names.box_file shown a b
@@ -120,9 +116,6 @@ module _ (healthy : Type 0) (names : RunNames) (shown : Shown) where
       same_inputs x.conf y.conf x.capture y.capture x.events y.events conf_is capture_is events_are
 
   -- what is true of inputs is true of the same inputs
-  performed_too : (x y : Inputs) → AcceptsInputs names x shown → AcceptsInputs names y shown → All IsPerformed x.events → All IsPerformed y.events
-  performed_too x y a b h = subst (λ (i : Inputs). All IsPerformed i.events) (inputs_one x y a b) h
-
   ends_too : (x y : Inputs) → AcceptsInputs names x shown → AcceptsInputs names y shown → EndsRun x → EndsRun y
   ends_too x y a b h = subst EndsRun (inputs_one x y a b) h
 
@@ -143,45 +136,34 @@ module _ (healthy : Type 0) (names : RunNames) (shown : Shown) where
       q ∙ ap of_box_error e_is ∙ sym p
   one_status s r (OfBox e d h q) (OfCapture conf box f g k p) = absurd (box_not_both conf e box d h)
   one_status s r (OfBox e d h q) (OfScript conf box capture accepted f g k p) = absurd (box_not_both conf e box d h)
-  one_status s r (OfBox e d h q) (NotPerformed y b more p) = absurd (box_not_both y.conf e b.box_accepted d h)
-  one_status s r (OfBox e d h q) (OfRun y b ends p) = absurd (box_not_both y.conf e b.accepted.box_accepted d h)
-  one_status s r (OfBox e d h q) (OfLimit y b limit stops p) = absurd (box_not_both y.conf e b.accepted.box_accepted d h)
+  one_status s r (OfBox e d h q) (OfRun y b ends p) = absurd (box_not_both y.conf e b.box_accepted d h)
+  one_status s r (OfBox e d h q) (OfLimit y b limit stops p) = absurd (box_not_both y.conf e b.box_accepted d h)
   one_status s r (OfCapture conf box e d h q) (OfBox f g k p) = absurd (box_not_both conf f box g k)
   one_status s r (OfCapture conf box e d h q) (OfCapture other that f g k p) =
       let same : capture_err e ≡ capture_err f = capture_one (Err e) (Err f) d g h k in
       let e_is : e ≡ f = cc in
       q ∙ ap of_capture_error e_is ∙ sym p
   one_status s r (OfCapture conf box e d h q) (OfScript other that capture accepted f g k p) = absurd (capture_not_both capture e accepted d h)
-  one_status s r (OfCapture conf box e d h q) (NotPerformed y b more p) = absurd (capture_not_both y.capture e b.capture_accepted d h)
-  one_status s r (OfCapture conf box e d h q) (OfRun y b ends p) = absurd (capture_not_both y.capture e b.accepted.capture_accepted d h)
-  one_status s r (OfCapture conf box e d h q) (OfLimit y b limit stops p) = absurd (capture_not_both y.capture e b.accepted.capture_accepted d h)
+  one_status s r (OfCapture conf box e d h q) (OfRun y b ends p) = absurd (capture_not_both y.capture e b.capture_accepted d h)
+  one_status s r (OfCapture conf box e d h q) (OfLimit y b limit stops p) = absurd (capture_not_both y.capture e b.capture_accepted d h)
   one_status s r (OfScript conf box capture accepted e d h q) (OfBox f g k p) = absurd (box_not_both conf f box g k)
   one_status s r (OfScript conf box capture accepted e d h q) (OfCapture other that f g k p) = absurd (capture_not_both capture f accepted g k)
   one_status s r (OfScript conf box capture accepted e d h q) (OfScript other that packets allowed f g k p) =
       let same : script_err e ≡ script_err f = script_one (Err e) (Err f) d g h k in
       let e_is : e ≡ f = cc in
       q ∙ ap of_script_error e_is ∙ sym p
-  one_status s r (OfScript conf box capture accepted e d h q) (NotPerformed y b more p) = absurd (script_not_both y.events e b.script_accepted d h)
-  one_status s r (OfScript conf box capture accepted e d h q) (OfRun y b ends p) = absurd (script_not_both y.events e b.accepted.script_accepted d h)
-  one_status s r (OfScript conf box capture accepted e d h q) (OfLimit y b limit stops p) = absurd (script_not_both y.events e b.accepted.script_accepted d h)
-  one_status s r (NotPerformed x a more q) (OfBox f g k p) = absurd (box_not_both x.conf f a.box_accepted g k)
-  one_status s r (NotPerformed x a more q) (OfCapture conf box f g k p) = absurd (capture_not_both x.capture f a.capture_accepted g k)
-  one_status s r (NotPerformed x a more q) (OfScript conf box capture accepted f g k p) = absurd (script_not_both x.events f a.script_accepted g k)
-  one_status s r (NotPerformed x a more q) (NotPerformed y b other p) = q ∙ sym p
-  one_status s r (NotPerformed x a more q) (OfRun y b ends p) = absurd (more (performed_too y x b.accepted a b.performed))
-  one_status s r (NotPerformed x a more q) (OfLimit y b limit stops p) = absurd (more (performed_too y x b.accepted a b.performed))
-  one_status s r (OfRun x a ends q) (OfBox f g k p) = absurd (box_not_both x.conf f a.accepted.box_accepted g k)
-  one_status s r (OfRun x a ends q) (OfCapture conf box f g k p) = absurd (capture_not_both x.capture f a.accepted.capture_accepted g k)
-  one_status s r (OfRun x a ends q) (OfScript conf box capture accepted f g k p) = absurd (script_not_both x.events f a.accepted.script_accepted g k)
-  one_status s r (OfRun x a ends q) (NotPerformed y b more p) = absurd (more (performed_too x y a.accepted b a.performed))
+  one_status s r (OfScript conf box capture accepted e d h q) (OfRun y b ends p) = absurd (script_not_both y.events e b.script_accepted d h)
+  one_status s r (OfScript conf box capture accepted e d h q) (OfLimit y b limit stops p) = absurd (script_not_both y.events e b.script_accepted d h)
+  one_status s r (OfRun x a ends q) (OfBox f g k p) = absurd (box_not_both x.conf f a.box_accepted g k)
+  one_status s r (OfRun x a ends q) (OfCapture conf box f g k p) = absurd (capture_not_both x.capture f a.capture_accepted g k)
+  one_status s r (OfRun x a ends q) (OfScript conf box capture accepted f g k p) = absurd (script_not_both x.events f a.script_accepted g k)
   one_status s r (OfRun x a ends q) (OfRun y b other p) = q ∙ sym p
-  one_status s r (OfRun x a ends q) (OfLimit y b limit stops p) = absurd (not_both y limit (ends_too x y a.accepted b.accepted ends) stops)
-  one_status s r (OfLimit x a limit stops q) (OfBox f g k p) = absurd (box_not_both x.conf f a.accepted.box_accepted g k)
-  one_status s r (OfLimit x a limit stops q) (OfCapture conf box f g k p) = absurd (capture_not_both x.capture f a.accepted.capture_accepted g k)
-  one_status s r (OfLimit x a limit stops q) (OfScript conf box capture accepted f g k p) = absurd (script_not_both x.events f a.accepted.script_accepted g k)
-  one_status s r (OfLimit x a limit stops q) (NotPerformed y b more p) = absurd (more (performed_too x y a.accepted b a.performed))
-  one_status s r (OfLimit x a limit stops q) (OfRun y b ends p) = absurd (not_both y limit ends (stops_too x y limit a.accepted b.accepted stops))
-  one_status s r (OfLimit x a limit stops q) (OfLimit y b other there p) = q ∙ ap status.TooLarge (one_limit y limit other (stops_too x y limit a.accepted b.accepted stops) there) ∙ sym p
+  one_status s r (OfRun x a ends q) (OfLimit y b limit stops p) = absurd (not_both y limit (ends_too x y a b ends) stops)
+  one_status s r (OfLimit x a limit stops q) (OfBox f g k p) = absurd (box_not_both x.conf f a.box_accepted g k)
+  one_status s r (OfLimit x a limit stops q) (OfCapture conf box f g k p) = absurd (capture_not_both x.capture f a.capture_accepted g k)
+  one_status s r (OfLimit x a limit stops q) (OfScript conf box capture accepted f g k p) = absurd (script_not_both x.events f a.script_accepted g k)
+  one_status s r (OfLimit x a limit stops q) (OfRun y b ends p) = absurd (not_both y limit ends (stops_too x y limit a b stops))
+  one_status s r (OfLimit x a limit stops q) (OfLimit y b other there p) = q ∙ ap status.TooLarge (one_limit y limit other (stops_too x y limit a b stops) there) ∙ sym p
 
   pub one_verdict : (s r : Status) → IsDecided healthy s → IsDecided healthy r → Judges healthy names s shown → Judges healthy names r shown → s ≡ r
   one_verdict s r d g h k = one_status s r (verdict s d h) (verdict r g k)
@@ -193,31 +175,27 @@ module _ (healthy : Type 0) (names : RunNames) (shown : Shown) where
   run_completes ok accepted (status.Refuted refutation) h = absurd h
   run_completes ok accepted status.BadWords h = absurd h
   run_completes ok accepted status.WriteFault h = absurd (h.0 ok)
-  run_completes ok (x, a, within) status.ReadFault h = absurd (accepts_no_other x a.accepted (missing (h ok) ok))
+  run_completes ok (x, a, within) status.ReadFault h = absurd (accepts_no_other x a (missing (h ok) ok))
     where
       accepts_no_other : (x : Inputs) → AcceptsInputs names x shown → Verdict status.ReadFault → ⊥
       accepts_no_other x a (OfBox f g k p) = box_not_both x.conf f a.box_accepted g k
       accepts_no_other x a (OfCapture conf box f g k p) = capture_not_both x.capture f a.capture_accepted g k
       accepts_no_other x a (OfScript conf box capture accepted f g k p) = script_not_both x.events f a.script_accepted g k
-      accepts_no_other x a (NotPerformed y b more p) = cc
       accepts_no_other x a (OfRun y b ends p) = cc
       accepts_no_other x a (OfLimit y b limit stops p) = cc
   run_completes ok (x, a, within) (status.BadInput fault) h = absurd (refused x a (verdict (status.BadInput fault) (λ e. let no : status.BadInput fault ≡ status.NoMemory = e in cc, (λ e. ok, λ e. ok)) h))
     where
-      refused : (x : Inputs) → AsksForRun names x shown → Verdict (status.BadInput fault) → ⊥
-      refused x a (OfBox f g k p) = box_not_both x.conf f a.accepted.box_accepted g k
-      refused x a (OfCapture conf box f g k p) = capture_not_both x.capture f a.accepted.capture_accepted g k
-      refused x a (OfScript conf box capture accepted f g k p) = script_not_both x.events f a.accepted.script_accepted g k
-      refused x a (NotPerformed y b more p) = cc
+      refused : (x : Inputs) → AcceptsInputs names x shown → Verdict (status.BadInput fault) → ⊥
+      refused x a (OfBox f g k p) = box_not_both x.conf f a.box_accepted g k
+      refused x a (OfCapture conf box f g k p) = capture_not_both x.capture f a.capture_accepted g k
+      refused x a (OfScript conf box capture accepted f g k p) = script_not_both x.events f a.script_accepted g k
       refused x a (OfRun y b ends p) = cc
       refused x a (OfLimit y b limit stops p) = cc
   run_completes ok (x, a, within) (status.TooLarge limit) h = absurd (refused x a within (verdict (status.TooLarge limit) (λ e. let no : status.TooLarge limit ≡ status.NoMemory = e in cc, (λ e. ok, λ e. ok)) h))
     where
-      refused : (x : Inputs) → AsksForRun names x shown → ((l : Limit) → StopsRun x l → ⊥) → Verdict (status.TooLarge limit) → ⊥
-      refused x a within (OfBox f g k p) = box_not_both x.conf f a.accepted.box_accepted g k
-      refused x a within (OfCapture conf box f g k p) = capture_not_both x.capture f a.accepted.capture_accepted g k
-      refused x a within (OfScript conf box capture accepted f g k p) = script_not_both x.events f a.accepted.script_accepted g k
-      refused x a within (NotPerformed y b more p) = cc
+      refused : (x : Inputs) → AcceptsInputs names x shown → ((l : Limit) → StopsRun x l → ⊥) → Verdict (status.TooLarge limit) → ⊥
+      refused x a within (OfBox f g k p) = box_not_both x.conf f a.box_accepted g k
+      refused x a within (OfCapture conf box f g k p) = capture_not_both x.capture f a.capture_accepted g k
+      refused x a within (OfScript conf box capture accepted f g k p) = script_not_both x.events f a.script_accepted g k
       refused x a within (OfRun y b ends p) = cc
-      refused x a within (OfLimit y b other stops p) = within other (stops_too y x other b.accepted a.accepted stops)
-  run_completes ok (x, a, within) status.NotBuilt (y, b, more) = absurd (more (performed_too x y a.accepted b a.performed))
+      refused x a within (OfLimit y b other stops p) = within other (stops_too y x other b a stops)

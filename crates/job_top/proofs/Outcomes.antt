@@ -21,7 +21,7 @@ use Rattle.job_top.specs.declared.status.Status.{Status}
 use Rattle.job_top.specs.declared.status.Status.TheVariants as status
 use Rattle.job_top.specs.Headline.{KeepsPromise}
 use Rattle.job_top.specs.Judging.{Judges}
-use Rattle.job_top.specs.Run.{AsksForRun, RunsWhole, RunsToLimit, outputs_of, setting_for}
+use Rattle.job_top.specs.Run.{AcceptsInputs, RunsWhole, RunsToLimit, outputs_of, setting_for}
 use Rattle.job_top.specs.Status.{AtInputs, AtOutputs, ComesAt, Completes, stage_of, stage_of_limit, outcome_of, run_outcome}
 use Rattle.job_top.specs.Words.{RunNames}
 use Rattle.job_top.proofs.RunLimits.{stops_are}
@@ -85,11 +85,11 @@ kept a b keeps = record { names = keeps.names; sent = keeps.sent }
 
 -- A run that is done keeps the promise.
 pub promise : (names : RunNames) (a c : Shown) → RunsWhole names a c → KeepsPromise names a c
-promise names a c (inputs, asked, r) =
+promise names a c (inputs, accepted, r) =
     let ends = leaves_ends (setting_for inputs) inputs.events r.report r.released r.schedule r.leaves in
     record {
       inputs = inputs;
-      asked = asked;
+      accepted = accepted;
       world = r.leaves.world;
       lines = r.leaves.lines;
       performs = r.leaves.performs;
@@ -103,17 +103,17 @@ promise names a c (inputs, asked, r) =
 
 -- The status of the run, where its inputs are accepted.
 
-module _ (healthy : Type 0) (names : RunNames) (inputs : Inputs) (a c : Shown) (asked : AsksForRun names inputs a) where
+module _ (healthy : Type 0) (names : RunNames) (inputs : Inputs) (a c : Shown) (accepted : AcceptsInputs names inputs a) where
   pub run_judged : (r : Result ⊤ RunError) → (healthy → ¬ IsErrOf r run_error.WriteFault) → OnOk r (HasRun (setting_for inputs) (outputs_of names) inputs.events a c)
       → ((limit : Limit) → r ≡ Err (run_error.Limit limit) → HasStopped (setting_for inputs) (outputs_of names) inputs.events limit a c)
       → Judges healthy names (run_outcome r) a
-  run_judged (Ok done) never whole limit = (inputs, asked, (whole.report, whole.released, whole.schedule, whole.leaves))
-  run_judged (Err (run_error.Limit l)) never whole limit = let h = limit l refl in inr (inputs, asked, (h.report, h.released, h.leaves))
-  run_judged (Err run_error.WriteFault) never whole limit = (λ ok. never ok refl, inputs, asked)
+  run_judged (Ok done) never whole limit = (inputs, accepted, (whole.report, whole.released, whole.schedule, whole.leaves))
+  run_judged (Err (run_error.Limit l)) never whole limit = let h = limit l refl in inr (inputs, accepted, (h.report, h.released, h.leaves))
+  run_judged (Err run_error.WriteFault) never whole limit = (λ ok. never ok refl, inputs, accepted)
   run_judged (Err run_error.NoMemory) never whole limit = tt
 
   pub run_done : (r : Result ⊤ RunError) → run_outcome r ≡ status.Done → OnOk r (HasRun (setting_for inputs) (outputs_of names) inputs.events a c) → RunsWhole names a c
-  run_done (Ok done) e whole = (inputs, asked, whole)
+  run_done (Ok done) e whole = (inputs, accepted, whole)
   run_done (Err (run_error.Limit l)) e whole = absurd (cc)
   run_done (Err run_error.WriteFault) e whole = absurd (cc)
   run_done (Err run_error.NoMemory) e whole = absurd (cc)
@@ -123,7 +123,7 @@ module _ (healthy : Type 0) (names : RunNames) (inputs : Inputs) (a c : Shown) (
   run_limit (Ok done) l e limit = absurd (cc)
   run_limit (Err (run_error.Limit k)) l e limit =
       let same : k ≡ l = cc in
-      (inputs, asked, subst (λ (m : Limit). HasStopped (setting_for inputs) (outputs_of names) inputs.events m a c) same (limit k refl))
+      (inputs, accepted, subst (λ (m : Limit). HasStopped (setting_for inputs) (outputs_of names) inputs.events m a c) same (limit k refl))
   run_limit (Err run_error.WriteFault) l e limit = absurd (cc)
   run_limit (Err run_error.NoMemory) l e limit = absurd (cc)
 

@@ -11,14 +11,14 @@ use Rattle.input_files.specs.declared.errors.InputError.TheVariants as error
 use Rattle.input_files.specs.declared.capture_file.Capture.{Capture}
 use Rattle.input_files.specs.Files.{IsMissing}
 use Rattle.input_files.specs.Judging.{IsToldOf, JudgesBox, JudgesCapture, JudgesScript, AcceptsBox, AcceptsCapture, AcceptsScript}
-use Rattle.job_top.specs.Judging.{JudgesFiles}
+use Rattle.job_top.specs.Judging.{JudgesInputs}
 use Rattle.job_top.specs.Run.{AcceptsInputs}
 use Rattle.job_top.specs.Status.{of_box_error, of_capture_error, of_script_error}
 use Rattle.job_top.specs.Words.{RunNames}
 
 -- the box file is not accepted
 pub box_refused : (healthy : Type 0) (names : RunNames) (shown : Shown) (e : InputError LineFault) → JudgesBox healthy names.box_file (Err e) shown
-    → JudgesFiles healthy names (Err (of_box_error e)) shown
+    → JudgesInputs healthy names (Err (of_box_error e)) shown
 box_refused healthy names shown (error.Fault fault) h = h
 box_refused healthy names shown (error.TooLarge limit) h = inl (inl h)
 box_refused healthy names shown error.ReadFault h = (λ ok. inl (h ok))
@@ -41,7 +41,7 @@ module _ (healthy later : Type 0) (stays : healthy → later) (names : RunNames)
 
   -- the capture is not accepted behind the box file
   pub capture_refused : (e : InputError AnyFault) (conf : BoxConf) → AcceptsBox names.box_file conf a → JudgesCapture later names.capture (Err e) b
-      → JudgesFiles healthy names (Err (of_capture_error e)) a
+      → JudgesInputs healthy names (Err (of_capture_error e)) a
   capture_refused (error.Fault (any.Capture fault)) conf box h = (conf, box, told_before names.capture _ h)
   capture_refused (error.Fault (any.Ng fault)) conf box h = (conf, box, told_before names.capture _ h)
   capture_refused (error.TooLarge limit) conf box h = inl (inr (inl (conf, box, told_before names.capture _ h)))
@@ -50,7 +50,7 @@ module _ (healthy later : Type 0) (stays : healthy → later) (names : RunNames)
 
   -- the script is not accepted behind both
   pub script_refused : (e : InputError LineFault) (conf : BoxConf) (capture : Capture) → AcceptsBox names.box_file conf a → AcceptsCapture names.capture capture a
-      → JudgesScript later names.script (Err e) b → JudgesFiles healthy names (Err (of_script_error e)) a
+      → JudgesScript later names.script (Err e) b → JudgesInputs healthy names (Err (of_script_error e)) a
   script_refused (error.Fault fault) conf capture box accepted h = (conf, box, (capture, accepted, told_before names.script _ h))
   script_refused (error.TooLarge limit) conf capture box accepted h = inl (inr (inr (conf, box, (capture, accepted, told_before names.script _ h))))
   script_refused error.ReadFault conf capture box accepted h = (λ ok. inr (inr (conf, box, (capture, accepted, is_missing names.script (h (stays ok))))))

@@ -10,7 +10,7 @@ use Rattle.recovery_world.specs.World.{World, opening, all_inputs}
 use Rattle.recovery_world.specs.Files.{Performs, packets_of}
 use Rattle.recovery_laws.specs.Ends.{Ends}
 use Rattle.job_top.specs.declared.inputs.Inputs.{Inputs}
-use Rattle.job_top.specs.Run.{AsksForRun, setting_for}
+use Rattle.job_top.specs.Run.{AcceptsInputs, setting_for}
 use Rattle.job_top.specs.Words.{RunNames, Asked, Runs, Makes, Plays, Checks}
 
 -- The written schedule, played by the plain machine on the captured packets, is a legal crash-free run. It performs every log entry that
@@ -18,7 +18,7 @@ use Rattle.job_top.specs.Words.{RunNames, Asked, Runs, Makes, Plays, Checks}
 -- each was released once; and an output that arrived waits only while a named log entry is missing.
 pub record KeepsPromise (names : RunNames) (old new : Shown) : Type 0 where
   pub inputs : Inputs
-  pub asked : AsksForRun names inputs old
+  pub accepted : AcceptsInputs names inputs old
   -- the world to which the script leads
   pub world : World (meaning_of inputs.conf.kind).value
   pub lines : List ℕ

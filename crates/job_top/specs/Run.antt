@@ -1,5 +1,5 @@
 -- What the command `run` does: a run of the script that the inputs ask for.
-use Rattle.std.specs.Prelude.{◌⊎◌, ℕ, ◌≤◌, All, List}
+use Rattle.std.specs.Prelude.{◌⊎◌, ℕ, List}
 use Rattle.plain_text.specs.declared.limit.Limit.{Limit}
 use Rattle.plain_text.specs.declared.packet.Packet.{Packet}
 use Rattle.plain_machine.specs.declared.plain_move.PlainMove.{PlainMove}
@@ -7,8 +7,6 @@ use Rattle.box_conf.specs.Kinds.{meaning_of}
 use Rattle.world_io.specs.World.{Shown}
 use Rattle.recovery_world.specs.World.{Setting}
 use Rattle.recovery_world.specs.Files.{Leaves, LeavesAt}
-use Rattle.recovery_core.specs.Parts.{IsShort}
-use Rattle.recovery_core.specs.Performing.{IsPerformed}
 use Rattle.script_run.specs.declared.run.ScriptRun.{ScriptRun}
 use Rattle.script_run.specs.Run.{OutputNames, setting_of, KeepsShown, HasRun, HasStopped, HasBegunRun}
 use Rattle.input_files.specs.Judging.{AcceptsBox, AcceptsCapture, AcceptsScript}
@@ -31,12 +29,6 @@ script_of inputs = record {
   events = inputs.events;
 }
 
--- inputs that fit a run: 1 to 16 threads, and packets that a record can have
-pub record FitsRun (inputs : Inputs) : Type 0 where
-  pub some_threads : 1 ≤ inputs.conf.threads
-  pub few_threads : inputs.conf.threads ≤ 16
-  pub short : All IsShort inputs.capture.packets
-
 -- its setting, which has the meaning of the box
 abbrev pub setting_for : (inputs : Inputs) → Setting (meaning_of inputs.conf.kind).value
 setting_for inputs = setting_of (meaning_of inputs.conf.kind).meaning (script_of inputs)
@@ -55,23 +47,18 @@ EndsRun inputs =
 abbrev pub StopsRun : Inputs → Limit → Type 0
 StopsRun inputs limit = (report : List ℕ) × (released : List Packet) × LeavesAt (setting_for inputs) inputs.events limit report released
 
--- the inputs are accepted, and their events are performed
-pub record AsksForRun (names : RunNames) (inputs : Inputs) (shown : Shown) : Type 0 where
-  pub accepted : AcceptsInputs names inputs shown
-  pub performed : All IsPerformed inputs.events
-
 -- What the command leaves
 
 -- the outputs are the files that the run leaves
 abbrev pub RunsWhole : RunNames → Shown → Shown → Type 0
-RunsWhole names old new = (inputs : Inputs) × AsksForRun names inputs old × HasRun (setting_for inputs) (outputs_of names) inputs.events old new
+RunsWhole names old new = (inputs : Inputs) × AcceptsInputs names inputs old × HasRun (setting_for inputs) (outputs_of names) inputs.events old new
 
 -- the run stopped at this limit
 abbrev pub RunsToLimit : RunNames → Limit → Shown → Shown → Type 0
 RunsToLimit names limit old new =
-    (inputs : Inputs) × AsksForRun names inputs old × HasStopped (setting_for inputs) (outputs_of names) inputs.events limit old new
+    (inputs : Inputs) × AcceptsInputs names inputs old × HasStopped (setting_for inputs) (outputs_of names) inputs.events limit old new
 
 -- nothing was written, or some first part of what the run writes, in its order, and nothing else
 abbrev pub RunsInOrder : RunNames → Shown → Shown → Type 0
 RunsInOrder names old new =
-    KeepsShown old new ⊎ ((inputs : Inputs) × AsksForRun names inputs old × HasBegunRun (setting_for inputs) (outputs_of names) inputs.events old new)
+    KeepsShown old new ⊎ ((inputs : Inputs) × AcceptsInputs names inputs old × HasBegunRun (setting_for inputs) (outputs_of names) inputs.events old new)

@@ -18,7 +18,7 @@ use Rattle.schedule_run.specs.declared.error.ScheduleError.TheVariants as of_sch
 use Rattle.job_top.specs.declared.status.InputFault.{InputFault}
 use Rattle.job_top.specs.declared.status.InputFault.TheVariants.{BoxFile, Capture, NgCapture, Script, Schedule, Moves, Released, NgReleased}
 use Rattle.job_top.specs.declared.status.Status.{Status}
-use Rattle.job_top.specs.declared.status.Status.TheVariants.{Done, Refuted, BadWords, ReadFault, WriteFault, NoMemory, BadInput, TooLarge, NotBuilt}
+use Rattle.job_top.specs.declared.status.Status.TheVariants.{Done, Refuted, BadWords, ReadFault, WriteFault, NoMemory, BadInput, TooLarge}
 
 -- the exit number of the program
 abbrev pub exit_code_of : Status → ℕ
@@ -30,7 +30,6 @@ exit_code_of WriteFault = 4
 exit_code_of NoMemory = 5
 exit_code_of (BadInput fault) = 6
 exit_code_of (TooLarge limit) = 7
-exit_code_of NotBuilt = 8
 
 -- the stages of a command: its words are read; its inputs are read and judged; its outputs are written
 pub data Stage : Type 0 where
@@ -57,7 +56,6 @@ stage_of WriteFault = AtOutputs
 stage_of NoMemory = AtAnyTime
 stage_of (BadInput fault) = AtInputs
 stage_of (TooLarge limit) = stage_of_limit limit
-stage_of NotBuilt = AtInputs
 
 -- the status comes at this stage, or says that memory ran out
 abbrev pub ComesAt : Stage → Status → Type 0
@@ -73,7 +71,6 @@ EndsReading WriteFault = ⊥
 EndsReading NoMemory = Unit {0}
 EndsReading (BadInput fault) = Unit {0}
 EndsReading (TooLarge limit) = Unit {0}
-EndsReading NotBuilt = Unit {0}
 
 abbrev pub of_box_error : InputError LineFault → Status
 of_box_error of_input.ReadFault = ReadFault

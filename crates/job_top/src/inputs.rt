@@ -1,11 +1,10 @@
-ghost use Rattle.std.specs.Prelude.{◌≡◌, ◌<◌, ◌-◌, ◌^◌, ◌↔◌, All, IsTrue, IfOk, IfErr, IsErrOf};
+ghost use Rattle.std.specs.Prelude.{◌≡◌, ◌<◌, ◌-◌, ◌^◌, IsTrue, IfOk, IfErr, IsErrOf};
 ghost use Rattle.world_io.specs.Stream.{Rose};
-ghost use Rattle.recovery_core.specs.Performing.{IsPerformed};
 ghost use Rattle.script_run.specs.Run.{CanRun};
 ghost use Rattle.input_files.specs.Files.{KeepsOutputs};
-ghost use Rattle.job_top.specs.Judging.{JudgesFiles, JudgesInputs};
+ghost use Rattle.job_top.specs.Judging.{JudgesInputs};
 ghost use Rattle.job_top.specs.Reading.{AfterInputs};
-ghost use Rattle.job_top.specs.Run.{FitsRun, script_of};
+ghost use Rattle.job_top.specs.Run.{script_of};
 ghost use Rattle.job_top.specs.Status.{AtInputs, ComesAt, EndsReading};
 ghost use Rattle.job_top.specs.Words.{names_of};
 
@@ -13,8 +12,6 @@ use crate::status::{box_status, capture_status, script_status};
 use crate::{RunWords, Status};
 use box_conf::BoxConf;
 use input_files::{Capture, read_box_file, read_capture_file, read_script_file};
-use recovery_core::is_performed;
-use recovery_world::Event;
 use script_text::Events;
 use std::alloc::Global;
 use world_io::World;
@@ -27,26 +24,18 @@ pub struct Inputs {
     pub events: Events,
 }
 
-/// Whether each event is one that is performed.
-fn are_performed(events: &[Event]) -> bool
-    ensures { IsTrue result ↔ All IsPerformed events.now }
-{
-    for event in events {
-        if !is_performed(event) {
-            return false;
-        }
-    }
-    true
-}
-
-/// Reads the input files, in their order: box, capture, script.
-fn read_files<W: World>(alloc: Global, world: &mut W, names: RunWords<'_>) -> Result<Inputs, Status>
+/// Reads and judges the input files, in their order: box, capture, script. The first that is not accepted ends the command.
+pub fn read_inputs<W: World>(
+    alloc: Global,
+    world: &mut W,
+    names: RunWords<'_>,
+) -> Result<Inputs, Status>
     requires { (W.ledger world.old).given < 2 ^ 31 }
     ensures judged { IsTrue W.tells
-        → JudgesFiles (W.healthy world.old) (names_of names.entry) result (W.shown world.old) }
+        → JudgesInputs (W.healthy world.old) (names_of names.entry) result (W.shown world.old) }
     ensures stage { IsTrue W.tells → IfErr result (ComesAt AtInputs) }
     ensures quiet { IfErr result EndsReading }
-    ensures can_run { IfOk result FitsRun }
+    ensures can_run { IfOk result (λ inputs. CanRun (script_of inputs)) }
     ensures outputs { IsTrue W.tells → KeepsOutputs (W.shown world.old) (W.shown world.new) }
     ensures ledger { AfterInputs 3 (W.ledger world.old) (W.ledger world.new) }
     ensures cause { IsErrOf result Status.ReadFault
@@ -68,31 +57,5 @@ fn read_files<W: World>(alloc: Global, world: &mut W, names: RunWords<'_>) -> Re
             events,
         }),
         Err(error) => Err(script_status(error)),
-    }
-}
-
-/// Reads and judges the input files, in their order. Only when all are accepted it is judged whether each event is performed.
-pub fn read_inputs<W: World>(
-    alloc: Global,
-    world: &mut W,
-    names: RunWords<'_>,
-) -> Result<Inputs, Status>
-    requires { (W.ledger world.old).given < 2 ^ 31 }
-    ensures judged { IsTrue W.tells
-        → JudgesInputs (W.healthy world.old) (names_of names.entry) result (W.shown world.old) }
-    ensures stage { IsTrue W.tells → IfErr result (ComesAt AtInputs) }
-    ensures quiet { IfErr result EndsReading }
-    ensures can_run { IfOk result (λ inputs. CanRun (script_of inputs)) }
-    ensures outputs { IsTrue W.tells → KeepsOutputs (W.shown world.old) (W.shown world.new) }
-    ensures ledger { AfterInputs 3 (W.ledger world.old) (W.ledger world.new) }
-    ensures cause { IsErrOf result Status.ReadFault
-        → Rose (W.ledger world.old).read_faults (W.ledger world.new).read_faults }
-    ensures stays_healthy { W.healthy world.old → W.healthy world.new }
-{
-    let inputs = read_files(alloc, world, names)?;
-    if are_performed(inputs.events.as_slice()) {
-        Ok(inputs)
-    } else {
-        Err(Status::NotBuilt)
     }
 }

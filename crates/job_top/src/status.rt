@@ -43,8 +43,6 @@ pub enum Status {
     BadInput(InputFault),
     /// A file passes a limit, or the run would.
     TooLarge(Limit),
-    /// The inputs are accepted, and the script has an event that is not performed yet.
-    NotBuilt,
 }
 
 impl Status {
@@ -61,7 +59,6 @@ impl Status {
             Status::NoMemory => 5,
             Status::BadInput(_) => 6,
             Status::TooLarge(_) => 7,
-            Status::NotBuilt => 8,
         }
     }
 }

@@ -19,7 +19,6 @@ use Rattle.recovery_world.specs.Many.{Stops}
 use Rattle.recovery_world.specs.Finish.{IsFinish}
 use Rattle.recovery_world.specs.Files.{done_line, moves_made, Leaves, LeavesAt}
 use Rattle.recovery_core.specs.Parts.{IsShort}
-use Rattle.recovery_core.specs.Performing.{IsPerformed}
 use Rattle.output_files.specs.Writes.{report_file, Write, Creates, Appends, Reports, HasWritten, HasBegun}
 use Rattle.script_run.specs.declared.run.ScriptRun.{ScriptRun}
 use Rattle.script_run.specs.declared.run.RunFiles.{RunFiles}
@@ -37,12 +36,11 @@ setting_of m run = record {
   seed = run.seed;
 }
 
--- inputs that a box can run on: 1 to 16 threads, packets that a record can have, and events that are performed
+-- inputs that a box can run on: 1 to 16 threads, and packets that a record can have
 pub record CanRun (run : ScriptRun) : Type 0 where
   pub some_threads : 1 ≤ run.threads
   pub few_threads : run.threads ≤ 16
   pub short : All IsShort run.packets
-  pub performed : All IsPerformed run.events
 
 -- the names of the two outputs
 pub record OutputNames : Type 0 where

@@ -1,7 +1,6 @@
 ghost use Rattle.std.specs.Prelude.{◌≡◌, All, OnOk, false};
 ghost use Rattle.recovery_world.specs.World.{Setting, World};
 ghost use Rattle.recovery_core.specs.Parts.{IsShort};
-ghost use Rattle.recovery_core.specs.Performing.{IsPerformed};
 ghost use Rattle.script_run.specs.Running.{ComesTo, IsAt, packets_in};
 
 use access_log::Outputs;
@@ -21,7 +20,6 @@ pub struct Performed {
 /// Performs an event, and takes what it released.
 pub fn perform<P: Program>(system: &mut System<P>, event: &Event) -> Performed
     requires runs { system.old.stopped ≡ false }
-    requires performed { IsPerformed event.now }
     ensures comes { ComesTo (P.meaning system.old.parts.program) event.now result.reply
         result.outputs system.old system.new }
     ensures short { (s : Setting P.Value) (w : World P.Value)

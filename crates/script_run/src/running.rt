@@ -4,7 +4,6 @@ ghost use Rattle.world_io.specs.World.{Shown, KeepsLedgerWriting, is_writable};
 ghost use Rattle.recovery_world.specs.declared.event.Event.{Event as EventKind};
 ghost use Rattle.recovery_world.specs.World.{Setting};
 ghost use Rattle.recovery_core.specs.Parts.{IsShort};
-ghost use Rattle.recovery_core.specs.Performing.{IsPerformed};
 ghost use Rattle.output_files.specs.Writes.{IsOutput, KeepsOutputs};
 ghost use Rattle.script_run.specs.Run.{OutputNames, Finishes};
 ghost use Rattle.script_run.specs.Running.{GoesOn, HasCome, IsSomewhere};
@@ -32,7 +31,6 @@ pub fn perform_event<P: Program, W: World>(
 ) -> Result<(), RunError>
     requires runs { system.old.stopped ≡ false }
     requires somewhere { IsSomewhere (P.meaning system.old.parts.program) system.old }
-    requires performed { IsPerformed event.now }
     requires writable { IsTrue (is_writable (W.ledger world.old) file) }
     ensures told { IsTrue W.tells → (s : Setting P.Value) (names : OutputNames)
         (events : List EventKind) (before : Shown)
@@ -81,7 +79,6 @@ pub fn perform_events<P: Program, W: World>(
 ) -> Result<(), RunError>
     requires runs { system.old.stopped ≡ false }
     requires somewhere { IsSomewhere (P.meaning system.old.parts.program) system.old }
-    requires performed { All IsPerformed events.now }
     requires writable { IsTrue (is_writable (W.ledger world.old) file) }
     ensures told { IsTrue W.tells → (s : Setting P.Value) (names : OutputNames) (before : Shown)
         → IsOutput file names.released (W.shown world.old)

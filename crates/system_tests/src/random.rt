@@ -5,7 +5,7 @@ use crate::replay::{SEED, capture_of, system_of};
 use box_program::{CountBox, PeekBox, Program};
 use monitor_box::MonitorBox;
 use plain_text::{Kind, NoMemory, Unit};
-use recovery_core::{System, is_performed};
+use recovery_core::System;
 use recovery_world::Event;
 use sample_frames::{NEXT_QUERY, QUERY};
 use script_text::{write_outcome, write_released};
@@ -94,9 +94,6 @@ fn same_reply<P: Program>(
     let Ok(slow) = on(world, alloc, program, setup, event)? else {
         return Ok(false);
     };
-    if !is_performed(&event) {
-        return Ok(false);
-    }
     let Ok(reply) = system.on(&event) else {
         return Ok(false);
     };

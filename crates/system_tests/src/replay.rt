@@ -3,7 +3,7 @@ ghost use Rattle.recovery_core.specs.Parts.{IsShort};
 
 use box_program::Program;
 use plain_text::{Bytes, MOST_CAPTURED, NoMemory, Packet, Packets, Unit};
-use recovery_core::{System, is_performed, put_line};
+use recovery_core::{System, put_line};
 use recovery_world::Event;
 use script_text::read_script;
 use std::alloc::Global;
@@ -73,9 +73,6 @@ fn perform<P: Program>(
     match events {
         [] => Ok(true),
         [event, rest @ ..] => {
-            if !is_performed(event) {
-                return Ok(false);
-            }
             let Ok(reply) = system.on(event) else {
                 return Ok(false);
             };

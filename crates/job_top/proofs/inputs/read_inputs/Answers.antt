@@ -1,16 +1,31 @@
-use Rattle.std.proofs.Common.{rules, ◌≡◌, List, Bool, true, false, sym, subst}
-use Rattle.std.specs.Prelude.{◌↔◌, All, IsTrue}
-use Rattle.recovery_world.specs.declared.event.Event.{Event}
-use Rattle.recovery_core.specs.Performing.{IsPerformed}
+use Rattle.std.proofs.Common.{◌∙◌}
+use Rattle.job_top.specs.Words.{names_of}
+use Rattle.job_top.proofs.Verdicts.{box_refused, capture_refused, script_refused, accepts_capture}
+use Rattle.job_top.proofs.Stages.{capture_stage}
 use Rattle.job_top.proofs.inputs.read_inputs.Goals as goal
 
--- where the answer is no, they are not all performed
-not_all : (b : Bool) (xs ys : List Event) → b ≡ false → xs ≡ ys → (IsTrue b ↔ All IsPerformed xs) → All IsPerformed ys → ⊥
-not_all b xs ys fails same both all =
-    let yes : b ≡ true = both.1 (subst (All IsPerformed) (sym same) all) in
-    cc
+pub returns-in-Err-clause-judged : goal.returns-in-Err-clause-judged
+returns-in-Err-clause-judged g c told =
+    rw c.box_status.ensures (box_refused (g.W.World.healthy c.args.world.now) (names_of c.args.names) (g.W.World.shown c.args.world.now) c.in-Err.error (c.in-Err.ensures.judged told))
 
-pub returns-else-are_performed-clause-judged : goal.returns-else-are_performed-clause-judged
-returns-else-are_performed-clause-judged g c told =
-    let no : c.are_performed.result ≡ false = search rules in
-    (c.in_ok-inputs.inputs, c.in_ok-inputs.ensures.judged told, not_all c.are_performed.result c.as_slice.result.now c.in_ok-inputs.inputs.events no c.as_slice.ensures c.are_performed.ensures)
+pub returns-in-Err-read_capture_file-clause-judged : goal.returns-in-Err-read_capture_file-clause-judged
+returns-in-Err-read_capture_file-clause-judged g c told =
+    rw c.capture_status.ensures (capture_refused (g.W.World.healthy c.args.world.now) (g.W.World.healthy c.read_box_file.new.world) c.in-Ok.ensures.stays_healthy (names_of c.args.names)
+    (g.W.World.shown c.args.world.now) (g.W.World.shown c.read_box_file.new.world) (c.in-Ok.ensures.outputs told).names
+    c.in-Err-read_capture_file.error c.in-Ok.conf (c.in-Ok.ensures.judged told) (c.in-Err-read_capture_file.ensures.judged told))
+
+pub returns-in-Err-read_capture_file-clause-stage : goal.returns-in-Err-read_capture_file-clause-stage
+returns-in-Err-read_capture_file-clause-stage g c told =
+    rw c.capture_status.ensures (capture_stage (g.W.World.healthy c.read_box_file.new.world) c.args.names.capture.now (g.W.World.shown c.read_box_file.new.world) c.in-Err-read_capture_file.error (c.in-Err-read_capture_file.ensures.judged told))
+
+pub returns-in-Err-read_script_file-clause-judged : goal.returns-in-Err-read_script_file-clause-judged
+returns-in-Err-read_script_file-clause-judged g c told =
+    let h = g.W.World.healthy c.args.world.now in
+    let a = g.W.World.shown c.args.world.now in
+    let one = (c.in-Ok.ensures.outputs told).names in
+    let two = (c.in-Ok-read_capture_file.ensures.outputs told).names ∙ one in
+    rw c.script_status.ensures (script_refused h (g.W.World.healthy c.read_capture_file.new.world) (λ ok. c.in-Ok-read_capture_file.ensures.stays_healthy (c.in-Ok.ensures.stays_healthy ok)) (names_of c.args.names)
+    a (g.W.World.shown c.read_capture_file.new.world) two
+    c.in-Err-read_script_file.error c.in-Ok.conf c.in-Ok-read_capture_file.capture (c.in-Ok.ensures.judged told)
+    (accepts_capture h (g.W.World.healthy c.read_box_file.new.world) c.in-Ok.ensures.stays_healthy (names_of c.args.names) a (g.W.World.shown c.read_box_file.new.world) one
+    c.in-Ok-read_capture_file.capture (c.in-Ok-read_capture_file.ensures.judged told)) (c.in-Err-read_script_file.ensures.judged told))
