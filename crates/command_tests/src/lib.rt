@@ -5,6 +5,10 @@
 #[cfg(test)]
 mod balancer;
 #[cfg(test)]
+mod crashed_races;
+#[cfg(test)]
+mod crashes;
+#[cfg(test)]
 mod limits;
 #[cfg(test)]
 mod nat;

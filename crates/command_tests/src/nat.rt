@@ -7,7 +7,7 @@ const QUERY_AND_ANSWER: &[u8] =
     b"\xd4\xc3\xb2\xa1\x02\0\x04\0\0\0\0\0\0\0\0\0\xff\xff\0\0\x01\0\0\0d\0\0\0\x05\0\0\0*\0\0\0*\0\0\0\x02\0\xaa\xaa\xaa\xaa\x02\0\0\0\0\x01\x08\0E\0\0\x1c\0\x01\0\0@\x11F\x91\x0a\0\0\x05\xc63d\x07\x13\x88\05\0\x08\xb7\xe1d\0\0\0\x06\0\0\0*\0\0\0*\0\0\0\x02\0\xaa\xaa\xaa\xaa\x02\0\0\0\0\x01\x08\0E\0\0\x1c\0\x04\0\0@\x11\x14\x91\xc63d\x07\xcb\0q\x01\05\x99l\0\x08\0\0";
 
 /// A capture of `QUERY`, and of `OTHER_QUERY` a microsecond later.
-const QUERY_AND_OTHER: &[u8] =
+pub const QUERY_AND_OTHER: &[u8] =
     b"\xd4\xc3\xb2\xa1\x02\0\x04\0\0\0\0\0\0\0\0\0\xff\xff\0\0\x01\0\0\0d\0\0\0\x05\0\0\0*\0\0\0*\0\0\0\x02\0\xaa\xaa\xaa\xaa\x02\0\0\0\0\x01\x08\0E\0\0\x1c\0\x01\0\0@\x11F\x91\x0a\0\0\x05\xc63d\x07\x13\x88\05\0\x08\xb7\xe1d\0\0\0\x06\0\0\0*\0\0\0*\0\0\0\x02\0\xaa\xaa\xaa\xaa\x02\0\0\0\0\x01\x08\0E\0\0\x1c\0\x01\0\0@\x11F\x90\x0a\0\0\x05\xc63d\x08\x13\x88\05\0\x08\xb7\xe0";
 
 /// A capture of `QUERY`, and of `HAIRPIN` a microsecond later.
@@ -27,11 +27,11 @@ const OUT_AND_BACK: &[u8] =
     b"\xd4\xc3\xb2\xa1\x02\0\x04\0\0\0\0\0\0\0\0\0\0\0\x04\0\x01\0\0\0d\0\0\0\x05\0\0\0*\0\0\0*\0\0\0\x02\0\xaa\xaa\xaa\xaa\x02\0\0\0\0\x01\x08\0E\0\0\x1c\0\x01\0\0@\x11\x14\x94\xcb\0q\x01\xc63d\x07\x99l\05\0\x08\xff\xffd\0\0\0\x06\0\0\0*\0\0\0*\0\0\0\x02\0\xaa\xaa\xaa\xaa\x02\0\0\0\0\x01\x08\0E\0\0\x1c\0\x04\0\0@\x11F\x8e\xc63d\x07\x0a\0\0\x05\05\x13\x88\0\x08\0\0";
 
 /// Both queries from 203.0.113.1:39278.
-const FROM_ONE_PORT: &[u8] =
+pub const FROM_ONE_PORT: &[u8] =
     b"\xd4\xc3\xb2\xa1\x02\0\x04\0\0\0\0\0\0\0\0\0\0\0\x04\0\x01\0\0\0d\0\0\0\x05\0\0\0*\0\0\0*\0\0\0\x02\0\xaa\xaa\xaa\xaa\x02\0\0\0\0\x01\x08\0E\0\0\x1c\0\x01\0\0@\x11\x14\x94\xcb\0q\x01\xc63d\x07\x99n\05\0\x08\xff\xfdd\0\0\0\x06\0\0\0*\0\0\0*\0\0\0\x02\0\xaa\xaa\xaa\xaa\x02\0\0\0\0\x01\x08\0E\0\0\x1c\0\x01\0\0@\x11\x14\x93\xcb\0q\x01\xc63d\x08\x99n\05\0\x08\xff\xfc";
 
 /// The query alone, from 203.0.113.1:39276.
-const ONE_OUT: &[u8] =
+pub const ONE_OUT: &[u8] =
     b"\xd4\xc3\xb2\xa1\x02\0\x04\0\0\0\0\0\0\0\0\0\0\0\x04\0\x01\0\0\0d\0\0\0\x05\0\0\0*\0\0\0*\0\0\0\x02\0\xaa\xaa\xaa\xaa\x02\0\0\0\0\x01\x08\0E\0\0\x1c\0\x01\0\0@\x11\x14\x94\xcb\0q\x01\xc63d\x07\x99l\05\0\x08\xff\xff";
 
 /// The query from port 39276, and the packet between two inside hosts from port 39277.
@@ -55,8 +55,12 @@ const OUT_ONE_AFTER_THE_OTHER: &[u8] =
     b"\xd4\xc3\xb2\xa1\x02\0\x04\0\0\0\0\0\0\0\0\0\0\0\x04\0\x01\0\0\0d\0\0\0\x05\0\0\0*\0\0\0*\0\0\0\x02\0\xaa\xaa\xaa\xaa\x02\0\0\0\0\x01\x08\0E\0\0\x1c\0\x01\0\0@\x11\x14\x94\xcb\0q\x01\xc63d\x07\x99l\05\0\x08\xff\xff\x90\x01\0\0\x05\0\0\0*\0\0\0*\0\0\0\x02\0\xaa\xaa\xaa\xaa\x02\0\0\0\0\x01\x08\0E\0\0\x1c\0\x02\0\0@\x11\x14\x93\xcb\0q\x01\xc63d\x07\x99l\05\0\x08\xff\xff";
 
 /// One outside port, 39276, for the inside network 10.0.0.0/8.
-const ONE_PORT: &[u8] =
+pub const ONE_PORT: &[u8] =
     b"box nat\nseed 42\nshards 1\ninside 10.0.0.0 8\noutside 203.0.113.1\nports 39276 39276";
+
+/// Four outside ports, for two threads.
+pub const RACE_BOX: &[u8] =
+    b"box nat\nseed 42\nshards 1\nthreads 2\ninside 10.0.0.0 8\noutside 203.0.113.1\nports 39276 39279";
 
 /// A query goes out from the one port, its checksum coming to 0 and written as all ones, and its answer comes back in. Word by word: the
 /// first moves of a packet take it, ask the time, look for its mapping, and draw.
@@ -91,7 +95,7 @@ fn a_query_and_its_answer(rt: HostRuntime) -> Result<(), Fail> {
 #[test]
 fn two_threads_race_on_one_endpoint(rt: HostRuntime) -> Result<(), Fail> {
     let race = Case {
-        box_file: b"box nat\nseed 42\nshards 1\nthreads 2\ninside 10.0.0.0 8\noutside 203.0.113.1\nports 39276 39279",
+        box_file: RACE_BOX,
         capture: QUERY_AND_OTHER,
         script: b"feed 2\nstep 0\nstep 0\nstep 0\nstep 1\nstep 1\nstep 1\nstep 0 = 0\nstep 1 = 0\nstep 0\nstep 1\nstep 0\nstep 1\nstep 1\nstep 0\nstep 0\nstep 0\nshow 2\nshow 1\nshow 3\nsettle\nshow 3",
         released: Some(FROM_ONE_PORT),

@@ -112,6 +112,52 @@ pub fn first_wrong(alloc: Global, cases: &[Case<'_>]) -> Result<Option<usize>, N
     Ok(None)
 }
 
+/// Whether the run of a case is done and leaves its released capture, and `check` accepts it with the schedule, in a world that has given
+/// no numbers.
+fn is_accepted(alloc: Global, world: &mut MemoryWorld, case: Case<'_>) -> Result<bool, NoMemory>
+    requires { length world.old.files ≡ 0 }
+{
+    add_file(alloc, world, "box", case.box_file)?;
+    add_file(alloc, world, "in", case.capture)?;
+    add_file(alloc, world, "script", case.script)?;
+    let ran = give_words(alloc, world, &RUN)?;
+    let released = has_file(alloc, world, "out", case.released)?;
+    let checked = give_words(alloc, world, &["check", "box", "in", "moves", "out"])?;
+    Ok(ran == Status::Done && checked == Status::Done && released)
+}
+
+/// Whether it is, and leaves the schedule of the case, and the run and the check the report.
+fn leaves(alloc: Global, world: &mut MemoryWorld, case: Case<'_>) -> Result<bool, NoMemory>
+    requires { length world.old.files ≡ 0 }
+{
+    let accepted = is_accepted(alloc, world, case)?;
+    let schedule = has_file(alloc, world, "moves", case.schedule)?;
+    Ok(accepted && schedule && world.report() == case.report)
+}
+
+/// Whether it does in a world of its own.
+fn is_left_accepted(alloc: Global, case: Case<'_>) -> Result<bool, NoMemory> {
+    let mut world = MemoryWorld::new(alloc)?;
+    leaves(alloc, &mut world, case)
+}
+
+/// The place of the first case that does not come to what it says and is accepted by `check`, whose line ends the report.
+pub fn first_unaccepted(alloc: Global, cases: &[Case<'_>]) -> Result<Option<usize>, NoMemory> {
+    for place in 0..cases.len() {
+        if !is_left_accepted(alloc, cases[place])? {
+            return Ok(Some(place));
+        }
+    }
+    Ok(None)
+}
+
+/// Whether the run of a case leaves its released capture and is accepted, and the report ends as the case says.
+pub fn ends_accepted(alloc: Global, case: Case<'_>) -> Result<bool, NoMemory> {
+    let mut world = MemoryWorld::new(alloc)?;
+    let accepted = is_accepted(alloc, &mut world, case)?;
+    Ok(accepted && world.report().ends_with(case.report))
+}
+
 /// Whether a run whose calls of writing fail at this one comes to what the case says.
 pub fn holds_where_writing_fails(
     alloc: Global,

@@ -1,0 +1,235 @@
+//! Two threads race over the tables of a NAT, and the master crashes at each event of the race.
+use crate::nat::{FROM_ONE_PORT, QUERY_AND_OTHER, RACE_BOX};
+use crate::runs::{Case, ONE, ends_accepted};
+use plain_text::{Bytes, NoMemory};
+use std::alloc::Global;
+use std::test::Fail;
+
+/// Both queries from 203.0.113.1:39276.
+const FROM_THE_OTHER_PORT: &[u8] =
+    b"\xd4\xc3\xb2\xa1\x02\0\x04\0\0\0\0\0\0\0\0\0\0\0\x04\0\x01\0\0\0d\0\0\0\x05\0\0\0*\0\0\0*\0\0\0\x02\0\xaa\xaa\xaa\xaa\x02\0\0\0\0\x01\x08\0E\0\0\x1c\0\x01\0\0@\x11\x14\x94\xcb\0q\x01\xc63d\x07\x99l\05\0\x08\xff\xffd\0\0\0\x06\0\0\0*\0\0\0*\0\0\0\x02\0\xaa\xaa\xaa\xaa\x02\0\0\0\0\x01\x08\0E\0\0\x1c\0\x01\0\0@\x11\x14\x93\xcb\0q\x01\xc63d\x08\x99l\05\0\x08\xff\xfe";
+
+/// Both queries from 203.0.113.1:39278, the second one first.
+const SECOND_FIRST: &[u8] =
+    b"\xd4\xc3\xb2\xa1\x02\0\x04\0\0\0\0\0\0\0\0\0\0\0\x04\0\x01\0\0\0d\0\0\0\x06\0\0\0*\0\0\0*\0\0\0\x02\0\xaa\xaa\xaa\xaa\x02\0\0\0\0\x01\x08\0E\0\0\x1c\0\x01\0\0@\x11\x14\x93\xcb\0q\x01\xc63d\x08\x99n\05\0\x08\xff\xfcd\0\0\0\x05\0\0\0*\0\0\0*\0\0\0\x02\0\xaa\xaa\xaa\xaa\x02\0\0\0\0\x01\x08\0E\0\0\x1c\0\x01\0\0@\x11\x14\x94\xcb\0q\x01\xc63d\x07\x99n\05\0\x08\xff\xfd";
+
+/// What a race leaves: its released capture, and the tables of the NAT as they are shown.
+#[derive(Clone, Copy)]
+struct Left<'a> {
+    released: &'a [u8],
+    tables: &'a [u8],
+}
+
+/// Both packets have left from port 39278, which alone stands for the endpoint.
+const LEFT_WITH_39278: Left<'static> = Left {
+    released: FROM_ONE_PORT,
+    tables: b"show 1 tcp 4 udp 3\nshow 2 udp 10.0.0.5:5000 39278 100000006\nshow 3 udp 39278 10.0.0.5:5000\n",
+};
+
+/// The same with port 39276.
+const LEFT_WITH_39276: Left<'static> = Left {
+    released: FROM_THE_OTHER_PORT,
+    tables: b"show 1 tcp 4 udp 3\nshow 2 udp 10.0.0.5:5000 39276 100000006\nshow 3 udp 39276 10.0.0.5:5000\n",
+};
+
+/// How a script goes on from the event at which the master crashes, and the last lines of the reports of its run and its check.
+#[derive(Clone, Copy)]
+struct Ending<'a> {
+    events: &'a [u8],
+    last: &'a [u8],
+}
+
+/// A new master goes on to the end.
+const CRASHED: Ending<'static> = Ending {
+    events: b"crash\nrecover\nsettle\nshow 1\nshow 2\nshow 3\n",
+    last: b"done fed 2 epoch 2 released 2\nfound 2\n",
+};
+
+/// The new master crashes in the middle of its replay, and so does the next one.
+const CRASHED_IN_REPLAYS: Ending<'static> = Ending {
+    events: b"crash\nrecover\nstep 0\nstep 1\nstep 0\ncrash\nrecover\nstep 1\nstep 1\nstep 0\nstep 0\nstep 0\ncrash\nrecover\nsettle\nshow 1\nshow 2\nshow 3\n",
+    last: b"done fed 2 epoch 4 released 2\nfound 2\n",
+};
+
+/// The moves of the race. Both threads take a port before either is mapped; the first to be mapped, thread 1's, is the endpoint's.
+const MOVES: [&str; 20] = [
+    "step 0\n",
+    "step 0\n",
+    "step 0\n",
+    "step 1\n",
+    "step 1\n",
+    "step 1\n",
+    "step 0 = 0\n",
+    "step 1 = 0\n",
+    "step 0\n",
+    "step 1\n",
+    "step 0\n",
+    "step 1\n",
+    "step 1\n",
+    "step 1\n",
+    "step 0\n",
+    "step 0\n",
+    "step 0\n",
+    "step 0\n",
+    "step 0\n",
+    "step 1\n",
+];
+
+/// The same, and each log entry and each output arrives at once.
+const LOGGED: [&str; 36] = [
+    "step 0\n",
+    "step 0\n",
+    "log 0 1\n",
+    "step 0\n",
+    "log 0 2\n",
+    "step 1\n",
+    "step 1\n",
+    "log 1 1\n",
+    "step 1\n",
+    "log 1 2\n",
+    "step 0 = 0\n",
+    "log 0 3\n",
+    "step 1 = 0\n",
+    "log 1 3\n",
+    "step 0\n",
+    "log 0 4\n",
+    "step 1\n",
+    "log 1 4\n",
+    "step 0\n",
+    "log 0 5\n",
+    "step 1\n",
+    "log 1 5\n",
+    "step 1\n",
+    "log 1 6\n",
+    "step 1\n",
+    "out 1 1\n",
+    "step 0\n",
+    "log 0 6\n",
+    "step 0\n",
+    "log 0 7\n",
+    "step 0\n",
+    "log 0 8\n",
+    "step 0\n",
+    "out 0 1\n",
+    "step 0\n",
+    "step 1\n",
+];
+
+/// What is kept of a race: nothing, each log entry, or a snapshot behind each move.
+#[derive(Clone, Copy)]
+enum Kept {
+    Nothing,
+    Entries,
+    Snapshots,
+}
+
+impl Kept {
+    /// What is left after a crash behind this number of events. Both ports that the host's own port asks for, 39276 and 39278, are even;
+    /// an even word takes the first of two that are free, an odd one the second.
+    ///
+    /// Nothing is kept: thread 0 goes first, draws 2707161783, and maps the host to 39278. Thread 1 finds the mapping.
+    ///
+    /// Each entry is held: behind ten events it is held that thread 1 looked for the mapping. It is to look again before thread 0 may map
+    /// the host, so it goes on to map it, to the port that thread 0 left. Thread 0 took 39276 where it is held that it drew 0, behind
+    /// twelve events; before, it draws 2707161783 and takes 39278. Behind 26 events the packet of thread 1 has left before the crash.
+    ///
+    /// A snapshot is stored behind each move: thread 0 goes on first, and has drawn 0 in those of seven moves and more. It maps the host to
+    /// 39276, unless thread 1 has mapped it, which is so behind thirteen moves.
+    fn left(self, events: usize) -> Left<'static> {
+        match self {
+            Kept::Nothing => LEFT_WITH_39278,
+            Kept::Entries => match events {
+                10 | 11 => LEFT_WITH_39276,
+                26.. => Left {
+                    released: SECOND_FIRST,
+                    ..LEFT_WITH_39278
+                },
+                _ => LEFT_WITH_39278,
+            },
+            Kept::Snapshots => match events / 3 {
+                7..=12 => LEFT_WITH_39276,
+                _ => LEFT_WITH_39278,
+            },
+        }
+    }
+}
+
+/// The script of these events that goes on so.
+fn script_of(alloc: Global, events: &[&str], ending: Ending<'_>) -> Result<Bytes, NoMemory> {
+    let mut script = Bytes::of(alloc, b"feed 2\n")?;
+    for event in events {
+        script.extend(event.as_bytes())?;
+    }
+    script.extend(ending.events)?;
+    Ok(script)
+}
+
+/// Whether a race whose master crashes behind these events leaves this, and `check` accepts it.
+fn leaves(
+    alloc: Global,
+    events: &[&str],
+    ending: Ending<'_>,
+    left: Left<'_>,
+) -> Result<bool, NoMemory> {
+    let script = script_of(alloc, events, ending)?;
+    let mut report = Bytes::of(alloc, left.tables)?;
+    report.extend(ending.last)?;
+    let case = Case {
+        box_file: RACE_BOX,
+        capture: QUERY_AND_OTHER,
+        script: script.as_slice(),
+        released: Some(left.released),
+        report: report.as_slice(),
+        ..ONE
+    };
+    ends_accepted(alloc, case)
+}
+
+/// The least number of events behind which a crash does not leave what it should.
+fn first_wrong_crash(
+    alloc: Global,
+    kept: Kept,
+    events: &[&str],
+    ending: Ending<'_>,
+) -> Result<Option<usize>, NoMemory> {
+    for place in 0..events.len() + 1 {
+        if !leaves(alloc, &events[..place], ending, kept.left(place))? {
+            return Ok(Some(place));
+        }
+    }
+    Ok(None)
+}
+
+#[test]
+fn a_crash_at_each_move_with_nothing_kept(rt: HostRuntime) -> Result<(), Fail> {
+    let wrong = first_wrong_crash(rt.alloc(), Kept::Nothing, &MOVES, CRASHED)?;
+    assert_eq!(rt; wrong, None);
+    Ok(())
+}
+
+#[test]
+fn a_crash_at_each_event_with_each_entry_held(rt: HostRuntime) -> Result<(), Fail> {
+    let wrong = first_wrong_crash(rt.alloc(), Kept::Entries, &LOGGED, CRASHED)?;
+    assert_eq!(rt; wrong, None);
+    Ok(())
+}
+
+#[test]
+fn crashes_at_each_event_and_twice_in_the_replay(rt: HostRuntime) -> Result<(), Fail> {
+    let wrong = first_wrong_crash(rt.alloc(), Kept::Entries, &LOGGED, CRASHED_IN_REPLAYS)?;
+    assert_eq!(rt; wrong, None);
+    Ok(())
+}
+
+#[test]
+fn a_crash_at_each_event_with_snapshots(rt: HostRuntime) -> Result<(), Fail> {
+    let mut events = Vec::new(rt.alloc());
+    for event in MOVES {
+        events.push(event)?;
+        events.push("snap\n")?;
+        events.push("store\n")?;
+    }
+    let wrong = first_wrong_crash(rt.alloc(), Kept::Snapshots, events.as_slice(), CRASHED)?;
+    assert_eq!(rt; wrong, None);
+    Ok(())
+}
