@@ -2,24 +2,27 @@ ghost use Rattle.std.specs.Prelude.{◌≡◌, ◌≤◌, IsTrue, IfOk, false};
 ghost use Rattle.slow_world.specs.Mirror.{WorldFits};
 
 use crate::replay::{SEED, capture_of, system_of};
+use access_log::Output;
 use box_program::{CountBox, PeekBox, Program};
 use monitor_box::MonitorBox;
+use nat_box::NatBox;
 use plain_text::{Kind, NoMemory, Unit};
 use recovery_core::System;
 use recovery_world::Event;
-use sample_frames::{NEXT_QUERY, QUERY};
+use sample_frames::{ANSWER, HAIRPIN, NEXT_QUERY, OTHER_QUERY, QUERY};
 use script_text::{write_outcome, write_released};
-use slow_runs::on;
+use slow_history::SentOut;
+use slow_runs::{finish, on};
 use slow_world::{Setup, SlowWorld, opening, word_after};
 use std::alloc::Global;
 use std::test::Fail;
 
-/// How many events each script has.
-const EVENTS: u64 = 60;
+/// How many events each script has. There are 300 scripts, 75 of each box.
+const EVENTS: u64 = 200;
 
-/// One of the first four entries or outputs of a thread arrives, by a word.
+/// One of the first entries or outputs of a thread arrives, by a word.
 fn message(word: u64, thread: u64) -> Event {
-    let number = word / 64 % 4;
+    let number = word / 64 % 10;
     let kind = if word / 16 % 2 == 0 {
         Kind::Log
     } else {
@@ -32,7 +35,7 @@ fn message(word: u64, thread: u64) -> Event {
             kind,
             thread,
             number,
-            length: 30 + word / 512 % 100,
+            length: 30 + word / 1024 % 100,
         },
         _ => Event::Late {
             epoch: word / 32 % 4,
@@ -106,7 +109,7 @@ fn same_reply<P: Program>(
     Ok(made.as_str() == right.as_str())
 }
 
-/// How many events, by the words from this place on, have the same reply of both, up to the first that has not.
+/// Whether the events by the words from this place on have the same replies of both.
 fn same_replies<P: Program>(
     alloc: Global,
     program: &P,
@@ -115,98 +118,214 @@ fn same_replies<P: Program>(
     system: &mut System<P>,
     place: u64,
     events: u64,
-) -> Result<u64, NoMemory>
+) -> Result<bool, NoMemory>
     requires fits { WorldFits (P.fits program.now) world.old }
     requires runs { system.old.stopped ≡ false }
+    ensures fits { IfOk result (λ _. WorldFits (P.fits program.now) world.new) }
+    ensures runs { IfOk result (λ same. IsTrue same → system.new.stopped ≡ false) }
 {
     if events == 0 {
-        return Ok(0);
+        return Ok(true);
     }
     let event = chosen(word_after(2_026, place), setup.threads);
     if !same_reply(alloc, program, setup, world, system, event)? {
-        return Ok(0);
+        return Ok(false);
     }
     let place = place.saturating_add(1);
-    let more = same_replies(alloc, program, setup, world, system, place, events - 1)?;
-    Ok(more.saturating_add(1))
+    same_replies(alloc, program, setup, world, system, place, events - 1)
 }
 
-/// How many events of a script have the same reply of the system and of the slow program.
-fn right_events<P: Program>(
+/// Whether an output that the system released is the one of the slow program, to the byte.
+fn is_output(output: &Output, sent: &SentOut) -> bool {
+    let (packet, right) = (&output.packet, &sent.emission.packet);
+    output.thread == sent.emission.thread
+        && output.number == sent.emission.number
+        && output.input == sent.emission.input
+        && packet.seconds == right.seconds
+        && packet.fraction == right.fraction
+        && packet.original == right.original
+        && packet.bytes.as_slice() == right.bytes.as_slice()
+}
+
+/// Whether the released outputs are those of the slow program, in order.
+fn same_releases(outputs: &[Output], released: &[SentOut]) -> bool {
+    outputs.len() == released.len()
+        && outputs
+            .iter()
+            .zip(released)
+            .all(|(output, sent)| is_output(output, sent))
+}
+
+/// Whether both end with the same schedule and the same counts.
+fn same_finish<P: Program>(
+    alloc: Global,
+    program: &P,
+    setup: &Setup,
+    world: &mut SlowWorld<P::Value>,
+    system: System<P>,
+) -> Result<bool, NoMemory>
+    requires fits { WorldFits (P.fits program.now) world.old }
+    requires runs { system.stopped ≡ false }
+{
+    let (fed, epoch, released) = (world.fed as u64, world.epoch, world.released.len() as u64);
+    let Some(moves) = finish(world, alloc, program, setup)? else {
+        return Ok(false);
+    };
+    let end = system.finish()?;
+    Ok(
+        end.schedule.as_slice() == moves.as_slice()
+            && end.fed == fed
+            && u64::from(end.epoch) == epoch
+            && end.released == released,
+    )
+}
+
+/// Whether the script of the words from this place on has the same report, the same releases and the same schedule of both.
+fn is_right<P: Program>(
+    alloc: Global,
+    program: &P,
+    setup: &Setup,
+    world: &mut SlowWorld<P::Value>,
+    mut system: System<P>,
+    place: u64,
+) -> Result<bool, NoMemory>
+    requires fits { WorldFits (P.fits program.now) world.old }
+    requires runs { system.stopped ≡ false }
+{
+    if !same_replies(alloc, program, setup, world, &mut system, place, EVENTS)? {
+        return Ok(false);
+    }
+    let outputs = system.take_released();
+    if !same_releases(outputs.as_slice(), &world.released) {
+        return Ok(false);
+    }
+    same_finish(alloc, program, setup, world, system)
+}
+
+/// Whether the script of this number, on 1 to 3 threads, comes to the same on both.
+fn script_is_right<P: Program>(
     alloc: Global,
     program: &P,
     copy: P,
-    threads: u32,
-    place: u64,
-) -> Result<u64, NoMemory>
-    requires some { 1 ≤ threads }
-    requires few { threads ≤ 16 }
-{
+    number: u32,
+) -> Result<bool, NoMemory> {
+    let threads = number % 3 + 1;
     let mut longer = Vec::from_slice(alloc, &NEXT_QUERY)?;
     longer.push(0)?;
-    let frames: [&[u8]; 4] = [&QUERY, &NEXT_QUERY, longer.as_slice(), &QUERY];
+    let frames: [&[u8]; 9] = [
+        &QUERY,
+        &NEXT_QUERY,
+        longer.as_slice(),
+        &ANSWER,
+        &OTHER_QUERY,
+        &HAIRPIN,
+        &QUERY,
+        longer.as_slice(),
+        &OTHER_QUERY,
+    ];
     let setup = Setup {
         threads,
         unit: Unit::Micro,
         packets: capture_of(alloc, &frames)?.into_vec(),
         seed: SEED,
     };
-    let Some(mut system) = system_of(alloc, copy, threads, &frames)? else {
-        return Ok(0);
+    let Some(system) = system_of(alloc, copy, threads, &frames)? else {
+        return Ok(false);
     };
     let mut world = opening(alloc, program);
-    same_replies(
-        alloc,
-        program,
-        &setup,
-        &mut world,
-        &mut system,
-        place,
-        EVENTS,
-    )
+    let place = u64::from(number).saturating_mul(EVENTS);
+    is_right(alloc, program, &setup, &mut world, system, place)
+}
+
+/// The first of the scripts of the counting box from one number up to another that is not right.
+fn first_wrong_count(alloc: Global, from: u32, to: u32) -> Result<Option<u32>, NoMemory> {
+    for number in from..to {
+        if !script_is_right(alloc, &CountBox::new(), CountBox::new(), number)? {
+            return Ok(Some(number));
+        }
+    }
+    Ok(None)
 }
 
 #[test]
 fn random_events_of_the_counting_box(rt: HostRuntime) -> Result<(), Fail> {
-    for i in 0..20u32 {
-        let threads = i % 3 + 1;
-        let place = u64::from(i) * EVENTS;
-        let right = right_events(
-            rt.alloc(),
-            &CountBox::new(),
-            CountBox::new(),
-            threads,
-            place,
-        )?;
-        assert_eq!(rt; right, EVENTS);
-    }
+    assert_eq!(rt; first_wrong_count(rt.alloc(), 0, 37)?, None);
     Ok(())
+}
+
+#[test]
+fn more_random_events_of_the_counting_box(rt: HostRuntime) -> Result<(), Fail> {
+    assert_eq!(rt; first_wrong_count(rt.alloc(), 37, 75)?, None);
+    Ok(())
+}
+
+/// The same of the box that reads.
+fn first_wrong_peek(alloc: Global, from: u32, to: u32) -> Result<Option<u32>, NoMemory> {
+    for number in from..to {
+        if !script_is_right(alloc, &PeekBox::new(), PeekBox::new(), number)? {
+            return Ok(Some(number));
+        }
+    }
+    Ok(None)
 }
 
 #[test]
 fn random_events_with_reads(rt: HostRuntime) -> Result<(), Fail> {
-    for i in 20..40u32 {
-        let threads = i % 3 + 1;
-        let place = u64::from(i) * EVENTS;
-        let right = right_events(rt.alloc(), &PeekBox::new(), PeekBox::new(), threads, place)?;
-        assert_eq!(rt; right, EVENTS);
-    }
+    assert_eq!(rt; first_wrong_peek(rt.alloc(), 75, 112)?, None);
     Ok(())
 }
 
 #[test]
-fn random_events_of_the_monitor(rt: HostRuntime) -> Result<(), Fail> {
-    for i in 40..60u32 {
-        let threads = i % 3 + 1;
-        let place = u64::from(i) * EVENTS;
-        let right = right_events(
-            rt.alloc(),
-            &MonitorBox::new(2),
-            MonitorBox::new(2),
-            threads,
-            place,
-        )?;
-        assert_eq!(rt; right, EVENTS);
+fn more_random_events_with_reads(rt: HostRuntime) -> Result<(), Fail> {
+    assert_eq!(rt; first_wrong_peek(rt.alloc(), 112, 150)?, None);
+    Ok(())
+}
+
+/// The same of the monitor, with two tables.
+fn first_wrong_monitor(alloc: Global, from: u32, to: u32) -> Result<Option<u32>, NoMemory> {
+    for number in from..to {
+        if !script_is_right(alloc, &MonitorBox::new(2), MonitorBox::new(2), number)? {
+            return Ok(Some(number));
+        }
     }
+    Ok(None)
+}
+
+#[test]
+fn random_events_of_the_monitor(rt: HostRuntime) -> Result<(), Fail> {
+    assert_eq!(rt; first_wrong_monitor(rt.alloc(), 150, 187)?, None);
+    Ok(())
+}
+
+#[test]
+fn more_random_events_of_the_monitor(rt: HostRuntime) -> Result<(), Fail> {
+    assert_eq!(rt; first_wrong_monitor(rt.alloc(), 187, 225)?, None);
+    Ok(())
+}
+
+/// A NAT with three outside ports.
+fn three_ports() -> NatBox {
+    NatBox::new(1, 0x0a00_0000, 8, 0xcb00_7101, 39_276, 39_278)
+}
+
+/// The same of the NAT.
+fn first_wrong_nat(alloc: Global, from: u32, to: u32) -> Result<Option<u32>, NoMemory> {
+    for number in from..to {
+        if !script_is_right(alloc, &three_ports(), three_ports(), number)? {
+            return Ok(Some(number));
+        }
+    }
+    Ok(None)
+}
+
+#[test]
+fn random_events_of_the_nat(rt: HostRuntime) -> Result<(), Fail> {
+    assert_eq!(rt; first_wrong_nat(rt.alloc(), 225, 262)?, None);
+    Ok(())
+}
+
+#[test]
+fn more_random_events_of_the_nat(rt: HostRuntime) -> Result<(), Fail> {
+    assert_eq!(rt; first_wrong_nat(rt.alloc(), 262, 300)?, None);
     Ok(())
 }
