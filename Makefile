@@ -39,12 +39,15 @@ test:
 	$(RT) ci
 
 # Runs a box on a packet, the one of the program's stored run, and checks what it wrote; and runs a box on two threads by a script of single
-# events, and the NAT on packets of two hosts. Shows what was written.
+# events, and the NAT on packets of two hosts. Shows what was written. Last, the NAT crashes when a host's first packet has left: both its
+# packets are to have left from one port.
 example: build/ftmb
 	scripts/example build/ftmb build/example $(addprefix crates/ftmb/data/,box capture script)
 	scripts/example_check build/ftmb build/example
 	scripts/example build/ftmb build/example/two_threads $(addprefix crates/ftmb_runs/data/,box_two_threads capture_two_packets script_two_threads)
 	scripts/example build/ftmb build/example/nat $(addprefix crates/ftmb_runs/data/,box_nat capture_two_hosts script_nat)
+	scripts/example build/ftmb build/example/nat_crash $(addprefix crates/ftmb_runs/data/,box_nat_crash capture_one_host script_nat_crash)
+	scripts/example_port build/ftmb build/example/nat_crash
 
 # The bytes summed and the packets rewritten in a second; the packets made and run in a second; the moves that a master makes in a
 # second, beside those of the plain player; the frames written and read, the log entries held, the outputs released, the lines of a

@@ -9,13 +9,15 @@ use std::io;
 use world_real::RealWorld;
 
 /// The words of the commands. Each sees the files that those before it wrote.
-const COMMANDS: [&str; 15] = [
+const COMMANDS: [&str; 17] = [
     "--help",
     "--version",
     "run box capture script released schedule",
     "check box capture schedule released",
     "play box capture schedule emitted",
     "run box_nat capture_two_hosts script_nat released schedule",
+    "run box_nat_crash capture_one_host script_nat_crash released schedule",
+    "check box_nat_crash capture_one_host schedule released",
     "run box_two_threads capture_two_packets script_two_threads released schedule",
     "run box capture script_cut_frame released schedule",
     "make 7 1000 made",
