@@ -84,6 +84,12 @@ pub not_limit : (e : OutputError) (limit : Limit) → failed (run_error_of e) �
 not_limit output.WriteFault limit e = cc
 not_limit output.NoMemory limit e = cc
 
+-- a run whose outputs could not be opened has a write fault only where they had one
+pub fault_opened : {A : Type 0} (w : Result ⊤ RunError) (r : Result A OutputError) (e : OutputError) → w ≡ failed (run_error_of e) → r ≡ Err e
+    → w ≡ failed run.WriteFault → r ≡ Err output.WriteFault
+fault_opened w r output.WriteFault made was fault = was
+fault_opened w r output.NoMemory made was fault = let no : failed run.NoMemory ≡ failed run.WriteFault = sym made ∙ fault in absurd (cc)
+
 -- the same bytes are appended
 pub same_append : (name bytes other : List ℕ) (a b : Shown) → bytes ≡ other → HasWritten (Appends name bytes ∷ []) a b → HasWritten (Appends name other ∷ []) a b
 same_append name bytes other a b same h = subst (λ (l : List ℕ). HasWritten (Appends name l ∷ []) a b) same h

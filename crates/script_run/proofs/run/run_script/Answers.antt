@@ -4,7 +4,7 @@ use Rattle.script_run.specs.Errors.{run_error_of}
 use Rattle.script_run.specs.Run.{setting_of, names_of}
 use Rattle.script_run.proofs.Going.{come_same, somewhere_same}
 use Rattle.script_run.proofs.RunWrites.{nothing_begun}
-use Rattle.script_run.proofs.WholeRun.{opens_at, opens, finished_whole, finished_begun, stopped_limit, stopped_begun, no_limit, not_limit, same_events, same_stop}
+use Rattle.script_run.proofs.WholeRun.{fault_opened, opens_at, opens, finished_whole, finished_begun, stopped_limit, stopped_begun, no_limit, not_limit, same_events, same_stop}
 use Rattle.script_run.proofs.run.run_script.Goals as goal
 
 pub perform_events-requires-clause-somewhere : goal.perform_events-requires-clause-somewhere
@@ -17,6 +17,18 @@ returns-in_err-system-clause-in_order g c told = nothing_begun _ _ _ _ _ (begun_
 
 pub returns-in_err-outputs-clause-in_order : goal.returns-in_err-outputs-clause-in_order
 returns-in_err-outputs-clause-in_order g c told = nothing_begun _ _ _ _ _ (c.in_err-outputs.ensures.told told)
+
+pub returns-in_err-outputs-clause-cause : goal.returns-in_err-outputs-clause-cause
+returns-in_err-outputs-clause-cause g c fault =
+    let made : c.from_residual-in_err-outputs.result ≡ Err (run_error_of c.in_err-outputs.field-0.0) = search rules in
+    let was : c.open_outputs.result ≡ Err c.in_err-outputs.field-0.0 = search rules in
+    c.open_outputs.ensures.cause (fault_opened _ _ c.in_err-outputs.field-0.0 made was fault)
+
+pub returns-in_err-outputs-clause-never_fails : goal.returns-in_err-outputs-clause-never_fails
+returns-in_err-outputs-clause-never_fails g c healthy fault =
+    let made : c.from_residual-in_err-outputs.result ≡ Err (run_error_of c.in_err-outputs.field-0.0) = search rules in
+    let was : c.open_outputs.result ≡ Err c.in_err-outputs.field-0.0 = search rules in
+    c.open_outputs.ensures.never_fails healthy (fault_opened _ _ c.in_err-outputs.field-0.0 made was fault)
 
 pub returns-in_err-outputs-clause-limit : goal.returns-in_err-outputs-clause-limit
 returns-in_err-outputs-clause-limit g c told limit e =
