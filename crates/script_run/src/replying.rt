@@ -1,4 +1,5 @@
-ghost use Rattle.std.specs.Prelude.{◌≡◌, ◌++◌, ℕ, All, List, IfOk, OnOk, IsTrue, IsErrOf};
+ghost use Rattle.std.specs.Prelude.{◌≡◌, ◌<◌, ◌^◌, ◌++◌, ℕ, All, List, IfOk, OnOk, IsTrue, IsErrOf};
+ghost use Rattle.plain_text.specs.Octets.{AreBytes};
 ghost use Rattle.pcap_io.specs.Capture.{record_of, records_of};
 ghost use Rattle.pcap_io.specs.declared.order.Order.TheVariants as order;
 ghost use Rattle.recovery_world.specs.World.{Sent};
@@ -23,15 +24,26 @@ use world_io::World;
 /// The bytes of lines that are gathered before they are written, at most, but for the last line.
 const GATHERED: usize = 65_536;
 
+/// Numbers of 32 bits are below 2^32.
+fn have_32_bits(seconds: u32, fraction: u32, original: u32)
+    ensures seconds { seconds < 2 ^ 32 }
+    ensures fraction { fraction < 2 ^ 32 }
+    ensures original { original < 2 ^ 32 }
+{}
+
+/// Bytes are below 2^8.
+fn have_8_bits(bytes: &[u8])
+    ensures { AreBytes bytes.now }
+{}
+
 /// The record of a packet, which fits it: its numbers have 32 bits, and its bytes 8.
 fn put_record(alloc: Global, packet: &Packet) -> Result<Bytes, NoMemory>
     requires { IsShort packet.now }
     ensures bytes { IfOk result (λ bytes. bytes ≡ record_of order.Little packet.now) }
     ensures fits { FitsRecord packet.now }
 {
-    // What is read is known to be of its type.
-    let _numbers = [packet.seconds, packet.fraction, packet.original];
-    let _bytes = packet.bytes.as_slice();
+    have_32_bits(packet.seconds, packet.fraction, packet.original);
+    have_8_bits(packet.bytes.as_slice());
     put_packet(alloc, packet)
 }
 
