@@ -9,7 +9,7 @@ PREFIX ?= /usr/local
 
 SOURCES := crates.txt scripts/build $(shell find crates -name out -prune -o -type f -print)
 
-.PHONY: all try test example bench interop install clean distclean
+.PHONY: all try test example bench soak interop install clean distclean
 
 # The program, proved and built.
 all: build/ftmb
@@ -55,6 +55,10 @@ example: build/ftmb
 bench: build/bench_headers $(BENCHES) build/ftmb
 	scripts/bench build/bench_headers
 	scripts/bench_run build/ftmb $(BENCHES) build/bench
+
+# Runs of chosen events with crashes from 1,000 seeds, each accepted by the check.
+soak: build/ftmb
+	scripts/soak build/ftmb build/soak
 
 # Runs the program on captures in all four forms and on pcapng captures, and has tcpdump and Wireshark's tools read what was released;
 # and has tshark verify the checksums of generated packets.
