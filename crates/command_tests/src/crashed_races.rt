@@ -164,6 +164,24 @@ fn script_of(alloc: Global, events: &[&str], ending: Ending<'_>) -> Result<Bytes
     Ok(script)
 }
 
+/// Whether a race by this script leaves this released capture and ends with this report, and `check` accepts it.
+fn comes_to<'a>(
+    alloc: Global,
+    script: &'a [u8],
+    released: &'a [u8],
+    report: &'a [u8],
+) -> Result<bool, NoMemory> {
+    let case = Case {
+        box_file: RACE_BOX,
+        capture: QUERY_AND_OTHER,
+        script,
+        released: Some(released),
+        report,
+        ..ONE
+    };
+    ends_accepted(alloc, case)
+}
+
 /// Whether a race whose master crashes behind these events leaves this, and `check` accepts it.
 fn leaves(
     alloc: Global,
@@ -174,15 +192,7 @@ fn leaves(
     let script = script_of(alloc, events, ending)?;
     let mut report = Bytes::of(alloc, left.tables)?;
     report.extend(ending.last)?;
-    let case = Case {
-        box_file: RACE_BOX,
-        capture: QUERY_AND_OTHER,
-        script: script.as_slice(),
-        released: Some(left.released),
-        report: report.as_slice(),
-        ..ONE
-    };
-    ends_accepted(alloc, case)
+    comes_to(alloc, script.as_slice(), left.released, report.as_slice())
 }
 
 /// The least number of events behind which a crash does not leave what it should.
