@@ -14,6 +14,7 @@ pub mod OutputLists
 pub mod OutputNumbers
 pub mod EntryArrivals
 pub mod OutputArrivals
+pub mod ForgottenOutputs
 pub mod UnreleasedLemmas
 pub mod TakingLemmas
 pub mod EndingLemmas

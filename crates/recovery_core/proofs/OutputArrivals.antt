@@ -325,10 +325,10 @@ module _ {P V : Type 0} (m : Meaning V) (s : Setting V) (w : World V) (y : Parts
           marks : (u k : ℕ) → WasMarked y.logger.released u k → WasMarked now.released u k
           marks = marks_stay y.logger.released now.released [] once_none
 
--- its thread and number are noted
-pub pushed_parts : {P V : Type 0} (view now : Parts P V) (logger : Logger) (out : List Output) (names : List (ℕ × ℕ)) (name : ℕ × ℕ) → view ≡ now → names ≡ view.released ++ name ∷ []
-    → record view { logger = logger; released = view.released ++ name ∷ []; fresh = out } ≡ record view { logger = logger; released = names; fresh = out }
-pushed_parts {P} {V} view now logger out names name at is = ap (λ (l : List (ℕ × ℕ)). record view { logger = logger; released = l; fresh = out }) (sym is)
+-- its thread and number are noted, and frames forgotten
+pub pushed_parts : {P V : Type 0} (view now : Parts P V) (links : Sending) (logger : Logger) (out : List Output) (names : List (ℕ × ℕ)) (name : ℕ × ℕ) → view ≡ now → names ≡ view.released ++ name ∷ []
+    → record view { sent = links; logger = logger; released = view.released ++ name ∷ []; fresh = out } ≡ record view { sent = links; logger = logger; released = names; fresh = out }
+pushed_parts {P} {V} view now links logger out names name at is = ap (λ (l : List (ℕ × ℕ)). record view { sent = links; logger = logger; released = l; fresh = out }) (sym is)
 
 -- One answer is not another.
 

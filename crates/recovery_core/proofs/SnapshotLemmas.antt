@@ -63,7 +63,7 @@ kind_or Log Out = inr (λ e. cc)
 kind_or Out Log = inr (λ e. cc)
 kind_or Out Out = inl refl
 
-address_or : (last a : Address) → IsUpTo last a ⊎ (IsUpTo last a → ⊥)
+pub address_or : (last a : Address) → IsUpTo last a ⊎ (IsUpTo last a → ⊥)
 address_or last a = go (is_or a.epoch last.epoch) (kind_or a.kind last.kind) (is_or a.thread last.thread) (cases_lt last.number a.number)
   where
     go : (a.epoch ≡ last.epoch) ⊎ (a.epoch ≢ last.epoch) → (a.kind ≡ last.kind) ⊎ (a.kind ≡ last.kind → ⊥) → (a.thread ≡ last.thread) ⊎ (a.thread ≢ last.thread) → (last.number < a.number) ⊎ (a.number ≤ last.number) → IsUpTo last a ⊎ (IsUpTo last a → ⊥)

@@ -1,13 +1,15 @@
 ghost use Rattle.std.specs.Prelude.{◌≡◌, ◌<◌, ◌≤◌, ◌++◌, ◌↔◌, IsTrue, [], IfOk, OnOk, length};
 ghost use Rattle.recovery_world.specs.declared.event.Event.TheVariants as event_is;
 ghost use Rattle.recovery_core.specs.Standing.{StandsForSome};
-ghost use Rattle.recovery_core.specs.Arriving.{NotesReleased, HadSent, arrival_of, names_of};
+ghost use Rattle.recovery_core.specs.Arriving.{NotesReleased, ForgetsReleased, AreForgotten, HadSent, arrival_of, names_of};
 ghost use Rattle.recovery_core.specs.Performing.{AddsFresh, MovesOn, Replies};
 
 use crate::assembly::Core;
+use crate::sending::SentFrames;
 use crate::{Releases, Reply};
 use access_log::Output;
 use box_program::Program;
+use dup_filter::Released;
 use master_core::Counts;
 use output_logger::{EntryTook, OutputTook};
 use plain_text::{Kind, NoMemory, Sequence};
@@ -47,6 +49,26 @@ pub fn note_released<P: Program>(core: &mut Core<P>, before: usize) -> Result<Re
     Ok(list)
 }
 
+/// Forgets the frames of each thread's outputs up to the number up to which all are released.
+pub fn forget_released(sent: &mut SentFrames, released: &Released, threads: u32)
+    ensures only { ForgetsReleased sent.old sent.new released.now }
+    ensures all { AreForgotten sent.new released.now threads }
+{
+    for thread in 0..threads {
+        sent.forget_outputs(thread, released.floor(thread));
+    }
+}
+
+/// Does so where there are outputs that are released now.
+fn forget_fresh(sent: &mut SentFrames, released: &Released, threads: u32, fresh: &[Output])
+    ensures only { ForgetsReleased sent.old sent.new released.now }
+    ensures all { 1 ≤ length fresh.now → AreForgotten sent.new released.now threads }
+{
+    if !fresh.is_empty() {
+        forget_released(sent, released, threads);
+    }
+}
+
 /// An entry of a thread arrives at the output logger.
 fn take_entry<P: Program>(core: &mut Core<P>, thread: u32, number: u64) -> Result<Reply, NoMemory>
     requires stands { StandsForSome (P.meaning core.old.program) core.old }
@@ -68,6 +90,12 @@ fn take_entry<P: Program>(core: &mut Core<P>, thread: u32, number: u64) -> Resul
         EntryTook::New => {
             let known = core.logger.held().frontier(thread);
             core.sent.forget_entries(thread, known);
+            forget_fresh(
+                &mut core.sent,
+                core.logger.released(),
+                core.inputs.threads(),
+                &core.fresh.as_slice()[before..],
+            );
             let released = note_released(core, before)?;
             Ok(Reply {
                 outcome: Outcome::New,
@@ -97,6 +125,8 @@ fn take_output<P: Program>(core: &mut Core<P>, thread: u32, number: u64) -> Resu
     match core.logger.output(epoch, output, &mut core.fresh)? {
         OutputTook::Release => {
             core.released.push((thread, number))?;
+            let floor = core.logger.released().floor(thread);
+            core.sent.forget_outputs(thread, floor);
             Ok(only(core.alloc, Outcome::Released))
         }
         OutputTook::Wait { thread, number } => Ok(only(

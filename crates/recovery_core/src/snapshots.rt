@@ -8,7 +8,7 @@ ghost use Rattle.recovery_core.specs.Unreleased.{HasRest, AddsUnreleased, AreUnr
 ghost use Rattle.recovery_core.specs.Performing.{AddsFresh, MovesOn, ComesTo, Replies};
 
 use crate::Reply;
-use crate::arriving::{note_released, only};
+use crate::arriving::{forget_released, note_released, only};
 use crate::assembly::Core;
 use crate::sending::SentFrames;
 use access_log::Outputs;
@@ -116,6 +116,11 @@ pub fn store<P: Program>(core: &mut Core<P>) -> Result<Reply, NoMemory>
     };
     core.logger.covered(&counts, &mut core.fresh)?;
     forget_stored(&mut core.sent, core.inputs.threads(), &counts);
+    forget_released(
+        &mut core.sent,
+        core.logger.released(),
+        core.inputs.threads(),
+    );
     let released = note_released(core, before)?;
     Ok(Reply {
         outcome: Outcome::Covers(total(&counts)),

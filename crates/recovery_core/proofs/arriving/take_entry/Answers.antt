@@ -2,9 +2,12 @@ use Rattle.std.proofs.Common.{◌≡◌, ◌<◌, ℕ, List, refl, sym, ap, ◌�
 use Rattle.entry_order.specs.Log.{entries}
 use Rattle.plain_machine.specs.History.{log_of}
 use Rattle.access_log.specs.Held.{Lane, lane, IsFrontier}
+use Rattle.dup_filter.specs.Numbers.{Numbers}
 use Rattle.output_logger.specs.Logger.{appended}
 use Rattle.recovery_world.specs.declared.event.Outcome.TheVariants as outcome
 use Rattle.recovery_world.specs.declared.event.Event.TheVariants as event_is
+use Rattle.recovery_core.specs.Arriving.{ForgetsReleased}
+use Rattle.recovery_core.proofs.ForgottenOutputs.{stands_forgotten}
 use Rattle.recovery_core.proofs.EntryArrivals.{parts_still, counted, log_none, log_old, log_found, log_known, log_new, not_known, was_known, same_parts, at_view, came, adds_none, noted_new}
 use Rattle.recovery_core.proofs.arriving.take_entry.Goals as goal
 use Rattle.recovery_core.proofs.arriving.take_entry.Goals.{then-number-eq0-via-then-number-eq0, then-number-eq0-via-else-number-eq0+then-number-counts}
@@ -47,16 +50,19 @@ entry-requires-2-clause-numbered g c =
 pub returns-in_ok-released-in-New-clause-on : goal.returns-in_ok-released-in-New-clause-on
 returns-in_ok-released-in-New-clause-on g c =
     let took = c.in_ok-entry-2.was ∙ ap Ok c.in-New.is in
-    let noted = noted_new _ _ _ c.forget_entries.new.self c.entry-2.new.self c.entry-2.new.out c.len-before.result c.in_ok-released-in-New.released c.core.view_is c.len-before.ensures c.entry-2.ensures.appends c.in_ok-released-in-New.ensures.noted in
+    let noted = noted_new _ _ _ c.forget_fresh.new.sent c.entry-2.new.self c.entry-2.new.out c.len-before.result c.in_ok-released-in-New.released c.core.view_is c.len-before.ensures c.entry-2.ensures.appends c.in_ok-released-in-New.ensures.noted in
     came _ _ _ _ _ (event_is.Log c.args.thread c.args.number) (record { outcome = outcome.New; released = c.in_ok-released-in-New.released }) c.core.view_is noted.1 refl refl (λ s w st.
     let low = subst (λ q. c.args.thread < q.inputs.threads) (sym c.core.view_is) c.requires.thread_in in
     let count = counted _ s w _ st c.args.thread c.counts.result low c.counts.ensures in
     let of = log_found _ s w _ st c.args.thread c.args.number low c.in_ok-entry.field-0 c.in-Some.entry c.in_ok-entry.ensures.there c.in_ok-entry.ensures.forgotten c.in-Some.is (omega arith) (omega (arith, count.0)) in
+    let to =
     log_new _ s w _ st c.args.thread c.args.number low c.in-Some.entry of c.entry-2.new.self (λ k. absurd (not_known _ took (c.entry-2.ensures.known.1 (c.epoch-epoch.ensures, k)))) (c.entry-2.ensures.new took) c.entry-2.ensures.others
     c.forget_entries.new.self c.frontier-known.result (appended c.core.inside.fresh c.entry-2.new.out) (record { outcome = outcome.New; released = c.in_ok-released-in-New.released })
     c.entry-2.ensures.epoch (c.entry-2.ensures.released took) c.entry-2.ensures.once
     (subst (λ (held : List Lane). IsFrontier (lane held c.args.thread) c.frontier-known.result) c.held.ensures c.frontier-known.ensures)
-    c.forget_entries.ensures.forgets (ap (λ (l : List (ℕ × ℕ)). record { outcome = outcome.New; released = l }) noted.0))
+    c.forget_entries.ensures.forgets (ap (λ (l : List (ℕ × ℕ)). record { outcome = outcome.New; released = l }) noted.0) in
+    let forgets = subst (λ (l : List Numbers). ForgetsReleased c.forget_entries.new.self c.forget_fresh.new.sent l) c.released.ensures c.forget_fresh.ensures.only in
+    (to.0, to.1, stands_forgotten _ s to.0 _ c.forget_fresh.new.sent forgets to.2))
 
 pub returns-in-Known : goal.returns-in-Known
 returns-in-Known g c =
@@ -73,7 +79,7 @@ returns-in-Known g c =
     }
 
 pub invariant_of-core-in-New : goal.invariant_of-core-in-New
-invariant_of-core-in-New g c = parts_still _ _ _ c.forget_entries.new.self c.entry-2.new.self c.core.inside.released c.entry-2.new.out c.core.invariant c.forget_entries.ensures.forgets.threads c.entry-2.ensures.threads
+invariant_of-core-in-New g c = parts_still _ _ _ c.forget_fresh.new.sent c.entry-2.new.self c.core.inside.released c.entry-2.new.out c.core.invariant (c.forget_fresh.ensures.only.threads ∙ c.forget_entries.ensures.forgets.threads) c.entry-2.ensures.threads
 
 pub invariant_of-core-in-Known : goal.invariant_of-core-in-Known
 invariant_of-core-in-Known g c = parts_still _ _ _ c.core.inside.sent c.entry-2.new.self c.core.inside.released c.entry-2.new.out c.core.invariant refl c.entry-2.ensures.threads

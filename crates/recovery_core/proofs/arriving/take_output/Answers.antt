@@ -1,9 +1,11 @@
-use Rattle.std.proofs.Common.{length, ◌≡◌, ◌<◌, ℕ, [], refl, sym, ap, ◌∙◌, subst, inl, inr, ◌⊎◌, Ok, arith}
+use Rattle.std.proofs.Common.{length, List, ◌≡◌, ◌<◌, ℕ, [], refl, sym, ap, ◌∙◌, subst, inl, inr, ◌⊎◌, Ok, arith}
+use Rattle.dup_filter.specs.Numbers.{Numbers, numbers}
 use Rattle.plain_machine.specs.History.{sent_of, outputs}
 use Rattle.recovery_world.specs.declared.event.Event.TheVariants as event_is
 use Rattle.recovery_world.specs.declared.event.Outcome.TheVariants as outcome
 use Rattle.recovery_core.proofs.EntryArrivals.{parts_still, counted, at_view, came, same_parts}
 use Rattle.recovery_core.proofs.OutputArrivals.{out_none, out_old, out_is, own_thread, own_number, out_again, out_released, out_waits, was_again, not_again_released, not_again_waits, waits_not_released, pushed_parts}
+use Rattle.recovery_core.proofs.ForgottenOutputs.{forgets_own, stands_forgotten}
 use Rattle.recovery_core.proofs.arriving.take_output.Goals as goal
 use Rattle.recovery_core.proofs.arriving.take_output.Goals.{then-number-eq0-via-then-number-eq0, then-number-eq0-via-else-number-eq0+then-number-counts}
 
@@ -45,7 +47,7 @@ output-requires-2-clause-numbered g c =
     omega (arith, from_one, own)
 
 pub invariant_of-core-in-Release : goal.invariant_of-core-in-Release
-invariant_of-core-in-Release g c = parts_still _ _ _ c.core.inside.sent c.output-2.new.self c.push.new.self c.output-2.new.out c.core.invariant refl (ap (λ held. length held) c.output-2.ensures.held)
+invariant_of-core-in-Release g c = parts_still _ _ _ c.forget_outputs.new.self c.output-2.new.self c.push.new.self c.output-2.new.out c.core.invariant c.forget_outputs.ensures.forgets.threads (ap (λ held. length held) c.output-2.ensures.held)
 
 pub invariant_of-core-in_err-push-in-Release : goal.invariant_of-core-in_err-push-in-Release
 invariant_of-core-in_err-push-in-Release g c = parts_still _ _ _ c.core.inside.sent c.output-2.new.self c.push.new.self c.output-2.new.out c.core.invariant refl (ap (λ held. length held) c.output-2.ensures.held)
@@ -59,13 +61,17 @@ invariant_of-core-in-Again g c = parts_still _ _ _ c.core.inside.sent c.output-2
 pub returns-in_ok-push-in-Release-clause-on : goal.returns-in_ok-push-in-Release-clause-on
 returns-in_ok-push-in-Release-clause-on g c =
     let took = c.in_ok-output-2.was ∙ ap Ok c.in-Release.is in
-    let same = pushed_parts _ _ c.output-2.new.self c.output-2.new.out c.push.new.self (c.args.thread, c.args.number) c.core.view_is c.in_ok-push-in-Release.ensures.ok in
+    let same = pushed_parts _ _ c.forget_outputs.new.self c.output-2.new.self c.output-2.new.out c.push.new.self (c.args.thread, c.args.number) c.core.view_is c.in_ok-push-in-Release.ensures.ok in
     came _ _ _ _ _ (event_is.Out c.args.thread c.args.number) c.only-in-Release.result c.core.view_is same refl refl (λ s w st.
     let low = subst (λ q. c.args.thread < q.inputs.threads) (sym c.core.view_is) c.requires.thread_in in
     let count = counted _ s w _ st c.args.thread c.counts.result low c.counts.ensures in
     let of = out_is _ s w _ st c.args.thread c.args.number low c.in_ok-output.field-0 c.in-Some.output c.in_ok-output.ensures.there c.in_ok-output.ensures.forgotten c.in-Some.is (omega arith) (omega (arith, count.1)) in
+    let to =
     out_released _ s w _ st c.args.thread c.args.number low c.in-Some.output of c.output-2.new.self c.output-2.ensures.held c.output-2.ensures.epoch (λ h. not_again_released _ took (c.output-2.ensures.again.1 (c.epoch-epoch.ensures, h)))
-    c.output-2.new.out c.only-in-Release.result (c.output-2.ensures.due took) (c.output-2.ensures.waiting took) (c.output-2.ensures.released took) c.output-2.ensures.once c.only-in-Release.ensures)
+    c.output-2.new.out c.only-in-Release.result (c.output-2.ensures.due took) (c.output-2.ensures.waiting took) (c.output-2.ensures.released took) c.output-2.ensures.once c.only-in-Release.ensures in
+    let floor = c.floor-floor.ensures ∙ ap (λ (l : List Numbers). (numbers l c.args.thread).floor) c.released.ensures in
+    let forgets = forgets_own _ c.forget_outputs.new.self c.output-2.new.self.released c.args.thread c.floor-floor.result floor c.forget_outputs.ensures.forgets in
+    (to.0, to.1, stands_forgotten _ s to.0 _ c.forget_outputs.new.self forgets to.2))
 
 pub returns-in-Wait-clause-on : goal.returns-in-Wait-clause-on
 returns-in-Wait-clause-on g c =
