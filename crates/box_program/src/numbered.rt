@@ -13,14 +13,18 @@ const NUMBER_END: usize = 6;
 pub fn numbered_bytes(alloc: Global, bytes: &[u8], number: u64) -> Result<Bytes, NoMemory>
     ensures { IfOk result (λ out. out ≡ numbered bytes.now number) }
 {
-    let mut out = Bytes::new(alloc);
+    let mut out = copy_with_room(alloc, HEADER_ROOM, bytes)?;
+    write_number(&mut out[HEADER_ROOM..], number);
+    Ok(Bytes::from_vec_at(out, HEADER_ROOM))
+}
+
+/// Writes the low 32 bits of the number into bytes 2 to 5, where there are so many.
+fn write_number(bytes: &mut [u8], number: u64)
+    ensures { bytes.new ≡ numbered bytes.old number }
+{
     if bytes.len() < NUMBER_END {
-        out.extend(bytes)?;
-        return Ok(out);
+        return;
     }
     let low = (number % (1 << 32)) as u32;
-    out.extend(&bytes[..NUMBER_AT])?;
-    out.extend(low.to_be_bytes().as_slice())?;
-    out.extend(&bytes[NUMBER_END..])?;
-    Ok(out)
+    bytes[NUMBER_AT..NUMBER_END].copy_from_slice(&low.to_be_bytes());
 }

@@ -118,7 +118,7 @@ impl Program for MonitorBox {
         packet: &Packet,
         _local: &Local,
     ) -> Result<Bytes, NoMemory> {
-        Bytes::of(alloc, packet.bytes.as_slice())
+        Bytes::with_room(alloc, HEADER_ROOM, packet.bytes.as_slice())
     }
 
     fn copy_value(

@@ -123,9 +123,9 @@ impl NatBox {
         ensures { IfOk result (λ bytes. bytes
             ≡ frame_out (settings_of self.now) noted.now.class frame.now flow.now noted.now) }
     {
-        let mut copy = Vec::from_slice(alloc, frame)?;
-        self.translate(&mut copy, flow, noted);
-        Ok(Bytes::from_vec(copy))
+        let mut copy = copy_with_room(alloc, HEADER_ROOM, frame)?;
+        self.translate(&mut copy[HEADER_ROOM..], flow, noted);
+        Ok(Bytes::from_vec_at(copy, HEADER_ROOM))
     }
 
     /// The bytes that go out of a packet with these bytes, by its view.
@@ -142,7 +142,7 @@ impl NatBox {
     {
         match seen {
             Ok(flow) => self.translated(alloc, frame, &flow, noted),
-            Err(_) => Bytes::of(alloc, frame),
+            Err(_) => Bytes::with_room(alloc, HEADER_ROOM, frame),
         }
     }
 }

@@ -1,21 +1,38 @@
-ghost use Rattle.std.specs.Prelude.{◌≡◌, ◌≤◌, ◌↔◌, ◌++◌, ◌∷◌, [], length, take, IsTrue, IfOk, OnOk, OnErr};
+ghost use Rattle.std.specs.Prelude.{◌≡◌, ◌≤◌, ◌↔◌, ◌++◌, ◌∷◌, [], length, take, drop, replicate, IsTrue, IfOk, OnOk, OnErr};
 
 use crate::NoMemory;
 use std::alloc::Global;
 use std::marker::Model;
 
 /// Bytes that can grow, with the allocator that they grow by. Contracts see them as their list.
+///
+/// There may be room in front of them, into which other bytes are put without an allocation and without moving these: a packet
+/// that goes out becomes a frame in place.
 #[derive(Debug, Drop)]
 pub struct Bytes {
     buffer: Vec<u8>,
+    /// The room in front: where in the buffer the bytes begin.
+    start: usize,
 }
 
 impl Model for Bytes {
-    ghost use Rattle.std.specs.Prelude.{List, ℕ};
+    ghost use Rattle.std.specs.Prelude.{◌≤◌, List, ℕ, drop, length};
 
     ghost Value = { List ℕ };
 
-    ghost view = { λ b. b.buffer.items };
+    ghost view = { λ b. drop b.start b.buffer.items };
+
+    ghost invariant = { λ b. b.start ≤ length b.buffer.items };
+}
+
+/// A copy of these bytes behind this much room, of zeros: what `Bytes::from_vec_at` takes.
+pub fn copy_with_room(alloc: Global, room: usize, bytes: &[u8]) -> Result<Vec<u8>, NoMemory>
+    ensures { IfOk result (λ copy. copy.items ≡ replicate room 0 ++ bytes.now) }
+{
+    let mut copy = Vec::with_capacity(alloc, room.saturating_add(bytes.len()))?;
+    copy.resize(room, 0)?;
+    copy.extend_from_slice(bytes)?;
+    Ok(copy)
 }
 
 impl Bytes {
@@ -23,50 +40,67 @@ impl Bytes {
     pub fn new(alloc: Global) -> Self
         ensures { result ≡ [] }
     {
-        Bytes {
-            buffer: Vec::new(alloc),
-        }
+        Bytes::from_vec(Vec::new(alloc))
     }
 
     /// A copy of these bytes.
     pub fn of(alloc: Global, bytes: &[u8]) -> Result<Self, NoMemory>
         ensures { IfOk result (λ copy. copy ≡ bytes.now) }
     {
-        Ok(Bytes {
-            buffer: Vec::from_slice(alloc, bytes)?,
-        })
+        Ok(Bytes::from_vec(Vec::from_slice(alloc, bytes)?))
+    }
+
+    /// A copy of these bytes with this much room in front of them.
+    pub fn with_room(alloc: Global, room: usize, bytes: &[u8]) -> Result<Self, NoMemory>
+        ensures { IfOk result (λ copy. copy ≡ bytes.now) }
+    {
+        let buffer = copy_with_room(alloc, room, bytes)?;
+        Ok(Bytes::from_vec_at(buffer, room))
     }
 
     /// The bytes of a vector. It takes no memory.
     pub fn from_vec(buffer: Vec<u8>) -> Self
         ensures { result ≡ buffer.items }
     {
-        Bytes { buffer }
+        Bytes { buffer, start: 0 }
     }
 
-    /// The vector of the bytes. It takes no memory.
+    /// The bytes of a vector from this place on: what stands in front of them is room. It takes no memory.
+    pub fn from_vec_at(buffer: Vec<u8>, start: usize) -> Self
+        requires { start ≤ length buffer.items }
+        ensures { result ≡ drop start buffer.items }
+    {
+        Bytes { buffer, start }
+    }
+
+    /// The vector of the bytes. It takes no memory, and moves them where there was room in front.
     pub fn into_vec(self) -> Vec<u8>
         ensures { result.items ≡ self }
     {
-        self.buffer
+        let count = self.len();
+        let start = self.start;
+        let mut buffer = self.buffer;
+        buffer.copy_within(start..start + count, 0);
+        buffer.truncate(count);
+        buffer
     }
 
     pub fn as_slice(&self) -> &[u8]
         ensures { result.now ≡ self.now }
     {
-        self.buffer.as_slice()
+        &self.buffer[self.start..]
     }
 
     pub fn len(&self) -> usize
         ensures { result ≡ length self.now }
     {
-        self.buffer.len()
+        self.buffer.len() - self.start
     }
 
     pub fn is_empty(&self) -> bool
         ensures { IsTrue result ↔ (self.now ≡ []) }
     {
-        self.buffer.is_empty()
+        self.len() == 0
     }
 
     /// Appends one byte.
@@ -87,10 +121,35 @@ impl Bytes {
         Ok(())
     }
 
+    /// Puts these bytes in front: where there is room for them, without an allocation.
+    pub fn prepend(&mut self, bytes: &[u8]) -> Result<(), NoMemory>
+        ensures ok { OnOk result (self.new ≡ bytes.now ++ self.old) }
+        ensures err { OnErr result (self.new ≡ self.old) }
+    {
+        if bytes.len() > self.start {
+            return self.move_behind(bytes);
+        }
+        let start = self.start - bytes.len();
+        self.buffer[start..self.start].copy_from_slice(bytes);
+        self.start = start;
+        Ok(())
+    }
+
+    /// Moves the bytes to a buffer of their own, behind these.
+    fn move_behind(&mut self, bytes: &[u8]) -> Result<(), NoMemory>
+        ensures ok { OnOk result (self.new ≡ bytes.now ++ self.old) }
+        ensures err { OnErr result (self.new ≡ self.old) }
+    {
+        let mut joined = Bytes::of(*self.buffer.allocator(), bytes)?;
+        joined.extend(self.as_slice())?;
+        *self = joined;
+        Ok(())
+    }
+
     /// Keeps the first bytes, at most this number. It takes no memory.
     pub fn truncate(&mut self, count: usize)
         ensures { self.new ≡ take count self.old }
     {
-        self.buffer.truncate(count);
+        self.buffer.truncate(self.start.saturating_add(count));
     }
 }

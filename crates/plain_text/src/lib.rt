@@ -18,7 +18,7 @@ mod tests;
 mod text;
 mod word;
 
-pub use bytes::Bytes;
+pub use bytes::{Bytes, copy_with_room};
 pub use fault::{LineCause, LineFault, ReadError};
 pub use field::{Field, end_of_line, read_field};
 pub use kind::Kind;
@@ -29,7 +29,7 @@ pub use limit::{
 pub use line::{Line, LineIter, count_lines, lines};
 pub use memory::NoMemory;
 pub use number::{put_decimal, put_u64, read_address, read_u64};
-pub use packet::{Packet, Packets, Unit};
+pub use packet::{HEADER_ROOM, Packet, Packets, Unit};
 pub use sequence::Sequence;
 pub use text::Text;
 pub use word::{WordIter, words};

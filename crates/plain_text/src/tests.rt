@@ -52,6 +52,30 @@ fn makes_plain_data(rt: HostRuntime) -> Result<(), Fail> {
     Ok(())
 }
 
+/// Bytes with this much room in front, and then these in front of them, a byte at a time.
+fn joined(alloc: Global, room: usize, front: &[u8], bytes: &[u8]) -> Result<Bytes, NoMemory> {
+    let mut joined = Bytes::with_room(alloc, room, bytes)?;
+    for behind in 0..front.len() {
+        let at = front.len() - 1 - behind;
+        joined.prepend(&front[at..=at])?;
+    }
+    Ok(joined)
+}
+
+#[test]
+fn puts_bytes_in_front(rt: HostRuntime) -> Result<(), Fail> {
+    let alloc = rt.alloc();
+    for room in 0..5 {
+        let mut bytes = joined(alloc, room, b"one", b" two")?;
+        assert_eq!(rt; bytes.as_slice(), b"one two".as_slice());
+        assert_eq!(rt; bytes.len(), 7);
+        bytes.truncate(5);
+        bytes.extend(b"!")?;
+        assert_eq!(rt; bytes.into_vec().as_slice(), b"one t!".as_slice());
+    }
+    Ok(())
+}
+
 #[test]
 fn grows_to_a_hundred_thousand_items(rt: HostRuntime) -> Result<(), Fail> {
     let mut items = Sequence::new(rt.alloc());

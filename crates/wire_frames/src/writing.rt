@@ -12,6 +12,7 @@ use access_log::{Output, StampedEntry};
 use entry_order::What;
 use plain_text::{Bytes, Kind, NoMemory, Packet};
 use std::alloc::Global;
+use std::mem;
 use thread_clock::Stamp;
 
 /// The bytes of an entry's frame without its components, and of an output's without its components and captured bytes.
@@ -54,30 +55,29 @@ pub fn put_entry(
     ensures frame { IfOk result (λ bytes. IsFrame bytes (frame.Entry epoch threads entry.now)) }
 {
     let size = entry_length(entry);
-    let mut frame = Bytes::from_vec(Vec::with_capacity(alloc, size)?);
-    put_entry_front(&mut frame, size as u32, epoch, threads, entry)?;
+    let mut frame = Bytes::with_room(alloc, size, &[])?;
     put_components(&mut frame, entry.stamp.components())?;
+    put_entry_front(&mut frame, size as u32, epoch, threads, entry)?;
     Ok(frame)
 }
 
-/// The frame of an output of this epoch, of a sender with so many threads.
+/// The frame of an output of this epoch, of a sender with so many threads. Its header is put in front of the captured bytes, which
+/// stay where they are if there is room for it (`HEADER_ROOM`).
 pub fn put_output(
     alloc: Global,
     epoch: u32,
     threads: u32,
-    output: &Output,
+    mut output: Output,
 ) -> Result<Bytes, NoMemory>
-    requires { CanPutOutput epoch threads output.now }
-    ensures spelled { IfOk result (λ bytes.
-        bytes ≡ written (frame.Output epoch threads output.now)) }
-    ensures frame { IfOk result (λ bytes. IsFrame bytes (frame.Output epoch threads output.now)) }
+    requires { CanPutOutput epoch threads output }
+    ensures spelled { IfOk result (λ bytes. bytes ≡ written (frame.Output epoch threads output)) }
+    ensures frame { IfOk result (λ bytes. IsFrame bytes (frame.Output epoch threads output)) }
 {
-    let size = output_length(output);
-    let mut frame = Bytes::from_vec(Vec::with_capacity(alloc, size)?);
-    put_output_front(&mut frame, size as u32, epoch, threads, output)?;
-    put_components(&mut frame, output.stamp.components())?;
+    let size = output_length(&output);
+    let mut frame = mem::replace(&mut output.packet.bytes, Bytes::new(alloc));
     put_packet_fields(&mut frame, &output.packet)?;
-    frame.extend(output.packet.bytes.as_slice())?;
+    put_components(&mut frame, output.stamp.components())?;
+    put_output_front(&mut frame, size as u32, epoch, threads, &output)?;
     Ok(frame)
 }
 
@@ -96,7 +96,7 @@ fn numbers_of(what: What) -> (u8, u64, u64)
     }
 }
 
-/// Appends the fields in front of an entry's components.
+/// Puts the fields of an entry that stand in front of its components.
 fn put_entry_front(
     frame: &mut Bytes,
     size: u32,
@@ -107,19 +107,19 @@ fn put_entry_front(
     requires of_these { entry.now.thread < threads }
     requires few { threads ≤ 16 }
     ensures spelled { OnOk result (frame.new
-        ≡ frame.old ++ spelled (entry_front size epoch threads entry.now)) }
+        ≡ spelled (entry_front size epoch threads entry.now) ++ frame.old) }
     ensures number { OnOk result (entry.now.number < 2 ^ 64) }
     ensures fits { FitsWord entry.now.what }
 {
     let (code, subject, place) = numbers_of(entry.what);
     let thread = entry.thread as u8;
-    put_kind(frame, Kind::Log, size)?;
-    put_subject(frame, epoch, thread, code, entry.number, subject)?;
+    put_mask(frame, threads as u8, &entry.stamp)?;
     put_u64(frame, place)?;
-    put_mask(frame, threads as u8, &entry.stamp)
+    put_subject(frame, epoch, thread, code, entry.number, subject)?;
+    put_kind(frame, Kind::Log, size)
 }
 
-/// Appends the fields in front of an output's components.
+/// Puts the fields of an output that stand in front of its components.
 fn put_output_front(
     frame: &mut Bytes,
     size: u32,
@@ -130,14 +130,14 @@ fn put_output_front(
     requires of_these { output.now.thread < threads }
     requires few { threads ≤ 16 }
     ensures spelled { OnOk result (frame.new
-        ≡ frame.old ++ spelled (output_front size epoch threads output.now)) }
+        ≡ spelled (output_front size epoch threads output.now) ++ frame.old) }
     ensures number { OnOk result (output.now.number < 2 ^ 64) }
     ensures input { OnOk result (output.now.input < 2 ^ 64) }
 {
     let thread = output.thread as u8;
-    put_kind(frame, Kind::Out, size)?;
+    put_mask(frame, threads as u8, &output.stamp)?;
     put_subject(frame, epoch, thread, 0, output.number, output.input)?;
-    put_mask(frame, threads as u8, &output.stamp)
+    put_kind(frame, Kind::Out, size)
 }
 
 /// The first byte of a frame of this kind.
@@ -150,17 +150,18 @@ fn code_of_kind(kind: Kind) -> u8
     }
 }
 
-/// Appends the fields that tell the kind, the version and the length.
+/// Puts the fields that tell the kind, the version and the length. Like all that follow it is put in front of what the frame has so far,
+/// since a frame is written from its end.
 fn put_kind(frame: &mut Bytes, kind: Kind, size: u32) -> Result<(), NoMemory>
     ensures { OnOk result (frame.new
-        ≡ frame.old ++ spelled (field 1 (kind_code kind) ∷ field 1 2 ∷ field 4 size ∷ [])) }
+        ≡ spelled (field 1 (kind_code kind) ∷ field 1 2 ∷ field 4 size ∷ []) ++ frame.old) }
 {
-    put_u8(frame, code_of_kind(kind))?;
+    put_u32(frame, size)?;
     put_u8(frame, 2)?; // version
-    put_u32(frame, size)
+    put_u8(frame, code_of_kind(kind))
 }
 
-/// Appends the fields that tell whose entry or output it is, and what it did.
+/// Puts the fields that tell whose entry or output it is, and what it did.
 fn put_subject(
     frame: &mut Bytes,
     epoch: u32,
@@ -169,56 +170,60 @@ fn put_subject(
     number: u64,
     subject: u64,
 ) -> Result<(), NoMemory>
-    ensures { OnOk result (frame.new ≡ frame.old ++ spelled
-        (field 4 epoch ∷ field 1 thread ∷ field 1 code ∷ field 8 number ∷ field 8 subject ∷ [])) }
+    ensures { OnOk result (frame.new ≡ spelled
+        (field 4 epoch ∷ field 1 thread ∷ field 1 code ∷ field 8 number ∷ field 8 subject ∷ [])
+        ++ frame.old) }
 {
-    put_u32(frame, epoch)?;
-    put_u8(frame, thread)?;
-    put_u8(frame, code)?;
+    put_u64(frame, subject)?;
     put_u64(frame, number)?;
-    put_u64(frame, subject)
+    put_u8(frame, code)?;
+    put_u8(frame, thread)?;
+    put_u32(frame, epoch)
 }
 
-/// Appends the number of threads, and whose components are not 0.
+/// Puts the number of threads, and whose components are not 0.
 fn put_mask(frame: &mut Bytes, threads: u8, stamp: &Stamp) -> Result<(), NoMemory>
     ensures { OnOk result (frame.new
-        ≡ frame.old ++ spelled (field 1 threads ∷ field 2 (mask_of stamp.now) ∷ [])) }
+        ≡ spelled (field 1 threads ∷ field 2 (mask_of stamp.now) ∷ []) ++ frame.old) }
 {
-    put_u8(frame, threads)?;
-    put_u16(frame, mask_of(stamp))
+    put_u16(frame, mask_of(stamp))?;
+    put_u8(frame, threads)
 }
 
-/// Appends the fields in front of a packet's captured bytes.
+/// Puts the fields of a packet that stand in front of its captured bytes, which are the frame so far.
 fn put_packet_fields(frame: &mut Bytes, packet: &Packet) -> Result<(), NoMemory>
-    requires { length packet.now.bytes ≤ MOST_CAPTURED }
-    ensures spelled { OnOk result (frame.new ≡ frame.old ++ spelled (packet_fields packet.now)) }
+    requires { length frame.old ≤ MOST_CAPTURED }
+    ensures spelled { OnOk result (frame.new
+        ≡ spelled (packet_fields (record packet.now { bytes = frame.old })) ++ frame.old) }
     ensures seconds { packet.now.seconds < 2 ^ 32 }
     ensures fraction { packet.now.fraction < 2 ^ 32 }
     ensures original { packet.now.original < 2 ^ 32 }
 {
     let (seconds, fraction, original) = (packet.seconds, packet.fraction, packet.original);
-    put_u32(frame, seconds)?;
-    put_u32(frame, fraction)?;
+    let captured = frame.len() as u32;
+    put_u32(frame, captured)?;
     put_u32(frame, original)?;
-    put_u32(frame, packet.bytes.len() as u32)
+    put_u32(frame, fraction)?;
+    put_u32(frame, seconds)
 }
 
-/// Appends the components that are not 0.
+/// Puts the components that are not 0.
 fn put_components(frame: &mut Bytes, components: &[u64]) -> Result<(), NoMemory>
     ensures spelled { OnOk result (frame.new
-        ≡ frame.old ++ spelled (component_fields (nonzero components.now))) }
+        ≡ spelled (component_fields (nonzero components.now)) ++ frame.old) }
     ensures fit { (u : ℕ) → slice_index components.now u < 2 ^ 64 }
 {
-    for component in components {
-        put_component(frame, *component)?;
+    let count = components.len();
+    for behind in 0..count {
+        put_component(frame, components[count - 1 - behind])?;
     }
     Ok(())
 }
 
-/// Appends the component, if it is not 0.
+/// Puts the component, if it is not 0.
 fn put_component(frame: &mut Bytes, component: u64) -> Result<(), NoMemory>
     ensures { OnOk result (frame.new
-        ≡ frame.old ++ spelled (component_fields (nonzero (component ∷ [])))) }
+        ≡ spelled (component_fields (nonzero (component ∷ []))) ++ frame.old) }
 {
     if component == 0 {
         return Ok(());
@@ -226,27 +231,27 @@ fn put_component(frame: &mut Bytes, component: u64) -> Result<(), NoMemory>
     put_u64(frame, component)
 }
 
-/// Appends a number of 8 bits. Like the longer ones it is written in one piece, since a frame has many.
+/// Puts a number of 8 bits. Like the longer ones it is written in one piece, since a frame has many.
 fn put_u8(frame: &mut Bytes, value: u8) -> Result<(), NoMemory>
-    ensures { OnOk result (frame.new ≡ frame.old ++ spelled (field 1 value ∷ [])) }
+    ensures { OnOk result (frame.new ≡ spelled (field 1 value ∷ []) ++ frame.old) }
 {
-    frame.push(value)
+    frame.prepend(&[value])
 }
 
 fn put_u16(frame: &mut Bytes, value: u16) -> Result<(), NoMemory>
-    ensures { OnOk result (frame.new ≡ frame.old ++ spelled (field 2 value ∷ [])) }
+    ensures { OnOk result (frame.new ≡ spelled (field 2 value ∷ []) ++ frame.old) }
 {
-    frame.extend(&value.to_be_bytes())
+    frame.prepend(&value.to_be_bytes())
 }
 
 fn put_u32(frame: &mut Bytes, value: u32) -> Result<(), NoMemory>
-    ensures { OnOk result (frame.new ≡ frame.old ++ spelled (field 4 value ∷ [])) }
+    ensures { OnOk result (frame.new ≡ spelled (field 4 value ∷ []) ++ frame.old) }
 {
-    frame.extend(&value.to_be_bytes())
+    frame.prepend(&value.to_be_bytes())
 }
 
 fn put_u64(frame: &mut Bytes, value: u64) -> Result<(), NoMemory>
-    ensures { OnOk result (frame.new ≡ frame.old ++ spelled (field 8 value ∷ [])) }
+    ensures { OnOk result (frame.new ≡ spelled (field 8 value ∷ []) ++ frame.old) }
 {
-    frame.extend(&value.to_be_bytes())
+    frame.prepend(&value.to_be_bytes())
 }

@@ -9,9 +9,9 @@ use Rattle.wire_frames.proofs.writing.put_entry.Goals as goal
 
 pub returns-clause-spelled : goal.returns-clause-spelled
 returns-clause-spelled c =
-    entry_written c.entry_length-size.result c.args.epoch c.args.threads c.args.entry.now c.from_vec-frame.result c.put_entry_front.new.frame c.components.result.now c.put_components.new.frame
+    entry_written c.entry_length-size.result c.args.epoch c.args.threads c.args.entry.now c.in_ok-frame.frame c.put_components.new.frame c.components.result.now c.put_entry_front.new.frame
     (entry_front c.entry_length-size.result c.args.epoch c.args.threads c.args.entry.now)
-    (c.from_vec-frame.ensures ∙ c.in_ok-with_capacity.ensures.items) c.in_ok-put_entry_front.ensures.spelled refl c.in_ok-put_components.ensures.spelled c.components.ensures.value c.entry_length-size.ensures.value
+    c.in_ok-frame.ensures c.in_ok-put_components.ensures.spelled c.components.ensures.value c.in_ok-put_entry_front.ensures.spelled refl c.entry_length-size.ensures.value
 
 pub returns-clause-frame : goal.returns-clause-frame
 returns-clause-frame c =

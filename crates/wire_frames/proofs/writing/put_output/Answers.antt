@@ -9,14 +9,15 @@ use Rattle.wire_frames.proofs.writing.put_output.Goals as goal
 
 pub returns-clause-spelled : goal.returns-clause-spelled
 returns-clause-spelled c =
-    output_written c.output_length-size.result c.args.epoch c.args.threads c.args.output.now c.from_vec-frame.result c.put_output_front.new.frame c.put_components.new.frame c.put_packet_fields.new.frame c.components.result.now c.extend.new.self
-    (output_front c.output_length-size.result c.args.epoch c.args.threads c.args.output.now) (packet_fields c.args.output.now.packet)
-    (c.from_vec-frame.ensures ∙ c.in_ok-with_capacity.ensures.items) c.in_ok-put_output_front.ensures.spelled refl c.in_ok-put_components.ensures.spelled c.components.ensures.value
-    c.in_ok-put_packet_fields.ensures.spelled refl (c.in_ok-extend.ensures.ok ∙ ap (λ (l : List ℕ). c.put_packet_fields.new.frame ++ l) c.as_slice.ensures) c.output_length-size.ensures.value
+    let o = c.args.output in
+    output_written c.output_length-size.result c.args.epoch c.args.threads o c.replace-frame.result c.put_packet_fields.new.frame c.put_components.new.frame c.components.result.now c.put_output_front.new.frame
+    (output_front c.output_length-size.result c.args.epoch c.args.threads o) (packet_fields (record o.packet { bytes = c.replace-frame.result }))
+    c.replace-frame.ensures.value c.in_ok-put_packet_fields.ensures.spelled (ap (λ (l : List ℕ). packet_fields (record o.packet { bytes = l })) c.replace-frame.ensures.value)
+    c.in_ok-put_components.ensures.spelled c.components.ensures.value c.in_ok-put_output_front.ensures.spelled refl c.output_length-size.ensures.value
 
 pub returns-clause-frame : goal.returns-clause-frame
 returns-clause-frame c =
-    let o = c.args.output.now in
+    let o = c.args.output in
     let f = frame.Output c.args.epoch c.args.threads o in
     let P : List ℕ → Type 0 = λ stamp. (u : ℕ) → slice_index stamp u < 2 ^ 64 in
     let fit = subst P c.components.ensures.value c.put_components.ensures.fit in
