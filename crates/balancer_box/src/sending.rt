@@ -7,7 +7,7 @@ ghost use Rattle.balancer_box.specs.Boxes.{settings_of};
 use crate::{Backend, BalancerBox, Class, Goes, Noted, Place};
 use nat_tables::Endpoint;
 use packet_headers::{Flow, NotFlow, set_dest, set_source};
-use plain_text::{Bytes, NoMemory};
+use plain_text::{Bytes, HEADER_ROOM, NoMemory, copy_with_room};
 use std::alloc::Global;
 
 /// The control bit RST of TCP (RFC 9293, section 3.1).

@@ -5,7 +5,7 @@ use crate::showing::text_of_totals;
 use crate::{FlowKey, FlowTable, MonitorBox, MonitorValue, Totals};
 use box_program::{Local, Move, Program};
 use packet_headers::{steering_sum, view};
-use plain_text::{Bytes, NoMemory, Packet, Text};
+use plain_text::{Bytes, HEADER_ROOM, NoMemory, Packet, Text};
 use std::alloc::Global;
 
 /// The places of the program: the flow's table is next; the totals are next, for a flow's packet or for another; the packet

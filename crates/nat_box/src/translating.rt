@@ -6,7 +6,7 @@ ghost use Rattle.nat_box.specs.Boxes.{settings_of};
 use crate::{Class, Goes, NatBox, Noted, Place};
 use nat_tables::{Endpoint, PortKey};
 use packet_headers::{Flow, NotFlow, set_dest, set_source};
-use plain_text::{Bytes, NoMemory};
+use plain_text::{Bytes, HEADER_ROOM, NoMemory, copy_with_room};
 use std::alloc::Global;
 
 /// The reason for which a packet is dropped that is of no class.

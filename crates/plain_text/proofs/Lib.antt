@@ -4,3 +4,4 @@ pub mod Faults
 pub mod Numbers
 pub mod Octets
 pub mod Rows
+pub mod Room

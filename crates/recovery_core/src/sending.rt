@@ -12,6 +12,7 @@ ghost use Rattle.recovery_core.specs.Sending.{IsUnsent, SendsEntry, SendsOutput,
 use access_log::{Output, StampedEntry};
 use link_store::Links;
 use plain_text::{Kind, NoMemory, Sequence};
+use snapshot_store::copy_output;
 use std::alloc::Global;
 use std::marker::Model;
 use wire_frames::{
@@ -146,17 +147,19 @@ impl SentFrames {
             .send(self.epoch, Kind::Log, entry.thread, entry.number, frame)
     }
 
-    /// Sends an output as its thread's next frame. After `NoMemory` the links are of no use any more.
-    pub fn send_output(&mut self, output: &Output) -> Result<(), NoMemory>
-        requires can { CanPutOutput self.old.epoch self.old.threads output.now }
-        ensures ok { OnOk result (SendsOutput self.old self.new output.now) }
-        ensures there { output.now.thread < length self.old.outputs }
+    /// Sends an output as its thread's next frame, in the buffer of its packet. After `NoMemory` the links are of no use any more.
+    pub fn send_output(&mut self, output: Output) -> Result<(), NoMemory>
+        requires can { CanPutOutput self.old.epoch self.old.threads output }
+        ensures ok { OnOk result (SendsOutput self.old self.new output) }
+        ensures there { output.thread < length self.old.outputs }
         ensures threads { self.new.threads ≡ self.old.threads }
     {
+        let (thread, number) = (output.thread, output.number);
+        let size = output_length(&output) as u32;
         let frame = put_output(self.alloc, self.epoch, self.threads, output)?;
-        self.outputs[output.thread as usize].push(output_length(output) as u32)?;
+        self.outputs[thread as usize].push(size)?;
         self.links
-            .send(self.epoch, Kind::Out, output.thread, output.number, frame)
+            .send(self.epoch, Kind::Out, thread, number, frame)
     }
 
     /// Sends an output again, of which the length is known. After `NoMemory` the links are of no use any more.
@@ -165,7 +168,8 @@ impl SentFrames {
         ensures ok { OnOk result (SendsAgain self.old self.new output.now) }
         ensures threads { self.new.threads ≡ self.old.threads }
     {
-        let frame = put_output(self.alloc, self.epoch, self.threads, output)?;
+        let copy = copy_output(self.alloc, output)?;
+        let frame = put_output(self.alloc, self.epoch, self.threads, copy)?;
         self.links
             .send(self.epoch, Kind::Out, output.thread, output.number, frame)
     }

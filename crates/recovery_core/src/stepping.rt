@@ -212,9 +212,10 @@ fn note<P: Program>(
             Ok(entry_outcome(&entry))
         }
         Stepped::Emitted(output) => {
+            let number = output.number;
             note_move(core, thread, answer, output.packet.bytes.len() as u64)?;
-            core.sent.send_output(&output)?;
-            Ok(Outcome::Emitted(output.number))
+            core.sent.send_output(output)?;
+            Ok(Outcome::Emitted(number))
         }
         Stepped::Ended(k) => {
             note_move(core, thread, answer, 0)?;

@@ -5,4 +5,5 @@
 mod outbox;
 mod store;
 
+pub use outbox::copy_output;
 pub use store::{Restored, Store};

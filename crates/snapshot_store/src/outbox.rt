@@ -1,11 +1,11 @@
 ghost use Rattle.std.specs.Prelude.{◌≡◌, IfOk};
 
 use access_log::{Output, Outputs};
-use plain_text::{Bytes, NoMemory, Packet};
+use plain_text::{Bytes, HEADER_ROOM, NoMemory, Packet};
 use std::alloc::Global;
 
-/// A copy of one output, with the bytes of its packet.
-fn copy_output(alloc: Global, output: &Output) -> Result<Output, NoMemory>
+/// A copy of one output, with the bytes of its packet. There is room in front of them for the header of its frame.
+pub fn copy_output(alloc: Global, output: &Output) -> Result<Output, NoMemory>
     ensures { IfOk result (λ copy. copy ≡ output.now) }
 {
     let packet = &output.packet;
@@ -18,7 +18,7 @@ fn copy_output(alloc: Global, output: &Output) -> Result<Output, NoMemory>
             seconds: packet.seconds,
             fraction: packet.fraction,
             original: packet.original,
-            bytes: Bytes::of(alloc, packet.bytes.as_slice())?,
+            bytes: Bytes::with_room(alloc, HEADER_ROOM, packet.bytes.as_slice())?,
         },
     })
 }

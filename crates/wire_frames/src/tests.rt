@@ -167,11 +167,11 @@ fn is_output(alloc: Global, bytes: &[u8], output: &Output) -> bool {
 fn an_output_is_written_and_read(rt: HostRuntime) -> Result<(), Fail> {
     let alloc = rt.alloc();
     let output = output(alloc)?;
-    let written = put_output(alloc, 1, 3, &output)?;
-    assert_eq!(rt; written.as_slice(), OUTPUT.as_slice());
     assert_eq!(rt; output_length(&output), 66);
     assert!(rt; is_output(alloc, &OUTPUT, &output));
     assert!(rt; is_output(alloc, &OLD_OUTPUT, &output));
+    let written = put_output(alloc, 1, 3, output)?;
+    assert_eq!(rt; written.as_slice(), OUTPUT.as_slice());
     Ok(())
 }
 

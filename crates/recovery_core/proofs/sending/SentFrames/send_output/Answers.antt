@@ -7,7 +7,7 @@ use Rattle.recovery_core.proofs.sending.SentFrames.send_output.Goals as goal
 
 pub overflow_cast-output_length : goal.overflow_cast-output_length
 overflow_cast-output_length c =
-    let few = nonzero_few c.args.output.now.stamp in
+    let few = nonzero_few c.args.output.stamp in
     let all = c.in_ok-frame.ensures.frame.range.0.components.all in
     let is = c.output_length.ensures.value in
     let captured = c.requires.can.captured in
@@ -16,6 +16,6 @@ overflow_cast-output_length c =
 pub returns-clause-ok : goal.returns-clause-ok
 returns-clause-ok c =
     on_ok_weaker c.send.result (λ sends.
-    let can = subst (λ (q : Sending). CanPutOutput q.epoch q.threads c.args.output.now) (sym c.self.view_is) c.requires.can in
+    let can = subst (λ (q : Sending). CanPutOutput q.epoch q.threads c.args.output) (sym c.self.view_is) c.requires.can in
     let longer = one_longer_is _ _ _ _ _ _ _ c.index_mut.ensures.value c.in_ok-push.ensures.ok c.output_length.ensures.value c.self.invariant.outputs can.sent.of_these in
-    sends_output _ _ c.send.new.self c.args.output.now c.in_ok-frame.frame c.push.new.self c.self.view_is can c.in_ok-frame.ensures.frame sends longer) c.send.ensures.ok
+    sends_output _ _ c.send.new.self c.args.output c.in_ok-frame.frame c.push.new.self c.self.view_is can c.in_ok-frame.ensures.frame sends longer) c.send.ensures.ok
