@@ -8,6 +8,7 @@ mod effects;
 mod laws;
 mod lists;
 mod master;
+pub mod moves;
 mod parts;
 mod step;
 mod untouched;
