@@ -264,10 +264,10 @@ impl<P: Program> Master<P> {
     {
         let part = &mut self.threads[thread as usize];
         let variable = &mut self.vars[var as usize];
-        match moves::touch(alloc, program, thread, part, place, var, variable) {
-            Ok(entry) => Stepped::Did(entry),
-            Err(NoMemory) => Stepped::NoMemory,
-        }
+        let Ok(entry) = moves::touch(alloc, program, thread, part, place, var, variable) else {
+            return Stepped::NoMemory;
+        };
+        Stepped::Did(entry)
     }
 
     /// Makes the read that is next.
@@ -316,10 +316,10 @@ impl<P: Program> Master<P> {
             place part self.old result self.new) self.old.threads thread }
     {
         let part = &mut self.threads[thread as usize];
-        match moves::emit(alloc, program, thread, part, place, packet) {
-            Ok(output) => Stepped::Emitted(output),
-            Err(NoMemory) => Stepped::NoMemory,
-        }
+        let Ok(output) = moves::emit(alloc, program, thread, part, place, packet) else {
+            return Stepped::NoMemory;
+        };
+        Stepped::Emitted(output)
     }
 
     /// Ends the packet in hand.
