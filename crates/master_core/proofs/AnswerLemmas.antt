@@ -25,6 +25,7 @@ use Rattle.master_core.specs.Standing.{IsThread, Stands}
 use Rattle.master_core.specs.Stepping.{move_of, Follows, MadeNone, MadeOne}
 use Rattle.master_core.specs.Effects.{InTurn, Played, next_output, after_take, DoneTake, DoneTouch, DoneLook}
 use Rattle.box_program.proofs.HandLemmas.{in_hand}
+use Rattle.master_core.proofs.EffectLemmas.{touched_master, looked_master, heard_master}
 use Rattle.master_core.proofs.Variables.{clock_on_none, draw_on_none}
 use Rattle.master_core.proofs.FollowsLemmas.{Ready, touch_follows, look_follows, told_follows, emit_follows, end_follows}
 
@@ -149,7 +150,7 @@ module _ {V : Type 0} (m : Meaning V) (fits : ℕ → V → Type 0) (lawful : Is
       let under : v < m.vars = lawful.touches_var place v is in
       let value : V = (slice_index_or p.vars v x).value in
       let falls : m.rank (m.touch v value place).1 < m.rank place = lawful.touch_falls v value place is (fit.fit v x under) in
-      made m fits t now packet place p r q (move.Access v) _ _ low may (subst MadeOne (sym r_is) tt) done.master
+      made m fits t now packet place p r q (move.Access v) _ _ low may (subst MadeOne (sym r_is) tt) (touched_master m t v place part (slice_index_or p.vars v x) p e q done)
       (fits_set m fits p v _ fit under (lawful.touch_fits v value place is (fit.fit v x under))) (omega arith) (λ o e. absurd (cc))
 
   look_answers : (v : ℕ) (now : Turn) → MayMove (move.Read v) now → m.next place ≡ move.Read v → DoneLook m t v place part (slice_index_or p.vars v x) p r q → Answers m fits t now packet place p r q (move.Read v)
@@ -157,7 +158,7 @@ module _ {V : Type 0} (m : Meaning V) (fits : ℕ → V → Type 0) (lawful : Is
       let under : v < m.vars = lawful.reads_var place v is in
       let value : V = (slice_index_or p.vars v x).value in
       let falls : m.rank (m.look v value place) < m.rank place = lawful.look_falls v value place is (fit.fit v x under) in
-      made m fits t now packet place p r q (move.Read v) _ _ low may (subst MadeOne (sym r_is) tt) done.master
+      made m fits t now packet place p r q (move.Read v) _ _ low may (subst MadeOne (sym r_is) tt) (looked_master m t v place part (slice_index_or p.vars v x) p e q done)
       (fits_set m fits p v _ fit under (fit.fit v x under)) (omega arith) (λ o e. absurd (cc))
 
   -- what a move with the packet in hand answers
@@ -170,10 +171,10 @@ module _ {V : Type 0} (m : Meaning V) (fits : ℕ → V → Type 0) (lawful : Is
   played_answers (turn.Wait u n) (move.Read v) is h = not_turn m fits t v u n packet place p r q (move.Read v) fit (inr refl) h.0 h.1
   played_answers now move.Clock is (e, r_is, done) =
       let falls : m.rank (m.told answer place) < m.rank place = lawful.clock_falls answer place is in
-      made m fits t now packet place p r q move.Clock p.vars _ low (may_clock now) (subst MadeOne (sym r_is) tt) done.master (record { count = fit.count; fit = fit.fit }) (omega arith) (λ o e. absurd (cc))
+      made m fits t now packet place p r q move.Clock p.vars _ low (may_clock now) (subst MadeOne (sym r_is) tt) (heard_master m t (Clock answer) answer place part p e q done) (record { count = fit.count; fit = fit.fit }) (omega arith) (λ o e. absurd (cc))
   played_answers now move.Draw is (e, r_is, done) =
       let falls : m.rank (m.told answer place) < m.rank place = lawful.draw_falls answer place is in
-      made m fits t now packet place p r q move.Draw p.vars _ low (may_draw now) (subst MadeOne (sym r_is) tt) done.master (record { count = fit.count; fit = fit.fit }) (omega arith) (λ o e. absurd (cc))
+      made m fits t now packet place p r q move.Draw p.vars _ low (may_draw now) (subst MadeOne (sym r_is) tt) (heard_master m t (Draw answer) answer place part p e q done) (record { count = fit.count; fit = fit.fit }) (omega arith) (λ o e. absurd (cc))
   played_answers now move.Emit is (inr (r_is, q_is)) = no_memory m fits t now packet place p r q move.Emit fit (may_emit now) r_is q_is
   played_answers now move.Emit is (inl (r_is, q_is)) =
       let falls : m.rank (m.emitted place) < m.rank place = lawful.emit_falls place is in

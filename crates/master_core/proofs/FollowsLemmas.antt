@@ -25,6 +25,7 @@ use Rattle.master_core.specs.Mastered.{Mastered}
 use Rattle.master_core.specs.Standing.{IsVariable, IsThread, Stands}
 use Rattle.master_core.specs.Stepping.{told_for, move_of, plain_entry, DidEntry, Follows}
 use Rattle.master_core.specs.Effects.{next_output, DoneTake, DoneTouch, DoneLook, DoneHear, DoneEmit, DoneEnd, after_take, after_entry, after_emit, after_end}
+use Rattle.master_core.proofs.EffectLemmas.{touched_master, looked_master, heard_master}
 use Rattle.master_core.proofs.Threads.{take_on, emit_on, end_on, entry_on}
 use Rattle.master_core.proofs.Variables.{OnNone, touch_is_log, look_is_log, told_is_log, take_vars, emit_vars, end_vars, told_vars, touch_vars, look_vars}
 use Rattle.master_core.proofs.StandsLemmas.{stands_on, Logs, touch_logs, look_logs, told_logs}
@@ -96,7 +97,7 @@ pub touch_follows : {V : Type 0} (m : Meaning V) (inputs : ℕ → List Packet) 
 touch_follows {V} m inputs threads steps t answer v packet place part x p q r ready next below len is (inr (r_is, q_is)) =
     subst (λ (s : Stepped). Follows m inputs threads steps (move_of m steps t answer) s q) (sym r_is) tt
 touch_follows {V} m inputs threads steps t answer v packet place part x p q r ready next below len is (inl (e, r_is, done)) =
-    made m inputs threads steps t answer (record { vars = slice_set p.vars v y; threads = slice_set p.threads t (after_entry part place' e.stamp) }) q r (stepped.Did e) r_is done.master (record {
+    made m inputs threads steps t answer (record { vars = slice_set p.vars v y; threads = slice_set p.threads t (after_entry part place' e.stamp) }) q r (stepped.Did e) r_is (touched_master m t v place part x p e q done) (record {
       step = step;
       plain_is = hand_plays m inputs threads steps t answer packet place (move.Access v) ready.below ready.hand next ∙ ap (λ (w : V). Ok (step_of t steps (holding taken packet (m.touch v w place).1) (Touches v (m.touch v w place).0) ∷ steps)) (sym is.value);
       stands = stands_on m threads steps p t after effect (slice_set p.vars v y) (after_entry part place' e.stamp) ready.stands ready.below good
@@ -130,18 +131,18 @@ touch_follows {V} m inputs threads steps t answer v packet place part x p q r re
     good = touch_is_log (log_of steps) t v ready.stands.log
 
     logs : Logs steps t what e
-    logs = touch_logs m steps t v part x e ready.stands.log ready.part_is is done.entry done.stamp
+    logs = touch_logs m steps t v part x e ready.stands.log ready.part_is is done.does.logs.entry done.does.logs.stamp
 
 -- A read does.
 pub look_follows : {V : Type 0} (m : Meaning V) (inputs : ℕ → List Packet) (threads : ℕ) (steps : List (Step V)) (t answer v : ℕ) (packet : Packet) (place : Local) (part : ThreadPart) (x : VarPart V) (p q : Mastered V) (r : Stepped)
     → Ready m inputs threads steps p t part packet place → m.next place ≡ move.Read v → v < m.vars → length p.vars ≡ m.vars → IsVariable m steps v x
     → DoneLook m t v place part x p r q → Follows m inputs threads steps (move_of m steps t answer) r q
 look_follows {V} m inputs threads steps t answer v packet place part x p q r ready next below len is (e, r_is, done) =
-    made m inputs threads steps t answer (record { vars = slice_set p.vars v y; threads = slice_set p.threads t (after_entry part place' e.stamp) }) q r (stepped.Did e) r_is done.master (record {
+    made m inputs threads steps t answer (record { vars = slice_set p.vars v y; threads = slice_set p.threads t (after_entry part place' e.stamp) }) q r (stepped.Did e) r_is (looked_master m t v place part x p e q done) (record {
       step = step;
       plain_is = hand_plays m inputs threads steps t answer packet place (move.Read v) ready.below ready.hand next ∙ ap (λ (w : V). Ok (step_of t steps (holding taken packet (m.look v w place)) (Looks v) ∷ steps)) (sym is.value);
       stands = stands_on m threads steps p t after (Looks v) (slice_set p.vars v y) (after_entry part place' e.stamp) ready.stands ready.below good
-          (look_vars m steps t v after e.stamp done.readers x p.vars ready.stands.log below len is logs.stamp done.joined ready.stands.var)
+          (look_vars m steps t v after e.stamp done.y.readers x p.vars ready.stands.log below len is logs.stamp done.does.joined ready.stands.var)
           (entry_on steps t packet place place' (Looks v) what e.stamp part refl refl good logs.stamp ready.at ready.part_is);
       does = did_entry steps t what None e step logs refl refl;
     })
@@ -153,7 +154,7 @@ look_follows {V} m inputs threads steps t answer v packet place part x p q r rea
     place' = m.look v x.value place
 
     y : VarPart V
-    y = record { value = x.value; places = x.places; stamp = x.stamp; readers = done.readers }
+    y = record { value = x.value; places = x.places; stamp = x.stamp; readers = done.y.readers }
 
     after : Thread
     after = holding taken packet place'
@@ -168,7 +169,7 @@ look_follows {V} m inputs threads steps t answer v packet place part x p q r rea
     good = look_is_log (log_of steps) t v ready.stands.log
 
     logs : Logs steps t what e
-    logs = look_logs m steps t v part x e ready.stands.log ready.part_is is done.entry done.stamp
+    logs = look_logs m steps t v part x e ready.stands.log ready.part_is is done.does.logs.entry done.does.logs.stamp
 
 -- A question does, for the time or for a random word: what was told is an entry on no variable.
 pub told_follows : {V : Type 0} (m : Meaning V) (inputs : ℕ → List Packet) (threads : ℕ) (steps : List (Step V)) (t answer : ℕ) (question : Move) (what : What) (effect : Effect V) (packet : Packet) (place : Local) (part : ThreadPart) (p q : Mastered V) (r : Stepped)
@@ -177,7 +178,7 @@ pub told_follows : {V : Type 0} (m : Meaning V) (inputs : ℕ → List Packet) (
     → act_of t steps (thread_after steps t).taken effect ≡ Did (entry_of t (log_of steps) what) None
     → DoneHear m t what answer place part p r q → Follows m inputs threads steps (move_of m steps t answer) r q
 told_follows {V} m inputs threads steps t answer question what effect packet place part p q r ready next none moves act (e, r_is, done) =
-    made m inputs threads steps t answer (record { vars = p.vars; threads = slice_set p.threads t (after_entry part place' e.stamp) }) q r (stepped.Did e) r_is done.master (record {
+    made m inputs threads steps t answer (record { vars = p.vars; threads = slice_set p.threads t (after_entry part place' e.stamp) }) q r (stepped.Did e) r_is (heard_master m t what answer place part p e q done) (record {
       step = step;
       plain_is = hand_plays m inputs threads steps t answer packet place question ready.below ready.hand next ∙ ap (after_moved steps t) moves;
       stands = stands_on m threads steps p t after effect p.vars (after_entry part place' e.stamp) ready.stands ready.below (subst IsLog (sym log_is) good)
@@ -202,7 +203,7 @@ told_follows {V} m inputs threads steps t answer question what effect packet pla
     good = told_is_log (log_of steps) t what none ready.stands.log
 
     logs : Logs steps t what e
-    logs = told_logs steps t what part e none ready.stands.log ready.part_is done.entry done.stamp
+    logs = told_logs steps t what part e none ready.stands.log ready.part_is done.does.entry done.does.stamp
 
 -- An emission does.
 pub emit_follows : {V : Type 0} (m : Meaning V) (inputs : ℕ → List Packet) (threads : ℕ) (steps : List (Step V)) (t answer : ℕ) (packet : Packet) (place : Local) (part : ThreadPart) (p q : Mastered V) (r : Stepped)

@@ -62,36 +62,66 @@ before_touch part x u = max (max (slice_index part.stamp u) (slice_index x.stamp
 abbrev pub before_read : {V : Type 0} → ThreadPart → VarPart V → ℕ → ℕ
 before_read part x u = max (slice_index part.stamp u) (slice_index x.stamp u)
 
--- Thread t, which has this part, touched variable v, which has that one, from this place in the program.
+-- A logged move of thread t, which has this part: its entry is the thread's next one, its stamp is that of the join before it,
+-- and the thread goes on at this place in the program.
+pub record LogsEntry (t : ℕ) (what : What) (join : ℕ → ℕ) (next : Local) (part : ThreadPart) (e : StampedEntry) (left : ThreadPart) : Type 0 where
+  pub entry : e ≡ next_entry t part what e.stamp
+  pub stamp : HasStamp e join
+  pub thread : left ≡ after_entry part next e.stamp
+
+-- the variable after a touch with this stamp, and after a read that joins the others
+abbrev pub after_touch : {V : Type 0} → Meaning V → ℕ → Local → VarPart V → List ℕ → VarPart V
+after_touch m v place x stamp = record { value = (m.touch v x.value place).0; places = x.places + 1; stamp = stamp; readers = replicate 16 0 }
+
+abbrev pub after_read : {V : Type 0} → VarPart V → List ℕ → VarPart V
+after_read x readers = record { value = x.value; places = x.places; stamp = x.stamp; readers = readers }
+
+-- What a touch of variable v, from this place in the program, does to the parts of its thread and of the variable.
+pub record TouchesParts {V : Type 0} (m : Meaning V) (t v : ℕ) (place : Local) (part : ThreadPart) (x : VarPart V) (e : StampedEntry) (left : ThreadPart) (y : VarPart V) : Type 0 where
+  pub logs : LogsEntry t (Access v (x.places + 1)) (before_touch part x) (m.touch v x.value place).1 part e left
+  pub variable : y ≡ after_touch m v place x e.stamp
+
+-- What a read does to them.
+pub record ReadsParts {V : Type 0} (m : Meaning V) (t v : ℕ) (place : Local) (part : ThreadPart) (x : VarPart V) (e : StampedEntry) (left : ThreadPart) (y : VarPart V) : Type 0 where
+  pub logs : LogsEntry t (Read v x.places) (before_read part x) (m.look v x.value place) part e left
+  pub variable : y ≡ after_read x y.readers
+  pub joined : IsJoin x.readers e.stamp y.readers
+
+-- What being told an answer, as the entry says, does to the part of its thread.
+abbrev pub HearsPart : {V : Type 0} → Meaning V → ℕ → What → ℕ → Local → ThreadPart → StampedEntry → ThreadPart → Type 0
+HearsPart m t what answer place part e left = LogsEntry t what (λ u. slice_index part.stamp u) (m.told answer place) part e left
+
+-- the master with this part of thread t, and with this one of variable v too
+abbrev pub with_thread : {V : Type 0} → Mastered V → ℕ → ThreadPart → Mastered V
+with_thread p t part = record { vars = p.vars; threads = slice_set p.threads t part }
+
+abbrev pub with_parts : {V : Type 0} → Mastered V → ℕ → ThreadPart → ℕ → VarPart V → Mastered V
+with_parts p t part v x = record { vars = slice_set p.vars v x; threads = slice_set p.threads t part }
+
+-- Thread t of a master, which has this part, touched variable v, which has that one.
 pub record Touched {V : Type 0} (m : Meaning V) (t v : ℕ) (place : Local) (part : ThreadPart) (x : VarPart V) (p : Mastered V) (e : StampedEntry) (q : Mastered V) : Type 0 where
-  pub entry : e ≡ next_entry t part (Access v (x.places + 1)) e.stamp
-  pub stamp : HasStamp e (before_touch part x)
-  pub master : q ≡ record {
-    vars = slice_set p.vars v (record { value = (m.touch v x.value place).0; places = x.places + 1; stamp = e.stamp; readers = replicate 16 0 });
-    threads = slice_set p.threads t (after_entry part (m.touch v x.value place).1 e.stamp);
-  }
+  pub left : ThreadPart
+  pub y : VarPart V
+  pub does : TouchesParts m t v place part x e left y
+  pub master : q ≡ with_parts p t left v y
 
 -- it read it
 pub record Looked {V : Type 0} (m : Meaning V) (t v : ℕ) (place : Local) (part : ThreadPart) (x : VarPart V) (p : Mastered V) (e : StampedEntry) (q : Mastered V) : Type 0 where
-  pub entry : e ≡ next_entry t part (Read v x.places) e.stamp
-  pub stamp : HasStamp e (before_read part x)
-  pub readers : List ℕ
-  pub joined : IsJoin x.readers e.stamp readers
-  pub master : q ≡ record {
-    vars = slice_set p.vars v (record { value = x.value; places = x.places; stamp = x.stamp; readers = readers });
-    threads = slice_set p.threads t (after_entry part (m.look v x.value place) e.stamp);
-  }
+  pub left : ThreadPart
+  pub y : VarPart V
+  pub does : ReadsParts m t v place part x e left y
+  pub master : q ≡ with_parts p t left v y
 
--- it was told an answer, as its entry says
+-- it was told an answer
 pub record Heard {V : Type 0} (m : Meaning V) (t : ℕ) (what : What) (answer : ℕ) (place : Local) (part : ThreadPart) (p : Mastered V) (e : StampedEntry) (q : Mastered V) : Type 0 where
-  pub entry : e ≡ next_entry t part what e.stamp
-  pub stamp : HasStamp e (λ u. slice_index part.stamp u)
-  pub master : q ≡ record { vars = p.vars; threads = slice_set p.threads t (after_entry part (m.told answer place) e.stamp) }
+  pub left : ThreadPart
+  pub does : HearsPart m t what answer place part e left
+  pub master : q ≡ with_thread p t left
 
 -- What a call that makes one kind of move answers
 
 abbrev pub DoneTake : {V : Type 0} → Meaning V → ℕ → Packet → ThreadPart → Mastered V → Stepped → Mastered V → Type 0
-DoneTake m t packet part p r q = (r ≡ stepped.Took (part.counts.taken + 1)) × (q ≡ record { vars = p.vars; threads = slice_set p.threads t (after_take part (m.begin packet)) })
+DoneTake m t packet part p r q = (r ≡ stepped.Took (part.counts.taken + 1)) × (q ≡ with_thread p t (after_take part (m.begin packet)))
 
 abbrev pub DoneTouch : {V : Type 0} → Meaning V → ℕ → ℕ → Local → ThreadPart → VarPart V → Mastered V → Stepped → Mastered V → Type 0
 DoneTouch m t v place part x p r q = ((e : StampedEntry) × (r ≡ stepped.Did e) × Touched m t v place part x p e q) ⊎ ((r ≡ stepped.NoMemory) × (q ≡ p))
@@ -104,11 +134,11 @@ DoneHear m t what answer place part p r q = (e : StampedEntry) × (r ≡ stepped
 
 abbrev pub DoneEmit : {V : Type 0} → Meaning V → ℕ → Packet → Local → ThreadPart → Mastered V → Stepped → Mastered V → Type 0
 DoneEmit m t packet place part p r q =
-    ((r ≡ stepped.Emitted (next_output t part packet (m.out packet place))) × (q ≡ record { vars = p.vars; threads = slice_set p.threads t (after_emit part (m.emitted place)) }))
+    ((r ≡ stepped.Emitted (next_output t part packet (m.out packet place))) × (q ≡ with_thread p t (after_emit part (m.emitted place))))
     ⊎ ((r ≡ stepped.NoMemory) × (q ≡ p))
 
 abbrev pub DoneEnd : {V : Type 0} → ℕ → ThreadPart → Mastered V → Stepped → Mastered V → Type 0
-DoneEnd t part p r q = (r ≡ stepped.Ended part.counts.taken) × (q ≡ record { vars = p.vars; threads = slice_set p.threads t (after_end part) })
+DoneEnd t part p r q = (r ≡ stepped.Ended part.counts.taken) × (q ≡ with_thread p t (after_end part))
 
 -- The answer to a move that wants a variable, where its turn is this one: that it is not its turn, or else what it did.
 abbrev pub InTurn : {V : Type 0} → Turn → Mastered V → Stepped → Mastered V → Type 0 → Type 0

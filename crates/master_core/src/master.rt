@@ -12,14 +12,15 @@ ghost use Rattle.master_core.specs.Stepping.{wanted, move_of, Follows, MadeNone,
 ghost use Rattle.master_core.specs.Effects.{HasFresh, DoneTake, DoneTouch, DoneLook, DoneHear, DoneEmit, DoneEnd, HasPlayed};
 
 mod copies;
+mod split;
 
-use crate::effects::{log_entry, stamped};
-use crate::{Counts, Stepped, ThreadPart, VarPart, Wants};
-use access_log::{Output, Turn, What};
+use crate::{Counts, Stepped, ThreadPart, VarPart, Wants, moves};
+use access_log::{Turn, What};
 use box_program::Program;
 pub use copies::Delta;
 use plain_machine::{Local, Move};
 use plain_text::{NoMemory, Packet};
+pub use split::MasterParts;
 use std::alloc::Global;
 use std::marker::Model;
 use thread_clock::Stamp;
@@ -248,22 +249,11 @@ impl<P: Program> Master<P> {
         ensures { HoldsAt (λ part. DoneTake (P.meaning program.now) thread packet.now
             part self.old result self.new) self.old.threads thread }
     {
-        let place = program.begin(packet);
-        let part = &mut self.threads[thread as usize];
-        part.counts.taken += 1;
-        part.hand = Some(place);
-        Stepped::Took(part.counts.taken)
+        Stepped::Took(moves::take(program, &mut self.threads[thread as usize], packet))
     }
 
     /// Makes the touch that is next.
-    fn touch(
-        &mut self,
-        alloc: Global,
-        program: &P,
-        thread: u32,
-        mut place: Local,
-        var: u32,
-    ) -> Stepped
+    fn touch(&mut self, alloc: Global, program: &P, thread: u32, place: Local, var: u32) -> Stepped
         requires program { FitsProgram (P.meaning program.now) (P.fits program.now)
             value_of self.old.vars }
         requires thread_in { thread < length self.old.threads }
@@ -274,33 +264,16 @@ impl<P: Program> Master<P> {
             place part variable self.old result self.new) self.old.vars var)
             self.old.threads thread }
     {
-        let part = self.threads[thread as usize];
+        let part = &mut self.threads[thread as usize];
         let variable = &mut self.vars[var as usize];
-        let Ok(()) = program.touch(alloc, var, &mut variable.value, &mut place) else {
+        let Ok(entry) = moves::touch(alloc, program, thread, part, place, var, variable) else {
             return Stepped::NoMemory;
         };
-        let mut join = part.stamp;
-        join.join(&variable.stamp);
-        join.join(&variable.readers);
-        let stamp = stamped(join, thread, part.counts.entries + 1);
-        variable.places += 1;
-        variable.stamp = stamp;
-        variable.readers = Stamp::zero();
-        let what = What::Access {
-            var,
-            place: variable.places,
-        };
-        log_entry(
-            &mut self.threads[thread as usize],
-            thread,
-            place,
-            what,
-            stamp,
-        )
+        Stepped::Did(entry)
     }
 
     /// Makes the read that is next.
-    fn look(&mut self, program: &P, thread: u32, mut place: Local, var: u32) -> Stepped
+    fn look(&mut self, program: &P, thread: u32, place: Local, var: u32) -> Stepped
         requires program { FitsProgram (P.meaning program.now) (P.fits program.now)
             value_of self.old.vars }
         requires thread_in { thread < length self.old.threads }
@@ -311,51 +284,21 @@ impl<P: Program> Master<P> {
             place part variable self.old result self.new) self.old.vars var)
             self.old.threads thread }
     {
-        let part = self.threads[thread as usize];
+        let part = &mut self.threads[thread as usize];
         let variable = &mut self.vars[var as usize];
-        program.look(var, &variable.value, &mut place);
-        let mut join = part.stamp;
-        join.join(&variable.stamp);
-        let stamp = stamped(join, thread, part.counts.entries + 1);
-        variable.readers.join(&stamp);
-        let what = What::Read {
-            var,
-            after: variable.places,
-        };
-        log_entry(
-            &mut self.threads[thread as usize],
-            thread,
-            place,
-            what,
-            stamp,
-        )
+        Stepped::Did(moves::look(program, thread, part, place, var, variable))
     }
 
     /// Is told this answer, which the entry has as its content.
-    fn hear(
-        &mut self,
-        program: &P,
-        thread: u32,
-        mut place: Local,
-        what: What,
-        answer: u64,
-    ) -> Stepped
+    fn hear(&mut self, program: &P, thread: u32, place: Local, what: What, answer: u64) -> Stepped
         requires thread_in { thread < length self.old.threads }
         requires room { HasRoom self.old thread }
         requires hand { HasHand self.old thread place }
         ensures { HoldsAt (λ part. DoneHear (P.meaning program.now) thread what answer
             place part self.old result self.new) self.old.threads thread }
     {
-        let part = self.threads[thread as usize];
-        program.told(answer, &mut place);
-        let stamp = stamped(part.stamp, thread, part.counts.entries + 1);
-        log_entry(
-            &mut self.threads[thread as usize],
-            thread,
-            place,
-            what,
-            stamp,
-        )
+        let part = &mut self.threads[thread as usize];
+        Stepped::Did(moves::hear(program, thread, part, place, what, answer))
     }
 
     /// Sends out what the program makes of the packet in hand.
@@ -364,7 +307,7 @@ impl<P: Program> Master<P> {
         alloc: Global,
         program: &P,
         thread: u32,
-        mut place: Local,
+        place: Local,
         packet: &Packet,
     ) -> Stepped
         requires thread_in { thread < length self.old.threads }
@@ -374,25 +317,11 @@ impl<P: Program> Master<P> {
         ensures { HoldsAt (λ part. DoneEmit (P.meaning program.now) thread packet.now
             place part self.old result self.new) self.old.threads thread }
     {
-        let Ok(bytes) = program.packet_out(alloc, packet, &place) else {
+        let part = &mut self.threads[thread as usize];
+        let Ok(output) = moves::emit(alloc, program, thread, part, place, packet) else {
             return Stepped::NoMemory;
         };
-        program.emitted(&mut place);
-        let part = &mut self.threads[thread as usize];
-        part.counts.outputs += 1;
-        part.hand = Some(place);
-        Stepped::Emitted(Output {
-            thread,
-            number: part.counts.outputs,
-            input: part.counts.taken,
-            stamp: part.stamp,
-            packet: Packet {
-                seconds: packet.seconds,
-                fraction: packet.fraction,
-                original: packet.original,
-                bytes,
-            },
-        })
+        Stepped::Emitted(output)
     }
 
     /// Ends the packet in hand.
@@ -402,9 +331,7 @@ impl<P: Program> Master<P> {
         ensures { HoldsAt (λ part. DoneEnd thread part self.old result self.new)
             self.old.threads thread }
     {
-        let part = &mut self.threads[thread as usize];
-        part.hand = None;
-        Stepped::Ended(part.counts.taken)
+        Stepped::Ended(moves::end(&mut self.threads[thread as usize]))
     }
 }
 
