@@ -3,4 +3,6 @@ pub mod Keeping
 pub mod Pooling
 pub mod TableLemmas
 pub mod Parity
-pub mod PoolLemmas
+pub mod PlaceLemmas
+pub mod WordLemmas
+pub mod GroupLemmas

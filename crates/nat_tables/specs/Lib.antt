@@ -3,3 +3,4 @@ pub mod Keys
 pub mod Forwards
 pub mod Reverses
 pub mod Shown
+pub mod Placing

@@ -132,13 +132,6 @@ abbrev pub AreOfParity : ℕ → List ℕ → Type 0
 AreOfParity parity [] = Unit {0}
 AreOfParity parity (p ∷ ps) = (p < 2 ^ 16) × (p % 2 ≡ parity) × IsBelow p ps × AreOfParity parity ps
 
--- the free ports of a protocol in memory, where the two lists have room for so many ports: for all of their parity
-pub record HaveRoom (even : List ℕ) (even_room : ℕ) (odd : List ℕ) (odd_room : ℕ) : Type 0 where
-  pub even_ports : AreOfParity 0 even
-  pub odd_ports : AreOfParity 1 odd
-  pub even_fit : 2 ^ 15 ≤ even_room
-  pub odd_fit : 2 ^ 15 ≤ odd_room
-
 abbrev pub ArePorts : PoolPorts → Type 0
 ArePorts pool = AreOfParity 0 pool.tcp.even × AreOfParity 1 pool.tcp.odd × AreOfParity 0 pool.udp.even × AreOfParity 1 pool.udp.odd
 
