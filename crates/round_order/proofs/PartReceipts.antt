@@ -15,7 +15,7 @@ use Rattle.plain_machine.specs.History.{Took, Did, Emitted, Ended, Step, log_of,
 use Rattle.master_core.specs.declared.parts.VarPart.{VarPart}
 use Rattle.master_core.specs.declared.parts.ThreadPart.{ThreadPart}
 use Rattle.master_core.specs.Stepping.{plain_entry}
-use Rattle.master_core.specs.Effects.{after_take, after_entry, after_emit, after_end, next_entry, HasStamp, before_touch, before_read}
+use Rattle.master_core.specs.Effects.{after_take, after_entry, after_emit, after_end, next_entry, HasStamp, before_touch, before_read, after_touch, after_read}
 use Rattle.round_order.specs.Receipts.{Receipt, Receipts, after}
 use Rattle.round_order.specs.Linked.{IsOwnMove}
 use Rattle.round_order.specs.Home.{IsSeat}
@@ -117,7 +117,7 @@ module _ {V : Type 0} (m : Meaning V) (inputs : ℕ → List Packet) (threads : 
 
       pub touches : (v : ℕ) (x : VarPart V) (stamp : List ℕ) → m.next place ≡ Access v → HasStamp (next_entry t part (Touched v (x.places + 1)) stamp) (before_touch part x)
           → moves.Leaves m inputs threads past rs part (moves.touch_receipt m t part packet place v x stamp) (after_entry part (m.touch v x.value place).1 stamp)
-          × Touches v part x (moves.touched_part m v place x stamp) (moves.touch_receipt m t part packet place v x stamp)
+          × Touches v part x (after_touch m v place x stamp) (moves.touch_receipt m t part packet place v x stamp)
       touches v x stamp is st = (
         (
           next_of (moves.touch_receipt m t part packet place v x stamp) refl (
@@ -133,7 +133,7 @@ module _ {V : Type 0} (m : Meaning V) (inputs : ℕ → List Packet) (threads : 
       pub reads : (v : ℕ) (x : VarPart V) (stamp readers : List ℕ) → m.next place ≡ Read v → HasStamp (next_entry t part (Looked v x.places) stamp) (before_read part x)
           → ((u : ℕ) → slice_index readers u ≡ max (slice_index x.readers u) (slice_index stamp u))
           → moves.Leaves m inputs threads past rs part (moves.read_receipt m t part packet place v x stamp) (after_entry part (m.look v x.value place) stamp)
-          × Reads v part x (record { value = x.value; places = x.places; stamp = x.stamp; readers = readers }) (moves.read_receipt m t part packet place v x stamp)
+          × Reads v part x (after_read x readers) (moves.read_receipt m t part packet place v x stamp)
       reads v x stamp readers is st joined = (
         (
           next_of (moves.read_receipt m t part packet place v x stamp) refl (

@@ -1,6 +1,6 @@
 -- The receipts of moves that are made with the part of one thread and, where a move is of a variable, the part of that variable:
 -- what they leave of both parts is what a master leaves of them.
-use Rattle.std.specs.Prelude.{◌≡◌, ℕ, ◌+◌, ◌<◌, ◌≤◌, List, [], Some, None, max, replicate, slice_get, slice_index}
+use Rattle.std.specs.Prelude.{◌≡◌, ℕ, ◌+◌, ◌<◌, ◌≤◌, List, [], Some, None, max, slice_get, slice_index}
 use Rattle.plain_text.specs.declared.packet.Packet.{Packet}
 use Rattle.entry_order.specs.declared.what.What.{What}
 use Rattle.entry_order.specs.declared.what.What.TheVariants.{Access as Touched, Read as Looked, Clock as Told, Draw as Drawn}
@@ -13,7 +13,7 @@ use Rattle.master_core.specs.declared.parts.VarPart.{VarPart}
 use Rattle.master_core.specs.declared.parts.ThreadPart.{ThreadPart}
 use Rattle.master_core.specs.Mastered.{in_hand_count}
 use Rattle.master_core.specs.Stepping.{plain_entry, emission_of_output}
-use Rattle.master_core.specs.Effects.{after_take, after_entry, after_emit, after_end, next_entry, next_output, HasStamp, before_touch, before_read}
+use Rattle.master_core.specs.Effects.{after_take, after_entry, after_emit, after_end, next_entry, next_output, HasStamp, before_touch, before_read, after_touch, after_read}
 use Rattle.round_order.specs.Receipts.{Receipt, Receipts, after}
 use Rattle.round_order.specs.Home.{IsSeat}
 use Rattle.round_order.specs.Growth.{IsNextOf, IsPrivate, Touches, Reads, part_after}
@@ -62,10 +62,6 @@ read_receipt m t part packet place v x stamp = record {
   stamp = stamp;
 }
 
--- what a touch brings home
-abbrev pub touched_part : {V : Type 0} → Meaning V → ℕ → Local → VarPart V → List ℕ → VarPart V
-touched_part m v place x stamp = record { value = (m.touch v x.value place).0; places = x.places + 1; stamp = stamp; readers = replicate 16 0 }
-
 -- A thread of the round has this part, and made the moves that the part says.
 pub record HasPart {V : Type 0} (threads : ℕ) (past : List (Step V)) (rs : Receipts V) (t : ℕ) (part : ThreadPart) : Type 0 where
   pub below : t < threads
@@ -109,11 +105,11 @@ abbrev pub TouchesHome : Type 0 → Type 0
 TouchesHome X = (m : Meaning X) (inputs : ℕ → List Packet) (threads : ℕ) (past : List (Step X)) (rs : Receipts X) (t : ℕ) (part : ThreadPart) (packet : Packet) (place : Local) (v : ℕ) (x : VarPart X) (stamp : List ℕ)
     → HasPart threads past rs t part → HasHand past rs t packet place → m.next place ≡ Access v → HasStamp (next_entry t part (Touched v (x.places + 1)) stamp) (before_touch part x)
     → Leaves m inputs threads past rs part (touch_receipt m t part packet place v x stamp) (after_entry part (m.touch v x.value place).1 stamp)
-    × Touches v part x (touched_part m v place x stamp) (touch_receipt m t part packet place v x stamp)
+    × Touches v part x (after_touch m v place x stamp) (touch_receipt m t part packet place v x stamp)
 
 abbrev pub ReadsHome : Type 0 → Type 0
 ReadsHome X = (m : Meaning X) (inputs : ℕ → List Packet) (threads : ℕ) (past : List (Step X)) (rs : Receipts X) (t : ℕ) (part : ThreadPart) (packet : Packet) (place : Local) (v : ℕ) (x : VarPart X) (stamp readers : List ℕ)
     → HasPart threads past rs t part → HasHand past rs t packet place → m.next place ≡ Read v → HasStamp (next_entry t part (Looked v x.places) stamp) (before_read part x)
     → ((u : ℕ) → slice_index readers u ≡ max (slice_index x.readers u) (slice_index stamp u))
     → Leaves m inputs threads past rs part (read_receipt m t part packet place v x stamp) (after_entry part (m.look v x.value place) stamp)
-    × Reads v part x (record { value = x.value; places = x.places; stamp = x.stamp; readers = readers }) (read_receipt m t part packet place v x stamp)
+    × Reads v part x (after_read x readers) (read_receipt m t part packet place v x stamp)
