@@ -21,5 +21,5 @@ pub use header::put_header;
 pub use next::Next;
 pub use order::Order;
 pub use reader::Reader;
-pub use record::put_packet;
+pub use record::{put_packet, record_len};
 pub use started::Started;

@@ -1,4 +1,4 @@
-ghost use Rattle.std.specs.Prelude.{◌≡◌, ◌≢◌, ◌≤◌, ◌+◌, ◌++◌, IsTrue, IfOk, length};
+ghost use Rattle.std.specs.Prelude.{◌≡◌, ◌≢◌, ◌≤◌, ◌+◌, ◌++◌, IsTrue, OnOk, OnErr, length};
 ghost use Rattle.world_io.specs.Stream.{Rose};
 ghost use Rattle.pcap_io.specs.Capture.{record_of};
 ghost use Rattle.pcap_io.specs.Reader.{Answers, Takes, IsGiven, GivesBytes};
@@ -102,18 +102,41 @@ impl Place {
     }
 }
 
-/// A packet's record, as it is written after the header of `put_header`: seconds, fraction,
-/// captured length and original length in 32 bits each, little-endian, and the captured bytes.
-pub fn put_packet(alloc: Global, packet: &Packet) -> Result<Bytes, NoMemory>
+/// The bytes that a packet's record takes.
+pub fn record_len(packet: &Packet) -> usize
     requires { length packet.now.bytes ≤ MOST_CAPTURED }
-    ensures { IfOk result (λ bytes. bytes ≡ record_of Order.Little packet.now) }
+    ensures { result ≡ length (record_of Order.Little packet.now) }
+{
+    RECORD_HEADER + packet.bytes.len()
+}
+
+/// Appends a packet's record, as it is written after the header of `put_header`: seconds, fraction,
+/// captured length and original length in 32 bits each, little-endian, and the captured bytes.
+///
+/// Where memory runs out, nothing is appended.
+pub fn put_packet(out: &mut Bytes, packet: &Packet) -> Result<(), NoMemory>
+    requires { length packet.now.bytes ≤ MOST_CAPTURED }
+    ensures ok { OnOk result (out.new ≡ out.old ++ record_of Order.Little packet.now) }
+    ensures err { OnErr result (out.new ≡ out.old) }
+{
+    let before = out.len();
+    out.extend(&put_record_header(packet))?;
+    if let Err(error) = out.extend(packet.bytes.as_slice()) {
+        out.truncate(before);
+        return Err(error);
+    }
+    Ok(())
+}
+
+/// What stands in front of the captured bytes in a packet's record.
+fn put_record_header(packet: &Packet) -> [u8; 16]
+    requires { length packet.now.bytes ≤ MOST_CAPTURED }
+    ensures { result ++ packet.now.bytes ≡ record_of Order.Little packet.now }
 {
     let mut head = [0; RECORD_HEADER];
     LittleEndian::write_u32(&mut head, packet.seconds);
     LittleEndian::write_u32(&mut head[4..], packet.fraction);
     LittleEndian::write_u32(&mut head[8..], packet.bytes.len() as u32);
     LittleEndian::write_u32(&mut head[12..], packet.original);
-    let mut record = Bytes::of(alloc, &head)?;
-    record.extend(packet.bytes.as_slice())?;
-    Ok(record)
+    head
 }

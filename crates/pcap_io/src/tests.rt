@@ -284,17 +284,13 @@ fn what_is_written_is_read_again(rt: HostRuntime) -> Result<(), Fail> {
         original: 60,
         bytes: Bytes::of(alloc, CUT)?,
     };
-    let first = put_packet(alloc, &first)?;
-    let second = put_packet(alloc, &second)?;
+    let mut written = Bytes::of(alloc, &put_header(Unit::Nano))?;
+    put_packet(&mut written, &first)?;
+    put_packet(&mut written, &second)?;
     assert_eq!(rt;
-        first.as_slice(),
-        joined(alloc, &[LITTLE_FIRST, WHOLE])?.as_slice()
+        written.as_slice(),
+        joined(alloc, &[&nano, LITTLE_FIRST, WHOLE, LITTLE_SECOND, CUT])?.as_slice()
     );
-    assert_eq!(rt;
-        second.as_slice(),
-        joined(alloc, &[LITTLE_SECOND, CUT])?.as_slice()
-    );
-    let written = joined(alloc, &[&nano, first.as_slice(), second.as_slice()])?;
     let captured = read_capture(alloc, &mut SliceSource::of(written.as_slice()));
     check_two_packets(&rt, Unit::Nano, captured);
     Ok(())

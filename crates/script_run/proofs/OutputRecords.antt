@@ -20,10 +20,10 @@ one_more (y ∷ outputs) zero x low is = append-nil (record_of order.Little y.pa
 one_more (y ∷ outputs) (suc i) x low is =
     ap (λ l. record_of order.Little y.packet ++ l) (one_more outputs i x (omega arith) is) ∙ sym (append_assoc (record_of order.Little y.packet) (records_of order.Little (packets_in (take i outputs))) (record_of order.Little x.packet))
 
-pub records_grow : (outputs : List Output) (i : ℕ) (x : Output) (had record_bytes now : List ℕ) → i < length outputs → x ≡ get_or outputs i x → had ≡ records_of order.Little (packets_in (take i outputs)) → record_bytes ≡ record_of order.Little x.packet
-    → now ≡ had ++ record_bytes → now ≡ records_of order.Little (packets_in (take (i + 1) outputs))
-records_grow outputs i x had bytes now low is had_is bytes_are now_is =
-    rw add-one (now_is ∙ ap (λ l. l ++ bytes) had_is ∙ ap (λ l. records_of order.Little (packets_in (take i outputs)) ++ l) bytes_are ∙ sym (one_more outputs i x low is))
+pub records_grow : (outputs : List Output) (i : ℕ) (x : Output) (had now : List ℕ) → i < length outputs → x ≡ get_or outputs i x → had ≡ records_of order.Little (packets_in (take i outputs)) → now ≡ had ++ record_of order.Little x.packet
+    → now ≡ records_of order.Little (packets_in (take (i + 1) outputs))
+records_grow outputs i x had now low is had_is now_is =
+    rw add-one (now_is ∙ ap (λ l. l ++ record_of order.Little x.packet) had_is ∙ sym (one_more outputs i x low is))
 
 one_more_fits : (outputs : List Output) (i : ℕ) (x : Output) → i < length outputs → x ≡ get_or outputs i x → All FitsRecord (packets_in (take i outputs)) → FitsRecord x.packet → All FitsRecord (packets_in (take (suc i) outputs))
 one_more_fits [] i x low is each fits = absurd (omega arith)

@@ -1,4 +1,4 @@
-ghost use Rattle.std.specs.Prelude.{◌≡◌, ◌<◌, ◌^◌, ◌++◌, ℕ, All, List, IfOk, OnOk, IsTrue, IsErrOf};
+ghost use Rattle.std.specs.Prelude.{◌≡◌, ◌<◌, ◌^◌, ◌++◌, [], ℕ, All, List, IfOk, OnOk, OnErr, IsTrue, IsErrOf};
 ghost use Rattle.plain_text.specs.Octets.{AreBytes};
 ghost use Rattle.pcap_io.specs.Capture.{record_of, records_of};
 ghost use Rattle.pcap_io.specs.declared.order.Order.TheVariants as order;
@@ -14,7 +14,7 @@ ghost use Rattle.script_run.specs.Running.{counts_line, packets_in};
 
 use access_log::Output;
 use output_files::{OutputError, write_lines, write_records};
-use pcap_io::put_packet;
+use pcap_io::{put_packet, record_len};
 use plain_text::{Bytes, NoMemory, Packet, put_u64};
 use recovery_core::{Finished, Reply, put_line};
 use recovery_world::Event;
@@ -36,15 +36,28 @@ fn have_8_bits(bytes: &[u8])
     ensures { AreBytes bytes.now }
 {}
 
-/// The record of a packet, which fits it: its numbers have 32 bits, and its bytes 8.
-fn put_record(alloc: Global, packet: &Packet) -> Result<Bytes, NoMemory>
+/// Appends the record of a packet, which fits it: its numbers have 32 bits, and its bytes 8.
+fn put_record(records: &mut Bytes, packet: &Packet) -> Result<(), NoMemory>
     requires { IsShort packet.now }
-    ensures bytes { IfOk result (λ bytes. bytes ≡ record_of order.Little packet.now) }
+    ensures ok { OnOk result (records.new ≡ records.old ++ record_of order.Little packet.now) }
+    ensures err { OnErr result (records.new ≡ records.old) }
     ensures fits { FitsRecord packet.now }
 {
     have_32_bits(packet.seconds, packet.fraction, packet.original);
     have_8_bits(packet.bytes.as_slice());
-    put_packet(alloc, packet)
+    put_packet(records, packet)
+}
+
+/// No bytes, with room for the records of the packets of outputs.
+fn room_for(alloc: Global, outputs: &[Output]) -> Result<Bytes, NoMemory>
+    requires { All IsShort (packets_in outputs.now) }
+    ensures { IfOk result (λ bytes. bytes ≡ []) }
+{
+    let mut room: usize = 0;
+    for output in outputs {
+        room = room.saturating_add(record_len(&output.packet));
+    }
+    Ok(Bytes::from_vec(Vec::with_capacity(alloc, room)?))
 }
 
 /// The records of the packets of outputs, in order.
@@ -54,10 +67,9 @@ pub fn put_outputs(alloc: Global, outputs: &[Output]) -> Result<Bytes, NoMemory>
         (λ bytes. bytes ≡ records_of order.Little (packets_in outputs.now)) }
     ensures fit_records { OnOk result (All FitsRecord (packets_in outputs.now)) }
 {
-    let mut records = Bytes::new(alloc);
+    let mut records = room_for(alloc, outputs)?;
     for output in outputs {
-        let record = put_record(alloc, &output.packet)?;
-        records.extend(record.as_slice())?;
+        put_record(&mut records, &output.packet)?;
     }
     Ok(records)
 }

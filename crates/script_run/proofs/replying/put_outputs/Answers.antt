@@ -1,4 +1,4 @@
-use Rattle.std.proofs.Common.{◌++◌, arith, ap, ◌∙◌}
+use Rattle.std.proofs.Common.{arith}
 use Rattle.script_run.proofs.OutputRecords.{short_one, records_grow, fit_more}
 use Rattle.script_run.proofs.replying.put_outputs.Goals as goal
 
@@ -7,7 +7,6 @@ put_record-requires c = short_one c.args.outputs.now c.loop-output.output-index 
 
 pub loop-output-preserved : goal.loop-output-preserved
 loop-output-preserved c = record {
-  records = records_grow c.args.outputs.now c.loop-output.output-index c.output-item.result _ _ _ (omega arith) c.output-item.is c.loop-output.invariant.records c.in_ok-record.ensures.bytes
-      (c.in_ok-extend.ensures.ok ∙ ap (λ l. c.loop-output.records ++ l) c.as_slice.ensures);
-  fit = fit_more c.args.outputs.now c.loop-output.output-index c.output-item.result (omega arith) c.output-item.is c.loop-output.invariant.fit c.in_ok-record.ensures.fits;
+  records = records_grow c.args.outputs.now c.loop-output.output-index c.output-item.result _ _ (omega arith) c.output-item.is c.loop-output.invariant.records c.in_ok-put_record.ensures.ok;
+  fit = fit_more c.args.outputs.now c.loop-output.output-index c.output-item.result (omega arith) c.output-item.is c.loop-output.invariant.fit c.in_ok-put_record.ensures.fits;
 }
