@@ -9,7 +9,7 @@ use std::alloc::Global;
 use std::marker::Model;
 
 /// The free ports of one parity. A bit for each port and a count for each group make it short to copy, and a port is found, taken
-/// out and put in by a walk over the counts. There is a bit for each port from the start, so that no call on it takes memory.
+/// out and put in by a walk over the counts. There is a bit for each port from the start, so that no change takes memory.
 #[derive(Debug, Drop)]
 pub(crate) struct ParityPorts {
     count: usize,

@@ -1,4 +1,4 @@
-ghost use Rattle.std.specs.Prelude.{◌≡◌, ℕ, ◌+◌, ◌-◌, ◌%◌, ◌^◌, ◌<◌, ◌≤◌, slice_index, length, []};
+ghost use Rattle.std.specs.Prelude.{◌≡◌, ℕ, ◌+◌, ◌-◌, ◌%◌, ◌^◌, ◌<◌, ◌≤◌, slice_index, []};
 ghost use Rattle.std.specs.List.{remove, sum_by};
 ghost use Rattle.nat_tables.specs.Ports.{one_if, with_port};
 ghost use Rattle.nat_tables.specs.Placing.{group_ports, word_count, IsCounted, IsAt};
