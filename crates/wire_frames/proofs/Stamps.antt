@@ -1,6 +1,6 @@
 -- Masks, and the components that they name.
-use Rattle.std.proofs.Common.{◌≡◌, ℕ, zero, suc, ◌+◌, ◌-◌, ◌*◌, ◌/◌, ◌%◌, ◌^◌, ◌<◌, ◌≤◌, ◌==◌, ◌∙◌, ◌⊎◌, Bool, true, false, not, if◌then◌else◌, List, [], ◌∷◌, ◌++◌, length, take, drop, slice_index, set, refl, sym, ap, arith, inl, inr, IsTrue, append_assoc, drop-drop}
-use Rattle.std.proofs.lemmas.List.{take_more_set, drop_at, length-drop, take-append-drop}
+use Rattle.std.proofs.Common.{◌≡◌, ℕ, zero, suc, ◌+◌, ◌-◌, ◌*◌, ◌/◌, ◌%◌, ◌^◌, ◌<◌, ◌≤◌, ◌==◌, ◌∙◌, ◌⊎◌, Bool, true, false, not, if◌then◌else◌, List, [], ◌∷◌, ◌++◌, length, take, drop, replicate, slice_index, set, refl, sym, ap, arith, inl, inr, IsTrue, append_assoc, drop-drop}
+use Rattle.std.proofs.lemmas.List.{take_more_set, drop_at, drop-replicate, drop-set-lt, length-drop, take-append-drop}
 use Rattle.std.proofs.lemmas.Bool.{cases_lt, eqb-true}
 use Rattle.std.proofs.Math.Nat.{pow-suc, pow-succ', one-le-pow, div-one, div-div-eq-div-mul, zero-div}
 use Rattle.byteorder.specs.Endian.{big_bytes, big_number}
@@ -30,6 +30,39 @@ unfolding components
 components-step zero mask bytes some = absurd (omega arith)
 components-step (suc n) mask bytes some =
     ap (λ (k : ℕ). component_at (is_odd mask) bytes ∷ components k (mask / 2) (drop (8 * (mask % 2)) bytes)) (omega arith)
+
+-- a mask without bits names no component
+
+pub bits_set-empty : (n : ℕ) → bits_set n 0 ≡ 0
+unfolding bits_set
+bits_set-empty zero = refl
+bits_set-empty (suc n) = let later = bits_set-empty n in omega arith
+
+pub components-empty : (n : ℕ) (bytes : List ℕ) → components n 0 bytes ≡ replicate n 0
+unfolding components
+components-empty zero bytes = refl
+components-empty (suc n) bytes = ap (λ (l : List ℕ). 0 ∷ l) (components-empty n bytes)
+
+-- no component was read from here on, so the rest of the stamp is 0
+module _ (stamp : List ℕ) (thread : ℕ) (unread : drop thread stamp ≡ replicate (16 - thread) 0) where
+  pub still_unread : (component : ℕ) → drop (thread + 1) (set stamp thread component) ≡ replicate (16 - (thread + 1)) 0
+  still_unread component =
+      drop-set-lt (thread + 1) stamp thread component (omega arith)
+      ∙ sym (drop-drop 1 thread stamp)
+      ∙ ap (drop 1) unread
+      ∙ drop-replicate 1 (16 - thread) 0
+      ∙ ap (λ (n : ℕ). replicate n 0) (omega arith)
+
+  pub all_read : (rest : ℕ) (all bytes : List ℕ) → components (16 - thread) rest bytes ≡ replicate (16 - thread) 0
+      → take thread stamp ++ components (16 - thread) rest bytes ≡ all → stamp ≡ all
+  all_read rest all bytes none read =
+      sym (take-append-drop thread stamp)
+      ∙ ap (λ (l : List ℕ). take thread stamp ++ l) (unread ∙ sym none)
+      ∙ read
+
+-- nor is there one past the last
+pub components-over : (n rest : ℕ) (bytes : List ℕ) → n ≡ 0 → components n rest bytes ≡ replicate n 0
+components-over n rest bytes over = rw (over, components-none rest bytes) refl
 
 -- a mask has no more bits than the stamp has components
 pub mask_of-below : (stamp : List ℕ) → mask_of stamp < 2 ^ length stamp
@@ -222,14 +255,9 @@ unset-low (suc k) (c ∷ cs) none =
     let odd = low_parity k in
     (λ even. absurd (omega arith), rw (low_half k) (unset-low k cs (λ u past. none (suc u) (omega arith))))
 
-bits_set_none : (n : ℕ) → bits_set n 0 ≡ 0
-unfolding bits_set
-bits_set_none zero = refl
-bits_set_none (suc n) = let later = bits_set_none n in omega arith
-
 pub bits_set-low : (n k : ℕ) → k ≤ n → bits_set n (2 ^ k - 1) ≡ k
 unfolding bits_set
-bits_set-low n zero few = bits_set_none n
+bits_set-low n zero few = bits_set-empty n
 bits_set-low zero (suc k) few = absurd (omega arith)
 bits_set-low (suc n) (suc k) few =
     let later = bits_set-low n k (omega arith) in

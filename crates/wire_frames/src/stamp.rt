@@ -42,6 +42,9 @@ pub(crate) fn bits_set(mask: u32) -> usize
     let mut rest = mask;
     let mut count = 0;
     for _ in 0..THREADS {
+        if rest == 0 {
+            break;
+        }
         count += (rest % 2) as usize;
         rest /= 2;
     }
@@ -57,6 +60,9 @@ pub(crate) fn read_stamp(mask: u32, bytes: &[u8]) -> Stamp
     let mut rest = mask;
     let mut place = 0;
     for thread in 0..THREADS {
+        if rest == 0 {
+            break;
+        }
         let there = rest % 2 == 1;
         components[thread] = read_component(there, bytes, place);
         place += 8 * (rest % 2) as usize;
