@@ -1,4 +1,4 @@
-ghost use Rattle.std.specs.Prelude.{◌≡◌, ◌+◌, ◌*◌, ◌^◌, ◌<◌, ◌≤◌, IsTrue, length, drop};
+ghost use Rattle.std.specs.Prelude.{◌≡◌, ◌+◌, ◌*◌, ◌^◌, ◌<◌, ◌≤◌, ◌==◌, ◌&&◌, ◌||◌, not, IsTrue, length, drop};
 ghost use Rattle.wire_frames.specs.Layout.{mask_of, nonzero};
 ghost use Rattle.wire_frames.specs.Places.{bits_set, component_at, components};
 
@@ -51,12 +51,16 @@ pub(crate) fn bits_set(mask: u32) -> usize
     count
 }
 
-/// The stamp whose components stand one after the other, where they are those of the threads in the mask.
-pub(crate) fn read_stamp(mask: u32, bytes: &[u8]) -> Stamp
-    requires { 8 * bits_set 16 mask ≤ length bytes.now }
-    ensures { result ≡ components 16 mask bytes.now }
+/// The stamp whose components stand one after the other, where they are those of the threads in the mask; and whether one of these is
+/// 0, so that the mask is not that of the stamp.
+pub(crate) fn read_stamp(mask: u32, bytes: &[u8]) -> (Stamp, bool)
+    requires room { 8 * bits_set 16 mask ≤ length bytes.now }
+    requires fits { mask < 2 ^ 16 }
+    ensures stamp { result.0 ≡ components 16 mask bytes.now }
+    ensures zero { result.1 ≡ not (mask_of (components 16 mask bytes.now) == mask) }
 {
     let mut components = [0; THREADS];
+    let mut has_zero = false;
     let mut rest = mask;
     let mut place = 0;
     for thread in 0..THREADS {
@@ -64,11 +68,20 @@ pub(crate) fn read_stamp(mask: u32, bytes: &[u8]) -> Stamp
             break;
         }
         let there = rest % 2 == 1;
-        components[thread] = read_component(there, bytes, place);
+        let component = read_component(there, bytes, place);
+        has_zero = has_named_zero(has_zero, there, component);
+        components[thread] = component;
         place += 8 * (rest % 2) as usize;
         rest /= 2;
     }
-    Stamp::new(components)
+    (Stamp::new(components), has_zero)
+}
+
+/// Whether an earlier component that the mask names is 0, or this one.
+fn has_named_zero(earlier: bool, there: bool, component: u64) -> bool
+    ensures { result ≡ earlier || (there && component == 0) }
+{
+    earlier || (there && component == 0)
 }
 
 /// The component at a place, or 0 where there is none.
