@@ -111,7 +111,7 @@ zero_odd false m rest odd = same_less (1 + 2 * m) rest m (rest / 2) (λ same. om
 -- it is the first, or among those behind it
 pub zero_first : (n rest : ℕ) (bytes : List ℕ) → 0 < n
     → not (mask_of (components n rest bytes) == rest)
-      ≡ (is_odd rest && component_at (is_odd rest) bytes == 0) || not (mask_of (components (n - 1) (rest / 2) (drop (8 * (rest % 2)) bytes)) == rest / 2)
+    ≡ (is_odd rest && component_at (is_odd rest) bytes == 0) || not (mask_of (components (n - 1) (rest / 2) (drop (8 * (rest % 2)) bytes)) == rest / 2)
 zero_first n rest bytes some =
     let step = components-step n rest bytes some in
     elim (parity rest) [
@@ -287,6 +287,25 @@ bits_set-mask_of (c ∷ cs) =
     shown : (b : Bool) → (if b then 0 else 1) + length (nonzero cs) ≡ length (if not b then c ∷ nonzero cs else nonzero cs)
     shown true = omega arith
     shown false = omega arith
+
+-- behind the last thread no component is there
+
+pub mask_of-past : (k : ℕ) (stamp : List ℕ) → ((u : ℕ) → k ≤ u → slice_index stamp u ≡ 0) → mask_of (drop k stamp) ≡ 0
+mask_of-past zero [] none = refl
+mask_of-past zero (c ∷ cs) none =
+    let first : c ≡ 0 = none 0 (omega arith) in
+    let later = mask_of-past zero cs (λ u past. none (suc u) (omega arith)) in
+    rw first (omega arith)
+mask_of-past (suc k) [] none = refl
+mask_of-past (suc k) (c ∷ cs) none = mask_of-past k cs (λ u past. none (suc u) (omega arith))
+
+pub nonzero-past : (k : ℕ) (stamp : List ℕ) → ((u : ℕ) → k ≤ u → slice_index stamp u ≡ 0) → nonzero (drop k stamp) ≡ []
+nonzero-past zero [] none = refl
+nonzero-past zero (c ∷ cs) none =
+    let first : c ≡ 0 = none 0 (omega arith) in
+    rw first (nonzero-past zero cs (λ u past. none (suc u) (omega arith)))
+nonzero-past (suc k) [] none = refl
+nonzero-past (suc k) (c ∷ cs) none = nonzero-past k cs (λ u past. none (suc u) (omega arith))
 
 -- of a mask that names the first k
 

@@ -1,18 +1,20 @@
-ghost use Rattle.std.specs.Prelude.{◌≡◌, ◌+◌, ◌*◌, ◌^◌, ◌<◌, ◌≤◌, ◌==◌, ◌&&◌, ◌||◌, not, IsTrue, length, drop};
+ghost use Rattle.std.specs.Prelude.{◌≡◌, ◌+◌, ◌*◌, ◌^◌, ◌<◌, ◌≤◌, ◌==◌, ◌&&◌, ◌||◌, not, ℕ, IsTrue, length, drop, slice_index};
 ghost use Rattle.wire_frames.specs.Layout.{mask_of, nonzero};
 ghost use Rattle.wire_frames.specs.Places.{bits_set, component_at, components};
 
 use crate::bytes::u64_at;
 use thread_clock::{Stamp, THREADS};
 
-/// Which components are not 0: bit u is set where component u is.
-pub(crate) fn mask_of(stamp: &Stamp) -> u16
+/// Which components are not 0: bit u is set where component u is. Only those of this many threads are looked at.
+pub(crate) fn mask_of(stamp: &Stamp, threads: usize) -> u16
+    requires few { threads ≤ 16 }
+    requires none { (u : ℕ) → threads ≤ u → slice_index stamp.now u ≡ 0 }
     ensures { result ≡ mask_of stamp.now }
 {
     let components = stamp.components();
     let mut mask = 0;
-    for behind in 0..THREADS {
-        let bit = u16::from(components[THREADS - 1 - behind] != 0);
+    for behind in 0..threads {
+        let bit = u16::from(components[threads - 1 - behind] != 0);
         mask = bit + 2 * mask;
     }
     mask

@@ -53,10 +53,12 @@ pub fn put_entry(
     requires { CanPutEntry epoch threads entry.now }
     ensures spelled { IfOk result (λ bytes. bytes ≡ written (frame.Entry epoch threads entry.now)) }
     ensures frame { IfOk result (λ bytes. IsFrame bytes (frame.Entry epoch threads entry.now)) }
+    ensures size { IfOk result (λ bytes. length bytes ≡ 39 + 8 * length (nonzero entry.now.stamp)) }
+    ensures small { IfOk result (λ bytes. length bytes < 2 ^ 32) }
 {
     let size = entry_length(entry);
     let mut frame = Bytes::with_room(alloc, size, &[])?;
-    put_components(&mut frame, entry.stamp.components())?;
+    put_components(&mut frame, entry.stamp.components(), threads as usize)?;
     put_entry_front(&mut frame, size as u32, epoch, threads, entry)?;
     Ok(frame)
 }
@@ -72,11 +74,14 @@ pub fn put_output(
     requires { CanPutOutput epoch threads output }
     ensures spelled { IfOk result (λ bytes. bytes ≡ written (frame.Output epoch threads output)) }
     ensures frame { IfOk result (λ bytes. IsFrame bytes (frame.Output epoch threads output)) }
+    ensures size { IfOk result (λ bytes. length bytes
+        ≡ 47 + 8 * length (nonzero output.stamp) + length output.packet.bytes) }
+    ensures small { IfOk result (λ bytes. length bytes < 2 ^ 32) }
 {
     let size = output_length(&output);
     let mut frame = mem::replace(&mut output.packet.bytes, Bytes::new(alloc));
     put_packet_fields(&mut frame, &output.packet)?;
-    put_components(&mut frame, output.stamp.components())?;
+    put_components(&mut frame, output.stamp.components(), threads as usize)?;
     put_output_front(&mut frame, size as u32, epoch, threads, &output)?;
     Ok(frame)
 }
@@ -106,6 +111,7 @@ fn put_entry_front(
 ) -> Result<(), NoMemory>
     requires of_these { entry.now.thread < threads }
     requires few { threads ≤ 16 }
+    requires none { (u : ℕ) → threads ≤ u → slice_index entry.now.stamp u ≡ 0 }
     ensures spelled { OnOk result (frame.new
         ≡ spelled (entry_front size epoch threads entry.now) ++ frame.old) }
     ensures number { OnOk result (entry.now.number < 2 ^ 64) }
@@ -129,6 +135,7 @@ fn put_output_front(
 ) -> Result<(), NoMemory>
     requires of_these { output.now.thread < threads }
     requires few { threads ≤ 16 }
+    requires none { (u : ℕ) → threads ≤ u → slice_index output.now.stamp u ≡ 0 }
     ensures spelled { OnOk result (frame.new
         ≡ spelled (output_front size epoch threads output.now) ++ frame.old) }
     ensures number { OnOk result (output.now.number < 2 ^ 64) }
@@ -185,10 +192,12 @@ fn put_subject(
 
 /// Puts the number of threads, and whose components are not 0.
 fn put_mask(frame: &mut Bytes, threads: u8, stamp: &Stamp) -> Result<(), NoMemory>
+    requires few { threads ≤ 16 }
+    requires none { (u : ℕ) → threads ≤ u → slice_index stamp.now u ≡ 0 }
     ensures { OnOk result (frame.new
         ≡ spelled (field 1 threads ∷ field 2 (mask_of stamp.now) ∷ []) ++ frame.old) }
 {
-    let [high, low] = mask_of(stamp).to_be_bytes();
+    let [high, low] = mask_of(stamp, usize::from(threads)).to_be_bytes();
     frame.prepend(&[threads, high, low])
 }
 
@@ -212,13 +221,14 @@ fn put_packet_fields(frame: &mut Bytes, packet: &Packet) -> Result<(), NoMemory>
     ])
 }
 
-/// Puts the components that are not 0.
-fn put_components(frame: &mut Bytes, components: &[u64]) -> Result<(), NoMemory>
+/// Puts the components that are not 0. Only this many are looked at.
+fn put_components(frame: &mut Bytes, components: &[u64], count: usize) -> Result<(), NoMemory>
+    requires few { count ≤ length components.now }
+    requires none { (u : ℕ) → count ≤ u → slice_index components.now u ≡ 0 }
     ensures spelled { OnOk result (frame.new
         ≡ spelled (component_fields (nonzero components.now)) ++ frame.old) }
     ensures fit { (u : ℕ) → slice_index components.now u < 2 ^ 64 }
 {
-    let count = components.len();
     for behind in 0..count {
         put_component(frame, components[count - 1 - behind])?;
     }
