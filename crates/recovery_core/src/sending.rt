@@ -15,9 +15,7 @@ use plain_text::{Kind, NoMemory, Sequence};
 use snapshot_store::copy_output;
 use std::alloc::Global;
 use std::marker::Model;
-use wire_frames::{
-    Frame, FrameError, entry_length, output_length, put_entry, put_output, take_frame,
-};
+use wire_frames::{Frame, FrameError, put_entry, put_output, take_frame};
 
 /// What a master sends on its links: each entry and each output as a frame, and how long each frame was.
 ///
@@ -142,7 +140,7 @@ impl SentFrames {
         ensures threads { self.new.threads ≡ self.old.threads }
     {
         let frame = put_entry(self.alloc, self.epoch, self.threads, entry)?;
-        self.entries[entry.thread as usize].push(entry_length(entry) as u32)?;
+        self.entries[entry.thread as usize].push(frame.len() as u32)?;
         self.links
             .send(self.epoch, Kind::Log, entry.thread, entry.number, frame)
     }
@@ -155,9 +153,8 @@ impl SentFrames {
         ensures threads { self.new.threads ≡ self.old.threads }
     {
         let (thread, number) = (output.thread, output.number);
-        let size = output_length(&output) as u32;
         let frame = put_output(self.alloc, self.epoch, self.threads, output)?;
-        self.outputs[thread as usize].push(size)?;
+        self.outputs[thread as usize].push(frame.len() as u32)?;
         self.links
             .send(self.epoch, Kind::Out, thread, number, frame)
     }

@@ -1,7 +1,7 @@
 -- Masks, and the components that they name.
-use Rattle.std.proofs.Common.{◌≡◌, ℕ, zero, suc, ◌+◌, ◌-◌, ◌*◌, ◌/◌, ◌%◌, ◌^◌, ◌<◌, ◌≤◌, ◌==◌, ◌∙◌, ◌⊎◌, Bool, true, false, not, if◌then◌else◌, List, [], ◌∷◌, ◌++◌, length, take, drop, slice_index, set, refl, sym, ap, arith, inl, inr, IsTrue, append_assoc, drop-drop}
-use Rattle.std.proofs.lemmas.List.{take_more_set, drop_at, length-drop, take-append-drop}
-use Rattle.std.proofs.lemmas.Bool.{cases_lt, eqb-true}
+use Rattle.std.proofs.Common.{◌≡◌, ℕ, zero, suc, ◌+◌, ◌-◌, ◌*◌, ◌/◌, ◌%◌, ◌^◌, ◌<◌, ◌≤◌, ◌==◌, ◌&&◌, ◌||◌, ◌∙◌, ◌⊎◌, Bool, true, false, not, if◌then◌else◌, List, [], ◌∷◌, ◌++◌, length, take, drop, replicate, slice_index, set, refl, sym, ap, arith, inl, inr, IsTrue, append_assoc, drop-drop}
+use Rattle.std.proofs.lemmas.List.{take_more_set, drop_at, drop-replicate, drop-set-lt, length-drop, take-append-drop}
+use Rattle.std.proofs.lemmas.Bool.{cases_lt, eqb-true, eqb-false, eq-eqb, ne_eqb}
 use Rattle.std.proofs.Math.Nat.{pow-suc, pow-succ', one-le-pow, div-one, div-div-eq-div-mul, zero-div}
 use Rattle.byteorder.specs.Endian.{big_bytes, big_number}
 use Rattle.byteorder.specs.Numbers.{big_from-lt, big_number-reads_back}
@@ -30,6 +30,34 @@ unfolding components
 components-step zero mask bytes some = absurd (omega arith)
 components-step (suc n) mask bytes some =
     ap (λ (k : ℕ). component_at (is_odd mask) bytes ∷ components k (mask / 2) (drop (8 * (mask % 2)) bytes)) (omega arith)
+
+-- a mask without bits names no component
+
+pub bits_set-empty : (n : ℕ) → bits_set n 0 ≡ 0
+unfolding bits_set
+bits_set-empty zero = refl
+bits_set-empty (suc n) = let later = bits_set-empty n in omega arith
+
+pub components-empty : (n : ℕ) (bytes : List ℕ) → components n 0 bytes ≡ replicate n 0
+unfolding components
+components-empty zero bytes = refl
+components-empty (suc n) bytes = ap (λ (l : List ℕ). 0 ∷ l) (components-empty n bytes)
+
+-- no component was read from here on, so the rest of the stamp is 0
+module _ (stamp : List ℕ) (thread : ℕ) (unread : drop thread stamp ≡ replicate (16 - thread) 0) where
+  pub still_unread : (component : ℕ) → drop (thread + 1) (set stamp thread component) ≡ replicate (16 - (thread + 1)) 0
+  still_unread component =
+      drop-set-lt (thread + 1) stamp thread component (omega arith)
+      ∙ sym (drop-drop 1 thread stamp)
+      ∙ ap (drop 1) unread
+      ∙ drop-replicate 1 (16 - thread) 0
+      ∙ ap (λ (n : ℕ). replicate n 0) (omega arith)
+
+  pub all_read : (all bytes : List ℕ) → take thread stamp ++ components (16 - thread) 0 bytes ≡ all → stamp ≡ all
+  all_read all bytes read =
+      sym (take-append-drop thread stamp)
+      ∙ ap (λ (l : List ℕ). take thread stamp ++ l) (unread ∙ sym (components-empty (16 - thread) bytes))
+      ∙ read
 
 -- a mask has no more bits than the stamp has components
 pub mask_of-below : (stamp : List ℕ) → mask_of stamp < 2 ^ length stamp
@@ -61,6 +89,80 @@ module _ (all : List ℕ) (stamp bytes : List ℕ) (thread rest place component 
       rw (front, append_assoc (take thread stamp) (component ∷ []) (components (16 - (thread + 1)) (rest / 2) (drop (place + 8 * (rest % 2)) bytes)))
       (ap (λ (l : List ℕ). take thread stamp ++ l) whole ∙ read)
 
+parity : (n : ℕ) → (n % 2 ≡ 0) ⊎ (n % 2 ≡ 1)
+parity n = elim (cases_lt (n % 2) 1) [
+  | inl below ↦ inl (omega arith)
+  | inr above ↦ inr (omega arith)
+]
+
+-- Whether a component that a mask names is 0
+
+same_less : (a b m n : ℕ) → (a ≡ b → m ≡ n) → (m ≡ n → a ≡ b) → not (a == b) ≡ not (m == n)
+same_less a b m n down up = go (m == n) refl
+  where
+    go : (t : Bool) → (m == n) ≡ t → not (a == b) ≡ not t
+    go true is = ap not (eq-eqb a b (up (eqb-true m n is)))
+    go false is = ap not (ne_eqb a b (λ same. eqb-false m n is (down same)))
+
+zero_odd : (b : Bool) (m rest : ℕ) → rest % 2 ≡ 1 → not ((if b then 0 else 1) + 2 * m == rest) ≡ b || not (m == rest / 2)
+zero_odd true m rest odd = ap not (ne_eqb (0 + 2 * m) rest (λ same. omega arith))
+zero_odd false m rest odd = same_less (1 + 2 * m) rest m (rest / 2) (λ same. omega arith) (λ same. omega arith)
+
+-- it is the first, or among those behind it
+pub zero_first : (n rest : ℕ) (bytes : List ℕ) → 0 < n
+    → not (mask_of (components n rest bytes) == rest)
+    ≡ (is_odd rest && component_at (is_odd rest) bytes == 0) || not (mask_of (components (n - 1) (rest / 2) (drop (8 * (rest % 2)) bytes)) == rest / 2)
+zero_first n rest bytes some =
+    let step = components-step n rest bytes some in
+    elim (parity rest) [
+      | inl even ↦
+          let later = mask_of (components (n - 1) (rest / 2) (drop 0 bytes)) in
+          rw (step, even) (same_less (0 + 2 * later) rest later (rest / 2) (λ same. omega arith) (λ same. omega arith))
+      | inr odd ↦
+          let later = mask_of (components (n - 1) (rest / 2) (drop 8 bytes)) in
+          rw (step, odd) (zero_odd (number_at 8 0 bytes == 0) later rest odd)
+    ]
+
+mask_of-zeros : (n : ℕ) → mask_of (replicate n 0) ≡ 0
+mask_of-zeros zero = refl
+mask_of-zeros (suc n) = let later = mask_of-zeros n in omega arith
+
+-- a mask without bits names none
+pub zero_none : (n : ℕ) (bytes : List ℕ) → not (mask_of (components n 0 bytes) == 0) ≡ false
+zero_none n bytes = rw (components-empty n bytes, mask_of-zeros n) refl
+
+or_none : (b : Bool) → b ≡ b || false
+or_none true = refl
+or_none false = refl
+
+pub named_all : (earlier all : Bool) (n : ℕ) (bytes : List ℕ) → earlier || not (mask_of (components n 0 bytes) == 0) ≡ all → earlier ≡ all
+named_all earlier all n bytes named = or_none earlier ∙ ap (λ (b : Bool). earlier || b) (sym (zero_none n bytes)) ∙ named
+
+or_behind : (a b c : Bool) → (a || b) || c ≡ a || (b || c)
+or_behind true b c = refl
+or_behind false b c = refl
+
+pub named_one_more : (earlier now all : Bool) (bytes : List ℕ) (thread rest place component : ℕ) → thread < 16
+    → component ≡ component_at (is_odd rest) (drop place bytes)
+    → now ≡ earlier || (is_odd rest && component == 0)
+    → earlier || not (mask_of (components (16 - thread) rest (drop place bytes)) == rest) ≡ all
+    → now || not (mask_of (components (16 - (thread + 1)) (rest / 2) (drop (place + 8 * (rest % 2)) bytes)) == rest / 2) ≡ all
+named_one_more earlier now all bytes thread rest place component within is now_is named =
+    let first = zero_first (16 - thread) rest (drop place bytes) (omega arith) in
+    let later : 16 - thread - 1 ≡ 16 - (thread + 1) = omega arith in
+    let behind : components (16 - thread - 1) (rest / 2) (drop (8 * (rest % 2)) (drop place bytes)) ≡ components (16 - (thread + 1)) (rest / 2) (drop (place + 8 * (rest % 2)) bytes) =
+    rw (drop-behind place rest bytes, later) refl in
+    rw (now_is, is, sym behind) (or_behind earlier _ _ ∙ ap (λ (b : Bool). earlier || b) (sym first) ∙ named)
+
+-- a mask of no bits is 0
+pub no_bits : (n rest : ℕ) → rest < 2 ^ n → n ≡ 0 → rest ≡ 0
+no_bits zero rest below over = omega arith
+no_bits (suc n) rest below over = absurd (omega arith)
+
+pub half_fits : (n rest : ℕ) → 0 < n → rest < 2 ^ n → rest / 2 < 2 ^ (n - 1)
+half_fits zero rest some below = absurd (omega arith)
+half_fits (suc n) rest some below = let double = pow-suc 2 n in let same : suc n - 1 ≡ n = omega arith in rw same (omega arith)
+
 pub odd_room : (n rest place size : ℕ) → 0 < n → IsTrue (rest % 2 == 1) → place + 8 * bits_set n rest ≤ size → place + 8 ≤ size
 odd_room n rest place size some odd room =
     let one = eqb-true _ _ odd in
@@ -88,12 +190,6 @@ FitEach (c ∷ cs) = (c < 256 ^ 8) × FitEach cs
 pub fit_each : (cs : List ℕ) → ((u : ℕ) → slice_index cs u < 2 ^ 64) → FitEach cs
 fit_each [] fit = tt
 fit_each (c ∷ cs) fit = (fit 0, fit_each cs (λ u. fit (suc u)))
-
-parity : (n : ℕ) → (n % 2 ≡ 0) ⊎ (n % 2 ≡ 1)
-parity n = elim (cases_lt (n % 2) 1) [
-  | inl below ↦ inl (omega arith)
-  | inr above ↦ inr (omega arith)
-]
 
 -- what a mask names spells the bytes from which it was read
 pub spelled-present : (n mask : ℕ) (bytes : List ℕ) → AreBytes bytes → 8 * bits_set n mask ≤ length bytes
@@ -192,6 +288,25 @@ bits_set-mask_of (c ∷ cs) =
     shown true = omega arith
     shown false = omega arith
 
+-- behind the last thread no component is there
+
+pub mask_of-past : (k : ℕ) (stamp : List ℕ) → ((u : ℕ) → k ≤ u → slice_index stamp u ≡ 0) → mask_of (drop k stamp) ≡ 0
+mask_of-past zero [] none = refl
+mask_of-past zero (c ∷ cs) none =
+    let first : c ≡ 0 = none 0 (omega arith) in
+    let later = mask_of-past zero cs (λ u past. none (suc u) (omega arith)) in
+    rw first (omega arith)
+mask_of-past (suc k) [] none = refl
+mask_of-past (suc k) (c ∷ cs) none = mask_of-past k cs (λ u past. none (suc u) (omega arith))
+
+pub nonzero-past : (k : ℕ) (stamp : List ℕ) → ((u : ℕ) → k ≤ u → slice_index stamp u ≡ 0) → nonzero (drop k stamp) ≡ []
+nonzero-past zero [] none = refl
+nonzero-past zero (c ∷ cs) none =
+    let first : c ≡ 0 = none 0 (omega arith) in
+    rw first (nonzero-past zero cs (λ u past. none (suc u) (omega arith)))
+nonzero-past (suc k) [] none = refl
+nonzero-past (suc k) (c ∷ cs) none = nonzero-past k cs (λ u past. none (suc u) (omega arith))
+
 -- of a mask that names the first k
 
 low_parity : (k : ℕ) → (2 ^ suc k - 1) % 2 ≡ 1
@@ -222,14 +337,9 @@ unset-low (suc k) (c ∷ cs) none =
     let odd = low_parity k in
     (λ even. absurd (omega arith), rw (low_half k) (unset-low k cs (λ u past. none (suc u) (omega arith))))
 
-bits_set_none : (n : ℕ) → bits_set n 0 ≡ 0
-unfolding bits_set
-bits_set_none zero = refl
-bits_set_none (suc n) = let later = bits_set_none n in omega arith
-
 pub bits_set-low : (n k : ℕ) → k ≤ n → bits_set n (2 ^ k - 1) ≡ k
 unfolding bits_set
-bits_set-low n zero few = bits_set_none n
+bits_set-low n zero few = bits_set-empty n
 bits_set-low zero (suc k) few = absurd (omega arith)
 bits_set-low (suc n) (suc k) few =
     let later = bits_set-low n k (omega arith) in

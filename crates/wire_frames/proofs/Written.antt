@@ -17,26 +17,6 @@ put_more old mid now fs gs so_far more =
     ∙ sym (append_assoc (spelled gs) (spelled fs) old)
     ∙ ap (λ (l : List ℕ). l ++ old) (sym (spelled-append gs fs))
 
-pub put_two : (old a now : List ℕ) (f g : Field) → a ≡ spelled (g ∷ []) ++ old → now ≡ spelled (f ∷ []) ++ a → now ≡ spelled (f ∷ g ∷ []) ++ old
-put_two old a now f g first second = put_more old a now (g ∷ []) (f ∷ []) first second
-
-pub put_three : (old a b now : List ℕ) (f g h : Field) → a ≡ spelled (h ∷ []) ++ old → b ≡ spelled (g ∷ []) ++ a → now ≡ spelled (f ∷ []) ++ b
-    → now ≡ spelled (f ∷ g ∷ h ∷ []) ++ old
-put_three old a b now f g h first second third = put_more old b now (g ∷ h ∷ []) (f ∷ []) (put_two old a b g h first second) third
-
-pub put_four : (old a b c now : List ℕ) (f g h i : Field) → a ≡ spelled (i ∷ []) ++ old → b ≡ spelled (h ∷ []) ++ a → c ≡ spelled (g ∷ []) ++ b → now ≡ spelled (f ∷ []) ++ c
-    → now ≡ spelled (f ∷ g ∷ h ∷ i ∷ []) ++ old
-put_four old a b c now f g h i first second third fourth = put_more old c now (g ∷ h ∷ i ∷ []) (f ∷ []) (put_three old a b c g h i first second third) fourth
-
-pub put_five : (old a b c d now : List ℕ) (f g h i j : Field) → a ≡ spelled (j ∷ []) ++ old → b ≡ spelled (i ∷ []) ++ a → c ≡ spelled (h ∷ []) ++ b → d ≡ spelled (g ∷ []) ++ c
-    → now ≡ spelled (f ∷ []) ++ d → now ≡ spelled (f ∷ g ∷ h ∷ i ∷ j ∷ []) ++ old
-put_five old a b c d now f g h i j first second third fourth fifth =
-    put_more old d now (g ∷ h ∷ i ∷ j ∷ []) (f ∷ []) (put_four old a b c d g h i j first second third fourth) fifth
-
--- a number of 8 bits is its one byte
-pub spelled-byte : (n : ℕ) → n < 256 → spelled (field 1 n ∷ []) ≡ n ∷ []
-spelled-byte n fits = let same : n % 256 ≡ n = omega arith in ap (λ (b : ℕ). b ∷ []) same
-
 -- the parts in front of the components of an entry, and of an output
 module _ (size epoch threads : ℕ) (old masked subjected now : List ℕ) where
   pub entry_begun : (e : StampedEntry) (code subject place : ℕ) (placed : List ℕ) → code ≡ code_of e.what → subject ≡ subject_of e.what → place ≡ place_of e.what

@@ -1,18 +1,20 @@
-ghost use Rattle.std.specs.Prelude.{◌≡◌, ◌+◌, ◌*◌, ◌^◌, ◌<◌, ◌≤◌, IsTrue, length, drop};
+ghost use Rattle.std.specs.Prelude.{◌≡◌, ◌+◌, ◌*◌, ◌^◌, ◌<◌, ◌≤◌, ◌==◌, ◌&&◌, ◌||◌, not, ℕ, IsTrue, length, drop, slice_index};
 ghost use Rattle.wire_frames.specs.Layout.{mask_of, nonzero};
 ghost use Rattle.wire_frames.specs.Places.{bits_set, component_at, components};
 
 use crate::bytes::u64_at;
 use thread_clock::{Stamp, THREADS};
 
-/// Which components are not 0: bit u is set where component u is.
-pub(crate) fn mask_of(stamp: &Stamp) -> u16
+/// Which components are not 0: bit u is set where component u is. Only those of this many threads are looked at.
+pub(crate) fn mask_of(stamp: &Stamp, threads: usize) -> u16
+    requires few { threads ≤ 16 }
+    requires none { (u : ℕ) → threads ≤ u → slice_index stamp.now u ≡ 0 }
     ensures { result ≡ mask_of stamp.now }
 {
     let components = stamp.components();
     let mut mask = 0;
-    for behind in 0..THREADS {
-        let bit = u16::from(components[THREADS - 1 - behind] != 0);
+    for behind in 0..threads {
+        let bit = u16::from(components[threads - 1 - behind] != 0);
         mask = bit + 2 * mask;
     }
     mask
@@ -42,27 +44,46 @@ pub(crate) fn bits_set(mask: u32) -> usize
     let mut rest = mask;
     let mut count = 0;
     for _ in 0..THREADS {
+        if rest == 0 {
+            break;
+        }
         count += (rest % 2) as usize;
         rest /= 2;
     }
     count
 }
 
-/// The stamp whose components stand one after the other, where they are those of the threads in the mask.
-pub(crate) fn read_stamp(mask: u32, bytes: &[u8]) -> Stamp
-    requires { 8 * bits_set 16 mask ≤ length bytes.now }
-    ensures { result ≡ components 16 mask bytes.now }
+/// The stamp whose components stand one after the other, where they are those of the threads in the mask; and whether one of these is
+/// 0, so that the mask is not that of the stamp.
+pub(crate) fn read_stamp(mask: u32, bytes: &[u8]) -> (Stamp, bool)
+    requires room { 8 * bits_set 16 mask ≤ length bytes.now }
+    requires fits { mask < 2 ^ 16 }
+    ensures stamp { result.0 ≡ components 16 mask bytes.now }
+    ensures zero { result.1 ≡ not (mask_of (components 16 mask bytes.now) == mask) }
 {
     let mut components = [0; THREADS];
+    let mut has_zero = false;
     let mut rest = mask;
     let mut place = 0;
     for thread in 0..THREADS {
+        if rest == 0 {
+            break;
+        }
         let there = rest % 2 == 1;
-        components[thread] = read_component(there, bytes, place);
+        let component = read_component(there, bytes, place);
+        has_zero = has_named_zero(has_zero, there, component);
+        components[thread] = component;
         place += 8 * (rest % 2) as usize;
         rest /= 2;
     }
-    Stamp::new(components)
+    (Stamp::new(components), has_zero)
+}
+
+/// Whether an earlier component that the mask names is 0, or this one.
+fn has_named_zero(earlier: bool, there: bool, component: u64) -> bool
+    ensures { result ≡ earlier || (there && component == 0) }
+{
+    earlier || (there && component == 0)
 }
 
 /// The component at a place, or 0 where there is none.

@@ -3,13 +3,12 @@ ghost use Rattle.plain_text.specs.declared.kind.Kind.TheVariants.{Log, Out};
 ghost use Rattle.wire_frames.specs.declared.version.Version.TheVariants.{One, Two};
 ghost use Rattle.wire_frames.specs.declared.frame.FrameFault.TheVariants.{OutOfRange};
 ghost use Rattle.wire_frames.specs.Faults.{first_failure, field_tests, has_zero_component, is_not_sent, needed};
-ghost use Rattle.wire_frames.specs.Layout.{mask_of};
 ghost use Rattle.wire_frames.specs.Parts.{common_at, layout_of, IsFieldCause, IsReadingCause, IsTold};
 ghost use Rattle.wire_frames.specs.Places.{entry_at, kind_at, number_at, output_at, packet_from, stamp_at, version_at, what_at, what_from};
 
 use crate::bytes::{byte_at, u32_at, u64_at};
 use crate::layout::{Layout, PACKET_HEADER, place_of_components};
-use crate::stamp::{mask_of, read_stamp};
+use crate::stamp::read_stamp;
 use crate::version::Version;
 use crate::{Frame, FrameError, FrameFault};
 use access_log::{Output, StampedEntry};
@@ -177,20 +176,11 @@ fn find_stamp(bytes: &[u8], layout: &Layout) -> Option<Stamp>
         (has_zero_component (kind_at bytes.now) (version_at bytes.now) bytes.now ≡ true) }
 {
     let first = place_of_components(layout.kind, layout.version);
-    let stamp = read_stamp(layout.mask, &bytes[first..]);
-    if has_zero_component(layout, &stamp) {
+    let (stamp, has_zero) = read_stamp(layout.mask, &bytes[first..]);
+    if layout.version == Version::Two && has_zero {
         return None;
     }
     Some(stamp)
-}
-
-/// Whether a component of a frame of version 2 is 0: then the mask is not that of the stamp.
-fn has_zero_component(layout: &Layout, stamp: &Stamp) -> bool
-    ensures one { layout.now.version ≡ One → result ≡ false }
-    ensures two { layout.now.version ≡ Two
-        → result ≡ not (mask_of stamp.now == layout.now.mask) }
-{
-    layout.version == Version::Two && u32::from(mask_of(stamp)) != layout.mask
 }
 
 /// What an entry with this code did; the subject is the variable or the value that was told.

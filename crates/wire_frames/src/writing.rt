@@ -53,10 +53,12 @@ pub fn put_entry(
     requires { CanPutEntry epoch threads entry.now }
     ensures spelled { IfOk result (λ bytes. bytes ≡ written (frame.Entry epoch threads entry.now)) }
     ensures frame { IfOk result (λ bytes. IsFrame bytes (frame.Entry epoch threads entry.now)) }
+    ensures size { IfOk result (λ bytes. length bytes ≡ 39 + 8 * length (nonzero entry.now.stamp)) }
+    ensures small { IfOk result (λ bytes. length bytes < 2 ^ 32) }
 {
     let size = entry_length(entry);
     let mut frame = Bytes::with_room(alloc, size, &[])?;
-    put_components(&mut frame, entry.stamp.components())?;
+    put_components(&mut frame, entry.stamp.components(), threads as usize)?;
     put_entry_front(&mut frame, size as u32, epoch, threads, entry)?;
     Ok(frame)
 }
@@ -72,11 +74,14 @@ pub fn put_output(
     requires { CanPutOutput epoch threads output }
     ensures spelled { IfOk result (λ bytes. bytes ≡ written (frame.Output epoch threads output)) }
     ensures frame { IfOk result (λ bytes. IsFrame bytes (frame.Output epoch threads output)) }
+    ensures size { IfOk result (λ bytes. length bytes
+        ≡ 47 + 8 * length (nonzero output.stamp) + length output.packet.bytes) }
+    ensures small { IfOk result (λ bytes. length bytes < 2 ^ 32) }
 {
     let size = output_length(&output);
     let mut frame = mem::replace(&mut output.packet.bytes, Bytes::new(alloc));
     put_packet_fields(&mut frame, &output.packet)?;
-    put_components(&mut frame, output.stamp.components())?;
+    put_components(&mut frame, output.stamp.components(), threads as usize)?;
     put_output_front(&mut frame, size as u32, epoch, threads, &output)?;
     Ok(frame)
 }
@@ -106,6 +111,7 @@ fn put_entry_front(
 ) -> Result<(), NoMemory>
     requires of_these { entry.now.thread < threads }
     requires few { threads ≤ 16 }
+    requires none { (u : ℕ) → threads ≤ u → slice_index entry.now.stamp u ≡ 0 }
     ensures spelled { OnOk result (frame.new
         ≡ spelled (entry_front size epoch threads entry.now) ++ frame.old) }
     ensures number { OnOk result (entry.now.number < 2 ^ 64) }
@@ -129,6 +135,7 @@ fn put_output_front(
 ) -> Result<(), NoMemory>
     requires of_these { output.now.thread < threads }
     requires few { threads ≤ 16 }
+    requires none { (u : ℕ) → threads ≤ u → slice_index output.now.stamp u ≡ 0 }
     ensures spelled { OnOk result (frame.new
         ≡ spelled (output_front size epoch threads output.now) ++ frame.old) }
     ensures number { OnOk result (output.now.number < 2 ^ 64) }
@@ -151,14 +158,14 @@ fn code_of_kind(kind: Kind) -> u8
 }
 
 /// Puts the fields that tell the kind, the version and the length. Like all that follow it is put in front of what the frame has so far,
-/// since a frame is written from its end.
+/// since a frame is written from its end, and in one piece, since a frame has many fields.
 fn put_kind(frame: &mut Bytes, kind: Kind, size: u32) -> Result<(), NoMemory>
     ensures { OnOk result (frame.new
         ≡ spelled (field 1 (kind_code kind) ∷ field 1 2 ∷ field 4 size ∷ []) ++ frame.old) }
 {
-    put_u32(frame, size)?;
-    put_u8(frame, 2)?; // version
-    put_u8(frame, code_of_kind(kind))
+    let version = 2;
+    let [l0, l1, l2, l3] = size.to_be_bytes();
+    frame.prepend(&[code_of_kind(kind), version, l0, l1, l2, l3])
 }
 
 /// Puts the fields that tell whose entry or output it is, and what it did.
@@ -174,20 +181,24 @@ fn put_subject(
         (field 4 epoch ∷ field 1 thread ∷ field 1 code ∷ field 8 number ∷ field 8 subject ∷ [])
         ++ frame.old) }
 {
-    put_u64(frame, subject)?;
-    put_u64(frame, number)?;
-    put_u8(frame, code)?;
-    put_u8(frame, thread)?;
-    put_u32(frame, epoch)
+    let [e0, e1, e2, e3] = epoch.to_be_bytes();
+    let [n0, n1, n2, n3, n4, n5, n6, n7] = number.to_be_bytes();
+    let [s0, s1, s2, s3, s4, s5, s6, s7] = subject.to_be_bytes();
+    frame.prepend(&[
+        e0, e1, e2, e3, thread, code, n0, n1, n2, n3, n4, n5, n6, n7, s0, s1, s2, s3, s4, s5, s6,
+        s7,
+    ])
 }
 
 /// Puts the number of threads, and whose components are not 0.
 fn put_mask(frame: &mut Bytes, threads: u8, stamp: &Stamp) -> Result<(), NoMemory>
+    requires few { threads ≤ 16 }
+    requires none { (u : ℕ) → threads ≤ u → slice_index stamp.now u ≡ 0 }
     ensures { OnOk result (frame.new
         ≡ spelled (field 1 threads ∷ field 2 (mask_of stamp.now) ∷ []) ++ frame.old) }
 {
-    put_u16(frame, mask_of(stamp))?;
-    put_u8(frame, threads)
+    let [high, low] = mask_of(stamp, usize::from(threads)).to_be_bytes();
+    frame.prepend(&[threads, high, low])
 }
 
 /// Puts the fields of a packet that stand in front of its captured bytes, which are the frame so far.
@@ -201,19 +212,23 @@ fn put_packet_fields(frame: &mut Bytes, packet: &Packet) -> Result<(), NoMemory>
 {
     let (seconds, fraction, original) = (packet.seconds, packet.fraction, packet.original);
     let captured = frame.len() as u32;
-    put_u32(frame, captured)?;
-    put_u32(frame, original)?;
-    put_u32(frame, fraction)?;
-    put_u32(frame, seconds)
+    let [s0, s1, s2, s3] = seconds.to_be_bytes();
+    let [f0, f1, f2, f3] = fraction.to_be_bytes();
+    let [o0, o1, o2, o3] = original.to_be_bytes();
+    let [c0, c1, c2, c3] = captured.to_be_bytes();
+    frame.prepend(&[
+        s0, s1, s2, s3, f0, f1, f2, f3, o0, o1, o2, o3, c0, c1, c2, c3,
+    ])
 }
 
-/// Puts the components that are not 0.
-fn put_components(frame: &mut Bytes, components: &[u64]) -> Result<(), NoMemory>
+/// Puts the components that are not 0. Only this many are looked at.
+fn put_components(frame: &mut Bytes, components: &[u64], count: usize) -> Result<(), NoMemory>
+    requires few { count ≤ length components.now }
+    requires none { (u : ℕ) → count ≤ u → slice_index components.now u ≡ 0 }
     ensures spelled { OnOk result (frame.new
         ≡ spelled (component_fields (nonzero components.now)) ++ frame.old) }
     ensures fit { (u : ℕ) → slice_index components.now u < 2 ^ 64 }
 {
-    let count = components.len();
     for behind in 0..count {
         put_component(frame, components[count - 1 - behind])?;
     }
@@ -231,25 +246,7 @@ fn put_component(frame: &mut Bytes, component: u64) -> Result<(), NoMemory>
     put_u64(frame, component)
 }
 
-/// Puts a number of 8 bits. Like the longer ones it is written in one piece, since a frame has many.
-fn put_u8(frame: &mut Bytes, value: u8) -> Result<(), NoMemory>
-    ensures { OnOk result (frame.new ≡ spelled (field 1 value ∷ []) ++ frame.old) }
-{
-    frame.prepend(&[value])
-}
-
-fn put_u16(frame: &mut Bytes, value: u16) -> Result<(), NoMemory>
-    ensures { OnOk result (frame.new ≡ spelled (field 2 value ∷ []) ++ frame.old) }
-{
-    frame.prepend(&value.to_be_bytes())
-}
-
-fn put_u32(frame: &mut Bytes, value: u32) -> Result<(), NoMemory>
-    ensures { OnOk result (frame.new ≡ spelled (field 4 value ∷ []) ++ frame.old) }
-{
-    frame.prepend(&value.to_be_bytes())
-}
-
+/// Puts a number of 64 bits.
 fn put_u64(frame: &mut Bytes, value: u64) -> Result<(), NoMemory>
     ensures { OnOk result (frame.new ≡ spelled (field 8 value ∷ []) ++ frame.old) }
 {

@@ -1,4 +1,4 @@
-use Rattle.std.proofs.Common.{◌<◌, ◌^◌, ℕ, List, ◌∙◌, refl, sym, subst, slice_index}
+use Rattle.std.proofs.Common.{ap, arith, length, ◌<◌, ◌^◌, ℕ, List, ◌∙◌, refl, sym, subst, slice_index}
 use Rattle.wire_frames.specs.declared.frame.Frame.TheVariants as frame
 use Rattle.wire_frames.specs.Layout.{IsFrame}
 use Rattle.wire_frames.specs.Parts.{entry_front}
@@ -22,3 +22,13 @@ returns-clause-frame c =
     let sent = is_sent c.args.epoch c.args.threads e.thread e.number e.stamp c.requires.sent c.ranges.epoch.fits c.in_ok-put_entry_front.ensures.number c.components.ensures.all fit in
     let F : List ℕ → Type 0 = λ l. IsFrame l f in
     subst F (sym (returns-clause-spelled c)) (is_written f (sent, is_done e.what c.requires.what c.put_entry_front.ensures.fits))
+
+pub returns-clause-size : goal.returns-clause-size
+returns-clause-size c = ap length (returns-clause-spelled c) ∙ c.entry_length-size.ensures.written c.args.epoch c.args.threads ∙ c.entry_length-size.ensures.value
+
+pub returns-clause-small : goal.returns-clause-small
+returns-clause-small c =
+    let size = returns-clause-size c in
+    let same = c.entry_length-size.ensures.value in
+    let small = c.entry_length-size.ensures.small in
+    omega arith

@@ -1,4 +1,4 @@
-use Rattle.std.proofs.Common.{◌<◌, ◌++◌, ◌^◌, ℕ, List, ◌∙◌, refl, sym, ap, subst, slice_index}
+use Rattle.std.proofs.Common.{arith, length, ◌<◌, ◌++◌, ◌^◌, ℕ, List, ◌∙◌, refl, sym, ap, subst, slice_index}
 use Rattle.wire_frames.specs.declared.frame.Frame.TheVariants as frame
 use Rattle.wire_frames.specs.Layout.{packet_fields, IsFrame, IsCaptured}
 use Rattle.wire_frames.specs.Parts.{output_front}
@@ -30,3 +30,13 @@ returns-clause-frame c =
     } in
     let F : List ℕ → Type 0 = λ l. IsFrame l f in
     subst F (sym (returns-clause-spelled c)) (is_written f (sent, c.requires.input, c.in_ok-put_output_front.ensures.input, captured))
+
+pub returns-clause-size : goal.returns-clause-size
+returns-clause-size c = ap length (returns-clause-spelled c) ∙ c.output_length-size.ensures.written c.args.epoch c.args.threads ∙ c.output_length-size.ensures.value
+
+pub returns-clause-small : goal.returns-clause-small
+returns-clause-small c =
+    let size = returns-clause-size c in
+    let same = c.output_length-size.ensures.value in
+    let small = c.output_length-size.ensures.small in
+    omega arith
