@@ -1,8 +1,7 @@
 -- Frames as they are sent, and what comes back.
-use Rattle.std.proofs.Common.{◌≡◌, ℕ, ◌<◌, ◌≤◌, ◌==◌, not, List, [], ◌∷◌, ◌++◌, length, refl, sym, ap, ◌∙◌, subst, Option, Some, Result, Err, arith}
+use Rattle.std.proofs.Common.{◌≡◌, ℕ, ◌<◌, ◌≤◌, List, [], ◌∷◌, ◌++◌, length, refl, sym, ap, ◌∙◌, subst, Option, Some, Result, Err, arith}
 use Rattle.std.specs.Prelude.{slice_set, slice_index_or}
 use Rattle.std.proofs.lemmas.List.{append-nil, get_or_default}
-use Rattle.std.proofs.lemmas.List.Sums.{length-filter, count_by-le-length}
 use Rattle.plain_text.specs.declared.kind.Kind.TheVariants.{Log, Out}
 use Rattle.access_log.specs.declared.entry.StampedEntry.{StampedEntry}
 use Rattle.access_log.specs.declared.entry.Output.{Output}
@@ -13,7 +12,7 @@ use Rattle.wire_frames.specs.declared.frame.Frame.TheVariants as frame
 use Rattle.wire_frames.specs.declared.frame.FrameError.{FrameError}
 use Rattle.wire_frames.specs.declared.frame.FrameError.TheVariants as error
 use Rattle.wire_frames.specs.declared.frame.FrameFault.{FrameFault}
-use Rattle.wire_frames.specs.Layout.{nonzero, IsFrame, BeginsWith}
+use Rattle.wire_frames.specs.Layout.{IsFrame, BeginsWith}
 use Rattle.wire_frames.specs.Writing.{CanPutEntry, CanPutOutput}
 use Rattle.wire_frames.specs.Faults.{Gives}
 use Rattle.recovery_core.specs.Sending.{Sending, HasEntryFrame, HasOutputFrame, SendsEntry, SendsOutput, SendsAgain, entry_address, output_address, entry_size, output_size, lengths_of}
@@ -25,10 +24,6 @@ whole_begins bytes f is = record { first = bytes; rest = []; parts = sym (append
 -- a frame is not at fault
 pub gives_no_fault : (r : Result (Frame × ℕ) FrameError) (fault : FrameFault) (f : Frame) (size : ℕ) → r ≡ Err (error.Fault fault) → Gives r f size → ⊥
 gives_no_fault r fault f size is gives = subst (λ (q : Result (Frame × ℕ) FrameError). Gives q f size) is gives
-
--- no more components are not 0 than there are
-pub nonzero_few : (stamp : List ℕ) → length (nonzero stamp) ≤ length stamp
-nonzero_few stamp = omega (arith, length-filter (λ (c : ℕ). not (c == 0)) stamp, count_by-le-length (λ (c : ℕ). not (c == 0)) stamp)
 
 -- the frame that is found is that of the entry, or of the output
 
