@@ -1,0 +1,3 @@
+pub mod Puts
+pub mod NoteReceipts
+pub mod Growing

@@ -1,0 +1,5 @@
+pub mod Codes
+pub mod Notes
+pub mod Views
+pub mod Plays
+pub mod Told
