@@ -4,3 +4,5 @@ pub mod Growing
 pub mod Placing
 pub mod Bounding
 pub mod Stepping
+pub mod Missing
+pub mod Seating

@@ -87,7 +87,7 @@ only_share {V} l x y is has = go (subst (λ (k : List (Share V)). HasShare y k) 
 one_apart : {V : Type 0} (l : List (Share V)) (x : Share V) → l ≡ x ∷ [] → AreApart l
 one_apart {V} l x is = subst (λ (k : List (Share V)). AreApart k) (sym is) ((λ y k. absurd k), tt)
 
-no_hand : {V : Type 0} (w : View V) (h : Held V) → w.hand ≡ None → w.hand ≡ Some h → ⊥
+pub no_hand : {V : Type 0} (w : View V) (h : Held V) → w.hand ≡ None → w.hand ≡ Some h → ⊥
 no_hand w h none some = let q : None ≡ Some h = sym none ∙ some in cc
 
 -- after a change there stands what was put there, or nothing
@@ -107,7 +107,7 @@ module _ {V : Type 0} (m : Meaning V) (fits : ℕ → V → Type 0) (guide : Lis
       let c : length p.threads ≤ 16 = k.few in omega (arith, a, b, c)
 
   -- where nothing changes, the rule stays
-  same_state : (s : State (VarPart V) (View V)) (w : View V) (carried : List (ℕ × VarPart V)) (i : ℕ) → i < length s.words → get_elem? s.views id ≡ logic.some w → stepped s i (slice_index s.words i) id carried w keeps ≡ s
+  pub same_state : (s : State (VarPart V) (View V)) (w : View V) (carried : List (ℕ × VarPart V)) (i : ℕ) → i < length s.words → get_elem? s.views id ≡ logic.some w → stepped s i (slice_index s.words i) id carried w keeps ≡ s
   same_state s w carried i inside here =
       ap (λ (ws : List ℕ). let q : State (VarPart V) (View V) = record { words = ws; homes = s.homes; views = slice_set s.views id w } in q) (set_again s.words i (slice_index s.words i) (at_word s.words i inside))
       ∙ ap (λ (vs : List (View V)). let q : State (VarPart V) (View V) = record { words = s.words; homes = s.homes; views = vs } in q) (set_again s.views id w here)
@@ -200,7 +200,7 @@ module _ {V : Type 0} (m : Meaning V) (fits : ℕ → V → Type 0) (guide : Lis
 
   module _ (v : ℕ) (low : v < m.vars) (w : View V) (x : VarPart V) (hand : w.hand ≡ Some (record { var = v; found = x })) where
     -- what is known of it
-    in_hand : (s : State (VarPart V) (View V)) (r : IsTold m fits guide p s) → get_elem? s.views id ≡ logic.some w → (r.now.holder v ≡ Some id) × (x ≡ r.now.vars v)
+    pub in_hand : (s : State (VarPart V) (View V)) (r : IsTold m fits guide p s) → get_elem? s.views id ≡ logic.some w → (r.now.holder v ≡ Some id) × (x ≡ r.now.vars v)
     in_hand s r here = let k = (r.at.view id w here).hand (record { var = v; found = x }) hand in (k.1, k.2)
 
     only_hand : (h : Held V) → w.hand ≡ Some h → h.var ≡ v
