@@ -29,7 +29,7 @@ none_sum zero = refl
 none_sum (suc n) = let k : sum_below n (λ t. entries t []) ≡ 0 = none_sum n in omega arith
 
 -- each entry is one of a thread
-entries_sum : (n : ℕ) (log : List Entry) → ((e : Entry) → IsIn e log → e.thread < n) → sum_below n (λ t. entries t log) ≡ length log
+pub entries_sum : (n : ℕ) (log : List Entry) → ((e : Entry) → IsIn e log → e.thread < n) → sum_below n (λ t. entries t log) ≡ length log
 entries_sum n [] low = none_sum n
 entries_sum n (e ∷ log) low =
     let old : sum_below n (λ t. entries t log) ≡ length log = entries_sum n log (λ f i. low f (inr i)) in

@@ -20,28 +20,11 @@ item_is xs i x d below is = is ∙ same
     same : slice_index_or xs i x ≡ slice_index_or xs i d
     same = get_or_default xs i x d below
 
--- an item that was read twice
-pub one_item : {X : Type 0} (xs : List X) (i : ℕ) (x y : X) → i < length xs → x ≡ slice_index_or xs i x → y ≡ slice_index_or xs i y → x ≡ y
-one_item xs i x y below is other = item_is xs i x y below is ∙ sym other
-
 -- a fact of an item and of another list's item, whatever stands for those outside
 pub of_items : {X Y : Type 0} (P : X → Y → Type 0) (xs : List X) (ys : List Y) (i j : ℕ) (x d : X) (y z : Y) → i < length xs → j < length ys → x ≡ slice_index_or xs i x → y ≡ slice_index_or ys j y
     → P x y → P (slice_index_or xs i d) (slice_index_or ys j z)
 of_items {X} {Y} P xs ys i j x d y z low under x_is y_is h =
     subst (λ (a : X). P a (slice_index_or ys j z)) (item_is xs i x d low x_is) (subst (λ (b : Y). P x b) (item_is ys j y z under y_is) h)
-
--- each component of a join with a number in the place of a thread
-pub stamped_is : (join stamp : List ℕ) (t number : ℕ) (f : ℕ → ℕ) → stamp ≡ slice_set join t number → t < 16 → length join ≡ 16 → ((u : ℕ) → slice_index join u ≡ f u)
-    → (u : ℕ) → slice_index stamp u ≡ cond (nat_eq u t) number (f u)
-stamped_is join stamp t number f is below all each u = ap (λ (s : List ℕ). slice_index s u) is ∙ go (is_or t u)
-  where
-    go : (t ≡ u) ⊎ (t ≢ u) → slice_index (slice_set join t number) u ≡ cond (nat_eq u t) number (f u)
-    go (inl same) =
-        let yes : nat_eq u t ≡ true = grind (arith, nat_tests) in
-        rw yes (subst (λ (w : ℕ). slice_index (slice_set join t number) w ≡ number) same (get_or-set_same join t number 0 (omega (arith, all))))
-    go (inr apart) =
-        let never : nat_eq u t ≡ false = grind (arith, nat_tests) in
-        rw never (get_or-set_other join t u number 0 (λ q. apart (sym q)) ∙ each u)
 
 -- a master with one thread changed
 pub master_is : {V : Type 0} (vars new : List (VarPart V)) (threads : List ThreadPart) (t : ℕ) (a b : ThreadPart) → vars ≡ new → a ≡ b

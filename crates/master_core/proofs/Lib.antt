@@ -17,3 +17,4 @@ pub mod Holdings
 pub mod DeltaLemmas
 pub mod ApplyLoop
 pub mod CountedEntries
+pub mod StandingBounds

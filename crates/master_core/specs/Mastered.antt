@@ -13,6 +13,10 @@ pub record Mastered (V : Type 0) : Type 0 where
   pub vars : List (VarPart V)
   pub threads : List ThreadPart
 
+-- the master of these parts
+abbrev pub master_of : {V : Type 0} → List (VarPart V) → List ThreadPart → Mastered V
+master_of vars threads = record { vars = vars; threads = threads }
+
 -- the value in a variable's part
 abbrev pub value_of : {V : Type 0} → VarPart V → V
 value_of part = part.value

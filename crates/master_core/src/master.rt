@@ -12,6 +12,7 @@ ghost use Rattle.master_core.specs.Stepping.{wanted, move_of, Follows, MadeNone,
 ghost use Rattle.master_core.specs.Effects.{HasFresh, DoneTake, DoneTouch, DoneLook, DoneHear, DoneEmit, DoneEnd, HasPlayed};
 
 mod copies;
+mod split;
 
 use crate::{Counts, Stepped, ThreadPart, VarPart, Wants, moves};
 use access_log::{Turn, What};
@@ -19,6 +20,7 @@ use box_program::Program;
 pub use copies::Delta;
 use plain_machine::{Local, Move};
 use plain_text::{NoMemory, Packet};
+pub use split::MasterParts;
 use std::alloc::Global;
 use std::marker::Model;
 use thread_clock::Stamp;

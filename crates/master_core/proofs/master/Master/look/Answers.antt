@@ -12,9 +12,9 @@ pub invariant_of-self : goal.invariant_of-self
 invariant_of-self g c =
     let old = c.index_mut-variable.result.now in
     let no_more : c.look.new.variable.places ≡ old.places = ap (λ (y : VarPart _). y.places) c.look.ensures.variable in
-    entry_bounded c.self.inside.vars.items _ c.self.inside.threads.items c.args.thread c.index_mut-part.result.now c.look.new.part c.args.place _ _
+    entry_bounded c.self.inside.vars.items (slice_set c.self.inside.vars.items c.args.var c.look.new.variable) c.self.inside.threads.items c.args.thread c.index_mut-part.result.now c.look.new.part c.args.place _ _
     c.self.invariant (search rules) (search rules) (rw (← c.self.view_is) at c.requires.room) (rw (← c.self.view_is) at c.requires.hand) c.look.ensures.logs.thread
-    (simp length-set) (adds_set c.self.inside.vars.items c.args.var 1 old _ (search rules) (search rules) (omega arith))
+    (simp length-set) (adds_set c.self.inside.vars.items c.args.var 1 old c.look.new.variable (search rules) (search rules) (omega arith))
 
 pub returns : goal.returns
 returns g c d x =

@@ -17,9 +17,9 @@ invariant_of-self-2 g c =
     let touched = c.in-Ok.ensures.touched in
     let old = c.index_mut-variable.result.now in
     let one_more : c.touch.new.variable.places ≡ old.places + 1 = ap (λ (y : VarPart _). y.places) touched.variable in
-    entry_bounded c.self.inside.vars.items _ c.self.inside.threads.items c.args.thread c.index_mut-part.result.now c.touch.new.part c.args.place _ _
+    entry_bounded c.self.inside.vars.items (slice_set c.self.inside.vars.items c.args.var c.touch.new.variable) c.self.inside.threads.items c.args.thread c.index_mut-part.result.now c.touch.new.part c.args.place _ _
     c.self.invariant (search rules) (search rules) (rw (← c.self.view_is) at c.requires.room) (rw (← c.self.view_is) at c.requires.hand) touched.logs.thread
-    (simp length-set) (adds_set c.self.inside.vars.items c.args.var 1 old _ (search rules) (search rules) (omega arith))
+    (simp length-set) (adds_set c.self.inside.vars.items c.args.var 1 old c.touch.new.variable (search rules) (search rules) (omega arith))
 
 pub returns : goal.returns
 returns g c d x =
