@@ -6,3 +6,7 @@ pub mod Bounding
 pub mod Stepping
 pub mod Missing
 pub mod Seating
+pub mod Beginning
+pub mod Naming
+pub mod Seeing
+pub mod Counting

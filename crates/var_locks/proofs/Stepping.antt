@@ -74,7 +74,7 @@ pub share_stays : {V : Type 0} (threads : ℕ) (d e : Now V) (id : ℕ) (x : Sha
 share_stays threads d e id x owner notes parts ended k = record { mine = owner ∙ k.mine; low = k.low; notes = k.notes ∙ sym notes; part = k.part ∙ sym parts; ended = k.ended ∙ sym ended }
 
 -- one share alone
-one_share : {V : Type 0} (l : List (Share V)) (x : Share V) → l ≡ x ∷ [] → HasShare x l
+pub one_share : {V : Type 0} (l : List (Share V)) (x : Share V) → l ≡ x ∷ [] → HasShare x l
 one_share {V} l x is = subst (λ (k : List (Share V)). HasShare x k) (sym is) (inl refl)
 
 only_share : {V : Type 0} (l : List (Share V)) (x y : Share V) → l ≡ x ∷ [] → HasShare y l → x ≡ y

@@ -3,3 +3,4 @@ pub mod Notes
 pub mod Views
 pub mod Plays
 pub mod Told
+pub mod Rounds

@@ -24,6 +24,10 @@ use Rattle.round_order.specs.Receipts.{Receipt, after}
 use Rattle.round_order.specs.PartMoves.{take_receipt, emit_receipt, end_receipt, hear_receipt, touch_receipt, read_receipt}
 use Rattle.var_locks.specs.declared.view.Note.{Note}
 
+-- the note of a move on no variable
+abbrev pub own_note : {V : Type 0} → ThreadPart → ThreadPart → Trace → Option Packet → Note V
+own_note before after tr packet = record { before = before; after = after; trace = tr; packet = packet; found = None }
+
 -- What the move did
 
 -- Thread t was told this answer, which the entry has.

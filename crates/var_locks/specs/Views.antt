@@ -69,6 +69,10 @@ abbrev pub found_in : {V : Type 0} → Option (Held V) → Option (VarPart V)
 found_in None = None
 found_in (Some h) = Some h.found
 
+-- the note of a move on the variable in hand
+abbrev pub note_on : {V : Type 0} → ThreadPart → ThreadPart → Trace → View V → Note V
+note_on before after tr w = record { before = before; after = after; trace = tr; packet = None; found = found_in w.hand }
+
 -- A seat and its moves
 
 abbrev pub note_shares : {V : Type 0} → List (Share V) → Note V → List (Share V)

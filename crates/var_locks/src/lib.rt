@@ -2,6 +2,10 @@
 //! touches, and one more while a thread has it. However the threads run, what they did is one legal run.
 #![tactic(auto)]
 
+mod steps;
 mod view;
 
-pub use view::{Brought, Ended, Given, Held, Law, Missed, Named, News, Note, Noted, Round, Share, Taken, View};
+pub use view::{
+    Brought, Ended, Given, Held, Law, Missed, Named, News, Note, Noted, Parted, Round, Share,
+    Taken, View,
+};
