@@ -122,7 +122,7 @@ pub(crate) fn note_move<P: Program, J: Round>(
     requires word_in { word < shared.now.table_id.words }
     requires next { (x : share_of.Share P.Value) × MayNote (P.meaning program.now) J.guide token.old.me.0 x (own_note before.now after.now trace.now (option_copied packet)) }
     ensures same { (token.new.table_id ≡ token.old.table_id) × (token.new.id ≡ token.old.id) }
-    ensures noted { token.new.me ≡ (noted_view token.old.me.0 (own_note before.now after.now trace.now (option_copied packet)), token.old.me.1) }
+    ensures noted { token.new.me ≡ (noted_view token.old.me.0 (own_note before.now after.now trace.now (option_copied packet.entry)), token.old.me.1) }
 {
     note_as::<P, J, Brand>(program, shared, token, word, before, after, trace, packet);
 }
