@@ -23,7 +23,7 @@ use Rattle.var_locks.specs.declared.view.Share.{Share}
 use Rattle.var_locks.specs.declared.view.Held.{Held}
 use Rattle.var_locks.specs.declared.view.View.{View}
 use Rattle.var_locks.specs.Views.{HasShare, AreApart, first_view, fresh_shares}
-use Rattle.var_locks.specs.Told.{Now, IsShare, IsView, IsAt, IsStory, IsSound, IsTold, AreFirstWords}
+use Rattle.var_locks.specs.Told.{Now, IsShare, IsView, IsAt, IsStory, IsSound, IsTold, AreFirstWords, ArePlaces}
 
 -- a part for each number, and some part past the end
 pub fresh_part : ThreadPart
@@ -77,8 +77,8 @@ module _ {V : Type 0} (m : Meaning V) (fits : ℕ → V → Type 0) (guide : Lis
     lost = λ u k w stamp named follows known. absurd named;
   }
 
-  pub told_opens : (words : List ℕ) → AreFirstWords p words → IsTold m fits guide p (opening words p.vars (first_view p.threads))
-  told_opens words first = record {
+  pub told_opens : (words seen : List ℕ) → AreFirstWords p words → ArePlaces p seen → IsTold m fits guide p (opening words p.vars (first_view p.threads seen))
+  told_opens words seen first saw = record {
     now = at_first;
     at = record {
       words = first.count ∙ ap (λ n. n + length p.threads) fit.count;
@@ -105,11 +105,11 @@ module _ {V : Type 0} (m : Meaning V) (fits : ℕ → V → Type 0) (guide : Lis
       index_again (x ∷ xs) zero d h = refl
       index_again (x ∷ xs) (suc i) d h = index_again xs i d (omega arith)
 
-      only_first : (id : ℕ) (w : View V) → get_elem? (first_view p.threads ∷ []) id ≡ logic.some w → (0 ≡ id) × (first_view p.threads ≡ w)
-      only_first zero w at = (refl, some-injective (first_view p.threads) w at)
+      only_first : (id : ℕ) (w : View V) → get_elem? (first_view p.threads seen ∷ []) id ≡ logic.some w → (0 ≡ id) × (first_view p.threads seen ≡ w)
+      only_first zero w at = (refl, some-injective (first_view p.threads seen) w at)
       only_first (suc id) w at = absurd (some-ne-none w (sym at))
 
-      opens : IsView m.vars (length p.threads) at_first 0 (first_view p.threads)
+      opens : IsView m.vars (length p.threads) at_first 0 (first_view p.threads seen)
       opens = record {
         apart = apart_fresh V 0 p.threads;
         share = λ x has. (let k = fresh 0 p.threads fresh_part x has in let low = k.1 in let e = k.2 in let is : k.0 ≡ x.thread = omega (arith, e) in record {
@@ -120,9 +120,9 @@ module _ {V : Type 0} (m : Meaning V) (fits : ℕ → V → Type 0) (guide : Lis
           ended = k.5;
         });
         hand = λ h has. (let q : None ≡ Some h = has in absurd (cc));
-        seen = λ v low. omega arith;
+        seen = λ v low. (let k = saw v (fresh_var m) (subst (λ n. v < n) (sym fit.count) low) in omega (arith, k));
         missing = λ u k named. absurd named;
       }
 
-      view : (id : ℕ) (w : View V) → get_elem? (first_view p.threads ∷ []) id ≡ logic.some w → IsView m.vars (length p.threads) at_first id w
-      view id w at = let k = only_first id w at in subst (λ (z : View V). IsView m.vars (length p.threads) at_first id z) k.1 (subst (λ (i : ℕ). IsView m.vars (length p.threads) at_first i (first_view p.threads)) k.0 opens)
+      view : (id : ℕ) (w : View V) → get_elem? (first_view p.threads seen ∷ []) id ≡ logic.some w → IsView m.vars (length p.threads) at_first id w
+      view id w at = let k = only_first id w at in subst (λ (z : View V). IsView m.vars (length p.threads) at_first id z) k.1 (subst (λ (i : ℕ). IsView m.vars (length p.threads) at_first i (first_view p.threads seen)) k.0 opens)

@@ -4,3 +4,4 @@ pub mod Views
 pub mod Plays
 pub mod Told
 pub mod Rounds
+pub mod Seats

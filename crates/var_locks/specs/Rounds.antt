@@ -17,7 +17,7 @@ use Rattle.var_locks.specs.declared.view.Held.{Held}
 use Rattle.var_locks.specs.declared.view.View.{View}
 use Rattle.var_locks.specs.Codes.{master_code}
 use Rattle.var_locks.specs.Notes.{IsOwn, IsOnVariable, IsGuided}
-use Rattle.var_locks.specs.Told.{AreFirstWords}
+use Rattle.var_locks.specs.Told.{AreFirstWords, ArePlaces}
 
 -- The round is of this program, and has so many words: one for each variable, and one for each thread.
 pub record IsRoundOf {P V : Type 0} (meaning : P → Meaning V) (c : Coded P) (d : Coded V) (program opening : Gv) (parts : List ThreadPart) (q : P) (words : ℕ) : Type 0 where
@@ -28,13 +28,14 @@ pub record IsRoundOf {P V : Type 0} (meaning : P → Meaning V) (c : Coded P) (d
   pub words_are : words ≡ (meaning q).vars + length parts
 
 -- The master of these parts opens the round.
-pub record Opens {V : Type 0} (m : Meaning V) (fits : ℕ → V → Type 0) (d : Coded V) (opening : Gv) (threads : List ThreadPart) (vars : List (VarPart V)) (words : List ℕ) (p : Mastered V) : Type 0 where
+pub record Opens {V : Type 0} (m : Meaning V) (fits : ℕ → V → Type 0) (d : Coded V) (opening : Gv) (threads : List ThreadPart) (places : List ℕ) (vars : List (VarPart V)) (words : List ℕ) (p : Mastered V) : Type 0 where
   pub code : (master_code d).code p ≡ opening
   pub vars_are : p.vars ≡ vars
   pub threads_are : p.threads ≡ threads
   pub bounded : IsBounded p.vars p.threads
   pub fit : FitsProgram m fits value_of p.vars
   pub first : AreFirstWords p words
+  pub places_are : ArePlaces p places
 
 -- The seat has one thread, which did not end the round, and this note is of its next move.
 pub record IsNext {V : Type 0} (guide : List Lane) (w : View V) (x : Share V) (n : Note V) : Type 0 where

@@ -120,3 +120,7 @@ pub record AreFirstWords {V : Type 0} (p : Mastered V) (words : List ℕ) : Type
   pub count : length words ≡ length p.vars + length p.threads
   pub var : (v : ℕ) (d : VarPart V) → v < length p.vars → slice_index words v ≡ (slice_index_or p.vars v d).places + (slice_index_or p.vars v d).places
   pub thread : (t : ℕ) → t < length p.threads → slice_index words (length p.vars + t) ≡ 0
+
+-- how often each variable was touched then
+abbrev pub ArePlaces : {V : Type 0} → Mastered V → List ℕ → Type 0
+ArePlaces {V} p places = (v : ℕ) (d : VarPart V) → v < length p.vars → slice_index places v ≡ (slice_index_or p.vars v d).places

@@ -27,9 +27,9 @@ abbrev pub fresh_shares : {V : Type 0} → ℕ → List ThreadPart → List (Sha
 fresh_shares t [] = []
 fresh_shares t (part ∷ parts) = (record { thread = t; notes = []; part = part; ended = false }) ∷ fresh_shares (t + 1) parts
 
--- the view of the first seat: all threads
-abbrev pub first_view : {V : Type 0} → List ThreadPart → View V
-first_view parts = record { shares = fresh_shares 0 parts; hand = None; seen = []; missing = [] }
+-- the view of the first seat: all threads, and the places of the opening master
+abbrev pub first_view : {V : Type 0} → List ThreadPart → List ℕ → View V
+first_view parts places = record { shares = fresh_shares 0 parts; hand = None; seen = places; missing = [] }
 
 -- A seat and its threads
 

@@ -2,9 +2,11 @@
 //! touches, and one more while a thread has it. However the threads run, what they did is one legal run.
 #![tactic(auto)]
 
+mod seats;
 mod steps;
 mod view;
 
+pub use seats::VarSeat;
 pub use view::{
     Brought, Ended, Given, Held, Law, Missed, Named, News, Note, Noted, Parted, Round, Share,
     Taken, View,

@@ -41,8 +41,8 @@ pub(crate) fn open_round<P: Program, J: Round>(
     parts: Vec<VarPart<P::Value>>,
 ) -> Result<(LockTable<P, J>, Token<P::Value>), Refused<VarPart<P::Value>, Global>>
     requires of { P.row.coded.code program.now ≡ J.program }
-    requires opens { (p : Mastered P.Value) × Opens (P.meaning program.now) (P.fits program.now) P.Value.row.coded J.opening J.threads parts.items words.now p }
-    ensures first { IfOk result (λ t. t.1.me ≡ (first_view J.threads, [])) }
+    requires opens { (p : Mastered P.Value) × Opens (P.meaning program.now) (P.fits program.now) P.Value.row.coded J.opening J.threads J.places parts.items words.now p }
+    ensures first { IfOk result (λ t. t.1.me ≡ (first_view J.threads J.places, [])) }
     ensures same { IfOk result (λ t. (t.1.table_id ≡ t.0.shared.table_id) × (t.0.shared.table_id.words ≡ length words.now) × (t.0.shared.table_id.slots ≡ length parts.items)) }
     ensures refused { IfErr result (λ r. r.slots.items ≡ parts.items) }
 {

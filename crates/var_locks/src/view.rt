@@ -43,10 +43,10 @@ pub struct View<V> {
     pub missing: LinkedList<(u32, u64)>,
 }
 
-/// Which round it is: the codes of its program and of its opening master, the parts of the threads in this master, and what is
-/// followed.
+/// Which round it is: the codes of its program and of its opening master, the parts of the threads and the places of the variables in
+/// this master, and what is followed.
 pub trait Round {
-    ghost use Rattle.std.specs.Prelude.{List};
+    ghost use Rattle.std.specs.Prelude.{List, ℕ};
     ghost use base.Stored.{Gv};
     ghost use Rattle.access_log.specs.Held.{Lane};
     ghost use Rattle.master_core.specs.declared.parts.ThreadPart.{ThreadPart};
@@ -56,6 +56,8 @@ pub trait Round {
     ghost opening: { Gv };
 
     ghost threads: { List ThreadPart };
+
+    ghost places: { List ℕ };
 
     ghost guide: { List Lane };
 }
@@ -69,6 +71,8 @@ impl Round for Brand {
     ghost opening = { nothing };
 
     ghost threads = { [] };
+
+    ghost places = { [] };
 
     ghost guide = { [] };
 }
@@ -84,7 +88,7 @@ impl<P: Program, J: Round> TableRule<VarPart<P::Value>, View<P::Value>, ()> for 
 
     ghost holds = { λ _. IsToldOf P.meaning P.fits P.row.coded P.Value.row.coded J.program J.opening J.guide };
 
-    ghost first = { λ _. first_view J.threads };
+    ghost first = { λ _. first_view J.threads J.places };
 }
 
 /// A seat takes a variable, if the word is as it was seen.

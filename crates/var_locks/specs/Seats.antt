@@ -1,0 +1,38 @@
+-- What is seen of a seat of a round.
+use Rattle.std.specs.Prelude.{◌≡◌, ℕ, ◌+◌, ◌<◌, Bool, true, false, List, [], ◌∷◌, Some, None, length}
+use Rattle.master_core.specs.declared.parts.VarPart.{VarPart}
+use Rattle.master_core.specs.declared.parts.ThreadPart.{ThreadPart}
+use Rattle.master_core.specs.declared.step.WovenStep.{WovenStep}
+use Rattle.atomic_table.specs.Table.{Me}
+use Rattle.atomic_table.specs.Seated.{TableId}
+use Rattle.var_locks.specs.declared.view.Note.{Note}
+use Rattle.var_locks.specs.declared.view.Share.{Share}
+use Rattle.var_locks.specs.declared.view.View.{View}
+use Rattle.var_locks.specs.Notes.{steps_of}
+
+-- Its thread, with the part that it has now and the notes of its moves in the round, newest first; of each variable, as often as the
+-- seat saw it touched; the followed entries that it found missing; whether it ended; and the round that it is of.
+pub record Seated (V : Type 0) : Type 0 where
+  pub thread : ℕ
+  pub part : ThreadPart
+  pub notes : List (Note V)
+  pub seen : List ℕ
+  pub missing : List (ℕ × ℕ)
+  pub ended : Bool
+  pub round : TableId
+
+abbrev pub first_notes : {V : Type 0} → List (Share V) → List (Note V)
+first_notes [] = []
+first_notes (x ∷ others) = x.notes
+
+-- the share of the seat's thread, by what the seat keeps
+abbrev pub share_of : {V : Type 0} → View V → ℕ → ThreadPart → Bool → Share V
+share_of w thread part ended = record { thread = thread; notes = first_notes w.shares; part = part; ended = ended }
+
+-- The seat's token has its one thread, nothing in hand, and has seen what the seat keeps; and the seat keeps what the moves left.
+pub record IsKept {V : Type 0} (me : Me (VarPart V) (View V)) (thread : ℕ) (part : ThreadPart) (seen : List ℕ) (receipts : List WovenStep) (ended : Bool) : Type 0 where
+  pub alone : me.0.shares ≡ share_of me.0 thread part ended ∷ []
+  pub empty : me.0.hand ≡ None
+  pub slots : me.1 ≡ []
+  pub seen_is : me.0.seen ≡ seen
+  pub receipts_are : receipts ≡ steps_of thread (first_notes me.0.shares)
