@@ -95,6 +95,7 @@ module _ {V : Type 0} (m : Meaning V) (fits : ℕ → V → Type 0) (guide : Lis
       places = λ v low. subst (λ n. (slice_index_or p.vars v (fresh_var m)).places ≤ n) (sum_is p.threads fresh_part) (bounded.places v (fresh_var m) (subst (λ n. v < n) (sym fit.count) low));
       fit = λ v low. fit.fit v (fresh_var m) low;
       guided = λ t low. tt;
+      beyond = λ t above. refl;
       gone = λ u k named. absurd named;
       story = λ inputs past stands fed. first_story inputs past stands;
     };

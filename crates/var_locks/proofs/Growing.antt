@@ -118,6 +118,9 @@ module _ {V : Type 0} (m : Meaning V) (fits : ℕ → V → Type 0) (guide : Lis
       go (inl same) = subst (λ (l : List (Note V)). AreGuided guide u l) (sym (put_here t u (n ∷ d.notes t) d.notes same)) (subst (λ (z : ℕ). AreGuided guide z (n ∷ d.notes t)) (sym same) (guided, sound.guided t low))
       go (inr apart) = subst (λ (l : List (Note V)). AreGuided guide u l) (sym (put_else t u (n ∷ d.notes t) d.notes apart)) (sound.guided u under)
 
+  none_beyond : (u : ℕ) → length p.threads ≤ u → put t (n ∷ d.notes t) d.notes u ≡ []
+  none_beyond u above = put_else t u (n ∷ d.notes t) d.notes (λ e. absurd (omega (arith, low, above, e))) ∙ sound.beyond u above
+
   module _ (inputs : ℕ → List Packet) (past : List (Step V)) (stands : Stands m (length p.threads) past p) (fed : (u : ℕ) → u < length p.threads → AreFed (inputs u) (put t (n ∷ d.notes t) d.notes u)) where
     mine_fed : AreFed (inputs t) (n ∷ d.notes t)
     mine_fed = subst (λ (l : List (Note V)). AreFed (inputs t) l) (put_here t t (n ∷ d.notes t) d.notes refl) (fed t low)
@@ -172,6 +175,7 @@ module _ {V : Type 0} (m : Meaning V) (fits : ℕ → V → Type 0) (guide : Lis
         omega (arith, old_places, rise);
     fit = sound.fit;
     guided = all_guided;
+    beyond = none_beyond;
     gone = sound.gone;
     story = λ inputs past stands fed. own_story inputs past stands fed own;
   }
@@ -186,6 +190,7 @@ module _ {V : Type 0} (m : Meaning V) (fits : ℕ → V → Type 0) (guide : Lis
     places = λ w under. places w under (is_or w v);
     fit = λ w under. fit_at w under (is_or w v);
     guided = all_guided;
+    beyond = none_beyond;
     gone = sound.gone;
     story = λ inputs past stands fed. story_on inputs past stands fed v y place e inside on;
   }

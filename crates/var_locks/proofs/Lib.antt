@@ -10,3 +10,6 @@ pub mod Beginning
 pub mod Naming
 pub mod Seeing
 pub mod Counting
+pub mod Ending
+pub mod Slots
+pub mod Gathering

@@ -90,6 +90,7 @@ module _ {V : Type 0} (m : Meaning V) (fits : ℕ → V → Type 0) (guide : Lis
     places = old.places;
     fit = old.fit;
     guided = old.guided;
+    beyond = old.beyond;
     gone = λ a b named. lost_gone a b named;
     story = λ inputs past stands fed. story inputs past (old.story inputs past stands fed);
   }

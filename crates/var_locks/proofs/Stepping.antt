@@ -48,6 +48,7 @@ sound_seats m fits guide p d owner holder k = record {
   places = k.places;
   fit = k.fit;
   guided = k.guided;
+  beyond = k.beyond;
   gone = k.gone;
   story = λ inputs past stands fed. let q = k.story inputs past stands fed in record { round = q.round; home = q.home; seat = q.seat; lost = q.lost };
 }
@@ -60,6 +61,7 @@ sound_end m fits guide p d t k = record {
   places = k.places;
   fit = k.fit;
   guided = k.guided;
+  beyond = k.beyond;
   gone = λ u j named. ((k.gone u j named).0, gone u (k.gone u j named).1 (is_or u t));
   story = λ inputs past stands fed. let q = k.story inputs past stands fed in record { round = q.round; home = q.home; seat = q.seat; lost = q.lost };
 }

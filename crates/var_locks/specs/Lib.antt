@@ -5,3 +5,4 @@ pub mod Plays
 pub mod Told
 pub mod Rounds
 pub mod Seats
+pub mod Closing

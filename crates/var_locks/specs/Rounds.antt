@@ -72,3 +72,10 @@ pub record MayMiss {V : Type 0} (guide : List Lane) (w : View V) (v u k : ℕ) (
 pub record IsIdle {V : Type 0} (w : View V) (x : Share V) : Type 0 where
   pub alone : w.shares ≡ x ∷ []
   pub empty : w.hand ≡ None
+
+-- These are the variables of that round, with so many of them and of threads.
+pub record AreVarsOf {P V : Type 0} (meaning : P → Meaning V) (c : Coded P) (d : Coded V) (program opening : Gv) (parts : List ThreadPart) (q : P) (words vars threads : ℕ) : Type 0 where
+  pub round : IsRoundOf meaning c d program opening parts q words
+  pub vars_are : vars ≡ (meaning q).vars
+  pub threads_are : threads ≡ length parts
+  pub some : 0 < threads

@@ -98,6 +98,7 @@ pub record IsSound {V : Type 0} (m : Meaning V) (fits : ℕ → V → Type 0) (g
   pub places : (v : ℕ) → v < m.vars → (d.vars v).places ≤ sum_below (length p.threads) (λ t. (d.parts t).counts.entries)
   pub fit : (v : ℕ) → v < m.vars → fits v (d.vars v).value
   pub guided : (t : ℕ) → t < length p.threads → AreGuided guide t (d.notes t)
+  pub beyond : (t : ℕ) → length p.threads ≤ t → d.notes t ≡ []
   pub gone : (u k : ℕ) → IsNamed u k d.lost → (u < length p.threads) × (d.ended u ≡ true)
   pub story : (inputs : ℕ → List Packet) (past : List (Step V)) → Stands m (length p.threads) past p
       → ((t : ℕ) → t < length p.threads → AreFed (inputs t) (d.notes t)) → IsStory m guide (length p.threads) d inputs past

@@ -4,9 +4,11 @@
 
 mod seats;
 mod steps;
+mod vars;
 mod view;
 
 pub use seats::VarSeat;
+pub use vars::{Closed, Receipts, Vars};
 pub use view::{
     Brought, Ended, Given, Held, Law, Missed, Named, News, Note, Noted, Parted, Round, Share,
     Taken, View,

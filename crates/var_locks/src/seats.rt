@@ -1,5 +1,6 @@
 //! The seats of a round: each is of one thread, with its part of the master and what it did in the round.
-ghost use Rattle.std.specs.Prelude.{◌≡◌, ◌<◌, length, HoldsAt};
+ghost use Rattle.std.specs.Prelude.{◌≡◌};
+ghost use Rattle.var_locks.specs.Seats.{IsKept, first_notes};
 
 use crate::steps::Token;
 use box_program::Program;
@@ -35,6 +36,25 @@ impl<P: Program> VarSeat<P> {
         ensures { result ≡ self.now.thread }
     {
         self.thread
+    }
+
+    /// Its token, its part and what its thread did.
+    pub(crate) fn take_apart(self) -> (Token<P::Value>, ThreadPart, Vec<WovenStep>)
+        ensures kept { IsKept result.0.me self.thread self.part self.seen result.2.items self.ended }
+        ensures told { (first_notes result.0.me.0.shares ≡ self.notes) × (result.0.me.0.missing ≡ self.missing) }
+        ensures round { result.0.table_id ≡ self.round }
+        ensures part { result.1 ≡ self.part }
+    {
+        let VarSeat {
+            token,
+            thread: _,
+            part,
+            seen,
+            receipts,
+            ended: _,
+        } = self;
+        drop(seen);
+        (token, part, receipts)
     }
 
     /// Whether its thread ended the round.
