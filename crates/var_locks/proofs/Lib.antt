@@ -13,3 +13,4 @@ pub mod Counting
 pub mod Ending
 pub mod Slots
 pub mod Gathering
+pub mod Making

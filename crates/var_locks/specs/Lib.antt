@@ -6,3 +6,4 @@ pub mod Told
 pub mod Rounds
 pub mod Seats
 pub mod Closing
+pub mod Plain

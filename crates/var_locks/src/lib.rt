@@ -2,6 +2,7 @@
 //! touches, and one more while a thread has it. However the threads run, what they did is one legal run.
 #![tactic(auto)]
 
+mod keeping;
 mod seats;
 mod steps;
 mod vars;

@@ -1,0 +1,12 @@
+use Rattle.std.proofs.Common.{rules, ◌≡◌, refl}
+use Rattle.std.specs.Prelude.{option_copied}
+use Rattle.var_locks.proofs.Making.{hearing_own, hearing_guided, hearing_answer}
+use Rattle.var_locks.proofs.keeping.hear.Goals as goal
+
+pub keep-requires-clause-own : goal.keep-requires-clause-own
+keep-requires-clause-own g c κs within =
+    hearing_own (g.P.Program.meaning c.args.program.now) c.args.thread c.args.part.now c.hear-entry.new.part (option_copied c.args.input) c.hear-entry.result c.args.place c.args.what c.args.told c.requires.hand c.hear-entry.ensures c.requires.asked
+
+pub keep-requires-clause-guided : goal.keep-requires-clause-guided
+keep-requires-clause-guided g c κs within =
+    hearing_guided (g.P.Program.meaning c.args.program.now) c.args.thread c.args.part.now c.hear-entry.new.part (option_copied c.args.input) c.hear-entry.result c.args.place c.args.what c.args.told c.requires.hand c.hear-entry.ensures g.J.Round.guide c.requires.asked c.requires.followed
