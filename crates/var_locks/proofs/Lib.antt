@@ -14,3 +14,5 @@ pub mod Ending
 pub mod Slots
 pub mod Gathering
 pub mod Making
+pub mod Freshness
+pub mod KeptSeats

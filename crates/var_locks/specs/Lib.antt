@@ -7,3 +7,5 @@ pub mod Rounds
 pub mod Seats
 pub mod Closing
 pub mod Plain
+pub mod Openings
+pub mod TouchedParts

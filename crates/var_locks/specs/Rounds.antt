@@ -79,4 +79,5 @@ pub record AreVarsOf {P V : Type 0} (meaning : P → Meaning V) (c : Coded P) (d
   pub vars_are : vars ≡ (meaning q).vars
   pub threads_are : threads ≡ length parts
   pub some : 0 < threads
+  pub few : threads ≤ 16
   pub small : words < 2 ^ 63

@@ -42,6 +42,11 @@ pub record IsKept {V : Type 0} (me : Me (VarPart V) (View V)) (thread : ℕ) (pa
   pub seen_is : me.0.seen ≡ seen
   pub receipts_are : receipts ≡ steps_of thread (first_notes me.0.shares)
 
+-- the seat is of this round, which has so many threads
+pub record IsSeatOf {V : Type 0} (round : TableId) (threads : ℕ) (x : Seated V) : Type 0 where
+  pub round_is : x.round ≡ round
+  pub low : x.thread < threads
+
 -- What a move made of a seat
 
 -- The move on no variable that this note is of was noted: the token has it, and the thread's steps have it last.

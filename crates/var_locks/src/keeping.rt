@@ -15,7 +15,7 @@ ghost use Rattle.var_locks.specs.Plain.{Makes, IsLeft};
 
 use crate::steps::{Lock, Token, note_move};
 use crate::view::Round;
-use access_log::What;
+use access_log::{StampedEntry, What};
 use box_program::Program;
 use master_core::{Stepped, ThreadPart, Trace, WovenStep, moves};
 use plain_machine::{Local, Move, PlainMove};
@@ -44,6 +44,18 @@ pub(crate) fn step_of(thread: u32, trace: Trace) -> WovenStep
     WovenStep {
         moved: PlainMove { thread, answer },
         trace,
+    }
+}
+
+/// A copy of the entry.
+pub(crate) fn copied(entry: &StampedEntry) -> StampedEntry
+    ensures { result ≡ entry.now }
+{
+    StampedEntry {
+        thread: entry.thread,
+        number: entry.number,
+        what: entry.what,
+        stamp: entry.stamp,
     }
 }
 
@@ -123,6 +135,7 @@ fn take<P: Program, J: Round>(
 }
 
 /// Is told this answer, of which the entry has this content.
+#[tactic(auto, using(crate::proofs::Making::hearing_answer))]
 fn hear<P: Program, J: Round>(
     program: &P,
     shared: &Lock<P, J>,
@@ -151,7 +164,7 @@ fn hear<P: Program, J: Round>(
 {
     let mut after = *part;
     let entry = moves::hear(program, thread, &mut after, place, what, told);
-    let trace = Trace::Did(entry);
+    let trace = Trace::Did(copied(&entry));
     match keep::<P, J>(
         program, shared, word, thread, token, part, did, after, trace, input,
     ) {

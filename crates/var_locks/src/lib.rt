@@ -2,9 +2,12 @@
 //! touches, and one more while a thread has it. However the threads run, what they did is one legal run.
 #![tactic(auto)]
 
+mod calls;
 mod keeping;
+mod opening;
 mod seats;
 mod steps;
+mod touching;
 mod vars;
 mod view;
 

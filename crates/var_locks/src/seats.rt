@@ -1,10 +1,12 @@
 //! The seats of a round: each is of one thread, with its part of the master and what it did in the round.
-ghost use Rattle.std.specs.Prelude.{◌≡◌};
+ghost use Rattle.std.specs.Prelude.{◌≡◌, [], ◌∷◌};
+ghost use Rattle.var_locks.specs.Openings.{rest_view, fresh_seat};
 ghost use Rattle.var_locks.specs.Seats.{IsKept, first_notes};
 
 use crate::steps::Token;
 use box_program::Program;
 use master_core::{ThreadPart, WovenStep};
+use std::alloc::Global;
 use std::marker::Model;
 
 /// The seat of one thread of a round.
@@ -36,6 +38,27 @@ impl<P: Program> VarSeat<P> {
         ensures { result ≡ self.now.thread }
     {
         self.thread
+    }
+
+    /// The seat of a thread that did nothing in the round.
+    pub(crate) fn fresh(
+        alloc: Global,
+        token: Token<P::Value>,
+        thread: u32,
+        part: ThreadPart,
+        seen: Vec<u64>,
+    ) -> Self
+        requires { token.me ≡ (rest_view thread (part ∷ []) seen.items, []) }
+        ensures { result ≡ fresh_seat token.table_id seen.items thread part }
+    {
+        VarSeat {
+            token,
+            thread,
+            part,
+            seen,
+            receipts: Vec::new(alloc),
+            ended: false,
+        }
     }
 
     /// Its token, its part and what its thread did.
