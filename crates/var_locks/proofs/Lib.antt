@@ -16,3 +16,5 @@ pub mod Gathering
 pub mod Making
 pub mod Freshness
 pub mod KeptSeats
+pub mod FirstWords
+pub mod SlotLists
