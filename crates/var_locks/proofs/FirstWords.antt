@@ -3,7 +3,13 @@ use Rattle.std.proofs.Common.{◌≡◌, ℕ, zero, suc, ◌+◌, ◌*◌, ◌<�
 use Rattle.std.specs.Prelude.{slice_index, slice_index_or, sum_by}
 use Rattle.master_core.specs.declared.parts.VarPart.{VarPart}
 use Rattle.master_core.specs.declared.parts.ThreadPart.{ThreadPart}
-use Rattle.master_core.specs.Mastered.{Mastered, IsBounded}
+use base.Stored.{Gv}
+use Rattle.std.specs.Coded.{Coded}
+use Rattle.plain_machine.specs.Program.{Meaning}
+use Rattle.box_program.specs.Hands.{FitsProgram}
+use Rattle.master_core.specs.Mastered.{Mastered, IsBounded, master_of, value_of}
+use Rattle.var_locks.specs.Codes.{master_code}
+use Rattle.var_locks.specs.Rounds.{IsRoundOf, AreVarsOf, Opens}
 use Rattle.master_core.proofs.BoundLemmas.{sum_small}
 use Rattle.var_locks.specs.Told.{AreFirstWords, ArePlaces}
 use Rattle.var_locks.specs.Openings.{places_of, words_of}
@@ -75,3 +81,38 @@ pub zeros_next : (l : List ℕ) (n : ℕ) → (l ++ replicate n 0) ++ 0 ∷ [] �
 zeros_next [] zero = refl
 zeros_next [] (suc n) = let k : suc n + 1 ≡ suc (n + 1) = omega arith in ap (λ (l : List ℕ). 0 ∷ l) (zeros_next [] n) ∙ ap (λ (i : ℕ). replicate i 0) (sym k)
 zeros_next (x ∷ xs) n = ap (λ (l : List ℕ). x ∷ l) (zeros_next xs n)
+
+module _ {P V : Type 0} (meaning : P → Meaning V) (fits : P → ℕ → V → Type 0) (c : Coded P) (d : Coded V) (program opening : Gv) (threads : List ThreadPart) (places : List ℕ) (q : P) (is : c.code q ≡ program) (values : List (VarPart V)) (parts : List ThreadPart) (first : List ℕ)
+    (opens : Opens (meaning q) (fits q) d opening threads places values first (master_of values parts)) (words : ℕ) (count : words ≡ length first) where
+  pub round_of : IsRoundOf meaning c d program opening threads q words
+  round_of = record {
+    is = is;
+    master = master_of values parts;
+    opens = opens.code;
+    threads = opens.threads_are;
+    words_are = count ∙ (opens.first.count ∙ (ap (λ n. n + length parts) opens.fit.count ∙ ap (λ (l : List ThreadPart). (meaning q).vars + length l) opens.threads_are));
+  }
+
+  pub vars_of : (vars size : ℕ) → vars ≡ (meaning q).vars → vars < 2 ^ 32 → size ≡ length parts → 0 < length parts → AreVarsOf meaning c d program opening threads q words vars size
+  vars_of vars size vars_is low size_is some = record {
+    round = round_of;
+    vars_are = vars_is;
+    threads_are = size_is ∙ ap (λ (l : List ThreadPart). length l) opens.threads_are;
+    some = subst (λ n. 0 < n) (sym size_is) some;
+    few = subst (λ n. n ≤ 16) (sym size_is) opens.bounded.few;
+    small = (let a : words ≡ (meaning q).vars + length threads = round_of.words_are in let b : length parts ≡ length threads = ap (λ (l : List ThreadPart). length l) opens.threads_are in let e = opens.bounded.few in omega (arith, a, b, e, vars_is, low));
+  }
+
+-- a master that is split opens the round
+pub split_opens : {V : Type 0} (m : Meaning V) (fits : ℕ → V → Type 0) (d : Coded V) (opening : Gv) (threads : List ThreadPart) (seen : List ℕ) (p : Mastered V) (values : List (VarPart V)) (parts : List ThreadPart) (words places : List ℕ)
+    → master_of values parts ≡ p → IsBounded values parts → (master_code d).code p ≡ opening → p.threads ≡ threads → places_of p.vars ≡ seen → FitsProgram m fits value_of p.vars → places ≡ places_of values → words ≡ words_of places (length parts)
+    → Opens m fits d opening threads seen values words (master_of values parts)
+split_opens {V} m fits d opening threads seen p values parts words places same bounded code threads_are seen_are fit places_are words_are = record {
+  code = ap (λ (q : Mastered V). (master_code d).code q) same ∙ code;
+  vars_are = refl;
+  threads_are = ap (λ (q : Mastered V). q.threads) same ∙ threads_are;
+  bounded = bounded;
+  fit = subst (λ (q : Mastered V). FitsProgram m fits value_of q.vars) (sym same) fit;
+  first = subst (λ (l : List ℕ). AreFirstWords (master_of values parts) l) (sym (words_are ∙ ap (λ (l : List ℕ). words_of l (length parts)) places_are)) (first_words (master_of values parts));
+  places_are = subst (λ (l : List ℕ). ArePlaces (master_of values parts) l) (ap (λ (q : Mastered V). places_of q.vars) same ∙ seen_are) (first_places (master_of values parts));
+}

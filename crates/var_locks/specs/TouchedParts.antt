@@ -1,5 +1,17 @@
 -- What a touch or a read does to what a seat has in hand.
-use Rattle.std.specs.Prelude.{◌≡◌, ℕ, ◌+◌, ◌⊎◌, Bool, true, false, List, [], ◌∷◌}
+use Rattle.std.specs.Prelude.{◌≡◌, ℕ, ◌+◌, ◌⊎◌, Bool, true, false, List, [], ◌∷◌, ◌++◌}
+use base.Stored.{Gv}
+use Rattle.std.specs.Coded.{Coded}
+use Rattle.access_log.specs.Held.{Lane}
+use Rattle.master_core.specs.declared.step.Trace.TheVariants as trace
+use Rattle.master_core.specs.declared.step.WovenStep.{WovenStep}
+use Rattle.replay_guide.specs.Turns.{WaitsFor}
+use Rattle.atomic_table.specs.Table.{Me}
+use Rattle.var_locks.specs.declared.view.View.{View}
+use Rattle.var_locks.specs.Notes.{IsOnVariable, IsGuided, step_of}
+use Rattle.var_locks.specs.Views.{with_hand, note_on, noted_view}
+use Rattle.var_locks.specs.Plays.{Finds}
+use Rattle.var_locks.specs.Seats.{IsKept}
 use Rattle.access_log.specs.declared.entry.StampedEntry.{StampedEntry}
 use Rattle.plain_machine.specs.declared.local.Local.{Local}
 use Rattle.plain_machine.specs.declared.local.Move.{Move}
@@ -21,3 +33,24 @@ WorksBy m t v false place before after e x y = TouchesParts m t v place before x
 -- the seat has in hand what the touch or the read left of the variable
 abbrev pub Works : {V : Type 0} → Meaning V → ℕ → ℕ → Bool → Local → ThreadPart → ThreadPart → StampedEntry → VarPart V → List (ℕ × VarPart V) → Type 0
 Works {V} m t v read place before after e x slots = (y : VarPart V) × (slots ≡ (v, y) ∷ []) × WorksBy m t v read place before after e x y
+
+-- A seat that took a variable
+
+-- It had this token, and has the variable in hand as it found it.
+pub record HasTaken {P V : Type 0} (fits : P → ℕ → V → Type 0) (c : Coded P) (program : Gv) (w : View V) (v word : ℕ) (x : VarPart V) (me : Me (VarPart V) (View V)) (thread : ℕ) (part : ThreadPart) (seen : List ℕ) (did : List WovenStep) : Type 0 where
+  pub finds : Finds fits c program w v word x
+  pub token : me ≡ (with_hand w v x, (v, x) ∷ [])
+  pub kept : IsKept (w, []) thread part seen did false
+
+-- the guide does not say to wait at what it found
+abbrev pub MayGo : {V : Type 0} → List Lane → ℕ → ℕ → ℕ → Bool → VarPart V → Type 0
+MayGo guide t n v read x = (u k : ℕ) → WaitsFor guide t n v read x.places x.readers u k → ⊥
+
+-- It touched or read what it had in hand, which is at home again, and noted the move.
+pub record MadeOn {V : Type 0} (m : Meaning V) (guide : List Lane) (t v : ℕ) (before after : ThreadPart) (e : StampedEntry) (w : View V) (x : VarPart V) (new : Me (VarPart V) (View V)) (did now : List WovenStep) : Type 0 where
+  pub left : VarPart V
+  pub place : Local
+  pub on : IsOnVariable m t v (note_on before after (trace.Did e) (with_hand w v x)) x left place e
+  pub guided : IsGuided guide t (note_on before after (trace.Did e) (with_hand w v x))
+  pub token : new ≡ (noted_view (with_hand w v x) (note_on before after (trace.Did e) (with_hand w v x)), [])
+  pub steps : now ≡ did ++ step_of {V = V} t (note_on before after (trace.Did e) (with_hand w v x)) ∷ []

@@ -38,7 +38,8 @@ fn first_words(alloc: Global, places: &[u64], threads: usize) -> Result<Vec<u64>
     for var in 0..places.len() {
         words.push(places[var] * 2)?;
     }
-    for _ in 0..threads {
+    for thread in 0..threads {
+        let _ = thread;
         words.push(0)?;
     }
     Ok(words)

@@ -48,7 +48,8 @@ impl<P: Program> VarSeat<P> {
         part: ThreadPart,
         seen: Vec<u64>,
     ) -> Self
-        requires { token.me ≡ (rest_view thread (part ∷ []) seen.items, []) }
+        requires view { token.me.0 ≡ rest_view thread (part ∷ []) seen.items }
+        requires slots { token.me.1 ≡ [] }
         ensures { result ≡ fresh_seat token.table_id seen.items thread part }
     {
         VarSeat {

@@ -4,5 +4,5 @@ use Rattle.var_locks.proofs.opening.first_words.Given as goal
 abbrev pub invariant-loop-var : goal.invariant-loop-var
 invariant-loop-var l = l.words.items ≡ map (λ n. n * 2) (take l.var l.places)
 
-abbrev pub invariant-loop : goal.invariant-loop
-invariant-loop l = l.words.items ≡ map (λ n. n * 2) l.places ++ replicate l.loop 0
+abbrev pub invariant-loop-thread : goal.invariant-loop-thread
+invariant-loop-thread l = l.words.items ≡ map (λ n. n * 2) l.places ++ replicate l.thread 0

@@ -23,16 +23,19 @@ split_off-own-requires-clause-first g c κs within =
       ap (λ (me : Me (VarPart g.row.P-Value.Denot) (View g.row.P-Value.Denot)). me.0.hand) inv.1,
     )
 
-pub fresh-requires : goal.fresh-requires
-fresh-requires g c =
+pub fresh-requires-clause-view : goal.fresh-requires-clause-view
+fresh-requires-clause-view g c κs within =
     let t : ℕ = c.loop-thread.thread in
     let inv = c.loop-thread.invariant in
     let part : ThreadPart = c.index-parts-thread.result in
     let is_parts : drop t c.args.parts.now ≡ part ∷ drop (t + 1) c.args.parts.now = parts_from c.args.parts.now t part c.loop-thread-test.true ∙ ap (λ (x : ThreadPart). x ∷ drop (t + 1) c.args.parts.now) (sym c.index-parts-thread.is) in
-    (c.type_bounds.send-P-Value, c.split_off-own.ensures.first.1
-    ∙ (ap (λ (me : Me (VarPart g.row.P-Value.Denot) (View g.row.P-Value.Denot)). let r : Me (VarPart g.row.P-Value.Denot) (View g.row.P-Value.Denot) = (first_share me.0, []) in r) inv.1
-    ∙ (ap (λ (l : List ThreadPart). let r : Me (VarPart g.row.P-Value.Denot) (View g.row.P-Value.Denot) = (first_share (rest_view t l c.args.places.now), []) in r) is_parts
-    ∙ ap (λ (s : List ℕ). let r : Me (VarPart g.row.P-Value.Denot) (View g.row.P-Value.Denot) = (rest_view t (part ∷ []) s, []) in r) (sym c.in_ok-seen.ensures.items))))
+    ap (λ (me : Me (VarPart g.row.P-Value.Denot) (View g.row.P-Value.Denot)). me.0) c.split_off-own.ensures.first.1
+    ∙ (ap (λ (me : Me (VarPart g.row.P-Value.Denot) (View g.row.P-Value.Denot)). first_share me.0) inv.1
+    ∙ (ap (λ (l : List ThreadPart). first_share {V = g.row.P-Value.Denot} (rest_view t l c.args.places.now)) is_parts
+    ∙ ap (λ (s : List ℕ). rest_view {V = g.row.P-Value.Denot} t (part ∷ []) s) (sym c.in_ok-seen.ensures.items)))
+
+pub fresh-requires-clause-slots : goal.fresh-requires-clause-slots
+fresh-requires-clause-slots g c κs within = ap (λ (me : Me (VarPart g.row.P-Value.Denot) (View g.row.P-Value.Denot)). me.1) c.split_off-own.ensures.first.1
 
 pub loop-thread-preserved : goal.loop-thread-preserved
 loop-thread-preserved g c =
