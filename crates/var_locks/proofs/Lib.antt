@@ -18,3 +18,4 @@ pub mod Freshness
 pub mod KeptSeats
 pub mod FirstWords
 pub mod SlotLists
+pub mod Bringing

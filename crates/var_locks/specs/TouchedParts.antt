@@ -34,23 +34,29 @@ WorksBy m t v false place before after e x y = TouchesParts m t v place before x
 abbrev pub Works : {V : Type 0} → Meaning V → ℕ → ℕ → Bool → Local → ThreadPart → ThreadPart → StampedEntry → VarPart V → List (ℕ × VarPart V) → Type 0
 Works {V} m t v read place before after e x slots = (y : VarPart V) × (slots ≡ (v, y) ∷ []) × WorksBy m t v read place before after e x y
 
+-- the word that a touch brings home, or a read
+abbrev pub next_word : ℕ → Bool → ℕ
+next_word word true = word
+next_word word false = word + 2
+
 -- A seat that took a variable
 
--- It had this token, and has the variable in hand as it found it.
-pub record HasTaken {P V : Type 0} (fits : P → ℕ → V → Type 0) (c : Coded P) (program : Gv) (w : View V) (v word : ℕ) (x : VarPart V) (me : Me (VarPart V) (View V)) (thread : ℕ) (part : ThreadPart) (seen : List ℕ) (did : List WovenStep) : Type 0 where
-  pub finds : Finds fits c program w v word x
-  pub token : me ≡ (with_hand w v x, (v, x) ∷ [])
-  pub kept : IsKept (w, []) thread part seen did false
+-- It has the variable in hand as it found it, with what it had before.
+pub record HasTaken {P V : Type 0} (fits : P → ℕ → V → Type 0) (c : Coded P) (program : Gv) (v word : ℕ) (x : VarPart V) (me : Me (VarPart V) (View V)) (thread : ℕ) (part : ThreadPart) (seen : List ℕ) (did : List WovenStep) : Type 0 where
+  pub before : View V
+  pub finds : Finds fits c program before v word x
+  pub token : me ≡ (with_hand before v x, (v, x) ∷ [])
+  pub kept : IsKept (before, []) thread part seen did false
 
 -- the guide does not say to wait at what it found
 abbrev pub MayGo : {V : Type 0} → List Lane → ℕ → ℕ → ℕ → Bool → VarPart V → Type 0
 MayGo guide t n v read x = (u k : ℕ) → WaitsFor guide t n v read x.places x.readers u k → ⊥
 
 -- It touched or read what it had in hand, which is at home again, and noted the move.
-pub record MadeOn {V : Type 0} (m : Meaning V) (guide : List Lane) (t v : ℕ) (before after : ThreadPart) (e : StampedEntry) (w : View V) (x : VarPart V) (new : Me (VarPart V) (View V)) (did now : List WovenStep) : Type 0 where
+pub record MadeOn {V : Type 0} (m : Meaning V) (guide : List Lane) (t v : ℕ) (before after : ThreadPart) (x : VarPart V) (e : StampedEntry) (old new : Me (VarPart V) (View V)) (did now : List WovenStep) : Type 0 where
   pub left : VarPart V
   pub place : Local
-  pub on : IsOnVariable m t v (note_on before after (trace.Did e) (with_hand w v x)) x left place e
-  pub guided : IsGuided guide t (note_on before after (trace.Did e) (with_hand w v x))
-  pub token : new ≡ (noted_view (with_hand w v x) (note_on before after (trace.Did e) (with_hand w v x)), [])
-  pub steps : now ≡ did ++ step_of {V = V} t (note_on before after (trace.Did e) (with_hand w v x)) ∷ []
+  pub on : IsOnVariable m t v (note_on before after (trace.Did e) old.0) x left place e
+  pub guided : IsGuided guide t (note_on before after (trace.Did e) old.0)
+  pub token : new ≡ (noted_view old.0 (note_on before after (trace.Did e) old.0), [])
+  pub steps : now ≡ did ++ step_of {V = V} t (note_on before after (trace.Did e) old.0) ∷ []

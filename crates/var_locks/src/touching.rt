@@ -1,15 +1,19 @@
 //! A seat's touch or read of the variable in hand, on its parts.
-ghost use Rattle.std.specs.Prelude.{◌≡◌, ℕ, ◌+◌, ◌≤◌, ◌<◌, ◌^◌, ◌⊎◌, Bool, List, [], ◌∷◌, ◌++◌, true, false, length, IfOk, OnOk, OnErr, Some, None, if◌then◌else◌};
+ghost use Rattle.std.specs.Prelude.{◌≡◌, ℕ, ◌+◌, ◌≤◌, ◌<◌, ◌^◌, ◌⊎◌, Bool, List, [], ◌∷◌, IfOk, OnErr, Some, vec_len};
 ghost use Rattle.plain_machine.specs.declared.local.Move.TheVariants as move_is;
 ghost use Rattle.master_core.specs.Mastered.{moves_made};
 ghost use Rattle.master_core.specs.declared.parts.VarPart as var_of;
-ghost use Rattle.var_locks.specs.TouchedParts.{Works, wanted_move};
+ghost use Rattle.std.specs.Prelude.{vec_capacity};
+ghost use Rattle.var_locks.specs.Rounds.{IsRoundOf};
+ghost use Rattle.var_locks.specs.Views.{empty_hand};
+ghost use Rattle.var_locks.specs.TouchedParts.{Works, wanted_move, next_word, HasTaken, MayGo, MadeOn};
 
-use crate::steps::{Lock, Token};
+use crate::keeping::{copied, step_of};
+use crate::steps::{Lock, Token, bring_home, give_back};
 use crate::view::Round;
 use access_log::StampedEntry;
 use box_program::Program;
-use master_core::{ThreadPart, moves};
+use master_core::{ThreadPart, Trace, WovenStep, moves};
 use plain_machine::Local;
 use plain_text::NoMemory;
 use std::alloc::Global;
@@ -56,4 +60,67 @@ fn work<P: Program, J: Round>(
         return Ok(moves::look(program, thread, part, place, var, slot));
     }
     moves::touch(alloc, program, thread, part, place, var, slot)
+}
+
+/// The word that is stored when the variable comes home.
+fn word_after(word: u64, read: bool) -> u64
+    requires { word + 2 < 2 ^ 64 }
+    ensures { result ≡ next_word word read }
+{
+    if read { word } else { word + 2 }
+}
+
+/// Touches the variable in hand, or reads it, and brings it home.
+fn make_on<P: Program, J: Round>(
+    alloc: Global,
+    program: &P,
+    shared: &Lock<P, J>,
+    thread: u32,
+    token: &mut Token<P::Value>,
+    part: &mut ThreadPart,
+    did: &mut Vec<WovenStep>,
+    place: Local,
+    var: u32,
+    read: bool,
+    word: u64,
+) -> Result<StampedEntry, NoMemory>
+    requires of { IsRoundOf P.meaning P.row.coded P.Value.row.coded J.program J.opening J.threads program.now shared.now.table_id.words }
+    requires table { token.old.table_id ≡ shared.now.table_id }
+    requires thread_in { thread < 16 }
+    requires var_in { var < (P.meaning program.now).vars }
+    requires room { moves_made part.old < 2 ^ 56 }
+    requires hand { part.old.hand ≡ Some place }
+    requires next { (P.meaning program.now).next place ≡ wanted_move var read }
+    requires spare { vec_len did.old < vec_capacity did.old }
+    requires taken { (x : var_of.VarPart P.Value) × (seen : List ℕ) × HasTaken P.fits P.row.coded J.program var word x token.old.me thread part.old seen did.old.items
+        × MayGo J.guide thread (part.old.counts.entries + 1) var read x }
+    ensures same { (token.new.table_id ≡ token.old.table_id) × (token.new.id ≡ token.old.id) }
+    ensures made { IfOk result (λ e. (x : var_of.VarPart P.Value) × (token.old.me.1 ≡ (var, x) ∷ [])
+        × MadeOn (P.meaning program.now) J.guide thread var part.old part.new x e token.old.me token.new.me did.old.items did.new.items) }
+    ensures left { OnErr result ((token.new.me ≡ (empty_hand token.old.me.0, [])) × (part.new ≡ part.old) × (did.new.items ≡ did.old.items)) }
+{
+    let before = *part;
+    let mut after = *part;
+    let worked = work::<P, J>(
+        alloc, program, shared, token, thread, &mut after, place, var, read,
+    );
+    let Ok(entry) = worked else {
+        give_back::<P, J>(program, shared, token, var as usize, word);
+        return Err(NoMemory);
+    };
+    let trace = Trace::Did(copied(&entry));
+    let home = word_after(word, read);
+    bring_home::<P, J>(
+        program,
+        shared,
+        token,
+        var as usize,
+        home,
+        &before,
+        &after,
+        &trace,
+    );
+    did.push_reserved(step_of(thread, trace));
+    *part = after;
+    Ok(entry)
 }
