@@ -9,7 +9,9 @@ use Rattle.replay_guide.specs.Turns.{WaitsFor}
 use Rattle.atomic_table.specs.Table.{Me}
 use Rattle.var_locks.specs.declared.view.View.{View}
 use Rattle.var_locks.specs.Notes.{IsOnVariable, IsGuided, step_of}
-use Rattle.var_locks.specs.Views.{with_hand, note_on, noted_view}
+use Rattle.var_locks.specs.declared.touching.Touched.{Touched}
+use Rattle.var_locks.specs.declared.touching.Touched.TheVariants as touched
+use Rattle.var_locks.specs.Views.{with_hand, empty_hand, missed_view, note_on, noted_view}
 use Rattle.var_locks.specs.Plays.{Finds}
 use Rattle.var_locks.specs.Seats.{IsKept}
 use Rattle.access_log.specs.declared.entry.StampedEntry.{StampedEntry}
@@ -60,3 +62,22 @@ pub record MadeOn {V : Type 0} (m : Meaning V) (guide : List Lane) (t v : ℕ) (
   pub guided : IsGuided guide t (note_on before after (trace.Did e) old.0)
   pub token : new ≡ (noted_view old.0 (note_on before after (trace.Did e) old.0), [])
   pub steps : now ≡ did ++ step_of {V = V} t (note_on before after (trace.Did e) old.0) ∷ []
+
+-- What came of a touch or a read
+
+-- nothing was made, and the seat has nothing in hand
+pub record MadeNone {V : Type 0} (old new : Me (VarPart V) (View V)) (before after : ThreadPart) (did now : List WovenStep) : Type 0 where
+  pub token : new ≡ (empty_hand old.0, [])
+  pub part : after ≡ before
+  pub steps : now ≡ did
+
+-- and it found an entry missing
+pub record MadeMissed {V : Type 0} (u k : ℕ) (old new : Me (VarPart V) (View V)) (before after : ThreadPart) (did now : List WovenStep) : Type 0 where
+  pub token : new ≡ (empty_hand (missed_view old.0 u k), [])
+  pub part : after ≡ before
+  pub steps : now ≡ did
+
+abbrev pub Comes : {V : Type 0} → Meaning V → List Lane → ℕ → ℕ → ThreadPart → ThreadPart → Me (VarPart V) (View V) → Me (VarPart V) (View V) → List WovenStep → List WovenStep → Touched → Type 0
+Comes {V} m guide t v before after old new did now (touched.Did e) = (x : VarPart V) × (old.1 ≡ (v, x) ∷ []) × MadeOn m guide t v before after x e old new did now
+Comes m guide t v before after old new did now (touched.Blocked u k) = MadeMissed u k old new before after did now
+Comes m guide t v before after old new did now touched.NoMemory = MadeNone old new before after did now

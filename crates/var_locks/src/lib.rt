@@ -12,6 +12,7 @@ mod vars;
 mod view;
 
 pub use seats::VarSeat;
+pub use touching::{Gate, OpenGate, Touched};
 pub use vars::{Closed, Receipts, Vars};
 pub use view::{
     Brought, Ended, Given, Held, Law, Missed, Named, News, Note, Noted, Parted, Round, Share,
