@@ -1,0 +1,11 @@
+pub mod Codes
+pub mod Notes
+pub mod Views
+pub mod Plays
+pub mod Told
+pub mod Rounds
+pub mod Seats
+pub mod Closing
+pub mod Plain
+pub mod Openings
+pub mod TouchedParts

@@ -1,0 +1,29 @@
+-- How a round begins.
+use Rattle.std.specs.Prelude.{◌≡◌, ℕ, ◌+◌, ◌*◌, false, List, [], ◌∷◌, ◌++◌, map, replicate}
+use Rattle.master_core.specs.declared.parts.VarPart.{VarPart}
+use Rattle.master_core.specs.declared.parts.ThreadPart.{ThreadPart}
+use Rattle.atomic_table.specs.Seated.{TableId}
+use Rattle.var_locks.specs.declared.view.View.{View}
+use Rattle.var_locks.specs.Seats.{Seated}
+use Rattle.var_locks.specs.Views.{fresh_shares}
+use Rattle.std.specs.Prelude.{None}
+
+-- how often each variable was touched
+abbrev pub places_of : {V : Type 0} → List (VarPart V) → List ℕ
+places_of vars = map (λ x. x.places) vars
+
+-- the words at first: of each variable twice that, and 0 of each thread
+abbrev pub words_of : List ℕ → ℕ → List ℕ
+words_of places threads = map (λ n. n * 2) places ++ replicate threads 0
+
+-- the view of a seat that has the threads from this one on, with these parts
+abbrev pub rest_view : {V : Type 0} → ℕ → List ThreadPart → List ℕ → View V
+rest_view t parts places = record { shares = fresh_shares t parts; hand = None; seen = places; missing = [] }
+
+-- the seat of a thread that did nothing in the round
+abbrev pub fresh_seat : {V : Type 0} → TableId → List ℕ → ℕ → ThreadPart → Seated V
+fresh_seat round places t part = record { thread = t; part = part; notes = []; seen = places; missing = []; ended = false; round = round }
+
+abbrev pub fresh_seats : {V : Type 0} → TableId → List ℕ → ℕ → List ThreadPart → List (Seated V)
+fresh_seats round places t [] = []
+fresh_seats round places t (part ∷ parts) = fresh_seat round places t part ∷ fresh_seats round places (t + 1) parts

@@ -1,0 +1,83 @@
+-- What a step of a round asks of its seat.
+use base.Stored.{Gv}
+use Rattle.std.specs.Prelude.{◌≡◌, ℕ, ◌+◌, ◌<◌, ◌≤◌, ◌^◌, Bool, true, false, List, [], ◌∷◌, length, Option, Some, None}
+use Rattle.std.specs.Coded.{Coded}
+use Rattle.plain_machine.specs.declared.local.Local.{Local}
+use Rattle.access_log.specs.declared.entry.StampedEntry.{StampedEntry}
+use Rattle.access_log.specs.Held.{Lane}
+use Rattle.plain_machine.specs.Program.{Meaning}
+use Rattle.box_program.specs.Hands.{FitsProgram}
+use Rattle.master_core.specs.declared.parts.VarPart.{VarPart}
+use Rattle.master_core.specs.declared.parts.ThreadPart.{ThreadPart}
+use Rattle.master_core.specs.Mastered.{Mastered, IsBounded, value_of, moves_made}
+use Rattle.replay_guide.specs.Turns.{WaitsFor}
+use Rattle.var_locks.specs.declared.view.Note.{Note}
+use Rattle.var_locks.specs.declared.view.Share.{Share}
+use Rattle.var_locks.specs.declared.view.Held.{Held}
+use Rattle.var_locks.specs.declared.view.View.{View}
+use Rattle.var_locks.specs.Codes.{master_code}
+use Rattle.var_locks.specs.Notes.{IsOwn, IsOnVariable, IsGuided}
+use Rattle.var_locks.specs.Told.{AreFirstWords, ArePlaces}
+
+-- The round is of this program, and has so many words: one for each variable, and one for each thread.
+pub record IsRoundOf {P V : Type 0} (meaning : P → Meaning V) (c : Coded P) (d : Coded V) (program opening : Gv) (parts : List ThreadPart) (q : P) (words : ℕ) : Type 0 where
+  pub is : c.code q ≡ program
+  pub master : Mastered V
+  pub opens : (master_code d).code master ≡ opening
+  pub threads : master.threads ≡ parts
+  pub words_are : words ≡ (meaning q).vars + length parts
+
+-- The master of these parts opens the round.
+pub record Opens {V : Type 0} (m : Meaning V) (fits : ℕ → V → Type 0) (d : Coded V) (opening : Gv) (threads : List ThreadPart) (places : List ℕ) (vars : List (VarPart V)) (words : List ℕ) (p : Mastered V) : Type 0 where
+  pub code : (master_code d).code p ≡ opening
+  pub vars_are : p.vars ≡ vars
+  pub threads_are : p.threads ≡ threads
+  pub bounded : IsBounded p.vars p.threads
+  pub fit : FitsProgram m fits value_of p.vars
+  pub first : AreFirstWords p words
+  pub places_are : ArePlaces p places
+
+-- The seat has one thread, which did not end the round, and this note is of its next move.
+pub record IsNext {V : Type 0} (guide : List Lane) (w : View V) (x : Share V) (n : Note V) : Type 0 where
+  pub alone : w.shares ≡ x ∷ []
+  pub going : x.ended ≡ false
+  pub before : n.before ≡ x.part
+  pub guided : IsGuided guide x.thread n
+  pub room : moves_made n.before < 2 ^ 56
+
+-- The seat may note the move, on no variable.
+pub record MayNote {V : Type 0} (m : Meaning V) (guide : List Lane) (w : View V) (x : Share V) (n : Note V) : Type 0 where
+  pub next : IsNext guide w x n
+  pub empty : w.hand ≡ None
+  pub own : IsOwn m x.thread n
+
+-- The seat may bring variable v home, as y: the note is of a touch or a read of it. The word becomes this one.
+pub record MayBring {V : Type 0} (m : Meaning V) (fits : ℕ → V → Type 0) (guide : List Lane) (w : View V) (v word : ℕ) (y : VarPart V) (x : Share V) (n : Note V) (found : VarPart V) (place : Local) (e : StampedEntry) : Type 0 where
+  pub next : IsNext guide w x n
+  pub hand : w.hand ≡ Some (record { var = v; found = found })
+  pub on : IsOnVariable m x.thread v n found y place e
+  pub fit : fits v y.value
+  pub word_is : word ≡ y.places + y.places
+
+-- what it has in hand
+abbrev pub HasInHand : {V : Type 0} → View V → ℕ → VarPart V → Type 0
+HasInHand w v x = w.hand ≡ Some (record { var = v; found = x })
+
+-- The seat has variable v in hand, and the guide says to wait for entry (u, k) there.
+pub record MayMiss {V : Type 0} (guide : List Lane) (w : View V) (v u k : ℕ) (x : VarPart V) (t n : ℕ) (read : Bool) : Type 0 where
+  pub hand : HasInHand w v x
+  pub waits : WaitsFor guide t n v read x.places x.readers u k
+
+-- The seat has this one thread, and nothing in hand.
+pub record IsIdle {V : Type 0} (w : View V) (x : Share V) : Type 0 where
+  pub alone : w.shares ≡ x ∷ []
+  pub empty : w.hand ≡ None
+
+-- These are the variables of that round, with so many of them and of threads.
+pub record AreVarsOf {P V : Type 0} (meaning : P → Meaning V) (c : Coded P) (d : Coded V) (program opening : Gv) (parts : List ThreadPart) (q : P) (words vars threads : ℕ) : Type 0 where
+  pub round : IsRoundOf meaning c d program opening parts q words
+  pub vars_are : vars ≡ (meaning q).vars
+  pub threads_are : threads ≡ length parts
+  pub some : 0 < threads
+  pub few : threads ≤ 16
+  pub small : words < 2 ^ 63

@@ -1,0 +1,63 @@
+-- What is seen of a seat of a round.
+use Rattle.std.specs.Prelude.{◌≡◌, ℕ, ◌+◌, ◌<◌, Bool, true, false, List, [], ◌∷◌, ◌++◌, Option, Some, None, length}
+use Rattle.plain_text.specs.declared.packet.Packet.{Packet}
+use Rattle.access_log.specs.Held.{Lane}
+use Rattle.plain_machine.specs.Program.{Meaning}
+use Rattle.master_core.specs.declared.step.Trace.{Trace}
+use Rattle.master_core.specs.declared.parts.VarPart.{VarPart}
+use Rattle.master_core.specs.declared.parts.ThreadPart.{ThreadPart}
+use Rattle.master_core.specs.declared.step.WovenStep.{WovenStep}
+use Rattle.atomic_table.specs.Table.{Me}
+use Rattle.atomic_table.specs.Seated.{TableId}
+use Rattle.var_locks.specs.declared.view.Note.{Note}
+use Rattle.var_locks.specs.declared.view.Share.{Share}
+use Rattle.var_locks.specs.declared.view.View.{View}
+use Rattle.var_locks.specs.Notes.{IsOwn, IsGuided, own_note, step_of, steps_of}
+use Rattle.var_locks.specs.Views.{noted_view}
+
+-- Its thread, with the part that it has now and the notes of its moves in the round, newest first; of each variable, as often as the
+-- seat saw it touched; the followed entries that it found missing; whether it ended; and the round that it is of.
+pub record Seated (V : Type 0) : Type 0 where
+  pub thread : ℕ
+  pub part : ThreadPart
+  pub notes : List (Note V)
+  pub seen : List ℕ
+  pub missing : List (ℕ × ℕ)
+  pub ended : Bool
+  pub round : TableId
+
+abbrev pub first_notes : {V : Type 0} → List (Share V) → List (Note V)
+first_notes [] = []
+first_notes (x ∷ others) = x.notes
+
+-- the share of the seat's thread, by what the seat keeps
+abbrev pub share_of : {V : Type 0} → View V → ℕ → ThreadPart → Bool → Share V
+share_of w thread part ended = record { thread = thread; notes = first_notes w.shares; part = part; ended = ended }
+
+-- The seat's token has its one thread, nothing in hand, and has seen what the seat keeps; and the seat keeps what the moves left.
+pub record IsKept {V : Type 0} (me : Me (VarPart V) (View V)) (thread : ℕ) (part : ThreadPart) (seen : List ℕ) (receipts : List WovenStep) (ended : Bool) : Type 0 where
+  pub alone : me.0.shares ≡ share_of me.0 thread part ended ∷ []
+  pub empty : me.0.hand ≡ None
+  pub slots : me.1 ≡ []
+  pub seen_is : me.0.seen ≡ seen
+  pub receipts_are : receipts ≡ steps_of thread (first_notes me.0.shares)
+
+-- the seat is of this round, which has so many threads
+pub record IsSeatOf {V : Type 0} (round : TableId) (threads : ℕ) (x : Seated V) : Type 0 where
+  pub round_is : x.round ≡ round
+  pub low : x.thread < threads
+
+-- What a move made of a seat
+
+-- The move on no variable that this note is of was noted: the token has it, and the thread's steps have it last.
+pub record IsMade {V : Type 0} (m : Meaning V) (guide : List Lane) (thread : ℕ) (before after : ThreadPart) (tr : Trace) (packet : Option Packet) (old new : Me (VarPart V) (View V)) (did now : List WovenStep) : Type 0 where
+  pub own : IsOwn {V = V} m thread (own_note before after tr packet)
+  pub guided : IsGuided {V = V} guide thread (own_note before after tr packet)
+  pub token : new ≡ (noted_view old.0 (own_note before after tr packet), old.1)
+  pub steps : now ≡ did ++ step_of {V = V} thread (own_note before after tr packet) ∷ []
+
+-- The seat made this move, on no variable: its part is what the move left, and it has one more note.
+pub record HasMade {V : Type 0} (m : Meaning V) (guide : List Lane) (old : Seated V) (tr : Trace) (packet : Option Packet) (new : Seated V) : Type 0 where
+  pub own : IsOwn {V = V} m old.thread (own_note old.part new.part tr packet)
+  pub guided : IsGuided {V = V} guide old.thread (own_note old.part new.part tr packet)
+  pub seat : new ≡ record { thread = old.thread; part = new.part; notes = own_note old.part new.part tr packet ∷ old.notes; seen = old.seen; missing = old.missing; ended = old.ended; round = old.round }

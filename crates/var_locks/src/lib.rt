@@ -1,0 +1,20 @@
+//! The shared variables of a round in which threads race, each under a numbered lock: its word is twice the number of its
+//! touches, and one more while a thread has it. However the threads run, what they did is one legal run.
+#![tactic(auto)]
+
+mod calls;
+mod keeping;
+mod opening;
+mod seats;
+mod steps;
+mod touching;
+mod vars;
+mod view;
+
+pub use seats::VarSeat;
+pub use touching::{Gate, OpenGate, Touched};
+pub use vars::{Closed, Receipts, Vars};
+pub use view::{
+    Brought, Ended, Given, Held, Law, Missed, Named, News, Note, Noted, Parted, Round, Share,
+    Taken, View,
+};
