@@ -1,5 +1,5 @@
 -- What a touch or a read does to what a seat has in hand.
-use Rattle.std.specs.Prelude.{◌≡◌, ℕ, ◌+◌, ◌⊎◌, Bool, true, false, List, [], ◌∷◌, ◌++◌}
+use Rattle.std.specs.Prelude.{◌≡◌, ℕ, ◌+◌, Bool, true, false, List, [], ◌∷◌, ◌++◌}
 use base.Stored.{Gv}
 use Rattle.std.specs.Coded.{Coded}
 use Rattle.access_log.specs.Held.{Lane}
