@@ -10,6 +10,7 @@ mod steps;
 mod touching;
 mod vars;
 mod view;
+mod wanting;
 
 pub use seats::VarSeat;
 pub use touching::{Gate, OpenGate, Touched};

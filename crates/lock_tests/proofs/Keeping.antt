@@ -1,0 +1,37 @@
+-- A move leaves the seat in its round, as that of its thread.
+use Rattle.std.proofs.Common.{◌≡◌, ℕ, ◌+◌, Bool, false, List, [], ◌∷◌, length, refl, sym, ap, subst, Option, Some, arith}
+use Rattle.plain_text.specs.declared.packet.Packet.{Packet}
+use Rattle.access_log.specs.Held.{Lane}
+use Rattle.plain_machine.specs.Program.{Meaning}
+use Rattle.master_core.specs.declared.parts.ThreadPart.{ThreadPart}
+use Rattle.master_core.specs.declared.step.Stepped.{Stepped}
+use Rattle.master_core.specs.declared.step.Stepped.TheVariants as stepped
+use Rattle.master_core.specs.declared.step.Trace.{Trace}
+use Rattle.atomic_table.specs.Seated.{TableId}
+use Rattle.var_locks.specs.Seats.{Seated, HasMade}
+use Rattle.var_locks.specs.Plain.{Steps}
+use Rattle.var_locks.specs.Openings.{fresh_seat, fresh_seats}
+use Rattle.lock_tests.specs.Racing.{IsAt}
+
+module _ {V : Type 0} (m : Meaning V) (guide : List Lane) (round : TableId) (t : ℕ) (b : Bool) (old new : Seated V) (at : IsAt round t b old) where
+  made : (tr : Trace) (packet : Option Packet) → HasMade m guide old tr packet new → IsAt round t b new
+  made tr packet made = subst (λ (x : Seated V). IsAt round t b x) (sym made.seat) (record { thread = at.thread; round_is = at.round_is; ended_is = at.ended_is })
+
+  same : new ≡ old → IsAt round t b new
+  same is = subst (λ (x : Seated V). IsAt round t b x) (sym is) at
+
+  pub steps_keep : (answer : ℕ) (packet : Option Packet) (r : Stepped) → Steps m guide old answer packet new r → IsAt round t b new
+  steps_keep answer packet (stepped.Took k) is = made _ packet is
+  steps_keep answer packet (stepped.Did e) is = made _ packet is.0
+  steps_keep answer packet (stepped.Emitted o) is = made _ packet is.0
+  steps_keep answer packet (stepped.Ended k) is = made _ packet is
+  steps_keep answer packet stepped.Idle is = same is.0
+  steps_keep answer packet (stepped.NotTurn u n) is = absurd is
+  steps_keep answer packet stepped.NoMemory is = same is
+
+pub two_seats : {V : Type 0} (round : TableId) (places : List ℕ) (threads : List ThreadPart) → length threads ≡ 2
+    → (a : ThreadPart) × (b : ThreadPart) × (fresh_seats {V = V} round places 0 threads ≡ fresh_seat round places 0 a ∷ fresh_seat round places 1 b ∷ [])
+two_seats round places [] is = absurd (omega (arith, is))
+two_seats round places (a ∷ []) is = absurd (omega (arith, is))
+two_seats round places (a ∷ b ∷ []) is = (a, b, refl)
+two_seats round places (a ∷ b ∷ c ∷ others) is = absurd (omega (arith, is))

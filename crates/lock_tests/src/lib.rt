@@ -1,0 +1,9 @@
+//! Tests of numbered locks: rounds in which threads race over one box, and what they come to. They stand apart, so that what they
+//! test is proved once.
+#![tactic(auto)]
+
+mod racing;
+mod rounds;
+#[cfg(test)]
+mod turns;
+mod weaving;
