@@ -19,3 +19,5 @@ pub mod KeptSeats
 pub mod FirstWords
 pub mod SlotLists
 pub mod Bringing
+pub mod Turning
+pub mod Taking

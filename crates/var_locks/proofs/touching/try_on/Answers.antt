@@ -1,0 +1,41 @@
+use Rattle.std.proofs.Common.{rules, ◌≡◌, ℕ, ◌+◌, ◌/◌, refl, sym, ap, ◌∙◌, subst, List, ◌∷◌, []}
+use Rattle.master_core.specs.declared.parts.VarPart.{VarPart}
+use Rattle.atomic_table.specs.Table.{Me}
+use Rattle.var_locks.specs.declared.view.View.{View}
+use Rattle.var_locks.specs.TouchedParts.{HasTaken}
+use Rattle.var_locks.proofs.Turning.{half, here, may_go, not_wait}
+use Rattle.var_locks.proofs.touching.try_on.Goals as goal
+
+pub readers_of-readers-requires-clause-slot : goal.readers_of-readers-requires-clause-slot
+readers_of-readers-requires-clause-slot g c κs within = (c.requires.taken.0, ap (λ (me : Me (VarPart g.row.P-Value.Denot) (View g.row.P-Value.Denot)). me.1) c.requires.taken.2.token)
+
+pub go_on-requires-clause-taken : goal.go_on-requires-clause-taken
+go_on-requires-clause-taken g c κs within =
+    let x = c.requires.taken.0 in
+    let h = c.requires.taken.2 in
+    let slots = ap (λ (me : Me (VarPart g.row.P-Value.Denot) (View g.row.P-Value.Denot)). me.1) h.token in (
+      x,
+      c.requires.taken.1,
+      subst (λ (me : Me (VarPart g.row.P-Value.Denot) (View g.row.P-Value.Denot)). HasTaken g.P.Program.fits g.row.P.coded g.J.Round.program c.args.var c.args.word x me c.args.thread c.args.part.now c.requires.taken.1 c.args.did.now.items) (sym c.readers_of-readers.ensures.same.2) h,
+      may_go c.args.guide.now g.J.Round.guide c.requires.guide c.args.thread (c.args.part.now.counts.entries + 1) c.args.var c.args.read (c.args.word / 2) c.readers_of-readers.result x (half x.places c.args.word h.finds.word_is) (c.readers_of-readers.ensures.readers x slots)
+          c.turn.result c.turn.ensures.wait (not_wait c.turn.result c.in-Follow.is),
+    )
+
+pub wait_on-requires-clause-waits : goal.wait_on-requires-clause-waits
+wait_on-requires-clause-waits g c κs within =
+    let x = c.requires.taken.0 in
+    let h = c.requires.taken.2 in
+    let same = c.readers_of-readers.ensures.same.2 ∙ h.token in
+    let slots = ap (λ (me : Me (VarPart g.row.P-Value.Denot) (View g.row.P-Value.Denot)). me.1) h.token in (
+      x,
+      c.args.thread,
+      c.args.part.now.counts.entries + 1,
+      c.args.read,
+      record {
+        hand = ap (λ (me : Me (VarPart g.row.P-Value.Denot) (View g.row.P-Value.Denot)). me.0.hand) same;
+        waits = here c.args.guide.now g.J.Round.guide c.requires.guide c.args.thread (c.args.part.now.counts.entries + 1) c.args.var c.args.read (c.args.word / 2) c.readers_of-readers.result x (half x.places c.args.word h.finds.word_is) (c.readers_of-readers.ensures.readers x slots)
+            c.in-Wait.other c.in-Wait.entry ((c.turn.ensures.wait c.in-Wait.other c.in-Wait.entry).0 c.in-Wait.is);
+      },
+      ap (λ (me : Me (VarPart g.row.P-Value.Denot) (View g.row.P-Value.Denot)). me.1) same,
+      sym h.finds.word_is,
+    )
