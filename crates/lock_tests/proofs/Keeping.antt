@@ -1,5 +1,5 @@
 -- A move leaves the seat in its round, as that of its thread.
-use Rattle.std.proofs.Common.{◌≡◌, ℕ, ◌+◌, Bool, false, List, [], ◌∷◌, length, refl, sym, ap, subst, Option, Some, arith}
+use Rattle.std.proofs.Common.{◌≡◌, ℕ, ◌+◌, Bool, false, List, [], ◌∷◌, ◌++◌, length, refl, sym, ap, subst, Option, Some, arith}
 use Rattle.plain_text.specs.declared.packet.Packet.{Packet}
 use Rattle.access_log.specs.Held.{Lane}
 use Rattle.plain_machine.specs.Program.{Meaning}
@@ -15,7 +15,7 @@ use Rattle.lock_tests.specs.Racing.{IsAt}
 
 module _ {V : Type 0} (m : Meaning V) (guide : List Lane) (round : TableId) (t : ℕ) (b : Bool) (old new : Seated V) (at : IsAt round t b old) where
   made : (tr : Trace) (packet : Option Packet) → HasMade m guide old tr packet new → IsAt round t b new
-  made tr packet made = subst (λ (x : Seated V). IsAt round t b x) (sym made.seat) (record { thread = at.thread; round_is = at.round_is; ended_is = at.ended_is })
+  made left packet is = subst (λ (x : Seated V). IsAt round t b x) (sym is.seat) (record { thread = at.thread; round_is = at.round_is; ended_is = at.ended_is })
 
   same : new ≡ old → IsAt round t b new
   same is = subst (λ (x : Seated V). IsAt round t b x) (sym is) at
@@ -29,9 +29,20 @@ module _ {V : Type 0} (m : Meaning V) (guide : List Lane) (round : TableId) (t :
   steps_keep answer packet (stepped.NotTurn u n) is = absurd is
   steps_keep answer packet stepped.NoMemory is = same is
 
-pub two_seats : {V : Type 0} (round : TableId) (places : List ℕ) (threads : List ThreadPart) → length threads ≡ 2
-    → (a : ThreadPart) × (b : ThreadPart) × (fresh_seats {V = V} round places 0 threads ≡ fresh_seat round places 0 a ∷ fresh_seat round places 1 b ∷ [])
-two_seats round places [] is = absurd (omega (arith, is))
-two_seats round places (a ∷ []) is = absurd (omega (arith, is))
-two_seats round places (a ∷ b ∷ []) is = (a, b, refl)
-two_seats round places (a ∷ b ∷ c ∷ others) is = absurd (omega (arith, is))
+last_two : {X : Type 0} (rest : List X) (x y a b : X) → (rest ++ x ∷ []) ++ y ∷ [] ≡ a ∷ b ∷ [] → (x ≡ a) × (y ≡ b)
+last_two [] x y a b is = (cc, cc)
+last_two (z ∷ []) x y a b is = absurd (cc)
+last_two (z ∷ w ∷ []) x y a b is = absurd (cc)
+last_two (z ∷ w ∷ u ∷ others) x y a b is = absurd (cc)
+
+-- the last two seats of a round of two threads are those of threads 0 and 1
+pub two_seats : {V : Type 0} (round : TableId) (places : List ℕ) (threads : List ThreadPart) (rest : List (Seated V)) (x y : Seated V) → length threads ≡ 2
+    → (rest ++ x ∷ []) ++ y ∷ [] ≡ fresh_seats round places 0 threads → IsAt round 0 false x × IsAt round 1 false y
+two_seats round places [] rest x y is all = absurd (omega (arith, is))
+two_seats round places (a ∷ []) rest x y is all = absurd (omega (arith, is))
+two_seats {V} round places (a ∷ b ∷ []) rest x y is all =
+    let both = last_two rest x y (fresh_seat round places 0 a) (fresh_seat round places 1 b) all in (
+      subst (λ (z : Seated V). IsAt round 0 false z) (sym both.0) (record { thread = refl; round_is = refl; ended_is = refl }),
+      subst (λ (z : Seated V). IsAt round 1 false z) (sym both.1) (record { thread = refl; round_is = refl; ended_is = refl }),
+    )
+two_seats round places (a ∷ b ∷ c ∷ others) rest x y is all = absurd (omega (arith, is))

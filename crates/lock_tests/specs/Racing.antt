@@ -1,5 +1,5 @@
 -- What a test keeps of a seat.
-use Rattle.std.specs.Prelude.{◌≡◌, ℕ, Bool, true, false}
+use Rattle.std.specs.Prelude.{◌≡◌, ℕ, Bool}
 use Rattle.atomic_table.specs.Seated.{TableId}
 use Rattle.var_locks.specs.Seats.{Seated}
 

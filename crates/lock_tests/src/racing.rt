@@ -1,7 +1,6 @@
 //! A thread of a round, as it takes packets to their ends.
 ghost use Rattle.std.specs.Prelude.{◌≡◌, ℕ, ◌<◌, ◌^◌, false, true};
 ghost use Rattle.var_locks.specs.Rounds.{AreVarsOf};
-ghost use Rattle.var_locks.specs.Seats.{IsSeatOf};
 ghost use Rattle.lock_tests.specs.Racing.{IsAt};
 
 use box_program::Program;
@@ -18,21 +17,23 @@ const MOST_COUNT: u64 = 1 << 40;
 /// The moves that a packet takes at most, with its take and its end.
 const MOST_MOVES: u32 = 64;
 
-/// Makes the next move of the seat's thread. Out of memory also where the thread made more moves than a test makes.
+/// Makes the next move of the seat's thread; a clock or a draw is told its number. Out of memory also where the thread made more moves than a test makes.
+#[tactic(auto, using(crate::proofs::Keeping::steps_keep))]
 pub fn make<P: Program, J: Round>(
     alloc: Global,
     program: &P,
     vars: &Vars<P, J>,
     guide: &Guide,
+    thread: u32,
     seat: &mut VarSeat<P>,
     packet: &Packet,
 ) -> Stepped
     requires of { AreVarsOf P.meaning P.row.coded P.Value.row.coded J.program J.opening J.threads
         program.now vars.now.table.shared.table_id.words vars.now.vars vars.now.threads }
     requires guide { guide.now ≡ J.guide }
-    requires low { seat.old.thread < vars.now.threads }
-    requires seat { IsAt vars.now.table.shared.table_id seat.old.thread false seat.old }
-    ensures seat { IsAt vars.now.table.shared.table_id seat.old.thread false seat.new }
+    requires low { thread < vars.now.threads }
+    requires seat { IsAt vars.now.table.shared.table_id thread false seat.old }
+    ensures seat { IsAt vars.now.table.shared.table_id thread false seat.new }
 {
     let counts = seat.counts();
     if counts.taken > MOST_COUNT || counts.entries > MOST_COUNT || counts.outputs > MOST_COUNT {
@@ -41,7 +42,7 @@ pub fn make<P: Program, J: Round>(
     if seat.wants_variable(program) {
         return Stepped::NoMemory;
     }
-    vars.plain(alloc, program, seat, guide, 0, Some(packet))
+    vars.plain(alloc, program, seat, guide, u64::from(thread), Some(packet))
 }
 
 /// Takes a packet to its end; whether it came there.
@@ -50,18 +51,19 @@ fn run_one<P: Program, J: Round>(
     program: &P,
     vars: &Vars<P, J>,
     guide: &Guide,
+    thread: u32,
     seat: &mut VarSeat<P>,
     packet: &Packet,
 ) -> bool
     requires of { AreVarsOf P.meaning P.row.coded P.Value.row.coded J.program J.opening J.threads
         program.now vars.now.table.shared.table_id.words vars.now.vars vars.now.threads }
     requires guide { guide.now ≡ J.guide }
-    requires low { seat.old.thread < vars.now.threads }
-    requires seat { IsAt vars.now.table.shared.table_id seat.old.thread false seat.old }
-    ensures seat { IsAt vars.now.table.shared.table_id seat.old.thread false seat.new }
+    requires low { thread < vars.now.threads }
+    requires seat { IsAt vars.now.table.shared.table_id thread false seat.old }
+    ensures seat { IsAt vars.now.table.shared.table_id thread false seat.new }
 {
     for _made in 0..MOST_MOVES {
-        match make(alloc, program, vars, guide, seat, packet) {
+        match make(alloc, program, vars, guide, thread, seat, packet) {
             Stepped::Ended(_) => return true,
             Stepped::Took(_) | Stepped::Did(_) | Stepped::Emitted(_) => {}
             Stepped::Idle | Stepped::NotTurn { .. } | Stepped::NoMemory => return false,
@@ -76,6 +78,7 @@ pub fn run<P: Program, J: Round>(
     program: &P,
     vars: &Vars<P, J>,
     guide: &Guide,
+    thread: u32,
     mut seat: VarSeat<P>,
     inputs: &InputLog,
     count: u64,
@@ -83,16 +86,15 @@ pub fn run<P: Program, J: Round>(
     requires of { AreVarsOf P.meaning P.row.coded P.Value.row.coded J.program J.opening J.threads
         program.now vars.now.table.shared.table_id.words vars.now.vars vars.now.threads }
     requires guide { guide.now ≡ J.guide }
-    requires low { seat.thread < vars.now.threads }
-    requires seat { IsAt vars.now.table.shared.table_id seat.thread false seat }
-    ensures seat { IsAt vars.now.table.shared.table_id seat.thread true result }
+    requires low { thread < vars.now.threads }
+    requires seat { IsAt vars.now.table.shared.table_id thread false seat }
+    ensures seat { IsAt vars.now.table.shared.table_id thread true result }
 {
-    let thread = seat.thread();
     for number in 0..count {
         let Some(packet) = inputs.input(thread, number + 1) else {
             break;
         };
-        if !run_one(alloc, program, vars, guide, &mut seat, packet) {
+        if !run_one(alloc, program, vars, guide, thread, &mut seat, packet) {
             break;
         }
     }

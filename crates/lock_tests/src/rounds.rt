@@ -19,14 +19,13 @@ use std::marker::Brand;
 use var_locks::{Closed, Round, VarSeat, Vars};
 
 /// The two seats of a round.
-fn two_of<P: Program>(mut seats: Vec<VarSeat<P>>) -> (VarSeat<P>, VarSeat<P>)
-    requires { (round : TableId) × (places : List ℕ) × (threads : List ThreadPart) × (length threads ≡ 2) × (seats.items ≡ fresh_seats round places 0 threads) }
+fn two_of<P: Program>(mut seats: Vec<VarSeat<P>>) -> Option<(VarSeat<P>, VarSeat<P>)>
     ensures { (round : TableId) (places : List ℕ) (threads : List ThreadPart) → seats.items ≡ fresh_seats round places 0 threads → length threads ≡ 2
-        → IsAt round 0 false result.0 × IsAt round 1 false result.1 }
+        → IfSome result (λ both. IsAt round 0 false both.0 × IsAt round 1 false both.1) }
 {
-    let second = seats.pop().unwrap();
-    let first = seats.pop().unwrap();
-    (first, second)
+    let second = seats.pop()?;
+    let first = seats.pop()?;
+    Some((first, second))
 }
 
 /// A round in which each of two threads takes so many inputs to their ends, one after the other.
@@ -50,9 +49,11 @@ fn round_of<P: Program, J: Round>(
     ensures two { IfOk result (λ closed. length closed.master.threads ≡ 2) }
 {
     let (vars, seats) = Vars::<P, J>::of(alloc, program, master, guide)?;
-    let (first, second) = two_of(seats);
-    let first = run(alloc, program, &vars, guide, first, inputs, count);
-    let second = run(alloc, program, &vars, guide, second, inputs, count);
+    let Some((first, second)) = two_of(seats) else {
+        return Err(NoMemory);
+    };
+    let first = run(alloc, program, &vars, guide, 0, first, inputs, count);
+    let second = run(alloc, program, &vars, guide, 1, second, inputs, count);
     let mut seats = Vec::new(alloc);
     seats.push(first)?;
     seats.push(second)?;
