@@ -42,7 +42,11 @@ fn did(receipts: &[Woven], thread: usize, traces: &[Trace]) -> bool {
     let Some(steps) = receipts.get(thread) else {
         return false;
     };
-    steps.as_slice().iter().map(|step| step.trace).eq(traces.iter().copied())
+    steps
+        .as_slice()
+        .iter()
+        .map(|step| step.trace)
+        .eq(traces.iter().copied())
 }
 
 #[test]
