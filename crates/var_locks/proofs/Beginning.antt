@@ -1,5 +1,5 @@
 -- The rule holds when a round begins.
-use Rattle.std.proofs.Common.{◌≡◌, ◌≢◌, ℕ, zero, suc, ◌+◌, ◌<◌, ◌≤◌, ◌^◌, ◌⊎◌, inl, inr, Bool, true, false, List, [], ◌∷◌, length, map, refl, sym, ap, ◌∙◌, subst, Option, Some, None, arith, cond}
+use Rattle.std.proofs.Common.{◌≡◌, ℕ, zero, suc, ◌+◌, ◌<◌, ◌≤◌, inl, inr, false, List, [], ◌∷◌, length, map, refl, sym, ap, ◌∙◌, subst, Some, None, arith}
 use Rattle.std.specs.Prelude.{slice_index, slice_index_or, sum_by}
 use Rattle.std.proofs.lemmas.List.Sums.{sum_by-cons}
 use mathlib.Core.Option as logic
@@ -8,22 +8,19 @@ use lib.ListN.{get_elem?}
 use Rattle.entry_order.specs.Stamps.{sum_below}
 use Rattle.access_log.specs.Held.{Lane}
 use Rattle.plain_machine.specs.Program.{Meaning}
-use Rattle.plain_machine.specs.History.{Step, log_of}
+use Rattle.plain_machine.specs.History.{Step}
 use Rattle.box_program.specs.Hands.{FitsProgram}
 use Rattle.master_core.specs.declared.parts.VarPart.{VarPart}
 use Rattle.master_core.specs.declared.parts.ThreadPart.{ThreadPart}
-use Rattle.master_core.specs.declared.parts.Counts.{Counts}
 use Rattle.master_core.specs.Mastered.{Mastered, IsBounded, value_of}
-use Rattle.master_core.specs.Standing.{Stands, IsVariable, IsThread}
-use Rattle.atomic_table.specs.Table.{State, opening}
+use Rattle.master_core.specs.Standing.{Stands}
+use Rattle.atomic_table.specs.Table.{opening}
 use Rattle.atomic_table.proofs.Lists.{at_map, at_index}
-use Rattle.round_order.specs.Home.{IsHome, IsSeat}
 use Rattle.round_order.proofs.OpenedRounds.{home_opens, seat_opens, round_begins}
 use Rattle.var_locks.specs.declared.view.Share.{Share}
-use Rattle.var_locks.specs.declared.view.Held.{Held}
 use Rattle.var_locks.specs.declared.view.View.{View}
 use Rattle.var_locks.specs.Views.{HasShare, AreApart, first_view, fresh_shares}
-use Rattle.var_locks.specs.Told.{Now, IsShare, IsView, IsAt, IsStory, IsSound, IsTold, AreFirstWords, ArePlaces}
+use Rattle.var_locks.specs.Told.{Now, IsView, IsStory, IsTold, AreFirstWords, ArePlaces}
 
 -- a part for each number, and some part past the end
 pub fresh_part : ThreadPart
@@ -84,8 +81,10 @@ module _ {V : Type 0} (m : Meaning V) (fits : ℕ → V → Type 0) (guide : Lis
       words = first.count ∙ ap (λ n. n + length p.threads) fit.count;
       homes = map_length (λ (x : VarPart V). logic.some x) p.vars ∙ fit.count;
       ended = λ t low. ap (λ n. slice_index words (n + t)) (sym fit.count) ∙ first.thread t low;
-      placed = λ v low. (first.var v (fresh_var m) (subst (λ n. v < n) (sym fit.count) low),
-          at_map (λ (x : VarPart V). logic.some x) p.vars v (slice_index_or p.vars v (fresh_var m)) (at_index p.vars v (slice_index_or p.vars v (fresh_var m)) (subst (λ n. v < n) (sym fit.count) low) (index_again p.vars v (fresh_var m) (subst (λ n. v < n) (sym fit.count) low))));
+      placed = λ v low. (
+        first.var v (fresh_var m) (subst (λ n. v < n) (sym fit.count) low),
+        at_map (λ (x : VarPart V). logic.some x) p.vars v (slice_index_or p.vars v (fresh_var m)) (at_index p.vars v (slice_index_or p.vars v (fresh_var m)) (subst (λ n. v < n) (sym fit.count) low) (index_again p.vars v (fresh_var m) (subst (λ n. v < n) (sym fit.count) low))),
+      );
       view = λ id w at. view id w at;
     };
     sound = record {

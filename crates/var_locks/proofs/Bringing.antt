@@ -1,7 +1,6 @@
 -- A touch or a read of what a seat has in hand may come home.
-use Rattle.std.proofs.Common.{◌≡◌, ℕ, ◌+◌, ◌*◌, ◌<◌, ◌≤◌, ◌^◌, ◌⊎◌, inl, inr, Bool, true, false, List, [], ◌∷◌, refl, sym, ap, ◌∙◌, subst, Option, Some, None, arith}
+use Rattle.std.proofs.Common.{◌≡◌, ℕ, ◌+◌, ◌<◌, ◌^◌, inl, inr, Bool, true, false, List, [], refl, sym, ap, subst, Some, arith}
 use Rattle.entry_order.specs.declared.what.What.{What}
-use Rattle.entry_order.specs.declared.what.What.TheVariants as what
 use Rattle.access_log.specs.declared.entry.StampedEntry.{StampedEntry}
 use Rattle.access_log.specs.Held.{Lane}
 use Rattle.plain_machine.specs.declared.local.Local.{Local}
@@ -16,7 +15,7 @@ use Rattle.var_locks.specs.declared.view.Note.{Note}
 use Rattle.var_locks.specs.declared.view.View.{View}
 use Rattle.var_locks.specs.Notes.{IsOnVariable, IsGuided, IsGuidedEntry}
 use Rattle.var_locks.specs.Views.{with_hand, note_on}
-use Rattle.var_locks.specs.Rounds.{MayBring, IsNext}
+use Rattle.var_locks.specs.Rounds.{MayBring}
 use Rattle.var_locks.specs.Seats.{IsKept, share_of}
 use Rattle.var_locks.specs.TouchedParts.{wanted_move, next_word, WorksBy, MayGo}
 

@@ -1,5 +1,5 @@
 -- The words of a round: one for each variable, and one for each thread.
-use Rattle.std.proofs.Common.{◌≡◌, ℕ, ◌+◌, ◌<◌, List, length, refl, sym, ap, subst, arith}
+use Rattle.std.proofs.Common.{◌≡◌, ℕ, ◌+◌, ◌<◌, List, length, sym, subst}
 use Rattle.master_core.specs.declared.parts.ThreadPart.{ThreadPart}
 
 pub words_in : (vars : ℕ) (threads parts : List ThreadPart) → threads ≡ parts → (words : ℕ) → words ≡ vars + length parts → (i : ℕ) → i < words → i < vars + length threads

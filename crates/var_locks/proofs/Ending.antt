@@ -1,6 +1,6 @@
 -- When all seats have ended and come together, what is at home and what they have make a master, and what they did weaves.
-use Rattle.std.proofs.Common.{◌≡◌, ◌≢◌, ℕ, zero, suc, ◌+◌, ◌<◌, ◌≤◌, ◌^◌, ◌⊎◌, inl, inr, Bool, true, false, List, [], ◌∷◌, map, length, refl, sym, ap, ◌∙◌, subst, Option, Some, None, Ok, arith, cond, lt_of_not-le}
-use Rattle.std.specs.Prelude.{slice_index, slice_index_or, nat_eq, sum_by}
+use Rattle.std.proofs.Common.{◌≡◌, ◌≢◌, ℕ, zero, suc, ◌+◌, ◌<◌, ◌≤◌, ◌^◌, ◌⊎◌, inl, inr, List, [], ◌∷◌, map, length, refl, sym, ap, ◌∙◌, subst, Option, Some, None, Ok, arith, cond, lt_of_not-le}
+use Rattle.std.specs.Prelude.{slice_index_or, nat_eq, sum_by}
 use native.Mathlib.Decide.{dec_le}
 use mathlib.Core.Option as logic
 use lib.ListN.{get_elem?}
@@ -17,14 +17,13 @@ use Rattle.master_core.specs.declared.parts.VarPart.{VarPart}
 use Rattle.master_core.specs.declared.parts.ThreadPart.{ThreadPart}
 use Rattle.master_core.specs.Mastered.{Mastered, IsBounded, in_hand_count, moves_made}
 use Rattle.master_core.specs.Standing.{Stands}
-use Rattle.replay_guide.specs.Following.{Follows}
 use Rattle.replay_guide.specs.Orders.{IsNamed}
 use base.Stored.{Gv}
 use Rattle.std.specs.Coded.{Coded}
 use Rattle.atomic_table.specs.Table.{State, Final, Seen}
 use Rattle.atomic_table.specs.Seated.{TableId}
-use Rattle.round_order.specs.Receipts.{Receipt, Receipts}
-use Rattle.round_order.specs.Linked.{IsLinked, IsKnown}
+use Rattle.round_order.specs.Receipts.{Receipts}
+use Rattle.round_order.specs.Linked.{IsKnown}
 use Rattle.round_order.specs.Home.{IsHome, IsSeat}
 use Rattle.round_order.proofs.WovenSteps.{weaves}
 use Rattle.round_order.proofs.WovenLines.{woven_order}
@@ -32,12 +31,10 @@ use Rattle.round_order.proofs.RisingThreads.{thread_rises, all_own, beyond}
 use Rattle.round_order.proofs.WovenThere.{woven_there}
 use Rattle.round_order.proofs.ClosedRounds.{closes}
 use Rattle.var_locks.specs.declared.view.Note.{Note}
-use Rattle.var_locks.specs.declared.view.Share.{Share}
 use Rattle.var_locks.specs.declared.view.View.{View}
 use Rattle.var_locks.specs.Notes.{read_notes, AreFed}
-use Rattle.var_locks.specs.Views.{HasShare}
 use Rattle.var_locks.specs.Seats.{Seated}
-use Rattle.var_locks.specs.Told.{Now, IsPlaced, IsShare, IsView, IsStory, IsSound, IsTold, IsToldOf, receipts}
+use Rattle.var_locks.specs.Told.{Now, IsPlaced, IsShare, IsView, IsStory, IsTold, IsToldOf, receipts}
 use Rattle.var_locks.specs.Codes.{master_code}
 use Rattle.var_locks.specs.Closing.{AreSeats, HasSeat, HasSeats, seat_part, notes_at, receipts_of, AreAllFed, FoundMissing, Weaves, Closes, IsClosed}
 use Rattle.var_locks.proofs.Placing.{one_view}
@@ -162,7 +159,7 @@ module _ {V : Type 0} (m : Meaning V) (fits : ℕ → V → Type 0) (guide : Lis
         let linked = story.round.linked in
         let few = told.sound.few in
         let k = woven_there (length p.threads) (receipts m past told.now) (λ t. all_own m inputs (length p.threads) past (receipts m past told.now) few linked t (receipts m past told.now t) (linked.alone t))
-                (beyond m inputs (length p.threads) past (receipts m past told.now) few linked) (thread_rises m inputs (length p.threads) past (receipts m past told.now) few linked) in
+        (beyond m inputs (length p.threads) past (receipts m past told.now) few linked) (thread_rises m inputs (length p.threads) past (receipts m past told.now) few linked) in
         let is = woven_order (receipts m past told.now) k.0 k.1 in record {
           order = k.0;
           woven = k.1;

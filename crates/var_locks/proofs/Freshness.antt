@@ -1,13 +1,11 @@
 -- The threads get their seats, one after another.
-use Rattle.std.proofs.Common.{◌≡◌, ℕ, zero, suc, ◌+◌, ◌<◌, ◌≤◌, List, [], ◌∷◌, ◌++◌, length, take, drop, map, refl, sym, ap, ◌∙◌, subst, arith}
+use Rattle.std.proofs.Common.{◌≡◌, ℕ, zero, suc, ◌+◌, ◌<◌, List, [], ◌∷◌, ◌++◌, length, take, drop, refl, sym, ap, ◌∙◌, arith}
 use Rattle.std.specs.Prelude.{slice_index_or}
 use Rattle.master_core.specs.declared.parts.VarPart.{VarPart}
 use Rattle.master_core.specs.declared.parts.ThreadPart.{ThreadPart}
 use Rattle.atomic_table.specs.Seated.{TableId}
-use Rattle.var_locks.specs.declared.view.Share.{Share}
-use Rattle.var_locks.specs.declared.view.View.{View}
 use Rattle.var_locks.specs.Seats.{Seated}
-use Rattle.var_locks.specs.Views.{fresh_shares, first_share, other_shares}
+use Rattle.var_locks.specs.Views.{first_share, other_shares}
 use Rattle.var_locks.specs.Openings.{places_of, rest_view, fresh_seat, fresh_seats}
 
 -- the parts from a thread on begin with its own

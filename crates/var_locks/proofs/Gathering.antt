@@ -1,7 +1,6 @@
 -- The seats of a round come together.
-use Rattle.std.proofs.Common.{◌≡◌, ℕ, ◌+◌, ◌⊎◌, inl, inr, Bool, List, [], ◌∷◌, ◌++◌, map, reverse, refl, sym, ap, ◌∙◌, subst}
+use Rattle.std.proofs.Common.{◌≡◌, ℕ, ◌+◌, inl, inr, List, [], ◌∷◌, ◌++◌, refl, sym, ap, ◌∙◌, subst}
 use Rattle.master_core.specs.declared.parts.VarPart.{VarPart}
-use Rattle.master_core.specs.declared.parts.ThreadPart.{ThreadPart}
 use Rattle.master_core.specs.declared.step.WovenStep.{WovenStep}
 use Rattle.replay_guide.specs.Orders.{IsNamed}
 use Rattle.atomic_table.specs.Table.{Me}

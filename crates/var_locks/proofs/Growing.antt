@@ -1,10 +1,8 @@
 -- What is so stays sound with one more note.
-use Rattle.std.proofs.Common.{◌≡◌, ◌≢◌, ℕ, zero, suc, ◌+◌, ◌<◌, ◌≤◌, ◌^◌, ◌⊎◌, inl, inr, Bool, true, false, List, [], ◌∷◌, length, refl, sym, ap, ◌∙◌, subst, Option, Some, None, arith, cond}
-use Rattle.std.specs.Prelude.{slice_index, nat_eq}
+use Rattle.std.proofs.Common.{◌≡◌, ◌≢◌, ℕ, zero, suc, ◌+◌, ◌<◌, ◌≤◌, ◌^◌, ◌⊎◌, inl, inr, true, false, List, [], ◌∷◌, length, refl, sym, ap, ◌∙◌, subst, Option, None, arith}
+use Rattle.std.specs.Prelude.{slice_index}
 use Rattle.plain_text.specs.declared.packet.Packet.{Packet}
 use Rattle.entry_order.specs.declared.what.What.{What}
-use Rattle.entry_order.specs.declared.what.What.TheVariants as what
-use Rattle.entry_order.specs.Log.{Entry}
 use Rattle.entry_order.specs.Stamps.{sum_below}
 use Rattle.entry_order.proofs.Order.{is_or}
 use Rattle.entry_order.proofs.Weights.{sum_below_more}
@@ -12,27 +10,26 @@ use Rattle.access_log.specs.declared.entry.StampedEntry.{StampedEntry}
 use Rattle.access_log.specs.Held.{Lane}
 use Rattle.plain_machine.specs.declared.local.Local.{Local}
 use Rattle.plain_machine.specs.Program.{Meaning}
-use Rattle.plain_machine.specs.Machine.{Hand}
-use Rattle.plain_machine.specs.History.{Step, Did, thread_after}
+use Rattle.plain_machine.specs.History.{Step, thread_after}
 use Rattle.master_core.specs.declared.parts.VarPart.{VarPart}
 use Rattle.master_core.specs.declared.parts.ThreadPart.{ThreadPart}
 use Rattle.master_core.specs.Mastered.{Mastered, in_hand_count, moves_made}
 use Rattle.master_core.specs.Standing.{Stands}
 use Rattle.replay_guide.specs.Following.{Follows}
 use Rattle.replay_guide.specs.Orders.{IsNamed}
-use Rattle.round_order.specs.Receipts.{Receipt, Receipts, InRound, after, IsLogged}
+use Rattle.round_order.specs.Receipts.{Receipt, Receipts, after, IsLogged}
 use Rattle.round_order.specs.Linked.{IsKnown}
 use Rattle.round_order.specs.Home.{IsHome, IsSeat}
-use Rattle.round_order.specs.Growth.{IsRound, IsNextOf, IsPrivate, IsKept, Touches, Reads, update, with_one, part_after}
+use Rattle.round_order.specs.Growth.{IsRound, IsNextOf, IsKept, Touches, Reads, update, with_one, part_after}
 use Rattle.round_order.specs.PartMoves as moves
 use Rattle.round_order.proofs.GrownRounds.{private_moves, touch_moves, read_moves}
 use Rattle.round_order.proofs.MoreReceipts.{known_more}
 use Rattle.round_order.proofs.LoggedMoves.{at_entry}
 use Rattle.var_locks.specs.declared.view.Note.{Note}
-use Rattle.var_locks.specs.Notes.{IsOwn, IsOnVariable, IsGuided, AreFed, AreGuided, read_note, read_notes, input_number}
+use Rattle.var_locks.specs.Notes.{IsOwn, IsOnVariable, IsGuided, AreFed, AreGuided, read_note, read_notes}
 use Rattle.var_locks.specs.Told.{Now, IsStory, IsSound, receipts}
 use Rattle.var_locks.proofs.Puts.{put, put_here, put_else}
-use Rattle.var_locks.proofs.NoteReceipts.{IsOwnReceipt, IsReceiptOn, own_receipt, receipt_on}
+use Rattle.var_locks.proofs.NoteReceipts.{IsOwnReceipt, own_receipt, receipt_on}
 
 -- what is so with one more note of thread t, and these variables and seats that hold them
 abbrev pub with_note : {V : Type 0} → Now V → ℕ → Note V → (ℕ → VarPart V) → (ℕ → Option ℕ) → Now V

@@ -1,5 +1,5 @@
 -- A seat's token has what the seat keeps, before its move and after it.
-use Rattle.std.proofs.Common.{◌≡◌, ℕ, ◌+◌, ◌⊎◌, inl, inr, Bool, true, false, List, [], ◌∷◌, ◌++◌, refl, sym, ap, ◌∙◌, subst, Option, Some, None}
+use Rattle.std.proofs.Common.{◌≡◌, ℕ, Bool, false, List, [], ◌∷◌, ◌++◌, refl, sym, ap, ◌∙◌, subst, Option}
 use Rattle.plain_text.specs.declared.packet.Packet.{Packet}
 use Rattle.access_log.specs.Held.{Lane}
 use Rattle.plain_machine.specs.Program.{Meaning}
@@ -17,7 +17,7 @@ use Rattle.var_locks.specs.declared.view.Share.{Share}
 use Rattle.var_locks.specs.declared.view.View.{View}
 use Rattle.var_locks.specs.Notes.{own_note, step_of, steps_of}
 use Rattle.var_locks.specs.Views.{noted_view, note_shares, seen_after}
-use Rattle.var_locks.specs.Seats.{Seated, IsKept, IsMade, HasMade, first_notes, share_of}
+use Rattle.var_locks.specs.Seats.{Seated, IsKept, IsMade, HasMade, first_notes}
 use Rattle.var_locks.specs.Plain.{Makes, Steps, IsLeft}
 use Rattle.var_locks.proofs.Seeing.{own_unseen}
 

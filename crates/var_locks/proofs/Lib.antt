@@ -21,3 +21,5 @@ pub mod SlotLists
 pub mod Bringing
 pub mod Turning
 pub mod Taking
+pub mod TouchedSeats
+pub mod Wanting

@@ -1,16 +1,15 @@
 -- An entry that a seat waits for and whose thread has ended is missing, and stays so.
-use Rattle.std.proofs.Common.{◌≡◌, ◌≢◌, ℕ, zero, suc, ◌+◌, ◌<◌, ◌≤◌, ◌⊎◌, inl, inr, Bool, true, false, List, [], ◌∷◌, length, refl, sym, ap, ◌∙◌, subst, Option, Some, None, arith, cond}
-use Rattle.std.specs.Prelude.{slice_index, slice_set, nat_eq}
+use Rattle.std.proofs.Common.{◌≡◌, ◌≢◌, ℕ, ◌+◌, ◌<◌, ◌≤◌, ◌⊎◌, inl, inr, Bool, true, false, List, ◌∷◌, length, refl, sym, ap, ◌∙◌, subst, Some, arith, cond}
+use Rattle.std.specs.Prelude.{slice_index, slice_set}
 use mathlib.Core.Option as logic
 use lib.ListN.{get_elem?}
 use Rattle.plain_text.specs.declared.packet.Packet.{Packet}
 use Rattle.entry_order.specs.declared.what.What.{What}
 use Rattle.entry_order.specs.declared.what.What.TheVariants as what
-use Rattle.entry_order.specs.Log.{Entry, places, IsIn, IsLog}
-use Rattle.entry_order.specs.Stamps.{IsStamp, bumped}
+use Rattle.entry_order.specs.Log.{Entry, places, IsLog}
 use Rattle.entry_order.proofs.Order.{is_or, place_within}
 use Rattle.access_log.specs.declared.entry.StampedEntry.{StampedEntry}
-use Rattle.access_log.specs.Held.{Lane, lane, entry_at}
+use Rattle.access_log.specs.Held.{Lane}
 use Rattle.plain_machine.specs.Program.{Meaning}
 use Rattle.plain_machine.specs.History.{Step, log_of}
 use Rattle.plain_machine.proofs.Histories.{is_eq}
@@ -21,15 +20,13 @@ use Rattle.replay_guide.specs.Orders.{IsNamed}
 use Rattle.replay_guide.specs.Turns.{WaitsFor, IsFirstPending, NoneIsPending}
 use Rattle.atomic_table.specs.Table.{State, keeps, step, stepped, Allows}
 use Rattle.atomic_table.proofs.Lists.{set_again}
-use Rattle.round_order.specs.Receipts.{Receipt, Receipts, InRound, IsLogged, IsTouch}
-use Rattle.round_order.specs.Linked.{IsKnown, IsLinked, HasJoin}
+use Rattle.round_order.specs.Receipts.{Receipts, IsTouch}
+use Rattle.round_order.specs.Linked.{IsKnown, IsLinked}
 use Rattle.round_order.specs.Home.{IsHome}
 use Rattle.round_order.proofs.LoggedMoves.{own_at}
 use Rattle.round_order.proofs.MoreReceipts.{touch_of}
-use Rattle.var_locks.specs.declared.view.Share.{Share}
-use Rattle.var_locks.specs.declared.view.Held.{Held}
 use Rattle.var_locks.specs.declared.view.View.{View}
-use Rattle.var_locks.specs.Views.{HasShare, missed_view}
+use Rattle.var_locks.specs.Views.{missed_view}
 use Rattle.var_locks.specs.Plays.{Misses}
 use Rattle.var_locks.specs.Told.{Now, IsView, IsStory, IsSound, IsTold}
 use Rattle.var_locks.proofs.Placing.{at_word, IsLater, stays_placed, at_later}

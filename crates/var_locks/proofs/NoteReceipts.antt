@@ -1,5 +1,5 @@
 -- A note of a move is read as the receipt that the law on moves of parts is about.
-use Rattle.std.proofs.Common.{◌≡◌, ℕ, ◌+◌, ◌<◌, ◌⊎◌, inl, inr, List, refl, sym, ap, ◌∙◌, subst, Option, Some, None}
+use Rattle.std.proofs.Common.{◌≡◌, ℕ, ◌+◌, ◌⊎◌, inl, inr, List, refl, sym, ap, ◌∙◌, subst, Option, Some, None}
 use Rattle.std.specs.Prelude.{slice_get, slice_index, cond, is_some, ◌-◌}
 use Rattle.plain_text.specs.declared.packet.Packet.{Packet}
 use Rattle.entry_order.specs.declared.what.What.{What}
@@ -12,7 +12,6 @@ use Rattle.plain_machine.specs.Machine.{Hand}
 use Rattle.plain_machine.specs.History.{Step, thread_after}
 use Rattle.box_program.specs.Hands.{place_of}
 use Rattle.master_core.specs.declared.parts.VarPart.{VarPart}
-use Rattle.master_core.specs.declared.parts.ThreadPart.{ThreadPart}
 use Rattle.master_core.specs.declared.step.Trace.{Trace}
 use Rattle.master_core.specs.declared.step.Trace.TheVariants as trace
 use Rattle.master_core.specs.Effects.{LogsEntry, TouchesParts, ReadsParts, after_entry, after_read, next_entry, HasStamp}
@@ -21,7 +20,7 @@ use Rattle.round_order.specs.Growth.{IsPrivate, Touches, Reads}
 use Rattle.round_order.specs.PartMoves as moves
 use Rattle.round_order.proofs.PartReceipts as parts
 use Rattle.var_locks.specs.declared.view.Note.{Note}
-use Rattle.var_locks.specs.Notes.{IsOwn, IsOwnBy, IsOwnEntry, IsTaking, IsSending, IsEnding, IsHearing, IsOnVariable, packet_in, packet_or, place_or, found_or, entry_receipt, receipt_by, read_note, input_number}
+use Rattle.var_locks.specs.Notes.{IsOwn, IsOwnBy, IsOwnEntry, IsOnVariable, packet_in, packet_or, place_or, found_or, entry_receipt, receipt_by, read_note, input_number}
 
 -- with no place in hand there is no packet; with one there is a packet
 none_in : (h : Option Hand) → None ≡ place_of h → h ≡ None
@@ -93,17 +92,17 @@ module _ {V : Type 0} (m : Meaning V) (inputs : ℕ → List Packet) (threads : 
           let pk : Packet = packet_in (thread_after (after (rs t) past) t).hand in
           let k = parts.touches m inputs threads past rs t n.before has pk place (in_hand place is.hand) v x e.stamp next (stamped (what.Access v (x.places + 1)) (λ u. Rattle.master_core.specs.Effects.before_touch n.before x u) (m.touch v x.value place).1 e does.logs) in
           let read : read_note m t (thread_after (after (rs t) past) t).hand n ≡ moves.touch_receipt m t n.before pk place v x e.stamp =
-                  ap (λ (z : Trace). receipt_by m t pk n z) is.trace
-                  ∙ (ap (λ (w : What). entry_receipt m t pk n e w) (ap (λ (f : StampedEntry). f.what) does.logs.entry)
-                  ∙ (ap (λ (z : Local). moves.touch_receipt m t n.before pk z v (found_or m n.found) e.stamp) (ap place_or is.hand)
-                  ∙ ap (λ (z : VarPart V). moves.touch_receipt m t n.before pk place v z e.stamp) (ap (found_or m) is.found))) in
+          ap (λ (z : Trace). receipt_by m t pk n z) is.trace
+          ∙ (ap (λ (w : What). entry_receipt m t pk n e w) (ap (λ (f : StampedEntry). f.what) does.logs.entry)
+          ∙ (ap (λ (z : Local). moves.touch_receipt m t n.before pk z v (found_or m n.found) e.stamp) (ap place_or is.hand)
+          ∙ ap (λ (z : VarPart V). moves.touch_receipt m t n.before pk place v z e.stamp) (ap (found_or m) is.found))) in
           subst (λ (r : Receipt V). IsReceiptOn v x y r) (sym read) (refl, (k.0.0, k.0.1 ∙ sym does.logs.thread), inl (subst (λ (z : VarPart V). Touches v n.before x z (moves.touch_receipt m t n.before pk place v x e.stamp)) (sym does.variable) k.1))
       go (inr (next, does)) =
           let pk : Packet = packet_in (thread_after (after (rs t) past) t).hand in
           let k = parts.reads m inputs threads past rs t n.before has pk place (in_hand place is.hand) v x e.stamp y.readers next (stamped (what.Read v x.places) (λ u. Rattle.master_core.specs.Effects.before_read n.before x u) (m.look v x.value place) e does.logs) does.joined in
           let read : read_note m t (thread_after (after (rs t) past) t).hand n ≡ moves.read_receipt m t n.before pk place v x e.stamp =
-                  ap (λ (z : Trace). receipt_by m t pk n z) is.trace
-                  ∙ (ap (λ (w : What). entry_receipt m t pk n e w) (ap (λ (f : StampedEntry). f.what) does.logs.entry)
-                  ∙ (ap (λ (z : Local). moves.read_receipt m t n.before pk z v (found_or m n.found) e.stamp) (ap place_or is.hand)
-                  ∙ ap (λ (z : VarPart V). moves.read_receipt m t n.before pk place v z e.stamp) (ap (found_or m) is.found))) in
+          ap (λ (z : Trace). receipt_by m t pk n z) is.trace
+          ∙ (ap (λ (w : What). entry_receipt m t pk n e w) (ap (λ (f : StampedEntry). f.what) does.logs.entry)
+          ∙ (ap (λ (z : Local). moves.read_receipt m t n.before pk z v (found_or m n.found) e.stamp) (ap place_or is.hand)
+          ∙ ap (λ (z : VarPart V). moves.read_receipt m t n.before pk place v z e.stamp) (ap (found_or m) is.found))) in
           subst (λ (r : Receipt V). IsReceiptOn v x y r) (sym read) (refl, (k.0.0, k.0.1 ∙ sym does.logs.thread), inr (subst (λ (z : VarPart V). Reads v n.before x z (moves.read_receipt m t n.before pk place v x e.stamp)) (sym does.variable) k.1))

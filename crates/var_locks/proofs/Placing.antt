@@ -1,7 +1,6 @@
 -- The table is as it is so after a step of one seat.
-use Rattle.std.proofs.Common.{◌≡◌, ◌≢◌, ℕ, zero, suc, ◌+◌, ◌<◌, ◌≤◌, ◌⊎◌, inl, inr, Bool, true, false, List, [], ◌∷◌, length, length-set, refl, sym, ap, ◌∙◌, subst, Option, Some, None, arith, cond}
+use Rattle.std.proofs.Common.{◌≡◌, ◌≢◌, ℕ, zero, suc, ◌+◌, ◌<◌, ◌≤◌, ◌⊎◌, inl, inr, List, [], ◌∷◌, length, refl, sym, ap, ◌∙◌, subst, Option, Some, None, arith, cond}
 use Rattle.std.specs.Prelude.{slice_index, slice_set}
-use Rattle.std.proofs.lemmas.List.{get_or-set_same, get_or-set_other}
 use mathlib.Core.Option as logic
 use mathlib.Core.Option.{some-injective, some-ne-none}
 use lib.ListN.{get_elem?}
@@ -9,11 +8,10 @@ use Rattle.entry_order.proofs.Order.{is_or}
 use Rattle.master_core.specs.declared.parts.VarPart.{VarPart}
 use Rattle.replay_guide.specs.Orders.{IsNamed}
 use Rattle.atomic_table.specs.Table.{State}
-use Rattle.atomic_table.proofs.Lists.{at_set, set_here, set_else, set_again}
+use Rattle.atomic_table.proofs.Lists.{at_set, set_else}
 use Rattle.var_locks.specs.declared.view.Share.{Share}
 use Rattle.var_locks.specs.declared.view.Held.{Held}
 use Rattle.var_locks.specs.declared.view.View.{View}
-use Rattle.var_locks.specs.Views.{HasShare}
 use Rattle.var_locks.specs.Told.{Now, IsPlaced, IsShare, IsView, IsAt}
 
 pub at_word : (l : List ℕ) (i : ℕ) → i < length l → get_elem? l i ≡ logic.some (slice_index l i)

@@ -1,5 +1,5 @@
 -- One value of a function changes.
-use Rattle.std.proofs.Common.{◌≡◌, ◌≢◌, ℕ, refl, ap, cond}
+use Rattle.std.proofs.Common.{◌≡◌, ◌≢◌, ℕ, refl, cond}
 use Rattle.std.specs.Prelude.{nat_eq}
 use Rattle.plain_machine.proofs.Histories.{not_eq, is_eq}
 

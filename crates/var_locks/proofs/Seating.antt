@@ -1,10 +1,9 @@
 -- Seats are cut in two, and come together: the rule stays.
-use Rattle.std.proofs.Common.{◌≡◌, ◌≢◌, ℕ, zero, suc, ◌+◌, ◌<◌, ◌≤◌, ◌⊎◌, inl, inr, Bool, true, false, List, [], ◌∷◌, ◌++◌, length, length-set, refl, sym, ap, ◌∙◌, subst, Option, Some, None, arith, cond}
-use Rattle.std.specs.Prelude.{slice_index, slice_set, nat_eq}
+use Rattle.std.proofs.Common.{◌≡◌, ◌≢◌, ℕ, zero, suc, ◌<◌, ◌⊎◌, inl, inr, List, [], ◌∷◌, ◌++◌, length, length-set, refl, sym, ap, ◌∙◌, subst, Option, Some, None, arith, cond}
+use Rattle.std.specs.Prelude.{slice_set, nat_eq}
 use mathlib.Core.Option as logic
 use mathlib.Core.Option.{some-injective, some-ne-none}
 use lib.ListN.{get_elem?}
-use Rattle.entry_order.proofs.Order.{is_or}
 use Rattle.plain_machine.proofs.Histories.{is_eq, not_eq}
 use Rattle.access_log.specs.Held.{Lane}
 use Rattle.plain_machine.specs.Program.{Meaning}
@@ -14,10 +13,9 @@ use Rattle.replay_guide.specs.Orders.{IsNamed}
 use Rattle.atomic_table.specs.Table.{State, Splits, Joins}
 use Rattle.atomic_table.proofs.Lists.{at_set, set_else, at_longer}
 use Rattle.var_locks.specs.declared.view.Share.{Share}
-use Rattle.var_locks.specs.declared.view.Held.{Held}
 use Rattle.var_locks.specs.declared.view.View.{View}
 use Rattle.var_locks.specs.Views.{HasShare, AreApart, first_share, other_shares, joined_view, spent_view, rest_of, first_of}
-use Rattle.var_locks.specs.Told.{Now, IsPlaced, IsShare, IsView, IsAt, IsSound, IsTold}
+use Rattle.var_locks.specs.Told.{Now, IsPlaced, IsShare, IsView, IsTold}
 use Rattle.var_locks.proofs.Puts.{put, put_here, put_else}
 use Rattle.var_locks.proofs.Placing.{one_view}
 use Rattle.var_locks.proofs.Stepping.{with_seats, sound_seats, share_stays, no_hand}

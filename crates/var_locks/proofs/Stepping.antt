@@ -16,8 +16,7 @@ use Rattle.plain_machine.specs.Program.{Meaning}
 use Rattle.master_core.specs.declared.parts.VarPart.{VarPart}
 use Rattle.master_core.specs.declared.parts.ThreadPart.{ThreadPart}
 use Rattle.master_core.specs.Mastered.{Mastered, moves_made}
-use Rattle.replay_guide.specs.Orders.{IsNamed}
-use Rattle.atomic_table.specs.Table.{State, Me, Act, keeps, takes, gives, step, stepped, Valid, Allows, carried_after, rest}
+use Rattle.atomic_table.specs.Table.{State, Act, keeps, takes, gives, step, stepped, Valid, Allows, carried_after}
 use Rattle.atomic_table.proofs.Lists.{set_here, set_else, set_again}
 use Rattle.var_locks.specs.declared.view.Note.{Note}
 use Rattle.var_locks.specs.declared.view.Share.{Share}
@@ -26,10 +25,10 @@ use Rattle.var_locks.specs.declared.view.View.{View}
 use Rattle.var_locks.specs.Codes.{note_code}
 use Rattle.var_locks.specs.Notes.{IsOwn, IsOnVariable, IsGuided}
 use Rattle.var_locks.specs.Views.{HasShare, AreApart, note_shares, end_shares, with_hand, empty_hand, noted_view, ended_view, seen_after}
-use Rattle.var_locks.specs.Plays.{Finds, Takes, Notes, Brings, Gives, Ends}
-use Rattle.var_locks.specs.Told.{Now, IsPlaced, IsShare, IsView, IsAt, IsStory, IsSound, IsTold}
+use Rattle.var_locks.specs.Plays.{Takes, Notes, Brings, Gives, Ends}
+use Rattle.var_locks.specs.Told.{Now, IsPlaced, IsShare, IsView, IsSound, IsTold}
 use Rattle.var_locks.proofs.Puts.{put, put_here, put_else}
-use Rattle.var_locks.proofs.Placing.{at_word, set_at, one_view, held_is, IsLater, stays_placed, at_later}
+use Rattle.var_locks.proofs.Placing.{at_word, set_at, held_is, IsLater, stays_placed, at_later}
 use Rattle.var_locks.proofs.Bounding.{own_bounds, on_bounds, sum_few}
 use Rattle.var_locks.proofs.Growing.{with_note, sound_own, sound_on}
 
@@ -404,7 +403,7 @@ module _ {V : Type 0} (m : Meaning V) (fits : ℕ → V → Type 0) (guide : Lis
       at = at_later m.vars (length p.threads) id r.now (with_end r.now x.thread) later s r.at w (ended_view w) here (slice_set s.words (m.vars + x.thread) 1) s.homes (length-set s.words (m.vars + x.thread) 1) refl
           (λ t under. ended t under (is_or t x.thread))
           (λ u under. stays_placed m.vars (length p.threads) id r.now (with_end r.now x.thread) later s r.at w (ended_view w) here (slice_set s.words (m.vars + x.thread) 1) s.homes u under
-              (get_or-set_other s.words (m.vars + x.thread) u 1 0 (λ q. absurd (omega arith))) refl refl refl (λ h has q. absurd (no_hand w h empty has))) view;
+          (get_or-set_other s.words (m.vars + x.thread) u 1 0 (λ q. absurd (omega arith))) refl refl refl (λ h has q. absurd (no_hand w h empty has))) view;
       sound = sound_end m fits guide p r.now x.thread r.sound;
     }
       where

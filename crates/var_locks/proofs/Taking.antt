@@ -1,5 +1,5 @@
 -- A seat takes a variable, and gives it back.
-use Rattle.std.proofs.Common.{◌≡◌, ℕ, false, List, [], ◌∷◌, refl, sym, ap, ◌∙◌, Option, None}
+use Rattle.std.proofs.Common.{◌≡◌, ℕ, false, List, [], ◌∷◌, refl, sym, ap, ◌∙◌, Option}
 use base.Stored.{Gv}
 use Rattle.std.specs.Coded.{Coded}
 use Rattle.master_core.specs.declared.parts.VarPart.{VarPart}

@@ -1,5 +1,5 @@
 -- What the guide says at what a seat has in hand.
-use Rattle.std.proofs.Common.{◌≡◌, ℕ, ◌+◌, ◌/◌, ◌⊎◌, inl, inr, Bool, List, refl, sym, ap, ◌∙◌, subst, arith}
+use Rattle.std.proofs.Common.{◌≡◌, ℕ, ◌+◌, ◌/◌, ◌⊎◌, inl, inr, Bool, List, sym, ◌∙◌, subst, arith}
 use Rattle.std.specs.Prelude.{◌↔◌}
 use Rattle.access_log.specs.declared.entry.Turn.{Turn}
 use Rattle.access_log.specs.declared.entry.Turn.TheVariants as turn

@@ -1,5 +1,5 @@
 -- What a round comes to: whatever the seats did is one legal run.
-use Rattle.std.specs.Prelude.{◌≡◌, ℕ, ◌+◌, ◌<◌, ◌⊎◌, Bool, true, cond, nat_eq, List, [], ◌∷◌, map, length, Ok}
+use Rattle.std.specs.Prelude.{◌≡◌, ℕ, ◌+◌, ◌⊎◌, true, cond, nat_eq, List, [], ◌∷◌, map, length, Ok}
 use Rattle.plain_text.specs.declared.packet.Packet.{Packet}
 use Rattle.entry_order.specs.declared.what.What.{What}
 use Rattle.access_log.specs.Held.{Lane}
@@ -18,7 +18,6 @@ use Rattle.round_order.specs.Receipts.{Receipt, Receipts, after}
 use Rattle.round_order.specs.Linked.{IsKnown}
 use Rattle.round_order.specs.Woven.{IsWoven, GoesOn}
 use Rattle.var_locks.specs.declared.view.Note.{Note}
-use Rattle.var_locks.specs.declared.view.Share.{Share}
 use Rattle.var_locks.specs.declared.view.View.{View}
 use Rattle.var_locks.specs.Notes.{read_notes, AreFed, steps_of}
 use Rattle.var_locks.specs.Views.{HasShare}

@@ -8,7 +8,6 @@ use Rattle.access_log.specs.declared.entry.StampedEntry.{StampedEntry}
 use Rattle.access_log.specs.Held.{Lane, lane, entry_at}
 use Rattle.plain_machine.specs.declared.local.Local.{Local}
 use Rattle.plain_machine.specs.declared.local.Move.TheVariants as move
-use Rattle.plain_machine.specs.declared.plain_move.PlainMove.{PlainMove}
 use Rattle.plain_machine.specs.Program.{Meaning}
 use Rattle.plain_machine.specs.Machine.{Hand}
 use Rattle.plain_machine.specs.History.{Step, thread_after}
@@ -17,7 +16,7 @@ use Rattle.master_core.specs.declared.parts.ThreadPart.{ThreadPart}
 use Rattle.master_core.specs.declared.step.Trace.{Trace}
 use Rattle.master_core.specs.declared.step.Trace.TheVariants as trace
 use Rattle.master_core.specs.declared.step.WovenStep.{WovenStep}
-use Rattle.master_core.specs.Effects.{LogsEntry, TouchesParts, ReadsParts, HearsPart, after_take, after_emit, after_end}
+use Rattle.master_core.specs.Effects.{TouchesParts, ReadsParts, HearsPart, after_take, after_emit, after_end}
 use Rattle.replay_guide.specs.Following.{recorded}
 use Rattle.replay_guide.specs.Turns.{WaitsFor}
 use Rattle.round_order.specs.Receipts.{Receipt, after}

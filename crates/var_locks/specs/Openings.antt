@@ -1,5 +1,5 @@
 -- How a round begins.
-use Rattle.std.specs.Prelude.{◌≡◌, ℕ, ◌+◌, ◌*◌, false, List, [], ◌∷◌, ◌++◌, map, replicate}
+use Rattle.std.specs.Prelude.{ℕ, ◌+◌, ◌*◌, false, List, [], ◌∷◌, ◌++◌, map, replicate}
 use Rattle.master_core.specs.declared.parts.VarPart.{VarPart}
 use Rattle.master_core.specs.declared.parts.ThreadPart.{ThreadPart}
 use Rattle.atomic_table.specs.Seated.{TableId}

@@ -1,6 +1,6 @@
 -- What a step of a round asks of its seat.
 use base.Stored.{Gv}
-use Rattle.std.specs.Prelude.{◌≡◌, ℕ, ◌+◌, ◌<◌, ◌≤◌, ◌^◌, Bool, true, false, List, [], ◌∷◌, length, Option, Some, None}
+use Rattle.std.specs.Prelude.{◌≡◌, ℕ, ◌+◌, ◌<◌, ◌≤◌, ◌^◌, Bool, false, List, [], ◌∷◌, length, Some, None}
 use Rattle.std.specs.Coded.{Coded}
 use Rattle.plain_machine.specs.declared.local.Local.{Local}
 use Rattle.access_log.specs.declared.entry.StampedEntry.{StampedEntry}
@@ -13,7 +13,6 @@ use Rattle.master_core.specs.Mastered.{Mastered, IsBounded, value_of, moves_made
 use Rattle.replay_guide.specs.Turns.{WaitsFor}
 use Rattle.var_locks.specs.declared.view.Note.{Note}
 use Rattle.var_locks.specs.declared.view.Share.{Share}
-use Rattle.var_locks.specs.declared.view.Held.{Held}
 use Rattle.var_locks.specs.declared.view.View.{View}
 use Rattle.var_locks.specs.Codes.{master_code}
 use Rattle.var_locks.specs.Notes.{IsOwn, IsOnVariable, IsGuided}

@@ -1,5 +1,5 @@
 -- What is seen of a seat of a round.
-use Rattle.std.specs.Prelude.{◌≡◌, ℕ, ◌+◌, ◌<◌, Bool, true, false, List, [], ◌∷◌, ◌++◌, Option, Some, None, length}
+use Rattle.std.specs.Prelude.{◌≡◌, ℕ, ◌<◌, Bool, List, [], ◌∷◌, ◌++◌, Option, None}
 use Rattle.plain_text.specs.declared.packet.Packet.{Packet}
 use Rattle.access_log.specs.Held.{Lane}
 use Rattle.plain_machine.specs.Program.{Meaning}

@@ -1,6 +1,6 @@
 -- The rule of the locks. It is over every run of which the opening master is the end: masters do not know their past.
 use base.Stored.{Gv}
-use Rattle.std.specs.Prelude.{◌≡◌, ℕ, ◌+◌, ◌<◌, ◌≤◌, ◌^◌, Bool, true, false, cond, List, [], ◌∷◌, length, nat_eq, Option, Some, None, slice_index, slice_index_or}
+use Rattle.std.specs.Prelude.{◌≡◌, ℕ, ◌+◌, ◌<◌, ◌≤◌, ◌^◌, Bool, true, cond, List, [], length, Option, Some, None, slice_index, slice_index_or}
 use Rattle.std.specs.Coded.{Coded}
 use mathlib.Core.Option as logic
 use lib.ListN.{get_elem?}
@@ -10,10 +10,9 @@ use Rattle.entry_order.specs.Stamps.{sum_below}
 use Rattle.access_log.specs.Held.{Lane}
 use Rattle.plain_machine.specs.Program.{Meaning}
 use Rattle.plain_machine.specs.History.{Step}
-use Rattle.box_program.specs.Hands.{FitsProgram}
 use Rattle.master_core.specs.declared.parts.VarPart.{VarPart}
 use Rattle.master_core.specs.declared.parts.ThreadPart.{ThreadPart}
-use Rattle.master_core.specs.Mastered.{Mastered, IsBounded, value_of, in_hand_count, moves_made}
+use Rattle.master_core.specs.Mastered.{Mastered, in_hand_count, moves_made}
 use Rattle.master_core.specs.Standing.{Stands}
 use Rattle.replay_guide.specs.Following.{Follows}
 use Rattle.replay_guide.specs.Orders.{IsNamed}

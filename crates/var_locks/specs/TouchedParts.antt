@@ -1,5 +1,5 @@
 -- What a touch or a read does to what a seat has in hand.
-use Rattle.std.specs.Prelude.{◌≡◌, ℕ, ◌+◌, ◌⊎◌, Bool, true, false, List, [], ◌∷◌, ◌++◌}
+use Rattle.std.specs.Prelude.{◌≡◌, ℕ, ◌+◌, ◌≤◌, Bool, true, false, List, [], ◌∷◌, ◌++◌, Some, None, slice_index}
 use base.Stored.{Gv}
 use Rattle.std.specs.Coded.{Coded}
 use Rattle.access_log.specs.Held.{Lane}
@@ -11,9 +11,9 @@ use Rattle.var_locks.specs.declared.view.View.{View}
 use Rattle.var_locks.specs.Notes.{IsOnVariable, IsGuided, step_of}
 use Rattle.var_locks.specs.declared.touching.Touched.{Touched}
 use Rattle.var_locks.specs.declared.touching.Touched.TheVariants as touched
-use Rattle.var_locks.specs.Views.{with_hand, empty_hand, missed_view, note_on, noted_view}
+use Rattle.var_locks.specs.Views.{with_hand, empty_hand, missed_view, note_on, noted_view, sees_what}
 use Rattle.var_locks.specs.Plays.{Finds}
-use Rattle.var_locks.specs.Seats.{IsKept}
+use Rattle.var_locks.specs.Seats.{Seated, IsKept}
 use Rattle.access_log.specs.declared.entry.StampedEntry.{StampedEntry}
 use Rattle.plain_machine.specs.declared.local.Local.{Local}
 use Rattle.plain_machine.specs.declared.local.Move.{Move}
@@ -81,3 +81,28 @@ abbrev pub Comes : {V : Type 0} → Meaning V → List Lane → ℕ → ℕ → 
 Comes {V} m guide t v before after old new did now (touched.Did e) = (x : VarPart V) × (old.1 ≡ (v, x) ∷ []) × MadeOn m guide t v before after x e old new did now
 Comes m guide t v before after old new did now (touched.Blocked u k) = MadeMissed u k old new before after did now
 Comes m guide t v before after old new did now touched.NoMemory = MadeNone old new before after did now
+
+-- What a touch or a read came to, of a seat
+
+-- The seat touched variable v, or read it, and found x: it has one more note, and saw as many touches as the entry says.
+pub record HasTouched {V : Type 0} (m : Meaning V) (guide : List Lane) (old : Seated V) (e : StampedEntry) (new : Seated V) : Type 0 where
+  pub var : ℕ
+  pub found : VarPart V
+  pub left : VarPart V
+  pub place : Local
+  pub on : IsOnVariable m old.thread var (record { before = old.part; after = new.part; trace = trace.Did e; packet = None; found = Some found }) found left place e
+  pub guided : IsGuided guide old.thread (record { before = old.part; after = new.part; trace = trace.Did e; packet = None; found = Some found })
+  -- its place is above all that the seat had seen
+  pub above : slice_index old.seen var ≤ found.places
+  pub seat : new ≡ record { thread = old.thread; part = new.part; notes = record { before = old.part; after = new.part; trace = trace.Did e; packet = None; found = Some found } ∷ old.notes; seen = sees_what old.seen e.what; missing = old.missing; ended = old.ended; round = old.round }
+
+abbrev pub Touches : {V : Type 0} → Meaning V → List Lane → Seated V → Seated V → Touched → Type 0
+Touches m guide old new (touched.Did e) = HasTouched m guide old e new
+Touches m guide old new (touched.Blocked u k) = new ≡ record { thread = old.thread; part = old.part; notes = old.notes; seen = old.seen; missing = (u, k) ∷ old.missing; ended = old.ended; round = old.round }
+Touches m guide old new touched.NoMemory = new ≡ old
+
+-- what the seat saw after it
+abbrev pub seen_by : List ℕ → Touched → List ℕ
+seen_by seen (touched.Did e) = sees_what seen e.what
+seen_by seen (touched.Blocked u k) = seen
+seen_by seen touched.NoMemory = seen

@@ -1,5 +1,5 @@
 -- What a seat knows, and how its steps change it.
-use Rattle.std.specs.Prelude.{◌≡◌, ◌≢◌, ℕ, ◌+◌, ◌⊎◌, Bool, false, true, List, [], ◌∷◌, ◌++◌, Option, Some, None, slice_set}
+use Rattle.std.specs.Prelude.{◌≡◌, ◌≢◌, ℕ, ◌+◌, ◌⊎◌, false, true, List, [], ◌∷◌, ◌++◌, Option, Some, None, slice_set}
 use Rattle.entry_order.specs.declared.what.What.{What}
 use Rattle.entry_order.specs.declared.what.What.TheVariants as what
 use Rattle.master_core.specs.declared.parts.VarPart.{VarPart}

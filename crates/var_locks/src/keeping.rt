@@ -86,9 +86,7 @@ fn keep<P: Program, J: Round>(
 {
     did.reserve(1)?;
     let before = *part;
-    note_move::<P, J>(
-        program, shared, token, word, &before, &after, &trace, input,
-    );
+    note_move::<P, J>(program, shared, token, word, &before, &after, &trace, input);
     did.push_reserved(step_of(thread, trace));
     *part = after;
     Ok(())

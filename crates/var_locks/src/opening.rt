@@ -65,13 +65,7 @@ pub(crate) fn seat_all<P: Program, J: Round>(
     for thread in 0..parts.len() {
         let own = split_off::<P, J>(program, shared, token);
         let seen = Vec::from_slice(alloc, places)?;
-        seats.push(VarSeat::fresh(
-            alloc,
-            own,
-            thread as u32,
-            parts[thread],
-            seen,
-        ))?;
+        seats.push(VarSeat::fresh(alloc, own, thread as u32, parts[thread], seen))?;
     }
     Ok(seats)
 }
@@ -101,14 +95,7 @@ fn begin<P: Program, J: Round>(
     let Ok((table, mut token)) = open_round::<P, J>(alloc, program, words, values) else {
         return Err(NoMemory);
     };
-    let seats = seat_all::<P, J>(
-        alloc,
-        program,
-        &table.shared,
-        &mut token,
-        &threads,
-        places,
-    )?;
+    let seats = seat_all::<P, J>(alloc, program, &table.shared, &mut token, &threads, places)?;
     let threads = threads.len();
     Ok((
         Vars {

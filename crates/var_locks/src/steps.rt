@@ -13,7 +13,9 @@ ghost use Rattle.var_locks.specs.Views.{note_on, first_view, first_share, other_
 ghost use Rattle.var_locks.specs.Plays.{Finds};
 ghost use Rattle.var_locks.specs.Rounds.{IsRoundOf, Opens, MayNote, MayBring, MayMiss, HasInHand, IsIdle};
 
-use crate::view::{Brought, Ended, Given, Law, Missed, Named, News, Noted, Parted, Round, Taken, View};
+use crate::view::{
+    Brought, Ended, Given, Law, Missed, Named, News, Noted, Parted, Round, Taken, View,
+};
 use atomic_table::{Refused, Seat, Shared, Table};
 use box_program::Program;
 use master_core::{ThreadPart, Trace, VarPart};
@@ -24,11 +26,20 @@ use std::sync::Wait;
 use std::thread;
 
 /// The words and the values of a round, as its seats see them.
-pub(crate) type Lock<P, J> =
-    Shared<VarPart<<P as Program>::Value>, View<<P as Program>::Value>, (), Law<P, J>>;
+pub(crate) type Lock<P, J> = Shared<
+    VarPart<<P as Program>::Value>,
+    View<<P as Program>::Value>,
+    (),
+    Law<P, J>,
+>;
 
-pub(crate) type LockTable<P, J> =
-    Table<VarPart<<P as Program>::Value>, View<<P as Program>::Value>, (), Law<P, J>, Global>;
+pub(crate) type LockTable<P, J> = Table<
+    VarPart<<P as Program>::Value>,
+    View<<P as Program>::Value>,
+    (),
+    Law<P, J>,
+    Global,
+>;
 
 /// What a seat takes its steps with.
 pub(crate) type Token<V> = Seat<VarPart<V>, View<V>>;

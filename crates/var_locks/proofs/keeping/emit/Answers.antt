@@ -1,4 +1,4 @@
-use Rattle.std.proofs.Common.{rules, ◌≡◌, refl, ap}
+use Rattle.std.proofs.Common.{ap}
 use Rattle.access_log.specs.declared.entry.Output.{Output}
 use Rattle.var_locks.proofs.keeping.emit.Goals as goal
 

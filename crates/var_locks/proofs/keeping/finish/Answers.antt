@@ -1,4 +1,3 @@
-use Rattle.std.proofs.Common.{rules, ◌≡◌, refl}
 use Rattle.var_locks.proofs.keeping.finish.Goals as goal
 
 pub keep-requires-clause-own : goal.keep-requires-clause-own

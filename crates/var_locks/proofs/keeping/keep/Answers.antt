@@ -1,8 +1,4 @@
-use Rattle.std.proofs.Common.{rules, ◌≡◌, refl, sym, ap, ◌∙◌, ◌++◌, ◌∷◌, [], List, false}
-use Rattle.std.specs.Prelude.{option_copied}
-use Rattle.master_core.specs.declared.step.WovenStep.{WovenStep}
-use Rattle.var_locks.specs.declared.view.Note.{Note}
-use Rattle.var_locks.specs.Notes.{own_note}
+use Rattle.std.proofs.Common.{refl, false}
 use Rattle.var_locks.specs.Seats.{share_of}
 use Rattle.var_locks.proofs.keeping.keep.Goals as goal
 

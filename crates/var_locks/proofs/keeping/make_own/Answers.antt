@@ -1,4 +1,4 @@
-use Rattle.std.proofs.Common.{rules, ◌≡◌, ℕ, ◌+◌, sym, ap, ◌∙◌, subst, List, Option, Some, None}
+use Rattle.std.proofs.Common.{◌+◌, sym, ap, ◌∙◌, subst, List, Option}
 use Rattle.std.specs.Prelude.{option_copied}
 use Rattle.plain_text.specs.declared.packet.Packet.{Packet}
 use Rattle.access_log.specs.Held.{Lane, lane, entry_at}

@@ -1,4 +1,4 @@
-use Rattle.std.proofs.Common.{rules, ◌≡◌, refl}
+use Rattle.std.proofs.Common.{refl}
 use Rattle.var_locks.proofs.keeping.take.Goals as goal
 
 pub keep-requires-clause-own : goal.keep-requires-clause-own

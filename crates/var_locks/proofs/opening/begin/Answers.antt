@@ -1,8 +1,5 @@
-use Rattle.std.proofs.Common.{rules, ◌≡◌, ℕ, ◌+◌, ◌<◌, refl, sym, ap, ◌∙◌, subst, List, [], length, arith}
-use Rattle.master_core.specs.declared.parts.VarPart.{VarPart}
-use Rattle.master_core.specs.declared.parts.ThreadPart.{ThreadPart}
-use Rattle.master_core.specs.Mastered.{Mastered, master_of}
-use Rattle.var_locks.specs.Rounds.{Opens}
+use Rattle.std.proofs.Common.{◌∙◌}
+use Rattle.master_core.specs.Mastered.{master_of}
 use Rattle.var_locks.proofs.FirstWords.{round_of, vars_of}
 use Rattle.var_locks.proofs.opening.begin.Goals as goal
 

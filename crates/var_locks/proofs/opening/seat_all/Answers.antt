@@ -4,7 +4,6 @@ use Rattle.master_core.specs.declared.parts.VarPart.{VarPart}
 use Rattle.master_core.specs.declared.parts.ThreadPart.{ThreadPart}
 use Rattle.atomic_table.specs.Table.{Me}
 use Rattle.atomic_table.specs.Seated.{TableId}
-use Rattle.var_locks.specs.declared.view.Share.{Share}
 use Rattle.var_locks.specs.declared.view.View.{View}
 use Rattle.var_locks.specs.Seats.{Seated}
 use Rattle.var_locks.specs.Views.{fresh_shares, first_share, other_shares}
@@ -47,11 +46,11 @@ loop-thread-preserved g c =
     let is_parts : drop t c.args.parts.now ≡ part ∷ drop (t + 1) c.args.parts.now = parts_from c.args.parts.now t part c.loop-thread-test.true ∙ ap (λ (x : ThreadPart). x ∷ drop (t + 1) c.args.parts.now) (sym c.index-parts-thread.is) in
     let zero_more : t ≡ 0 + t = omega arith in
     let one : c.fresh.result ≡ fresh_seat round places (0 + t) (slice_index_or c.args.parts.now t part) =
-            c.fresh.ensures
-            ∙ (ap (λ (r : TableId). fresh_seat {V = g.row.P-Value.Denot} r c.in_ok-seen.seen.items t part) (c.split_off-own.ensures.first.0 ∙ inv.0)
-            ∙ (ap (λ (s : List ℕ). fresh_seat {V = g.row.P-Value.Denot} round s t part) c.in_ok-seen.ensures.items
-            ∙ (ap (λ (k : ℕ). fresh_seat {V = g.row.P-Value.Denot} round places k part) zero_more
-            ∙ ap (λ (x : ThreadPart). fresh_seat {V = g.row.P-Value.Denot} round places (0 + t) x) c.index-parts-thread.is))) in (
+    c.fresh.ensures
+    ∙ (ap (λ (r : TableId). fresh_seat {V = g.row.P-Value.Denot} r c.in_ok-seen.seen.items t part) (c.split_off-own.ensures.first.0 ∙ inv.0)
+    ∙ (ap (λ (s : List ℕ). fresh_seat {V = g.row.P-Value.Denot} round s t part) c.in_ok-seen.ensures.items
+    ∙ (ap (λ (k : ℕ). fresh_seat {V = g.row.P-Value.Denot} round places k part) zero_more
+    ∙ ap (λ (x : ThreadPart). fresh_seat {V = g.row.P-Value.Denot} round places (0 + t) x) c.index-parts-thread.is))) in (
       c.split_off-own.ensures.same.0 ∙ inv.0,
       c.split_off-own.ensures.others
           ∙ (ap (λ (me : Me (VarPart g.row.P-Value.Denot) (View g.row.P-Value.Denot)). let r : Me (VarPart g.row.P-Value.Denot) (View g.row.P-Value.Denot) = (other_shares me.0, me.1) in r) inv.1

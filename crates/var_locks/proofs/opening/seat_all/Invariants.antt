@@ -1,4 +1,4 @@
-use Rattle.std.proofs.Common.{◌≡◌, ℕ, List, [], take, drop}
+use Rattle.std.proofs.Common.{◌≡◌, [], take, drop}
 use Rattle.var_locks.specs.Openings.{rest_view, fresh_seats}
 use Rattle.var_locks.proofs.opening.seat_all.Given as goal
 

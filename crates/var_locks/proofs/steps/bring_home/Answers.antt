@@ -1,4 +1,4 @@
-use Rattle.std.proofs.Common.{ℕ, ◌≡◌, List, [], ap, ◌∙◌}
+use Rattle.std.proofs.Common.{ℕ, ◌≡◌, List, ap, ◌∙◌}
 use Rattle.master_core.specs.declared.parts.VarPart.{VarPart}
 use Rattle.atomic_table.specs.Table.{Me, rest}
 use Rattle.var_locks.specs.declared.view.Note.{Note}

@@ -1,4 +1,4 @@
-use Rattle.std.proofs.Common.{rules, ℕ, List, [], ◌∷◌, sym, subst}
+use Rattle.std.proofs.Common.{rules, ℕ, List, [], sym, subst}
 use mathlib.Core.Option.{none}
 use Rattle.master_core.specs.declared.parts.VarPart.{VarPart}
 use Rattle.atomic_table.specs.Table.{Allows, step}

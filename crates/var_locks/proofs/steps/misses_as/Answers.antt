@@ -20,7 +20,7 @@ load-requires g c =
       search rules,
       search rules,
       subst (λ (i : ℕ). Allows (Rattle.var_locks.specs.Told.IsToldOf g.P.Program.meaning g.P.Program.fits g.row.P.coded g.row.P-Value.coded g.J.Round.program g.J.Round.opening g.J.Round.guide) slots c.args.token.now.id c.args.token.now.me i (λ z. z) (Misses g.N.Named.thread g.N.Named.number (step slots i 0 0 none) c.args.token.now.me)) (sym c.requires.word_is)
-      (allows_of g.P.Program.meaning g.P.Program.fits g.row.P.coded g.row.P-Value.coded g.J.Round.program g.J.Round.opening g.J.Round.guide q of.master of.is of.opens slots c.args.token.now.id c.args.token.now.me ((g.P.Program.meaning q).vars + u)
+          (allows_of g.P.Program.meaning g.P.Program.fits g.row.P.coded g.row.P-Value.coded g.J.Round.program g.J.Round.opening g.J.Round.guide q of.master of.is of.opens slots c.args.token.now.id c.args.token.now.me ((g.P.Program.meaning q).vars + u)
           (λ z. z) (Misses g.N.Named.thread g.N.Named.number (step slots ((g.P.Program.meaning q).vars + u) 0 0 none) c.args.token.now.me)
           (subst (λ (a : ℕ). Allows (IsTold (g.P.Program.meaning q) (g.P.Program.fits q) g.J.Round.guide of.master) slots c.args.token.now.id c.args.token.now.me ((g.P.Program.meaning q).vars + u) (λ z. z) (Misses a g.N.Named.number (step slots ((g.P.Program.meaning q).vars + u) 0 0 none) c.args.token.now.me)) c.requires.named.0
           (subst (λ (b : ℕ). Allows (IsTold (g.P.Program.meaning q) (g.P.Program.fits q) g.J.Round.guide of.master) slots c.args.token.now.id c.args.token.now.me ((g.P.Program.meaning q).vars + u) (λ z. z) (Misses u b (step slots ((g.P.Program.meaning q).vars + u) 0 0 none) c.args.token.now.me)) c.requires.named.1

@@ -1,4 +1,4 @@
-use Rattle.std.proofs.Common.{rules, ℕ, sym, subst}
+use Rattle.std.proofs.Common.{rules, ℕ, subst}
 use base.Stored.{Gv}
 use mathlib.Core.Option.{none}
 use Rattle.std.specs.Prelude.{option_copied}

@@ -1,4 +1,4 @@
-use Rattle.std.proofs.Common.{rules, refl, subst, sym, ap, ◌∙◌, ℕ, List, length}
+use Rattle.std.proofs.Common.{subst, List}
 use Rattle.master_core.specs.declared.parts.VarPart.{VarPart}
 use Rattle.master_core.specs.declared.parts.ThreadPart.{ThreadPart}
 use Rattle.atomic_table.specs.Table.{opening}

@@ -1,11 +1,10 @@
-use Rattle.std.proofs.Common.{rules, ℕ, eqb, ◌+◌, List, ◌∷◌, refl, sym, subst, ap, ◌∙◌}
+use Rattle.std.proofs.Common.{rules, ℕ, eqb, ◌+◌, ◌∷◌, refl, subst, ap, ◌∙◌}
 use Rattle.master_core.specs.declared.parts.VarPart.{VarPart}
 use mathlib.Core.Option.{none}
 use prog.Atomic.{either}
 use Rattle.atomic_table.specs.Table.{Me, step}
 use Rattle.var_locks.specs.declared.view.View.{View}
-use Rattle.var_locks.specs.declared.view.Share.{Share}
-use Rattle.var_locks.specs.Views.{with_hand, HasShare}
+use Rattle.var_locks.specs.Views.{with_hand}
 use Rattle.var_locks.specs.Plays.{Takes, Finds}
 use Rattle.var_locks.proofs.Stepping.{take_allows, one_share}
 use Rattle.var_locks.proofs.Naming.{allows_of, fits_of}

@@ -1,13 +1,12 @@
-use Rattle.std.proofs.Common.{rules, ◌≡◌, ℕ, ◌+◌, ◌<◌, ◌^◌, refl, sym, ap, ◌∙◌, subst, List, [], ◌∷◌, ◌++◌, false, arith}
+use Rattle.std.proofs.Common.{ℕ, sym, ap, ◌∙◌, subst, [], ◌∷◌, ◌++◌, false, arith}
 use Rattle.access_log.specs.declared.entry.StampedEntry.{StampedEntry}
 use Rattle.master_core.specs.declared.parts.VarPart.{VarPart}
 use Rattle.master_core.specs.declared.step.Trace.TheVariants as trace
 use Rattle.master_core.specs.declared.step.WovenStep.{WovenStep}
 use Rattle.atomic_table.specs.Table.{Me}
 use Rattle.var_locks.specs.declared.view.View.{View}
-use Rattle.var_locks.specs.declared.view.Note.{Note}
 use Rattle.var_locks.specs.Notes.{answer_in}
-use Rattle.var_locks.specs.Views.{with_hand, note_on, noted_view}
+use Rattle.var_locks.specs.Views.{note_on, noted_view}
 use Rattle.var_locks.specs.Rounds.{MayBring}
 use Rattle.var_locks.specs.Seats.{share_of}
 use Rattle.var_locks.proofs.Bringing.{may_bring, made_on}
@@ -40,9 +39,9 @@ bring_home-requires-clause-next g c κs within =
       works.1,
       subst (λ (e : StampedEntry). MayBring (g.P.Program.meaning c.args.program.now) (g.P.Program.fits c.args.program.now) g.J.Round.guide c.work-worked.new.token.me.0 c.args.var c.word_after-home.result works.0 (share_of h.before c.args.thread c.args.part.now false)
           (note_on c.args.part.now c.work-worked.new.part (trace.Did e) c.work-worked.new.token.me.0) x c.args.place c.in-Ok.entry) (sym c.copied.ensures)
-      (subst (λ (k : ℕ). MayBring (g.P.Program.meaning c.args.program.now) (g.P.Program.fits c.args.program.now) g.J.Round.guide c.work-worked.new.token.me.0 c.args.var k works.0 (share_of h.before c.args.thread c.args.part.now false)
+          (subst (λ (k : ℕ). MayBring (g.P.Program.meaning c.args.program.now) (g.P.Program.fits c.args.program.now) g.J.Round.guide c.work-worked.new.token.me.0 c.args.var k works.0 (share_of h.before c.args.thread c.args.part.now false)
           (note_on c.args.part.now c.work-worked.new.part (trace.Did c.in-Ok.entry) c.work-worked.new.token.me.0) x c.args.place c.in-Ok.entry) (sym c.word_after-home.ensures)
-      (may_bring (g.P.Program.meaning c.args.program.now) (g.P.Program.fits c.args.program.now) (g.met.P.Program.lawful c.args.program.now) g.J.Round.guide c.args.thread c.args.var c.args.word c.args.part.now c.work-worked.new.part c.args.place x works.0 c.in-Ok.entry h.before
+          (may_bring (g.P.Program.meaning c.args.program.now) (g.P.Program.fits c.args.program.now) (g.met.P.Program.lawful c.args.program.now) g.J.Round.guide c.args.thread c.args.var c.args.word c.args.part.now c.work-worked.new.part c.args.place x works.0 c.in-Ok.entry h.before
           c.requires.hand (h.finds.fit c.args.program.now c.requires.of.is) h.finds.word_is c.args.read c.requires.next works.2 c.requires.taken.3 c.requires.taken.1 c.args.did.now.items h.kept c.requires.room c.work-worked.new.token.me.0 view)),
     )
 
@@ -66,7 +65,7 @@ returns-clause-made g c =
     let before = c.args.part.now in
     let after = c.work-worked.new.part in
     let made = made_on (g.P.Program.meaning c.args.program.now) (g.P.Program.fits c.args.program.now) (g.met.P.Program.lawful c.args.program.now) g.J.Round.guide c.args.thread c.args.var c.args.word c.args.part.now c.work-worked.new.part c.args.place x works.0 c.in-Ok.entry h.before
-            c.requires.hand (h.finds.fit c.args.program.now c.requires.of.is) h.finds.word_is c.args.read c.requires.next works.2 c.requires.taken.3 c.args.token.now.me.0 view in (
+    c.requires.hand (h.finds.fit c.args.program.now c.requires.of.is) h.finds.word_is c.args.read c.requires.next works.2 c.requires.taken.3 c.args.token.now.me.0 view in (
       x,
       slots,
       record {

@@ -1,4 +1,4 @@
-use Rattle.std.proofs.Common.{rules, ◌≡◌, ℕ, refl, sym, ap, ◌∙◌, subst, List, [], ◌∷◌, false}
+use Rattle.std.proofs.Common.{◌≡◌, sym, ap, ◌∙◌, subst, List, [], ◌∷◌, false}
 use Rattle.std.specs.Prelude.{slice_index, ◌≤◌}
 use Rattle.master_core.specs.declared.parts.VarPart.{VarPart}
 use Rattle.master_core.specs.declared.parts.ThreadPart.{ThreadPart}
@@ -8,7 +8,7 @@ use Rattle.var_locks.specs.declared.view.View.{View}
 use Rattle.var_locks.specs.Views.{with_hand}
 use Rattle.var_locks.specs.Seats.{IsKept, share_of}
 use Rattle.var_locks.specs.TouchedParts.{Comes, HasTaken}
-use Rattle.var_locks.proofs.Taking.{in_hand, taken_by, given_back}
+use Rattle.var_locks.proofs.Taking.{in_hand, taken_by}
 use Rattle.var_locks.proofs.touching.touch_on.Goals as goal
 
 pub take_up-word-requires-clause-idle : goal.take_up-word-requires-clause-idle
@@ -34,12 +34,12 @@ returns-in-Some-tried-clause-comes g c =
     let t = c.take_up-word.ensures.taken in
     let m = g.P.Program.meaning c.args.program.now in
     let taken : c.take_up-word.new.token.me ≡ (with_hand c.args.token.now.me.0 c.args.var t.0, (c.args.var, t.0) ∷ []) =
-            t.2 ∙ (ap (λ (me : Me (VarPart g.row.P-Value.Denot) (View g.row.P-Value.Denot)). let r : Me (VarPart g.row.P-Value.Denot) (View g.row.P-Value.Denot) = (with_hand me.0 c.args.var t.0, (c.args.var, t.0) ∷ me.1) in r) inv.2
-            ∙ in_hand c.args.token.now.me c.args.thread c.args.part.now c.requires.kept.0 c.args.did.now.items c.requires.kept.1 c.args.var t.0) in (
+    t.2 ∙ (ap (λ (me : Me (VarPart g.row.P-Value.Denot) (View g.row.P-Value.Denot)). let r : Me (VarPart g.row.P-Value.Denot) (View g.row.P-Value.Denot) = (with_hand me.0 c.args.var t.0, (c.args.var, t.0) ∷ me.1) in r) inv.2
+    ∙ in_hand c.args.token.now.me c.args.thread c.args.part.now c.requires.kept.0 c.args.did.now.items c.requires.kept.1 c.args.var t.0) in (
       t.0,
       subst (λ (me : Me (VarPart g.row.P-Value.Denot) (View g.row.P-Value.Denot)). slice_index me.0.seen c.args.var ≤ t.0.places) inv.2 t.1.seen,
       subst (λ (me : Me (VarPart g.row.P-Value.Denot) (View g.row.P-Value.Denot)). Comes m g.J.Round.guide c.args.thread c.args.var c.args.part.now c.try_on-tried.new.part me c.try_on-tried.new.token.me c.args.did.now.items c.try_on-tried.new.did.items c.in-Some-tried.touched) taken
-      (subst (λ (part : ThreadPart). Comes m g.J.Round.guide c.args.thread c.args.var part c.try_on-tried.new.part c.take_up-word.new.token.me c.try_on-tried.new.token.me c.args.did.now.items c.try_on-tried.new.did.items c.in-Some-tried.touched) inv.3
-      (subst (λ (l : List WovenStep). Comes m g.J.Round.guide c.args.thread c.args.var c.loop.part c.try_on-tried.new.part c.take_up-word.new.token.me c.try_on-tried.new.token.me l c.try_on-tried.new.did.items c.in-Some-tried.touched) (ap (λ d. d.items) inv.4)
-      c.in-Some-tried.ensures.comes)),
+          (subst (λ (part : ThreadPart). Comes m g.J.Round.guide c.args.thread c.args.var part c.try_on-tried.new.part c.take_up-word.new.token.me c.try_on-tried.new.token.me c.args.did.now.items c.try_on-tried.new.did.items c.in-Some-tried.touched) inv.3
+          (subst (λ (l : List WovenStep). Comes m g.J.Round.guide c.args.thread c.args.var c.loop.part c.try_on-tried.new.part c.take_up-word.new.token.me c.try_on-tried.new.token.me l c.try_on-tried.new.did.items c.in-Some-tried.touched) (ap (λ d. d.items) inv.4)
+          c.in-Some-tried.ensures.comes)),
     )

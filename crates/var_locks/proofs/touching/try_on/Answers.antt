@@ -1,4 +1,4 @@
-use Rattle.std.proofs.Common.{rules, ◌≡◌, ℕ, ◌+◌, ◌/◌, refl, sym, ap, ◌∙◌, subst, List, ◌∷◌, []}
+use Rattle.std.proofs.Common.{◌+◌, ◌/◌, sym, ap, ◌∙◌, subst}
 use Rattle.master_core.specs.declared.parts.VarPart.{VarPart}
 use Rattle.atomic_table.specs.Table.{Me}
 use Rattle.var_locks.specs.declared.view.View.{View}

@@ -1,8 +1,8 @@
-use Rattle.std.proofs.Common.{rules, ◌≡◌, refl, sym, ap, ◌∙◌, subst, Bool, true, false, List, [], ◌∷◌, ℕ}
+use Rattle.std.proofs.Common.{ap, ◌∙◌, []}
 use Rattle.master_core.specs.declared.parts.VarPart.{VarPart}
 use Rattle.atomic_table.specs.Table.{Me}
 use Rattle.var_locks.specs.declared.view.View.{View}
-use Rattle.var_locks.specs.Views.{empty_hand, missed_view}
+use Rattle.var_locks.specs.Views.{empty_hand}
 use Rattle.var_locks.proofs.SlotLists.{either_way}
 use Rattle.var_locks.proofs.touching.wait_on.Goals as goal
 

@@ -1,4 +1,4 @@
-use Rattle.std.proofs.Common.{rules, ◌≡◌, ℕ, refl, sym, ap, ◌∙◌, subst, List, [], ◌∷◌, Bool, Result, Ok, Err}
+use Rattle.std.proofs.Common.{◌≡◌, ℕ, sym, ap, ◌∙◌, subst, List, [], ◌∷◌, Bool, Result, Ok, Err}
 use Rattle.std.specs.Prelude.{IfOk}
 use Rattle.plain_text.specs.declared.memory.NoMemory.{NoMemory}
 use Rattle.access_log.specs.declared.entry.StampedEntry.{StampedEntry}
@@ -29,7 +29,7 @@ returns-clause-worked g c = go c.touch.result c.touch.ensures.touched
     go : (r : Result StampedEntry NoMemory)
         → IfOk r (λ e. TouchesParts (g.P.Program.meaning c.args.program.now) c.args.thread c.args.var c.args.place c.args.part.now c.slot_mut-slot.result.now e c.touch.new.part c.touch.new.variable)
         → IfOk r (λ e. (x : VarPart g.row.P-Value.Denot) → c.args.token.now.me.1 ≡ (c.args.var, x) ∷ []
-            → Works (g.P.Program.meaning c.args.program.now) c.args.thread c.args.var c.args.read c.args.place c.args.part.now c.touch.new.part e x ((c.args.var, c.touch.new.variable) ∷ rest c.args.token.now.me.1))
+        → Works (g.P.Program.meaning c.args.program.now) c.args.thread c.args.var c.args.read c.args.place c.args.part.now c.touch.new.part e x ((c.args.var, c.touch.new.variable) ∷ rest c.args.token.now.me.1))
     go (Err none) done = tt
     go (Ok e) done = λ x is.
         let same : (c.args.var, c.slot_mut-slot.result.now) ∷ rest c.args.token.now.me.1 ≡ (c.args.var, x) ∷ [] = sym c.slot_mut-slot.ensures.value ∙ is in (

@@ -1,4 +1,4 @@
-use Rattle.std.proofs.Common.{rules, ◌≡◌, ℕ, List, [], ◌∷◌, ◌++◌, map, reverse, refl, sym, ap, ◌∙◌, subst, Option}
+use Rattle.std.proofs.Common.{◌≡◌, List, [], ◌∷◌, ◌++◌, map, reverse, sym, ap, ◌∙◌, subst, Option}
 use Rattle.std.specs.Prelude.{option_to_list}
 use mathlib.Core.List.{reverse-cons}
 use Rattle.master_core.specs.declared.parts.VarPart.{VarPart}
@@ -6,7 +6,6 @@ use Rattle.master_core.specs.declared.parts.ThreadPart.{ThreadPart}
 use Rattle.master_core.specs.declared.step.WovenStep.{WovenStep}
 use Rattle.atomic_table.specs.Table.{Me}
 use Rattle.var_locks.specs.declared.view.View.{View}
-use Rattle.var_locks.specs.Views.{joined_view}
 use Rattle.var_locks.specs.Seats.{Seated}
 use Rattle.var_locks.specs.Closing.{AreSeats, HasSeats, seat_part, seat_steps}
 use Rattle.var_locks.proofs.Gathering.{own_seat, own_steps, joined_seat, seats_stay, last_seat, append_again}
@@ -36,7 +35,7 @@ join_in-requires-clause-table g c κs within =
     let x = c.in-Some.seat in
     let done = c.loop-seat.invariant.2.0 in
     let all : c.args.seats.items ≡ c.pop-in-loop-seat.new.self.items ++ x ∷ done =
-            c.loop-seat.invariant.2.1 ∙ (ap (λ (l : List (Seated g.row.P-Value.Denot)). l ++ done) c.in-Some.ensures.items ∙ append_again c.pop-in-loop-seat.new.self.items x done) in (
+    c.loop-seat.invariant.2.1 ∙ (ap (λ (l : List (Seated g.row.P-Value.Denot)). l ++ done) c.in-Some.ensures.items ∙ append_again c.pop-in-loop-seat.new.self.items x done) in (
       c.loop-seat.invariant.0,
       c.take_apart-other.ensures.round ∙ last_seat c.args.shared.now.table_id 0 c.pop-in-loop-seat.new.self.items x done (subst (λ (l : List (Seated g.row.P-Value.Denot)). AreSeats c.args.shared.now.table_id 0 l) all c.requires.seats),
     )
@@ -50,7 +49,7 @@ loop-seat-preserved g c =
     let w : View g.row.P-Value.Denot = c.loop-seat.token.me.0 in
     let joined = c.join_in.ensures.joined in
     let all : c.args.seats.items ≡ c.pop-in-loop-seat.new.self.items ++ x ∷ done =
-            c.loop-seat.invariant.2.1 ∙ (ap (λ (l : List (Seated g.row.P-Value.Denot)). l ++ done) c.in-Some.ensures.items ∙ append_again c.pop-in-loop-seat.new.self.items x done) in (
+    c.loop-seat.invariant.2.1 ∙ (ap (λ (l : List (Seated g.row.P-Value.Denot)). l ++ done) c.in-Some.ensures.items ∙ append_again c.pop-in-loop-seat.new.self.items x done) in (
       c.join_in.ensures.same.0 ∙ c.loop-seat.invariant.0,
       ap (λ (me : Me (VarPart g.row.P-Value.Denot) (View g.row.P-Value.Denot)). me.0.hand) joined ∙ c.loop-seat.invariant.1,
       (

@@ -1,6 +1,6 @@
-use Rattle.std.proofs.Common.{◌≡◌, ◌<◌, ℕ, List, [], ◌++◌, length, map, reverse, None}
+use Rattle.std.proofs.Common.{◌≡◌, List, ◌++◌, length, map, reverse, None}
 use Rattle.var_locks.specs.Seats.{Seated}
-use Rattle.var_locks.specs.Closing.{AreSeats, HasSeats, seat_part, seat_steps}
+use Rattle.var_locks.specs.Closing.{HasSeats, seat_part, seat_steps}
 use Rattle.var_locks.proofs.vars.gather.Given as goal
 
 -- the last seats came together

@@ -1,7 +1,7 @@
-use Rattle.std.proofs.Common.{rules, ◌≡◌, ℕ, ◌+◌, ◌<◌, ◌≤◌, ◌^◌, refl, sym, ap, ◌∙◌, subst, List, length}
+use Rattle.std.proofs.Common.{rules, ℕ, ◌≤◌, ◌^◌, sym, ap, ◌∙◌, subst, List}
 use Rattle.std.specs.Prelude.{slice_index}
 use Rattle.master_core.specs.declared.parts.VarPart.{VarPart}
-use Rattle.var_locks.specs.Openings.{places_of, words_of}
+use Rattle.var_locks.specs.Openings.{places_of}
 use Rattle.var_locks.proofs.FirstWords.{few_places, split_opens}
 use Rattle.var_locks.proofs.vars.Vars.of.Goals as goal
 
