@@ -7,6 +7,7 @@ mod keeping;
 mod opening;
 mod seats;
 mod steps;
+mod touches;
 mod touching;
 mod vars;
 mod view;

@@ -1,0 +1,109 @@
+//! The call by which a thread touches or reads the variable that it wants.
+ghost use Rattle.std.specs.Prelude.{◌≡◌, ℕ, ◌<◌, ◌^◌, false, Some, slice_set, IfSome, IfNone};
+ghost use Rattle.plain_machine.specs.declared.local.Move.TheVariants as move_is;
+ghost use Rattle.master_core.specs.Mastered.{moves_made, WantsVariable};
+ghost use Rattle.var_locks.specs.Rounds.{AreVarsOf};
+ghost use Rattle.var_locks.specs.Seats.{IsSeatOf};
+ghost use Rattle.var_locks.specs.TouchedParts.{Touches, seen_by, wanted_move};
+
+use crate::seats::VarSeat;
+use crate::touching::{Gate, Touched, touch_on};
+use crate::vars::Vars;
+use crate::view::Round;
+use access_log::What;
+use box_program::Program;
+use plain_machine::{Local, Move};
+use replay_guide::Guide;
+use std::alloc::Global;
+use std::sync::Wait;
+
+/// The variable was seen with this number of touches.
+#[tactic(auto, using(crate::proofs::Wanting::set_past))]
+fn see_at(seen: &mut Vec<u64>, var: u32, places: u64)
+    ensures { seen.new.items ≡ slice_set seen.old.items var places }
+{
+    if (var as usize) < seen.len() {
+        seen[var as usize] = places;
+    }
+}
+
+/// What a seat saw by a touch or a read.
+fn see(seen: &mut Vec<u64>, touched: &Touched)
+    ensures { seen.new.items ≡ seen_by seen.old.items touched.now }
+{
+    let Touched::Did(entry) = touched else {
+        return;
+    };
+    match entry.what {
+        What::Access { var, place } => see_at(seen, var, place),
+        What::Read { var, after } => see_at(seen, var, after),
+        What::Clock(_) | What::Draw(_) => {}
+    }
+}
+
+/// The variable that the program wants at this place, and whether it is to be read.
+fn wanted<P: Program>(program: &P, place: &Local) -> Option<(u32, bool)>
+    ensures some { IfSome result (λ w. (P.meaning program.now).next place.now ≡ wanted_move w.0 w.1) }
+    ensures no_touch { IfNone result ((v : ℕ) → (P.meaning program.now).next place.now ≡ move_is.Access v → ⊥) }
+    ensures no_read { IfNone result ((v : ℕ) → (P.meaning program.now).next place.now ≡ move_is.Read v → ⊥) }
+{
+    match program.next(place) {
+        Move::Access(var) => Some((var, false)),
+        Move::Read(var) => Some((var, true)),
+        Move::Clock | Move::Draw | Move::Emit | Move::End => None,
+    }
+}
+
+impl<P: Program, J: Round> Vars<P, J> {
+    /// Makes the touch or the read that the seat's thread wants. It waits while another seat has the variable, or the guide says to
+    /// wait.
+    ///
+    /// `Did` has the entry, whose place is above all that this seat had seen of the variable. `Blocked` names the entry for which the
+    /// guide says to wait, and comes only where its thread had ended the round without it. After `Blocked` and `NoMemory` the seat
+    /// made no move and has no variable.
+    pub fn touch<R: Wait, G: Gate>(
+        &self,
+        rt: &R,
+        alloc: Global,
+        program: &P,
+        seat: &mut VarSeat<P>,
+        guide: &Guide,
+        gate: &G,
+    ) -> Touched
+        requires of { AreVarsOf P.meaning P.row.coded P.Value.row.coded J.program J.opening J.threads
+            program.now self.now.table.shared.table_id.words self.now.vars self.now.threads }
+        requires guide { guide.now ≡ J.guide }
+        requires seat { IsSeatOf self.now.table.shared.table_id self.now.threads seat.old }
+        requires going { seat.old.ended ≡ false }
+        requires room { moves_made seat.old.part < 2 ^ 56 }
+        requires wants { WantsVariable (P.meaning program.now) seat.old.part.hand }
+        ensures touches { Touches (P.meaning program.now) J.guide seat.old seat.new result }
+    {
+        let Ok(()) = seat.receipts.reserve(1) else {
+            return Touched::NoMemory;
+        };
+        let place = seat.part.hand.unwrap();
+        let Some((var, read)) = wanted(program, &place) else {
+            unreachable!()
+        };
+        let touched = touch_on::<P, J, R, G>(
+            rt,
+            alloc,
+            program,
+            guide,
+            gate,
+            &self.table.shared,
+            self.vars,
+            self.threads,
+            seat.thread,
+            &mut seat.token,
+            &mut seat.part,
+            &mut seat.receipts,
+            place,
+            var,
+            read,
+        );
+        see(&mut seat.seen, &touched);
+        touched
+    }
+}
