@@ -5,13 +5,13 @@
 mod calls;
 mod keeping;
 mod opening;
+mod progress;
 mod seats;
 mod steps;
 mod touches;
 mod touching;
 mod vars;
 mod view;
-mod wanting;
 
 pub use seats::VarSeat;
 pub use touching::{Gate, OpenGate, Touched};
