@@ -10,6 +10,9 @@ use Rattle.master_core.specs.declared.step.Trace.{Trace}
 use Rattle.atomic_table.specs.Seated.{TableId}
 use Rattle.var_locks.specs.Seats.{Seated, HasMade}
 use Rattle.var_locks.specs.Plain.{Steps}
+use Rattle.var_locks.specs.declared.touching.Touched.{Touched}
+use Rattle.var_locks.specs.declared.touching.Touched.TheVariants as touched
+use Rattle.var_locks.specs.TouchedParts.{Touches}
 use Rattle.var_locks.specs.Openings.{fresh_seat, fresh_seats}
 use Rattle.lock_tests.specs.Racing.{IsAt}
 
@@ -28,6 +31,11 @@ module _ {V : Type 0} (m : Meaning V) (guide : List Lane) (round : TableId) (t :
   steps_keep answer packet stepped.Idle is = same is.0
   steps_keep answer packet (stepped.NotTurn u n) is = absurd is
   steps_keep answer packet stepped.NoMemory is = same is
+
+  pub touches_keep : (r : Touched) → Touches m guide old new r → IsAt round t b new
+  touches_keep (touched.Did e) is = subst (λ (x : Seated V). IsAt round t b x) (sym is.seat) (record { thread = at.thread; round_is = at.round_is; ended_is = at.ended_is })
+  touches_keep (touched.Blocked u k) is = subst (λ (x : Seated V). IsAt round t b x) (sym is) (record { thread = at.thread; round_is = at.round_is; ended_is = at.ended_is })
+  touches_keep touched.NoMemory is = same is
 
 last_two : {X : Type 0} (rest : List X) (x y a b : X) → (rest ++ x ∷ []) ++ y ∷ [] ≡ a ∷ b ∷ [] → (x ≡ a) × (y ≡ b)
 last_two [] x y a b is = (cc, cc)

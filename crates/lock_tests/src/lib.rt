@@ -2,8 +2,13 @@
 //! test is proved once.
 #![tactic(auto)]
 
+#[cfg(test)]
+mod orders;
+#[cfg(test)]
 mod racing;
+#[cfg(test)]
 mod rounds;
 #[cfg(test)]
 mod turns;
+#[cfg(test)]
 mod weaving;

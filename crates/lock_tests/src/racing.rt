@@ -9,7 +9,8 @@ use master_core::Stepped;
 use plain_text::Packet;
 use replay_guide::Guide;
 use std::alloc::Global;
-use var_locks::{Round, VarSeat, Vars};
+use std::sync::Wait;
+use var_locks::{OpenGate, Round, Touched, VarSeat, Vars};
 
 /// No thread of a test comes to so many inputs, entries or outputs.
 const MOST_COUNT: u64 = 1 << 40;
@@ -18,8 +19,9 @@ const MOST_COUNT: u64 = 1 << 40;
 const MOST_MOVES: u32 = 64;
 
 /// Makes the next move of the seat's thread; a clock or a draw is told its number. Out of memory also where the thread made more moves than a test makes.
-#[tactic(auto, using(crate::proofs::Keeping::steps_keep))]
-pub fn make<P: Program, J: Round>(
+#[tactic(auto, using(crate::proofs::Keeping::steps_keep, crate::proofs::Keeping::touches_keep))]
+pub fn make<P: Program, J: Round, R: Wait>(
+    rt: &R,
     alloc: Global,
     program: &P,
     vars: &Vars<P, J>,
@@ -40,13 +42,18 @@ pub fn make<P: Program, J: Round>(
         return Stepped::NoMemory;
     }
     if seat.wants_variable(program) {
-        return Stepped::NoMemory;
+        return match vars.touch(rt, alloc, program, seat, guide, &OpenGate) {
+            Touched::Did(entry) => Stepped::Did(entry),
+            Touched::Blocked { thread, number } => Stepped::NotTurn { thread, number },
+            Touched::NoMemory => Stepped::NoMemory,
+        };
     }
     vars.plain(alloc, program, seat, guide, u64::from(thread), Some(packet))
 }
 
 /// Takes a packet to its end; whether it came there.
-fn run_one<P: Program, J: Round>(
+fn run_one<P: Program, J: Round, R: Wait>(
+    rt: &R,
     alloc: Global,
     program: &P,
     vars: &Vars<P, J>,
@@ -63,7 +70,7 @@ fn run_one<P: Program, J: Round>(
     ensures seat { IsAt vars.now.table.shared.table_id thread false seat.new }
 {
     for _made in 0..MOST_MOVES {
-        match make(alloc, program, vars, guide, thread, seat, packet) {
+        match make(rt, alloc, program, vars, guide, thread, seat, packet) {
             Stepped::Ended(_) => return true,
             Stepped::Took(_) | Stepped::Did(_) | Stepped::Emitted(_) => {}
             Stepped::Idle | Stepped::NotTurn { .. } | Stepped::NoMemory => return false,
@@ -73,7 +80,8 @@ fn run_one<P: Program, J: Round>(
 }
 
 /// Takes the first inputs of the seat's thread to their ends, so many, and ends the round for it.
-pub fn run<P: Program, J: Round>(
+pub fn run<P: Program, J: Round, R: Wait>(
+    rt: &R,
     alloc: Global,
     program: &P,
     vars: &Vars<P, J>,
@@ -94,7 +102,7 @@ pub fn run<P: Program, J: Round>(
         let Some(packet) = inputs.input(thread, number + 1) else {
             break;
         };
-        if !run_one(alloc, program, vars, guide, thread, &mut seat, packet) {
+        if !run_one(rt, alloc, program, vars, guide, thread, &mut seat, packet) {
             break;
         }
     }

@@ -16,10 +16,11 @@ use plain_text::NoMemory;
 use replay_guide::Guide;
 use std::alloc::Global;
 use std::marker::Brand;
+use std::sync::Wait;
 use var_locks::{Closed, Round, VarSeat, Vars};
 
 /// The two seats of a round.
-fn two_of<P: Program>(mut seats: Vec<VarSeat<P>>) -> Option<(VarSeat<P>, VarSeat<P>)>
+pub fn two_of<P: Program>(mut seats: Vec<VarSeat<P>>) -> Option<(VarSeat<P>, VarSeat<P>)>
     ensures { (round : TableId) (places : List ℕ) (threads : List ThreadPart) → seats.items ≡ fresh_seats round places 0 threads → length threads ≡ 2
         → IfSome result (λ both. IsAt round 0 false both.0 × IsAt round 1 false both.1) }
 {
@@ -29,7 +30,8 @@ fn two_of<P: Program>(mut seats: Vec<VarSeat<P>>) -> Option<(VarSeat<P>, VarSeat
 }
 
 /// A round in which each of two threads takes so many inputs to their ends, one after the other.
-fn round_of<P: Program, J: Round>(
+fn round_of<P: Program, J: Round, R: Wait>(
+    rt: &R,
     alloc: Global,
     program: &P,
     master: Master<P>,
@@ -52,8 +54,8 @@ fn round_of<P: Program, J: Round>(
     let Some((first, second)) = two_of(seats) else {
         return Err(NoMemory);
     };
-    let first = run(alloc, program, &vars, guide, 0, first, inputs, count);
-    let second = run(alloc, program, &vars, guide, 1, second, inputs, count);
+    let first = run(rt, alloc, program, &vars, guide, 0, first, inputs, count);
+    let second = run(rt, alloc, program, &vars, guide, 1, second, inputs, count);
     let mut seats = Vec::new(alloc);
     seats.push(first)?;
     seats.push(second)?;
@@ -61,7 +63,8 @@ fn round_of<P: Program, J: Round>(
 }
 
 /// A round in which each of two threads takes so many inputs to their ends, one after the other.
-pub fn take_turns<P: Program>(
+pub fn take_turns<P: Program, R: Wait>(
+    rt: &R,
     alloc: Global,
     program: &P,
     master: Master<P>,
@@ -75,5 +78,5 @@ pub fn take_turns<P: Program>(
         value_of closed.master.vars) }
     ensures two { IfOk result (λ closed. length closed.master.threads ≡ 2) }
 {
-    round_of::<P, Brand>(alloc, program, master, guide, inputs, count)
+    round_of::<P, Brand, R>(rt, alloc, program, master, guide, inputs, count)
 }
