@@ -5,6 +5,7 @@
 mod calls;
 mod keeping;
 mod opening;
+mod progress;
 mod seats;
 mod steps;
 mod touches;

@@ -1,0 +1,189 @@
+//! Two seats whose moves are put in each order on one thread of the machine.
+ghost use Rattle.std.specs.Prelude.{◌≡◌, ℕ, ◌<◌, length, false, true};
+ghost use Rattle.box_program.specs.Hands.{FitsProgram};
+ghost use Rattle.master_core.specs.Mastered.{value_of};
+ghost use Rattle.var_locks.specs.Codes.{master_code};
+ghost use Rattle.var_locks.specs.Openings.{places_of};
+ghost use Rattle.var_locks.specs.Rounds.{AreVarsOf};
+ghost use Rattle.lock_tests.specs.Racing.{IsAt};
+
+use crate::racing::make;
+use crate::rounds::two_of;
+use crate::turns::two_inputs;
+use crate::weaving::{is_legal, woven};
+use box_program::Program;
+use input_logger::InputLog;
+use master_core::{Master, Stepped};
+use monitor_box::MonitorBox;
+use plain_text::{NoMemory, Packet};
+use replay_guide::Guide;
+use std::alloc::Global;
+use std::marker::Brand;
+use std::sync::Wait;
+use std::test::Fail;
+use var_locks::{Receipts, Round, VarSeat, Vars};
+
+/// Makes the next move of thread 0, or of thread 1.
+fn make_one<P: Program, J: Round, R: Wait>(
+    rt: &R,
+    alloc: Global,
+    program: &P,
+    vars: &Vars<P, J>,
+    guide: &Guide,
+    first: &mut VarSeat<P>,
+    second: &mut VarSeat<P>,
+    packets: [&Packet; 2],
+    is_second: bool,
+) -> Stepped
+    requires of { AreVarsOf P.meaning P.row.coded P.Value.row.coded J.program J.opening J.threads
+        program.now vars.now.table.shared.table_id.words vars.now.vars vars.now.threads }
+    requires guide { guide.now ≡ J.guide }
+    requires two { vars.now.threads ≡ 2 }
+    requires first { IsAt vars.now.table.shared.table_id 0 false first.old }
+    requires second { IsAt vars.now.table.shared.table_id 1 false second.old }
+    ensures first { IsAt vars.now.table.shared.table_id 0 false first.new }
+    ensures second { IsAt vars.now.table.shared.table_id 1 false second.new }
+{
+    let [earlier, later] = packets;
+    if is_second {
+        make(rt, alloc, program, vars, guide, 1, second, later)
+    } else {
+        make(rt, alloc, program, vars, guide, 0, first, earlier)
+    }
+}
+
+/// Makes ten moves. The bits of the order say whose, the lowest first: thread 1 makes a move where its bit is 1.
+fn make_all<P: Program, J: Round, R: Wait>(
+    rt: &R,
+    alloc: Global,
+    program: &P,
+    vars: &Vars<P, J>,
+    guide: &Guide,
+    first: &mut VarSeat<P>,
+    second: &mut VarSeat<P>,
+    packets: [&Packet; 2],
+    order: u32,
+)
+    requires of { AreVarsOf P.meaning P.row.coded P.Value.row.coded J.program J.opening J.threads
+        program.now vars.now.table.shared.table_id.words vars.now.vars vars.now.threads }
+    requires guide { guide.now ≡ J.guide }
+    requires two { vars.now.threads ≡ 2 }
+    requires first { IsAt vars.now.table.shared.table_id 0 false first.old }
+    requires second { IsAt vars.now.table.shared.table_id 1 false second.old }
+    ensures first { IsAt vars.now.table.shared.table_id 0 false first.new }
+    ensures second { IsAt vars.now.table.shared.table_id 1 false second.new }
+{
+    let mut bits = order;
+    for _made in 0..10 {
+        let is_second = bits % 2 == 1;
+        make_one(
+            rt, alloc, program, vars, guide, first, second, packets, is_second,
+        );
+        bits /= 2;
+    }
+}
+
+/// The seat, which has ended the round.
+fn ended<P: Program, J: Round>(
+    program: &P,
+    vars: &Vars<P, J>,
+    thread: u32,
+    mut seat: VarSeat<P>,
+) -> VarSeat<P>
+    requires of { AreVarsOf P.meaning P.row.coded P.Value.row.coded J.program J.opening J.threads
+        program.now vars.now.table.shared.table_id.words vars.now.vars vars.now.threads }
+    requires low { thread < vars.now.threads }
+    requires seat { IsAt vars.now.table.shared.table_id thread false seat }
+    ensures seat { IsAt vars.now.table.shared.table_id thread true result }
+{
+    let _ = thread;
+    vars.end(program, &mut seat);
+    seat
+}
+
+/// What each of two threads does with one input, in this order.
+fn order_of<P: Program, J: Round, R: Wait>(
+    rt: &R,
+    alloc: Global,
+    program: &P,
+    master: Master<P>,
+    guide: &Guide,
+    packets: [&Packet; 2],
+    order: u32,
+) -> Result<Receipts, NoMemory>
+    requires program { P.row.coded.code program.now ≡ J.program }
+    requires master { (master_code P.Value.row.coded).code master ≡ J.opening }
+    requires threads { master.threads ≡ J.threads }
+    requires places { places_of master.vars ≡ J.places }
+    requires guide { guide.now ≡ J.guide }
+    requires fits { FitsProgram (P.meaning program.now) (P.fits program.now) value_of master.vars }
+    requires two { length master.threads ≡ 2 }
+{
+    let (vars, seats) = Vars::<P, J>::of(alloc, program, master, guide)?;
+    let Some((mut first, mut second)) = two_of(seats) else {
+        return Err(NoMemory);
+    };
+    make_all(
+        rt,
+        alloc,
+        program,
+        &vars,
+        guide,
+        &mut first,
+        &mut second,
+        packets,
+        order,
+    );
+    let first = ended(program, &vars, 0, first);
+    let second = ended(program, &vars, 1, second);
+    let mut seats = Vec::new(alloc);
+    seats.push(first)?;
+    seats.push(second)?;
+    Ok(vars.close(alloc, program, seats)?.receipts)
+}
+
+/// What each of two threads does with one input, in this order.
+fn in_order<P: Program, R: Wait>(
+    rt: &R,
+    alloc: Global,
+    program: &P,
+    master: Master<P>,
+    guide: &Guide,
+    packets: [&Packet; 2],
+    order: u32,
+) -> Result<Receipts, NoMemory>
+    requires fits { FitsProgram (P.meaning program.now) (P.fits program.now) value_of master.vars }
+    requires two { length master.threads ≡ 2 }
+{
+    order_of::<P, Brand, R>(rt, alloc, program, master, guide, packets, order)
+}
+
+/// Whether what the threads do in this order weaves into a run of the plain player.
+fn weaves<R: Wait>(rt: &R, alloc: Global, inputs: &InputLog, order: u32) -> Result<bool, NoMemory> {
+    let (Some(earlier), Some(later)) = (inputs.input(0, 1), inputs.input(1, 1)) else {
+        return Ok(false);
+    };
+    let program = MonitorBox::new(2);
+    let guide = Guide::none(alloc);
+    let master = Master::fresh(alloc, &program, 2)?;
+    let receipts = in_order(rt, alloc, &program, master, &guide, [earlier, later], order)?;
+    let steps = woven(alloc, &receipts)?;
+    let legal = is_legal(alloc, &program, inputs, steps.as_slice())?;
+    Ok(legal && steps.len() == 10)
+}
+
+/// Each thread makes five moves, in each of the C(10, 5) orders.
+#[test]
+fn two_threads_in_every_order(rt: HostRuntime) -> Result<(), Fail> {
+    let alloc = rt.alloc();
+    let inputs = two_inputs(alloc)?;
+    let mut orders = 0u32;
+    for order in 0u32..1024 {
+        if order.count_ones() == 5 {
+            assert!(rt; weaves(&rt, alloc, &inputs, order)?, "{order}");
+            orders = orders.saturating_add(1);
+        }
+    }
+    assert_eq!(rt; orders, 252);
+    Ok(())
+}

@@ -1,0 +1,111 @@
+//! Two threads over the monitor box, one after the other on one thread of the machine: exactly what each did.
+use crate::rounds::take_turns;
+use crate::weaving::{is_legal, woven};
+use access_log::{StampedEntry, What};
+use input_logger::InputLog;
+use master_core::{Master, Trace, Woven};
+use monitor_box::MonitorBox;
+use plain_text::{Bytes, NoMemory, Packet};
+use replay_guide::Guide;
+use sample_frames::{OTHER_QUERY, QUERY};
+use std::alloc::Global;
+use std::sync::Wait;
+use std::test::Fail;
+use thread_clock::Stamp;
+
+/// A packet of these captured bytes, all that it had on the wire.
+fn packet(alloc: Global, frame: &[u8]) -> Result<Packet, NoMemory> {
+    Ok(Packet {
+        seconds: 100,
+        fraction: 5,
+        original: 42,
+        bytes: Bytes::of(alloc, frame)?,
+    })
+}
+
+/// The two packets as the inputs of two threads: the query is steered to thread 0, the other one to thread 1.
+pub fn two_inputs(alloc: Global) -> Result<InputLog, NoMemory> {
+    let mut inputs = InputLog::new(alloc, 2)?;
+    inputs.feed(packet(alloc, &QUERY)?)?;
+    inputs.feed(packet(alloc, &OTHER_QUERY)?)?;
+    Ok(inputs)
+}
+
+/// What the two threads of a round of the monitor box did, each with its one input, thread 0 first.
+fn take_one_each<R: Wait>(
+    rt: &R,
+    alloc: Global,
+    inputs: &InputLog,
+) -> Result<Vec<Woven>, NoMemory> {
+    let program = MonitorBox::new(2);
+    let guide = Guide::none(alloc);
+    let master = Master::fresh(alloc, &program, 2)?;
+    let closed = take_turns(rt, alloc, &program, master, &guide, inputs, 1)?;
+    Ok(closed.receipts)
+}
+
+/// The stamp of which these are the components of threads 0 and 1.
+fn stamp(first: u64, second: u64) -> Stamp {
+    let mut components = [0; 16];
+    components[0] = first;
+    components[1] = second;
+    Stamp::new(components)
+}
+
+/// The touch of a variable at this place.
+fn touch(thread: u32, number: u64, var: u32, place: u64, stamp: Stamp) -> Trace {
+    Trace::Did(StampedEntry {
+        thread,
+        number,
+        what: What::Access { var, place },
+        stamp,
+    })
+}
+
+/// What each thread does: it counts the packet in the table of its flow, and in the totals, which thread 1 finds as thread 0 left them.
+fn wanted() -> [[Trace; 5]; 2] {
+    [
+        [
+            Trace::Took(1),
+            touch(0, 1, 1, 1, stamp(1, 0)),
+            touch(0, 2, 0, 1, stamp(2, 0)),
+            Trace::Emitted(1),
+            Trace::Ended(1),
+        ],
+        [
+            Trace::Took(1),
+            touch(1, 1, 2, 1, stamp(0, 1)),
+            touch(1, 2, 0, 2, stamp(2, 2)),
+            Trace::Emitted(1),
+            Trace::Ended(1),
+        ],
+    ]
+}
+
+/// What the thread did.
+fn traces(alloc: Global, receipts: &[Woven], thread: usize) -> Result<Vec<Trace>, NoMemory> {
+    let mut traces = Vec::new(alloc);
+    if let Some(steps) = receipts.get(thread) {
+        for step in steps.as_slice() {
+            traces.push(step.trace)?;
+        }
+    }
+    Ok(traces)
+}
+
+/// Each thread touches a table of its own at place 1, and then the totals; woven, this is a run of the plain player.
+#[test]
+fn two_threads_one_after_the_other(rt: HostRuntime) -> Result<(), Fail> {
+    let alloc = rt.alloc();
+    let inputs = two_inputs(alloc)?;
+    let receipts = take_one_each(&rt, alloc, &inputs)?;
+    let wanted = wanted();
+    for thread in 0..2 {
+        let traces = traces(alloc, &receipts, thread)?;
+        assert_eq!(rt; traces.as_slice(), wanted[thread].as_slice());
+    }
+    let steps = woven(alloc, &receipts)?;
+    assert_eq!(rt; steps.len(), 10);
+    assert!(rt; is_legal(alloc, &MonitorBox::new(2), &inputs, steps.as_slice())?);
+    Ok(())
+}
