@@ -7,8 +7,6 @@ mod kind;
 mod laws;
 mod settings;
 mod table;
-#[cfg(test)]
-mod tests;
 
 pub use conf::read_box;
 pub use kind::{BoxConf, BoxKind};

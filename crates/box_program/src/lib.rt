@@ -5,8 +5,6 @@ mod count;
 mod numbered;
 mod peek;
 mod program;
-#[cfg(test)]
-mod tests;
 
 pub use count::CountBox;
 pub use peek::PeekBox;

@@ -5,6 +5,3 @@ mod numbers;
 mod released;
 
 pub use released::Released;
-
-#[cfg(test)]
-mod tests;

@@ -4,8 +4,6 @@
 mod address;
 mod links;
 mod run;
-#[cfg(test)]
-mod tests;
 
 pub use address::Address;
 pub use links::Links;

@@ -16,6 +16,3 @@ pub use laws::{
 pub use monitor::MonitorBox;
 pub use table::FlowTable;
 pub use value::MonitorValue;
-
-#[cfg(test)]
-mod tests;

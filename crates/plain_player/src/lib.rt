@@ -7,8 +7,6 @@ mod laws;
 mod player;
 mod schedule;
 mod seat;
-#[cfg(test)]
-mod tests;
 mod whole;
 
 pub use hand::{HandMove, MoveError};

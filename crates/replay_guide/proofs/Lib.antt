@@ -6,4 +6,3 @@ pub mod OrderLemmas
 pub mod WorldTurns
 pub mod WorldAnswers
 pub mod WorldOrders
-pub mod ExampleLemmas

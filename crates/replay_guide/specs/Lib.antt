@@ -4,4 +4,3 @@ pub mod Orders
 pub mod Indexes
 pub mod Walks
 pub mod Worlds
-pub mod Examples

@@ -12,6 +12,3 @@ pub use laws::{
     answers_are_those_of_the_world, closed_parts_can_be_followed, guides_follow_the_world,
     orders_are_by_weight, turns_are_those_of_the_world,
 };
-
-#[cfg(test)]
-mod tests;

@@ -8,8 +8,6 @@ mod laws;
 mod outcome;
 mod part;
 mod script;
-#[cfg(test)]
-mod tests;
 mod written;
 
 pub use choosing::auto_event;

@@ -11,8 +11,6 @@ mod laws;
 mod layout;
 mod reading;
 mod stamp;
-#[cfg(test)]
-mod tests;
 mod values;
 mod version;
 mod writing;

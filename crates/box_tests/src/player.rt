@@ -1,10 +1,10 @@
 ghost use Rattle.std.specs.Prelude.{◌+◌, ◌<◌, ◌≤◌, ◌^◌};
 ghost use Rattle.box_program.specs.Hands.{FitsProgram};
 
-use crate::{MoveError, PlayError, Player, play, put_schedule, read_schedule};
 use box_program::{CountBox, PeekBox, Program};
 use input_logger::InputLog;
 use plain_machine::{Emission, PlainMove, PlayCause, PlayFault, Schedule};
+use plain_player::{MoveError, PlayError, Player, play, put_schedule, read_schedule};
 use plain_text::{Bytes, LineCause, LineFault, NoMemory, Packet, ReadError};
 use std::alloc::Global;
 use std::test::Fail;

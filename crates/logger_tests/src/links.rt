@@ -1,4 +1,4 @@
-use super::*;
+use link_store::Links;
 use plain_text::{Bytes, Kind, NoMemory};
 use std::alloc::Global;
 use std::test::Fail;

@@ -1,10 +1,10 @@
 //! Worked by hand: the example of two threads that count, reads between two touches, and what a clock was told.
 ghost use Rattle.std.specs.Prelude.{◌≡◌, ◌<◌, ◌≤◌, IfOk, IsTrue, length};
-ghost use Rattle.replay_guide.specs.Examples.{IsPlaced, IsFirst, AreFirst};
+ghost use Rattle.script_tests.specs.Examples.{IsPlaced, IsFirst, AreFirst};
 
-use crate::{Guide, Order};
 use access_log::{Held, StampedEntry, Turn, What};
 use plain_text::NoMemory;
+use replay_guide::Guide;
 use std::alloc::Global;
 use std::marker::{Send, Sync};
 use std::test::Fail;

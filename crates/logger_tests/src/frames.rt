@@ -1,13 +1,14 @@
 ghost use Rattle.std.specs.Prelude.{◌≡◌, ◌+◌, ◌≤◌, ℕ, slice_index, length, IfOk};
 ghost use Rattle.wire_frames.specs.Writing.{CanPutEntry, CanPutOutput};
 
-use super::*;
-use access_log::{Output, StampedEntry};
-use entry_order::What;
+use access_log::{Output, StampedEntry, What};
 use plain_text::{Bytes, Packet};
 use std::alloc::Global;
 use std::test::Fail;
 use thread_clock::Stamp;
+use wire_frames::{
+    Frame, FrameError, FrameFault, entry_length, output_length, put_entry, put_output, take_frame,
+};
 
 /// The first touch of thread 0, of variable 0 and at place 1, in epoch 1 and of one thread, in version 1.
 const OLD_TOUCH: [u8; 45] = [

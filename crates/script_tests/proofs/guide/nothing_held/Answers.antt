@@ -1,8 +1,8 @@
 use Rattle.std.proofs.Common.{◌≡◌, List, Result, Ok, Err, IfOk, length, replicate, refl, sym, subst}
 use Rattle.access_log.specs.Held.{Lane, fresh_lane}
-use Rattle.replay_guide.specs.Examples.{AreFirst}
-use Rattle.replay_guide.proofs.ExampleLemmas.{first_none}
-use Rattle.replay_guide.proofs.tests.nothing_held.Goals as goal
+use Rattle.script_tests.specs.Examples.{AreFirst}
+use Rattle.script_tests.proofs.ExampleLemmas.{first_none}
+use Rattle.script_tests.proofs.guide.nothing_held.Goals as goal
 
 if_ok : {X E : Type 0} (r : Result X E) (P Q : X → Type 0) → ((x : X) → P x → Q x) → IfOk r P → IfOk r Q
 if_ok (Ok x) P Q f p = f x p

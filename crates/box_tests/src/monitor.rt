@@ -1,8 +1,8 @@
 ghost use Rattle.monitor_box.specs.Monitor.{Fits};
 ghost use Rattle.std.specs.Prelude.{IfOk};
 
-use super::*;
 use box_program::{Local, Move, Program};
+use monitor_box::{MonitorBox, MonitorValue};
 use plain_text::{Bytes, NoMemory, Packet};
 use sample_frames::{NEXT_QUERY, QUERY, SYN};
 use std::alloc::Global;

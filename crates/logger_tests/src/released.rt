@@ -1,4 +1,4 @@
-use super::*;
+use dup_filter::Released;
 use plain_text::NoMemory;
 use std::alloc::Global;
 use std::marker::{Send, Sync};

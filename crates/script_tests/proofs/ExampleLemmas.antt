@@ -10,7 +10,7 @@ use Rattle.access_log.specs.Held.{Lane, lane, entry_at, fresh_lane, IsKnown}
 use Rattle.access_log.specs.Lanes.{PutsEntry}
 use Rattle.access_log.proofs.LaneLemmas.{lane_of_replicate}
 use Rattle.replay_guide.specs.Following.{CanBeFollowed}
-use Rattle.replay_guide.specs.Examples.{IsPlaced, IsFirst, AreFirst}
+use Rattle.script_tests.specs.Examples.{IsPlaced, IsFirst, AreFirst}
 
 pub placed_touch : (t v place : ℕ) → t + place ≡ 2 → IsPlaced t (Access v place)
 placed_touch t v place sum w p is = let same = touch_only v place w p is in omega (arith, same.1)

@@ -1,4 +1,4 @@
-use crate::{Event, Kind, auto_event, put_event, read_script};
+use script_text::{Event, Kind, auto_event, put_event, read_script};
 use std::alloc::Global;
 use std::test::Fail;
 

@@ -1,5 +1,5 @@
 use Rattle.monitor_box.specs.Monitor.{Fits}
-use Rattle.monitor_box.proofs.tests.counts_in.Given as goal
+use Rattle.box_tests.proofs.monitor.counts_in.Given as goal
 
 abbrev pub invariant-loop-bytes : goal.invariant-loop-bytes
 invariant-loop-bytes l = record {

@@ -1,6 +1,6 @@
 ghost use Rattle.std.specs.Prelude.{ℕ, ◌<◌, ◌^◌};
 
-use crate::{CountBox, Move, PeekBox, Program};
+use box_program::{CountBox, Move, PeekBox, Program};
 use plain_text::{Bytes, NoMemory, Packet, Text};
 use std::alloc::Global;
 use std::process::Abort;

@@ -1,6 +1,6 @@
 use Rattle.std.proofs.Common.{◌≡◌, length}
-use Rattle.replay_guide.specs.Examples.{AreFirst}
-use Rattle.replay_guide.proofs.tests.guide_of.Given as goal
+use Rattle.script_tests.specs.Examples.{AreFirst}
+use Rattle.script_tests.proofs.guide.guide_of.Given as goal
 
 abbrev pub invariant-loop-entry : goal.invariant-loop-entry
 invariant-loop-entry l = record {

@@ -1,7 +1,7 @@
 use Rattle.std.proofs.Common.{rules, sym, ap, subst}
 use Rattle.monitor_box.specs.Monitor.{Fits}
 use Rattle.monitor_box.specs.Boxes.{box_lawful}
-use Rattle.monitor_box.proofs.tests.touch_table.Goals as goal
+use Rattle.box_tests.proofs.monitor.touch_table.Goals as goal
 
 pub returns-in_ok-touch : goal.returns-in_ok-touch
 returns-in_ok-touch c =

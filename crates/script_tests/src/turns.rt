@@ -1,5 +1,5 @@
-use crate::{Marks, weave};
 use plain_text::{NoMemory, Sequence};
+use round_order::{Marks, weave};
 use std::alloc::Global;
 use std::test::Fail;
 

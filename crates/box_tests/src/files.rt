@@ -1,5 +1,5 @@
-use crate::{BoxKind, read_box};
 use balancer_box::BalancerBox;
+use box_conf::{BoxKind, read_box};
 use std::alloc::Global;
 use std::test::Fail;
 

@@ -1,8 +1,8 @@
 use Rattle.std.proofs.Common.{◌≡◌, List, Ok, sym, ap, subst}
 use Rattle.access_log.specs.Held.{Lane}
-use Rattle.replay_guide.specs.Examples.{AreFirst}
-use Rattle.replay_guide.proofs.ExampleLemmas.{first_added}
-use Rattle.replay_guide.proofs.tests.hold.Goals as goal
+use Rattle.script_tests.specs.Examples.{AreFirst}
+use Rattle.script_tests.proofs.ExampleLemmas.{first_added}
+use Rattle.script_tests.proofs.guide.hold.Goals as goal
 
 pub returns-in_err-add-clause-example : goal.returns-in_err-add-clause-example
 returns-in_err-add-clause-example c =
