@@ -6,6 +6,3 @@ mod protocol;
 
 pub use endpoint::{address_text, endpoint_text};
 pub use protocol::protocol_text;
-
-#[cfg(test)]
-mod tests;

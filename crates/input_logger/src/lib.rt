@@ -8,6 +8,3 @@ mod steering;
 pub use laws::both_directions_have_one_thread;
 pub use log::InputLog;
 pub use steering::steer;
-
-#[cfg(test)]
-mod tests;

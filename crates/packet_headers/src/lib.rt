@@ -12,6 +12,3 @@ mod viewing;
 pub use flow::{Flow, NotFlow, steering_sum};
 pub use rewriting::{set_dest, set_source};
 pub use viewing::view;
-
-#[cfg(test)]
-mod tests;

@@ -5,8 +5,6 @@ mod content;
 mod counts;
 mod laws;
 mod matching;
-#[cfg(test)]
-mod tests;
 
 pub use laws::packets_are_matched_or_one_is_the_first_unmatched;
 pub use matching::first_unmatched;

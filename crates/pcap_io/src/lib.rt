@@ -12,8 +12,6 @@ mod piece;
 mod reader;
 mod record;
 mod started;
-#[cfg(test)]
-mod tests;
 
 pub use capture::{Captured, read_capture};
 pub use fault::{CaptureCause, CaptureFault};

@@ -16,8 +16,6 @@ mod packet;
 mod piece;
 mod place;
 mod reader;
-#[cfg(test)]
-mod tests;
 mod time;
 
 pub use any::{AnyReader, AnyStarted, Format, open_capture};

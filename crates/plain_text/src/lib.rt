@@ -13,8 +13,6 @@ mod memory;
 mod number;
 mod packet;
 mod sequence;
-#[cfg(test)]
-mod tests;
 mod text;
 mod word;
 

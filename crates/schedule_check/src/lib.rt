@@ -5,8 +5,6 @@
 mod checking;
 mod emitting;
 mod feeding;
-#[cfg(test)]
-mod tests;
 
 pub use checking::{Checked, Refutation, check};
 pub use emitting::emit;

@@ -9,8 +9,6 @@ ghost use Rattle.traffic_gen.specs.Generated.{packet_of, generated};
 
 mod fields;
 mod frame;
-#[cfg(test)]
-mod tests;
 
 use fields::choose_fields;
 use frame::{FRAME_LENGTH, build_frame};

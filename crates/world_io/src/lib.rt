@@ -10,8 +10,6 @@ mod memory_file;
 mod memory_world;
 mod names;
 mod stream;
-#[cfg(test)]
-mod tests;
 mod world;
 mod world_stream;
 

@@ -1,4 +1,4 @@
-use crate::{
+use plain_text::{
     Bytes, Field, LineCause, NoMemory, Sequence, Text, count_lines, end_of_line, lines, put_u64,
     read_address, read_field, read_u64, words,
 };

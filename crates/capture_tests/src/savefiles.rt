@@ -1,6 +1,7 @@
 ghost use Rattle.std.specs.Prelude.{◌≡◌, ◌≤◌, ◌<◌, false, [], List, ℕ, length};
 
-use crate::{Captured, Next, Reader, Started, put_header, put_packet, read_capture};
+use crate::parts::joined;
+use pcap_io::{Captured, Next, Reader, Started, put_header, put_packet, read_capture};
 use plain_text::{Bytes, Limit, Packet, Unit};
 use sample_frames::{BIG_MICRO, BIG_NANO, LITTLE_MICRO, LITTLE_NANO, QUERY, WRITTEN_MICRO};
 use std::alloc::Global;
@@ -60,14 +61,6 @@ impl<'a> Source for Pieces<'a> {
         let count = piece.len().min(self.most);
         self.rest.fill(&mut piece[..count])
     }
-}
-
-fn joined(alloc: Global, parts: &[&[u8]]) -> Result<Bytes, Fail> {
-    let mut bytes = Bytes::new(alloc);
-    for part in parts {
-        bytes.extend(part)?;
-    }
-    Ok(bytes)
 }
 
 /// The two packets in each form, with the unit that the form tells.

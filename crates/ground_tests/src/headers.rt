@@ -1,4 +1,4 @@
-use super::*;
+use packet_headers::{Flow, NotFlow, set_dest, set_source, steering_sum, view};
 use sample_frames::{ANSWER, HAIRPIN, NEXT_QUERY, OTHER_QUERY, QUERY, QUERY_WITH_OPTIONS, SYN};
 use std::process::Abort;
 use std::test::Fail;

@@ -1,4 +1,5 @@
-use crate::{AnyCaptured, AnyNext, AnyReader, AnyStarted, open_capture, read_any_capture};
+use crate::parts::joined;
+use pcapng_io::{AnyCaptured, AnyNext, AnyReader, AnyStarted, open_capture, read_any_capture};
 use plain_text::{Bytes, NoMemory, Packet, Unit};
 use sample_frames::{LITTLE_MICRO, QUERY};
 use std::alloc::Global;
@@ -21,14 +22,6 @@ const BIG_SECTION: &[u8] =
     b"\x0a\x0d\x0d\x0a\0\0\0\x1c\x1a\x2b\x3c\x4d\0\x01\0\0\xff\xff\xff\xff\xff\xff\xff\xff\0\0\0\x1c\
 \0\0\0\x01\0\0\0\x14\0\x01\0\0\0\0\0\x10\0\0\0\x14\
 \0\0\0\x03\0\0\0\x20\0\0\0\x3c0123456789abcdef\0\0\0\x20";
-
-fn joined(alloc: Global, parts: &[&[u8]]) -> Result<Bytes, Fail> {
-    let mut bytes = Bytes::new(alloc);
-    for part in parts {
-        bytes.extend(part)?;
-    }
-    Ok(bytes)
-}
 
 /// A section with one packet.
 fn one_packet(alloc: Global) -> Result<Bytes, Fail> {

@@ -1,4 +1,4 @@
-use super::*;
+use flow_text::{address_text, endpoint_text, protocol_text};
 use std::test::Fail;
 
 #[test]

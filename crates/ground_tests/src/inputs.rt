@@ -1,4 +1,4 @@
-use super::*;
+use input_logger::{InputLog, steer};
 use plain_text::{Bytes, NoMemory, Packet};
 use sample_frames::{ANSWER, NEXT_QUERY, QUERY};
 use std::alloc::Global;

@@ -2,13 +2,13 @@ ghost use Rattle.std.specs.Prelude.{◌≡◌, ◌+◌, ◌<◌, ◌≤◌, IfOk
 ghost use Rattle.world_io.specs.All.{WriteFailed};
 ghost use Rattle.world_io.specs.Memory.{IsHealthy};
 
-use crate::{
-    BufferedSource, Filled, Front, FrontError, MemoryWorld, OpenFault, ReadError, SliceSource,
-    Source, World, WorldSink, WorldSource, WriteError, read_all, read_front, write_all,
-};
 use plain_text::{Bytes, NoMemory, Text};
 use std::alloc::Global;
 use std::test::Fail;
+use world_io::{
+    BufferedSource, Filled, Front, FrontError, MemoryWorld, OpenFault, ReadError, SliceSource,
+    Source, World, WorldSink, WorldSource, WriteError, read_all, read_front, write_all,
+};
 
 /// The bytes of a slice, and how often they were asked for.
 #[derive(Drop)]

@@ -1,9 +1,9 @@
-use crate::{Checked, Refutation, check, emit, feed_all};
 use box_program::CountBox;
 use input_logger::InputLog;
 use plain_machine::{PlayCause, PlayFault, Schedule};
 use plain_player::{PlayError, read_schedule};
 use plain_text::{Bytes, NoMemory, Packet, Packets, Unit};
+use schedule_check::{Checked, Refutation, check, emit, feed_all};
 use std::alloc::Global;
 use std::test::Fail;
 
