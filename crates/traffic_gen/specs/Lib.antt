@@ -1,3 +1,4 @@
+pub mod AllOnes
 pub mod Checksums
 pub mod Frame
 pub mod Generated
