@@ -35,14 +35,13 @@ fn make_one<P: Program, J: Round, R: Wait>(
     packets: [&Packet; 2],
     is_second: bool,
 ) -> Stepped
-    requires of { AreVarsOf P.meaning P.row.coded P.Value.row.coded J.program J.opening J.threads
-        program.now vars.now.table.shared.table_id.words vars.now.vars vars.now.threads }
+    requires of { AreVarsOf P.meaning P.row.coded P.Value.row.coded program.now vars.now }
     requires guide { guide.now ≡ J.guide }
     requires two { vars.now.threads ≡ 2 }
-    requires first { IsAt vars.now.table.shared.table_id 0 false first.old }
-    requires second { IsAt vars.now.table.shared.table_id 1 false second.old }
-    ensures first { IsAt vars.now.table.shared.table_id 0 false first.new }
-    ensures second { IsAt vars.now.table.shared.table_id 1 false second.new }
+    requires first { IsAt vars.now.round 0 false first.old }
+    requires second { IsAt vars.now.round 1 false second.old }
+    ensures first { IsAt vars.now.round 0 false first.new }
+    ensures second { IsAt vars.now.round 1 false second.new }
 {
     let [earlier, later] = packets;
     if is_second {
@@ -64,14 +63,13 @@ fn make_all<P: Program, J: Round, R: Wait>(
     packets: [&Packet; 2],
     order: u32,
 )
-    requires of { AreVarsOf P.meaning P.row.coded P.Value.row.coded J.program J.opening J.threads
-        program.now vars.now.table.shared.table_id.words vars.now.vars vars.now.threads }
+    requires of { AreVarsOf P.meaning P.row.coded P.Value.row.coded program.now vars.now }
     requires guide { guide.now ≡ J.guide }
     requires two { vars.now.threads ≡ 2 }
-    requires first { IsAt vars.now.table.shared.table_id 0 false first.old }
-    requires second { IsAt vars.now.table.shared.table_id 1 false second.old }
-    ensures first { IsAt vars.now.table.shared.table_id 0 false first.new }
-    ensures second { IsAt vars.now.table.shared.table_id 1 false second.new }
+    requires first { IsAt vars.now.round 0 false first.old }
+    requires second { IsAt vars.now.round 1 false second.old }
+    ensures first { IsAt vars.now.round 0 false first.new }
+    ensures second { IsAt vars.now.round 1 false second.new }
 {
     let mut bits = order;
     for _made in 0..10 {
@@ -90,11 +88,10 @@ fn ended<P: Program, J: Round>(
     thread: u32,
     mut seat: VarSeat<P>,
 ) -> VarSeat<P>
-    requires of { AreVarsOf P.meaning P.row.coded P.Value.row.coded J.program J.opening J.threads
-        program.now vars.now.table.shared.table_id.words vars.now.vars vars.now.threads }
+    requires of { AreVarsOf P.meaning P.row.coded P.Value.row.coded program.now vars.now }
     requires low { thread < vars.now.threads }
-    requires seat { IsAt vars.now.table.shared.table_id thread false seat }
-    ensures seat { IsAt vars.now.table.shared.table_id thread true result }
+    requires seat { IsAt vars.now.round thread false seat }
+    ensures seat { IsAt vars.now.round thread true result }
 {
     let _ = thread;
     vars.end(program, &mut seat);

@@ -30,12 +30,11 @@ pub fn make<P: Program, J: Round, R: Wait>(
     seat: &mut VarSeat<P>,
     packet: &Packet,
 ) -> Stepped
-    requires of { AreVarsOf P.meaning P.row.coded P.Value.row.coded J.program J.opening J.threads
-        program.now vars.now.table.shared.table_id.words vars.now.vars vars.now.threads }
+    requires of { AreVarsOf P.meaning P.row.coded P.Value.row.coded program.now vars.now }
     requires guide { guide.now ≡ J.guide }
     requires low { thread < vars.now.threads }
-    requires seat { IsAt vars.now.table.shared.table_id thread false seat.old }
-    ensures seat { IsAt vars.now.table.shared.table_id thread false seat.new }
+    requires seat { IsAt vars.now.round thread false seat.old }
+    ensures seat { IsAt vars.now.round thread false seat.new }
 {
     let counts = seat.counts();
     if counts.taken > MOST_COUNT || counts.entries > MOST_COUNT || counts.outputs > MOST_COUNT {
@@ -62,12 +61,11 @@ fn run_one<P: Program, J: Round, R: Wait>(
     seat: &mut VarSeat<P>,
     packet: &Packet,
 ) -> bool
-    requires of { AreVarsOf P.meaning P.row.coded P.Value.row.coded J.program J.opening J.threads
-        program.now vars.now.table.shared.table_id.words vars.now.vars vars.now.threads }
+    requires of { AreVarsOf P.meaning P.row.coded P.Value.row.coded program.now vars.now }
     requires guide { guide.now ≡ J.guide }
     requires low { thread < vars.now.threads }
-    requires seat { IsAt vars.now.table.shared.table_id thread false seat.old }
-    ensures seat { IsAt vars.now.table.shared.table_id thread false seat.new }
+    requires seat { IsAt vars.now.round thread false seat.old }
+    ensures seat { IsAt vars.now.round thread false seat.new }
 {
     for _made in 0..MOST_MOVES {
         match make(rt, alloc, program, vars, guide, thread, seat, packet) {
@@ -91,12 +89,11 @@ pub fn run<P: Program, J: Round, R: Wait>(
     inputs: &InputLog,
     count: u64,
 ) -> VarSeat<P>
-    requires of { AreVarsOf P.meaning P.row.coded P.Value.row.coded J.program J.opening J.threads
-        program.now vars.now.table.shared.table_id.words vars.now.vars vars.now.threads }
+    requires of { AreVarsOf P.meaning P.row.coded P.Value.row.coded program.now vars.now }
     requires guide { guide.now ≡ J.guide }
     requires low { thread < vars.now.threads }
-    requires seat { IsAt vars.now.table.shared.table_id thread false seat }
-    ensures seat { IsAt vars.now.table.shared.table_id thread true result }
+    requires seat { IsAt vars.now.round thread false seat }
+    ensures seat { IsAt vars.now.round thread true result }
 {
     for number in 0..count {
         let Some(packet) = inputs.input(thread, number + 1) else {

@@ -11,6 +11,7 @@ use Rattle.master_core.specs.declared.parts.VarPart.{VarPart}
 use Rattle.master_core.specs.declared.parts.ThreadPart.{ThreadPart}
 use Rattle.master_core.specs.Mastered.{Mastered, IsBounded, value_of, moves_made}
 use Rattle.replay_guide.specs.Turns.{WaitsFor}
+use Rattle.atomic_table.specs.Seated.{TableId}
 use Rattle.var_locks.specs.declared.view.Note.{Note}
 use Rattle.var_locks.specs.declared.view.Share.{Share}
 use Rattle.var_locks.specs.declared.view.View.{View}
@@ -72,11 +73,22 @@ pub record IsIdle {V : Type 0} (w : View V) (x : Share V) : Type 0 where
   pub alone : w.shares ≡ x ∷ []
   pub empty : w.hand ≡ None
 
--- These are the variables of that round, with so many of them and of threads.
-pub record AreVarsOf {P V : Type 0} (meaning : P → Meaning V) (c : Coded P) (d : Coded V) (program opening : Gv) (parts : List ThreadPart) (q : P) (words vars threads : ℕ) : Type 0 where
-  pub round : IsRoundOf meaning c d program opening parts q words
-  pub vars_are : vars ≡ (meaning q).vars
-  pub threads_are : threads ≡ length parts
-  pub some : 0 < threads
-  pub few : threads ≤ 16
-  pub small : words < 2 ^ 63
+-- What is seen of the variables of a round: the codes of its program and of its opening master, with the parts of the threads in this
+-- master; the table of its words and slots; and how many variables and threads it has.
+pub record Opened : Type 0 where
+  pub program : Gv
+  pub opening : Gv
+  pub parts : List ThreadPart
+  pub round : TableId
+  pub vars : ℕ
+  pub threads : ℕ
+
+-- These are the variables of a round of this program.
+pub record AreVarsOf {P V : Type 0} (meaning : P → Meaning V) (c : Coded P) (d : Coded V) (q : P) (x : Opened) : Type 0 where
+  pub of : IsRoundOf meaning c d x.program x.opening x.parts q x.round.words
+  pub slots_are : x.round.slots ≡ x.vars
+  pub vars_are : x.vars ≡ (meaning q).vars
+  pub threads_are : x.threads ≡ length x.parts
+  pub some : 0 < x.threads
+  pub few : x.threads ≤ 16
+  pub small : x.round.words < 2 ^ 63

@@ -14,6 +14,7 @@ use Rattle.var_locks.specs.declared.view.Share.{Share}
 use Rattle.var_locks.specs.declared.view.View.{View}
 use Rattle.var_locks.specs.Notes.{IsOwn, IsGuided, own_note, step_of, steps_of}
 use Rattle.var_locks.specs.Views.{noted_view}
+use Rattle.var_locks.specs.Rounds.{Opened}
 
 -- Its thread, with the part that it has now and the notes of its moves in the round, newest first; of each variable, as often as the
 -- seat saw it touched; the followed entries that it found missing; whether it ended; and the round that it is of.
@@ -42,10 +43,10 @@ pub record IsKept {V : Type 0} (me : Me (VarPart V) (View V)) (thread : ℕ) (pa
   pub seen_is : me.0.seen ≡ seen
   pub receipts_are : receipts ≡ steps_of thread (first_notes me.0.shares)
 
--- the seat is of this round, which has so many threads
-pub record IsSeatOf {V : Type 0} (round : TableId) (threads : ℕ) (x : Seated V) : Type 0 where
-  pub round_is : x.round ≡ round
-  pub low : x.thread < threads
+-- the seat is of the round of these variables
+pub record IsSeatOf {V : Type 0} (vars : Opened) (x : Seated V) : Type 0 where
+  pub round_is : x.round ≡ vars.round
+  pub low : x.thread < vars.threads
 
 -- What a move made of a seat
 

@@ -32,10 +32,9 @@ impl<P: Program, J: Round> Vars<P, J> {
         answer: u64,
         input: Option<&Packet>,
     ) -> Stepped
-        requires of { AreVarsOf P.meaning P.row.coded P.Value.row.coded J.program J.opening J.threads
-            program.now self.now.table.shared.table_id.words self.now.vars self.now.threads }
+        requires of { AreVarsOf P.meaning P.row.coded P.Value.row.coded program.now self.now }
         requires guide { guide.now ≡ J.guide }
-        requires seat { IsSeatOf self.now.table.shared.table_id self.now.threads seat.old }
+        requires seat { IsSeatOf self.now seat.old }
         requires going { seat.old.ended ≡ false }
         requires room { moves_made seat.old.part < 2 ^ 56 }
         requires own { WantsVariable (P.meaning program.now) seat.old.part.hand → ⊥ }
@@ -61,9 +60,8 @@ impl<P: Program, J: Round> Vars<P, J> {
 
     /// Ends the round for the seat's thread: it makes no further move in it.
     pub fn end(&self, program: &P, seat: &mut VarSeat<P>)
-        requires of { AreVarsOf P.meaning P.row.coded P.Value.row.coded J.program J.opening J.threads
-            program.now self.now.table.shared.table_id.words self.now.vars self.now.threads }
-        requires seat { IsSeatOf self.now.table.shared.table_id self.now.threads seat.old }
+        requires of { AreVarsOf P.meaning P.row.coded P.Value.row.coded program.now self.now }
+        requires seat { IsSeatOf self.now seat.old }
         requires going { seat.old.ended ≡ false }
         ensures ended { seat.new ≡ record seat.old { ended = true } }
     {

@@ -84,9 +84,10 @@ fn begin<P: Program, J: Round>(
     requires opens { Opens (P.meaning program.now) (P.fits program.now) P.Value.row.coded J.opening J.threads J.places parts.vars.items words.now (master_of parts.vars.items parts.threads.items) }
     requires places { places.now ≡ J.places }
     requires some { 0 < length parts.threads.items }
-    ensures vars { IfOk result (λ r. AreVarsOf P.meaning P.row.coded P.Value.row.coded J.program J.opening J.threads program.now r.0.table.shared.table_id.words r.0.vars r.0.threads) }
-    ensures slots { IfOk result (λ r. r.0.table.shared.table_id.slots ≡ r.0.vars) }
-    ensures seats { IfOk result (λ r. r.1.items ≡ fresh_seats r.0.table.shared.table_id J.places 0 J.threads) }
+    ensures vars { IfOk result (λ r.
+        AreVarsOf P.meaning P.row.coded P.Value.row.coded program.now r.0) }
+    ensures threads { IfOk result (λ r. r.0.parts ≡ J.threads) }
+    ensures seats { IfOk result (λ r. r.1.items ≡ fresh_seats r.0.round J.places 0 J.threads) }
 {
     let MasterParts {
         vars: values,
@@ -123,11 +124,11 @@ impl<P: Program, J: Round> Vars<P, J> {
         requires fits { FitsProgram (P.meaning program.now) (P.fits program.now)
             value_of master.vars }
         requires some { 0 < length master.threads }
-        ensures vars { IfOk result (λ r. AreVarsOf P.meaning P.row.coded P.Value.row.coded J.program
-            J.opening J.threads program.now r.0.table.shared.table_id.words r.0.vars r.0.threads) }
-        ensures slots { IfOk result (λ r. r.0.table.shared.table_id.slots ≡ r.0.vars) }
-        ensures seats { IfOk result (λ r. r.1.items
-            ≡ fresh_seats r.0.table.shared.table_id J.places 0 J.threads) }
+        ensures vars { IfOk result (λ r.
+            AreVarsOf P.meaning P.row.coded P.Value.row.coded program.now r.0) }
+        ensures threads { IfOk result (λ r. r.0.parts ≡ J.threads) }
+        ensures seats { IfOk result (λ r.
+            r.1.items ≡ fresh_seats r.0.round J.places 0 J.threads) }
     {
         let _ = guide;
         let parts = master.split();

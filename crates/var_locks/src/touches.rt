@@ -70,10 +70,9 @@ impl<P: Program, J: Round> Vars<P, J> {
         guide: &Guide,
         gate: &G,
     ) -> Touched
-        requires of { AreVarsOf P.meaning P.row.coded P.Value.row.coded J.program J.opening J.threads
-            program.now self.now.table.shared.table_id.words self.now.vars self.now.threads }
+        requires of { AreVarsOf P.meaning P.row.coded P.Value.row.coded program.now self.now }
         requires guide { guide.now ≡ J.guide }
-        requires seat { IsSeatOf self.now.table.shared.table_id self.now.threads seat.old }
+        requires seat { IsSeatOf self.now seat.old }
         requires going { seat.old.ended ≡ false }
         requires room { moves_made seat.old.part < 2 ^ 56 }
         requires wants { WantsVariable (P.meaning program.now) seat.old.part.hand }
