@@ -6,7 +6,6 @@ ghost use Rattle.var_locks.specs.Rounds.{AreVarsOf};
 ghost use Rattle.var_locks.specs.Seats.{IsSeatOf};
 ghost use Rattle.var_locks.specs.Plain.{Steps};
 
-use crate::keeping::make_own;
 use crate::seats::VarSeat;
 use crate::steps::end_round;
 use crate::vars::Vars;
@@ -42,20 +41,7 @@ impl<P: Program, J: Round> Vars<P, J> {
         ensures steps { Steps (P.meaning program.now) J.guide seat.old answer
             (option_copied input.entry) seat.new result }
     {
-        let word = self.vars + seat.thread as usize;
-        make_own::<P, J>(
-            alloc,
-            program,
-            guide,
-            &self.table.shared,
-            word,
-            seat.thread,
-            &mut seat.token,
-            &mut seat.part,
-            &mut seat.receipts,
-            answer,
-            input,
-        )
+        self.make_own(alloc, program, seat, guide, answer, input)
     }
 
     /// Ends the round for the seat's thread: it makes no further move in it.

@@ -54,12 +54,14 @@ pub(crate) fn seat_all<P: Program, J: Round>(
     parts: &[ThreadPart],
     places: &[u64],
 ) -> Result<Vec<VarSeat<P>>, NoMemory>
-    requires of { IsRoundOf P.meaning P.row.coded P.Value.row.coded J.program J.opening J.threads program.now shared.now.table_id.words }
+    requires of { IsRoundOf P.meaning P.row.coded P.Value.row.coded
+        J.program J.opening J.threads program.now shared.now.table_id.words }
     requires words { 0 < shared.now.table_id.words }
     requires table { token.old.table_id ≡ shared.now.table_id }
     requires few { length parts.now ≤ 16 }
     requires first { token.old.me ≡ (rest_view 0 parts.now places.now, []) }
-    ensures { IfOk result (λ seats. seats.items ≡ fresh_seats shared.now.table_id places.now 0 parts.now) }
+    ensures { IfOk result (λ seats.
+        seats.items ≡ fresh_seats shared.now.table_id places.now 0 parts.now) }
 {
     let mut seats = Vec::new(alloc);
     for thread in 0..parts.len() {
@@ -81,7 +83,9 @@ fn begin<P: Program, J: Round>(
 ) -> Result<(Vars<P, J>, Vec<VarSeat<P>>), NoMemory>
     requires of { P.row.coded.code program.now ≡ J.program }
     requires vars { (vars ≡ (P.meaning program.now).vars) × (vars < 2 ^ 32) }
-    requires opens { Opens (P.meaning program.now) (P.fits program.now) P.Value.row.coded J.opening J.threads J.places parts.vars.items words.now (master_of parts.vars.items parts.threads.items) }
+    requires opens { Opens (P.meaning program.now) (P.fits program.now) P.Value.row.coded
+        J.opening J.threads J.places parts.vars.items words.now
+        (master_of parts.vars.items parts.threads.items) }
     requires places { places.now ≡ J.places }
     requires some { 0 < length parts.threads.items }
     ensures vars { IfOk result (λ r.

@@ -27,9 +27,13 @@ impl<P: Program> Model for VarSeat<P> {
 
     ghost Value = { Seated P.Value };
 
-    ghost view = { λ s. record { thread = s.thread; part = s.part; notes = first_notes s.token.me.0.shares; seen = s.seen.items; missing = s.token.me.0.missing; ended = s.ended; round = s.token.table_id } };
+    ghost view = { λ s. record {
+        thread = s.thread; part = s.part; notes = first_notes s.token.me.0.shares;
+        seen = s.seen.items; missing = s.token.me.0.missing; ended = s.ended;
+        round = s.token.table_id } };
 
-    ghost invariant = { λ s. IsKept s.token.me s.thread s.part s.seen.items s.receipts.items s.ended };
+    ghost invariant = { λ s.
+        IsKept s.token.me s.thread s.part s.seen.items s.receipts.items s.ended };
 }
 
 impl<P: Program> VarSeat<P> {
@@ -64,8 +68,10 @@ impl<P: Program> VarSeat<P> {
 
     /// Its token, its part and what its thread did.
     pub(crate) fn take_apart(self) -> (Token<P::Value>, ThreadPart, Vec<WovenStep>)
-        ensures kept { IsKept result.0.me self.thread self.part self.seen result.2.items self.ended }
-        ensures told { (first_notes result.0.me.0.shares ≡ self.notes) × (result.0.me.0.missing ≡ self.missing) }
+        ensures kept { IsKept result.0.me self.thread self.part self.seen
+            result.2.items self.ended }
+        ensures told { (first_notes result.0.me.0.shares ≡ self.notes)
+            × (result.0.me.0.missing ≡ self.missing) }
         ensures round { result.0.table_id ≡ self.round }
         ensures part { result.1 ≡ self.part }
     {

@@ -57,11 +57,13 @@ fn gather<P: Program, J: Round>(
     shared: &Lock<P, J>,
     mut seats: Vec<VarSeat<P>>,
 ) -> Result<Gathered<P>, NoMemory>
-    requires of { IsRoundOf P.meaning P.row.coded P.Value.row.coded J.program J.opening J.threads program.now shared.now.table_id.words }
+    requires of { IsRoundOf P.meaning P.row.coded P.Value.row.coded
+        J.program J.opening J.threads program.now shared.now.table_id.words }
     requires words { 0 < shared.now.table_id.words }
     requires some { 0 < length seats.items }
     requires seats { AreSeats shared.now.table_id 0 seats.items }
-    ensures token { IfOk result (λ all. (all.token.table_id ≡ shared.now.table_id) × (all.token.me.0.hand ≡ None) × HasSeats all.token.me.0 seats.items) }
+    ensures token { IfOk result (λ all. (all.token.table_id ≡ shared.now.table_id)
+        × (all.token.me.0.hand ≡ None) × HasSeats all.token.me.0 seats.items) }
     ensures parts { IfOk result (λ all. all.parts.items ≡ map seat_part seats.items) }
     ensures receipts { IfOk result (λ all. all.receipts.items ≡ map seat_steps seats.items) }
 {

@@ -4,7 +4,7 @@ use Rattle.atomic_table.specs.Table.{Me}
 use Rattle.var_locks.specs.declared.view.View.{View}
 use Rattle.var_locks.specs.Views.{empty_hand}
 use Rattle.var_locks.proofs.SlotLists.{either_way}
-use Rattle.var_locks.proofs.touching.wait_on.Goals as goal
+use Rattle.var_locks.proofs.vars.Vars.wait_on.Goals as goal
 
 pub looks_missing-missing-requires-clause-waits : goal.looks_missing-missing-requires-clause-waits
 looks_missing-missing-requires-clause-waits g c κs within = let h = c.requires.waits in (c.args.var, h.0, h.1, h.2, h.3, c.requires.var_in, h.4)
