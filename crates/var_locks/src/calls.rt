@@ -1,5 +1,5 @@
 //! The calls by which a thread makes its moves on no variable, and ends the round.
-ghost use Rattle.std.specs.Prelude.{◌≡◌, ℕ, ◌<◌, ◌^◌, false, true, IsTrue, IsSome, option_copied};
+ghost use Rattle.std.specs.Prelude.{◌≡◌, ◌<◌, ◌^◌, false, true, IsTrue, IsSome, option_copied};
 ghost use Rattle.box_program.specs.Hands.{has_hand};
 ghost use Rattle.master_core.specs.Mastered.{moves_made, WantsVariable};
 ghost use Rattle.var_locks.specs.Rounds.{AreVarsOf};

@@ -1,7 +1,7 @@
 //! How a round begins.
-ghost use Rattle.std.specs.Prelude.{◌≡◌, ℕ, ◌+◌, ◌<◌, ◌≤◌, ◌^◌, ◌*◌, List, [], ◌∷◌, length, drop, take, slice_index, IfOk, OnOk};
+ghost use Rattle.std.specs.Prelude.{◌≡◌, ℕ, ◌<◌, ◌≤◌, ◌^◌, ◌*◌, [], length, slice_index, IfOk};
 ghost use Rattle.box_program.specs.Hands.{FitsProgram};
-ghost use Rattle.master_core.specs.Mastered.{Mastered, master_of, value_of};
+ghost use Rattle.master_core.specs.Mastered.{master_of, value_of};
 ghost use Rattle.var_locks.specs.Codes.{master_code};
 ghost use Rattle.var_locks.specs.Rounds.{IsRoundOf, AreVarsOf, Opens};
 ghost use Rattle.var_locks.specs.Openings.{places_of, words_of, rest_view, fresh_seat, fresh_seats};

@@ -1,5 +1,5 @@
 //! The variables of a round, which begin with a master and end as one.
-ghost use Rattle.std.specs.Prelude.{◌≡◌, ℕ, ◌+◌, ◌<◌, ◌≤◌, List, [], ◌∷◌, length, map, None, IfOk, vec_capacity};
+ghost use Rattle.std.specs.Prelude.{◌≡◌, ◌<◌, ◌≤◌, [], length, map, None, IfOk, vec_capacity};
 ghost use Rattle.std.specs.Mem.Slots.{slots_items, slots_len, IsFull};
 ghost use Rattle.master_core.specs.Mastered.{Mastered};
 ghost use Rattle.var_locks.specs.Codes.{master_code};

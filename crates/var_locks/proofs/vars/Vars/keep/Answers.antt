@@ -1,12 +1,9 @@
-use Rattle.std.proofs.Common.{◌≡◌, ◌<◌, ◌^◌, ℕ, refl, sym, ap, ◌∙◌, subst, List, ◌∷◌, ◌++◌}
+use Rattle.std.proofs.Common.{◌<◌, ◌^◌, refl, sym, ap, ◌∙◌, subst}
 use Rattle.std.specs.Prelude.{option_copied}
-use Rattle.master_core.specs.declared.step.WovenStep.{WovenStep}
 use Rattle.master_core.specs.Mastered.{moves_made}
-use Rattle.var_locks.specs.Notes.{IsOwn, IsGuided, own_note, step_of}
+use Rattle.var_locks.specs.Notes.{IsOwn, IsGuided, own_note}
 use Rattle.var_locks.specs.Seats.{Seated, share_of}
 use Rattle.var_locks.proofs.Insides.{round_inside}
-use Rattle.var_locks.proofs.Seeing.{own_unseen}
-use Rattle.var_locks.proofs.KeptSeats.{kept_noted, seat_noted}
 use Rattle.var_locks.proofs.vars.Vars.keep.Goals as goal
 
 pub note_move-requires-clause-of : goal.note_move-requires-clause-of

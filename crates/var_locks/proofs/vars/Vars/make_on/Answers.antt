@@ -1,4 +1,4 @@
-use Rattle.std.proofs.Common.{ℕ, sym, ap, ◌∙◌, subst, [], ◌∷◌, false, arith}
+use Rattle.std.proofs.Common.{ℕ, sym, ap, ◌∙◌, subst, [], false, arith}
 use Rattle.access_log.specs.declared.entry.StampedEntry.{StampedEntry}
 use Rattle.master_core.specs.declared.parts.VarPart.{VarPart}
 use Rattle.master_core.specs.declared.step.Trace.TheVariants as trace
