@@ -8,7 +8,7 @@ use access_log::{Turn, What};
 use box_program::Program;
 use input_logger::InputLog;
 use master_core::{Counts, Master, Stepped, Trace, Woven, WovenStep};
-use plain_text::{NoMemory, Packet};
+use plain_text::{NoMemory, Packet, Text};
 use std::alloc::Global;
 use var_locks::Closed;
 
@@ -107,6 +107,20 @@ fn makes<P: Program>(
     is_left(&stepped, &step.trace)
 }
 
+/// What a variable shows.
+fn shown<P: Program>(
+    alloc: Global,
+    program: &P,
+    master: &Master<P>,
+    var: u32,
+) -> Result<Text, NoMemory>
+    requires fits { FitsProgram (P.meaning program.now) (P.fits program.now)
+        value_of master.now.vars }
+    requires low { var < (P.meaning program.now).vars }
+{
+    program.show(alloc, var, master.value(var))
+}
+
 /// Whether two masters have the same variables, as they are shown, and threads that did as much.
 fn is_same<P: Program>(
     alloc: Global,
@@ -124,8 +138,8 @@ fn is_same<P: Program>(
         if one.places(var) != other.places(var) || one.readers(var) != other.readers(var) {
             return Ok(false);
         }
-        let shown = program.show(alloc, var, one.value(var))?;
-        if shown.as_str() != program.show(alloc, var, other.value(var))?.as_str() {
+        let text = shown(alloc, program, one, var)?;
+        if text.as_str() != shown(alloc, program, other, var)?.as_str() {
             return Ok(false);
         }
     }
@@ -203,5 +217,5 @@ pub fn shows<P: Program>(
     if var >= program.vars() {
         return Ok(false);
     }
-    Ok(program.show(alloc, var, master.value(var))?.as_str() == text)
+    Ok(shown(alloc, program, master, var)?.as_str() == text)
 }
