@@ -39,14 +39,13 @@ fn run_both<P: Program + Sync, J: Round, R: Threads + Wait + Sync>(
 ) -> (VarSeat<P>, VarSeat<P>)
 where
     P::Value: Send,
-    requires of { AreVarsOf P.meaning P.row.coded P.Value.row.coded J.program J.opening J.threads
-        program.now vars.now.table.shared.table_id.words vars.now.vars vars.now.threads }
+    requires of { AreVarsOf P.meaning P.row.coded P.Value.row.coded program.now vars.now }
     requires guide { guide.now ≡ J.guide }
     requires two { vars.now.threads ≡ 2 }
-    requires first { IsAt vars.now.table.shared.table_id 0 false first }
-    requires second { IsAt vars.now.table.shared.table_id 1 false second }
-    ensures first { IsAt vars.now.table.shared.table_id 0 true result.0 }
-    ensures second { IsAt vars.now.table.shared.table_id 1 true result.1 }
+    requires first { IsAt vars.now.round 0 false first }
+    requires second { IsAt vars.now.round 1 false second }
+    ensures first { IsAt vars.now.round 0 true result.0 }
+    ensures second { IsAt vars.now.round 1 true result.1 }
 {
     thread::join(
         rt,

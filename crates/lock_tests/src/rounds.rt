@@ -43,12 +43,11 @@ pub fn open_two<P: Program, J: Round>(
     requires guide { guide.now ≡ J.guide }
     requires fits { FitsProgram (P.meaning program.now) (P.fits program.now) value_of master.vars }
     requires two { length master.threads ≡ 2 }
-    ensures vars { IfOk result (λ r. AreVarsOf P.meaning P.row.coded P.Value.row.coded J.program
-        J.opening J.threads program.now r.0.table.shared.table_id.words r.0.vars r.0.threads) }
-    ensures slots { IfOk result (λ r. r.0.table.shared.table_id.slots ≡ r.0.vars) }
+    ensures vars { IfOk result (λ r.
+        AreVarsOf P.meaning P.row.coded P.Value.row.coded program.now r.0) }
     ensures two { IfOk result (λ r. r.0.threads ≡ 2) }
-    ensures first { IfOk result (λ r. IsAt r.0.table.shared.table_id 0 false r.1) }
-    ensures second { IfOk result (λ r. IsAt r.0.table.shared.table_id 1 false r.2) }
+    ensures first { IfOk result (λ r. IsAt r.0.round 0 false r.1) }
+    ensures second { IfOk result (λ r. IsAt r.0.round 1 false r.2) }
 {
     let (vars, seats) = Vars::<P, J>::of(alloc, program, master, guide)?;
     let Some((first, second)) = two_of(seats) else {
@@ -65,12 +64,10 @@ pub fn close_two<P: Program, J: Round>(
     first: VarSeat<P>,
     second: VarSeat<P>,
 ) -> Result<Closed<P>, NoMemory>
-    requires of { AreVarsOf P.meaning P.row.coded P.Value.row.coded J.program J.opening J.threads
-        program.now vars.table.shared.table_id.words vars.vars vars.threads }
-    requires slots { vars.table.shared.table_id.slots ≡ vars.vars }
+    requires of { AreVarsOf P.meaning P.row.coded P.Value.row.coded program.now vars }
     requires two { vars.threads ≡ 2 }
-    requires first { IsAt vars.table.shared.table_id 0 true first }
-    requires second { IsAt vars.table.shared.table_id 1 true second }
+    requires first { IsAt vars.round 0 true first }
+    requires second { IsAt vars.round 1 true second }
     ensures fits { IfOk result (λ closed. FitsProgram (P.meaning program.now) (P.fits program.now)
         value_of closed.master.vars) }
     ensures two { IfOk result (λ closed. length closed.master.threads ≡ 2) }
