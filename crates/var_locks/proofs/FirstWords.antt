@@ -13,7 +13,7 @@ use Rattle.atomic_table.specs.Seated.{TableId}
 use Rattle.var_locks.specs.Rounds.{IsRoundOf, AreVarsOf, Opens}
 use Rattle.master_core.proofs.BoundLemmas.{sum_small}
 use Rattle.var_locks.specs.Told.{AreFirstWords, ArePlaces}
-use Rattle.var_locks.specs.Openings.{places_of, words_of}
+use Rattle.var_locks.specs.Openings.{AreCounted, places_of, words_of}
 
 zeros : (n t : ℕ) → slice_index (replicate n 0) t ≡ 0
 zeros zero t = refl
@@ -106,6 +106,10 @@ module _ {P V : Type 0} (meaning : P → Meaning V) (fits : P → ℕ → V → 
     few = subst (λ n. n ≤ 16) (sym size_is) opens.bounded.few;
     small = (let s = same in let a : words ≡ (meaning q).vars + length threads = round_of.words_are in let b : length parts ≡ length threads = ap (λ (l : List ThreadPart). length l) opens.threads_are in let e = opens.bounded.few in omega (arith, s, a, b, e, vars_is, low));
   }
+
+-- a master keeps the counts of its threads within their bounds
+pub are_counted : {V : Type 0} (vars : List (VarPart V)) (threads : List ThreadPart) → IsBounded vars threads → AreCounted threads
+are_counted vars threads bounded t d low = record { held = bounded.taken t d low; made = bounded.made t d low }
 
 -- a master that is split opens the round
 pub split_opens : {V : Type 0} (m : Meaning V) (fits : ℕ → V → Type 0) (d : Coded V) (opening : Gv) (threads : List ThreadPart) (seen : List ℕ) (p : Mastered V) (values : List (VarPart V)) (parts : List ThreadPart) (words places : List ℕ)

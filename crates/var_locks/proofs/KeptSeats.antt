@@ -10,7 +10,7 @@ use Rattle.var_locks.specs.declared.view.Share.{Share}
 use Rattle.var_locks.specs.declared.view.View.{View}
 use Rattle.var_locks.specs.Notes.{step_of, steps_of}
 use Rattle.var_locks.specs.Views.{noted_view, note_shares, seen_after}
-use Rattle.var_locks.specs.Seats.{Seated, IsKept, first_notes}
+use Rattle.var_locks.specs.Seats.{Seated, IsCounted, IsKept, first_notes}
 
 -- what is seen of a seat that keeps this
 abbrev pub seat_of : {V : Type 0} → Me (VarPart V) (View V) → ℕ → ThreadPart → List ℕ → Bool → TableId → Seated V
@@ -21,19 +21,20 @@ module _ {V : Type 0} (me : Me (VarPart V) (View V)) (thread : ℕ) (part : Thre
   pub notes_more : (n : Note V) → first_notes (note_shares me.0.shares n) ≡ n ∷ first_notes me.0.shares
   notes_more n = ap (λ (l : List (Share V)). first_notes (note_shares l n)) kept.alone
 
-  pub kept_more : (n : Note V) → seen_after me.0.seen n.trace ≡ seen → IsKept (noted_view me.0 n, me.1) thread n.after seen (did ++ step_of thread n ∷ []) ended
-  kept_more n unseen = record {
+  pub kept_more : (n : Note V) → seen_after me.0.seen n.trace ≡ seen → IsCounted n.after → IsKept (noted_view me.0 n, me.1) thread n.after seen (did ++ step_of thread n ∷ []) ended
+  kept_more n unseen counted = record {
     alone = ap (λ (l : List (Share V)). note_shares l n) kept.alone ∙ ap (λ (l : List (Note V)). (let y : Share V = record { thread = thread; notes = l; part = n.after; ended = ended } in y) ∷ []) (sym (notes_more n));
     empty = refl;
     slots = kept.slots;
     seen_is = unseen;
     receipts_are = ap (λ (l : List WovenStep). l ++ step_of thread n ∷ []) kept.receipts_are ∙ ap (steps_of thread) (sym (notes_more n));
+    counted = counted;
   }
 
   -- what the seat keeps after a move on no variable, of which the token and the steps have the note
-  pub kept_noted : (n : Note V) → seen_after me.0.seen n.trace ≡ me.0.seen → (new : Me (VarPart V) (View V)) → new ≡ (noted_view me.0 n, me.1) → (now : List WovenStep) → now ≡ did ++ step_of thread n ∷ [] → IsKept new thread n.after seen now ended
-  kept_noted n unseen new token now steps = subst (λ (z : Me (VarPart V) (View V)). IsKept z thread n.after seen now ended) (sym token)
-      (subst (λ (l : List WovenStep). IsKept (noted_view me.0 n, me.1) thread n.after seen l ended) (sym steps) (kept_more n (unseen ∙ kept.seen_is)))
+  pub kept_noted : (n : Note V) → seen_after me.0.seen n.trace ≡ me.0.seen → IsCounted n.after → (new : Me (VarPart V) (View V)) → new ≡ (noted_view me.0 n, me.1) → (now : List WovenStep) → now ≡ did ++ step_of thread n ∷ [] → IsKept new thread n.after seen now ended
+  kept_noted n unseen counted new token now steps = subst (λ (z : Me (VarPart V) (View V)). IsKept z thread n.after seen now ended) (sym token)
+      (subst (λ (l : List WovenStep). IsKept (noted_view me.0 n, me.1) thread n.after seen l ended) (sym steps) (kept_more n (unseen ∙ kept.seen_is) counted))
 
   -- and what is seen of it
   pub seat_noted : (n : Note V) (new : Me (VarPart V) (View V)) → new ≡ (noted_view me.0 n, me.1) → (round next : TableId) → next ≡ round

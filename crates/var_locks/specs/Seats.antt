@@ -1,5 +1,5 @@
 -- What is seen of a seat of a round.
-use Rattle.std.specs.Prelude.{◌≡◌, ℕ, ◌<◌, ◌^◌, Bool, false, List, [], ◌∷◌, Option, None}
+use Rattle.std.specs.Prelude.{◌≡◌, ℕ, ◌<◌, ◌≤◌, ◌^◌, Bool, false, List, [], ◌∷◌, Option, None}
 use Rattle.plain_text.specs.declared.packet.Packet.{Packet}
 use Rattle.access_log.specs.Held.{Lane}
 use Rattle.plain_machine.specs.Program.{Meaning}
@@ -7,7 +7,7 @@ use Rattle.master_core.specs.declared.step.Trace.{Trace}
 use Rattle.master_core.specs.declared.parts.VarPart.{VarPart}
 use Rattle.master_core.specs.declared.parts.ThreadPart.{ThreadPart}
 use Rattle.master_core.specs.declared.step.WovenStep.{WovenStep}
-use Rattle.master_core.specs.Mastered.{moves_made}
+use Rattle.master_core.specs.Mastered.{in_hand_count, moves_made}
 use Rattle.atomic_table.specs.Table.{Me}
 use Rattle.atomic_table.specs.Seated.{TableId}
 use Rattle.var_locks.specs.declared.view.Note.{Note}
@@ -35,13 +35,20 @@ first_notes (x ∷ others) = x.notes
 abbrev pub share_of : {V : Type 0} → View V → ℕ → ThreadPart → Bool → Share V
 share_of w thread part ended = record { thread = thread; notes = first_notes w.shares; part = part; ended = ended }
 
--- The seat's token has its one thread, nothing in hand, and has seen what the seat keeps; and the seat keeps what the moves left.
+-- the counts of a thread are within their bounds
+pub record IsCounted (part : ThreadPart) : Type 0 where
+  pub held : in_hand_count part.hand ≤ part.counts.taken
+  pub made : moves_made part ≤ 2 ^ 56
+
+-- The seat's token has its one thread, nothing in hand, and has seen what the seat keeps; and the seat keeps what the moves left, with
+-- counts that are within their bounds.
 pub record IsKept {V : Type 0} (me : Me (VarPart V) (View V)) (thread : ℕ) (part : ThreadPart) (seen : List ℕ) (receipts : List WovenStep) (ended : Bool) : Type 0 where
   pub alone : me.0.shares ≡ share_of me.0 thread part ended ∷ []
   pub empty : me.0.hand ≡ None
   pub slots : me.1 ≡ []
   pub seen_is : me.0.seen ≡ seen
   pub receipts_are : receipts ≡ steps_of thread (first_notes me.0.shares)
+  pub counted : IsCounted part
 
 -- the seat is of the round of these variables
 pub record IsSeatOf {V : Type 0} (vars : Opened) (x : Seated V) : Type 0 where

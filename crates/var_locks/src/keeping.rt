@@ -36,7 +36,9 @@ fn answer_of(trace: &Trace) -> Option<u64>
 /// The step of a thread that left this.
 pub(crate) fn step_of(thread: u32, trace: Trace) -> WovenStep
     ensures { result ≡ record {
-        moved = record { thread = thread; answer = answer_in trace }; trace = trace } }
+      moved = record { thread = thread; answer = answer_in trace };
+      trace = trace;
+    } }
 {
     let answer = answer_of(&trace);
     WovenStep {
@@ -168,8 +170,7 @@ impl<P: Program, J: Round> Vars<P, J> {
             (Some packet.now) seat.new result }
     {
         let mut after = seat.part;
-        let Ok(output) = moves::emit(alloc, program, seat.thread, &mut after, place, packet)
-        else {
+        let Ok(output) = moves::emit(alloc, program, seat.thread, &mut after, place, packet) else {
             return Stepped::NoMemory;
         };
         let trace = Trace::Emitted(output.number);

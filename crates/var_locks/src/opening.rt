@@ -4,7 +4,7 @@ ghost use Rattle.box_program.specs.Hands.{FitsProgram};
 ghost use Rattle.master_core.specs.Mastered.{master_of, value_of};
 ghost use Rattle.var_locks.specs.Codes.{master_code};
 ghost use Rattle.var_locks.specs.Rounds.{IsRoundOf, AreVarsOf, Opens};
-ghost use Rattle.var_locks.specs.Openings.{places_of, words_of, rest_view, fresh_seat, fresh_seats};
+ghost use Rattle.var_locks.specs.Openings.{AreCounted, places_of, words_of, rest_view, fresh_seat, fresh_seats};
 
 use crate::seats::VarSeat;
 use crate::steps::{Lock, Token, open_round, split_off};
@@ -59,6 +59,7 @@ pub(crate) fn seat_all<P: Program, J: Round>(
     requires words { 0 < shared.now.table_id.words }
     requires table { token.old.table_id ≡ shared.now.table_id }
     requires few { length parts.now ≤ 16 }
+    requires counted { AreCounted parts.now }
     requires first { token.old.me ≡ (rest_view 0 parts.now places.now, []) }
     ensures { IfOk result (λ seats.
         seats.items ≡ fresh_seats shared.now.table_id places.now 0 parts.now) }

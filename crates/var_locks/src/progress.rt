@@ -1,6 +1,6 @@
 //! What is seen of a seat between its moves.
-ghost use Rattle.std.specs.Prelude.{◌≡◌, ℕ, ◌<◌, ◌^◌, ◌↔◌, IsTrue, slice_index};
-ghost use Rattle.master_core.specs.Mastered.{moves_made, WantsVariable, IsOnVariable};
+ghost use Rattle.std.specs.Prelude.{◌≡◌, ℕ, ◌↔◌, IsTrue, slice_index};
+ghost use Rattle.master_core.specs.Mastered.{WantsVariable, IsOnVariable};
 ghost use Rattle.var_locks.specs.Wanting.{seat_wants};
 
 use crate::seats::VarSeat;
@@ -29,7 +29,6 @@ impl<P: Program> VarSeat<P> {
     /// What its thread does next. Of a touch or a read, `places` is how often the seat saw the variable touched: since then
     /// others may have touched it.
     pub fn wants(&self, program: &P) -> Wants
-        requires room { moves_made self.now.part < 2 ^ 56 }
         ensures { result ≡ seat_wants (P.meaning program.now) self.now }
     {
         let Some(place) = self.part.hand else {

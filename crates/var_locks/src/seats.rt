@@ -1,7 +1,7 @@
 //! The seats of a round: each is of one thread, with its part of the master and what it did in the round.
 ghost use Rattle.std.specs.Prelude.{◌≡◌, [], ◌∷◌};
 ghost use Rattle.var_locks.specs.Openings.{rest_view, fresh_seat};
-ghost use Rattle.var_locks.specs.Seats.{IsKept, first_notes};
+ghost use Rattle.var_locks.specs.Seats.{IsCounted, IsKept, first_notes};
 
 use crate::steps::Token;
 use box_program::Program;
@@ -28,9 +28,14 @@ impl<P: Program> Model for VarSeat<P> {
     ghost Value = { Seated P.Value };
 
     ghost view = { λ s. record {
-        thread = s.thread; part = s.part; notes = first_notes s.token.me.0.shares;
-        seen = s.seen.items; missing = s.token.me.0.missing; ended = s.ended;
-        round = s.token.table_id } };
+      thread = s.thread;
+      part = s.part;
+      notes = first_notes s.token.me.0.shares;
+      seen = s.seen.items;
+      missing = s.token.me.0.missing;
+      ended = s.ended;
+      round = s.token.table_id;
+    } };
 
     ghost invariant = { λ s.
         IsKept s.token.me s.thread s.part s.seen.items s.receipts.items s.ended };
@@ -54,6 +59,7 @@ impl<P: Program> VarSeat<P> {
     ) -> Self
         requires view { token.me.0 ≡ rest_view thread (part ∷ []) seen.items }
         requires slots { token.me.1 ≡ [] }
+        requires counted { IsCounted part }
         ensures { result ≡ fresh_seat token.table_id seen.items thread part }
     {
         VarSeat {

@@ -142,8 +142,11 @@ pub(crate) fn note_move<P: Program, J: Round>(
     requires next { CanNote (P.meaning program.now) J.guide token.old.me.0
         (own_note before.now after.now trace.now (option_copied packet)) }
     ensures same { (token.new.table_id ≡ token.old.table_id) × (token.new.id ≡ token.old.id) }
-    ensures noted { token.new.me ≡ (noted_view token.old.me.0
-        (own_note before.now after.now trace.now (option_copied packet.entry)), token.old.me.1) }
+    ensures noted { token.new.me ≡ (
+      noted_view token.old.me.0
+          (own_note before.now after.now trace.now (option_copied packet.entry)),
+      token.old.me.1,
+    ) }
 {
     note_as::<P, J, Brand>(program, shared, token, word, before, after, trace, packet);
 }
@@ -197,8 +200,11 @@ pub(crate) fn bring_home<P: Program, J: Round>(
     requires next { CanBring (P.meaning program.now) (P.fits program.now) J.guide token.old.me
         var word (note_on before.now after.now trace.now token.old.me.0) }
     ensures same { (token.new.table_id ≡ token.old.table_id) × (token.new.id ≡ token.old.id) }
-    ensures brought { token.new.me ≡ (noted_view token.old.me.0
-        (note_on before.now after.now trace.now token.old.me.0), []) }
+    ensures brought { token.new.me ≡ (
+      noted_view token.old.me.0
+          (note_on before.now after.now trace.now token.old.me.0),
+      [],
+    ) }
 {
     bring_as::<P, J, Brand>(program, shared, token, var, word, before, after, trace);
 }

@@ -151,7 +151,10 @@ fn waits_for(
         access.var access.read places readers.now u k → ⊥) }
 {
     let Access {
-        thread, var, read, ..
+        thread,
+        var,
+        read,
+        ..
     } = access;
     entry_of(guide.turn(thread, number, var, read, places, readers))
 }

@@ -32,8 +32,14 @@ impl<P: Program, J: Round> Model for Vars<P, J> {
 
     ghost Value = { Opened };
 
-    ghost view = { λ s. record { program = J.program; opening = J.opening; parts = J.threads;
-        round = s.table.shared.table_id; vars = s.vars; threads = s.threads } };
+    ghost view = { λ s. record {
+      program = J.program;
+      opening = J.opening;
+      parts = J.threads;
+      round = s.table.shared.table_id;
+      vars = s.vars;
+      threads = s.threads;
+    } };
 }
 
 /// What a round came to: the master after it, and what each thread did.

@@ -1,11 +1,11 @@
-use Rattle.std.proofs.Common.{rules, ◌≡◌, refl, sym, ap, ◌∙◌, ℕ, ◌+◌, List, ◌++◌, ◌∷◌, [], take, drop, arith}
+use Rattle.std.proofs.Common.{rules, ◌≡◌, refl, sym, ap, ◌∙◌, subst, ℕ, ◌+◌, List, ◌++◌, ◌∷◌, [], take, drop, arith}
 use Rattle.std.specs.Prelude.{slice_index_or}
 use Rattle.master_core.specs.declared.parts.VarPart.{VarPart}
 use Rattle.master_core.specs.declared.parts.ThreadPart.{ThreadPart}
 use Rattle.atomic_table.specs.Table.{Me}
 use Rattle.atomic_table.specs.Seated.{TableId}
 use Rattle.var_locks.specs.declared.view.View.{View}
-use Rattle.var_locks.specs.Seats.{Seated}
+use Rattle.var_locks.specs.Seats.{Seated, IsCounted}
 use Rattle.var_locks.specs.Views.{fresh_shares, first_share, other_shares}
 use Rattle.var_locks.specs.Openings.{rest_view, fresh_seat, fresh_seats}
 use Rattle.var_locks.proofs.Beginning.{fresh_part}
@@ -32,6 +32,11 @@ fresh-requires-clause-view g c κs within =
     ∙ (ap (λ (me : Me (VarPart g.row.P-Value.Denot) (View g.row.P-Value.Denot)). first_share me.0) inv.1
     ∙ (ap (λ (l : List ThreadPart). first_share {V = g.row.P-Value.Denot} (rest_view t l c.args.places.now)) is_parts
     ∙ ap (λ (s : List ℕ). rest_view {V = g.row.P-Value.Denot} t (part ∷ []) s) (sym c.in_ok-seen.ensures.items)))
+
+pub fresh-requires-clause-counted : goal.fresh-requires-clause-counted
+fresh-requires-clause-counted g c κs within =
+    let part : ThreadPart = c.index-parts-thread.result in
+    subst (λ (x : ThreadPart). IsCounted x) (sym c.index-parts-thread.is) (c.requires.counted c.loop-thread.thread part c.loop-thread-test.true)
 
 pub fresh-requires-clause-slots : goal.fresh-requires-clause-slots
 fresh-requires-clause-slots g c κs within = ap (λ (me : Me (VarPart g.row.P-Value.Denot) (View g.row.P-Value.Denot)). me.1) c.split_off-own.ensures.first
