@@ -1,7 +1,7 @@
 //! A guide that follows a run.
 ghost use Rattle.std.specs.Prelude.{◌≡◌, ℕ, length, replicate, IfOk, IsTrue};
 ghost use Rattle.replay_guide.specs.Following.{CanBeFollowed};
-ghost use Rattle.lock_tests.specs.Followed.{IsLater, AreFollowed, noted};
+ghost use Rattle.lock_tests.specs.Followed.{IsLater, IsNextHeld, AreFollowed, noted};
 
 use access_log::{Held, StampedEntry, What};
 use master_core::{Trace, WovenStep};
@@ -10,6 +10,7 @@ use replay_guide::Guide;
 use std::alloc::Global;
 
 /// Nothing held, for 16 threads.
+#[tactic(auto, using(crate::proofs::Follow::none_followed))]
 fn nothing_held(alloc: Global) -> Result<Held, NoMemory>
     ensures { IfOk result (λ held. AreFollowed held (replicate 16 0)) }
 {
@@ -36,16 +37,33 @@ fn note(last: &mut [u64], what: What)
     }
 }
 
+/// Whether the entry is the next of its thread.
+fn is_next(held: &Held, entry: &StampedEntry) -> bool
+    requires threads { length held.now ≡ 16 }
+    ensures { IsTrue result → IsNextHeld held.now entry.now }
+{
+    entry.thread < 16 && entry.number.checked_sub(1) == Some(held.frontier(entry.thread))
+}
+
+/// Holds the next entry of its thread.
+fn add(held: &mut Held, last: &mut [u64], entry: &StampedEntry) -> Result<(), NoMemory>
+    requires followed { AreFollowed held.old last.old }
+    requires next { IsNextHeld held.old entry.now }
+    requires later { IsLater last.old entry.now.what }
+    ensures { AreFollowed held.new last.new }
+{
+    held.add(*entry)?;
+    note(last, entry.what);
+    Ok(())
+}
+
 /// Holds the next entry of its thread, where it is no touch or comes after the last touch of its variable. Any other one is left out.
 fn hold(held: &mut Held, last: &mut [u64], entry: &StampedEntry) -> Result<(), NoMemory>
     requires { AreFollowed held.old last.old }
     ensures { AreFollowed held.new last.new }
 {
-    let is_next = entry.thread < 16
-        && entry.number.checked_sub(1) == Some(held.frontier(entry.thread));
-    if is_next && is_later(last, entry.what) {
-        held.add(*entry)?;
-        note(last, entry.what);
+    if is_next(held, entry) && is_later(last, entry.what) {
+        add(held, last, entry)?;
     }
     Ok(())
 }
