@@ -91,6 +91,8 @@ fn begin<P: Program, J: Round>(
     requires some { 0 < length parts.threads.items }
     ensures vars { IfOk result (λ r.
         AreVarsOf P.meaning P.row.coded P.Value.row.coded program.now r.0) }
+    ensures program { IfOk result (λ r. r.0.program ≡ J.program) }
+    ensures opening { IfOk result (λ r. r.0.opening ≡ J.opening) }
     ensures threads { IfOk result (λ r. r.0.parts ≡ J.threads) }
     ensures seats { IfOk result (λ r. r.1.items ≡ fresh_seats r.0.round J.places 0 J.threads) }
 {
@@ -131,6 +133,8 @@ impl<P: Program, J: Round> Vars<P, J> {
         requires some { 0 < length master.threads }
         ensures vars { IfOk result (λ r.
             AreVarsOf P.meaning P.row.coded P.Value.row.coded program.now r.0) }
+        ensures program { IfOk result (λ r. r.0.program ≡ J.program) }
+        ensures opening { IfOk result (λ r. r.0.opening ≡ J.opening) }
         ensures threads { IfOk result (λ r. r.0.parts ≡ J.threads) }
         ensures seats { IfOk result (λ r.
             r.1.items ≡ fresh_seats r.0.round J.places 0 J.threads) }
