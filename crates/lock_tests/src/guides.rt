@@ -25,7 +25,7 @@ use plain_text::{NoMemory, Packet};
 use replay_guide::Guide;
 use sample_frames::{NEXT_QUERY, QUERY};
 use std::alloc::Global;
-use std::marker::{Brand, Send, Sync};
+use std::marker::{Brand, Sync};
 use std::sync::Wait;
 use std::test::Fail;
 use std::thread::Threads;
@@ -116,8 +116,6 @@ fn race_after<P: Program + Sync, R: Threads + Wait + Sync>(
     receipts: &[Woven],
     feed: Feed<'_>,
 ) -> Result<Closed<P>, NoMemory>
-where
-    P::Value: Send,
     ensures fits { IfOk result (λ closed. FitsProgram (P.meaning program.now) (P.fits program.now)
         value_of closed.master.vars) }
     ensures two { IfOk result (λ closed. length closed.master.threads ≡ 2) }

@@ -19,7 +19,7 @@ use plain_text::NoMemory;
 use replay_guide::Guide;
 use sample_frames::{NEXT_QUERY, OTHER_QUERY, QUERY};
 use std::alloc::Global;
-use std::marker::{Brand, Send, Sync};
+use std::marker::{Brand, Sync};
 use std::sync::Wait;
 use std::test::Fail;
 use std::thread;
@@ -27,7 +27,7 @@ use std::thread::Threads;
 use var_locks::{Closed, Round, VarSeat, Vars};
 
 /// Both threads take their inputs to their ends, at once.
-fn run_both<P: Program + Sync, J: Round, R: Threads + Wait + Sync>(
+fn run_both<P: Program + Sync, J: Round + Sync, R: Threads + Wait + Sync>(
     rt: &R,
     alloc: Global,
     program: &P,
@@ -37,8 +37,6 @@ fn run_both<P: Program + Sync, J: Round, R: Threads + Wait + Sync>(
     second: VarSeat<P>,
     feed: Feed<'_>,
 ) -> (VarSeat<P>, VarSeat<P>)
-where
-    P::Value: Send,
     requires of { AreVarsOf P.meaning P.row.coded P.Value.row.coded J.program J.opening J.threads
         program.now vars.now.table.shared.table_id.words vars.now.vars vars.now.threads }
     requires guide { guide.now ≡ J.guide }
@@ -50,13 +48,25 @@ where
 {
     thread::join(
         rt,
-        move || run(rt, alloc, program, vars, guide, 0, first, feed),
-        move || run(rt, alloc, program, vars, guide, 1, second, feed),
+        move || -> VarSeat<P>
+            requires { AreVarsOf P.meaning P.row.coded P.Value.row.coded J.program J.opening J.threads
+                program.now vars.now.table.shared.table_id.words vars.now.vars vars.now.threads
+                × (guide.now ≡ J.guide) × (vars.now.threads ≡ 2)
+                × IsAt vars.now.table.shared.table_id 0 false first }
+            ensures { IsAt vars.entry.now.table.shared.table_id 0 true result }
+        { run(rt, alloc, program, vars, guide, 0, first, feed) },
+        move || -> VarSeat<P>
+            requires { AreVarsOf P.meaning P.row.coded P.Value.row.coded J.program J.opening J.threads
+                program.now vars.now.table.shared.table_id.words vars.now.vars vars.now.threads
+                × (guide.now ≡ J.guide) × (vars.now.threads ≡ 2)
+                × IsAt vars.now.table.shared.table_id 1 false second }
+            ensures { IsAt vars.entry.now.table.shared.table_id 1 true result }
+        { run(rt, alloc, program, vars, guide, 1, second, feed) },
     )
 }
 
 /// A round in which two threads race.
-fn race_of<P: Program + Sync, J: Round, R: Threads + Wait + Sync>(
+fn race_of<P: Program + Sync, J: Round + Sync, R: Threads + Wait + Sync>(
     rt: &R,
     alloc: Global,
     program: &P,
@@ -64,8 +74,6 @@ fn race_of<P: Program + Sync, J: Round, R: Threads + Wait + Sync>(
     guide: &Guide,
     feed: Feed<'_>,
 ) -> Result<Closed<P>, NoMemory>
-where
-    P::Value: Send,
     requires program { P.row.coded.code program.now ≡ J.program }
     requires master { (master_code P.Value.row.coded).code master ≡ J.opening }
     requires threads { master.threads ≡ J.threads }
@@ -91,8 +99,6 @@ pub fn race<P: Program + Sync, R: Threads + Wait + Sync>(
     guide: &Guide,
     feed: Feed<'_>,
 ) -> Result<Closed<P>, NoMemory>
-where
-    P::Value: Send,
     requires fits { FitsProgram (P.meaning program.now) (P.fits program.now) value_of master.vars }
     requires two { length master.threads ≡ 2 }
     ensures fits { IfOk result (λ closed. FitsProgram (P.meaning program.now) (P.fits program.now)
@@ -113,8 +119,6 @@ fn race_fresh<P: Program + Sync, R: Threads + Wait + Sync>(
     guide: &Guide,
     feed: Feed<'_>,
 ) -> Result<Closed<P>, NoMemory>
-where
-    P::Value: Send,
     ensures fits { IfOk result (λ closed. FitsProgram (P.meaning program.now) (P.fits program.now)
         value_of closed.master.vars) }
     ensures two { IfOk result (λ closed. length closed.master.threads ≡ 2) }
@@ -131,10 +135,7 @@ fn raced<P: Program + Sync, R: Threads + Wait + Sync>(
     frames: [&[u8]; 2],
     count: u64,
     shown: (u32, &str),
-) -> Result<(Outcome, bool), NoMemory>
-where
-    P::Value: Send,
-{
+) -> Result<(Outcome, bool), NoMemory> {
     let inputs = inputs_of(alloc, frames, count)?;
     let feed = Feed {
         inputs: &inputs,
