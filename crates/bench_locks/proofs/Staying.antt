@@ -1,6 +1,6 @@
 -- A move leaves a seat in its round, as that of its thread.
 use Rattle.std.proofs.Common.{◌≡◌, ℕ, zero, suc, ◌+◌, ◌<◌, Bool, false, true, List, [], ◌∷◌, length, refl, sym, subst, ◌∙◌, ap, Option, Some, arith}
-use Rattle.std.specs.Prelude.{slice_index_or}
+use Rattle.std.specs.Prelude.{slice_index_or, All}
 use Rattle.plain_text.specs.declared.packet.Packet.{Packet}
 use Rattle.access_log.specs.Held.{Lane}
 use Rattle.plain_machine.specs.Program.{Meaning}
@@ -45,22 +45,21 @@ still_going round threads old new is stays = record {
   going = stays.ended_is;
 }
 
--- each seat of a round that begins is going, and there are as many as threads
+-- there are as many seats as threads
 pub fresh_count : {V : Type 0} (round : TableId) (places : List ℕ) (t : ℕ) (parts : List ThreadPart) → length (fresh_seats {V = V} round places t parts) ≡ length parts
 fresh_count round places t [] = refl
-fresh_count round places t (part ∷ parts) = ap (λ n. n + 1) (fresh_count round places (t + 1) parts)
+fresh_count {V} round places t (part ∷ parts) = let others = fresh_count {V = V} round places (t + 1) parts in omega (arith, others)
 
-pub fresh_goes : {V : Type 0} (round : TableId) (places : List ℕ) (t threads : ℕ) (parts : List ThreadPart) (i : ℕ) (x : Seated V)
-    → t + length parts ≡ threads → i < length parts → x ≡ slice_index_or (fresh_seats round places t parts) i x → IsGoing round threads x
-fresh_goes round places t threads [] i x all low is = absurd (omega (arith, low))
-fresh_goes {V} round places t threads (part ∷ parts) zero x all low is =
-    subst (λ (y : Seated V). IsGoing round threads y) (sym is) (record { seat = record { round_is = refl; low = omega (arith, all) }; going = refl })
-fresh_goes round places t threads (part ∷ parts) (suc i) x all low is =
-    fresh_goes round places (t + 1) threads parts i x (omega (arith, all)) (omega (arith, low)) is
+-- each seat of a round that begins is going
+pub fresh_go : {V : Type 0} (round : TableId) (places : List ℕ) (t threads : ℕ) (parts : List ThreadPart) → t + length parts ≡ threads
+    → All (IsGoing {V = V} round threads) (fresh_seats round places t parts)
+fresh_go round places t threads [] all i d low = absurd (omega (arith, low))
+fresh_go round places t threads (part ∷ parts) all zero d low = record { seat = record { round_is = refl; low = omega (arith, all) }; going = refl }
+fresh_go round places t threads (part ∷ parts) all (suc i) d low = fresh_go round places (t + 1) threads parts (omega (arith, all)) i d (omega (arith, low))
 
 -- where each seat was run to its end, these are the seats of the round
 pub ended_are : {V : Type 0} (round : TableId) (places : List ℕ) (t : ℕ) (parts : List ThreadPart) (ended : List (Seated V)) → length ended ≡ length parts
-    → ((i : ℕ) (d : Seated V) → i < length parts → Stays true (slice_index_or (fresh_seats round places t parts) i d) (slice_index_or ended i d))
+    → ((i : ℕ) (d : Seated V) → i < length (fresh_seats {V = V} round places t parts) → Stays true (slice_index_or (fresh_seats round places t parts) i d) (slice_index_or ended i d))
     → AreSeats round t ended
 ended_are round places t [] [] count each = tt
 ended_are round places t [] (x ∷ others) count each = absurd (omega (arith, count))

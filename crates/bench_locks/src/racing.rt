@@ -1,10 +1,10 @@
 //! A round in which each thread takes one packet again and again, in a thread of the machine.
-ghost use Rattle.std.specs.Prelude.{◌≡◌, ℕ, ◌<◌, ◌≤◌, ◌^◌, false, true, length, IfOk};
+ghost use Rattle.std.specs.Prelude.{◌≡◌, ℕ, ◌<◌, ◌≤◌, ◌^◌, false, true, length, slice_index_or, All, IfOk};
 ghost use Rattle.box_program.specs.Hands.{FitsProgram};
 ghost use Rattle.master_core.specs.Mastered.{value_of};
 ghost use Rattle.var_locks.specs.Codes.{master_code};
-ghost use Rattle.var_locks.specs.Closing.{AreSeats};
-ghost use Rattle.var_locks.specs.Openings.{fresh_seats, places_of};
+ghost use Rattle.var_locks.specs.Openings.{places_of};
+ghost use Rattle.var_locks.specs.Seats.{Seated};
 ghost use Rattle.bench_locks.specs.Racing.{AreOf, IsGoing, Stays};
 
 use crate::done::Done;
@@ -25,6 +25,7 @@ const MOST_COUNT: u64 = 1 << 40;
 const MOST_MOVES_OF_ONE: u32 = 64;
 
 /// Makes the next move of the seat's thread.
+#[tactic(auto, using(crate::proofs::Staying::steps_stay, crate::proofs::Staying::touches_stay))]
 fn make<P: Program, J: Round, R: Wait>(
     rt: &R,
     alloc: Global,
@@ -55,6 +56,7 @@ fn make<P: Program, J: Round, R: Wait>(
 }
 
 /// Takes a packet to its end; whether it came there.
+#[tactic(auto, using(crate::proofs::Staying::still_going))]
 fn run_one<P: Program, J: Round, R: Wait>(
     rt: &R,
     alloc: Global,
@@ -81,6 +83,7 @@ fn run_one<P: Program, J: Round, R: Wait>(
 }
 
 /// Takes the packet of the seat's thread to its end so many times, and ends the round for it.
+#[tactic(auto, using(crate::proofs::Staying::still_going))]
 fn run<P: Program, J: Round, R: Wait>(
     rt: &R,
     alloc: Global,
@@ -108,7 +111,7 @@ fn run<P: Program, J: Round, R: Wait>(
     seat
 }
 
-/// Runs the seats of a round that begins, each in a thread of the machine.
+/// Runs the seats, each in a thread of the machine.
 fn run_all<P: Program + Sync, J: Round, R: Threads + Wait + Sync>(
     rt: &R,
     alloc: Global,
@@ -122,9 +125,10 @@ fn run_all<P: Program + Sync, J: Round, R: Threads + Wait + Sync>(
     requires of { AreOf P.meaning P.row.coded P.Value.row.coded J.program J.opening J.threads
         program.now vars.now.table.shared.table_id vars.now.vars vars.now.threads }
     requires guide { guide.now ≡ J.guide }
-    requires seats { seats.items ≡ fresh_seats vars.now.table.shared.table_id J.places 0 J.threads }
-    ensures seats { IfOk result (λ ended. AreSeats vars.now.table.shared.table_id 0 ended.items) }
-    ensures count { IfOk result (λ ended. length ended.items ≡ vars.now.threads) }
+    requires seats { All (IsGoing vars.now.table.shared.table_id vars.now.threads) seats.items }
+    ensures count { IfOk result (λ ended. length ended.items ≡ length seats.items) }
+    ensures each { IfOk result (λ ended. (i : ℕ) (d : Seated P.Value) → i < length seats.items
+        → Stays true (slice_index_or seats.items i d) (slice_index_or ended.items i d)) }
 {
     let work = |seat: VarSeat<P>| -> VarSeat<P>
         requires { AreOf P.meaning P.row.coded P.Value.row.coded J.program J.opening J.threads
