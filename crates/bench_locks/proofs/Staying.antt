@@ -46,9 +46,9 @@ still_going round threads old new is stays = record {
 }
 
 -- there are as many seats as threads
-pub fresh_count : {V : Type 0} (round : TableId) (places : List ℕ) (t : ℕ) (parts : List ThreadPart) → length (fresh_seats {V = V} round places t parts) ≡ length parts
-fresh_count round places t [] = refl
-fresh_count {V} round places t (part ∷ parts) = let others = fresh_count {V = V} round places (t + 1) parts in omega (arith, others)
+pub fresh_count : (V : Type 0) (round : TableId) (places : List ℕ) (t : ℕ) (parts : List ThreadPart) → length (fresh_seats {V = V} round places t parts) ≡ length parts
+fresh_count V round places t [] = refl
+fresh_count V round places t (part ∷ parts) = let others = fresh_count V round places (t + 1) parts in omega (arith, others)
 
 -- each seat of a round that begins is going
 pub fresh_go : {V : Type 0} (round : TableId) (places : List ℕ) (t threads : ℕ) (parts : List ThreadPart) → t + length parts ≡ threads
@@ -66,4 +66,4 @@ ended_are round places t [] (x ∷ others) count each = absurd (omega (arith, co
 ended_are round places t (part ∷ parts) [] count each = absurd (omega (arith, count))
 ended_are round places t (part ∷ parts) (x ∷ others) count each =
     let first = each 0 x (omega arith) in
-    (first.thread, first.round_is, first.ended_is, ended_are round places (t + 1) parts others (omega (arith, count)) (λ i d low. each (i + 1) d (omega (arith, low))))
+    (first.thread, first.round_is, first.ended_is, ended_are round places (t + 1) parts others (omega (arith, count)) (λ i d low. each (suc i) d (omega (arith, low))))

@@ -112,7 +112,7 @@ fn run<P: Program, J: Round, R: Wait>(
 }
 
 /// Runs the seats, each in a thread of the machine.
-fn run_all<P: Program + Sync, J: Round, R: Threads + Wait + Sync>(
+fn run_all<P: Program + Send + Sync, J: Round + Send + Sync, R: Threads + Wait + Sync>(
     rt: &R,
     alloc: Global,
     program: &P,
@@ -141,7 +141,7 @@ fn run_all<P: Program + Sync, J: Round, R: Threads + Wait + Sync>(
 }
 
 /// A round in which each thread takes its packet so many times.
-fn round_of<P: Program + Sync, J: Round, R: Threads + Wait + Sync>(
+fn round_of<P: Program + Send + Sync, J: Round + Send + Sync, R: Threads + Wait + Sync>(
     rt: &R,
     alloc: Global,
     program: &P,
@@ -165,7 +165,7 @@ fn round_of<P: Program + Sync, J: Round, R: Threads + Wait + Sync>(
 }
 
 /// What so many threads do, each of which takes its packet so many times.
-pub fn race<P: Program + Sync, R: Threads + Wait + Sync>(
+pub fn race<P: Program + Send + Sync, R: Threads + Wait + Sync>(
     rt: &R,
     alloc: Global,
     program: &P,
