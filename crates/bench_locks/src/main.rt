@@ -61,6 +61,9 @@ fn main(rt: HostRuntime) -> anyhow::Result<()> {
         "locks" => race(&rt, alloc, &TouchBox::new(), threads, &packets, count)?,
         _ => bail!("{who} is neither step nor locks"),
     };
-    println!(rt; "{who}: {} moves, {} touches, {} packets sent out", done.moves, done.touches, done.sent)
-        .map_err(anyhow::Error::from)
+    println!(rt;
+        "{who}: {} moves, {} touches, {} packets sent out",
+        done.moves, done.touches, done.sent
+    )
+    .map_err(anyhow::Error::from)
 }

@@ -25,7 +25,7 @@ close-requires-clause-seats g c κs within =
     ended_are round g.J.Round.places 0 g.J.Round.threads ended
     (c.in_ok-seats.ensures.count ∙ ap length c.in_ok-vars.ensures.seats ∙ fresh_count g.row.P-Value.Denot round g.J.Round.places 0 g.J.Round.threads)
     (subst (λ (l : List (Seated g.row.P-Value.Denot)). (i : ℕ) (d : Seated g.row.P-Value.Denot) → i < length l → Stays true (slice_index_or l i d) (slice_index_or ended i d))
-      c.in_ok-vars.ensures.seats c.in_ok-seats.ensures.each)
+    c.in_ok-vars.ensures.seats c.in_ok-seats.ensures.each)
 
 pub returns : goal.returns
 returns g c =
@@ -33,5 +33,5 @@ returns g c =
     let count = c.in_ok-seats.ensures.count ∙ ap length c.in_ok-vars.ensures.seats ∙ fresh_count g.row.P-Value.Denot round g.J.Round.places 0 g.J.Round.threads in
     record {
       threads = IfOk-weaker c.close.result _ _ (λ q closed. ap length closed.threads ∙ mapped seat_part c.in_ok-seats.seats.items ∙ count ∙ sym (ap length c.requires.threads))
-        (c.close.ensures.closed c.args.master c.requires.master c.requires.threads);
+          (c.close.ensures.closed c.args.master c.requires.master c.requires.threads);
     }
