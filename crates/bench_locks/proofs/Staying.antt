@@ -1,5 +1,5 @@
 -- A move leaves a seat in its round, as that of its thread.
-use Rattle.std.proofs.Common.{◌≡◌, ℕ, zero, suc, ◌+◌, ◌<◌, Bool, false, true, List, [], ◌∷◌, length, refl, sym, subst, ◌∙◌, ap, Option, Some, arith}
+use Rattle.std.proofs.Common.{◌≡◌, ℕ, zero, suc, ◌+◌, ◌<◌, false, true, List, [], ◌∷◌, length, refl, sym, subst, ◌∙◌, Option, arith}
 use Rattle.std.specs.Prelude.{slice_index_or, All, map}
 use Rattle.plain_text.specs.declared.packet.Packet.{Packet}
 use Rattle.access_log.specs.Held.{Lane}
@@ -9,9 +9,9 @@ use Rattle.master_core.specs.declared.step.Stepped.{Stepped}
 use Rattle.master_core.specs.declared.step.Stepped.TheVariants as stepped
 use Rattle.master_core.specs.declared.step.Trace.{Trace}
 use Rattle.atomic_table.specs.Seated.{TableId}
-use Rattle.var_locks.specs.Seats.{Seated, HasMade, IsSeatOf}
+use Rattle.var_locks.specs.Seats.{Seated, HasMade}
 use Rattle.var_locks.specs.Closing.{AreSeats}
-use Rattle.var_locks.specs.Openings.{fresh_seat, fresh_seats}
+use Rattle.var_locks.specs.Openings.{fresh_seats}
 use Rattle.var_locks.specs.Plain.{Steps}
 use Rattle.var_locks.specs.declared.touching.Touched.{Touched}
 use Rattle.var_locks.specs.declared.touching.Touched.TheVariants as touched

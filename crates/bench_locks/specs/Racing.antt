@@ -1,8 +1,7 @@
 -- What the threads of a round are run with, and what they leave.
 use base.Stored.{Gv}
-use Rattle.std.specs.Prelude.{◌≡◌, ℕ, Bool, true, false, List}
+use Rattle.std.specs.Prelude.{◌≡◌, ℕ, Bool, false, List}
 use Rattle.std.specs.Coded.{Coded}
-use Rattle.access_log.specs.Held.{Lane}
 use Rattle.atomic_table.specs.Seated.{TableId}
 use Rattle.plain_machine.specs.Program.{Meaning}
 use Rattle.master_core.specs.declared.parts.ThreadPart.{ThreadPart}

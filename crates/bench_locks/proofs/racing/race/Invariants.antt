@@ -1,4 +1,3 @@
-use Rattle.std.proofs.Common.{◌≡◌}
 use Rattle.var_locks.specs.Codes.{master_code}
 use Rattle.var_locks.specs.Openings.{places_of}
 use Rattle.bench_locks.proofs.racing.race.Given as goal
