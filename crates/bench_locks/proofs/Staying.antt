@@ -9,6 +9,7 @@ use Rattle.master_core.specs.declared.step.Stepped.{Stepped}
 use Rattle.master_core.specs.declared.step.Stepped.TheVariants as stepped
 use Rattle.master_core.specs.declared.step.Trace.{Trace}
 use Rattle.atomic_table.specs.Seated.{TableId}
+use Rattle.var_locks.specs.Rounds.{Opened}
 use Rattle.var_locks.specs.Seats.{Seated, HasMade}
 use Rattle.var_locks.specs.Closing.{AreSeats}
 use Rattle.var_locks.specs.Openings.{fresh_seats}
@@ -39,9 +40,9 @@ module _ {V : Type 0} (m : Meaning V) (guide : List Lane) (old new : Seated V) (
   touches_stay (touched.Blocked u k) is = subst (λ (x : Seated V). Stays false old x) (sym is) (record { thread = refl; round_is = refl; ended_is = going })
   touches_stay touched.NoMemory is = same is
 
-pub still_going : {V : Type 0} (round : TableId) (threads : ℕ) (old new : Seated V) → IsGoing round threads old → Stays false old new → IsGoing round threads new
-still_going round threads old new is stays = record {
-  seat = record { round_is = stays.round_is ∙ is.seat.round_is; low = subst (λ (t : ℕ). t < threads) (sym stays.thread) is.seat.low };
+pub still_going : {V : Type 0} (vars : Opened) (old new : Seated V) → IsGoing vars old → Stays false old new → IsGoing vars new
+still_going vars old new is stays = record {
+  seat = record { round_is = stays.round_is ∙ is.seat.round_is; low = subst (λ (t : ℕ). t < vars.threads) (sym stays.thread) is.seat.low };
   going = stays.ended_is;
 }
 
@@ -51,11 +52,11 @@ fresh_count V round places t [] = refl
 fresh_count V round places t (part ∷ parts) = let others = fresh_count V round places (t + 1) parts in omega (arith, others)
 
 -- each seat of a round that begins is going
-pub fresh_go : {V : Type 0} (round : TableId) (places : List ℕ) (t threads : ℕ) (parts : List ThreadPart) → t + length parts ≡ threads
-    → All (IsGoing {V = V} round threads) (fresh_seats round places t parts)
-fresh_go round places t threads [] all i d low = absurd (omega (arith, low))
-fresh_go round places t threads (part ∷ parts) all zero d low = record { seat = record { round_is = refl; low = omega (arith, all) }; going = refl }
-fresh_go round places t threads (part ∷ parts) all (suc i) d low = fresh_go round places (t + 1) threads parts (omega (arith, all)) i d (omega (arith, low))
+pub fresh_go : {V : Type 0} (vars : Opened) (places : List ℕ) (t : ℕ) (parts : List ThreadPart) → t + length parts ≡ vars.threads
+    → All (IsGoing {V = V} vars) (fresh_seats vars.round places t parts)
+fresh_go vars places t [] all i d low = absurd (omega (arith, low))
+fresh_go vars places t (part ∷ parts) all zero d low = record { seat = record { round_is = refl; low = omega (arith, all) }; going = refl }
+fresh_go vars places t (part ∷ parts) all (suc i) d low = fresh_go vars places (t + 1) parts (omega (arith, all)) i d (omega (arith, low))
 
 -- where each seat was run to its end, these are the seats of the round
 pub ended_are : {V : Type 0} (round : TableId) (places : List ℕ) (t : ℕ) (parts : List ThreadPart) (ended : List (Seated V)) → length ended ≡ length parts

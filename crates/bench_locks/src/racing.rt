@@ -4,8 +4,9 @@ ghost use Rattle.box_program.specs.Hands.{FitsProgram};
 ghost use Rattle.master_core.specs.Mastered.{value_of};
 ghost use Rattle.var_locks.specs.Codes.{master_code};
 ghost use Rattle.var_locks.specs.Openings.{places_of};
+ghost use Rattle.var_locks.specs.Rounds.{AreVarsOf};
 ghost use Rattle.var_locks.specs.Seats.{Seated};
-ghost use Rattle.bench_locks.specs.Racing.{AreOf, IsGoing, Stays};
+ghost use Rattle.bench_locks.specs.Racing.{IsGoing, Stays};
 
 use crate::done::Done;
 use box_program::Program;
@@ -35,10 +36,9 @@ fn make<P: Program, J: Round, R: Wait>(
     seat: &mut VarSeat<P>,
     packet: &Packet,
 ) -> Stepped
-    requires of { AreOf P.meaning P.row.coded P.Value.row.coded J.program J.opening J.threads
-        program.now vars.now.table.shared.table_id vars.now.vars vars.now.threads }
+    requires of { AreVarsOf P.meaning P.row.coded P.Value.row.coded program.now vars.now }
     requires guide { guide.now ≡ J.guide }
-    requires seat { IsGoing vars.now.table.shared.table_id vars.now.threads seat.old }
+    requires seat { IsGoing vars.now seat.old }
     ensures stays { Stays false seat.old seat.new }
 {
     let counts = seat.counts();
@@ -66,10 +66,9 @@ fn run_one<P: Program, J: Round, R: Wait>(
     seat: &mut VarSeat<P>,
     packet: &Packet,
 ) -> bool
-    requires of { AreOf P.meaning P.row.coded P.Value.row.coded J.program J.opening J.threads
-        program.now vars.now.table.shared.table_id vars.now.vars vars.now.threads }
+    requires of { AreVarsOf P.meaning P.row.coded P.Value.row.coded program.now vars.now }
     requires guide { guide.now ≡ J.guide }
-    requires seat { IsGoing vars.now.table.shared.table_id vars.now.threads seat.old }
+    requires seat { IsGoing vars.now seat.old }
     ensures stays { Stays false seat.old seat.new }
 {
     for _made in 0..MOST_MOVES_OF_ONE {
@@ -94,10 +93,9 @@ fn run<P: Program, J: Round, R: Wait>(
     count: u64,
     mut seat: VarSeat<P>,
 ) -> VarSeat<P>
-    requires of { AreOf P.meaning P.row.coded P.Value.row.coded J.program J.opening J.threads
-        program.now vars.now.table.shared.table_id vars.now.vars vars.now.threads }
+    requires of { AreVarsOf P.meaning P.row.coded P.Value.row.coded program.now vars.now }
     requires guide { guide.now ≡ J.guide }
-    requires seat { IsGoing vars.now.table.shared.table_id vars.now.threads seat }
+    requires seat { IsGoing vars.now seat }
     ensures stays { Stays true seat result }
 {
     if let Some(packet) = packets.get(seat.thread() as usize) {
@@ -122,19 +120,17 @@ fn run_all<P: Program + Send + Sync, J: Round + Send + Sync, R: Threads + Wait +
     count: u64,
     seats: Vec<VarSeat<P>>,
 ) -> Result<Vec<VarSeat<P>>, NoMemory>
-    requires of { AreOf P.meaning P.row.coded P.Value.row.coded J.program J.opening J.threads
-        program.now vars.now.table.shared.table_id vars.now.vars vars.now.threads }
+    requires of { AreVarsOf P.meaning P.row.coded P.Value.row.coded program.now vars.now }
     requires guide { guide.now ≡ J.guide }
-    requires seats { All (IsGoing vars.now.table.shared.table_id vars.now.threads) seats.items }
+    requires seats { All (IsGoing vars.now) seats.items }
     ensures count { IfOk result (λ ended. length ended.items ≡ length seats.items) }
     ensures each { IfOk result (λ ended. (i : ℕ) (d : Seated P.Value) → i < length seats.items
         → Stays true (slice_index_or seats.items i d) (slice_index_or ended.items i d)) }
 {
     let work = |seat: VarSeat<P>| -> VarSeat<P>
-        requires { AreOf P.meaning P.row.coded P.Value.row.coded J.program J.opening J.threads
-            program.now vars.now.table.shared.table_id vars.now.vars vars.now.threads
+        requires { AreVarsOf P.meaning P.row.coded P.Value.row.coded program.now vars.now
             × (guide.now ≡ J.guide)
-            × IsGoing vars.now.table.shared.table_id vars.now.threads seat }
+            × IsGoing vars.now seat }
         ensures { Stays true seat result }
     { run(rt, alloc, program, vars, guide, packets, count, seat) };
     Ok(map_vec(rt, seats, &work)?)
@@ -157,7 +153,8 @@ fn round_of<P: Program + Send + Sync, J: Round + Send + Sync, R: Threads + Wait 
     requires guide { guide.now ≡ J.guide }
     requires fits { FitsProgram (P.meaning program.now) (P.fits program.now) value_of master.vars }
     requires some { 0 < length master.threads }
-    ensures threads { IfOk result (λ closed. length closed.master.threads ≡ length master.threads) }
+    ensures threads { IfOk result (λ closed.
+        length closed.master.threads ≡ length master.threads) }
 {
     let (vars, seats) = Vars::<P, J>::of(alloc, program, master, guide)?;
     let seats = run_all(rt, alloc, program, &vars, guide, packets, count, seats)?;
