@@ -21,11 +21,12 @@ build/bench_moves: words := master 1 1
 build/bench_frames: words := 1 1
 build/bench_held: words := 1
 build/bench_logger: words := 1 1
+build/bench_locks: words := locks 1 own 1
 build/bench_scripts: words := 1
 build/bench_system: words := count settle 1
 
 # All crates that the program stands on are proved, side by side, before it is linked. The prover's output goes to build/proof.log.
-BENCHES := build/bench_moves build/bench_frames build/bench_held build/bench_logger build/bench_scripts build/bench_system
+BENCHES := build/bench_moves build/bench_frames build/bench_held build/bench_logger build/bench_locks build/bench_scripts build/bench_system
 
 build/ftmb build/bench_headers $(BENCHES): build/%: $(SOURCES)
 	scripts/build $(RT) $(JOBS) $* $(words)
@@ -50,8 +51,9 @@ example: build/ftmb
 	scripts/example_port build/ftmb build/example/nat_crash
 
 # The bytes summed and the packets rewritten in a second; the packets made and run in a second; the moves that a master makes in a
-# second, beside those of the plain player; the frames written and read, the log entries held, the outputs released, the lines of a
-# script read, and the packets settled and the events performed by the recovering system.
+# second, beside those of the plain player; the frames written and read, the log entries held, the outputs released, the touches that
+# threads make under numbered locks, beside those of a master alone, the lines of a script read, and the packets settled and the events
+# performed by the recovering system.
 bench: build/bench_headers $(BENCHES) build/ftmb
 	scripts/bench build/bench_headers
 	scripts/bench_run build/ftmb $(BENCHES) build/bench

@@ -3,7 +3,19 @@
 #![tactic(auto)]
 
 #[cfg(test)]
+mod following;
+#[cfg(test)]
+mod going_on;
+#[cfg(test)]
+mod guides;
+#[cfg(test)]
+mod inputs;
+#[cfg(test)]
 mod orders;
+#[cfg(test)]
+mod outcomes;
+#[cfg(test)]
+mod races;
 #[cfg(test)]
 mod racing;
 #[cfg(test)]

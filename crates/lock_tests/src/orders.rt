@@ -1,5 +1,5 @@
 //! Two seats whose moves are put in each order on one thread of the machine.
-ghost use Rattle.std.specs.Prelude.{◌≡◌, ℕ, ◌<◌, length, false, true};
+ghost use Rattle.std.specs.Prelude.{◌≡◌, ℕ, ◌<◌, length, false, true, IfOk};
 ghost use Rattle.box_program.specs.Hands.{FitsProgram};
 ghost use Rattle.master_core.specs.Mastered.{value_of};
 ghost use Rattle.var_locks.specs.Codes.{master_code};
@@ -8,7 +8,7 @@ ghost use Rattle.var_locks.specs.Rounds.{AreVarsOf};
 ghost use Rattle.lock_tests.specs.Racing.{IsAt};
 
 use crate::racing::make;
-use crate::rounds::two_of;
+use crate::rounds::{close_two, open_two};
 use crate::turns::two_inputs;
 use crate::weaving::{is_legal, woven};
 use box_program::Program;
@@ -21,7 +21,17 @@ use std::alloc::Global;
 use std::marker::Brand;
 use std::sync::Wait;
 use std::test::Fail;
-use var_locks::{Receipts, Round, VarSeat, Vars};
+use var_locks::{Closed, Round, VarSeat, Vars};
+
+/// Some moves of two threads, each with one packet.
+#[derive(Clone, Copy)]
+pub struct Moves<'a> {
+    pub packets: [&'a Packet; 2],
+    /// How many there are, at most 32.
+    pub count: u32,
+    /// Whose they are, the lowest bit first: thread 1 makes a move where its bit is 1.
+    pub order: u32,
+}
 
 /// Makes the next move of thread 0, or of thread 1.
 fn make_one<P: Program, J: Round, R: Wait>(
@@ -35,24 +45,23 @@ fn make_one<P: Program, J: Round, R: Wait>(
     packets: [&Packet; 2],
     is_second: bool,
 ) -> Stepped
-    requires of { AreVarsOf P.meaning P.row.coded P.Value.row.coded J.program J.opening J.threads
-        program.now vars.now.table.shared.table_id.words vars.now.vars vars.now.threads }
+    requires of { AreVarsOf P.meaning P.row.coded P.Value.row.coded program.now vars.now }
     requires guide { guide.now ≡ J.guide }
     requires two { vars.now.threads ≡ 2 }
-    requires first { IsAt vars.now.table.shared.table_id 0 false first.old }
-    requires second { IsAt vars.now.table.shared.table_id 1 false second.old }
-    ensures first { IsAt vars.now.table.shared.table_id 0 false first.new }
-    ensures second { IsAt vars.now.table.shared.table_id 1 false second.new }
+    requires first { IsAt vars.now.round 0 false first.old }
+    requires second { IsAt vars.now.round 1 false second.old }
+    ensures first { IsAt vars.now.round 0 false first.new }
+    ensures second { IsAt vars.now.round 1 false second.new }
 {
     let [earlier, later] = packets;
     if is_second {
-        make(rt, alloc, program, vars, guide, 1, second, later)
+        make(rt, alloc, program, vars, guide, 1, second, later, 0)
     } else {
-        make(rt, alloc, program, vars, guide, 0, first, earlier)
+        make(rt, alloc, program, vars, guide, 0, first, earlier, 0)
     }
 }
 
-/// Makes ten moves. The bits of the order say whose, the lowest first: thread 1 makes a move where its bit is 1.
+/// Makes the moves.
 fn make_all<P: Program, J: Round, R: Wait>(
     rt: &R,
     alloc: Global,
@@ -61,56 +70,60 @@ fn make_all<P: Program, J: Round, R: Wait>(
     guide: &Guide,
     first: &mut VarSeat<P>,
     second: &mut VarSeat<P>,
-    packets: [&Packet; 2],
-    order: u32,
+    moves: Moves<'_>,
 )
-    requires of { AreVarsOf P.meaning P.row.coded P.Value.row.coded J.program J.opening J.threads
-        program.now vars.now.table.shared.table_id.words vars.now.vars vars.now.threads }
+    requires of { AreVarsOf P.meaning P.row.coded P.Value.row.coded program.now vars.now }
     requires guide { guide.now ≡ J.guide }
     requires two { vars.now.threads ≡ 2 }
-    requires first { IsAt vars.now.table.shared.table_id 0 false first.old }
-    requires second { IsAt vars.now.table.shared.table_id 1 false second.old }
-    ensures first { IsAt vars.now.table.shared.table_id 0 false first.new }
-    ensures second { IsAt vars.now.table.shared.table_id 1 false second.new }
+    requires first { IsAt vars.now.round 0 false first.old }
+    requires second { IsAt vars.now.round 1 false second.old }
+    ensures first { IsAt vars.now.round 0 false first.new }
+    ensures second { IsAt vars.now.round 1 false second.new }
 {
-    let mut bits = order;
-    for _made in 0..10 {
+    let mut bits = moves.order;
+    for _made in 0..moves.count {
         let is_second = bits % 2 == 1;
         make_one(
-            rt, alloc, program, vars, guide, first, second, packets, is_second,
+            rt,
+            alloc,
+            program,
+            vars,
+            guide,
+            first,
+            second,
+            moves.packets,
+            is_second,
         );
         bits /= 2;
     }
 }
 
 /// The seat, which has ended the round.
-fn ended<P: Program, J: Round>(
+pub fn ended<P: Program, J: Round>(
     program: &P,
     vars: &Vars<P, J>,
     thread: u32,
     mut seat: VarSeat<P>,
 ) -> VarSeat<P>
-    requires of { AreVarsOf P.meaning P.row.coded P.Value.row.coded J.program J.opening J.threads
-        program.now vars.now.table.shared.table_id.words vars.now.vars vars.now.threads }
+    requires of { AreVarsOf P.meaning P.row.coded P.Value.row.coded program.now vars.now }
     requires low { thread < vars.now.threads }
-    requires seat { IsAt vars.now.table.shared.table_id thread false seat }
-    ensures seat { IsAt vars.now.table.shared.table_id thread true result }
+    requires seat { IsAt vars.now.round thread false seat }
+    ensures seat { IsAt vars.now.round thread true result }
 {
     let _ = thread;
     vars.end(program, &mut seat);
     seat
 }
 
-/// What each of two threads does with one input, in this order.
+/// A round in which two threads make these moves.
 fn order_of<P: Program, J: Round, R: Wait>(
     rt: &R,
     alloc: Global,
     program: &P,
     master: Master<P>,
     guide: &Guide,
-    packets: [&Packet; 2],
-    order: u32,
-) -> Result<Receipts, NoMemory>
+    moves: Moves<'_>,
+) -> Result<Closed<P>, NoMemory>
     requires program { P.row.coded.code program.now ≡ J.program }
     requires master { (master_code P.Value.row.coded).code master ≡ J.opening }
     requires threads { master.threads ≡ J.threads }
@@ -118,11 +131,11 @@ fn order_of<P: Program, J: Round, R: Wait>(
     requires guide { guide.now ≡ J.guide }
     requires fits { FitsProgram (P.meaning program.now) (P.fits program.now) value_of master.vars }
     requires two { length master.threads ≡ 2 }
+    ensures fits { IfOk result (λ closed. FitsProgram (P.meaning program.now) (P.fits program.now)
+        value_of closed.master.vars) }
+    ensures two { IfOk result (λ closed. length closed.master.threads ≡ 2) }
 {
-    let (vars, seats) = Vars::<P, J>::of(alloc, program, master, guide)?;
-    let Some((mut first, mut second)) = two_of(seats) else {
-        return Err(NoMemory);
-    };
+    let (vars, mut first, mut second) = open_two::<P, J>(alloc, program, master, guide)?;
     make_all(
         rt,
         alloc,
@@ -131,31 +144,29 @@ fn order_of<P: Program, J: Round, R: Wait>(
         guide,
         &mut first,
         &mut second,
-        packets,
-        order,
+        moves,
     );
     let first = ended(program, &vars, 0, first);
     let second = ended(program, &vars, 1, second);
-    let mut seats = Vec::new(alloc);
-    seats.push(first)?;
-    seats.push(second)?;
-    Ok(vars.close(alloc, program, seats)?.receipts)
+    close_two(alloc, program, vars, first, second)
 }
 
-/// What each of two threads does with one input, in this order.
-fn in_order<P: Program, R: Wait>(
+/// A round in which two threads make these moves.
+pub fn in_order<P: Program, R: Wait>(
     rt: &R,
     alloc: Global,
     program: &P,
     master: Master<P>,
     guide: &Guide,
-    packets: [&Packet; 2],
-    order: u32,
-) -> Result<Receipts, NoMemory>
+    moves: Moves<'_>,
+) -> Result<Closed<P>, NoMemory>
     requires fits { FitsProgram (P.meaning program.now) (P.fits program.now) value_of master.vars }
     requires two { length master.threads ≡ 2 }
+    ensures fits { IfOk result (λ closed. FitsProgram (P.meaning program.now) (P.fits program.now)
+        value_of closed.master.vars) }
+    ensures two { IfOk result (λ closed. length closed.master.threads ≡ 2) }
 {
-    order_of::<P, Brand, R>(rt, alloc, program, master, guide, packets, order)
+    order_of::<P, Brand, R>(rt, alloc, program, master, guide, moves)
 }
 
 /// Whether what the threads do in this order weaves into a run of the plain player.
@@ -166,8 +177,13 @@ fn weaves<R: Wait>(rt: &R, alloc: Global, inputs: &InputLog, order: u32) -> Resu
     let program = MonitorBox::new(2);
     let guide = Guide::none(alloc);
     let master = Master::fresh(alloc, &program, 2)?;
-    let receipts = in_order(rt, alloc, &program, master, &guide, [earlier, later], order)?;
-    let steps = woven(alloc, &receipts)?;
+    let moves = Moves {
+        packets: [earlier, later],
+        count: 10,
+        order,
+    };
+    let closed = in_order(rt, alloc, &program, master, &guide, moves)?;
+    let steps = woven(alloc, &closed.receipts)?;
     let legal = is_legal(alloc, &program, inputs, steps.as_slice())?;
     Ok(legal && steps.len() == 10)
 }

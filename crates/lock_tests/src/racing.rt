@@ -18,7 +18,21 @@ const MOST_COUNT: u64 = 1 << 40;
 /// The moves that a packet takes at most, with its take and its end.
 const MOST_MOVES: u32 = 64;
 
-/// Makes the next move of the seat's thread; a clock or a draw is told its number. Out of memory also where the thread made more moves than a test makes.
+/// How long the NAT keeps a mapping without use, in microseconds.
+const IDLE: u64 = 300_000_000;
+
+/// What the threads of a round are given.
+#[derive(Clone, Copy)]
+pub struct Feed<'a> {
+    pub inputs: &'a InputLog,
+    /// Each thread takes its first inputs, so many.
+    pub count: u64,
+    /// The time of the round, in microseconds: a thread's k-th packet is told the time k times 300 s later.
+    pub time: u64,
+}
+
+/// Makes the next move of the seat's thread. A clock or a draw is told the time of its packet. Out of memory also where the thread made
+/// more moves than a test makes.
 #[tactic(auto, using(crate::proofs::Keeping::steps_keep, crate::proofs::Keeping::touches_keep))]
 pub fn make<P: Program, J: Round, R: Wait>(
     rt: &R,
@@ -29,13 +43,13 @@ pub fn make<P: Program, J: Round, R: Wait>(
     thread: u32,
     seat: &mut VarSeat<P>,
     packet: &Packet,
+    time: u64,
 ) -> Stepped
-    requires of { AreVarsOf P.meaning P.row.coded P.Value.row.coded J.program J.opening J.threads
-        program.now vars.now.table.shared.table_id.words vars.now.vars vars.now.threads }
+    requires of { AreVarsOf P.meaning P.row.coded P.Value.row.coded program.now vars.now }
     requires guide { guide.now ≡ J.guide }
     requires low { thread < vars.now.threads }
-    requires seat { IsAt vars.now.table.shared.table_id thread false seat.old }
-    ensures seat { IsAt vars.now.table.shared.table_id thread false seat.new }
+    requires seat { IsAt vars.now.round thread false seat.old }
+    ensures seat { IsAt vars.now.round thread false seat.new }
 {
     let counts = seat.counts();
     if counts.taken > MOST_COUNT || counts.entries > MOST_COUNT || counts.outputs > MOST_COUNT {
@@ -48,7 +62,8 @@ pub fn make<P: Program, J: Round, R: Wait>(
             Touched::NoMemory => Stepped::NoMemory,
         };
     }
-    vars.plain(alloc, program, seat, guide, u64::from(thread), Some(packet))
+    let told = time.wrapping_add(counts.taken.wrapping_mul(IDLE));
+    vars.plain(alloc, program, seat, guide, told, Some(packet))
 }
 
 /// Takes a packet to its end; whether it came there.
@@ -61,16 +76,16 @@ fn run_one<P: Program, J: Round, R: Wait>(
     thread: u32,
     seat: &mut VarSeat<P>,
     packet: &Packet,
+    time: u64,
 ) -> bool
-    requires of { AreVarsOf P.meaning P.row.coded P.Value.row.coded J.program J.opening J.threads
-        program.now vars.now.table.shared.table_id.words vars.now.vars vars.now.threads }
+    requires of { AreVarsOf P.meaning P.row.coded P.Value.row.coded program.now vars.now }
     requires guide { guide.now ≡ J.guide }
     requires low { thread < vars.now.threads }
-    requires seat { IsAt vars.now.table.shared.table_id thread false seat.old }
-    ensures seat { IsAt vars.now.table.shared.table_id thread false seat.new }
+    requires seat { IsAt vars.now.round thread false seat.old }
+    ensures seat { IsAt vars.now.round thread false seat.new }
 {
     for _made in 0..MOST_MOVES {
-        match make(rt, alloc, program, vars, guide, thread, seat, packet) {
+        match make(rt, alloc, program, vars, guide, thread, seat, packet, time) {
             Stepped::Ended(_) => return true,
             Stepped::Took(_) | Stepped::Did(_) | Stepped::Emitted(_) => {}
             Stepped::Idle | Stepped::NotTurn { .. } | Stepped::NoMemory => return false,
@@ -79,7 +94,7 @@ fn run_one<P: Program, J: Round, R: Wait>(
     false
 }
 
-/// Takes the first inputs of the seat's thread to their ends, so many, and ends the round for it.
+/// Takes the inputs of the seat's thread to their ends, and ends the round for it.
 pub fn run<P: Program, J: Round, R: Wait>(
     rt: &R,
     alloc: Global,
@@ -88,21 +103,21 @@ pub fn run<P: Program, J: Round, R: Wait>(
     guide: &Guide,
     thread: u32,
     mut seat: VarSeat<P>,
-    inputs: &InputLog,
-    count: u64,
+    feed: Feed<'_>,
 ) -> VarSeat<P>
-    requires of { AreVarsOf P.meaning P.row.coded P.Value.row.coded J.program J.opening J.threads
-        program.now vars.now.table.shared.table_id.words vars.now.vars vars.now.threads }
+    requires of { AreVarsOf P.meaning P.row.coded P.Value.row.coded program.now vars.now }
     requires guide { guide.now ≡ J.guide }
     requires low { thread < vars.now.threads }
-    requires seat { IsAt vars.now.table.shared.table_id thread false seat }
-    ensures seat { IsAt vars.now.table.shared.table_id thread true result }
+    requires seat { IsAt vars.now.round thread false seat }
+    ensures seat { IsAt vars.now.round thread true result }
 {
-    for number in 0..count {
-        let Some(packet) = inputs.input(thread, number + 1) else {
+    for number in 0..feed.count {
+        let Some(packet) = feed.inputs.input(thread, number + 1) else {
             break;
         };
-        if !run_one(rt, alloc, program, vars, guide, thread, &mut seat, packet) {
+        if !run_one(
+            rt, alloc, program, vars, guide, thread, &mut seat, packet, feed.time,
+        ) {
             break;
         }
     }

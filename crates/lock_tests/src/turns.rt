@@ -1,11 +1,13 @@
 //! Two threads over the monitor box, one after the other on one thread of the machine: exactly what each did.
+use crate::inputs::inputs_of;
+use crate::racing::Feed;
 use crate::rounds::take_turns;
 use crate::weaving::{is_legal, woven};
 use access_log::{StampedEntry, What};
 use input_logger::InputLog;
 use master_core::{Master, Trace, Woven};
 use monitor_box::MonitorBox;
-use plain_text::{Bytes, NoMemory, Packet};
+use plain_text::NoMemory;
 use replay_guide::Guide;
 use sample_frames::{OTHER_QUERY, QUERY};
 use std::alloc::Global;
@@ -13,22 +15,9 @@ use std::sync::Wait;
 use std::test::Fail;
 use thread_clock::Stamp;
 
-/// A packet of these captured bytes, all that it had on the wire.
-fn packet(alloc: Global, frame: &[u8]) -> Result<Packet, NoMemory> {
-    Ok(Packet {
-        seconds: 100,
-        fraction: 5,
-        original: 42,
-        bytes: Bytes::of(alloc, frame)?,
-    })
-}
-
 /// The two packets as the inputs of two threads: the query is steered to thread 0, the other one to thread 1.
 pub fn two_inputs(alloc: Global) -> Result<InputLog, NoMemory> {
-    let mut inputs = InputLog::new(alloc, 2)?;
-    inputs.feed(packet(alloc, &QUERY)?)?;
-    inputs.feed(packet(alloc, &OTHER_QUERY)?)?;
-    Ok(inputs)
+    inputs_of(alloc, [&QUERY, &OTHER_QUERY], 1)
 }
 
 /// What the two threads of a round of the monitor box did, each with its one input, thread 0 first.
@@ -40,7 +29,12 @@ fn take_one_each<R: Wait>(
     let program = MonitorBox::new(2);
     let guide = Guide::none(alloc);
     let master = Master::fresh(alloc, &program, 2)?;
-    let closed = take_turns(rt, alloc, &program, master, &guide, inputs, 1)?;
+    let feed = Feed {
+        inputs,
+        count: 1,
+        time: 0,
+    };
+    let closed = take_turns(rt, alloc, &program, master, &guide, feed)?;
     Ok(closed.receipts)
 }
 

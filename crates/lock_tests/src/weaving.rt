@@ -1,12 +1,7 @@
-//! The receipts of a round as one run, which the plain player and a master make again.
-ghost use Rattle.std.specs.Prelude.{◌≡◌, ◌<◌, length};
-ghost use Rattle.box_program.specs.Hands.{FitsProgram};
-ghost use Rattle.master_core.specs.Mastered.{value_of};
-
-use access_log::Turn;
+//! The receipts of a round as one run of the plain player.
 use box_program::Program;
 use input_logger::InputLog;
-use master_core::{Master, Stepped, Trace, Woven, WovenStep};
+use master_core::{Trace, Woven, WovenStep};
 use plain_machine::Schedule;
 use plain_player::play;
 use plain_text::{NoMemory, Sequence};

@@ -15,6 +15,7 @@ use Rattle.master_core.specs.Mastered.{in_hand_count, moves_made}
 use Rattle.master_core.specs.Effects.{after_take, after_entry, after_emit, after_end, TouchesParts, ReadsParts}
 use Rattle.var_locks.specs.declared.view.Note.{Note}
 use Rattle.var_locks.specs.Notes.{IsOwn, IsOwnBy, IsOwnEntry, IsOnVariable}
+use Rattle.var_locks.specs.Seats.{IsCounted}
 
 -- what a move keeps of its thread's part
 pub record IsWithinBounds (before after : ThreadPart) : Type 0 where
@@ -66,6 +67,13 @@ module _ {V : Type 0} (m : Meaning V) (t : ℕ) (n : Note V) (held : in_hand_cou
         ap (λ (z : ThreadPart). z.counts.entries) does.logs.thread,
         (let k : y.places ≡ x.places = ap (λ (z : VarPart V). z.places) does.variable in omega (arith, k)),
       )
+
+module _ {V : Type 0} (m : Meaning V) (t : ℕ) (n : Note V) (counted : IsCounted n.before) (room : moves_made n.before < 2 ^ 56) where
+  pub own_counted : IsOwn m t n → IsCounted n.after
+  own_counted is = let k = own_bounds m t n counted.held room is in record { held = k.held; made = k.made }
+
+  pub on_counted : (v : ℕ) (x y : VarPart V) (place : Local) (e : StampedEntry) → IsOnVariable m t v n x y place e → IsCounted n.after
+  on_counted v x y place e is = let k = (on_bounds m t n counted.held room v x y place e is).0 in record { held = k.held; made = k.made }
 
 -- a sum of so many terms, none of which is above this one
 pub sum_few : (n k : ℕ) (f : ℕ → ℕ) → ((u : ℕ) → u < n → f u ≤ k) → sum_below n f ≤ n * k

@@ -1,5 +1,5 @@
 -- A touch or a read of what a seat has in hand may come home.
-use Rattle.std.proofs.Common.{◌≡◌, ℕ, ◌+◌, ◌<◌, ◌^◌, inl, inr, Bool, true, false, List, [], refl, sym, ap, subst, Some, arith}
+use Rattle.std.proofs.Common.{◌≡◌, ℕ, ◌+◌, ◌<◌, ◌^◌, inl, inr, Bool, true, false, List, [], ◌∷◌, refl, sym, ap, subst, Some, arith}
 use Rattle.entry_order.specs.declared.what.What.{What}
 use Rattle.access_log.specs.declared.entry.StampedEntry.{StampedEntry}
 use Rattle.access_log.specs.Held.{Lane}
@@ -8,7 +8,6 @@ use Rattle.plain_machine.specs.Program.{Meaning, IsLawful}
 use Rattle.master_core.specs.declared.parts.VarPart.{VarPart}
 use Rattle.master_core.specs.declared.parts.ThreadPart.{ThreadPart}
 use Rattle.master_core.specs.declared.step.Trace.TheVariants as trace
-use Rattle.master_core.specs.declared.step.WovenStep.{WovenStep}
 use Rattle.master_core.specs.Mastered.{moves_made}
 use Rattle.replay_guide.specs.Turns.{WaitsFor}
 use Rattle.var_locks.specs.declared.view.Note.{Note}
@@ -16,7 +15,7 @@ use Rattle.var_locks.specs.declared.view.View.{View}
 use Rattle.var_locks.specs.Notes.{IsOnVariable, IsGuided, IsGuidedEntry}
 use Rattle.var_locks.specs.Views.{with_hand, note_on}
 use Rattle.var_locks.specs.Rounds.{MayBring}
-use Rattle.var_locks.specs.Seats.{IsKept, share_of}
+use Rattle.var_locks.specs.Seats.{share_of}
 use Rattle.var_locks.specs.TouchedParts.{wanted_move, next_word, WorksBy, MayGo}
 
 module _ {V : Type 0} (m : Meaning V) (fits : ℕ → V → Type 0) (lawful : IsLawful m fits) (guide : List Lane) (t v word : ℕ) (before after : ThreadPart) (place : Local) (x y : VarPart V) (e : StampedEntry) (w : View V)
@@ -47,10 +46,10 @@ module _ {V : Type 0} (m : Meaning V) (fits : ℕ → V → Type 0) (lawful : Is
   word_next true works = let k : y.places ≡ x.places = ap (λ (z : VarPart V). z.places) works.variable in omega (arith, k, word_is)
   word_next false works = let k : y.places ≡ x.places + 1 = ap (λ (z : VarPart V). z.places) works.variable in omega (arith, k, word_is)
 
-  pub may_bring : (read : Bool) → m.next place ≡ wanted_move v read → WorksBy m t v read place before after e x y → MayGo guide t (before.counts.entries + 1) v read x → (seen : List ℕ) (did : List WovenStep) → IsKept (w, []) t before seen did false → moves_made before < 2 ^ 56
+  pub may_bring : (read : Bool) → m.next place ≡ wanted_move v read → WorksBy m t v read place before after e x y → MayGo guide t (before.counts.entries + 1) v read x → w.shares ≡ share_of w t before false ∷ [] → moves_made before < 2 ^ 56
       → (me : View V) → me ≡ with_hand w v x → MayBring m fits guide me v (next_word word read) y (share_of w t before false) (note_on before after (trace.Did e) me) x place e
-  may_bring read next works go seen did kept room me is = subst (λ (q : View V). MayBring m fits guide q v (next_word word read) y (share_of w t before false) (note_on before after (trace.Did e) q) x place e) (sym is)
-      (record { next = record { alone = kept.alone; going = refl; before = refl; guided = guided read works go; room = room }; hand = refl; on = on read next works; fit = left_fits read next works; word_is = word_next read works })
+  may_bring read next works go alone room me is = subst (λ (q : View V). MayBring m fits guide q v (next_word word read) y (share_of w t before false) (note_on before after (trace.Did e) q) x place e) (sym is)
+      (record { next = record { alone = alone; going = refl; before = refl; guided = guided read works go; room = room }; hand = refl; on = on read next works; fit = left_fits read next works; word_is = word_next read works })
 
   pub made_on : (read : Bool) → m.next place ≡ wanted_move v read → WorksBy m t v read place before after e x y → MayGo guide t (before.counts.entries + 1) v read x
       → (me : View V) → me ≡ with_hand w v x → IsOnVariable m t v (note_on before after (trace.Did e) me) x y place e × IsGuided guide t (note_on before after (trace.Did e) me)

@@ -9,10 +9,11 @@ use Rattle.plain_machine.specs.Program.{Meaning}
 use Rattle.box_program.specs.Hands.{FitsProgram}
 use Rattle.master_core.specs.Mastered.{Mastered, IsBounded, master_of, value_of}
 use Rattle.var_locks.specs.Codes.{master_code}
+use Rattle.atomic_table.specs.Seated.{TableId}
 use Rattle.var_locks.specs.Rounds.{IsRoundOf, AreVarsOf, Opens}
 use Rattle.master_core.proofs.BoundLemmas.{sum_small}
 use Rattle.var_locks.specs.Told.{AreFirstWords, ArePlaces}
-use Rattle.var_locks.specs.Openings.{places_of, words_of}
+use Rattle.var_locks.specs.Openings.{AreCounted, places_of, words_of}
 
 zeros : (n t : ℕ) → slice_index (replicate n 0) t ≡ 0
 zeros zero t = refl
@@ -93,15 +94,22 @@ module _ {P V : Type 0} (meaning : P → Meaning V) (fits : P → ℕ → V → 
     words_are = count ∙ (opens.first.count ∙ (ap (λ n. n + length parts) opens.fit.count ∙ ap (λ (l : List ThreadPart). (meaning q).vars + length l) opens.threads_are));
   }
 
-  pub vars_of : (vars size : ℕ) → vars ≡ (meaning q).vars → vars < 2 ^ 32 → size ≡ length parts → 0 < length parts → AreVarsOf meaning c d program opening threads q words vars size
-  vars_of vars size vars_is low size_is some = record {
-    round = round_of;
+  -- the variables of the round, whose table is this one
+  pub vars_of : (round : TableId) (same : round.words ≡ words) (vars size : ℕ) → round.slots ≡ length values → vars ≡ (meaning q).vars → vars < 2 ^ 32 → size ≡ length parts → 0 < length parts
+      → AreVarsOf meaning c d q (record { program = program; opening = opening; parts = threads; round = round; vars = vars; threads = size })
+  vars_of round same vars size slots_are vars_is low size_is some = record {
+    of = subst (λ (n : ℕ). IsRoundOf meaning c d program opening threads q n) (sym same) round_of;
+    slots_are = slots_are ∙ (ap (λ (l : List (VarPart V)). length l) (sym opens.vars_are) ∙ (opens.fit.count ∙ sym vars_is));
     vars_are = vars_is;
     threads_are = size_is ∙ ap (λ (l : List ThreadPart). length l) opens.threads_are;
     some = subst (λ n. 0 < n) (sym size_is) some;
     few = subst (λ n. n ≤ 16) (sym size_is) opens.bounded.few;
-    small = (let a : words ≡ (meaning q).vars + length threads = round_of.words_are in let b : length parts ≡ length threads = ap (λ (l : List ThreadPart). length l) opens.threads_are in let e = opens.bounded.few in omega (arith, a, b, e, vars_is, low));
+    small = (let s = same in let a : words ≡ (meaning q).vars + length threads = round_of.words_are in let b : length parts ≡ length threads = ap (λ (l : List ThreadPart). length l) opens.threads_are in let e = opens.bounded.few in omega (arith, s, a, b, e, vars_is, low));
   }
+
+-- a master keeps the counts of its threads within their bounds
+pub are_counted : {V : Type 0} (vars : List (VarPart V)) (threads : List ThreadPart) → IsBounded vars threads → AreCounted threads
+are_counted vars threads bounded t d low = record { held = bounded.taken t d low; made = bounded.made t d low }
 
 -- a master that is split opens the round
 pub split_opens : {V : Type 0} (m : Meaning V) (fits : ℕ → V → Type 0) (d : Coded V) (opening : Gv) (threads : List ThreadPart) (seen : List ℕ) (p : Mastered V) (values : List (VarPart V)) (parts : List ThreadPart) (words places : List ℕ)

@@ -23,3 +23,4 @@ pub mod Turning
 pub mod Taking
 pub mod TouchedSeats
 pub mod Wanting
+pub mod Insides

@@ -5,6 +5,7 @@ pub mod Plays
 pub mod Told
 pub mod Rounds
 pub mod Seats
+pub mod Wanting
 pub mod Closing
 pub mod Plain
 pub mod Openings

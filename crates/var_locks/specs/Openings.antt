@@ -1,12 +1,16 @@
 -- How a round begins.
-use Rattle.std.specs.Prelude.{ℕ, ◌+◌, ◌*◌, false, List, [], ◌∷◌, ◌++◌, map, replicate}
+use Rattle.std.specs.Prelude.{ℕ, ◌+◌, ◌<◌, ◌*◌, false, List, [], ◌∷◌, ◌++◌, length, map, replicate, slice_index_or}
 use Rattle.master_core.specs.declared.parts.VarPart.{VarPart}
 use Rattle.master_core.specs.declared.parts.ThreadPart.{ThreadPart}
 use Rattle.atomic_table.specs.Seated.{TableId}
 use Rattle.var_locks.specs.declared.view.View.{View}
-use Rattle.var_locks.specs.Seats.{Seated}
+use Rattle.var_locks.specs.Seats.{Seated, IsCounted}
 use Rattle.var_locks.specs.Views.{fresh_shares}
 use Rattle.std.specs.Prelude.{None}
+
+-- the counts of each thread are within their bounds
+abbrev pub AreCounted : List ThreadPart → Type 0
+AreCounted parts = (t : ℕ) (d : ThreadPart) → t < length parts → IsCounted (slice_index_or parts t d)
 
 -- how often each variable was touched
 abbrev pub places_of : {V : Type 0} → List (VarPart V) → List ℕ

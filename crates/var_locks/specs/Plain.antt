@@ -1,23 +1,22 @@
 -- What a move on no variable answers.
-use Rattle.std.specs.Prelude.{◌≡◌, ℕ, List, Option, Some, None}
+use Rattle.std.specs.Prelude.{◌≡◌, ℕ, ◌⊎◌, List, Option, Some, None}
 use Rattle.plain_text.specs.declared.packet.Packet.{Packet}
 use Rattle.access_log.specs.Held.{Lane, lane, entry_at}
 use Rattle.access_log.specs.declared.entry.StampedEntry.{StampedEntry}
 use Rattle.replay_guide.specs.Following.{recorded}
 use Rattle.access_log.specs.declared.entry.Output.{Output}
 use Rattle.plain_machine.specs.declared.local.Local.{Local}
+use Rattle.plain_machine.specs.declared.local.Move.TheVariants as move
+use Rattle.entry_order.specs.declared.what.What.{What}
+use Rattle.entry_order.specs.declared.what.What.TheVariants as what
 use Rattle.plain_machine.specs.Program.{Meaning}
-use Rattle.master_core.specs.declared.parts.VarPart.{VarPart}
 use Rattle.master_core.specs.declared.parts.ThreadPart.{ThreadPart}
 use Rattle.master_core.specs.declared.step.Trace.TheVariants as trace
 use Rattle.master_core.specs.declared.step.Stepped.{Stepped}
 use Rattle.master_core.specs.declared.step.Stepped.TheVariants as stepped
-use Rattle.master_core.specs.declared.step.WovenStep.{WovenStep}
 use Rattle.master_core.specs.Effects.{next_output}
-use Rattle.atomic_table.specs.Table.{Me}
-use Rattle.var_locks.specs.declared.view.View.{View}
 use Rattle.var_locks.specs.Notes.{answer_in}
-use Rattle.var_locks.specs.Seats.{Seated, IsMade, HasMade}
+use Rattle.var_locks.specs.Seats.{Seated, HasMade}
 
 -- the output is the thread's next one, made of the packet in hand, which was passed
 abbrev pub IsSent : {V : Type 0} → Meaning V → ℕ → ThreadPart → Option Packet → Output → Type 0
@@ -27,24 +26,15 @@ IsSent m t part input o = (packet : Packet) × (place : Local) × (input ≡ Som
 abbrev pub IsOwnAnswer : List Lane → ℕ → ℕ → StampedEntry → Type 0
 IsOwnAnswer guide t answer e = recorded (entry_at (lane guide t) e.number) ≡ None → answer_in (trace.Did e) ≡ Some answer
 
--- nothing changed
-pub record IsLeft {V : Type 0} (old new : Me (VarPart V) (View V)) (before after : ThreadPart) (did now : List WovenStep) : Type 0 where
-  pub token : new ≡ old
-  pub part : after ≡ before
-  pub steps : now ≡ did
+-- the entry of a clock or a draw, for which the thread asks here, has this answer
+abbrev pub IsAsked : {V : Type 0} → Meaning V → Local → What → ℕ → Type 0
+IsAsked m place w told = ((m.next place ≡ move.Clock) × (w ≡ what.Clock told)) ⊎ ((m.next place ≡ move.Draw) × (w ≡ what.Draw told))
 
-module _ {V : Type 0} (m : Meaning V) (guide : List Lane) (t answer : ℕ) (input : Option Packet) (old new : Me (VarPart V) (View V)) (before after : ThreadPart) (did now : List WovenStep) where
-  -- of the parts of a seat
-  abbrev pub Makes : Stepped → Type 0
-  Makes (stepped.Took k) = IsMade m guide t before after (trace.Took k) input old new did now
-  Makes (stepped.Did e) = IsMade m guide t before after (trace.Did e) input old new did now × IsOwnAnswer guide t answer e
-  Makes (stepped.Emitted o) = IsMade m guide t before after (trace.Emitted o.number) input old new did now × IsSent m t before input o
-  Makes (stepped.Ended k) = IsMade m guide t before after (trace.Ended k) input old new did now
-  Makes stepped.Idle = IsLeft old new before after did now × (before.hand ≡ None) × (input ≡ None)
-  Makes (stepped.NotTurn u n) = ⊥
-  Makes stepped.NoMemory = IsLeft old new before after did now
+-- where no answer is recorded of this entry, the thread is told this one
+abbrev pub IsFree : List Lane → ℕ → ℕ → ℕ → ℕ → Type 0
+IsFree guide t number told answer = recorded (entry_at (lane guide t) number) ≡ None → told ≡ answer
 
--- of a seat
+-- What a move comes to
 abbrev pub Steps : {V : Type 0} → Meaning V → List Lane → Seated V → ℕ → Option Packet → Seated V → Stepped → Type 0
 Steps m guide old answer input new (stepped.Took k) = HasMade m guide old (trace.Took k) input new
 Steps m guide old answer input new (stepped.Did e) = HasMade m guide old (trace.Did e) input new × IsOwnAnswer guide old.thread answer e

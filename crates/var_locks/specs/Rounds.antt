@@ -11,6 +11,8 @@ use Rattle.master_core.specs.declared.parts.VarPart.{VarPart}
 use Rattle.master_core.specs.declared.parts.ThreadPart.{ThreadPart}
 use Rattle.master_core.specs.Mastered.{Mastered, IsBounded, value_of, moves_made}
 use Rattle.replay_guide.specs.Turns.{WaitsFor}
+use Rattle.atomic_table.specs.Table.{Me}
+use Rattle.atomic_table.specs.Seated.{TableId}
 use Rattle.var_locks.specs.declared.view.Note.{Note}
 use Rattle.var_locks.specs.declared.view.Share.{Share}
 use Rattle.var_locks.specs.declared.view.View.{View}
@@ -72,11 +74,53 @@ pub record IsIdle {V : Type 0} (w : View V) (x : Share V) : Type 0 where
   pub alone : w.shares ≡ x ∷ []
   pub empty : w.hand ≡ None
 
--- These are the variables of that round, with so many of them and of threads.
-pub record AreVarsOf {P V : Type 0} (meaning : P → Meaning V) (c : Coded P) (d : Coded V) (program opening : Gv) (parts : List ThreadPart) (q : P) (words vars threads : ℕ) : Type 0 where
-  pub round : IsRoundOf meaning c d program opening parts q words
-  pub vars_are : vars ≡ (meaning q).vars
-  pub threads_are : threads ≡ length parts
-  pub some : 0 < threads
-  pub few : threads ≤ 16
-  pub small : words < 2 ^ 63
+-- What a seat may do, by what it has
+
+-- it may note this move, on no variable
+abbrev pub CanNote : {V : Type 0} → Meaning V → List Lane → View V → Note V → Type 0
+CanNote {V} m guide w n = (x : Share V) × MayNote m guide w x n
+
+-- it may bring variable v home with this word, by this note
+abbrev pub CanBring : {V : Type 0} → Meaning V → (ℕ → V → Type 0) → List Lane → Me (VarPart V) (View V) → ℕ → ℕ → Note V → Type 0
+CanBring {V} m fits guide me v word n = (x : Share V) × (y : VarPart V) × (found : VarPart V) × (place : Local) × (e : StampedEntry)
+    × (me.1 ≡ (v, y) ∷ []) × MayBring m fits guide me.0 v word y x n found place e
+
+-- it may give variable v back with this word, as it found it
+abbrev pub CanGive : {V : Type 0} → Me (VarPart V) (View V) → ℕ → ℕ → Type 0
+CanGive {V} me v word = (x : VarPart V) × HasInHand me.0 v x × (me.1 ≡ (v, x) ∷ []) × (word ≡ x.places + x.places)
+
+-- it may find entry (u, k) missing
+abbrev pub CanMiss : {V : Type 0} → Meaning V → List Lane → View V → ℕ → ℕ → Type 0
+CanMiss {V} m guide w u k = (v : ℕ) × (x : VarPart V) × (t : ℕ) × (n : ℕ) × (read : Bool) × (v < m.vars) × MayMiss guide w v u k x t n read
+
+-- it may take a variable
+abbrev pub CanTake : {V : Type 0} → View V → Type 0
+CanTake {V} w = (x : Share V) × IsIdle w x
+
+-- it may end the round, by this word
+abbrev pub CanEnd : {V : Type 0} → Meaning V → View V → ℕ → Type 0
+CanEnd {V} m w word = (x : Share V) × IsIdle w x × (word ≡ m.vars + x.thread)
+
+-- it may part with its first thread
+abbrev pub CanSplit : {V : Type 0} → View V → Type 0
+CanSplit {V} w = (x : Share V) × (others : List (Share V)) × (w.shares ≡ x ∷ others) × (w.hand ≡ None)
+
+-- What is seen of the variables of a round: the codes of its program and of its opening master, with the parts of the threads in this
+-- master; the table of its words and slots; and how many variables and threads it has.
+pub record Opened : Type 0 where
+  pub program : Gv
+  pub opening : Gv
+  pub parts : List ThreadPart
+  pub round : TableId
+  pub vars : ℕ
+  pub threads : ℕ
+
+-- These are the variables of a round of this program.
+pub record AreVarsOf {P V : Type 0} (meaning : P → Meaning V) (c : Coded P) (d : Coded V) (q : P) (x : Opened) : Type 0 where
+  pub of : IsRoundOf meaning c d x.program x.opening x.parts q x.round.words
+  pub slots_are : x.round.slots ≡ x.vars
+  pub vars_are : x.vars ≡ (meaning q).vars
+  pub threads_are : x.threads ≡ length x.parts
+  pub some : 0 < x.threads
+  pub few : x.threads ≤ 16
+  pub small : x.round.words < 2 ^ 63

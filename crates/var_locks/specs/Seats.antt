@@ -1,5 +1,5 @@
 -- What is seen of a seat of a round.
-use Rattle.std.specs.Prelude.{◌≡◌, ℕ, ◌<◌, Bool, List, [], ◌∷◌, ◌++◌, Option, None}
+use Rattle.std.specs.Prelude.{◌≡◌, ℕ, ◌<◌, ◌≤◌, ◌^◌, Bool, false, List, [], ◌∷◌, Option, None}
 use Rattle.plain_text.specs.declared.packet.Packet.{Packet}
 use Rattle.access_log.specs.Held.{Lane}
 use Rattle.plain_machine.specs.Program.{Meaning}
@@ -7,13 +7,14 @@ use Rattle.master_core.specs.declared.step.Trace.{Trace}
 use Rattle.master_core.specs.declared.parts.VarPart.{VarPart}
 use Rattle.master_core.specs.declared.parts.ThreadPart.{ThreadPart}
 use Rattle.master_core.specs.declared.step.WovenStep.{WovenStep}
+use Rattle.master_core.specs.Mastered.{in_hand_count, moves_made}
 use Rattle.atomic_table.specs.Table.{Me}
 use Rattle.atomic_table.specs.Seated.{TableId}
 use Rattle.var_locks.specs.declared.view.Note.{Note}
 use Rattle.var_locks.specs.declared.view.Share.{Share}
 use Rattle.var_locks.specs.declared.view.View.{View}
-use Rattle.var_locks.specs.Notes.{IsOwn, IsGuided, own_note, step_of, steps_of}
-use Rattle.var_locks.specs.Views.{noted_view}
+use Rattle.var_locks.specs.Notes.{IsOwn, IsGuided, own_note, steps_of}
+use Rattle.var_locks.specs.Rounds.{Opened}
 
 -- Its thread, with the part that it has now and the notes of its moves in the round, newest first; of each variable, as often as the
 -- seat saw it touched; the followed entries that it found missing; whether it ended; and the round that it is of.
@@ -34,27 +35,31 @@ first_notes (x ∷ others) = x.notes
 abbrev pub share_of : {V : Type 0} → View V → ℕ → ThreadPart → Bool → Share V
 share_of w thread part ended = record { thread = thread; notes = first_notes w.shares; part = part; ended = ended }
 
--- The seat's token has its one thread, nothing in hand, and has seen what the seat keeps; and the seat keeps what the moves left.
+-- the counts of a thread are within their bounds
+pub record IsCounted (part : ThreadPart) : Type 0 where
+  pub held : in_hand_count part.hand ≤ part.counts.taken
+  pub made : moves_made part ≤ 2 ^ 56
+
+-- The seat's token has its one thread, nothing in hand, and has seen what the seat keeps; and the seat keeps what the moves left, with
+-- counts that are within their bounds.
 pub record IsKept {V : Type 0} (me : Me (VarPart V) (View V)) (thread : ℕ) (part : ThreadPart) (seen : List ℕ) (receipts : List WovenStep) (ended : Bool) : Type 0 where
   pub alone : me.0.shares ≡ share_of me.0 thread part ended ∷ []
   pub empty : me.0.hand ≡ None
   pub slots : me.1 ≡ []
   pub seen_is : me.0.seen ≡ seen
   pub receipts_are : receipts ≡ steps_of thread (first_notes me.0.shares)
+  pub counted : IsCounted part
 
--- the seat is of this round, which has so many threads
-pub record IsSeatOf {V : Type 0} (round : TableId) (threads : ℕ) (x : Seated V) : Type 0 where
-  pub round_is : x.round ≡ round
-  pub low : x.thread < threads
+-- the seat is of the round of these variables
+pub record IsSeatOf {V : Type 0} (vars : Opened) (x : Seated V) : Type 0 where
+  pub round_is : x.round ≡ vars.round
+  pub low : x.thread < vars.threads
 
--- What a move made of a seat
-
--- The move on no variable that this note is of was noted: the token has it, and the thread's steps have it last.
-pub record IsMade {V : Type 0} (m : Meaning V) (guide : List Lane) (thread : ℕ) (before after : ThreadPart) (tr : Trace) (packet : Option Packet) (old new : Me (VarPart V) (View V)) (did now : List WovenStep) : Type 0 where
-  pub own : IsOwn {V = V} m thread (own_note before after tr packet)
-  pub guided : IsGuided {V = V} guide thread (own_note before after tr packet)
-  pub token : new ≡ (noted_view old.0 (own_note before after tr packet), old.1)
-  pub steps : now ≡ did ++ step_of {V = V} thread (own_note before after tr packet) ∷ []
+-- the seat is of that round, did not end it, and has room for a move
+pub record MayMove {V : Type 0} (vars : Opened) (x : Seated V) : Type 0 where
+  pub of : IsSeatOf vars x
+  pub going : x.ended ≡ false
+  pub room : moves_made x.part < 2 ^ 56
 
 -- The seat made this move, on no variable: its part is what the move left, and it has one more note.
 pub record HasMade {V : Type 0} (m : Meaning V) (guide : List Lane) (old : Seated V) (tr : Trace) (packet : Option Packet) (new : Seated V) : Type 0 where

@@ -1,5 +1,5 @@
 -- What a touch or a read does to what a seat has in hand.
-use Rattle.std.specs.Prelude.{◌≡◌, ℕ, ◌+◌, ◌≤◌, Bool, true, false, List, [], ◌∷◌, ◌++◌, Some, None, slice_index}
+use Rattle.std.specs.Prelude.{◌≡◌, ℕ, ◌+◌, ◌<◌, ◌≤◌, ◌^◌, Bool, true, false, List, [], ◌∷◌, ◌++◌, Option, Some, None, slice_index}
 use base.Stored.{Gv}
 use Rattle.std.specs.Coded.{Coded}
 use Rattle.access_log.specs.Held.{Lane}
@@ -8,13 +8,17 @@ use Rattle.master_core.specs.declared.step.WovenStep.{WovenStep}
 use Rattle.replay_guide.specs.Turns.{WaitsFor}
 use Rattle.atomic_table.specs.Table.{Me}
 use Rattle.var_locks.specs.declared.view.View.{View}
-use Rattle.var_locks.specs.Notes.{IsOnVariable, IsGuided, step_of}
+use Rattle.var_locks.specs.Notes.{IsOnVariable, IsGuided, answer_in}
 use Rattle.var_locks.specs.declared.touching.Touched.{Touched}
 use Rattle.var_locks.specs.declared.touching.Touched.TheVariants as touched
 use Rattle.var_locks.specs.Views.{with_hand, empty_hand, missed_view, note_on, noted_view, sees_what}
 use Rattle.var_locks.specs.Plays.{Finds}
-use Rattle.var_locks.specs.Seats.{Seated, IsKept}
+use Rattle.var_locks.specs.Seats.{Seated, share_of}
+use Rattle.var_locks.specs.Rounds.{MayMiss}
+use Rattle.var_locks.specs.declared.touching.Access.{Access}
 use Rattle.access_log.specs.declared.entry.StampedEntry.{StampedEntry}
+use Rattle.access_log.specs.declared.entry.Turn.{Turn}
+use Rattle.access_log.specs.declared.entry.Turn.TheVariants as turn
 use Rattle.plain_machine.specs.declared.local.Local.{Local}
 use Rattle.plain_machine.specs.declared.local.Move.{Move}
 use Rattle.plain_machine.specs.declared.local.Move.TheVariants as move
@@ -32,55 +36,94 @@ abbrev pub WorksBy : {V : Type 0} → Meaning V → ℕ → ℕ → Bool → Loc
 WorksBy m t v true place before after e x y = ReadsParts m t v place before x e after y
 WorksBy m t v false place before after e x y = TouchesParts m t v place before x e after y
 
--- the seat has in hand what the touch or the read left of the variable
-abbrev pub Works : {V : Type 0} → Meaning V → ℕ → ℕ → Bool → Local → ThreadPart → ThreadPart → StampedEntry → VarPart V → List (ℕ × VarPart V) → Type 0
-Works {V} m t v read place before after e x slots = (y : VarPart V) × (slots ≡ (v, y) ∷ []) × WorksBy m t v read place before after e x y
+-- the thread with this part wants this touch or read
+pub record IsWanted {V : Type 0} (m : Meaning V) (part : ThreadPart) (a : Access) : Type 0 where
+  pub few : a.thread < 16
+  pub low : a.var < m.vars
+  pub hand : part.hand ≡ Some a.place
+  pub next : m.next a.place ≡ wanted_move a.var a.read
+
+-- the seat has variable v in hand, with a value that the program knows
+abbrev pub HasSlot : {V : Type 0} → (ℕ → V → Type 0) → ℕ → Me (VarPart V) (View V) → Type 0
+HasSlot {V} fits v me = (x : VarPart V) × (me.1 ≡ (v, x) ∷ []) × (x.places ≤ 2 ^ 60) × fits v x.value
+
+-- it has in hand what the touch or the read left of the variable
+abbrev pub Works : {V : Type 0} → Meaning V → Access → ThreadPart → ThreadPart → StampedEntry → VarPart V → List (ℕ × VarPart V) → Type 0
+Works {V} m a before after e x slots = (y : VarPart V) × (slots ≡ (a.var, y) ∷ []) × WorksBy m a.thread a.var a.read a.place before after e x y
 
 -- the word that a touch brings home, or a read
 abbrev pub next_word : ℕ → Bool → ℕ
 next_word word true = word
 next_word word false = word + 2
 
+-- the entry for which a turn says to wait
+abbrev pub entry_waited : Turn → Option (ℕ × ℕ)
+entry_waited (turn.Wait u k) = Some (u, k)
+entry_waited turn.Follow = None
+entry_waited turn.Free = None
+
 -- A seat that took a variable
 
--- It has the variable in hand as it found it, with what it had before.
-pub record HasTaken {P V : Type 0} (fits : P → ℕ → V → Type 0) (c : Coded P) (program : Gv) (v word : ℕ) (x : VarPart V) (me : Me (VarPart V) (View V)) (thread : ℕ) (part : ThreadPart) (seen : List ℕ) (did : List WovenStep) : Type 0 where
+-- its token has this thread, with this part, and nothing in hand
+pub record HasThread {V : Type 0} (me : Me (VarPart V) (View V)) (thread : ℕ) (part : ThreadPart) : Type 0 where
+  pub alone : me.0.shares ≡ share_of me.0 thread part false ∷ []
+  pub empty : me.0.hand ≡ None
+  pub slots : me.1 ≡ []
+
+-- It has the variable in hand as it found it, with its thread.
+pub record HasTaken {P V : Type 0} (fits : P → ℕ → V → Type 0) (c : Coded P) (program : Gv) (a : Access) (word : ℕ) (part : ThreadPart) (me : Me (VarPart V) (View V)) (x : VarPart V) : Type 0 where
   pub before : View V
-  pub finds : Finds fits c program before v word x
-  pub token : me ≡ (with_hand before v x, (v, x) ∷ [])
-  pub kept : IsKept (before, []) thread part seen did false
+  pub finds : Finds fits c program before a.var word x
+  pub token : me ≡ (with_hand before a.var x, (a.var, x) ∷ [])
+  pub alone : before.shares ≡ share_of before a.thread part false ∷ []
+
+abbrev pub IsTaken : {P V : Type 0} → (P → ℕ → V → Type 0) → Coded P → Gv → Access → ℕ → ThreadPart → Me (VarPart V) (View V) → Type 0
+IsTaken {P} {V} fits c program a word part me = (x : VarPart V) × HasTaken fits c program a word part me x
 
 -- the guide does not say to wait at what it found
 abbrev pub MayGo : {V : Type 0} → List Lane → ℕ → ℕ → ℕ → Bool → VarPart V → Type 0
 MayGo guide t n v read x = (u k : ℕ) → WaitsFor guide t n v read x.places x.readers u k → ⊥
 
+-- it has taken the variable, and need not wait
+abbrev pub MayWork : {P V : Type 0} → (P → ℕ → V → Type 0) → Coded P → Gv → List Lane → Access → ℕ → ThreadPart → Me (VarPart V) (View V) → Type 0
+MayWork {P} {V} fits c program guide a word part me = (x : VarPart V) × HasTaken fits c program a word part me x × MayGo guide a.thread (part.counts.entries + 1) a.var a.read x
+
+-- it has variable v in hand as it found it, and the guide says to wait for entry (u, k) there
+abbrev pub MustWait : {V : Type 0} → List Lane → ℕ → ℕ → ℕ → ℕ → Me (VarPart V) (View V) → Type 0
+MustWait {V} guide v word u k me = (x : VarPart V) × (t : ℕ) × (n : ℕ) × (read : Bool) × MayMiss guide me.0 v u k x t n read × (me.1 ≡ (v, x) ∷ []) × (word ≡ x.places + x.places)
+
 -- It touched or read what it had in hand, which is at home again, and noted the move.
-pub record MadeOn {V : Type 0} (m : Meaning V) (guide : List Lane) (t v : ℕ) (before after : ThreadPart) (x : VarPart V) (e : StampedEntry) (old new : Me (VarPart V) (View V)) (did now : List WovenStep) : Type 0 where
+pub record MadeOn {V : Type 0} (m : Meaning V) (guide : List Lane) (a : Access) (before after : ThreadPart) (old new : Me (VarPart V) (View V)) (e : StampedEntry) (x : VarPart V) : Type 0 where
   pub left : VarPart V
   pub place : Local
-  pub on : IsOnVariable m t v (note_on before after (trace.Did e) old.0) x left place e
-  pub guided : IsGuided guide t (note_on before after (trace.Did e) old.0)
+  pub on : IsOnVariable m a.thread a.var (note_on before after (trace.Did e) old.0) x left place e
+  pub guided : IsGuided guide a.thread (note_on before after (trace.Did e) old.0)
   pub token : new ≡ (noted_view old.0 (note_on before after (trace.Did e) old.0), [])
-  pub steps : now ≡ did ++ step_of {V = V} t (note_on before after (trace.Did e) old.0) ∷ []
+
+abbrev pub MadeBy : {V : Type 0} → Meaning V → List Lane → Access → ThreadPart → ThreadPart → Me (VarPart V) (View V) → Me (VarPart V) (View V) → StampedEntry → Type 0
+MadeBy {V} m guide a before after old new e = (x : VarPart V) × (old.1 ≡ (a.var, x) ∷ []) × MadeOn m guide a before after old new e x
 
 -- What came of a touch or a read
 
 -- nothing was made, and the seat has nothing in hand
-pub record MadeNone {V : Type 0} (old new : Me (VarPart V) (View V)) (before after : ThreadPart) (did now : List WovenStep) : Type 0 where
+pub record MadeNone {V : Type 0} (old new : Me (VarPart V) (View V)) (before after : ThreadPart) : Type 0 where
   pub token : new ≡ (empty_hand old.0, [])
   pub part : after ≡ before
-  pub steps : now ≡ did
 
 -- and it found an entry missing
-pub record MadeMissed {V : Type 0} (u k : ℕ) (old new : Me (VarPart V) (View V)) (before after : ThreadPart) (did now : List WovenStep) : Type 0 where
+pub record MadeMissed {V : Type 0} (u k : ℕ) (old new : Me (VarPart V) (View V)) (before after : ThreadPart) : Type 0 where
   pub token : new ≡ (empty_hand (missed_view old.0 u k), [])
   pub part : after ≡ before
-  pub steps : now ≡ did
 
-abbrev pub Comes : {V : Type 0} → Meaning V → List Lane → ℕ → ℕ → ThreadPart → ThreadPart → Me (VarPart V) (View V) → Me (VarPart V) (View V) → List WovenStep → List WovenStep → Touched → Type 0
-Comes {V} m guide t v before after old new did now (touched.Did e) = (x : VarPart V) × (old.1 ≡ (v, x) ∷ []) × MadeOn m guide t v before after x e old new did now
-Comes m guide t v before after old new did now (touched.Blocked u k) = MadeMissed u k old new before after did now
-Comes m guide t v before after old new did now touched.NoMemory = MadeNone old new before after did now
+-- of a seat that had taken the variable
+abbrev pub Comes : {V : Type 0} → Meaning V → List Lane → Access → ThreadPart → ThreadPart → Me (VarPart V) (View V) → Me (VarPart V) (View V) → Touched → Type 0
+Comes m guide a before after old new (touched.Did e) = MadeBy m guide a before after old new e
+Comes m guide a before after old new (touched.Blocked u k) = MadeMissed u k old new before after
+Comes m guide a before after old new touched.NoMemory = MadeNone old new before after
+
+-- of a seat that found no fewer touches of it than it had seen, and took it
+abbrev pub ComesOf : {V : Type 0} → Meaning V → List Lane → Access → ThreadPart → ThreadPart → Me (VarPart V) (View V) → Me (VarPart V) (View V) → Touched → Type 0
+ComesOf {V} m guide a before after old new r = (x : VarPart V) × (slice_index old.0.seen a.var ≤ x.places) × Comes m guide a before after (with_hand old.0 a.var x, (a.var, x) ∷ []) new r
 
 -- What a touch or a read came to, of a seat
 
@@ -106,3 +149,9 @@ abbrev pub seen_by : List ℕ → Touched → List ℕ
 seen_by seen (touched.Did e) = sees_what seen e.what
 seen_by seen (touched.Blocked u k) = seen
 seen_by seen touched.NoMemory = seen
+
+-- what its thread did after it
+abbrev pub did_by : ℕ → List WovenStep → Touched → List WovenStep
+did_by t did (touched.Did e) = did ++ (record { moved = record { thread = t; answer = answer_in (trace.Did e) }; trace = trace.Did e }) ∷ []
+did_by t did (touched.Blocked u k) = did
+did_by t did touched.NoMemory = did

@@ -1,12 +1,11 @@
 //! The calls by which a thread makes its moves on no variable, and ends the round.
-ghost use Rattle.std.specs.Prelude.{◌≡◌, ℕ, ◌<◌, ◌^◌, false, true, IsTrue, IsSome, option_copied};
+ghost use Rattle.std.specs.Prelude.{◌≡◌, ◌<◌, ◌^◌, false, true, IsTrue, IsSome, option_copied};
 ghost use Rattle.box_program.specs.Hands.{has_hand};
 ghost use Rattle.master_core.specs.Mastered.{moves_made, WantsVariable};
 ghost use Rattle.var_locks.specs.Rounds.{AreVarsOf};
 ghost use Rattle.var_locks.specs.Seats.{IsSeatOf};
 ghost use Rattle.var_locks.specs.Plain.{Steps};
 
-use crate::keeping::make_own;
 use crate::seats::VarSeat;
 use crate::steps::end_round;
 use crate::vars::Vars;
@@ -32,10 +31,9 @@ impl<P: Program, J: Round> Vars<P, J> {
         answer: u64,
         input: Option<&Packet>,
     ) -> Stepped
-        requires of { AreVarsOf P.meaning P.row.coded P.Value.row.coded J.program J.opening J.threads
-            program.now self.now.table.shared.table_id.words self.now.vars self.now.threads }
+        requires of { AreVarsOf P.meaning P.row.coded P.Value.row.coded program.now self.now }
         requires guide { guide.now ≡ J.guide }
-        requires seat { IsSeatOf self.now.table.shared.table_id self.now.threads seat.old }
+        requires seat { IsSeatOf self.now seat.old }
         requires going { seat.old.ended ≡ false }
         requires room { moves_made seat.old.part < 2 ^ 56 }
         requires own { WantsVariable (P.meaning program.now) seat.old.part.hand → ⊥ }
@@ -43,27 +41,13 @@ impl<P: Program, J: Round> Vars<P, J> {
         ensures steps { Steps (P.meaning program.now) J.guide seat.old answer
             (option_copied input.entry) seat.new result }
     {
-        let word = self.vars + seat.thread as usize;
-        make_own::<P, J>(
-            alloc,
-            program,
-            guide,
-            &self.table.shared,
-            word,
-            seat.thread,
-            &mut seat.token,
-            &mut seat.part,
-            &mut seat.receipts,
-            answer,
-            input,
-        )
+        self.make_own(alloc, program, seat, guide, answer, input)
     }
 
     /// Ends the round for the seat's thread: it makes no further move in it.
     pub fn end(&self, program: &P, seat: &mut VarSeat<P>)
-        requires of { AreVarsOf P.meaning P.row.coded P.Value.row.coded J.program J.opening J.threads
-            program.now self.now.table.shared.table_id.words self.now.vars self.now.threads }
-        requires seat { IsSeatOf self.now.table.shared.table_id self.now.threads seat.old }
+        requires of { AreVarsOf P.meaning P.row.coded P.Value.row.coded program.now self.now }
+        requires seat { IsSeatOf self.now seat.old }
         requires going { seat.old.ended ≡ false }
         ensures ended { seat.new ≡ record seat.old { ended = true } }
     {

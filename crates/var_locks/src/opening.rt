@@ -1,10 +1,10 @@
 //! How a round begins.
-ghost use Rattle.std.specs.Prelude.{◌≡◌, ℕ, ◌+◌, ◌<◌, ◌≤◌, ◌^◌, ◌*◌, List, [], ◌∷◌, length, drop, take, slice_index, IfOk, OnOk};
+ghost use Rattle.std.specs.Prelude.{◌≡◌, ℕ, ◌<◌, ◌≤◌, ◌^◌, ◌*◌, [], length, slice_index, IfOk};
 ghost use Rattle.box_program.specs.Hands.{FitsProgram};
-ghost use Rattle.master_core.specs.Mastered.{Mastered, master_of, value_of};
+ghost use Rattle.master_core.specs.Mastered.{master_of, value_of};
 ghost use Rattle.var_locks.specs.Codes.{master_code};
 ghost use Rattle.var_locks.specs.Rounds.{IsRoundOf, AreVarsOf, Opens};
-ghost use Rattle.var_locks.specs.Openings.{places_of, words_of, rest_view, fresh_seat, fresh_seats};
+ghost use Rattle.var_locks.specs.Openings.{AreCounted, places_of, words_of, rest_view, fresh_seat, fresh_seats};
 
 use crate::seats::VarSeat;
 use crate::steps::{Lock, Token, open_round, split_off};
@@ -54,12 +54,15 @@ pub(crate) fn seat_all<P: Program, J: Round>(
     parts: &[ThreadPart],
     places: &[u64],
 ) -> Result<Vec<VarSeat<P>>, NoMemory>
-    requires of { IsRoundOf P.meaning P.row.coded P.Value.row.coded J.program J.opening J.threads program.now shared.now.table_id.words }
+    requires of { IsRoundOf P.meaning P.row.coded P.Value.row.coded
+        J.program J.opening J.threads program.now shared.now.table_id.words }
     requires words { 0 < shared.now.table_id.words }
     requires table { token.old.table_id ≡ shared.now.table_id }
     requires few { length parts.now ≤ 16 }
+    requires counted { AreCounted parts.now }
     requires first { token.old.me ≡ (rest_view 0 parts.now places.now, []) }
-    ensures { IfOk result (λ seats. seats.items ≡ fresh_seats shared.now.table_id places.now 0 parts.now) }
+    ensures { IfOk result (λ seats.
+        seats.items ≡ fresh_seats shared.now.table_id places.now 0 parts.now) }
 {
     let mut seats = Vec::new(alloc);
     for thread in 0..parts.len() {
@@ -81,12 +84,17 @@ fn begin<P: Program, J: Round>(
 ) -> Result<(Vars<P, J>, Vec<VarSeat<P>>), NoMemory>
     requires of { P.row.coded.code program.now ≡ J.program }
     requires vars { (vars ≡ (P.meaning program.now).vars) × (vars < 2 ^ 32) }
-    requires opens { Opens (P.meaning program.now) (P.fits program.now) P.Value.row.coded J.opening J.threads J.places parts.vars.items words.now (master_of parts.vars.items parts.threads.items) }
+    requires opens { Opens (P.meaning program.now) (P.fits program.now) P.Value.row.coded
+        J.opening J.threads J.places parts.vars.items words.now
+        (master_of parts.vars.items parts.threads.items) }
     requires places { places.now ≡ J.places }
     requires some { 0 < length parts.threads.items }
-    ensures vars { IfOk result (λ r. AreVarsOf P.meaning P.row.coded P.Value.row.coded J.program J.opening J.threads program.now r.0.table.shared.table_id.words r.0.vars r.0.threads) }
-    ensures slots { IfOk result (λ r. r.0.table.shared.table_id.slots ≡ r.0.vars) }
-    ensures seats { IfOk result (λ r. r.1.items ≡ fresh_seats r.0.table.shared.table_id J.places 0 J.threads) }
+    ensures vars { IfOk result (λ r.
+        AreVarsOf P.meaning P.row.coded P.Value.row.coded program.now r.0) }
+    ensures program { IfOk result (λ r. r.0.program ≡ J.program) }
+    ensures opening { IfOk result (λ r. r.0.opening ≡ J.opening) }
+    ensures threads { IfOk result (λ r. r.0.parts ≡ J.threads) }
+    ensures seats { IfOk result (λ r. r.1.items ≡ fresh_seats r.0.round J.places 0 J.threads) }
 {
     let MasterParts {
         vars: values,
@@ -123,11 +131,13 @@ impl<P: Program, J: Round> Vars<P, J> {
         requires fits { FitsProgram (P.meaning program.now) (P.fits program.now)
             value_of master.vars }
         requires some { 0 < length master.threads }
-        ensures vars { IfOk result (λ r. AreVarsOf P.meaning P.row.coded P.Value.row.coded J.program
-            J.opening J.threads program.now r.0.table.shared.table_id.words r.0.vars r.0.threads) }
-        ensures slots { IfOk result (λ r. r.0.table.shared.table_id.slots ≡ r.0.vars) }
-        ensures seats { IfOk result (λ r. r.1.items
-            ≡ fresh_seats r.0.table.shared.table_id J.places 0 J.threads) }
+        ensures vars { IfOk result (λ r.
+            AreVarsOf P.meaning P.row.coded P.Value.row.coded program.now r.0) }
+        ensures program { IfOk result (λ r. r.0.program ≡ J.program) }
+        ensures opening { IfOk result (λ r. r.0.opening ≡ J.opening) }
+        ensures threads { IfOk result (λ r. r.0.parts ≡ J.threads) }
+        ensures seats { IfOk result (λ r.
+            r.1.items ≡ fresh_seats r.0.round J.places 0 J.threads) }
     {
         let _ = guide;
         let parts = master.split();

@@ -1,7 +1,7 @@
 //! The seats of a round: each is of one thread, with its part of the master and what it did in the round.
 ghost use Rattle.std.specs.Prelude.{◌≡◌, [], ◌∷◌};
 ghost use Rattle.var_locks.specs.Openings.{rest_view, fresh_seat};
-ghost use Rattle.var_locks.specs.Seats.{IsKept, first_notes};
+ghost use Rattle.var_locks.specs.Seats.{IsCounted, IsKept, first_notes};
 
 use crate::steps::Token;
 use box_program::Program;
@@ -27,9 +27,18 @@ impl<P: Program> Model for VarSeat<P> {
 
     ghost Value = { Seated P.Value };
 
-    ghost view = { λ s. record { thread = s.thread; part = s.part; notes = first_notes s.token.me.0.shares; seen = s.seen.items; missing = s.token.me.0.missing; ended = s.ended; round = s.token.table_id } };
+    ghost view = { λ s. record {
+      thread = s.thread;
+      part = s.part;
+      notes = first_notes s.token.me.0.shares;
+      seen = s.seen.items;
+      missing = s.token.me.0.missing;
+      ended = s.ended;
+      round = s.token.table_id;
+    } };
 
-    ghost invariant = { λ s. IsKept s.token.me s.thread s.part s.seen.items s.receipts.items s.ended };
+    ghost invariant = { λ s.
+        IsKept s.token.me s.thread s.part s.seen.items s.receipts.items s.ended };
 }
 
 impl<P: Program> VarSeat<P> {
@@ -50,6 +59,7 @@ impl<P: Program> VarSeat<P> {
     ) -> Self
         requires view { token.me.0 ≡ rest_view thread (part ∷ []) seen.items }
         requires slots { token.me.1 ≡ [] }
+        requires counted { IsCounted part }
         ensures { result ≡ fresh_seat token.table_id seen.items thread part }
     {
         VarSeat {
@@ -64,8 +74,10 @@ impl<P: Program> VarSeat<P> {
 
     /// Its token, its part and what its thread did.
     pub(crate) fn take_apart(self) -> (Token<P::Value>, ThreadPart, Vec<WovenStep>)
-        ensures kept { IsKept result.0.me self.thread self.part self.seen result.2.items self.ended }
-        ensures told { (first_notes result.0.me.0.shares ≡ self.notes) × (result.0.me.0.missing ≡ self.missing) }
+        ensures kept { IsKept result.0.me self.thread self.part self.seen
+            result.2.items self.ended }
+        ensures told { (first_notes result.0.me.0.shares ≡ self.notes)
+            × (result.0.me.0.missing ≡ self.missing) }
         ensures round { result.0.table_id ≡ self.round }
         ensures part { result.1 ≡ self.part }
     {

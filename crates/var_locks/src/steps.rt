@@ -1,17 +1,14 @@
 //! The steps of a round on its words. Each keeps the rule.
-ghost use Rattle.std.specs.Prelude.{ℕ, ◌≡◌, ◌+◌, ◌<◌, ◌^◌, ◌⊎◌, Bool, true, false, List, [], ◌∷◌, length, Some, None, IfOk, IfErr, IsTrue, option_copied};
+ghost use Rattle.std.specs.Prelude.{◌≡◌, ◌+◌, ◌<◌, true, false, [], ◌∷◌, length, None, IfOk, IfErr, option_copied};
 ghost use Rattle.atomic_table.specs.Table.{rest};
-ghost use Rattle.access_log.specs.declared.entry.StampedEntry as entry_of;
-ghost use Rattle.plain_machine.specs.declared.local.Local as local_of;
 ghost use Rattle.master_core.specs.Mastered.{Mastered};
 ghost use Rattle.master_core.specs.declared.parts.VarPart as var_of;
 ghost use Rattle.var_locks.specs.declared.view.Note as note_of;
-ghost use Rattle.var_locks.specs.declared.view.Share as share_of;
 ghost use Rattle.var_locks.specs.Codes.{note_code};
 ghost use Rattle.var_locks.specs.Notes.{own_note};
 ghost use Rattle.var_locks.specs.Views.{note_on, first_view, first_share, other_shares, joined_view, with_hand, empty_hand, noted_view, missed_view, ended_view};
 ghost use Rattle.var_locks.specs.Plays.{Finds};
-ghost use Rattle.var_locks.specs.Rounds.{IsRoundOf, Opens, MayNote, MayBring, MayMiss, HasInHand, IsIdle};
+ghost use Rattle.var_locks.specs.Rounds.{IsRoundOf, Opens, CanTake, CanNote, CanBring, CanGive, CanMiss, CanEnd, CanSplit};
 
 use crate::view::{
     Brought, Ended, Given, Law, Missed, Named, News, Noted, Parted, Round, Taken, View,
@@ -52,9 +49,12 @@ pub(crate) fn open_round<P: Program, J: Round>(
     parts: Vec<VarPart<P::Value>>,
 ) -> Result<(LockTable<P, J>, Token<P::Value>), Refused<VarPart<P::Value>, Global>>
     requires of { P.row.coded.code program.now ≡ J.program }
-    requires opens { (p : Mastered P.Value) × Opens (P.meaning program.now) (P.fits program.now) P.Value.row.coded J.opening J.threads J.places parts.items words.now p }
+    requires opens { (p : Mastered P.Value) × Opens (P.meaning program.now) (P.fits program.now)
+        P.Value.row.coded J.opening J.threads J.places parts.items words.now p }
     ensures first { IfOk result (λ t. t.1.me ≡ (first_view J.threads J.places, [])) }
-    ensures same { IfOk result (λ t. (t.1.table_id ≡ t.0.shared.table_id) × (t.0.shared.table_id.words ≡ length words.now) × (t.0.shared.table_id.slots ≡ length parts.items)) }
+    ensures same { IfOk result (λ t. (t.1.table_id ≡ t.0.shared.table_id)
+        × (t.0.shared.table_id.words ≡ length words.now)
+        × (t.0.shared.table_id.slots ≡ length parts.items)) }
     ensures refused { IfErr result (λ r. r.slots.items ≡ parts.items) }
 {
     let _ = program;
@@ -69,12 +69,15 @@ pub(crate) fn take_up<P: Program, J: Round, R: Wait>(
     token: &mut Token<P::Value>,
     var: usize,
 ) -> u64
-    requires of { IsRoundOf P.meaning P.row.coded P.Value.row.coded J.program J.opening J.threads program.now shared.now.table_id.words }
+    requires of { IsRoundOf P.meaning P.row.coded P.Value.row.coded
+        J.program J.opening J.threads program.now shared.now.table_id.words }
     requires table { token.old.table_id ≡ shared.now.table_id }
     requires var_in { var < (P.meaning program.now).vars }
-    requires idle { (x : share_of.Share P.Value) × IsIdle token.old.me.0 x }
+    requires idle { CanTake token.old.me.0 }
     ensures same { (token.new.table_id ≡ token.old.table_id) × (token.new.id ≡ token.old.id) }
-    ensures taken { (x : var_of.VarPart P.Value) × Finds P.fits P.row.coded J.program token.old.me.0 var result x × (token.new.me ≡ (with_hand token.old.me.0 var x, (var, x) ∷ token.old.me.1)) }
+    ensures taken { (x : var_of.VarPart P.Value)
+        × Finds P.fits P.row.coded J.program token.old.me.0 var result x
+        × (token.new.me ≡ (with_hand token.old.me.0 var x, (var, x) ∷ token.old.me.1)) }
 {
     let _ = program;
     for _ in rt.forever() {
@@ -101,13 +104,17 @@ fn note_as<P: Program, J: Round, N: News>(
     trace: &Trace,
     packet: Option<&Packet>,
 )
-    requires of { IsRoundOf P.meaning P.row.coded P.Value.row.coded J.program J.opening J.threads program.now shared.now.table_id.words }
+    requires of { IsRoundOf P.meaning P.row.coded P.Value.row.coded
+        J.program J.opening J.threads program.now shared.now.table_id.words }
     requires table { token.old.table_id ≡ shared.now.table_id }
     requires word_in { word < shared.now.table_id.words }
-    requires code { (note_code P.Value.row.coded).code (own_note before.now after.now trace.now (option_copied packet)) ≡ N.note }
-    requires next { (x : share_of.Share P.Value) × MayNote (P.meaning program.now) J.guide token.old.me.0 x (own_note before.now after.now trace.now (option_copied packet)) }
+    requires code { (note_code P.Value.row.coded).code
+        (own_note before.now after.now trace.now (option_copied packet)) ≡ N.note }
+    requires next { CanNote (P.meaning program.now) J.guide token.old.me.0
+        (own_note before.now after.now trace.now (option_copied packet)) }
     ensures same { (token.new.table_id ≡ token.old.table_id) × (token.new.id ≡ token.old.id) }
-    ensures noted { (n : note_of.Note P.Value) × ((note_code P.Value.row.coded).code n ≡ N.note) × (token.new.me ≡ (noted_view token.old.me.0 n, token.old.me.1)) }
+    ensures noted { (n : note_of.Note P.Value) × ((note_code P.Value.row.coded).code n ≡ N.note)
+        × (token.new.me ≡ (noted_view token.old.me.0 n, token.old.me.1)) }
 {
     let _ = program;
     let _ = before;
@@ -128,12 +135,18 @@ pub(crate) fn note_move<P: Program, J: Round>(
     trace: &Trace,
     packet: Option<&Packet>,
 )
-    requires of { IsRoundOf P.meaning P.row.coded P.Value.row.coded J.program J.opening J.threads program.now shared.now.table_id.words }
+    requires of { IsRoundOf P.meaning P.row.coded P.Value.row.coded
+        J.program J.opening J.threads program.now shared.now.table_id.words }
     requires table { token.old.table_id ≡ shared.now.table_id }
     requires word_in { word < shared.now.table_id.words }
-    requires next { (x : share_of.Share P.Value) × MayNote (P.meaning program.now) J.guide token.old.me.0 x (own_note before.now after.now trace.now (option_copied packet)) }
+    requires next { CanNote (P.meaning program.now) J.guide token.old.me.0
+        (own_note before.now after.now trace.now (option_copied packet)) }
     ensures same { (token.new.table_id ≡ token.old.table_id) × (token.new.id ≡ token.old.id) }
-    ensures noted { token.new.me ≡ (noted_view token.old.me.0 (own_note before.now after.now trace.now (option_copied packet.entry)), token.old.me.1) }
+    ensures noted { token.new.me ≡ (
+      noted_view token.old.me.0
+          (own_note before.now after.now trace.now (option_copied packet.entry)),
+      token.old.me.1,
+    ) }
 {
     note_as::<P, J, Brand>(program, shared, token, word, before, after, trace, packet);
 }
@@ -149,14 +162,18 @@ fn bring_as<P: Program, J: Round, N: News>(
     after: &ThreadPart,
     trace: &Trace,
 )
-    requires of { IsRoundOf P.meaning P.row.coded P.Value.row.coded J.program J.opening J.threads program.now shared.now.table_id.words }
+    requires of { IsRoundOf P.meaning P.row.coded P.Value.row.coded
+        J.program J.opening J.threads program.now shared.now.table_id.words }
     requires table { token.old.table_id ≡ shared.now.table_id }
     requires var_in { var < (P.meaning program.now).vars }
-    requires code { (note_code P.Value.row.coded).code (note_on before.now after.now trace.now token.old.me.0) ≡ N.note }
-    requires next { (x : share_of.Share P.Value) × (y : var_of.VarPart P.Value) × (found : var_of.VarPart P.Value) × (place : local_of.Local) × (e : entry_of.StampedEntry)
-        × (token.old.me.1 ≡ (var, y) ∷ []) × MayBring (P.meaning program.now) (P.fits program.now) J.guide token.old.me.0 var word y x (note_on before.now after.now trace.now token.old.me.0) found place e }
+    requires code { (note_code P.Value.row.coded).code
+        (note_on before.now after.now trace.now token.old.me.0) ≡ N.note }
+    requires next { CanBring (P.meaning program.now) (P.fits program.now) J.guide token.old.me
+        var word (note_on before.now after.now trace.now token.old.me.0) }
     ensures same { (token.new.table_id ≡ token.old.table_id) × (token.new.id ≡ token.old.id) }
-    ensures brought { (n : note_of.Note P.Value) × ((note_code P.Value.row.coded).code n ≡ N.note) × (token.new.me ≡ (noted_view token.old.me.0 n, rest token.old.me.1)) }
+    ensures brought { (n : note_of.Note P.Value)
+        × ((note_code P.Value.row.coded).code n ≡ N.note)
+        × (token.new.me ≡ (noted_view token.old.me.0 n, rest token.old.me.1)) }
 {
     let _ = program;
     let _ = before;
@@ -176,13 +193,18 @@ pub(crate) fn bring_home<P: Program, J: Round>(
     after: &ThreadPart,
     trace: &Trace,
 )
-    requires of { IsRoundOf P.meaning P.row.coded P.Value.row.coded J.program J.opening J.threads program.now shared.now.table_id.words }
+    requires of { IsRoundOf P.meaning P.row.coded P.Value.row.coded
+        J.program J.opening J.threads program.now shared.now.table_id.words }
     requires table { token.old.table_id ≡ shared.now.table_id }
     requires var_in { var < (P.meaning program.now).vars }
-    requires next { (x : share_of.Share P.Value) × (y : var_of.VarPart P.Value) × (found : var_of.VarPart P.Value) × (place : local_of.Local) × (e : entry_of.StampedEntry)
-        × (token.old.me.1 ≡ (var, y) ∷ []) × MayBring (P.meaning program.now) (P.fits program.now) J.guide token.old.me.0 var word y x (note_on before.now after.now trace.now token.old.me.0) found place e }
+    requires next { CanBring (P.meaning program.now) (P.fits program.now) J.guide token.old.me
+        var word (note_on before.now after.now trace.now token.old.me.0) }
     ensures same { (token.new.table_id ≡ token.old.table_id) × (token.new.id ≡ token.old.id) }
-    ensures brought { token.new.me ≡ (noted_view token.old.me.0 (note_on before.now after.now trace.now token.old.me.0), []) }
+    ensures brought { token.new.me ≡ (
+      noted_view token.old.me.0
+          (note_on before.now after.now trace.now token.old.me.0),
+      [],
+    ) }
 {
     bring_as::<P, J, Brand>(program, shared, token, var, word, before, after, trace);
 }
@@ -195,10 +217,11 @@ pub(crate) fn give_back<P: Program, J: Round>(
     var: usize,
     word: u64,
 )
-    requires of { IsRoundOf P.meaning P.row.coded P.Value.row.coded J.program J.opening J.threads program.now shared.now.table_id.words }
+    requires of { IsRoundOf P.meaning P.row.coded P.Value.row.coded
+        J.program J.opening J.threads program.now shared.now.table_id.words }
     requires table { token.old.table_id ≡ shared.now.table_id }
     requires var_in { var < (P.meaning program.now).vars }
-    requires found { (x : var_of.VarPart P.Value) × HasInHand token.old.me.0 var x × (token.old.me.1 ≡ (var, x) ∷ []) × (word ≡ x.places + x.places) }
+    requires found { CanGive token.old.me var word }
     ensures same { (token.new.table_id ≡ token.old.table_id) × (token.new.id ≡ token.old.id) }
     ensures given { token.new.me ≡ (empty_hand token.old.me.0, []) }
 {
@@ -215,14 +238,16 @@ fn misses_as<P: Program, J: Round, N: Named>(
     thread: u32,
     number: u64,
 ) -> bool
-    requires of { IsRoundOf P.meaning P.row.coded P.Value.row.coded J.program J.opening J.threads program.now shared.now.table_id.words }
+    requires of { IsRoundOf P.meaning P.row.coded P.Value.row.coded
+        J.program J.opening J.threads program.now shared.now.table_id.words }
     requires table { token.old.table_id ≡ shared.now.table_id }
     requires named { (thread ≡ N.thread) × (number ≡ N.number) }
     requires thread_in { thread < length J.threads }
     requires word_is { word ≡ (P.meaning program.now).vars + thread }
-    requires waits { (v : ℕ) × (x : var_of.VarPart P.Value) × (t : ℕ) × (n : ℕ) × (read : Bool) × (v < (P.meaning program.now).vars) × MayMiss J.guide token.old.me.0 v thread number x t n read }
+    requires waits { CanMiss (P.meaning program.now) J.guide token.old.me.0 thread number }
     ensures same { (token.new.table_id ≡ token.old.table_id) × (token.new.id ≡ token.old.id) }
-    ensures missing { result ≡ true → token.new.me ≡ (missed_view token.old.me.0 N.thread N.number, token.old.me.1) }
+    ensures missing { result ≡ true
+        → token.new.me ≡ (missed_view token.old.me.0 N.thread N.number, token.old.me.1) }
     ensures going { result ≡ false → token.new.me ≡ token.old.me }
 {
     let _ = program;
@@ -240,13 +265,15 @@ pub(crate) fn misses<P: Program, J: Round>(
     thread: u32,
     number: u64,
 ) -> bool
-    requires of { IsRoundOf P.meaning P.row.coded P.Value.row.coded J.program J.opening J.threads program.now shared.now.table_id.words }
+    requires of { IsRoundOf P.meaning P.row.coded P.Value.row.coded
+        J.program J.opening J.threads program.now shared.now.table_id.words }
     requires table { token.old.table_id ≡ shared.now.table_id }
     requires thread_in { thread < length J.threads }
     requires word_is { word ≡ (P.meaning program.now).vars + thread }
-    requires waits { (v : ℕ) × (x : var_of.VarPart P.Value) × (t : ℕ) × (n : ℕ) × (read : Bool) × (v < (P.meaning program.now).vars) × MayMiss J.guide token.old.me.0 v thread number x t n read }
+    requires waits { CanMiss (P.meaning program.now) J.guide token.old.me.0 thread number }
     ensures same { (token.new.table_id ≡ token.old.table_id) × (token.new.id ≡ token.old.id) }
-    ensures missing { result ≡ true → token.new.me ≡ (missed_view token.old.me.0 thread number, token.old.me.1) }
+    ensures missing { result ≡ true
+        → token.new.me ≡ (missed_view token.old.me.0 thread number, token.old.me.1) }
     ensures going { result ≡ false → token.new.me ≡ token.old.me }
 {
     misses_as::<P, J, Brand>(program, shared, token, word, thread, number)
@@ -259,10 +286,11 @@ pub(crate) fn end_round<P: Program, J: Round>(
     token: &mut Token<P::Value>,
     word: usize,
 )
-    requires of { IsRoundOf P.meaning P.row.coded P.Value.row.coded J.program J.opening J.threads program.now shared.now.table_id.words }
+    requires of { IsRoundOf P.meaning P.row.coded P.Value.row.coded
+        J.program J.opening J.threads program.now shared.now.table_id.words }
     requires table { token.old.table_id ≡ shared.now.table_id }
     requires word_in { word < shared.now.table_id.words }
-    requires idle { (x : share_of.Share P.Value) × IsIdle token.old.me.0 x × (word ≡ (P.meaning program.now).vars + x.thread) }
+    requires idle { CanEnd (P.meaning program.now) token.old.me.0 word }
     ensures same { (token.new.table_id ≡ token.old.table_id) × (token.new.id ≡ token.old.id) }
     ensures ended { token.new.me ≡ (ended_view token.old.me.0, token.old.me.1) }
 {
@@ -276,13 +304,15 @@ pub(crate) fn split_off<P: Program, J: Round>(
     shared: &Lock<P, J>,
     token: &mut Token<P::Value>,
 ) -> Token<P::Value>
-    requires of { IsRoundOf P.meaning P.row.coded P.Value.row.coded J.program J.opening J.threads program.now shared.now.table_id.words }
+    requires of { IsRoundOf P.meaning P.row.coded P.Value.row.coded
+        J.program J.opening J.threads program.now shared.now.table_id.words }
     requires table { token.old.table_id ≡ shared.now.table_id }
     requires some { 0 < shared.now.table_id.words }
-    requires first { (x : share_of.Share P.Value) × (others : List (share_of.Share P.Value)) × (token.old.me.0.shares ≡ x ∷ others) × (token.old.me.0.hand ≡ None) }
+    requires first { CanSplit token.old.me.0 }
     ensures same { (token.new.table_id ≡ token.old.table_id) × (token.new.id ≡ token.old.id) }
     ensures others { token.new.me ≡ (other_shares token.old.me.0, token.old.me.1) }
-    ensures first { (result.table_id ≡ token.old.table_id) × (result.me ≡ (first_share token.old.me.0, [])) }
+    ensures round { result.table_id ≡ token.old.table_id }
+    ensures first { result.me ≡ (first_share token.old.me.0, []) }
 {
     let _ = program;
     shared.split_seat::<Parted>(token)
@@ -295,10 +325,13 @@ pub(crate) fn join_in<P: Program, J: Round>(
     token: &mut Token<P::Value>,
     other: Token<P::Value>,
 )
-    requires of { IsRoundOf P.meaning P.row.coded P.Value.row.coded J.program J.opening J.threads program.now shared.now.table_id.words }
-    requires table { (token.old.table_id ≡ shared.now.table_id) × (other.table_id ≡ shared.now.table_id) }
+    requires of { IsRoundOf P.meaning P.row.coded P.Value.row.coded
+        J.program J.opening J.threads program.now shared.now.table_id.words }
+    requires table { token.old.table_id ≡ shared.now.table_id }
+    requires other_table { other.table_id ≡ shared.now.table_id }
     requires some { 0 < shared.now.table_id.words }
-    requires empty { (token.old.me.0.hand ≡ None) × (other.me.0.hand ≡ None) × (other.me.1 ≡ []) }
+    requires empty { token.old.me.0.hand ≡ None }
+    requires other { (other.me.0.hand ≡ None) × (other.me.1 ≡ []) }
     ensures same { (token.new.table_id ≡ token.old.table_id) × (token.new.id ≡ token.old.id) }
     ensures joined { token.new.me ≡ (joined_view token.old.me.0 other.me.0, token.old.me.1) }
 {

@@ -1,17 +1,19 @@
 //! The call by which a thread touches or reads the variable that it wants.
-ghost use Rattle.std.specs.Prelude.{◌≡◌, ℕ, ◌<◌, ◌^◌, false, Some, slice_set, IfSome, IfNone};
+ghost use Rattle.std.specs.Prelude.{◌≡◌, ℕ, ◌<◌, ◌^◌, false, slice_set, vec_len, vec_capacity, IfSome, IfNone};
 ghost use Rattle.plain_machine.specs.declared.local.Move.TheVariants as move_is;
 ghost use Rattle.master_core.specs.Mastered.{moves_made, WantsVariable};
 ghost use Rattle.var_locks.specs.Rounds.{AreVarsOf};
 ghost use Rattle.var_locks.specs.Seats.{IsSeatOf};
-ghost use Rattle.var_locks.specs.TouchedParts.{Touches, seen_by, wanted_move};
+ghost use Rattle.var_locks.specs.TouchedParts.{Touches, seen_by, did_by, wanted_move};
 
+use crate::keeping::{copied, step_of};
 use crate::seats::VarSeat;
-use crate::touching::{Gate, Touched, touch_on};
+use crate::touching::{Access, Gate, Touched};
 use crate::vars::Vars;
 use crate::view::Round;
 use access_log::What;
 use box_program::Program;
+use master_core::{Trace, WovenStep};
 use plain_machine::{Local, Move};
 use replay_guide::Guide;
 use std::alloc::Global;
@@ -41,11 +43,24 @@ fn see(seen: &mut Vec<u64>, touched: &Touched)
     }
 }
 
+/// What a touch or a read adds to what its thread did, for which there is room.
+fn note(did: &mut Vec<WovenStep>, thread: u32, touched: &Touched)
+    requires room { vec_len did.old < vec_capacity did.old }
+    ensures { did.new.items ≡ did_by thread did.old.items touched.now }
+{
+    if let Touched::Did(entry) = touched {
+        did.push_reserved(step_of(thread, Trace::Did(copied(entry))));
+    }
+}
+
 /// The variable that the program wants at this place, and whether it is to be read.
 fn wanted<P: Program>(program: &P, place: &Local) -> Option<(u32, bool)>
-    ensures some { IfSome result (λ w. (P.meaning program.now).next place.now ≡ wanted_move w.0 w.1) }
-    ensures no_touch { IfNone result ((v : ℕ) → (P.meaning program.now).next place.now ≡ move_is.Access v → ⊥) }
-    ensures no_read { IfNone result ((v : ℕ) → (P.meaning program.now).next place.now ≡ move_is.Read v → ⊥) }
+    ensures some { IfSome result (λ w.
+        (P.meaning program.now).next place.now ≡ wanted_move w.0 w.1) }
+    ensures no_touch { IfNone result ((v : ℕ) →
+        (P.meaning program.now).next place.now ≡ move_is.Access v → ⊥) }
+    ensures no_read { IfNone result ((v : ℕ) →
+        (P.meaning program.now).next place.now ≡ move_is.Read v → ⊥) }
 {
     match program.next(place) {
         Move::Access(var) => Some((var, false)),
@@ -70,10 +85,9 @@ impl<P: Program, J: Round> Vars<P, J> {
         guide: &Guide,
         gate: &G,
     ) -> Touched
-        requires of { AreVarsOf P.meaning P.row.coded P.Value.row.coded J.program J.opening J.threads
-            program.now self.now.table.shared.table_id.words self.now.vars self.now.threads }
+        requires of { AreVarsOf P.meaning P.row.coded P.Value.row.coded program.now self.now }
         requires guide { guide.now ≡ J.guide }
-        requires seat { IsSeatOf self.now.table.shared.table_id self.now.threads seat.old }
+        requires seat { IsSeatOf self.now seat.old }
         requires going { seat.old.ended ≡ false }
         requires room { moves_made seat.old.part < 2 ^ 56 }
         requires wants { WantsVariable (P.meaning program.now) seat.old.part.hand }
@@ -86,23 +100,23 @@ impl<P: Program, J: Round> Vars<P, J> {
         let Some((var, read)) = wanted(program, &place) else {
             unreachable!()
         };
-        let touched = touch_on::<P, J, R, G>(
+        let access = Access {
+            thread: seat.thread,
+            var,
+            read,
+            place,
+        };
+        let touched = self.touch_on(
             rt,
             alloc,
             program,
             guide,
             gate,
-            &self.table.shared,
-            self.vars,
-            self.threads,
-            seat.thread,
             &mut seat.token,
             &mut seat.part,
-            &mut seat.receipts,
-            place,
-            var,
-            read,
+            access,
         );
+        note(&mut seat.receipts, seat.thread, &touched);
         see(&mut seat.seen, &touched);
         touched
     }

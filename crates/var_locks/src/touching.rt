@@ -1,20 +1,19 @@
-//! A seat's touch or read of the variable in hand, on its parts.
-ghost use Rattle.std.specs.Prelude.{◌≡◌, ℕ, ◌+◌, ◌≤◌, ◌<◌, ◌^◌, ◌⊎◌, Bool, List, [], ◌∷◌, IfOk, IfSome, IfNone, OnErr, Some, true, false, length, slice_index, vec_len};
-ghost use Rattle.plain_machine.specs.declared.local.Move.TheVariants as move_is;
+//! A seat's touch or read of the variable in hand.
+ghost use Rattle.std.specs.Prelude.{◌≡◌, ℕ, ◌+◌, ◌<◌, ◌≤◌, ◌^◌, [], ◌∷◌, IfOk, IfSome, IfNone, OnErr, true, false};
 ghost use Rattle.master_core.specs.Mastered.{moves_made};
 ghost use Rattle.master_core.specs.declared.parts.VarPart as var_of;
-ghost use Rattle.std.specs.Prelude.{vec_capacity};
-ghost use Rattle.var_locks.specs.Rounds.{IsRoundOf, MayMiss};
-ghost use Rattle.var_locks.specs.Views.{empty_hand, missed_view, with_hand};
-ghost use Rattle.var_locks.specs.Seats.{IsKept};
-ghost use Rattle.var_locks.specs.TouchedParts.{Works, wanted_move, next_word, HasTaken, MayGo, MadeOn, Comes};
+ghost use Rattle.replay_guide.specs.Turns.{WaitsFor};
+ghost use Rattle.var_locks.specs.Rounds.{AreVarsOf, CanMiss};
+ghost use Rattle.var_locks.specs.Views.{empty_hand, missed_view};
+ghost use Rattle.var_locks.specs.TouchedParts.{IsWanted, HasSlot, Works, WorksBy, next_word, entry_waited, HasThread, IsTaken, MayWork, MustWait, MadeBy, MadeNone, Comes, ComesOf};
 
-use crate::keeping::{copied, step_of};
+use crate::keeping::copied;
 use crate::steps::{Lock, Token, bring_home, give_back, misses, take_up};
+use crate::vars::Vars;
 use crate::view::Round;
 use access_log::{StampedEntry, Turn};
 use box_program::Program;
-use master_core::{ThreadPart, Trace, WovenStep, moves};
+use master_core::{ThreadPart, Trace, VarPart, moves};
 use plain_machine::Local;
 use plain_text::NoMemory;
 use replay_guide::Guide;
@@ -39,6 +38,15 @@ impl Gate for OpenGate {
     }
 }
 
+/// The touch or the read that a thread wants: of which variable, and where its program stands.
+#[derive(Clone, Copy)]
+pub(crate) struct Access {
+    pub(crate) thread: u32,
+    pub(crate) var: u32,
+    pub(crate) read: bool,
+    pub(crate) place: Local,
+}
+
 /// What came of a touch or a read.
 #[derive(Debug, Drop)]
 pub enum Touched {
@@ -58,10 +66,41 @@ fn readers_of<P: Program, J: Round>(
 ) -> Stamp
     requires table { token.old.table_id ≡ shared.now.table_id }
     requires slot { (x : var_of.VarPart P.Value) × (token.old.me.1 ≡ (var, x) ∷ []) }
-    ensures same { (token.new.table_id ≡ token.old.table_id) × (token.new.id ≡ token.old.id) × (token.new.me ≡ token.old.me) }
-    ensures readers { (x : var_of.VarPart P.Value) → token.old.me.1 ≡ (var, x) ∷ [] → result ≡ x.readers }
+    ensures same { (token.new.table_id ≡ token.old.table_id) × (token.new.id ≡ token.old.id) }
+    ensures stays { token.new.me ≡ token.old.me }
+    ensures readers { (x : var_of.VarPart P.Value) → token.old.me.1 ≡ (var, x) ∷ []
+        → result ≡ x.readers }
 {
     token.slot_mut(shared, var).readers
+}
+
+/// Touches this variable in place, or reads it.
+fn work_in<P: Program>(
+    alloc: Global,
+    program: &P,
+    part: &mut ThreadPart,
+    access: Access,
+    slot: &mut VarPart<P::Value>,
+) -> Result<StampedEntry, NoMemory>
+    requires room { moves_made part.old < 2 ^ 56 }
+    requires wanted { IsWanted (P.meaning program.now) part.old access }
+    requires few { slot.old.places ≤ 2 ^ 60 }
+    requires fits { P.fits program.now access.var slot.old.value }
+    ensures worked { IfOk result (λ entry. WorksBy (P.meaning program.now)
+        access.thread access.var access.read access.place
+        part.old part.new entry slot.old slot.new) }
+    ensures left { OnErr result ((part.new ≡ part.old) × (slot.new ≡ slot.old)) }
+{
+    let Access {
+        thread,
+        var,
+        read,
+        place,
+    } = access;
+    if read {
+        return Ok(moves::look(program, thread, part, place, var, slot));
+    }
+    moves::touch(alloc, program, thread, part, place, var, slot)
 }
 
 /// Touches the variable in hand in place, or reads it.
@@ -70,27 +109,54 @@ fn work<P: Program, J: Round>(
     program: &P,
     shared: &Lock<P, J>,
     token: &mut Token<P::Value>,
-    thread: u32,
     part: &mut ThreadPart,
-    place: Local,
-    var: u32,
-    read: bool,
+    access: Access,
 ) -> Result<StampedEntry, NoMemory>
     requires table { token.old.table_id ≡ shared.now.table_id }
-    requires thread_in { thread < 16 }
     requires room { moves_made part.old < 2 ^ 56 }
-    requires next { (P.meaning program.now).next place ≡ wanted_move var read }
-    requires slot { (x : var_of.VarPart P.Value) × (token.old.me.1 ≡ (var, x) ∷ []) × (x.places ≤ 2 ^ 60) × P.fits program.now var x.value }
-    ensures same { (token.new.table_id ≡ token.old.table_id) × (token.new.id ≡ token.old.id) × (token.new.me.0 ≡ token.old.me.0) }
-    ensures worked { IfOk result (λ entry. (x : var_of.VarPart P.Value) → token.old.me.1 ≡ (var, x) ∷ []
-        → Works (P.meaning program.now) thread var read place part.old part.new entry x token.new.me.1) }
+    requires wanted { IsWanted (P.meaning program.now) part.old access }
+    requires slot { HasSlot (P.fits program.now) access.var token.old.me }
+    ensures same { (token.new.table_id ≡ token.old.table_id) × (token.new.id ≡ token.old.id) }
+    ensures view { token.new.me.0 ≡ token.old.me.0 }
+    ensures worked { IfOk result (λ entry. (x : var_of.VarPart P.Value)
+        → token.old.me.1 ≡ (access.var, x) ∷ []
+        → Works (P.meaning program.now) access part.old part.new entry x token.new.me.1) }
     ensures left { OnErr result ((part.new ≡ part.old) × (token.new.me ≡ token.old.me)) }
 {
-    let slot = token.slot_mut(shared, var as usize);
-    if read {
-        return Ok(moves::look(program, thread, part, place, var, slot));
+    let slot = token.slot_mut(shared, access.var as usize);
+    work_in(alloc, program, part, access, slot)
+}
+
+/// The entry for which this turn says to wait.
+fn entry_of(turn: Turn) -> Option<(u32, u64)>
+    ensures { result ≡ entry_waited turn }
+{
+    match turn {
+        Turn::Wait { thread, number } => Some((thread, number)),
+        Turn::Follow | Turn::Free => None,
     }
-    moves::touch(alloc, program, thread, part, place, var, slot)
+}
+
+/// The entry for which the guide says to wait, where the variable was touched so often and this is the join of its reads since.
+fn waits_for(
+    guide: &Guide,
+    number: u64,
+    access: Access,
+    places: u64,
+    readers: &Stamp,
+) -> Option<(u32, u64)>
+    ensures waits { IfSome result (λ e. WaitsFor guide.now access.thread number
+        access.var access.read places readers.now e.0 e.1) }
+    ensures goes { IfNone result ((u k : ℕ) → WaitsFor guide.now access.thread number
+        access.var access.read places readers.now u k → ⊥) }
+{
+    let Access {
+        thread,
+        var,
+        read,
+        ..
+    } = access;
+    entry_of(guide.turn(thread, number, var, read, places, readers))
 }
 
 /// The word that is stored when the variable comes home.
@@ -101,250 +167,191 @@ fn word_after(word: u64, read: bool) -> u64
     if read { word } else { word + 2 }
 }
 
-/// Touches the variable in hand, or reads it, and brings it home.
-fn make_on<P: Program, J: Round>(
-    alloc: Global,
-    program: &P,
-    shared: &Lock<P, J>,
-    thread: u32,
-    token: &mut Token<P::Value>,
-    part: &mut ThreadPart,
-    did: &mut Vec<WovenStep>,
-    place: Local,
-    var: u32,
-    read: bool,
-    word: u64,
-) -> Result<StampedEntry, NoMemory>
-    requires of { IsRoundOf P.meaning P.row.coded P.Value.row.coded J.program J.opening J.threads program.now shared.now.table_id.words }
-    requires table { token.old.table_id ≡ shared.now.table_id }
-    requires thread_in { thread < 16 }
-    requires var_in { var < (P.meaning program.now).vars }
-    requires room { moves_made part.old < 2 ^ 56 }
-    requires hand { part.old.hand ≡ Some place }
-    requires next { (P.meaning program.now).next place ≡ wanted_move var read }
-    requires spare { vec_len did.old < vec_capacity did.old }
-    requires taken { (x : var_of.VarPart P.Value) × (seen : List ℕ) × HasTaken P.fits P.row.coded J.program var word x token.old.me thread part.old seen did.old.items
-        × MayGo J.guide thread (part.old.counts.entries + 1) var read x }
-    ensures same { (token.new.table_id ≡ token.old.table_id) × (token.new.id ≡ token.old.id) }
-    ensures made { IfOk result (λ e. (x : var_of.VarPart P.Value) × (token.old.me.1 ≡ (var, x) ∷ [])
-        × MadeOn (P.meaning program.now) J.guide thread var part.old part.new x e token.old.me token.new.me did.old.items did.new.items) }
-    ensures left { OnErr result ((token.new.me ≡ (empty_hand token.old.me.0, [])) × (part.new ≡ part.old) × (did.new.items ≡ did.old.items)) }
-{
-    let before = *part;
-    let mut after = *part;
-    let worked = work::<P, J>(
-        alloc, program, shared, token, thread, &mut after, place, var, read,
-    );
-    let Ok(entry) = worked else {
-        give_back::<P, J>(program, shared, token, var as usize, word);
-        return Err(NoMemory);
-    };
-    let trace = Trace::Did(copied(&entry));
-    let home = word_after(word, read);
-    bring_home::<P, J>(
-        program,
-        shared,
-        token,
-        var as usize,
-        home,
-        &before,
-        &after,
-        &trace,
-    );
-    did.push_reserved(step_of(thread, trace));
-    *part = after;
-    Ok(entry)
-}
-
-/// Whether the thread of an entry ended, for which the guide says to wait at the variable in hand. If so, the entry is missing.
-fn looks_missing<P: Program, J: Round>(
-    program: &P,
-    shared: &Lock<P, J>,
-    vars: usize,
-    threads: usize,
-    token: &mut Token<P::Value>,
-    other: u32,
-    number: u64,
-) -> bool
-    requires of { IsRoundOf P.meaning P.row.coded P.Value.row.coded J.program J.opening J.threads program.now shared.now.table_id.words }
-    requires table { token.old.table_id ≡ shared.now.table_id }
-    requires sized { (vars ≡ (P.meaning program.now).vars) × (threads ≡ length J.threads) × (vars + threads < 2 ^ 63) }
-    requires waits { (v : ℕ) × (x : var_of.VarPart P.Value) × (t : ℕ) × (n : ℕ) × (read : Bool) × (v < (P.meaning program.now).vars) × MayMiss J.guide token.old.me.0 v other number x t n read }
-    ensures same { (token.new.table_id ≡ token.old.table_id) × (token.new.id ≡ token.old.id) }
-    ensures missing { result ≡ true → token.new.me ≡ (missed_view token.old.me.0 other number, token.old.me.1) }
-    ensures going { result ≡ false → token.new.me ≡ token.old.me }
-{
-    if other as usize >= threads {
-        return false;
+impl<P: Program, J: Round> Vars<P, J> {
+    /// Touches the variable in hand, or reads it, and brings it home.
+    fn make_on(
+        &self,
+        alloc: Global,
+        program: &P,
+        token: &mut Token<P::Value>,
+        part: &mut ThreadPart,
+        access: Access,
+        word: u64,
+    ) -> Result<StampedEntry, NoMemory>
+        requires of { AreVarsOf P.meaning P.row.coded P.Value.row.coded program.now self.now }
+        requires table { token.old.table_id ≡ self.now.round }
+        requires room { moves_made part.old < 2 ^ 56 }
+        requires wanted { IsWanted (P.meaning program.now) part.old access }
+        requires taken { MayWork P.fits P.row.coded J.program J.guide access word part.old
+            token.old.me }
+        ensures same { (token.new.table_id ≡ token.old.table_id)
+            × (token.new.id ≡ token.old.id) }
+        ensures made { IfOk result (λ e. MadeBy (P.meaning program.now) J.guide access
+            part.old part.new token.old.me token.new.me e) }
+        ensures left { OnErr result (MadeNone token.old.me token.new.me part.old part.new) }
+    {
+        let shared = &self.table.shared;
+        let var = access.var as usize;
+        let before = *part;
+        let mut after = *part;
+        let worked = work::<P, J>(alloc, program, shared, token, &mut after, access);
+        let Ok(entry) = worked else {
+            give_back::<P, J>(program, shared, token, var, word);
+            return Err(NoMemory);
+        };
+        let trace = Trace::Did(copied(&entry));
+        let home = word_after(word, access.read);
+        bring_home::<P, J>(program, shared, token, var, home, &before, &after, &trace);
+        *part = after;
+        Ok(entry)
     }
-    misses::<P, J>(program, shared, token, vars + other as usize, other, number)
-}
 
-/// Gives the variable in hand back, at which the guide says to wait for an entry. Whether its thread ended the round without it.
-fn wait_on<P: Program, J: Round>(
-    program: &P,
-    shared: &Lock<P, J>,
-    vars: usize,
-    threads: usize,
-    token: &mut Token<P::Value>,
-    var: u32,
-    word: u64,
-    other: u32,
-    number: u64,
-) -> bool
-    requires of { IsRoundOf P.meaning P.row.coded P.Value.row.coded J.program J.opening J.threads program.now shared.now.table_id.words }
-    requires table { token.old.table_id ≡ shared.now.table_id }
-    requires sized { (vars ≡ (P.meaning program.now).vars) × (threads ≡ length J.threads) × (vars + threads < 2 ^ 63) }
-    requires var_in { var < (P.meaning program.now).vars }
-    requires waits { (x : var_of.VarPart P.Value) × (t : ℕ) × (n : ℕ) × (read : Bool) × MayMiss J.guide token.old.me.0 var other number x t n read × (token.old.me.1 ≡ (var, x) ∷ []) × (word ≡ x.places + x.places) }
-    ensures same { (token.new.table_id ≡ token.old.table_id) × (token.new.id ≡ token.old.id) }
-    ensures missing { result ≡ true → token.new.me ≡ (empty_hand (missed_view token.old.me.0 other number), []) }
-    ensures going { result ≡ false → token.new.me ≡ (empty_hand token.old.me.0, []) }
-{
-    let missing = looks_missing::<P, J>(program, shared, vars, threads, token, other, number);
-    give_back::<P, J>(program, shared, token, var as usize, word);
-    missing
-}
-
-/// Makes the touch or the read that is next of the variable in hand.
-fn go_on<P: Program, J: Round, G: Gate>(
-    alloc: Global,
-    program: &P,
-    gate: &G,
-    shared: &Lock<P, J>,
-    thread: u32,
-    token: &mut Token<P::Value>,
-    part: &mut ThreadPart,
-    did: &mut Vec<WovenStep>,
-    place: Local,
-    var: u32,
-    read: bool,
-    word: u64,
-) -> Touched
-    requires of { IsRoundOf P.meaning P.row.coded P.Value.row.coded J.program J.opening J.threads program.now shared.now.table_id.words }
-    requires table { token.old.table_id ≡ shared.now.table_id }
-    requires thread_in { thread < 16 }
-    requires var_in { var < (P.meaning program.now).vars }
-    requires room { moves_made part.old < 2 ^ 56 }
-    requires hand { part.old.hand ≡ Some place }
-    requires next { (P.meaning program.now).next place ≡ wanted_move var read }
-    requires spare { vec_len did.old < vec_capacity did.old }
-    requires taken { (x : var_of.VarPart P.Value) × (seen : List ℕ) × HasTaken P.fits P.row.coded J.program var word x token.old.me thread part.old seen did.old.items
-        × MayGo J.guide thread (part.old.counts.entries + 1) var read x }
-    ensures same { (token.new.table_id ≡ token.old.table_id) × (token.new.id ≡ token.old.id) }
-    ensures comes { Comes (P.meaning program.now) J.guide thread var part.old part.new token.old.me token.new.me did.old.items did.new.items result }
-{
-    gate.pass(thread, var);
-    let made = make_on::<P, J>(
-        alloc, program, shared, thread, token, part, did, place, var, read, word,
-    );
-    match made {
-        Ok(entry) => Touched::Did(entry),
-        Err(NoMemory) => Touched::NoMemory,
+    /// Whether the thread of an entry ended, for which the guide says to wait at the variable in hand. If so, the entry is missing.
+    fn looks_missing(
+        &self,
+        program: &P,
+        token: &mut Token<P::Value>,
+        other: u32,
+        number: u64,
+    ) -> bool
+        requires of { AreVarsOf P.meaning P.row.coded P.Value.row.coded program.now self.now }
+        requires table { token.old.table_id ≡ self.now.round }
+        requires waits { CanMiss (P.meaning program.now) J.guide token.old.me.0 other number }
+        ensures same { (token.new.table_id ≡ token.old.table_id)
+            × (token.new.id ≡ token.old.id) }
+        ensures missing { result ≡ true
+            → token.new.me ≡ (missed_view token.old.me.0 other number, token.old.me.1) }
+        ensures going { result ≡ false → token.new.me ≡ token.old.me }
+    {
+        if other as usize >= self.threads {
+            return false;
+        }
+        let word = self.vars + other as usize;
+        misses::<P, J>(program, &self.table.shared, token, word, other, number)
     }
-}
 
-/// Makes the touch or the read that is next of the variable in hand, if the guide does not say to wait there.
-fn try_on<P: Program, J: Round, G: Gate>(
-    alloc: Global,
-    program: &P,
-    guide: &Guide,
-    gate: &G,
-    shared: &Lock<P, J>,
-    vars: usize,
-    threads: usize,
-    thread: u32,
-    token: &mut Token<P::Value>,
-    part: &mut ThreadPart,
-    did: &mut Vec<WovenStep>,
-    place: Local,
-    var: u32,
-    read: bool,
-    word: u64,
-) -> Option<Touched>
-    requires of { IsRoundOf P.meaning P.row.coded P.Value.row.coded J.program J.opening J.threads program.now shared.now.table_id.words }
-    requires guide { guide.now ≡ J.guide }
-    requires table { token.old.table_id ≡ shared.now.table_id }
-    requires sized { (vars ≡ (P.meaning program.now).vars) × (threads ≡ length J.threads) × (vars + threads < 2 ^ 63) }
-    requires thread_in { thread < 16 }
-    requires var_in { var < (P.meaning program.now).vars }
-    requires room { moves_made part.old < 2 ^ 56 }
-    requires hand { part.old.hand ≡ Some place }
-    requires next { (P.meaning program.now).next place ≡ wanted_move var read }
-    requires spare { vec_len did.old < vec_capacity did.old }
-    requires taken { (x : var_of.VarPart P.Value) × (seen : List ℕ) × HasTaken P.fits P.row.coded J.program var word x token.old.me thread part.old seen did.old.items }
-    ensures same { (token.new.table_id ≡ token.old.table_id) × (token.new.id ≡ token.old.id) }
-    ensures comes { IfSome result (λ r. Comes (P.meaning program.now) J.guide thread var part.old part.new token.old.me token.new.me did.old.items did.new.items r) }
-    ensures waits { IfNone result ((token.new.me ≡ (empty_hand token.old.me.0, [])) × (part.new ≡ part.old) × (did.new ≡ did.old)) }
-{
-    let readers = readers_of::<P, J>(shared, token, var as usize);
-    let number = part.counts.entries + 1;
-    match guide.turn(thread, number, var, read, word / 2, &readers) {
-        Turn::Follow | Turn::Free => Some(go_on::<P, J, G>(
-            alloc, program, gate, shared, thread, token, part, did, place, var, read, word,
-        )),
-        Turn::Wait {
-            thread: other,
-            number: entry,
-        } => {
-            if wait_on::<P, J>(
-                program, shared, vars, threads, token, var, word, other, entry,
-            ) {
-                Some(Touched::Blocked {
-                    thread: other,
-                    number: entry,
-                })
-            } else {
-                None
+    /// Gives the variable in hand back, at which the guide says to wait for an entry. Whether its thread ended the round without it.
+    fn wait_on(
+        &self,
+        program: &P,
+        token: &mut Token<P::Value>,
+        var: u32,
+        word: u64,
+        other: u32,
+        number: u64,
+    ) -> bool
+        requires of { AreVarsOf P.meaning P.row.coded P.Value.row.coded program.now self.now }
+        requires table { token.old.table_id ≡ self.now.round }
+        requires var_in { var < (P.meaning program.now).vars }
+        requires waits { MustWait J.guide var word other number token.old.me }
+        ensures same { (token.new.table_id ≡ token.old.table_id)
+            × (token.new.id ≡ token.old.id) }
+        ensures missing { result ≡ true
+            → token.new.me ≡ (empty_hand (missed_view token.old.me.0 other number), []) }
+        ensures going { result ≡ false → token.new.me ≡ (empty_hand token.old.me.0, []) }
+    {
+        let missing = self.looks_missing(program, token, other, number);
+        give_back::<P, J>(program, &self.table.shared, token, var as usize, word);
+        missing
+    }
+
+    /// Makes the touch or the read that is next of the variable in hand.
+    fn go_on<G: Gate>(
+        &self,
+        alloc: Global,
+        program: &P,
+        gate: &G,
+        token: &mut Token<P::Value>,
+        part: &mut ThreadPart,
+        access: Access,
+        word: u64,
+    ) -> Touched
+        requires of { AreVarsOf P.meaning P.row.coded P.Value.row.coded program.now self.now }
+        requires table { token.old.table_id ≡ self.now.round }
+        requires room { moves_made part.old < 2 ^ 56 }
+        requires wanted { IsWanted (P.meaning program.now) part.old access }
+        requires taken { MayWork P.fits P.row.coded J.program J.guide access word part.old
+            token.old.me }
+        ensures same { (token.new.table_id ≡ token.old.table_id)
+            × (token.new.id ≡ token.old.id) }
+        ensures comes { Comes (P.meaning program.now) J.guide access part.old part.new
+            token.old.me token.new.me result }
+    {
+        gate.pass(access.thread, access.var);
+        match self.make_on(alloc, program, token, part, access, word) {
+            Ok(entry) => Touched::Did(entry),
+            Err(NoMemory) => Touched::NoMemory,
+        }
+    }
+
+    /// Makes the touch or the read that is next of the variable in hand, if the guide does not say to wait there.
+    fn try_on<G: Gate>(
+        &self,
+        alloc: Global,
+        program: &P,
+        guide: &Guide,
+        gate: &G,
+        token: &mut Token<P::Value>,
+        part: &mut ThreadPart,
+        access: Access,
+        word: u64,
+    ) -> Option<Touched>
+        requires of { AreVarsOf P.meaning P.row.coded P.Value.row.coded program.now self.now }
+        requires guide { guide.now ≡ J.guide }
+        requires table { token.old.table_id ≡ self.now.round }
+        requires room { moves_made part.old < 2 ^ 56 }
+        requires wanted { IsWanted (P.meaning program.now) part.old access }
+        requires taken { IsTaken P.fits P.row.coded J.program access word part.old token.old.me }
+        ensures same { (token.new.table_id ≡ token.old.table_id)
+            × (token.new.id ≡ token.old.id) }
+        ensures comes { IfSome result (λ r. Comes (P.meaning program.now) J.guide access
+            part.old part.new token.old.me token.new.me r) }
+        ensures waits { IfNone result (MadeNone token.old.me token.new.me part.old part.new) }
+    {
+        let readers = readers_of::<P, J>(&self.table.shared, token, access.var as usize);
+        let number = part.counts.entries + 1;
+        let Some((thread, number)) = waits_for(guide, number, access, word / 2, &readers) else {
+            return Some(self.go_on(alloc, program, gate, token, part, access, word));
+        };
+        if self.wait_on(program, token, access.var, word, thread, number) {
+            return Some(Touched::Blocked { thread, number });
+        }
+        None
+    }
+
+    /// Makes the touch or the read that the seat's thread wants, as soon as no other seat has the variable and the guide does not
+    /// say to wait.
+    pub(crate) fn touch_on<R: Wait, G: Gate>(
+        &self,
+        rt: &R,
+        alloc: Global,
+        program: &P,
+        guide: &Guide,
+        gate: &G,
+        token: &mut Token<P::Value>,
+        part: &mut ThreadPart,
+        access: Access,
+    ) -> Touched
+        requires of { AreVarsOf P.meaning P.row.coded P.Value.row.coded program.now self.now }
+        requires guide { guide.now ≡ J.guide }
+        requires table { token.old.table_id ≡ self.now.round }
+        requires room { moves_made part.old < 2 ^ 56 }
+        requires wanted { IsWanted (P.meaning program.now) part.old access }
+        requires rests { HasThread token.old.me access.thread part.old }
+        ensures same { (token.new.table_id ≡ token.old.table_id)
+            × (token.new.id ≡ token.old.id) }
+        ensures comes { ComesOf (P.meaning program.now) J.guide access part.old part.new
+            token.old.me token.new.me result }
+    {
+        for _ in rt.forever() {
+            let shared = &self.table.shared;
+            let word = take_up::<P, J, R>(rt, program, shared, token, access.var as usize);
+            let tried = self.try_on(alloc, program, guide, gate, token, part, access, word);
+            if let Some(touched) = tried {
+                return touched;
             }
+            yield_now();
         }
+        unreachable!()
     }
-}
-
-/// Makes the touch or the read that the seat's thread wants, as soon as no other seat has the variable and the guide does not say
-/// to wait.
-pub(crate) fn touch_on<P: Program, J: Round, R: Wait, G: Gate>(
-    rt: &R,
-    alloc: Global,
-    program: &P,
-    guide: &Guide,
-    gate: &G,
-    shared: &Lock<P, J>,
-    vars: usize,
-    threads: usize,
-    thread: u32,
-    token: &mut Token<P::Value>,
-    part: &mut ThreadPart,
-    did: &mut Vec<WovenStep>,
-    place: Local,
-    var: u32,
-    read: bool,
-) -> Touched
-    requires of { IsRoundOf P.meaning P.row.coded P.Value.row.coded J.program J.opening J.threads program.now shared.now.table_id.words }
-    requires guide { guide.now ≡ J.guide }
-    requires table { token.old.table_id ≡ shared.now.table_id }
-    requires sized { (vars ≡ (P.meaning program.now).vars) × (threads ≡ length J.threads) × (vars + threads < 2 ^ 63) }
-    requires thread_in { thread < 16 }
-    requires var_in { var < (P.meaning program.now).vars }
-    requires room { moves_made part.old < 2 ^ 56 }
-    requires hand { part.old.hand ≡ Some place }
-    requires next { (P.meaning program.now).next place ≡ wanted_move var read }
-    requires spare { vec_len did.old < vec_capacity did.old }
-    requires kept { (seen : List ℕ) × IsKept token.old.me thread part.old seen did.old.items false }
-    ensures same { (token.new.table_id ≡ token.old.table_id) × (token.new.id ≡ token.old.id) }
-    ensures comes { (x : var_of.VarPart P.Value) × (slice_index token.old.me.0.seen var ≤ x.places)
-        × Comes (P.meaning program.now) J.guide thread var part.old part.new (with_hand token.old.me.0 var x, (var, x) ∷ []) token.new.me did.old.items did.new.items result }
-{
-    for _ in rt.forever() {
-        let word = take_up::<P, J, R>(rt, program, shared, token, var as usize);
-        let tried = try_on::<P, J, G>(
-            alloc, program, guide, gate, shared, vars, threads, thread, token, part, did, place,
-            var, read, word,
-        );
-        if let Some(touched) = tried {
-            return touched;
-        }
-        yield_now();
-    }
-    unreachable!()
 }

@@ -1,5 +1,5 @@
 //! The variables of a round, which begin with a master and end as one.
-ghost use Rattle.std.specs.Prelude.{◌≡◌, ℕ, ◌+◌, ◌<◌, ◌≤◌, List, [], ◌∷◌, length, map, None, IfOk, vec_capacity};
+ghost use Rattle.std.specs.Prelude.{◌≡◌, ◌<◌, ◌≤◌, [], length, map, None, IfOk, vec_capacity};
 ghost use Rattle.std.specs.Mem.Slots.{slots_items, slots_len, IsFull};
 ghost use Rattle.master_core.specs.Mastered.{Mastered};
 ghost use Rattle.var_locks.specs.Codes.{master_code};
@@ -14,6 +14,7 @@ use box_program::Program;
 use master_core::{Master, MasterParts, ThreadPart, VarPart, Woven};
 use plain_text::{NoMemory, Sequence};
 use std::alloc::Global;
+use std::marker::Model;
 
 /// What each thread did in a round, by its number.
 pub type Receipts = Vec<Woven>;
@@ -24,6 +25,21 @@ pub struct Vars<P: Program, J: Round> {
     pub(crate) table: LockTable<P, J>,
     pub(crate) vars: usize,
     pub(crate) threads: usize,
+}
+
+impl<P: Program, J: Round> Model for Vars<P, J> {
+    ghost use Rattle.var_locks.specs.Rounds.{Opened};
+
+    ghost Value = { Opened };
+
+    ghost view = { λ s. record {
+      program = J.program;
+      opening = J.opening;
+      parts = J.threads;
+      round = s.table.shared.table_id;
+      vars = s.vars;
+      threads = s.threads;
+    } };
 }
 
 /// What a round came to: the master after it, and what each thread did.
@@ -47,11 +63,13 @@ fn gather<P: Program, J: Round>(
     shared: &Lock<P, J>,
     mut seats: Vec<VarSeat<P>>,
 ) -> Result<Gathered<P>, NoMemory>
-    requires of { IsRoundOf P.meaning P.row.coded P.Value.row.coded J.program J.opening J.threads program.now shared.now.table_id.words }
+    requires of { IsRoundOf P.meaning P.row.coded P.Value.row.coded
+        J.program J.opening J.threads program.now shared.now.table_id.words }
     requires words { 0 < shared.now.table_id.words }
     requires some { 0 < length seats.items }
     requires seats { AreSeats shared.now.table_id 0 seats.items }
-    ensures token { IfOk result (λ all. (all.token.table_id ≡ shared.now.table_id) × (all.token.me.0.hand ≡ None) × HasSeats all.token.me.0 seats.items) }
+    ensures token { IfOk result (λ all. (all.token.table_id ≡ shared.now.table_id)
+        × (all.token.me.0.hand ≡ None) × HasSeats all.token.me.0 seats.items) }
     ensures parts { IfOk result (λ all. all.parts.items ≡ map seat_part seats.items) }
     ensures receipts { IfOk result (λ all. all.receipts.items ≡ map seat_steps seats.items) }
 {
@@ -103,13 +121,15 @@ impl<P: Program, J: Round> Vars<P, J> {
         program: &P,
         seats: Vec<VarSeat<P>>,
     ) -> Result<Closed<P>, NoMemory>
-        requires of { AreVarsOf P.meaning P.row.coded P.Value.row.coded J.program J.opening J.threads program.now self.table.shared.table_id.words self.vars self.threads }
-        requires slots { self.table.shared.table_id.slots ≡ self.vars }
+        requires of { AreVarsOf P.meaning P.row.coded P.Value.row.coded program.now self }
         requires count { length seats.items ≡ self.threads }
-        requires seats { AreSeats self.table.shared.table_id 0 seats.items }
-        ensures closed { (p : Mastered P.Value) → (master_code P.Value.row.coded).code p ≡ J.opening → p.threads ≡ J.threads
-            → IfOk result (λ closed. IsClosed (P.meaning program.now) (P.fits program.now) J.guide p seats.items closed.master) }
-        ensures receipts { IfOk result (λ closed. closed.receipts.items ≡ map seat_steps seats.items) }
+        requires seats { AreSeats self.round 0 seats.items }
+        ensures closed { (p : Mastered P.Value)
+            → (master_code P.Value.row.coded).code p ≡ J.opening → p.threads ≡ J.threads
+            → IfOk result (λ closed. IsClosed (P.meaning program.now) (P.fits program.now)
+            J.guide p seats.items closed.master) }
+        ensures receipts { IfOk result (λ closed.
+            closed.receipts.items ≡ map seat_steps seats.items) }
     {
         let vars = Vec::with_capacity(alloc, self.vars)?;
         let all = gather::<P, J>(alloc, program, &self.table.shared, seats)?;

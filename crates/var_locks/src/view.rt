@@ -86,7 +86,8 @@ impl<P: Program, J: Round> TableRule<VarPart<P::Value>, View<P::Value>, ()> for 
     ghost use Rattle.var_locks.specs.Told.{IsToldOf};
     ghost use Rattle.var_locks.specs.Views.{first_view};
 
-    ghost holds = { λ _. IsToldOf P.meaning P.fits P.row.coded P.Value.row.coded J.program J.opening J.guide };
+    ghost holds = { λ _. IsToldOf P.meaning P.fits P.row.coded P.Value.row.coded
+        J.program J.opening J.guide };
 
     ghost first = { λ _. first_view J.threads J.places };
 }

@@ -5,6 +5,6 @@ use Rattle.lock_tests.proofs.orders.make_all.Given as goal
 -- the seats stay those of the threads
 abbrev pub invariant-loop-made : goal.invariant-loop-made
 invariant-loop-made g l = record {
-  first : IsAt {V = g.row.P-Value.Denot} l.vars.table.shared.table_id 0 false l.first;
-  second : IsAt {V = g.row.P-Value.Denot} l.vars.table.shared.table_id 1 false l.second;
+  first : IsAt {V = g.row.P-Value.Denot} l.vars.round 0 false l.first;
+  second : IsAt {V = g.row.P-Value.Denot} l.vars.round 1 false l.second;
 }

@@ -4,4 +4,4 @@ use Rattle.lock_tests.proofs.racing.run_one.Given as goal
 
 -- the seat stays that of the thread
 abbrev pub invariant-loop-made : goal.invariant-loop-made
-invariant-loop-made g l = IsAt {V = g.row.P-Value.Denot} l.vars.table.shared.table_id l.thread false l.seat
+invariant-loop-made g l = IsAt {V = g.row.P-Value.Denot} l.vars.round l.thread false l.seat

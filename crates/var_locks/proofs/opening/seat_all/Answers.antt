@@ -1,11 +1,11 @@
-use Rattle.std.proofs.Common.{rules, ◌≡◌, refl, sym, ap, ◌∙◌, ℕ, ◌+◌, List, ◌++◌, ◌∷◌, [], take, drop, arith}
+use Rattle.std.proofs.Common.{rules, ◌≡◌, refl, sym, ap, ◌∙◌, subst, ℕ, ◌+◌, List, ◌++◌, ◌∷◌, [], take, drop, arith}
 use Rattle.std.specs.Prelude.{slice_index_or}
 use Rattle.master_core.specs.declared.parts.VarPart.{VarPart}
 use Rattle.master_core.specs.declared.parts.ThreadPart.{ThreadPart}
 use Rattle.atomic_table.specs.Table.{Me}
 use Rattle.atomic_table.specs.Seated.{TableId}
 use Rattle.var_locks.specs.declared.view.View.{View}
-use Rattle.var_locks.specs.Seats.{Seated}
+use Rattle.var_locks.specs.Seats.{Seated, IsCounted}
 use Rattle.var_locks.specs.Views.{fresh_shares, first_share, other_shares}
 use Rattle.var_locks.specs.Openings.{rest_view, fresh_seat, fresh_seats}
 use Rattle.var_locks.proofs.Beginning.{fresh_part}
@@ -28,13 +28,18 @@ fresh-requires-clause-view g c κs within =
     let inv = c.loop-thread.invariant in
     let part : ThreadPart = c.index-parts-thread.result in
     let is_parts : drop t c.args.parts.now ≡ part ∷ drop (t + 1) c.args.parts.now = parts_from c.args.parts.now t part c.loop-thread-test.true ∙ ap (λ (x : ThreadPart). x ∷ drop (t + 1) c.args.parts.now) (sym c.index-parts-thread.is) in
-    ap (λ (me : Me (VarPart g.row.P-Value.Denot) (View g.row.P-Value.Denot)). me.0) c.split_off-own.ensures.first.1
+    ap (λ (me : Me (VarPart g.row.P-Value.Denot) (View g.row.P-Value.Denot)). me.0) c.split_off-own.ensures.first
     ∙ (ap (λ (me : Me (VarPart g.row.P-Value.Denot) (View g.row.P-Value.Denot)). first_share me.0) inv.1
     ∙ (ap (λ (l : List ThreadPart). first_share {V = g.row.P-Value.Denot} (rest_view t l c.args.places.now)) is_parts
     ∙ ap (λ (s : List ℕ). rest_view {V = g.row.P-Value.Denot} t (part ∷ []) s) (sym c.in_ok-seen.ensures.items)))
 
+pub fresh-requires-clause-counted : goal.fresh-requires-clause-counted
+fresh-requires-clause-counted g c κs within =
+    let part : ThreadPart = c.index-parts-thread.result in
+    subst (λ (x : ThreadPart). IsCounted x) (sym c.index-parts-thread.is) (c.requires.counted c.loop-thread.thread part c.loop-thread-test.true)
+
 pub fresh-requires-clause-slots : goal.fresh-requires-clause-slots
-fresh-requires-clause-slots g c κs within = ap (λ (me : Me (VarPart g.row.P-Value.Denot) (View g.row.P-Value.Denot)). me.1) c.split_off-own.ensures.first.1
+fresh-requires-clause-slots g c κs within = ap (λ (me : Me (VarPart g.row.P-Value.Denot) (View g.row.P-Value.Denot)). me.1) c.split_off-own.ensures.first
 
 pub loop-thread-preserved : goal.loop-thread-preserved
 loop-thread-preserved g c =
@@ -47,7 +52,7 @@ loop-thread-preserved g c =
     let zero_more : t ≡ 0 + t = omega arith in
     let one : c.fresh.result ≡ fresh_seat round places (0 + t) (slice_index_or c.args.parts.now t part) =
     c.fresh.ensures
-    ∙ (ap (λ (r : TableId). fresh_seat {V = g.row.P-Value.Denot} r c.in_ok-seen.seen.items t part) (c.split_off-own.ensures.first.0 ∙ inv.0)
+    ∙ (ap (λ (r : TableId). fresh_seat {V = g.row.P-Value.Denot} r c.in_ok-seen.seen.items t part) (c.split_off-own.ensures.round ∙ inv.0)
     ∙ (ap (λ (s : List ℕ). fresh_seat {V = g.row.P-Value.Denot} round s t part) c.in_ok-seen.ensures.items
     ∙ (ap (λ (k : ℕ). fresh_seat {V = g.row.P-Value.Denot} round places k part) zero_more
     ∙ ap (λ (x : ThreadPart). fresh_seat {V = g.row.P-Value.Denot} round places (0 + t) x) c.index-parts-thread.is))) in (

@@ -30,15 +30,13 @@ loop-seat-init g c =
       ),
     )
 
-pub join_in-requires-clause-table : goal.join_in-requires-clause-table
-join_in-requires-clause-table g c κs within =
+pub join_in-requires-clause-other_table : goal.join_in-requires-clause-other_table
+join_in-requires-clause-other_table g c κs within =
     let x = c.in-Some.seat in
     let done = c.loop-seat.invariant.2.0 in
     let all : c.args.seats.items ≡ c.pop-in-loop-seat.new.self.items ++ x ∷ done =
-    c.loop-seat.invariant.2.1 ∙ (ap (λ (l : List (Seated g.row.P-Value.Denot)). l ++ done) c.in-Some.ensures.items ∙ append_again c.pop-in-loop-seat.new.self.items x done) in (
-      c.loop-seat.invariant.0,
-      c.take_apart-other.ensures.round ∙ last_seat c.args.shared.now.table_id 0 c.pop-in-loop-seat.new.self.items x done (subst (λ (l : List (Seated g.row.P-Value.Denot)). AreSeats c.args.shared.now.table_id 0 l) all c.requires.seats),
-    )
+    c.loop-seat.invariant.2.1 ∙ (ap (λ (l : List (Seated g.row.P-Value.Denot)). l ++ done) c.in-Some.ensures.items ∙ append_again c.pop-in-loop-seat.new.self.items x done) in
+    c.take_apart-other.ensures.round ∙ last_seat c.args.shared.now.table_id 0 c.pop-in-loop-seat.new.self.items x done (subst (λ (l : List (Seated g.row.P-Value.Denot)). AreSeats c.args.shared.now.table_id 0 l) all c.requires.seats)
 
 pub loop-seat-preserved : goal.loop-seat-preserved
 loop-seat-preserved g c =

@@ -1,0 +1,2 @@
+pub mod Racing
+pub mod Touching

@@ -1,0 +1,92 @@
+//! The same work by a master alone, on one thread of the machine.
+ghost use Rattle.std.specs.Prelude.{◌≡◌, ◌<◌, ◌≤◌, length};
+ghost use Rattle.box_program.specs.Hands.{FitsProgram};
+ghost use Rattle.master_core.specs.Mastered.{value_of};
+
+use crate::done::Done;
+use box_program::Program;
+use master_core::{Master, Stepped, Turn};
+use plain_text::{NoMemory, Packet};
+use std::alloc::Global;
+
+/// No thread comes to so many inputs, entries or outputs.
+const MOST_COUNT: u64 = 1 << 40;
+
+/// The moves that a packet takes at most, with its take and its end.
+const MOST_MOVES_OF_ONE: u32 = 64;
+
+/// Makes one move of a thread with a master; whether it ended its packet.
+fn step_once<P: Program>(
+    alloc: Global,
+    master: &mut Master<P>,
+    program: &P,
+    thread: u32,
+    packet: &Packet,
+) -> Result<bool, NoMemory>
+    requires program { FitsProgram (P.meaning program.now) (P.fits program.now)
+        value_of master.old.vars }
+    requires thread_in { thread < length master.old.threads }
+    ensures fits { FitsProgram (P.meaning program.now) (P.fits program.now)
+        value_of master.new.vars }
+    ensures threads { length master.new.threads ≡ length master.old.threads }
+{
+    let counts = master.counts(thread);
+    if counts.taken > MOST_COUNT || counts.entries > MOST_COUNT || counts.outputs > MOST_COUNT {
+        return Err(NoMemory);
+    }
+    match master.step(alloc, program, thread, Turn::Free, 0, Some(packet)) {
+        Stepped::Ended(_) => Ok(true),
+        Stepped::NoMemory => Err(NoMemory),
+        _ => Ok(false),
+    }
+}
+
+/// Takes a packet to its end with a master; how many moves that took.
+fn play_one<P: Program>(
+    alloc: Global,
+    master: &mut Master<P>,
+    program: &P,
+    thread: u32,
+    packet: &Packet,
+) -> Result<u64, NoMemory>
+    requires program { FitsProgram (P.meaning program.now) (P.fits program.now)
+        value_of master.old.vars }
+    requires thread_in { thread < length master.old.threads }
+    ensures fits { FitsProgram (P.meaning program.now) (P.fits program.now)
+        value_of master.new.vars }
+    ensures threads { length master.new.threads ≡ length master.old.threads }
+{
+    let mut moves = 0u64;
+    'moves: for _ in 0..MOST_MOVES_OF_ONE {
+        moves = moves.saturating_add(1);
+        if step_once(alloc, master, program, thread, packet)? {
+            break;
+        }
+    }
+    Ok(moves)
+}
+
+/// What so many threads do one after the other, each of which takes its packet so many times.
+pub fn step_all<P: Program>(
+    alloc: Global,
+    program: &P,
+    threads: u32,
+    packets: &[Packet],
+    count: u64,
+) -> Result<Done, NoMemory>
+    requires some { 0 < threads }
+    requires few { threads ≤ 16 }
+{
+    let mut master = Master::fresh(alloc, program, threads)?;
+    let mut moves = 0u64;
+    for thread in 0..threads {
+        let Some(packet) = packets.get(thread as usize) else {
+            break;
+        };
+        for _taken in 0..count {
+            let made = play_one(alloc, &mut master, program, thread, packet)?;
+            moves = moves.saturating_add(made);
+        }
+    }
+    Ok(Done::of(&master, threads, moves))
+}
