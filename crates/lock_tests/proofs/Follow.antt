@@ -1,9 +1,9 @@
 -- Entries that are held one after the other can be followed.
-use Rattle.std.proofs.Common.{◌≡◌, ◌≢◌, ℕ, suc, ◌+◌, ◌<◌, ◌≤◌, ◌⊎◌, inl, inr, ⊎_elim, List, length, replicate, Option, Some, None, IsSome, Result, slice_index, slice_set, Ok, refl, sym, ap, ◌∙◌, subst, arith}
+use Rattle.std.proofs.Common.{◌≡◌, ◌≢◌, ℕ, ◌+◌, ◌<◌, ◌≤◌, ◌⊎◌, inl, inr, ⊎_elim, List, length, replicate, Option, Some, None, IsSome, Result, slice_index, slice_set, Ok, refl, sym, ap, ◌∙◌, subst, arith}
 use Rattle.std.proofs.lemmas.List.{get_or-set_same, get_or-set_other}
 use Rattle.entry_order.specs.declared.what.What.{What}
 use Rattle.entry_order.specs.declared.what.What.TheVariants as what
-use Rattle.entry_order.proofs.Order.{is_or, touch_only}
+use Rattle.entry_order.proofs.Order.{is_or}
 use Rattle.access_log.specs.declared.entry.StampedEntry.{StampedEntry}
 use Rattle.plain_text.specs.declared.memory.NoMemory.{NoMemory}
 use Rattle.access_log.specs.declared.entry.Added.{Added}
@@ -11,7 +11,7 @@ use Rattle.access_log.specs.declared.entry.Added.TheVariants as added
 use Rattle.access_log.specs.Held.{Lane, lane, entry_at, fresh_lane, IsKnown, IsFrontier}
 use Rattle.access_log.specs.Lanes.{PutsEntry}
 use Rattle.access_log.proofs.LaneLemmas.{lane_of_replicate}
-use Rattle.replay_guide.specs.Following.{Follows, CanBeFollowed}
+use Rattle.replay_guide.specs.Following.{Follows}
 use Rattle.lock_tests.specs.Followed.{IsLater, IsNextHeld, AreFollowed, noted}
 
 -- nothing is held

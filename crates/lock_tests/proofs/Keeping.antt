@@ -1,5 +1,5 @@
 -- A move leaves the seat in its round, as that of its thread.
-use Rattle.std.proofs.Common.{◌≡◌, ℕ, ◌+◌, Bool, false, List, [], ◌∷◌, ◌++◌, length, refl, sym, ap, subst, Option, Some, arith}
+use Rattle.std.proofs.Common.{◌≡◌, ℕ, Bool, false, List, [], ◌∷◌, ◌++◌, length, refl, sym, subst, Option, arith}
 use Rattle.plain_text.specs.declared.packet.Packet.{Packet}
 use Rattle.access_log.specs.Held.{Lane}
 use Rattle.plain_machine.specs.Program.{Meaning}
