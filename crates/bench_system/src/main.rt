@@ -92,7 +92,29 @@ fn perform_packet<P: Program>(system: &mut System<P>, events: &mut u64) -> Resul
     Ok(())
 }
 
-/// Performs all packets so; how many events, and how many outputs were released.
+/// Performs this number of packets so; how many events, and how many outputs were released.
+fn perform_packets<P: Program>(
+    system: &mut System<P>,
+    count: usize,
+    settles: bool,
+) -> Result<(u64, usize), Stop>
+    requires { system.old.stopped ≡ false }
+{
+    let mut events = 0u64;
+    let mut released = 0usize;
+    if settles {
+        perform(system, Event::Settle, &mut events)?;
+        released = system.take_released().len();
+    } else {
+        'packets: for _ in 0..count {
+            perform_packet(system, &mut events)?;
+            released = released.saturating_add(system.take_released().len());
+        }
+    }
+    Ok((events, released))
+}
+
+/// Performs all packets by a system of their own.
 fn perform_all<P: Program>(
     alloc: Global,
     program: P,
@@ -103,18 +125,9 @@ fn perform_all<P: Program>(
 {
     let count = packets.len();
     let mut system = System::new(alloc, program, 1, 0, Unit::Micro, packets)?;
-    let mut events = 0u64;
-    let mut released = 0usize;
-    if settles {
-        perform(&mut system, Event::Settle, &mut events)?;
-        released = system.take_released().len();
-    } else {
-        'packets: for _ in 0..count {
-            perform_packet(&mut system, &mut events)?;
-            released = released.saturating_add(system.take_released().len());
-        }
-    }
-    Ok((events, released))
+    let done = perform_packets(&mut system, count, settles);
+    system.discard();
+    done
 }
 
 fn main(rt: HostRuntime) -> anyhow::Result<()> {

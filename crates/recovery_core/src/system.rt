@@ -188,6 +188,11 @@ impl<P: Program> System<P> {
         self.core.master.counts(thread)
     }
 
+    /// Lets go of the system, also of one that is stopped. What it released and nobody took is lost.
+    ///
+    /// A function that may end early gives its system to this call: so how all parts are let go is proved once, here.
+    pub fn discard(self) {}
+
     /// The run that the script amounts to, once its last event was performed: the schedule, and the counts of the last line of the
     /// report. Where the master is down, the schedule is that after one more recovery, and the counts are those before it.
     pub fn finish(self) -> Result<Finished, NoMemory>

@@ -115,6 +115,9 @@ pub fn run_script<P: Program, W: World>(
             let files = finish_run(alloc, world, outputs.schedule, system, lines);
             written(files)
         }
-        Err(error) => Err(error),
+        Err(error) => {
+            system.discard();
+            Err(error)
+        }
     }
 }

@@ -1,7 +1,7 @@
 ghost use Rattle.std.specs.Prelude.{◌≡◌, ◌≤◌, IsTrue, IfOk, false};
 ghost use Rattle.slow_world.specs.Mirror.{WorldFits};
 
-use crate::replay::{SEED, capture_of, system_of};
+use crate::replay::{SEED, are_taken, capture_of, system_on};
 use access_log::Output;
 use box_program::{CountBox, PeekBox, Program};
 use monitor_box::MonitorBox;
@@ -167,11 +167,11 @@ fn same_finish<P: Program>(
     requires fits { WorldFits (P.fits program.now) world.old }
     requires runs { system.stopped ≡ false }
 {
+    let end = system.finish()?;
     let (fed, epoch, released) = (world.fed as u64, world.epoch, world.released.len() as u64);
     let Some(moves) = finish(world, alloc, program, setup)? else {
         return Ok(false);
     };
-    let end = system.finish()?;
     Ok(
         end.schedule.as_slice() == moves.as_slice()
             && end.fed == fed
@@ -180,7 +180,28 @@ fn same_finish<P: Program>(
     )
 }
 
-/// Whether the script of the words from this place on has the same report, the same releases and the same schedule of both.
+/// Whether the script of the words from this place on has the same report and the same releases of both.
+fn same_run<P: Program>(
+    alloc: Global,
+    program: &P,
+    setup: &Setup,
+    world: &mut SlowWorld<P::Value>,
+    system: &mut System<P>,
+    place: u64,
+) -> Result<bool, NoMemory>
+    requires fits { WorldFits (P.fits program.now) world.old }
+    requires runs { system.old.stopped ≡ false }
+    ensures fits { IfOk result (λ _. WorldFits (P.fits program.now) world.new) }
+    ensures runs { IfOk result (λ same. IsTrue same → system.new.stopped ≡ false) }
+{
+    if !same_replies(alloc, program, setup, world, system, place, EVENTS)? {
+        return Ok(false);
+    }
+    let outputs = system.take_released();
+    Ok(same_releases(outputs.as_slice(), &world.released))
+}
+
+/// The same, and of the schedule that each ends with.
 fn is_right<P: Program>(
     alloc: Global,
     program: &P,
@@ -192,14 +213,13 @@ fn is_right<P: Program>(
     requires fits { WorldFits (P.fits program.now) world.old }
     requires runs { system.stopped ≡ false }
 {
-    if !same_replies(alloc, program, setup, world, &mut system, place, EVENTS)? {
-        return Ok(false);
+    match same_run(alloc, program, setup, world, &mut system, place) {
+        Ok(true) => same_finish(alloc, program, setup, world, system),
+        ended => {
+            system.discard();
+            ended
+        }
     }
-    let outputs = system.take_released();
-    if !same_releases(outputs.as_slice(), &world.released) {
-        return Ok(false);
-    }
-    same_finish(alloc, program, setup, world, system)
 }
 
 /// Whether the script of this number, on 1 to 3 threads, comes to the same on both.
@@ -229,9 +249,11 @@ fn script_is_right<P: Program>(
         packets: capture_of(alloc, &frames)?.into_vec(),
         seed: SEED,
     };
-    let Some(system) = system_of(alloc, copy, threads, &frames)? else {
+    let packets = capture_of(alloc, &frames)?;
+    if !are_taken(packets.as_slice()) {
         return Ok(false);
-    };
+    }
+    let system = system_on(alloc, copy, threads, packets)?;
     let mut world = opening(alloc, program);
     let place = u64::from(number).saturating_mul(EVENTS);
     is_right(alloc, program, &setup, &mut world, system, place)

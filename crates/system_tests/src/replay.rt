@@ -33,7 +33,7 @@ pub fn capture_of(alloc: Global, frames: &[&[u8]]) -> Result<Packets, NoMemory> 
 }
 
 /// Whether a system takes these packets.
-fn are_taken(packets: &[Packet]) -> bool
+pub fn are_taken(packets: &[Packet]) -> bool
     ensures { IsTrue result → All IsShort packets.now }
 {
     packets
@@ -41,23 +41,19 @@ fn are_taken(packets: &[Packet]) -> bool
         .all(|packet| packet.bytes.len() <= MOST_CAPTURED as usize)
 }
 
-/// A system on a capture of these frames.
-pub fn system_of<P: Program>(
+/// A system of the seed on these packets.
+pub fn system_on<P: Program>(
     alloc: Global,
     program: P,
     threads: u32,
-    frames: &[&[u8]],
-) -> Result<Option<System<P>>, NoMemory>
+    packets: Packets,
+) -> Result<System<P>, NoMemory>
     requires some { 1 ≤ threads }
     requires few { threads ≤ 16 }
-    ensures { IfOk result (λ found. IfSome found (λ system. system.stopped ≡ false)) }
+    requires short { All IsShort packets }
+    ensures { IfOk result (λ system. system.stopped ≡ false) }
 {
-    let packets = capture_of(alloc, frames)?;
-    if !are_taken(packets.as_slice()) {
-        return Ok(None);
-    }
-    let system = System::new(alloc, program, threads, SEED, Unit::Micro, packets)?;
-    Ok(Some(system))
+    System::new(alloc, program, threads, SEED, Unit::Micro, packets)
 }
 
 /// Performs the events, and appends their lines; whether all were performed.
@@ -97,6 +93,25 @@ fn put_move(
     Ok(())
 }
 
+/// Appends the counts at the end, and the moves of the schedule.
+fn put_end<P: Program>(
+    alloc: Global,
+    system: System<P>,
+    mut report: String,
+) -> Result<String, NoMemory>
+    requires { system.stopped ≡ false }
+{
+    let end = system.finish()?;
+    let (fed, epoch, released) = (end.fed, end.epoch, end.released);
+    report.push_str(format!(in alloc;
+        "done fed {fed} epoch {epoch} released {released}\nmoves"
+    )?.as_str())?;
+    for plain in end.schedule.as_slice() {
+        put_move(alloc, &mut report, plain.thread, plain.answer)?;
+    }
+    Ok(report)
+}
+
 /// The report of a script, with the moves of its schedule in a last line; no text where it was not performed.
 pub fn report_of<P: Program>(
     alloc: Global,
@@ -112,19 +127,16 @@ pub fn report_of<P: Program>(
     let Ok(events) = read_script(alloc, script.as_bytes()) else {
         return Ok(report);
     };
-    let Some(mut system) = system_of(alloc, program, threads, frames)? else {
+    let packets = capture_of(alloc, frames)?;
+    if !are_taken(packets.as_slice()) {
         return Ok(report);
-    };
-    if !perform(alloc, &mut system, events.as_slice(), &mut report)? {
-        return Ok(String::new(alloc));
     }
-    let end = system.finish()?;
-    let (fed, epoch, released) = (end.fed, end.epoch, end.released);
-    report.push_str(format!(in alloc;
-        "done fed {fed} epoch {epoch} released {released}\nmoves"
-    )?.as_str())?;
-    for plain in end.schedule.as_slice() {
-        put_move(alloc, &mut report, plain.thread, plain.answer)?;
+    let mut system = system_on(alloc, program, threads, packets)?;
+    match perform(alloc, &mut system, events.as_slice(), &mut report) {
+        Ok(true) => put_end(alloc, system, report),
+        ended => {
+            system.discard();
+            ended.map(|_| String::new(alloc))
+        }
     }
-    Ok(report)
 }
