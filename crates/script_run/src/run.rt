@@ -115,9 +115,6 @@ pub fn run_script<P: Program, W: World>(
             let files = finish_run(alloc, world, outputs.schedule, system, lines);
             written(files)
         }
-        Err(error) => {
-            system.discard();
-            Err(error)
-        }
+        Err(error) => Err(error),
     }
 }
