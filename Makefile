@@ -1,8 +1,7 @@
 # The program ftmb, and what to do with it.
 
-# The command of the kit that proves and builds, and how many crates it proves at a time.
+# The command of the kit that proves and builds.
 RT ?= rt
-JOBS ?= $(shell nproc)
 
 # Where the program and its manual page go: PREFIX/bin and PREFIX/share/man.
 PREFIX ?= /usr/local
@@ -14,22 +13,11 @@ SOURCES := crates.txt scripts/build $(shell find crates -name out -prune -o -typ
 # The program, proved and built.
 all: build/ftmb
 
-# Words on which each program ends at once: the kit links a program only to run it.
-build/ftmb: words := --version
-build/bench_headers: words := 1 1
-build/bench_moves: words := master 1 1
-build/bench_frames: words := 1 1
-build/bench_held: words := 1
-build/bench_logger: words := 1 1
-build/bench_locks: words := locks 1 own 1
-build/bench_scripts: words := 1
-build/bench_system: words := count settle 1
-
-# All crates that the program stands on are proved, side by side, before it is linked. The prover's output goes to build/proof.log.
+# All crates that the program stands on are proved, side by side, and its stored run is run. What is said goes to build/proof.log.
 BENCHES := build/bench_moves build/bench_frames build/bench_held build/bench_logger build/bench_locks build/bench_scripts build/bench_system
 
 build/ftmb build/bench_headers $(BENCHES): build/%: $(SOURCES)
-	scripts/build $(RT) $(JOBS) $* $(words)
+	scripts/build $(RT) $*
 
 # The example at once, by the kit's unproved run: nothing is proved.
 try:
@@ -76,6 +64,6 @@ install: build/ftmb
 clean:
 	rm -rf build
 
-# Also what the kit keeps of its proofs, so that the next make proves from nothing.
+# Also what the kit left in the folders of crates, and the copy that make works on. What it keeps beside itself stays.
 distclean: clean
 	rm -rf crates/*/out .git/build-tree
