@@ -1,6 +1,5 @@
 use packet_headers::{Flow, NotFlow, set_dest, set_source, steering_sum, view};
 use sample_frames::{ANSWER, HAIRPIN, NEXT_QUERY, OTHER_QUERY, QUERY, QUERY_WITH_OPTIONS, SYN};
-use std::process::Abort;
 use std::test::Fail;
 
 /// 10.0.0.5, 198.51.100.7 and 203.0.113.1.
@@ -10,18 +9,25 @@ const SERVER: u32 = 0xc633_6407;
 
 const OUTSIDE: u32 = 0xcb00_7101;
 
-fn with_source(frame: &[u8; 42], address: u32, port: u16) -> Result<[u8; 42], NotFlow> {
-    let mut frame = *frame;
-    let flow = view(&frame, 42)?;
-    set_source(&mut frame, &flow, address, port);
-    Ok(frame)
+/// An address and a port that are written into a frame.
+type Endpoint = (u32, u16);
+
+/// Writes this source into a frame, if one is given.
+fn write_source(frame: &mut [u8; 42], source: Option<Endpoint>) -> Result<(), NotFlow> {
+    if let Some((address, port)) = source {
+        let flow = view(frame, 42)?;
+        set_source(frame, &flow, address, port);
+    }
+    Ok(())
 }
 
-fn with_dest(frame: &[u8; 42], address: u32, port: u16) -> Result<[u8; 42], NotFlow> {
-    let mut frame = *frame;
-    let flow = view(&frame, 42)?;
-    set_dest(&mut frame, &flow, address, port);
-    Ok(frame)
+/// Writes this destination into a frame, if one is given.
+fn write_dest(frame: &mut [u8; 42], dest: Option<Endpoint>) -> Result<(), NotFlow> {
+    if let Some((address, port)) = dest {
+        let flow = view(frame, 42)?;
+        set_dest(frame, &flow, address, port);
+    }
+    Ok(())
 }
 
 /// The frame with two of its bytes at these places.
@@ -60,30 +66,42 @@ fn sees_flows(rt: HostRuntime) -> Result<(), Fail> {
     Ok(())
 }
 
+/// Two bytes of the query, each with its place, the length that it had, and the protocol that is seen then, or why there is none.
+type Change = ((usize, u8), (usize, u8), u32, Result<u8, NotFlow>);
+
+/// No byte: there is no such place.
+const NONE: (usize, u8) = (42, 0);
+
+const CHANGES: [Change; 15] = [
+    ((12, 0x86), NONE, 42, Err(NotFlow::NotIpv4)),
+    ((13, 0x06), (14, 0x65), 42, Err(NotFlow::NotIpv4)),
+    ((14, 0x65), (23, 1), 42, Err(NotFlow::NotIpv4)),
+    ((14, 0x44), (20, 0x20), 42, Err(NotFlow::BadHeaderLength)),
+    ((14, 0x4f), (20, 0x20), 42, Err(NotFlow::Short)),
+    ((20, 0x20), (23, 1), 42, Err(NotFlow::Fragment)),
+    ((21, 0x01), (17, 27), 42, Err(NotFlow::Fragment)),
+    ((20, 0x40), NONE, 42, Ok(17)),
+    ((23, 1), (17, 27), 42, Err(NotFlow::OtherProtocol)),
+    ((17, 27), NONE, 42, Err(NotFlow::BadTotalLength)),
+    ((17, 29), NONE, 42, Err(NotFlow::BadTotalLength)),
+    ((17, 29), NONE, 43, Ok(17)),
+    ((17, 0), NONE, 42, Ok(17)),
+    ((23, 6), NONE, 42, Err(NotFlow::BadTotalLength)),
+    ((23, 6), (17, 0), 42, Err(NotFlow::Short)),
+];
+
+/// The protocol of the flow that is seen in a frame.
+fn protocol_of(frame: &[u8], original: u32) -> Result<u8, NotFlow> {
+    Ok(view(frame, original)?.protocol)
+}
+
 #[test]
 fn refuses_by_the_first_test(rt: HostRuntime) {
-    let none = (42, 0);
-    for (first, second, original, answer) in [
-        ((12, 0x86), none, 42, Err(NotFlow::NotIpv4)),
-        ((13, 0x06), (14, 0x65), 42, Err(NotFlow::NotIpv4)),
-        ((14, 0x65), (23, 1), 42, Err(NotFlow::NotIpv4)),
-        ((14, 0x44), (20, 0x20), 42, Err(NotFlow::BadHeaderLength)),
-        ((14, 0x4f), (20, 0x20), 42, Err(NotFlow::Short)),
-        ((20, 0x20), (23, 1), 42, Err(NotFlow::Fragment)),
-        ((21, 0x01), (17, 27), 42, Err(NotFlow::Fragment)),
-        ((20, 0x40), none, 42, Ok(17)),
-        ((23, 1), (17, 27), 42, Err(NotFlow::OtherProtocol)),
-        ((17, 27), none, 42, Err(NotFlow::BadTotalLength)),
-        ((17, 29), none, 42, Err(NotFlow::BadTotalLength)),
-        ((17, 29), none, 43, Ok(17)),
-        ((17, 0), none, 42, Ok(17)),
-        ((23, 6), none, 42, Err(NotFlow::BadTotalLength)),
-        ((23, 6), (17, 0), 42, Err(NotFlow::Short)),
-    ] {
-        let frame = with_bytes(&QUERY, first, second);
+    for (first, second, original, answer) in &CHANGES {
+        let frame = with_bytes(&QUERY, *first, *second);
         assert_eq!(rt;
-            view(&frame, original).map(|flow| flow.protocol),
-            answer,
+            protocol_of(&frame, *original),
+            *answer,
             "{first:?} {second:?} {original}"
         );
     }
@@ -105,82 +123,102 @@ fn sees_no_flow_in_a_prefix(rt: HostRuntime) {
     }
 }
 
-/// The frame is the old one from the first byte to the IPv4 checksum, and then these bytes.
-fn assert_rewritten(rt: &impl Abort, frame: &[u8; 42], old: &[u8; 42], rest: &[u8; 18]) {
-    assert_eq!(rt; &frame[..24], &old[..24]);
-    assert_eq!(rt; &frame[24..], rest.as_slice());
+/// A frame, the source and the destination that are written into it, and its bytes from the IPv4 checksum on then.
+#[derive(Clone, Copy)]
+struct Rewriting<'a> {
+    old: &'a [u8; 42],
+    source: Option<Endpoint>,
+    dest: Option<Endpoint>,
+    rest: [u8; 18],
 }
 
-#[test]
-fn rewrites_and_adjusts(rt: HostRuntime) -> Result<(), Fail> {
+const REWRITINGS: [Rewriting<'static>; 7] = [
     // A translated query: its UDP checksum becomes 0, which is written as all ones.
-    assert_rewritten(
-        &rt,
-        &with_source(&QUERY, OUTSIDE, 39276)?,
-        &QUERY,
-        &[
+    Rewriting {
+        old: &QUERY,
+        source: Some((OUTSIDE, 39276)),
+        dest: None,
+        rest: [
             0x14, 0x94, 0xcb, 0x00, 0x71, 0x01, 0xc6, 0x33, 0x64, 0x07, 0x99, 0x6c, 0x00, 0x35,
             0x00, 0x08, 0xff, 0xff,
         ],
-    );
+    },
     // The answer to it, which has no checksum.
-    assert_rewritten(
-        &rt,
-        &with_dest(&ANSWER, INSIDE, 5000)?,
-        &ANSWER,
-        &[
+    Rewriting {
+        old: &ANSWER,
+        source: None,
+        dest: Some((INSIDE, 5000)),
+        rest: [
             0x46, 0x8e, 0xc6, 0x33, 0x64, 0x07, 0x0a, 0x00, 0x00, 0x05, 0x00, 0x35, 0x13, 0x88,
             0x00, 0x08, 0x00, 0x00,
         ],
-    );
+    },
     // Two queries from the same port outside.
-    assert_rewritten(
-        &rt,
-        &with_source(&QUERY, OUTSIDE, 39278)?,
-        &QUERY,
-        &[
+    Rewriting {
+        old: &QUERY,
+        source: Some((OUTSIDE, 39278)),
+        dest: None,
+        rest: [
             0x14, 0x94, 0xcb, 0x00, 0x71, 0x01, 0xc6, 0x33, 0x64, 0x07, 0x99, 0x6e, 0x00, 0x35,
             0x00, 0x08, 0xff, 0xfd,
         ],
-    );
-    assert_rewritten(
-        &rt,
-        &with_source(&OTHER_QUERY, OUTSIDE, 39278)?,
-        &OTHER_QUERY,
-        &[
+    },
+    Rewriting {
+        old: &OTHER_QUERY,
+        source: Some((OUTSIDE, 39278)),
+        dest: None,
+        rest: [
             0x14, 0x93, 0xcb, 0x00, 0x71, 0x01, 0xc6, 0x33, 0x64, 0x08, 0x99, 0x6e, 0x00, 0x35,
             0x00, 0x08, 0xff, 0xfc,
         ],
-    );
+    },
     // Both endpoints, one after the other.
-    assert_rewritten(
-        &rt,
-        &with_dest(&with_source(&HAIRPIN, OUTSIDE, 39277)?, INSIDE, 5000)?,
-        &HAIRPIN,
-        &[
+    Rewriting {
+        old: &HAIRPIN,
+        source: Some((OUTSIDE, 39277)),
+        dest: Some((INSIDE, 5000)),
+        rest: [
             0x34, 0xc8, 0xcb, 0x00, 0x71, 0x01, 0x0a, 0x00, 0x00, 0x05, 0x99, 0x6d, 0x13, 0x88,
             0x00, 0x08, 0x0c, 0xe2,
         ],
-    );
+    },
     // Two backends of a balancer.
-    assert_rewritten(
-        &rt,
-        &with_dest(&QUERY, 0x0a01_0001, 53)?,
-        &QUERY,
-        &[
+    Rewriting {
+        old: &QUERY,
+        source: None,
+        dest: Some((0x0a01_0001, 53)),
+        rest: [
             0x66, 0xca, 0x0a, 0x00, 0x00, 0x05, 0x0a, 0x01, 0x00, 0x01, 0x13, 0x88, 0x00, 0x35,
             0x00, 0x08, 0xd8, 0x1a,
         ],
-    );
-    assert_rewritten(
-        &rt,
-        &with_dest(&NEXT_QUERY, 0x0a01_0002, 53)?,
-        &NEXT_QUERY,
-        &[
+    },
+    Rewriting {
+        old: &NEXT_QUERY,
+        source: None,
+        dest: Some((0x0a01_0002, 53)),
+        rest: [
             0x66, 0xc8, 0x0a, 0x00, 0x00, 0x05, 0x0a, 0x01, 0x00, 0x02, 0x13, 0x89, 0x00, 0x35,
             0x00, 0x08, 0xd8, 0x18,
         ],
-    );
+    },
+];
+
+/// The frame with its new endpoints.
+fn rewritten(rewriting: &Rewriting<'_>) -> Result<[u8; 42], NotFlow> {
+    let mut frame = *rewriting.old;
+    write_source(&mut frame, rewriting.source)?;
+    write_dest(&mut frame, rewriting.dest)?;
+    Ok(frame)
+}
+
+/// The frame is the old one from the first byte to the IPv4 checksum.
+#[test]
+fn rewrites_and_adjusts(rt: HostRuntime) -> Result<(), Fail> {
+    for rewriting in &REWRITINGS {
+        let (old, frame) = (rewriting.old, rewritten(rewriting)?);
+        assert_eq!(rt; &frame[..24], &old[..24]);
+        assert_eq!(rt; &frame[24..], rewriting.rest.as_slice());
+    }
     Ok(())
 }
 

@@ -21,28 +21,49 @@ fn seconds_of(input: Option<&Packet>) -> Option<u32> {
     input.map(|packet| packet.seconds)
 }
 
+/// The second and the bytes of each packet that is fed, and the thread and the number that it comes to.
+const FED: [(u32, &[u8], (u32, u64)); 4] = [
+    (1, &QUERY, (0, 1)),
+    (2, &NEXT_QUERY, (1, 1)),
+    (3, b"", (0, 2)),
+    (4, &NEXT_QUERY, (1, 2)),
+];
+
+/// The second of the first packet that comes to another thread or another number.
+fn first_misfed(alloc: Global, log: &mut InputLog) -> Result<Option<u32>, NoMemory> {
+    for (seconds, bytes, input) in &FED {
+        if log.feed(packet(alloc, *seconds, bytes)?)? != *input {
+            return Ok(Some(*seconds));
+        }
+    }
+    Ok(None)
+}
+
+/// Threads and numbers, and the second of the packet that is kept under them, if there is one.
+const KEPT: [(u32, u64, Option<u32>); 8] = [
+    (0, 0, None),
+    (0, 1, Some(1)),
+    (0, 2, Some(3)),
+    (0, 3, None),
+    (1, 1, Some(2)),
+    (1, 2, Some(4)),
+    (1, 3, None),
+    (2, 1, None),
+];
+
 #[test]
 fn keeps_the_inputs_of_each_thread(rt: HostRuntime) -> Result<(), Fail> {
-    let alloc = rt.alloc();
-    let mut log = InputLog::new(alloc, 2)?;
+    let mut log = InputLog::new(rt.alloc(), 2)?;
     goes_between_threads(&log);
     assert_eq!(rt; (log.threads(), log.fed()), (2, 0));
-    assert_eq!(rt; log.feed(packet(alloc, 1, &QUERY)?)?, (0, 1));
-    assert_eq!(rt; log.feed(packet(alloc, 2, &NEXT_QUERY)?)?, (1, 1));
-    assert_eq!(rt; log.feed(packet(alloc, 3, &[])?)?, (0, 2));
-    assert_eq!(rt; log.feed(packet(alloc, 4, &NEXT_QUERY)?)?, (1, 2));
+    assert_eq!(rt; first_misfed(rt.alloc(), &mut log)?, None);
     assert_eq!(rt; log.fed(), 4);
-    for (thread, k, seconds) in [
-        (0, 0, None),
-        (0, 1, Some(1)),
-        (0, 2, Some(3)),
-        (0, 3, None),
-        (1, 1, Some(2)),
-        (1, 2, Some(4)),
-        (1, 3, None),
-        (2, 1, None),
-    ] {
-        assert_eq!(rt; seconds_of(log.input(thread, k)), seconds, "{thread} {k}");
+    for (thread, k, seconds) in &KEPT {
+        assert_eq!(rt;
+            seconds_of(log.input(*thread, *k)),
+            *seconds,
+            "{thread} {k}"
+        );
     }
     Ok(())
 }

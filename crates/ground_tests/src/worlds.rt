@@ -105,37 +105,51 @@ fn write_name<W: World>(world: &mut W, name: &Text, bytes: &[u8]) -> Result<(), 
     }
 }
 
-/// A world with the one name "in", which has the bytes "hello".
-fn world_of_one(alloc: Global) -> Result<MemoryWorld, NoMemory>
-    ensures unused { IfOk result (λ world. length world.files ≡ 0) }
-    ensures healthy { IfOk result IsHealthy }
+/// Sets the bytes of the name "in", which is answered, to "hello".
+fn add_hello(alloc: Global, world: &mut MemoryWorld) -> Result<Text, NoMemory>
+    ensures unused { length world.new.files ≡ length world.old.files }
+    ensures healthy { IsHealthy world.old → IsHealthy world.new }
 {
-    let mut world = MemoryWorld::new(alloc)?;
     let name = Text::of(alloc, "in")?;
     world.add(&name, Bytes::of(alloc, b"hello")?)?;
-    Ok(world)
+    Ok(name)
 }
 
-/// Whether reading "in" failed, where this call of reading is told to fail.
+/// Whether reading "in" fails in a world, where this call of reading is told to fail.
+fn reading_fails_in(alloc: Global, world: &mut MemoryWorld, nth: u64) -> Result<bool, NoMemory>
+    requires { length world.old.files ≡ 0 }
+{
+    let name = add_hello(alloc, world)?;
+    world.fail_read(nth)?;
+    let read = read_name(alloc, world, &name, 10);
+    Ok(matches!(read, Err(ReadError::Failed)))
+}
+
+/// Whether it fails in a world of its own.
 fn reading_fails(alloc: Global, nth: u64) -> Result<bool, NoMemory> {
-    let mut world = world_of_one(alloc)?;
-    world.fail_read(nth)?;
-    let name = Text::of(alloc, "in")?;
-    Ok(matches!(
-        read_name(alloc, &mut world, &name, 10),
-        Err(ReadError::Failed)
-    ))
+    let mut world = MemoryWorld::new(alloc)?;
+    reading_fails_in(alloc, &mut world, nth)
 }
 
-/// Whether reading "in" up to a limit failed, where this call of reading is told to fail.
-fn reading_a_front_fails(alloc: Global, nth: u64, limit: u64) -> Result<bool, NoMemory> {
-    let mut world = world_of_one(alloc)?;
+/// Whether reading "in" up to a limit fails in a world, where this call of reading is told to fail.
+fn reading_a_front_fails_in(
+    alloc: Global,
+    world: &mut MemoryWorld,
+    nth: u64,
+    limit: u64,
+) -> Result<bool, NoMemory>
+    requires { length world.old.files ≡ 0 }
+{
+    let name = add_hello(alloc, world)?;
     world.fail_read(nth)?;
-    let name = Text::of(alloc, "in")?;
-    Ok(matches!(
-        read_front_of(alloc, &mut world, &name, limit),
-        Err(FrontError::Failed)
-    ))
+    let read = read_front_of(alloc, world, &name, limit);
+    Ok(matches!(read, Err(FrontError::Failed)))
+}
+
+/// Whether it fails in a world of its own.
+fn reading_a_front_fails(alloc: Global, nth: u64, limit: u64) -> Result<bool, NoMemory> {
+    let mut world = MemoryWorld::new(alloc)?;
+    reading_a_front_fails_in(alloc, &mut world, nth, limit)
 }
 
 /// Whether these are the first bytes of "hello" up to a limit, and whether they are all.
@@ -147,52 +161,83 @@ fn front_is(alloc: Global, limit: u64, text: &str, is_all: bool) -> Result<bool,
     }
 }
 
-/// How many bytes "out" has after it was written, where this call of writing is told to fail.
-fn written_length(alloc: Global, nth: u64) -> Result<Option<usize>, NoMemory> {
-    let mut world = world_of_one(alloc)?;
+/// How many bytes "out" has in a world after it was written, where this call of writing is told to fail.
+fn written_length_in(
+    alloc: Global,
+    world: &mut MemoryWorld,
+    nth: u64,
+) -> Result<Option<usize>, NoMemory>
+    requires { length world.old.files ≡ 0 }
+{
+    add_hello(alloc, world)?;
     world.fail_write(nth)?;
     let name = Text::of(alloc, "out")?;
-    let _ = write_name(&mut world, &name, b"bye");
+    let _ = write_name(world, &name, b"bye");
     Ok(world.bytes(&name).map(|bytes| bytes.len()))
 }
 
-/// How many bytes of "in" were read, up to a limit.
-fn read_length(alloc: Global, limit: u64) -> Result<Option<usize>, NoMemory> {
-    let mut world = world_of_one(alloc)?;
-    let name = Text::of(alloc, "in")?;
-    match read_name(alloc, &mut world, &name, limit) {
+/// How many it has in a world of its own.
+fn written_length(alloc: Global, nth: u64) -> Result<Option<usize>, NoMemory> {
+    let mut world = MemoryWorld::new(alloc)?;
+    written_length_in(alloc, &mut world, nth)
+}
+
+/// How many bytes of "in" are read in a world, up to a limit.
+fn read_length_in(
+    alloc: Global,
+    world: &mut MemoryWorld,
+    limit: u64,
+) -> Result<Option<usize>, NoMemory>
+    requires { length world.old.files ≡ 0 }
+{
+    let name = add_hello(alloc, world)?;
+    match read_name(alloc, world, &name, limit) {
         Ok(bytes) => Ok(Some(bytes.len())),
         Err(_) => Ok(None),
     }
 }
 
+/// How many are read in a world of its own.
+fn read_length(alloc: Global, limit: u64) -> Result<Option<usize>, NoMemory> {
+    let mut world = MemoryWorld::new(alloc)?;
+    read_length_in(alloc, &mut world, limit)
+}
+
+/// Limits, and how many bytes are read up to each.
+const LENGTHS: [(u64, Option<usize>); 4] = [(5, Some(5)), (6, Some(5)), (4, None), (0, None)];
+
 #[test]
 fn reads_up_to_a_limit(rt: HostRuntime) -> Result<(), Fail> {
-    for (limit, want) in [(5, Some(5)), (6, Some(5)), (4, None), (0, None)] {
-        assert_eq!(rt; read_length(rt.alloc(), limit)?, want);
+    for (limit, want) in &LENGTHS {
+        assert_eq!(rt; read_length(rt.alloc(), *limit)?, *want);
     }
     Ok(())
 }
+
+/// Calls of reading that are told to fail, and whether "in" is read by such a call.
+const FAILED_READS: [(u64, bool); 4] = [(1, true), (2, true), (3, true), (4, false)];
 
 #[test]
 fn fails_where_reading_is_told_to(rt: HostRuntime) -> Result<(), Fail> {
-    for (nth, fails) in [(1, true), (2, true), (3, true), (4, false)] {
-        assert_eq!(rt; reading_fails(rt.alloc(), nth)?, fails);
+    for (nth, fails) in &FAILED_READS {
+        assert_eq!(rt; reading_fails(rt.alloc(), *nth)?, *fails);
     }
     Ok(())
 }
 
+/// Limits, the first bytes up to each, and whether they are all.
+const FRONTS: [(u64, &str, bool); 4] = [
+    (6, "hello", true),
+    (5, "hello", true),
+    (4, "hell", false),
+    (0, "", false),
+];
+
 #[test]
 fn reads_the_first_bytes_up_to_a_limit(rt: HostRuntime) -> Result<(), Fail> {
-    let fronts = [
-        (6, "hello", true),
-        (5, "hello", true),
-        (4, "hell", false),
-        (0, "", false),
-    ];
-    for (limit, text, is_all) in fronts {
+    for (limit, text, is_all) in &FRONTS {
         assert_eq!(rt;
-            front_is(rt.alloc(), limit, text, is_all),
+            front_is(rt.alloc(), *limit, text, *is_all),
             Ok(true),
             "{limit}"
         );
@@ -200,26 +245,31 @@ fn reads_the_first_bytes_up_to_a_limit(rt: HostRuntime) -> Result<(), Fail> {
     Ok(())
 }
 
+/// Calls of reading that are told to fail, limits, and whether the first bytes are read by such a call. Where the file is longer than the
+/// limit, its end is not looked for.
+const FAILED_FRONTS: [(u64, u64, bool); 5] = [
+    (1, 10, true),
+    (2, 10, true),
+    (3, 10, true),
+    (4, 10, false),
+    (3, 4, false),
+];
+
 #[test]
 fn fails_within_the_first_bytes(rt: HostRuntime) -> Result<(), Fail> {
-    // Where the file is longer than the limit, its end is not looked for.
-    let calls = [
-        (1, 10, true),
-        (2, 10, true),
-        (3, 10, true),
-        (4, 10, false),
-        (3, 4, false),
-    ];
-    for (nth, limit, fails) in calls {
-        assert_eq!(rt; reading_a_front_fails(rt.alloc(), nth, limit)?, fails);
+    for (nth, limit, fails) in &FAILED_FRONTS {
+        assert_eq!(rt; reading_a_front_fails(rt.alloc(), *nth, *limit)?, *fails);
     }
     Ok(())
 }
 
+/// Calls of writing that are told to fail, and how many bytes "out" has then.
+const FAILED_WRITES: [(u64, Option<usize>); 3] = [(1, None), (2, Some(0)), (3, Some(3))];
+
 #[test]
 fn fails_where_writing_is_told_to(rt: HostRuntime) -> Result<(), Fail> {
-    for (nth, length) in [(1, None), (2, Some(0)), (3, Some(3))] {
-        assert_eq!(rt; written_length(rt.alloc(), nth)?, length);
+    for (nth, length) in &FAILED_WRITES {
+        assert_eq!(rt; written_length(rt.alloc(), *nth)?, *length);
     }
     Ok(())
 }
@@ -233,15 +283,8 @@ fn writes_the_report(rt: HostRuntime) -> Result<(), Fail> {
     Ok(())
 }
 
-#[test]
-fn asks_for_large_pieces(rt: HostRuntime) -> Result<(), Fail> {
-    let alloc = rt.alloc();
-    let bytes = vec![in alloc; 7u8; 1_000]?;
-    let below = Counting {
-        below: SliceSource::of(bytes.as_slice()),
-        calls: 0,
-    };
-    let mut source = BufferedSource::of(below, vec![in alloc; 0u8; 256]?);
+/// How many bytes a source gives in pieces of 16, up to its end.
+fn count_bytes<S: Source>(source: &mut S) -> u64 {
     let mut piece = [0u8; 16];
     let mut taken = 0u64;
     for _ in 0..1_000 {
@@ -250,15 +293,35 @@ fn asks_for_large_pieces(rt: HostRuntime) -> Result<(), Fail> {
             Filled::End | Filled::Failed => break,
         }
     }
-    assert_eq!(rt; taken, 1_000);
-    // Four that gave bytes, and the end.
-    assert_eq!(rt; source.into_inner().calls, 5);
+    taken
+}
+
+/// How many bytes are taken of these through a buffer of 256 bytes, and how often they are asked for.
+fn take_through(alloc: Global, bytes: &[u8]) -> Result<(u64, u64), NoMemory> {
+    let buffer = vec![in alloc; 0u8; 256]?;
+    let below = Counting {
+        below: SliceSource::of(bytes),
+        calls: 0,
+    };
+    let mut source = BufferedSource::of(below, buffer);
+    let taken = count_bytes(&mut source);
+    Ok((taken, source.into_inner().calls))
+}
+
+#[test]
+fn asks_for_large_pieces(rt: HostRuntime) -> Result<(), Fail> {
+    let bytes = vec![in rt.alloc(); 7u8; 1_000]?;
+    // Four calls that give bytes, and the end.
+    assert_eq!(rt; take_through(rt.alloc(), bytes.as_slice())?, (1_000, 5));
+    Ok(())
+}
+
+#[test]
+fn reads_all_through_a_buffer(rt: HostRuntime) -> Result<(), Fail> {
+    let bytes = vec![in rt.alloc(); 7u8; 1_000]?;
+    let buffer = vec![in rt.alloc(); 0u8; 64]?;
     let mut rest = SliceSource::of(bytes.as_slice());
-    assert!(rt;
-        matches!(
-            read_through(alloc, &mut rest, vec![in alloc; 0u8; 64]?),
-            Ok(_)
-        )
-    );
+    let read = read_through(rt.alloc(), &mut rest, buffer);
+    assert!(rt; matches!(read, Ok(_)));
     Ok(())
 }

@@ -11,21 +11,21 @@ use wire_frames::{
 };
 
 /// The first touch of thread 0, of variable 0 and at place 1, in epoch 1 and of one thread, in version 1.
-const OLD_TOUCH: [u8; 45] = [
+const OLD_TOUCH: &[u8] = &[
     0x01, 0x01, 0x00, 0x00, 0x00, 0x2d, 0x00, 0x00, 0x00, 0x01, 0x00, 0x01, 0x00, 0x00, 0x00, 0x00,
     0x00, 0x00, 0x00, 0x01, 0x00, 0x00, 0x00, 0x00, 0x00, 0x00, 0x00, 0x00, 0x00, 0x00, 0x00, 0x00,
     0x00, 0x00, 0x00, 0x01, 0x01, 0x00, 0x00, 0x00, 0x00, 0x00, 0x00, 0x00, 0x01,
 ];
 
 /// The same in version 2.
-const TOUCH: [u8; 47] = [
+const TOUCH: &[u8] = &[
     0x01, 0x02, 0x00, 0x00, 0x00, 0x2f, 0x00, 0x00, 0x00, 0x01, 0x00, 0x01, 0x00, 0x00, 0x00, 0x00,
     0x00, 0x00, 0x00, 0x01, 0x00, 0x00, 0x00, 0x00, 0x00, 0x00, 0x00, 0x00, 0x00, 0x00, 0x00, 0x00,
     0x00, 0x00, 0x00, 0x01, 0x01, 0x00, 0x01, 0x00, 0x00, 0x00, 0x00, 0x00, 0x00, 0x00, 0x01,
 ];
 
 /// The second output of thread 2, of three threads, with the components 5, 0 and 7 and three captured bytes, in version 1.
-const OLD_OUTPUT: [u8; 72] = [
+const OLD_OUTPUT: &[u8] = &[
     0x02, 0x01, 0x00, 0x00, 0x00, 0x48, 0x00, 0x00, 0x00, 0x01, 0x02, 0x00, 0x00, 0x00, 0x00, 0x00,
     0x00, 0x00, 0x00, 0x02, 0x00, 0x00, 0x00, 0x00, 0x00, 0x00, 0x00, 0x09, 0x03, 0x00, 0x00, 0x00,
     0x00, 0x00, 0x00, 0x00, 0x05, 0x00, 0x00, 0x00, 0x00, 0x00, 0x00, 0x00, 0x00, 0x00, 0x00, 0x00,
@@ -34,7 +34,7 @@ const OLD_OUTPUT: [u8; 72] = [
 ];
 
 /// The same in version 2.
-const OUTPUT: [u8; 66] = [
+const OUTPUT: &[u8] = &[
     0x02, 0x02, 0x00, 0x00, 0x00, 0x42, 0x00, 0x00, 0x00, 0x01, 0x02, 0x00, 0x00, 0x00, 0x00, 0x00,
     0x00, 0x00, 0x00, 0x02, 0x00, 0x00, 0x00, 0x00, 0x00, 0x00, 0x00, 0x09, 0x03, 0x00, 0x05, 0x00,
     0x00, 0x00, 0x00, 0x00, 0x00, 0x00, 0x05, 0x00, 0x00, 0x00, 0x00, 0x00, 0x00, 0x00, 0x07, 0x00,
@@ -83,18 +83,16 @@ fn fault_of(alloc: Global, bytes: &[u8]) -> Option<FrameError> {
 
 /// Whether the bytes are the frame of this entry, in epoch 1 and of so many threads.
 fn is_entry(alloc: Global, bytes: &[u8], threads: u32, entry: &StampedEntry) -> bool {
-    match take_frame(alloc, bytes) {
-        Ok(
-            (
-                Frame::Entry {
-                    epoch,
-                    threads: told,
-                    entry: read,
-                },
-                size,
-            ),
-        ) => epoch == 1 && told == threads && read == *entry && size == bytes.len(),
-        _ => false,
+    let Ok((frame, size)) = take_frame(alloc, bytes) else {
+        return false;
+    };
+    match &frame {
+        Frame::Entry {
+            epoch,
+            threads: told,
+            entry: read,
+        } => (*epoch, *told, size) == (1, threads, bytes.len()) && read == entry,
+        Frame::Output { .. } => false,
     }
 }
 
@@ -112,10 +110,10 @@ fn a_touch_is_written_and_read(rt: HostRuntime) -> Result<(), Fail> {
     let alloc = rt.alloc();
     let entry = touch();
     let written = put_entry(alloc, 1, 1, &entry)?;
-    assert_eq!(rt; written.as_slice(), TOUCH.as_slice());
+    assert_eq!(rt; written.as_slice(), TOUCH);
     assert_eq!(rt; entry_length(&entry), 47);
-    assert!(rt; is_entry(alloc, &TOUCH, 1, &entry));
-    assert!(rt; is_entry(alloc, &OLD_TOUCH, 1, &entry));
+    assert!(rt; is_entry(alloc, TOUCH, 1, &entry));
+    assert!(rt; is_entry(alloc, OLD_TOUCH, 1, &entry));
     Ok(())
 }
 
@@ -169,31 +167,34 @@ fn an_output_is_written_and_read(rt: HostRuntime) -> Result<(), Fail> {
     let alloc = rt.alloc();
     let output = output(alloc)?;
     assert_eq!(rt; output_length(&output), 66);
-    assert!(rt; is_output(alloc, &OUTPUT, &output));
-    assert!(rt; is_output(alloc, &OLD_OUTPUT, &output));
+    assert!(rt; is_output(alloc, OUTPUT, &output));
+    assert!(rt; is_output(alloc, OLD_OUTPUT, &output));
     let written = put_output(alloc, 1, 3, output)?;
-    assert_eq!(rt; written.as_slice(), OUTPUT.as_slice());
+    assert_eq!(rt; written.as_slice(), OUTPUT);
     Ok(())
 }
+
+/// What an entry may be of, and the code of each.
+const KINDS: [(What, u8); 4] = [
+    (What::Access { var: 255, place: 3 }, 1),
+    (What::Clock(1_600_000_000_000_000), 2),
+    (What::Draw(0xffff_ffff), 3),
+    (What::Read { var: 7, after: 0 }, 4),
+];
 
 #[test]
 fn each_kind_of_entry_is_written_and_read(rt: HostRuntime) -> Result<(), Fail> {
     let alloc = rt.alloc();
-    for (what, code) in [
-        (What::Access { var: 255, place: 3 }, 1),
-        (What::Clock(1_600_000_000_000_000), 2),
-        (What::Draw(0xffff_ffff), 3),
-        (What::Read { var: 7, after: 0 }, 4),
-    ] {
+    for (what, code) in &KINDS {
         let entry = StampedEntry {
             thread: 2,
             number: 7,
-            what,
+            what: *what,
             stamp: three_components(0, 4, 7),
         };
         let written = put_entry(alloc, 1, 3, &entry)?;
         assert_eq!(rt; written.len(), 55, "code {code}");
-        assert_eq!(rt; written.as_slice()[11], code);
+        assert_eq!(rt; written.as_slice()[11], *code);
         assert_eq!(rt; written.as_slice()[38], 6, "code {code}");
         assert!(rt;
             is_entry(alloc, written.as_slice(), 3, &entry),
@@ -203,16 +204,13 @@ fn each_kind_of_entry_is_written_and_read(rt: HostRuntime) -> Result<(), Fail> {
     Ok(())
 }
 
+const FRAMES: [&[u8]; 4] = [OLD_TOUCH, TOUCH, OLD_OUTPUT, OUTPUT];
+
 #[test]
 fn a_prefix_is_short(rt: HostRuntime) {
     let alloc = rt.alloc();
     let short = Some(FrameError::Fault(FrameFault::Short));
-    for frame in [
-        OLD_TOUCH.as_slice(),
-        TOUCH.as_slice(),
-        OLD_OUTPUT.as_slice(),
-        OUTPUT.as_slice(),
-    ] {
+    for frame in &FRAMES {
         for size in 0..frame.len() {
             assert_eq!(rt; fault_of(alloc, &frame[..size]), short, "{size} bytes");
         }
@@ -220,53 +218,56 @@ fn a_prefix_is_short(rt: HostRuntime) {
     }
 }
 
+/// A frame, a place in it, another byte there, and the fault that is told then, if there is one.
+const CHANGED: [(&[u8], usize, u8, Option<FrameFault>); 40] = [
+    (OLD_TOUCH, 0, 3, Some(FrameFault::BadKind)),
+    (OLD_TOUCH, 1, 9, Some(FrameFault::BadVersion)),
+    (OLD_TOUCH, 1, 2, Some(FrameFault::BadLength)),
+    (OLD_TOUCH, 5, 44, Some(FrameFault::BadLength)),
+    (OLD_TOUCH, 5, 46, Some(FrameFault::Short)),
+    (OLD_TOUCH, 11, 4, Some(FrameFault::OutOfRange)),
+    (OLD_TOUCH, 36, 0, Some(FrameFault::OutOfRange)),
+    (OLD_TOUCH, 36, 2, Some(FrameFault::BadLength)),
+    (OLD_TOUCH, 44, 0, None),
+    (TOUCH, 0, 3, Some(FrameFault::BadKind)),
+    (TOUCH, 1, 0, Some(FrameFault::BadVersion)),
+    (TOUCH, 1, 1, Some(FrameFault::BadLength)),
+    (TOUCH, 5, 38, Some(FrameFault::BadLength)),
+    (TOUCH, 5, 46, Some(FrameFault::BadLength)),
+    (TOUCH, 5, 48, Some(FrameFault::Short)),
+    (TOUCH, 9, 0, Some(FrameFault::OutOfRange)),
+    (TOUCH, 10, 1, Some(FrameFault::OutOfRange)),
+    (TOUCH, 11, 2, Some(FrameFault::OutOfRange)),
+    (TOUCH, 11, 4, None),
+    (TOUCH, 11, 5, Some(FrameFault::OutOfRange)),
+    (TOUCH, 19, 0, Some(FrameFault::OutOfRange)),
+    (TOUCH, 26, 1, Some(FrameFault::OutOfRange)),
+    (TOUCH, 27, 255, None),
+    (TOUCH, 35, 0, Some(FrameFault::OutOfRange)),
+    (TOUCH, 36, 0, Some(FrameFault::OutOfRange)),
+    (TOUCH, 36, 2, None),
+    (TOUCH, 36, 16, None),
+    (TOUCH, 36, 17, Some(FrameFault::OutOfRange)),
+    (TOUCH, 37, 1, Some(FrameFault::OutOfRange)),
+    (TOUCH, 38, 0, Some(FrameFault::BadLength)),
+    (TOUCH, 38, 2, Some(FrameFault::OutOfRange)),
+    (TOUCH, 46, 0, Some(FrameFault::OutOfRange)),
+    (OUTPUT, 11, 1, Some(FrameFault::OutOfRange)),
+    (OUTPUT, 27, 0, Some(FrameFault::OutOfRange)),
+    (OUTPUT, 30, 4, Some(FrameFault::BadLength)),
+    (OUTPUT, 30, 6, None),
+    (OUTPUT, 30, 7, Some(FrameFault::BadLength)),
+    (OUTPUT, 30, 9, Some(FrameFault::OutOfRange)),
+    (OUTPUT, 60, 5, Some(FrameFault::OutOfRange)),
+    (OUTPUT, 62, 4, Some(FrameFault::BadLength)),
+];
+
 #[test]
 fn the_first_test_that_fails_answers(rt: HostRuntime) -> Result<(), Fail> {
     let alloc = rt.alloc();
-    for (frame, place, byte, fault) in [
-        (OLD_TOUCH.as_slice(), 0, 3, Some(FrameFault::BadKind)),
-        (OLD_TOUCH.as_slice(), 1, 9, Some(FrameFault::BadVersion)),
-        (OLD_TOUCH.as_slice(), 1, 2, Some(FrameFault::BadLength)),
-        (OLD_TOUCH.as_slice(), 5, 44, Some(FrameFault::BadLength)),
-        (OLD_TOUCH.as_slice(), 5, 46, Some(FrameFault::Short)),
-        (OLD_TOUCH.as_slice(), 11, 4, Some(FrameFault::OutOfRange)),
-        (OLD_TOUCH.as_slice(), 36, 0, Some(FrameFault::OutOfRange)),
-        (OLD_TOUCH.as_slice(), 36, 2, Some(FrameFault::BadLength)),
-        (OLD_TOUCH.as_slice(), 44, 0, None),
-        (TOUCH.as_slice(), 0, 3, Some(FrameFault::BadKind)),
-        (TOUCH.as_slice(), 1, 0, Some(FrameFault::BadVersion)),
-        (TOUCH.as_slice(), 1, 1, Some(FrameFault::BadLength)),
-        (TOUCH.as_slice(), 5, 38, Some(FrameFault::BadLength)),
-        (TOUCH.as_slice(), 5, 46, Some(FrameFault::BadLength)),
-        (TOUCH.as_slice(), 5, 48, Some(FrameFault::Short)),
-        (TOUCH.as_slice(), 9, 0, Some(FrameFault::OutOfRange)),
-        (TOUCH.as_slice(), 10, 1, Some(FrameFault::OutOfRange)),
-        (TOUCH.as_slice(), 11, 2, Some(FrameFault::OutOfRange)),
-        (TOUCH.as_slice(), 11, 4, None),
-        (TOUCH.as_slice(), 11, 5, Some(FrameFault::OutOfRange)),
-        (TOUCH.as_slice(), 19, 0, Some(FrameFault::OutOfRange)),
-        (TOUCH.as_slice(), 26, 1, Some(FrameFault::OutOfRange)),
-        (TOUCH.as_slice(), 27, 255, None),
-        (TOUCH.as_slice(), 35, 0, Some(FrameFault::OutOfRange)),
-        (TOUCH.as_slice(), 36, 0, Some(FrameFault::OutOfRange)),
-        (TOUCH.as_slice(), 36, 2, None),
-        (TOUCH.as_slice(), 36, 16, None),
-        (TOUCH.as_slice(), 36, 17, Some(FrameFault::OutOfRange)),
-        (TOUCH.as_slice(), 37, 1, Some(FrameFault::OutOfRange)),
-        (TOUCH.as_slice(), 38, 0, Some(FrameFault::BadLength)),
-        (TOUCH.as_slice(), 38, 2, Some(FrameFault::OutOfRange)),
-        (TOUCH.as_slice(), 46, 0, Some(FrameFault::OutOfRange)),
-        (OUTPUT.as_slice(), 11, 1, Some(FrameFault::OutOfRange)),
-        (OUTPUT.as_slice(), 27, 0, Some(FrameFault::OutOfRange)),
-        (OUTPUT.as_slice(), 30, 4, Some(FrameFault::BadLength)),
-        (OUTPUT.as_slice(), 30, 6, None),
-        (OUTPUT.as_slice(), 30, 7, Some(FrameFault::BadLength)),
-        (OUTPUT.as_slice(), 30, 9, Some(FrameFault::OutOfRange)),
-        (OUTPUT.as_slice(), 60, 5, Some(FrameFault::OutOfRange)),
-        (OUTPUT.as_slice(), 62, 4, Some(FrameFault::BadLength)),
-    ] {
-        assert!(rt; place < frame.len());
-        let changed = with_byte(alloc, frame, place, byte)?;
+    for (frame, place, byte, fault) in &CHANGED {
+        assert!(rt; *place < frame.len());
+        let changed = with_byte(alloc, frame, *place, *byte)?;
         assert_eq!(rt;
             fault_of(alloc, &changed),
             fault.map(FrameError::Fault),
@@ -289,16 +290,19 @@ fn fault_of_turned(place: usize, is_old: bool) -> Option<FrameError> {
     }
 }
 
+/// The touch in both versions, and whether it is in the old one.
+const TOUCHES: [(&[u8], bool); 2] = [(OLD_TOUCH, true), (TOUCH, false)];
+
 #[test]
 fn a_turned_byte_is_refused_or_another_entry(rt: HostRuntime) -> Result<(), Fail> {
     let alloc = rt.alloc();
     let entry = touch();
-    for (frame, is_old) in [(OLD_TOUCH.as_slice(), true), (TOUCH.as_slice(), false)] {
+    for (frame, is_old) in &TOUCHES {
         for place in 0..frame.len() {
             let turned = with_byte(alloc, frame, place, 255 - frame[place])?;
             assert_eq!(rt;
                 fault_of(alloc, &turned),
-                fault_of_turned(place, is_old),
+                fault_of_turned(place, *is_old),
                 "byte {place}"
             );
             assert!(rt; !is_entry(alloc, &turned, 1, &entry), "byte {place}");

@@ -60,56 +60,64 @@ fn has_exactly(links: &Links, there: &[u8]) -> bool {
 }
 
 /// Whether exactly the frames with an `x` are there after all were sent and this call was made.
+fn leaves_in(alloc: Global, links: &mut Links, call: Call, there: &[u8]) -> Result<bool, NoMemory> {
+    send_all(alloc, links)?;
+    perform(links, call);
+    Ok(has_exactly(links, there))
+}
+
+/// Whether they are in links of their own.
 fn leaves(alloc: Global, call: Call, there: &[u8]) -> Result<bool, NoMemory> {
     let mut links = Links::new(alloc)?;
-    send_all(alloc, &mut links)?;
-    perform(&mut links, call);
-    Ok(has_exactly(&links, there))
+    leaves_in(alloc, &mut links, call, there)
 }
+
+/// What is to be forgotten, and what is there then.
+const FORGOTTEN: [(&str, Call, &str); 12] = [
+    ("below", Call::Forget((1, Kind::Log, 0, 0)), "xxxxxxxxxx"),
+    ("at", Call::Forget((1, Kind::Log, 0, 1)), ".xxxxxxxxx"),
+    ("between", Call::Forget((1, Kind::Log, 0, 3)), "..xxxxxxxx"),
+    ("above", Call::Forget((1, Kind::Log, 0, 9)), "...xxxxxxx"),
+    ("thread 1", Call::Forget((1, Kind::Log, 1, 2)), "xxx.xxxxxx"),
+    ("outputs", Call::Forget((1, Kind::Out, 0, 2)), "xxxx.xxxxx"),
+    ("number 0", Call::Forget((2, Kind::Log, 0, 0)), "xxxxxx.xxx"),
+    (
+        "no thread",
+        Call::Forget((2, Kind::Out, 7, 9)),
+        "xxxxxxxxxx",
+    ),
+    ("epoch 1", Call::ForgetEpoch(1), "......xxxx"),
+    ("epoch 2", Call::ForgetEpoch(2), "xxxxxx...x"),
+    ("last epoch", Call::ForgetEpoch(u32::MAX), "xxxxxxxxx."),
+    ("no epoch", Call::ForgetEpoch(3), "xxxxxxxxxx"),
+];
 
 #[test]
 fn forgets_what_it_is_told_to(rt: HostRuntime) -> Result<(), Fail> {
-    for (name, call, there) in [
-        ("below", Call::Forget((1, Kind::Log, 0, 0)), "xxxxxxxxxx"),
-        ("at", Call::Forget((1, Kind::Log, 0, 1)), ".xxxxxxxxx"),
-        ("between", Call::Forget((1, Kind::Log, 0, 3)), "..xxxxxxxx"),
-        ("above", Call::Forget((1, Kind::Log, 0, 9)), "...xxxxxxx"),
-        ("thread 1", Call::Forget((1, Kind::Log, 1, 2)), "xxx.xxxxxx"),
-        ("outputs", Call::Forget((1, Kind::Out, 0, 2)), "xxxx.xxxxx"),
-        ("number 0", Call::Forget((2, Kind::Log, 0, 0)), "xxxxxx.xxx"),
-        (
-            "no thread",
-            Call::Forget((2, Kind::Out, 7, 9)),
-            "xxxxxxxxxx",
-        ),
-        ("epoch 1", Call::ForgetEpoch(1), "......xxxx"),
-        ("epoch 2", Call::ForgetEpoch(2), "xxxxxx...x"),
-        ("last epoch", Call::ForgetEpoch(u32::MAX), "xxxxxxxxx."),
-        ("no epoch", Call::ForgetEpoch(3), "xxxxxxxxxx"),
-    ] {
-        assert!(rt; leaves(rt.alloc(), call, there.as_bytes())?, "{name}");
+    for (name, call, there) in &FORGOTTEN {
+        assert!(rt; leaves(rt.alloc(), *call, there.as_bytes())?, "{name}");
     }
     Ok(())
 }
 
 /// What is there under the first numbers after each of these: nothing was sent, a frame was, another was, it was
 /// forgotten, and one was sent again.
-fn answers_in_turn(alloc: Global) -> Result<[Option<u8>; 5], NoMemory> {
-    let mut links = Links::new(alloc)?;
-    let none = byte_under(&links, SENT[0]);
-    send(alloc, &mut links, SENT[0], 7)?;
-    let first = byte_under(&links, SENT[0]);
-    send(alloc, &mut links, SENT[0], 8)?;
-    let second = byte_under(&links, SENT[0]);
+fn answers_in_turn(alloc: Global, links: &mut Links) -> Result<[Option<u8>; 5], NoMemory> {
+    let none = byte_under(links, SENT[0]);
+    send(alloc, links, SENT[0], 7)?;
+    let first = byte_under(links, SENT[0]);
+    send(alloc, links, SENT[0], 8)?;
+    let second = byte_under(links, SENT[0]);
     links.forget_epoch(1);
-    let forgotten = byte_under(&links, SENT[0]);
-    send(alloc, &mut links, SENT[0], 9)?;
-    Ok([none, first, second, forgotten, byte_under(&links, SENT[0])])
+    let forgotten = byte_under(links, SENT[0]);
+    send(alloc, links, SENT[0], 9)?;
+    Ok([none, first, second, forgotten, byte_under(links, SENT[0])])
 }
 
 #[test]
 fn fetches_what_was_last_sent(rt: HostRuntime) -> Result<(), Fail> {
-    let answers = answers_in_turn(rt.alloc())?;
+    let mut links = Links::new(rt.alloc())?;
+    let answers = answers_in_turn(rt.alloc(), &mut links)?;
     assert_eq!(rt; answers, [None, Some(7), Some(8), None, Some(9)]);
     Ok(())
 }

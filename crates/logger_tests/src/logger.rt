@@ -6,6 +6,7 @@ use output_logger::{EntryTook, OutputLogger, OutputTook};
 use plain_text::{Bytes, NoMemory, Packet};
 use std::alloc::Global;
 use std::marker::{Send, Sync};
+use std::process::Abort;
 use std::test::Fail;
 use thread_clock::Stamp;
 
@@ -153,53 +154,72 @@ fn arrive_all(
     Ok(None)
 }
 
-const fn wait(thread: u32, number: u64) -> OutputTook {
-    OutputTook::Wait { thread, number }
+/// An output waits for the first entry of thread 0.
+const WAIT_FOR_0: OutputTook = OutputTook::Wait {
+    thread: 0,
+    number: 1,
+};
+
+/// The same of thread 1.
+const WAIT_FOR_1: OutputTook = OutputTook::Wait {
+    thread: 1,
+    number: 1,
+};
+
+/// These arrive in turn, in epoch 1. Each becomes what it says, these outputs are released, and none waits any more.
+fn assert_released(
+    rt: &impl Abort,
+    alloc: Global,
+    logger: &mut OutputLogger,
+    arrivals: &[Arrival],
+    names: &[(u32, u64)],
+) -> Result<(), Fail>
+    requires { length logger.old.held ≡ 2 }
+{
+    let mut out = Outputs::new(alloc);
+    let wrong = arrive_all(alloc, logger, &mut out, 1, arrivals)?;
+    assert_eq!(rt; wrong, None);
+    assert!(rt; are(&out, names));
+    assert_eq!(rt; logger.waiting(), 0);
+    Ok(())
 }
+
+const TWO_THREADS: [Arrival; 7] = [
+    Arrival::Log(0, 1, New),
+    Arrival::Out(0, 1, (1, 1), WAIT_FOR_1),
+    Arrival::Out(0, 1, (0, 0), Again),
+    Arrival::Log(1, 1, New),
+    Arrival::Log(1, 1, EntryTook::Known),
+    Arrival::Out(0, 1, (0, 0), Again),
+    Arrival::Out(1, 1, (0, 1), Release),
+];
 
 /// Thread 1 touches a variable, then thread 0, which sends. Its output waits for thread 1's entry, whichever comes first.
 #[test]
 fn waits_for_the_entry_of_another_thread(rt: HostRuntime) -> Result<(), Fail> {
-    let alloc = rt.alloc();
-    let mut out = Outputs::new(alloc);
-    let arrivals = [
-        Arrival::Log(0, 1, New),
-        Arrival::Out(0, 1, (1, 1), wait(1, 1)),
-        Arrival::Out(0, 1, (0, 0), Again),
-        Arrival::Log(1, 1, New),
-        Arrival::Log(1, 1, EntryTook::Known),
-        Arrival::Out(0, 1, (0, 0), Again),
-        Arrival::Out(1, 1, (0, 1), Release),
-    ];
-    let mut logger = OutputLogger::new(alloc, 2)?;
+    let mut logger = OutputLogger::new(rt.alloc(), 2)?;
     goes_between_threads(&logger);
-    let wrong = arrive_all(alloc, &mut logger, &mut out, 1, &arrivals)?;
-    assert_eq!(rt; wrong, None);
-    assert!(rt; are(&out, &[(0, 1), (1, 1)]));
-    Ok(())
+    let names = [(0, 1), (1, 1)];
+    assert_released(&rt, rt.alloc(), &mut logger, &TWO_THREADS, &names)
 }
+
+const OUTPUTS_FIRST: [Arrival; 8] = [
+    Arrival::Out(0, 2, (2, 1), WAIT_FOR_0),
+    Arrival::Out(1, 2, (0, 1), WAIT_FOR_1),
+    Arrival::Out(0, 1, (1, 1), WAIT_FOR_0),
+    Arrival::Out(1, 1, (0, 1), WAIT_FOR_1),
+    Arrival::Log(0, 2, New),
+    Arrival::Log(0, 1, New),
+    Arrival::Out(0, 3, (2, 1), WAIT_FOR_1),
+    Arrival::Log(1, 1, New),
+];
 
 /// Four outputs come before their entries. Those that one entry frees are released in the order in which they arrived.
 #[test]
 fn releases_in_order_of_arrival(rt: HostRuntime) -> Result<(), Fail> {
-    let alloc = rt.alloc();
-    let mut out = Outputs::new(alloc);
-    let arrivals = [
-        Arrival::Out(0, 2, (2, 1), wait(0, 1)),
-        Arrival::Out(1, 2, (0, 1), wait(1, 1)),
-        Arrival::Out(0, 1, (1, 1), wait(0, 1)),
-        Arrival::Out(1, 1, (0, 1), wait(1, 1)),
-        Arrival::Log(0, 2, New),
-        Arrival::Log(0, 1, New),
-        Arrival::Out(0, 3, (2, 1), wait(1, 1)),
-        Arrival::Log(1, 1, New),
-    ];
-    let mut logger = OutputLogger::new(alloc, 2)?;
-    let wrong = arrive_all(alloc, &mut logger, &mut out, 1, &arrivals)?;
-    assert_eq!(rt; wrong, None);
-    assert!(rt; are(&out, &[(0, 2), (1, 2), (0, 1), (1, 1), (0, 3)]));
-    assert_eq!(rt; logger.waiting(), 0);
-    Ok(())
+    let mut logger = OutputLogger::new(rt.alloc(), 2)?;
+    let names = [(0, 2), (1, 2), (0, 1), (1, 1), (0, 3)];
+    assert_released(&rt, rt.alloc(), &mut logger, &OUTPUTS_FIRST, &names)
 }
 
 /// Ends the epoch. Whether one held entry is dropped, and none is kept.
@@ -217,36 +237,48 @@ fn fence(logger: &mut OutputLogger) -> bool
         }
 }
 
-/// After a fence old messages have no effect, what waited is forgotten, and what was released is not released again.
-#[test]
-fn a_fence_forgets_what_waits(rt: HostRuntime) -> Result<(), Fail> {
-    let alloc = rt.alloc();
+/// What arrives before a fence.
+const BEFORE: [Arrival; 3] = [
+    Arrival::Log(0, 1, New),
+    Arrival::Out(0, 1, (1, 0), Release),
+    Arrival::Out(1, 1, (0, 1), WAIT_FOR_1),
+];
+
+/// What arrives behind it of the epoch before.
+const LATE: [Arrival; 2] = [
+    Arrival::Log(1, 1, EntryTook::OldEpoch),
+    Arrival::Out(0, 1, (0, 0), OldEpoch),
+];
+
+/// What arrives behind it of the new epoch.
+const AFTER: [Arrival; 2] = [
+    Arrival::Out(1, 1, (0, 1), WAIT_FOR_1),
+    Arrival::Out(0, 1, (0, 0), Again),
+];
+
+/// A fence comes between these.
+fn assert_fenced(rt: &impl Abort, alloc: Global, logger: &mut OutputLogger) -> Result<(), Fail>
+    requires { length logger.old.held ≡ 2 }
+{
     let mut out = Outputs::new(alloc);
-    let before = [
-        Arrival::Log(0, 1, New),
-        Arrival::Out(0, 1, (1, 0), Release),
-        Arrival::Out(1, 1, (0, 1), wait(1, 1)),
-    ];
-    let late = [
-        Arrival::Log(1, 1, EntryTook::OldEpoch),
-        Arrival::Out(0, 1, (0, 0), OldEpoch),
-    ];
-    let after = [
-        Arrival::Out(1, 1, (0, 1), wait(1, 1)),
-        Arrival::Out(0, 1, (0, 0), Again),
-    ];
-    let mut logger = OutputLogger::new(alloc, 2)?;
-    let wrong = arrive_all(alloc, &mut logger, &mut out, 1, &before)?;
+    let wrong = arrive_all(alloc, logger, &mut out, 1, &BEFORE)?;
     assert_eq!(rt; wrong, None);
-    let kept = fence(&mut logger);
+    let kept = fence(logger);
     assert!(rt; kept);
     assert_eq!(rt; (logger.epoch(), logger.waiting()), (2, 0));
-    let wrong = arrive_all(alloc, &mut logger, &mut out, 1, &late)?;
+    let wrong = arrive_all(alloc, logger, &mut out, 1, &LATE)?;
     assert_eq!(rt; wrong, None);
-    let wrong = arrive_all(alloc, &mut logger, &mut out, 2, &after)?;
+    let wrong = arrive_all(alloc, logger, &mut out, 2, &AFTER)?;
     assert_eq!(rt; wrong, None);
     assert!(rt; are(&out, &[(0, 1)]));
     Ok(())
+}
+
+/// After a fence old messages have no effect, what waited is forgotten, and what was released is not released again.
+#[test]
+fn a_fence_forgets_what_waits(rt: HostRuntime) -> Result<(), Fail> {
+    let mut logger = OutputLogger::new(rt.alloc(), 2)?;
+    assert_fenced(&rt, rt.alloc(), &mut logger)
 }
 
 /// Outputs of thread 0 arrive, the last number first. All wait for the first entry of the thread.
@@ -261,7 +293,7 @@ fn many_wait(
 {
     for i in 0..count {
         let output = output_of(alloc, 0, count - i, stamp(1, 0))?;
-        if !send(logger, out, 1, output, wait(0, 1))? {
+        if !send(logger, out, 1, output, WAIT_FOR_0)? {
             return Ok(false);
         }
     }
@@ -280,16 +312,26 @@ fn fall(out: &Outputs, count: u64) -> bool {
     next == 0
 }
 
-#[test]
-fn one_entry_releases_many(rt: HostRuntime) -> Result<(), Fail> {
-    let alloc = rt.alloc();
+/// 2000 outputs wait, and one entry releases them.
+fn assert_many_released(
+    rt: &impl Abort,
+    alloc: Global,
+    logger: &mut OutputLogger,
+) -> Result<(), Fail>
+    requires { length logger.old.held ≡ 2 }
+{
     let mut out = Outputs::new(alloc);
-    let mut logger = OutputLogger::new(alloc, 2)?;
-    let all_wait = many_wait(alloc, &mut logger, &mut out, 2000)?;
+    let all_wait = many_wait(alloc, logger, &mut out, 2000)?;
     assert!(rt; all_wait && out.is_empty());
-    let held = log(&mut logger, &mut out, 1, entry_of(0, 1), New)?;
+    let held = log(logger, &mut out, 1, entry_of(0, 1), New)?;
     assert!(rt; held && fall(&out, 2000));
     Ok(())
+}
+
+#[test]
+fn one_entry_releases_many(rt: HostRuntime) -> Result<(), Fail> {
+    let mut logger = OutputLogger::new(rt.alloc(), 2)?;
+    assert_many_released(&rt, rt.alloc(), &mut logger)
 }
 
 /// Two outputs wait, and a snapshot with the entry of one of them is stored.
@@ -298,8 +340,8 @@ fn store(alloc: Global, logger: &mut OutputLogger, out: &mut Outputs) -> Result<
 {
     let first = output_of(alloc, 0, 2, stamp(2, 1))?;
     let second = output_of(alloc, 0, 1, stamp(1, 1))?;
-    let wait = send(logger, out, 1, first, wait(0, 1))?
-        && send(logger, out, 1, second, wait(0, 1))?;
+    let wait = send(logger, out, 1, first, WAIT_FOR_0)?
+        && send(logger, out, 1, second, WAIT_FOR_0)?;
     cover_first(logger, out)?;
     Ok(wait)
 }
@@ -311,13 +353,19 @@ fn cover_first(logger: &mut OutputLogger, out: &mut Outputs) -> Result<(), NoMem
     logger.covered(&stamp(1, 1), out)
 }
 
-#[test]
-fn a_stored_snapshot_releases(rt: HostRuntime) -> Result<(), Fail> {
-    let alloc = rt.alloc();
+/// The snapshot releases the output that it frees, and the other one goes on waiting.
+fn assert_stored(rt: &impl Abort, alloc: Global, logger: &mut OutputLogger) -> Result<(), Fail>
+    requires { logger.old.held ≡ replicate 2 fresh_lane }
+{
     let mut out = Outputs::new(alloc);
-    let mut logger = OutputLogger::new(alloc, 2)?;
-    let wait = store(alloc, &mut logger, &mut out)?;
+    let wait = store(alloc, logger, &mut out)?;
     assert!(rt; wait && are(&out, &[(0, 1)]));
     assert_eq!(rt; logger.waiting(), 1);
     Ok(())
+}
+
+#[test]
+fn a_stored_snapshot_releases(rt: HostRuntime) -> Result<(), Fail> {
+    let mut logger = OutputLogger::new(rt.alloc(), 2)?;
+    assert_stored(&rt, rt.alloc(), &mut logger)
 }

@@ -28,27 +28,30 @@ fn marked(alloc: Global) -> Result<Released, NoMemory> {
     Ok(released)
 }
 
+/// A thread, a number, whether it is marked, and whether it has room.
+const MARKED: [(u32, u64, bool, bool); 9] = [
+    (1, 0, false, false),
+    (1, 1, true, false),
+    (1, 2, true, false),
+    (1, 3, true, false),
+    (1, 4, false, true),
+    (1, 5, false, false),
+    (1, 6, false, true),
+    (0, 1, false, false),
+    (2, 1, false, false),
+];
+
 #[test]
 fn marks_numbers_in_any_order(rt: HostRuntime) -> Result<(), Fail> {
     let released = marked(rt.alloc())?;
     goes_between_threads(&released);
     assert_eq!(rt; (released.greatest(0), released.greatest(1)), (0, 3));
-    for (thread, number, seen, room) in [
-        (1, 0, false, false),
-        (1, 1, true, false),
-        (1, 2, true, false),
-        (1, 3, true, false),
-        (1, 4, false, true),
-        (1, 5, false, false),
-        (1, 6, false, true),
-        (0, 1, false, false),
-        (2, 1, false, false),
-    ] {
+    for (thread, number, seen, room) in &MARKED {
         let is = (
-            released.seen(thread, number),
-            released.has_room(thread, number),
+            released.seen(*thread, *number),
+            released.has_room(*thread, *number),
         );
-        assert_eq!(rt; is, (seen, room), "{thread} {number}");
+        assert_eq!(rt; is, (*seen, *room), "{thread} {number}");
     }
     Ok(())
 }
