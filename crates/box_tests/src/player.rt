@@ -1,4 +1,4 @@
-ghost use Rattle.std.specs.Prelude.{◌+◌, ◌<◌, ◌≤◌, ◌^◌};
+ghost use Rattle.std.specs.Prelude.{◌+◌, ◌<◌, ◌≤◌, ◌^◌, length};
 ghost use Rattle.box_program.specs.Hands.{FitsProgram};
 
 use box_program::{CountBox, PeekBox, Program};
@@ -10,7 +10,7 @@ use std::alloc::Global;
 use std::test::Fail;
 
 /// What a player tells of a move.
-#[derive(Clone, Copy, Debug, PartialEq, Eq)]
+#[derive(Clone, Copy, PartialEq)]
 enum Told {
     Nothing,
     /// The number of the packet that was sent out, that of its input, and the byte that ends the number written into it.
@@ -86,32 +86,69 @@ fn silent(thread: u32) -> PlainMove {
     }
 }
 
+/// A move of a thread, told this answer or nothing; what it tells; and whether the thread then has a packet in hand.
+type Row = (u32, Option<u64>, Told, bool);
+
+/// Makes these moves, those of thread 1 with the second packet and all others with the first. The place of the first one that is not as
+/// it should be.
+fn first_wrong<P: Program>(
+    alloc: Global,
+    player: &mut Player<P::Value>,
+    program: &P,
+    inputs: (&Packet, &Packet),
+    rows: &[Row],
+) -> Option<usize>
+    requires program { FitsProgram (P.meaning program.now) (P.fits program.now)
+        (λ value. value) player.old.values }
+    requires room { player.old.made < 2 ^ 32 }
+    requires few { length rows.now < 2 ^ 32 }
+    ensures fits { FitsProgram (P.meaning program.now) (P.fits program.now)
+        (λ value. value) player.new.values }
+    ensures made { player.new.made ≤ player.old.made + length rows.now }
+{
+    for i in 0..rows.len() {
+        let (thread, answer, told, in_hand) = rows[i];
+        let input = if thread == 1 { inputs.1 } else { inputs.0 };
+        let plain = PlainMove { thread, answer };
+        if moves(alloc, player, program, plain, input) != told
+            || player.in_hand(thread) != in_hand
+        {
+            return Some(i);
+        }
+    }
+    None
+}
+
+/// Thread 1 counts first, and both packets go out, that of thread 0 first.
+const COUNTS: [Row; 7] = [
+    (1, None, Told::Nothing, true),
+    (1, None, Told::Nothing, true),
+    (0, None, Told::Nothing, true),
+    (0, None, Told::Nothing, true),
+    (0, None, Told::Sent(1, 1, Some(2)), true),
+    (1, None, Told::Sent(1, 1, Some(1)), true),
+    (0, None, Told::Nothing, false),
+];
+
 #[test]
 fn two_threads_count(rt: HostRuntime) -> Result<(), Fail> {
     let alloc = rt.alloc();
     let program = CountBox::new();
     let packet = packet_of(alloc, 42)?;
     let mut player = Player::fresh(alloc, &program, 2)?;
-    let told = [
-        moves(alloc, &mut player, &program, silent(1), &packet),
-        moves(alloc, &mut player, &program, silent(1), &packet),
-        moves(alloc, &mut player, &program, silent(0), &packet),
-        moves(alloc, &mut player, &program, silent(0), &packet),
-    ];
-    assert_eq!(rt; told, [Told::Nothing; 4]);
-    let sent = [
-        moves(alloc, &mut player, &program, silent(0), &packet),
-        moves(alloc, &mut player, &program, silent(1), &packet),
-    ];
-    assert_eq!(rt;
-        sent,
-        [Told::Sent(1, 1, Some(2)), Told::Sent(1, 1, Some(1))]
-    );
-    assert!(rt; player.in_hand(0));
-    let _end = moves(alloc, &mut player, &program, silent(0), &packet);
-    assert!(rt; !player.in_hand(0));
+    let wrong = first_wrong(alloc, &mut player, &program, (&packet, &packet), &COUNTS);
+    assert_eq!(rt; wrong, None);
     Ok(())
 }
+
+/// Thread 0 counts, and thread 1 reads and sends its packet out.
+const READS: [Row; 5] = [
+    (0, None, Told::Nothing, true),
+    (0, None, Told::Nothing, true),
+    (1, None, Told::Nothing, true),
+    (1, None, Told::Nothing, true),
+    (1, None, Told::Sent(1, 1, Some(1)), true),
+];
 
 #[test]
 fn a_read_finds_the_number(rt: HostRuntime) -> Result<(), Fail> {
@@ -120,16 +157,18 @@ fn a_read_finds_the_number(rt: HostRuntime) -> Result<(), Fail> {
     let even = packet_of(alloc, 6)?;
     let odd = packet_of(alloc, 7)?;
     let mut player = Player::fresh(alloc, &program, 2)?;
-    let told = [
-        moves(alloc, &mut player, &program, silent(0), &even),
-        moves(alloc, &mut player, &program, silent(0), &even),
-        moves(alloc, &mut player, &program, silent(1), &odd),
-        moves(alloc, &mut player, &program, silent(1), &odd),
-        moves(alloc, &mut player, &program, silent(1), &odd),
-    ];
-    assert_eq!(rt; told[4], Told::Sent(1, 1, Some(1)));
+    let wrong = first_wrong(alloc, &mut player, &program, (&even, &odd), &READS);
+    assert_eq!(rt; wrong, None);
     Ok(())
 }
+
+/// A thread that is none, and answers that no move wants.
+const ILLEGAL: [Row; 4] = [
+    (2, None, Told::Illegal(PlayCause::NoSuchThread), false),
+    (1, Some(7), Told::Illegal(PlayCause::UnwantedAnswer), false),
+    (1, None, Told::Nothing, true),
+    (1, Some(7), Told::Illegal(PlayCause::UnwantedAnswer), true),
+];
 
 #[test]
 fn names_why_a_move_is_none(rt: HostRuntime) -> Result<(), Fail> {
@@ -137,27 +176,10 @@ fn names_why_a_move_is_none(rt: HostRuntime) -> Result<(), Fail> {
     let program = CountBox::new();
     let packet = packet_of(alloc, 42)?;
     let mut player = Player::fresh(alloc, &program, 2)?;
-    let answered = PlainMove {
-        thread: 1,
-        answer: Some(7),
-    };
-    let told = [
-        moves(alloc, &mut player, &program, silent(2), &packet),
-        moves(alloc, &mut player, &program, answered, &packet),
-        moves(alloc, &mut player, &program, silent(1), &packet),
-        moves(alloc, &mut player, &program, answered, &packet),
-    ];
-    assert_eq!(rt;
-        told,
-        [
-            Told::Illegal(PlayCause::NoSuchThread),
-            Told::Illegal(PlayCause::UnwantedAnswer),
-            Told::Nothing,
-            Told::Illegal(PlayCause::UnwantedAnswer),
-        ]
-    );
+    let wrong = first_wrong(alloc, &mut player, &program, (&packet, &packet), &ILLEGAL);
+    assert_eq!(rt; wrong, None);
     let nothing = moves_without_input(alloc, &mut player, &program, silent(0));
-    assert_eq!(rt; nothing, Some(Told::Illegal(PlayCause::NothingToTake)));
+    assert!(rt; nothing == Some(Told::Illegal(PlayCause::NothingToTake)));
     Ok(())
 }
 
@@ -239,6 +261,16 @@ fn plays_a_schedule_with_each_move_dropped(rt: HostRuntime) -> Result<(), Fail> 
     Ok(())
 }
 
+/// Texts whose second line is no move, and why.
+const FAULTS: [(&str, LineCause); 6] = [
+    ("0\nx", LineCause::BadNumber),
+    ("0\n4294967296", LineCause::OutOfRange),
+    ("0\n0 5", LineCause::UnknownWord),
+    ("0\n0 =", LineCause::MissingWord),
+    ("0\n0 = x", LineCause::BadNumber),
+    ("0\n0 = 1 2", LineCause::ExtraWord),
+];
+
 #[test]
 fn names_the_first_faulty_line(rt: HostRuntime) -> Result<(), Fail> {
     let alloc = rt.alloc();
@@ -248,15 +280,11 @@ fn names_the_first_faulty_line(rt: HostRuntime) -> Result<(), Fail> {
         put_schedule(alloc, &moves)?.as_slice(),
         b"1 = 7\n0\n".as_slice()
     );
-    for (text, cause) in [
-        (b"0\nx".as_slice(), LineCause::BadNumber),
-        (b"0\n4294967296".as_slice(), LineCause::OutOfRange),
-        (b"0\n0 5".as_slice(), LineCause::UnknownWord),
-        (b"0\n0 =".as_slice(), LineCause::MissingWord),
-        (b"0\n0 = x".as_slice(), LineCause::BadNumber),
-        (b"0\n0 = 1 2".as_slice(), LineCause::ExtraWord),
-    ] {
-        assert_eq!(rt; fault_in(alloc, text), Some(LineFault { line: 2, cause }));
+    for (text, cause) in FAULTS {
+        assert_eq!(rt;
+            fault_in(alloc, text.as_bytes()),
+            Some(LineFault { line: 2, cause })
+        );
     }
     Ok(())
 }

@@ -1,7 +1,7 @@
-ghost use Rattle.std.specs.Prelude.{◌≡◌, ◌<◌, ℕ, IsTrue, IfOk, IfSome, length, slice_index};
+ghost use Rattle.std.specs.Prelude.{◌≡◌, ◌<◌, ℕ, IsTrue, IfOk, length, slice_index};
 ghost use Rattle.recovery_world.specs.Finish.{Reached, greatest as greatest_is};
 ghost use Rattle.slow_history.specs.Mirror.{sents};
-ghost use Rattle.slow_world.specs.Mirror.{world_is, setting_is, IsSingle};
+ghost use Rattle.slow_world.specs.Mirror.{world_is, setting_is, IsSingle, WorldFits};
 
 use box_program::Program;
 use input_logger::InputLog;
@@ -74,24 +74,26 @@ fn is_single(event: &Event) -> bool
     !matches!(event, Event::Settle | Event::Auto { .. })
 }
 
-/// The world to which these events lead, each of which is single.
-fn world_after<P: Program>(
+/// Leads a world on by these events, up to one that is not single. Whether all are.
+fn lead_on<P: Program>(
+    world: &mut SlowWorld<P::Value>,
     alloc: Global,
     program: &P,
     setup: &Setup,
     events: &[Event],
-) -> Result<Option<SlowWorld<P::Value>>, NoMemory>
-    ensures { IfOk result (λ found. IfSome found (λ world.
-        Reached (setting_is (P.meaning program.now) setup.now) (world_is world))) }
+) -> Result<bool, NoMemory>
+    requires fits { WorldFits (P.fits program.now) world.old }
+    requires reached { Reached (setting_is (P.meaning program.now) setup.now) (world_is world.old) }
+    ensures { IfOk result (λ _.
+        Reached (setting_is (P.meaning program.now) setup.now) (world_is world.new)) }
 {
-    let mut world = opening(alloc, program);
     for event in events {
         if !is_single(event) {
-            return Ok(None);
+            return Ok(false);
         }
-        on_one(&mut world, alloc, program, setup, *event)?;
+        on_one(world, alloc, program, setup, *event)?;
     }
-    Ok(Some(world))
+    Ok(true)
 }
 
 /// The schedule of the run in which the world ends, where its master is up and made no move, everything was fed, and at most one
@@ -127,6 +129,24 @@ fn finish_of<P: Program>(
     Ok(Some(schedule))
 }
 
+/// The schedule of the run in which the world ends to which these events lead from this one.
+fn finish_from<P: Program>(
+    world: &mut SlowWorld<P::Value>,
+    alloc: Global,
+    program: &P,
+    setup: &Setup,
+    events: &[Event],
+) -> Result<Option<Schedule>, NoMemory>
+    requires fits { WorldFits (P.fits program.now) world.old }
+    requires reached { Reached (setting_is (P.meaning program.now) setup.now) (world_is world.old) }
+{
+    if lead_on(world, alloc, program, setup, events)? {
+        finish_of(alloc, program, setup, world)
+    } else {
+        Ok(None)
+    }
+}
+
 /// The schedule of the run in which the world ends to which these events lead.
 pub fn finish_after<P: Program>(
     alloc: Global,
@@ -134,8 +154,6 @@ pub fn finish_after<P: Program>(
     setup: &Setup,
     events: &[Event],
 ) -> Result<Option<Schedule>, NoMemory> {
-    let Some(world) = world_after(alloc, program, setup, events)? else {
-        return Ok(None);
-    };
-    finish_of(alloc, program, setup, &world)
+    let mut world = opening(alloc, program);
+    finish_from(&mut world, alloc, program, setup, events)
 }

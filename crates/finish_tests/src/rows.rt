@@ -10,23 +10,41 @@ use slow_world::Setup;
 use std::alloc::Global;
 use std::test::Fail;
 
-/// The next move of a thread.
-const fn step(thread: u64) -> Event {
-    Event::Step {
-        thread,
-        answer: None,
-    }
-}
+/// The next move of thread 0.
+const STEP_0: Event = Event::Step {
+    thread: 0,
+    answer: None,
+};
 
-/// The arrival of a log entry.
-const fn log(thread: u64, number: u64) -> Event {
-    Event::Log { thread, number }
-}
+/// The next move of thread 1.
+const STEP_1: Event = Event::Step {
+    thread: 1,
+    answer: None,
+};
 
-/// The arrival of an output.
-const fn out(thread: u64, number: u64) -> Event {
-    Event::Out { thread, number }
-}
+/// The arrival of the first entry of thread 0.
+const LOG_0_1: Event = Event::Log {
+    thread: 0,
+    number: 1,
+};
+
+/// The arrival of the first entry of thread 1.
+const LOG_1_1: Event = Event::Log {
+    thread: 1,
+    number: 1,
+};
+
+/// The arrival of the first output of thread 0.
+const OUT_0_1: Event = Event::Out {
+    thread: 0,
+    number: 1,
+};
+
+/// The arrival of the first output of thread 1.
+const OUT_1_1: Event = Event::Out {
+    thread: 1,
+    number: 1,
+};
 
 /// A packet with this frame.
 fn packet_of(alloc: Global, frame: &[u8]) -> Result<Packet, NoMemory> {
@@ -50,76 +68,84 @@ fn two_packets(alloc: Global) -> Result<Setup, NoMemory> {
     })
 }
 
-/// The threads of the moves of the run in which the world ends after these events, as one number: a digit for each move, and a 9
-/// before the first one. 0 where a move is told something, or the world is none of those that are finished here.
-fn threads_moved(alloc: Global, events: &[Event]) -> Result<u64, NoMemory> {
-    let program = CountBox::new();
-    let setup = two_packets(alloc)?;
-    let Some(schedule) = finish_after(alloc, &program, &setup, events)? else {
-        return Ok(0);
-    };
+/// The threads of these moves as one number: a digit for each move, and a 9 before the first one. 0 where a move is told something.
+fn digits_of(moves: &[PlainMove]) -> u64 {
     let mut digits: u64 = 9;
-    for moved in schedule.as_slice() {
-        let PlainMove { thread, answer } = *moved;
-        if answer.is_some() {
-            return Ok(0);
+    for plain in moves {
+        if plain.answer.is_some() {
+            return 0;
         }
-        digits = digits.wrapping_mul(10).wrapping_add(u64::from(thread));
+        digits = digits
+            .wrapping_mul(10)
+            .wrapping_add(u64::from(plain.thread));
     }
-    Ok(digits)
+    digits
+}
+
+/// The threads of the moves of the run in which the world ends after these events, as one number. 0 where the world is none of those
+/// that are finished here.
+fn threads_moved(alloc: Global, events: &[Event]) -> Result<u64, NoMemory> {
+    let setup = two_packets(alloc)?;
+    match finish_after(alloc, &CountBox::new(), &setup, events)? {
+        Some(schedule) => Ok(digits_of(schedule.as_slice())),
+        None => Ok(0),
+    }
 }
 
 /// Thread 1 counted first, and its entry alone is held. The new master makes it again, and no more.
+const ONE_ENTRY: [Event; 8] = [
+    Event::Feed(2),
+    STEP_1,
+    STEP_1,
+    STEP_0,
+    STEP_0,
+    LOG_1_1,
+    Event::Crash,
+    Event::Recover,
+];
+
 #[test]
 fn one_entry_is_made_again(rt: HostRuntime) -> Result<(), Fail> {
-    let events = [
-        Event::Feed(2),
-        step(1),
-        step(1),
-        step(0),
-        step(0),
-        log(1, 1),
-        Event::Crash,
-        Event::Recover,
-    ];
-    assert_eq!(rt; threads_moved(rt.alloc(), &events)?, 911);
+    assert_eq!(rt; threads_moved(rt.alloc(), &ONE_ENTRY)?, 911);
     Ok(())
 }
 
 /// Its packet was released too, and goes out again; the other thread's did not go out, and is not made again.
+const RELEASED_OUTPUT: [Event; 12] = [
+    Event::Feed(2),
+    STEP_1,
+    STEP_1,
+    STEP_0,
+    STEP_0,
+    STEP_0,
+    STEP_1,
+    LOG_1_1,
+    OUT_1_1,
+    OUT_0_1,
+    Event::Crash,
+    Event::Recover,
+];
+
 #[test]
 fn a_released_output_is_sent_again(rt: HostRuntime) -> Result<(), Fail> {
-    let events = [
-        Event::Feed(2),
-        step(1),
-        step(1),
-        step(0),
-        step(0),
-        step(0),
-        step(1),
-        log(1, 1),
-        out(1, 1),
-        out(0, 1),
-        Event::Crash,
-        Event::Recover,
-    ];
-    assert_eq!(rt; threads_moved(rt.alloc(), &events)?, 9111);
+    assert_eq!(rt; threads_moved(rt.alloc(), &RELEASED_OUTPUT)?, 9111);
     Ok(())
 }
 
 /// Nothing is held, so the run is over at once.
+const NOTHING_LEFT: [Event; 8] = [
+    Event::Feed(2),
+    STEP_1,
+    STEP_1,
+    STEP_0,
+    STEP_0,
+    LOG_0_1,
+    Event::Crash,
+    Event::Recover,
+];
+
 #[test]
 fn nothing_is_left(rt: HostRuntime) -> Result<(), Fail> {
-    let events = [
-        Event::Feed(2),
-        step(1),
-        step(1),
-        step(0),
-        step(0),
-        log(0, 1),
-        Event::Crash,
-        Event::Recover,
-    ];
-    assert_eq!(rt; threads_moved(rt.alloc(), &events)?, 9);
+    assert_eq!(rt; threads_moved(rt.alloc(), &NOTHING_LEFT)?, 9);
     Ok(())
 }

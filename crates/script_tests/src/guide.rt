@@ -91,43 +91,66 @@ fn guide_of(alloc: Global, entries: &[StampedEntry]) -> Result<Guide, NoMemory> 
     follow(alloc, &held)
 }
 
-/// A move that a thread wants, with the places of variable 0 and the readers' stamp, and whose turn it is.
-#[derive(Drop)]
-struct Asked {
-    thread: u32,
-    read: bool,
-    places: u64,
-    readers: [u64; 4],
-    turn: Turn,
-}
+/// A move that a thread wants as its first entry: the thread, whether it reads, the places of variable 0, the readers' stamp, and whose
+/// turn it is.
+type Asked = (u32, bool, u64, [u64; 4], Turn);
 
-/// A touch, or a read, that a thread wants as its first entry, and whose turn it is.
-fn first_move(thread: u32, read: bool, places: u64, readers: [u64; 4], turn: Turn) -> Asked {
-    Asked {
-        thread,
-        read,
-        places,
-        readers,
-        turn,
+/// The first of these moves of which the guide says something else.
+fn first_wrong(guide: &Guide, moves: &[Asked]) -> Option<usize> {
+    for i in 0..moves.len() {
+        let (thread, reads, places, readers, turn) = moves[i];
+        if guide.turn(thread, 1, 0, reads, places, &stamp(readers)) != turn {
+            return Some(i);
+        }
     }
+    None
 }
 
-/// Whether the guide says so.
-fn says(guide: &Guide, asked: &Asked) -> bool {
-    let readers = stamp(asked.readers);
-    guide.turn(asked.thread, 1, 0, asked.read, asked.places, &readers) == asked.turn
+/// Whether this is the order of the entries that a guide follows, each by its thread and number.
+fn is_order(alloc: Global, guide: &Guide, order: &[(u32, u64)]) -> Result<bool, NoMemory> {
+    Ok(guide.order(alloc)?.as_slice() == order)
 }
 
-const FOLLOW: Turn = Turn::Follow;
+const TOUCH: bool = false;
 
-const FREE: Turn = Turn::Free;
+const READ: bool = true;
 
 const NONE: [u64; 4] = [0; 4];
 
-/// That the turn waits for the first entry of this thread.
-fn wait(thread: u32) -> Turn {
-    Turn::Wait { thread, number: 1 }
-}
+/// That the turn waits for the first entry of thread 0.
+const WAIT_0: Turn = Turn::Wait {
+    thread: 0,
+    number: 1,
+};
+
+/// That the turn waits for the first entry of thread 1.
+const WAIT_1: Turn = Turn::Wait {
+    thread: 1,
+    number: 1,
+};
+
+/// That the turn waits for the first entry of thread 2.
+const WAIT_2: Turn = Turn::Wait {
+    thread: 2,
+    number: 1,
+};
+
+/// That the turn waits for the first entry of thread 3.
+const WAIT_3: Turn = Turn::Wait {
+    thread: 3,
+    number: 1,
+};
+
+/// What two threads want of variable 0, where thread 1 made touch 1 before thread 0 made touch 2.
+const TWO_THREADS: [Asked; 7] = [
+    (0, TOUCH, 0, NONE, WAIT_1),
+    (0, READ, 0, NONE, WAIT_1),
+    (1, TOUCH, 0, NONE, Turn::Follow),
+    (0, TOUCH, 1, NONE, Turn::Follow),
+    (1, TOUCH, 1, NONE, WAIT_0),
+    (1, TOUCH, 2, NONE, Turn::Free),
+    (1, READ, 2, NONE, Turn::Free),
+];
 
 /// Thread 1 makes touch 1, then thread 0 touch 2. After the crash thread 0 waits.
 #[test]
@@ -138,24 +161,25 @@ fn two_threads_count(rt: HostRuntime) -> Result<(), Fail> {
     ];
     let guide = guide_of(rt.alloc(), &entries)?;
     goes_between_threads(&guide);
-    for asked in &[
-        first_move(0, false, 0, NONE, wait(1)),
-        first_move(0, true, 0, NONE, wait(1)),
-        first_move(1, false, 0, NONE, FOLLOW),
-        first_move(0, false, 1, NONE, FOLLOW),
-        first_move(1, false, 1, NONE, wait(0)),
-        first_move(1, false, 2, NONE, FREE),
-        first_move(1, true, 2, NONE, FREE),
-    ] {
-        assert!(rt; says(&guide, asked));
-    }
+    assert_eq!(rt; first_wrong(&guide, &TWO_THREADS), None);
     assert_eq!(rt; guide.left(&stamp(NONE)), 2);
     assert_eq!(rt; guide.left(&stamp([0, 1, 0, 0])), 1);
     assert_eq!(rt; guide.answer(0, 1), None);
-    let order = guide.order(rt.alloc())?;
-    assert_eq!(rt; order.as_slice(), [(1, 1), (0, 1)].as_slice());
+    assert!(rt; is_order(rt.alloc(), &guide, &[(1, 1), (0, 1)])?);
     Ok(())
 }
+
+/// What threads want of variable 0, where threads 2 and 3 read between two touches.
+const READS_BETWEEN: [Asked; 8] = [
+    (2, READ, 0, NONE, WAIT_1),
+    (3, READ, 1, NONE, Turn::Follow),
+    (0, TOUCH, 1, NONE, WAIT_2),
+    (0, TOUCH, 1, [0, 0, 1, 0], WAIT_3),
+    (0, TOUCH, 1, [0, 0, 1, 1], Turn::Follow),
+    (4, TOUCH, 1, [0, 0, 0, 1], WAIT_2),
+    (4, READ, 1, NONE, WAIT_0),
+    (4, READ, 2, NONE, Turn::Free),
+];
 
 /// Between the two touches threads 2 and 3 read. The second touch waits for both, and a free read for it.
 #[test]
@@ -167,27 +191,12 @@ fn reads_stand_between_touches(rt: HostRuntime) -> Result<(), Fail> {
         first_entry(3, READ_BETWEEN, [0, 1, 0, 1]),
     ];
     let guide = guide_of(rt.alloc(), &entries)?;
-    for asked in &[
-        first_move(2, true, 0, NONE, wait(1)),
-        first_move(3, true, 1, NONE, FOLLOW),
-        first_move(0, false, 1, NONE, wait(2)),
-        first_move(0, false, 1, [0, 0, 1, 0], wait(3)),
-        first_move(0, false, 1, [0, 0, 1, 1], FOLLOW),
-        first_move(4, false, 1, [0, 0, 0, 1], wait(2)),
-        first_move(4, true, 1, NONE, wait(0)),
-        first_move(4, true, 2, NONE, FREE),
-    ] {
-        assert!(rt; says(&guide, asked));
-    }
-    let order = guide.order(rt.alloc())?;
-    assert_eq!(rt;
-        order.as_slice(),
-        [(1, 1), (2, 1), (3, 1), (0, 1)].as_slice()
-    );
+    assert_eq!(rt; first_wrong(&guide, &READS_BETWEEN), None);
+    assert!(rt; is_order(rt.alloc(), &guide, &[(1, 1), (2, 1), (3, 1), (0, 1)])?);
     Ok(())
 }
 
-/// What a clock and a draw were told is recorded. Where nothing is followed, everything is free.
+/// What a clock and a draw were told is recorded.
 #[test]
 fn answers_are_recorded(rt: HostRuntime) -> Result<(), Fail> {
     let entries = [
@@ -201,9 +210,18 @@ fn answers_are_recorded(rt: HostRuntime) -> Result<(), Fail> {
     assert_eq!(rt; guide.answer(1, 1), None);
     assert_eq!(rt; guide.answer(2, 2), None);
     assert_eq!(rt; guide.get(3, 1), Some(&entries[1]));
+    Ok(())
+}
+
+/// Where nothing is followed, everything is free.
+#[test]
+fn nothing_is_followed(rt: HostRuntime) -> Result<(), Fail> {
     let free = Guide::none(rt.alloc());
-    assert!(rt; says(&free, &first_move(0, false, 0, NONE, FREE)));
+    assert_eq!(rt;
+        first_wrong(&free, &[(0, TOUCH, 0, NONE, Turn::Free)]),
+        None
+    );
     assert_eq!(rt; free.left(&stamp(NONE)), 0);
-    assert!(rt; free.order(rt.alloc())?.is_empty());
+    assert!(rt; is_order(rt.alloc(), &free, &[])?);
     Ok(())
 }

@@ -1,5 +1,6 @@
 use script_text::{Event, Kind, auto_event, put_event, read_script};
 use std::alloc::Global;
+use std::process::Abort;
 use std::test::Fail;
 
 /// What a text comes to: the lines of its events, each with a semicolon, or the text of its error.
@@ -34,267 +35,286 @@ fn counted(alloc: Global, text: &str) -> Result<String, Fail> {
     }
 }
 
+/// A text, and what it comes to.
+type Row = (&'static str, &'static str);
+
+/// Asserts that each text comes to what stands beside it.
+fn come_to(rt: &impl Abort, alloc: Global, rows: &[Row]) -> Result<(), Fail> {
+    for (text, wanted) in rows {
+        assert_eq!(rt; told(alloc, text)?.as_str(), *wanted, "at {text:?}");
+    }
+    Ok(())
+}
+
+/// Lines, and the event for which each stands.
+const LINES: [(&str, Event); 18] = [
+    ("feed 0", Event::Feed(0)),
+    ("feed 18446744073709551615", Event::Feed(u64::MAX)),
+    ("time 1600000000000000", Event::Time(1_600_000_000_000_000)),
+    (
+        "step 15",
+        Event::Step {
+            thread: 15,
+            answer: None,
+        },
+    ),
+    (
+        "step 0 = 9",
+        Event::Step {
+            thread: 0,
+            answer: Some(9),
+        },
+    ),
+    (
+        "log 1 20",
+        Event::Log {
+            thread: 1,
+            number: 20,
+        },
+    ),
+    (
+        "out 3 1",
+        Event::Out {
+            thread: 3,
+            number: 1,
+        },
+    ),
+    (
+        "late 1 log 2 3",
+        Event::Late {
+            epoch: 1,
+            kind: Kind::Log,
+            thread: 2,
+            number: 3,
+        },
+    ),
+    (
+        "late 4 out 5 6",
+        Event::Late {
+            epoch: 4,
+            kind: Kind::Out,
+            thread: 5,
+            number: 6,
+        },
+    ),
+    (
+        "cut log 0 1 46",
+        Event::Cut {
+            kind: Kind::Log,
+            thread: 0,
+            number: 1,
+            length: 46,
+        },
+    ),
+    (
+        "cut out 7 8 9",
+        Event::Cut {
+            kind: Kind::Out,
+            thread: 7,
+            number: 8,
+            length: 9,
+        },
+    ),
+    ("snap", Event::Snap),
+    ("store", Event::Store),
+    ("crash", Event::Crash),
+    ("recover", Event::Recover),
+    ("show 255", Event::Show(255)),
+    ("settle", Event::Settle),
+    ("auto 7 30000", Event::Auto { seed: 7, n: 30_000 }),
+];
+
 #[test]
 fn reads_and_writes_each_event(rt: HostRuntime) -> Result<(), Fail> {
-    let most = u64::MAX;
-    for (line, event) in [
-        ("feed 0", Event::Feed(0)),
-        ("feed 18446744073709551615", Event::Feed(most)),
-        ("time 1600000000000000", Event::Time(1_600_000_000_000_000)),
-        (
-            "step 15",
-            Event::Step {
-                thread: 15,
-                answer: None,
-            },
-        ),
-        (
-            "step 0 = 9",
-            Event::Step {
-                thread: 0,
-                answer: Some(9),
-            },
-        ),
-        (
-            "log 1 20",
-            Event::Log {
-                thread: 1,
-                number: 20,
-            },
-        ),
-        (
-            "out 3 1",
-            Event::Out {
-                thread: 3,
-                number: 1,
-            },
-        ),
-        (
-            "late 1 log 2 3",
-            Event::Late {
-                epoch: 1,
-                kind: Kind::Log,
-                thread: 2,
-                number: 3,
-            },
-        ),
-        (
-            "late 4 out 5 6",
-            Event::Late {
-                epoch: 4,
-                kind: Kind::Out,
-                thread: 5,
-                number: 6,
-            },
-        ),
-        (
-            "cut log 0 1 46",
-            Event::Cut {
-                kind: Kind::Log,
-                thread: 0,
-                number: 1,
-                length: 46,
-            },
-        ),
-        (
-            "cut out 7 8 9",
-            Event::Cut {
-                kind: Kind::Out,
-                thread: 7,
-                number: 8,
-                length: 9,
-            },
-        ),
-        ("snap", Event::Snap),
-        ("store", Event::Store),
-        ("crash", Event::Crash),
-        ("recover", Event::Recover),
-        ("show 255", Event::Show(255)),
-        ("settle", Event::Settle),
-        ("auto 7 30000", Event::Auto { seed: 7, n: 30_000 }),
-    ] {
+    for (line, event) in LINES {
         assert!(rt; stands_for(rt.alloc(), line, event)?, "at {line:?}");
     }
     Ok(())
 }
 
+/// Scripts, and the lines of their events.
+const READ: [Row; 6] = [
+    ("", ""),
+    ("# nothing\n\n \t\r\n", ""),
+    ("settle", "settle;"),
+    ("snap\r\nstore\r\n", "snap;store;"),
+    (
+        "#1\n\n\tfeed  007 \n # x\nstep\t01\t=  02\n\nsettle\n",
+        "feed 7;step 1 = 2;settle;",
+    ),
+    (
+        "auto 0 1\nauto 0 0\nauto 1 00000000000000000003",
+        "auto 0 1;auto 0 0;auto 1 3;",
+    ),
+];
+
 #[test]
 fn reads_scripts(rt: HostRuntime) -> Result<(), Fail> {
-    for (text, events) in [
-        ("", ""),
-        ("# nothing\n\n \t\r\n", ""),
-        ("settle", "settle;"),
-        ("snap\r\nstore\r\n", "snap;store;"),
-        (
-            "#1\n\n\tfeed  007 \n # x\nstep\t01\t=  02\n\nsettle\n",
-            "feed 7;step 1 = 2;settle;",
-        ),
-        (
-            "auto 0 1\nauto 0 0\nauto 1 00000000000000000003",
-            "auto 0 1;auto 0 0;auto 1 3;",
-        ),
-    ] {
-        assert_eq!(rt; told(rt.alloc(), text)?.as_str(), events, "at {text:?}");
-    }
-    Ok(())
+    come_to(&rt, rt.alloc(), &READ)
 }
+
+/// Texts that are no script, and the first fault of each.
+const FAULTS: [Row; 46] = [
+    ("stop 1", "line 1: unknown word"),
+    ("Feed 1", "line 1: unknown word"),
+    ("snap\n\n#\nsnap 1\nx", "line 4: extra word"),
+    ("settle\r", "line 1: unknown word"),
+    ("feed 1\r", "line 1: bad number"),
+    ("feed", "line 1: missing word"),
+    ("feed x", "line 1: bad number"),
+    ("feed 1 2", "line 1: extra word"),
+    ("feed x 2", "line 1: bad number"),
+    ("feed 18446744073709551616", "line 1: bad number"),
+    ("feed 000000000000000000001", "line 1: bad number"),
+    ("time -1", "line 1: bad number"),
+    ("step", "line 1: missing word"),
+    ("step x", "line 1: bad number"),
+    ("step 0 x", "line 1: unknown word"),
+    ("step 0 =", "line 1: missing word"),
+    ("step 0 = x", "line 1: bad number"),
+    ("step 0 = 1 2", "line 1: extra word"),
+    ("step x = y", "line 1: bad number"),
+    ("step 0 =1", "line 1: unknown word"),
+    ("log 0", "line 1: missing word"),
+    ("log x", "line 1: bad number"),
+    ("log 0 1 2", "line 1: extra word"),
+    ("out 0", "line 1: missing word"),
+    ("out 0 x", "line 1: bad number"),
+    ("late", "line 1: missing word"),
+    ("late x", "line 1: bad number"),
+    ("late 1", "line 1: missing word"),
+    ("late 1 set", "line 1: unknown word"),
+    ("late 1 set x", "line 1: unknown word"),
+    ("late 1 log 0", "line 1: missing word"),
+    ("late 1 out 0 1 2", "line 1: extra word"),
+    ("cut", "line 1: missing word"),
+    ("cut 0", "line 1: unknown word"),
+    ("cut log 0 1", "line 1: missing word"),
+    ("cut log 0 1 x", "line 1: bad number"),
+    ("cut out 0 1 2 3", "line 1: extra word"),
+    ("snap 1", "line 1: extra word"),
+    ("store 1", "line 1: extra word"),
+    ("crash 1", "line 1: extra word"),
+    ("recover 1", "line 1: extra word"),
+    ("show", "line 1: missing word"),
+    ("show 1 2", "line 1: extra word"),
+    ("settle 1", "line 1: extra word"),
+    ("auto 1", "line 1: missing word"),
+    ("auto 1 x", "line 1: bad number"),
+];
 
 #[test]
 fn names_the_first_fault(rt: HostRuntime) -> Result<(), Fail> {
-    for (text, fault) in [
-        ("stop 1", "line 1: unknown word"),
-        ("Feed 1", "line 1: unknown word"),
-        ("snap\n\n#\nsnap 1\nx", "line 4: extra word"),
-        ("settle\r", "line 1: unknown word"),
-        ("feed 1\r", "line 1: bad number"),
-        ("feed", "line 1: missing word"),
-        ("feed x", "line 1: bad number"),
-        ("feed 1 2", "line 1: extra word"),
-        ("feed x 2", "line 1: bad number"),
-        ("feed 18446744073709551616", "line 1: bad number"),
-        ("feed 000000000000000000001", "line 1: bad number"),
-        ("time -1", "line 1: bad number"),
-        ("step", "line 1: missing word"),
-        ("step x", "line 1: bad number"),
-        ("step 0 x", "line 1: unknown word"),
-        ("step 0 =", "line 1: missing word"),
-        ("step 0 = x", "line 1: bad number"),
-        ("step 0 = 1 2", "line 1: extra word"),
-        ("step x = y", "line 1: bad number"),
-        ("step 0 =1", "line 1: unknown word"),
-        ("log 0", "line 1: missing word"),
-        ("log x", "line 1: bad number"),
-        ("log 0 1 2", "line 1: extra word"),
-        ("out 0", "line 1: missing word"),
-        ("out 0 x", "line 1: bad number"),
-        ("late", "line 1: missing word"),
-        ("late x", "line 1: bad number"),
-        ("late 1", "line 1: missing word"),
-        ("late 1 set", "line 1: unknown word"),
-        ("late 1 set x", "line 1: unknown word"),
-        ("late 1 log 0", "line 1: missing word"),
-        ("late 1 out 0 1 2", "line 1: extra word"),
-        ("cut", "line 1: missing word"),
-        ("cut 0", "line 1: unknown word"),
-        ("cut log 0 1", "line 1: missing word"),
-        ("cut log 0 1 x", "line 1: bad number"),
-        ("cut out 0 1 2 3", "line 1: extra word"),
-        ("snap 1", "line 1: extra word"),
-        ("store 1", "line 1: extra word"),
-        ("crash 1", "line 1: extra word"),
-        ("recover 1", "line 1: extra word"),
-        ("show", "line 1: missing word"),
-        ("show 1 2", "line 1: extra word"),
-        ("settle 1", "line 1: extra word"),
-        ("auto 1", "line 1: missing word"),
-        ("auto 1 x", "line 1: bad number"),
-    ] {
-        assert_eq!(rt; told(rt.alloc(), text)?.as_str(), fault, "at {text:?}");
-    }
-    Ok(())
+    come_to(&rt, rt.alloc(), &FAULTS)
 }
+
+/// Texts, and how many events each has or what is wrong with it.
+const COUNTS: [Row; 11] = [
+    ("auto 1 4000000", "1"),
+    ("auto 1 4000000\nsnap", "too many lines"),
+    ("snap\nauto 1 3999999", "2"),
+    ("auto 1 4000000\nauto 1 0", "2"),
+    ("auto 1 4000001", "too many lines"),
+    ("auto 1 3000000\nauto 2 1000001\n", "too many lines"),
+    ("auto 1 2\nauto 1 18446744073709551615", "too many lines"),
+    ("auto 1 4000001\nx", "too many lines"),
+    ("x\nauto 1 4000001", "line 1: unknown word"),
+    ("auto 1 4000000\nx\nsnap", "line 2: unknown word"),
+    ("snap\nauto 1 4000000 5", "line 2: extra word"),
+];
 
 #[test]
 fn counts_events(rt: HostRuntime) -> Result<(), Fail> {
-    for (text, count) in [
-        ("auto 1 4000000", "1"),
-        ("auto 1 4000000\nsnap", "too many lines"),
-        ("snap\nauto 1 3999999", "2"),
-        ("auto 1 4000000\nauto 1 0", "2"),
-        ("auto 1 4000001", "too many lines"),
-        ("auto 1 3000000\nauto 2 1000001\n", "too many lines"),
-        ("auto 1 2\nauto 1 18446744073709551615", "too many lines"),
-        ("auto 1 4000001\nx", "too many lines"),
-        ("x\nauto 1 4000001", "line 1: unknown word"),
-        ("auto 1 4000000\nx\nsnap", "line 2: unknown word"),
-        ("snap\nauto 1 4000000 5", "line 2: extra word"),
-    ] {
-        assert_eq!(rt; counted(rt.alloc(), text)?.as_str(), count, "at {text:?}");
+    for (text, count) in &COUNTS {
+        assert_eq!(rt; counted(rt.alloc(), text)?.as_str(), *count, "at {text:?}");
     }
     Ok(())
 }
 
+/// Two words, and the event that they choose where two threads made 5 entries and 1, and 0 outputs and 9.
+const CHOSEN: [(u32, u32, Event); 14] = [
+    (
+        0,
+        0,
+        Event::Step {
+            thread: 0,
+            answer: None,
+        },
+    ),
+    (
+        15,
+        3,
+        Event::Step {
+            thread: 1,
+            answer: None,
+        },
+    ),
+    (16, 0, Event::Feed(1)),
+    (18, 9, Event::Feed(1)),
+    (
+        19,
+        0,
+        Event::Log {
+            thread: 0,
+            number: 5,
+        },
+    ),
+    (
+        24,
+        48,
+        Event::Log {
+            thread: 0,
+            number: 2,
+        },
+    ),
+    (
+        21,
+        49,
+        Event::Log {
+            thread: 1,
+            number: 1,
+        },
+    ),
+    (
+        25,
+        0,
+        Event::Out {
+            thread: 0,
+            number: 1,
+        },
+    ),
+    (
+        28,
+        17,
+        Event::Out {
+            thread: 1,
+            number: 8,
+        },
+    ),
+    (29, 1, Event::Snap),
+    (30, 0, Event::Store),
+    (31, 0, Event::Store),
+    (
+        32,
+        2,
+        Event::Step {
+            thread: 0,
+            answer: None,
+        },
+    ),
+    (
+        0xffff_fff7,
+        0xffff_ffff,
+        Event::Log {
+            thread: 1,
+            number: 1,
+        },
+    ),
+];
+
 #[test]
 fn chooses_events(rt: HostRuntime) {
-    for (a, b, event) in [
-        (
-            0,
-            0,
-            Event::Step {
-                thread: 0,
-                answer: None,
-            },
-        ),
-        (
-            15,
-            3,
-            Event::Step {
-                thread: 1,
-                answer: None,
-            },
-        ),
-        (16, 0, Event::Feed(1)),
-        (18, 9, Event::Feed(1)),
-        (
-            19,
-            0,
-            Event::Log {
-                thread: 0,
-                number: 5,
-            },
-        ),
-        (
-            24,
-            48,
-            Event::Log {
-                thread: 0,
-                number: 2,
-            },
-        ),
-        (
-            21,
-            49,
-            Event::Log {
-                thread: 1,
-                number: 1,
-            },
-        ),
-        (
-            25,
-            0,
-            Event::Out {
-                thread: 0,
-                number: 1,
-            },
-        ),
-        (
-            28,
-            17,
-            Event::Out {
-                thread: 1,
-                number: 8,
-            },
-        ),
-        (29, 1, Event::Snap),
-        (30, 0, Event::Store),
-        (31, 0, Event::Store),
-        (
-            32,
-            2,
-            Event::Step {
-                thread: 0,
-                answer: None,
-            },
-        ),
-        (
-            0xffff_fff7,
-            0xffff_ffff,
-            Event::Log {
-                thread: 1,
-                number: 1,
-            },
-        ),
-    ] {
+    for (a, b, event) in CHOSEN {
         let chosen = auto_event(a, b, &[5, 1], &[0, 9]);
         assert_eq!(rt; chosen, event, "at {a} and {b}");
     }

@@ -1,4 +1,6 @@
 ghost use Rattle.std.specs.Prelude.{◌≡◌, ◌<◌, length};
+ghost use Rattle.box_program.specs.Count.{IsCounter};
+ghost use Rattle.snapshot_tests.specs.Pinned.{pinned_meaning};
 ghost use Rattle.snapshot_tests.specs.Scene.{HasMaster, HasStored};
 
 use crate::pinned::PinnedBox;
@@ -8,6 +10,7 @@ use master_core::{Counts, Master, Stepped};
 use plain_text::{Bytes, NoMemory, Packet};
 use snapshot_store::Store;
 use std::alloc::Global;
+use std::process::Abort;
 use std::test::Fail;
 use thread_clock::Stamp;
 
@@ -136,7 +139,7 @@ fn shown_by<P: Program<Value = u64>>(master: &Master<P>) -> Shown
 }
 
 /// What a recovery finds.
-#[derive(Debug, Drop)]
+#[derive(Drop)]
 struct Found {
     shown: Shown,
     moves: u64,
@@ -158,23 +161,69 @@ fn restored<P: Program<Value = u64>>(alloc: Global, program: &P, store: &Store<P
     })
 }
 
+/// Passes two packets, and takes and stores a snapshot after each.
+fn store_twice<P: Program>(
+    alloc: Global,
+    program: &P,
+    store: &mut Store<P>,
+    master: &mut Master<P>,
+    inputs: (&Packet, &Packet),
+    outbox: &mut Outputs,
+) -> Option<()>
+    requires master { HasMaster (P.meaning program.now) (P.fits program.now) master.old }
+    requires stored { HasStored (P.meaning program.now) (P.fits program.now) store.old }
+    ensures master { HasMaster (P.meaning program.now) (P.fits program.now) master.new }
+    ensures stored { HasStored (P.meaning program.now) (P.fits program.now) store.new }
+{
+    pass(alloc, program, master, inputs.0, outbox)?;
+    store_snapshot(alloc, program, store, master, MOVES, outbox)?;
+    pass(alloc, program, master, inputs.1, outbox)?;
+    store_snapshot(alloc, program, store, master, 2 * MOVES, outbox)
+}
+
 /// What a recovery finds after three packets: a snapshot was stored after each of the first two, and one was lost after the third.
+fn found_in<P: Program<Value = u64>>(
+    alloc: Global,
+    program: &P,
+    store: &mut Store<P>,
+    master: &mut Master<P>,
+    inputs: (&Packet, &Packet),
+) -> Option<Found>
+    requires master { HasMaster (P.meaning program.now) (P.fits program.now) master.old }
+    requires stored { HasStored (P.meaning program.now) (P.fits program.now) store.old }
+{
+    let mut outbox = Outputs::new(alloc);
+    lose_third(alloc, program, store, master, inputs, &mut outbox)?;
+    restored(alloc, program, store)
+}
+
+/// Stores two snapshots, and loses a third one.
+fn lose_third<P: Program>(
+    alloc: Global,
+    program: &P,
+    store: &mut Store<P>,
+    master: &mut Master<P>,
+    inputs: (&Packet, &Packet),
+    outbox: &mut Outputs,
+) -> Option<()>
+    requires master { HasMaster (P.meaning program.now) (P.fits program.now) master.old }
+    requires stored { HasStored (P.meaning program.now) (P.fits program.now) store.old }
+    ensures { HasStored (P.meaning program.now) (P.fits program.now) store.new }
+{
+    store_twice(alloc, program, store, master, inputs, outbox)?;
+    pass(alloc, program, master, inputs.0, outbox)?;
+    lose_snapshot(alloc, program, store, master, 3 * MOVES, outbox)
+}
+
+/// The same, with a fresh master and a new store.
 fn found_after<P: Program<Value = u64>>(
     alloc: Global,
     program: &P,
-    first: &Packet,
-    second: &Packet,
+    inputs: (&Packet, &Packet),
 ) -> Option<Found> {
     let mut master = Master::fresh(alloc, program, 1).ok()?;
     let mut store = Store::new(alloc, program, 1).ok()?;
-    let mut outbox = Outputs::new(alloc);
-    pass(alloc, program, &mut master, first, &mut outbox)?;
-    store_snapshot(alloc, program, &mut store, &master, MOVES, &outbox)?;
-    pass(alloc, program, &mut master, second, &mut outbox)?;
-    store_snapshot(alloc, program, &mut store, &master, 2 * MOVES, &outbox)?;
-    pass(alloc, program, &mut master, first, &mut outbox)?;
-    lose_snapshot(alloc, program, &mut store, &master, 3 * MOVES, &outbox)?;
-    restored(alloc, program, &store)
+    found_in(alloc, program, &mut store, &mut master, inputs)
 }
 
 /// Whether these outputs have these numbers, made of the inputs of the same numbers, and carry these numbers in their packets.
@@ -196,50 +245,52 @@ fn are_numbered(outputs: &[Output], carried: &[u8]) -> bool {
     true
 }
 
+/// Asserts that a recovery after packets of 6 and of 7 bytes finds this, and outputs that carry these numbers.
+fn finds<P: Program<Value = u64>>(
+    rt: &impl Abort,
+    alloc: Global,
+    program: &P,
+    expected: Shown,
+    carried: &[u8],
+) -> Result<(), Fail> {
+    let first = packet(alloc, &[0; 6])?;
+    let second = packet(alloc, &[0; 7])?;
+    let found = found_after(alloc, program, (&first, &second)).ok_or("no snapshot")?;
+    assert_eq!(rt; found.shown, expected);
+    assert_eq!(rt; found.moves, 8);
+    assert!(rt; are_numbered(found.outbox.as_slice(), carried));
+    Ok(())
+}
+
+/// What thread 0 counted after two packets.
+const TWO: Counts = Counts {
+    taken: 2,
+    entries: 2,
+    outputs: 2,
+};
+
 /// Two packets that the box counts.
 #[test]
 fn a_snapshot_of_counts(rt: HostRuntime) -> Result<(), Fail> {
-    let alloc = rt.alloc();
-    let first = packet(alloc, &[0; 6])?;
-    let second = packet(alloc, &[0; 7])?;
-    let found = found_after(alloc, &CountBox::new(), &first, &second).ok_or("no snapshot")?;
     let expected = Shown {
         value: 2,
         places: 2,
         readers: Stamp::zero(),
-        counts: Counts {
-            taken: 2,
-            entries: 2,
-            outputs: 2,
-        },
+        counts: TWO,
     };
-    assert_eq!(rt; found.shown, expected);
-    assert_eq!(rt; found.moves, 8);
-    assert!(rt; are_numbered(found.outbox.as_slice(), &[1, 2]));
-    Ok(())
+    finds(&rt, rt.alloc(), &CountBox::new(), expected, &[1, 2])
 }
 
 /// A packet that is counted, and one that reads the number: between the two snapshots the variable is only read.
 #[test]
 fn a_snapshot_after_a_read(rt: HostRuntime) -> Result<(), Fail> {
-    let alloc = rt.alloc();
-    let first = packet(alloc, &[0; 6])?;
-    let second = packet(alloc, &[0; 7])?;
-    let found = found_after(alloc, &PeekBox::new(), &first, &second).ok_or("no snapshot")?;
     let expected = Shown {
         value: 1,
         places: 1,
         readers: stamp(2),
-        counts: Counts {
-            taken: 2,
-            entries: 2,
-            outputs: 2,
-        },
+        counts: TWO,
     };
-    assert_eq!(rt; found.shown, expected);
-    assert_eq!(rt; found.moves, 8);
-    assert!(rt; are_numbered(found.outbox.as_slice(), &[1, 1]));
-    Ok(())
+    finds(&rt, rt.alloc(), &PeekBox::new(), expected, &[1, 1])
 }
 
 /// What a store without a snapshot under way answers: nothing is stored, and the fresh master is restored.
@@ -255,7 +306,7 @@ fn a_store_without_a_copy(rt: HostRuntime) -> Result<(), Fail> {
     Ok(())
 }
 
-/// Two snapshots, each taken and stored, after a packet each.
+/// Takes and stores two snapshots of a fresh master, after a packet each.
 fn two_snapshots<P: Program>(
     alloc: Global,
     program: &P,
@@ -267,10 +318,8 @@ fn two_snapshots<P: Program>(
 {
     let mut master = Master::fresh(alloc, program, 1).ok()?;
     let mut outbox = Outputs::new(alloc);
-    pass(alloc, program, &mut master, input, &mut outbox)?;
-    store_snapshot(alloc, program, store, &master, MOVES, &outbox)?;
-    pass(alloc, program, &mut master, input, &mut outbox)?;
-    store_snapshot(alloc, program, store, &master, 2 * MOVES, &outbox)
+    let inputs = (input, input);
+    store_twice(alloc, program, store, &mut master, inputs, &mut outbox)
 }
 
 /// Of a variable that was not touched no value is copied for a snapshot: only the restoring copies it.
@@ -286,14 +335,27 @@ fn only_touched_values_are_copied(rt: HostRuntime) -> Result<(), Fail> {
     Ok(())
 }
 
-/// Whether what changed in a master over one packet has the values of variables 0 and 1.
+/// Whether what a packet changes in a master has the values of variables 0 and 1; the other master is as it was before.
+fn values_after(
+    alloc: Global,
+    program: &PinnedBox,
+    base: &Master<PinnedBox>,
+    master: &mut Master<PinnedBox>,
+    input: &Packet,
+) -> Option<(bool, bool)>
+    requires base { HasMaster pinned_meaning (λ _ n. IsCounter n) base.now }
+    requires master { HasMaster pinned_meaning (λ _ n. IsCounter n) master.old }
+{
+    pass(alloc, program, master, input, &mut Outputs::new(alloc))?;
+    let delta = master.delta(alloc, program, base).ok()?;
+    Some((delta.has(0), delta.has(1)))
+}
+
+/// The same, with fresh masters.
 fn has_values(alloc: Global, program: &PinnedBox, input: &Packet) -> Option<(bool, bool)> {
     let base = Master::fresh(alloc, program, 1).ok()?;
     let mut master = Master::fresh(alloc, program, 1).ok()?;
-    let mut outbox = Outputs::new(alloc);
-    pass(alloc, program, &mut master, input, &mut outbox)?;
-    let delta = master.delta(alloc, program, &base).ok()?;
-    Some((delta.has(0), delta.has(1)))
+    values_after(alloc, program, &base, &mut master, input)
 }
 
 /// A delta has the variable that was touched, and not the other.

@@ -1,6 +1,6 @@
 use Rattle.recovery_world.specs.Finish.{Reached}
 use Rattle.slow_world.specs.Mirror.{world_is, setting_is, WorldFits}
-use Rattle.finish_tests.proofs.finishing.world_after.Given as goal
+use Rattle.finish_tests.proofs.finishing.lead_on.Given as goal
 
 abbrev pub invariant-loop-event : goal.invariant-loop-event
 invariant-loop-event g l = record {
