@@ -5,6 +5,7 @@ ghost use Rattle.master_core.specs.Mastered.{value_of};
 use crate::frames::{
     OTHER_QUERY_FROM_39276, OTHER_QUERY_FROM_39278, QUERY_FROM_39276, QUERY_FROM_39278,
 };
+use crate::race::two_packets;
 use crate::rows::{nat_up_to, shows};
 use crate::running::{make, packet};
 use access_log::{Output, Outputs};
@@ -35,8 +36,10 @@ const FIRST_MOVE: u32 = 1 << 19;
 const ORDERS: u32 = 88_172;
 
 /// A race of two packets, one on each thread.
-#[derive(Debug, Drop)]
+#[derive(Drop)]
 struct Race {
+    /// The order of the moves: the bit of a move is 1 where thread 1 makes it.
+    order: u32,
     /// Whether each packet has ended.
     ended: [bool; 2],
     /// The moves so far, as the plain machine makes them.
@@ -82,8 +85,7 @@ fn go_on<P: Program>(
     race.moves.push(PlainMove { thread, answer })
 }
 
-/// Runs both packets to their ends. Where both have moves left, the bits of the order say which thread makes the next one: thread 1
-/// where its bit is 1.
+/// Runs both packets to their ends. Where both have moves left, the bits of the order say which thread makes the next one.
 ///
 /// It gives the order after this one, if there is one: as this one up to the last move that thread 1 could have made in place of
 /// thread 0. There thread 1 makes it, and thread 0 makes all moves behind it that it can.
@@ -93,7 +95,6 @@ fn run<P: Program>(
     program: &P,
     packets: &[Packet; 2],
     race: &mut Race,
-    order: u32,
 ) -> Result<Option<u32>, NoMemory>
     requires program { FitsProgram (P.meaning program.now) (P.fits program.now)
         value_of master.old.vars }
@@ -110,7 +111,7 @@ fn run<P: Program>(
         if first_ended && second_ended {
             return Ok(next);
         }
-        let is_second = !second_ended && (first_ended || order & bit != 0);
+        let is_second = !second_ended && (first_ended || race.order & bit != 0);
         if is_second {
             so_far |= bit;
         } else if !second_ended {
@@ -209,8 +210,27 @@ fn one_port_stands<P: Program>(
     Ok(pool && mapped && bound)
 }
 
-/// Races in this order, and gives the next one: whether both packets went out from one port, which alone stands then, and the plain
-/// player does the same by the same moves.
+/// Runs a race on a fresh master, and gives the next order: whether both packets went out from one port, which alone stands then, and
+/// the plain player does the same by the same moves.
+fn goes_well<P: Program>(
+    alloc: Global,
+    master: &mut Master<P>,
+    program: &P,
+    packets: &[Packet; 2],
+    inputs: &InputLog,
+    race: &mut Race,
+) -> Result<(bool, Option<u32>), NoMemory>
+    requires program { FitsProgram (P.meaning program.now) (P.fits program.now)
+        value_of master.old.vars }
+    requires threads { length master.old.threads ≡ 2 }
+{
+    let next = run(alloc, master, program, packets, race)?;
+    let stands = one_port_stands(alloc, master, program, one_port(race))?;
+    let same = plays_so(alloc, program, inputs, race)?;
+    Ok((stands && same, next))
+}
+
+/// Races in this order, and gives the next one: whether it goes well.
 fn race_in(
     alloc: Global,
     program: &NatBox,
@@ -218,43 +238,52 @@ fn race_in(
     inputs: &InputLog,
     order: u32,
 ) -> Result<(bool, Option<u32>), NoMemory> {
+    let mut master = Master::fresh(alloc, program, 2)?;
     let mut race = Race {
+        order,
         ended: [false; 2],
         moves: Schedule::new(alloc),
         outputs: Outputs::new(alloc),
     };
-    let mut master = Master::fresh(alloc, program, 2)?;
-    let next = run(alloc, &mut master, program, packets, &mut race, order)?;
-    let stands = one_port_stands(alloc, &master, program, one_port(&race))?;
-    let same = plays_so(alloc, program, inputs, &race)?;
-    Ok((stands && same, next))
+    goes_well(alloc, &mut master, program, packets, inputs, &mut race)
 }
 
-/// The two packets as the inputs of two threads: the query is steered to thread 0, the other one to thread 1.
-fn two_inputs(alloc: Global) -> Result<InputLog, NoMemory> {
-    let mut inputs = InputLog::new(alloc, 2)?;
+/// Races in every order: how many there are, or the first one in which it does not go well.
+fn race_in_all(
+    alloc: Global,
+    program: &NatBox,
+    packets: &[Packet; 2],
+    inputs: &InputLog,
+) -> Result<Result<u32, u32>, NoMemory> {
+    let mut next = Some(0);
+    for raced in 0..=ORDERS {
+        let Some(order) = next else {
+            return Ok(Ok(raced));
+        };
+        let (well, after) = race_in(alloc, program, packets, inputs, order)?;
+        if !well {
+            return Ok(Err(order));
+        }
+        next = after;
+    }
+    Ok(Ok(ORDERS + 1))
+}
+
+/// Feeds the two packets: the query is steered to thread 0, the other one to thread 1.
+fn feed(alloc: Global, inputs: &mut InputLog) -> Result<(), NoMemory> {
     inputs.feed(packet(alloc, &QUERY)?)?;
     inputs.feed(packet(alloc, &OTHER_QUERY)?)?;
-    Ok(inputs)
+    Ok(())
 }
 
 /// In every order of the two packets' moves.
 #[test]
 fn a_race_in_every_order(rt: HostRuntime) -> Result<(), Fail> {
     let alloc = rt.alloc();
-    let program = nat_up_to(39_279);
-    let packets = [packet(alloc, &QUERY)?, packet(alloc, &OTHER_QUERY)?];
-    let inputs = two_inputs(alloc)?;
-    let mut next = Some(0);
-    for raced in 0..=ORDERS {
-        let Some(order) = next else {
-            assert_eq!(rt; raced, ORDERS);
-            return Ok(());
-        };
-        let (well, after) = race_in(alloc, &program, &packets, &inputs, order)?;
-        assert!(rt; well, "{order}");
-        next = after;
-    }
-    assert!(rt; false, "more orders than {ORDERS}");
+    let packets = two_packets(alloc)?;
+    let mut inputs = InputLog::new(alloc, 2)?;
+    feed(alloc, &mut inputs)?;
+    let raced = race_in_all(alloc, &nat_up_to(39_279), &packets, &inputs)?;
+    assert_eq!(rt; raced, Ok(ORDERS));
     Ok(())
 }

@@ -112,12 +112,18 @@ fn loses(
     Ok(pool && mapped && bound)
 }
 
+/// A packet of each of two threads, from one endpoint.
+pub fn two_packets(alloc: Global) -> Result<[Packet; 2], NoMemory> {
+    let query = packet(alloc, &QUERY)?;
+    Ok([query, packet(alloc, &OTHER_QUERY)?])
+}
+
 /// The port that a thread took in vain is unbound and given back, and both packets go out from the one that stands.
 #[test]
 fn a_race_that_thread_0_loses(rt: HostRuntime) -> Result<(), Fail> {
     let alloc = rt.alloc();
     let program = nat_up_to(39_279);
-    let packets = [packet(alloc, &QUERY)?, packet(alloc, &OTHER_QUERY)?];
+    let packets = two_packets(alloc)?;
     let mut master = Master::fresh(alloc, &program, 2)?;
     assert!(rt; loses(alloc, &mut master, &program, &packets)?);
     Ok(())

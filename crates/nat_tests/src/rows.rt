@@ -13,7 +13,7 @@ use std::alloc::Global;
 use std::test::Fail;
 
 /// One example in a row of them: a packet, what it is told, how many moves it takes, and what goes out.
-#[derive(Clone, Copy, Debug)]
+#[derive(Clone, Copy)]
 struct Row<'a> {
     frame: &'a [u8],
     time: u64,
@@ -74,6 +74,25 @@ pub fn shows<P: Program>(
 }
 
 /// Whether two packets settle so, one after the other, and a variable then shows so.
+fn both_settle<P: Program>(
+    alloc: Global,
+    master: &mut Master<P>,
+    program: &P,
+    rows: (Row<'_>, Row<'_>),
+    var: u32,
+    text: &str,
+) -> Result<bool, NoMemory>
+    requires program { FitsProgram (P.meaning program.now) (P.fits program.now)
+        value_of master.old.vars }
+    requires threads { 0 < length master.old.threads }
+{
+    if !settles(alloc, master, program, &rows.0)? || !settles(alloc, master, program, &rows.1)? {
+        return Ok(false);
+    }
+    shows(alloc, master, program, var, text)
+}
+
+/// The same, on a fresh master.
 fn two_settle(
     alloc: Global,
     program: &NatBox,
@@ -82,13 +101,7 @@ fn two_settle(
     text: &str,
 ) -> Result<bool, NoMemory> {
     let mut master = Master::fresh(alloc, program, 1)?;
-    if !settles(alloc, &mut master, program, &rows.0)? {
-        return Ok(false);
-    }
-    if !settles(alloc, &mut master, program, &rows.1)? {
-        return Ok(false);
-    }
-    shows(alloc, &master, program, var, text)
+    both_settle(alloc, &mut master, program, rows, var, text)
 }
 
 /// The query, at this time.

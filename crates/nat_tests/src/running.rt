@@ -9,14 +9,14 @@ use plain_text::{Bytes, NoMemory, Packet};
 use std::alloc::Global;
 
 /// What a packet is told: the time in microseconds, and a random word where it asks for one.
-#[derive(Clone, Copy, Debug)]
+#[derive(Clone, Copy)]
 pub struct Answers {
     pub time: u64,
     pub word: u64,
 }
 
 /// What became of a packet: how many moves it took from its take to its end, and the bytes that went out, if it went out.
-#[derive(Debug, Drop)]
+#[derive(Drop)]
 pub struct Settled {
     pub moves: usize,
     pub sent: Option<Bytes>,

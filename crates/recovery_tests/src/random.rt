@@ -145,69 +145,66 @@ fn stays_sound<P: Program>(
 }
 
 /// Whether the world is sound after each of 60 random events, and the last one ends well.
-fn is_right<P: Program>(
+fn goes_right<P: Program>(
+    world: &mut SlowWorld<P::Value>,
     alloc: Global,
     program: &P,
     setup: &Setup,
     place: u64,
-) -> Result<bool, NoMemory> {
-    let mut world = opening(alloc, program);
-    if !stays_sound(&mut world, alloc, program, setup, place, 60)? {
-        return Ok(false);
+) -> Result<bool, NoMemory>
+    requires { WorldFits (P.fits program.now) world.old }
+{
+    if stays_sound(world, alloc, program, setup, place, 60)? {
+        ends_well(world, alloc, program, setup)
+    } else {
+        Ok(false)
     }
-    ends_well(&mut world, alloc, program, setup)
 }
 
-/// The number of these scripts, from the first on, that are right: script i has the words from 120 i on.
+/// Packets of both lengths, as frames and how many bytes of 0 stand behind each.
+const FRAMES: [(&[u8], usize); 7] = [
+    (&QUERY, 0),
+    (&NEXT_QUERY, 1),
+    (&THIRD_QUERY, 0),
+    (&QUERY, 1),
+    (&THIRD_QUERY, 1),
+    (&NEXT_QUERY, 0),
+    (&QUERY, 0),
+];
+
+/// Whether script i is right, on a new world: it has one, two or three threads by turns, and the words from 120 i on.
+fn is_right<P: Program>(alloc: Global, program: &P, i: u64) -> Result<bool, NoMemory> {
+    let setup = setup_of(alloc, (i % 3) as u32 + 1, &FRAMES)?;
+    let mut world = opening(alloc, program);
+    goes_right(&mut world, alloc, program, &setup, i.saturating_mul(120))
+}
+
+/// The number of these scripts, from the first on, that are right.
 fn right_scripts<P: Program>(
     alloc: Global,
     program: &P,
-    setups: &[Setup; 3],
     from: u64,
     to: u64,
 ) -> Result<u64, NoMemory> {
     let mut right: u64 = 0;
     for i in from..to {
-        let setup = &setups[(i % 3) as usize];
-        if is_right(alloc, program, setup, i.saturating_mul(120))? {
+        if is_right(alloc, program, i)? {
             right = right.saturating_add(1);
         }
     }
     Ok(right)
 }
 
-/// Captures for one, two and three threads, of packets of both lengths.
-fn setups(alloc: Global) -> Result<[Setup; 3], NoMemory> {
-    let frames: [(&[u8], usize); 7] = [
-        (&QUERY, 0),
-        (&NEXT_QUERY, 1),
-        (&THIRD_QUERY, 0),
-        (&QUERY, 1),
-        (&THIRD_QUERY, 1),
-        (&NEXT_QUERY, 0),
-        (&QUERY, 0),
-    ];
-    Ok([
-        setup_of(alloc, 1, &frames)?,
-        setup_of(alloc, 2, &frames)?,
-        setup_of(alloc, 3, &frames)?,
-    ])
-}
-
 #[test]
 fn random_scripts_of_the_peek_box(rt: HostRuntime) -> Result<(), Fail> {
-    let alloc = rt.alloc();
-    let setups = setups(alloc)?;
-    let right = right_scripts(alloc, &PeekBox::new(), &setups, 0, 100)?;
+    let right = right_scripts(rt.alloc(), &PeekBox::new(), 0, 100)?;
     assert_eq!(rt; right, 100);
     Ok(())
 }
 
 #[test]
 fn random_scripts_of_the_monitor(rt: HostRuntime) -> Result<(), Fail> {
-    let alloc = rt.alloc();
-    let setups = setups(alloc)?;
-    let right = right_scripts(alloc, &MonitorBox::new(2), &setups, 100, 200)?;
+    let right = right_scripts(rt.alloc(), &MonitorBox::new(2), 100, 200)?;
     assert_eq!(rt; right, 100);
     Ok(())
 }

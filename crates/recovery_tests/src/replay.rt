@@ -129,24 +129,64 @@ fn is_schedule(alloc: Global, moves: &[PlainMove], schedule: &str) -> Result<boo
     Ok(text.as_slice() == schedule.as_bytes())
 }
 
-/// Performs the events on a new world. None where each has its reply, and the numbers at the end and the schedule are these;
-/// else the number of right replies, or one more where only the end is wrong.
-pub fn first_wrong<P: Program>(
+/// A worked example: a capture for some threads, events with their replies, the numbers at the end, and the moves of the schedule.
+#[derive(Clone, Copy)]
+pub struct Example {
+    pub threads: u32,
+    pub frames: &'static [(&'static [u8], usize)],
+    pub rows: &'static [(Event, &'static str)],
+    pub done: &'static str,
+    pub schedule: &'static str,
+}
+
+/// Whether the world ends by the schedule of the example.
+fn is_finished<P: Program>(
+    world: &mut SlowWorld<P::Value>,
     alloc: Global,
     program: &P,
     setup: &Setup,
-    rows: &[(Event, &str)],
-    done: &str,
     schedule: &str,
-) -> Result<Option<usize>, NoMemory> {
-    let mut world = opening(alloc, program);
-    let right = right_replies(&mut world, alloc, program, setup, rows)?;
-    if right < rows.len() || !ends_so(alloc, &world, done)? {
+) -> Result<bool, NoMemory>
+    requires { WorldFits (P.fits program.now) world.old }
+{
+    match finish(world, alloc, program, setup)? {
+        Some(moves) => is_schedule(alloc, &moves, schedule),
+        None => Ok(false),
+    }
+}
+
+/// Performs the events of an example on an opening world. None where each has its reply, and the numbers at the end and the schedule are
+/// those of the example; else the number of right replies, or one more where only the end is wrong.
+fn first_wrong_in<P: Program>(
+    world: &mut SlowWorld<P::Value>,
+    alloc: Global,
+    program: &P,
+    setup: &Setup,
+    example: &Example,
+) -> Result<Option<usize>, NoMemory>
+    requires { WorldFits (P.fits program.now) world.old }
+{
+    let right = right_replies(world, alloc, program, setup, example.rows)?;
+    if right < example.rows.len() || !ends_so(alloc, world, example.done)? {
         return Ok(Some(right));
     }
-    let ended = match finish(&mut world, alloc, program, setup)? {
-        Some(moves) => is_schedule(alloc, &moves, schedule)?,
-        None => false,
-    };
-    if ended { Ok(None) } else { Ok(Some(right)) }
+    if is_finished(world, alloc, program, setup, example.schedule)? {
+        Ok(None)
+    } else {
+        Ok(Some(right))
+    }
+}
+
+/// The same, on a new world.
+pub fn first_wrong<P: Program>(
+    alloc: Global,
+    program: &P,
+    example: &Example,
+) -> Result<Option<usize>, NoMemory>
+    requires some { 1 ≤ example.now.threads }
+    requires few { example.now.threads ≤ 16 }
+{
+    let setup = setup_of(alloc, example.threads, example.frames)?;
+    let mut world = opening(alloc, program);
+    first_wrong_in(&mut world, alloc, program, &setup, example)
 }
