@@ -64,6 +64,6 @@ install: build/ftmb
 clean:
 	rm -rf build
 
-# Also what the kit left in the folders of crates, and the copy that make works on. What it keeps beside itself stays.
+# Also what the kit left in the folders of crates. What it keeps beside itself stays.
 distclean: clean
-	rm -rf crates/*/out .git/build-tree
+	rm -rf crates/*/out
