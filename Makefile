@@ -14,10 +14,14 @@ SOURCES := crates.txt scripts/build $(shell find crates -name out -prune -o -typ
 all: build/ftmb
 
 # All crates that the program stands on are proved, side by side, and its stored run is run. What is said goes to build/proof.log.
-BENCHES := build/bench_moves build/bench_frames build/bench_held build/bench_logger build/bench_locks build/bench_scripts build/bench_system
+build/ftmb: $(SOURCES)
+	scripts/build $(RT) ftmb
 
-build/ftmb build/bench_headers $(BENCHES): build/%: $(SOURCES)
-	scripts/build $(RT) $*
+# The programs for a stopwatch likewise, all in one run.
+BENCHES := $(addprefix build/bench_,headers moves frames held logger locks scripts system)
+
+$(BENCHES) &: $(SOURCES)
+	scripts/build $(RT) $(notdir $(BENCHES))
 
 # The example at once, by the kit's unproved run: nothing is proved.
 try:
@@ -42,9 +46,9 @@ example: build/ftmb
 # second, beside those of the plain player; the frames written and read, the log entries held, the outputs released, the touches that
 # threads make under numbered locks, beside those of a master alone, the lines of a script read, and the packets settled and the events
 # performed by the recovering system.
-bench: build/bench_headers $(BENCHES) build/ftmb
+bench: build/ftmb $(BENCHES)
 	scripts/bench build/bench_headers
-	scripts/bench_run build/ftmb $(BENCHES) build/bench
+	scripts/bench_run build/ftmb $(filter-out build/bench_headers,$(BENCHES)) build/bench
 
 # Runs of chosen events with crashes from 1,000 seeds, each accepted by the check.
 soak: build/ftmb
