@@ -139,6 +139,9 @@ impl<P: Program> Core<P> {
         if packets.len() >= MOST_PACKETS {
             return Err(NoMemory);
         }
+        let inputs = InputLog::new(alloc, threads)?;
+        let sent = SentFrames::new(alloc, threads)?;
+        let logger = OutputLogger::new(alloc, threads)?;
         let master = Master::fresh(alloc, &program, threads)?;
         let store = Store::new(alloc, &program, threads)?;
         let mut left = packets.into_vec();
@@ -150,7 +153,7 @@ impl<P: Program> Core<P> {
             clock: 0,
             generator: Pcg32::new(seed, STREAM),
             left,
-            inputs: InputLog::new(alloc, threads)?,
+            inputs,
             up: true,
             master,
             schedule: Schedule::new(alloc),
@@ -159,8 +162,8 @@ impl<P: Program> Core<P> {
             ended: Vec::new(alloc),
             moves: 0,
             bytes: 0,
-            sent: SentFrames::new(alloc, threads)?,
-            logger: OutputLogger::new(alloc, threads)?,
+            sent,
+            logger,
             released: Releases::new(alloc),
             handed: 0,
             fresh: Outputs::new(alloc),
