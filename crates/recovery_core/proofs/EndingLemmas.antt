@@ -18,6 +18,7 @@ use Rattle.plain_machine.specs.Program.{Meaning}
 use Rattle.plain_machine.specs.History.{Step, log_of, IsHistory}
 use Rattle.plain_machine.proofs.Histories.{history_log}
 use Rattle.plain_machine.proofs.LoggedEffects.{entry_thread}
+use Rattle.master_core.specs.Mastered.{Mastered}
 use Rattle.master_core.specs.Holding.{and_found, held_entries, HoldsOf}
 use Rattle.master_core.specs.Stepping.{plain_entry}
 use Rattle.master_core.proofs.HeldEntries.{at_held, held_in_log}
@@ -256,16 +257,20 @@ last_more released i n old new long are here pushed =
     go t low (inl same) = subst (λ (u : ℕ). IsGreatest (numbers released u) (slice_index (old ++ n ∷ []) u)) (sym same) (subst (λ (k : ℕ). IsGreatest (numbers released i) k) (sym (get_or_push old n 0 i long)) here)
     go t low (inr other) = subst (λ (k : ℕ). IsGreatest (numbers released t) k) (sym (get_or_append_left old (n ∷ []) 0 t (omega (arith, low, other, long)))) (are t (omega (arith, low, other)))
 
--- what is at hand is that of each world that the system stands for
-module _ {P V : Type 0} (meaning : P → Meaning V) (view now : Parts P V) (order list : List Entry) (last nums : List ℕ) (threads : ℕ) (released : List Numbers) (same : view ≡ now) (up : now.up ≡ true) (few : view.inputs.threads ≤ 16)
-    (of : IsOrderOf view.guide order) (list_is : list ≡ order) (threads_are : threads ≡ view.inputs.threads) (released_is : released ≡ view.logger.released)
-    (are : (t : ℕ) → t < threads → IsGreatest (numbers released t) (slice_index last t)) (nums_are : nums ≡ last) where
-  pub ends_each : (s : Setting V) (w : World V) → StandsFor (meaning now.program) s w now → IsEndOf (meaning view.program) s w view.inputs view.master view.schedule list nums
-  ends_each s w st = ends_here (meaning view.program) s w view (subst (λ (q : Parts P V). StandsFor (meaning q.program) s w q) (sym same) st) list nums (ap (λ (q : Parts P V). q.up) same ∙ up) few
-      (subst (λ (l : List Entry). IsOrderOf view.guide l) (sym list_is) of)
-      (λ t low. subst (λ (l : List Numbers). IsGreatest (numbers l t) (slice_index nums t)) released_is (subst (λ (l : List ℕ). IsGreatest (numbers released t) (slice_index l t)) (sym nums_are) (are t (omega (arith, low, threads_are)))))
+-- what was taken apart is that of each world that the system stands for
+module _ {P V : Type 0} (meaning : P → Meaning V) (now : Parts P V) (program : P) (inputs : Fed) (master : Mastered V) (schedule : List PlainMove) (program_is : program ≡ now.program) (inputs_are : inputs ≡ now.inputs) (master_is : master ≡ now.master) (schedule_is : schedule ≡ now.schedule)
+    (up : now.up ≡ true) (few : now.inputs.threads ≤ 16) (order list : List Entry) (last nums : List ℕ) (of : IsOrderOf now.guide order) (list_is : list ≡ order)
+    (are : (t : ℕ) → t < now.inputs.threads → IsGreatest (numbers now.logger.released t) (slice_index last t)) (nums_are : nums ≡ last) where
+  pub ends_each : (s : Setting V) (w : World V) → StandsFor (meaning now.program) s w now → IsEndOf (meaning program) s w inputs master schedule list nums
+  ends_each s w st =
+      subst (λ (q : P). IsEndOf (meaning q) s w inputs master schedule list nums) (sym program_is)
+      (subst (λ (i : Fed). IsEndOf (meaning now.program) s w i master schedule list nums) (sym inputs_are)
+      (subst (λ (q : Mastered V). IsEndOf (meaning now.program) s w now.inputs q schedule list nums) (sym master_is)
+      (subst (λ (l : List PlainMove). IsEndOf (meaning now.program) s w now.inputs now.master l list nums) (sym schedule_is)
+      (ends_here (meaning now.program) s w now st list nums up few (subst (λ (l : List Entry). IsOrderOf now.guide l) (sym list_is) of)
+      (λ t low. subst (λ (l : List ℕ). IsGreatest (numbers now.logger.released t) (slice_index l t)) (sym nums_are) (are t low))))))
 
-  pub ends_some : StandsForSome (meaning now.program) now → IsEndOfSome (meaning view.program) view.inputs view.master view.schedule list nums
+  pub ends_some : StandsForSome (meaning now.program) now → IsEndOfSome (meaning program) inputs master schedule list nums
   ends_some some = (some.0, some.1, ends_each some.0 some.1 some.2)
 
 -- the end of a world of which the master was woken

@@ -10,6 +10,8 @@ use crate::settling::wake;
 use box_program::Program;
 use dup_filter::Released;
 use entry_order::LogEntry;
+use input_logger::InputLog;
+use master_core::Master;
 use plain_machine::Schedule;
 use plain_text::NoMemory;
 use replay_guide::Guide;
@@ -46,6 +48,41 @@ fn last_released(alloc: Global, released: &Released, threads: u32) -> Result<Vec
     Ok(last)
 }
 
+/// The followed entries, and the greatest number of a released output of each thread.
+fn last_ones<P: Program>(core: &Core<P>) -> Result<(Vec<LogEntry>, Vec<u64>), NoMemory>
+    ensures order { IfOk result (λ last. IsOrderOf core.now.guide last.0.items) }
+    ensures numbers { IfOk result (λ last. (t : ℕ) → t < core.now.inputs.threads
+        → IsGreatest (numbers core.now.logger.released t) (slice_index last.1.items t)) }
+{
+    let order = followed_entries(core.alloc, &core.guide)?;
+    let numbers = last_released(core.alloc, core.logger.released(), core.inputs.threads())?;
+    Ok((order, numbers))
+}
+
+/// What the last moves of a run are made with.
+#[derive(Drop)]
+struct Last<P: Program> {
+    program: P,
+    inputs: InputLog,
+    master: Master<P>,
+    schedule: Schedule,
+}
+
+/// Takes a system apart. What its last moves are not made with is let go.
+fn taken_apart<P: Program>(core: Core<P>) -> Last<P>
+    ensures program { result.program ≡ core.program }
+    ensures inputs { result.inputs ≡ core.inputs }
+    ensures master { result.master ≡ core.master }
+    ensures schedule { result.schedule ≡ core.schedule }
+{
+    Last {
+        program: core.program,
+        inputs: core.inputs,
+        master: core.master,
+        schedule: core.schedule,
+    }
+}
+
 /// The schedule of the run in which the world ends, of a master that is up.
 fn end_awake<P: Program>(core: Core<P>) -> Result<Schedule, NoMemory>
     requires stands { StandsForSome (P.meaning core.program) core }
@@ -54,14 +91,17 @@ fn end_awake<P: Program>(core: Core<P>) -> Result<Schedule, NoMemory>
         → StandsFor (P.meaning core.program) s w core → EndsIn s w moves) }
 {
     let alloc = core.alloc;
-    let order = followed_entries(alloc, &core.guide)?;
-    let numbers = last_released(alloc, core.logger.released(), core.inputs.threads())?;
-    let master = core.master;
-    let schedule = core.schedule;
+    let (order, numbers) = last_ones(&core)?;
+    let Last {
+        program,
+        inputs,
+        master,
+        schedule,
+    } = taken_apart(core);
     finish_run(
         alloc,
-        &core.program,
-        &core.inputs,
+        &program,
+        &inputs,
         master,
         schedule,
         order.as_slice(),
