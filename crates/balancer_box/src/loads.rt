@@ -89,7 +89,8 @@ impl Loads {
 
 /// Appends further loads, each behind a space.
 fn put_others(text: &mut String, others: &[u64]) -> Result<(), NoMemory>
-    ensures { OnOk result (string_bytes text.new ≡ string_bytes text.old ++ further_loads others.now) }
+    ensures { OnOk result (string_bytes text.new
+        ≡ string_bytes text.old ++ further_loads others.now) }
 {
     for count in others {
         text.push_str(" ")?;

@@ -10,7 +10,8 @@ use plain_text::{LineCause, LineFault, WordIter, lines, words};
 
 /// The backends that the lines of a text name, in order, or the first line that names one too many, or one again.
 pub fn read_backends(text: &[u8]) -> Result<Backends, LineFault>
-    ensures backends { IfOk result (λ backends. backends ≡ backends_after [] (counted_lines text.now)) }
+    ensures backends { IfOk result (λ backends.
+        backends ≡ backends_after [] (counted_lines text.now)) }
     ensures few { IfOk result (λ backends. length backends ≤ 64) }
     ensures none { IfOk result (λ backends. backend_fault [] (counted_lines text.now) ≡ None) }
     ensures fault { IfErr result (λ fault. backend_fault [] (counted_lines text.now) ≡ Some fault) }

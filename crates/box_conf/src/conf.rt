@@ -78,7 +78,8 @@ struct SetLines {
 /// What the lines of a box file set, by the table of its kind.
 fn read_settings(text: &[u8]) -> Result<SetLines, LineFault>
     ensures value { IfOk result (λ set. described_box text.now
-        ≡ Ok (conf_from set.kind (values_set set.settings) (backends_after [] (counted_lines text.now)))) }
+        ≡ Ok (conf_from set.kind (values_set set.settings)
+        (backends_after [] (counted_lines text.now)))) }
     ensures in_range { IfOk result (λ set. AreInRange set.settings) }
     ensures whole { IfOk result (λ set. missing_line set.kind set.settings ≡ None) }
     ensures fault { IfErr result (λ fault. described_box text.now ≡ Err fault) }

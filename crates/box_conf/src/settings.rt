@@ -115,7 +115,8 @@ fn read_values(words: WordIter<'_>, line: BoxLine, had: bool) -> Result<Values, 
 /// The values of the words after the first of a line, of which each has to have the form that its place asks for.
 fn read_places(words: WordIter<'_>, places: Places) -> Result<Values, LineCause>
     ensures values { IfOk result (AreRead places words.entry) }
-    ensures fault { IfErr result (λ cause. form_fault (all_places places) words.entry ≡ Some cause) }
+    ensures fault { IfErr result (λ cause.
+        form_fault (all_places places) words.entry ≡ Some cause) }
 {
     match places {
         Places::One(place) => read_one(words, place),
@@ -126,7 +127,8 @@ fn read_places(words: WordIter<'_>, places: Places) -> Result<Values, LineCause>
 /// The value of a line's one word after its first.
 fn read_one(mut words: WordIter<'_>, place: LinePlace) -> Result<Values, LineCause>
     ensures values { IfOk result (AreRead (One place) words.entry) }
-    ensures fault { IfErr result (λ cause. form_fault (all_places (One place)) words.entry ≡ Some cause) }
+    ensures fault { IfErr result (λ cause.
+        form_fault (all_places (One place)) words.entry ≡ Some cause) }
 {
     let first = read_field(&mut words, place.field())?;
     end_of_line(words)?;

@@ -23,7 +23,10 @@ impl Model for Numbers {
 
     ghost view = { λ s. record { floor = s.floor; above = s.above.entries } };
 
-    ghost invariant = { λ s. AreNumbers (record { floor = s.floor; above = s.above.entries }) s.greatest };
+    ghost invariant = { λ s. AreNumbers (record {
+      floor = s.floor;
+      above = s.above.entries;
+    }) s.greatest };
 }
 
 /// Raises the floor past the marked numbers that follow it, and answers it.

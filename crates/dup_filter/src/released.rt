@@ -83,7 +83,8 @@ impl Released {
         requires thread_in { thread < length self.old }
         requires numbered { 1 ≤ number }
         requires fresh { WasMarked self.old thread number → ⊥ }
-        ensures ok { OnOk result (Marks (numbers self.old thread) (numbers self.new thread) number) }
+        ensures ok { OnOk result (Marks (numbers self.old thread)
+            (numbers self.new thread) number) }
         ensures others { (t : ℕ) → t ≢ thread → numbers self.new t ≡ numbers self.old t }
         ensures err { OnErr result (self.new ≡ self.old) }
         ensures threads { length self.new ≡ length self.old }
@@ -107,7 +108,8 @@ impl Released {
         requires thread_in { thread < length self.old }
         requires numbered { 1 ≤ number }
         requires fresh { WasMarked self.old thread number → ⊥ }
-        ensures ok { OnOk result (KeepsRoom (numbers self.old thread) (numbers self.new thread) number) }
+        ensures ok { OnOk result (KeepsRoom (numbers self.old thread)
+            (numbers self.new thread) number) }
         ensures others { (t : ℕ) → t ≢ thread → numbers self.new t ≡ numbers self.old t }
         ensures err { OnErr result (self.new ≡ self.old) }
         ensures threads { length self.new ≡ length self.old }

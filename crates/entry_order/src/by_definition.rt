@@ -281,7 +281,8 @@ fn is_missing(
     number: u64,
     entry: &LogEntry,
 ) -> Result<bool, AllocError>
-    ensures { IfOk result (λ b. IsTrue b ↔ IsMissing log.now stored.now held.now thread number entry.now) }
+    ensures { IfOk result (λ b.
+        IsTrue b ↔ IsMissing log.now stored.now held.now thread number entry.now) }
 {
     let before = precedes_output(alloc, log, thread, number, entry)?;
     Ok(before && !contains(held, entry) && !contains(stored, entry))

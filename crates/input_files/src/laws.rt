@@ -14,14 +14,20 @@ ghost use Rattle.input_files.specs.Judging.{JudgesBox, JudgesCapture, JudgesSche
 /// memory runs out or, in a world that is not healthy, reading fails.
 pub fn each_file_has_one_answer()
     ensures box_file { (healthy : Bool) (name : List ℕ) (shown : Shown)
-        (a b : Result BoxConf (InputError LineFault)) → IsDecided (IsTrue healthy) a → IsDecided (IsTrue healthy) b
-        → JudgesBox (IsTrue healthy) name a shown → JudgesBox (IsTrue healthy) name b shown → a ≡ b }
+        (a b : Result BoxConf (InputError LineFault)) → IsDecided (IsTrue healthy) a
+        → IsDecided (IsTrue healthy) b
+        → JudgesBox (IsTrue healthy) name a shown → JudgesBox (IsTrue healthy) name b shown
+        → a ≡ b }
     ensures capture { (healthy : Bool) (name : List ℕ) (shown : Shown)
-        (a b : Result Capture (InputError AnyFault)) → IsDecided (IsTrue healthy) a → IsDecided (IsTrue healthy) b
-        → JudgesCapture (IsTrue healthy) name a shown → JudgesCapture (IsTrue healthy) name b shown → a ≡ b }
+        (a b : Result Capture (InputError AnyFault)) → IsDecided (IsTrue healthy) a
+        → IsDecided (IsTrue healthy) b
+        → JudgesCapture (IsTrue healthy) name a shown → JudgesCapture (IsTrue healthy) name b shown
+        → a ≡ b }
     ensures script { (healthy : Bool) (name : List ℕ) (shown : Shown)
-        (a b : Result (List Event) (InputError LineFault)) → IsDecided (IsTrue healthy) a → IsDecided (IsTrue healthy) b
-        → JudgesScript (IsTrue healthy) name a shown → JudgesScript (IsTrue healthy) name b shown → a ≡ b }
+        (a b : Result (List Event) (InputError LineFault)) → IsDecided (IsTrue healthy) a
+        → IsDecided (IsTrue healthy) b
+        → JudgesScript (IsTrue healthy) name a shown → JudgesScript (IsTrue healthy) name b shown
+        → a ≡ b }
     ensures schedule { (healthy : Bool) (name : List ℕ) (shown : Shown)
         (a b : Result (List PlainMove) (InputError LineFault))
         → IsDecided (IsTrue healthy) a → IsDecided (IsTrue healthy) b

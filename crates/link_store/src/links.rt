@@ -110,7 +110,8 @@ fn first_up_to(frames: &BTreeMap<Address, Bytes>, last: Address) -> Option<Addre
 
 /// The first address of this epoch.
 fn first_of_epoch(frames: &BTreeMap<Address, Bytes>, epoch: u32) -> Option<Address>
-    ensures found { IfSome result (λ a. (a.epoch ≡ epoch) × IsSome (frame_at frames.now.entries a)) }
+    ensures found { IfSome result (λ a.
+        (a.epoch ≡ epoch) × IsSome (frame_at frames.now.entries a)) }
     ensures none { IfNone result ((a : Address) → a.epoch ≡ epoch
         → frame_at frames.now.entries a ≡ None) }
 {
@@ -194,7 +195,8 @@ impl Links {
         number: u64,
         frame: Bytes,
     ) -> Result<(), NoMemory>
-        ensures ok { OnOk result (Sends self.old self.new (address epoch kind thread number) frame) }
+        ensures ok { OnOk result (Sends self.old self.new
+            (address epoch kind thread number) frame) }
         ensures err { OnErr result (self.new ≡ self.old) }
     {
         let address = Address {
@@ -212,7 +214,8 @@ impl Links {
     /// The frame last sent under these numbers and not forgotten since; `None` exactly where there is none. It takes no
     /// memory.
     pub fn fetch(&self, epoch: u32, kind: Kind, thread: u32, number: u64) -> Option<&[u8]>
-        ensures frame { option_copied result ≡ frame_at self.now (address epoch kind thread number) }
+        ensures frame { option_copied result
+            ≡ frame_at self.now (address epoch kind thread number) }
     {
         let address = Address {
             epoch,

@@ -371,7 +371,8 @@ impl OutputLogger {
         ensures closed { (t n : ℕ) (e : StampedEntry)
             → (entry_at (lane self.new.held t) n ≡ Some e)
             ↔ ((entry_at (lane self.old.held t) n ≡ Some e) × IsWithin self.old.held e.stamp) }
-        ensures covered { (t : ℕ) → (lane self.new.held t).covered ≡ (lane self.old.held t).covered }
+        ensures covered { (t : ℕ)
+            → (lane self.new.held t).covered ≡ (lane self.old.held t).covered }
         ensures threads { length self.new.held ≡ length self.old.held }
         ensures kept { IsNumberOf (IsMember self.new.held) result.kept }
         ensures dropped { IsNumberOf (IsDropped self.old.held self.new.held) result.dropped }

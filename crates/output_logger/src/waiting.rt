@@ -220,7 +220,8 @@ impl Waiting {
             ↔ IsWaiting self.old.outputs.entries t n }
         requires apart { HaveNames self.old.outputs.entries }
         requires room { vec_len out.old + length ready.now.keys ≤ vec_capacity out.old }
-        ensures gone { Gone self.old.outputs.entries self.new.outputs.entries released.old released.new
+        ensures gone { Gone self.old.outputs.entries self.new.outputs.entries
+            released.old released.new
             ready.now.keys (appended out.old.items out.new.items) }
         ensures appends { out.new.items ≡ out.old.items ++ appended out.old.items out.new.items }
         ensures keeps { (u n a : ℕ) → IsSome (arrived self.new.outputs.entries a)

@@ -71,7 +71,8 @@ impl Interface {
     /// The interface, once the options in these bytes are read. None comes where an option is bad.
     fn with_options(self, order: Order, bytes: &[u8]) -> Option<Interface>
         requires { 1 ≤ self.units }
-        ensures value { (n : ℕ) → length bytes.now ≤ n → result ≡ with_options n order self bytes.now }
+        ensures value { (n : ℕ) → length bytes.now ≤ n
+            → result ≡ with_options n order self bytes.now }
         ensures units { IfSome result HasUnits }
     {
         let mut interface = self;
@@ -95,7 +96,8 @@ impl Interface {
     /// The interface, once an option is read. None comes where it is bad.
     fn with_option(self, order: Order, code: u16, value: &[u8]) -> Option<Interface>
         requires { 1 ≤ self.units }
-        ensures value { result ≡ with_setting order self (record { code = code; value = value.now }) }
+        ensures value { result
+            ≡ with_setting order self (record { code = code; value = value.now }) }
         ensures units { IfSome result HasUnits }
     {
         match code {

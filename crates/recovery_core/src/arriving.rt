@@ -74,7 +74,8 @@ fn take_entry<P: Program>(core: &mut Core<P>, thread: u32, number: u64) -> Resul
     requires stands { StandsForSome (P.meaning core.old.program) core.old }
     requires thread_in { thread < core.old.inputs.threads }
     ensures on { IfOk result (λ reply.
-        MovesOn (P.meaning core.old.program) (Replies (event_is.Log thread number) reply) core.old core.new) }
+        MovesOn (P.meaning core.old.program) (Replies (event_is.Log thread number) reply)
+        core.old core.new) }
     ensures fresh { AddsFresh core.old core.new }
     ensures handed { core.new.handed ≡ core.old.handed }
 {
@@ -111,7 +112,8 @@ fn take_output<P: Program>(core: &mut Core<P>, thread: u32, number: u64) -> Resu
     requires stands { StandsForSome (P.meaning core.old.program) core.old }
     requires thread_in { thread < core.old.inputs.threads }
     ensures on { IfOk result (λ reply.
-        MovesOn (P.meaning core.old.program) (Replies (event_is.Out thread number) reply) core.old core.new) }
+        MovesOn (P.meaning core.old.program) (Replies (event_is.Out thread number) reply)
+        core.old core.new) }
     ensures fresh { AddsFresh core.old core.new }
     ensures handed { core.new.handed ≡ core.old.handed }
 {
@@ -149,7 +151,8 @@ pub fn arrive<P: Program>(
 ) -> Result<Reply, NoMemory>
     requires stands { StandsForSome (P.meaning core.old.program) core.old }
     ensures on { IfOk result (λ reply.
-        MovesOn (P.meaning core.old.program) (Replies (arrival_of kind thread number) reply) core.old core.new) }
+        MovesOn (P.meaning core.old.program) (Replies (arrival_of kind thread number) reply)
+        core.old core.new) }
     ensures fresh { AddsFresh core.old core.new }
     ensures handed { core.new.handed ≡ core.old.handed }
 {

@@ -22,7 +22,8 @@ const MOST_THREADS: usize = 16;
 
 /// How many entries and outputs each thread had.
 fn counts_of_all<P: Program>(core: &Core<P>) -> ([u64; MOST_THREADS], [u64; MOST_THREADS])
-    ensures { Counted (P.meaning core.now.program) core.now core.now.inputs.threads result.0 result.1 }
+    ensures { Counted (P.meaning core.now.program)
+        core.now core.now.inputs.threads result.0 result.1 }
 {
     let mut entries = [0; MOST_THREADS];
     let mut outputs = [0; MOST_THREADS];
@@ -37,7 +38,8 @@ fn counts_of_all<P: Program>(core: &Core<P>) -> ([u64; MOST_THREADS], [u64; MOST
 /// The event that the next two words choose.
 fn choose_next<P: Program>(core: &Core<P>, words: &mut Pcg32) -> Event
     ensures chosen { (s : Setting P.Value) (w : World P.Value) (seed k : ℕ)
-        → StandsFor (P.meaning core.now.program) s w core.now → words.old ≡ generator_after seed (2 * k)
+        → StandsFor (P.meaning core.now.program) s w core.now
+        → words.old ≡ generator_after seed (2 * k)
         → result ≡ chosen s seed k w }
     ensures single { IsSingle result }
     ensures words { (seed k : ℕ) → words.old ≡ generator_after seed (2 * k)
@@ -53,9 +55,11 @@ fn choose_next<P: Program>(core: &Core<P>, words: &mut Pcg32) -> Event
 /// This number of events are performed, one after another, each chosen by two words of the generator of the seed.
 fn choose_all<P: Program>(core: &mut Core<P>, seed: u64, n: u64) -> Result<(), Stop>
     requires stands { StandsForSome (P.meaning core.old.program) core.old }
-    ensures on { OnOk result (MovesOn (P.meaning core.old.program) (Chooses seed n) core.old core.new) }
+    ensures on { OnOk result (MovesOn (P.meaning core.old.program) (Chooses seed n)
+        core.old core.new) }
     ensures limit { (limit : LimitKind) → result ≡ Err (Stop.Limit limit)
-        → StopsAt (P.meaning core.old.program) (IsStopped (event_is.Auto seed n) limit) core.old core.new }
+        → StopsAt (P.meaning core.old.program) (IsStopped (event_is.Auto seed n) limit)
+        core.old core.new }
     ensures fresh { AddsFresh core.old core.new }
     ensures handed { core.new.handed ≡ core.old.handed }
 {
@@ -70,9 +74,11 @@ fn choose_all<P: Program>(core: &mut Core<P>, seed: u64, n: u64) -> Result<(), S
 /// This number of chosen events are performed.
 pub fn auto<P: Program>(core: &mut Core<P>, seed: u64, n: u64) -> Result<Outcome, Stop>
     requires stands { StandsForSome (P.meaning core.old.program) core.old }
-    ensures on { IfOk result (λ to. MovesOn (P.meaning core.old.program) (ChoosesTo seed n to) core.old core.new) }
+    ensures on { IfOk result (λ to.
+        MovesOn (P.meaning core.old.program) (ChoosesTo seed n to) core.old core.new) }
     ensures limit { (limit : LimitKind) → result ≡ Err (Stop.Limit limit)
-        → StopsAt (P.meaning core.old.program) (IsStopped (event_is.Auto seed n) limit) core.old core.new }
+        → StopsAt (P.meaning core.old.program) (IsStopped (event_is.Auto seed n) limit)
+        core.old core.new }
     ensures fresh { AddsFresh core.old core.new }
     ensures handed { core.new.handed ≡ core.old.handed }
 {

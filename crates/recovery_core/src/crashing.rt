@@ -20,7 +20,8 @@ use std::alloc::Global;
 
 /// The master crashes. A snapshot that was under way is lost.
 pub fn crash<P: Program>(core: &mut Core<P>) -> Outcome
-    ensures on { MovesOn (P.meaning core.old.program) (ComesTo event_is.Crash result) core.old core.new }
+    ensures on { MovesOn (P.meaning core.old.program) (ComesTo event_is.Crash result)
+        core.old core.new }
     ensures fresh { core.new.fresh ≡ core.old.fresh }
 {
     if !core.up {
@@ -38,7 +39,8 @@ fn counts_of<P: Program>(
     threads: u32,
 ) -> Result<Sequence<Counts>, NoMemory>
     requires { threads ≤ length master.now.threads }
-    ensures { IfOk result (λ counts. counts ≡ map (λ part. part.counts) (take threads master.now.threads)) }
+    ensures { IfOk result (λ counts.
+        counts ≡ map (λ part. part.counts) (take threads master.now.threads)) }
 {
     let mut counts = Sequence::new(alloc);
     for thread in 0..threads {
@@ -81,7 +83,8 @@ fn send_rest(sent: &mut SentFrames, released: &Released, outbox: &Outputs) -> Re
 pub fn start_over<P: Program>(core: &mut Core<P>) -> Result<Kept, NoMemory>
     requires stands { StandsForSome (P.meaning core.old.program) core.old }
     requires down { core.old.up ≡ false }
-    ensures on { IfOk result (λ kept. MovesOn (P.meaning core.old.program) (RecoversTo kept) core.old core.new) }
+    ensures on { IfOk result (λ kept.
+        MovesOn (P.meaning core.old.program) (RecoversTo kept) core.old core.new) }
     ensures up { IfOk result (λ _. core.new.up ≡ true) }
     ensures moves { IfOk result (λ _. core.new.moves ≡ core.old.moves) }
     ensures released { IfOk result (λ _. core.new.released ≡ core.old.released) }
@@ -108,7 +111,8 @@ pub fn start_over<P: Program>(core: &mut Core<P>) -> Result<Kept, NoMemory>
 /// A new master starts from the stored snapshot.
 pub fn recover<P: Program>(core: &mut Core<P>) -> Result<Outcome, NoMemory>
     requires stands { StandsForSome (P.meaning core.old.program) core.old }
-    ensures on { IfOk result (λ to. MovesOn (P.meaning core.old.program) (ComesTo event_is.Recover to) core.old core.new) }
+    ensures on { IfOk result (λ to.
+        MovesOn (P.meaning core.old.program) (ComesTo event_is.Recover to) core.old core.new) }
     ensures fresh { core.new.fresh ≡ core.old.fresh }
     ensures handed { core.new.handed ≡ core.old.handed }
 {

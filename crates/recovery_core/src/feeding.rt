@@ -22,7 +22,8 @@ fn microseconds(unit: Unit, packet: &Packet) -> u64
 /// The next packets of the capture are fed, this many or as many as are left. Each sets the clock to its own time, where that is
 /// later.
 pub fn feed<P: Program>(core: &mut Core<P>, n: u64) -> Result<Outcome, NoMemory>
-    ensures on { IfOk result (λ to. MovesOn (P.meaning core.old.program) (ComesTo (event_is.Feed n) to) core.old core.new) }
+    ensures on { IfOk result (λ to.
+        MovesOn (P.meaning core.old.program) (ComesTo (event_is.Feed n) to) core.old core.new) }
     ensures fresh { core.new.fresh ≡ core.old.fresh }
     ensures handed { core.new.handed ≡ core.old.handed }
 {
@@ -38,7 +39,8 @@ pub fn feed<P: Program>(core: &mut Core<P>, n: u64) -> Result<Outcome, NoMemory>
 
 /// The clock becomes this number.
 pub fn set_time<P: Program>(core: &mut Core<P>, time: u64) -> Outcome
-    ensures on { MovesOn (P.meaning core.old.program) (ComesTo (event_is.Time time) result) core.old core.new }
+    ensures on { MovesOn (P.meaning core.old.program) (ComesTo (event_is.Time time) result)
+        core.old core.new }
     ensures fresh { core.new.fresh ≡ core.old.fresh }
 {
     core.clock = time;

@@ -20,7 +20,8 @@ use recovery_world::Event;
 pub fn perform_single<P: Program>(core: &mut Core<P>, event: Event) -> Result<Reply, Stop>
     requires stands { StandsForSome (P.meaning core.old.program) core.old }
     requires single { IsSingle event }
-    ensures on { IfOk result (λ reply. MovesOn (P.meaning core.old.program) (Replies event reply) core.old core.new) }
+    ensures on { IfOk result (λ reply.
+        MovesOn (P.meaning core.old.program) (Replies event reply) core.old core.new) }
     ensures limit { (limit : LimitKind) → result ≡ Err (Stop.Limit limit)
         → StopsAt (P.meaning core.old.program) (WouldPass event limit) core.old core.new }
     ensures fresh { AddsFresh core.old core.new }

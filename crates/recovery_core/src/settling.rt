@@ -20,7 +20,8 @@ fn step_out<P: Program>(core: &mut Core<P>, thread: u32) -> Result<bool, Stop>
     requires stands { StandsForSome (P.meaning core.old.program) core.old }
     requires up { core.old.up ≡ true }
     requires thread_in { thread < core.old.inputs.threads }
-    ensures on { IfOk result (λ idle. MovesOn (P.meaning core.old.program) (StepsTo thread idle) core.old core.new) }
+    ensures on { IfOk result (λ idle.
+        MovesOn (P.meaning core.old.program) (StepsTo thread idle) core.old core.new) }
     ensures limit { (limit : LimitKind) → result ≡ Err (Stop.Limit limit)
         → StopsAt (P.meaning core.old.program) (HaltsStepping thread limit) core.old core.new }
     ensures up { IfOk result (λ _. core.new.up ≡ true) }
@@ -40,7 +41,8 @@ fn step_out<P: Program>(core: &mut Core<P>, thread: u32) -> Result<bool, Stop>
 fn round<P: Program>(core: &mut Core<P>) -> Result<bool, Stop>
     requires stands { StandsForSome (P.meaning core.old.program) core.old }
     requires up { core.old.up ≡ true }
-    ensures on { IfOk result (λ idle. MovesOn (P.meaning core.old.program) (GoesRound idle) core.old core.new) }
+    ensures on { IfOk result (λ idle.
+        MovesOn (P.meaning core.old.program) (GoesRound idle) core.old core.new) }
     ensures limit { (limit : LimitKind) → result ≡ Err (Stop.Limit limit)
         → StopsAt (P.meaning core.old.program) (HaltsInRound limit) core.old core.new }
     ensures up { IfOk result (λ _. core.new.up ≡ true) }
@@ -101,7 +103,8 @@ fn arrive_each<P: Program>(
     count: u64,
 ) -> Result<(), NoMemory>
     requires stands { StandsForSome (P.meaning core.old.program) core.old }
-    ensures on { OnOk result (MovesOn (P.meaning core.old.program) (ArriveEach kind thread count) core.old core.new) }
+    ensures on { OnOk result (MovesOn (P.meaning core.old.program) (ArriveEach kind thread count)
+        core.old core.new) }
     ensures fresh { AddsFresh core.old core.new }
     ensures handed { core.new.handed ≡ core.old.handed }
 {
@@ -114,7 +117,8 @@ fn arrive_each<P: Program>(
 /// All entries or outputs of the master arrive, by thread, then number.
 fn arrive_all<P: Program>(core: &mut Core<P>, kind: Kind) -> Result<(), NoMemory>
     requires stands { StandsForSome (P.meaning core.old.program) core.old }
-    ensures on { OnOk result (MovesOn (P.meaning core.old.program) (ArriveAll kind) core.old core.new) }
+    ensures on { OnOk result (MovesOn (P.meaning core.old.program) (ArriveAll kind)
+        core.old core.new) }
     ensures fresh { AddsFresh core.old core.new }
     ensures handed { core.new.handed ≡ core.old.handed }
 {
@@ -149,7 +153,8 @@ pub fn wake<P: Program>(core: &mut Core<P>) -> Result<(), NoMemory>
 /// All threads go on to the end of the capture, and all that they logged and sent out arrives.
 pub fn settle<P: Program>(core: &mut Core<P>) -> Result<Outcome, Stop>
     requires stands { StandsForSome (P.meaning core.old.program) core.old }
-    ensures on { IfOk result (λ to. MovesOn (P.meaning core.old.program) (SettlesTo to) core.old core.new) }
+    ensures on { IfOk result (λ to.
+        MovesOn (P.meaning core.old.program) (SettlesTo to) core.old core.new) }
     ensures limit { (limit : LimitKind) → result ≡ Err (Stop.Limit limit)
         → StopsAt (P.meaning core.old.program) (IsStopped event_is.Settle limit) core.old core.new }
     ensures fresh { AddsFresh core.old core.new }

@@ -13,7 +13,8 @@ use recovery_world::Outcome;
 /// Shows the value of a variable.
 pub fn show<P: Program>(core: &Core<P>, var: u64) -> Result<Outcome, NoMemory>
     ensures on { IfOk result (λ to. (s : Setting P.Value) (w : World P.Value)
-        → StandsFor (P.meaning core.now.program) s w core.now → ComesTo (event_is.Show var) to s w w) }
+        → StandsFor (P.meaning core.now.program) s w core.now
+        → ComesTo (event_is.Show var) to s w w) }
 {
     if var >= u64::from(core.program.vars()) {
         return Ok(Outcome::Nothing);

@@ -78,7 +78,8 @@ fn total(counts: &Stamp) -> u64
 /// A snapshot of the master is made.
 pub fn snap<P: Program>(core: &mut Core<P>) -> Result<Outcome, NoMemory>
     requires stands { StandsForSome (P.meaning core.old.program) core.old }
-    ensures on { IfOk result (λ to. MovesOn (P.meaning core.old.program) (ComesTo event_is.Snap to) core.old core.new) }
+    ensures on { IfOk result (λ to.
+        MovesOn (P.meaning core.old.program) (ComesTo event_is.Snap to) core.old core.new) }
     ensures fresh { core.new.fresh ≡ core.old.fresh }
     ensures handed { core.new.handed ≡ core.old.handed }
 {

@@ -99,7 +99,8 @@ fn input_of<'a, P: Program>(
 fn turn_of<P: Program>(core: &Core<P>, thread: u32) -> Turn
     requires stands { StandsForSome (P.meaning core.now.program) core.now }
     requires thread_in { thread < core.now.inputs.threads }
-    ensures { (s : Setting P.Value) (w : World P.Value) → StandsFor (P.meaning core.now.program) s w core.now
+    ensures { (s : Setting P.Value) (w : World P.Value)
+        → StandsFor (P.meaning core.now.program) s w core.now
         → HasTurnBy s w thread result }
 {
     match core.master.wants(&core.program, thread) {
@@ -238,9 +239,11 @@ pub fn step<P: Program>(
 ) -> Result<Outcome, Stop>
     requires stands { StandsForSome (P.meaning core.old.program) core.old }
     ensures on { IfOk result (λ to.
-        MovesOn (P.meaning core.old.program) (ComesTo (event_is.Step thread given) to) core.old core.new) }
+        MovesOn (P.meaning core.old.program) (ComesTo (event_is.Step thread given) to)
+        core.old core.new) }
     ensures limit { (limit : LimitKind) → result ≡ Err (Stop.Limit limit)
-        → StopsAt (P.meaning core.old.program) (WouldPass (event_is.Step thread given) limit) core.old core.new }
+        → StopsAt (P.meaning core.old.program) (WouldPass (event_is.Step thread given) limit)
+        core.old core.new }
     ensures fresh { core.new.fresh ≡ core.old.fresh }
     ensures handed { core.new.handed ≡ core.old.handed }
 {

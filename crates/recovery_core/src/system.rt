@@ -52,7 +52,8 @@ impl<P: Program> Model for System<P> {
 /// Performs an event.
 fn perform<P: Program>(core: &mut Core<P>, event: Event) -> Result<Reply, Stop>
     requires stands { StandsForSome (P.meaning core.old.program) core.old }
-    ensures on { IfOk result (λ reply. MovesOn (P.meaning core.old.program) (RepliesAny event reply) core.old core.new) }
+    ensures on { IfOk result (λ reply.
+        MovesOn (P.meaning core.old.program) (RepliesAny event reply) core.old core.new) }
     ensures limit { (limit : LimitKind) → result ≡ Err (Stop.Limit limit)
         → StopsAt (P.meaning core.old.program) (IsStopped event limit) core.old core.new }
     ensures fresh { AddsFresh core.old core.new }
@@ -106,12 +107,14 @@ impl<P: Program> System<P> {
 
         // For every world that the system stood for, it stands for that of the event, and the reply is that of the event.
         ensures on { IfOk result (λ reply.
-            MovesOn (P.meaning self.old.parts.program) (RepliesAny event.now reply) self.old.parts self.new.parts) }
+            MovesOn (P.meaning self.old.parts.program) (RepliesAny event.now reply)
+            self.old.parts self.new.parts) }
         ensures goes_on { OnOk result (self.new.stopped ≡ false) }
 
         // A limit stops it exactly where the event of the definitions stops.
         ensures limit { (limit : LimitKind) → result ≡ Err (Stop.Limit limit)
-            → StopsAt (P.meaning self.old.parts.program) (IsStopped event.now limit) self.old.parts self.new.parts }
+            → StopsAt (P.meaning self.old.parts.program) (IsStopped event.now limit)
+            self.old.parts self.new.parts }
         ensures stops { OnErr result (self.new.stopped ≡ true) }
         ensures no_memory { result ≡ Err Stop.NoMemory
             → (self.new.parts.fresh ≡ self.old.parts.fresh)
@@ -163,7 +166,8 @@ impl<P: Program> System<P> {
 
     /// The epoch, from 1.
     pub fn epoch(&self) -> u32
-        ensures { (s : Setting P.Value) (w : World P.Value) → StandsFor (P.meaning self.now.parts.program) s w self.now.parts
+        ensures { (s : Setting P.Value) (w : World P.Value)
+            → StandsFor (P.meaning self.now.parts.program) s w self.now.parts
             → result ≡ w.epoch }
     {
         self.core.logger.epoch()
@@ -171,7 +175,8 @@ impl<P: Program> System<P> {
 
     /// How many packets of the capture are not fed yet.
     pub fn left(&self) -> u64
-        ensures { (s : Setting P.Value) (w : World P.Value) → StandsFor (P.meaning self.now.parts.program) s w self.now.parts
+        ensures { (s : Setting P.Value) (w : World P.Value)
+            → StandsFor (P.meaning self.now.parts.program) s w self.now.parts
             → result ≡ length (drop w.fed s.packets) }
     {
         self.core.left.len() as u64
@@ -180,7 +185,8 @@ impl<P: Program> System<P> {
     /// How many inputs a thread took, entries it logged and outputs it sent out.
     pub fn counts(&self, thread: u32) -> Counts
         requires { thread < self.now.parts.inputs.threads }
-        ensures { (s : Setting P.Value) (w : World P.Value) → StandsFor (P.meaning self.now.parts.program) s w self.now.parts
+        ensures { (s : Setting P.Value) (w : World P.Value)
+            → StandsFor (P.meaning self.now.parts.program) s w self.now.parts
             → (result.taken ≡ (thread_after w.past thread).taken)
             × (result.entries ≡ entries thread (log_of w.past))
             × (result.outputs ≡ outputs thread (sent_of w.past)) }

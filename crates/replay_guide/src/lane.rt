@@ -31,7 +31,10 @@ impl Model for FollowedLane {
 
     ghost use Rattle.replay_guide.specs.Walks.{numbered};
 
-    ghost view = { λ l. record { covered = l.covered; entries = numbered l.covered l.entries.items } };
+    ghost view = { λ l. record {
+      covered = l.covered;
+      entries = numbered l.covered l.entries.items;
+    } };
 
     ghost invariant = { λ l. length l.entries.items ≤ 2 ^ 56 };
 }

@@ -42,8 +42,10 @@ impl<P: Program> Run<P> {
         requires few { length inputs.now.packets < 2 ^ 50 }
         requires next { StandsBefore (MakesNext (P.meaning program.now) inputs.now thread answer)
             (P.meaning program.now) self.old.master self.old.schedule }
-        ensures plays { OnOk result (PlaysOn (MakesNext (P.meaning program.now) inputs.now thread answer)
-            (P.meaning program.now) self.old.master self.old.schedule self.new.master self.new.schedule) }
+        ensures plays { OnOk result (PlaysOn
+            (MakesNext (P.meaning program.now) inputs.now thread answer)
+            (P.meaning program.now) self.old.master self.old.schedule
+            self.new.master self.new.schedule) }
         ensures fits { FitsProgram (P.meaning program.now) (P.fits program.now)
             value_of self.new.master.vars }
     {
@@ -73,7 +75,8 @@ impl<P: Program> Run<P> {
         requires led { StandsBefore (LeadsTo (P.meaning program.now) inputs.now entry.now)
             (P.meaning program.now) self.old.master self.old.schedule }
         ensures plays { OnOk result (PlaysOn (LeadsTo (P.meaning program.now) inputs.now entry.now)
-            (P.meaning program.now) self.old.master self.old.schedule self.new.master self.new.schedule) }
+            (P.meaning program.now) self.old.master self.old.schedule
+            self.new.master self.new.schedule) }
         ensures fits { FitsProgram (P.meaning program.now) (P.fits program.now)
             value_of self.new.master.vars }
     {
@@ -98,7 +101,8 @@ impl<P: Program> Run<P> {
         requires led { StandsBefore (LeadsBy (P.meaning program.now) inputs.now order.now)
             (P.meaning program.now) self.old.master self.old.schedule }
         ensures plays { OnOk result (PlaysOn (LeadsBy (P.meaning program.now) inputs.now order.now)
-            (P.meaning program.now) self.old.master self.old.schedule self.new.master self.new.schedule) }
+            (P.meaning program.now) self.old.master self.old.schedule
+            self.new.master self.new.schedule) }
         ensures fits { FitsProgram (P.meaning program.now) (P.fits program.now)
             value_of self.new.master.vars }
     {
@@ -122,8 +126,10 @@ impl<P: Program> Run<P> {
         requires few { length inputs.now.packets < 2 ^ 50 }
         requires sends { StandsBefore (SendsUpTo (P.meaning program.now) inputs.now thread number)
             (P.meaning program.now) self.old.master self.old.schedule }
-        ensures plays { OnOk result (PlaysOn (SendsUpTo (P.meaning program.now) inputs.now thread number)
-            (P.meaning program.now) self.old.master self.old.schedule self.new.master self.new.schedule) }
+        ensures plays { OnOk result (PlaysOn
+            (SendsUpTo (P.meaning program.now) inputs.now thread number)
+            (P.meaning program.now) self.old.master self.old.schedule
+            self.new.master self.new.schedule) }
         ensures fits { FitsProgram (P.meaning program.now) (P.fits program.now)
             value_of self.new.master.vars }
     {
@@ -146,8 +152,10 @@ impl<P: Program> Run<P> {
         requires few { length inputs.now.packets < 2 ^ 50 }
         requires sends { StandsBefore (SendsAll (P.meaning program.now) inputs.now numbers.now)
             (P.meaning program.now) self.old.master self.old.schedule }
-        ensures plays { OnOk result (PlaysOn (SendsAll (P.meaning program.now) inputs.now numbers.now)
-            (P.meaning program.now) self.old.master self.old.schedule self.new.master self.new.schedule) }
+        ensures plays { OnOk result (PlaysOn
+            (SendsAll (P.meaning program.now) inputs.now numbers.now)
+            (P.meaning program.now) self.old.master self.old.schedule
+            self.new.master self.new.schedule) }
         ensures fits { FitsProgram (P.meaning program.now) (P.fits program.now)
             value_of self.new.master.vars }
     {

@@ -116,7 +116,8 @@ fn read_form(bytes: &[u8]) -> Result<(Kind, Version), FrameFault>
 
 fn read_length(bytes: &[u8], kind: Kind, version: Version) -> Result<usize, FrameFault>
     requires { 6 ≤ length bytes.now }
-    ensures passed { IfOk result (λ size. (first_failure (length_tests kind version bytes.now) ≡ None)
+    ensures passed { IfOk result (λ size.
+        (first_failure (length_tests kind version bytes.now) ≡ None)
         × (size ≡ length_at bytes.now)) }
     ensures long { IfOk result (λ size. (least kind version ≤ size) × (size ≤ length bytes.now)) }
     ensures fault { IfErr result (λ fault. first_failure (length_tests kind version bytes.now)
@@ -139,7 +140,8 @@ fn read_length(bytes: &[u8], kind: Kind, version: Version) -> Result<usize, Fram
 /// The number of threads, and whose components there are.
 fn read_threads(bytes: &[u8], kind: Kind, version: Version) -> Result<(u32, u32), FrameFault>
     requires { least kind version ≤ length bytes.now }
-    ensures passed { IfOk result (λ read. (first_failure (stamp_tests kind version bytes.now) ≡ None)
+    ensures passed { IfOk result (λ read.
+        (first_failure (stamp_tests kind version bytes.now) ≡ None)
         × (read.0 ≡ threads_at kind bytes.now) × (read.1 ≡ mask_at kind version bytes.now)) }
     ensures fits { IfOk result (λ read. read.1 < 2 ^ 16) }
     ensures fault { IfErr result (λ fault. first_failure (stamp_tests kind version bytes.now)

@@ -19,7 +19,8 @@ use std::alloc::Global;
 pub fn take_frame(alloc: Global, bytes: &[u8]) -> Result<(Frame, usize), FrameError>
     ensures frame { IfOk result (λ taken. BeginsWith bytes.now taken.0 taken.1) }
     ensures fault { IfErr result (IsCauseIn bytes.now) }
-    ensures every { (f : FrameValue) (size : ℕ) → BeginsWith bytes.now f size → Gives result f size }
+    ensures every { (f : FrameValue) (size : ℕ) → BeginsWith bytes.now f size
+        → Gives result f size }
 {
     let layout = find_layout(bytes)?;
     let frame = read_value(alloc, bytes, &layout)?;

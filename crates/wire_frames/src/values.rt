@@ -38,7 +38,8 @@ pub(crate) struct Common {
 /// What is in a frame with these parts.
 pub(crate) fn read_value(alloc: Global, bytes: &[u8], layout: &Layout) -> Result<Frame, FrameError>
     requires found { layout.now ≡ layout_of bytes.now }
-    requires whole { needed (kind_at bytes.now) (version_at bytes.now) bytes.now ≤ length bytes.now }
+    requires whole { needed (kind_at bytes.now) (version_at bytes.now) bytes.now
+        ≤ length bytes.now }
     requires mask { layout.now.mask < 2 ^ 16 }
     ensures passed { IfOk result (λ frame.
         first_failure (field_tests (kind_at bytes.now) (version_at bytes.now) bytes.now) ≡ None) }
@@ -59,7 +60,8 @@ pub(crate) fn read_value(alloc: Global, bytes: &[u8], layout: &Layout) -> Result
 fn read_entry(bytes: &[u8], layout: &Layout) -> Option<Frame>
     requires found { layout.now ≡ layout_of bytes.now }
     requires kind { kind_at bytes.now ≡ Log }
-    requires whole { needed (kind_at bytes.now) (version_at bytes.now) bytes.now ≤ length bytes.now }
+    requires whole { needed (kind_at bytes.now) (version_at bytes.now) bytes.now
+        ≤ length bytes.now }
     requires mask { layout.now.mask < 2 ^ 16 }
     ensures passed { IfSome result (λ frame.
         first_failure (field_tests Log (version_at bytes.now) bytes.now) ≡ None) }
@@ -91,7 +93,8 @@ fn read_entry(bytes: &[u8], layout: &Layout) -> Option<Frame>
 fn read_output(alloc: Global, bytes: &[u8], layout: &Layout) -> Result<Frame, FrameError>
     requires found { layout.now ≡ layout_of bytes.now }
     requires kind { kind_at bytes.now ≡ Out }
-    requires whole { needed (kind_at bytes.now) (version_at bytes.now) bytes.now ≤ length bytes.now }
+    requires whole { needed (kind_at bytes.now) (version_at bytes.now) bytes.now
+        ≤ length bytes.now }
     requires mask { layout.now.mask < 2 ^ 16 }
     ensures passed { IfOk result (λ frame.
         first_failure (field_tests Out (version_at bytes.now) bytes.now) ≡ None) }
@@ -140,7 +143,8 @@ fn read_packet(alloc: Global, bytes: &[u8], place: usize) -> Result<Packet, NoMe
 /// What entries and outputs have in common, unless one of these fields is out of its range.
 fn read_common(bytes: &[u8], layout: &Layout) -> Option<Common>
     requires found { layout.now ≡ layout_of bytes.now }
-    requires whole { needed (kind_at bytes.now) (version_at bytes.now) bytes.now ≤ length bytes.now }
+    requires whole { needed (kind_at bytes.now) (version_at bytes.now) bytes.now
+        ≤ length bytes.now }
     requires mask { layout.now.mask < 2 ^ 16 }
     ensures passed { IfSome result (λ common.
         is_not_sent (kind_at bytes.now) (version_at bytes.now) bytes.now ≡ false) }
@@ -166,7 +170,8 @@ fn read_common(bytes: &[u8], layout: &Layout) -> Option<Common>
 /// The stamp, unless a component of a frame of version 2 is 0.
 fn find_stamp(bytes: &[u8], layout: &Layout) -> Option<Stamp>
     requires found { layout.now ≡ layout_of bytes.now }
-    requires whole { needed (kind_at bytes.now) (version_at bytes.now) bytes.now ≤ length bytes.now }
+    requires whole { needed (kind_at bytes.now) (version_at bytes.now) bytes.now
+        ≤ length bytes.now }
     requires mask { layout.now.mask < 2 ^ 16 }
     ensures passed { IfSome result (λ stamp.
         has_zero_component (kind_at bytes.now) (version_at bytes.now) bytes.now ≡ false) }
