@@ -166,139 +166,169 @@ fn first_wrong_play(alloc: Global, cases: &[Case<'_>]) -> Result<Option<usize>, 
     Ok(None)
 }
 
-#[test]
-fn checks_what_was_released(rt: HostRuntime) -> Result<(), Fail> {
-    let alloc = rt.alloc();
+/// What `check` comes to, of the counting box and of the monitor.
+const CHECKED: [Case<'static>; 6] = [
+    FOUND,
+    Case {
+        released: Some(WRITTEN_MICRO),
+        report: b"found 0\n",
+        ..FOUND
+    },
+    Case {
+        schedule: b"0\n0 = 5\n",
+        status: Status::Refuted(Refutation::Moves(UNWANTED)),
+        ..REFUTED
+    },
+    Case {
+        box_file: b"box monitor",
+        ..REFUTED
+    },
+    Case {
+        box_file: b"box count\nthreads 2",
+        capture: TWO_PACKETS,
+        schedule: b"0\n0\n0\n0\n1\n1\n1\n1\n",
+        released: Some(TWO_COUNTED),
+        report: b"found 2\n",
+        ..FOUND
+    },
+    SECOND,
+];
+
+/// Whether a packet that was sent out once and stands twice in the released capture is refuted at the second.
+fn refutes_a_packet_found_twice(alloc: Global) -> Result<bool, NoMemory> {
     let mut twice = Bytes::of(alloc, ONE_COUNTED)?;
     twice.extend(&ONE_COUNTED[24..])?;
-    let cases = [
-        FOUND,
-        Case {
-            released: Some(twice.as_slice()),
-            status: Status::Refuted(Refutation::Packet(2)),
-            ..REFUTED
-        },
-        Case {
-            released: Some(WRITTEN_MICRO),
-            report: b"found 0\n",
-            ..FOUND
-        },
-        Case {
-            schedule: b"0\n0 = 5\n",
-            status: Status::Refuted(Refutation::Moves(UNWANTED)),
-            ..REFUTED
-        },
-        Case {
-            box_file: b"box monitor",
-            ..REFUTED
-        },
-        Case {
-            box_file: b"box count\nthreads 2",
-            capture: TWO_PACKETS,
-            schedule: b"0\n0\n0\n0\n1\n1\n1\n1\n",
-            released: Some(TWO_COUNTED),
-            report: b"found 2\n",
-            ..FOUND
-        },
-        SECOND,
-    ];
-    assert_eq!(rt; first_wrong_check(alloc, &cases)?, None);
+    let case = Case {
+        released: Some(twice.as_slice()),
+        status: Status::Refuted(Refutation::Packet(2)),
+        ..REFUTED
+    };
+    checks(alloc, case)
+}
+
+#[test]
+fn checks_what_was_released(rt: HostRuntime) -> Result<(), Fail> {
+    assert_eq!(rt; first_wrong_check(rt.alloc(), &CHECKED)?, None);
+    assert!(rt; refutes_a_packet_found_twice(rt.alloc())?);
     Ok(())
+}
+
+/// A released capture in nanoseconds, of a run of which the capture is in microseconds.
+const IN_NANOSECONDS: Case<'static> = Case {
+    released: Some(NANO_COUNTED),
+    ..FOUND
+};
+
+/// Whether the same is refuted where it has the fraction in microseconds.
+fn refutes_another_fraction(alloc: Global) -> Result<bool, NoMemory> {
+    let mut other = Bytes::of(alloc, &NANO_COUNTED[..28])?;
+    other.extend(&ONE_COUNTED[28..])?;
+    let case = Case {
+        released: Some(other.as_slice()),
+        ..REFUTED
+    };
+    checks(alloc, case)
 }
 
 #[test]
 fn compares_fractions_in_nanoseconds(rt: HostRuntime) -> Result<(), Fail> {
-    let alloc = rt.alloc();
-    let mut other = Bytes::of(alloc, &NANO_COUNTED[..28])?;
-    other.extend(&ONE_COUNTED[28..])?;
-    let cases = [
-        Case {
-            released: Some(NANO_COUNTED),
-            ..FOUND
-        },
-        Case {
-            released: Some(other.as_slice()),
-            ..REFUTED
-        },
-    ];
-    assert_eq!(rt; first_wrong_check(alloc, &cases)?, None);
+    assert!(rt; checks(rt.alloc(), IN_NANOSECONDS)?);
+    assert!(rt; refutes_another_fraction(rt.alloc())?);
     Ok(())
 }
 
+/// What `play` comes to.
+const PLAYED: [Case<'static>; 4] = [
+    EMITTED,
+    Case {
+        schedule: b"",
+        released: Some(WRITTEN_MICRO),
+        report: b"emitted 0\n",
+        ..EMITTED
+    },
+    Case {
+        schedule: b"0\n0 = 5\n0\n9\n",
+        released: None,
+        status: Status::BadInput(InputFault::Moves(UNWANTED)),
+        report: b"",
+        ..EMITTED
+    },
+    Case {
+        report: b"emitted 1\n",
+        ..SECOND
+    },
+];
+
 #[test]
 fn plays_a_schedule(rt: HostRuntime) -> Result<(), Fail> {
-    let alloc = rt.alloc();
-    let cases = [
-        EMITTED,
-        Case {
-            schedule: b"",
-            released: Some(WRITTEN_MICRO),
-            report: b"emitted 0\n",
-            ..EMITTED
-        },
-        Case {
-            schedule: b"0\n0 = 5\n0\n9\n",
-            released: None,
-            status: Status::BadInput(InputFault::Moves(UNWANTED)),
-            report: b"",
-            ..EMITTED
-        },
-        Case {
-            report: b"emitted 1\n",
-            ..SECOND
-        },
-    ];
-    assert_eq!(rt; first_wrong_play(alloc, &cases)?, None);
+    assert_eq!(rt; first_wrong_play(rt.alloc(), &PLAYED)?, None);
     Ok(())
+}
+
+/// A record that is cut short.
+const SHORT_RECORD: CaptureFault = CaptureFault {
+    offset: 24,
+    cause: CaptureCause::ShortRecord,
+};
+
+/// An answer is missing, and no released capture is there.
+const NO_ANSWER: Case<'static> = Case {
+    schedule: b"0\n0 =",
+    released: None,
+    status: Status::BadInput(InputFault::Schedule(LineFault {
+        line: 2,
+        cause: LineCause::MissingWord,
+    })),
+    ..REFUTED
+};
+
+/// The schedule moves a thread that there is none of.
+const NO_SUCH_THREAD: Case<'static> = Case {
+    schedule: b"9\n",
+    status: Status::Refuted(Refutation::Moves(PlayFault {
+        number: 1,
+        cause: PlayCause::NoSuchThread,
+    })),
+    ..REFUTED
+};
+
+/// Each file is judged before those behind it in the words: the schedule, whether the released capture is there, and the schedule's moves.
+const JUDGED: [Case<'static>; 3] = [
+    NO_ANSWER,
+    Case {
+        released: None,
+        status: Status::ReadFault,
+        ..NO_SUCH_THREAD
+    },
+    NO_SUCH_THREAD,
+];
+
+/// Whether the capture is judged before the schedule.
+fn judges_the_capture_first(alloc: Global) -> Result<bool, NoMemory> {
+    let case = Case {
+        capture: &ONE_PACKET[..30],
+        status: Status::BadInput(InputFault::Capture(SHORT_RECORD)),
+        ..NO_ANSWER
+    };
+    checks(alloc, case)
+}
+
+/// Whether the released capture is judged before the schedule's moves.
+fn judges_the_released_before_the_moves(alloc: Global) -> Result<bool, NoMemory> {
+    let case = Case {
+        released: Some(&ONE_COUNTED[..30]),
+        status: Status::BadInput(InputFault::Released(SHORT_RECORD)),
+        ..NO_SUCH_THREAD
+    };
+    checks(alloc, case)
 }
 
 #[test]
 fn judges_the_files_in_their_order(rt: HostRuntime) -> Result<(), Fail> {
     let alloc = rt.alloc();
-    let no_answer = Status::BadInput(InputFault::Schedule(LineFault {
-        line: 2,
-        cause: LineCause::MissingWord,
-    }));
-    let short_record = CaptureFault {
-        offset: 24,
-        cause: CaptureCause::ShortRecord,
-    };
-    let cases = [
-        Case {
-            capture: &ONE_PACKET[..30],
-            schedule: b"0\n0 =",
-            released: None,
-            status: Status::BadInput(InputFault::Capture(short_record)),
-            ..REFUTED
-        },
-        Case {
-            schedule: b"0\n0 =",
-            released: None,
-            status: no_answer,
-            ..REFUTED
-        },
-        Case {
-            schedule: b"9\n",
-            released: None,
-            status: Status::ReadFault,
-            ..REFUTED
-        },
-        Case {
-            schedule: b"9\n",
-            released: Some(&ONE_COUNTED[..30]),
-            status: Status::BadInput(InputFault::Released(short_record)),
-            ..REFUTED
-        },
-        Case {
-            schedule: b"9\n",
-            status: Status::Refuted(Refutation::Moves(PlayFault {
-                number: 1,
-                cause: PlayCause::NoSuchThread,
-            })),
-            ..REFUTED
-        },
-    ];
-    assert_eq!(rt; first_wrong_check(alloc, &cases)?, None);
+    assert!(rt; judges_the_capture_first(alloc)?);
+    assert_eq!(rt; first_wrong_check(alloc, &JUDGED)?, None);
+    assert!(rt; judges_the_released_before_the_moves(alloc)?);
     Ok(())
 }
 
