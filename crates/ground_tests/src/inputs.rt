@@ -3,6 +3,7 @@ use plain_text::{Bytes, NoMemory, Packet};
 use sample_frames::{ANSWER, NEXT_QUERY, QUERY};
 use std::alloc::Global;
 use std::marker::{Send, Sync};
+use std::process::Abort;
 use std::test::Fail;
 
 fn packet(alloc: Global, seconds: u32, bytes: &[u8]) -> Result<Packet, NoMemory> {
@@ -39,6 +40,14 @@ fn first_misfed(alloc: Global, log: &mut InputLog) -> Result<Option<u32>, NoMemo
     Ok(None)
 }
 
+/// Each packet that is fed comes to its thread and number.
+fn assert_fed(rt: &impl Abort, alloc: Global, log: &mut InputLog) -> Result<(), NoMemory> {
+    assert!(rt; log.threads() == 2 && log.fed() == 0);
+    assert_eq!(rt; first_misfed(alloc, log)?, None);
+    assert!(rt; log.fed() == 4);
+    Ok(())
+}
+
 /// Threads and numbers, and the second of the packet that is kept under them, if there is one.
 const KEPT: [(u32, u64, Option<u32>); 8] = [
     (0, 0, None),
@@ -51,29 +60,35 @@ const KEPT: [(u32, u64, Option<u32>); 8] = [
     (2, 1, None),
 ];
 
+fn assert_kept(rt: &impl Abort, log: &InputLog) {
+    for (thread, k, seconds) in &KEPT {
+        let is_kept = seconds_of(log.input(*thread, *k)) == *seconds;
+        assert!(rt; is_kept, "{thread} {k}");
+    }
+}
+
 #[test]
 fn keeps_the_inputs_of_each_thread(rt: HostRuntime) -> Result<(), Fail> {
     let mut log = InputLog::new(rt.alloc(), 2)?;
     goes_between_threads(&log);
-    assert_eq!(rt; (log.threads(), log.fed()), (2, 0));
-    assert_eq!(rt; first_misfed(rt.alloc(), &mut log)?, None);
-    assert_eq!(rt; log.fed(), 4);
-    for (thread, k, seconds) in &KEPT {
-        assert_eq!(rt;
-            seconds_of(log.input(*thread, *k)),
-            *seconds,
-            "{thread} {k}"
-        );
-    }
+    assert_fed(&rt, rt.alloc(), &mut log)?;
+    assert_kept(&rt, &log);
     Ok(())
+}
+
+/// Numbers of threads, and the thread of the answer among so many.
+const STEERED: [(u32, u32); 3] = [(1, 0), (7, 4), (16, 10)];
+
+/// 198.51.100.7 + 203.0.113.1 + 53 + 39,276 + 17 is 6,731,099,834.
+fn assert_steered(rt: &impl Abort, answer: &Packet) {
+    for (threads, thread) in &STEERED {
+        assert!(rt; steer(answer, *threads) == *thread, "among {threads}");
+    }
 }
 
 #[test]
 fn steers_by_the_whole_sum(rt: HostRuntime) -> Result<(), Fail> {
-    // 198.51.100.7 + 203.0.113.1 + 53 + 39,276 + 17 is 6,731,099,834
     let answer = packet(rt.alloc(), 0, &ANSWER)?;
-    assert_eq!(rt; steer(&answer, 1), 0);
-    assert_eq!(rt; steer(&answer, 7), 4);
-    assert_eq!(rt; steer(&answer, 16), 10);
+    assert_steered(&rt, &answer);
     Ok(())
 }

@@ -1,6 +1,7 @@
-ghost use Rattle.std.specs.Prelude.{◌≡◌, ◌+◌, ◌<◌, ◌≤◌, IfOk, List, ℕ, length, vec_len};
+ghost use Rattle.std.specs.Prelude.{◌≡◌, ◌+◌, ◌<◌, ◌≤◌, IfOk, IsTrue, List, ℕ, length, vec_len};
 ghost use Rattle.world_io.specs.All.{WriteFailed};
 ghost use Rattle.world_io.specs.Memory.{IsHealthy};
+ghost use Rattle.world_io.specs.World.{is_writable};
 
 use plain_text::{Bytes, NoMemory, Text};
 use std::alloc::Global;
@@ -152,13 +153,19 @@ fn reading_a_front_fails(alloc: Global, nth: u64, limit: u64) -> Result<bool, No
     reading_a_front_fails_in(alloc, &mut world, nth, limit)
 }
 
+/// Whether these are the first bytes, and whether they are all.
+fn is_front(front: &Front, text: &str, is_all: bool) -> bool {
+    match front {
+        Front::All(bytes) => is_all && bytes.as_slice() == text.as_bytes(),
+        Front::More(bytes) => !is_all && bytes.as_slice() == text.as_bytes(),
+    }
+}
+
 /// Whether these are the first bytes of "hello" up to a limit, and whether they are all.
 fn front_is(alloc: Global, limit: u64, text: &str, is_all: bool) -> Result<bool, FrontError> {
     let mut source = SliceSource::of(b"hello");
-    match read_front(alloc, &mut source, limit)? {
-        Front::All(bytes) => Ok(is_all && bytes.as_slice() == text.as_bytes()),
-        Front::More(bytes) => Ok(!is_all && bytes.as_slice() == text.as_bytes()),
-    }
+    let front = read_front(alloc, &mut source, limit)?;
+    Ok(is_front(&front, text, is_all))
 }
 
 /// How many bytes "out" has in a world after it was written, where this call of writing is told to fail.
@@ -209,7 +216,7 @@ const LENGTHS: [(u64, Option<usize>); 4] = [(5, Some(5)), (6, Some(5)), (4, None
 #[test]
 fn reads_up_to_a_limit(rt: HostRuntime) -> Result<(), Fail> {
     for (limit, want) in &LENGTHS {
-        assert_eq!(rt; read_length(rt.alloc(), *limit)?, *want);
+        assert!(rt; read_length(rt.alloc(), *limit)? == *want, "limit {limit}");
     }
     Ok(())
 }
@@ -220,7 +227,7 @@ const FAILED_READS: [(u64, bool); 4] = [(1, true), (2, true), (3, true), (4, fal
 #[test]
 fn fails_where_reading_is_told_to(rt: HostRuntime) -> Result<(), Fail> {
     for (nth, fails) in &FAILED_READS {
-        assert_eq!(rt; reading_fails(rt.alloc(), *nth)?, *fails);
+        assert!(rt; reading_fails(rt.alloc(), *nth)? == *fails, "call {nth}");
     }
     Ok(())
 }
@@ -236,11 +243,7 @@ const FRONTS: [(u64, &str, bool); 4] = [
 #[test]
 fn reads_the_first_bytes_up_to_a_limit(rt: HostRuntime) -> Result<(), Fail> {
     for (limit, text, is_all) in &FRONTS {
-        assert_eq!(rt;
-            front_is(rt.alloc(), *limit, text, *is_all),
-            Ok(true),
-            "{limit}"
-        );
+        assert!(rt; front_is(rt.alloc(), *limit, text, *is_all)?, "limit {limit}");
     }
     Ok(())
 }
@@ -258,7 +261,8 @@ const FAILED_FRONTS: [(u64, u64, bool); 5] = [
 #[test]
 fn fails_within_the_first_bytes(rt: HostRuntime) -> Result<(), Fail> {
     for (nth, limit, fails) in &FAILED_FRONTS {
-        assert_eq!(rt; reading_a_front_fails(rt.alloc(), *nth, *limit)?, *fails);
+        let is_so = reading_a_front_fails(rt.alloc(), *nth, *limit)? == *fails;
+        assert!(rt; is_so, "call {nth} and limit {limit}");
     }
     Ok(())
 }
@@ -269,17 +273,27 @@ const FAILED_WRITES: [(u64, Option<usize>); 3] = [(1, None), (2, Some(0)), (3, S
 #[test]
 fn fails_where_writing_is_told_to(rt: HostRuntime) -> Result<(), Fail> {
     for (nth, length) in &FAILED_WRITES {
-        assert_eq!(rt; written_length(rt.alloc(), *nth)?, *length);
+        assert!(rt; written_length(rt.alloc(), *nth)? == *length, "call {nth}");
     }
     Ok(())
 }
 
+/// Whether bytes can be written to the report.
+fn writes_report<W: World>(world: &mut W, bytes: &[u8]) -> bool
+    requires { IsTrue (is_writable (W.ledger world.old) 0) }
+{
+    matches!(write_all(&mut WorldSink::of(world, 0), bytes), Ok(()))
+}
+
+/// Whether the report of a new world is what is written to it.
+fn reports(alloc: Global) -> Result<bool, NoMemory> {
+    let mut world = MemoryWorld::new(alloc)?;
+    Ok(writes_report(&mut world, b"done") && world.report() == b"done".as_slice())
+}
+
 #[test]
 fn writes_the_report(rt: HostRuntime) -> Result<(), Fail> {
-    let mut world = MemoryWorld::new(rt.alloc())?;
-    let answer = write_all(&mut WorldSink::of(&mut world, 0), b"done");
-    assert_eq!(rt; answer, Ok(()));
-    assert_eq!(rt; world.report(), b"done".as_slice());
+    assert!(rt; reports(rt.alloc())?);
     Ok(())
 }
 
@@ -308,20 +322,22 @@ fn take_through(alloc: Global, bytes: &[u8]) -> Result<(u64, u64), NoMemory> {
     Ok((taken, source.into_inner().calls))
 }
 
+/// Four calls give bytes, and a fifth the end.
 #[test]
 fn asks_for_large_pieces(rt: HostRuntime) -> Result<(), Fail> {
-    let bytes = vec![in rt.alloc(); 7u8; 1_000]?;
-    // Four calls that give bytes, and the end.
-    assert_eq!(rt; take_through(rt.alloc(), bytes.as_slice())?, (1_000, 5));
+    assert!(rt; take_through(rt.alloc(), &[7u8; 1_000])? == (1_000, 5));
     Ok(())
+}
+
+/// Whether 1,000 bytes are read through a buffer of 64 bytes.
+fn reads_all(alloc: Global) -> Result<bool, NoMemory> {
+    let buffer = vec![in alloc; 0u8; 64]?;
+    let read = read_through(alloc, &mut SliceSource::of(&[7u8; 1_000]), buffer);
+    Ok(matches!(read, Ok(_)))
 }
 
 #[test]
 fn reads_all_through_a_buffer(rt: HostRuntime) -> Result<(), Fail> {
-    let bytes = vec![in rt.alloc(); 7u8; 1_000]?;
-    let buffer = vec![in rt.alloc(); 0u8; 64]?;
-    let mut rest = SliceSource::of(bytes.as_slice());
-    let read = read_through(rt.alloc(), &mut rest, buffer);
-    assert!(rt; matches!(read, Ok(_)));
+    assert!(rt; reads_all(rt.alloc())?);
     Ok(())
 }
