@@ -1,21 +1,22 @@
 use flow_text::{address_text, endpoint_text, protocol_text};
-use plain_text::NoMemory;
 use std::alloc::Global;
 
 /// Protocols, and the text of each.
 const PROTOCOLS: [(u8, &str); 5] = [(6, "tcp"), (17, "udp"), (0, "0"), (1, "1"), (255, "255")];
 
 /// Whether this is the text of a protocol.
-fn is_protocol(alloc: Global, protocol: u8, text: &str) -> Result<bool, NoMemory> {
-    Ok(protocol_text(alloc, protocol)?.as_str() == text)
+fn is_protocol(alloc: Global, protocol: u8, text: &str) -> bool {
+    match protocol_text(alloc, protocol) {
+        Ok(written) => written.as_str() == text,
+        Err(_) => false,
+    }
 }
 
 #[test]
-fn writes_protocols(rt: HostRuntime) -> Result<(), NoMemory> {
+fn writes_protocols(rt: HostRuntime) {
     for (protocol, text) in &PROTOCOLS {
-        assert!(rt; is_protocol(rt.alloc(), *protocol, text)?, "at {text}");
+        assert!(rt; is_protocol(rt.alloc(), *protocol, text), "at {text}");
     }
-    Ok(())
 }
 
 /// Addresses, and the text of each.
@@ -27,16 +28,18 @@ const ADDRESSES: [(u32, &str); 4] = [
 ];
 
 /// Whether this is the text of an address.
-fn is_address(alloc: Global, address: u32, text: &str) -> Result<bool, NoMemory> {
-    Ok(address_text(alloc, address)?.as_str() == text)
+fn is_address(alloc: Global, address: u32, text: &str) -> bool {
+    match address_text(alloc, address) {
+        Ok(written) => written.as_str() == text,
+        Err(_) => false,
+    }
 }
 
 #[test]
-fn writes_addresses(rt: HostRuntime) -> Result<(), NoMemory> {
+fn writes_addresses(rt: HostRuntime) {
     for (address, text) in &ADDRESSES {
-        assert!(rt; is_address(rt.alloc(), *address, text)?, "at {text}");
+        assert!(rt; is_address(rt.alloc(), *address, text), "at {text}");
     }
-    Ok(())
 }
 
 /// Endpoints, and the text of each.
@@ -46,15 +49,16 @@ const ENDPOINTS: [(u32, u16, &str); 2] = [
 ];
 
 /// Whether this is the text of an endpoint.
-fn is_endpoint(alloc: Global, address: u32, port: u16, text: &str) -> Result<bool, NoMemory> {
-    Ok(endpoint_text(alloc, address, port)?.as_str() == text)
+fn is_endpoint(alloc: Global, address: u32, port: u16, text: &str) -> bool {
+    match endpoint_text(alloc, address, port) {
+        Ok(written) => written.as_str() == text,
+        Err(_) => false,
+    }
 }
 
 #[test]
-fn writes_endpoints(rt: HostRuntime) -> Result<(), NoMemory> {
+fn writes_endpoints(rt: HostRuntime) {
     for (address, port, text) in &ENDPOINTS {
-        let is_written = is_endpoint(rt.alloc(), *address, *port, text)?;
-        assert!(rt; is_written, "at {text}");
+        assert!(rt; is_endpoint(rt.alloc(), *address, *port, text), "at {text}");
     }
-    Ok(())
 }

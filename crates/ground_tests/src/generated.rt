@@ -2,7 +2,6 @@ use inet_checksum::sum;
 use plain_text::{Bytes, NoMemory, Packet};
 use std::alloc::Global;
 use std::process::Abort;
-use std::test::Fail;
 use traffic_gen::make;
 
 /// The first three packets of seed 7, and the 20,000th. Another program worked them out, from the published algorithm of the
@@ -60,14 +59,14 @@ fn assert_made(rt: &impl Abort, packets: &[Packet]) {
 }
 
 #[test]
-fn makes_the_packets_of_a_seed(rt: HostRuntime) -> Result<(), Fail> {
+fn makes_the_packets_of_a_seed(rt: HostRuntime) -> Result<(), NoMemory> {
     let packets = make(rt.alloc(), 7, 20_000)?;
     assert_made(&rt, packets.as_slice());
     Ok(())
 }
 
 #[test]
-fn makes_no_packets(rt: HostRuntime) -> Result<(), Fail> {
+fn makes_no_packets(rt: HostRuntime) -> Result<(), NoMemory> {
     assert!(rt; make(rt.alloc(), 7, 0)?.is_empty());
     Ok(())
 }
@@ -83,15 +82,6 @@ fn sums(alloc: Global, frame: &[u8]) -> Result<Option<(u16, u16)>, NoMemory> {
     Ok(Some((sum(&frame[14..34]), sum(covered.as_slice()))))
 }
 
-/// The header with its checksum, and the transport with its checksum behind the pseudo-header, add up to all ones.
-fn assert_filled_in(rt: &impl Abort, alloc: Global, packets: &[Packet]) -> Result<(), NoMemory> {
-    for (number, packet) in packets.iter().enumerate() {
-        let sums = sums(alloc, packet.bytes.as_slice())?;
-        assert!(rt; sums == Some((0xffff, 0xffff)), "packet {number}");
-    }
-    Ok(())
-}
-
 /// How many of the packets are of TCP.
 fn count_tcp(packets: &[Packet]) -> usize {
     let mut count: usize = 0;
@@ -103,9 +93,19 @@ fn count_tcp(packets: &[Packet]) -> usize {
     count
 }
 
+/// The header with its checksum, and the transport with its checksum behind the pseudo-header, add up to all ones. So many are of TCP.
+fn assert_filled_in(rt: &impl Abort, alloc: Global, packets: &[Packet]) {
+    for (number, packet) in packets.iter().enumerate() {
+        let sums = sums(alloc, packet.bytes.as_slice());
+        let is_filled_in = matches!(sums, Ok(Some((0xffff, 0xffff))));
+        assert!(rt; is_filled_in, "packet {number}");
+    }
+    assert!(rt; count_tcp(packets) == 158);
+}
+
 #[test]
-fn fills_in_checksums(rt: HostRuntime) -> Result<(), Fail> {
+fn fills_in_checksums(rt: HostRuntime) -> Result<(), NoMemory> {
     let packets = make(rt.alloc(), 7, 300)?;
-    assert!(rt; count_tcp(packets.as_slice()) == 158);
-    Ok(assert_filled_in(&rt, rt.alloc(), packets.as_slice())?)
+    assert_filled_in(&rt, rt.alloc(), packets.as_slice());
+    Ok(())
 }

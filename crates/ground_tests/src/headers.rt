@@ -1,6 +1,5 @@
 use packet_headers::{Flow, NotFlow, set_dest, set_source, steering_sum, view};
 use sample_frames::{ANSWER, HAIRPIN, NEXT_QUERY, OTHER_QUERY, QUERY, QUERY_WITH_OPTIONS, SYN};
-use std::test::Fail;
 
 /// 10.0.0.5, 198.51.100.7 and 203.0.113.1.
 const INSIDE: u32 = 0x0a00_0005;
@@ -61,11 +60,22 @@ const LAST_FLOW: Flow = Flow {
 
 #[test]
 fn sees_flows(rt: HostRuntime) {
-    assert!(rt; view(&QUERY, 42) == Ok(FLOW_OF_QUERY));
+    let query = view(&QUERY, 42);
+    assert!(rt; matches!(query, Ok(flow) if flow == FLOW_OF_QUERY));
     let with_options = view(&QUERY_WITH_OPTIONS, 46);
-    assert!(rt; with_options.map(|flow| flow.transport_at) == Ok(38));
-    let syn = view(&SYN, 54).map(|flow| (flow.protocol, flow.dest_port, flow.flags));
-    assert!(rt; syn == Ok((6, 80, 2)));
+    assert!(rt; matches!(with_options, Ok(flow) if flow.transport_at == 38));
+    let syn = view(&SYN, 54);
+    assert!(rt;
+        matches!(
+            syn,
+            Ok(Flow {
+                protocol: 6,
+                dest_port: 80,
+                flags: 2,
+                ..
+            })
+        )
+    );
 }
 
 #[test]
@@ -115,7 +125,8 @@ fn refuses_by_the_first_test(rt: HostRuntime) {
 fn refuses_a_short_tcp_header(rt: HostRuntime) {
     let mut short_header = SYN;
     short_header[46] = 0x40;
-    assert!(rt; view(&short_header, 54) == Err(NotFlow::BadHeaderLength));
+    let answer = view(&short_header, 54);
+    assert!(rt; matches!(answer, Err(NotFlow::BadHeaderLength)));
 }
 
 /// Why no flow is seen in a part of the query that had no more bytes.
@@ -131,7 +142,7 @@ fn fault_of_prefix(length: usize) -> NotFlow {
 fn sees_no_flow_in_a_prefix(rt: HostRuntime) {
     for length in 0..42 {
         let part = &QUERY[..length];
-        assert!(rt; view(part, 42) == Err(NotFlow::Short), "{length}");
+        assert!(rt; matches!(view(part, 42), Err(NotFlow::Short)), "{length}");
         let fault = fault_of_prefix(length);
         assert!(rt; view(part, length as u32) == Err(fault), "{length}");
     }
@@ -233,11 +244,10 @@ fn is_rewritten(rewriting: &Rewriting<'_>) -> Result<bool, NotFlow> {
 }
 
 #[test]
-fn rewrites_and_adjusts(rt: HostRuntime) -> Result<(), Fail> {
+fn rewrites_and_adjusts(rt: HostRuntime) {
     for (row, rewriting) in REWRITINGS.iter().enumerate() {
-        assert!(rt; is_rewritten(rewriting)?, "row {row}");
+        assert!(rt; matches!(is_rewritten(rewriting), Ok(true)), "row {row}");
     }
-    Ok(())
 }
 
 /// The SYN from the port outside that makes its checksum 0.
@@ -255,7 +265,7 @@ const REST_OF_TRANSLATED_SYN: [u8; 30] = [
 ];
 
 #[test]
-fn lets_a_tcp_checksum_become_zero(rt: HostRuntime) -> Result<(), Fail> {
+fn lets_a_tcp_checksum_become_zero(rt: HostRuntime) -> Result<(), NotFlow> {
     let segment = translated_syn()?;
     assert!(rt; &segment[24..] == REST_OF_TRANSLATED_SYN.as_slice());
     Ok(())

@@ -4,7 +4,6 @@ use sample_frames::{ANSWER, NEXT_QUERY, QUERY};
 use std::alloc::Global;
 use std::marker::{Send, Sync};
 use std::process::Abort;
-use std::test::Fail;
 
 fn packet(alloc: Global, seconds: u32, bytes: &[u8]) -> Result<Packet, NoMemory> {
     Ok(Packet {
@@ -30,22 +29,24 @@ const FED: [(u32, &[u8], (u32, u64)); 4] = [
     (4, &NEXT_QUERY, (1, 2)),
 ];
 
-/// The second of the first packet that comes to another thread or another number.
-fn first_misfed(alloc: Global, log: &mut InputLog) -> Result<Option<u32>, NoMemory> {
-    for (seconds, bytes, input) in &FED {
-        if log.feed(packet(alloc, *seconds, bytes)?)? != *input {
-            return Ok(Some(*seconds));
-        }
-    }
-    Ok(None)
+/// The thread and the number that a packet comes to.
+fn feed(
+    alloc: Global,
+    log: &mut InputLog,
+    seconds: u32,
+    bytes: &[u8],
+) -> Result<(u32, u64), NoMemory> {
+    log.feed(packet(alloc, seconds, bytes)?)
 }
 
 /// Each packet that is fed comes to its thread and number.
-fn assert_fed(rt: &impl Abort, alloc: Global, log: &mut InputLog) -> Result<(), NoMemory> {
+fn assert_fed(rt: &impl Abort, alloc: Global, log: &mut InputLog) {
     assert!(rt; log.threads() == 2 && log.fed() == 0);
-    assert_eq!(rt; first_misfed(alloc, log)?, None);
+    for (seconds, bytes, input) in &FED {
+        let fed = feed(alloc, log, *seconds, bytes);
+        assert!(rt; matches!(fed, Ok(place) if place == *input), "at {seconds}");
+    }
     assert!(rt; log.fed() == 4);
-    Ok(())
 }
 
 /// Threads and numbers, and the second of the packet that is kept under them, if there is one.
@@ -68,10 +69,10 @@ fn assert_kept(rt: &impl Abort, log: &InputLog) {
 }
 
 #[test]
-fn keeps_the_inputs_of_each_thread(rt: HostRuntime) -> Result<(), Fail> {
+fn keeps_the_inputs_of_each_thread(rt: HostRuntime) -> Result<(), NoMemory> {
     let mut log = InputLog::new(rt.alloc(), 2)?;
     goes_between_threads(&log);
-    assert_fed(&rt, rt.alloc(), &mut log)?;
+    assert_fed(&rt, rt.alloc(), &mut log);
     assert_kept(&rt, &log);
     Ok(())
 }
@@ -87,7 +88,7 @@ fn assert_steered(rt: &impl Abort, answer: &Packet) {
 }
 
 #[test]
-fn steers_by_the_whole_sum(rt: HostRuntime) -> Result<(), Fail> {
+fn steers_by_the_whole_sum(rt: HostRuntime) -> Result<(), NoMemory> {
     let answer = packet(rt.alloc(), 0, &ANSWER)?;
     assert_steered(&rt, &answer);
     Ok(())

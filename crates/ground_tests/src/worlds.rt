@@ -5,7 +5,6 @@ ghost use Rattle.world_io.specs.World.{is_writable};
 
 use plain_text::{Bytes, NoMemory, Text};
 use std::alloc::Global;
-use std::test::Fail;
 use world_io::{
     BufferedSource, Filled, Front, FrontError, MemoryWorld, OpenFault, ReadError, SliceSource,
     Source, World, WorldSink, WorldSource, WriteError, read_all, read_front, write_all,
@@ -162,10 +161,11 @@ fn is_front(front: &Front, text: &str, is_all: bool) -> bool {
 }
 
 /// Whether these are the first bytes of "hello" up to a limit, and whether they are all.
-fn front_is(alloc: Global, limit: u64, text: &str, is_all: bool) -> Result<bool, FrontError> {
-    let mut source = SliceSource::of(b"hello");
-    let front = read_front(alloc, &mut source, limit)?;
-    Ok(is_front(&front, text, is_all))
+fn front_is(alloc: Global, limit: u64, text: &str, is_all: bool) -> bool {
+    match read_front(alloc, &mut SliceSource::of(b"hello"), limit) {
+        Ok(front) => is_front(&front, text, is_all),
+        Err(_) => false,
+    }
 }
 
 /// How many bytes "out" has in a world after it was written, where this call of writing is told to fail.
@@ -214,22 +214,28 @@ fn read_length(alloc: Global, limit: u64) -> Result<Option<usize>, NoMemory> {
 const LENGTHS: [(u64, Option<usize>); 4] = [(5, Some(5)), (6, Some(5)), (4, None), (0, None)];
 
 #[test]
-fn reads_up_to_a_limit(rt: HostRuntime) -> Result<(), Fail> {
+fn reads_up_to_a_limit(rt: HostRuntime) {
     for (limit, want) in &LENGTHS {
-        assert!(rt; read_length(rt.alloc(), *limit)? == *want, "limit {limit}");
+        let read = read_length(rt.alloc(), *limit);
+        assert!(rt;
+            matches!(read, Ok(length) if length == *want),
+            "limit {limit}"
+        );
     }
-    Ok(())
 }
 
 /// Calls of reading that are told to fail, and whether "in" is read by such a call.
 const FAILED_READS: [(u64, bool); 4] = [(1, true), (2, true), (3, true), (4, false)];
 
 #[test]
-fn fails_where_reading_is_told_to(rt: HostRuntime) -> Result<(), Fail> {
+fn fails_where_reading_is_told_to(rt: HostRuntime) {
     for (nth, fails) in &FAILED_READS {
-        assert!(rt; reading_fails(rt.alloc(), *nth)? == *fails, "call {nth}");
+        let read = reading_fails(rt.alloc(), *nth);
+        assert!(rt;
+            matches!(read, Ok(failed) if failed == *fails),
+            "call {nth}"
+        );
     }
-    Ok(())
 }
 
 /// Limits, the first bytes up to each, and whether they are all.
@@ -241,11 +247,11 @@ const FRONTS: [(u64, &str, bool); 4] = [
 ];
 
 #[test]
-fn reads_the_first_bytes_up_to_a_limit(rt: HostRuntime) -> Result<(), Fail> {
+fn reads_the_first_bytes_up_to_a_limit(rt: HostRuntime) {
     for (limit, text, is_all) in &FRONTS {
-        assert!(rt; front_is(rt.alloc(), *limit, text, *is_all)?, "limit {limit}");
+        let is_front = front_is(rt.alloc(), *limit, text, *is_all);
+        assert!(rt; is_front, "limit {limit}");
     }
-    Ok(())
 }
 
 /// Calls of reading that are told to fail, limits, and whether the first bytes are read by such a call. Where the file is longer than the
@@ -259,23 +265,26 @@ const FAILED_FRONTS: [(u64, u64, bool); 5] = [
 ];
 
 #[test]
-fn fails_within_the_first_bytes(rt: HostRuntime) -> Result<(), Fail> {
+fn fails_within_the_first_bytes(rt: HostRuntime) {
     for (nth, limit, fails) in &FAILED_FRONTS {
-        let is_so = reading_a_front_fails(rt.alloc(), *nth, *limit)? == *fails;
+        let read = reading_a_front_fails(rt.alloc(), *nth, *limit);
+        let is_so = matches!(read, Ok(failed) if failed == *fails);
         assert!(rt; is_so, "call {nth} and limit {limit}");
     }
-    Ok(())
 }
 
 /// Calls of writing that are told to fail, and how many bytes "out" has then.
 const FAILED_WRITES: [(u64, Option<usize>); 3] = [(1, None), (2, Some(0)), (3, Some(3))];
 
 #[test]
-fn fails_where_writing_is_told_to(rt: HostRuntime) -> Result<(), Fail> {
+fn fails_where_writing_is_told_to(rt: HostRuntime) {
     for (nth, length) in &FAILED_WRITES {
-        assert!(rt; written_length(rt.alloc(), *nth)? == *length, "call {nth}");
+        let written = written_length(rt.alloc(), *nth);
+        assert!(rt;
+            matches!(written, Ok(have) if have == *length),
+            "call {nth}"
+        );
     }
-    Ok(())
 }
 
 /// Whether bytes can be written to the report.
@@ -292,9 +301,8 @@ fn reports(alloc: Global) -> Result<bool, NoMemory> {
 }
 
 #[test]
-fn writes_the_report(rt: HostRuntime) -> Result<(), Fail> {
-    assert!(rt; reports(rt.alloc())?);
-    Ok(())
+fn writes_the_report(rt: HostRuntime) {
+    assert!(rt; matches!(reports(rt.alloc()), Ok(true)));
 }
 
 /// How many bytes a source gives in pieces of 16, up to its end.
@@ -324,9 +332,8 @@ fn take_through(alloc: Global, bytes: &[u8]) -> Result<(u64, u64), NoMemory> {
 
 /// Four calls give bytes, and a fifth the end.
 #[test]
-fn asks_for_large_pieces(rt: HostRuntime) -> Result<(), Fail> {
-    assert!(rt; take_through(rt.alloc(), &[7u8; 1_000])? == (1_000, 5));
-    Ok(())
+fn asks_for_large_pieces(rt: HostRuntime) {
+    assert!(rt; matches!(take_through(rt.alloc(), &[7u8; 1_000]), Ok((1_000, 5))));
 }
 
 /// Whether 1,000 bytes are read through a buffer of 64 bytes.
@@ -337,7 +344,6 @@ fn reads_all(alloc: Global) -> Result<bool, NoMemory> {
 }
 
 #[test]
-fn reads_all_through_a_buffer(rt: HostRuntime) -> Result<(), Fail> {
-    assert!(rt; reads_all(rt.alloc())?);
-    Ok(())
+fn reads_all_through_a_buffer(rt: HostRuntime) {
+    assert!(rt; matches!(reads_all(rt.alloc()), Ok(true)));
 }
