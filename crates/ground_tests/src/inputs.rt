@@ -41,7 +41,6 @@ fn feed(
 
 /// Each packet that is fed comes to its thread and number.
 fn assert_fed(rt: &impl Abort, alloc: Global, log: &mut InputLog) {
-    assert!(rt; log.threads() == 2 && log.fed() == 0);
     for (seconds, bytes, input) in &FED {
         let fed = feed(alloc, log, *seconds, bytes);
         assert!(rt; matches!(fed, Ok(place) if place == *input), "at {seconds}");
@@ -72,6 +71,7 @@ fn assert_kept(rt: &impl Abort, log: &InputLog) {
 fn keeps_the_inputs_of_each_thread(rt: HostRuntime) -> Result<(), NoMemory> {
     let mut log = InputLog::new(rt.alloc(), 2)?;
     goes_between_threads(&log);
+    assert!(rt; log.threads() == 2 && log.fed() == 0);
     assert_fed(&rt, rt.alloc(), &mut log);
     assert_kept(&rt, &log);
     Ok(())

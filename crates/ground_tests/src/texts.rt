@@ -4,21 +4,16 @@ use plain_text::{
 };
 use std::alloc::Global;
 
-/// Tells a line by its number and its words.
-fn tell_line(told: &mut Bytes, number: u64, line: &[u8]) -> Result<(), NoMemory> {
-    put_u64(told, number)?;
-    for word in words(line) {
-        told.push(b'|')?;
-        told.extend(word)?;
-    }
-    told.push(b';')
-}
-
 /// The lines of a text that count, each by its number and its words.
 fn lines_told(alloc: Global, text: &[u8]) -> Result<Bytes, NoMemory> {
     let mut told = Bytes::new(alloc);
     for line in lines(text) {
-        tell_line(&mut told, line.number, line.bytes)?;
+        put_u64(&mut told, line.number)?;
+        for word in words(line.bytes) {
+            told.push(b'|')?;
+            told.extend(word)?;
+        }
+        told.push(b';')?;
     }
     Ok(told)
 }
