@@ -1,16 +1,22 @@
 use flow_text::{address_text, endpoint_text, protocol_text};
-use std::test::Fail;
+use std::alloc::Global;
 
 /// Protocols, and the text of each.
 const PROTOCOLS: [(u8, &str); 5] = [(6, "tcp"), (17, "udp"), (0, "0"), (1, "1"), (255, "255")];
 
-#[test]
-fn writes_protocols(rt: HostRuntime) -> Result<(), Fail> {
-    for (protocol, text) in &PROTOCOLS {
-        let written = protocol_text(rt.alloc(), *protocol)?;
-        assert_eq!(rt; written.as_str(), *text, "at {protocol}");
+/// Whether this is the text of a protocol.
+fn is_protocol(alloc: Global, protocol: u8, text: &str) -> bool {
+    match protocol_text(alloc, protocol) {
+        Ok(written) => written.as_str() == text,
+        Err(_) => false,
     }
-    Ok(())
+}
+
+#[test]
+fn writes_protocols(rt: HostRuntime) {
+    for (protocol, text) in &PROTOCOLS {
+        assert!(rt; is_protocol(rt.alloc(), *protocol, text), "at {text}");
+    }
 }
 
 /// Addresses, and the text of each.
@@ -21,13 +27,19 @@ const ADDRESSES: [(u32, &str); 4] = [
     (0xffff_ffff, "255.255.255.255"),
 ];
 
-#[test]
-fn writes_addresses(rt: HostRuntime) -> Result<(), Fail> {
-    for (address, text) in &ADDRESSES {
-        let written = address_text(rt.alloc(), *address)?;
-        assert_eq!(rt; written.as_str(), *text, "at {address}");
+/// Whether this is the text of an address.
+fn is_address(alloc: Global, address: u32, text: &str) -> bool {
+    match address_text(alloc, address) {
+        Ok(written) => written.as_str() == text,
+        Err(_) => false,
     }
-    Ok(())
+}
+
+#[test]
+fn writes_addresses(rt: HostRuntime) {
+    for (address, text) in &ADDRESSES {
+        assert!(rt; is_address(rt.alloc(), *address, text), "at {text}");
+    }
 }
 
 /// Endpoints, and the text of each.
@@ -36,11 +48,17 @@ const ENDPOINTS: [(u32, u16, &str); 2] = [
     (0xc633_6407, 65535, "198.51.100.7:65535"),
 ];
 
-#[test]
-fn writes_endpoints(rt: HostRuntime) -> Result<(), Fail> {
-    for (address, port, text) in &ENDPOINTS {
-        let written = endpoint_text(rt.alloc(), *address, *port)?;
-        assert_eq!(rt; written.as_str(), *text, "at {text}");
+/// Whether this is the text of an endpoint.
+fn is_endpoint(alloc: Global, address: u32, port: u16, text: &str) -> bool {
+    match endpoint_text(alloc, address, port) {
+        Ok(written) => written.as_str() == text,
+        Err(_) => false,
     }
-    Ok(())
+}
+
+#[test]
+fn writes_endpoints(rt: HostRuntime) {
+    for (address, port, text) in &ENDPOINTS {
+        assert!(rt; is_endpoint(rt.alloc(), *address, *port, text), "at {text}");
+    }
 }

@@ -2,7 +2,6 @@ use inet_checksum::sum;
 use plain_text::{Bytes, NoMemory, Packet};
 use std::alloc::Global;
 use std::process::Abort;
-use std::test::Fail;
 use traffic_gen::make;
 
 /// The first three packets of seed 7, and the 20,000th. Another program worked them out, from the published algorithm of the
@@ -35,31 +34,39 @@ const LAST_OF_20000: [u8; 60] = [
     0x04, 0x00, 0x72, 0x92, 0x00, 0x00, 0x00, 0x00, 0x00, 0x00, 0x00, 0x00,
 ];
 
-fn assert_packet(rt: &impl Abort, packet: &Packet, time: (u32, u32), bytes: &[u8; 60]) {
-    assert_eq!(rt; (packet.seconds, packet.fraction), time);
-    assert_eq!(rt; packet.original, 60);
-    assert_eq!(rt; packet.bytes.as_slice(), bytes.as_slice());
+/// The places of these packets, the second and the fraction of each, and its bytes.
+const MADE: [(usize, (u32, u32), &[u8; 60]); 4] = [
+    (0, (1_600_000_000, 0), &FIRST),
+    (1, (1_600_000_000, 1000), &SECOND),
+    (2, (1_600_000_000, 2000), &THIRD),
+    (19_999, (1_600_000_019, 999_000), &LAST_OF_20000),
+];
+
+/// Whether a packet of 60 bytes has this time and these bytes.
+fn is_packet(packet: &Packet, time: (u32, u32), bytes: &[u8; 60]) -> bool {
+    (packet.seconds, packet.fraction) == time
+        && packet.original == 60
+        && packet.bytes.as_slice() == bytes.as_slice()
+}
+
+/// 20,000 packets, and these among them.
+fn assert_made(rt: &impl Abort, packets: &[Packet]) {
+    assert!(rt; packets.len() == 20_000);
+    for (place, time, bytes) in &MADE {
+        let is_made = *place < packets.len() && is_packet(&packets[*place], *time, bytes);
+        assert!(rt; is_made, "packet {place}");
+    }
 }
 
 #[test]
-fn makes_the_packets_of_a_seed(rt: HostRuntime) -> Result<(), Fail> {
+fn makes_the_packets_of_a_seed(rt: HostRuntime) -> Result<(), NoMemory> {
     let packets = make(rt.alloc(), 7, 20_000)?;
-    let packets = packets.as_slice();
-    assert_eq!(rt; packets.len(), 20_000);
-    assert_packet(&rt, &packets[0], (1_600_000_000, 0), &FIRST);
-    assert_packet(&rt, &packets[1], (1_600_000_000, 1000), &SECOND);
-    assert_packet(&rt, &packets[2], (1_600_000_000, 2000), &THIRD);
-    assert_packet(
-        &rt,
-        &packets[19_999],
-        (1_600_000_019, 999_000),
-        &LAST_OF_20000,
-    );
+    assert_made(&rt, packets.as_slice());
     Ok(())
 }
 
 #[test]
-fn makes_no_packets(rt: HostRuntime) -> Result<(), Fail> {
+fn makes_no_packets(rt: HostRuntime) -> Result<(), NoMemory> {
     assert!(rt; make(rt.alloc(), 7, 0)?.is_empty());
     Ok(())
 }
@@ -75,19 +82,30 @@ fn sums(alloc: Global, frame: &[u8]) -> Result<Option<(u16, u16)>, NoMemory> {
     Ok(Some((sum(&frame[14..34]), sum(covered.as_slice()))))
 }
 
-/// The header with its checksum, and the transport with its checksum behind the pseudo-header, add up to all ones.
-#[test]
-fn fills_in_checksums(rt: HostRuntime) -> Result<(), Fail> {
-    let packets = make(rt.alloc(), 7, 300)?;
-    let mut tcp: u32 = 0;
-    for (number, packet) in packets.as_slice().iter().enumerate() {
-        let frame = packet.bytes.as_slice();
-        let sums = sums(rt.alloc(), frame)?;
-        assert_eq!(rt; sums, Some((0xffff, 0xffff)), "packet {number}");
-        if frame.get(23) == Some(&6) {
-            tcp = tcp.saturating_add(1);
+/// How many of the packets are of TCP.
+fn count_tcp(packets: &[Packet]) -> usize {
+    let mut count: usize = 0;
+    for packet in packets {
+        if packet.bytes.as_slice().get(23) == Some(&6) {
+            count = count.saturating_add(1);
         }
     }
-    assert_eq!(rt; tcp, 158);
+    count
+}
+
+/// The header with its checksum, and the transport with its checksum behind the pseudo-header, add up to all ones. So many are of TCP.
+fn assert_filled_in(rt: &impl Abort, alloc: Global, packets: &[Packet]) {
+    for (number, packet) in packets.iter().enumerate() {
+        let sums = sums(alloc, packet.bytes.as_slice());
+        let is_filled_in = matches!(sums, Ok(Some((0xffff, 0xffff))));
+        assert!(rt; is_filled_in, "packet {number}");
+    }
+    assert!(rt; count_tcp(packets) == 158);
+}
+
+#[test]
+fn fills_in_checksums(rt: HostRuntime) -> Result<(), NoMemory> {
+    let packets = make(rt.alloc(), 7, 300)?;
+    assert_filled_in(&rt, rt.alloc(), packets.as_slice());
     Ok(())
 }

@@ -1,6 +1,5 @@
 use packet_headers::{Flow, NotFlow, set_dest, set_source, steering_sum, view};
 use sample_frames::{ANSWER, HAIRPIN, NEXT_QUERY, OTHER_QUERY, QUERY, QUERY_WITH_OPTIONS, SYN};
-use std::test::Fail;
 
 /// 10.0.0.5, 198.51.100.7 and 203.0.113.1.
 const INSIDE: u32 = 0x0a00_0005;
@@ -41,29 +40,48 @@ fn with_bytes(frame: &[u8; 42], first: (usize, u8), second: (usize, u8)) -> [u8;
     frame
 }
 
+/// The flow of the query.
+const FLOW_OF_QUERY: Flow = Flow {
+    protocol: 17,
+    source: INSIDE,
+    source_port: 5000,
+    dest: SERVER,
+    dest_port: 53,
+    flags: 0,
+    transport_at: 34,
+};
+
+/// The same between the last addresses.
+const LAST_FLOW: Flow = Flow {
+    source: u32::MAX,
+    dest: u32::MAX,
+    ..FLOW_OF_QUERY
+};
+
 #[test]
-fn sees_flows(rt: HostRuntime) -> Result<(), Fail> {
-    let query = Flow {
-        protocol: 17,
-        source: INSIDE,
-        source_port: 5000,
-        dest: SERVER,
-        dest_port: 53,
-        flags: 0,
-        transport_at: 34,
-    };
-    assert_eq!(rt; view(&QUERY, 42)?, query);
-    assert_eq!(rt; steering_sum(&query), 3_493_033_946);
-    let last = Flow {
-        source: u32::MAX,
-        dest: u32::MAX,
-        ..query
-    };
-    assert_eq!(rt; steering_sum(&last), 8_589_939_660);
-    assert_eq!(rt; view(&QUERY_WITH_OPTIONS, 46)?.transport_at, 38);
-    let syn = view(&SYN, 54)?;
-    assert_eq!(rt; (syn.protocol, syn.dest_port, syn.flags), (6, 80, 2));
-    Ok(())
+fn sees_flows(rt: HostRuntime) {
+    let query = view(&QUERY, 42);
+    assert!(rt; matches!(query, Ok(flow) if flow == FLOW_OF_QUERY));
+    let with_options = view(&QUERY_WITH_OPTIONS, 46);
+    assert!(rt; matches!(with_options, Ok(flow) if flow.transport_at == 38));
+    let syn = view(&SYN, 54);
+    assert!(rt;
+        matches!(
+            syn,
+            Ok(Flow {
+                protocol: 6,
+                dest_port: 80,
+                flags: 2,
+                ..
+            })
+        )
+    );
+}
+
+#[test]
+fn sums_for_steering(rt: HostRuntime) {
+    assert!(rt; steering_sum(&FLOW_OF_QUERY) == 3_493_033_946);
+    assert!(rt; steering_sum(&LAST_FLOW) == 8_589_939_660);
 }
 
 /// Two bytes of the query, each with its place, the length that it had, and the protocol that is seen then, or why there is none.
@@ -97,29 +115,36 @@ fn protocol_of(frame: &[u8], original: u32) -> Result<u8, NotFlow> {
 
 #[test]
 fn refuses_by_the_first_test(rt: HostRuntime) {
-    for (first, second, original, answer) in &CHANGES {
+    for (row, (first, second, original, answer)) in CHANGES.iter().enumerate() {
         let frame = with_bytes(&QUERY, *first, *second);
-        assert_eq!(rt;
-            protocol_of(&frame, *original),
-            *answer,
-            "{first:?} {second:?} {original}"
-        );
+        assert!(rt; protocol_of(&frame, *original) == *answer, "row {row}");
     }
+}
+
+#[test]
+fn refuses_a_short_tcp_header(rt: HostRuntime) {
     let mut short_header = SYN;
     short_header[46] = 0x40;
-    assert_eq!(rt; view(&short_header, 54), Err(NotFlow::BadHeaderLength));
+    let answer = view(&short_header, 54);
+    assert!(rt; matches!(answer, Err(NotFlow::BadHeaderLength)));
+}
+
+/// Why no flow is seen in a part of the query that had no more bytes.
+fn fault_of_prefix(length: usize) -> NotFlow {
+    if length < 34 {
+        NotFlow::Short
+    } else {
+        NotFlow::BadTotalLength
+    }
 }
 
 #[test]
 fn sees_no_flow_in_a_prefix(rt: HostRuntime) {
     for length in 0..42 {
-        assert_eq!(rt; view(&QUERY[..length], 42), Err(NotFlow::Short), "{length}");
-        let cut = if length < 34 {
-            NotFlow::Short
-        } else {
-            NotFlow::BadTotalLength
-        };
-        assert_eq!(rt; view(&QUERY[..length], length as u32), Err(cut), "{length}");
+        let part = &QUERY[..length];
+        assert!(rt; matches!(view(part, 42), Err(NotFlow::Short)), "{length}");
+        let fault = fault_of_prefix(length);
+        assert!(rt; view(part, length as u32) == Err(fault), "{length}");
     }
 }
 
@@ -211,28 +236,37 @@ fn rewritten(rewriting: &Rewriting<'_>) -> Result<[u8; 42], NotFlow> {
     Ok(frame)
 }
 
-/// The frame is the old one from the first byte to the IPv4 checksum.
-#[test]
-fn rewrites_and_adjusts(rt: HostRuntime) -> Result<(), Fail> {
-    for rewriting in &REWRITINGS {
-        let (old, frame) = (rewriting.old, rewritten(rewriting)?);
-        assert_eq!(rt; &frame[..24], &old[..24]);
-        assert_eq!(rt; &frame[24..], rewriting.rest.as_slice());
-    }
-    Ok(())
+/// Whether the frame is the old one up to the IPv4 checksum, and what is told from there on.
+fn is_rewritten(rewriting: &Rewriting<'_>) -> Result<bool, NotFlow> {
+    let old = rewriting.old;
+    let frame = rewritten(rewriting)?;
+    Ok(frame[..24] == old[..24] && &frame[24..] == rewriting.rest.as_slice())
 }
 
 #[test]
-fn lets_a_tcp_checksum_become_zero(rt: HostRuntime) -> Result<(), Fail> {
+fn rewrites_and_adjusts(rt: HostRuntime) {
+    for (row, rewriting) in REWRITINGS.iter().enumerate() {
+        assert!(rt; matches!(is_rewritten(rewriting), Ok(true)), "row {row}");
+    }
+}
+
+/// The SYN from the port outside that makes its checksum 0.
+fn translated_syn() -> Result<[u8; 54], NotFlow> {
     let mut segment = SYN;
     let flow = view(&segment, 54)?;
     set_source(&mut segment, &flow, OUTSIDE, 39276);
-    assert_eq!(rt;
-        &segment[24..30],
-        [0x14, 0x93, 0xcb, 0x00, 0x71, 0x01].as_slice()
-    );
-    assert_eq!(rt; &segment[34..36], [0x99, 0x6c].as_slice());
-    assert_eq!(rt; &segment[36..50], &SYN[36..50]);
-    assert_eq!(rt; &segment[50..], [0x00, 0x00, 0x00, 0x00].as_slice());
+    Ok(segment)
+}
+
+/// Its bytes from the IPv4 checksum on.
+const REST_OF_TRANSLATED_SYN: [u8; 30] = [
+    0x14, 0x93, 0xcb, 0x00, 0x71, 0x01, 0xc6, 0x33, 0x64, 0x07, 0x99, 0x6c, 0x00, 0x50, 0x00, 0x00,
+    0xab, 0xe9, 0x00, 0x00, 0x00, 0x00, 0x50, 0x02, 0x04, 0x00, 0x00, 0x00, 0x00, 0x00,
+];
+
+#[test]
+fn lets_a_tcp_checksum_become_zero(rt: HostRuntime) -> Result<(), NotFlow> {
+    let segment = translated_syn()?;
+    assert!(rt; &segment[24..] == REST_OF_TRANSLATED_SYN.as_slice());
     Ok(())
 }

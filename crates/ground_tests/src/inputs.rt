@@ -3,7 +3,7 @@ use plain_text::{Bytes, NoMemory, Packet};
 use sample_frames::{ANSWER, NEXT_QUERY, QUERY};
 use std::alloc::Global;
 use std::marker::{Send, Sync};
-use std::test::Fail;
+use std::process::Abort;
 
 fn packet(alloc: Global, seconds: u32, bytes: &[u8]) -> Result<Packet, NoMemory> {
     Ok(Packet {
@@ -29,14 +29,23 @@ const FED: [(u32, &[u8], (u32, u64)); 4] = [
     (4, &NEXT_QUERY, (1, 2)),
 ];
 
-/// The second of the first packet that comes to another thread or another number.
-fn first_misfed(alloc: Global, log: &mut InputLog) -> Result<Option<u32>, NoMemory> {
+/// The thread and the number that a packet comes to.
+fn feed(
+    alloc: Global,
+    log: &mut InputLog,
+    seconds: u32,
+    bytes: &[u8],
+) -> Result<(u32, u64), NoMemory> {
+    log.feed(packet(alloc, seconds, bytes)?)
+}
+
+/// Each packet that is fed comes to its thread and number.
+fn assert_fed(rt: &impl Abort, alloc: Global, log: &mut InputLog) {
     for (seconds, bytes, input) in &FED {
-        if log.feed(packet(alloc, *seconds, bytes)?)? != *input {
-            return Ok(Some(*seconds));
-        }
+        let fed = feed(alloc, log, *seconds, bytes);
+        assert!(rt; matches!(fed, Ok(place) if place == *input), "at {seconds}");
     }
-    Ok(None)
+    assert!(rt; log.fed() == 4);
 }
 
 /// Threads and numbers, and the second of the packet that is kept under them, if there is one.
@@ -51,29 +60,36 @@ const KEPT: [(u32, u64, Option<u32>); 8] = [
     (2, 1, None),
 ];
 
-#[test]
-fn keeps_the_inputs_of_each_thread(rt: HostRuntime) -> Result<(), Fail> {
-    let mut log = InputLog::new(rt.alloc(), 2)?;
-    goes_between_threads(&log);
-    assert_eq!(rt; (log.threads(), log.fed()), (2, 0));
-    assert_eq!(rt; first_misfed(rt.alloc(), &mut log)?, None);
-    assert_eq!(rt; log.fed(), 4);
+fn assert_kept(rt: &impl Abort, log: &InputLog) {
     for (thread, k, seconds) in &KEPT {
-        assert_eq!(rt;
-            seconds_of(log.input(*thread, *k)),
-            *seconds,
-            "{thread} {k}"
-        );
+        let is_kept = seconds_of(log.input(*thread, *k)) == *seconds;
+        assert!(rt; is_kept, "{thread} {k}");
     }
-    Ok(())
 }
 
 #[test]
-fn steers_by_the_whole_sum(rt: HostRuntime) -> Result<(), Fail> {
-    // 198.51.100.7 + 203.0.113.1 + 53 + 39,276 + 17 is 6,731,099,834
+fn keeps_the_inputs_of_each_thread(rt: HostRuntime) -> Result<(), NoMemory> {
+    let mut log = InputLog::new(rt.alloc(), 2)?;
+    goes_between_threads(&log);
+    assert!(rt; log.threads() == 2 && log.fed() == 0);
+    assert_fed(&rt, rt.alloc(), &mut log);
+    assert_kept(&rt, &log);
+    Ok(())
+}
+
+/// Numbers of threads, and the thread of the answer among so many.
+const STEERED: [(u32, u32); 3] = [(1, 0), (7, 4), (16, 10)];
+
+/// 198.51.100.7 + 203.0.113.1 + 53 + 39,276 + 17 is 6,731,099,834.
+fn assert_steered(rt: &impl Abort, answer: &Packet) {
+    for (threads, thread) in &STEERED {
+        assert!(rt; steer(answer, *threads) == *thread, "among {threads}");
+    }
+}
+
+#[test]
+fn steers_by_the_whole_sum(rt: HostRuntime) -> Result<(), NoMemory> {
     let answer = packet(rt.alloc(), 0, &ANSWER)?;
-    assert_eq!(rt; steer(&answer, 1), 0);
-    assert_eq!(rt; steer(&answer, 7), 4);
-    assert_eq!(rt; steer(&answer, 16), 10);
+    assert_steered(&rt, &answer);
     Ok(())
 }

@@ -3,7 +3,6 @@ use plain_text::{
     read_address, read_field, read_u64, words,
 };
 use std::alloc::Global;
-use std::test::Fail;
 
 /// The lines of a text that count, each by its number and its words.
 fn lines_told(alloc: Global, text: &[u8]) -> Result<Bytes, NoMemory> {
@@ -38,18 +37,37 @@ fn two_numbers(line: &[u8]) -> Result<(u64, u64), LineCause> {
     Ok((first, second))
 }
 
-#[test]
-fn makes_plain_data(rt: HostRuntime) -> Result<(), Fail> {
-    let alloc = rt.alloc();
-    let mut bytes = Bytes::of(alloc, b"n = ")?;
-    put_u64(&mut bytes, 18_446_744_073_709_551_615)?;
+/// Whether "n = " is extended by a number and a byte.
+fn extends(bytes: &mut Bytes) -> Result<bool, NoMemory> {
+    put_u64(bytes, 18_446_744_073_709_551_615)?;
     bytes.push(b';')?;
-    assert_eq!(rt; bytes.as_slice(), b"n = 18446744073709551615;".as_slice());
+    Ok(bytes.as_slice() == b"n = 18446744073709551615;".as_slice())
+}
+
+/// Whether these bytes become "no" when they are cut and extended.
+fn cuts(bytes: &mut Bytes) -> Result<bool, NoMemory> {
     bytes.truncate(1);
     bytes.extend(b"o")?;
-    assert_eq!(rt; bytes.as_slice(), b"no".as_slice());
-    assert_eq!(rt; Text::of(alloc, "name")?.as_str(), "name");
-    Ok(())
+    Ok(bytes.as_slice() == b"no".as_slice())
+}
+
+/// Whether bytes are made, extended and cut.
+fn makes_bytes(alloc: Global) -> Result<bool, NoMemory> {
+    let mut bytes = Bytes::of(alloc, b"n = ")?;
+    Ok(extends(&mut bytes)? && cuts(&mut bytes)?)
+}
+
+fn makes_text(alloc: Global) -> bool {
+    match Text::of(alloc, "name") {
+        Ok(text) => text.as_str() == "name",
+        Err(_) => false,
+    }
+}
+
+#[test]
+fn makes_plain_data(rt: HostRuntime) {
+    assert!(rt; matches!(makes_bytes(rt.alloc()), Ok(true)));
+    assert!(rt; makes_text(rt.alloc()));
 }
 
 /// Bytes with this much room in front, and then these in front of them, a byte at a time.
@@ -62,29 +80,49 @@ fn joined(alloc: Global, room: usize, front: &[u8], bytes: &[u8]) -> Result<Byte
     Ok(joined)
 }
 
+/// Whether "one" comes in front of " two".
+fn joins(alloc: Global, room: usize) -> bool {
+    match joined(alloc, room, b"one", b" two") {
+        Ok(bytes) => bytes.as_slice() == b"one two".as_slice() && bytes.len() == 7,
+        Err(_) => false,
+    }
+}
+
+/// Whether what is joined can be cut and extended.
+fn cuts_what_is_joined(alloc: Global, room: usize) -> Result<bool, NoMemory> {
+    let mut bytes = joined(alloc, room, b"one", b" two")?;
+    bytes.truncate(5);
+    bytes.extend(b"!")?;
+    Ok(bytes.into_vec().as_slice() == b"one t!".as_slice())
+}
+
 #[test]
-fn puts_bytes_in_front(rt: HostRuntime) -> Result<(), Fail> {
-    let alloc = rt.alloc();
+fn puts_bytes_in_front(rt: HostRuntime) {
     for room in 0..5 {
-        let mut bytes = joined(alloc, room, b"one", b" two")?;
-        assert_eq!(rt; bytes.as_slice(), b"one two".as_slice());
-        assert_eq!(rt; bytes.len(), 7);
-        bytes.truncate(5);
-        bytes.extend(b"!")?;
-        assert_eq!(rt; bytes.into_vec().as_slice(), b"one t!".as_slice());
+        assert!(rt; joins(rt.alloc(), room), "room for {room}");
+        let is_cut = matches!(cuts_what_is_joined(rt.alloc(), room), Ok(true));
+        assert!(rt; is_cut, "room for {room}");
+    }
+}
+
+/// Adds the numbers below 100,000.
+fn push_numbers(items: &mut Sequence<u32>) -> Result<(), NoMemory> {
+    for item in 0..100_000u32 {
+        items.push(item)?;
     }
     Ok(())
 }
 
+/// Whether there are as many items, from the first number to the last.
+fn are_numbers(items: &[u32]) -> bool {
+    items.len() == 100_000 && items.first() == Some(&0) && items.last() == Some(&99_999)
+}
+
 #[test]
-fn grows_to_a_hundred_thousand_items(rt: HostRuntime) -> Result<(), Fail> {
+fn grows_to_a_hundred_thousand_items(rt: HostRuntime) -> Result<(), NoMemory> {
     let mut items = Sequence::new(rt.alloc());
-    for item in 0..100_000u32 {
-        items.push(item)?;
-    }
-    assert_eq!(rt; items.len(), 100_000);
-    assert_eq!(rt; items.as_slice().first(), Some(&0));
-    assert_eq!(rt; items.as_slice().last(), Some(&99_999));
+    push_numbers(&mut items)?;
+    assert!(rt; are_numbers(items.as_slice()));
     Ok(())
 }
 
@@ -102,14 +140,20 @@ const TEXTS: [(&str, u64, &str); 6] = [
     ),
 ];
 
-#[test]
-fn tells_lines_and_words(rt: HostRuntime) -> Result<(), Fail> {
-    for (text, count, told) in &TEXTS {
-        assert_eq!(rt; count_lines(text.as_bytes()), *count, "at {text:?}");
-        let lines = lines_told(rt.alloc(), text.as_bytes())?;
-        assert_eq!(rt; lines.as_slice(), told.as_bytes(), "at {text:?}");
+/// Whether a text has so many lines, and its lines and words are told like this.
+fn tells(alloc: Global, text: &[u8], count: u64, told: &[u8]) -> bool {
+    match lines_told(alloc, text) {
+        Ok(lines) => lines.as_slice() == told && count_lines(text) == count,
+        Err(_) => false,
     }
-    Ok(())
+}
+
+#[test]
+fn tells_lines_and_words(rt: HostRuntime) {
+    for (text, count, told) in &TEXTS {
+        let is_told = tells(rt.alloc(), text.as_bytes(), *count, told.as_bytes());
+        assert!(rt; is_told, "at {text:?}");
+    }
 }
 
 /// Words, and the number that each is, if it is one.
@@ -130,7 +174,7 @@ const NUMBERS: [(&str, Option<u64>); 11] = [
 #[test]
 fn reads_numbers(rt: HostRuntime) {
     for (word, number) in &NUMBERS {
-        assert_eq!(rt; read_u64(word.as_bytes()), *number, "at {word:?}");
+        assert!(rt; read_u64(word.as_bytes()) == *number, "at {word:?}");
     }
 }
 
@@ -160,7 +204,7 @@ const ADDRESSES: [(&str, Option<u32>); 19] = [
 #[test]
 fn reads_addresses(rt: HostRuntime) {
     for (word, address) in &ADDRESSES {
-        assert_eq!(rt; read_address(word.as_bytes()), *address, "at {word:?}");
+        assert!(rt; read_address(word.as_bytes()) == *address, "at {word:?}");
     }
 }
 
@@ -185,15 +229,16 @@ const ADDRESS_AND_NUMBER: [Line; 3] = [
 ];
 
 #[test]
-fn names_the_first_fault_of_a_line(rt: HostRuntime) {
+fn names_the_first_fault_of_two_numbers(rt: HostRuntime) {
     for (line, numbers) in &TWO_NUMBERS {
-        assert_eq!(rt; two_numbers(line.as_bytes()), *numbers, "at {line:?}");
+        assert!(rt; two_numbers(line.as_bytes()) == *numbers, "at {line:?}");
     }
+}
+
+#[test]
+fn names_the_first_fault_of_an_address_and_a_number(rt: HostRuntime) {
     for (line, numbers) in &ADDRESS_AND_NUMBER {
-        assert_eq!(rt;
-            address_and_number(line.as_bytes()),
-            *numbers,
-            "at {line:?}"
-        );
+        let is_read = address_and_number(line.as_bytes()) == *numbers;
+        assert!(rt; is_read, "at {line:?}");
     }
 }

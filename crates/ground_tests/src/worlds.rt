@@ -1,10 +1,10 @@
-ghost use Rattle.std.specs.Prelude.{◌≡◌, ◌+◌, ◌<◌, ◌≤◌, IfOk, List, ℕ, length, vec_len};
+ghost use Rattle.std.specs.Prelude.{◌≡◌, ◌+◌, ◌<◌, ◌≤◌, IfOk, IsTrue, List, ℕ, length, vec_len};
 ghost use Rattle.world_io.specs.All.{WriteFailed};
 ghost use Rattle.world_io.specs.Memory.{IsHealthy};
+ghost use Rattle.world_io.specs.World.{is_writable};
 
 use plain_text::{Bytes, NoMemory, Text};
 use std::alloc::Global;
-use std::test::Fail;
 use world_io::{
     BufferedSource, Filled, Front, FrontError, MemoryWorld, OpenFault, ReadError, SliceSource,
     Source, World, WorldSink, WorldSource, WriteError, read_all, read_front, write_all,
@@ -152,12 +152,19 @@ fn reading_a_front_fails(alloc: Global, nth: u64, limit: u64) -> Result<bool, No
     reading_a_front_fails_in(alloc, &mut world, nth, limit)
 }
 
+/// Whether these are the first bytes, and whether they are all.
+fn is_front(front: &Front, text: &str, is_all: bool) -> bool {
+    match front {
+        Front::All(bytes) => is_all && bytes.as_slice() == text.as_bytes(),
+        Front::More(bytes) => !is_all && bytes.as_slice() == text.as_bytes(),
+    }
+}
+
 /// Whether these are the first bytes of "hello" up to a limit, and whether they are all.
-fn front_is(alloc: Global, limit: u64, text: &str, is_all: bool) -> Result<bool, FrontError> {
-    let mut source = SliceSource::of(b"hello");
-    match read_front(alloc, &mut source, limit)? {
-        Front::All(bytes) => Ok(is_all && bytes.as_slice() == text.as_bytes()),
-        Front::More(bytes) => Ok(!is_all && bytes.as_slice() == text.as_bytes()),
+fn front_is(alloc: Global, limit: u64, text: &str, is_all: bool) -> bool {
+    match read_front(alloc, &mut SliceSource::of(b"hello"), limit) {
+        Ok(front) => is_front(&front, text, is_all),
+        Err(_) => false,
     }
 }
 
@@ -207,22 +214,28 @@ fn read_length(alloc: Global, limit: u64) -> Result<Option<usize>, NoMemory> {
 const LENGTHS: [(u64, Option<usize>); 4] = [(5, Some(5)), (6, Some(5)), (4, None), (0, None)];
 
 #[test]
-fn reads_up_to_a_limit(rt: HostRuntime) -> Result<(), Fail> {
+fn reads_up_to_a_limit(rt: HostRuntime) {
     for (limit, want) in &LENGTHS {
-        assert_eq!(rt; read_length(rt.alloc(), *limit)?, *want);
+        let read = read_length(rt.alloc(), *limit);
+        assert!(rt;
+            matches!(read, Ok(length) if length == *want),
+            "limit {limit}"
+        );
     }
-    Ok(())
 }
 
 /// Calls of reading that are told to fail, and whether "in" is read by such a call.
 const FAILED_READS: [(u64, bool); 4] = [(1, true), (2, true), (3, true), (4, false)];
 
 #[test]
-fn fails_where_reading_is_told_to(rt: HostRuntime) -> Result<(), Fail> {
+fn fails_where_reading_is_told_to(rt: HostRuntime) {
     for (nth, fails) in &FAILED_READS {
-        assert_eq!(rt; reading_fails(rt.alloc(), *nth)?, *fails);
+        let read = reading_fails(rt.alloc(), *nth);
+        assert!(rt;
+            matches!(read, Ok(failed) if failed == *fails),
+            "call {nth}"
+        );
     }
-    Ok(())
 }
 
 /// Limits, the first bytes up to each, and whether they are all.
@@ -234,15 +247,11 @@ const FRONTS: [(u64, &str, bool); 4] = [
 ];
 
 #[test]
-fn reads_the_first_bytes_up_to_a_limit(rt: HostRuntime) -> Result<(), Fail> {
+fn reads_the_first_bytes_up_to_a_limit(rt: HostRuntime) {
     for (limit, text, is_all) in &FRONTS {
-        assert_eq!(rt;
-            front_is(rt.alloc(), *limit, text, *is_all),
-            Ok(true),
-            "{limit}"
-        );
+        let is_front = front_is(rt.alloc(), *limit, text, *is_all);
+        assert!(rt; is_front, "limit {limit}");
     }
-    Ok(())
 }
 
 /// Calls of reading that are told to fail, limits, and whether the first bytes are read by such a call. Where the file is longer than the
@@ -256,31 +265,44 @@ const FAILED_FRONTS: [(u64, u64, bool); 5] = [
 ];
 
 #[test]
-fn fails_within_the_first_bytes(rt: HostRuntime) -> Result<(), Fail> {
+fn fails_within_the_first_bytes(rt: HostRuntime) {
     for (nth, limit, fails) in &FAILED_FRONTS {
-        assert_eq!(rt; reading_a_front_fails(rt.alloc(), *nth, *limit)?, *fails);
+        let read = reading_a_front_fails(rt.alloc(), *nth, *limit);
+        let is_so = matches!(read, Ok(failed) if failed == *fails);
+        assert!(rt; is_so, "call {nth} and limit {limit}");
     }
-    Ok(())
 }
 
 /// Calls of writing that are told to fail, and how many bytes "out" has then.
 const FAILED_WRITES: [(u64, Option<usize>); 3] = [(1, None), (2, Some(0)), (3, Some(3))];
 
 #[test]
-fn fails_where_writing_is_told_to(rt: HostRuntime) -> Result<(), Fail> {
+fn fails_where_writing_is_told_to(rt: HostRuntime) {
     for (nth, length) in &FAILED_WRITES {
-        assert_eq!(rt; written_length(rt.alloc(), *nth)?, *length);
+        let written = written_length(rt.alloc(), *nth);
+        assert!(rt;
+            matches!(written, Ok(have) if have == *length),
+            "call {nth}"
+        );
     }
-    Ok(())
+}
+
+/// Whether bytes can be written to the report.
+fn writes_report<W: World>(world: &mut W, bytes: &[u8]) -> bool
+    requires { IsTrue (is_writable (W.ledger world.old) 0) }
+{
+    matches!(write_all(&mut WorldSink::of(world, 0), bytes), Ok(()))
+}
+
+/// Whether the report of a new world is what is written to it.
+fn reports(alloc: Global) -> Result<bool, NoMemory> {
+    let mut world = MemoryWorld::new(alloc)?;
+    Ok(writes_report(&mut world, b"done") && world.report() == b"done".as_slice())
 }
 
 #[test]
-fn writes_the_report(rt: HostRuntime) -> Result<(), Fail> {
-    let mut world = MemoryWorld::new(rt.alloc())?;
-    let answer = write_all(&mut WorldSink::of(&mut world, 0), b"done");
-    assert_eq!(rt; answer, Ok(()));
-    assert_eq!(rt; world.report(), b"done".as_slice());
-    Ok(())
+fn writes_the_report(rt: HostRuntime) {
+    assert!(rt; matches!(reports(rt.alloc()), Ok(true)));
 }
 
 /// How many bytes a source gives in pieces of 16, up to its end.
@@ -308,20 +330,20 @@ fn take_through(alloc: Global, bytes: &[u8]) -> Result<(u64, u64), NoMemory> {
     Ok((taken, source.into_inner().calls))
 }
 
+/// Four calls give bytes, and a fifth the end.
 #[test]
-fn asks_for_large_pieces(rt: HostRuntime) -> Result<(), Fail> {
-    let bytes = vec![in rt.alloc(); 7u8; 1_000]?;
-    // Four calls that give bytes, and the end.
-    assert_eq!(rt; take_through(rt.alloc(), bytes.as_slice())?, (1_000, 5));
-    Ok(())
+fn asks_for_large_pieces(rt: HostRuntime) {
+    assert!(rt; matches!(take_through(rt.alloc(), &[7u8; 1_000]), Ok((1_000, 5))));
+}
+
+/// Whether 1,000 bytes are read through a buffer of 64 bytes.
+fn reads_all(alloc: Global) -> Result<bool, NoMemory> {
+    let buffer = vec![in alloc; 0u8; 64]?;
+    let read = read_through(alloc, &mut SliceSource::of(&[7u8; 1_000]), buffer);
+    Ok(matches!(read, Ok(_)))
 }
 
 #[test]
-fn reads_all_through_a_buffer(rt: HostRuntime) -> Result<(), Fail> {
-    let bytes = vec![in rt.alloc(); 7u8; 1_000]?;
-    let buffer = vec![in rt.alloc(); 0u8; 64]?;
-    let mut rest = SliceSource::of(bytes.as_slice());
-    let read = read_through(rt.alloc(), &mut rest, buffer);
-    assert!(rt; matches!(read, Ok(_)));
-    Ok(())
+fn reads_all_through_a_buffer(rt: HostRuntime) {
+    assert!(rt; matches!(reads_all(rt.alloc()), Ok(true)));
 }

@@ -2,9 +2,9 @@ ghost use Rattle.std.specs.Prelude.{◌≡◌, ◌+◌, ◌≤◌, ℕ, slice_in
 ghost use Rattle.wire_frames.specs.Writing.{CanPutEntry, CanPutOutput};
 
 use access_log::{Output, StampedEntry, What};
-use plain_text::{Bytes, Packet};
-use std::alloc::Global;
-use std::test::Fail;
+use plain_text::{Bytes, NoMemory, Packet};
+use std::alloc::{AllocError, Global};
+use std::process::Abort;
 use thread_clock::Stamp;
 use wire_frames::{
     Frame, FrameError, FrameFault, entry_length, output_length, put_entry, put_output, take_frame,
@@ -97,7 +97,7 @@ fn is_entry(alloc: Global, bytes: &[u8], threads: u32, entry: &StampedEntry) -> 
 }
 
 /// The bytes with another one at a place.
-fn with_byte(alloc: Global, bytes: &[u8], place: usize, byte: u8) -> Result<Vec<u8>, Fail>
+fn with_byte(alloc: Global, bytes: &[u8], place: usize, byte: u8) -> Result<Vec<u8>, AllocError>
     requires { place + 1 ≤ length bytes.now }
 {
     let mut changed = Vec::from_slice(alloc, bytes)?;
@@ -105,20 +105,22 @@ fn with_byte(alloc: Global, bytes: &[u8], place: usize, byte: u8) -> Result<Vec<
     Ok(changed)
 }
 
+/// Whether the touch is written in version 2.
+fn touch_is_written(alloc: Global) -> Result<bool, NoMemory> {
+    Ok(put_entry(alloc, 1, 1, &touch())?.as_slice() == TOUCH)
+}
+
 #[test]
-fn a_touch_is_written_and_read(rt: HostRuntime) -> Result<(), Fail> {
-    let alloc = rt.alloc();
+fn a_touch_is_written_and_read(rt: HostRuntime) {
     let entry = touch();
-    let written = put_entry(alloc, 1, 1, &entry)?;
-    assert_eq!(rt; written.as_slice(), TOUCH);
-    assert_eq!(rt; entry_length(&entry), 47);
-    assert!(rt; is_entry(alloc, TOUCH, 1, &entry));
-    assert!(rt; is_entry(alloc, OLD_TOUCH, 1, &entry));
-    Ok(())
+    assert!(rt; matches!(touch_is_written(rt.alloc()), Ok(true)));
+    assert!(rt; entry_length(&entry) == 47);
+    assert!(rt; is_entry(rt.alloc(), TOUCH, 1, &entry));
+    assert!(rt; is_entry(rt.alloc(), OLD_TOUCH, 1, &entry));
 }
 
 /// An output whose packet has three captured bytes.
-fn output(alloc: Global) -> Result<Output, Fail>
+fn output(alloc: Global) -> Result<Output, NoMemory>
     ensures { IfOk result (CanPutOutput 1 3) }
 {
     Ok(Output {
@@ -162,16 +164,30 @@ fn is_output(alloc: Global, bytes: &[u8], output: &Output) -> bool {
     }
 }
 
-#[test]
-fn an_output_is_written_and_read(rt: HostRuntime) -> Result<(), Fail> {
-    let alloc = rt.alloc();
+/// Whether the output is written in version 2.
+fn output_is_written(alloc: Global) -> Result<bool, NoMemory> {
+    Ok(put_output(alloc, 1, 3, output(alloc)?)?.as_slice() == OUTPUT)
+}
+
+/// Whether the bytes are the frame of the output with three captured bytes.
+fn output_is_read(alloc: Global, bytes: &[u8]) -> Result<bool, NoMemory> {
     let output = output(alloc)?;
-    assert_eq!(rt; output_length(&output), 66);
-    assert!(rt; is_output(alloc, OUTPUT, &output));
-    assert!(rt; is_output(alloc, OLD_OUTPUT, &output));
-    let written = put_output(alloc, 1, 3, output)?;
-    assert_eq!(rt; written.as_slice(), OUTPUT);
-    Ok(())
+    Ok(is_output(alloc, bytes, &output))
+}
+
+/// How many bytes its frame has.
+fn length_of_output(alloc: Global) -> Result<usize, NoMemory> {
+    let output = output(alloc)?;
+    Ok(output_length(&output))
+}
+
+#[test]
+fn an_output_is_written_and_read(rt: HostRuntime) {
+    let alloc = rt.alloc();
+    assert!(rt; matches!(length_of_output(alloc), Ok(66)));
+    assert!(rt; matches!(output_is_read(alloc, OUTPUT), Ok(true)));
+    assert!(rt; matches!(output_is_read(alloc, OLD_OUTPUT), Ok(true)));
+    assert!(rt; matches!(output_is_written(alloc), Ok(true)));
 }
 
 /// What an entry may be of, and the code of each.
@@ -182,9 +198,22 @@ const KINDS: [(What, u8); 4] = [
     (What::Read { var: 7, after: 0 }, 4),
 ];
 
+/// Whether the bytes are those of an entry of this code with two components, the second and the third.
+fn has_code(bytes: &[u8], code: u8) -> bool {
+    bytes.len() == 55 && bytes[11] == code && bytes[38] == 6
+}
+
+/// Whether an entry of three threads is written with this code, and is read again.
+fn is_kind(alloc: Global, entry: &StampedEntry, code: u8) -> Result<bool, NoMemory>
+    requires { CanPutEntry 1 3 entry.now }
+{
+    let written = put_entry(alloc, 1, 3, entry)?;
+    let bytes = written.as_slice();
+    Ok(has_code(bytes, code) && is_entry(alloc, bytes, 3, entry))
+}
+
 #[test]
-fn each_kind_of_entry_is_written_and_read(rt: HostRuntime) -> Result<(), Fail> {
-    let alloc = rt.alloc();
+fn each_kind_of_entry_is_written_and_read(rt: HostRuntime) {
     for (what, code) in &KINDS {
         let entry = StampedEntry {
             thread: 2,
@@ -192,29 +221,27 @@ fn each_kind_of_entry_is_written_and_read(rt: HostRuntime) -> Result<(), Fail> {
             what: *what,
             stamp: three_components(0, 4, 7),
         };
-        let written = put_entry(alloc, 1, 3, &entry)?;
-        assert_eq!(rt; written.len(), 55, "code {code}");
-        assert_eq!(rt; written.as_slice()[11], *code);
-        assert_eq!(rt; written.as_slice()[38], 6, "code {code}");
-        assert!(rt;
-            is_entry(alloc, written.as_slice(), 3, &entry),
-            "code {code}"
-        );
+        let is_kind = matches!(is_kind(rt.alloc(), &entry, *code), Ok(true));
+        assert!(rt; is_kind, "code {code}");
     }
-    Ok(())
 }
 
 const FRAMES: [&[u8]; 4] = [OLD_TOUCH, TOUCH, OLD_OUTPUT, OUTPUT];
 
+/// Each prefix of the frame is short, and the whole has no fault.
+fn assert_short(rt: &impl Abort, alloc: Global, frame: &[u8]) {
+    for size in 0..frame.len() {
+        let fault = fault_of(alloc, &frame[..size]);
+        let is_short = matches!(fault, Some(FrameError::Fault(FrameFault::Short)));
+        assert!(rt; is_short, "{size} bytes");
+    }
+    assert!(rt; fault_of(alloc, frame).is_none(), "{} bytes", frame.len());
+}
+
 #[test]
 fn a_prefix_is_short(rt: HostRuntime) {
-    let alloc = rt.alloc();
-    let short = Some(FrameError::Fault(FrameFault::Short));
     for frame in &FRAMES {
-        for size in 0..frame.len() {
-            assert_eq!(rt; fault_of(alloc, &frame[..size]), short, "{size} bytes");
-        }
-        assert_eq!(rt; fault_of(alloc, frame), None, "{} bytes", frame.len());
+        assert_short(&rt, rt.alloc(), frame);
     }
 }
 
@@ -262,19 +289,27 @@ const CHANGED: [(&[u8], usize, u8, Option<FrameFault>); 40] = [
     (OUTPUT, 62, 4, Some(FrameFault::BadLength)),
 ];
 
-#[test]
-fn the_first_test_that_fails_answers(rt: HostRuntime) -> Result<(), Fail> {
-    let alloc = rt.alloc();
-    for (frame, place, byte, fault) in &CHANGED {
-        assert!(rt; *place < frame.len());
-        let changed = with_byte(alloc, frame, *place, *byte)?;
-        assert_eq!(rt;
-            fault_of(alloc, &changed),
-            fault.map(FrameError::Fault),
-            "byte {place} is {byte}"
-        );
+/// Whether this is the fault of a frame with another byte at a place in it, or there is none.
+fn faults(
+    alloc: Global,
+    frame: &[u8],
+    place: usize,
+    byte: u8,
+    fault: Option<FrameFault>,
+) -> Result<bool, AllocError> {
+    if place >= frame.len() {
+        return Ok(false);
     }
-    Ok(())
+    let changed = with_byte(alloc, frame, place, byte)?;
+    Ok(fault_of(alloc, &changed) == fault.map(FrameError::Fault))
+}
+
+#[test]
+fn the_first_test_that_fails_answers(rt: HostRuntime) {
+    for (frame, place, byte, fault) in &CHANGED {
+        let answer = faults(rt.alloc(), frame, *place, *byte, *fault);
+        assert!(rt; matches!(answer, Ok(true)), "byte {place} is {byte}");
+    }
 }
 
 /// What becomes of a touch whose byte at this place is turned: the fault, or none where another entry is read.
@@ -293,20 +328,23 @@ fn fault_of_turned(place: usize, is_old: bool) -> Option<FrameError> {
 /// The touch in both versions, and whether it is in the old one.
 const TOUCHES: [(&[u8], bool); 2] = [(OLD_TOUCH, true), (TOUCH, false)];
 
+/// Whether a touch whose byte at this place is turned has its fault, and is not the touch any more.
+fn is_turned(alloc: Global, frame: &[u8], place: usize, is_old: bool) -> Result<bool, AllocError>
+    requires { place + 1 ≤ length frame.now }
+{
+    let turned = with_byte(alloc, frame, place, 255 - frame[place])?;
+    Ok(
+        fault_of(alloc, &turned) == fault_of_turned(place, is_old)
+            && !is_entry(alloc, &turned, 1, &touch()),
+    )
+}
+
 #[test]
-fn a_turned_byte_is_refused_or_another_entry(rt: HostRuntime) -> Result<(), Fail> {
-    let alloc = rt.alloc();
-    let entry = touch();
+fn a_turned_byte_is_refused_or_another_entry(rt: HostRuntime) {
     for (frame, is_old) in &TOUCHES {
         for place in 0..frame.len() {
-            let turned = with_byte(alloc, frame, place, 255 - frame[place])?;
-            assert_eq!(rt;
-                fault_of(alloc, &turned),
-                fault_of_turned(place, *is_old),
-                "byte {place}"
-            );
-            assert!(rt; !is_entry(alloc, &turned, 1, &entry), "byte {place}");
+            let answer = is_turned(rt.alloc(), frame, place, *is_old);
+            assert!(rt; matches!(answer, Ok(true)), "byte {place}");
         }
     }
-    Ok(())
 }

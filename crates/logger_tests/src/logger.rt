@@ -7,7 +7,6 @@ use plain_text::{Bytes, NoMemory, Packet};
 use std::alloc::Global;
 use std::marker::{Send, Sync};
 use std::process::Abort;
-use std::test::Fail;
 use thread_clock::Stamp;
 
 /// What arrives, and what is to become of it. An output comes after these numbers of entries of threads 0 and 1.
@@ -154,6 +153,23 @@ fn arrive_all(
     Ok(None)
 }
 
+/// These arrive in turn, and each becomes what it says.
+fn assert_arrive(
+    rt: &impl Abort,
+    alloc: Global,
+    logger: &mut OutputLogger,
+    out: &mut Outputs,
+    epoch: u32,
+    arrivals: &[Arrival],
+) -> Result<(), NoMemory>
+    requires { length logger.old.held ≡ 2 }
+    ensures { length logger.new.held ≡ 2 }
+{
+    let wrong = arrive_all(alloc, logger, out, epoch, arrivals)?;
+    assert_eq!(rt; wrong, None);
+    Ok(())
+}
+
 /// An output waits for the first entry of thread 0.
 const WAIT_FOR_0: OutputTook = OutputTook::Wait {
     thread: 0,
@@ -167,21 +183,33 @@ const WAIT_FOR_1: OutputTook = OutputTook::Wait {
 };
 
 /// These arrive in turn, in epoch 1. Each becomes what it says, these outputs are released, and none waits any more.
-fn assert_released(
+fn assert_released_by(
     rt: &impl Abort,
     alloc: Global,
     logger: &mut OutputLogger,
+    out: &mut Outputs,
     arrivals: &[Arrival],
     names: &[(u32, u64)],
-) -> Result<(), Fail>
+) -> Result<(), NoMemory>
     requires { length logger.old.held ≡ 2 }
 {
-    let mut out = Outputs::new(alloc);
-    let wrong = arrive_all(alloc, logger, &mut out, 1, arrivals)?;
-    assert_eq!(rt; wrong, None);
-    assert!(rt; are(&out, names));
-    assert_eq!(rt; logger.waiting(), 0);
+    assert_arrive(rt, alloc, logger, out, 1, arrivals)?;
+    assert!(rt; are(out, names));
+    assert!(rt; logger.waiting() == 0);
     Ok(())
+}
+
+/// The same at a logger of its own.
+fn assert_released(
+    rt: &impl Abort,
+    alloc: Global,
+    arrivals: &[Arrival],
+    names: &[(u32, u64)],
+) -> Result<(), NoMemory> {
+    let mut logger = OutputLogger::new(alloc, 2)?;
+    goes_between_threads(&logger);
+    let mut out = Outputs::new(alloc);
+    assert_released_by(rt, alloc, &mut logger, &mut out, arrivals, names)
 }
 
 const TWO_THREADS: [Arrival; 7] = [
@@ -196,11 +224,9 @@ const TWO_THREADS: [Arrival; 7] = [
 
 /// Thread 1 touches a variable, then thread 0, which sends. Its output waits for thread 1's entry, whichever comes first.
 #[test]
-fn waits_for_the_entry_of_another_thread(rt: HostRuntime) -> Result<(), Fail> {
-    let mut logger = OutputLogger::new(rt.alloc(), 2)?;
-    goes_between_threads(&logger);
+fn waits_for_the_entry_of_another_thread(rt: HostRuntime) -> Result<(), NoMemory> {
     let names = [(0, 1), (1, 1)];
-    assert_released(&rt, rt.alloc(), &mut logger, &TWO_THREADS, &names)
+    assert_released(&rt, rt.alloc(), &TWO_THREADS, &names)
 }
 
 const OUTPUTS_FIRST: [Arrival; 8] = [
@@ -216,10 +242,9 @@ const OUTPUTS_FIRST: [Arrival; 8] = [
 
 /// Four outputs come before their entries. Those that one entry frees are released in the order in which they arrived.
 #[test]
-fn releases_in_order_of_arrival(rt: HostRuntime) -> Result<(), Fail> {
-    let mut logger = OutputLogger::new(rt.alloc(), 2)?;
+fn releases_in_order_of_arrival(rt: HostRuntime) -> Result<(), NoMemory> {
     let names = [(0, 2), (1, 2), (0, 1), (1, 1), (0, 3)];
-    assert_released(&rt, rt.alloc(), &mut logger, &OUTPUTS_FIRST, &names)
+    assert_released(&rt, rt.alloc(), &OUTPUTS_FIRST, &names)
 }
 
 /// Ends the epoch. Whether one held entry is dropped, and none is kept.
@@ -257,28 +282,46 @@ const AFTER: [Arrival; 2] = [
 ];
 
 /// A fence comes between these.
-fn assert_fenced(rt: &impl Abort, alloc: Global, logger: &mut OutputLogger) -> Result<(), Fail>
+fn assert_fenced(
+    rt: &impl Abort,
+    alloc: Global,
+    logger: &mut OutputLogger,
+    out: &mut Outputs,
+) -> Result<(), NoMemory>
     requires { length logger.old.held ≡ 2 }
 {
-    let mut out = Outputs::new(alloc);
-    let wrong = arrive_all(alloc, logger, &mut out, 1, &BEFORE)?;
-    assert_eq!(rt; wrong, None);
-    let kept = fence(logger);
-    assert!(rt; kept);
-    assert_eq!(rt; (logger.epoch(), logger.waiting()), (2, 0));
-    let wrong = arrive_all(alloc, logger, &mut out, 1, &LATE)?;
-    assert_eq!(rt; wrong, None);
-    let wrong = arrive_all(alloc, logger, &mut out, 2, &AFTER)?;
-    assert_eq!(rt; wrong, None);
-    assert!(rt; are(&out, &[(0, 1)]));
+    assert_arrive(rt, alloc, logger, out, 1, &BEFORE)?;
+    let is_dropped = fence(logger);
+    assert!(rt; is_dropped);
+    assert!(rt; logger.epoch() == 2 && logger.waiting() == 0);
+    assert_arrive(rt, alloc, logger, out, 1, &LATE)?;
+    assert_arrive(rt, alloc, logger, out, 2, &AFTER)?;
+    assert!(rt; are(out, &[(0, 1)]));
     Ok(())
 }
 
 /// After a fence old messages have no effect, what waited is forgotten, and what was released is not released again.
 #[test]
-fn a_fence_forgets_what_waits(rt: HostRuntime) -> Result<(), Fail> {
+fn a_fence_forgets_what_waits(rt: HostRuntime) -> Result<(), NoMemory> {
     let mut logger = OutputLogger::new(rt.alloc(), 2)?;
-    assert_fenced(&rt, rt.alloc(), &mut logger)
+    let mut out = Outputs::new(rt.alloc());
+    assert_fenced(&rt, rt.alloc(), &mut logger, &mut out)
+}
+
+/// Whether an output of thread 0 waits for the first entry of the thread.
+fn waits_for_0(
+    alloc: Global,
+    logger: &mut OutputLogger,
+    out: &mut Outputs,
+    number: u64,
+    after: Stamp,
+) -> Result<bool, NoMemory>
+    requires { length logger.old.held ≡ 2 }
+    ensures threads { length logger.new.held ≡ 2 }
+    ensures held { logger.new.held ≡ logger.old.held }
+{
+    let output = output_of(alloc, 0, number, after)?;
+    send(logger, out, 1, output, WAIT_FOR_0)
 }
 
 /// Outputs of thread 0 arrive, the last number first. All wait for the first entry of the thread.
@@ -292,8 +335,7 @@ fn many_wait(
     ensures { length logger.new.held ≡ 2 }
 {
     for i in 0..count {
-        let output = output_of(alloc, 0, count - i, stamp(1, 0))?;
-        if !send(logger, out, 1, output, WAIT_FOR_0)? {
+        if !waits_for_0(alloc, logger, out, count - i, stamp(1, 0))? {
             return Ok(false);
         }
     }
@@ -317,31 +359,30 @@ fn assert_many_released(
     rt: &impl Abort,
     alloc: Global,
     logger: &mut OutputLogger,
-) -> Result<(), Fail>
+    out: &mut Outputs,
+) -> Result<(), NoMemory>
     requires { length logger.old.held ≡ 2 }
 {
-    let mut out = Outputs::new(alloc);
-    let all_wait = many_wait(alloc, logger, &mut out, 2000)?;
+    let all_wait = many_wait(alloc, logger, out, 2000)?;
     assert!(rt; all_wait && out.is_empty());
-    let held = log(logger, &mut out, 1, entry_of(0, 1), New)?;
-    assert!(rt; held && fall(&out, 2000));
+    let held = log(logger, out, 1, entry_of(0, 1), New)?;
+    assert!(rt; held && fall(out, 2000));
     Ok(())
 }
 
 #[test]
-fn one_entry_releases_many(rt: HostRuntime) -> Result<(), Fail> {
+fn one_entry_releases_many(rt: HostRuntime) -> Result<(), NoMemory> {
     let mut logger = OutputLogger::new(rt.alloc(), 2)?;
-    assert_many_released(&rt, rt.alloc(), &mut logger)
+    let mut out = Outputs::new(rt.alloc());
+    assert_many_released(&rt, rt.alloc(), &mut logger, &mut out)
 }
 
 /// Two outputs wait, and a snapshot with the entry of one of them is stored.
 fn store(alloc: Global, logger: &mut OutputLogger, out: &mut Outputs) -> Result<bool, NoMemory>
     requires { logger.old.held ≡ replicate 2 fresh_lane }
 {
-    let first = output_of(alloc, 0, 2, stamp(2, 1))?;
-    let second = output_of(alloc, 0, 1, stamp(1, 1))?;
-    let wait = send(logger, out, 1, first, WAIT_FOR_0)?
-        && send(logger, out, 1, second, WAIT_FOR_0)?;
+    let wait = waits_for_0(alloc, logger, out, 2, stamp(2, 1))?
+        && waits_for_0(alloc, logger, out, 1, stamp(1, 1))?;
     cover_first(logger, out)?;
     Ok(wait)
 }
@@ -354,18 +395,23 @@ fn cover_first(logger: &mut OutputLogger, out: &mut Outputs) -> Result<(), NoMem
 }
 
 /// The snapshot releases the output that it frees, and the other one goes on waiting.
-fn assert_stored(rt: &impl Abort, alloc: Global, logger: &mut OutputLogger) -> Result<(), Fail>
+fn assert_stored(
+    rt: &impl Abort,
+    alloc: Global,
+    logger: &mut OutputLogger,
+    out: &mut Outputs,
+) -> Result<(), NoMemory>
     requires { logger.old.held ≡ replicate 2 fresh_lane }
 {
-    let mut out = Outputs::new(alloc);
-    let wait = store(alloc, logger, &mut out)?;
-    assert!(rt; wait && are(&out, &[(0, 1)]));
-    assert_eq!(rt; logger.waiting(), 1);
+    let wait = store(alloc, logger, out)?;
+    assert!(rt; wait && are(out, &[(0, 1)]));
+    assert!(rt; logger.waiting() == 1);
     Ok(())
 }
 
 #[test]
-fn a_stored_snapshot_releases(rt: HostRuntime) -> Result<(), Fail> {
+fn a_stored_snapshot_releases(rt: HostRuntime) -> Result<(), NoMemory> {
     let mut logger = OutputLogger::new(rt.alloc(), 2)?;
-    assert_stored(&rt, rt.alloc(), &mut logger)
+    let mut out = Outputs::new(rt.alloc());
+    assert_stored(&rt, rt.alloc(), &mut logger, &mut out)
 }

@@ -1,21 +1,38 @@
 use thread_clock::Stamp;
 
-/// Two threads count: thread 1 makes its touch, then thread 0.
-#[test]
-fn two_threads_count(rt: HostRuntime) {
+/// The components of the stamps of two touches, by thread 1 and then by thread 0.
+const OF_FIRST: [u64; 16] = [0, 1, 0, 0, 0, 0, 0, 0, 0, 0, 0, 0, 0, 0, 0, 0];
+
+const OF_SECOND: [u64; 16] = [1, 1, 0, 0, 0, 0, 0, 0, 0, 0, 0, 0, 0, 0, 0, 0];
+
+/// Two threads count: thread 1 makes its touch, then thread 0. The stamps of both.
+fn count_by_two_threads() -> (Stamp, Stamp) {
     let mut first = Stamp::zero();
     first.bump(1);
     let mut second = Stamp::zero();
     second.join(&first);
     second.bump(0);
-    let mut expected = [0; 16];
-    expected[1] = 1;
-    assert_eq!(rt; first.components().as_slice(), expected.as_slice());
-    expected[0] = 1;
-    assert_eq!(rt; second.components().as_slice(), expected.as_slice());
-    assert_eq!(rt; Stamp::new(expected), second);
-    assert_eq!(rt; second.weight(), 2);
-    assert_eq!(rt; second.get(2), 0);
+    (first, second)
+}
+
+#[test]
+fn two_threads_count(rt: HostRuntime) {
+    let (first, second) = count_by_two_threads();
+    assert!(rt; first.components() == &OF_FIRST);
+    assert!(rt; second.components() == &OF_SECOND);
+    assert!(rt; Stamp::new(OF_SECOND) == second);
+}
+
+#[test]
+fn a_stamp_is_weighed(rt: HostRuntime) {
+    let (_, second) = count_by_two_threads();
+    assert!(rt; second.weight() == 2);
+    assert!(rt; second.get(2) == 0);
+}
+
+#[test]
+fn the_first_stamp_is_at_most_the_second(rt: HostRuntime) {
+    let (first, second) = count_by_two_threads();
     assert!(rt; first.at_most(&second));
     assert!(rt; !second.at_most(&first));
 }
