@@ -1,4 +1,5 @@
-ghost use Rattle.std.specs.Prelude.{◌≡◌, ℕ, length};
+ghost use Rattle.std.specs.Prelude.{◌≡◌, ℕ, length, replicate};
+ghost use Rattle.access_log.specs.Held.{fresh_lane};
 
 use access_log::{Added, Held, Kept, StampedEntry, What};
 use entry_order::{LogEntry, closed_part, contains, first_missing, stamp_component};
@@ -66,6 +67,14 @@ fn hold(
     Ok(())
 }
 
+/// Whether what is missing is named by the thread and the number of this entry, or nothing is missing where it is none.
+fn names(missing: Option<(u32, u64)>, entry: Option<LogEntry>) -> bool {
+    match entry {
+        Some(entry) => missing == Some((entry.thread, entry.number)),
+        None => missing.is_none(),
+    }
+}
+
 /// Whether the held set names what is missing for each output as the definitions do.
 fn names_missing(
     alloc: Global,
@@ -76,7 +85,7 @@ fn names_missing(
     for last in log {
         let stamp = stamp_of(alloc, log, last)?;
         let first = first_missing(alloc, log, &[], entries, last.thread, last.number)?;
-        if held.missing(&stamp) != first.map(|entry| (entry.thread, entry.number)) {
+        if !names(held.missing(&stamp), first) {
             return Ok(false);
         }
     }
@@ -353,15 +362,22 @@ fn holds_second(held: &mut Held) -> bool {
         && held.closed_part().kept == 1
 }
 
-/// Whether an entry is known once it was added, and is no more held once it is covered.
-fn covers_first(alloc: Global) -> Result<bool, NoMemory> {
+/// Whether an entry is known once it was added to a fresh held set of two threads, and is no more held once it is covered.
+fn covers_first_in(held: &mut Held) -> Result<bool, NoMemory>
+    requires { held.old ≡ replicate 2 fresh_lane }
+{
     let first = first_touch(1, 1, 0, 1);
-    let mut held = Held::new(alloc, 2)?;
     held.add(first_touch(0, 2, 1, 1))?;
     held.add(first)?;
     let again = held.add(first)?;
     held.cover(&first.stamp);
-    Ok(again == Added::Known && holds_second(&mut held))
+    Ok(again == Added::Known && holds_second(held))
+}
+
+/// The same, of a new held set.
+fn covers_first(alloc: Global) -> Result<bool, NoMemory> {
+    let mut held = Held::new(alloc, 2)?;
+    covers_first_in(&mut held)
 }
 
 #[test]

@@ -309,7 +309,7 @@ const WAITS: [Row; 5] = [
 
 #[test]
 fn a_thread_waits(rt: HostRuntime) -> Result<(), Fail> {
-    assert_rows(&rt, rt.alloc(), &CountBox::new(), &[&QUERY], &WAITS)
+    assert_rows(&rt, rt.alloc(), &CountBox {}, &[&QUERY], &WAITS)
 }
 
 /// Thread 1 makes its touch, then thread 0.
@@ -327,7 +327,7 @@ fn two_threads_count(rt: HostRuntime) -> Result<(), Fail> {
     assert_rows(
         &rt,
         rt.alloc(),
-        &CountBox::new(),
+        &CountBox {},
         &[&QUERY, &NEXT_QUERY],
         &COUNTS,
     )
@@ -360,18 +360,18 @@ fn a_touch_comes_after_a_read(rt: HostRuntime) -> Result<(), Fail> {
     assert_rows(
         &rt,
         rt.alloc(),
-        &PeekBox::new(),
+        &PeekBox {},
         &[&QUERY, &LONGER],
         &READ_AND_TOUCH,
     )
 }
 
-/// What a run logged, newest first, with the stamps; and for each output its thread, how many entries the thread had made,
-/// and its stamp.
+/// What a run logged, newest first; the same entries with their stamps; and for each output its thread, how many entries the thread
+/// had made, and its stamp.
 #[derive(Drop)]
 struct Run {
     log: Vec<LogEntry>,
-    stamps: Vec<Stamp>,
+    stamped: Vec<(LogEntry, Stamp)>,
     outputs: Vec<(u32, u64, Stamp)>,
 }
 
@@ -379,7 +379,7 @@ struct Run {
 fn note(run: &mut Run, thread: u32, entries: u64, told: Told) -> Result<(), AllocError> {
     match told {
         Told::Did(entry, components) => {
-            run.stamps.insert(0, Stamp::new(components))?;
+            run.stamped.insert(0, (entry, Stamp::new(components)))?;
             run.log.insert(0, entry)?;
             Ok(())
         }
@@ -475,7 +475,7 @@ fn is_output_stamp(
 
 /// Whether the stamps of the entries are those of the definitions.
 fn entries_agree(alloc: Global, run: &Run) -> Result<bool, AllocError> {
-    for (entry, stamp) in run.log.iter().zip(run.stamps.iter()) {
+    for (entry, stamp) in &run.stamped {
         if !is_stamp(alloc, &run.log, entry, stamp)? {
             return Ok(false);
         }
@@ -508,7 +508,7 @@ fn run_agrees(
 fn agrees(alloc: Global, random: &mut Pcg32, count: u32) -> Result<bool, NoMemory> {
     let mut run = Run {
         log: Vec::new(alloc),
-        stamps: Vec::new(alloc),
+        stamped: Vec::new(alloc),
         outputs: Vec::new(alloc),
     };
     run_agrees(alloc, random, count, &mut run)
