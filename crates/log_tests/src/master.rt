@@ -1,8 +1,8 @@
-ghost use Rattle.std.specs.Prelude.{◌≡◌, ℕ, ◌<◌, length, IfOk};
-ghost use Rattle.box_program.specs.Hands.{FitsProgram};
+ghost use Rattle.std.specs.Prelude.{◌≡◌, ℕ, ◌<◌, ◌≤◌, length, IsTrue, IsSome};
+ghost use Rattle.box_program.specs.Hands.{FitsProgram, has_hand};
 ghost use Rattle.box_program.specs.Count.{IsCounter};
 ghost use Rattle.log_tests.specs.Mixed.{mixed_meaning};
-ghost use Rattle.master_core.specs.Mastered.{value_of};
+ghost use Rattle.master_core.specs.Mastered.{value_of, place_in_hand, HasRoom};
 
 use crate::mixed::MixedBox;
 use access_log::{StampedEntry, Turn, What};
@@ -14,28 +14,41 @@ use rand_core::utils::NextWord;
 use rand_pcg::Pcg32;
 use sample_frames::{NEXT_QUERY, QUERY};
 use std::alloc::{AllocError, Global};
+use std::process::Abort;
 use std::test::Fail;
 use thread_clock::Stamp;
 
-/// What a master tells of a move. Of a packet that was sent out: its number, that of its input, and its stamp.
-#[derive(Clone, Copy, Debug, PartialEq)]
+/// What a master tells of a move. Of an entry and of a packet that was sent out it has the components of the stamp, and of a packet
+/// its number and that of its input.
+#[derive(Clone, Copy, PartialEq)]
 enum Told {
     Took(u64),
-    Did(StampedEntry),
-    Sent(u64, u64, Stamp),
+    Did(LogEntry, [u64; 16]),
+    Sent(u64, u64, [u64; 16]),
     Ended(u64),
     Idle,
     NotTurn(u32, u64),
     NoMemory,
-    /// The thread made more moves than a test makes.
-    TooMany,
+    /// The thread made more moves than a test makes, or has a packet in hand and was given no input.
+    Refused,
+}
+
+/// The entry without its stamp.
+fn plain_entry(entry: &StampedEntry) -> LogEntry {
+    LogEntry {
+        thread: entry.thread,
+        number: entry.number,
+        what: entry.what,
+    }
 }
 
 fn told_of(stepped: Stepped) -> Told {
     match stepped {
         Stepped::Took(input) => Told::Took(input),
-        Stepped::Did(entry) => Told::Did(entry),
-        Stepped::Emitted(output) => Told::Sent(output.number, output.input, output.stamp),
+        Stepped::Did(entry) => Told::Did(plain_entry(&entry), *entry.stamp.components()),
+        Stepped::Emitted(output) => {
+            Told::Sent(output.number, output.input, *output.stamp.components())
+        }
         Stepped::Ended(input) => Told::Ended(input),
         Stepped::Idle => Told::Idle,
         Stepped::NotTurn { thread, number } => Told::NotTurn(thread, number),
@@ -52,35 +65,28 @@ fn packet(alloc: Global, bytes: &[u8]) -> Result<Packet, NoMemory> {
     })
 }
 
-/// The stamp of which these are the components of threads 0 and 1.
-fn stamp(first: u64, second: u64) -> Stamp {
-    let mut components = [0; 16];
-    components[0] = first;
-    components[1] = second;
-    Stamp::new(components)
-}
-
-/// The first entry of a thread, a touch of variable 0.
-fn first_touch(thread: u32, place: u64, stamp: Stamp) -> StampedEntry
-    ensures thread { result.thread ≡ thread }
-    ensures first { result.number ≡ 1 }
+/// Whether a test may make a move of a thread with this input: it made few, and has no packet in hand where there is no input.
+fn may_move<P: Program>(master: &Master<P>, thread: u32, input: Option<&Packet>) -> bool
+    requires { thread < length master.now.threads }
+    ensures room { IsTrue result → HasRoom master.now thread }
+    ensures input { IsTrue result → IsTrue (has_hand (place_in_hand master.now thread))
+        → IsSome input.entry }
 {
-    StampedEntry {
-        thread,
-        number: 1,
-        what: What::Access { var: 0, place },
-        stamp,
-    }
+    let counts = master.counts(thread);
+    counts.taken <= 1000
+        && counts.entries <= 1000
+        && counts.outputs <= 1000
+        && (input.is_some() || master.in_hand(thread).is_none())
 }
 
-/// Makes a move of a thread, with the packet in hand or the next input.
+/// Makes a move of a thread, with the packet in hand or the next input where there is one.
 fn make<P: Program>(
     alloc: Global,
     master: &mut Master<P>,
     program: &P,
     thread: u32,
     turn: Turn,
-    input: &Packet,
+    input: Option<&Packet>,
 ) -> Told
     requires program { FitsProgram (P.meaning program.now) (P.fits program.now)
         value_of master.old.vars }
@@ -89,20 +95,21 @@ fn make<P: Program>(
         value_of master.new.vars }
     ensures threads { length master.new.threads ≡ length master.old.threads }
 {
-    let counts = master.counts(thread);
-    if counts.taken > 1000 || counts.entries > 1000 || counts.outputs > 1000 {
-        return Told::TooMany;
+    if !may_move(master, thread, input) {
+        return Told::Refused;
     }
-    told_of(master.step(alloc, program, thread, turn, 7, Some(input)))
+    told_of(master.step(alloc, program, thread, turn, 7, input))
 }
 
-/// Makes a move of a thread that has no packet in hand and no further input; None where it has one in hand.
-fn make_without_input<P: Program>(
+/// The same, with a packet of these bytes.
+fn make_with<P: Program>(
     alloc: Global,
     master: &mut Master<P>,
     program: &P,
     thread: u32,
-) -> Option<Told>
+    turn: Turn,
+    bytes: &[u8],
+) -> Told
     requires program { FitsProgram (P.meaning program.now) (P.fits program.now)
         value_of master.old.vars }
     requires thread_in { thread < length master.old.threads }
@@ -110,18 +117,13 @@ fn make_without_input<P: Program>(
         value_of master.new.vars }
     ensures threads { length master.new.threads ≡ length master.old.threads }
 {
-    let counts = master.counts(thread);
-    if counts.taken > 1000 || counts.entries > 1000 || counts.outputs > 1000 {
-        return Some(Told::TooMany);
+    match packet(alloc, bytes) {
+        Ok(input) => make(alloc, master, program, thread, turn, Some(&input)),
+        Err(NoMemory) => Told::NoMemory,
     }
-    if master.in_hand(thread).is_some() {
-        return None;
-    }
-    Some(told_of(master.step(alloc, program, thread, Turn::Free, 7, None)))
 }
 
 /// One row of a test: a move and what it tells, or what the master says in between.
-#[derive(Clone, Copy, Debug, PartialEq)]
 enum Row {
     /// A move of this thread with its packet.
     Move(u32, Turn, Told),
@@ -133,8 +135,8 @@ enum Row {
     InHand(u32, Option<u64>),
     /// How often variable 0 was touched, and its value.
     Variable(u64, u64),
-    /// The join of the stamps of the reads of variable 0.
-    Readers(Stamp),
+    /// The components of the join of the stamps of the reads of variable 0.
+    Readers([u64; 16]),
 }
 
 /// Whether variable 0 was touched this often and has this value.
@@ -144,14 +146,21 @@ fn has_variable<P: Program<Value = u64>>(master: &Master<P>, places: u64, value:
     master.places(0) == places && *master.value(0) == value
 }
 
+/// Whether the join of the stamps of the reads of variable 0 has these components.
+fn has_readers<P: Program>(master: &Master<P>, components: &[u64; 16]) -> bool
+    requires { 0 < length master.now.vars }
+{
+    master.readers(0).components() == components
+}
+
 /// Whether what a row says of this thread is so.
 fn holds_of<P: Program<Value = u64>>(
     alloc: Global,
     master: &mut Master<P>,
     program: &P,
     thread: u32,
-    input: &Packet,
-    row: Row,
+    bytes: &[u8],
+    row: &Row,
 ) -> bool
     requires program { FitsProgram (P.meaning program.now) (P.fits program.now)
         value_of master.old.vars }
@@ -161,32 +170,34 @@ fn holds_of<P: Program<Value = u64>>(
     ensures threads { length master.new.threads ≡ length master.old.threads }
 {
     match row {
-        Row::Move(_, turn, told) => make(alloc, master, program, thread, turn, input) == told,
-        Row::NoInput(_, told) => make_without_input(alloc, master, program, thread) == Some(told),
-        Row::Wants(_, wants) => master.wants(program, thread) == wants,
-        Row::InHand(_, number) => master.in_hand(thread) == number,
-        Row::Variable(places, value) => program.vars() > 0 && has_variable(master, places, value),
-        Row::Readers(stamp) => program.vars() > 0 && *master.readers(0) == stamp,
+        Row::Move(_, turn, told) => {
+            make_with(alloc, master, program, thread, *turn, bytes) == *told
+        }
+        Row::NoInput(_, told) => make(alloc, master, program, thread, Turn::Free, None) == *told,
+        Row::Wants(_, wants) => master.wants(program, thread) == *wants,
+        Row::InHand(_, number) => master.in_hand(thread) == *number,
+        Row::Variable(places, value) => program.vars() > 0 && has_variable(master, *places, *value),
+        Row::Readers(components) => program.vars() > 0 && has_readers(master, components),
     }
 }
 
 /// The thread of a row; 0 where it is of none.
-fn thread_of(row: Row) -> u32 {
+fn thread_of(row: &Row) -> u32 {
     match row {
         Row::Move(thread, _, _)
         | Row::NoInput(thread, _)
         | Row::Wants(thread, _)
-        | Row::InHand(thread, _) => thread,
+        | Row::InHand(thread, _) => *thread,
         Row::Variable(_, _) | Row::Readers(_) => 0,
     }
 }
 
-/// The first row that is not so; thread T has the packet at place T.
+/// The first row that is not so; thread T is given the bytes at place T.
 fn first_wrong<P: Program<Value = u64>>(
     alloc: Global,
     master: &mut Master<P>,
     program: &P,
-    inputs: &[Packet],
+    inputs: &[&[u8]],
     rows: &[Row],
 ) -> Option<usize>
     requires program { FitsProgram (P.meaning program.now) (P.fits program.now)
@@ -194,145 +205,196 @@ fn first_wrong<P: Program<Value = u64>>(
     requires threads { length inputs.now ≡ length master.old.threads }
 {
     for i in 0..rows.len() {
-        let thread = thread_of(rows[i]);
-        let Some(input) = inputs.get(thread as usize) else {
+        let row = &rows[i];
+        let thread = thread_of(row);
+        let Some(bytes) = inputs.get(thread as usize) else {
             return Some(i);
         };
-        if !holds_of(alloc, master, program, thread, input, rows[i]) {
+        if !holds_of(alloc, master, program, thread, bytes, row) {
             return Some(i);
         }
     }
     None
 }
 
-/// A thread without an input is idle, and one whose turn is to wait stays where it is.
-#[test]
-fn a_thread_waits(rt: HostRuntime) -> Result<(), Fail> {
-    let alloc = rt.alloc();
-    let program = CountBox::new();
-    let inputs = [packet(alloc, &QUERY)?];
-    let mut master = Master::fresh(alloc, &program, 1)?;
-    let wait = Turn::Wait {
-        thread: 0,
-        number: 9,
-    };
-    let wanted = Wants::Touch {
-        number: 1,
-        var: 0,
-        places: 0,
-    };
-    let rows = [
-        Row::NoInput(0, Told::Idle),
-        Row::Wants(0, Wants::Take(1)),
-        Row::Move(0, Turn::Free, Told::Took(1)),
-        Row::Move(0, wait, Told::NotTurn(0, 9)),
-        Row::Wants(0, wanted),
-    ];
-    let wrong = first_wrong(alloc, &mut master, &program, &inputs, &rows);
+/// The same, of a fresh master with as many threads as there are inputs.
+fn first_wrong_of<P: Program<Value = u64>>(
+    alloc: Global,
+    program: &P,
+    inputs: &[&[u8]],
+    rows: &[Row],
+) -> Result<Option<usize>, NoMemory>
+    requires some { 1 ≤ length inputs.now }
+    requires few { length inputs.now ≤ 16 }
+{
+    let mut master = Master::fresh(alloc, program, inputs.len() as u32)?;
+    Ok(first_wrong(alloc, &mut master, program, inputs, rows))
+}
+
+/// Asserts that these rows are so, of a fresh master with as many threads as there are inputs.
+fn assert_rows<P: Program<Value = u64>>(
+    rt: &impl Abort,
+    alloc: Global,
+    program: &P,
+    inputs: &[&[u8]],
+    rows: &[Row],
+) -> Result<(), Fail>
+    requires some { 1 ≤ length inputs.now }
+    requires few { length inputs.now ≤ 16 }
+{
+    let wrong = first_wrong_of(alloc, program, inputs, rows)?;
     assert_eq!(rt; wrong, None);
     Ok(())
+}
+
+/// The touch of variable 0 that is the first entry of thread 1.
+const TOUCH_OF_1: LogEntry = LogEntry {
+    thread: 1,
+    number: 1,
+    what: What::Access { var: 0, place: 1 },
+};
+
+/// The touch of variable 0 that is the first entry of thread 0, after the other thread's.
+const SECOND_TOUCH: LogEntry = LogEntry {
+    thread: 0,
+    number: 1,
+    what: What::Access { var: 0, place: 2 },
+};
+
+/// The touch of variable 0 that is the first entry of thread 0, and the first touch.
+const TOUCH_OF_0: LogEntry = LogEntry {
+    thread: 0,
+    number: 1,
+    what: What::Access { var: 0, place: 1 },
+};
+
+/// The read of variable 0 that is the first entry of thread 1.
+const READ_OF_1: LogEntry = LogEntry {
+    thread: 1,
+    number: 1,
+    what: What::Read { var: 0, after: 0 },
+};
+
+/// The components of the stamp of no entry.
+const OF_NONE: [u64; 16] = [0; 16];
+
+/// Those of the stamp of the first entry of thread 1.
+const OF_ONE: [u64; 16] = [0, 1, 0, 0, 0, 0, 0, 0, 0, 0, 0, 0, 0, 0, 0, 0];
+
+/// Those of the stamp of the first entry of thread 0, after that of thread 1.
+const OF_BOTH: [u64; 16] = [1, 1, 0, 0, 0, 0, 0, 0, 0, 0, 0, 0, 0, 0, 0, 0];
+
+/// A thread without an input is idle, and one whose turn is to wait stays where it is.
+const WAITS: [Row; 5] = [
+    Row::NoInput(0, Told::Idle),
+    Row::Wants(0, Wants::Take(1)),
+    Row::Move(0, Turn::Free, Told::Took(1)),
+    Row::Move(
+        0,
+        Turn::Wait {
+            thread: 0,
+            number: 9,
+        },
+        Told::NotTurn(0, 9),
+    ),
+    Row::Wants(
+        0,
+        Wants::Touch {
+            number: 1,
+            var: 0,
+            places: 0,
+        },
+    ),
+];
+
+#[test]
+fn a_thread_waits(rt: HostRuntime) -> Result<(), Fail> {
+    assert_rows(&rt, rt.alloc(), &CountBox {}, &[&QUERY], &WAITS)
 }
 
 /// Thread 1 makes its touch, then thread 0.
+const COUNTS: [Row; 6] = [
+    Row::Move(1, Turn::Free, Told::Took(1)),
+    Row::Move(1, Turn::Follow, Told::Did(TOUCH_OF_1, OF_ONE)),
+    Row::Move(0, Turn::Free, Told::Took(1)),
+    Row::Move(0, Turn::Free, Told::Did(SECOND_TOUCH, OF_BOTH)),
+    Row::InHand(0, Some(1)),
+    Row::Variable(2, 2),
+];
+
 #[test]
 fn two_threads_count(rt: HostRuntime) -> Result<(), Fail> {
-    let alloc = rt.alloc();
-    let program = CountBox::new();
-    let inputs = [packet(alloc, &QUERY)?, packet(alloc, &NEXT_QUERY)?];
-    let mut master = Master::fresh(alloc, &program, 2)?;
-    let rows = [
-        Row::Move(1, Turn::Free, Told::Took(1)),
-        Row::Move(1, Turn::Follow, Told::Did(first_touch(1, 1, stamp(0, 1)))),
-        Row::Move(0, Turn::Free, Told::Took(1)),
-        Row::Move(0, Turn::Free, Told::Did(first_touch(0, 2, stamp(1, 1)))),
-        Row::InHand(0, Some(1)),
-        Row::Variable(2, 2),
-    ];
-    let wrong = first_wrong(alloc, &mut master, &program, &inputs, &rows);
-    assert_eq!(rt; wrong, None);
-    Ok(())
+    assert_rows(
+        &rt,
+        rt.alloc(),
+        &CountBox {},
+        &[&QUERY, &NEXT_QUERY],
+        &COUNTS,
+    )
 }
 
-/// A packet with one byte more.
-fn longer_packet(alloc: Global, bytes: &[u8]) -> Result<Packet, NoMemory> {
-    let mut longer = packet(alloc, bytes)?;
-    longer.bytes.push(0)?;
-    Ok(longer)
-}
+/// The frame `NEXT_QUERY` with one byte more.
+const LONGER: [u8; 43] = [
+    0x02, 0x00, 0xaa, 0xaa, 0xaa, 0xaa, 0x02, 0x00, 0x00, 0x00, 0x00, 0x01, 0x08, 0x00, 0x45, 0x00,
+    0x00, 0x1c, 0x00, 0x02, 0x00, 0x00, 0x40, 0x11, 0x46, 0x90, 0x0a, 0x00, 0x00, 0x05, 0xc6, 0x33,
+    0x64, 0x07, 0x13, 0x89, 0x00, 0x35, 0x00, 0x08, 0xb7, 0xe0, 0x00,
+];
 
 /// Thread 1 reads, thread 0 touches, and thread 1 sends its packet out.
+const READ_AND_TOUCH: [Row; 11] = [
+    Row::Move(1, Turn::Free, Told::Took(1)),
+    Row::Move(1, Turn::Free, Told::Did(READ_OF_1, OF_ONE)),
+    Row::Readers(OF_ONE),
+    Row::Move(0, Turn::Free, Told::Took(1)),
+    Row::Move(0, Turn::Free, Told::Did(TOUCH_OF_0, OF_BOTH)),
+    Row::Readers(OF_NONE),
+    Row::Wants(1, Wants::Emit),
+    Row::Move(1, Turn::Free, Told::Sent(1, 1, OF_ONE)),
+    Row::Wants(1, Wants::End),
+    Row::Move(1, Turn::Free, Told::Ended(1)),
+    Row::InHand(1, None),
+];
+
 #[test]
 fn a_touch_comes_after_a_read(rt: HostRuntime) -> Result<(), Fail> {
-    let alloc = rt.alloc();
-    let program = PeekBox::new();
-    let inputs = [packet(alloc, &QUERY)?, longer_packet(alloc, &NEXT_QUERY)?];
-    let mut master = Master::fresh(alloc, &program, 2)?;
-    let read = StampedEntry {
-        thread: 1,
-        number: 1,
-        what: What::Read { var: 0, after: 0 },
-        stamp: stamp(0, 1),
-    };
-    let rows = [
-        Row::Move(1, Turn::Free, Told::Took(1)),
-        Row::Move(1, Turn::Free, Told::Did(read)),
-        Row::Readers(stamp(0, 1)),
-        Row::Move(0, Turn::Free, Told::Took(1)),
-        Row::Move(0, Turn::Free, Told::Did(first_touch(0, 1, stamp(1, 1)))),
-        Row::Readers(stamp(0, 0)),
-        Row::Wants(1, Wants::Emit),
-        Row::Move(1, Turn::Free, Told::Sent(1, 1, stamp(0, 1))),
-        Row::Wants(1, Wants::End),
-        Row::Move(1, Turn::Free, Told::Ended(1)),
-        Row::InHand(1, None),
-    ];
-    let wrong = first_wrong(alloc, &mut master, &program, &inputs, &rows);
-    assert_eq!(rt; wrong, None);
-    Ok(())
+    assert_rows(
+        &rt,
+        rt.alloc(),
+        &PeekBox {},
+        &[&QUERY, &LONGER],
+        &READ_AND_TOUCH,
+    )
 }
 
-/// What a run logged, newest first, with the stamps; and for each output its thread, how many entries the thread had made,
-/// and its stamp.
+/// What a run logged, newest first; the same entries with their stamps; and for each output its thread, how many entries the thread
+/// had made, and its stamp.
 #[derive(Drop)]
 struct Run {
     log: Vec<LogEntry>,
-    stamps: Vec<Stamp>,
+    stamped: Vec<(LogEntry, Stamp)>,
     outputs: Vec<(u32, u64, Stamp)>,
-}
-
-/// One packet for each of the moves that the program for tests may log.
-fn packets_of(alloc: Global) -> Result<Vec<Packet>, Fail> {
-    let mut packets = Vec::with_capacity(alloc, 8)?;
-    for byte in 0..8u8 {
-        packets.push(packet(alloc, &[byte])?)?;
-    }
-    Ok(packets)
 }
 
 /// Notes what a move of this thread told, before which it had logged this many entries.
 fn note(run: &mut Run, thread: u32, entries: u64, told: Told) -> Result<(), AllocError> {
     match told {
-        Told::Did(entry) => {
-            let plain = LogEntry {
-                thread: entry.thread,
-                number: entry.number,
-                what: entry.what,
-            };
-            run.stamps.insert(0, entry.stamp)?;
-            run.log.insert(0, plain)?;
+        Told::Did(entry, components) => {
+            run.stamped.insert(0, (entry, Stamp::new(components)))?;
+            run.log.insert(0, entry)?;
             Ok(())
         }
-        Told::Sent(_, _, stamp) => Ok(run.outputs.push((thread, entries, stamp))?),
+        Told::Sent(_, _, components) => {
+            Ok(run.outputs.push((thread, entries, Stamp::new(components)))?)
+        }
         _ => Ok(()),
     }
 }
 
-/// One move of one of three threads; a thread without a packet takes one of these.
+/// One move of one of three threads. A thread without a packet takes one of one byte, which chooses what the program for tests does.
 fn random_move(
     alloc: Global,
     random: &mut Pcg32,
-    packets: &[Packet],
-    chosen: &mut [usize; 3],
+    chosen: &mut [u8; 3],
     master: &mut Master<MixedBox>,
     run: &mut Run,
 ) -> Result<(), AllocError>
@@ -343,30 +405,27 @@ fn random_move(
 {
     let thread = random.next_word() % 3;
     if master.in_hand(thread).is_none() {
-        chosen[thread as usize] = (random.next_word() % 8) as usize;
+        chosen[thread as usize] = (random.next_word() % 8) as u8;
     }
-    let Some(input) = packets.get(chosen[thread as usize]) else {
-        return Ok(());
-    };
+    let bytes = [chosen[thread as usize]];
     let entries = master.counts(thread).entries;
-    let told = make(alloc, master, &MixedBox {}, thread, Turn::Free, input);
+    let told = make_with(alloc, master, &MixedBox {}, thread, Turn::Free, &bytes);
     note(run, thread, entries, told)
 }
 
-/// As many moves of three threads.
-fn random_run(alloc: Global, random: &mut Pcg32, count: u32) -> Result<Run, Fail> {
-    let mut run = Run {
-        log: Vec::new(alloc),
-        stamps: Vec::new(alloc),
-        outputs: Vec::new(alloc),
-    };
-    let packets = packets_of(alloc)?;
-    let mut chosen = [0usize; 3];
+/// As many moves of three threads of a fresh master.
+fn random_run(
+    alloc: Global,
+    random: &mut Pcg32,
+    count: u32,
+    run: &mut Run,
+) -> Result<(), NoMemory> {
+    let mut chosen = [0u8; 3];
     let mut master = Master::fresh(alloc, &MixedBox {}, 3)?;
     for _ in 0..count {
-        random_move(alloc, random, &packets, &mut chosen, &mut master, &mut run)?;
+        random_move(alloc, random, &mut chosen, &mut master, run)?;
     }
-    Ok(run)
+    Ok(())
 }
 
 /// Whether an entry's number is within the stamp.
@@ -414,13 +473,18 @@ fn is_output_stamp(
     Ok(true)
 }
 
-/// Whether the stamps are those of the definitions.
-fn agrees(alloc: Global, run: &Run) -> Result<bool, AllocError> {
-    for (entry, stamp) in run.log.iter().zip(run.stamps.iter()) {
+/// Whether the stamps of the entries are those of the definitions.
+fn entries_agree(alloc: Global, run: &Run) -> Result<bool, AllocError> {
+    for (entry, stamp) in &run.stamped {
         if !is_stamp(alloc, &run.log, entry, stamp)? {
             return Ok(false);
         }
     }
+    Ok(true)
+}
+
+/// Whether the stamps of the outputs are those of the definitions.
+fn outputs_agree(alloc: Global, run: &Run) -> Result<bool, AllocError> {
     for (thread, entries, stamp) in &run.outputs {
         if !is_output_stamp(alloc, &run.log, *thread, *entries, stamp)? {
             return Ok(false);
@@ -429,13 +493,32 @@ fn agrees(alloc: Global, run: &Run) -> Result<bool, AllocError> {
     Ok(true)
 }
 
+/// Whether a random run's stamps are those of the definitions.
+fn run_agrees(
+    alloc: Global,
+    random: &mut Pcg32,
+    count: u32,
+    run: &mut Run,
+) -> Result<bool, NoMemory> {
+    random_run(alloc, random, count, run)?;
+    Ok(entries_agree(alloc, run)? && outputs_agree(alloc, run)?)
+}
+
+/// The same, of a run that has nothing yet.
+fn agrees(alloc: Global, random: &mut Pcg32, count: u32) -> Result<bool, NoMemory> {
+    let mut run = Run {
+        log: Vec::new(alloc),
+        stamped: Vec::new(alloc),
+        outputs: Vec::new(alloc),
+    };
+    run_agrees(alloc, random, count, &mut run)
+}
+
 #[test]
 fn stamps_of_random_runs_agree_with_the_definitions(rt: HostRuntime) -> Result<(), Fail> {
-    let alloc = rt.alloc();
     let mut random = Pcg32::new(42, 54);
     for turn in 0..60 {
-        let run = random_run(alloc, &mut random, turn)?;
-        assert_eq!(rt; (turn, agrees(alloc, &run)?), (turn, true));
+        assert!(rt; agrees(rt.alloc(), &mut random, turn)?, "at {turn}");
     }
     Ok(())
 }

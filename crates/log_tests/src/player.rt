@@ -6,7 +6,7 @@ ghost use Rattle.log_tests.specs.Mixed.{mixed_meaning};
 use crate::mixed::MixedBox;
 use plain_machine::{PlainMove, PlayCause};
 use plain_player::{MoveError, Player};
-use plain_text::{Bytes, Packet};
+use plain_text::{Bytes, NoMemory, Packet};
 use std::alloc::Global;
 use std::test::Fail;
 
@@ -30,16 +30,14 @@ fn makes(
 }
 
 /// What the moves of a packet are told, and whether each sends it out or why it is none.
-fn rows() -> [(Option<u64>, Result<bool, MoveError>); 6] {
-    [
-        (None, Ok(false)),
-        (None, Err(MoveError::Illegal(PlayCause::MissingAnswer))),
-        (Some(5), Ok(false)),
-        (Some(5), Err(MoveError::Illegal(PlayCause::UnwantedAnswer))),
-        (None, Ok(true)),
-        (None, Ok(false)),
-    ]
-}
+const ROWS: [(Option<u64>, Result<bool, MoveError>); 6] = [
+    (None, Ok(false)),
+    (None, Err(MoveError::Illegal(PlayCause::MissingAnswer))),
+    (Some(5), Ok(false)),
+    (Some(5), Err(MoveError::Illegal(PlayCause::UnwantedAnswer))),
+    (None, Ok(true)),
+    (None, Ok(false)),
+];
 
 /// The first row that is not so.
 fn first_wrong(alloc: Global, player: &mut Player<u64>, input: &Packet) -> Option<usize>
@@ -47,9 +45,8 @@ fn first_wrong(alloc: Global, player: &mut Player<u64>, input: &Packet) -> Optio
         (λ value. value) player.old.values }
     requires fresh { player.old.made ≡ 0 }
 {
-    let rows = rows();
     for i in 0..6 {
-        let (answer, want) = rows[i];
+        let (answer, want) = ROWS[i];
         if makes(alloc, player, answer, input) != want {
             return Some(i);
         }
@@ -57,21 +54,31 @@ fn first_wrong(alloc: Global, player: &mut Player<u64>, input: &Packet) -> Optio
     None
 }
 
+/// The first row that is not so of a fresh player with this packet, and whether the packet is in hand then.
+fn played(alloc: Global, input: &Packet) -> Result<(Option<usize>, bool), NoMemory> {
+    let mut player = Player::fresh(alloc, &MixedBox {}, 1)?;
+    let wrong = first_wrong(alloc, &mut player, input);
+    Ok((wrong, player.in_hand(0)))
+}
+
+/// The same, of a packet of this byte.
+fn played_byte(alloc: Global, byte: u8) -> Result<(Option<usize>, bool), NoMemory> {
+    let input = Packet {
+        seconds: 1,
+        fraction: 2,
+        original: 60,
+        bytes: Bytes::of(alloc, &[byte])?,
+    };
+    played(alloc, &input)
+}
+
 /// The time and a random word are moves that want an answer, and no other move takes one.
 #[test]
 fn a_clock_and_a_draw_want_an_answer(rt: HostRuntime) -> Result<(), Fail> {
-    let alloc = rt.alloc();
     for byte in [6u8, 7] {
-        let input = Packet {
-            seconds: 1,
-            fraction: 2,
-            original: 60,
-            bytes: Bytes::of(alloc, &[byte])?,
-        };
-        let mut player = Player::fresh(alloc, &MixedBox {}, 1)?;
-        let wrong = first_wrong(alloc, &mut player, &input);
-        assert_eq!(rt; (byte, wrong), (byte, None));
-        assert!(rt; !player.in_hand(0));
+        let (wrong, in_hand) = played_byte(rt.alloc(), byte)?;
+        assert!(rt; wrong.is_none(), "byte {byte}, row {wrong:?}");
+        assert!(rt; !in_hand, "byte {byte}");
     }
     Ok(())
 }

@@ -17,13 +17,8 @@ pub struct PinnedBox {
     count: CountBox,
 }
 
-impl PinnedBox {
-    pub fn new() -> Self {
-        PinnedBox {
-            count: CountBox::new(),
-        }
-    }
-}
+/// The program.
+pub const PINNED_BOX: PinnedBox = PinnedBox { count: CountBox {} };
 
 impl Program for PinnedBox {
     type Value = u64;
