@@ -93,9 +93,11 @@ fn shows(
 ) -> Result<bool, NoMemory>
     requires { Fits var value.now }
 {
+    if !has_text(alloc, program, var, value, text)? {
+        return Ok(false);
+    }
     let copy = program.copy_value(alloc, var, value)?;
-    let of_value = has_text(alloc, program, var, value, text)?;
-    Ok(of_value && has_text(alloc, program, var, &copy, text)?)
+    has_text(alloc, program, var, &copy, text)
 }
 
 fn has_text(
@@ -203,18 +205,26 @@ fn counts_what_is_no_flow_apart(rt: HostRuntime) -> Result<(), Fail> {
     Ok(())
 }
 
+/// What a packet of these bytes does first.
+fn first_move(alloc: Global, program: &MonitorBox, bytes: &[u8]) -> Result<Move, NoMemory> {
+    let packet = packet(alloc, bytes, 42)?;
+    Ok(program.next(&program.begin(&packet)))
+}
+
+/// Packets, by name, and what each does first where there are two tables.
+const FIRST_MOVES: [(&str, &[u8], Move); 3] = [
+    ("the query", &QUERY, Move::Access(1)),
+    ("the next query", &NEXT_QUERY, Move::Access(2)),
+    ("no bytes", &[], Move::Access(0)),
+];
+
 #[test]
 fn finds_the_table_by_the_steering_sum(rt: HostRuntime) -> Result<(), Fail> {
-    let alloc = rt.alloc();
     let program = MonitorBox::new(2);
-    assert_eq!(rt; program.vars(), 3);
-    for (bytes, first) in [
-        (QUERY.as_slice(), Move::Access(1)),
-        (NEXT_QUERY.as_slice(), Move::Access(2)),
-        (&[], Move::Access(0)),
-    ] {
-        let packet = packet(alloc, bytes, 42)?;
-        assert_eq!(rt; program.next(&program.begin(&packet)), first, "{bytes:?}");
+    assert!(rt; program.vars() == 3);
+    for (name, bytes, first) in &FIRST_MOVES {
+        let found = first_move(rt.alloc(), &program, bytes)?;
+        assert!(rt; found == *first, "{name}");
     }
     Ok(())
 }

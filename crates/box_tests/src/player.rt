@@ -130,14 +130,19 @@ const COUNTS: [Row; 7] = [
     (0, None, Told::Nothing, false),
 ];
 
-#[test]
-fn two_threads_count(rt: HostRuntime) -> Result<(), Fail> {
-    let alloc = rt.alloc();
+/// The first of the moves of `COUNTS` that goes otherwise.
+fn first_wrong_count(alloc: Global) -> Result<Option<usize>, NoMemory> {
     let program = CountBox::new();
     let packet = packet_of(alloc, 42)?;
     let mut player = Player::fresh(alloc, &program, 2)?;
-    let wrong = first_wrong(alloc, &mut player, &program, (&packet, &packet), &COUNTS);
-    assert_eq!(rt; wrong, None);
+    let inputs = (&packet, &packet);
+    Ok(first_wrong(alloc, &mut player, &program, inputs, &COUNTS))
+}
+
+#[test]
+fn two_threads_count(rt: HostRuntime) -> Result<(), Fail> {
+    let wrong = first_wrong_count(rt.alloc())?;
+    assert!(rt; wrong.is_none(), "{wrong:?}");
     Ok(())
 }
 
@@ -150,15 +155,19 @@ const READS: [Row; 5] = [
     (1, None, Told::Sent(1, 1, Some(1)), true),
 ];
 
-#[test]
-fn a_read_finds_the_number(rt: HostRuntime) -> Result<(), Fail> {
-    let alloc = rt.alloc();
+/// The first of the moves of `READS` that goes otherwise.
+fn first_wrong_read(alloc: Global) -> Result<Option<usize>, NoMemory> {
     let program = PeekBox::new();
     let even = packet_of(alloc, 6)?;
     let odd = packet_of(alloc, 7)?;
     let mut player = Player::fresh(alloc, &program, 2)?;
-    let wrong = first_wrong(alloc, &mut player, &program, (&even, &odd), &READS);
-    assert_eq!(rt; wrong, None);
+    Ok(first_wrong(alloc, &mut player, &program, (&even, &odd), &READS))
+}
+
+#[test]
+fn a_read_finds_the_number(rt: HostRuntime) -> Result<(), Fail> {
+    let wrong = first_wrong_read(rt.alloc())?;
+    assert!(rt; wrong.is_none(), "{wrong:?}");
     Ok(())
 }
 
@@ -170,38 +179,58 @@ const ILLEGAL: [Row; 4] = [
     (1, Some(7), Told::Illegal(PlayCause::UnwantedAnswer), true),
 ];
 
-#[test]
-fn names_why_a_move_is_none(rt: HostRuntime) -> Result<(), Fail> {
-    let alloc = rt.alloc();
+/// The first of the moves of `ILLEGAL` that goes otherwise, and what a thread without further input is told then.
+fn illegal_moves(alloc: Global) -> Result<(Option<usize>, Option<Told>), NoMemory> {
     let program = CountBox::new();
     let packet = packet_of(alloc, 42)?;
     let mut player = Player::fresh(alloc, &program, 2)?;
     let wrong = first_wrong(alloc, &mut player, &program, (&packet, &packet), &ILLEGAL);
-    assert_eq!(rt; wrong, None);
     let nothing = moves_without_input(alloc, &mut player, &program, silent(0));
+    Ok((wrong, nothing))
+}
+
+#[test]
+fn names_why_a_move_is_none(rt: HostRuntime) -> Result<(), Fail> {
+    let (wrong, nothing) = illegal_moves(rt.alloc())?;
+    assert!(rt; wrong.is_none(), "{wrong:?}");
     assert!(rt; nothing == Some(Told::Illegal(PlayCause::NothingToTake)));
     Ok(())
 }
 
-#[test]
-fn puts_a_schedule(rt: HostRuntime) -> Result<(), Fail> {
-    let alloc = rt.alloc();
+/// A schedule of two moves, of which the second one is told 5.
+fn two_moves(alloc: Global) -> Result<Schedule, NoMemory> {
     let mut schedule = Schedule::new(alloc);
     schedule.push(silent(0))?;
     schedule.push(PlainMove {
         thread: 1,
         answer: Some(5),
     })?;
-    let text = put_schedule(alloc, &schedule)?;
-    assert_eq!(rt; text.as_slice(), b"0\n1 = 5\n".as_slice());
+    Ok(schedule)
+}
+
+/// Whether a schedule is put as this text.
+fn is_put_as(alloc: Global, schedule: &Schedule, text: &[u8]) -> Result<bool, NoMemory> {
+    Ok(put_schedule(alloc, schedule)?.as_slice() == text)
+}
+
+#[test]
+fn puts_a_schedule(rt: HostRuntime) -> Result<(), Fail> {
+    let schedule = two_moves(rt.alloc())?;
+    assert!(rt; is_put_as(rt.alloc(), &schedule, b"0\n1 = 5\n".as_slice())?);
     Ok(())
+}
+
+/// Two packets for one thread.
+fn two_inputs(alloc: Global) -> Result<InputLog, NoMemory> {
+    let mut inputs = InputLog::new(alloc, 1)?;
+    inputs.feed(packet_of(alloc, 42)?)?;
+    inputs.feed(packet_of(alloc, 60)?)?;
+    Ok(inputs)
 }
 
 /// How many packets the counting box sends out by a schedule of one thread with two inputs, or the first illegal move.
 fn sent_by(alloc: Global, schedule: &Schedule) -> Result<Result<usize, PlayFault>, NoMemory> {
-    let mut inputs = InputLog::new(alloc, 1)?;
-    inputs.feed(packet_of(alloc, 42)?)?;
-    inputs.feed(packet_of(alloc, 60)?)?;
+    let inputs = two_inputs(alloc)?;
     match play(alloc, &CountBox::new(), &inputs, schedule) {
         Ok(played) => Ok(Ok(played.emissions.len())),
         Err(PlayError::Fault(fault)) => Ok(Err(fault)),
@@ -232,32 +261,42 @@ fn moves_without(alloc: Global, place: usize) -> Result<Schedule, NoMemory> {
     Ok(schedule)
 }
 
+/// Whether a schedule of this text comes to this.
+fn text_comes_to(
+    alloc: Global,
+    text: &[u8],
+    wanted: Result<usize, PlayFault>,
+) -> Result<bool, ReadError> {
+    let schedule = read_schedule(alloc, text)?;
+    Ok(sent_by(alloc, &schedule)? == wanted)
+}
+
 #[test]
 fn an_unwanted_answer_is_the_second_move(rt: HostRuntime) -> Result<(), Fail> {
-    let alloc = rt.alloc();
-    let schedule = read_schedule(alloc, b"0\n0 = 5\n".as_slice())?;
-    assert_eq!(rt;
-        sent_by(alloc, &schedule)?,
-        fault(2, PlayCause::UnwantedAnswer)
-    );
+    let wanted = fault(2, PlayCause::UnwantedAnswer);
+    assert!(rt; text_comes_to(rt.alloc(), b"0\n0 = 5\n".as_slice(), wanted)?);
     Ok(())
+}
+
+/// Whether the moves without the one at this place come to this.
+fn dropped_comes_to(
+    alloc: Global,
+    place: usize,
+    wanted: Result<usize, PlayFault>,
+) -> Result<bool, NoMemory> {
+    let schedule = moves_without(alloc, place)?;
+    Ok(sent_by(alloc, &schedule)? == wanted)
 }
 
 #[test]
 fn plays_a_schedule_with_each_move_dropped(rt: HostRuntime) -> Result<(), Fail> {
     let alloc = rt.alloc();
-    let whole = moves_without(alloc, 10)?;
-    assert_eq!(rt; sent_by(alloc, &whole)?, fault(9, PlayCause::NothingToTake));
+    assert!(rt; dropped_comes_to(alloc, 10, fault(9, PlayCause::NothingToTake))?);
     for place in 0..9 {
-        let schedule = moves_without(alloc, place)?;
-        assert_eq!(rt;
-            sent_by(alloc, &schedule)?,
-            fault(9, PlayCause::NoSuchThread),
-            "{place}"
-        );
+        let right = dropped_comes_to(alloc, place, fault(9, PlayCause::NoSuchThread))?;
+        assert!(rt; right, "{place}");
     }
-    let legal = read_schedule(alloc, b"0\n0\n0\n0\n0\n0\n0\n0".as_slice())?;
-    assert_eq!(rt; sent_by(alloc, &legal)?, Ok(2));
+    assert!(rt; text_comes_to(alloc, b"0\n0\n0\n0\n0\n0\n0\n0".as_slice(), Ok(2))?);
     Ok(())
 }
 
@@ -271,20 +310,19 @@ const FAULTS: [(&str, LineCause); 6] = [
     ("0\n0 = 1 2", LineCause::ExtraWord),
 ];
 
+/// Whether a text is read as a schedule, which is put as this.
+fn is_put_again_as(alloc: Global, text: &[u8], wanted: &[u8]) -> Result<bool, ReadError> {
+    let schedule = read_schedule(alloc, text)?;
+    Ok(is_put_as(alloc, &schedule, wanted)?)
+}
+
 #[test]
 fn names_the_first_faulty_line(rt: HostRuntime) -> Result<(), Fail> {
-    let alloc = rt.alloc();
     let text = b"# moves\n\n 1\t=  7 \r\n0".as_slice();
-    let moves = read_schedule(alloc, text)?;
-    assert_eq!(rt;
-        put_schedule(alloc, &moves)?.as_slice(),
-        b"1 = 7\n0\n".as_slice()
-    );
+    assert!(rt; is_put_again_as(rt.alloc(), text, b"1 = 7\n0\n".as_slice())?);
     for (text, cause) in FAULTS {
-        assert_eq!(rt;
-            fault_in(alloc, text.as_bytes()),
-            Some(LineFault { line: 2, cause })
-        );
+        let found = fault_in(rt.alloc(), text.as_bytes());
+        assert!(rt; found == Some(LineFault { line: 2, cause }), "at {text:?}");
     }
     Ok(())
 }

@@ -3,7 +3,6 @@ ghost use Rattle.std.specs.Prelude.{ℕ, ◌<◌, ◌^◌};
 use box_program::{CountBox, Move, PeekBox, Program};
 use plain_text::{Bytes, NoMemory, Packet, Text};
 use std::alloc::Global;
-use std::process::Abort;
 use std::test::Fail;
 
 /// The low 32 bits are 2, 3, 4 and 4.
@@ -59,56 +58,78 @@ fn copy_shown<P: Program<Value = u64>>(
     program.show(alloc, 0, &copy)
 }
 
-/// Runs a packet of this number of bytes, where the variable is `BEFORE`, and looks at the value, at its text and at what goes out.
-fn check_packet<P: Program<Value = u64>>(
-    rt: &impl Abort,
+/// Whether a packet of this number of bytes goes out with these first bytes, and as long as it was.
+fn sends<P: Program>(
     alloc: Global,
     program: &P,
+    value: &mut P::Value,
     length: usize,
-    want: (&str, &[u8]),
-) -> Result<(), NoMemory>
+    front: &[u8],
+) -> Result<bool, NoMemory>
+    requires { (var : ℕ) → P.fits program.now var value.old }
+{
+    let packet = packet_of(alloc, length)?;
+    Ok(match sent_by(alloc, program, value, &packet)? {
+        Some(sent) => sent.len() == length && sent.as_slice().starts_with(front),
+        None => false,
+    })
+}
+
+/// What a packet of this number of bytes does where the variable is `BEFORE`: the text of the value, and what goes out begins with.
+type Row = (usize, &'static str, &'static [u8]);
+
+/// Whether a packet goes out so, and the value then has this text.
+fn goes_well<P: Program<Value = u64>>(
+    alloc: Global,
+    program: &P,
+    row: &Row,
+) -> Result<bool, NoMemory>
     requires { (n : ℕ) → n < 2 ^ 64 → (var : ℕ) → P.fits program.now var n }
 {
+    let (length, text, front) = *row;
     let mut value = BEFORE;
-    let packet = packet_of(alloc, length)?;
-    let sent = sent_by(alloc, program, &mut value, &packet)?;
-    let (text, front) = want;
-    assert_eq!(rt; copy_shown(alloc, program, value)?.as_str(), text);
-    let bytes = sent.expect(rt, "the packet was not sent out");
-    assert_eq!(rt; bytes.len(), length);
-    assert!(rt; bytes.as_slice().starts_with(front));
-    Ok(())
+    let sent = sends(alloc, program, &mut value, length, front)?;
+    Ok(sent && copy_shown(alloc, program, value)?.as_str() == text)
 }
+
+/// Whether a program has one variable, which is 0 at first.
+fn has_one_variable<P: Program<Value = u64>>(alloc: Global, program: &P) -> Result<bool, NoMemory> {
+    Ok(program.vars() == 1 && program.fresh(alloc, 0)? == 0)
+}
+
+/// Packets that count.
+const COUNTED: [Row; 4] = [
+    (42, "4328719365", b"\x09\x09\x02\x03\x04\x05\x09"),
+    (7, "4328719365", b"\x09\x09\x02\x03\x04\x05\x09"),
+    (6, "4328719365", b"\x09\x09\x02\x03\x04\x05"),
+    (5, "4328719365", b"\x09\x09\x09\x09\x09"),
+];
 
 #[test]
 fn counts_packets(rt: HostRuntime) -> Result<(), Fail> {
-    let alloc = rt.alloc();
     let program = CountBox::new();
-    assert_eq!(rt; program.vars(), 1);
-    assert_eq!(rt; program.fresh(alloc, 0)?, 0);
-    for (length, front) in [
-        (42, b"\x09\x09\x02\x03\x04\x05\x09".as_slice()),
-        (7, b"\x09\x09\x02\x03\x04\x05\x09".as_slice()),
-        (6, b"\x09\x09\x02\x03\x04\x05".as_slice()),
-        (5, b"\x09\x09\x09\x09\x09".as_slice()),
-    ] {
-        check_packet(&rt, alloc, &program, length, ("4328719365", front))?;
+    assert!(rt; has_one_variable(rt.alloc(), &program)?);
+    for row in &COUNTED {
+        let right = goes_well(rt.alloc(), &program, row)?;
+        assert!(rt; right, "{} bytes", row.0);
     }
     Ok(())
 }
 
+/// Packets that count, if their length is even, or read.
+const PEEKED: [Row; 3] = [
+    (42, "4328719365", b"\x09\x09\x02\x03\x04\x05\x09"),
+    (7, "4328719364", b"\x09\x09\x02\x03\x04\x04\x09"),
+    (5, "4328719364", b"\x09\x09\x09\x09\x09"),
+];
+
 #[test]
 fn shows_the_number_to_packets_of_odd_length(rt: HostRuntime) -> Result<(), Fail> {
-    let alloc = rt.alloc();
     let program = PeekBox::new();
-    assert_eq!(rt; program.vars(), 1);
-    assert_eq!(rt; program.fresh(alloc, 0)?, 0);
-    for (length, text, front) in [
-        (42, "4328719365", b"\x09\x09\x02\x03\x04\x05\x09".as_slice()),
-        (7, "4328719364", b"\x09\x09\x02\x03\x04\x04\x09".as_slice()),
-        (5, "4328719364", b"\x09\x09\x09\x09\x09".as_slice()),
-    ] {
-        check_packet(&rt, alloc, &program, length, (text, front))?;
+    assert!(rt; has_one_variable(rt.alloc(), &program)?);
+    for row in &PEEKED {
+        let right = goes_well(rt.alloc(), &program, row)?;
+        assert!(rt; right, "{} bytes", row.0);
     }
     Ok(())
 }

@@ -33,35 +33,34 @@ fn emissions(alloc: Global) -> Result<Vec<Emission>, NoMemory> {
     ]?)
 }
 
+/// Packets with these fractions and lengths on the wire.
+fn packets(alloc: Global, numbers: &[(u32, u32)]) -> Result<Vec<Packet>, NoMemory> {
+    let mut packets = Vec::new(alloc);
+    for (fraction, original) in numbers {
+        packets.push(packet(alloc, *fraction, *original)?)?;
+    }
+    Ok(packets)
+}
+
+/// The first of such packets, released with fractions in this unit, that no emission is left for.
+fn unmatched(alloc: Global, unit: Unit, numbers: &[(u32, u32)]) -> Result<Option<u64>, NoMemory> {
+    let released = packets(alloc, numbers)?;
+    let sent = emissions(alloc)?;
+    first_unmatched(alloc, unit, &released, Unit::Micro, &sent)
+}
+
 #[test]
 fn each_emission_serves_one_packet(rt: HostRuntime) -> Result<(), Fail> {
-    let alloc = rt.alloc();
-    let sent = emissions(alloc)?;
-    let twice = vec![in alloc; packet(alloc, 5, 3)?, packet(alloc, 5, 3)?]?;
-    assert_eq!(rt;
-        first_unmatched(alloc, Unit::Micro, &twice, Unit::Micro, &sent)?,
-        None
-    );
-    let longer = vec![in alloc;
-        packet(alloc, 5, 60)?,
-        packet(alloc, 5, 3)?,
-        packet(alloc, 5, 60)?,
-    ]?;
-    assert_eq!(rt;
-        first_unmatched(alloc, Unit::Micro, &longer, Unit::Micro, &sent)?,
-        Some(3)
-    );
+    let twice = [(5, 3), (5, 3)];
+    assert!(rt; unmatched(rt.alloc(), Unit::Micro, &twice)?.is_none());
+    let longer = [(5, 60), (5, 3), (5, 60)];
+    assert!(rt; unmatched(rt.alloc(), Unit::Micro, &longer)? == Some(3));
     Ok(())
 }
 
 #[test]
 fn fractions_are_compared_in_nanoseconds(rt: HostRuntime) -> Result<(), Fail> {
-    let alloc = rt.alloc();
-    let sent = emissions(alloc)?;
-    let fine = vec![in alloc; packet(alloc, 5000, 3)?, packet(alloc, 5, 3)?]?;
-    assert_eq!(rt;
-        first_unmatched(alloc, Unit::Nano, &fine, Unit::Micro, &sent)?,
-        Some(2)
-    );
+    let fine = [(5000, 3), (5, 3)];
+    assert!(rt; unmatched(rt.alloc(), Unit::Nano, &fine)? == Some(2));
     Ok(())
 }

@@ -1,11 +1,10 @@
 ghost use Rattle.std.specs.Prelude.{◌≡◌, ◌≤◌, ◌<◌, false, [], List, ℕ, length};
 
-use crate::parts::joined;
+use crate::parts::{joined, with_byte};
 use pcap_io::{Captured, Next, Reader, Started, put_header, put_packet, read_capture};
-use plain_text::{Bytes, Limit, Packet, Unit};
+use plain_text::{Bytes, Limit, NoMemory, Packet, Unit};
 use sample_frames::{BIG_MICRO, BIG_NANO, LITTLE_MICRO, LITTLE_NANO, QUERY, WRITTEN_MICRO};
 use std::alloc::Global;
-use std::process::Abort;
 use std::test::Fail;
 use world_io::{Filled, SliceSource, Source};
 
@@ -63,94 +62,131 @@ impl<'a> Source for Pieces<'a> {
     }
 }
 
+/// The parts of a savefile with the two packets.
+const LITTLE: [&[u8]; 5] = [LITTLE_MICRO, LITTLE_FIRST, WHOLE, LITTLE_SECOND, CUT];
+
 /// The two packets in each form, with the unit that the form tells.
-fn each_form(alloc: Global) -> Result<[(Unit, Bytes); 4], Fail> {
-    Ok([
-        (
-            Unit::Micro,
-            joined(
-                alloc,
-                &[LITTLE_MICRO, LITTLE_FIRST, WHOLE, LITTLE_SECOND, CUT],
-            )?,
-        ),
-        (
-            Unit::Nano,
-            joined(
-                alloc,
-                &[LITTLE_NANO, LITTLE_FIRST, WHOLE, LITTLE_SECOND, CUT],
-            )?,
-        ),
-        (
-            Unit::Micro,
-            joined(alloc, &[BIG_MICRO, BIG_FIRST, WHOLE, BIG_SECOND, CUT])?,
-        ),
-        (
-            Unit::Nano,
-            joined(alloc, &[BIG_NANO, BIG_FIRST, WHOLE, BIG_SECOND, CUT])?,
-        ),
-    ])
+const FORMS: [(&str, Unit, [&[u8]; 5]); 4] = [
+    ("little, micro", Unit::Micro, LITTLE),
+    (
+        "little, nano",
+        Unit::Nano,
+        [LITTLE_NANO, LITTLE_FIRST, WHOLE, LITTLE_SECOND, CUT],
+    ),
+    (
+        "big, micro",
+        Unit::Micro,
+        [BIG_MICRO, BIG_FIRST, WHOLE, BIG_SECOND, CUT],
+    ),
+    (
+        "big, nano",
+        Unit::Nano,
+        [BIG_NANO, BIG_FIRST, WHOLE, BIG_SECOND, CUT],
+    ),
+];
+
+/// Whether a packet has these seconds, this fraction and original length, and these bytes.
+fn is_packet(packet: &Packet, numbers: (u32, u32, u32), bytes: &[u8]) -> bool {
+    (packet.seconds, packet.fraction, packet.original) == numbers
+        && packet.bytes.as_slice() == bytes
 }
 
-fn check_packet(rt: &impl Abort, packet: &Packet, numbers: (u32, u32, u32), bytes: &[u8]) {
-    assert_eq!(rt; (packet.seconds, packet.fraction, packet.original), numbers);
-    assert_eq!(rt; packet.bytes.as_slice(), bytes);
+/// Whether these are the two packets, in this unit.
+fn are_two_packets(captured: &Captured, unit: Unit) -> bool {
+    match captured {
+        Captured::Capture {
+            unit: told,
+            packets,
+        } => match packets.as_slice() {
+            [first, second] => *told == unit
+                && is_packet(first, (100, 5, 42), WHOLE)
+                && is_packet(second, (100, 6, 60), CUT),
+            _ => false,
+        },
+        _ => false,
+    }
 }
 
-fn check_two_packets(rt: &impl Abort, unit: Unit, captured: Captured) {
-    let Captured::Capture {
-        unit: told,
-        packets,
-    } = captured
-    else {
-        panic!(rt; "not a capture: {captured:?}");
+/// Whether these bytes are read as the two packets, all at once.
+fn are_read(alloc: Global, bytes: &[u8], unit: Unit) -> bool {
+    are_two_packets(&read_capture(alloc, &mut SliceSource::of(bytes)), unit)
+}
+
+/// The same, at most `most` of them at a call.
+fn are_read_in_pieces(alloc: Global, bytes: &[u8], unit: Unit, most: usize) -> bool
+    requires { 0 < most }
+{
+    let mut source = Pieces {
+        rest: SliceSource::of(bytes),
+        most,
+        before_fault: 1000,
+        faults: 0,
     };
-    assert_eq!(rt; told, unit);
-    assert_eq!(rt; packets.len(), 2);
-    check_packet(rt, &packets.as_slice()[0], (100, 5, 42), WHOLE);
-    check_packet(rt, &packets.as_slice()[1], (100, 6, 60), CUT);
+    are_two_packets(&read_capture(alloc, &mut source), unit)
+}
+
+/// Whether these parts are read as the two packets, all at once and in pieces.
+fn is_read(alloc: Global, unit: Unit, parts: &[&[u8]]) -> Result<bool, NoMemory> {
+    let bytes = joined(alloc, parts)?;
+    let bytes = bytes.as_slice();
+    for most in [1, 2, 3, 7] {
+        if !are_read_in_pieces(alloc, bytes, unit, most) {
+            return Ok(false);
+        }
+    }
+    Ok(are_read(alloc, bytes, unit))
 }
 
 #[test]
 fn each_form_is_read_in_any_pieces(rt: HostRuntime) -> Result<(), Fail> {
-    let alloc = rt.alloc();
-    for (unit, bytes) in &each_form(alloc)? {
-        let captured = read_capture(alloc, &mut SliceSource::of(bytes.as_slice()));
-        check_two_packets(&rt, *unit, captured);
-        for most in [1, 2, 3, 7] {
-            let mut source = Pieces {
-                rest: SliceSource::of(bytes.as_slice()),
-                most,
-                before_fault: 1000,
-                faults: 0,
-            };
-            check_two_packets(&rt, *unit, read_capture(alloc, &mut source));
-        }
+    for (name, unit, parts) in &FORMS {
+        let right = is_read(rt.alloc(), *unit, parts)?;
+        assert!(rt; right, "{name}");
     }
     Ok(())
 }
 
+/// What the first so many bytes of the two packets, in any form, come to.
+fn wanted_of_prefix(alloc: Global, length: usize) -> Result<String, NoMemory> {
+    let want = match length {
+        0..24 => return Ok(format!(in alloc; "offset {length}: short header")?),
+        24 => "0 packets",
+        25..82 => "offset 24: short record",
+        82 => "1 packets",
+        83..112 => "offset 82: short record",
+        _ => "2 packets",
+    };
+    Ok(format!(in alloc; "{want}")?)
+}
+
+/// Whether the first so many of these bytes come to what is wanted of them.
+fn prefix_is_right(alloc: Global, bytes: &[u8], length: usize) -> Result<bool, NoMemory> {
+    let told = told(alloc, &bytes[..length.min(bytes.len())])?;
+    Ok(told.as_str() == wanted_of_prefix(alloc, length)?.as_str())
+}
+
+/// The first length at which these parts, cut there, come to something else than what is wanted.
+fn first_wrong_prefix(alloc: Global, parts: &[&[u8]]) -> Result<Option<usize>, NoMemory> {
+    let bytes = joined(alloc, parts)?;
+    for length in 0..=bytes.len() {
+        if !prefix_is_right(alloc, bytes.as_slice(), length)? {
+            return Ok(Some(length));
+        }
+    }
+    Ok(None)
+}
+
 #[test]
 fn a_prefix_is_a_capture_where_a_record_ends(rt: HostRuntime) -> Result<(), Fail> {
-    let alloc = rt.alloc();
-    for (_, bytes) in &each_form(alloc)? {
-        let bytes = bytes.as_slice();
-        for length in 0..=bytes.len() {
-            let want = match length {
-                0..24 => format!(in alloc; "offset {length}: short header")?,
-                24 => format!(in alloc; "0 packets")?,
-                25..82 => format!(in alloc; "offset 24: short record")?,
-                82 => format!(in alloc; "1 packets")?,
-                83..112 => format!(in alloc; "offset 82: short record")?,
-                _ => format!(in alloc; "2 packets")?,
-            };
-            assert_eq!(rt; told(alloc, &bytes[..length])?, want, "of {length} bytes");
-        }
+    for (name, _, parts) in &FORMS {
+        let wrong = first_wrong_prefix(rt.alloc(), parts)?;
+        assert!(rt; wrong.is_none(), "{name}, of {wrong:?} bytes");
     }
     Ok(())
 }
 
 /// What reading these bytes as a capture comes to, in words.
-fn told(alloc: Global, bytes: &[u8]) -> Result<String, Fail> {
+fn told(alloc: Global, bytes: &[u8]) -> Result<String, NoMemory> {
     Ok(match read_capture(alloc, &mut SliceSource::of(bytes)) {
         Captured::Capture { packets, .. } => format!(in alloc; "{} packets", packets.len())?,
         Captured::Refused(fault) => format!(in alloc; "{fault}")?,
@@ -160,52 +196,64 @@ fn told(alloc: Global, bytes: &[u8]) -> Result<String, Fail> {
     })
 }
 
+/// Whether bytes come to this, in the words of `told`.
+fn come_to(alloc: Global, bytes: &[u8], wanted: &str) -> Result<bool, NoMemory> {
+    Ok(told(alloc, bytes)?.as_str() == wanted)
+}
+
+/// A place in the two packets' savefile, the byte that is written there, and what it then comes to.
+const CHANGED: [(usize, u8, &str); 15] = [
+    (0, 0xd5, "offset 0: bad magic"),
+    (3, 0xa2, "offset 0: bad magic"),
+    (4, 3, "offset 4: bad version"),
+    (6, 3, "offset 4: bad version"),
+    (8, 1, "2 packets"),
+    (16, 0, "2 packets"),
+    (20, 2, "offset 20: bad link type"),
+    (23, 1, "offset 20: bad link type"),
+    (33, 1, "offset 24: short record"),
+    (34, 4, "offset 24: too long"),
+    (35, 1, "offset 24: too long"),
+    (36, 0, "2 packets"),
+    (90, 15, "offset 82: short record"),
+    (93, 1, "offset 82: too long"),
+    (94, 13, "2 packets"),
+];
+
+/// Whether the savefile comes to this, with one byte changed.
+fn changed_comes_to(alloc: Global, place: usize, byte: u8, wanted: &str) -> Result<bool, NoMemory> {
+    let capture = joined(alloc, &LITTLE)?;
+    let changed = with_byte(alloc, capture.as_slice(), place, byte)?;
+    Ok(place < changed.len() && come_to(alloc, &changed, wanted)?)
+}
+
 #[test]
 fn a_fault_is_told_with_its_place(rt: HostRuntime) -> Result<(), Fail> {
-    let alloc = rt.alloc();
-    let capture = joined(
-        alloc,
-        &[LITTLE_MICRO, LITTLE_FIRST, WHOLE, LITTLE_SECOND, CUT],
-    )?;
-    // One byte of the capture is changed.
-    for (place, byte, want) in [
-        (0, 0xd5, "offset 0: bad magic"),
-        (3, 0xa2, "offset 0: bad magic"),
-        (4, 3, "offset 4: bad version"),
-        (6, 3, "offset 4: bad version"),
-        (8, 1, "2 packets"),
-        (16, 0, "2 packets"),
-        (20, 2, "offset 20: bad link type"),
-        (23, 1, "offset 20: bad link type"),
-        (33, 1, "offset 24: short record"),
-        (34, 4, "offset 24: too long"),
-        (35, 1, "offset 24: too long"),
-        (36, 0, "2 packets"),
-        (90, 15, "offset 82: short record"),
-        (93, 1, "offset 82: too long"),
-        (94, 13, "2 packets"),
-    ] {
-        let mut bytes = Bytes::of(alloc, capture.as_slice())?.into_vec();
-        assert!(rt; place < bytes.len());
-        bytes[place] = byte;
-        assert_eq!(rt;
-            told(alloc, &bytes)?.as_str(),
-            want,
-            "byte {place} is {byte}"
-        );
+    for (place, byte, want) in &CHANGED {
+        let right = changed_comes_to(rt.alloc(), *place, *byte, want)?;
+        assert!(rt; right, "byte {place} is {byte}");
     }
     Ok(())
 }
 
+/// Whether a reader is begun in this unit and gives one packet, and then fails to read.
+fn fails_in_the_second(alloc: Global, reader: &mut Reader, source: &mut Pieces<'_>) -> bool {
+    reader.unit() == Unit::Micro
+        && matches!(&reader.next_packet(alloc, source), Next::Packet(_))
+        && matches!(&reader.next_packet(alloc, source), Next::ReadFault)
+        && source.faults == 1
+}
+
+/// Whether a reader that failed is over, though reading would go well now.
+fn is_over(alloc: Global, reader: &mut Reader, source: &mut Pieces<'_>) -> bool {
+    source.before_fault = 1000;
+    matches!(&reader.next_packet(alloc, source), Next::Over)
+}
+
+/// Reading fails in the second record's bytes: the header and two parts of the first record go before.
 #[test]
 fn a_reader_is_over_after_anything_but_a_packet(rt: HostRuntime) -> Result<(), Fail> {
-    let alloc = rt.alloc();
-    let bytes = joined(
-        alloc,
-        &[LITTLE_MICRO, LITTLE_FIRST, WHOLE, LITTLE_SECOND, CUT],
-    )?;
-    // Reading fails in the second record's bytes: the header and two parts of the first record go
-    // before.
+    let bytes = joined(rt.alloc(), &LITTLE)?;
     let mut source = Pieces {
         rest: SliceSource::of(bytes.as_slice()),
         most: 100,
@@ -215,76 +263,112 @@ fn a_reader_is_over_after_anything_but_a_packet(rt: HostRuntime) -> Result<(), F
     let Started::Reader(mut reader) = Reader::start(&mut source) else {
         panic!(rt; "the header is whole");
     };
-    assert_eq!(rt; reader.unit(), Unit::Micro);
-    assert!(rt; matches!(&reader.next_packet(alloc, &mut source), Next::Packet(_)));
-    assert!(rt; matches!(&reader.next_packet(alloc, &mut source), Next::ReadFault));
-    assert_eq!(rt; source.faults, 1);
-    source.before_fault = 1000;
-    assert!(rt; matches!(&reader.next_packet(alloc, &mut source), Next::Over));
+    assert!(rt; fails_in_the_second(rt.alloc(), &mut reader, &mut source));
+    assert!(rt; is_over(rt.alloc(), &mut reader, &mut source));
     Ok(())
+}
+
+/// How many zeros stand behind a savefile's header, and what it then comes to.
+const ZEROS: [(usize, &str); 3] = [
+    (16 * 65_536, "65536 packets"),
+    (16 * 65_536 + 1, "too large: packets"),
+    (16 * 65_537, "too large: packets"),
+];
+
+/// Whether so many zeros come to this behind a savefile's header.
+fn zeros_come_to(alloc: Global, size: usize, wanted: &str) -> Result<bool, NoMemory> {
+    let zeros = vec![in alloc; 0u8; size]?;
+    let bytes = joined(alloc, &[LITTLE_MICRO, &zeros])?;
+    come_to(alloc, bytes.as_slice(), wanted)
 }
 
 #[test]
 fn the_65537th_packet_is_too_large(rt: HostRuntime) -> Result<(), Fail> {
-    let alloc = rt.alloc();
-    let records = vec![in alloc; 0u8; 16 * 65_537]?;
-    for (size, want) in [
-        (16 * 65_536, "65536 packets"),
-        (16 * 65_536 + 1, "too large: packets"),
-        (16 * 65_537, "too large: packets"),
-    ] {
-        assert!(rt; size <= records.len());
-        let bytes = joined(alloc, &[LITTLE_MICRO, &records[..size]])?;
-        assert_eq!(rt; told(alloc, bytes.as_slice())?.as_str(), want);
+    for (size, want) in &ZEROS {
+        let right = zeros_come_to(rt.alloc(), *size, want)?;
+        assert!(rt; right, "{size}");
     }
     Ok(())
+}
+
+/// Appends a record with this header and so many zeros.
+fn add_record(
+    alloc: Global,
+    bytes: &mut Bytes,
+    header: &[u8; 16],
+    size: usize,
+) -> Result<(), NoMemory> {
+    let zeros = vec![in alloc; 0u8; size]?;
+    bytes.extend(header)?;
+    bytes.extend(&zeros)
+}
+
+/// A savefile of 67,108,864 bytes: 255 records of the greatest length, and a shorter one.
+fn longest_file(alloc: Global) -> Result<Bytes, NoMemory> {
+    let mut bytes = Bytes::of(alloc, LITTLE_MICRO)?;
+    let longest = b"\0\0\0\0\0\0\0\0\0\0\x04\0\0\0\x04\0";
+    for _ in 0..255 {
+        add_record(alloc, &mut bytes, longest, 262_144)?;
+    }
+    let last = b"\0\0\0\0\0\0\0\0\xe8\xef\x03\0\0\0\0\0";
+    add_record(alloc, &mut bytes, last, 258_024)?;
+    Ok(bytes)
+}
+
+/// Whether a savefile has the greatest length and is read, but not with one byte more.
+fn is_longest(alloc: Global, bytes: &mut Bytes) -> Result<bool, NoMemory> {
+    let read = bytes.len() == 67_108_864 && come_to(alloc, bytes.as_slice(), "256 packets")?;
+    bytes.push(0)?;
+    Ok(read && come_to(alloc, bytes.as_slice(), "too large: file")?)
 }
 
 #[test]
 fn a_byte_past_67_108_864_is_too_large(rt: HostRuntime) -> Result<(), Fail> {
-    let alloc = rt.alloc();
-    let longest = vec![in alloc; 0u8; 262_144]?;
-    let rest = vec![in alloc; 0u8; 258_024]?;
-    let mut bytes = Bytes::of(alloc, LITTLE_MICRO)?;
-    for _ in 0..255 {
-        bytes.extend(b"\0\0\0\0\0\0\0\0\0\0\x04\0\0\0\x04\0")?;
-        bytes.extend(&longest)?;
-    }
-    bytes.extend(b"\0\0\0\0\0\0\0\0\xe8\xef\x03\0\0\0\0\0")?;
-    bytes.extend(&rest)?;
-    assert_eq!(rt; bytes.len(), 67_108_864);
-    assert_eq!(rt; told(alloc, bytes.as_slice())?.as_str(), "256 packets");
-    bytes.push(0)?;
-    assert_eq!(rt; told(alloc, bytes.as_slice())?.as_str(), "too large: file");
+    assert!(rt; is_longest(rt.alloc(), &mut longest_file(rt.alloc())?)?);
     Ok(())
+}
+
+const NANO: &[u8; 24] = b"\x4d\x3c\xb2\xa1\x02\0\x04\0\0\0\0\0\0\0\0\0\0\0\x04\0\x01\0\0\0";
+
+/// Appends the packet with these seconds, this fraction and original length, and these bytes.
+fn write_packet(
+    alloc: Global,
+    written: &mut Bytes,
+    numbers: (u32, u32, u32),
+    bytes: &[u8],
+) -> Result<(), NoMemory>
+    requires { length bytes.now ≤ 262144 }
+{
+    let (seconds, fraction, original) = numbers;
+    let packet = Packet {
+        seconds,
+        fraction,
+        original,
+        bytes: Bytes::of(alloc, bytes)?,
+    };
+    put_packet(written, &packet)
+}
+
+/// The two packets as they are written.
+fn written(alloc: Global) -> Result<Bytes, NoMemory> {
+    let mut written = Bytes::of(alloc, &put_header(Unit::Nano))?;
+    write_packet(alloc, &mut written, (100, 5, 42), WHOLE)?;
+    write_packet(alloc, &mut written, (100, 6, 60), CUT)?;
+    Ok(written)
+}
+
+/// Whether these bytes are those of the parts.
+fn are_joined(alloc: Global, bytes: &[u8], parts: &[&[u8]]) -> Result<bool, NoMemory> {
+    Ok(joined(alloc, parts)?.as_slice() == bytes)
 }
 
 #[test]
 fn what_is_written_is_read_again(rt: HostRuntime) -> Result<(), Fail> {
-    let alloc = rt.alloc();
-    let nano = *b"\x4d\x3c\xb2\xa1\x02\0\x04\0\0\0\0\0\0\0\0\0\0\0\x04\0\x01\0\0\0";
-    assert_eq!(rt; put_header(Unit::Micro).as_slice(), WRITTEN_MICRO);
-    assert_eq!(rt; put_header(Unit::Nano), nano);
-    let first = Packet {
-        seconds: 100,
-        fraction: 5,
-        original: 42,
-        bytes: Bytes::of(alloc, WHOLE)?,
-    };
-    let second = Packet {
-        seconds: 100,
-        fraction: 6,
-        original: 60,
-        bytes: Bytes::of(alloc, CUT)?,
-    };
-    let mut written = Bytes::of(alloc, &put_header(Unit::Nano))?;
-    put_packet(&mut written, &first)?;
-    put_packet(&mut written, &second)?;
-    assert_eq!(rt;
-        written.as_slice(),
-        joined(alloc, &[&nano, LITTLE_FIRST, WHOLE, LITTLE_SECOND, CUT])?.as_slice()
-    );
-    let captured = read_capture(alloc, &mut SliceSource::of(written.as_slice()));
-    check_two_packets(&rt, Unit::Nano, captured);
+    assert!(rt; put_header(Unit::Micro).as_slice() == WRITTEN_MICRO);
+    assert!(rt; put_header(Unit::Nano) == *NANO);
+    let written = written(rt.alloc())?;
+    let parts = [NANO.as_slice(), LITTLE_FIRST, WHOLE, LITTLE_SECOND, CUT];
+    assert!(rt; are_joined(rt.alloc(), written.as_slice(), &parts)?);
+    assert!(rt; are_read(rt.alloc(), written.as_slice(), Unit::Nano));
     Ok(())
 }

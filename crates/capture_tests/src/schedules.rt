@@ -2,7 +2,7 @@ use box_program::CountBox;
 use input_logger::InputLog;
 use plain_machine::{PlayCause, PlayFault, Schedule};
 use plain_player::{PlayError, read_schedule};
-use plain_text::{Bytes, NoMemory, Packet, Packets, Unit};
+use plain_text::{Bytes, NoMemory, Packet, Packets, ReadError, Unit};
 use schedule_check::{Checked, Refutation, check, emit, feed_all};
 use std::alloc::Global;
 use std::test::Fail;
@@ -36,7 +36,7 @@ fn released(alloc: Global, times: usize, schedule: &Schedule) -> Result<Packets,
     Ok(packets)
 }
 
-/// What is found of packets that were released so often, and of a schedule.
+/// What is found of packets that were released so often by one schedule, and of another one.
 fn checked(
     alloc: Global,
     times: usize,
@@ -57,37 +57,55 @@ fn checked(
     )?)
 }
 
+/// The schedule of the one packet's moves.
+fn legal(alloc: Global) -> Result<Schedule, ReadError> {
+    read_schedule(alloc, b"0\n0\n0\n0\n".as_slice())
+}
+
+/// Whether this is found where the packet was released so often.
+fn finds(
+    alloc: Global,
+    times: usize,
+    legal: &Schedule,
+    schedule: &Schedule,
+    wanted: Checked,
+) -> bool {
+    checked(alloc, times, legal, schedule) == Ok(wanted)
+}
+
 #[test]
 fn checks_a_schedule_and_what_was_released(rt: HostRuntime) -> Result<(), Fail> {
     let alloc = rt.alloc();
-    let legal = read_schedule(alloc, b"0\n0\n0\n0\n".as_slice())?;
-    let Ok(found) = checked(alloc, 1, &legal, &legal) else {
-        return Err(Fail::from(NoMemory));
-    };
-    assert_eq!(rt; found, Checked::Found(1));
-    let Ok(twice) = checked(alloc, 2, &legal, &legal) else {
-        return Err(Fail::from(NoMemory));
-    };
-    assert_eq!(rt; twice, Checked::Refuted(Refutation::Packet(2)));
+    let legal = legal(alloc)?;
+    let twice = Checked::Refuted(Refutation::Packet(2));
+    assert!(rt; finds(alloc, 1, &legal, &legal, Checked::Found(1)));
+    assert!(rt; finds(alloc, 2, &legal, &legal, twice));
     Ok(())
+}
+
+/// Whether the packet can't be released by a schedule, for this fault.
+fn releases_nothing(alloc: Global, schedule: &Schedule, fault: PlayFault) -> bool {
+    match released(alloc, 1, schedule) {
+        Err(PlayError::Fault(found)) => found == fault,
+        _ => false,
+    }
+}
+
+/// Whether an answer that no move wants is found to be the fault, though the packet was released twice.
+fn refutes_the_answer(alloc: Global, legal: &Schedule, answered: &Schedule) -> bool {
+    let fault = PlayFault {
+        number: 2,
+        cause: PlayCause::UnwantedAnswer,
+    };
+    let refuted = Checked::Refuted(Refutation::Moves(fault));
+    finds(alloc, 2, legal, answered, refuted) && releases_nothing(alloc, answered, fault)
 }
 
 #[test]
 fn refutes_an_illegal_schedule_first(rt: HostRuntime) -> Result<(), Fail> {
     let alloc = rt.alloc();
-    let legal = read_schedule(alloc, b"0\n0\n0\n0\n".as_slice())?;
+    let legal = legal(alloc)?;
     let answered = read_schedule(alloc, b"0\n0 = 5\n".as_slice())?;
-    let fault = PlayFault {
-        number: 2,
-        cause: PlayCause::UnwantedAnswer,
-    };
-    let Ok(refuted) = checked(alloc, 2, &legal, &answered) else {
-        return Err(Fail::from(NoMemory));
-    };
-    assert_eq!(rt; refuted, Checked::Refuted(Refutation::Moves(fault)));
-    assert_eq!(rt;
-        released(alloc, 1, &answered).err(),
-        Some(PlayError::Fault(fault))
-    );
+    assert!(rt; refutes_the_answer(alloc, &legal, &answered));
     Ok(())
 }

@@ -5,8 +5,8 @@ ghost use Rattle.master_core.specs.Mastered.{value_of};
 use crate::frames::{
     OTHER_QUERY_FROM_39276, OTHER_QUERY_FROM_39278, QUERY_FROM_39276, QUERY_FROM_39278,
 };
-use crate::race::two_packets;
-use crate::rows::{nat_up_to, shows};
+use crate::race::{shows_one_port, two_packets};
+use crate::rows::nat_up_to;
 use crate::running::{make, packet};
 use access_log::{Output, Outputs};
 use box_program::Program;
@@ -204,10 +204,7 @@ fn one_port_stands<P: Program>(
         ),
         _ => return Ok(false),
     };
-    let pool = shows(alloc, master, program, 1, "tcp 4 udp 3")?;
-    let mapped = shows(alloc, master, program, 2, mapping)?;
-    let bound = shows(alloc, master, program, 3, binding)?;
-    Ok(pool && mapped && bound)
+    shows_one_port(alloc, master, program, mapping, binding)
 }
 
 /// Runs a race on a fresh master, and gives the next order: whether both packets went out from one port, which alone stands then, and
@@ -276,14 +273,18 @@ fn feed(alloc: Global, inputs: &mut InputLog) -> Result<(), NoMemory> {
     Ok(())
 }
 
-/// In every order of the two packets' moves.
-#[test]
-fn a_race_in_every_order(rt: HostRuntime) -> Result<(), Fail> {
-    let alloc = rt.alloc();
+/// Races the two packets in every order.
+fn race_two_packets(alloc: Global) -> Result<Result<u32, u32>, NoMemory> {
     let packets = two_packets(alloc)?;
     let mut inputs = InputLog::new(alloc, 2)?;
     feed(alloc, &mut inputs)?;
-    let raced = race_in_all(alloc, &nat_up_to(39_279), &packets, &inputs)?;
-    assert_eq!(rt; raced, Ok(ORDERS));
+    race_in_all(alloc, &nat_up_to(39_279), &packets, &inputs)
+}
+
+/// In every order of the two packets' moves.
+#[test]
+fn a_race_in_every_order(rt: HostRuntime) -> Result<(), Fail> {
+    let raced = race_two_packets(rt.alloc())?;
+    assert!(rt; raced == Ok(ORDERS), "{raced:?}");
     Ok(())
 }

@@ -91,6 +91,24 @@ const LOSING: [(u32, u64); 20] = [
     (1, 0),
 ];
 
+/// Whether one port alone is taken: the forward table shows this mapping, and the reverse table this binding.
+pub fn shows_one_port<P: Program>(
+    alloc: Global,
+    master: &Master<P>,
+    program: &P,
+    mapping: &str,
+    binding: &str,
+) -> Result<bool, NoMemory>
+    requires program { FitsProgram (P.meaning program.now) (P.fits program.now)
+        value_of master.now.vars }
+{
+    Ok(
+        shows(alloc, master, program, 1, "tcp 4 udp 3")?
+            && shows(alloc, master, program, 2, mapping)?
+            && shows(alloc, master, program, 3, binding)?,
+    )
+}
+
 /// Whether the losing race goes so, and the pool, the forward table and the reverse table then show so.
 fn loses(
     alloc: Global,
@@ -105,11 +123,8 @@ fn loses(
     if !race(alloc, master, program, packets, LOSING.as_slice()) {
         return Ok(false);
     }
-    let pool = shows(alloc, master, program, 1, "tcp 4 udp 3")?;
     let mapping = "udp 10.0.0.5:5000 39278 100000006";
-    let mapped = shows(alloc, master, program, 2, mapping)?;
-    let bound = shows(alloc, master, program, 3, "udp 39278 10.0.0.5:5000")?;
-    Ok(pool && mapped && bound)
+    shows_one_port(alloc, master, program, mapping, "udp 39278 10.0.0.5:5000")
 }
 
 /// A packet of each of two threads, from one endpoint.
@@ -118,13 +133,17 @@ pub fn two_packets(alloc: Global) -> Result<[Packet; 2], NoMemory> {
     Ok([query, packet(alloc, &OTHER_QUERY)?])
 }
 
-/// The port that a thread took in vain is unbound and given back, and both packets go out from the one that stands.
-#[test]
-fn a_race_that_thread_0_loses(rt: HostRuntime) -> Result<(), Fail> {
-    let alloc = rt.alloc();
+/// Whether it goes so on a fresh master, where four outside ports are free.
+fn thread_0_loses(alloc: Global) -> Result<bool, NoMemory> {
     let program = nat_up_to(39_279);
     let packets = two_packets(alloc)?;
     let mut master = Master::fresh(alloc, &program, 2)?;
-    assert!(rt; loses(alloc, &mut master, &program, &packets)?);
+    loses(alloc, &mut master, &program, &packets)
+}
+
+/// The port that a thread took in vain is unbound and given back, and both packets go out from the one that stands.
+#[test]
+fn a_race_that_thread_0_loses(rt: HostRuntime) -> Result<(), Fail> {
+    assert!(rt; thread_0_loses(rt.alloc())?);
     Ok(())
 }

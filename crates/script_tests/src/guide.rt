@@ -22,8 +22,11 @@ fn stamp(first: [u64; 4]) -> Stamp {
     Stamp::new(components)
 }
 
-/// The first entry of a thread.
-fn first_entry(thread: u32, what: What, components: [u64; 4]) -> StampedEntry {
+/// The first entry of a thread: the thread, what it is, and the stamp's first components.
+type First = (u32, What, [u64; 4]);
+
+fn first_entry(first: First) -> StampedEntry {
+    let (thread, what, components) = first;
     StampedEntry {
         thread,
         number: 1,
@@ -83,10 +86,10 @@ fn follow(alloc: Global, held: &Held) -> Result<Guide, NoMemory>
 }
 
 /// A guide that follows these entries of an example.
-fn guide_of(alloc: Global, entries: &[StampedEntry]) -> Result<Guide, NoMemory> {
+fn guide_of(alloc: Global, entries: &[First]) -> Result<Guide, NoMemory> {
     let mut held = nothing_held(alloc)?;
     for entry in entries {
-        hold(&mut held, entry)?;
+        hold(&mut held, &first_entry(*entry))?;
     }
     follow(alloc, &held)
 }
@@ -152,20 +155,26 @@ const TWO_THREADS: [Asked; 7] = [
     (1, READ, 2, NONE, Turn::Free),
 ];
 
+/// The entries of the two threads.
+const COUNTING: [First; 2] = [
+    (0, SECOND_TOUCH, [1, 1, 0, 0]),
+    (1, FIRST_TOUCH, [0, 1, 0, 0]),
+];
+
+/// Whether a guide has the order of the two threads, with two entries left at first, and one once thread 1 has made its own.
+fn follows_two_threads(alloc: Global, guide: &Guide) -> Result<bool, NoMemory> {
+    let left = guide.left(&stamp(NONE)) == 2 && guide.left(&stamp([0, 1, 0, 0])) == 1;
+    Ok(left && guide.answer(0, 1).is_none() && is_order(alloc, guide, &[(1, 1), (0, 1)])?)
+}
+
 /// Thread 1 makes touch 1, then thread 0 touch 2. After the crash thread 0 waits.
 #[test]
 fn two_threads_count(rt: HostRuntime) -> Result<(), Fail> {
-    let entries = [
-        first_entry(0, SECOND_TOUCH, [1, 1, 0, 0]),
-        first_entry(1, FIRST_TOUCH, [0, 1, 0, 0]),
-    ];
-    let guide = guide_of(rt.alloc(), &entries)?;
+    let guide = guide_of(rt.alloc(), &COUNTING)?;
     goes_between_threads(&guide);
-    assert_eq!(rt; first_wrong(&guide, &TWO_THREADS), None);
-    assert_eq!(rt; guide.left(&stamp(NONE)), 2);
-    assert_eq!(rt; guide.left(&stamp([0, 1, 0, 0])), 1);
-    assert_eq!(rt; guide.answer(0, 1), None);
-    assert!(rt; is_order(rt.alloc(), &guide, &[(1, 1), (0, 1)])?);
+    let wrong = first_wrong(&guide, &TWO_THREADS);
+    assert!(rt; wrong.is_none(), "{wrong:?}");
+    assert!(rt; follows_two_threads(rt.alloc(), &guide)?);
     Ok(())
 }
 
@@ -181,47 +190,57 @@ const READS_BETWEEN: [Asked; 8] = [
     (4, READ, 2, NONE, Turn::Free),
 ];
 
+/// The entries of those threads.
+const READING: [First; 4] = [
+    (0, SECOND_TOUCH, [1, 1, 1, 1]),
+    (1, FIRST_TOUCH, [0, 1, 0, 0]),
+    (2, READ_BETWEEN, [0, 1, 1, 0]),
+    (3, READ_BETWEEN, [0, 1, 0, 1]),
+];
+
 /// Between the two touches threads 2 and 3 read. The second touch waits for both, and a free read for it.
 #[test]
 fn reads_stand_between_touches(rt: HostRuntime) -> Result<(), Fail> {
-    let entries = [
-        first_entry(0, SECOND_TOUCH, [1, 1, 1, 1]),
-        first_entry(1, FIRST_TOUCH, [0, 1, 0, 0]),
-        first_entry(2, READ_BETWEEN, [0, 1, 1, 0]),
-        first_entry(3, READ_BETWEEN, [0, 1, 0, 1]),
-    ];
-    let guide = guide_of(rt.alloc(), &entries)?;
-    assert_eq!(rt; first_wrong(&guide, &READS_BETWEEN), None);
+    let guide = guide_of(rt.alloc(), &READING)?;
+    let wrong = first_wrong(&guide, &READS_BETWEEN);
+    assert!(rt; wrong.is_none(), "{wrong:?}");
     assert!(rt; is_order(rt.alloc(), &guide, &[(1, 1), (2, 1), (3, 1), (0, 1)])?);
     Ok(())
+}
+
+/// What a clock and a draw were told, and a touch.
+const ANSWERED: [First; 3] = [
+    (2, What::Clock(7), [0, 0, 1, 0]),
+    (3, What::Draw(9), [0, 0, 0, 1]),
+    (1, FIRST_TOUCH, [0, 1, 0, 0]),
+];
+
+/// Whether a guide has both answers and no other one, and the draw as it was.
+fn has_answers(guide: &Guide) -> bool {
+    let told = guide.answer(2, 1) == Some(7) && guide.answer(3, 1) == Some(9);
+    let drawn = first_entry(ANSWERED[1]);
+    told && guide.answer(1, 1).is_none()
+        && guide.answer(2, 2).is_none()
+        && guide.get(3, 1) == Some(&drawn)
 }
 
 /// What a clock and a draw were told is recorded.
 #[test]
 fn answers_are_recorded(rt: HostRuntime) -> Result<(), Fail> {
-    let entries = [
-        first_entry(2, What::Clock(7), [0, 0, 1, 0]),
-        first_entry(3, What::Draw(9), [0, 0, 0, 1]),
-        first_entry(1, FIRST_TOUCH, [0, 1, 0, 0]),
-    ];
-    let guide = guide_of(rt.alloc(), &entries)?;
-    assert_eq!(rt; guide.answer(2, 1), Some(7));
-    assert_eq!(rt; guide.answer(3, 1), Some(9));
-    assert_eq!(rt; guide.answer(1, 1), None);
-    assert_eq!(rt; guide.answer(2, 2), None);
-    assert_eq!(rt; guide.get(3, 1), Some(&entries[1]));
+    let guide = guide_of(rt.alloc(), &ANSWERED)?;
+    assert!(rt; has_answers(&guide));
     Ok(())
+}
+
+/// Whether a guide leaves a touch of thread 0 free, with no entry left and none in order.
+fn follows_nothing(alloc: Global, guide: &Guide) -> Result<bool, NoMemory> {
+    let free = first_wrong(guide, &[(0, TOUCH, 0, NONE, Turn::Free)]).is_none();
+    Ok(free && guide.left(&stamp(NONE)) == 0 && is_order(alloc, guide, &[])?)
 }
 
 /// Where nothing is followed, everything is free.
 #[test]
 fn nothing_is_followed(rt: HostRuntime) -> Result<(), Fail> {
-    let free = Guide::none(rt.alloc());
-    assert_eq!(rt;
-        first_wrong(&free, &[(0, TOUCH, 0, NONE, Turn::Free)]),
-        None
-    );
-    assert_eq!(rt; free.left(&stamp(NONE)), 0);
-    assert!(rt; is_order(rt.alloc(), &free, &[])?);
+    assert!(rt; follows_nothing(rt.alloc(), &Guide::none(rt.alloc()))?);
     Ok(())
 }

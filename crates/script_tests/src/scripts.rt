@@ -1,34 +1,55 @@
+use plain_text::NoMemory;
 use script_text::{Event, Kind, auto_event, put_event, read_script};
 use std::alloc::Global;
 use std::process::Abort;
 use std::test::Fail;
 
 /// What a text comes to: the lines of its events, each with a semicolon, or the text of its error.
-fn told(alloc: Global, text: &str) -> Result<String, Fail> {
+fn told(alloc: Global, text: &str) -> Result<String, NoMemory> {
     match read_script(alloc, text.as_bytes()) {
-        Ok(events) => {
-            let mut told = String::new(alloc);
-            for event in events.as_slice() {
-                told.push_str(put_event(alloc, event)?.as_str())?;
-                told.push_str(";")?;
-            }
-            Ok(told)
-        }
+        Ok(events) => put_events(alloc, events.as_slice()),
         Err(error) => Ok(format!(in alloc; "{error}")?),
     }
 }
 
-/// Whether a line is read as this event alone, and the event is written as this line.
-fn stands_for(alloc: Global, line: &str, event: Event) -> Result<bool, Fail> {
-    let written = put_event(alloc, &event)?;
+/// The lines of these events, each with a semicolon.
+fn put_events(alloc: Global, events: &[Event]) -> Result<String, NoMemory> {
+    let mut lines = String::new(alloc);
+    for event in events {
+        add_event(alloc, &mut lines, event)?;
+    }
+    Ok(lines)
+}
+
+fn add_event(alloc: Global, lines: &mut String, event: &Event) -> Result<(), NoMemory> {
+    lines.push_str(put_event(alloc, event)?.as_str())?;
+    lines.push_str(";")?;
+    Ok(())
+}
+
+/// Whether a text comes to this, in the words of `told`.
+fn comes_to(alloc: Global, text: &str, wanted: &str) -> Result<bool, NoMemory> {
+    Ok(told(alloc, text)?.as_str() == wanted)
+}
+
+/// Whether a line is read as this event alone.
+fn is_read_as(alloc: Global, line: &str, event: &Event) -> bool {
     match read_script(alloc, line.as_bytes()) {
-        Ok(events) => Ok(events.as_slice() == [event].as_slice() && written.as_str() == line),
-        Err(_) => Ok(false),
+        Ok(events) => match events.as_slice() {
+            [only] => only == event,
+            _ => false,
+        },
+        Err(_) => false,
     }
 }
 
+/// Whether a line is read as this event alone, and the event is written as this line.
+fn stands_for(alloc: Global, line: &str, event: &Event) -> Result<bool, NoMemory> {
+    Ok(put_event(alloc, event)?.as_str() == line && is_read_as(alloc, line, event))
+}
+
 /// How many events a text is read as, or that they are too many.
-fn counted(alloc: Global, text: &str) -> Result<String, Fail> {
+fn counted(alloc: Global, text: &str) -> Result<String, NoMemory> {
     match read_script(alloc, text.as_bytes()) {
         Ok(events) => Ok(format!(in alloc; "{}", events.len())?),
         Err(error) => Ok(format!(in alloc; "{error}")?),
@@ -39,9 +60,10 @@ fn counted(alloc: Global, text: &str) -> Result<String, Fail> {
 type Row = (&'static str, &'static str);
 
 /// Asserts that each text comes to what stands beside it.
-fn come_to(rt: &impl Abort, alloc: Global, rows: &[Row]) -> Result<(), Fail> {
+fn come_to(rt: &impl Abort, alloc: Global, rows: &[Row]) -> Result<(), NoMemory> {
     for (text, wanted) in rows {
-        assert_eq!(rt; told(alloc, text)?.as_str(), *wanted, "at {text:?}");
+        let found = comes_to(alloc, text, wanted)?;
+        assert!(rt; found, "at {text:?}");
     }
     Ok(())
 }
@@ -126,8 +148,9 @@ const LINES: [(&str, Event); 18] = [
 
 #[test]
 fn reads_and_writes_each_event(rt: HostRuntime) -> Result<(), Fail> {
-    for (line, event) in LINES {
-        assert!(rt; stands_for(rt.alloc(), line, event)?, "at {line:?}");
+    for (line, event) in &LINES {
+        let both_ways = stands_for(rt.alloc(), line, event)?;
+        assert!(rt; both_ways, "at {line:?}");
     }
     Ok(())
 }
@@ -150,7 +173,8 @@ const READ: [Row; 6] = [
 
 #[test]
 fn reads_scripts(rt: HostRuntime) -> Result<(), Fail> {
-    come_to(&rt, rt.alloc(), &READ)
+    come_to(&rt, rt.alloc(), &READ)?;
+    Ok(())
 }
 
 /// Texts that are no script, and the first fault of each.
@@ -205,7 +229,8 @@ const FAULTS: [Row; 46] = [
 
 #[test]
 fn names_the_first_fault(rt: HostRuntime) -> Result<(), Fail> {
-    come_to(&rt, rt.alloc(), &FAULTS)
+    come_to(&rt, rt.alloc(), &FAULTS)?;
+    Ok(())
 }
 
 /// Texts, and how many events each has or what is wrong with it.
@@ -223,10 +248,16 @@ const COUNTS: [Row; 11] = [
     ("snap\nauto 1 4000000 5", "line 2: extra word"),
 ];
 
+/// Whether a text has this count of events, in the words of `counted`.
+fn has_count(alloc: Global, text: &str, wanted: &str) -> Result<bool, NoMemory> {
+    Ok(counted(alloc, text)?.as_str() == wanted)
+}
+
 #[test]
 fn counts_events(rt: HostRuntime) -> Result<(), Fail> {
     for (text, count) in &COUNTS {
-        assert_eq!(rt; counted(rt.alloc(), text)?.as_str(), *count, "at {text:?}");
+        let found = has_count(rt.alloc(), text, count)?;
+        assert!(rt; found, "at {text:?}");
     }
     Ok(())
 }
@@ -314,8 +345,8 @@ const CHOSEN: [(u32, u32, Event); 14] = [
 
 #[test]
 fn chooses_events(rt: HostRuntime) {
-    for (a, b, event) in CHOSEN {
-        let chosen = auto_event(a, b, &[5, 1], &[0, 9]);
-        assert_eq!(rt; chosen, event, "at {a} and {b}");
+    for (a, b, event) in &CHOSEN {
+        let chosen = auto_event(*a, *b, &[5, 1], &[0, 9]);
+        assert!(rt; chosen == *event, "at {a} and {b}");
     }
 }

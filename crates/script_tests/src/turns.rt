@@ -16,28 +16,37 @@ fn turns_of(
     weave(alloc, &marks)
 }
 
+/// Whether these are the turns of two threads with these marks.
+fn are_woven(
+    alloc: Global,
+    first: &[Option<u64>],
+    second: &[Option<u64>],
+    turns: &[usize],
+) -> Result<bool, NoMemory> {
+    Ok(turns_of(alloc, first, second)?.as_slice() == turns)
+}
+
 /// Each thread takes a packet and touches a variable of its own: of two touches of weight 1 that of thread 0 stands first.
 #[test]
 fn two_threads_apart(rt: HostRuntime) -> Result<(), Fail> {
-    let turns = turns_of(rt.alloc(), &[None, Some(1)], &[None, Some(1)])?;
-    assert_eq!(rt; turns.as_slice(), [0, 0, 1, 1].as_slice());
+    let marks = [None, Some(1)];
+    assert!(rt; are_woven(rt.alloc(), &marks, &marks, &[0, 0, 1, 1])?);
     Ok(())
 }
 
 /// Thread 1 counts first, and sends its packet out: its take and its touch stand first, and what it sent out is left.
 #[test]
 fn two_threads_count(rt: HostRuntime) -> Result<(), Fail> {
-    let turns = turns_of(rt.alloc(), &[None, Some(2)], &[None, Some(1), None])?;
-    assert_eq!(rt; turns.as_slice(), [1, 1, 0, 0, 1].as_slice());
+    let (first, second) = ([None, Some(2)], [None, Some(1), None]);
+    assert!(rt; are_woven(rt.alloc(), &first, &second, &[1, 1, 0, 0, 1])?);
     Ok(())
 }
 
 /// What no logged move comes after stands last, thread by thread.
 #[test]
 fn unlogged_moves_stand_last(rt: HostRuntime) -> Result<(), Fail> {
-    let turns = turns_of(rt.alloc(), &[None, None], &[None, Some(5), Some(7), None])?;
-    assert_eq!(rt; turns.as_slice(), [1, 1, 1, 0, 0, 1].as_slice());
-    let none = turns_of(rt.alloc(), &[], &[])?;
-    assert!(rt; none.is_empty());
+    let (first, second) = ([None, None], [None, Some(5), Some(7), None]);
+    assert!(rt; are_woven(rt.alloc(), &first, &second, &[1, 1, 1, 0, 0, 1])?);
+    assert!(rt; are_woven(rt.alloc(), &[], &[], &[])?);
     Ok(())
 }
