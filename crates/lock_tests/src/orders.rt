@@ -10,10 +10,10 @@ ghost use Rattle.lock_tests.specs.Racing.{IsAt};
 use crate::racing::make;
 use crate::rounds::{close_two, open_two};
 use crate::turns::two_inputs;
-use crate::weaving::{is_legal, woven};
+use crate::weaving::legal_moves;
 use box_program::Program;
 use input_logger::InputLog;
-use master_core::{Master, Stepped};
+use master_core::{Master, Stepped, Woven};
 use monitor_box::MonitorBox;
 use plain_text::{NoMemory, Packet};
 use replay_guide::Guide;
@@ -169,23 +169,67 @@ pub fn in_order<P: Program, R: Wait>(
     order_of::<P, Brand, R>(rt, alloc, program, master, guide, moves)
 }
 
-/// Whether what the threads do in this order weaves into a run of the plain player.
-fn weaves<R: Wait>(rt: &R, alloc: Global, inputs: &InputLog, order: u32) -> Result<bool, NoMemory> {
+/// What two threads of a fresh master do in this order, each with its first input.
+pub fn made_in_order<P: Program, R: Wait>(
+    rt: &R,
+    alloc: Global,
+    program: &P,
+    inputs: &InputLog,
+    guide: &Guide,
+    count: u32,
+    order: u32,
+) -> Result<Closed<P>, NoMemory>
+    ensures fits { IfOk result (λ closed. FitsProgram (P.meaning program.now) (P.fits program.now)
+        value_of closed.master.vars) }
+    ensures two { IfOk result (λ closed. length closed.master.threads ≡ 2) }
+{
     let (Some(earlier), Some(later)) = (inputs.input(0, 1), inputs.input(1, 1)) else {
-        return Ok(false);
+        return Err(NoMemory);
     };
-    let program = MonitorBox::new(2);
-    let guide = Guide::none(alloc);
-    let master = Master::fresh(alloc, &program, 2)?;
     let moves = Moves {
         packets: [earlier, later],
-        count: 10,
+        count,
         order,
     };
-    let closed = in_order(rt, alloc, &program, master, &guide, moves)?;
-    let steps = woven(alloc, &closed.receipts)?;
-    let legal = is_legal(alloc, &program, inputs, steps.as_slice())?;
-    Ok(legal && steps.len() == 10)
+    let master = Master::fresh(alloc, program, 2)?;
+    in_order(rt, alloc, program, master, guide, moves)
+}
+
+/// What two threads of a fresh master do in this order, each with its first input and with no log to follow.
+pub fn made_freely<P: Program, R: Wait>(
+    rt: &R,
+    alloc: Global,
+    program: &P,
+    inputs: &InputLog,
+    count: u32,
+    order: u32,
+) -> Result<Closed<P>, NoMemory>
+    ensures fits { IfOk result (λ closed. FitsProgram (P.meaning program.now) (P.fits program.now)
+        value_of closed.master.vars) }
+    ensures two { IfOk result (λ closed. length closed.master.threads ≡ 2) }
+{
+    let guide = Guide::none(alloc);
+    made_in_order(rt, alloc, program, inputs, &guide, count, order)
+}
+
+/// What each of the two threads did, without the master after it.
+pub fn did_freely<P: Program, R: Wait>(
+    rt: &R,
+    alloc: Global,
+    program: &P,
+    inputs: &InputLog,
+    count: u32,
+    order: u32,
+) -> Result<Vec<Woven>, NoMemory> {
+    let closed = made_freely(rt, alloc, program, inputs, count, order)?;
+    Ok(closed.receipts)
+}
+
+/// Whether what the threads do in this order weaves into a run of the plain player.
+fn weaves<R: Wait>(rt: &R, alloc: Global, inputs: &InputLog, order: u32) -> Result<bool, NoMemory> {
+    let program = MonitorBox::new(2);
+    let receipts = did_freely(rt, alloc, &program, inputs, 10, order)?;
+    Ok(legal_moves(alloc, &program, inputs, &receipts)? == Some(10))
 }
 
 /// Each thread makes five moves, in each of the C(10, 5) orders.

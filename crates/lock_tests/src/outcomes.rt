@@ -121,6 +121,26 @@ fn shown<P: Program>(
     program.show(alloc, var, master.value(var))
 }
 
+/// Whether a variable of two masters was touched as often, was read at the same stamps, and shows the same.
+fn is_same_variable<P: Program>(
+    alloc: Global,
+    program: &P,
+    one: &Master<P>,
+    other: &Master<P>,
+    var: u32,
+) -> Result<bool, NoMemory>
+    requires fits { FitsProgram (P.meaning program.now) (P.fits program.now) value_of one.now.vars }
+    requires other_fits { FitsProgram (P.meaning program.now) (P.fits program.now)
+        value_of other.now.vars }
+    requires low { var < (P.meaning program.now).vars }
+{
+    if one.places(var) != other.places(var) || one.readers(var) != other.readers(var) {
+        return Ok(false);
+    }
+    let text = shown(alloc, program, one, var)?;
+    shows(alloc, program, other, var, text.as_str())
+}
+
 /// Whether two masters have the same variables, as they are shown, and threads that did as much.
 fn is_same<P: Program>(
     alloc: Global,
@@ -135,11 +155,7 @@ fn is_same<P: Program>(
     requires other_two { length other.now.threads ≡ 2 }
 {
     for var in 0..program.vars() {
-        if one.places(var) != other.places(var) || one.readers(var) != other.readers(var) {
-            return Ok(false);
-        }
-        let text = shown(alloc, program, one, var)?;
-        if text.as_str() != shown(alloc, program, other, var)?.as_str() {
+        if !is_same_variable(alloc, program, one, other, var)? {
             return Ok(false);
         }
     }

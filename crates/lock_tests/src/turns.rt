@@ -2,7 +2,7 @@
 use crate::inputs::inputs_of;
 use crate::racing::Feed;
 use crate::rounds::take_turns;
-use crate::weaving::{is_legal, woven};
+use crate::weaving::legal_moves;
 use access_log::{StampedEntry, What};
 use input_logger::InputLog;
 use master_core::{Master, Trace, Woven};
@@ -76,30 +76,39 @@ fn wanted() -> [[Trace; 5]; 2] {
     ]
 }
 
-/// What the thread did.
-fn traces(alloc: Global, receipts: &[Woven], thread: usize) -> Result<Vec<Trace>, NoMemory> {
-    let mut traces = Vec::new(alloc);
-    if let Some(steps) = receipts.get(thread) {
-        for step in steps.as_slice() {
-            traces.push(step.trace)?;
+/// Whether this is what the thread did.
+fn did(receipts: &[Woven], thread: usize, wanted: &[Trace]) -> bool {
+    let Some(steps) = receipts.get(thread) else {
+        return false;
+    };
+    for (step, trace) in steps.as_slice().iter().zip(wanted) {
+        if step.trace != *trace {
+            return false;
         }
     }
-    Ok(traces)
+    steps.len() == wanted.len()
+}
+
+/// Whether each thread does what is wanted of it; and how many moves they make together, if the plain player may make them.
+fn take_turns_as_wanted<R: Wait>(
+    rt: &R,
+    alloc: Global,
+    inputs: &InputLog,
+) -> Result<([bool; 2], Option<usize>), NoMemory> {
+    let receipts = take_one_each(rt, alloc, inputs)?;
+    let [first, second] = wanted();
+    let did = [did(&receipts, 0, &first), did(&receipts, 1, &second)];
+    let moves = legal_moves(alloc, &MonitorBox::new(2), inputs, &receipts)?;
+    Ok((did, moves))
 }
 
 /// Each thread touches a table of its own at place 1, and then the totals; woven, this is a run of the plain player.
 #[test]
 fn two_threads_one_after_the_other(rt: HostRuntime) -> Result<(), Fail> {
-    let alloc = rt.alloc();
-    let inputs = two_inputs(alloc)?;
-    let receipts = take_one_each(&rt, alloc, &inputs)?;
-    let wanted = wanted();
-    for thread in 0..2 {
-        let traces = traces(alloc, &receipts, thread)?;
-        assert_eq!(rt; traces.as_slice(), wanted[thread].as_slice());
-    }
-    let steps = woven(alloc, &receipts)?;
-    assert_eq!(rt; steps.len(), 10);
-    assert!(rt; is_legal(alloc, &MonitorBox::new(2), &inputs, steps.as_slice())?);
+    let inputs = two_inputs(rt.alloc())?;
+    let (did, moves) = take_turns_as_wanted(&rt, rt.alloc(), &inputs)?;
+    assert!(rt; did[0], "thread 0");
+    assert!(rt; did[1], "thread 1");
+    assert!(rt; moves == Some(10));
     Ok(())
 }

@@ -34,16 +34,25 @@ fn all_marks(alloc: Global, receipts: &[Woven]) -> Result<Vec<Marks>, NoMemory> 
     Ok(marks)
 }
 
-/// What the threads did, in one order.
-pub fn woven(alloc: Global, receipts: &[Woven]) -> Result<Woven, NoMemory> {
+/// Whose turn each move is, where the moves of all threads are put into one order.
+fn turns_of(alloc: Global, receipts: &[Woven]) -> Result<Sequence<usize>, NoMemory> {
     let marks = all_marks(alloc, receipts)?;
-    let turns = weave(alloc, &marks)?;
-    let mut left = Vec::new(alloc);
+    weave(alloc, &marks)
+}
+
+/// What each thread did.
+fn all_steps<'a>(alloc: Global, receipts: &'a [Woven]) -> Result<Vec<&'a [WovenStep]>, NoMemory> {
+    let mut steps = Vec::new(alloc);
     for did in receipts {
-        left.push(did.as_slice())?;
+        steps.push(did.as_slice())?;
     }
+    Ok(steps)
+}
+
+/// The moves that are left, each taken from its thread as its turn comes.
+fn merged(alloc: Global, turns: &[usize], left: &mut [&[WovenStep]]) -> Result<Woven, NoMemory> {
     let mut steps = Woven::new(alloc);
-    for turn in turns.as_slice() {
+    for turn in turns {
         let Some(did) = left.get_mut(*turn) else {
             return Ok(steps);
         };
@@ -53,6 +62,13 @@ pub fn woven(alloc: Global, receipts: &[Woven]) -> Result<Woven, NoMemory> {
         }
     }
     Ok(steps)
+}
+
+/// What the threads did, in one order.
+pub fn woven(alloc: Global, receipts: &[Woven]) -> Result<Woven, NoMemory> {
+    let turns = turns_of(alloc, receipts)?;
+    let mut left = all_steps(alloc, receipts)?;
+    merged(alloc, turns.as_slice(), &mut left)
 }
 
 /// Whether the moves are legal for the plain player with these inputs.
@@ -67,4 +83,16 @@ pub fn is_legal<P: Program>(
         schedule.push(step.moved)?;
     }
     Ok(play(alloc, program, inputs, &schedule).is_ok())
+}
+
+/// How many moves the threads made together, if the plain player may make them in one order.
+pub fn legal_moves<P: Program>(
+    alloc: Global,
+    program: &P,
+    inputs: &InputLog,
+    receipts: &[Woven],
+) -> Result<Option<usize>, NoMemory> {
+    let steps = woven(alloc, receipts)?;
+    let legal = is_legal(alloc, program, inputs, steps.as_slice())?;
+    Ok(legal.then_some(steps.len()))
 }
