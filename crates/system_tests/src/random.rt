@@ -1,19 +1,20 @@
-ghost use Rattle.std.specs.Prelude.{◌≡◌, ◌≤◌, IsTrue, IfOk, false};
+ghost use Rattle.std.specs.Prelude.{◌≡◌, ◌≤◌, IfOk};
 ghost use Rattle.slow_world.specs.Mirror.{WorldFits};
 
-use crate::replay::{SEED, are_taken, capture_of, system_on};
+use crate::replay::{SEED, Told, capture_of, run_on};
+use crate::rows::longer;
 use access_log::Output;
 use box_program::{CountBox, PeekBox, Program};
 use monitor_box::MonitorBox;
 use nat_box::NatBox;
 use plain_text::{Kind, NoMemory, Unit};
-use recovery_core::System;
+use recovery_core::Finished;
 use recovery_world::Event;
 use sample_frames::{ANSWER, HAIRPIN, NEXT_QUERY, OTHER_QUERY, QUERY};
-use script_text::{write_outcome, write_released};
+use script_text::{write_event, write_outcome, write_released};
 use slow_history::SentOut;
 use slow_runs::{finish, on};
-use slow_world::{Setup, SlowWorld, opening, word_after};
+use slow_world::{Reply, Setup, SlowWorld, opening, word_after};
 use std::alloc::Global;
 use std::test::Fail;
 
@@ -80,59 +81,83 @@ fn recovery(word: u64) -> Event {
     }
 }
 
-/// Whether the event has the same reply of both.
-fn same_reply<P: Program>(
-    alloc: Global,
-    program: &P,
-    setup: &Setup,
-    world: &mut SlowWorld<P::Value>,
-    system: &mut System<P>,
-    event: Event,
-) -> Result<bool, NoMemory>
-    requires fits { WorldFits (P.fits program.now) world.old }
-    requires runs { system.old.stopped ≡ false }
-    ensures fits { IfOk result (λ _. WorldFits (P.fits program.now) world.new) }
-    ensures runs { IfOk result (λ same. IsTrue same → system.new.stopped ≡ false) }
-{
-    let Ok(slow) = on(world, alloc, program, setup, event)? else {
-        return Ok(false);
-    };
-    let Ok(reply) = system.on(&event) else {
-        return Ok(false);
-    };
-    let mut right = String::new(alloc);
-    write_outcome(&mut right, &slow.outcome)?;
-    write_released(&mut right, &slow.freed)?;
-    let mut made = String::new(alloc);
-    write_outcome(&mut made, &reply.outcome)?;
-    write_released(&mut made, reply.released.as_slice())?;
-    Ok(made.as_str() == right.as_str())
+/// The events by the words from this place on.
+fn events_from(alloc: Global, place: u64, threads: u32) -> Result<Vec<Event>, NoMemory> {
+    let mut events = Vec::new(alloc);
+    for number in 0..EVENTS {
+        let word = word_after(2_026, place.saturating_add(number));
+        events.push(chosen(word, threads))?;
+    }
+    Ok(events)
 }
 
-/// Whether the events by the words from this place on have the same replies of both.
-fn same_replies<P: Program>(
+/// Appends the line of an event that the slow program performed.
+fn put_slow_line(report: &mut String, event: Event, reply: &Reply) -> Result<(), NoMemory> {
+    write_event(report, event)?;
+    report.push(' ')?;
+    write_outcome(report, &reply.outcome)?;
+    write_released(report, &reply.freed)?;
+    report.push('\n')?;
+    Ok(())
+}
+
+/// The slow program performs an event, and its line is appended; whether it was performed.
+fn perform_slowly<P: Program>(
     alloc: Global,
     program: &P,
     setup: &Setup,
     world: &mut SlowWorld<P::Value>,
-    system: &mut System<P>,
-    place: u64,
-    events: u64,
+    event: Event,
+    report: &mut String,
 ) -> Result<bool, NoMemory>
-    requires fits { WorldFits (P.fits program.now) world.old }
-    requires runs { system.old.stopped ≡ false }
-    ensures fits { IfOk result (λ _. WorldFits (P.fits program.now) world.new) }
-    ensures runs { IfOk result (λ same. IsTrue same → system.new.stopped ≡ false) }
+    requires { WorldFits (P.fits program.now) world.old }
+    ensures { IfOk result (λ _. WorldFits (P.fits program.now) world.new) }
 {
-    if events == 0 {
-        return Ok(true);
-    }
-    let event = chosen(word_after(2_026, place), setup.threads);
-    if !same_reply(alloc, program, setup, world, system, event)? {
+    let Ok(reply) = on(world, alloc, program, setup, event)? else {
         return Ok(false);
+    };
+    put_slow_line(report, event, &reply)?;
+    Ok(true)
+}
+
+/// The same of all these events.
+fn perform_all_slowly<P: Program>(
+    alloc: Global,
+    program: &P,
+    setup: &Setup,
+    world: &mut SlowWorld<P::Value>,
+    events: &[Event],
+    report: &mut String,
+) -> Result<bool, NoMemory>
+    requires { WorldFits (P.fits program.now) world.old }
+    ensures { IfOk result (λ _. WorldFits (P.fits program.now) world.new) }
+{
+    match events {
+        [] => Ok(true),
+        [event, rest @ ..] => {
+            if !perform_slowly(alloc, program, setup, world, *event, report)? {
+                return Ok(false);
+            }
+            perform_all_slowly(alloc, program, setup, world, rest, report)
+        }
     }
-    let place = place.saturating_add(1);
-    same_replies(alloc, program, setup, world, system, place, events - 1)
+}
+
+/// Whether the slow program performs all the events, with these lines.
+fn has_report<P: Program>(
+    alloc: Global,
+    program: &P,
+    setup: &Setup,
+    world: &mut SlowWorld<P::Value>,
+    events: &[Event],
+    report: &str,
+) -> Result<bool, NoMemory>
+    requires { WorldFits (P.fits program.now) world.old }
+    ensures { IfOk result (λ _. WorldFits (P.fits program.now) world.new) }
+{
+    let mut right = String::new(alloc);
+    let done = perform_all_slowly(alloc, program, setup, world, events, &mut right)?;
+    Ok(done && report == right.as_str())
 }
 
 /// Whether an output that the system released is the one of the slow program, to the byte.
@@ -156,18 +181,16 @@ fn same_releases(outputs: &[Output], released: &[SentOut]) -> bool {
             .all(|(output, sent)| is_output(output, sent))
 }
 
-/// Whether both end with the same schedule and the same counts.
-fn same_finish<P: Program>(
+/// Whether the slow program ends with the schedule and the counts of the system.
+fn has_end<P: Program>(
     alloc: Global,
     program: &P,
     setup: &Setup,
     world: &mut SlowWorld<P::Value>,
-    system: System<P>,
+    end: &Finished,
 ) -> Result<bool, NoMemory>
-    requires fits { WorldFits (P.fits program.now) world.old }
-    requires runs { system.stopped ≡ false }
+    requires { WorldFits (P.fits program.now) world.old }
 {
-    let end = system.finish()?;
     let (fed, epoch, released) = (world.fed as u64, world.epoch, world.released.len() as u64);
     let Some(moves) = finish(world, alloc, program, setup)? else {
         return Ok(false);
@@ -180,45 +203,75 @@ fn same_finish<P: Program>(
     )
 }
 
-/// Whether the script of the words from this place on has the same report and the same releases of both.
-fn same_run<P: Program>(
+/// Whether the slow program has, in this world, the lines, the releases and the end of the system.
+fn has_run<P: Program>(
     alloc: Global,
     program: &P,
     setup: &Setup,
     world: &mut SlowWorld<P::Value>,
-    system: &mut System<P>,
-    place: u64,
+    events: &[Event],
+    told: &Told,
+    end: &Finished,
 ) -> Result<bool, NoMemory>
-    requires fits { WorldFits (P.fits program.now) world.old }
-    requires runs { system.old.stopped ≡ false }
-    ensures fits { IfOk result (λ _. WorldFits (P.fits program.now) world.new) }
-    ensures runs { IfOk result (λ same. IsTrue same → system.new.stopped ≡ false) }
+    requires { WorldFits (P.fits program.now) world.old }
 {
-    if !same_replies(alloc, program, setup, world, system, place, EVENTS)? {
+    if !has_report(alloc, program, setup, world, events, told.report.as_str())? {
         return Ok(false);
     }
-    let outputs = system.take_released();
-    Ok(same_releases(outputs.as_slice(), &world.released))
+    if !same_releases(told.outputs.as_slice(), &world.released) {
+        return Ok(false);
+    }
+    has_end(alloc, program, setup, world, end)
 }
 
-/// The same, and of the schedule that each ends with.
+/// What stays the same in a run of the slow program on these frames.
+fn setup_of(alloc: Global, threads: u32, frames: &[&[u8]]) -> Result<Setup, NoMemory>
+    requires some { 1 ≤ threads }
+    requires few { threads ≤ 16 }
+{
+    let packets = capture_of(alloc, frames)?.into_vec();
+    Ok(Setup {
+        threads,
+        unit: Unit::Micro,
+        packets,
+        seed: SEED,
+    })
+}
+
+/// Whether the slow program comes to the same as the system, from the first event on.
 fn is_right<P: Program>(
     alloc: Global,
     program: &P,
-    setup: &Setup,
-    world: &mut SlowWorld<P::Value>,
-    mut system: System<P>,
-    place: u64,
+    threads: u32,
+    frames: &[&[u8]],
+    events: &[Event],
+    told: &Told,
+    end: &Finished,
 ) -> Result<bool, NoMemory>
-    requires fits { WorldFits (P.fits program.now) world.old }
-    requires runs { system.stopped ≡ false }
+    requires some { 1 ≤ threads }
+    requires few { threads ≤ 16 }
 {
-    match same_run(alloc, program, setup, world, &mut system, place) {
-        Ok(true) => same_finish(alloc, program, setup, world, system),
-        ended => {
-            system.discard();
-            ended
-        }
+    let setup = setup_of(alloc, threads, frames)?;
+    let mut world = opening(alloc, program);
+    has_run(alloc, program, &setup, &mut world, events, told, end)
+}
+
+/// Whether the script of these events comes to the same on both.
+fn comes_to_the_same<P: Program>(
+    alloc: Global,
+    program: &P,
+    copy: P,
+    threads: u32,
+    frames: &[&[u8]],
+    events: &[Event],
+) -> Result<bool, NoMemory>
+    requires some { 1 ≤ threads }
+    requires few { threads ≤ 16 }
+{
+    let mut told = Told::new(alloc);
+    match run_on(alloc, copy, threads, frames, events, &mut told)? {
+        Some(end) => is_right(alloc, program, threads, frames, events, &told, &end),
+        None => Ok(false),
     }
 }
 
@@ -230,98 +283,91 @@ fn script_is_right<P: Program>(
     number: u32,
 ) -> Result<bool, NoMemory> {
     let threads = number % 3 + 1;
-    let mut longer = Vec::from_slice(alloc, &NEXT_QUERY)?;
-    longer.push(0)?;
+    let long_query = longer(alloc, &NEXT_QUERY)?;
     let frames: [&[u8]; 9] = [
         &QUERY,
         &NEXT_QUERY,
-        longer.as_slice(),
+        long_query.as_slice(),
         &ANSWER,
         &OTHER_QUERY,
         &HAIRPIN,
         &QUERY,
-        longer.as_slice(),
+        long_query.as_slice(),
         &OTHER_QUERY,
     ];
-    let setup = Setup {
-        threads,
-        unit: Unit::Micro,
-        packets: capture_of(alloc, &frames)?.into_vec(),
-        seed: SEED,
-    };
-    let packets = capture_of(alloc, &frames)?;
-    if !are_taken(packets.as_slice()) {
-        return Ok(false);
-    }
-    let system = system_on(alloc, copy, threads, packets)?;
-    let mut world = opening(alloc, program);
-    let place = u64::from(number).saturating_mul(EVENTS);
-    is_right(alloc, program, &setup, &mut world, system, place)
+    let events = events_from(alloc, u64::from(number).saturating_mul(EVENTS), threads)?;
+    comes_to_the_same(alloc, program, copy, threads, &frames, events.as_slice())
 }
 
-/// The first of the scripts of the counting box from one number up to another that is not right.
-fn first_wrong_count(alloc: Global, from: u32, to: u32) -> Result<Option<u32>, NoMemory> {
+/// The first of the scripts of the counting box from one number up to another that is not right; the other where all are.
+fn first_wrong_count(alloc: Global, from: u32, to: u32) -> Result<u32, NoMemory> {
     for number in from..to {
         if !script_is_right(alloc, &CountBox::new(), CountBox::new(), number)? {
-            return Ok(Some(number));
+            return Ok(number);
         }
     }
-    Ok(None)
+    Ok(to)
 }
 
 #[test]
 fn random_events_of_the_counting_box(rt: HostRuntime) -> Result<(), Fail> {
-    assert_eq!(rt; first_wrong_count(rt.alloc(), 0, 37)?, None);
+    let first = first_wrong_count(rt.alloc(), 0, 37)?;
+    assert!(rt; first == 37, "script {first} is wrong");
     Ok(())
 }
 
 #[test]
 fn more_random_events_of_the_counting_box(rt: HostRuntime) -> Result<(), Fail> {
-    assert_eq!(rt; first_wrong_count(rt.alloc(), 37, 75)?, None);
+    let first = first_wrong_count(rt.alloc(), 37, 75)?;
+    assert!(rt; first == 75, "script {first} is wrong");
     Ok(())
 }
 
 /// The same of the box that reads.
-fn first_wrong_peek(alloc: Global, from: u32, to: u32) -> Result<Option<u32>, NoMemory> {
+fn first_wrong_peek(alloc: Global, from: u32, to: u32) -> Result<u32, NoMemory> {
     for number in from..to {
         if !script_is_right(alloc, &PeekBox::new(), PeekBox::new(), number)? {
-            return Ok(Some(number));
+            return Ok(number);
         }
     }
-    Ok(None)
+    Ok(to)
 }
 
 #[test]
 fn random_events_with_reads(rt: HostRuntime) -> Result<(), Fail> {
-    assert_eq!(rt; first_wrong_peek(rt.alloc(), 75, 112)?, None);
+    let first = first_wrong_peek(rt.alloc(), 75, 112)?;
+    assert!(rt; first == 112, "script {first} is wrong");
     Ok(())
 }
 
 #[test]
 fn more_random_events_with_reads(rt: HostRuntime) -> Result<(), Fail> {
-    assert_eq!(rt; first_wrong_peek(rt.alloc(), 112, 150)?, None);
+    let first = first_wrong_peek(rt.alloc(), 112, 150)?;
+    assert!(rt; first == 150, "script {first} is wrong");
     Ok(())
 }
 
 /// The same of the monitor, with two tables.
-fn first_wrong_monitor(alloc: Global, from: u32, to: u32) -> Result<Option<u32>, NoMemory> {
+fn first_wrong_monitor(alloc: Global, from: u32, to: u32) -> Result<u32, NoMemory> {
     for number in from..to {
         if !script_is_right(alloc, &MonitorBox::new(2), MonitorBox::new(2), number)? {
-            return Ok(Some(number));
+            return Ok(number);
         }
     }
-    Ok(None)
+    Ok(to)
 }
 
 #[test]
 fn random_events_of_the_monitor(rt: HostRuntime) -> Result<(), Fail> {
-    assert_eq!(rt; first_wrong_monitor(rt.alloc(), 150, 187)?, None);
+    let first = first_wrong_monitor(rt.alloc(), 150, 187)?;
+    assert!(rt; first == 187, "script {first} is wrong");
     Ok(())
 }
 
 #[test]
 fn more_random_events_of_the_monitor(rt: HostRuntime) -> Result<(), Fail> {
-    assert_eq!(rt; first_wrong_monitor(rt.alloc(), 187, 225)?, None);
+    let first = first_wrong_monitor(rt.alloc(), 187, 225)?;
+    assert!(rt; first == 225, "script {first} is wrong");
     Ok(())
 }
 
@@ -331,23 +377,25 @@ fn three_ports() -> NatBox {
 }
 
 /// The same of the NAT.
-fn first_wrong_nat(alloc: Global, from: u32, to: u32) -> Result<Option<u32>, NoMemory> {
+fn first_wrong_nat(alloc: Global, from: u32, to: u32) -> Result<u32, NoMemory> {
     for number in from..to {
         if !script_is_right(alloc, &three_ports(), three_ports(), number)? {
-            return Ok(Some(number));
+            return Ok(number);
         }
     }
-    Ok(None)
+    Ok(to)
 }
 
 #[test]
 fn random_events_of_the_nat(rt: HostRuntime) -> Result<(), Fail> {
-    assert_eq!(rt; first_wrong_nat(rt.alloc(), 225, 262)?, None);
+    let first = first_wrong_nat(rt.alloc(), 225, 262)?;
+    assert!(rt; first == 262, "script {first} is wrong");
     Ok(())
 }
 
 #[test]
 fn more_random_events_of_the_nat(rt: HostRuntime) -> Result<(), Fail> {
-    assert_eq!(rt; first_wrong_nat(rt.alloc(), 262, 300)?, None);
+    let first = first_wrong_nat(rt.alloc(), 262, 300)?;
+    assert!(rt; first == 300, "script {first} is wrong");
     Ok(())
 }

@@ -1,8 +1,9 @@
-use crate::replay::report_of;
-use crate::rows::{Row, longer};
+use crate::replay::leaves;
+use crate::rows::{Row, longer, one_reads, two_count, two_monitor};
 use box_program::{CountBox, PeekBox};
-use monitor_box::MonitorBox;
+use plain_text::NoMemory;
 use sample_frames::{NEXT_QUERY, QUERY};
+use std::alloc::Global;
 use std::test::Fail;
 
 /// Two threads count. What is held alone is dropped; what waited is discarded; a new master follows what is held, in its order; a free
@@ -70,12 +71,23 @@ const READS: [Row; 1] = [(
     "feed 2 total 2\nstep 1 take 1\nstep 1 entry 1 read 0 after 0\nlog 1 1 new\ncrash done\nrecover epoch 2 keeps 1 drops 0\nstep 0 take 1\nstep 0 entry 1 read 0 after 0\ndone fed 2 epoch 2 released 0\nmoves 0 0 1 1",
 )];
 
+/// Whether one thread that counts leaves this report.
+fn one_counts(alloc: Global, script: &str, report: &str) -> Result<bool, NoMemory> {
+    leaves(alloc, CountBox::new(), 1, &[&QUERY], script, report)
+}
+
+/// Whether two readers leave this report.
+fn two_read(alloc: Global, script: &str, report: &str) -> Result<bool, NoMemory> {
+    let first = longer(alloc, &QUERY)?;
+    let next = longer(alloc, &NEXT_QUERY)?;
+    let frames: [&[u8]; 2] = [first.as_slice(), next.as_slice()];
+    leaves(alloc, PeekBox::new(), 2, &frames, script, report)
+}
+
 #[test]
 fn recoveries_of_the_counting_box(rt: HostRuntime) -> Result<(), Fail> {
     for (script, report) in COUNTS {
-        let alloc = rt.alloc();
-        let made = report_of(alloc, CountBox::new(), 2, &[&QUERY, &NEXT_QUERY], script)?;
-        assert_eq!(rt; made.as_str(), report);
+        assert!(rt; two_count(rt.alloc(), script, report)?, "at {script}");
     }
     Ok(())
 }
@@ -83,8 +95,7 @@ fn recoveries_of_the_counting_box(rt: HostRuntime) -> Result<(), Fail> {
 #[test]
 fn recoveries_of_one_thread(rt: HostRuntime) -> Result<(), Fail> {
     for (script, report) in ALONE {
-        let made = report_of(rt.alloc(), CountBox::new(), 1, &[&QUERY], script)?;
-        assert_eq!(rt; made.as_str(), report);
+        assert!(rt; one_counts(rt.alloc(), script, report)?, "at {script}");
     }
     Ok(())
 }
@@ -92,9 +103,7 @@ fn recoveries_of_one_thread(rt: HostRuntime) -> Result<(), Fail> {
 #[test]
 fn recoveries_of_the_monitor(rt: HostRuntime) -> Result<(), Fail> {
     for (script, report) in MONITORS {
-        let alloc = rt.alloc();
-        let made = report_of(alloc, MonitorBox::new(2), 2, &[&QUERY, &NEXT_QUERY], script)?;
-        assert_eq!(rt; made.as_str(), report);
+        assert!(rt; two_monitor(rt.alloc(), script, report)?, "at {script}");
     }
     Ok(())
 }
@@ -102,18 +111,15 @@ fn recoveries_of_the_monitor(rt: HostRuntime) -> Result<(), Fail> {
 #[test]
 fn recoveries_with_reads(rt: HostRuntime) -> Result<(), Fail> {
     for (script, report) in PEEKS {
-        let alloc = rt.alloc();
-        let next = longer(alloc, &NEXT_QUERY)?;
-        let made = report_of(alloc, PeekBox::new(), 2, &[&QUERY, next.as_slice()], script)?;
-        assert_eq!(rt; made.as_str(), report);
+        assert!(rt; one_reads(rt.alloc(), script, report)?, "at {script}");
     }
+    Ok(())
+}
+
+#[test]
+fn recoveries_of_two_readers(rt: HostRuntime) -> Result<(), Fail> {
     for (script, report) in READS {
-        let alloc = rt.alloc();
-        let first = longer(alloc, &QUERY)?;
-        let next = longer(alloc, &NEXT_QUERY)?;
-        let frames: [&[u8]; 2] = [first.as_slice(), next.as_slice()];
-        let made = report_of(alloc, PeekBox::new(), 2, &frames, script)?;
-        assert_eq!(rt; made.as_str(), report);
+        assert!(rt; two_read(rt.alloc(), script, report)?, "at {script}");
     }
     Ok(())
 }

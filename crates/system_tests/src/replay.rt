@@ -1,9 +1,10 @@
 ghost use Rattle.std.specs.Prelude.{◌≡◌, ◌≤◌, All, IsTrue, IfOk, IfSome, false};
 ghost use Rattle.recovery_core.specs.Parts.{IsShort};
 
+use access_log::Outputs;
 use box_program::Program;
-use plain_text::{Bytes, MOST_CAPTURED, NoMemory, Packet, Packets, Unit};
-use recovery_core::{System, put_line};
+use plain_text::{Bytes, MOST_CAPTURED, NoMemory, Packet, Packets, Unit, put_decimal};
+use recovery_core::{Finished, Reply, System, put_line};
 use recovery_world::Event;
 use script_text::read_script;
 use std::alloc::Global;
@@ -11,13 +12,19 @@ use std::alloc::Global;
 /// The seed of each system.
 pub const SEED: u64 = 42;
 
-/// A packet of 100 seconds and a fraction.
-fn packet_of(alloc: Global, fraction: u32, frame: &[u8]) -> Result<Packet, NoMemory> {
-    Ok(Packet {
+/// Appends a packet of 100 seconds and a fraction.
+fn push_packet(
+    alloc: Global,
+    packets: &mut Packets,
+    fraction: u32,
+    frame: &[u8],
+) -> Result<(), NoMemory> {
+    let bytes = Bytes::of(alloc, frame)?;
+    packets.push(Packet {
         seconds: 100,
         fraction,
         original: frame.len().min(65_535) as u32,
-        bytes: Bytes::of(alloc, frame)?,
+        bytes,
     })
 }
 
@@ -26,14 +33,14 @@ pub fn capture_of(alloc: Global, frames: &[&[u8]]) -> Result<Packets, NoMemory> 
     let mut packets = Packets::new(alloc);
     let mut fraction: u32 = 5;
     for frame in frames {
-        packets.push(packet_of(alloc, fraction, frame)?)?;
+        push_packet(alloc, &mut packets, fraction, frame)?;
         fraction = fraction.wrapping_add(1);
     }
     Ok(packets)
 }
 
 /// Whether a system takes these packets.
-pub fn are_taken(packets: &[Packet]) -> bool
+fn are_taken(packets: &[Packet]) -> bool
     ensures { IsTrue result → All IsShort packets.now }
 {
     packets
@@ -41,23 +48,54 @@ pub fn are_taken(packets: &[Packet]) -> bool
         .all(|packet| packet.bytes.len() <= MOST_CAPTURED as usize)
 }
 
-/// A system of the seed on these packets.
-pub fn system_on<P: Program>(
-    alloc: Global,
-    program: P,
-    threads: u32,
-    packets: Packets,
-) -> Result<System<P>, NoMemory>
-    requires some { 1 ≤ threads }
-    requires few { threads ≤ 16 }
-    requires short { All IsShort packets }
-    ensures { IfOk result (λ system. system.stopped ≡ false) }
-{
-    System::new(alloc, program, threads, SEED, Unit::Micro, packets)
+/// What a system tells as it runs: the lines of its events, and the outputs that it released.
+#[derive(Drop)]
+pub struct Told {
+    pub report: String,
+    pub outputs: Outputs,
 }
 
-/// Performs the events, and appends their lines; whether all were performed.
+impl Told {
+    /// Nothing yet.
+    pub fn new(alloc: Global) -> Self {
+        Told {
+            report: String::new(alloc),
+            outputs: Outputs::new(alloc),
+        }
+    }
+}
+
+/// Appends the line of an event.
+fn put_reply(
+    alloc: Global,
+    report: &mut String,
+    event: &Event,
+    reply: &Reply,
+) -> Result<(), NoMemory> {
+    let line = put_line(alloc, event, reply)?;
+    report.push_str(line.as_str())?;
+    Ok(())
+}
+
+/// Performs an event, and appends its line; whether it was performed.
 fn perform<P: Program>(
+    alloc: Global,
+    system: &mut System<P>,
+    event: &Event,
+    report: &mut String,
+) -> Result<bool, NoMemory>
+    requires { system.old.stopped ≡ false }
+    ensures { IfOk result (λ done. IsTrue done → system.new.stopped ≡ false) }
+{
+    let Ok(reply) = system.on(event) else {
+        return Ok(false);
+    };
+    put_reply(alloc, report, event, &reply)?;
+    Ok(true)
+}
+
+/// The same of all these events.
+fn perform_all<P: Program>(
     alloc: Global,
     system: &mut System<P>,
     events: &[Event],
@@ -69,74 +107,134 @@ fn perform<P: Program>(
     match events {
         [] => Ok(true),
         [event, rest @ ..] => {
-            let Ok(reply) = system.on(event) else {
+            if !perform(alloc, system, event, report)? {
                 return Ok(false);
-            };
-            let line = put_line(alloc, event, &reply)?;
-            report.push_str(line.as_str())?;
-            perform(alloc, system, rest, report)
+            }
+            perform_all(alloc, system, rest, report)
         }
     }
 }
 
-/// Appends a move.
-fn put_move(
+/// Performs the events, and tells their lines and what they released; whether all were performed.
+fn follow<P: Program>(
     alloc: Global,
-    text: &mut String,
-    thread: u32,
-    answer: Option<u64>,
-) -> Result<(), NoMemory> {
-    match answer {
-        None => text.push_str(format!(in alloc; " {thread}")?.as_str())?,
-        Some(told) => text.push_str(format!(in alloc; " {thread}={told}")?.as_str())?,
+    system: &mut System<P>,
+    events: &[Event],
+    told: &mut Told,
+) -> Result<bool, NoMemory>
+    requires { system.old.stopped ≡ false }
+    ensures { IfOk result (λ done. IsTrue done → system.new.stopped ≡ false) }
+{
+    let done = perform_all(alloc, system, events, &mut told.report)?;
+    told.outputs = system.take_released();
+    Ok(done)
+}
+
+/// Runs a system of the seed by the events: how it ended; none where an event was not performed.
+fn run_of<P: Program>(
+    alloc: Global,
+    program: P,
+    threads: u32,
+    packets: Packets,
+    events: &[Event],
+    told: &mut Told,
+) -> Result<Option<Finished>, NoMemory>
+    requires some { 1 ≤ threads }
+    requires few { threads ≤ 16 }
+    requires short { All IsShort packets }
+{
+    let mut system = System::new(alloc, program, threads, SEED, Unit::Micro, packets)?;
+    match follow(alloc, &mut system, events, told) {
+        Ok(true) => Ok(Some(system.finish()?)),
+        ended => {
+            system.discard();
+            ended.map(|_| None)
+        }
+    }
+}
+
+/// The same on a capture of these frames; none also where a frame is too long.
+pub fn run_on<P: Program>(
+    alloc: Global,
+    program: P,
+    threads: u32,
+    frames: &[&[u8]],
+    events: &[Event],
+    told: &mut Told,
+) -> Result<Option<Finished>, NoMemory>
+    requires some { 1 ≤ threads }
+    requires few { threads ≤ 16 }
+{
+    let packets = capture_of(alloc, frames)?;
+    if !are_taken(packets.as_slice()) {
+        return Ok(None);
+    }
+    run_of(alloc, program, threads, packets, events, told)
+}
+
+/// Appends a move.
+fn put_move(report: &mut String, thread: u32, answer: Option<u64>) -> Result<(), NoMemory> {
+    report.push(' ')?;
+    put_decimal(report, u64::from(thread))?;
+    if let Some(told) = answer {
+        report.push('=')?;
+        put_decimal(report, told)?;
     }
     Ok(())
 }
 
 /// Appends the counts at the end, and the moves of the schedule.
-fn put_end<P: Program>(
-    alloc: Global,
-    system: System<P>,
-    mut report: String,
-) -> Result<String, NoMemory>
-    requires { system.stopped ≡ false }
-{
-    let end = system.finish()?;
+fn put_end(report: &mut String, end: &Finished) -> Result<(), NoMemory> {
     let (fed, epoch, released) = (end.fed, end.epoch, end.released);
-    report.push_str(format!(in alloc;
+    write!(
+        report,
         "done fed {fed} epoch {epoch} released {released}\nmoves"
-    )?.as_str())?;
+    )?;
     for plain in end.schedule.as_slice() {
-        put_move(alloc, &mut report, plain.thread, plain.answer)?;
+        put_move(report, plain.thread, plain.answer)?;
     }
-    Ok(report)
+    Ok(())
 }
 
-/// The report of a script, with the moves of its schedule in a last line; no text where it was not performed.
-pub fn report_of<P: Program>(
+/// Whether a report is this one, with the counts at the end and the moves of the schedule in its last lines.
+fn is_whole(report: &mut String, end: &Finished, right: &str) -> Result<bool, NoMemory> {
+    put_end(report, end)?;
+    Ok(report.as_str() == right)
+}
+
+/// Whether these events are performed and leave this report.
+fn leave<P: Program>(
+    alloc: Global,
+    program: P,
+    threads: u32,
+    frames: &[&[u8]],
+    events: &[Event],
+    report: &str,
+) -> Result<bool, NoMemory>
+    requires some { 1 ≤ threads }
+    requires few { threads ≤ 16 }
+{
+    let mut told = Told::new(alloc);
+    match run_on(alloc, program, threads, frames, events, &mut told)? {
+        Some(end) => is_whole(&mut told.report, &end, report),
+        None => Ok(false),
+    }
+}
+
+/// The same of the events of a script.
+pub fn leaves<P: Program>(
     alloc: Global,
     program: P,
     threads: u32,
     frames: &[&[u8]],
     script: &str,
-) -> Result<String, NoMemory>
+    report: &str,
+) -> Result<bool, NoMemory>
     requires some { 1 ≤ threads }
     requires few { threads ≤ 16 }
 {
-    let mut report = String::new(alloc);
-    let Ok(events) = read_script(alloc, script.as_bytes()) else {
-        return Ok(report);
-    };
-    let packets = capture_of(alloc, frames)?;
-    if !are_taken(packets.as_slice()) {
-        return Ok(report);
-    }
-    let mut system = system_on(alloc, program, threads, packets)?;
-    match perform(alloc, &mut system, events.as_slice(), &mut report) {
-        Ok(true) => put_end(alloc, system, report),
-        ended => {
-            system.discard();
-            ended.map(|_| String::new(alloc))
-        }
+    match read_script(alloc, script.as_bytes()) {
+        Ok(events) => leave(alloc, program, threads, frames, events.as_slice(), report),
+        Err(_) => Ok(false),
     }
 }

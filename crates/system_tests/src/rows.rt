@@ -1,4 +1,4 @@
-use crate::replay::report_of;
+use crate::replay::leaves;
 use box_program::{CountBox, PeekBox};
 use monitor_box::MonitorBox;
 use plain_text::NoMemory;
@@ -58,12 +58,29 @@ pub fn longer(alloc: Global, query: &[u8]) -> Result<Vec<u8>, NoMemory> {
     Ok(frame)
 }
 
+/// Whether two threads that count leave this report.
+pub fn two_count(alloc: Global, script: &str, report: &str) -> Result<bool, NoMemory> {
+    let frames: [&[u8]; 2] = [&QUERY, &NEXT_QUERY];
+    leaves(alloc, CountBox::new(), 2, &frames, script, report)
+}
+
+/// Whether the monitor, with two tables, leaves this report.
+pub fn two_monitor(alloc: Global, script: &str, report: &str) -> Result<bool, NoMemory> {
+    let frames: [&[u8]; 2] = [&QUERY, &NEXT_QUERY];
+    leaves(alloc, MonitorBox::new(2), 2, &frames, script, report)
+}
+
+/// Whether a reader beside a counter leaves this report.
+pub fn one_reads(alloc: Global, script: &str, report: &str) -> Result<bool, NoMemory> {
+    let read = longer(alloc, &NEXT_QUERY)?;
+    let frames: [&[u8]; 2] = [&QUERY, read.as_slice()];
+    leaves(alloc, PeekBox::new(), 2, &frames, script, report)
+}
+
 #[test]
 fn scripts_of_the_counting_box(rt: HostRuntime) -> Result<(), Fail> {
     for (script, report) in COUNTS {
-        let alloc = rt.alloc();
-        let made = report_of(alloc, CountBox::new(), 2, &[&QUERY, &NEXT_QUERY], script)?;
-        assert_eq!(rt; made.as_str(), report);
+        assert!(rt; two_count(rt.alloc(), script, report)?, "at {script}");
     }
     Ok(())
 }
@@ -71,9 +88,7 @@ fn scripts_of_the_counting_box(rt: HostRuntime) -> Result<(), Fail> {
 #[test]
 fn scripts_of_the_monitor(rt: HostRuntime) -> Result<(), Fail> {
     for (script, report) in MONITORS {
-        let alloc = rt.alloc();
-        let made = report_of(alloc, MonitorBox::new(2), 2, &[&QUERY, &NEXT_QUERY], script)?;
-        assert_eq!(rt; made.as_str(), report);
+        assert!(rt; two_monitor(rt.alloc(), script, report)?, "at {script}");
     }
     Ok(())
 }
@@ -81,16 +96,7 @@ fn scripts_of_the_monitor(rt: HostRuntime) -> Result<(), Fail> {
 #[test]
 fn scripts_with_reads(rt: HostRuntime) -> Result<(), Fail> {
     for (script, report) in PEEKS {
-        let alloc = rt.alloc();
-        let frame = longer(alloc, &NEXT_QUERY)?;
-        let made = report_of(
-            alloc,
-            PeekBox::new(),
-            2,
-            &[&QUERY, frame.as_slice()],
-            script,
-        )?;
-        assert_eq!(rt; made.as_str(), report);
+        assert!(rt; one_reads(rt.alloc(), script, report)?, "at {script}");
     }
     Ok(())
 }
