@@ -30,7 +30,7 @@ pub flag_again : (b : Bool) → (number_of_flag b == 1) ≡ b
 flag_again true = refl
 flag_again false = refl
 
--- each number fits its field, with so many backends
+-- each number fits its field, with this number of backends
 pub record IsNoted (backends : ℕ) (n : Noted) : Type 0 where
   pub protocol : n.client.protocol < 2 ^ 8
   pub address : n.client.address < 2 ^ 32

@@ -41,7 +41,7 @@ number_of_flag false = 0
 abbrev pub endpoint : ℕ → ℕ → ℕ → Endpoint
 endpoint protocol address port = record { protocol = protocol; address = address; port = port }
 
--- what the Local has noted, with so many backends
+-- what the Local has noted, with this number of backends
 abbrev pub noted : ℕ → Local → Noted
 noted backends l = record {
   class = class_of (slice_index l.regs 0);

@@ -22,7 +22,7 @@ impl Model for Loads {
 }
 
 impl Loads {
-    /// No load of so many backends.
+    /// No load of this number of backends.
     pub fn new(alloc: Global, backends: usize) -> Result<Self, NoMemory>
         ensures { IfOk result (λ loads. loads ≡ no_loads backends) }
     {

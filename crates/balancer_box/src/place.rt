@@ -115,7 +115,7 @@ pub struct Noted {
 }
 
 impl Noted {
-    /// What a Local has noted, with so many backends.
+    /// What a Local has noted, with this number of backends.
     pub(crate) fn read_from(local: &Local, backends: u64) -> Noted
         requires some { 1 ≤ backends }
         requires few { backends ≤ 64 }

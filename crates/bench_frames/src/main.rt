@@ -40,7 +40,7 @@ fn entry_of(number: u64) -> StampedEntry
     }
 }
 
-/// Reads a frame so many times, and gives the bytes that were read.
+/// Reads a frame this number of times, and gives the bytes that were read.
 fn read_often(alloc: Global, frame: &[u8], times: u64) -> Result<u64, FrameError> {
     let mut read: u64 = 0;
     for _ in 0..times {
@@ -50,7 +50,7 @@ fn read_often(alloc: Global, frame: &[u8], times: u64) -> Result<u64, FrameError
     Ok(read)
 }
 
-/// Writes the frames of so many entries, and reads each so many times.
+/// Writes the frames of this number of entries, and reads each this number of times.
 fn pass_frames(alloc: Global, count: u64, times: u64) -> Result<Passed, FrameError> {
     let mut passed = Passed {
         written: 0,

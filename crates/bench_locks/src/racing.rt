@@ -19,7 +19,7 @@ use std::sync::Wait;
 use std::thread::{Threads, map_vec};
 use var_locks::{Closed, OpenGate, Round, Touched, VarSeat, Vars};
 
-/// No thread comes to so many inputs, entries or outputs.
+/// No thread comes to this number of inputs, entries or outputs.
 const MOST_COUNT: u64 = 1 << 40;
 
 /// The moves that a packet takes at most, with its take and its end.
@@ -81,7 +81,7 @@ fn run_one<P: Program, J: Round, R: Wait>(
     false
 }
 
-/// Takes the packet of the seat's thread to its end so many times, and ends the round for it.
+/// Takes the packet of the seat's thread to its end this number of times, and ends the round for it.
 #[tactic(auto, using(crate::proofs::Staying::still_going))]
 fn run<P: Program, J: Round, R: Wait>(
     rt: &R,
@@ -136,7 +136,7 @@ fn run_all<P: Program + Send + Sync, J: Round + Send + Sync, R: Threads + Wait +
     Ok(map_vec(rt, seats, &work)?)
 }
 
-/// A round in which each thread takes its packet so many times.
+/// A round in which each thread takes its packet this number of times.
 fn round_of<P: Program + Send + Sync, J: Round + Send + Sync, R: Threads + Wait + Sync>(
     rt: &R,
     alloc: Global,
@@ -161,7 +161,7 @@ fn round_of<P: Program + Send + Sync, J: Round + Send + Sync, R: Threads + Wait 
     vars.close(alloc, program, seats)
 }
 
-/// What so many threads do, each of which takes its packet so many times.
+/// What this number of threads do, each of which takes its packet this number of times.
 pub fn race<P: Program + Send + Sync, R: Threads + Wait + Sync>(
     rt: &R,
     alloc: Global,

@@ -9,7 +9,7 @@ use master_core::{Master, Stepped, Turn};
 use plain_text::{NoMemory, Packet};
 use std::alloc::Global;
 
-/// No thread comes to so many inputs, entries or outputs.
+/// No thread comes to this number of inputs, entries or outputs.
 const MOST_COUNT: u64 = 1 << 40;
 
 /// The moves that a packet takes at most, with its take and its end.
@@ -66,7 +66,7 @@ fn play_one<P: Program>(
     Ok(moves)
 }
 
-/// What so many threads do one after the other, each of which takes its packet so many times.
+/// What this number of threads do one after the other, each of which takes its packet this number of times.
 pub fn step_all<P: Program>(
     alloc: Global,
     program: &P,

@@ -85,7 +85,7 @@ fn step_once<P: Program>(
     }
 }
 
-/// No master of this program comes to so many inputs, entries or outputs.
+/// No master of this program comes to this number of inputs, entries or outputs.
 const MOST_COUNT: u64 = 1 << 40;
 
 /// Plays a packet to its end with a master.

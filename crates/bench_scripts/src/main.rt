@@ -1,4 +1,4 @@
-//! Work for a stopwatch: a script of so many lines, a few of all forms in turn, is read.
+//! Work for a stopwatch: a script of a given number of lines, a few of all forms in turn, is read.
 //!
 //! What it prints is the same at each run with the same word.
 #![tactic(auto)]

@@ -18,7 +18,7 @@ pub fn numbered_bytes(alloc: Global, bytes: &[u8], number: u64) -> Result<Bytes,
     Ok(Bytes::from_vec_at(out, HEADER_ROOM))
 }
 
-/// Writes the low 32 bits of the number into bytes 2 to 5, where there are so many.
+/// Writes the low 32 bits of the number into bytes 2 to 5, where there are as many.
 fn write_number(bytes: &mut [u8], number: u64)
     ensures { bytes.new ≡ numbered bytes.old number }
 {

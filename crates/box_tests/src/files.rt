@@ -234,7 +234,7 @@ fn names_the_first_fault_of_a_balancer(rt: HostRuntime) -> Result<(), Fail> {
     Ok(())
 }
 
-/// A box file with so many backends, the last of which repeats the first.
+/// A box file with this number of backends, the last of which repeats the first.
 fn with_backends(alloc: Global, count: u16) -> Result<String, NoMemory> {
     let mut text = format!(in alloc; "box balancer\nvirtual 1.1.1.1 1\n")?;
     for port in 1..count {

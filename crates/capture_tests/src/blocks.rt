@@ -122,7 +122,7 @@ fn two_sections_are_read(rt: HostRuntime) -> Result<(), Fail> {
     Ok(())
 }
 
-/// What the first so many bytes of the two sections come to.
+/// What the two sections come to where they are cut to this length.
 fn wanted_of_prefix(alloc: Global, length: usize) -> Result<String, NoMemory> {
     let want = match length {
         0..4 => return Ok(format!(in alloc; "offset {length}: short header")?),
@@ -139,7 +139,7 @@ fn wanted_of_prefix(alloc: Global, length: usize) -> Result<String, NoMemory> {
     Ok(format!(in alloc; "{want}")?)
 }
 
-/// Whether the first so many of these bytes come to what is wanted of them.
+/// Whether these bytes, cut to this length, come to what is wanted of them.
 fn prefix_is_right(alloc: Global, bytes: &[u8], length: usize) -> Result<bool, NoMemory> {
     let told = told(alloc, &bytes[..length.min(bytes.len())])?;
     Ok(told.as_str() == wanted_of_prefix(alloc, length)?.as_str())

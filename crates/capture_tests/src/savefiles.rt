@@ -146,7 +146,7 @@ fn each_form_is_read_in_any_pieces(rt: HostRuntime) -> Result<(), Fail> {
     Ok(())
 }
 
-/// What the first so many bytes of the two packets, in any form, come to.
+/// What the two packets come to, in any form, where they are cut to this length.
 fn wanted_of_prefix(alloc: Global, length: usize) -> Result<String, NoMemory> {
     let want = match length {
         0..24 => return Ok(format!(in alloc; "offset {length}: short header")?),
@@ -159,7 +159,7 @@ fn wanted_of_prefix(alloc: Global, length: usize) -> Result<String, NoMemory> {
     Ok(format!(in alloc; "{want}")?)
 }
 
-/// Whether the first so many of these bytes come to what is wanted of them.
+/// Whether these bytes, cut to this length, come to what is wanted of them.
 fn prefix_is_right(alloc: Global, bytes: &[u8], length: usize) -> Result<bool, NoMemory> {
     let told = told(alloc, &bytes[..length.min(bytes.len())])?;
     Ok(told.as_str() == wanted_of_prefix(alloc, length)?.as_str())
@@ -275,7 +275,7 @@ const ZEROS: [(usize, &str); 3] = [
     (16 * 65_537, "too large: packets"),
 ];
 
-/// Whether so many zeros come to this behind a savefile's header.
+/// Whether this number of zeros behind a savefile's header comes to this.
 fn zeros_come_to(alloc: Global, size: usize, wanted: &str) -> Result<bool, NoMemory> {
     let zeros = vec![in alloc; 0u8; size]?;
     let bytes = joined(alloc, &[LITTLE_MICRO, &zeros])?;
@@ -291,7 +291,7 @@ fn the_65537th_packet_is_too_large(rt: HostRuntime) -> Result<(), Fail> {
     Ok(())
 }
 
-/// Appends a record with this header and so many zeros.
+/// Appends a record with this header and this number of zeros.
 fn add_record(
     alloc: Global,
     bytes: &mut Bytes,

@@ -93,7 +93,7 @@ fn count_tcp(packets: &[Packet]) -> usize {
     count
 }
 
-/// The header with its checksum, and the transport with its checksum behind the pseudo-header, add up to all ones. So many are of TCP.
+/// The header with its checksum, and the transport with its checksum behind the pseudo-header, add up to all ones. The number of those of TCP.
 fn assert_filled_in(rt: &impl Abort, alloc: Global, packets: &[Packet]) {
     for (number, packet) in packets.iter().enumerate() {
         let sums = sums(alloc, packet.bytes.as_slice());

@@ -77,7 +77,7 @@ fn keeps_the_inputs_of_each_thread(rt: HostRuntime) -> Result<(), NoMemory> {
     Ok(())
 }
 
-/// Numbers of threads, and the thread of the answer among so many.
+/// Numbers of threads, and the thread of the answer among them.
 const STEERED: [(u32, u32); 3] = [(1, 0), (7, 4), (16, 10)];
 
 /// 198.51.100.7 + 203.0.113.1 + 53 + 39,276 + 17 is 6,731,099,834.

@@ -140,7 +140,7 @@ const TEXTS: [(&str, u64, &str); 6] = [
     ),
 ];
 
-/// Whether a text has so many lines, and its lines and words are told like this.
+/// Whether a text has this number of lines, and its lines and words are told like this.
 fn tells(alloc: Global, text: &[u8], count: u64, told: &[u8]) -> bool {
     match lines_told(alloc, text) {
         Ok(lines) => lines.as_slice() == told && count_lines(text) == count,

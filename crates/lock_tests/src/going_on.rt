@@ -82,7 +82,7 @@ fn wants_before_and_after<P: Program>(
     (before, Some(wants(program, &master)))
 }
 
-/// The touch of a variable, as an entry of this number, after so many touches.
+/// The touch of a variable, as an entry of this number, after this number of touches.
 fn touch(number: u64, var: u32, places: u64) -> Wants {
     Wants::Touch {
         number,

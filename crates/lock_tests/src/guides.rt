@@ -99,7 +99,7 @@ fn followed_moves_in_another_order(rt: HostRuntime) -> Result<(), Fail> {
     Ok(())
 }
 
-/// Two threads of a fresh master that race and follow what these did. They take so many inputs each, at this time.
+/// Two threads of a fresh master that race and follow what these did. They take this number of inputs each, at this time.
 fn race_after<P: Program + Sync, R: Threads + Wait + Sync>(
     rt: &R,
     alloc: Global,

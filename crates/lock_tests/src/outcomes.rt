@@ -12,7 +12,7 @@ use plain_text::{NoMemory, Packet, Text};
 use std::alloc::Global;
 use var_locks::Closed;
 
-/// No thread of a test comes to so many inputs, entries or outputs.
+/// No thread of a test comes to this number of inputs, entries or outputs.
 const MOST_COUNT: u64 = 1 << 40;
 
 /// What a round of two threads came to.

@@ -139,7 +139,7 @@ fn raced_with<P: Program + Sync, R: Threads + Wait + Sync>(
     Ok((outcome, shown))
 }
 
-/// What a race of two threads comes to, each with so many packets of one of these frames; and whether the variable then shows so.
+/// What a race of two threads comes to, each with this number of packets of one of these frames; and whether the variable then shows so.
 fn raced<P: Program + Sync, R: Threads + Wait + Sync>(
     rt: &R,
     alloc: Global,
@@ -157,7 +157,7 @@ fn raced<P: Program + Sync, R: Threads + Wait + Sync>(
     raced_with(rt, alloc, program, feed, shown)
 }
 
-/// What comes where each thread took and sent out so many packets, and logged and made so many entries and moves.
+/// What comes where each thread took and sent out this number of packets, and logged and made this number of entries and moves.
 fn wanted(packets: u64, entries: u64, moves: usize) -> Outcome {
     let counts = Counts {
         taken: packets,

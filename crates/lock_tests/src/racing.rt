@@ -12,7 +12,7 @@ use std::alloc::Global;
 use std::sync::Wait;
 use var_locks::{OpenGate, Round, Touched, VarSeat, Vars};
 
-/// No thread of a test comes to so many inputs, entries or outputs.
+/// No thread of a test comes to this number of inputs, entries or outputs.
 const MOST_COUNT: u64 = 1 << 40;
 
 /// The moves that a packet takes at most, with its take and its end.
@@ -25,7 +25,7 @@ const IDLE: u64 = 300_000_000;
 #[derive(Clone, Copy)]
 pub struct Feed<'a> {
     pub inputs: &'a InputLog,
-    /// Each thread takes its first inputs, so many.
+    /// Each thread takes this number of its first inputs.
     pub count: u64,
     /// The time of the round, in microseconds: a thread's k-th packet is told the time k times 300 s later.
     pub time: u64,

@@ -81,7 +81,7 @@ fn fault_of(alloc: Global, bytes: &[u8]) -> Option<FrameError> {
     }
 }
 
-/// Whether the bytes are the frame of this entry, in epoch 1 and of so many threads.
+/// Whether the bytes are the frame of this entry, in epoch 1 and of this number of threads.
 fn is_entry(alloc: Global, bytes: &[u8], threads: u32, entry: &StampedEntry) -> bool {
     let Ok((frame, size)) = take_frame(alloc, bytes) else {
         return false;

@@ -4,7 +4,7 @@ use Rattle.std.specs.List.{All, sum_by}
 use Rattle.nat_tables.specs.Ports.{one_if}
 use Rattle.nat_tables.specs.declared.port_group.Group.{Group}
 
--- the ports of parts that stand in a row from `first` on, where each part spans so many numbers
+-- the ports of parts that stand in a row from `first` on, where each part spans this count of numbers
 abbrev pub in_row : {B : Type 0} → (ℕ → B → List ℕ) → ℕ → ℕ → List B → List ℕ
 in_row ports span first [] = []
 in_row ports span first (b ∷ bs) = ports first b ++ in_row ports span (first + span) bs
@@ -12,7 +12,7 @@ in_row ports span first (b ∷ bs) = ports first b ++ in_row ports span (first +
 abbrev pub bit_ports : ℕ → Bool → List ℕ
 bit_ports first bit = if bit then first ∷ [] else []
 
--- the lowest bits of a word, so many
+-- this number of the lowest bits of a word
 abbrev pub bits_of : ℕ → ℕ → List Bool
 bits_of zero word = []
 bits_of (suc n) word = (word % 2 == 1) ∷ bits_of n (word / 2)
@@ -46,7 +46,7 @@ pub record IsCounted (group : Group) : Type 0 where
   pub words : length group.words ≡ 8
   pub count : group.count ≡ sum_by word_count group.words
 
--- all ports of a parity have their groups, and so many of them are free
+-- all ports of a parity have their groups, and this number of them are free
 pub record AreCounted (free : ℕ) (groups : List Group) : Type 0 where
   pub all : length groups ≡ 64
   pub each : All IsCounted groups

@@ -81,7 +81,7 @@ give_back protocol p pool =
 abbrev pub no_ports : Ports
 no_ports = record { even = []; odd = [] }
 
--- these ports, and so many ports from `low` on
+-- these ports, and this number of ports from `low` on
 abbrev pub ports_from : ℕ → ℕ → Ports → Ports
 ports_from low zero ports = ports
 ports_from low (suc n) ports = given_back_to (low + n) (ports_from low n ports)

@@ -27,7 +27,7 @@ fn without_bit(word: u64, bit: u32) -> u64
     word & !(1 << bit)
 }
 
-/// The bit that is set behind so many others that are.
+/// The bit that is set behind this number of others that are.
 fn find_bit(word: u64, at: u16) -> u32
     requires { at < word_count word }
     ensures { IsAt one_if (word_bits word) at result 0 }

@@ -112,7 +112,7 @@ fn is_first_missing(alloc: Global, log: &[LogEntry], held: &[LogEntry], first: &
     }
 }
 
-/// Whether so many entries are missing for it.
+/// Whether this number of entries are missing for it.
 fn are_missing(alloc: Global, log: &[LogEntry], held: &[LogEntry], count: usize) -> bool {
     match missing_entries(alloc, log, &[], held, 0, 1) {
         Ok(missing) => missing.len() == count,

@@ -116,7 +116,7 @@ pub record BeginsEpoch (old new : Sending) : Type 0 where
   pub epoch : new.epoch ≡ old.epoch + 1
   pub threads : new.threads ≡ old.threads
 
--- Of this thread only the first ones count as sent: so many entries, and so many outputs.
+-- Of this thread only the first ones count as sent: this number of entries, and this number of outputs.
 pub record TurnsBack (old new : Sending) (t logged emitted : ℕ) : Type 0 where
   pub frames : new.frames ≡ old.frames
   pub entries : new.entries ≡ slice_set old.entries t (take logged (lengths_of old.entries t))

@@ -93,7 +93,7 @@ pub fn snap<P: Program>(core: &mut Core<P>) -> Result<Outcome, NoMemory>
     Ok(Outcome::Copied(total(&core.master.entry_counts())))
 }
 
-/// Forgets the frames of the entries that a stored snapshot has, of which there are so many.
+/// Forgets the frames of the entries that a stored snapshot has, by the number of each thread.
 fn forget_stored(sent: &mut SentFrames, threads: u32, counts: &Stamp)
     requires { threads ≤ 16 }
     ensures { ForgetsCovered sent.old sent.new counts.now }

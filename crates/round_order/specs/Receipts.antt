@@ -76,7 +76,7 @@ abbrev pub IsRead : {V : Type 0} → Receipt V → ℕ → Type 0
 IsRead r v = (e : Entry) × (r.step.act ≡ Did e None) × (e.what ≡ Read v r.place)
 
 -- What an effect of a thread did that has this number of inputs taken now: its numbers go on from those of the thread's own
--- moves, and so many touches of the variable stand before it.
+-- moves, and this number of touches of the variable stand before it.
 abbrev pub act_at : {V : Type 0} → ℕ → List (Step V) → ℕ → ℕ → Effect V → Act V
 act_at t mine taken place Takes = Took taken
 act_at t mine taken place (Touches v left) = Did (entry_of t (log_of mine) (Access v (place + 1))) (Some left)

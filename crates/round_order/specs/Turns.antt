@@ -38,7 +38,7 @@ abbrev pub last_mark : List (Option ℕ) → ℕ → Option ℕ
 last_mark marks zero = None
 last_mark marks (suc n) = slice_index_or marks n None
 
--- the newest of a thread's receipts, where so many of each thread are left
+-- the newest of a thread's receipts, where this number of each thread are left
 abbrev pub newest : List (List (Option ℕ)) → List ℕ → ℕ → Option ℕ
 newest lists left t = last_mark (slice_index_or lists t []) (slice_index left t)
 

@@ -357,7 +357,7 @@ fn happen<P: Program>(
     Ok(made.err())
 }
 
-/// So many events, chosen by the words of the generator of a seed; the limit that one of them would pass, if any.
+/// This number of events, chosen by the words of the generator of a seed; the limit that one of them would pass, if any.
 fn choose<P: Program>(
     world: &mut SlowWorld<P::Value>,
     alloc: Global,

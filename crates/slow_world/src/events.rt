@@ -45,7 +45,7 @@ pub fn opening<P: Program>(alloc: Global, _program: &P) -> SlowWorld<P::Value>
     }
 }
 
-/// So many packets are fed, or as many as are left.
+/// This number of packets is fed, or as many as are left.
 fn on_feed<V>(world: &mut SlowWorld<V>, setup: &Setup, n: u64) -> Outcome
     ensures on { (m : Meaning V) → FeedsTo (setting_is m setup.now) (world_is world.old) n result
         (world_is world.new) }

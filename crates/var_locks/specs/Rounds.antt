@@ -20,7 +20,7 @@ use Rattle.var_locks.specs.Codes.{master_code}
 use Rattle.var_locks.specs.Notes.{IsOwn, IsOnVariable, IsGuided}
 use Rattle.var_locks.specs.Told.{AreFirstWords, ArePlaces}
 
--- The round is of this program, and has so many words: one for each variable, and one for each thread.
+-- The round is of this program, and has this number of words: one for each variable, and one for each thread.
 pub record IsRoundOf {P V : Type 0} (meaning : P → Meaning V) (c : Coded P) (d : Coded V) (program opening : Gv) (parts : List ThreadPart) (q : P) (words : ℕ) : Type 0 where
   pub is : c.code q ≡ program
   pub master : Mastered V

@@ -11,7 +11,7 @@ use Rattle.wire_frames.specs.declared.version.Version.TheVariants.{One, Two}
 use Rattle.wire_frames.specs.declared.frame.Frame.{Frame}
 use Rattle.wire_frames.specs.declared.frame.Frame.TheVariants as frame
 
--- the number in so many bytes from this place on
+-- the number in this number of bytes from this place on
 abbrev pub number_at : ℕ → ℕ → List ℕ → ℕ
 number_at width place bytes = big_number width (drop place bytes)
 

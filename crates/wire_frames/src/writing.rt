@@ -43,7 +43,7 @@ pub fn output_length(output: &Output) -> usize
     BARE_OUTPUT + 8 * count_nonzero(&output.stamp) + output.packet.bytes.len()
 }
 
-/// The frame of an entry of this epoch, of a sender with so many threads.
+/// The frame of an entry of this epoch, of a sender with this number of threads.
 pub fn put_entry(
     alloc: Global,
     epoch: u32,
@@ -63,7 +63,7 @@ pub fn put_entry(
     Ok(frame)
 }
 
-/// The frame of an output of this epoch, of a sender with so many threads. Its header is put in front of the captured bytes, which
+/// The frame of an output of this epoch, of a sender with this number of threads. Its header is put in front of the captured bytes, which
 /// stay where they are if there is room for it (`HEADER_ROOM`).
 pub fn put_output(
     alloc: Global,
