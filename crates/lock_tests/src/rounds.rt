@@ -21,7 +21,8 @@ use var_locks::{Closed, Round, VarSeat, Vars};
 
 /// The two seats of a round.
 fn two_of<P: Program>(mut seats: Vec<VarSeat<P>>) -> Option<(VarSeat<P>, VarSeat<P>)>
-    ensures { (round : TableId) (places : List ℕ) (threads : List ThreadPart) → seats.items ≡ fresh_seats round places 0 threads → length threads ≡ 2
+    ensures { (round : TableId) (places : List ℕ) (threads : List ThreadPart)
+        → seats.items ≡ fresh_seats round places 0 threads → length threads ≡ 2
         → IfSome result (λ both. IsAt round 0 false both.0 × IsAt round 1 false both.1) }
 {
     let second = seats.pop()?;
