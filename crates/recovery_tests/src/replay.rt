@@ -7,7 +7,7 @@ use plain_text::{Bytes, NoMemory, Packet, Unit, put_u64};
 use recovery_world::Event;
 use script_text::{write_outcome, write_released};
 use slow_runs::{finish, on};
-use slow_world::{Setup, SlowWorld, opening};
+use slow_world::{Reply, Setup, SlowWorld, opening};
 use std::alloc::Global;
 
 /// `QUERY` of `sample_frames` from port 5002, with the identification 3.
@@ -51,6 +51,20 @@ pub fn setup_of(alloc: Global, threads: u32, frames: &[(&[u8], usize)]) -> Resul
     })
 }
 
+/// Appends a reply.
+fn put_reply(text: &mut String, reply: &Reply) -> Result<(), NoMemory> {
+    write_outcome(text, &reply.outcome)?;
+    write_released(text, &reply.freed)?;
+    Ok(())
+}
+
+/// Whether this is the text of a reply.
+fn is_reply(alloc: Global, reply: &Reply, right: &str) -> Result<bool, NoMemory> {
+    let mut text = String::new(alloc);
+    put_reply(&mut text, reply)?;
+    Ok(text.as_str() == right)
+}
+
 /// Whether the event has this reply.
 fn replies<P: Program>(
     world: &mut SlowWorld<P::Value>,
@@ -58,18 +72,15 @@ fn replies<P: Program>(
     program: &P,
     setup: &Setup,
     event: Event,
-    reply: &str,
+    right: &str,
 ) -> Result<bool, NoMemory>
     requires { WorldFits (P.fits program.now) world.old }
     ensures { IfOk result (λ _. WorldFits (P.fits program.now) world.new) }
 {
-    let Ok(made) = on(world, alloc, program, setup, event)? else {
-        return Ok(false);
-    };
-    let mut text = String::new(alloc);
-    write_outcome(&mut text, &made.outcome)?;
-    write_released(&mut text, &made.freed)?;
-    Ok(text.as_str() == reply)
+    match on(world, alloc, program, setup, event)? {
+        Ok(reply) => is_reply(alloc, &reply, right),
+        Err(_) => Ok(false),
+    }
 }
 
 /// The number of events, from the front on, that have their replies.
@@ -95,15 +106,21 @@ fn right_replies<P: Program>(
     }
 }
 
+/// Appends the numbers at the end.
+fn put_done<V>(text: &mut Bytes, world: &SlowWorld<V>) -> Result<(), NoMemory> {
+    text.extend(b"done fed ")?;
+    put_u64(text, world.fed as u64)?;
+    text.extend(b" epoch ")?;
+    put_u64(text, world.epoch)?;
+    text.extend(b" released ")?;
+    put_u64(text, world.released.len() as u64)?;
+    Ok(())
+}
+
 /// Whether the numbers at the end are these.
 fn ends_so<V>(alloc: Global, world: &SlowWorld<V>, done: &str) -> Result<bool, NoMemory> {
     let mut text = Bytes::new(alloc);
-    text.extend(b"done fed ")?;
-    put_u64(&mut text, world.fed as u64)?;
-    text.extend(b" epoch ")?;
-    put_u64(&mut text, world.epoch)?;
-    text.extend(b" released ")?;
-    put_u64(&mut text, world.released.len() as u64)?;
+    put_done(&mut text, world)?;
     Ok(text.as_slice() == done.as_bytes())
 }
 

@@ -79,7 +79,7 @@ const ONE_PACKET: Example = Example {
 #[test]
 fn one_packet(rt: HostRuntime) -> Result<(), Fail> {
     let wrong = first_wrong(rt.alloc(), &CountBox::new(), &ONE_PACKET)?;
-    assert_eq!(rt; wrong, None);
+    assert!(rt; wrong.is_none(), "at reply {wrong:?}");
     Ok(())
 }
 
@@ -105,7 +105,7 @@ const WAITING_OUTPUT: Example = Example {
 #[test]
 fn an_output_waits_for_another_thread(rt: HostRuntime) -> Result<(), Fail> {
     let wrong = first_wrong(rt.alloc(), &CountBox::new(), &WAITING_OUTPUT)?;
-    assert_eq!(rt; wrong, None);
+    assert!(rt; wrong.is_none(), "at reply {wrong:?}");
     Ok(())
 }
 
@@ -135,7 +135,7 @@ const DROPPED_ENTRY: Example = Example {
 #[test]
 fn an_entry_without_its_predecessor_is_dropped(rt: HostRuntime) -> Result<(), Fail> {
     let wrong = first_wrong(rt.alloc(), &CountBox::new(), &DROPPED_ENTRY)?;
-    assert_eq!(rt; wrong, None);
+    assert!(rt; wrong.is_none(), "at reply {wrong:?}");
     Ok(())
 }
 
@@ -167,7 +167,7 @@ const DISCARDED_OUTPUT: Example = Example {
 #[test]
 fn an_output_that_waited_is_discarded(rt: HostRuntime) -> Result<(), Fail> {
     let wrong = first_wrong(rt.alloc(), &CountBox::new(), &DISCARDED_OUTPUT)?;
-    assert_eq!(rt; wrong, None);
+    assert!(rt; wrong.is_none(), "at reply {wrong:?}");
     Ok(())
 }
 
@@ -208,7 +208,7 @@ const FOLLOWED_ENTRIES: Example = Example {
 #[test]
 fn a_new_master_follows(rt: HostRuntime) -> Result<(), Fail> {
     let wrong = first_wrong(rt.alloc(), &CountBox::new(), &FOLLOWED_ENTRIES)?;
-    assert_eq!(rt; wrong, None);
+    assert!(rt; wrong.is_none(), "at reply {wrong:?}");
     Ok(())
 }
 
@@ -236,7 +236,7 @@ const FREE_TOUCH: Example = Example {
 #[test]
 fn a_free_touch_waits_for_a_followed_one(rt: HostRuntime) -> Result<(), Fail> {
     let wrong = first_wrong(rt.alloc(), &CountBox::new(), &FREE_TOUCH)?;
-    assert_eq!(rt; wrong, None);
+    assert!(rt; wrong.is_none(), "at reply {wrong:?}");
     Ok(())
 }
 
@@ -261,7 +261,7 @@ const LOST_SNAPSHOT: Example = Example {
 #[test]
 fn a_snapshot_under_way_is_lost(rt: HostRuntime) -> Result<(), Fail> {
     let wrong = first_wrong(rt.alloc(), &CountBox::new(), &LOST_SNAPSHOT)?;
-    assert_eq!(rt; wrong, None);
+    assert!(rt; wrong.is_none(), "at reply {wrong:?}");
     Ok(())
 }
 
@@ -290,7 +290,7 @@ const STORED_SNAPSHOT: Example = Example {
 #[test]
 fn a_stored_snapshot_covers(rt: HostRuntime) -> Result<(), Fail> {
     let wrong = first_wrong(rt.alloc(), &CountBox::new(), &STORED_SNAPSHOT)?;
-    assert_eq!(rt; wrong, None);
+    assert!(rt; wrong.is_none(), "at reply {wrong:?}");
     Ok(())
 }
 
@@ -316,7 +316,7 @@ const SNAPSHOT_WITH_OUTPUT: Example = Example {
 #[test]
 fn a_snapshot_has_its_outputs(rt: HostRuntime) -> Result<(), Fail> {
     let wrong = first_wrong(rt.alloc(), &CountBox::new(), &SNAPSHOT_WITH_OUTPUT)?;
-    assert_eq!(rt; wrong, None);
+    assert!(rt; wrong.is_none(), "at reply {wrong:?}");
     Ok(())
 }
 
@@ -348,7 +348,7 @@ const RECORDED_ANSWERS: Example = Example {
 #[test]
 fn recorded_answers_come_again(rt: HostRuntime) -> Result<(), Fail> {
     let wrong = first_wrong(rt.alloc(), &TranslatorMoves {}, &RECORDED_ANSWERS)?;
-    assert_eq!(rt; wrong, None);
+    assert!(rt; wrong.is_none(), "at reply {wrong:?}");
     Ok(())
 }
 
@@ -377,7 +377,7 @@ const NEXT_WORDS: Example = Example {
 #[test]
 fn words_are_never_given_again(rt: HostRuntime) -> Result<(), Fail> {
     let wrong = first_wrong(rt.alloc(), &TranslatorMoves {}, &NEXT_WORDS)?;
-    assert_eq!(rt; wrong, None);
+    assert!(rt; wrong.is_none(), "at reply {wrong:?}");
     Ok(())
 }
 
@@ -412,7 +412,7 @@ const TWO_RECOVERIES: Example = Example {
 #[test]
 fn two_recoveries(rt: HostRuntime) -> Result<(), Fail> {
     let wrong = first_wrong(rt.alloc(), &MonitorBox::new(2), &TWO_RECOVERIES)?;
-    assert_eq!(rt; wrong, None);
+    assert!(rt; wrong.is_none(), "at reply {wrong:?}");
     Ok(())
 }
 
@@ -436,7 +436,7 @@ const RELEASED_OUTPUT: Example = Example {
 #[test]
 fn the_schedule_sends_what_was_released(rt: HostRuntime) -> Result<(), Fail> {
     let wrong = first_wrong(rt.alloc(), &CountBox::new(), &RELEASED_OUTPUT)?;
-    assert_eq!(rt; wrong, None);
+    assert!(rt; wrong.is_none(), "at reply {wrong:?}");
     Ok(())
 }
 
@@ -476,7 +476,7 @@ const SHORT_FRAMES: Example = Example {
 #[test]
 fn a_frame_may_come_short(rt: HostRuntime) -> Result<(), Fail> {
     let wrong = first_wrong(rt.alloc(), &CountBox::new(), &SHORT_FRAMES)?;
-    assert_eq!(rt; wrong, None);
+    assert!(rt; wrong.is_none(), "at reply {wrong:?}");
     Ok(())
 }
 
@@ -508,7 +508,7 @@ const FOLLOWED_READ: Example = Example {
 #[test]
 fn reads_are_followed(rt: HostRuntime) -> Result<(), Fail> {
     let wrong = first_wrong(rt.alloc(), &PeekBox::new(), &FOLLOWED_READ)?;
-    assert_eq!(rt; wrong, None);
+    assert!(rt; wrong.is_none(), "at reply {wrong:?}");
     Ok(())
 }
 
@@ -534,7 +534,7 @@ const DROPPED_TOUCH: Example = Example {
 #[test]
 fn a_touch_without_its_read_is_dropped(rt: HostRuntime) -> Result<(), Fail> {
     let wrong = first_wrong(rt.alloc(), &PeekBox::new(), &DROPPED_TOUCH)?;
-    assert_eq!(rt; wrong, None);
+    assert!(rt; wrong.is_none(), "at reply {wrong:?}");
     Ok(())
 }
 
@@ -559,6 +559,6 @@ const FREE_READ: Example = Example {
 #[test]
 fn a_free_read_goes_on(rt: HostRuntime) -> Result<(), Fail> {
     let wrong = first_wrong(rt.alloc(), &PeekBox::new(), &FREE_READ)?;
-    assert_eq!(rt; wrong, None);
+    assert!(rt; wrong.is_none(), "at reply {wrong:?}");
     Ok(())
 }

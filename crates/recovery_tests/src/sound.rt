@@ -143,12 +143,17 @@ fn sends_all<V>(
     }
 }
 
+/// Whether what waits was sent out and is not due.
+fn waits_rightly<V>(world: &SlowWorld<V>, alloc: Global) -> Result<bool, NoMemory> {
+    let log = log_of(alloc, &world.past)?;
+    let stored = log_of(alloc, &world.stored)?;
+    all_wait(alloc, world, &log, &stored, &world.waiting)
+}
+
 /// Whether the world is sound: the stored history and the copy are what the past was; the held entries stand once, and the
 /// followed ones are among them; each released and each waiting output stands once; and what waits was sent out and is not
 /// due.
 pub fn is_sound<V>(world: &SlowWorld<V>, alloc: Global) -> Result<bool, NoMemory> {
-    let log = log_of(alloc, &world.past)?;
-    let stored = log_of(alloc, &world.stored)?;
     let is_copy = match &world.copy {
         Some(copy) => is_earlier(copy, &world.past),
         None => true,
@@ -160,8 +165,19 @@ pub fn is_sound<V>(world: &SlowWorld<V>, alloc: Global) -> Result<bool, NoMemory
             && are_among(&world.followed, &world.held)
             && are_once(&world.released, &world.waiting)
             && are_once(&world.waiting, &[])
-            && all_wait(alloc, world, &log, &stored, &world.waiting)?,
+            && waits_rightly(world, alloc)?,
     )
+}
+
+/// Whether all predecessors of the entry in the line are known.
+fn follows_known(
+    alloc: Global,
+    line: &[LogEntry],
+    known: &[LogEntry],
+    entry: &LogEntry,
+) -> Result<bool, NoMemory> {
+    let before = entries_up_to(alloc, line, entry)?;
+    Ok(are_among(&before, known))
 }
 
 /// The held entries all of whose predecessors in the line are held or stored.
@@ -175,8 +191,7 @@ fn with_predecessors(
         [] => Ok(Vec::new(alloc)),
         [entry, rest @ ..] => {
             let mut kept = with_predecessors(alloc, line, known, rest)?;
-            let before = entries_up_to(alloc, line, entry)?;
-            if are_among(&before, known) {
+            if follows_known(alloc, line, known, entry)? {
                 kept.push(*entry)?;
             }
             Ok(kept)
@@ -184,16 +199,39 @@ fn with_predecessors(
     }
 }
 
+/// These entries, and then the others.
+fn joined(
+    alloc: Global,
+    entries: &[LogEntry],
+    others: &[LogEntry],
+) -> Result<Vec<LogEntry>, NoMemory> {
+    let mut all = Vec::from_slice(alloc, entries)?;
+    all.extend_from_slice(others)?;
+    Ok(all)
+}
+
+/// The line of the world: what is followed, and then what was logged.
+fn line_of<V>(world: &SlowWorld<V>, alloc: Global) -> Result<Vec<LogEntry>, NoMemory> {
+    let log = log_of(alloc, &world.past)?;
+    joined(alloc, &world.followed, &log)
+}
+
+/// What is held with all its predecessors, where these are stored.
+fn held_whole<V>(
+    world: &SlowWorld<V>,
+    alloc: Global,
+    stored: &[LogEntry],
+) -> Result<Vec<LogEntry>, NoMemory> {
+    let line = line_of(world, alloc)?;
+    let known = joined(alloc, &world.held, stored)?;
+    with_predecessors(alloc, &line, &known, &world.held)
+}
+
 /// What the run in which the world ends must keep: what is stored, and what is held with all its predecessors.
 fn must_keep<V>(world: &SlowWorld<V>, alloc: Global) -> Result<Vec<LogEntry>, NoMemory> {
-    let mut line = Vec::from_slice(alloc, &world.followed)?;
-    line.extend_from_slice(&log_of(alloc, &world.past)?)?;
     let stored = log_of(alloc, &world.stored)?;
-    let mut known = Vec::from_slice(alloc, &world.held)?;
-    known.extend_from_slice(&stored)?;
-    let mut kept = with_predecessors(alloc, &line, &known, &world.held)?;
-    kept.extend_from_slice(&stored)?;
-    Ok(kept)
+    let kept = held_whole(world, alloc, &stored)?;
+    joined(alloc, &kept, &stored)
 }
 
 /// What a move was told.
@@ -208,10 +246,10 @@ fn answer_of<V>(made: &Made<V>) -> Option<u64> {
 }
 
 /// Whether what a player sent out is what a move of a history did.
-fn is_sent<V>(sent: Option<Emission>, made: &Made<V>) -> bool {
+fn is_sent<V>(sent: &Option<Emission>, made: &Made<V>) -> bool {
     match (sent, made) {
         (None, Made::Sent(_)) => false,
-        (Some(emission), Made::Sent(other)) => is_same_emission(&emission, other),
+        (Some(emission), Made::Sent(other)) => is_same_emission(emission, other),
         (Some(_), _) => false,
         (None, _) => true,
     }
@@ -244,7 +282,7 @@ fn plays_step<P: Program>(
         answer: answer_of(&step.made),
     };
     match player.step(alloc, program, plain, Some(packet)) {
-        Ok(sent) => Ok(is_sent(sent, &step.made)),
+        Ok(sent) => Ok(is_sent(&sent, &step.made)),
         Err(MoveError::Illegal(_)) => Ok(false),
         Err(MoveError::NoMemory) => Err(NoMemory),
     }
@@ -291,6 +329,44 @@ fn is_legal<P: Program>(
     plays(alloc, program, setup, &mut player, steps)
 }
 
+/// Whether the world ends in a run.
+fn is_finished<P: Program>(
+    world: &mut SlowWorld<P::Value>,
+    alloc: Global,
+    program: &P,
+    setup: &Setup,
+) -> Result<bool, NoMemory>
+    requires { WorldFits (P.fits program.now) world.old }
+    ensures { IfOk result (λ _. WorldFits (P.fits program.now) world.new) }
+{
+    Ok(finish(world, alloc, program, setup)?.is_some())
+}
+
+/// Whether these entries are in the log of the world.
+fn has_logged<V>(
+    world: &SlowWorld<V>,
+    alloc: Global,
+    entries: &[LogEntry],
+) -> Result<bool, NoMemory> {
+    let log = log_of(alloc, &world.past)?;
+    Ok(are_among(entries, &log))
+}
+
+/// Whether the run in which the world ended is legal, keeps these entries, and sends out each packet that was released.
+fn has_ended_well<P: Program>(
+    world: &SlowWorld<P::Value>,
+    alloc: Global,
+    program: &P,
+    setup: &Setup,
+    kept: &[LogEntry],
+) -> Result<bool, NoMemory> {
+    Ok(
+        has_logged(world, alloc, kept)?
+            && sends_all(alloc, &world.past, &world.released)?
+            && is_legal(alloc, program, setup, &world.past)?,
+    )
+}
+
 /// Whether the world ends in a run that is legal, keeps what is stored and what is held with all its predecessors, and sends
 /// out each packet that was released.
 pub fn ends_well<P: Program>(
@@ -303,13 +379,8 @@ pub fn ends_well<P: Program>(
     ensures { IfOk result (λ _. WorldFits (P.fits program.now) world.new) }
 {
     let kept = must_keep(world, alloc)?;
-    if finish(world, alloc, program, setup)?.is_none() {
+    if !is_finished(world, alloc, program, setup)? {
         return Ok(false);
     }
-    let log = log_of(alloc, &world.past)?;
-    Ok(
-        are_among(&kept, &log)
-            && sends_all(alloc, &world.past, &world.released)?
-            && is_legal(alloc, program, setup, &world.past)?,
-    )
+    has_ended_well(world, alloc, program, setup, &kept)
 }
