@@ -1,4 +1,4 @@
-ghost use Rattle.std.specs.Prelude.{◌≡◌, ◌≤◌, IfOk};
+ghost use Rattle.std.specs.Prelude.{◌≤◌, IfOk};
 ghost use Rattle.slow_world.specs.Mirror.{WorldFits};
 
 use crate::replay::{SEED, Told, capture_of, run_on};
