@@ -245,25 +245,32 @@ fn race_in(
     goes_well(alloc, &mut master, program, packets, inputs, &mut race)
 }
 
-/// Races in every order: how many there are, or the first one in which it does not go well.
+/// What races in every order come to: the number of orders, or the first one in which it does not go well.
+#[derive(Clone, Copy, Debug, PartialEq)]
+enum Raced {
+    Well { orders: u32 },
+    Wrong { order: u32 },
+}
+
+/// Races in every order.
 fn race_in_all(
     alloc: Global,
     program: &NatBox,
     packets: &[Packet; 2],
     inputs: &InputLog,
-) -> Result<Result<u32, u32>, NoMemory> {
+) -> Result<Raced, NoMemory> {
     let mut next = Some(0);
-    for raced in 0..=ORDERS {
+    for orders in 0..=ORDERS {
         let Some(order) = next else {
-            return Ok(Ok(raced));
+            return Ok(Raced::Well { orders });
         };
         let (well, after) = race_in(alloc, program, packets, inputs, order)?;
         if !well {
-            return Ok(Err(order));
+            return Ok(Raced::Wrong { order });
         }
         next = after;
     }
-    Ok(Ok(ORDERS + 1))
+    Ok(Raced::Well { orders: ORDERS + 1 })
 }
 
 /// Feeds the two packets: the query is steered to thread 0, the other one to thread 1.
@@ -274,7 +281,7 @@ fn feed(alloc: Global, inputs: &mut InputLog) -> Result<(), NoMemory> {
 }
 
 /// Races the two packets in every order.
-fn race_two_packets(alloc: Global) -> Result<Result<u32, u32>, NoMemory> {
+fn race_two_packets(alloc: Global) -> Result<Raced, NoMemory> {
     let packets = two_packets(alloc)?;
     let mut inputs = InputLog::new(alloc, 2)?;
     feed(alloc, &mut inputs)?;
@@ -285,6 +292,6 @@ fn race_two_packets(alloc: Global) -> Result<Result<u32, u32>, NoMemory> {
 #[test]
 fn a_race_in_every_order(rt: HostRuntime) -> Result<(), Fail> {
     let raced = race_two_packets(rt.alloc())?;
-    assert!(rt; raced == Ok(ORDERS), "{raced:?}");
+    assert!(rt; raced == Raced::Well { orders: ORDERS }, "{raced:?}");
     Ok(())
 }

@@ -383,7 +383,7 @@ fn first_answers(alloc: Global) -> Result<Answers, NoMemory> {
     })
 }
 
-/// What a store without a snapshot under way answers: nothing is stored, and the fresh master is restored.
+/// What a new store answers: no snapshot is under way, none is stored by it, and the fresh master made no move and logged no entry.
 #[test]
 fn a_store_without_a_copy(rt: HostRuntime) -> Result<(), Fail> {
     let answers = first_answers(rt.alloc())?;
