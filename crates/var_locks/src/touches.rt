@@ -8,7 +8,7 @@ ghost use Rattle.var_locks.specs.TouchedParts.{Touches, seen_by, did_by, wanted_
 
 use crate::keeping::{copied, step_of};
 use crate::seats::VarSeat;
-use crate::touching::{Access, Gate, Touched};
+use crate::touching::{Access, Gate, Setting, Touched};
 use crate::vars::Vars;
 use crate::view::Round;
 use access_log::What;
@@ -106,16 +106,13 @@ impl<P: Program, J: Round> Vars<P, J> {
             read,
             place,
         };
-        let touched = self.touch_on(
-            rt,
+        let setting = Setting {
             alloc,
             program,
             guide,
             gate,
-            &mut seat.token,
-            &mut seat.part,
-            access,
-        );
+        };
+        let touched = self.touch_on(rt, &setting, &mut seat.token, &mut seat.part, access);
         note(&mut seat.receipts, seat.thread, &touched);
         see(&mut seat.seen, &touched);
         touched

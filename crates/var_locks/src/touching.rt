@@ -47,6 +47,15 @@ pub(crate) struct Access {
     pub(crate) place: Local,
 }
 
+/// What surrounds a touch or a read, and stays the same while it is tried.
+#[derive(Drop)]
+pub(crate) struct Setting<'a, P, G> {
+    pub(crate) alloc: Global,
+    pub(crate) program: &'a P,
+    pub(crate) guide: &'a Guide,
+    pub(crate) gate: &'a G,
+}
+
 /// What came of a touch or a read.
 #[derive(Debug, Drop)]
 pub enum Touched {
@@ -169,32 +178,33 @@ fn word_after(word: u64, read: bool) -> u64
 
 impl<P: Program, J: Round> Vars<P, J> {
     /// Touches the variable in hand, or reads it, and brings it home.
-    fn make_on(
+    fn make_on<G: Gate>(
         &self,
-        alloc: Global,
-        program: &P,
+        setting: &Setting<'_, P, G>,
         token: &mut Token<P::Value>,
         part: &mut ThreadPart,
         access: Access,
         word: u64,
     ) -> Result<StampedEntry, NoMemory>
-        requires of { AreVarsOf P.meaning P.row.coded P.Value.row.coded program.now self.now }
+        requires of { AreVarsOf P.meaning P.row.coded P.Value.row.coded
+            setting.now.program.now self.now }
         requires table { token.old.table_id ≡ self.now.round }
         requires room { moves_made part.old < 2 ^ 56 }
-        requires wanted { IsWanted (P.meaning program.now) part.old access }
+        requires wanted { IsWanted (P.meaning setting.now.program.now) part.old access }
         requires taken { MayWork P.fits P.row.coded J.program J.guide access word part.old
             token.old.me }
         ensures same { (token.new.table_id ≡ token.old.table_id)
             × (token.new.id ≡ token.old.id) }
-        ensures made { IfOk result (λ e. MadeBy (P.meaning program.now) J.guide access
+        ensures made { IfOk result (λ e. MadeBy (P.meaning setting.now.program.now) J.guide access
             part.old part.new token.old.me token.new.me e) }
         ensures left { OnErr result (MadeNone token.old.me token.new.me part.old part.new) }
     {
         let shared = &self.table.shared;
+        let program = setting.program;
         let var = access.var as usize;
         let before = *part;
         let mut after = *part;
-        let worked = work::<P, J>(alloc, program, shared, token, &mut after, access);
+        let worked = work::<P, J>(setting.alloc, program, shared, token, &mut after, access);
         let Ok(entry) = worked else {
             give_back::<P, J>(program, shared, token, var, word);
             return Err(NoMemory);
@@ -258,27 +268,26 @@ impl<P: Program, J: Round> Vars<P, J> {
     /// Makes the touch or the read that is next of the variable in hand.
     fn go_on<G: Gate>(
         &self,
-        alloc: Global,
-        program: &P,
-        gate: &G,
+        setting: &Setting<'_, P, G>,
         token: &mut Token<P::Value>,
         part: &mut ThreadPart,
         access: Access,
         word: u64,
     ) -> Touched
-        requires of { AreVarsOf P.meaning P.row.coded P.Value.row.coded program.now self.now }
+        requires of { AreVarsOf P.meaning P.row.coded P.Value.row.coded
+            setting.now.program.now self.now }
         requires table { token.old.table_id ≡ self.now.round }
         requires room { moves_made part.old < 2 ^ 56 }
-        requires wanted { IsWanted (P.meaning program.now) part.old access }
+        requires wanted { IsWanted (P.meaning setting.now.program.now) part.old access }
         requires taken { MayWork P.fits P.row.coded J.program J.guide access word part.old
             token.old.me }
         ensures same { (token.new.table_id ≡ token.old.table_id)
             × (token.new.id ≡ token.old.id) }
-        ensures comes { Comes (P.meaning program.now) J.guide access part.old part.new
-            token.old.me token.new.me result }
+        ensures comes { Comes (P.meaning setting.now.program.now) J.guide access
+            part.old part.new token.old.me token.new.me result }
     {
-        gate.pass(access.thread, access.var);
-        match self.make_on(alloc, program, token, part, access, word) {
+        setting.gate.pass(access.thread, access.var);
+        match self.make_on(setting, token, part, access, word) {
             Ok(entry) => Touched::Did(entry),
             Err(NoMemory) => Touched::NoMemory,
         }
@@ -287,33 +296,32 @@ impl<P: Program, J: Round> Vars<P, J> {
     /// Makes the touch or the read that is next of the variable in hand, if the guide does not say to wait there.
     fn try_on<G: Gate>(
         &self,
-        alloc: Global,
-        program: &P,
-        guide: &Guide,
-        gate: &G,
+        setting: &Setting<'_, P, G>,
         token: &mut Token<P::Value>,
         part: &mut ThreadPart,
         access: Access,
         word: u64,
     ) -> Option<Touched>
-        requires of { AreVarsOf P.meaning P.row.coded P.Value.row.coded program.now self.now }
-        requires guide { guide.now ≡ J.guide }
+        requires of { AreVarsOf P.meaning P.row.coded P.Value.row.coded
+            setting.now.program.now self.now }
+        requires guide { setting.now.guide.now ≡ J.guide }
         requires table { token.old.table_id ≡ self.now.round }
         requires room { moves_made part.old < 2 ^ 56 }
-        requires wanted { IsWanted (P.meaning program.now) part.old access }
+        requires wanted { IsWanted (P.meaning setting.now.program.now) part.old access }
         requires taken { IsTaken P.fits P.row.coded J.program access word part.old token.old.me }
         ensures same { (token.new.table_id ≡ token.old.table_id)
             × (token.new.id ≡ token.old.id) }
-        ensures comes { IfSome result (λ r. Comes (P.meaning program.now) J.guide access
-            part.old part.new token.old.me token.new.me r) }
+        ensures comes { IfSome result (λ r. Comes (P.meaning setting.now.program.now) J.guide
+            access part.old part.new token.old.me token.new.me r) }
         ensures waits { IfNone result (MadeNone token.old.me token.new.me part.old part.new) }
     {
         let readers = readers_of::<P, J>(&self.table.shared, token, access.var as usize);
         let number = part.counts.entries + 1;
-        let Some((thread, number)) = waits_for(guide, number, access, word / 2, &readers) else {
-            return Some(self.go_on(alloc, program, gate, token, part, access, word));
+        let Some((thread, number)) = waits_for(setting.guide, number, access, word / 2, &readers)
+        else {
+            return Some(self.go_on(setting, token, part, access, word));
         };
-        if self.wait_on(program, token, access.var, word, thread, number) {
+        if self.wait_on(setting.program, token, access.var, word, thread, number) {
             return Some(Touched::Blocked { thread, number });
         }
         None
@@ -324,29 +332,27 @@ impl<P: Program, J: Round> Vars<P, J> {
     pub(crate) fn touch_on<R: Wait, G: Gate>(
         &self,
         rt: &R,
-        alloc: Global,
-        program: &P,
-        guide: &Guide,
-        gate: &G,
+        setting: &Setting<'_, P, G>,
         token: &mut Token<P::Value>,
         part: &mut ThreadPart,
         access: Access,
     ) -> Touched
-        requires of { AreVarsOf P.meaning P.row.coded P.Value.row.coded program.now self.now }
-        requires guide { guide.now ≡ J.guide }
+        requires of { AreVarsOf P.meaning P.row.coded P.Value.row.coded
+            setting.now.program.now self.now }
+        requires guide { setting.now.guide.now ≡ J.guide }
         requires table { token.old.table_id ≡ self.now.round }
         requires room { moves_made part.old < 2 ^ 56 }
-        requires wanted { IsWanted (P.meaning program.now) part.old access }
+        requires wanted { IsWanted (P.meaning setting.now.program.now) part.old access }
         requires rests { HasThread token.old.me access.thread part.old }
         ensures same { (token.new.table_id ≡ token.old.table_id)
             × (token.new.id ≡ token.old.id) }
-        ensures comes { ComesOf (P.meaning program.now) J.guide access part.old part.new
-            token.old.me token.new.me result }
+        ensures comes { ComesOf (P.meaning setting.now.program.now) J.guide access
+            part.old part.new token.old.me token.new.me result }
     {
         for _ in rt.forever() {
             let shared = &self.table.shared;
-            let word = take_up::<P, J, R>(rt, program, shared, token, access.var as usize);
-            let tried = self.try_on(alloc, program, guide, gate, token, part, access, word);
+            let word = take_up::<P, J, R>(rt, setting.program, shared, token, access.var as usize);
+            let tried = self.try_on(setting, token, part, access, word);
             if let Some(touched) = tried {
                 return touched;
             }

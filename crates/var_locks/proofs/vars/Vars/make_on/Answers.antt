@@ -17,7 +17,7 @@ work-worked-requires-clause-slot g c κs within =
       c.requires.taken.0,
       ap (λ (me : Me (VarPart g.row.P-Value.Denot) (View g.row.P-Value.Denot)). me.1) h.token,
       h.finds.few,
-      h.finds.fit c.args.program.now (round_inside c.self.view_is c.requires.of).is,
+      h.finds.fit c.args.setting.now.program.now (round_inside c.self.view_is c.requires.of).is,
     )
 
 pub word_after-home-requires : goal.word_after-home-requires
@@ -36,12 +36,12 @@ bring_home-requires-clause-next g c κs within =
       c.args.access.place,
       c.in-Ok.entry,
       works.1,
-      subst (λ (e : StampedEntry). MayBring (g.P.Program.meaning c.args.program.now) (g.P.Program.fits c.args.program.now) g.J.Round.guide c.work-worked.new.token.me.0 c.args.access.var c.word_after-home.result works.0 (share_of h.before c.args.access.thread c.args.part.now false)
+      subst (λ (e : StampedEntry). MayBring (g.P.Program.meaning c.args.setting.now.program.now) (g.P.Program.fits c.args.setting.now.program.now) g.J.Round.guide c.work-worked.new.token.me.0 c.args.access.var c.word_after-home.result works.0 (share_of h.before c.args.access.thread c.args.part.now false)
           (note_on c.args.part.now c.work-worked.new.part (trace.Did e) c.work-worked.new.token.me.0) x c.args.access.place c.in-Ok.entry) (sym c.copied.ensures)
-          (subst (λ (k : ℕ). MayBring (g.P.Program.meaning c.args.program.now) (g.P.Program.fits c.args.program.now) g.J.Round.guide c.work-worked.new.token.me.0 c.args.access.var k works.0 (share_of h.before c.args.access.thread c.args.part.now false)
+          (subst (λ (k : ℕ). MayBring (g.P.Program.meaning c.args.setting.now.program.now) (g.P.Program.fits c.args.setting.now.program.now) g.J.Round.guide c.work-worked.new.token.me.0 c.args.access.var k works.0 (share_of h.before c.args.access.thread c.args.part.now false)
           (note_on c.args.part.now c.work-worked.new.part (trace.Did c.in-Ok.entry) c.work-worked.new.token.me.0) x c.args.access.place c.in-Ok.entry) (sym c.word_after-home.ensures)
-          (may_bring (g.P.Program.meaning c.args.program.now) (g.P.Program.fits c.args.program.now) (g.met.P.Program.lawful c.args.program.now) g.J.Round.guide c.args.access.thread c.args.access.var c.args.word c.args.part.now c.work-worked.new.part c.args.access.place x works.0 c.in-Ok.entry h.before
-          c.requires.wanted.hand (h.finds.fit c.args.program.now (round_inside c.self.view_is c.requires.of).is) h.finds.word_is c.args.access.read c.requires.wanted.next works.2 c.requires.taken.2 h.alone c.requires.room c.work-worked.new.token.me.0 view)),
+          (may_bring (g.P.Program.meaning c.args.setting.now.program.now) (g.P.Program.fits c.args.setting.now.program.now) (g.met.P.Program.lawful c.args.setting.now.program.now) g.J.Round.guide c.args.access.thread c.args.access.var c.args.word c.args.part.now c.work-worked.new.part c.args.access.place x works.0 c.in-Ok.entry h.before
+          c.requires.wanted.hand (h.finds.fit c.args.setting.now.program.now (round_inside c.self.view_is c.requires.of).is) h.finds.word_is c.args.access.read c.requires.wanted.next works.2 c.requires.taken.2 h.alone c.requires.room c.work-worked.new.token.me.0 view)),
     )
 
 pub give_back-requires-clause-found : goal.give_back-requires-clause-found
@@ -63,8 +63,8 @@ returns-clause-made g c =
     let view = ap (λ (me : Me (VarPart g.row.P-Value.Denot) (View g.row.P-Value.Denot)). me.0) h.token in
     let before = c.args.part.now in
     let after = c.work-worked.new.part in
-    let made = made_on (g.P.Program.meaning c.args.program.now) (g.P.Program.fits c.args.program.now) (g.met.P.Program.lawful c.args.program.now) g.J.Round.guide c.args.access.thread c.args.access.var c.args.word c.args.part.now c.work-worked.new.part c.args.access.place x works.0 c.in-Ok.entry h.before
-    c.requires.wanted.hand (h.finds.fit c.args.program.now (round_inside c.self.view_is c.requires.of).is) h.finds.word_is c.args.access.read c.requires.wanted.next works.2 c.requires.taken.2 c.args.token.now.me.0 view in (
+    let made = made_on (g.P.Program.meaning c.args.setting.now.program.now) (g.P.Program.fits c.args.setting.now.program.now) (g.met.P.Program.lawful c.args.setting.now.program.now) g.J.Round.guide c.args.access.thread c.args.access.var c.args.word c.args.part.now c.work-worked.new.part c.args.access.place x works.0 c.in-Ok.entry h.before
+    c.requires.wanted.hand (h.finds.fit c.args.setting.now.program.now (round_inside c.self.view_is c.requires.of).is) h.finds.word_is c.args.access.read c.requires.wanted.next works.2 c.requires.taken.2 c.args.token.now.me.0 view in (
       x,
       slots,
       record {

@@ -30,7 +30,7 @@ returns-in-Some-tried-clause-comes g c =
     let inv = c.loop.invariant in
     let t = c.take_up-word.ensures.taken in
     let a = c.args.access in
-    let m = g.P.Program.meaning c.args.program.now in
+    let m = g.P.Program.meaning c.args.setting.now.program.now in
     let taken : c.take_up-word.new.token.me ≡ (with_hand c.args.token.now.me.0 a.var t.0, (a.var, t.0) ∷ []) =
     t.2 ∙ (ap (λ (me : Me (VarPart g.row.P-Value.Denot) (View g.row.P-Value.Denot)). let r : Me (VarPart g.row.P-Value.Denot) (View g.row.P-Value.Denot) = (with_hand me.0 a.var t.0, (a.var, t.0) ∷ me.1) in r) inv.2
     ∙ in_hand c.args.token.now.me a c.args.part.now c.requires.rests t.0) in (
