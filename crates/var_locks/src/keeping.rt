@@ -9,7 +9,7 @@ ghost use Rattle.var_locks.specs.Seats.{MayMove, HasMade};
 ghost use Rattle.var_locks.specs.Plain.{Steps, IsAsked, IsFree};
 
 use crate::seats::VarSeat;
-use crate::steps::note_move;
+use crate::steps::{Made, note_move};
 use crate::vars::Vars;
 use crate::view::Round;
 use access_log::{StampedEntry, What};
@@ -92,14 +92,17 @@ impl<P: Program, J: Round> Vars<P, J> {
     {
         seat.receipts.reserve(1)?;
         let word = self.vars + seat.thread as usize;
+        let made = Made {
+            before: &seat.part,
+            after: &after,
+            trace: &trace,
+        };
         note_move::<P, J>(
             program,
             &self.table.shared,
             &mut seat.token,
             word,
-            &seat.part,
-            &after,
-            &trace,
+            made,
             input,
         );
         seat.receipts.push_reserved(step_of(seat.thread, trace));

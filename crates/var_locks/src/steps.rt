@@ -41,6 +41,14 @@ pub(crate) type LockTable<P, J> = Table<
 /// What a seat takes its steps with.
 pub(crate) type Token<V> = Seat<VarPart<V>, View<V>>;
 
+/// What a move made of its thread: the part before it and after it, and what it did.
+#[derive(Clone, Copy)]
+pub(crate) struct Made<'a> {
+    pub(crate) before: &'a ThreadPart,
+    pub(crate) after: &'a ThreadPart,
+    pub(crate) trace: &'a Trace,
+}
+
 /// A table for the variables of a round, and the first seat, which has all threads.
 pub(crate) fn open_round<P: Program, J: Round>(
     alloc: Global,
@@ -99,9 +107,7 @@ fn note_as<P: Program, J: Round, N: News>(
     shared: &Lock<P, J>,
     token: &mut Token<P::Value>,
     word: usize,
-    before: &ThreadPart,
-    after: &ThreadPart,
-    trace: &Trace,
+    made: Made<'_>,
     packet: Option<&Packet>,
 )
     requires of { IsRoundOf P.meaning P.row.coded P.Value.row.coded
@@ -109,17 +115,15 @@ fn note_as<P: Program, J: Round, N: News>(
     requires table { token.old.table_id ≡ shared.now.table_id }
     requires word_in { word < shared.now.table_id.words }
     requires code { (note_code P.Value.row.coded).code
-        (own_note before.now after.now trace.now (option_copied packet)) ≡ N.note }
+        (own_note made.before.now made.after.now made.trace.now (option_copied packet)) ≡ N.note }
     requires next { CanNote (P.meaning program.now) J.guide token.old.me.0
-        (own_note before.now after.now trace.now (option_copied packet)) }
+        (own_note made.before.now made.after.now made.trace.now (option_copied packet)) }
     ensures same { (token.new.table_id ≡ token.old.table_id) × (token.new.id ≡ token.old.id) }
     ensures noted { (n : note_of.Note P.Value) × ((note_code P.Value.row.coded).code n ≡ N.note)
         × (token.new.me ≡ (noted_view token.old.me.0 n, token.old.me.1)) }
 {
     let _ = program;
-    let _ = before;
-    let _ = after;
-    let _ = trace;
+    let _ = made;
     let _ = packet;
     shared.load::<Noted<N>>(token, word);
 }
@@ -130,9 +134,7 @@ pub(crate) fn note_move<P: Program, J: Round>(
     shared: &Lock<P, J>,
     token: &mut Token<P::Value>,
     word: usize,
-    before: &ThreadPart,
-    after: &ThreadPart,
-    trace: &Trace,
+    made: Made<'_>,
     packet: Option<&Packet>,
 )
     requires of { IsRoundOf P.meaning P.row.coded P.Value.row.coded
@@ -140,15 +142,16 @@ pub(crate) fn note_move<P: Program, J: Round>(
     requires table { token.old.table_id ≡ shared.now.table_id }
     requires word_in { word < shared.now.table_id.words }
     requires next { CanNote (P.meaning program.now) J.guide token.old.me.0
-        (own_note before.now after.now trace.now (option_copied packet)) }
+        (own_note made.before.now made.after.now made.trace.now (option_copied packet)) }
     ensures same { (token.new.table_id ≡ token.old.table_id) × (token.new.id ≡ token.old.id) }
     ensures noted { token.new.me ≡ (
       noted_view token.old.me.0
-          (own_note before.now after.now trace.now (option_copied packet.entry)),
+          (own_note made.entry.before.now made.entry.after.now made.entry.trace.now
+          (option_copied packet.entry)),
       token.old.me.1,
     ) }
 {
-    note_as::<P, J, Brand>(program, shared, token, word, before, after, trace, packet);
+    note_as::<P, J, Brand>(program, shared, token, word, made, packet);
 }
 
 /// Brings the variable in hand home, after a touch or a read of it.
@@ -158,27 +161,23 @@ fn bring_as<P: Program, J: Round, N: News>(
     token: &mut Token<P::Value>,
     var: usize,
     word: u64,
-    before: &ThreadPart,
-    after: &ThreadPart,
-    trace: &Trace,
+    made: Made<'_>,
 )
     requires of { IsRoundOf P.meaning P.row.coded P.Value.row.coded
         J.program J.opening J.threads program.now shared.now.table_id.words }
     requires table { token.old.table_id ≡ shared.now.table_id }
     requires var_in { var < (P.meaning program.now).vars }
     requires code { (note_code P.Value.row.coded).code
-        (note_on before.now after.now trace.now token.old.me.0) ≡ N.note }
+        (note_on made.before.now made.after.now made.trace.now token.old.me.0) ≡ N.note }
     requires next { CanBring (P.meaning program.now) (P.fits program.now) J.guide token.old.me
-        var word (note_on before.now after.now trace.now token.old.me.0) }
+        var word (note_on made.before.now made.after.now made.trace.now token.old.me.0) }
     ensures same { (token.new.table_id ≡ token.old.table_id) × (token.new.id ≡ token.old.id) }
     ensures brought { (n : note_of.Note P.Value)
         × ((note_code P.Value.row.coded).code n ≡ N.note)
         × (token.new.me ≡ (noted_view token.old.me.0 n, rest token.old.me.1)) }
 {
     let _ = program;
-    let _ = before;
-    let _ = after;
-    let _ = trace;
+    let _ = made;
     shared.store::<Brought<N>>(token, var, word);
 }
 
@@ -189,24 +188,23 @@ pub(crate) fn bring_home<P: Program, J: Round>(
     token: &mut Token<P::Value>,
     var: usize,
     word: u64,
-    before: &ThreadPart,
-    after: &ThreadPart,
-    trace: &Trace,
+    made: Made<'_>,
 )
     requires of { IsRoundOf P.meaning P.row.coded P.Value.row.coded
         J.program J.opening J.threads program.now shared.now.table_id.words }
     requires table { token.old.table_id ≡ shared.now.table_id }
     requires var_in { var < (P.meaning program.now).vars }
     requires next { CanBring (P.meaning program.now) (P.fits program.now) J.guide token.old.me
-        var word (note_on before.now after.now trace.now token.old.me.0) }
+        var word (note_on made.before.now made.after.now made.trace.now token.old.me.0) }
     ensures same { (token.new.table_id ≡ token.old.table_id) × (token.new.id ≡ token.old.id) }
     ensures brought { token.new.me ≡ (
       noted_view token.old.me.0
-          (note_on before.now after.now trace.now token.old.me.0),
+          (note_on made.entry.before.now made.entry.after.now made.entry.trace.now
+          token.old.me.0),
       [],
     ) }
 {
-    bring_as::<P, J, Brand>(program, shared, token, var, word, before, after, trace);
+    bring_as::<P, J, Brand>(program, shared, token, var, word, made);
 }
 
 /// Gives the variable in hand back, as it was found.

@@ -8,7 +8,7 @@ ghost use Rattle.var_locks.specs.Views.{empty_hand, missed_view};
 ghost use Rattle.var_locks.specs.TouchedParts.{IsWanted, HasSlot, Works, WorksBy, next_word, entry_waited, HasThread, IsTaken, MayWork, MustWait, MadeBy, MadeNone, Comes, ComesOf};
 
 use crate::keeping::copied;
-use crate::steps::{Lock, Token, bring_home, give_back, misses, take_up};
+use crate::steps::{Lock, Made, Token, bring_home, give_back, misses, take_up};
 use crate::vars::Vars;
 use crate::view::Round;
 use access_log::{StampedEntry, Turn};
@@ -211,7 +211,12 @@ impl<P: Program, J: Round> Vars<P, J> {
         };
         let trace = Trace::Did(copied(&entry));
         let home = word_after(word, access.read);
-        bring_home::<P, J>(program, shared, token, var, home, &before, &after, &trace);
+        let made = Made {
+            before: &before,
+            after: &after,
+            trace: &trace,
+        };
+        bring_home::<P, J>(program, shared, token, var, home, made);
         *part = after;
         Ok(entry)
     }

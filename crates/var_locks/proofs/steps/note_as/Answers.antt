@@ -20,7 +20,7 @@ load-requires g c =
     let of = c.requires.of in
     let x = c.requires.next.0 in
     let may = c.requires.next.1 in
-    let n : Note g.row.P-Value.Denot = own_note c.args.before.now c.args.after.now c.args.trace.now (option_copied c.args.packet) in
+    let n : Note g.row.P-Value.Denot = own_note c.args.made.before.now c.args.made.after.now c.args.made.trace.now (option_copied c.args.packet) in
     let slots : ℕ = c.args.shared.now.table_id.slots in (
       search rules,
       search rules,
