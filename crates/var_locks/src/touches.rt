@@ -53,20 +53,28 @@ fn note(did: &mut Vec<WovenStep>, thread: u32, touched: &Touched)
     }
 }
 
-/// The variable that the program wants at this place, and whether it is to be read.
-fn wanted<P: Program>(program: &P, place: &Local) -> Option<(u32, bool)>
-    ensures some { IfSome result (λ w.
-        (P.meaning program.now).next place.now ≡ wanted_move w.0 w.1) }
+/// The touch or the read that the program wants of this thread at this place.
+fn wanted<P: Program>(program: &P, thread: u32, place: &Local) -> Option<Access>
+    ensures some { IfSome result (λ a.
+        (P.meaning program.now).next place.now ≡ wanted_move a.var a.read) }
+    ensures access { IfSome result (λ a.
+        a ≡ record { thread = thread; var = a.var; read = a.read; place = place.now }) }
     ensures no_touch { IfNone result ((v : ℕ) →
         (P.meaning program.now).next place.now ≡ move_is.Access v → ⊥) }
     ensures no_read { IfNone result ((v : ℕ) →
         (P.meaning program.now).next place.now ≡ move_is.Read v → ⊥) }
 {
-    match program.next(place) {
-        Move::Access(var) => Some((var, false)),
-        Move::Read(var) => Some((var, true)),
-        Move::Clock | Move::Draw | Move::Emit | Move::End => None,
-    }
+    let (var, read) = match program.next(place) {
+        Move::Access(var) => (var, false),
+        Move::Read(var) => (var, true),
+        Move::Clock | Move::Draw | Move::Emit | Move::End => return None,
+    };
+    Some(Access {
+        thread,
+        var,
+        read,
+        place: *place,
+    })
 }
 
 impl<P: Program, J: Round> Vars<P, J> {
@@ -97,14 +105,8 @@ impl<P: Program, J: Round> Vars<P, J> {
             return Touched::NoMemory;
         };
         let place = seat.part.hand.unwrap();
-        let Some((var, read)) = wanted(program, &place) else {
+        let Some(access) = wanted(program, seat.thread, &place) else {
             unreachable!()
-        };
-        let access = Access {
-            thread: seat.thread,
-            var,
-            read,
-            place,
         };
         let setting = Setting {
             alloc,
