@@ -17,11 +17,9 @@ all: build/ftmb
 build/ftmb: $(SOURCES)
 	scripts/build $(RT) ftmb
 
-# The programs for a stopwatch likewise, all in one run.
-BENCHES := $(addprefix build/bench_,headers moves frames held logger locks scripts system)
-
-$(BENCHES) &: $(SOURCES)
-	scripts/build $(RT) $(notdir $(BENCHES))
+# The program for a stopwatch likewise.
+build/bench: $(SOURCES)
+	scripts/build $(RT) bench
 
 # The example at once, by the kit's unproved run: nothing is proved.
 try:
@@ -46,9 +44,9 @@ example: build/ftmb
 # second, beside those of the plain player; the frames written and read, the log entries held, the outputs released, the touches that
 # threads make under numbered locks, beside those of a master alone, the lines of a script read, and the packets settled and the events
 # performed by the recovering system.
-bench: build/ftmb $(BENCHES)
-	scripts/bench build/bench_headers
-	scripts/bench_run build/ftmb $(filter-out build/bench_headers,$(BENCHES)) build/bench
+bench: build/ftmb build/bench
+	scripts/bench build/bench
+	scripts/bench_run build/ftmb build/bench build/measured
 
 # Runs of chosen events with crashes from 1,000 seeds, each accepted by the check.
 soak: build/ftmb

@@ -1,0 +1,10 @@
+use Rattle.std.proofs.Common.{false}
+use Rattle.bench.specs.Racing.{IsGoing, Stays}
+use Rattle.bench.proofs.locks.racing.run_one.Given as goal
+
+-- the seat stays that of the thread
+abbrev pub invariant-loop-made : goal.invariant-loop-made
+invariant-loop-made g l = record {
+  going : IsGoing {V = g.row.P-Value.Denot} l.vars l.seat;
+  stays : Stays {V = g.row.P-Value.Denot} false l.fn.seat l.seat;
+}

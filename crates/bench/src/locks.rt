@@ -1,0 +1,71 @@
+//! Threads that touch variables of a small box, with a master alone or under numbered locks.
+mod done;
+mod racing;
+mod stepping;
+mod touch_box;
+
+use crate::words::next_number;
+use anyhow::{Context, bail, ensure};
+use plain_text::{Bytes, NoMemory, Packet};
+use racing::race;
+use std::alloc::Global;
+use std::env::Args;
+use std::sync::Wait;
+use std::thread::Threads;
+use stepping::step_all;
+use touch_box::TouchBox;
+
+/// A packet of 60 bytes, of which the first says which variable it touches.
+fn packet_of(alloc: Global, var: u8) -> Result<Packet, NoMemory> {
+    let mut bytes = [0; 60];
+    bytes[0] = var;
+    Ok(Packet {
+        seconds: 0,
+        fraction: 0,
+        original: 60,
+        bytes: Bytes::of(alloc, &bytes)?,
+    })
+}
+
+/// A packet for each thread: all touch variable 0, or each the variable of its own number.
+fn packets_of(alloc: Global, threads: u8, own: bool) -> Result<Vec<Packet>, NoMemory> {
+    let mut packets = Vec::new(alloc);
+    for thread in 0..threads {
+        packets.push(packet_of(alloc, if own { thread } else { 0 })?)?;
+    }
+    Ok(packets)
+}
+
+/// Tells how many moves and touches were made, where the words say who makes them, how many threads there are, whether each
+/// touches a variable of its own, and how many packets each takes.
+pub fn run<R: AllocGlobal + Print + Threads + Wait + Sync>(
+    rt: &R,
+    words: &mut Args,
+) -> anyhow::Result<()> {
+    let alloc = rt.alloc();
+    let who = words.next().context("step or locks?")?;
+    let threads: u8 = words.next().context("how many threads?")?.parse()?;
+    let whose = words.next().context("one or own?")?;
+    let count = next_number(words, "how many packets?")?;
+    ensure!(
+        threads == 1 || threads == 2 || threads == 4,
+        "{threads} threads are not 1, 2 or 4"
+    );
+    let own = match whose.as_str() {
+        "own" => true,
+        "one" => false,
+        _ => bail!("{whose} is neither one nor own"),
+    };
+    let packets = packets_of(alloc, threads, own)?;
+    let threads = u32::from(threads);
+    let done = match who.as_str() {
+        "step" => step_all(alloc, &TouchBox::new(), threads, &packets, count)?,
+        "locks" => race(rt, &TouchBox::new(), threads, &packets, count)?,
+        _ => bail!("{who} is neither step nor locks"),
+    };
+    println!(rt;
+        "{who}: {} moves, {} touches, {} packets sent out",
+        done.moves, done.touches, done.sent
+    )?;
+    Ok(())
+}

@@ -1,0 +1,101 @@
+//! Log entries and the outputs that depend on them, through an output logger. First each output comes after its entry. Then
+//! all outputs come first, and all entries after them, both the last one first.
+ghost use Rattle.std.specs.Prelude.{◌≡◌, ◌≤◌, length, IfOk};
+
+use crate::words::next_number;
+use access_log::{Output, Outputs, StampedEntry, What};
+use output_logger::OutputLogger;
+use plain_text::{Bytes, NoMemory, Packet};
+use std::alloc::Global;
+use std::env::Args;
+use thread_clock::Stamp;
+
+/// The stamp of entry `number` of thread 0, which comes after the earlier ones of the thread.
+fn stamp_of(number: u64) -> Stamp {
+    let mut components = [0; 16];
+    components[0] = number;
+    Stamp::new(components)
+}
+
+/// Entry `number` of thread 0 arrives.
+fn log(logger: &mut OutputLogger, out: &mut Outputs, number: u64) -> Result<(), NoMemory>
+    requires threads { length logger.old.held ≡ 1 }
+    requires numbered { 1 ≤ number }
+    requires epoch { 1 ≤ logger.old.epoch }
+    ensures threads { length logger.new.held ≡ 1 }
+    ensures epoch { logger.new.epoch ≡ logger.old.epoch }
+{
+    let entry = StampedEntry {
+        thread: 0,
+        number,
+        what: What::Clock(0),
+        stamp: stamp_of(number),
+    };
+    logger.entry(1, entry, out)?;
+    Ok(())
+}
+
+/// The output that comes after entry `number` of thread 0 arrives.
+fn send(
+    alloc: Global,
+    logger: &mut OutputLogger,
+    out: &mut Outputs,
+    number: u64,
+) -> Result<(), NoMemory>
+    requires threads { length logger.old.held ≡ 1 }
+    requires numbered { 1 ≤ number }
+    requires epoch { 1 ≤ logger.old.epoch }
+    ensures threads { length logger.new.held ≡ 1 }
+    ensures epoch { logger.new.epoch ≡ logger.old.epoch }
+{
+    let bytes = Bytes::of(alloc, &[])?;
+    let packet = Packet {
+        seconds: 0,
+        fraction: 0,
+        original: 0,
+        bytes,
+    };
+    let output = Output {
+        thread: 0,
+        number,
+        input: number,
+        stamp: stamp_of(number),
+        packet,
+    };
+    logger.output(1, output, out)?;
+    Ok(())
+}
+
+/// Each output after its entry. How many outputs were released.
+fn in_order(alloc: Global, count: u64) -> Result<usize, NoMemory> {
+    let mut out = Outputs::new(alloc);
+    let mut logger = OutputLogger::new(alloc, 1)?;
+    for i in 0..count {
+        log(&mut logger, &mut out, i + 1)?;
+        send(alloc, &mut logger, &mut out, i + 1)?;
+    }
+    Ok(out.len())
+}
+
+/// All outputs and then all entries, the last one first. How many outputs were released.
+fn in_reverse(alloc: Global, count: u64) -> Result<usize, NoMemory> {
+    let mut out = Outputs::new(alloc);
+    let mut logger = OutputLogger::new(alloc, 1)?;
+    for i in 0..count {
+        send(alloc, &mut logger, &mut out, count - i)?;
+    }
+    for i in 0..count {
+        log(&mut logger, &mut out, count - i)?;
+    }
+    Ok(out.len())
+}
+
+/// Tells how many outputs were released, where the words say how many come in order, and how many in reverse.
+pub fn run<R: AllocGlobal + Print>(rt: &R, words: &mut Args) -> anyhow::Result<()> {
+    let forward = next_number(words, "how many outputs in order?")?;
+    let reverse = next_number(words, "how many in reverse?")?;
+    let first = in_order(rt.alloc(), forward)?;
+    let second = in_reverse(rt.alloc(), reverse)?;
+    println!(rt; "{first} released in order, {second} in reverse")?;
+    Ok(())
+}

@@ -1,0 +1,83 @@
+//! Work for a stopwatch. The first word says which work, and the other words what it is done with:
+//!
+//! - `frames COUNT TIMES`: so many frames of log entries, each read so often
+//! - `headers CHECKSUMS REWRITINGS`: so many of each
+//! - `held COUNT`: so many log entries of each of two threads, into a held set
+//! - `locks step|locks THREADS own|one COUNT`: touches by a master alone or by threads that race, on variables of their own or
+//!   on one, with so many packets for each thread
+//! - `logger FORWARD REVERSE`: so many outputs through an output logger, in order, and the last one first
+//! - `moves player|master COUNT TIMES`: so many packets, all of them so often
+//! - `scripts COUNT`: a script of so many lines, which is read
+//! - `system count|monitor settle|single COUNT`: so many packets through the recovering system
+//! - `sample`: each of these with small numbers, one after another
+//!
+//! What it prints is the same at each run with the same words.
+#![tactic(auto)]
+
+mod frames;
+mod headers;
+mod held;
+mod locks;
+mod logger;
+mod moves;
+mod one_packet;
+mod packets;
+mod scripts;
+mod system;
+mod words;
+
+use anyhow::{Context, bail};
+use std::env;
+use std::env::Args;
+use std::sync::Wait;
+use std::thread::Threads;
+use words::words_of;
+
+/// Each work with the other words of its sample.
+const SAMPLES: [(&str, &str); 8] = [
+    ("frames", "1000 2"),
+    ("headers", "1000 1000"),
+    ("held", "1000"),
+    ("locks", "locks 2 own 10"),
+    ("logger", "1000 1000"),
+    ("moves", "master 100 2"),
+    ("scripts", "1000"),
+    ("system", "monitor single 100"),
+];
+
+/// Does the work of this name, with the words that come next.
+fn perform<R: AllocGlobal + Print + Threads + Wait + Sync>(
+    rt: &R,
+    work: &str,
+    words: &mut Args,
+) -> anyhow::Result<()> {
+    match work {
+        "frames" => frames::run(rt, words),
+        "headers" => headers::run(rt, words),
+        "held" => held::run(rt, words),
+        "locks" => locks::run(rt, words),
+        "logger" => logger::run(rt, words),
+        "moves" => moves::run(rt, words),
+        "scripts" => scripts::run(rt, words),
+        "system" => system::run(rt, words),
+        _ => bail!("{work} is no work for a stopwatch"),
+    }
+}
+
+/// Does the sample of each work.
+fn perform_samples<R: AllocGlobal + Print + Threads + Wait + Sync>(rt: &R) -> anyhow::Result<()> {
+    for (work, text) in SAMPLES {
+        perform(rt, work, &mut words_of(rt.alloc(), text)?)?;
+    }
+    Ok(())
+}
+
+fn main(rt: HostRuntime) -> anyhow::Result<()> {
+    let mut words = env::args(&rt)?;
+    let _program = words.next();
+    let work = words.next().context("which work?")?;
+    match work.as_str() {
+        "sample" => perform_samples(&rt),
+        work => perform(&rt, work, &mut words),
+    }
+}

@@ -1,5 +1,0 @@
-use Rattle.std.proofs.Common.{◌≡◌, false}
-use Rattle.bench_system.proofs.perform_packets.Given as goal
-
-abbrev pub invariant-packets : goal.invariant-packets
-invariant-packets g l = l.system.stopped ≡ false
