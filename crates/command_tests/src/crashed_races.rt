@@ -1,9 +1,20 @@
 //! Two threads race over the tables of a NAT, and the master crashes at each event of the race.
-use crate::nat::{FROM_ONE_PORT, QUERY_AND_OTHER, RACE_BOX};
 use crate::runs::{Case, ONE, ends_accepted};
 use plain_text::{Bytes, NoMemory};
 use std::alloc::Global;
 use std::test::Fail;
+
+/// Four outside ports, for two threads.
+const RACE_BOX: &[u8] =
+    b"box nat\nseed 42\nshards 1\nthreads 2\ninside 10.0.0.0 8\noutside 203.0.113.1\nports 39276 39279";
+
+/// A capture of `QUERY`, and of `OTHER_QUERY` a microsecond later.
+const QUERY_AND_OTHER: &[u8] =
+    b"\xd4\xc3\xb2\xa1\x02\0\x04\0\0\0\0\0\0\0\0\0\xff\xff\0\0\x01\0\0\0d\0\0\0\x05\0\0\0*\0\0\0*\0\0\0\x02\0\xaa\xaa\xaa\xaa\x02\0\0\0\0\x01\x08\0E\0\0\x1c\0\x01\0\0@\x11F\x91\x0a\0\0\x05\xc63d\x07\x13\x88\05\0\x08\xb7\xe1d\0\0\0\x06\0\0\0*\0\0\0*\0\0\0\x02\0\xaa\xaa\xaa\xaa\x02\0\0\0\0\x01\x08\0E\0\0\x1c\0\x01\0\0@\x11F\x90\x0a\0\0\x05\xc63d\x08\x13\x88\05\0\x08\xb7\xe0";
+
+/// Both queries from 203.0.113.1:39278.
+const FROM_ONE_PORT: &[u8] =
+    b"\xd4\xc3\xb2\xa1\x02\0\x04\0\0\0\0\0\0\0\0\0\0\0\x04\0\x01\0\0\0d\0\0\0\x05\0\0\0*\0\0\0*\0\0\0\x02\0\xaa\xaa\xaa\xaa\x02\0\0\0\0\x01\x08\0E\0\0\x1c\0\x01\0\0@\x11\x14\x94\xcb\0q\x01\xc63d\x07\x99n\05\0\x08\xff\xfdd\0\0\0\x06\0\0\0*\0\0\0*\0\0\0\x02\0\xaa\xaa\xaa\xaa\x02\0\0\0\0\x01\x08\0E\0\0\x1c\0\x01\0\0@\x11\x14\x93\xcb\0q\x01\xc63d\x08\x99n\05\0\x08\xff\xfc";
 
 /// Both queries from 203.0.113.1:39276.
 const FROM_THE_OTHER_PORT: &[u8] =

@@ -1,18 +1,19 @@
-//! Tests of the commands over the world in memory, as an operator sees them: words and files in, a status and files out. They stand
-//! apart from `job_top`, so that it is proved once and not again with its tests.
+//! Tests of the commands over the world in memory, of what no stored session of the program can do: reads and writes that fail, files
+//! at the limits of their size, a byte turned at each place, and a crash at each event of a race. They stand apart from `job_top`, so
+//! that it is proved once and not again with its tests.
 #![tactic(auto)]
 
 #[cfg(test)]
-mod balancer;
+mod checks;
 #[cfg(test)]
 mod crashed_races;
 #[cfg(test)]
-mod crashes;
-#[cfg(test)]
 mod limits;
 #[cfg(test)]
-mod nat;
+mod makes;
+#[cfg(test)]
+mod run_faults;
 #[cfg(test)]
 mod runs;
 #[cfg(test)]
-mod tests;
+mod words;

@@ -1,38 +1,23 @@
-//! The program once more, for its stored runs: commands over the files of `data`, one after another. Each is performed as the program
-//! performs it, with words from this list in place of the arguments. Printed are the command, its report, and how the program ends.
+//! The program once more, for its stored runs: sessions of commands, over the files of `data` and those that earlier lines left.
+//!
+//! The arguments name the sessions. A session is a text. Each of its lines is printed, and below it what it leads to:
+//! - `$ ftmb WORDS`: the command, performed as the program performs it; its report, and how the program ends.
+//! - `write NAME: LINES`: a file is written; a semicolon stands for the end of a line.
+//! - `text NAME`: the lines of a file, a semicolon behind each.
+//! - `bytes NAME`: the bytes of a file, in hexadecimal digits, 16 on a line.
+//!
+//! All other lines are for whoever reads the session.
 #![tactic(auto)]
 
 use command_line::{StatusText, answer};
 use std::alloc::{AllocError, Global};
 use std::env::Args;
-use std::io;
+use std::{env, fs, io};
 use world_real::RealWorld;
 
-/// The words of the commands. Each sees the files that those before it wrote.
-const COMMANDS: [&str; 17] = [
-    "--help",
-    "--version",
-    "run box capture script released schedule",
-    "check box capture schedule released",
-    "play box capture schedule emitted",
-    "run box_nat capture_two_hosts script_nat released schedule",
-    "run box_nat_crash capture_one_host script_nat_crash released schedule",
-    "check box_nat_crash capture_one_host schedule released",
-    "run box_two_threads capture_two_packets script_two_threads released schedule",
-    "run box capture script_cut_frame released schedule",
-    "make 7 1000 made",
-    "run box_monitor made script released schedule",
-    "check box_monitor made schedule capture",
-    "run box capture script released schedule more",
-    "run box capture nowhere released schedule",
-    "run box capture_bad_magic script released schedule",
-    "run box capture script_unknown_word released schedule",
-];
-
-/// The arguments of a program that is called with these words.
+/// The arguments of a program that is called with these words, of which the first is its name.
 fn arguments(alloc: Global, words: &str) -> Result<Args, AllocError> {
     let mut arguments = Vec::new(alloc);
-    arguments.push(String::from_str(alloc, "ftmb")?)?;
     for word in words.split_whitespace() {
         arguments.push(String::from_str(alloc, word)?)?;
     }
@@ -40,8 +25,7 @@ fn arguments(alloc: Global, words: &str) -> Result<Args, AllocError> {
 }
 
 /// Performs a command, and prints the number and the text of the status that the program ends with.
-fn perform(rt: &HostRuntime, words: &str) -> io::Result<()> {
-    println!(rt; "$ ftmb {words}")?;
+fn run(rt: &HostRuntime, words: &str) -> io::Result<()> {
     let arguments = arguments(rt.alloc(), words)?;
     let mut world = RealWorld::new(rt.alloc(), rt);
     let status = answer(rt.alloc(), Ok(arguments), &mut world);
@@ -49,9 +33,59 @@ fn perform(rt: &HostRuntime, words: &str) -> io::Result<()> {
     println!(rt; "{number}: {}", StatusText(status))
 }
 
+/// Writes a file: its name, and behind a colon its lines.
+fn write(rt: &HostRuntime, file: &str) -> io::Result<()> {
+    let Some((name, lines)) = file.split_once(": ") else {
+        return println!(rt; "no name");
+    };
+    let mut bytes = Vec::new(rt.alloc());
+    for byte in lines.bytes() {
+        bytes.push(if byte == b';' { b'\n' } else { byte })?;
+    }
+    fs::write(rt, name, bytes)
+}
+
+/// Prints the lines of a file.
+fn show_text(rt: &HostRuntime, name: &str) -> io::Result<()> {
+    let Ok(text) = fs::read_to_string(rt, name) else {
+        return println!(rt; "{name} is not there");
+    };
+    print!(rt; "{name}:")?;
+    for line in text.lines() {
+        print!(rt; " {line};")?;
+    }
+    println!(rt; "")
+}
+
+/// Prints the bytes of a file.
+fn show_bytes(rt: &HostRuntime, name: &str) -> io::Result<()> {
+    let Ok(bytes) = fs::read(rt, name) else {
+        return println!(rt; "{name} is not there");
+    };
+    for row in bytes.chunks(16) {
+        println!(rt; "{}", hex::encode(rt.alloc(), row)?)?;
+    }
+    Ok(())
+}
+
+/// Does what a line of a session says.
+fn perform(rt: &HostRuntime, line: &str) -> io::Result<()> {
+    match line.split_once(' ') {
+        Some(("$", words)) => run(rt, words),
+        Some(("write", file)) => write(rt, file),
+        Some(("text", name)) => show_text(rt, name),
+        Some(("bytes", name)) => show_bytes(rt, name),
+        _ => Ok(()),
+    }
+}
+
 fn main(rt: HostRuntime) -> io::Result<()> {
-    for words in COMMANDS {
-        perform(&rt, words)?;
+    for name in env::args(&rt)?.skip(1) {
+        let session = fs::read_to_string(&rt, name.as_str())?;
+        for line in session.lines() {
+            println!(rt; "{line}")?;
+            perform(&rt, line)?;
+        }
     }
     Ok(())
 }

@@ -6,8 +6,7 @@ use crate::frames::{
     OTHER_QUERY_FROM_39276, OTHER_QUERY_FROM_39278, QUERY_FROM_39276, QUERY_FROM_39278,
 };
 use crate::race::{shows_one_port, two_packets};
-use crate::rows::nat_up_to;
-use crate::running::{make, packet};
+use crate::running::{make, nat_up_to, packet};
 use access_log::{Output, Outputs};
 use box_program::Program;
 use entry_order::What;

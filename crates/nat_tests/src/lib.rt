@@ -1,5 +1,5 @@
-//! Tests of the box `nat`: its worked examples, through a master, with every byte that goes out and the shown variables; a race of
-//! two threads on one endpoint, in every order of their moves, beside the plain player; and its tables.
+//! Tests of the box `nat`: a race of two threads on one endpoint, in every order of their moves, beside the plain player; and its
+//! tables. Its worked examples are stored sessions of the program.
 #![tactic(auto)]
 
 #[cfg(test)]
@@ -8,8 +8,6 @@ mod frames;
 mod interleavings;
 #[cfg(test)]
 mod race;
-#[cfg(test)]
-mod rows;
 #[cfg(test)]
 mod running;
 #[cfg(test)]

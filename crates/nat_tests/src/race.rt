@@ -5,8 +5,7 @@ ghost use Rattle.nat_box.specs.Nat.{Fits};
 ghost use Rattle.nat_box.specs.Boxes.{settings_of, box_meaning};
 
 use crate::frames::{OTHER_QUERY_FROM_39278, QUERY_FROM_39278};
-use crate::rows::{nat_up_to, shows};
-use crate::running::{make, packet};
+use crate::running::{make, nat_up_to, packet, shows};
 use box_program::Program;
 use master_core::{Master, Stepped};
 use nat_box::NatBox;

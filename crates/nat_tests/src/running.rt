@@ -1,37 +1,19 @@
-ghost use Rattle.std.specs.Prelude.{◌≡◌, ◌<◌, length};
+ghost use Rattle.std.specs.Prelude.{◌≡◌, ◌<◌, ◌≤◌, length};
 ghost use Rattle.box_program.specs.Hands.{FitsProgram};
 ghost use Rattle.master_core.specs.Mastered.{value_of};
 
 use access_log::Turn;
 use box_program::Program;
 use master_core::{Master, Stepped};
+use nat_box::NatBox;
 use plain_text::{Bytes, NoMemory, Packet};
 use std::alloc::Global;
 
-/// What a packet is told: the time in microseconds, and a random word where it asks for one.
-#[derive(Clone, Copy)]
-pub struct Answers {
-    pub time: u64,
-    pub word: u64,
-}
-
-/// What became of a packet: how many moves it took from its take to its end, and the bytes that went out, if it went out.
-#[derive(Drop)]
-pub struct Settled {
-    pub moves: usize,
-    pub sent: Option<Bytes>,
-}
-
-impl Settled {
-    /// Whether it took this many moves and these bytes went out, or none.
-    pub fn is(&self, moves: usize, sent: Option<&[u8]>) -> bool {
-        let same = match (&self.sent, sent) {
-            (Some(bytes), Some(wanted)) => bytes.as_slice() == wanted,
-            (None, None) => true,
-            _ => false,
-        };
-        same && self.moves == moves
-    }
+/// The box of the examples: the inside network is 10.0.0.0/8, the outside address 203.0.113.1, and the outside ports begin with 39276.
+pub fn nat_up_to(high: u16) -> NatBox
+    requires { 39276 ≤ high }
+{
+    NatBox::new(1, 0x0a00_0000, 8, 0xcb00_7101, 39_276, high)
 }
 
 /// A packet of these captured bytes, all that it had on the wire.
@@ -67,40 +49,19 @@ pub fn make<P: Program>(
     master.step(alloc, program, thread, Turn::Free, answer, Some(packet))
 }
 
-/// Takes a packet to its end. Its second move is told the time, and a later one a word.
-pub fn settle<P: Program>(
+/// Whether a variable shows so.
+pub fn shows<P: Program>(
     alloc: Global,
-    master: &mut Master<P>,
+    master: &Master<P>,
     program: &P,
-    thread: u32,
-    answers: Answers,
-    packet: &Packet,
-) -> Result<Settled, NoMemory>
+    var: u32,
+    text: &str,
+) -> Result<bool, NoMemory>
     requires program { FitsProgram (P.meaning program.now) (P.fits program.now)
-        value_of master.old.vars }
-    requires thread_in { thread < length master.old.threads }
-    ensures fits { FitsProgram (P.meaning program.now) (P.fits program.now)
-        value_of master.new.vars }
-    ensures threads { length master.new.threads ≡ length master.old.threads }
+        value_of master.now.vars }
 {
-    let mut sent = None;
-    for made in 0..20 {
-        let answer = if made == 1 {
-            answers.time
-        } else {
-            answers.word
-        };
-        match make(alloc, master, program, thread, answer, packet) {
-            Stepped::Emitted(output) => sent = Some(output.packet.bytes),
-            Stepped::Ended(_) => {
-                return Ok(Settled {
-                    moves: made + 1,
-                    sent,
-                });
-            }
-            Stepped::Took(_) | Stepped::Did(_) => {}
-            Stepped::Idle | Stepped::NotTurn { .. } | Stepped::NoMemory => return Err(NoMemory),
-        }
+    if var >= program.vars() {
+        return Ok(false);
     }
-    Err(NoMemory)
+    Ok(program.show(alloc, var, master.value(var))?.as_str() == text)
 }

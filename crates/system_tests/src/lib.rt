@@ -1,12 +1,10 @@
-//! Tests of the recovering system: the worked examples, line by line, and random events beside the slow program of the definitions.
-//! They stand apart, so that the system is proved once.
+//! Tests of the recovering system: random events beside the slow program of the definitions, and scripts of a box that reads. They stand
+//! apart, so that the system is proved once.
 #![tactic(auto)]
 
 #[cfg(test)]
 mod random;
 #[cfg(test)]
-mod recoveries;
+mod reads;
 #[cfg(test)]
 mod replay;
-#[cfg(test)]
-mod rows;

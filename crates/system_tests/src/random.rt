@@ -1,8 +1,8 @@
 ghost use Rattle.std.specs.Prelude.{◌≤◌, IfOk};
 ghost use Rattle.slow_world.specs.Mirror.{WorldFits};
 
+use crate::reads::longer;
 use crate::replay::{SEED, Told, capture_of, run_on};
-use crate::rows::longer;
 use access_log::Output;
 use box_program::{CountBox, PeekBox, Program};
 use monitor_box::MonitorBox;
