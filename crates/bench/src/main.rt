@@ -1,14 +1,14 @@
 //! Work for a stopwatch. The first word says which work, and the other words what it is done with:
 //!
-//! - `frames COUNT TIMES`: so many frames of log entries, each read so often
-//! - `headers CHECKSUMS REWRITINGS`: so many of each
-//! - `held COUNT`: so many log entries of each of two threads, into a held set
+//! - `frames COUNT TIMES`: COUNT frames of log entries, each read TIMES times
+//! - `headers CHECKSUMS REWRITINGS`: the checksums of CHECKSUMS payloads, and REWRITINGS rewritings of a frame
+//! - `held COUNT`: COUNT log entries of each of two threads, into a held set
 //! - `locks step|locks THREADS own|one COUNT`: touches by a master alone or by threads that race, on variables of their own or
-//!   on one, with so many packets for each thread
-//! - `logger FORWARD REVERSE`: so many outputs through an output logger, in order, and the last one first
-//! - `moves player|master COUNT TIMES`: so many packets, all of them so often
-//! - `scripts COUNT`: a script of so many lines, which is read
-//! - `system count|monitor settle|single COUNT`: so many packets through the recovering system
+//!   on one, with COUNT packets for each thread
+//! - `logger FORWARD REVERSE`: FORWARD outputs through an output logger in order, and REVERSE outputs with the last one first
+//! - `moves player|master COUNT TIMES`: COUNT packets, all of them TIMES times
+//! - `scripts COUNT`: a script of COUNT lines, which is read
+//! - `system count|monitor settle|single COUNT`: COUNT packets through the recovering system
 //! - `sample`: each of these with small numbers, one after another
 //!
 //! What it prints is the same at each run with the same words.

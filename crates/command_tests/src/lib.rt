@@ -8,6 +8,8 @@ mod checks;
 #[cfg(test)]
 mod crashed_races;
 #[cfg(test)]
+mod endings;
+#[cfg(test)]
 mod limits;
 #[cfg(test)]
 mod makes;

@@ -1,9 +1,6 @@
 //! The program. Its stored run is the example: the counting box on one packet.
 #![tactic(auto)]
 
-#[cfg(test)]
-mod tests;
-
 use command_line::run_program;
 use std::process::ExitCode;
 

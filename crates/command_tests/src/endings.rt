@@ -1,0 +1,50 @@
+//! How the program ends where no session can lead it.
+use command_line::{StatusText, answer};
+use job_top::Status;
+use plain_text::{Limit, NoMemory};
+use std::alloc::Global;
+use std::io;
+use std::test::Fail;
+use world_io::MemoryWorld;
+
+/// What the program comes to where std gives no arguments, since one of them is not UTF-8.
+fn answer_to_none(alloc: Global) -> Result<Status, NoMemory> {
+    let mut world = MemoryWorld::new(alloc)?;
+    let none = io::Error::from(io::ErrorKind::InvalidData);
+    Ok(answer(alloc, Err(none), &mut world))
+}
+
+#[test]
+fn a_word_that_is_not_text_is_a_bad_word(rt: HostRuntime) -> Result<(), Fail> {
+    assert_eq!(rt; answer_to_none(rt.alloc())?, Status::BadWords);
+    Ok(())
+}
+
+/// Statuses with their texts, and the numbers that the program ends with.
+const ENDINGS: [(Status, &str, u8); 7] = [
+    (Status::WriteFault, "write fault", 4),
+    (Status::NoMemory, "no memory", 5),
+    (Status::TooLarge(Limit::File), "too large: file", 7),
+    (Status::TooLarge(Limit::Packets), "too large: packets", 7),
+    (Status::TooLarge(Limit::Events), "too large: events", 7),
+    (Status::TooLarge(Limit::Moves), "too large: moves", 7),
+    (
+        Status::TooLarge(Limit::OutputBytes),
+        "too large: output bytes",
+        7,
+    ),
+];
+
+/// Whether a status has this text and this number.
+fn ends_so(alloc: Global, status: Status, text: &str, number: u8) -> Result<bool, NoMemory> {
+    let told = format!(in alloc; "{}", StatusText(status))?;
+    Ok(told.as_str() == text && status.exit_code() == number)
+}
+
+#[test]
+fn statuses_have_their_texts_and_numbers(rt: HostRuntime) -> Result<(), Fail> {
+    for (status, text, number) in ENDINGS {
+        assert!(rt; ends_so(rt.alloc(), status, text, number)?, "{text}");
+    }
+    Ok(())
+}
