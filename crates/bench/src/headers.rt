@@ -8,7 +8,7 @@ use packet_headers::{Flow, set_source, view};
 use sample_frames::QUERY;
 use std::env::Args;
 
-/// Takes the checksum of the payload so often, with its first byte changed each time, and adds them up.
+/// Takes the checksum of the payload this number of times, with its first byte changed each time, and adds them up.
 fn sum_often(payload: &mut [u8], count: u64) -> u64 {
     let mut total = 0u64;
     for turn in 0..count {
@@ -20,7 +20,7 @@ fn sum_often(payload: &mut [u8], count: u64) -> u64 {
     total
 }
 
-/// Rewrites the source so often, each time to another one, and answers the checksum of the frame then.
+/// Rewrites the source this number of times, each time to another one, and answers the checksum of the frame then.
 fn rewrite_often(frame: &mut [u8], flow: &Flow, count: u64) -> u16
     requires { CanRewrite frame.old flow.now }
 {
