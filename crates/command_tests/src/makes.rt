@@ -9,17 +9,17 @@ use std::alloc::Global;
 use std::test::Fail;
 use world_io::MemoryWorld;
 
-/// Whether `make` of this number of packets comes to this status and leaves this capture, with nothing on the report.
+/// Whether `make` with these numbers comes to this status and leaves this capture, with nothing on the report.
 fn makes_in(
     alloc: Global,
     world: &mut MemoryWorld,
-    count: &str,
+    numbers: [&str; 2],
     status: Status,
     left: Option<&[u8]>,
 ) -> Result<bool, NoMemory>
     requires { length world.old.files ≡ 0 }
 {
-    let came = give_words(alloc, world, &["make", "7", count, "c"])?;
+    let came = give_words(alloc, world, &["make", numbers[0], numbers[1], "c"])?;
     let made = has_file(alloc, world, "c", left)?;
     Ok(came == status && world.report() == b"".as_slice() && made)
 }
@@ -28,7 +28,7 @@ fn makes_in(
 #[test]
 fn refuses_an_empty_word(rt: HostRuntime) -> Result<(), Fail> {
     let mut world = MemoryWorld::new(rt.alloc())?;
-    assert!(rt; makes_in(rt.alloc(), &mut world, "", Status::BadWords, None)?);
+    assert!(rt; makes_in(rt.alloc(), &mut world, ["7", ""], Status::BadWords, None)?);
     Ok(())
 }
 
@@ -36,7 +36,7 @@ fn refuses_an_empty_word(rt: HostRuntime) -> Result<(), Fail> {
 fn makes_part(alloc: Global, count: &str, nth: u64, left: Option<&[u8]>) -> Result<bool, NoMemory> {
     let mut world = MemoryWorld::new(alloc)?;
     world.fail_write(nth)?;
-    makes_in(alloc, &mut world, count, Status::WriteFault, left)
+    makes_in(alloc, &mut world, ["7", count], Status::WriteFault, left)
 }
 
 #[test]
