@@ -21,7 +21,7 @@ fn makes_in(
 {
     let came = give_words(alloc, world, &["make", numbers[0], numbers[1], "c"])?;
     let made = has_file(alloc, world, "c", left)?;
-    Ok(came == status && world.report() == b"".as_slice() && made)
+    Ok(came == status && world.report().is_empty() && made)
 }
 
 /// An empty word is no number.
