@@ -1,6 +1,0 @@
-use Rattle.lock_tests.specs.Followed.{AreFollowed}
-use Rattle.lock_tests.proofs.following.guide_of.Given as goal
-
--- what is held can be followed
-abbrev pub invariant-loop-step : goal.invariant-loop-step
-invariant-loop-step l = AreFollowed l.held l.last

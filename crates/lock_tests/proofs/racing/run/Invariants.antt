@@ -1,7 +1,0 @@
-use Rattle.std.proofs.Common.{false}
-use Rattle.lock_tests.specs.Racing.{IsAt}
-use Rattle.lock_tests.proofs.racing.run.Given as goal
-
--- the seat stays that of the thread
-abbrev pub invariant-loop-number : goal.invariant-loop-number
-invariant-loop-number g l = IsAt {V = g.row.P-Value.Denot} l.vars.round l.thread false l.seat

@@ -1,5 +1,0 @@
-use Rattle.std.proofs.Common.{length}
-use Rattle.slow_history.proofs.reading.+count_entries.Given as goal
-
-abbrev pub decreases-count_entries : goal.decreases-count_entries
-decreases-count_entries l = length l.log.now

@@ -1,5 +1,0 @@
-use Rattle.std.proofs.Common.{length}
-use Rattle.slow_history.proofs.reading.+count_outputs.Given as goal
-
-abbrev pub decreases-count_outputs : goal.decreases-count_outputs
-decreases-count_outputs g l = length l.steps.now

@@ -1,4 +1,0 @@
-use Rattle.slow_runs.proofs.ending.+follow.Given as goal
-
-abbrev pub decreases-follow : goal.decreases-follow
-decreases-follow g l = l.most

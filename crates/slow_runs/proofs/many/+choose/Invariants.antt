@@ -1,4 +1,0 @@
-use Rattle.slow_runs.proofs.many.+choose.Given as goal
-
-abbrev pub decreases-choose : goal.decreases-choose
-decreases-choose g l = l.n

@@ -1,4 +1,0 @@
-use Rattle.slow_runs.proofs.many.+round.Given as goal
-
-abbrev pub decreases-round : goal.decreases-round
-decreases-round g l = l.threads

@@ -1,0 +1,11 @@
+use Rattle.std.proofs.Common.{◌≡◌, length}
+use Rattle.box_program.specs.Hands.{FitsProgram}
+use Rattle.master_core.specs.Mastered.{value_of}
+use Rattle.test_locks.proofs.going_on.wants_before_and_after.Given as goal
+
+-- the master stays one of the program, of two threads
+abbrev pub invariant-loop-thread : goal.invariant-loop-thread
+invariant-loop-thread g l = record {
+  fits : FitsProgram (g.P.Program.meaning l.program) (g.P.Program.fits l.program) value_of l.master.vars;
+  two : length l.master.threads ≡ 2;
+}

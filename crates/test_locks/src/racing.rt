@@ -1,0 +1,126 @@
+//! A thread of a round, as it takes packets to their ends.
+ghost use Rattle.std.specs.Prelude.{◌≡◌, ℕ, ◌<◌, ◌^◌, false, true};
+ghost use Rattle.var_locks.specs.Rounds.{AreVarsOf};
+ghost use Rattle.test_locks.specs.Racing.{IsAt};
+
+use box_program::Program;
+use input_logger::InputLog;
+use master_core::Stepped;
+use plain_text::Packet;
+use replay_guide::Guide;
+use std::alloc::Global;
+use std::sync::Wait;
+use var_locks::{OpenGate, Round, Touched, VarSeat, Vars};
+
+/// No thread of a test comes to this number of inputs, entries or outputs.
+const MOST_COUNT: u64 = 1 << 40;
+
+/// The moves that a packet takes at most, with its take and its end.
+const MOST_MOVES: u32 = 64;
+
+/// How long the NAT keeps a mapping without use, in microseconds.
+const IDLE: u64 = 300_000_000;
+
+/// What the threads of a round are given.
+#[derive(Clone, Copy)]
+pub struct Feed<'a> {
+    pub inputs: &'a InputLog,
+    /// Each thread takes this number of its first inputs.
+    pub count: u64,
+    /// The time of the round, in microseconds: a thread's k-th packet is told the time k times 300 s later.
+    pub time: u64,
+}
+
+/// Makes the next move of the seat's thread. A clock or a draw is told the time of its packet. Out of memory also where the thread made
+/// more moves than a test makes.
+#[tactic(auto, using(crate::proofs::Keeping::steps_keep, crate::proofs::Keeping::touches_keep))]
+pub fn make<P: Program, J: Round, R: Wait>(
+    rt: &R,
+    alloc: Global,
+    program: &P,
+    vars: &Vars<P, J>,
+    guide: &Guide,
+    thread: u32,
+    seat: &mut VarSeat<P>,
+    packet: &Packet,
+    time: u64,
+) -> Stepped
+    requires of { AreVarsOf P.meaning P.row.coded P.Value.row.coded program.now vars.now }
+    requires guide { guide.now ≡ J.guide }
+    requires low { thread < vars.now.threads }
+    requires seat { IsAt vars.now.round thread false seat.old }
+    ensures seat { IsAt vars.now.round thread false seat.new }
+{
+    let counts = seat.counts();
+    if counts.taken > MOST_COUNT || counts.entries > MOST_COUNT || counts.outputs > MOST_COUNT {
+        return Stepped::NoMemory;
+    }
+    if seat.wants_variable(program) {
+        return match vars.touch(rt, alloc, program, seat, guide, &OpenGate) {
+            Touched::Did(entry) => Stepped::Did(entry),
+            Touched::Blocked { thread, number } => Stepped::NotTurn { thread, number },
+            Touched::NoMemory => Stepped::NoMemory,
+        };
+    }
+    let told = time.wrapping_add(counts.taken.wrapping_mul(IDLE));
+    vars.plain(alloc, program, seat, guide, told, Some(packet))
+}
+
+/// Takes a packet to its end; whether it came there.
+fn run_one<P: Program, J: Round, R: Wait>(
+    rt: &R,
+    alloc: Global,
+    program: &P,
+    vars: &Vars<P, J>,
+    guide: &Guide,
+    thread: u32,
+    seat: &mut VarSeat<P>,
+    packet: &Packet,
+    time: u64,
+) -> bool
+    requires of { AreVarsOf P.meaning P.row.coded P.Value.row.coded program.now vars.now }
+    requires guide { guide.now ≡ J.guide }
+    requires low { thread < vars.now.threads }
+    requires seat { IsAt vars.now.round thread false seat.old }
+    ensures seat { IsAt vars.now.round thread false seat.new }
+{
+    for _made in 0..MOST_MOVES {
+        match make(rt, alloc, program, vars, guide, thread, seat, packet, time) {
+            Stepped::Ended(_) => return true,
+            Stepped::Took(_) | Stepped::Did(_) | Stepped::Emitted(_) => {}
+            Stepped::Idle | Stepped::NotTurn { .. } | Stepped::NoMemory => return false,
+        }
+    }
+    false
+}
+
+/// Takes the inputs of the seat's thread to their ends, and ends the round for it.
+pub fn run<P: Program, J: Round, R: Wait>(
+    rt: &R,
+    alloc: Global,
+    program: &P,
+    vars: &Vars<P, J>,
+    guide: &Guide,
+    thread: u32,
+    mut seat: VarSeat<P>,
+    feed: Feed<'_>,
+) -> VarSeat<P>
+    requires of { AreVarsOf P.meaning P.row.coded P.Value.row.coded program.now vars.now }
+    requires guide { guide.now ≡ J.guide }
+    requires low { thread < vars.now.threads }
+    requires seat { IsAt vars.now.round thread false seat }
+    ensures seat { IsAt vars.now.round thread true result }
+{
+    for number in 0..feed.count {
+        let Some(packet) = feed.inputs.input(thread, number + 1) else {
+            break;
+        };
+        if !run_one(
+            rt, alloc, program, vars, guide, thread, &mut seat, packet, feed.time,
+        ) {
+            break;
+        }
+    }
+    vars.end(program, &mut seat);
+    seat
+}

@@ -1,0 +1,246 @@
+//! Worked by hand: the example of two threads that count, reads between two touches, and what a clock was told.
+ghost use Rattle.std.specs.Prelude.{◌≡◌, ◌<◌, ◌≤◌, IfOk, IsTrue, length};
+ghost use Rattle.test_scripts.specs.Examples.{IsPlaced, IsFirst, AreFirst};
+
+use access_log::{Held, StampedEntry, Turn, What};
+use plain_text::NoMemory;
+use replay_guide::Guide;
+use std::alloc::Global;
+use std::marker::{Send, Sync};
+use std::test::Fail;
+use thread_clock::Stamp;
+
+/// That a value may be used by other threads, and handed to one.
+fn goes_between_threads<T: Send + Sync>(_value: &T) {}
+
+/// The stamp with these components for the first four threads.
+fn stamp(first: [u64; 4]) -> Stamp {
+    let mut components = [0; 16];
+    for i in 0..4 {
+        components[i] = first[i];
+    }
+    Stamp::new(components)
+}
+
+/// The first entry of a thread: the thread, what it is, and the stamp's first components.
+type First = (u32, What, [u64; 4]);
+
+fn first_entry(first: First) -> StampedEntry {
+    let (thread, what, components) = first;
+    StampedEntry {
+        thread,
+        number: 1,
+        what,
+        stamp: stamp(components),
+    }
+}
+
+const FIRST_TOUCH: What = What::Access { var: 0, place: 1 };
+
+const SECOND_TOUCH: What = What::Access { var: 0, place: 2 };
+
+const READ_BETWEEN: What = What::Read { var: 0, after: 1 };
+
+/// Whether it is the first entry of its thread, and if a touch, that of thread 1 at place 1 or that of thread 0 at place 2.
+fn is_first(entry: &StampedEntry) -> bool
+    ensures { IsTrue result → IsFirst entry.now }
+{
+    entry.thread < 16 && entry.number == 1 && is_placed(entry.thread, entry.what)
+}
+
+fn is_placed(thread: u32, what: What) -> bool
+    ensures { IsTrue result → IsPlaced thread what }
+{
+    match what {
+        What::Access { place, .. } => place == 2 && thread == 0 || place == 1 && thread == 1,
+        What::Read { .. } | What::Clock(_) | What::Draw(_) => true,
+    }
+}
+
+/// Holds one more entry, if it is of an example.
+fn hold(held: &mut Held, entry: &StampedEntry) -> Result<(), NoMemory>
+    requires threads { length held.old ≡ 16 }
+    requires example { AreFirst held.old }
+    ensures threads { length held.new ≡ 16 }
+    ensures example { AreFirst held.new }
+{
+    if is_first(entry) {
+        held.add(*entry)?;
+    }
+    Ok(())
+}
+
+/// Nothing held, for 16 threads.
+fn nothing_held(alloc: Global) -> Result<Held, NoMemory>
+    ensures threads { IfOk result (λ held. length held ≡ 16) }
+    ensures example { IfOk result AreFirst }
+{
+    Held::new(alloc, 16)
+}
+
+/// A guide that follows an example.
+fn follow(alloc: Global, held: &Held) -> Result<Guide, NoMemory>
+    requires { AreFirst held.now }
+{
+    Guide::of(alloc, held)
+}
+
+/// A guide that follows these entries of an example.
+fn guide_of(alloc: Global, entries: &[First]) -> Result<Guide, NoMemory> {
+    let mut held = nothing_held(alloc)?;
+    for entry in entries {
+        hold(&mut held, &first_entry(*entry))?;
+    }
+    follow(alloc, &held)
+}
+
+/// A move that a thread wants as its first entry: the thread, whether it reads, the places of variable 0, the readers' stamp, and whose
+/// turn it is.
+type Asked = (u32, bool, u64, [u64; 4], Turn);
+
+/// The first of these moves of which the guide says something else.
+fn first_wrong(guide: &Guide, moves: &[Asked]) -> Option<usize> {
+    for i in 0..moves.len() {
+        let (thread, reads, places, readers, turn) = moves[i];
+        if guide.turn(thread, 1, 0, reads, places, &stamp(readers)) != turn {
+            return Some(i);
+        }
+    }
+    None
+}
+
+/// Whether this is the order of the entries that a guide follows, each by its thread and number.
+fn is_order(alloc: Global, guide: &Guide, order: &[(u32, u64)]) -> Result<bool, NoMemory> {
+    Ok(guide.order(alloc)?.as_slice() == order)
+}
+
+const TOUCH: bool = false;
+
+const READ: bool = true;
+
+const NONE: [u64; 4] = [0; 4];
+
+/// That the turn waits for the first entry of thread 0.
+const WAIT_0: Turn = Turn::Wait {
+    thread: 0,
+    number: 1,
+};
+
+/// That the turn waits for the first entry of thread 1.
+const WAIT_1: Turn = Turn::Wait {
+    thread: 1,
+    number: 1,
+};
+
+/// That the turn waits for the first entry of thread 2.
+const WAIT_2: Turn = Turn::Wait {
+    thread: 2,
+    number: 1,
+};
+
+/// That the turn waits for the first entry of thread 3.
+const WAIT_3: Turn = Turn::Wait {
+    thread: 3,
+    number: 1,
+};
+
+/// What two threads want of variable 0, where thread 1 made touch 1 before thread 0 made touch 2.
+const TWO_THREADS: [Asked; 7] = [
+    (0, TOUCH, 0, NONE, WAIT_1),
+    (0, READ, 0, NONE, WAIT_1),
+    (1, TOUCH, 0, NONE, Turn::Follow),
+    (0, TOUCH, 1, NONE, Turn::Follow),
+    (1, TOUCH, 1, NONE, WAIT_0),
+    (1, TOUCH, 2, NONE, Turn::Free),
+    (1, READ, 2, NONE, Turn::Free),
+];
+
+/// The entries of the two threads.
+const COUNTING: [First; 2] = [
+    (0, SECOND_TOUCH, [1, 1, 0, 0]),
+    (1, FIRST_TOUCH, [0, 1, 0, 0]),
+];
+
+/// Whether a guide has the order of the two threads, with two entries left at first, and one once thread 1 has made its own.
+fn follows_two_threads(alloc: Global, guide: &Guide) -> Result<bool, NoMemory> {
+    let left = guide.left(&stamp(NONE)) == 2 && guide.left(&stamp([0, 1, 0, 0])) == 1;
+    Ok(left && guide.answer(0, 1).is_none() && is_order(alloc, guide, &[(1, 1), (0, 1)])?)
+}
+
+/// Thread 1 makes touch 1, then thread 0 touch 2. After the crash thread 0 waits.
+#[test]
+fn two_threads_count(rt: HostRuntime) -> Result<(), Fail> {
+    let guide = guide_of(rt.alloc(), &COUNTING)?;
+    goes_between_threads(&guide);
+    let wrong = first_wrong(&guide, &TWO_THREADS);
+    assert!(rt; wrong.is_none(), "{wrong:?}");
+    assert!(rt; follows_two_threads(rt.alloc(), &guide)?);
+    Ok(())
+}
+
+/// What threads want of variable 0, where threads 2 and 3 read between two touches.
+const READS_BETWEEN: [Asked; 8] = [
+    (2, READ, 0, NONE, WAIT_1),
+    (3, READ, 1, NONE, Turn::Follow),
+    (0, TOUCH, 1, NONE, WAIT_2),
+    (0, TOUCH, 1, [0, 0, 1, 0], WAIT_3),
+    (0, TOUCH, 1, [0, 0, 1, 1], Turn::Follow),
+    (4, TOUCH, 1, [0, 0, 0, 1], WAIT_2),
+    (4, READ, 1, NONE, WAIT_0),
+    (4, READ, 2, NONE, Turn::Free),
+];
+
+/// The entries of those threads.
+const READING: [First; 4] = [
+    (0, SECOND_TOUCH, [1, 1, 1, 1]),
+    (1, FIRST_TOUCH, [0, 1, 0, 0]),
+    (2, READ_BETWEEN, [0, 1, 1, 0]),
+    (3, READ_BETWEEN, [0, 1, 0, 1]),
+];
+
+/// Between the two touches threads 2 and 3 read. The second touch waits for both, and a free read for it.
+#[test]
+fn reads_stand_between_touches(rt: HostRuntime) -> Result<(), Fail> {
+    let guide = guide_of(rt.alloc(), &READING)?;
+    let wrong = first_wrong(&guide, &READS_BETWEEN);
+    assert!(rt; wrong.is_none(), "{wrong:?}");
+    assert!(rt; is_order(rt.alloc(), &guide, &[(1, 1), (2, 1), (3, 1), (0, 1)])?);
+    Ok(())
+}
+
+/// What a clock and a draw were told, and a touch.
+const ANSWERED: [First; 3] = [
+    (2, What::Clock(7), [0, 0, 1, 0]),
+    (3, What::Draw(9), [0, 0, 0, 1]),
+    (1, FIRST_TOUCH, [0, 1, 0, 0]),
+];
+
+/// Whether a guide has both answers and no other one, and the draw as it was.
+fn has_answers(guide: &Guide) -> bool {
+    let told = guide.answer(2, 1) == Some(7) && guide.answer(3, 1) == Some(9);
+    let drawn = first_entry(ANSWERED[1]);
+    told && guide.answer(1, 1).is_none()
+        && guide.answer(2, 2).is_none()
+        && guide.get(3, 1) == Some(&drawn)
+}
+
+/// What a clock and a draw were told is recorded.
+#[test]
+fn answers_are_recorded(rt: HostRuntime) -> Result<(), Fail> {
+    let guide = guide_of(rt.alloc(), &ANSWERED)?;
+    assert!(rt; has_answers(&guide));
+    Ok(())
+}
+
+/// Whether a guide leaves a touch of thread 0 free, with no entry left and none in order.
+fn follows_nothing(alloc: Global, guide: &Guide) -> Result<bool, NoMemory> {
+    let free = first_wrong(guide, &[(0, TOUCH, 0, NONE, Turn::Free)]).is_none();
+    Ok(free && guide.left(&stamp(NONE)) == 0 && is_order(alloc, guide, &[])?)
+}
+
+/// Where nothing is followed, everything is free.
+#[test]
+fn nothing_is_followed(rt: HostRuntime) -> Result<(), Fail> {
+    assert!(rt; follows_nothing(rt.alloc(), &Guide::none(rt.alloc()))?);
+    Ok(())
+}

@@ -1,0 +1,8 @@
+//! Tests of the recovering system: scripts of a box that reads, which no box file names, so that no stored session can have them. They
+//! stand apart, so that the system is proved once.
+#![tactic(auto)]
+
+#[cfg(test)]
+mod reads;
+#[cfg(test)]
+mod replay;
