@@ -13,7 +13,7 @@ use Rattle.world_io.specs.declared.world.OpenFault.TheVariants as fault
 use Rattle.world_io.specs.Stream.{filled_bytes, EndsAtEnd, put_bytes}
 use Rattle.world_io.specs.Files.{file_of, is_opened, is_created, left_in, sent_to, name_in, TakesFromFile}
 use Rattle.world_io.specs.Calls.{CallCount, next_fails, counted, after_call, NoneIsToFail}
-use Rattle.world_io.specs.World.{Shown, KeepsLedgerReading, KeepsLedgerWriting, WritesFile}
+use Rattle.world_io.specs.World.{Shown, KeepsLedgerReading, KeepsLedgerWriting, ReadsOn, WritesOn, WritesFile}
 use Rattle.world_io.specs.OneFile.{WritesFile-nothing}
 use Rattle.world_io.specs.Memory.{Memory, IsHealthy, Opens, Fills, Creates, Puts, after_read, after_read_fault, after_write, after_write_fault, shown_of, ledger_of}
 use Rattle.world_io.proofs.FilesLemmas.{TakesFromFile-nothing, seen_alike-set, file_of-set_same, file_of-set_other}
@@ -78,7 +78,7 @@ module _ (old new : Memory) where
   Creates-not_given name (Err fault.Failed) h = after_write_fault-keeps h.1
   Creates-not_given name (Err fault.NoMemory) h = after_write-keeps h.1
 
-  pub Fills-keeps : (file : ℕ) (r : Filled) (piece : List ℕ) → Fills old file r piece new → KeepsLedgerReading (ledger_of old) (ledger_of new)
+  Fills-keeps : (file : ℕ) (r : Filled) (piece : List ℕ) → Fills old file r piece new → KeepsLedgerReading (ledger_of old) (ledger_of new)
   Fills-keeps file (Got n) piece h =
       let takes = h.2 in
       let e = h.3 in
@@ -93,7 +93,15 @@ module _ (old new : Memory) where
   Fills-keeps file End piece h = after_read-keeps h.2
   Fills-keeps file Failed piece h = after_read_fault-keeps h.1
 
-  pub Puts-keeps : (file : ℕ) (r : Put) (piece : List ℕ) → Puts old file r piece new → KeepsLedgerWriting (ledger_of old) (ledger_of new)
+  Fills-healthy : (file : ℕ) (r : Filled) (piece : List ℕ) → Fills old file r piece new → IsHealthy old → IsHealthy new
+  Fills-healthy file (Got n) piece h well = subst IsHealthy (sym h.3) (NoneIsToFail-after old.reading well.0, well.1)
+  Fills-healthy file End piece h well = after_read-healthy h.2 well
+  Fills-healthy file Failed piece h well = after_read_fault-healthy h.1 well
+
+  pub Fills-reads_on : (file : ℕ) (r : Filled) (piece : List ℕ) → Fills old file r piece new → ReadsOn ledger_of IsHealthy old new
+  Fills-reads_on file r piece h = record { ledger = Fills-keeps file r piece h; stays_healthy = Fills-healthy file r piece h }
+
+  Puts-keeps : (file : ℕ) (r : Put) (piece : List ℕ) → Puts old file r piece new → KeepsLedgerWriting (ledger_of old) (ledger_of new)
   Puts-keeps zero (put.Took n) piece h =
       let P : Memory → Type 0 = λ m. KeepsLedgerWriting (ledger_of old) (ledger_of m) in
       subst P (sym h.2) (record { opened = refl; created = refl; given = refl; read_faults = refl; write_faults = omega arith })
@@ -112,6 +120,24 @@ module _ (old new : Memory) where
   Puts-keeps (suc file) put.Failed piece h = after_write_fault-keeps h.1
   Puts-keeps zero put.NoMemory piece h = after_write-keeps h.1
   Puts-keeps (suc file) put.NoMemory piece h = after_write-keeps h.1
+
+  after_write-healthy : new ≡ after_write old → IsHealthy old → IsHealthy new
+  after_write-healthy e well = subst IsHealthy (sym e) (well.0, NoneIsToFail-after old.writing well.1)
+
+  after_write_fault-healthy : new ≡ after_write_fault old → IsHealthy old → IsHealthy new
+  after_write_fault-healthy e well = subst IsHealthy (sym e) (well.0, NoneIsToFail-after old.writing well.1)
+
+  Puts-healthy : (file : ℕ) (r : Put) (piece : List ℕ) → Puts old file r piece new → IsHealthy old → IsHealthy new
+  Puts-healthy zero (put.Took n) piece h well = subst IsHealthy (sym h.2) (well.0, NoneIsToFail-after old.writing well.1)
+  Puts-healthy (suc file) (put.Took n) piece h well =
+      subst IsHealthy (sym h.2.after) (well.0, NoneIsToFail-after old.writing well.1)
+  Puts-healthy zero put.Failed piece h well = after_write_fault-healthy h.1 well
+  Puts-healthy (suc file) put.Failed piece h well = after_write_fault-healthy h.1 well
+  Puts-healthy zero put.NoMemory piece h well = after_write-healthy h.1 well
+  Puts-healthy (suc file) put.NoMemory piece h well = after_write-healthy h.1 well
+
+  pub Puts-writes_on : (file : ℕ) (r : Put) (piece : List ℕ) → Puts old file r piece new → WritesOn ledger_of IsHealthy old new
+  Puts-writes_on file r piece h = record { ledger = Puts-keeps file r piece h; stays_healthy = Puts-healthy file r piece h }
 
   puts_nothing : (file : ℕ) → shown_of new ≡ shown_of old → WritesFile file [] (shown_of old) (shown_of new)
   puts_nothing file e =

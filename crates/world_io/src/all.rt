@@ -1,6 +1,6 @@
-ghost use Rattle.std.specs.Prelude.{◌≡◌, ◌≤◌, ◌++◌, IsTrue, IsErrOf, IfOk, OnOk};
+ghost use Rattle.std.specs.Prelude.{◌≡◌, ◌++◌, IsTrue, IsErrOf, IfOk, OnOk};
 ghost use Rattle.plain_text.specs.Octets.{AreBytes};
-ghost use Rattle.world_io.specs.Stream.{Rose};
+ghost use Rattle.world_io.specs.Stream.{GoesOn, HasFailed};
 ghost use Rattle.world_io.specs.All.{ReadsAll, ReadsToEnd, WritesAll, WriteFailed};
 
 use crate::{Filled, Put, Sink, Source};
@@ -56,11 +56,9 @@ pub fn read_all<S: Source>(alloc: Global, source: &mut S, limit: u64) -> Result<
     ensures end { IsTrue S.tells
         → ReadsToEnd result limit (S.left source.old) (S.left source.new) }
     ensures bytes { IfOk result AreBytes }
-    ensures later { S.faults source.old ≤ S.faults source.new }
+    ensures goes_on { GoesOn S.faults S.healthy source.old source.new }
     ensures cause { IsErrOf result ReadError.Failed
-        → Rose (S.faults source.old) (S.faults source.new) }
-    ensures never_fails { S.healthy source.old → ¬ IsErrOf result ReadError.Failed }
-    ensures stays_healthy { S.healthy source.old → S.healthy source.new }
+        → HasFailed S.faults S.healthy source.old source.new }
 {
     let mut bytes = Bytes::new(alloc);
     let mut room = limit;
@@ -92,10 +90,8 @@ fn keep(bytes: &mut Bytes, piece: &[u8]) -> Result<(), NoMemory>
 /// Appends all these bytes, or tells how many of them were appended.
 pub fn write_all<K: Sink>(sink: &mut K, bytes: &[u8]) -> Result<(), WriteError>
     ensures writes { WritesAll K.writes result bytes.now sink.old sink.new }
-    ensures later { K.faults sink.old ≤ K.faults sink.new }
-    ensures cause { WriteFailed result → Rose (K.faults sink.old) (K.faults sink.new) }
-    ensures never_fails { K.healthy sink.old → ¬ WriteFailed result }
-    ensures stays_healthy { K.healthy sink.old → K.healthy sink.new }
+    ensures goes_on { GoesOn K.faults K.healthy sink.old sink.new }
+    ensures cause { WriteFailed result → HasFailed K.faults K.healthy sink.old sink.new }
 {
     let mut done = 0;
     while done < bytes.len() {

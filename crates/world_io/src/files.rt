@@ -11,7 +11,7 @@ use std::marker::Model;
 
 /// The files that a world in memory opened and created, in the order of their numbers, which count
 /// from 1.
-#[derive(Debug, Drop)]
+#[derive(Drop)]
 pub struct Files {
     files: Vec<MemoryFile>,
 }

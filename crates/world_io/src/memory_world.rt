@@ -1,7 +1,7 @@
-ghost use Rattle.std.specs.Prelude.{◌≡◌, ◌≢◌, ◌<◌, ◌-◌, ◌^◌, ◌⊎◌, ◌++◌, ◌∷◌, [], length, true, IsTrue, IfOk, OnOk, OnErr, IsErrOf, None};
+ghost use Rattle.std.specs.Prelude.{◌≡◌, ◌<◌, ◌-◌, ◌^◌, ◌⊎◌, ◌++◌, ◌∷◌, [], length, true, IsTrue, IfOk, OnOk, OnErr, IsErrOf, None};
 ghost use Rattle.std.specs.Option.{option_copied};
 ghost use Rattle.world_io.specs.Stream.{Rose, FillCount, filled_bytes, EndsAtEnd, PutCount, put_bytes};
-ghost use Rattle.world_io.specs.World.{KeepsLedgerReading, KeepsLedgerWriting, GivesOpened, GivesCreated, OpensFile, ReadsFile, CreatesFile, CreatesNothing, WritesFile, FilledNothing, PutNothing, is_writable};
+ghost use Rattle.world_io.specs.World.{KeepsLedgerReading, KeepsLedgerWriting, ReadsOn, WritesOn, ReadingFailed, WritingFailed, GivesOpened, GivesCreated, OpensFile, ReadsFile, CreatesFile, CreatesNothing, WritesFile, FilledNothing, PutNothing, is_writable};
 ghost use Rattle.world_io.specs.Names.{bytes_under, SetsName};
 ghost use Rattle.world_io.specs.Calls.{with_failing};
 ghost use Rattle.world_io.specs.Files.{file_of, is_opened, is_created};
@@ -23,7 +23,7 @@ use std::marker::Model;
 /// every later call has this last number too. Opening a name that is not there fails. A file that
 /// was opened goes on with the bytes that its name had then. The world is healthy where none of the
 /// calls still to come is told to fail.
-#[derive(Debug, Drop)]
+#[derive(Drop)]
 pub struct MemoryWorld {
     alloc: Global,
     names: Names,
@@ -229,11 +229,9 @@ impl World for MemoryWorld {
         ensures told_nothing { IsTrue true
             → FilledNothing result → shown_of self.new ≡ shown_of self.old }
         ensures end { IsTrue true → EndsAtEnd result ((shown_of self.old).left file) }
-        ensures ledger { KeepsLedgerReading (ledger_of self.old) (ledger_of self.new) }
+        ensures reads_on { ReadsOn ledger_of IsHealthy self.old self.new }
         ensures cause { result ≡ Filled.Failed
-            → Rose (ledger_of self.old).read_faults (ledger_of self.new).read_faults }
-        ensures never_fails { IsHealthy self.old → result ≢ Filled.Failed }
-        ensures stays_healthy { IsHealthy self.old → IsHealthy self.new }
+            → ReadingFailed ledger_of IsHealthy self.old self.new }
 
         // Beyond any world: when it fails, and what it does to the plain data.
         ensures fills { Fills self.old file result piece.new self.new }
@@ -252,8 +250,7 @@ impl World for MemoryWorld {
         ensures not_given { OnErr result
             (KeepsLedgerWriting (ledger_of self.old) (ledger_of self.new)) }
         ensures cause { IsErrOf result OpenFault.Failed
-            → Rose (ledger_of self.old).write_faults (ledger_of self.new).write_faults }
-        ensures never_fails { IsHealthy self.old → ¬ IsErrOf result OpenFault.Failed }
+            → WritingFailed ledger_of IsHealthy self.old self.new }
         ensures stays_healthy { IsHealthy self.old → IsHealthy self.new }
 
         // Beyond any world: when it fails, and what it does to the plain data.
@@ -269,11 +266,8 @@ impl World for MemoryWorld {
             → WritesFile file (put_bytes result piece.now) (shown_of self.old) (shown_of self.new) }
         ensures told_nothing { IsTrue true
             → PutNothing result → shown_of self.new ≡ shown_of self.old }
-        ensures ledger { KeepsLedgerWriting (ledger_of self.old) (ledger_of self.new) }
-        ensures cause { result ≡ Put.Failed
-            → Rose (ledger_of self.old).write_faults (ledger_of self.new).write_faults }
-        ensures never_fails { IsHealthy self.old → result ≢ Put.Failed }
-        ensures stays_healthy { IsHealthy self.old → IsHealthy self.new }
+        ensures writes_on { WritesOn ledger_of IsHealthy self.old self.new }
+        ensures cause { result ≡ Put.Failed → WritingFailed ledger_of IsHealthy self.old self.new }
 
         // Beyond any world: when it fails, and what it does to the plain data.
         ensures puts { Puts self.old file result piece.now self.new }

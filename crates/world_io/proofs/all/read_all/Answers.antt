@@ -3,6 +3,7 @@ use Rattle.std.proofs.lemmas.List.{take-append-le}
 use Rattle.std.proofs.lemmas.Grind.{common_steps}
 use Rattle.plain_text.proofs.Octets.{AreBytes-append}
 use Rattle.world_io.proofs.ReadAllLemmas.{no_memory}
+use Rattle.world_io.proofs.GoingOn.{GoesOn-trans}
 use Rattle.world_io.proofs.all.read_all.Goals as goal
 
 pub returns-in-End-clause-reads : goal.returns-in-End-clause-reads
@@ -41,6 +42,5 @@ loop-bytes-preserved g c =
       reads = rw now (g.met.S.Source.reads_more _ _ _ _ _ inv.reads got.reads);
       bytes = rw kept.ok (AreBytes-append c.loop-bytes.bytes _ inv.bytes kept.octets);
       room = grind (arith, common_steps);
-      later = omega (arith, inv.later, got.later);
-      healthy = λ well. got.stays_healthy (inv.healthy well);
+      goes_on = GoesOn-trans g.S.Source.faults g.S.Source.healthy _ _ _ inv.goes_on got.goes_on;
     }
