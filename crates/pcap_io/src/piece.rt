@@ -1,6 +1,6 @@
 ghost use Rattle.std.specs.Prelude.{◌≡◌, ◌≤◌, ◌<◌, [], IsTrue, IsNone, IfSome, MatchOption, List, ℕ, length, take};
 ghost use Rattle.plain_text.specs.Octets.{AreBytes};
-ghost use Rattle.world_io.specs.Stream.{Rose};
+ghost use Rattle.world_io.specs.Stream.{GoesOn, HasFailed};
 
 use world_io::{Filled, Source};
 
@@ -13,10 +13,8 @@ pub(crate) fn fill_piece<S: Source>(source: &mut S, piece: &mut [u8]) -> Option<
     ensures short { IsTrue S.tells
         → IfSome result (λ n. n < length piece.new → S.left source.new ≡ []) }
     ensures octets { AreBytes piece.new }
-    ensures later { S.faults source.old ≤ S.faults source.new }
-    ensures cause { IsNone result → Rose (S.faults source.old) (S.faults source.new) }
-    ensures never_fails { S.healthy source.old → ¬ IsNone result }
-    ensures stays_healthy { S.healthy source.old → S.healthy source.new }
+    ensures goes_on { GoesOn S.faults S.healthy source.old source.new }
+    ensures cause { IsNone result → HasFailed S.faults S.healthy source.old source.new }
 {
     let mut done = 0;
     while done < piece.len() {
