@@ -1,6 +1,6 @@
 ghost use Rattle.std.specs.Prelude.{◌≡◌, ◌≤◌, ◌<◌, [], IsTrue, IsNone, IfSome, MatchOption, List, ℕ, ◌++◌, length, take};
 ghost use Rattle.plain_text.specs.Octets.{AreBytes};
-ghost use Rattle.world_io.specs.Stream.{Rose};
+ghost use Rattle.world_io.specs.Stream.{GoesOn, HasFailed};
 
 use world_io::{Filled, Source};
 
@@ -13,10 +13,8 @@ pub(crate) fn fill_piece<S: Source>(source: &mut S, piece: &mut [u8]) -> Option<
     ensures short { IsTrue S.tells
         → IfSome result (λ n. n < length piece.new → S.left source.new ≡ []) }
     ensures octets { AreBytes piece.new }
-    ensures later { S.faults source.old ≤ S.faults source.new }
-    ensures cause { IsNone result → Rose (S.faults source.old) (S.faults source.new) }
-    ensures never_fails { S.healthy source.old → ¬ IsNone result }
-    ensures stays_healthy { S.healthy source.old → S.healthy source.new }
+    ensures goes_on { GoesOn S.faults S.healthy source.old source.new }
+    ensures cause { IsNone result → HasFailed S.faults S.healthy source.old source.new }
 {
     let mut done = 0;
     while done < piece.len() {
@@ -39,10 +37,8 @@ pub(crate) fn read_past<S: Source>(source: &mut S, count: u64) -> Option<u64>
         (λ n. (taken : List ℕ) × S.reads source.old taken source.new × (length taken ≡ n)) }
     ensures within { IfSome result (λ n. n ≤ count) }
     ensures short { IsTrue S.tells → IfSome result (λ n. n < count → S.left source.new ≡ []) }
-    ensures later { S.faults source.old ≤ S.faults source.new }
-    ensures cause { IsNone result → Rose (S.faults source.old) (S.faults source.new) }
-    ensures never_fails { S.healthy source.old → ¬ IsNone result }
-    ensures stays_healthy { S.healthy source.old → S.healthy source.new }
+    ensures goes_on { GoesOn S.faults S.healthy source.old source.new }
+    ensures cause { IsNone result → HasFailed S.faults S.healthy source.old source.new }
 {
     let mut piece = [0u8; PAST];
     let mut done = 0;
@@ -72,10 +68,8 @@ pub(crate) fn fill_behind<S: Source>(
     ensures short { IsTrue S.tells
         → IfSome result (λ n. n < length piece.new → S.left source.new ≡ []) }
     ensures octets { AreBytes piece.new }
-    ensures later { S.faults source.old ≤ S.faults source.new }
-    ensures cause { IsNone result → Rose (S.faults source.old) (S.faults source.new) }
-    ensures never_fails { S.healthy source.old → ¬ IsNone result }
-    ensures stays_healthy { S.healthy source.old → S.healthy source.new }
+    ensures goes_on { GoesOn S.faults S.healthy source.old source.new }
+    ensures cause { IsNone result → HasFailed S.faults S.healthy source.old source.new }
 {
     let start = first.len();
     piece[..start].copy_from_slice(first);
