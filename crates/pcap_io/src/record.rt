@@ -4,12 +4,11 @@ ghost use Rattle.pcap_io.specs.Capture.{record_of};
 ghost use Rattle.pcap_io.specs.Reader.{Answers, Takes, IsGiven, GivesBytes};
 ghost use Rattle.pcap_io.specs.Record.{TakesBody};
 
-use crate::piece::fill_piece;
 use crate::{CaptureCause, CaptureFault, Next, Order};
 use byteorder::{ByteOrder, LittleEndian};
 use plain_text::{Bytes, Limit, MOST_CAPTURED, NoMemory, Packet};
 use std::alloc::Global;
-use world_io::Source;
+use world_io::{Source, fill_piece};
 
 pub(crate) const RECORD_HEADER: usize = 16;
 

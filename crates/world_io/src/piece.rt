@@ -2,11 +2,11 @@ ghost use Rattle.std.specs.Prelude.{◌≡◌, ◌≤◌, ◌<◌, [], IsTrue, I
 ghost use Rattle.plain_text.specs.Octets.{AreBytes};
 ghost use Rattle.world_io.specs.Stream.{GoesOn, HasFailed};
 
-use world_io::{Filled, Source};
+use crate::{Filled, Source};
 
 /// Fills the piece from the source, and says how many bytes it got: fewer than the piece has only
 /// where no more were left. None comes where reading failed, after any bytes.
-pub(crate) fn fill_piece<S: Source>(source: &mut S, piece: &mut [u8]) -> Option<usize>
+pub fn fill_piece<S: Source>(source: &mut S, piece: &mut [u8]) -> Option<usize>
     ensures taken { MatchOption result ((taken : List ℕ) × S.reads source.old taken source.new)
         (λ n. S.reads source.old (take n piece.new) source.new) }
     ensures within { IfSome result (λ n. n ≤ length piece.new) }
