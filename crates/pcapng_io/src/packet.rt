@@ -9,7 +9,7 @@ use plain_text::{Bytes, MOST_CAPTURED, NoMemory, Packet};
 use std::alloc::Global;
 
 /// Why a block is not read.
-#[derive(Clone, Copy, PartialEq, Eq)]
+#[derive(Clone, Copy)]
 pub enum BlockError {
     Fault(NgCause),
     NoMemory,
