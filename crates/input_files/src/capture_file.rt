@@ -1,11 +1,11 @@
-ghost use Rattle.std.specs.Prelude.{◌≡◌, ◌≢◌, ◌<◌, ◌≤◌, ◌-◌, ◌^◌, All, length, vec_len, IsTrue, IfOk, IsErrOf, List, ℕ};
+ghost use Rattle.std.specs.Prelude.{◌≡◌, ◌<◌, ◌≤◌, ◌-◌, ◌^◌, All, length, vec_len, IsTrue, IfOk, IsErrOf, List, ℕ};
 ghost use Rattle.plain_text.specs.declared.limit.TheConstants.{MOST_PACKETS};
 ghost use Rattle.plain_text.specs.Octets.{IsOfBytes};
 ghost use Rattle.pcapng_io.specs.Captured.{SaysAny, CapturesPackets};
-ghost use Rattle.world_io.specs.Stream.{Rose};
+ghost use Rattle.world_io.specs.Stream.{Rose, GoesOn, HasFailed};
 ghost use Rattle.world_io.specs.Taking.{TakesSome};
 ghost use Rattle.input_files.specs.Answers.{IsShort, SaysCapture};
-ghost use Rattle.input_files.specs.Files.{KeepsOutputs, AfterReading};
+ghost use Rattle.input_files.specs.Files.{OnlyReads};
 ghost use Rattle.input_files.specs.Judging.{JudgesCapture};
 
 use crate::InputError;
@@ -36,11 +36,9 @@ pub fn read_capture_file<W: World>(
     ensures few { IfOk result (λ capture. length capture.packets ≤ MOST_PACKETS) }
     ensures short { IfOk result (λ capture. All IsShort capture.packets) }
     ensures bytes { IfOk result (λ capture. All IsOfBytes capture.packets) }
-    ensures outputs { IsTrue W.tells → KeepsOutputs (W.shown world.old) (W.shown world.new) }
-    ensures ledger { AfterReading (W.ledger world.old) (W.ledger world.new) }
+    ensures only_reads { OnlyReads W.tells W.shown W.ledger W.healthy 1 world.old world.new }
     ensures cause { IsErrOf result InputError.ReadFault
         → Rose (W.ledger world.old).read_faults (W.ledger world.new).read_faults }
-    ensures stays_healthy { W.healthy world.old → W.healthy world.new }
 {
     let file = match world.open_file(name) {
         Ok(file) => file,
@@ -86,11 +84,9 @@ fn read_buffered<S: Source>(alloc: Global, source: &mut S, buffer: Vec<u8>) -> A
     ensures told { IsTrue S.tells → SaysAny (S.left source.old) result }
     ensures reads { TakesSome S.reads source.old source.new }
     ensures packets { CapturesPackets result }
-    ensures later { S.faults source.old ≤ S.faults source.new }
+    ensures goes_on { GoesOn S.faults S.healthy source.old source.new }
     ensures cause { result ≡ AnyCaptured.ReadFault
-        → Rose (S.faults source.old) (S.faults source.new) }
-    ensures never_fails { S.healthy source.old → result ≢ AnyCaptured.ReadFault }
-    ensures stays_healthy { S.healthy source.old → S.healthy source.new }
+        → HasFailed S.faults S.healthy source.old source.new }
 {
     let mut buffered = BufferedSource::of(source, buffer);
     let captured = read_any_capture(alloc, &mut buffered);

@@ -1,7 +1,7 @@
-ghost use Rattle.std.specs.Prelude.{◌≡◌, ◌<◌, ◌-◌, ◌^◌, IsTrue, IsErrOf, List, ℕ};
+ghost use Rattle.std.specs.Prelude.{◌<◌, ◌-◌, ◌^◌, IsTrue, IsErrOf, List, ℕ};
 ghost use Rattle.world_io.specs.Stream.{Rose};
 ghost use Rattle.input_files.specs.Answers.{SaysScript, SaysLines};
-ghost use Rattle.input_files.specs.Files.{KeepsOutputs, AfterReading};
+ghost use Rattle.input_files.specs.Files.{OnlyReads};
 ghost use Rattle.input_files.specs.Judging.{JudgesScript};
 ghost use Rattle.input_files.specs.Texts.{IsFrontOf};
 
@@ -24,11 +24,9 @@ pub fn read_script_file<W: World>(
     requires { (W.ledger world.old).given < 2 ^ 32 - 1 }
     ensures judged { IsTrue W.tells
         → JudgesScript (W.healthy world.old) name.now result (W.shown world.old) }
-    ensures outputs { IsTrue W.tells → KeepsOutputs (W.shown world.old) (W.shown world.new) }
-    ensures ledger { AfterReading (W.ledger world.old) (W.ledger world.new) }
+    ensures only_reads { OnlyReads W.tells W.shown W.ledger W.healthy 1 world.old world.new }
     ensures cause { IsErrOf result InputError.ReadFault
         → Rose (W.ledger world.old).read_faults (W.ledger world.new).read_faults }
-    ensures stays_healthy { W.healthy world.old → W.healthy world.new }
 {
     let front = read_front_of(alloc, world, name)?;
     judge_script(alloc, &front)

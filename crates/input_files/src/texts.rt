@@ -1,6 +1,6 @@
 ghost use Rattle.std.specs.Prelude.{◌≡◌, ◌<◌, ◌-◌, ◌^◌, IsTrue, IsErrOf};
 ghost use Rattle.world_io.specs.Stream.{Rose};
-ghost use Rattle.input_files.specs.Files.{ReadsFrontOf, KeepsOutputs, AfterReading};
+ghost use Rattle.input_files.specs.Files.{ReadsFrontOf, OnlyReads};
 ghost use Rattle.input_files.specs.Texts.{whole_lines};
 
 use plain_text::{MOST_FILE_BYTES, Text};
@@ -16,11 +16,9 @@ pub(crate) fn read_front_of<W: World>(
     requires { (W.ledger world.old).given < 2 ^ 32 - 1 }
     ensures judged { IsTrue W.tells
         → ReadsFrontOf (W.healthy world.old) name.now result (W.shown world.old) }
-    ensures outputs { IsTrue W.tells → KeepsOutputs (W.shown world.old) (W.shown world.new) }
-    ensures ledger { AfterReading (W.ledger world.old) (W.ledger world.new) }
+    ensures only_reads { OnlyReads W.tells W.shown W.ledger W.healthy 1 world.old world.new }
     ensures cause { IsErrOf result FrontError.Failed
         → Rose (W.ledger world.old).read_faults (W.ledger world.new).read_faults }
-    ensures stays_healthy { W.healthy world.old → W.healthy world.new }
 {
     let file = match world.open_file(name) {
         Ok(file) => file,

@@ -4,7 +4,7 @@ use Rattle.std.proofs.lemmas.List.{length-take, drop_at, drop-append-le, length-
 use Rattle.std.proofs.lemmas.Nat.{le_bytes_2, be_bytes_2, le_bytes_4, be_bytes_4}
 use Rattle.byteorder.specs.Numbers.{big_from-take, little_from-take, big_from-append, little_from-append, big_number-reads_back, little_number-reads_back, length-bytes_high_first, length-bytes_low_first}
 use Rattle.plain_text.specs.Octets.{AreBytes}
-use Rattle.plain_text.proofs.Octets.{AreBytes-take, AreBytes-drop}
+use Rattle.plain_text.proofs.Octets.{AreBytes-take}
 use Rattle.pcap_io.specs.declared.order.Order.{Order}
 use Rattle.pcap_io.specs.declared.order.Order.TheVariants.{Little, Big}
 use Rattle.pcap_io.specs.Capture.{spelled, number}

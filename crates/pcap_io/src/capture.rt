@@ -1,5 +1,5 @@
-ghost use Rattle.std.specs.Prelude.{◌≡◌, ◌≢◌, ◌≤◌, IsTrue};
-ghost use Rattle.world_io.specs.Stream.{Rose};
+ghost use Rattle.std.specs.Prelude.{◌≡◌, IsTrue};
+ghost use Rattle.world_io.specs.Stream.{GoesOn, HasFailed};
 ghost use Rattle.pcap_io.specs.Captured.{Says, TakesCapture, EndsAt, CapturesBytes};
 
 use crate::{CaptureFault, Next, Reader, Started};
@@ -8,7 +8,7 @@ use std::alloc::Global;
 use world_io::Source;
 
 /// What reading a whole capture came to.
-#[derive(Debug, Drop)]
+#[derive(Drop)]
 pub enum Captured {
     /// The packets, and what their fractions count.
     Capture { unit: Unit, packets: Packets },
@@ -27,11 +27,9 @@ pub fn read_capture<S: Source>(alloc: Global, source: &mut S) -> Captured
     ensures taken { TakesCapture S.reads result source.old source.new }
     ensures whole { IsTrue S.tells → EndsAt result (S.left source.new) }
     ensures bytes { CapturesBytes result }
-    ensures later { S.faults source.old ≤ S.faults source.new }
+    ensures goes_on { GoesOn S.faults S.healthy source.old source.new }
     ensures cause { result ≡ Captured.ReadFault
-        → Rose (S.faults source.old) (S.faults source.new) }
-    ensures never_fails { S.healthy source.old → result ≢ Captured.ReadFault }
-    ensures stays_healthy { S.healthy source.old → S.healthy source.new }
+        → HasFailed S.faults S.healthy source.old source.new }
 {
     let mut reader = match Reader::start(source) {
         Started::Reader(reader) => reader,

@@ -2,7 +2,7 @@ use crate::CaptureFault;
 use plain_text::{Limit, Packet};
 
 /// What a reader came to.
-#[derive(Debug, Drop)]
+#[derive(Drop)]
 pub enum Next {
     /// The next packet.
     Packet(Packet),

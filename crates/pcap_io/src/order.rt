@@ -4,7 +4,7 @@ ghost use Rattle.pcap_io.specs.Capture.{number};
 use byteorder::{BigEndian, ByteOrder, LittleEndian};
 
 /// Which byte of a number comes first.
-#[derive(Clone, Copy, Debug, PartialEq, Eq)]
+#[derive(Clone, Copy, PartialEq, Eq)]
 pub enum Order {
     Little,
     Big,

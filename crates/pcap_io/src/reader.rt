@@ -1,17 +1,16 @@
 ghost use Rattle.std.specs.Prelude.{◌≡◌, ◌≢◌, ◌≤◌, ◌↔◌, true, IsTrue};
-ghost use Rattle.world_io.specs.Stream.{Rose};
+ghost use Rattle.world_io.specs.Stream.{GoesOn, HasFailed};
 ghost use Rattle.pcap_io.specs.Limits.{room_at, limit_at};
 ghost use Rattle.pcap_io.specs.Reader.{AnswersAt, Takes, IsGiven, GivesBytes, after};
 ghost use Rattle.pcap_io.specs.Started.{Starts, TakesHeader, IsFresh};
 
 use crate::header::{FILE_HEADER, read_header};
-use crate::piece::fill_piece;
 use crate::record::{Place, RECORD_HEADER};
 use crate::{CaptureCause, CaptureFault, Next, Order, Started};
 use plain_text::{Limit, MOST_FILE_BYTES, MOST_PACKETS, Unit};
 use std::alloc::Global;
 use std::marker::Model;
-use world_io::Source;
+use world_io::{Source, fill_piece};
 
 /// Reads a capture's packets, one at a time, from the source that is lent to each call.
 ///
@@ -21,7 +20,7 @@ use world_io::Source;
 ///
 /// Contracts see what the header told, the bytes used and the packets given, and whether the reader
 /// is over.
-#[derive(Debug, Drop)]
+#[derive(Drop)]
 pub struct Reader {
     unit: Unit,
     order: Order,
@@ -54,11 +53,9 @@ impl Reader {
         ensures told { IsTrue S.tells → Starts (S.left source.old) result }
         ensures taken { TakesHeader S.reads result source.old source.new }
         ensures fresh { IsFresh result }
-        ensures later { S.faults source.old ≤ S.faults source.new }
+        ensures goes_on { GoesOn S.faults S.healthy source.old source.new }
         ensures cause { result ≡ Started.ReadFault
-            → Rose (S.faults source.old) (S.faults source.new) }
-        ensures never_fails { S.healthy source.old → result ≢ Started.ReadFault }
-        ensures stays_healthy { S.healthy source.old → S.healthy source.new }
+            → HasFailed S.faults S.healthy source.old source.new }
         ensures memory { result ≢ Started.NoMemory }
     {
         let mut head = [0u8; FILE_HEADER];
@@ -99,10 +96,9 @@ impl Reader {
         ensures taken { Takes S.reads self.old.order result source.old source.new }
         ensures given { IsGiven (room_at self.old.count self.old.offset) result }
         ensures bytes { GivesBytes result }
-        ensures later { S.faults source.old ≤ S.faults source.new }
-        ensures cause { result ≡ Next.ReadFault → Rose (S.faults source.old) (S.faults source.new) }
-        ensures never_fails { S.healthy source.old → result ≢ Next.ReadFault }
-        ensures stays_healthy { S.healthy source.old → S.healthy source.new }
+        ensures goes_on { GoesOn S.faults S.healthy source.old source.new }
+        ensures cause { result ≡ Next.ReadFault
+            → HasFailed S.faults S.healthy source.old source.new }
     {
         if self.over {
             return Next::Over;

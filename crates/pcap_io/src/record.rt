@@ -1,21 +1,20 @@
 ghost use Rattle.std.specs.Prelude.{◌≡◌, ◌≢◌, ◌≤◌, ◌+◌, ◌++◌, IsTrue, OnOk, OnErr, length};
-ghost use Rattle.world_io.specs.Stream.{Rose};
+ghost use Rattle.world_io.specs.Stream.{GoesOn, HasFailed};
 ghost use Rattle.pcap_io.specs.Capture.{record_of};
 ghost use Rattle.pcap_io.specs.Reader.{Answers, Takes, IsGiven, GivesBytes};
 ghost use Rattle.pcap_io.specs.Record.{TakesBody};
 
-use crate::piece::fill_piece;
 use crate::{CaptureCause, CaptureFault, Next, Order};
 use byteorder::{ByteOrder, LittleEndian};
 use plain_text::{Bytes, Limit, MOST_CAPTURED, NoMemory, Packet};
 use std::alloc::Global;
-use world_io::Source;
+use world_io::{Source, fill_piece};
 
 pub(crate) const RECORD_HEADER: usize = 16;
 
 /// Where a record begins, how many bytes it may take, and the limit that is passed where it needs
 /// more.
-#[derive(Clone, Copy, Debug)]
+#[derive(Clone, Copy)]
 pub(crate) struct Place {
     pub(crate) order: Order,
     pub(crate) offset: u64,
@@ -32,10 +31,9 @@ impl Place {
         ensures given { IsGiven self.room result }
         ensures bytes { GivesBytes result }
         ensures running { result ≢ Next.Over }
-        ensures later { S.faults source.old ≤ S.faults source.new }
-        ensures cause { result ≡ Next.ReadFault → Rose (S.faults source.old) (S.faults source.new) }
-        ensures never_fails { S.healthy source.old → result ≢ Next.ReadFault }
-        ensures stays_healthy { S.healthy source.old → S.healthy source.new }
+        ensures goes_on { GoesOn S.faults S.healthy source.old source.new }
+        ensures cause { result ≡ Next.ReadFault
+            → HasFailed S.faults S.healthy source.old source.new }
     {
         let mut head = [0u8; RECORD_HEADER];
         let Some(had) = fill_piece(source, &mut head) else {
@@ -62,10 +60,9 @@ impl Place {
         ensures taken { TakesBody S.reads self.order head.now result source.old source.new }
         ensures given { IsGiven self.room result }
         ensures bytes { GivesBytes result }
-        ensures later { S.faults source.old ≤ S.faults source.new }
-        ensures cause { result ≡ Next.ReadFault → Rose (S.faults source.old) (S.faults source.new) }
-        ensures never_fails { S.healthy source.old → result ≢ Next.ReadFault }
-        ensures stays_healthy { S.healthy source.old → S.healthy source.new }
+        ensures goes_on { GoesOn S.faults S.healthy source.old source.new }
+        ensures cause { result ≡ Next.ReadFault
+            → HasFailed S.faults S.healthy source.old source.new }
     {
         let captured = self.order.read_u32(&head[8..]);
         if captured > MOST_CAPTURED {

@@ -1,7 +1,7 @@
 use crate::{CaptureFault, Reader};
 
 /// What reading the file header of a capture came to.
-#[derive(Debug, Drop)]
+#[derive(Drop)]
 pub enum Started {
     Reader(Reader),
     /// The header is short or faulty.

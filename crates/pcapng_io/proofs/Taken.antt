@@ -1,5 +1,5 @@
 -- Whatever a reader answers, it took some bytes of its source.
-use Rattle.std.proofs.Common.{ℕ, List, [], ◌++◌}
+use Rattle.std.proofs.Common.{ℕ, List, ◌++◌}
 use Rattle.world_io.specs.Taking.{TakesSome}
 use Rattle.pcap_io.specs.declared.next.Next.{Next}
 use Rattle.pcap_io.specs.declared.next.Next.TheVariants as capture

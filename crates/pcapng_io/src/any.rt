@@ -1,5 +1,5 @@
-ghost use Rattle.std.specs.Prelude.{◌≡◌, ◌≢◌, ◌≤◌, ◌↔◌, true, List, ℕ, length, IsTrue};
-ghost use Rattle.world_io.specs.Stream.{Rose};
+ghost use Rattle.std.specs.Prelude.{◌≡◌, ◌≢◌, ◌≤◌, ◌↔◌, true, length, IsTrue};
+ghost use Rattle.world_io.specs.Stream.{GoesOn, HasFailed};
 ghost use Rattle.pcap_io.specs.Started.{Starts, IsFresh};
 ghost use Rattle.pcapng_io.specs.Capture.{begins_ng};
 ghost use Rattle.pcapng_io.specs.Reader.{GivesAny};
@@ -7,19 +7,19 @@ ghost use Rattle.pcapng_io.specs.Any.{any_started, StartsAny, TakesStart, unit_o
 
 use crate::block::SECTION;
 use crate::number::read_u32;
-use crate::piece::{fill_behind, fill_piece};
+use crate::piece::fill_behind;
 use crate::reader::NgReader;
 use crate::{AnyFault, AnyNext};
 use pcap_io::{Order, Reader, Started};
 use plain_text::Unit;
 use std::alloc::Global;
 use std::marker::Model;
-use world_io::{SliceSource, Source};
+use world_io::{SliceSource, Source, fill_piece};
 
 const FILE_HEADER: usize = 24;
 
 /// A reader of either format.
-#[derive(Debug, Drop)]
+#[derive(Drop)]
 pub enum Format {
     /// A libpcap savefile.
     Capture(Reader),
@@ -61,11 +61,9 @@ pub enum AnyStarted {
 pub fn open_capture<S: Source>(alloc: Global, source: &mut S) -> AnyStarted
     ensures told { IsTrue S.tells → StartsAny (S.left source.old) result }
     ensures taken { TakesStart S.reads result source.old source.new }
-    ensures later { S.faults source.old ≤ S.faults source.new }
+    ensures goes_on { GoesOn S.faults S.healthy source.old source.new }
     ensures cause { result ≡ AnyStarted.ReadFault
-        → Rose (S.faults source.old) (S.faults source.new) }
-    ensures never_fails { S.healthy source.old → result ≢ AnyStarted.ReadFault }
-    ensures stays_healthy { S.healthy source.old → S.healthy source.new }
+        → HasFailed S.faults S.healthy source.old source.new }
     ensures memory { result ≢ AnyStarted.NoMemory }
 {
     let mut first = [0u8; 4];
@@ -138,11 +136,9 @@ impl AnyReader {
         ensures told { IsTrue S.tells → AnswersAny self.old (S.left source.old) result }
         ensures taken { TakesAny S.reads result source.old source.new self.old self.new }
         ensures given { GivesAny result }
-        ensures later { S.faults source.old ≤ S.faults source.new }
+        ensures goes_on { GoesOn S.faults S.healthy source.old source.new }
         ensures cause { result ≡ AnyNext.ReadFault
-            → Rose (S.faults source.old) (S.faults source.new) }
-        ensures never_fails { S.healthy source.old → result ≢ AnyNext.ReadFault }
-        ensures stays_healthy { S.healthy source.old → S.healthy source.new }
+            → HasFailed S.faults S.healthy source.old source.new }
     {
         match &mut self.format {
             Format::Capture(reader) => AnyNext::of(reader.next_packet(self.alloc, source)),

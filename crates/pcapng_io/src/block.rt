@@ -16,7 +16,7 @@ const SIMPLE: u32 = 3;
 const ENHANCED: u32 = 6;
 
 /// What a block is, by its type.
-#[derive(Clone, Copy, Debug, PartialEq, Eq)]
+#[derive(Clone, Copy, PartialEq, Eq)]
 pub enum BlockKind {
     /// Type 0x0A0D0D0A: a section header.
     Section,
@@ -75,7 +75,7 @@ impl BlockKind {
 
 /// A block: the byte order of its section, its type, and its body, which stands between the two copies of its total
 /// length.
-#[derive(Debug, Drop)]
+#[derive(Drop)]
 pub struct Block {
     pub order: Order,
     pub number: u32,

@@ -1,5 +1,5 @@
-ghost use Rattle.std.specs.Prelude.{◌≡◌, ◌≢◌, ◌≤◌, IsTrue};
-ghost use Rattle.world_io.specs.Stream.{Rose};
+ghost use Rattle.std.specs.Prelude.{◌≡◌, IsTrue};
+ghost use Rattle.world_io.specs.Stream.{GoesOn, HasFailed};
 ghost use Rattle.world_io.specs.Taking.{TakesSome};
 ghost use Rattle.pcapng_io.specs.Captured.{SaysAny, CapturesPackets};
 
@@ -9,7 +9,7 @@ use std::alloc::Global;
 use world_io::Source;
 
 /// What reading a whole capture of either format came to.
-#[derive(Debug, Drop)]
+#[derive(Drop)]
 pub enum AnyCaptured {
     /// The packets, and what their fractions count.
     Capture { unit: Unit, packets: Packets },
@@ -27,11 +27,9 @@ pub fn read_any_capture<S: Source>(alloc: Global, source: &mut S) -> AnyCaptured
     ensures told { IsTrue S.tells → SaysAny (S.left source.old) result }
     ensures reads { TakesSome S.reads source.old source.new }
     ensures packets { CapturesPackets result }
-    ensures later { S.faults source.old ≤ S.faults source.new }
+    ensures goes_on { GoesOn S.faults S.healthy source.old source.new }
     ensures cause { result ≡ AnyCaptured.ReadFault
-        → Rose (S.faults source.old) (S.faults source.new) }
-    ensures never_fails { S.healthy source.old → result ≢ AnyCaptured.ReadFault }
-    ensures stays_healthy { S.healthy source.old → S.healthy source.new }
+        → HasFailed S.faults S.healthy source.old source.new }
 {
     let mut reader = match open_capture(alloc, source) {
         AnyStarted::Reader(reader) => reader,

@@ -1,5 +1,5 @@
 ghost use Rattle.std.specs.Prelude.{◌≡◌, ◌≢◌, ◌≤◌, ◌&&◌, ◌++◌, false, [], List, ℕ, length, IsTrue, IfOk, IfErr, IsErrOf};
-ghost use Rattle.world_io.specs.Stream.{Rose};
+ghost use Rattle.world_io.specs.Stream.{GoesOn, HasFailed};
 ghost use Rattle.pcapng_io.specs.Blocks.{order_of, order_in};
 ghost use Rattle.pcapng_io.specs.Limits.{shows_packet};
 ghost use Rattle.pcapng_io.specs.Stops.{held_type, StopsHere, StandsHere, TakesBlock, PassesRest};
@@ -59,11 +59,9 @@ impl Place {
         ensures stands { IfOk result (StandsHere self) }
         ensures ended { IsErrOf result Stop.End
             → (self.typed ≡ false) × S.reads source.old [] source.new }
-        ensures later { S.faults source.old ≤ S.faults source.new }
+        ensures goes_on { GoesOn S.faults S.healthy source.old source.new }
         ensures cause { IsErrOf result Stop.ReadFault
-            → Rose (S.faults source.old) (S.faults source.new) }
-        ensures never_fails { S.healthy source.old → ¬ IsErrOf result Stop.ReadFault }
-        ensures stays_healthy { S.healthy source.old → S.healthy source.new }
+            → HasFailed S.faults S.healthy source.old source.new }
     {
         let mut head = [0u8; BLOCK_HEAD];
         let Some(had) = fill_behind(source, held_type(self.typed), &mut head) else {
@@ -85,11 +83,9 @@ impl Place {
         ensures taken { TakesBlock S.reads head.now result source.old source.new }
         ensures stands { IfOk result (StandsHere self) }
         ensures some { ¬ IsErrOf result Stop.End }
-        ensures later { S.faults source.old ≤ S.faults source.new }
+        ensures goes_on { GoesOn S.faults S.healthy source.old source.new }
         ensures cause { IsErrOf result Stop.ReadFault
-            → Rose (S.faults source.old) (S.faults source.new) }
-        ensures never_fails { S.healthy source.old → ¬ IsErrOf result Stop.ReadFault }
-        ensures stays_healthy { S.healthy source.old → S.healthy source.new }
+            → HasFailed S.faults S.healthy source.old source.new }
     {
         let number = read_u32(self.order, head);
         let kind = BlockKind::of(number);
@@ -130,10 +126,9 @@ impl Place {
         ensures told { IsTrue S.tells → PassesRest self.room total (S.left source.old) result }
         ensures taken { (taken : List ℕ) × S.reads source.old taken source.new }
         ensures some { result ≢ Stop.End }
-        ensures later { S.faults source.old ≤ S.faults source.new }
-        ensures cause { result ≡ Stop.ReadFault → Rose (S.faults source.old) (S.faults source.new) }
-        ensures never_fails { S.healthy source.old → result ≢ Stop.ReadFault }
-        ensures stays_healthy { S.healthy source.old → S.healthy source.new }
+        ensures goes_on { GoesOn S.faults S.healthy source.old source.new }
+        ensures cause { result ≡ Stop.ReadFault
+            → HasFailed S.faults S.healthy source.old source.new }
     {
         let rest = u64::from(total).saturating_sub(12);
         let room = self.room - 12;

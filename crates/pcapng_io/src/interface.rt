@@ -15,7 +15,7 @@ const OFFSET: u16 = 14;
 const MICROSECONDS: u64 = 1_000_000;
 
 /// An interface of a section.
-#[derive(Clone, Copy, Debug, PartialEq, Eq, Drop)]
+#[derive(Clone, Copy, PartialEq, Eq, Drop)]
 pub struct Interface {
     /// The most bytes that are captured of a packet; 0 where there is no such limit.
     pub snaplen: u32,

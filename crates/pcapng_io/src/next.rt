@@ -6,7 +6,7 @@ use pcap_io::Next;
 use plain_text::{Limit, Packet};
 
 /// What a reader of either format came to.
-#[derive(Debug, Drop)]
+#[derive(Drop)]
 pub enum AnyNext {
     /// The next packet.
     Packet(Packet),

@@ -11,7 +11,7 @@ pub(crate) const BLOCK_HEAD: usize = 12;
 
 /// Where a block begins: the byte order of its section, whether its type, that of a section header, was read before,
 /// the bytes that are left of a file's limit, and whether all packets of a capture were given.
-#[derive(Clone, Copy, Debug)]
+#[derive(Clone, Copy)]
 pub struct Place {
     pub order: Order,
     pub typed: bool,
@@ -20,7 +20,7 @@ pub struct Place {
 }
 
 /// Why no block is read.
-#[derive(Clone, Copy, Debug, PartialEq, Eq)]
+#[derive(Clone, Copy)]
 pub enum Stop {
     End,
     Refused(NgCause),

@@ -1,7 +1,7 @@
-ghost use Rattle.std.specs.Prelude.{◌≡◌, ◌≢◌, ◌≤◌, ◌<◌, ◌-◌, ◌==◌, ◌↔◌, ◌++◌, true, false, [], IsTrue, OnOk, IfErr, IsErrOf};
+ghost use Rattle.std.specs.Prelude.{◌≡◌, ◌≤◌, ◌<◌, ◌-◌, ◌==◌, ◌↔◌, ◌++◌, true, false, [], IsTrue, OnOk, IfErr, IsErrOf};
 ghost use Rattle.plain_text.specs.declared.limit.TheConstants.{MOST_FILE_BYTES, MOST_PACKETS};
 ghost use Rattle.pcap_io.specs.declared.order.Order.TheVariants.{Little};
-ghost use Rattle.world_io.specs.Stream.{Rose};
+ghost use Rattle.world_io.specs.Stream.{GoesOn, HasFailed};
 ghost use Rattle.pcapng_io.specs.Reader.{section_of, MovesOn, StopsAt, AnswersNg, TakesNg, GivesAny, answer_of};
 ghost use Rattle.pcapng_io.specs.Stops.{held_type};
 
@@ -19,7 +19,7 @@ use world_io::Source;
 ///
 /// Contracts see the section, whether the next block's type was read before, the bytes passed and the packets given,
 /// and whether the reader is over.
-#[derive(Debug, Drop)]
+#[derive(Drop)]
 pub struct NgReader {
     order: Order,
     interfaces: Sequence<Interface>,
@@ -81,11 +81,9 @@ impl NgReader {
         ensures few { self.new.count ≤ MOST_PACKETS }
         ensures small { self.new.offset ≤ MOST_FILE_BYTES }
         ensures given { GivesAny result }
-        ensures later { S.faults source.old ≤ S.faults source.new }
+        ensures goes_on { GoesOn S.faults S.healthy source.old source.new }
         ensures cause { result ≡ AnyNext.ReadFault
-            → Rose (S.faults source.old) (S.faults source.new) }
-        ensures never_fails { S.healthy source.old → result ≢ AnyNext.ReadFault }
-        ensures stays_healthy { S.healthy source.old → S.healthy source.new }
+            → HasFailed S.faults S.healthy source.old source.new }
     {
         if self.over {
             return AnyNext::Over;
@@ -115,11 +113,9 @@ impl NgReader {
         ensures grows { OnOk result (self.old.offset < self.new.offset) }
         ensures ended { IsErrOf result Stop.End
             → (self.old.typed ≡ false) × S.reads source.old [] source.new }
-        ensures later { S.faults source.old ≤ S.faults source.new }
+        ensures goes_on { GoesOn S.faults S.healthy source.old source.new }
         ensures cause { IsErrOf result Stop.ReadFault
-            → Rose (S.faults source.old) (S.faults source.new) }
-        ensures never_fails { S.healthy source.old → ¬ IsErrOf result Stop.ReadFault }
-        ensures stays_healthy { S.healthy source.old → S.healthy source.new }
+            → HasFailed S.faults S.healthy source.old source.new }
     {
         let block = match self.place().read_block(alloc, source) {
             Ok(block) => block,

@@ -9,6 +9,17 @@ use Rattle.world_io.specs.declared.stream.Put.TheVariants as put
 abbrev pub Rose : ℕ → ℕ → Type 0
 Rose before now = min (before + 1) (2 ^ 64 - 1) ≤ now
 
+-- From the one state of a source or sink to the other: its count of faults has not fallen, and what was healthy is
+-- healthy.
+pub record GoesOn {S : Type 0} (faults_of : S → ℕ) (healthy_of : S → Type 0) (old new : S) : Type 0 where
+  pub later : faults_of old ≤ faults_of new
+  pub stays_healthy : healthy_of old → healthy_of new
+
+-- A call failed between these states: the count of faults rose, or stands at its last value, and it was not healthy.
+pub record HasFailed {S : Type 0} (faults_of : S → ℕ) (healthy_of : S → Type 0) (old new : S) : Type 0 where
+  pub rose : Rose (faults_of old) (faults_of new)
+  pub not_healthy : ¬ healthy_of old
+
 -- a number of bytes moved of a piece of this length: at least one, where the piece has one
 abbrev pub IsCountOf : ℕ → ℕ → Type 0
 IsCountOf n len = (n ≤ len) × (0 < len → 0 < n)

@@ -1,5 +1,6 @@
 -- What a world of files shows, and what its calls do to it.
 use Rattle.std.specs.Prelude.{◌≡◌, ◌⊎◌, ◌||◌, nat_eq, ℕ, ◌+◌, ◌≤◌, Bool, true, false, List, [], ◌++◌, Option, Some}
+use Rattle.world_io.specs.Stream.{Rose}
 use Rattle.world_io.specs.declared.stream.Filled.{Filled}
 use Rattle.world_io.specs.declared.stream.Filled.TheVariants.{Got, End, Failed}
 use Rattle.world_io.specs.declared.stream.Put.{Put}
@@ -40,6 +41,28 @@ pub record KeepsLedgerWriting (old new : Ledger) : Type 0 where
   pub given : new.given ≡ old.given
   pub read_faults : new.read_faults ≡ old.read_faults
   pub write_faults : old.write_faults ≤ new.write_faults
+
+-- From the one state of a world to the other only reading has gone on, in files that were opened before, and what was
+-- healthy is healthy.
+pub record ReadsOn {W : Type 0} (ledger_of : W → Ledger) (healthy_of : W → Type 0) (old new : W) : Type 0 where
+  pub ledger : KeepsLedgerReading (ledger_of old) (ledger_of new)
+  pub stays_healthy : healthy_of old → healthy_of new
+
+-- From the one state of a world to the other only writing has gone on, in files that were created before or the report,
+-- and what was healthy is healthy.
+pub record WritesOn {W : Type 0} (ledger_of : W → Ledger) (healthy_of : W → Type 0) (old new : W) : Type 0 where
+  pub ledger : KeepsLedgerWriting (ledger_of old) (ledger_of new)
+  pub stays_healthy : healthy_of old → healthy_of new
+
+-- Reading failed between these states of a world, which was not healthy.
+pub record ReadingFailed {W : Type 0} (ledger_of : W → Ledger) (healthy_of : W → Type 0) (old new : W) : Type 0 where
+  pub rose : Rose (ledger_of old).read_faults (ledger_of new).read_faults
+  pub not_healthy : ¬ healthy_of old
+
+-- Writing failed between these states of a world, which was not healthy.
+pub record WritingFailed {W : Type 0} (ledger_of : W → Ledger) (healthy_of : W → Type 0) (old new : W) : Type 0 where
+  pub rose : Rose (ledger_of old).write_faults (ledger_of new).write_faults
+  pub not_healthy : ¬ healthy_of old
 
 -- a number that was never given, and is not the report's
 pub record IsNew (file : ℕ) (ledger : Ledger) : Type 0 where

@@ -1,7 +1,7 @@
-ghost use Rattle.std.specs.Prelude.{◌≡◌, ◌≤◌, ◌++◌, IsTrue, IsErrOf, IfOk, OnOk};
+ghost use Rattle.std.specs.Prelude.{◌≡◌, ◌++◌, IsTrue, IsErrOf, IfOk, OnOk};
 ghost use Rattle.plain_text.specs.Octets.{AreBytes};
 ghost use Rattle.world_io.specs.Beginning.{ReadsFront, IsFront, FrontIsBytes};
-ghost use Rattle.world_io.specs.Stream.{Rose};
+ghost use Rattle.world_io.specs.Stream.{GoesOn, HasFailed};
 
 use crate::{Filled, Source};
 use plain_text::{Bytes, NoMemory};
@@ -12,7 +12,7 @@ use thiserror::Error;
 const PIECE: usize = 8_192;
 
 /// The first bytes of a source, up to a limit.
-#[derive(Debug, Drop)]
+#[derive(Drop)]
 pub enum Front {
     /// All that was left.
     All(Bytes),
@@ -50,11 +50,9 @@ pub fn read_front<S: Source>(alloc: Global, source: &mut S, limit: u64) -> Resul
     ensures end { IsTrue S.tells
         → IsFront result limit (S.left source.old) (S.left source.new) }
     ensures bytes { IfOk result FrontIsBytes }
-    ensures later { S.faults source.old ≤ S.faults source.new }
+    ensures goes_on { GoesOn S.faults S.healthy source.old source.new }
     ensures cause { IsErrOf result FrontError.Failed
-        → Rose (S.faults source.old) (S.faults source.new) }
-    ensures never_fails { S.healthy source.old → ¬ IsErrOf result FrontError.Failed }
-    ensures stays_healthy { S.healthy source.old → S.healthy source.new }
+        → HasFailed S.faults S.healthy source.old source.new }
 {
     let mut bytes = Bytes::new(alloc);
     let mut room = limit;

@@ -1,5 +1,5 @@
-ghost use Rattle.std.specs.Prelude.{◌≡◌, ◌≢◌, ◌≤◌, ◌<◌, ◌++◌, [], length, min, take, vec_len, IsTrue};
-ghost use Rattle.world_io.specs.Stream.{Rose, EndsAtEnd};
+ghost use Rattle.std.specs.Prelude.{◌≡◌, ◌<◌, ◌++◌, [], length, min, take, vec_len, IsTrue};
+ghost use Rattle.world_io.specs.Stream.{GoesOn, HasFailed, EndsAtEnd};
 ghost use Rattle.world_io.specs.Buffered.{HoldsSome};
 
 use crate::{Filled, Source};
@@ -80,10 +80,8 @@ impl<S: Source> BufferedSource<S> {
         ensures reads { S.reads self.old.0 self.new.1 self.new.0 }
         ensures holds { HoldsSome result self.new.1 }
         ensures end { IsTrue S.tells → EndsAtEnd result (S.left self.old.0) }
-        ensures later { S.faults self.old.0 ≤ S.faults self.new.0 }
-        ensures cause { result ≡ Filled.Failed → Rose (S.faults self.old.0) (S.faults self.new.0) }
-        ensures never_fails { S.healthy self.old.0 → result ≢ Filled.Failed }
-        ensures stays_healthy { S.healthy self.old.0 → S.healthy self.new.0 }
+        ensures goes_on { GoesOn S.faults S.healthy self.old.0 self.new.0 }
+        ensures cause { result ≡ Filled.Failed → HasFailed S.faults S.healthy self.old.0 self.new.0 }
     {
         let filled = self.source.fill(self.buffer.as_mut_slice());
         self.given = 0;

@@ -7,7 +7,7 @@ use std::alloc::Global;
 use std::marker::Model;
 
 /// The calls of one kind, reading or writing, that a world in memory had, and which of them fail.
-#[derive(Debug, Drop)]
+#[derive(Drop)]
 pub struct Calls {
     made: u64,
     failing: Vec<u64>,

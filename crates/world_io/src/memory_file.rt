@@ -6,21 +6,21 @@ use plain_text::{Bytes, Text};
 use std::marker::Model;
 
 /// A file of a world in memory, which has the number of its place, counted from 1.
-#[derive(Debug, Drop)]
+#[derive(Drop)]
 pub enum MemoryFile {
     Opened(OpenedFile),
     Created(CreatedFile),
 }
 
 /// A file that was created: its name, and what it was sent.
-#[derive(Debug, Drop)]
+#[derive(Drop)]
 pub struct CreatedFile {
     pub name: Text,
     pub sent: Bytes,
 }
 
 /// A file that was opened: the bytes that its name had then. Contracts see those that are left.
-#[derive(Debug, Drop)]
+#[derive(Drop)]
 pub struct OpenedFile {
     bytes: Bytes,
     taken: usize,

@@ -8,14 +8,14 @@ use std::alloc::Global;
 use std::marker::Model;
 
 /// A name and its bytes.
-#[derive(Debug, Drop)]
+#[derive(Drop)]
 pub struct NamedBytes {
     pub name: Text,
     pub bytes: Bytes,
 }
 
 /// The names of a world in memory. They are few, and are looked through from the first.
-#[derive(Debug, Drop)]
+#[derive(Drop)]
 pub struct Names {
     entries: Vec<NamedBytes>,
 }

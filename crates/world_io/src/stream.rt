@@ -1,10 +1,10 @@
-ghost use Rattle.std.specs.Prelude.{◌≡◌, ◌≢◌, ◌≤◌, ◌++◌, [], Bool, true, IsTrue, List, ℕ, length};
-ghost use Rattle.world_io.specs.Stream.{Rose, FillCount, filled_bytes, EndsAtEnd, PutCount, put_bytes};
+ghost use Rattle.std.specs.Prelude.{◌≡◌, ◌++◌, [], Bool, true, IsTrue, List, ℕ, length};
+ghost use Rattle.world_io.specs.Stream.{GoesOn, HasFailed, FillCount, filled_bytes, EndsAtEnd, PutCount, put_bytes};
 
 use std::marker::Model;
 
 /// What a fill did.
-#[derive(Clone, Copy, Debug, PartialEq, Eq)]
+#[derive(Clone, Copy, PartialEq, Eq)]
 pub enum Filled {
     /// The number of bytes that were put into the piece, from its first byte on; at least one,
     /// unless the piece is empty.
@@ -16,7 +16,7 @@ pub enum Filled {
 }
 
 /// What a put did.
-#[derive(Clone, Copy, Debug, PartialEq, Eq)]
+#[derive(Clone, Copy, PartialEq, Eq)]
 pub enum Put {
     /// The number of the piece's first bytes that were appended; at least one, unless the piece is
     /// empty.
@@ -54,10 +54,8 @@ pub trait Source {
         ensures count { FillCount result (length piece.old) }
         ensures reads { reads self.old (filled_bytes result piece.new) self.new }
         ensures end { IsTrue tells → EndsAtEnd result (left self.old) }
-        ensures later { faults self.old ≤ faults self.new }
-        ensures cause { result ≡ Filled.Failed → Rose (faults self.old) (faults self.new) }
-        ensures never_fails { healthy self.old → result ≢ Filled.Failed }
-        ensures stays_healthy { healthy self.old → healthy self.new };
+        ensures goes_on { GoesOn faults healthy self.old self.new }
+        ensures cause { result ≡ Filled.Failed → HasFailed faults healthy self.old self.new };
 
     ghost reads_nothing: { (s : Self) → reads s [] s };
 
@@ -91,10 +89,8 @@ pub trait Sink {
     fn put(&mut self, piece: &[u8]) -> Put
         ensures count { PutCount result (length piece.now) }
         ensures writes { writes self.old (put_bytes result piece.now) self.new }
-        ensures later { faults self.old ≤ faults self.new }
-        ensures cause { result ≡ Put.Failed → Rose (faults self.old) (faults self.new) }
-        ensures never_fails { healthy self.old → result ≢ Put.Failed }
-        ensures stays_healthy { healthy self.old → healthy self.new };
+        ensures goes_on { GoesOn faults healthy self.old self.new }
+        ensures cause { result ≡ Put.Failed → HasFailed faults healthy self.old self.new };
 
     ghost writes_nothing: { (s : Self) → writes s [] s };
 

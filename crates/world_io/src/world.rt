@@ -1,6 +1,6 @@
-ghost use Rattle.std.specs.Prelude.{◌≡◌, ◌≢◌, ◌<◌, ◌-◌, ◌^◌, Bool, IsTrue, length, IfOk, OnErr, IsErrOf, None};
+ghost use Rattle.std.specs.Prelude.{◌≡◌, ◌<◌, ◌-◌, ◌^◌, Bool, IsTrue, length, IfOk, OnErr, IsErrOf, None};
 ghost use Rattle.world_io.specs.Stream.{Rose, FillCount, filled_bytes, EndsAtEnd, PutCount, put_bytes};
-ghost use Rattle.world_io.specs.World.{Shown, Ledger, KeepsLedgerReading, KeepsLedgerWriting, GivesOpened, GivesCreated, OpensFile, ReadsFile, CreatesFile, CreatesNothing, WritesFile, FilledNothing, PutNothing, is_writable};
+ghost use Rattle.world_io.specs.World.{Shown, Ledger, KeepsLedgerReading, KeepsLedgerWriting, ReadsOn, WritesOn, ReadingFailed, WritingFailed, GivesOpened, GivesCreated, OpensFile, ReadsFile, CreatesFile, CreatesNothing, WritesFile, FilledNothing, PutNothing, is_writable};
 
 use crate::{Filled, Put};
 use plain_text::{NoMemory, Text};
@@ -68,11 +68,8 @@ pub trait World {
         ensures told_nothing { IsTrue tells
             → FilledNothing result → shown self.new ≡ shown self.old }
         ensures end { IsTrue tells → EndsAtEnd result ((shown self.old).left file) }
-        ensures ledger { KeepsLedgerReading (ledger self.old) (ledger self.new) }
-        ensures cause { result ≡ Filled.Failed
-            → Rose (ledger self.old).read_faults (ledger self.new).read_faults }
-        ensures never_fails { healthy self.old → result ≢ Filled.Failed }
-        ensures stays_healthy { healthy self.old → healthy self.new };
+        ensures reads_on { ReadsOn ledger healthy self.old self.new }
+        ensures cause { result ≡ Filled.Failed → ReadingFailed ledger healthy self.old self.new };
 
     /// Makes the name's bytes empty, and starts writing them. The file has a number of its own,
     /// which is not 0.
@@ -86,8 +83,7 @@ pub trait World {
             (λ file. GivesCreated file (ledger self.old) (ledger self.new)) }
         ensures not_given { OnErr result (KeepsLedgerWriting (ledger self.old) (ledger self.new)) }
         ensures cause { IsErrOf result OpenFault.Failed
-            → Rose (ledger self.old).write_faults (ledger self.new).write_faults }
-        ensures never_fails { healthy self.old → ¬ IsErrOf result OpenFault.Failed }
+            → WritingFailed ledger healthy self.old self.new }
         ensures stays_healthy { healthy self.old → healthy self.new };
 
     /// Appends the first bytes of the piece to a created file, or to the report.
@@ -97,9 +93,6 @@ pub trait World {
         ensures told { IsTrue tells
             → WritesFile file (put_bytes result piece.now) (shown self.old) (shown self.new) }
         ensures told_nothing { IsTrue tells → PutNothing result → shown self.new ≡ shown self.old }
-        ensures ledger { KeepsLedgerWriting (ledger self.old) (ledger self.new) }
-        ensures cause { result ≡ Put.Failed
-            → Rose (ledger self.old).write_faults (ledger self.new).write_faults }
-        ensures never_fails { healthy self.old → result ≢ Put.Failed }
-        ensures stays_healthy { healthy self.old → healthy self.new };
+        ensures writes_on { WritesOn ledger healthy self.old self.new }
+        ensures cause { result ≡ Put.Failed → WritingFailed ledger healthy self.old self.new };
 }

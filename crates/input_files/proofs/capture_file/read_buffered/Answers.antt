@@ -20,33 +20,26 @@ returns-clause-reads g c =
 pub returns-clause-packets : goal.returns-clause-packets
 returns-clause-packets g c = c.read_any_capture-captured.ensures.packets
 
-pub returns-clause-later : goal.returns-clause-later
-returns-clause-later g c =
-    let taken = c.read_any_capture-captured.ensures.reads in
+pub returns-clause-goes_on : goal.returns-clause-goes_on
+returns-clause-goes_on g c =
+    let went = c.read_any_capture-captured.ensures.goes_on in
     let start = ap (λ b. b.0.now) c.of-buffered.ensures in
-    let name = ap (λ b. b.0.ghost_name) (sym c.of-buffered.ensures) ∙ sym taken.1.below.0 ∙ ap (λ s. s.ghost_name) (sym c.into_inner-below.ensures) in
+    let name = ap (λ b. b.0.ghost_name) (sym c.of-buffered.ensures) ∙ sym c.read_any_capture-captured.ensures.reads.1.below.0 ∙ ap (λ s. s.ghost_name) (sym c.into_inner-below.ensures) in
     let last = ap (λ s. s.now) (sym c.into_inner-below.ensures) ∙ sym (c.source-1.given.1 name) in
-    let later = subst (λ s. g.S.Source.faults s ≤ g.S.Source.faults c.read_any_capture-captured.new.source.0.now) start c.read_any_capture-captured.ensures.later in
-    subst (λ s. g.S.Source.faults c.args.source.now ≤ g.S.Source.faults s) last later
+    let later = subst (λ s. g.S.Source.faults s ≤ g.S.Source.faults c.read_any_capture-captured.new.source.0.now) start went.later in
+    record {
+      later = subst (λ s. g.S.Source.faults c.args.source.now ≤ g.S.Source.faults s) last later;
+      stays_healthy = λ healthy. subst g.S.Source.healthy last (went.stays_healthy (subst g.S.Source.healthy (sym start) healthy));
+    }
 
 pub returns-clause-cause : goal.returns-clause-cause
 returns-clause-cause g c = λ fault.
-    let taken = c.read_any_capture-captured.ensures.reads in
+    let failed = c.read_any_capture-captured.ensures.cause fault in
     let start = ap (λ b. b.0.now) c.of-buffered.ensures in
-    let name = ap (λ b. b.0.ghost_name) (sym c.of-buffered.ensures) ∙ sym taken.1.below.0 ∙ ap (λ s. s.ghost_name) (sym c.into_inner-below.ensures) in
+    let name = ap (λ b. b.0.ghost_name) (sym c.of-buffered.ensures) ∙ sym c.read_any_capture-captured.ensures.reads.1.below.0 ∙ ap (λ s. s.ghost_name) (sym c.into_inner-below.ensures) in
     let last = ap (λ s. s.now) (sym c.into_inner-below.ensures) ∙ sym (c.source-1.given.1 name) in
-    let cause = subst (λ s. Rose (g.S.Source.faults s) (g.S.Source.faults c.read_any_capture-captured.new.source.0.now)) start (c.read_any_capture-captured.ensures.cause fault) in
-    subst (λ s. Rose (g.S.Source.faults c.args.source.now) (g.S.Source.faults s)) last cause
-
-pub returns-clause-never_fails : goal.returns-clause-never_fails
-returns-clause-never_fails g c = λ healthy.
-    let start = ap (λ b. b.0.now) c.of-buffered.ensures in
-    c.read_any_capture-captured.ensures.never_fails (subst (λ s. g.S.Source.healthy s) (sym start) healthy)
-
-pub returns-clause-stays_healthy : goal.returns-clause-stays_healthy
-returns-clause-stays_healthy g c = λ healthy.
-    let taken = c.read_any_capture-captured.ensures.reads in
-    let start = ap (λ b. b.0.now) c.of-buffered.ensures in
-    let name = ap (λ b. b.0.ghost_name) (sym c.of-buffered.ensures) ∙ sym taken.1.below.0 ∙ ap (λ s. s.ghost_name) (sym c.into_inner-below.ensures) in
-    let last = ap (λ s. s.now) (sym c.into_inner-below.ensures) ∙ sym (c.source-1.given.1 name) in
-    subst (λ s. g.S.Source.healthy s) last (c.read_any_capture-captured.ensures.stays_healthy (subst (λ s. g.S.Source.healthy s) (sym start) healthy))
+    let rose = subst (λ s. Rose (g.S.Source.faults s) (g.S.Source.faults c.read_any_capture-captured.new.source.0.now)) start failed.rose in
+    record {
+      rose = subst (λ s. Rose (g.S.Source.faults c.args.source.now) (g.S.Source.faults s)) last rose;
+      not_healthy = λ healthy. failed.not_healthy (subst g.S.Source.healthy (sym start) healthy);
+    }

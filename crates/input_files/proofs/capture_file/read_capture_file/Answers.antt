@@ -13,4 +13,4 @@ returns-clause-judged g c = λ told.
     (λ read. ((g.W.World.shown c.open_file.new.self).left c.in-Ok.file, opened.left, c.accepted.ensures.says _ says read))
     (λ healthy failed.
     let kept = subst (λ w. g.W.World.healthy w) (sym c.of-source.ensures.world) (c.in-Ok.ensures.stays_healthy healthy) in
-    c.read_buffered.ensures.never_fails kept (c.accepted.ensures.failed failed))
+    (c.read_buffered.ensures.cause (c.accepted.ensures.failed failed)).not_healthy kept)

@@ -1,9 +1,10 @@
-use Rattle.std.proofs.Common.{◌≡◌, inl, ap, ◌∙◌, arith}
+use Rattle.std.proofs.Common.{◌≡◌, inl, ap, ◌∙◌}
 use Rattle.std.proofs.lemmas.List.Elements.{All-push}
 use Rattle.plain_text.specs.Octets.{IsOfBytes}
 use Rattle.pcap_io.specs.Reading.{Reading}
 use Rattle.pcap_io.proofs.Captures.{stands_on, has_read_on, refused_says, too_large_says, taken_more, taken_capture, begun_capture, begins_read}
 use Rattle.pcap_io.proofs.Verdicts.{header_passes_none}
+use Rattle.world_io.proofs.GoingOn.{GoesOn-trans}
 use Rattle.pcap_io.proofs.capture.read_capture.Goals as goal
 
 pub returns-in-Refused-clause-told : goal.returns-in-Refused-clause-told
@@ -19,8 +20,7 @@ records-preserved g c =
       stands = stands_on _ _ _ _ c.in-Packet.packet inv.stands packet.after c.in-Ok.ensures.ok packet.given;
       taken = has_read_on g.S.Source.reads g.met.S.Source.reads_more c.args.source.now c.records.source c.next_packet.new.source c.records.reader c.next_packet.new.self c.records.packets c.push.new.self c.in-Packet.packet inv.taken packet.after c.in-Ok.ensures.ok packet.taken;
       bytes = rw c.in-Ok.ensures.ok (All-push IsOfBytes c.records.packets c.in-Packet.packet inv.bytes packet.bytes);
-      later = omega (arith, inv.later, packet.later);
-      healthy = λ well. packet.stays_healthy (inv.healthy well);
+      goes_on = GoesOn-trans g.S.Source.faults g.S.Source.healthy _ _ _ inv.goes_on packet.goes_on;
     }
 
 pub returns-in-Refused-next_packet-clause-told : goal.returns-in-Refused-next_packet-clause-told

@@ -8,6 +8,7 @@ use Rattle.pcapng_io.specs.declared.capture.AnyCaptured.TheVariants.{Capture}
 use Rattle.pcapng_io.specs.Captured.{SaysAny}
 use Rattle.pcapng_io.proofs.Captures.{HasReadAny, any_begins, any_on, any_few, format_start, format_on, refused_start, any_refused, any_large, any_end, any_recorded}
 use Rattle.pcapng_io.proofs.Taken.{some_at_start, some_more}
+use Rattle.world_io.proofs.GoingOn.{GoesOn-trans}
 use Rattle.pcapng_io.proofs.capture.read_any_capture.Goals as goal
 
 pub returns-in-Refused-clause-told : goal.returns-in-Refused-clause-told
@@ -21,8 +22,7 @@ records-init g c =
       format = λ told. format_start (g.S.Source.left c.args.source.now) c.in-Reader.reader (c.in-Reader.ensures.told told);
       some = some_at_start g.S.Source.reads c.open_capture.result c.args.source.now c.open_capture.new.source c.open_capture.ensures.taken;
       octets = rw c.new-packets.ensures (λ k d few. absurd (omega arith));
-      later = c.in-Reader.ensures.later;
-      healthy = λ well. c.in-Reader.ensures.stays_healthy well;
+      goes_on = c.in-Reader.ensures.goes_on;
     }
 
 pub records-smaller : goal.records-smaller
@@ -40,8 +40,7 @@ records-preserved g c =
       format = λ told. format_on g.S.Source.reads c.records.source c.next_packet.new.source (g.S.Source.left c.args.source.now) c.records.reader c.next_packet.new.self _ (inv.format told) c.in-Packet.ensures.taken;
       some = some_more g.S.Source.reads g.met.S.Source.reads_more c.next_packet.result c.args.source.now c.records.source c.next_packet.new.source c.records.reader c.next_packet.new.self inv.some c.next_packet.ensures.taken;
       octets = rw c.in-Ok.ensures.ok (All-push IsOfBytes c.records.packets c.in-Packet.packet inv.octets c.in-Packet.ensures.given.1);
-      later = omega (arith, inv.later, c.in-Packet.ensures.later);
-      healthy = λ well. c.in-Packet.ensures.stays_healthy (inv.healthy well);
+      goes_on = GoesOn-trans g.S.Source.faults g.S.Source.healthy _ _ _ inv.goes_on c.in-Packet.ensures.goes_on;
     }
 
 pub returns-in-Refused-next_packet-clause-told : goal.returns-in-Refused-next_packet-clause-told

@@ -1,9 +1,10 @@
-use Rattle.std.proofs.Common.{◌-◌, ◌≤◌, length}
+use Rattle.std.proofs.Common.{◌-◌, length}
 use Rattle.std.specs.Prelude.{IsTrue, All}
 use Rattle.plain_text.specs.declared.limit.TheConstants.{MOST_PACKETS}
 use Rattle.plain_text.specs.Octets.{IsOfBytes}
 use Rattle.world_io.specs.Taking.{TakesSome}
 use Rattle.pcapng_io.proofs.Captures.{HasReadAny, IsFormatOf}
+use Rattle.world_io.specs.Stream.{GoesOn}
 use Rattle.pcapng_io.proofs.capture.read_any_capture.Given as goal
 
 -- the packets that were read stand before the reader
@@ -15,8 +16,7 @@ invariant-records g l =
       format : IsTrue source.tells → IsFormatOf (source.left l.fn.source) l.reader;
       some : TakesSome source.reads l.fn.source l.source;
       octets : All IsOfBytes l.packets;
-      later : source.faults l.fn.source ≤ source.faults l.source;
-      healthy : source.healthy l.fn.source → source.healthy l.source;
+      goes_on : GoesOn source.faults source.healthy l.fn.source l.source;
     }
 
 abbrev pub decreases-records : goal.decreases-records

@@ -1,6 +1,7 @@
 use Rattle.std.proofs.Common.{[], ◌++◌, take, arith, length-append}
 use Rattle.std.proofs.lemmas.Grind.{common_steps}
 use Rattle.std.proofs.lemmas.List.{length-take}
+use Rattle.world_io.proofs.GoingOn.{GoesOn-trans}
 use Rattle.pcapng_io.proofs.piece.read_past.Goals as goal
 
 pub loop-done-preserved : goal.loop-done-preserved
@@ -14,8 +15,7 @@ loop-done-preserved g c =
         omega (arith, inv.taken.2, length-append inv.taken.0 (take c.in-Got.got c.fill.new.piece), length-take c.in-Got.got c.fill.new.piece, c.in-Got.ensures.count.0, c.fill.auto.piece),
       );
       within = grind (arith, common_steps, c.fill.auto.piece, c.in-Got.ensures.count);
-      later = omega (arith, inv.later, c.in-Got.ensures.later);
-      healthy = λ well. c.in-Got.ensures.stays_healthy (inv.healthy well);
+      goes_on = GoesOn-trans g.S.Source.faults g.S.Source.healthy _ _ _ inv.goes_on c.in-Got.ensures.goes_on;
     }
 
 pub returns-in-End-clause-taken : goal.returns-in-End-clause-taken

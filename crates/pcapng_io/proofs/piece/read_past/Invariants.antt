@@ -1,4 +1,5 @@
 use Rattle.std.proofs.Common.{◌≡◌, length, ◌-◌, ◌≤◌, List, ℕ}
+use Rattle.world_io.specs.Stream.{GoesOn}
 use Rattle.pcapng_io.proofs.piece.read_past.Given as goal
 
 -- this number of bytes was taken
@@ -8,8 +9,7 @@ invariant-loop-done g l =
     record {
       taken : (taken : List ℕ) × source.reads l.fn.source taken l.source × (length taken ≡ l.done);
       within : l.done ≤ l.count;
-      later : source.faults l.fn.source ≤ source.faults l.source;
-      healthy : source.healthy l.fn.source → source.healthy l.source;
+      goes_on : GoesOn source.faults source.healthy l.fn.source l.source;
     }
 
 abbrev pub decreases-loop-done : goal.decreases-loop-done

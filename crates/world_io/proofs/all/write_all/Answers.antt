@@ -1,6 +1,7 @@
 use Rattle.std.proofs.Common.{length, arith, append-nil, length-drop}
 use Rattle.std.proofs.Math.Seq.{take-add}
 use Rattle.std.proofs.lemmas.Slice.{between_to_end}
+use Rattle.world_io.proofs.GoingOn.{GoesOn-trans}
 use Rattle.world_io.proofs.all.write_all.Goals as goal
 
 pub loop-done-preserved : goal.loop-done-preserved
@@ -14,8 +15,7 @@ loop-done-preserved g c =
     record {
       writes = rw take-add (g.met.K.Sink.writes_more _ _ _ _ _ c.loop-done.invariant.writes writes);
       within = omega (arith, count.0, length-drop done bytes);
-      later = omega (arith, c.loop-done.invariant.later, c.put.ensures.later);
-      healthy = λ well. c.put.ensures.stays_healthy (c.loop-done.invariant.healthy well);
+      goes_on = GoesOn-trans g.K.Sink.faults g.K.Sink.healthy _ _ _ c.loop-done.invariant.goes_on c.put.ensures.goes_on;
     }
 
 pub returns-in-Failed-clause-writes : goal.returns-in-Failed-clause-writes

@@ -1,4 +1,5 @@
 use Rattle.std.proofs.Common.{◌-◌, ◌≤◌, length, take}
+use Rattle.world_io.specs.Stream.{GoesOn}
 use Rattle.world_io.proofs.all.write_all.Given as goal
 
 -- the first `done` bytes were appended
@@ -8,8 +9,7 @@ invariant-loop-done g l =
     record {
       writes : sink.writes l.fn.sink (take l.done l.bytes) l.sink;
       within : l.done ≤ length l.bytes;
-      later : sink.faults l.fn.sink ≤ sink.faults l.sink;
-      healthy : sink.healthy l.fn.sink → sink.healthy l.sink;
+      goes_on : GoesOn sink.faults sink.healthy l.fn.sink l.sink;
     }
 
 abbrev pub decreases-loop-done : goal.decreases-loop-done

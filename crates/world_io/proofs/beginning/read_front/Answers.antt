@@ -2,6 +2,7 @@ use Rattle.std.proofs.Common.{◌≡◌, ◌≤◌, ◌++◌, [], length, take, 
 use Rattle.std.proofs.lemmas.Grind.{common_steps}
 use Rattle.plain_text.proofs.Octets.{AreBytes-append}
 use Rattle.world_io.proofs.Fronts.{no_memory, parts_of_piece, whole_piece, left_of_piece, kept_length, is_front}
+use Rattle.world_io.proofs.GoingOn.{GoesOn-trans}
 use Rattle.world_io.proofs.beginning.read_front.Goals as goal
 
 pub returns-in-End-clause-reads : goal.returns-in-End-clause-reads
@@ -72,6 +73,5 @@ loop-bytes-preserved g c =
       reads = rw now (g.met.S.Source.reads_more _ _ _ _ _ inv.reads got.reads);
       bytes = rw kept.ok (AreBytes-append c.loop-bytes.bytes _ inv.bytes kept.octets);
       room = grind (arith, common_steps, size);
-      later = omega (arith, inv.later, got.later);
-      healthy = λ well. got.stays_healthy (inv.healthy well);
+      goes_on = GoesOn-trans g.S.Source.faults g.S.Source.healthy _ _ _ inv.goes_on got.goes_on;
     }

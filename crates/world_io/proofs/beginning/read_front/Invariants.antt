@@ -1,5 +1,6 @@
-use Rattle.std.proofs.Common.{◌≡◌, ◌≤◌, ◌+◌, length}
+use Rattle.std.proofs.Common.{◌≡◌, ◌+◌, length}
 use Rattle.plain_text.specs.Octets.{AreBytes}
+use Rattle.world_io.specs.Stream.{GoesOn}
 use Rattle.world_io.proofs.beginning.read_front.Given as goal
 
 -- the bytes so far were taken, and the room is what the limit leaves
@@ -10,8 +11,7 @@ invariant-loop-bytes g l =
       reads : source.reads l.fn.source l.bytes l.source;
       bytes : AreBytes l.bytes;
       room : l.room + length l.bytes ≡ l.limit;
-      later : source.faults l.fn.source ≤ source.faults l.source;
-      healthy : source.healthy l.fn.source → source.healthy l.source;
+      goes_on : GoesOn source.faults source.healthy l.fn.source l.source;
     }
 
 abbrev pub decreases-loop-bytes : goal.decreases-loop-bytes

@@ -6,14 +6,14 @@ use Rattle.pcapng_io.specs.Reader.{NgReading, MovesOn, AnswersNg, TakesNg, Stops
 use Rattle.pcapng_io.specs.Stops.{held_type}
 use Rattle.pcapng_io.proofs.Recorded.{moves_whole}
 use Rattle.pcapng_io.proofs.Readings.{Moves-none, Moves-more, stops_behind, answers_stop, takes_stop}
+use Rattle.world_io.proofs.GoingOn.{GoesOn-same, GoesOn-trans}
 use Rattle.pcapng_io.proofs.reader.NgReader.next_packet.Goals as goal
 
 pub blocks-2-init : goal.blocks-2-init
 blocks-2-init g c = record {
   moved = Moves-none g.S.Source.reads g.met.S.Source.reads_nothing c.args.source.now c.args.self.now;
   running = ap (λ (r : NgReading). r.over) (sym c.self.view_is) ∙ c.if-self.false;
-  later = omega arith;
-  healthy = λ well. well;
+  goes_on = GoesOn-same g.S.Source.faults g.S.Source.healthy _;
 }
 
 pub returns-in-Ok-Some-clause-taken : goal.returns-in-Ok-Some-clause-taken
@@ -33,8 +33,7 @@ blocks-2-preserved g c =
     record {
       moved = Moves-more g.S.Source.reads g.met.S.Source.reads_more c.args.source.now c.blocks-2.source c.pass_block.new.source c.args.self.now c.blocks-2.self c.pass_block.new.self [] [] inv.moved moved.0;
       running = moved.1 ∙ inv.running;
-      later = omega (arith, inv.later, c.in-Ok-None.ensures.later);
-      healthy = λ well. c.in-Ok-None.ensures.stays_healthy (inv.healthy well);
+      goes_on = GoesOn-trans g.S.Source.faults g.S.Source.healthy _ _ _ inv.goes_on c.in-Ok-None.ensures.goes_on;
     }
 
 pub returns-in-Err-clause-told : goal.returns-in-Err-clause-told

@@ -1,6 +1,7 @@
-use Rattle.std.proofs.Common.{◌≡◌, ◌-◌, ◌≤◌, false, []}
+use Rattle.std.proofs.Common.{◌≡◌, ◌-◌, false, []}
 use Rattle.plain_text.specs.declared.limit.TheConstants.{MOST_FILE_BYTES}
 use Rattle.pcapng_io.specs.Reader.{Moves}
+use Rattle.world_io.specs.Stream.{GoesOn}
 use Rattle.pcapng_io.proofs.reader.NgReader.next_packet.Given as goal
 
 -- blocks without packets were passed
@@ -10,8 +11,7 @@ invariant-blocks-2 g l =
     record {
       moved : Moves source.reads l.fn.source l.source l.fn.self l.self [];
       running : l.self.over ≡ false;
-      later : source.faults l.fn.source ≤ source.faults l.source;
-      healthy : source.healthy l.fn.source → source.healthy l.source;
+      goes_on : GoesOn source.faults source.healthy l.fn.source l.source;
     }
 
 abbrev pub decreases-blocks-2 : goal.decreases-blocks-2

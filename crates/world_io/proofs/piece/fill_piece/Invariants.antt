@@ -1,6 +1,7 @@
 use Rattle.std.proofs.Common.{length, ◌-◌, ◌≤◌, take}
 use Rattle.plain_text.specs.Octets.{AreBytes}
-use Rattle.pcap_io.proofs.piece.fill_piece.Given as goal
+use Rattle.world_io.specs.Stream.{GoesOn}
+use Rattle.world_io.proofs.piece.fill_piece.Given as goal
 
 -- the first `done` bytes of the piece are those that were taken
 abbrev pub invariant-loop-done : goal.invariant-loop-done
@@ -10,8 +11,7 @@ invariant-loop-done g l =
       taken : source.reads l.fn.source (take l.done l.piece) l.source;
       within : l.done ≤ length l.piece;
       bytes : AreBytes l.piece;
-      later : source.faults l.fn.source ≤ source.faults l.source;
-      healthy : source.healthy l.fn.source → source.healthy l.source;
+      goes_on : GoesOn source.faults source.healthy l.fn.source l.source;
     }
 
 abbrev pub decreases-loop-done : goal.decreases-loop-done

@@ -1,7 +1,8 @@
 use Rattle.std.proofs.Common.{List, ℕ, sym, subst, arith}
 use Rattle.std.proofs.lemmas.Grind.{common_steps}
-use Rattle.pcap_io.proofs.Pieces.{take-put_mid_more, take-put_mid}
-use Rattle.pcapng_io.proofs.piece.fill_piece.Goals as goal
+use Rattle.world_io.proofs.Filling.{take-put_mid_more, take-put_mid}
+use Rattle.world_io.proofs.GoingOn.{GoesOn-trans}
+use Rattle.world_io.proofs.piece.fill_piece.Goals as goal
 
 pub loop-done-preserved : goal.loop-done-preserved
 loop-done-preserved g c =
@@ -13,8 +14,7 @@ loop-done-preserved g c =
           (g.met.S.Source.reads_more _ _ _ _ _ inv.taken c.in-Got.ensures.reads);
       within = grind (arith, common_steps, c.fill.auto.piece, c.in-Got.ensures.count);
       bytes = λ k. omega (arith, c.type_inv.piece k);
-      later = omega (arith, inv.later, c.in-Got.ensures.later);
-      healthy = λ well. c.in-Got.ensures.stays_healthy (inv.healthy well);
+      goes_on = GoesOn-trans g.S.Source.faults g.S.Source.healthy _ _ _ inv.goes_on c.in-Got.ensures.goes_on;
     }
 
 pub returns-in-End-clause-taken : goal.returns-in-End-clause-taken
