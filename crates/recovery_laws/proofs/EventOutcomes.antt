@@ -507,21 +507,25 @@ module _ {V : Type 0} (s : Setting V) (w : World V) (h : Sound s w) where
       go false is = (outcome.Down, w, inl (is, refl, refl))
       go true is = (outcome.Crashed, record w { up = false; copy = None }, inr (is, refl, refl))
 
+  -- a recovery has its outcome: how many entries it keeps, and how many it drops
+  pub recovery_there : w.up ≡ false → (new : World V) → Recovers w new → (to : Outcome) × OnRecover w to new
+  recovery_there down new r = (outcome.Recovered new.epoch keeps.0 drops, inr (down, r, keeps.0, drops, refl, keeps.1, lost))
+    where
+      keeps : (n : ℕ) × IsCount (λ e. IsIn e (log_of w.stored) → ⊥) new.held n
+      keeps = count_there (λ e. IsIn e (log_of w.stored) → ⊥) (λ e. or_not (in_or e (log_of w.stored))) new.held
+
+      drops : ℕ
+      drops = length w.held - length new.held
+
+      lost : length w.held ≡ length new.held + (length w.held - length new.held)
+      lost = let k = part_short w.held r.part r.part_of in let q : length new.held ≡ length r.part = ap (λ (z : World V). length z.held) r.new_is in omega (arith, k, q)
+
   recover_there : (to : Outcome) × (new : World V) × OnRecover w to new
   recover_there = go w.up refl (recovers_there s w h.firm)
     where
       go : (b : Bool) → w.up ≡ b → (new : World V) × Recovers w new → (to : Outcome) × (new : World V) × OnRecover w to new
       go true is r = (outcome.Up, w, inl (is, refl, refl))
-      go false is r = (outcome.Recovered r.0.epoch keeps.0 drops, r.0, inr (is, r.1, keeps.0, drops, refl, keeps.1, lost))
-        where
-          keeps : (n : ℕ) × IsCount (λ e. IsIn e (log_of w.stored) → ⊥) r.0.held n
-          keeps = count_there (λ e. IsIn e (log_of w.stored) → ⊥) (λ e. or_not (in_or e (log_of w.stored))) r.0.held
-
-          drops : ℕ
-          drops = length w.held - length r.0.held
-
-          lost : length w.held ≡ length r.0.held + (length w.held - length r.0.held)
-          lost = let k = part_short w.held r.1.part r.1.part_of in let q : length r.0.held ≡ length r.1.part = ap (λ (z : World V). length z.held) r.1.new_is in omega (arith, k, q)
+      go false is r = let k = recovery_there is r.0 r.1 in (k.0, r.0, k.1)
 
   show_there : (v : ℕ) → (to : Outcome) × OnShow s w v to
   show_there v = go (cases_lt v s.meaning.vars) w.up refl

@@ -30,23 +30,23 @@ steps_within s t w new end h (Waits same u n on) = h
 steps_within s t w new end h (Halts same limit passes) = h
 steps_within s t w new end h (Steps {mid = mid} to on a b rest) = steps_within s t mid new end on.1 rest
 
-round_within : {V : Type 0} (s : Setting V) (w : World V) (t : ℕ) (new : World V) (end : Result Bool Limit) → IsWithin w → Round s w t end new → IsWithin new
+pub round_within : {V : Type 0} (s : Setting V) (w : World V) (t : ℕ) (new : World V) (end : Result Bool Limit) → IsWithin w → Round s w t end new → IsWithin new
 round_within s w t new end h NoThread = h
 round_within s w t new end h (Thread {t = k} {mid = mid} before own idle r out is) = steps_within s k mid new (Ok own) (round_within s w k mid (Ok before) h r) out
 round_within s w t new end h (HaltsBefore {t = k} limit r) = round_within s w k new (Err limit) h r
 round_within s w t new end h (HaltsThere {t = k} {mid = mid} before limit r out) = steps_within s k mid new (Err limit) (round_within s w k mid (Ok before) h r) out
 
-rounds_within : {V : Type 0} (s : Setting V) (w new : World V) (end : Option Limit) → IsWithin w → Rounds s w end new → IsWithin new
+pub rounds_within : {V : Type 0} (s : Setting V) (w new : World V) (end : Option Limit) → IsWithin w → Rounds s w end new → IsWithin new
 rounds_within s w new end h (RestsNow r) = round_within s w s.threads new (Ok true) h r
 rounds_within s w new end h (HaltsIn limit r) = round_within s w s.threads new (Err limit) h r
 rounds_within s w new end h (Again {mid = mid} r rest) = rounds_within s mid new end (round_within s w s.threads mid (Ok false) h r) rest
 
-feeds_within : {V : Type 0} (s : Setting V) (w new : World V) (end : Option Limit) → IsWithin w → Feeds s w end new → IsWithin new
+pub feeds_within : {V : Type 0} (s : Setting V) (w new : World V) (end : Option Limit) → IsWithin w → Feeds s w end new → IsWithin new
 feeds_within s w new end h (Empties r all) = rounds_within s w new None h r
 feeds_within s w new end h (HaltsOn limit r) = rounds_within s w new (Some limit) h r
 feeds_within s w new end h (More {fed = fed} to r some on rest) = feeds_within s fed new end on.1 rest
 
-does_within : {V : Type 0} (s : Setting V) (w new : World V) (events : List Event) → IsWithin w → Does s w events new → IsWithin new
+pub does_within : {V : Type 0} (s : Setting V) (w new : World V) (events : List Event) → IsWithin w → Does s w events new → IsWithin new
 does_within s w new events h Stays = h
 does_within s w new events h (DoesMore ev to freed d on) = on.1
 
@@ -54,31 +54,31 @@ autos_within : {V : Type 0} (s : Setting V) (seed : ℕ) (w new : World V) (n : 
 autos_within s seed w new n h Begins = h
 autos_within s seed w new n h (Next to freed rest on) = on.1
 
-wakes_within : {V : Type 0} (w up : World V) → IsWithin w → Wakes w up → IsWithin up
+pub wakes_within : {V : Type 0} (w up : World V) → IsWithin w → Wakes w up → IsWithin up
 wakes_within {V} w up h (inl (is, same)) = subst (λ (z : World V). IsWithin z) (sym same) h
 wakes_within {V} w up h (inr (down, r)) = subst (λ (z : World V). IsWithin z) (sym r.new_is) h
 
 -- One end
 
-wakes_one : {V : Type 0} (s : Setting V) (w a b : World V) → Sound s w → Wakes w a → Wakes w b → a ≡ b
+pub wakes_one : {V : Type 0} (s : Setting V) (w a b : World V) → Sound s w → Wakes w a → Wakes w b → a ≡ b
 wakes_one s w a b h (inl x) (inl y) = x.1 ∙ sym y.1
 wakes_one s w a b h (inl x) (inr y) = let p : w.up ≡ true = x.0 in let q : w.up ≡ false = y.0 in absurd (cc)
 wakes_one s w a b h (inr x) (inl y) = let p : w.up ≡ false = x.0 in let q : w.up ≡ true = y.0 in absurd (cc)
 wakes_one s w a b h (inr x) (inr y) = recovers_one s w h a b x.1 y.1
 
 -- what passes a limit leads to no world that is within both
-passes_not : {V : Type 0} (s : Setting V) (w : World V) (ev : Event) (limit : Limit) (to : Outcome) (freed : List Sent) (new : World V) → Sound s w → Passes s w ev limit → On s w ev to freed new → IsWithin new → ⊥
+pub passes_not : {V : Type 0} (s : Setting V) (w : World V) (ev : Event) (limit : Limit) (to : Outcome) (freed : List Sent) (new : World V) → Sound s w → Passes s w ev limit → On s w ev to freed new → IsWithin new → ⊥
 passes_not {V} s w ev limit to freed new h p on within =
     let r = on_one s w h ev p.to to p.freed freed p.new new p.on on in
     let q : limit_passed new.moves new.bytes ≡ Some limit = subst (λ (z : World V). limit_passed z.moves z.bytes ≡ Some limit) r.new_is p.passed in cc
 
-passes_one : {V : Type 0} (s : Setting V) (w : World V) (ev : Event) (a b : Limit) → Sound s w → Passes s w ev a → Passes s w ev b → a ≡ b
+pub passes_one : {V : Type 0} (s : Setting V) (w : World V) (ev : Event) (a b : Limit) → Sound s w → Passes s w ev a → Passes s w ev b → a ≡ b
 passes_one {V} s w ev a b h p q =
     let r = on_one s w h ev p.to q.to p.freed q.freed p.new q.new p.on q.on in
     let x : limit_passed q.new.moves q.new.bytes ≡ Some a = subst (λ (z : World V). limit_passed z.moves z.bytes ≡ Some a) r.new_is p.passed in
     let y : limit_passed q.new.moves q.new.bytes ≡ Some b = q.passed in cc
 
-does_one : {V : Type 0} (s : Setting V) (w a b : World V) (events : List Event) → Sound s w → Does s w events a → Does s w events b → a ≡ b
+pub does_one : {V : Type 0} (s : Setting V) (w a b : World V) (events : List Event) → Sound s w → Does s w events a → Does s w events b → a ≡ b
 does_one s w a b events h Stays Stays = refl
 does_one {V} s w a b events h (DoesMore {events = before} {mid = mid} ev to freed d on) (DoesMore {mid = other} ev2 to2 freed2 d2 on2) =
     let q : other ≡ mid = sym (does_one s w mid other before h d d2) in
@@ -104,7 +104,7 @@ steps_one {V} s t w a b end other h low (Steps {mid = mid} to on x y rest) (Step
     let q : mid2 ≡ mid = sym (on_one s w h (event.Step t None) to to2 [] [] mid mid2 on.0 on2.0).new_is in
     steps_one s t mid a b end other (within_sound s w (event.Step t None) to [] mid h on) on.1 rest (subst (λ (z : World V). StepsOut s t z other b) q rest2)
 
-round_one : {V : Type 0} (s : Setting V) (w : World V) (t : ℕ) (a b : World V) (end other : Result Bool Limit) → Sound s w → IsWithin w → Round s w t end a → Round s w t other b → (end ≡ other) × (a ≡ b)
+pub round_one : {V : Type 0} (s : Setting V) (w : World V) (t : ℕ) (a b : World V) (end other : Result Bool Limit) → Sound s w → IsWithin w → Round s w t end a → Round s w t other b → (end ≡ other) × (a ≡ b)
 round_one s w t a b end other h low NoThread NoThread = (refl, refl)
 round_one {V} s w t a b end other h low (Thread {t = k} {mid = mid} before own idle r out is) (Thread {mid = mid2} before2 own2 idle2 r2 out2 is2) =
     let q = round_one s w k mid mid2 (Ok before) (Ok before2) h low r r2 in
@@ -129,7 +129,7 @@ round_one {V} s w t a b end other h low (HaltsThere {t = k} {mid = mid} before l
     let q = round_one s w k mid mid2 (Ok before) (Ok before2) h low r r2 in
     steps_one s k mid a b (Err limit) (Err limit2) (round_sound s w k mid (Ok before) h r) (round_within s w k mid (Ok before) low r) out (subst (λ (z : World V). StepsOut s k z (Err limit2) b) (sym q.1) out2)
 
-rounds_one : {V : Type 0} (s : Setting V) (w a b : World V) (end other : Option Limit) → Sound s w → IsWithin w → Rounds s w end a → Rounds s w other b → (end ≡ other) × (a ≡ b)
+pub rounds_one : {V : Type 0} (s : Setting V) (w a b : World V) (end other : Option Limit) → Sound s w → IsWithin w → Rounds s w end a → Rounds s w other b → (end ≡ other) × (a ≡ b)
 rounds_one s w a b end other h low (RestsNow r) (RestsNow r2) = (refl, (round_one s w s.threads a b (Ok true) (Ok true) h low r r2).1)
 rounds_one s w a b end other h low (RestsNow r) (HaltsIn limit r2) = let p : Ok true ≡ Err limit = (round_one s w s.threads a b (Ok true) (Err limit) h low r r2).0 in absurd (cc)
 rounds_one s w a b end other h low (RestsNow r) (Again {mid = mid} r2 rest2) = let p : Ok true ≡ Ok false = (round_one s w s.threads a mid (Ok true) (Ok false) h low r r2).0 in absurd (cc)
@@ -142,7 +142,7 @@ rounds_one {V} s w a b end other h low (Again {mid = mid} r rest) (Again {mid = 
     let q = round_one s w s.threads mid mid2 (Ok false) (Ok false) h low r r2 in
     rounds_one s mid a b end other (round_sound s w s.threads mid (Ok false) h r) (round_within s w s.threads mid (Ok false) low r) rest (subst (λ (z : World V). Rounds s z other b) (sym q.1) rest2)
 
-feeds_one : {V : Type 0} (s : Setting V) (w a b : World V) (end other : Option Limit) → Sound s w → IsWithin w → Feeds s w end a → Feeds s w other b → (end ≡ other) × (a ≡ b)
+pub feeds_one : {V : Type 0} (s : Setting V) (w a b : World V) (end other : Option Limit) → Sound s w → IsWithin w → Feeds s w end a → Feeds s w other b → (end ≡ other) × (a ≡ b)
 feeds_one s w a b end other h low (Empties r all) (Empties r2 all2) = (refl, (rounds_one s w a b None None h low r r2).1)
 feeds_one s w a b end other h low (Empties r all) (HaltsOn limit r2) = let p : None ≡ Some limit = (rounds_one s w a b None (Some limit) h low r r2).0 in absurd (cc)
 feeds_one {V} s w a b end other h low (Empties r all) (More {mid = mid} to r2 some on rest) = let q = (rounds_one s w a mid None None h low r r2).1 in let f : a.fed ≡ mid.fed = ap (λ (z : World V). z.fed) q in absurd (omega (arith, f, all, some))

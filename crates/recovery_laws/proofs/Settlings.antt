@@ -49,7 +49,7 @@ use Rattle.recovery_laws.proofs.OneOutcome.{sent_eq, entry_one, output_one, not_
 -- The threads come to rest
 
 -- a move has another outcome than that the thread is idle
-move_not_idle : {V : Type 0} (a : Act V) → move_outcome a ≡ outcome.Idle → ⊥
+pub move_not_idle : {V : Type 0} (a : Act V) → move_outcome a ≡ outcome.Idle → ⊥
 move_not_idle (Took k) e = cc
 move_not_idle (Did e left) q = go e.what q
   where
@@ -61,7 +61,7 @@ move_not_idle (Did e left) q = go e.what q
 move_not_idle (Emitted o) e = cc
 move_not_idle (Ended k) e = cc
 
-abbrev Rested : {V : Type 0} → Setting V → World V → ℕ → Type 0
+abbrev pub Rested : {V : Type 0} → Setting V → World V → ℕ → Type 0
 Rested s w t = (w.up ≡ true) × WantsMore s w t
 
 idle_rests : {V : Type 0} (s : Setting V) (w new : World V) (t : ℕ) → OnStep s w t None outcome.Idle new → Rested s w t
@@ -108,7 +108,7 @@ both_true : (a b : Bool) → true ≡ (a && b) → (a ≡ true) × (b ≡ true)
 both_true true b e = (refl, sym e)
 both_true false b e = absurd (cc)
 
-round_end : {V : Type 0} (s : Setting V) (w : World V) (t : ℕ) (new : World V) (end : Result Bool Limit) → end ≡ Ok true → Round s w t end new → (u : ℕ) → u < t → Rested s new u
+pub round_end : {V : Type 0} (s : Setting V) (w : World V) (t : ℕ) (new : World V) (end : Result Bool Limit) → end ≡ Ok true → Round s w t end new → (u : ℕ) → u < t → Rested s new u
 round_end s w t new end is NoThread u low = absurd (omega (arith, low))
 round_end {V} s w t new end is (Thread {t = k} {mid = mid} before own idle r out and) u low = go (is_or u k) (λ b. round_end s w k mid (Ok before) (ok_is before b) r u)
   where
@@ -124,7 +124,7 @@ round_end {V} s w t new end is (Thread {t = k} {mid = mid} before own idle r out
 round_end s w t new end is (HaltsBefore {t = k} limit r) u low = absurd (cc)
 round_end s w t new end is (HaltsThere {t = k} {mid = mid} before limit r out) u low = absurd (cc)
 
-rounds_end : {V : Type 0} (s : Setting V) (w new : World V) (end : Option Limit) → end ≡ None → Rounds s w end new → (u : ℕ) → u < s.threads → Rested s new u
+pub rounds_end : {V : Type 0} (s : Setting V) (w new : World V) (end : Option Limit) → end ≡ None → Rounds s w end new → (u : ℕ) → u < s.threads → Rested s new u
 rounds_end s w new end is (RestsNow r) u low = round_end s w s.threads new (Ok true) refl r u low
 rounds_end s w new end is (HaltsIn limit r) u low = absurd (cc)
 rounds_end s w new end is (Again {mid = mid} r rest) u low = rounds_end s mid new end is rest u low
@@ -135,36 +135,36 @@ feeds_end s w new end is (HaltsOn limit r) = absurd (cc)
 feeds_end s w new end is (More {mid = mid} {fed = fed} to r some on rest) = feeds_end s fed new end is rest
 
 -- a master that is up stays up
-step_up : {V : Type 0} (s : Setting V) (w new : World V) (t : ℕ) (to : Outcome) → OnStep s w t None to new → new.up ≡ w.up
+pub step_up : {V : Type 0} (s : Setting V) (w new : World V) (t : ℕ) (to : Outcome) → OnStep s w t None to new → new.up ≡ w.up
 step_up {V} s w new t to (inl a) = ap (λ (z : World V). z.up) a.2
 step_up {V} s w new t to (inr (inl a)) = ap (λ (z : World V). z.up) a.3
 step_up {V} s w new t to (inr (inr (inl a))) = ap (λ (z : World V). z.up) a.4
 step_up {V} s w new t to (inr (inr (inr (inl a)))) = ap (λ (z : World V). z.up) a.3
 step_up {V} s w new t to (inr (inr (inr (inr a)))) = ap (λ (z : World V). z.up) a.2.new_is
 
-steps_up : {V : Type 0} (s : Setting V) (t : ℕ) (w new : World V) (end : Result Bool Limit) → StepsOut s t w end new → new.up ≡ w.up
+pub steps_up : {V : Type 0} (s : Setting V) (t : ℕ) (w new : World V) (end : Result Bool Limit) → StepsOut s t w end new → new.up ≡ w.up
 steps_up s t w new end (IsIdle same on) = refl
 steps_up s t w new end (Waits same k n on) = refl
 steps_up s t w new end (Halts same limit p) = refl
 steps_up s t w new end (Steps {mid = mid} to on a b rest) = steps_up s t mid new end rest ∙ step_up s w mid t to on.0.0
 
-round_up : {V : Type 0} (s : Setting V) (w : World V) (t : ℕ) (new : World V) (end : Result Bool Limit) → Round s w t end new → new.up ≡ w.up
+pub round_up : {V : Type 0} (s : Setting V) (w : World V) (t : ℕ) (new : World V) (end : Result Bool Limit) → Round s w t end new → new.up ≡ w.up
 round_up s w t new end NoThread = refl
 round_up s w t new end (Thread {t = k} {mid = mid} before own idle r out and) = steps_up s k mid new (Ok own) out ∙ round_up s w k mid (Ok before) r
 round_up s w t new end (HaltsBefore {t = k} limit r) = round_up s w k new (Err limit) r
 round_up s w t new end (HaltsThere {t = k} {mid = mid} before limit r out) = steps_up s k mid new (Err limit) out ∙ round_up s w k mid (Ok before) r
 
-rounds_up : {V : Type 0} (s : Setting V) (w new : World V) (end : Option Limit) → Rounds s w end new → new.up ≡ w.up
+pub rounds_up : {V : Type 0} (s : Setting V) (w new : World V) (end : Option Limit) → Rounds s w end new → new.up ≡ w.up
 rounds_up s w new end (RestsNow r) = round_up s w s.threads new (Ok true) r
 rounds_up s w new end (HaltsIn limit r) = round_up s w s.threads new (Err limit) r
 rounds_up s w new end (Again {mid = mid} r rest) = rounds_up s mid new end rest ∙ round_up s w s.threads mid (Ok false) r
 
-feeds_up : {V : Type 0} (s : Setting V) (w new : World V) (end : Option Limit) → Feeds s w end new → new.up ≡ w.up
+pub feeds_up : {V : Type 0} (s : Setting V) (w new : World V) (end : Option Limit) → Feeds s w end new → new.up ≡ w.up
 feeds_up s w new end (Empties r all) = rounds_up s w new None r
 feeds_up s w new end (HaltsOn limit r) = rounds_up s w new (Some limit) r
 feeds_up {V} s w new end (More {mid = mid} {fed = fed} to r some on rest) = feeds_up s fed new end rest ∙ (ap (λ (z : World V). z.up) on.0.2 ∙ rounds_up s w mid None r)
 
-wakes_up : {V : Type 0} (w up : World V) → Wakes w up → up.up ≡ true
+pub wakes_up : {V : Type 0} (w up : World V) → Wakes w up → up.up ≡ true
 wakes_up {V} w up (inl a) = ap (λ (z : World V). z.up) a.1 ∙ a.0
 wakes_up {V} w up (inr a) = ap (λ (z : World V). z.up) a.1.new_is
 
