@@ -32,31 +32,31 @@ use Rattle.recovery_laws.proofs.Settlings.{Rested, rounds_end, step_up, round_up
 
 -- Whose turn it is
 
-lt_true : (t n : ℕ) → t < n → nat_lt t n ≡ true
+pub lt_true : (t n : ℕ) → t < n → nat_lt t n ≡ true
 lt_true t n low = grind (arith, nat_tests, low)
 
-lt_false : (t n : ℕ) → n ≤ t → nat_lt t n ≡ false
+pub lt_false : (t n : ℕ) → n ≤ t → nat_lt t n ≡ false
 lt_false t n high = grind (arith, nat_tests, high)
 
 or_true : (b : Bool) → (b || true) ≡ true
 or_true true = refl
 or_true false = refl
 
-turn_low : (n left t : ℕ) (moved : Bool) → t < n → turn_at n left t moved ≡ Steps left t moved
+pub turn_low : (n left t : ℕ) (moved : Bool) → t < n → turn_at n left t moved ≡ Steps left t moved
 turn_low n left t moved low = let b : nat_lt t n ≡ true = lt_true t n low in rw b refl
 
-turn_still : (n left t : ℕ) → turn_at n left t false ≡ Steps left t false
+pub turn_still : (n left t : ℕ) → turn_at n left t false ≡ Steps left t false
 turn_still n left t = rw (or_true (nat_lt t n)) refl
 
-turn_again : (n left : ℕ) → turn_at n left n true ≡ Steps left 0 false
+pub turn_again : (n left : ℕ) → turn_at n left n true ≡ Steps left 0 false
 turn_again n left = let b : nat_lt n n ≡ false = lt_false n n (omega arith) in rw b refl
 
 module _ {V : Type 0} (s : Setting V) where
-  steps_next : (left t : ℕ) (moved : Bool) (w : World V) → t < s.threads
+  pub steps_next : (left t : ℕ) (moved : Bool) (w : World V) → t < s.threads
       → settling s (Steps left t moved) w ≡ Some (record { event = event.Step t None; leads_to = after_step s.threads left t moved })
   steps_next left t moved w low = let b : nat_lt t s.threads ≡ true = lt_true t s.threads low in rw b refl
 
-  rests_next : (left : ℕ) (moved : Bool) (w : World V) → settling s (Steps left s.threads moved) w ≡ choice_at_rest s w left
+  pub rests_next : (left : ℕ) (moved : Bool) (w : World V) → settling s (Steps left s.threads moved) w ≡ choice_at_rest s w left
   rests_next left moved w = let b : nat_lt s.threads s.threads ≡ false = lt_false s.threads s.threads (omega arith) in rw b refl
 
   abbrev From : Phase → World V → Option Limit → World V → Type 0
@@ -71,16 +71,16 @@ module _ {V : Type 0} (s : Setting V) where
   -- What a thread does in a turn
 
   -- the thread makes no move in this world
-  record StaysAt (w : World V) (t : ℕ) : Type 0 where
-    to : Outcome
-    on : On s w (event.Step t None) to [] w
-    at_rest : rests to ≡ true
+  pub record StaysAt (w : World V) (t : ℕ) : Type 0 where
+    pub to : Outcome
+    pub on : On s w (event.Step t None) to [] w
+    pub at_rest : rests to ≡ true
 
   -- the thread waits in this world
-  record WaitsAt (w : World V) (t : ℕ) : Type 0 where
-    thread : ℕ
-    number : ℕ
-    on : On s w (event.Step t None) (outcome.Waits thread number) [] w
+  pub record WaitsAt (w : World V) (t : ℕ) : Type 0 where
+    pub thread : ℕ
+    pub number : ℕ
+    pub on : On s w (event.Step t None) (outcome.Waits thread number) [] w
 
   moves_on : (to : Outcome) → (to ≡ outcome.Idle → ⊥) → ((u n : ℕ) → to ≡ outcome.Waits u n → ⊥) → rests to ≡ false
   moves_on outcome.Idle a b = absurd (a refl)
@@ -129,9 +129,9 @@ module _ {V : Type 0} (s : Setting V) where
   -- Rounds
 
   -- none of the first threads makes a move in this world, and whether all of them are idle
-  record AllStay (w : World V) (t : ℕ) (idle : Bool) : Type 0 where
-    stay : (u : ℕ) → u < t → StaysAt w u
-    waits : idle ≡ false → (u : ℕ) × (u < t) × WaitsAt w u
+  pub record AllStay (w : World V) (t : ℕ) (idle : Bool) : Type 0 where
+    pub stay : (u : ℕ) → u < t → StaysAt w u
+    pub waits : idle ≡ false → (u : ℕ) × (u < t) × WaitsAt w u
 
   first_turn : (left : ℕ) (w new : World V) (end : Option Limit) → From (turn_at s.threads left 0 false) w end new → From (Steps left 0 false) w end new
   first_turn left w new end f = subst (λ (q : Phase). From q w end new) (turn_still s.threads left 0) f
@@ -223,7 +223,7 @@ module _ {V : Type 0} (s : Setting V) where
   entry_moves n (what.Clock a) = refl
   entry_moves n (what.Draw a) = refl
 
-  move_moves : (a : Act V) → rests (move_outcome a) ≡ false
+  pub move_moves : (a : Act V) → rests (move_outcome a) ≡ false
   move_moves (Took k) = refl
   move_moves (Did e left) = entry_moves e.number e.what
   move_moves (Emitted o) = refl
@@ -264,7 +264,7 @@ module _ {V : Type 0} (s : Setting V) where
         pick (inr (inr (inr (inr k)))) =
             let m : rests (outcome.Waits a.thread a.number) ≡ false = subst (λ (o : Outcome). rests o ≡ false) (sym k.2.to_is) (move_moves k.2.step.act) in absurd (cc)
 
-    some_thread_moves : w.up ≡ true → ((u : ℕ) → u < s.threads → StaysAt w u) → (u : ℕ) → WaitsAt w u → ⊥
+    pub some_thread_moves : w.up ≡ true → ((u : ℕ) → u < s.threads → StaysAt w u) → (u : ℕ) → WaitsAt w u → ⊥
     some_thread_moves up stay u waits = go (to_come_first s w h r.0 r.1)
       where
         r : (e : Entry) × IsToCome w e
@@ -305,7 +305,7 @@ module _ {V : Type 0} (s : Setting V) where
 
   -- Packets come in
 
-  step_fed : (w new : World V) (t : ℕ) (to : Outcome) → OnStep s w t None to new → new.fed ≡ w.fed
+  pub step_fed : (w new : World V) (t : ℕ) (to : Outcome) → OnStep s w t None to new → new.fed ≡ w.fed
   step_fed w new t to (inl a) = ap (λ (z : World V). z.fed) a.2
   step_fed w new t to (inr (inl a)) = ap (λ (z : World V). z.fed) a.3
   step_fed w new t to (inr (inr (inl a))) = ap (λ (z : World V). z.fed) a.4
@@ -335,7 +335,7 @@ module _ {V : Type 0} (s : Setting V) where
   feed_then left w mid new end to on rest =
       Goes (Steps (suc left) s.threads false) w (record { event = event.Feed 1; leads_to = λ to. Steps left 0 false }) to [] (rests_next (suc left) false w) on rest
 
-  one_fed : (w mid : World V) (to : Outcome) → On s w (event.Feed 1) to [] mid → w.fed < length s.packets → mid.fed ≡ w.fed + 1
+  pub one_fed : (w mid : World V) (to : Outcome) → On s w (event.Feed 1) to [] mid → w.fed < length s.packets → mid.fed ≡ w.fed + 1
   one_fed w mid to on some = let f : mid.fed ≡ min (w.fed + 1) (length s.packets) = ap (λ (z : World V). z.fed) on.2 in omega (arith, f, some)
 
   -- where one is left, it is the successor of how many are left behind it

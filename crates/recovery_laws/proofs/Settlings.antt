@@ -283,7 +283,7 @@ Has ev [] = ⊥
 Has ev (x ∷ xs) = (x ≡ ev) ⊎ Has ev xs
 
 -- each is of this kind
-abbrev Each : (ℕ → ℕ → Event) → List Event → Type 0
+abbrev pub Each : (ℕ → ℕ → Event) → List Event → Type 0
 Each make [] = Unit {0}
 Each make (x ∷ xs) = ((t : ℕ) × (n : ℕ) × (x ≡ make t n)) × Each make xs
 
@@ -295,7 +295,7 @@ each_number : (make : ℕ → ℕ → Event) (t n : ℕ) → Each make (numbers_
 each_number make t zero = tt
 each_number make t (suc n) = ((t, n + 1, refl), each_number make t n)
 
-each_thread : (make : ℕ → ℕ → Event) (count : ℕ → ℕ) (t : ℕ) → Each make (threads_of make count t)
+pub each_thread : (make : ℕ → ℕ → Event) (count : ℕ → ℕ) (t : ℕ) → Each make (threads_of make count t)
 each_thread make count zero = tt
 each_thread make count (suc t) = each_both make (numbers_of make t (count t)) (threads_of make count t) (each_number make t (count t)) (each_thread make count t)
 
@@ -324,10 +324,10 @@ has_thread make count t n (suc k) few low high = go (is_or t k) (λ less. has_th
     go (inl same) older = has_left (make t n) (numbers_of make k (count k)) (threads_of make count k) (subst (λ (i : ℕ). Has (make t n) (numbers_of make i (count i))) same (has_number make t n (count t) low high))
     go (inr ne) older = has_right (make t n) (numbers_of make k (count k)) (threads_of make count k) (older (omega (arith, few, ne)))
 
-abbrev make_log : ℕ → ℕ → Event
+abbrev pub make_log : ℕ → ℕ → Event
 make_log t n = event.Log t n
 
-abbrev make_out : ℕ → ℕ → Event
+abbrev pub make_out : ℕ → ℕ → Event
 make_out t n = event.Out t n
 
 same_log : (t n u k : ℕ) → event.Log t n ≡ event.Log u k → (t ≡ u) × (n ≡ k)
