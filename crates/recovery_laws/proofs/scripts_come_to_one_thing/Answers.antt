@@ -3,8 +3,8 @@ use Rattle.recovery_laws.proofs.Scripts.{any_one, any_within, stops_one, stops_n
 use Rattle.recovery_laws.proofs.scripts_come_to_one_thing.Goals as goal
 
 pub returns-clause-performed : goal.returns-clause-performed
-returns-clause-performed g c = λ s w ev to other freed rest new next h low a b.
-    let r = any_one s w ev to other freed rest new next h low a b in (r.outcome_is, r.freed_is, r.new_is)
+returns-clause-performed g c = λ s w ev to other freed rest new next h a b.
+    let r = any_one s w ev to other freed rest new next h a b in (r.outcome_is, r.freed_is, r.new_is)
 
 pub returns-clause-stopped : goal.returns-clause-stopped
 returns-clause-stopped g c = stops_one
