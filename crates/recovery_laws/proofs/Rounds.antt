@@ -48,7 +48,7 @@ turn_still n left t = rw (or_true (nat_lt t n)) refl
 pub turn_again : (n left : ℕ) → turn_at n left n true ≡ Steps left 0 false
 turn_again n left = let b : nat_lt n n ≡ false = lt_false n n (omega arith) in rw b refl
 
-lt_or_last : (t n : ℕ) → t ≤ n → (t < n) ⊎ (t ≡ n)
+pub lt_or_last : (t n : ℕ) → t ≤ n → (t < n) ⊎ (t ≡ n)
 lt_or_last t n few = go (is_or t n)
   where
     go : (t ≡ n) ⊎ (t ≢ n) → (t < n) ⊎ (t ≡ n)
@@ -84,7 +84,7 @@ module _ {V : Type 0} (s : Setting V) where
     pub at_rest : rests to ≡ true
 
   -- a step that made no move leaves the world as it was
-  no_move : (w mid : World V) (t : ℕ) (to : Outcome) → OnStep s w t None to mid → rests to ≡ true → mid ≡ w
+  pub no_move : (w mid : World V) (t : ℕ) (to : Outcome) → OnStep s w t None to mid → rests to ≡ true → mid ≡ w
   no_move w mid t to (inl a) r = a.2
   no_move w mid t to (inr (inl a)) r = a.3
   no_move w mid t to (inr (inr (inl a))) r = a.4

@@ -1,4 +1,5 @@
 use Rattle.recovery_laws.proofs.EventOutcomes.{on_there}
+use Rattle.recovery_laws.proofs.Existence.{comes_to}
 use Rattle.recovery_laws.proofs.Scripts.{any_one, any_within, stops_one, stops_not, leaves_one, leaves_or_stops, stops_leave_one}
 use Rattle.recovery_laws.proofs.scripts_come_to_one_thing.Goals as goal
 
@@ -25,4 +26,7 @@ pub returns-clause-whole_or_stopped : goal.returns-clause-whole_or_stopped
 returns-clause-whole_or_stopped g c = leaves_or_stops
 
 pub returns-clause-something : goal.returns-clause-something
-returns-clause-something g c = λ s w ev h. on_there s w h ev
+returns-clause-something g c = λ s w ev h low. comes_to s w ev h low
+
+pub returns-clause-single : goal.returns-clause-single
+returns-clause-single g c = λ s w ev h. on_there s w h ev
