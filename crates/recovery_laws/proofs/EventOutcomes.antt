@@ -1,6 +1,6 @@
 -- Each event that is not one of several comes to something, in every sound world.
 use Rattle.std.proofs.Common.{◌≡◌, ℕ, zero, suc, ◌+◌, ◌-◌, ◌*◌, ◌≤◌, ◌<◌, ◌≢◌, Bool, true, false, List, [], ◌∷◌, ◌++◌, length, refl, sym, ap, ◌∙◌, subst, inl, inr, ◌⊎◌, arith, Option, Some, None}
-use Rattle.std.specs.Prelude.{Ok, slice_get, nat_lt, ◌↔◌}
+use Rattle.std.specs.Prelude.{Ok, slice_get, nat_lt, min, ◌↔◌}
 use Rattle.std.proofs.lemmas.Bool.{cases_lt}
 use Rattle.std.proofs.lemmas.Bool.Decides.{nat_tests}
 use Rattle.plain_text.specs.declared.packet.Packet.{Packet}
@@ -29,6 +29,7 @@ use Rattle.recovery_world.specs.declared.event.Outcome.TheVariants as outcome
 use Rattle.recovery_world.specs.World.{Setting, Sent, Ended as EndedEpoch, World, inputs_fed}
 use Rattle.recovery_world.specs.Turns.{IsReadToCome, IsTouchToCome, Awaits, HasTurn, HandHasTurn, TellsClock, TellsDraw}
 use Rattle.recovery_world.specs.Frames.{IsThreadCount, HasComponent, HasOutputComponent}
+use Rattle.recovery_world.specs.Many.{Steps, begins}
 use Rattle.recovery_world.specs.Events.{move_outcome, bytes_sent, Tells, TellsHand, MakesMove, OnStep, IsKnown, Parts, Releases, IsEntryOf, OnLog, HasNumber, IsOutputOf, IsAmong, HasArrived, OnOut, count_of, Arrives, WasSent, OnLate, IsFrameLength, HasNone, OnCut, OnSnap, OnStore, OnCrash, IsPartOf, Recovers, OnRecover, OnShow, fed_after, after_feed, On}
 use Rattle.recovery_laws.specs.Sound.{times, Sound}
 use Rattle.recovery_laws.proofs.Sets.{predecessors, times_there}
@@ -507,21 +508,25 @@ module _ {V : Type 0} (s : Setting V) (w : World V) (h : Sound s w) where
       go false is = (outcome.Down, w, inl (is, refl, refl))
       go true is = (outcome.Crashed, record w { up = false; copy = None }, inr (is, refl, refl))
 
+  -- a recovery has its outcome: how many entries it keeps, and how many it drops
+  pub recovery_there : w.up ≡ false → (new : World V) → Recovers w new → (to : Outcome) × OnRecover w to new
+  recovery_there down new r = (outcome.Recovered new.epoch keeps.0 drops, inr (down, r, keeps.0, drops, refl, keeps.1, lost))
+    where
+      keeps : (n : ℕ) × IsCount (λ e. IsIn e (log_of w.stored) → ⊥) new.held n
+      keeps = count_there (λ e. IsIn e (log_of w.stored) → ⊥) (λ e. or_not (in_or e (log_of w.stored))) new.held
+
+      drops : ℕ
+      drops = length w.held - length new.held
+
+      lost : length w.held ≡ length new.held + (length w.held - length new.held)
+      lost = let k = part_short w.held r.part r.part_of in let q : length new.held ≡ length r.part = ap (λ (z : World V). length z.held) r.new_is in omega (arith, k, q)
+
   recover_there : (to : Outcome) × (new : World V) × OnRecover w to new
   recover_there = go w.up refl (recovers_there s w h.firm)
     where
       go : (b : Bool) → w.up ≡ b → (new : World V) × Recovers w new → (to : Outcome) × (new : World V) × OnRecover w to new
       go true is r = (outcome.Up, w, inl (is, refl, refl))
-      go false is r = (outcome.Recovered r.0.epoch keeps.0 drops, r.0, inr (is, r.1, keeps.0, drops, refl, keeps.1, lost))
-        where
-          keeps : (n : ℕ) × IsCount (λ e. IsIn e (log_of w.stored) → ⊥) r.0.held n
-          keeps = count_there (λ e. IsIn e (log_of w.stored) → ⊥) (λ e. or_not (in_or e (log_of w.stored))) r.0.held
-
-          drops : ℕ
-          drops = length w.held - length r.0.held
-
-          lost : length w.held ≡ length r.0.held + (length w.held - length r.0.held)
-          lost = let k = part_short w.held r.1.part r.1.part_of in let q : length r.0.held ≡ length r.1.part = ap (λ (z : World V). length z.held) r.1.new_is in omega (arith, k, q)
+      go false is r = let k = recovery_there is r.0 r.1 in (k.0, r.0, k.1)
 
   show_there : (v : ℕ) → (to : Outcome) × OnShow s w v to
   show_there v = go (cases_lt v s.meaning.vars) w.up refl
@@ -532,34 +537,39 @@ module _ {V : Type 0} (s : Setting V) (w : World V) (h : Sound s w) where
       go (inl low) true is = (outcome.Shown (s.meaning.shown v (value_after s.meaning w.past v)), inr (inr (low, is, refl)))
 
   -- Each event
-  pub on_there : (ev : Event) → (ev ≡ event.Settle → ⊥) → ((seed n : ℕ) → ev ≡ event.Auto seed n → ⊥) → (to : Outcome) × (freed : List Sent) × (new : World V) × On s w ev to freed new
-  on_there (event.Feed n) a b = (outcome.Total (fed_after s w n), [], after_feed s w n, (refl, refl, refl))
-  on_there (event.Time n) a b = (outcome.Set, [], record w { clock = n }, (refl, refl, refl))
-  on_there (event.Step t given) a b = let r = step_there t given in (r.0, [], r.1, (r.2, refl))
-  on_there (event.Log t n) a b = go (cases_lt t s.threads)
+  pub on_there : (ev : Event) → begins s w ev ≡ None → (to : Outcome) × (freed : List Sent) × (new : World V) × On s w ev to freed new
+  on_there (event.Feed n) alone = (outcome.Total (fed_after s w n), [], after_feed s w n, (refl, refl, refl))
+  on_there (event.Time n) alone = (outcome.Set, [], record w { clock = n }, (refl, refl, refl))
+  on_there (event.Step t given) alone = let r = step_there t given in (r.0, [], r.1, (r.2, refl))
+  on_there (event.Log t n) alone = go (cases_lt t s.threads)
     where
       go : (t < s.threads) ⊎ (s.threads ≤ t) → (to : Outcome) × (freed : List Sent) × (new : World V) × On s w (event.Log t n) to freed new
       go (inr high) = (outcome.Nothing, [], w, inl (high, refl, refl, refl))
       go (inl low) = let r = log_there t n in (r.0, r.1, r.2, inr (low, r.3))
-  on_there (event.Out t j) a b = go (cases_lt t s.threads)
+  on_there (event.Out t j) alone = go (cases_lt t s.threads)
     where
       go : (t < s.threads) ⊎ (s.threads ≤ t) → (to : Outcome) × (freed : List Sent) × (new : World V) × On s w (event.Out t j) to freed new
       go (inr high) = (outcome.Nothing, [], w, inl (high, refl, refl, refl))
       go (inl low) = let r = out_there t j in (r.0, [], r.1, inr (low, (r.2, refl)))
-  on_there (event.Late epoch k t n) a b = go (cases_lt t s.threads)
+  on_there (event.Late epoch k t n) alone = go (cases_lt t s.threads)
     where
       go : (t < s.threads) ⊎ (s.threads ≤ t) → (to : Outcome) × (freed : List Sent) × (new : World V) × On s w (event.Late epoch k t n) to freed new
       go (inr high) = (outcome.Nothing, [], w, inl (high, refl, refl, refl))
       go (inl low) = let r = late_there epoch k t n in (r.0, r.1, r.2, inr (low, r.3))
-  on_there (event.Cut k t n len) a b = go (cases_lt t s.threads)
+  on_there (event.Cut k t n len) alone = go (cases_lt t s.threads)
     where
       go : (t < s.threads) ⊎ (s.threads ≤ t) → (to : Outcome) × (freed : List Sent) × (new : World V) × On s w (event.Cut k t n len) to freed new
       go (inr high) = (outcome.Nothing, [], w, inl (high, refl, refl, refl))
       go (inl low) = let r = cut_there k t n len in (r.0, r.1, r.2, inr (low, r.3))
-  on_there event.Snap a b = let r = snap_there in (r.0, [], r.1, (r.2, refl))
-  on_there event.Store a b = store_there
-  on_there event.Crash a b = let r = crash_there in (r.0, [], r.1, (r.2, refl))
-  on_there event.Recover a b = let r = recover_there in (r.0, [], r.1, (r.2, refl))
-  on_there (event.Show v) a b = let r = show_there v in (r.0, [], w, (r.1, refl, refl))
-  on_there event.Settle a b = absurd (a refl)
-  on_there (event.Auto seed n) a b = absurd (b seed n refl)
+  on_there event.Snap alone = let r = snap_there in (r.0, [], r.1, (r.2, refl))
+  on_there event.Store alone = store_there
+  on_there event.Crash alone = let r = crash_there in (r.0, [], r.1, (r.2, refl))
+  on_there event.Recover alone = let r = recover_there in (r.0, [], r.1, (r.2, refl))
+  on_there (event.Show v) alone = let r = show_there v in (r.0, [], w, (r.1, refl, refl))
+  on_there event.Settle alone = absurd (cc)
+  on_there (event.Flow n) alone = go w.up refl
+    where
+      go : (b : Bool) → w.up ≡ b → (to : Outcome) × (freed : List Sent) × (new : World V) × On s w (event.Flow n) to freed new
+      go false is = (outcome.Down, [], w, (is, refl, refl, refl))
+      go true is = let q : begins s w (event.Flow n) ≡ Some (Steps (min n (length s.packets - w.fed)) 0 false) = rw is refl in absurd (cc)
+  on_there (event.Auto seed n) alone = absurd (cc)

@@ -19,7 +19,8 @@ use Rattle.recovery_world.specs.declared.event.Outcome.{Outcome}
 use Rattle.recovery_world.specs.World.{Setting, Sent, Ended as EndedEpoch, World, opening, inputs_fed}
 use Rattle.recovery_world.specs.Events.{IsKnown, IsPartOf, MayGo, Releases, IsAmong, HasNumber, HasArrived, OnStep, OnLog, OnOut, OnLate, OnCut, OnStore, Recovers, Wakes, entries_of_line, ended_now, fed_after, after_feed, On}
 use Rattle.recovery_world.specs.Limits.{OnWithin}
-use Rattle.recovery_world.specs.Many.{Does, Stays, Goes as DoesMore, StepsOut, IsIdle, Waits, Halts, Steps, Round, NoThread, Thread, HaltsBefore, HaltsThere, Rounds, Rests as RestsNow, HaltsIn, Again, Feeds, Empties, HaltsOn, More, Autos, Begins, Next, Settles, OnAny, Single, Settling, Choosing, Stops, SingleStops, SettlingStops, ChoosingStops}
+use Rattle.recovery_world.specs.Strategies.{Strategy, Follows, Ends, Halts, Goes as GoesOn}
+use Rattle.recovery_world.specs.Many.{goes_on, OnAny, Single, Several, Stops, SingleStops, SeveralStops}
 use Rattle.recovery_world.specs.Files.{Performs, Rests as NoMore, Goes as Writes}
 use Rattle.recovery_world.specs.Finish.{Reached, Opens, Goes}
 use Rattle.line_order.proofs.Runs.{history_more}
@@ -496,61 +497,31 @@ module _ {V : Type 0} (s : Setting V) (w : World V) (h : Firm s w) where
   event_sound waits event.Recover to freed new (inr a, b) = recovers_sound a.0 new a.1
   event_sound waits (event.Show v) to freed new a = still waits new a.2
   event_sound waits event.Settle to freed new a = absurd a
+  event_sound waits (event.Flow n) to freed new a = still waits new a.3
   event_sound waits (event.Auto seed n) to freed new a = absurd a
 
--- A recovery keeps it, and so do the events of several.
-
-pub wakes_sound : {V : Type 0} (s : Setting V) (w up : World V) → Sound s w → Wakes w up → Sound s up
-wakes_sound {V} s w up h (inl (a, same)) = subst (λ (z : World V). Sound s z) (sym same) h
-wakes_sound s w up h (inr (down, r)) = recovers_sound s w h.firm down up r
-
-pub within_sound : {V : Type 0} (s : Setting V) (w : World V) (ev : Event) (to : Outcome) (freed : List Sent) (new : World V) → Sound s w → OnWithin s w ev to freed new → Sound s new
+pub within_sound : {V : Type 0} (s : Setting V) (w : World V) (ev : Event) (to : Outcome) (freed : List Sent) (new : World V)
+    → Sound s w → OnWithin s w ev to freed new → Sound s new
 within_sound s w ev to freed new h on = event_sound s w h.firm h.waits ev to freed new on.0
 
-pub does_sound : {V : Type 0} (s : Setting V) (w new : World V) (events : List Event) → Sound s w → Does s w events new → Sound s new
-does_sound s w new events h Stays = h
-does_sound s w new events h (DoesMore {mid = mid} ev to freed d on) = within_sound s mid ev to freed new (does_sound s w mid _ h d) on
+-- Whatever a strategy chooses keeps it.
+pub follows_sound : {Q V : Type 0} (s : Setting V) (next : Strategy Q V) (q : Q) (w new : World V) (end : Option Limit)
+    → Sound s w → Follows s next q w end new → Sound s new
+follows_sound s next q w new end h (Ends p same none) = h
+follows_sound s next q w new end h (Halts p same c limit some passes) = h
+follows_sound s next q w new end h (GoesOn {mid = mid} p same c to freed some on rest) =
+    follows_sound s next (c.leads_to to) mid new end (within_sound s w c.event to freed mid h on) rest
 
-pub steps_sound : {V : Type 0} (s : Setting V) (t : ℕ) (w new : World V) (end : Result Bool Limit) → Sound s w → StepsOut s t w end new → Sound s new
-steps_sound s t w new end h (IsIdle same on) = h
-steps_sound s t w new end h (Waits same u n on) = h
-steps_sound s t w new end h (Halts same limit passes) = h
-steps_sound s t w new end h (Steps {mid = mid} to on a b rest) = steps_sound s t mid new end (within_sound s w (event.Step t None) to [] mid h on) rest
-
-pub round_sound : {V : Type 0} (s : Setting V) (w : World V) (t : ℕ) (new : World V) (end : Result Bool Limit) → Sound s w → Round s w t end new → Sound s new
-round_sound s w t new end h NoThread = h
-round_sound s w t new end h (Thread {t = k} {mid = mid} before own idle r out is) = steps_sound s k mid new (Ok own) (round_sound s w k mid (Ok before) h r) out
-round_sound s w t new end h (HaltsBefore {t = k} limit r) = round_sound s w k new (Err limit) h r
-round_sound s w t new end h (HaltsThere {t = k} {mid = mid} before limit r out) = steps_sound s k mid new (Err limit) (round_sound s w k mid (Ok before) h r) out
-
-pub rounds_sound : {V : Type 0} (s : Setting V) (w new : World V) (end : Option Limit) → Sound s w → Rounds s w end new → Sound s new
-rounds_sound s w new end h (RestsNow r) = round_sound s w s.threads new (Ok true) h r
-rounds_sound s w new end h (HaltsIn limit r) = round_sound s w s.threads new (Err limit) h r
-rounds_sound s w new end h (Again {mid = mid} r rest) = rounds_sound s mid new end (round_sound s w s.threads mid (Ok false) h r) rest
-
-pub feeds_sound : {V : Type 0} (s : Setting V) (w new : World V) (end : Option Limit) → Sound s w → Feeds s w end new → Sound s new
-feeds_sound s w new end h (Empties r all) = rounds_sound s w new None h r
-feeds_sound s w new end h (HaltsOn limit r) = rounds_sound s w new (Some limit) h r
-feeds_sound s w new end h (More {mid = mid} {fed = fed} to r some on rest) = feeds_sound s fed new end (within_sound s mid (event.Feed 1) to [] fed (rounds_sound s w mid None h r) on) rest
-
-pub autos_sound : {V : Type 0} (s : Setting V) (seed : ℕ) (w new : World V) (n : ℕ) → Sound s w → Autos s seed w n new → Sound s new
-autos_sound s seed w new n h Begins = h
-autos_sound s seed w new n h (Next {k = k} {mid = mid} to freed rest on) = within_sound s mid _ to freed new (autos_sound s seed w mid k h rest) on
-
-pub settles_sound : {V : Type 0} (s : Setting V) (w new : World V) → Sound s w → Settles s w new → Sound s new
-settles_sound s w new h r =
-    does_sound s r.logged new _ (does_sound s r.ran r.logged _ (feeds_sound s r.up r.ran None (wakes_sound s w r.up h r.wakes) r.runs) r.logs) r.outs
-
-pub any_sound : {V : Type 0} (s : Setting V) (w : World V) → Sound s w → (ev : Event) (to : Outcome) (freed : List Sent) (new : World V) → OnAny s w ev to freed new → Sound s new
+pub any_sound : {V : Type 0} (s : Setting V) (w : World V) → Sound s w → (ev : Event) (to : Outcome) (freed : List Sent) (new : World V)
+    → OnAny s w ev to freed new → Sound s new
 any_sound s w h ev to freed new (Single e o f n on) = within_sound s w ev to freed new h on
-any_sound s w h ev to freed new (Settling o n r is) = settles_sound s w new h r
-any_sound s w h ev to freed new (Choosing seed n o m r is) = autos_sound s seed w new n h r
+any_sound s w h ev to freed new (Several e q o n at f is) = follows_sound s (goes_on s) q w new None h f
 
 -- So does an event that stops at a limit.
-pub stops_sound : {V : Type 0} (s : Setting V) (w : World V) → Sound s w → (ev : Event) (limit : Limit) (new : World V) → Stops s w ev limit new → Sound s new
+pub stops_sound : {V : Type 0} (s : Setting V) (w : World V) → Sound s w → (ev : Event) (limit : Limit) (new : World V)
+    → Stops s w ev limit new → Sound s new
 stops_sound s w h ev limit new (SingleStops e l passes) = h
-stops_sound s w h ev limit new (SettlingStops l n r) = feeds_sound s r.up new (Some limit) (wakes_sound s w r.up h r.wakes) r.runs
-stops_sound s w h ev limit new (ChoosingStops seed n k l m low r passes) = autos_sound s seed w new k h r
+stops_sound s w h ev limit new (SeveralStops e q l n at f) = follows_sound s (goes_on s) q w new (Some limit) h f
 
 pub performs_sound : {V : Type 0} (s : Setting V) (w new : World V) (events : List Event) (lines : List ℕ) → Sound s w → Performs s w events lines new → Sound s new
 performs_sound s w new events lines h (NoMore same) = h

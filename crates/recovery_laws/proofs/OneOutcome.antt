@@ -403,4 +403,5 @@ module _ {V : Type 0} (s : Setting V) (w : World V) (h : Sound s w) where
   on_one event.Recover to other freed rest new next a b = pair_same to other freed rest new next (recover_one to other new next a.0 b.0) a.1 b.1
   on_one (event.Show v) to other freed rest new next a b = record { outcome_is = show_one v to other a.0 b.0; freed_is = a.1 ∙ sym b.1; new_is = a.2 ∙ sym b.2 }
   on_one event.Settle to other freed rest new next a b = absurd a
+  on_one (event.Flow n) to other freed rest new next a b = record { outcome_is = a.1 ∙ sym b.1; freed_is = a.2 ∙ sym b.2; new_is = a.3 ∙ sym b.3 }
   on_one (event.Auto seed n) to other freed rest new next a b = absurd a

@@ -9,7 +9,8 @@ use Rattle.plain_text.specs.declared.kind.Kind.TheVariants as kind
 use Rattle.recovery_world.specs.declared.event.Outcome.{Outcome}
 use Rattle.recovery_world.specs.World.{Setting, Sent, World}
 use Rattle.recovery_world.specs.Events.{OnStep, OnLog, OnOut, OnLate, OnCut, Releases, Wakes, On}
-use Rattle.recovery_world.specs.Many.{Does, Stays, Goes as DoesMore, StepsOut, IsIdle, Waits, Halts, Steps, Round, NoThread, Thread, HaltsBefore, HaltsThere, Rounds, Rests as RestsNow, HaltsIn, Again, Feeds, Empties, HaltsOn, More, Autos, Begins, Next, chosen, OnAny, Single, Settling, Choosing, Stops, SingleStops, SettlingStops, ChoosingStops}
+use Rattle.recovery_world.specs.Strategies.{Strategy, Follows, Ends, Halts, Goes}
+use Rattle.recovery_world.specs.Many.{goes_on, OnAny, Single, Several, Stops, SingleStops, SeveralStops}
 
 abbrev pub Grows : {V : Type 0} → World V → World V → Type 0
 Grows w new = (more : List Sent) × (new.released ≡ w.released ++ more)
@@ -79,51 +80,21 @@ on_grows s w event.Recover to freed new (inl a, f) = is_grows w new a.2
 on_grows {V} s w event.Recover to freed new (inr a, f) = same_grows w new (ap (λ (z : World V). z.released) a.1.new_is)
 on_grows s w (event.Show v) to freed new a = is_grows w new a.2
 on_grows s w event.Settle to freed new a = absurd a
+on_grows s w (event.Flow n) to freed new a = is_grows w new a.3
 on_grows s w (event.Auto seed n) to freed new a = absurd a
 
 -- Several events
 
-does_grow : {V : Type 0} (s : Setting V) (w new : World V) (events : List Event) → Does s w events new → Grows w new
-does_grow s w new events Stays = is_grows w w refl
-does_grow s w new events (DoesMore {mid = mid} ev to freed d on) = grows_on w mid new (does_grow s w mid _ d) (on_grows s mid ev to freed new on.0)
-
-steps_grow : {V : Type 0} (s : Setting V) (t : ℕ) (w new : World V) (end : Result Bool Limit) → StepsOut s t w end new → Grows w new
-steps_grow s t w new end (IsIdle same on) = is_grows w w refl
-steps_grow s t w new end (Waits same u n on) = is_grows w w refl
-steps_grow s t w new end (Halts same limit passes) = is_grows w w refl
-steps_grow s t w new end (Steps {mid = mid} to on a b rest) = grows_on w mid new (on_grows s w (event.Step t None) to [] mid on.0) (steps_grow s t mid new end rest)
-
-round_grows : {V : Type 0} (s : Setting V) (w : World V) (t : ℕ) (new : World V) (end : Result Bool Limit) → Round s w t end new → Grows w new
-round_grows s w t new end NoThread = is_grows w w refl
-round_grows s w t new end (Thread {t = k} {mid = mid} before own idle r out is) = grows_on w mid new (round_grows s w k mid (Ok before) r) (steps_grow s k mid new (Ok own) out)
-round_grows s w t new end (HaltsBefore {t = k} limit r) = round_grows s w k new (Err limit) r
-round_grows s w t new end (HaltsThere {t = k} {mid = mid} before limit r out) = grows_on w mid new (round_grows s w k mid (Ok before) r) (steps_grow s k mid new (Err limit) out)
-
-rounds_grow : {V : Type 0} (s : Setting V) (w new : World V) (end : Option Limit) → Rounds s w end new → Grows w new
-rounds_grow s w new end (RestsNow r) = round_grows s w s.threads new (Ok true) r
-rounds_grow s w new end (HaltsIn limit r) = round_grows s w s.threads new (Err limit) r
-rounds_grow s w new end (Again {mid = mid} r rest) = grows_on w mid new (round_grows s w s.threads mid (Ok false) r) (rounds_grow s mid new end rest)
-
-feeds_grow : {V : Type 0} (s : Setting V) (w new : World V) (end : Option Limit) → Feeds s w end new → Grows w new
-feeds_grow s w new end (Empties r all) = rounds_grow s w new None r
-feeds_grow s w new end (HaltsOn limit r) = rounds_grow s w new (Some limit) r
-feeds_grow s w new end (More {mid = mid} {fed = fed} to r some on rest) = grows_on w mid new (rounds_grow s w mid None r) (grows_on mid fed new (on_grows s mid (event.Feed 1) to [] fed on.0) (feeds_grow s fed new end rest))
-
-autos_grow : {V : Type 0} (s : Setting V) (seed : ℕ) (w new : World V) (n : ℕ) → Autos s seed w n new → Grows w new
-autos_grow s seed w new n Begins = is_grows w w refl
-autos_grow s seed w new n (Next {k = k} {mid = mid} to freed rest on) = grows_on w mid new (autos_grow s seed w mid k rest) (on_grows s mid (chosen s seed k mid) to freed new on.0)
-
-wakes_grow : {V : Type 0} (w up : World V) → Wakes w up → Grows w up
-wakes_grow w up (inl a) = is_grows w up a.1
-wakes_grow {V} w up (inr a) = same_grows w up (ap (λ (z : World V). z.released) a.1.new_is)
+follows_grow : {Q V : Type 0} (s : Setting V) (next : Strategy Q V) (q : Q) (w new : World V) (end : Option Limit) → Follows s next q w end new → Grows w new
+follows_grow s next q w new end (Ends p same none) = is_grows w w refl
+follows_grow s next q w new end (Halts p same c limit some passes) = is_grows w w refl
+follows_grow s next q w new end (Goes {mid = mid} p same c to freed some on rest) =
+    grows_on w mid new (on_grows s w c.event to freed mid on.0) (follows_grow s next (c.leads_to to) mid new end rest)
 
 pub any_grows : {V : Type 0} (s : Setting V) (w : World V) (ev : Event) (to : Outcome) (freed : List Sent) (new : World V) → OnAny s w ev to freed new → Grows w new
 any_grows s w ev to freed new (Single e o f n on) = on_grows s w ev to freed new on.0
-any_grows s w ev to freed new (Settling o n r is) =
-    grows_on w r.up new (wakes_grow w r.up r.wakes) (grows_on r.up r.ran new (feeds_grow s r.up r.ran None r.runs) (grows_on r.ran r.logged new (does_grow s r.ran r.logged _ r.logs) (does_grow s r.logged new _ r.outs)))
-any_grows s w ev to freed new (Choosing seed n o m r is) = autos_grow s seed w new n r
+any_grows s w ev to freed new (Several e q o n at f is) = follows_grow s (goes_on s) q w new None f
 
 pub stops_grow : {V : Type 0} (s : Setting V) (w : World V) (ev : Event) (limit : Limit) (new : World V) → Stops s w ev limit new → Grows w new
 stops_grow s w ev limit new (SingleStops e l passes) = is_grows w w refl
-stops_grow s w ev limit new (SettlingStops l n r) = grows_on w r.up new (wakes_grow w r.up r.wakes) (feeds_grow s r.up new (Some limit) r.runs)
-stops_grow s w ev limit new (ChoosingStops seed n k l m low r passes) = autos_grow s seed w new k r
+stops_grow s w ev limit new (SeveralStops e q l n at f) = follows_grow s (goes_on s) q w new (Some limit) f

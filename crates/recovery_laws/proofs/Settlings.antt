@@ -1,9 +1,11 @@
--- A settling settles: all threads are idle at the end of the capture, all that they logged is held, and all that they sent out
--- is released.
+-- A flow and a settling release all: behind the packets that came in all threads are idle, all that they logged is held, and all that
+-- they sent out is released.
 use Rattle.std.proofs.Common.{◌≡◌, ℕ, zero, suc, ◌+◌, ◌≤◌, ◌<◌, ◌≢◌, Bool, true, false, List, [], ◌∷◌, ◌++◌, length, refl, sym, ap, ◌∙◌, subst, inl, inr, ◌⊎◌, arith, Option, Some, None}
-use Rattle.std.specs.Prelude.{Result, Ok, Err, ◌&&◌, nat_eq, take, slice_get}
+use Rattle.std.specs.Prelude.{◌-◌, min, nat_eq, take, slice_get, if◌then◌else◌}
 use Rattle.std.proofs.lemmas.Bool.Decides.{nat_tests}
 use Rattle.plain_text.specs.declared.limit.Limit.{Limit}
+use Rattle.plain_text.specs.declared.kind.Kind.{Kind}
+use Rattle.plain_text.specs.declared.kind.Kind.TheVariants as kind
 use Rattle.plain_text.specs.declared.packet.Packet.{Packet}
 use Rattle.input_logger.specs.Inputs.{inputs_of}
 use Rattle.entry_order.specs.declared.what.What.{What}
@@ -31,14 +33,17 @@ use Rattle.recovery_world.specs.declared.event.Outcome.{Outcome}
 use Rattle.recovery_world.specs.declared.event.Outcome.TheVariants as outcome
 use Rattle.recovery_world.specs.World.{Setting, Sent, World, inputs_fed, all_inputs, opening}
 use Rattle.recovery_world.specs.Events.{entry_outcome, move_outcome, MakesMove, WantsMore, OnStep, IsKnown, IsEntryOf, IsAmong, HasNumber, IsOutputOf, Wakes, On}
+use Rattle.recovery_world.specs.Limits.{OnWithin}
 use Rattle.recovery_world.specs.Finish.{IsToCome, AllGoOn, IsFinish}
-use Rattle.recovery_world.specs.Many.{Does, Stays, Goes as DoesMore, StepsOut, IsIdle, Waits, Halts, Steps, Round, NoThread, Thread, HaltsBefore, HaltsThere, Rounds, Rests as RestsNow, HaltsIn, Again, Feeds, Empties, HaltsOn, More, numbers_of, threads_of, all_logs, all_outs, Settles, OnAny, Single, Settling, Choosing}
+use Rattle.recovery_world.specs.Strategies.{Choice, Follows, Ends as NoneIs, Halts, Goes}
+use Rattle.recovery_world.specs.Many.{Message, arrival, numbered, of_threads, all_messages, Phase, Wakes as WakesFirst, Steps, Arrives, first_of, goes_on, begins, OnAny, Single, Several}
 use Rattle.recovery_world.specs.Files.{reply_line, Performs, Rests as NoMore, Goes as Writes, Leaves}
 use Rattle.recovery_laws.specs.Sound.{IsKept, Sound}
 use Rattle.recovery_laws.specs.Ends.{Ends}
-use Rattle.recovery_laws.specs.Settled.{IsSettled}
+use Rattle.recovery_laws.specs.Settled.{IsSettled, HasFlowed}
 use Rattle.recovery_laws.proofs.LedMoves.{Made, made_move}
-use Rattle.recovery_laws.proofs.KeptWorlds.{wakes_sound, does_sound, feeds_sound, settles_sound, opening_sound, performs_sound}
+use Rattle.recovery_laws.proofs.KeptWorlds.{within_sound, follows_sound, any_sound, opening_sound, performs_sound}
+use Rattle.recovery_laws.proofs.Rounds.{Rested, StaysAt, none_to_come, idle, comes_to_rest}
 use Rattle.recovery_laws.proofs.Worlds.{known_here}
 use Rattle.recovery_laws.proofs.Finishes.{sends_thread, finish_ends}
 use Rattle.recovery_laws.proofs.Replays.{no_step}
@@ -46,152 +51,17 @@ use Rattle.recovery_laws.proofs.SoundParts.{to_come_thread, to_come_first, follo
 use Rattle.recovery_laws.proofs.AcceptedRuns.{among_times}
 use Rattle.recovery_laws.proofs.OneOutcome.{sent_eq, entry_one, output_one, not_idle}
 
--- The threads come to rest
-
--- a move has another outcome than that the thread is idle
-move_not_idle : {V : Type 0} (a : Act V) → move_outcome a ≡ outcome.Idle → ⊥
-move_not_idle (Took k) e = cc
-move_not_idle (Did e left) q = go e.what q
-  where
-    go : (w : What) → entry_outcome e.number w ≡ outcome.Idle → ⊥
-    go (what.Access v p) q = cc
-    go (what.Read v p) q = cc
-    go (what.Clock a) q = cc
-    go (what.Draw a) q = cc
-move_not_idle (Emitted o) e = cc
-move_not_idle (Ended k) e = cc
-
-abbrev Rested : {V : Type 0} → Setting V → World V → ℕ → Type 0
-Rested s w t = (w.up ≡ true) × WantsMore s w t
-
-idle_rests : {V : Type 0} (s : Setting V) (w new : World V) (t : ℕ) → OnStep s w t None outcome.Idle new → Rested s w t
-idle_rests s w new t (inl a) = let q : outcome.Idle ≡ outcome.Nothing = a.1 in absurd (cc)
-idle_rests s w new t (inr (inl a)) = let q : outcome.Idle ≡ outcome.Down = a.2 in absurd (cc)
-idle_rests s w new t (inr (inr (inl a))) = (a.1, a.2)
-idle_rests s w new t (inr (inr (inr (inl a)))) = let q : outcome.Idle ≡ outcome.Waits a.2.entry.thread a.2.entry.number = a.2.to_is in absurd (cc)
-idle_rests s w new t (inr (inr (inr (inr a)))) = absurd (move_not_idle a.2.step.act (sym a.2.to_is))
-
--- a step of another thread leaves it at rest
-still_rests : {V : Type 0} (s : Setting V) (w new : World V) (t u : ℕ) (to : Outcome) → u ≢ t → OnStep s w t None to new → Rested s w u → Rested s new u
-still_rests {V} s w new t u to ne (inl a) h = subst (λ (z : World V). Rested s z u) (sym a.2) h
-still_rests {V} s w new t u to ne (inr (inl a)) h = subst (λ (z : World V). Rested s z u) (sym a.3) h
-still_rests {V} s w new t u to ne (inr (inr (inl a))) h = subst (λ (z : World V). Rested s z u) (sym a.4) h
-still_rests {V} s w new t u to ne (inr (inr (inr (inl a)))) h = subst (λ (z : World V). Rested s z u) (sym a.3) h
-still_rests {V} s w new t u to ne (inr (inr (inr (inr a)))) h = subst (λ (z : World V). Rested s z u) (sym k.new_is) (h.0, (subst (λ (th : MachineThread). th.hand ≡ None) (sym same) h.1.0, subst (λ (th : MachineThread). slice_get (inputs_fed s w.fed u) th.taken ≡ None) (sym same) h.1.1))
-  where
-    k : MakesMove s w t None to new
-    k = a.2
-
-    made : Made s.meaning (inputs_fed s w.fed) s.threads w.past t k.answer k.step
-    made = made_move s.meaning (inputs_fed s w.fed) s.threads w.past (record { thread = t; answer = k.answer }) k.step k.moves
-
-    same : thread_after (k.step ∷ w.past) u ≡ thread_after w.past u
-    same = let th : k.step.thread ≡ t = made.thread in let b : nat_eq k.step.thread u ≡ false = grind (arith, nat_tests, ne) in rw b refl
-
-steps_rest : {V : Type 0} (s : Setting V) (t u : ℕ) (w new : World V) (end : Result Bool Limit) → u ≢ t → StepsOut s t w end new → Rested s w u → Rested s new u
-steps_rest s t u w new end ne (IsIdle same on) h = h
-steps_rest s t u w new end ne (Waits same k n on) h = h
-steps_rest s t u w new end ne (Halts same limit p) h = h
-steps_rest s t u w new end ne (Steps {mid = mid} to on a b rest) h = steps_rest s t u mid new end ne rest (still_rests s w mid t u to ne on.0.0 h)
-
--- a thread that ends idle rests
-steps_end : {V : Type 0} (s : Setting V) (t : ℕ) (w new : World V) (end : Result Bool Limit) → end ≡ Ok true → StepsOut s t w end new → Rested s new t
-steps_end s t w new end is (IsIdle same on) = idle_rests s w w t on.0
-steps_end s t w new end is (Waits same k n on) = absurd (cc)
-steps_end s t w new end is (Halts same limit p) = absurd (cc)
-steps_end s t w new end is (Steps {mid = mid} to on a b rest) = steps_end s t mid new end is rest
-
-ok_is : (b : Bool) → b ≡ true → let r : Result Bool Limit = Ok b in let t : Result Bool Limit = Ok true in r ≡ t
-ok_is b e = ap (λ (b : Bool). let r : Result Bool Limit = Ok b in r) e
-
-both_true : (a b : Bool) → true ≡ (a && b) → (a ≡ true) × (b ≡ true)
-both_true true b e = (refl, sym e)
-both_true false b e = absurd (cc)
-
-round_end : {V : Type 0} (s : Setting V) (w : World V) (t : ℕ) (new : World V) (end : Result Bool Limit) → end ≡ Ok true → Round s w t end new → (u : ℕ) → u < t → Rested s new u
-round_end s w t new end is NoThread u low = absurd (omega (arith, low))
-round_end {V} s w t new end is (Thread {t = k} {mid = mid} before own idle r out and) u low = go (is_or u k) (λ b. round_end s w k mid (Ok before) (ok_is before b) r u)
-  where
-    one : idle ≡ true
-    one = cc
-
-    both : (before ≡ true) × (own ≡ true)
-    both = both_true before own (sym one ∙ and)
-
-    go : (u ≡ k) ⊎ (u ≢ k) → (before ≡ true → u < k → Rested s mid u) → Rested s new u
-    go (inl same) older = subst (λ (i : ℕ). Rested s new i) (sym same) (steps_end s k mid new (Ok own) (ok_is own both.1) out)
-    go (inr ne) older = steps_rest s k u mid new (Ok own) ne out (older both.0 (omega (arith, low, ne)))
-round_end s w t new end is (HaltsBefore {t = k} limit r) u low = absurd (cc)
-round_end s w t new end is (HaltsThere {t = k} {mid = mid} before limit r out) u low = absurd (cc)
-
-rounds_end : {V : Type 0} (s : Setting V) (w new : World V) (end : Option Limit) → end ≡ None → Rounds s w end new → (u : ℕ) → u < s.threads → Rested s new u
-rounds_end s w new end is (RestsNow r) u low = round_end s w s.threads new (Ok true) refl r u low
-rounds_end s w new end is (HaltsIn limit r) u low = absurd (cc)
-rounds_end s w new end is (Again {mid = mid} r rest) u low = rounds_end s mid new end is rest u low
-
-feeds_end : {V : Type 0} (s : Setting V) (w new : World V) (end : Option Limit) → end ≡ None → Feeds s w end new → (length s.packets ≤ new.fed) × ((u : ℕ) → u < s.threads → Rested s new u)
-feeds_end s w new end is (Empties r all) = (all, λ u low. rounds_end s w new None refl r u low)
-feeds_end s w new end is (HaltsOn limit r) = absurd (cc)
-feeds_end s w new end is (More {mid = mid} {fed = fed} to r some on rest) = feeds_end s fed new end is rest
-
--- a master that is up stays up
-step_up : {V : Type 0} (s : Setting V) (w new : World V) (t : ℕ) (to : Outcome) → OnStep s w t None to new → new.up ≡ w.up
-step_up {V} s w new t to (inl a) = ap (λ (z : World V). z.up) a.2
-step_up {V} s w new t to (inr (inl a)) = ap (λ (z : World V). z.up) a.3
-step_up {V} s w new t to (inr (inr (inl a))) = ap (λ (z : World V). z.up) a.4
-step_up {V} s w new t to (inr (inr (inr (inl a)))) = ap (λ (z : World V). z.up) a.3
-step_up {V} s w new t to (inr (inr (inr (inr a)))) = ap (λ (z : World V). z.up) a.2.new_is
-
-steps_up : {V : Type 0} (s : Setting V) (t : ℕ) (w new : World V) (end : Result Bool Limit) → StepsOut s t w end new → new.up ≡ w.up
-steps_up s t w new end (IsIdle same on) = refl
-steps_up s t w new end (Waits same k n on) = refl
-steps_up s t w new end (Halts same limit p) = refl
-steps_up s t w new end (Steps {mid = mid} to on a b rest) = steps_up s t mid new end rest ∙ step_up s w mid t to on.0.0
-
-round_up : {V : Type 0} (s : Setting V) (w : World V) (t : ℕ) (new : World V) (end : Result Bool Limit) → Round s w t end new → new.up ≡ w.up
-round_up s w t new end NoThread = refl
-round_up s w t new end (Thread {t = k} {mid = mid} before own idle r out and) = steps_up s k mid new (Ok own) out ∙ round_up s w k mid (Ok before) r
-round_up s w t new end (HaltsBefore {t = k} limit r) = round_up s w k new (Err limit) r
-round_up s w t new end (HaltsThere {t = k} {mid = mid} before limit r out) = steps_up s k mid new (Err limit) out ∙ round_up s w k mid (Ok before) r
-
-rounds_up : {V : Type 0} (s : Setting V) (w new : World V) (end : Option Limit) → Rounds s w end new → new.up ≡ w.up
-rounds_up s w new end (RestsNow r) = round_up s w s.threads new (Ok true) r
-rounds_up s w new end (HaltsIn limit r) = round_up s w s.threads new (Err limit) r
-rounds_up s w new end (Again {mid = mid} r rest) = rounds_up s mid new end rest ∙ round_up s w s.threads mid (Ok false) r
-
-feeds_up : {V : Type 0} (s : Setting V) (w new : World V) (end : Option Limit) → Feeds s w end new → new.up ≡ w.up
-feeds_up s w new end (Empties r all) = rounds_up s w new None r
-feeds_up s w new end (HaltsOn limit r) = rounds_up s w new (Some limit) r
-feeds_up {V} s w new end (More {mid = mid} {fed = fed} to r some on rest) = feeds_up s fed new end rest ∙ (ap (λ (z : World V). z.up) on.0.2 ∙ rounds_up s w mid None r)
-
-wakes_up : {V : Type 0} (w up : World V) → Wakes w up → up.up ≡ true
-wakes_up {V} w up (inl a) = ap (λ (z : World V). z.up) a.1 ∙ a.0
-wakes_up {V} w up (inr a) = ap (λ (z : World V). z.up) a.1.new_is
-
--- nothing followed is to come where all threads rest
-none_to_come : {V : Type 0} (s : Setting V) (w : World V) → Sound s w → w.up ≡ true → ((u : ℕ) → u < s.threads → Rested s w u) → (f : Entry) → IsToCome w f → ⊥
-none_to_come {V} s w h up rest f come = go (to_come_first s w h f come)
-  where
-    go : (g : Entry) × IsToCome w g × ((e : Entry) → IsToCome w e → IsNext e g → ⊥) → ⊥
-    go (g, there, first) = not_idle s w h g.thread None outcome.Idle w idle (followed_moves s w g h there first up None outcome.Idle w (inr (inr (inl (low, up, idle, refl, refl)))))
-      where
-        low : g.thread < s.threads
-        low = to_come_thread s w h g there
-
-        idle : WantsMore s w g.thread
-        idle = (rest g.thread low).1
-
 -- All that arrives
 
 -- what arrivals keep
-record Kept {V : Type 0} (w new : World V) : Type 0 where
-  past : new.past ≡ w.past
-  stored : new.stored ≡ w.stored
-  followed : new.followed ≡ w.followed
-  fed : new.fed ≡ w.fed
-  up : new.up ≡ w.up
-  known : (e : Entry) → IsKnown w e → IsKnown new e
-  released : (o : Sent) → IsAmong o w.released → IsAmong o new.released
+pub record Kept {V : Type 0} (w new : World V) : Type 0 where
+  pub past : new.past ≡ w.past
+  pub stored : new.stored ≡ w.stored
+  pub followed : new.followed ≡ w.followed
+  pub fed : new.fed ≡ w.fed
+  pub up : new.up ≡ w.up
+  pub known : (e : Entry) → IsKnown w e → IsKnown new e
+  pub released : (o : Sent) → IsAmong o w.released → IsAmong o new.released
 
 kept_same : {V : Type 0} (w new : World V) → new ≡ w → Kept w new
 kept_same {V} w new same = subst (λ (z : World V). Kept w z) (sym same) (record { past = refl; stored = refl; followed = refl; fed = refl; up = refl; known = λ e k. k; released = λ o k. k })
@@ -278,106 +148,142 @@ out_released {V} s w new t j to freed h all none on low o of = go on
 
 -- One after another
 
-abbrev Has : Event → List Event → Type 0
-Has ev [] = ⊥
-Has ev (x ∷ xs) = (x ≡ ev) ⊎ Has ev xs
+abbrev Has : Message → List Message → Type 0
+Has m [] = ⊥
+Has m (x ∷ xs) = (x ≡ m) ⊎ Has m xs
 
--- each is of this kind
-abbrev Each : (ℕ → ℕ → Event) → List Event → Type 0
-Each make [] = Unit {0}
-Each make (x ∷ xs) = ((t : ℕ) × (n : ℕ) × (x ≡ make t n)) × Each make xs
+-- all are of a kind
+abbrev Each : Kind → List Message → Type 0
+Each k [] = Unit {0}
+Each k (x ∷ xs) = (x.kind ≡ k) × Each k xs
 
-each_both : (make : ℕ → ℕ → Event) (xs ys : List Event) → Each make xs → Each make ys → Each make (xs ++ ys)
-each_both make [] ys a b = b
-each_both make (x ∷ xs) ys a b = (a.0, each_both make xs ys a.1 b)
+each_both : (k : Kind) (xs ys : List Message) → Each k xs → Each k ys → Each k (xs ++ ys)
+each_both k [] ys a b = b
+each_both k (x ∷ xs) ys a b = (a.0, each_both k xs ys a.1 b)
 
-each_number : (make : ℕ → ℕ → Event) (t n : ℕ) → Each make (numbers_of make t n)
-each_number make t zero = tt
-each_number make t (suc n) = ((t, n + 1, refl), each_number make t n)
+each_numbered : (k : Kind) (t n many : ℕ) → Each k (numbered k t n many)
+each_numbered k t n zero = tt
+each_numbered k t n (suc many) = (refl, each_numbered k t (n + 1) many)
 
-each_thread : (make : ℕ → ℕ → Event) (count : ℕ → ℕ) (t : ℕ) → Each make (threads_of make count t)
-each_thread make count zero = tt
-each_thread make count (suc t) = each_both make (numbers_of make t (count t)) (threads_of make count t) (each_number make t (count t)) (each_thread make count t)
+each_thread : (k : Kind) (count : ℕ → ℕ) (t many : ℕ) → Each k (of_threads k count t many)
+each_thread k count t zero = tt
+each_thread k count t (suc many) = each_both k (numbered k t 1 (count t)) (of_threads k count (t + 1) many) (each_numbered k t 1 (count t)) (each_thread k count (t + 1) many)
 
-has_left : (ev : Event) (xs ys : List Event) → Has ev xs → Has ev (xs ++ ys)
-has_left ev [] ys h = absurd h
-has_left ev (x ∷ xs) ys (inl h) = inl h
-has_left ev (x ∷ xs) ys (inr h) = inr (has_left ev xs ys h)
+has_left : (m : Message) (xs ys : List Message) → Has m xs → Has m (xs ++ ys)
+has_left m [] ys h = absurd h
+has_left m (x ∷ xs) ys (inl h) = inl h
+has_left m (x ∷ xs) ys (inr h) = inr (has_left m xs ys h)
 
-has_right : (ev : Event) (xs ys : List Event) → Has ev ys → Has ev (xs ++ ys)
-has_right ev [] ys h = h
-has_right ev (x ∷ xs) ys h = inr (has_right ev xs ys h)
+has_right : (m : Message) (xs ys : List Message) → Has m ys → Has m (xs ++ ys)
+has_right m [] ys h = h
+has_right m (x ∷ xs) ys h = inr (has_right m xs ys h)
 
-has_number : (make : ℕ → ℕ → Event) (t n k : ℕ) → 1 ≤ n → n ≤ k → Has (make t n) (numbers_of make t k)
-has_number make t n zero low high = absurd (omega (arith, low, high))
-has_number make t n (suc k) low high = go (is_or n (k + 1)) (λ less. has_number make t n k low less)
+abbrev message : Kind → ℕ → ℕ → Message
+message k t n = record { kind = k; thread = t; number = n }
+
+has_number : (k : Kind) (t n from many : ℕ) → from ≤ n → n < from + many → Has (message k t n) (numbered k t from many)
+has_number k t n from zero low high = absurd (omega (arith, low, high))
+has_number k t n from (suc many) low high = go (is_or from n) (λ less. has_number k t n (from + 1) many less (omega (arith, high)))
   where
-    go : (n ≡ k + 1) ⊎ (n ≢ k + 1) → (n ≤ k → Has (make t n) (numbers_of make t k)) → Has (make t n) (numbers_of make t (suc k))
-    go (inl same) older = inl (ap (λ (i : ℕ). make t i) (sym same))
-    go (inr ne) older = inr (older (omega (arith, high, ne)))
+    go : (from ≡ n) ⊎ (from ≢ n) → (from + 1 ≤ n → Has (message k t n) (numbered k t (from + 1) many)) → (message k t from ≡ message k t n) ⊎ Has (message k t n) (numbered k t (from + 1) many)
+    go (inl same) later = inl (ap (λ (i : ℕ). message k t i) same)
+    go (inr other) later = inr (later (omega (arith, low, other)))
 
-has_thread : (make : ℕ → ℕ → Event) (count : ℕ → ℕ) (t n k : ℕ) → t < k → 1 ≤ n → n ≤ count t → Has (make t n) (threads_of make count k)
-has_thread make count t n zero few low high = absurd (omega (arith, few))
-has_thread make count t n (suc k) few low high = go (is_or t k) (λ less. has_thread make count t n k less low high)
+has_thread : (k : Kind) (count : ℕ → ℕ) (t n from many : ℕ) → from ≤ t → t < from + many → 1 ≤ n → n ≤ count t → Has (message k t n) (of_threads k count from many)
+has_thread k count t n from zero first few low high = absurd (omega (arith, first, few))
+has_thread k count t n from (suc many) first few low high = go (is_or from t) (λ less. has_thread k count t n (from + 1) many less (omega (arith, few)) low high)
   where
-    go : (t ≡ k) ⊎ (t ≢ k) → (t < k → Has (make t n) (threads_of make count k)) → Has (make t n) (threads_of make count (suc k))
-    go (inl same) older = has_left (make t n) (numbers_of make k (count k)) (threads_of make count k) (subst (λ (i : ℕ). Has (make t n) (numbers_of make i (count i))) same (has_number make t n (count t) low high))
-    go (inr ne) older = has_right (make t n) (numbers_of make k (count k)) (threads_of make count k) (older (omega (arith, few, ne)))
+    go : (from ≡ t) ⊎ (from ≢ t) → (from + 1 ≤ t → Has (message k t n) (of_threads k count (from + 1) many)) → Has (message k t n) (numbered k from 1 (count from) ++ of_threads k count (from + 1) many)
+    go (inl same) later = has_left (message k t n) (numbered k from 1 (count from)) (of_threads k count (from + 1) many)
+        (subst (λ (i : ℕ). Has (message k t n) (numbered k i 1 (count i))) (sym same) (has_number k t n 1 (count t) low (omega (arith, high))))
+    go (inr other) later = has_right (message k t n) (numbered k from 1 (count from)) (of_threads k count (from + 1) many) (later (omega (arith, first, other)))
 
-abbrev make_log : ℕ → ℕ → Event
-make_log t n = event.Log t n
+module _ {V : Type 0} (s : Setting V) where
+  abbrev Arriving : List Message → World V → World V → Type 0
+  Arriving messages w new = Follows s (goes_on s) (Arrives messages) w None new
 
-abbrev make_out : ℕ → ℕ → Event
-make_out t n = event.Out t n
+  -- the first message arrives, and then the others
+  record FirstOf (m : Message) (messages : List Message) (w new : World V) : Type 0 where
+    mid : World V
+    to : Outcome
+    freed : List Sent
+    on : OnWithin s w (arrival m) to freed mid
+    rest : Arriving messages mid new
 
-same_log : (t n u k : ℕ) → event.Log t n ≡ event.Log u k → (t ≡ u) × (n ≡ k)
-same_log t n u k e = (cc, cc)
+  first_arrives : (q : Phase) (w new : World V) (end : Option Limit) (m : Message) (messages : List Message) → Follows s (goes_on s) q w end new → end ≡ None
+      → q ≡ Arrives (m ∷ messages) → FirstOf m messages w new
+  first_arrives q w new end m messages (NoneIs p same none) is at = let j : goes_on s q w ≡ first_of (m ∷ messages) = ap (λ (x : Phase). goes_on s x w) at in absurd (cc)
+  first_arrives q w new end m messages (Halts p same c limit some passes) is at = absurd (cc)
+  first_arrives q w new end m messages (Goes {mid = mid} p same c to freed some on rest) is at =
+      let j : goes_on s q w ≡ first_of (m ∷ messages) = ap (λ (x : Phase). goes_on s x w) at in
+      let k : c ≡ record { event = arrival m; leads_to = λ to. Arrives messages } = let i = sym some ∙ j in cc in
+      record { mid = mid; to = to; freed = freed; on = subst (λ (x : Choice Phase). OnWithin s w x.event to freed mid) k on;
+        rest = subst (λ (e : Option Limit). Follows s (goes_on s) (Arrives messages) mid e new) is (subst (λ (x : Choice Phase). Follows s (goes_on s) (x.leads_to to) mid end new) k rest) }
 
-same_out : (t n u k : ℕ) → event.Out t n ≡ event.Out u k → (t ≡ u) × (n ≡ k)
-same_out t n u k e = (cc, cc)
+  none_arrives : (q : Phase) (w new : World V) (end : Option Limit) → Follows s (goes_on s) q w end new → end ≡ None → q ≡ Arrives [] → new ≡ w
+  none_arrives q w new end (NoneIs p same none) is at = refl
+  none_arrives q w new end (Halts p same c limit some passes) is at = absurd (cc)
+  none_arrives q w new end (Goes {mid = mid} p same c to freed some on rest) is at = let j : goes_on s q w ≡ None = ap (λ (x : Phase). goes_on s x w) at in absurd (cc)
 
--- all these entries arrive
-logs_do : {V : Type 0} (s : Setting V) (w new : World V) (events : List Event) → Sound s w → Each make_log events → Does s w events new
-    → Kept w new × ((t n : ℕ) → Has (event.Log t n) events → t < s.threads → (e : Entry) → IsEntryOf w t n e → IsKnown new e)
-logs_do s w new events h each Stays = (kept_same w w refl, λ t n i. absurd i)
-logs_do {V} s w new events h each (DoesMore {events = before} {mid = mid} ev to freed d on) = go (logs_do s w mid before h each.1 d)
-  where
-    on_log : On s mid (event.Log each.0.0 each.0.1) to freed new
-    on_log = subst (λ (x : Event). On s mid x to freed new) each.0.2 on.0
+  -- the first messages arrive, and then the others
+  arrivals_part : (xs ys : List Message) (w new : World V) → Arriving (xs ++ ys) w new → (mid : World V) × Arriving xs w mid × Arriving ys mid new
+  arrivals_part [] ys w new f = (w, NoneIs (Arrives []) w refl, f)
+  arrivals_part (x ∷ xs) ys w new f =
+      let one = first_arrives (Arrives (x ∷ (xs ++ ys))) w new None x (xs ++ ys) f refl refl in
+      let more = arrivals_part xs ys one.mid new one.rest in
+      (more.0, Goes (Arrives (x ∷ xs)) w (record { event = arrival x; leads_to = λ to. Arrives xs }) one.to one.freed refl one.on more.1, more.2)
 
-    now : Kept mid new
-    now = log_keeps s mid new each.0.0 each.0.1 to freed on_log
+  -- all these entries arrive
+  logs_do : (xs : List Message) (w new : World V) → Sound s w → Each kind.Log xs → Arriving xs w new
+      → Kept w new × ((t n : ℕ) → Has (message kind.Log t n) xs → t < s.threads → (e : Entry) → IsEntryOf w t n e → IsKnown new e)
+  logs_do [] w new h each f = (kept_same w new (none_arrives (Arrives []) w new None f refl refl), λ t n i. absurd i)
+  logs_do (x ∷ xs) w new h each f = go (logs_do xs one.mid new (within_sound s w (arrival x) one.to one.freed one.mid h one.on) each.1 one.rest)
+    where
+      one : FirstOf x xs w new
+      one = first_arrives (Arrives (x ∷ xs)) w new None x xs f refl refl
 
-    go : Kept w mid × ((t n : ℕ) → Has (event.Log t n) before → t < s.threads → (e : Entry) → IsEntryOf w t n e → IsKnown mid e) → Kept w new × ((t n : ℕ) → (ev ≡ event.Log t n) ⊎ Has (event.Log t n) before → t < s.threads → (e : Entry) → IsEntryOf w t n e → IsKnown new e)
-    go r = (kept_on w mid new r.0 now, known)
-      where
-        known : (t n : ℕ) → (ev ≡ event.Log t n) ⊎ Has (event.Log t n) before → t < s.threads → (e : Entry) → IsEntryOf w t n e → IsKnown new e
-        known t n (inr i) low e of = now.known e (r.1 t n i low e of)
-        known t n (inl same) low e of = log_known s mid new t n to freed (does_sound s w mid before h d) (subst (λ (x : Event). On s mid x to freed new) same on.0) low e (subst (λ (p : List (Step V)). IsIn e (log_of p)) (sym r.0.past) of.0, of.1, of.2)
+      on_log : On s w (event.Log x.thread x.number) one.to one.freed one.mid
+      on_log = subst (λ (k : Kind). On s w (arrival (message k x.thread x.number)) one.to one.freed one.mid) each.0 one.on.0
 
-outs_do : {V : Type 0} (s : Setting V) (w new : World V) (events : List Event) → Sound s w → ((e : Entry) → IsIn e (log_of w.past) → IsKnown w e) → ((f : Entry) → IsToCome w f → ⊥) → Each make_out events → Does s w events new
-    → Kept w new × ((t j : ℕ) → Has (event.Out t j) events → t < s.threads → (o : Sent) → IsOutputOf w t j o → IsAmong o new.released)
-outs_do s w new events h all none each Stays = (kept_same w w refl, λ t j i. absurd i)
-outs_do {V} s w new events h all none each (DoesMore {events = before} {mid = mid} ev to freed d on) = go (outs_do s w mid before h all none each.1 d)
-  where
-    on_out : On s mid (event.Out each.0.0 each.0.1) to freed new
-    on_out = subst (λ (x : Event). On s mid x to freed new) each.0.2 on.0
+      now : Kept w one.mid
+      now = log_keeps s w one.mid x.thread x.number one.to one.freed on_log
 
-    now : Kept mid new
-    now = out_keeps s mid new each.0.0 each.0.1 to freed on_out
+      go : Kept one.mid new × ((t n : ℕ) → Has (message kind.Log t n) xs → t < s.threads → (e : Entry) → IsEntryOf one.mid t n e → IsKnown new e)
+          → Kept w new × ((t n : ℕ) → (x ≡ message kind.Log t n) ⊎ Has (message kind.Log t n) xs → t < s.threads → (e : Entry) → IsEntryOf w t n e → IsKnown new e)
+      go r = (kept_on w one.mid new now r.0, known)
+        where
+          known : (t n : ℕ) → (x ≡ message kind.Log t n) ⊎ Has (message kind.Log t n) xs → t < s.threads → (e : Entry) → IsEntryOf w t n e → IsKnown new e
+          known t n (inr i) low e of = r.1 t n i low e (subst (λ (p : List (Step V)). IsIn e (log_of p)) (sym now.past) of.0, of.1, of.2)
+          known t n (inl same) low e of = r.0.known e (log_known s w one.mid t n one.to one.freed h (subst (λ (m : Message). On s w (arrival m) one.to one.freed one.mid) same one.on.0) low e of)
 
-    go : Kept w mid × ((t j : ℕ) → Has (event.Out t j) before → t < s.threads → (o : Sent) → IsOutputOf w t j o → IsAmong o mid.released) → Kept w new × ((t j : ℕ) → (ev ≡ event.Out t j) ⊎ Has (event.Out t j) before → t < s.threads → (o : Sent) → IsOutputOf w t j o → IsAmong o new.released)
-    go r = (kept_on w mid new r.0 now, released)
-      where
-        all_mid : (e : Entry) → IsIn e (log_of mid.past) → IsKnown mid e
-        all_mid e i = r.0.known e (all e (subst (λ (p : List (Step V)). IsIn e (log_of p)) r.0.past i))
+  outs_do : (xs : List Message) (w new : World V) → Sound s w → ((e : Entry) → IsIn e (log_of w.past) → IsKnown w e) → ((f : Entry) → IsToCome w f → ⊥)
+      → Each kind.Out xs → Arriving xs w new
+      → Kept w new × ((t j : ℕ) → Has (message kind.Out t j) xs → t < s.threads → (o : Sent) → IsOutputOf w t j o → IsAmong o new.released)
+  outs_do [] w new h all none each f = (kept_same w new (none_arrives (Arrives []) w new None f refl refl), λ t j i. absurd i)
+  outs_do (x ∷ xs) w new h all none each f = go (outs_do xs one.mid new (within_sound s w (arrival x) one.to one.freed one.mid h one.on) all_mid none_mid each.1 one.rest)
+    where
+      one : FirstOf x xs w new
+      one = first_arrives (Arrives (x ∷ xs)) w new None x xs f refl refl
 
-        none_mid : (f : Entry) → IsToCome mid f → ⊥
-        none_mid f come = none f (subst (λ (l : List Entry). IsIn f l) r.0.followed come.0, λ i. come.1 (subst (λ (p : List (Step V)). IsIn f (log_of p)) (sym r.0.past) i))
+      on_out : On s w (event.Out x.thread x.number) one.to one.freed one.mid
+      on_out = subst (λ (k : Kind). On s w (arrival (message k x.thread x.number)) one.to one.freed one.mid) each.0 one.on.0
 
-        released : (t j : ℕ) → (ev ≡ event.Out t j) ⊎ Has (event.Out t j) before → t < s.threads → (o : Sent) → IsOutputOf w t j o → IsAmong o new.released
-        released t j (inr i) low o of = now.released o (r.1 t j i low o of)
-        released t j (inl same) low o of = out_released s mid new t j to freed (does_sound s w mid before h d) all_mid none_mid (subst (λ (x : Event). On s mid x to freed new) same on.0) low o (subst (λ (p : List (Step V)). SendsAfter p o.emission o.after) (sym r.0.past) of.0, of.1)
+      now : Kept w one.mid
+      now = out_keeps s w one.mid x.thread x.number one.to one.freed on_out
+
+      all_mid : (e : Entry) → IsIn e (log_of one.mid.past) → IsKnown one.mid e
+      all_mid e i = now.known e (all e (subst (λ (p : List (Step V)). IsIn e (log_of p)) now.past i))
+
+      none_mid : (f : Entry) → IsToCome one.mid f → ⊥
+      none_mid g come = none g (subst (λ (l : List Entry). IsIn g l) now.followed come.0, λ i. come.1 (subst (λ (p : List (Step V)). IsIn g (log_of p)) (sym now.past) i))
+
+      go : Kept one.mid new × ((t j : ℕ) → Has (message kind.Out t j) xs → t < s.threads → (o : Sent) → IsOutputOf one.mid t j o → IsAmong o new.released)
+          → Kept w new × ((t j : ℕ) → (x ≡ message kind.Out t j) ⊎ Has (message kind.Out t j) xs → t < s.threads → (o : Sent) → IsOutputOf w t j o → IsAmong o new.released)
+      go r = (kept_on w one.mid new now r.0, released)
+        where
+          released : (t j : ℕ) → (x ≡ message kind.Out t j) ⊎ Has (message kind.Out t j) xs → t < s.threads → (o : Sent) → IsOutputOf w t j o → IsAmong o new.released
+          released t j (inr i) low o of = r.1 t j i low o (subst (λ (p : List (Step V)). SendsAfter p o.emission o.after) (sym now.past) of.0, of.1)
+          released t j (inl same) low o of = r.0.released o (out_released s w one.mid t j one.to one.freed h all none (subst (λ (m : Message). On s w (arrival m) one.to one.freed one.mid) same one.on.0) low o of)
 
 -- The end
 
@@ -424,120 +330,141 @@ no_more : {V : Type 0} (past : List (Step V)) (more : List Entry) (line : List (
 no_more past [] line none led = led
 no_more past (e ∷ more) line none led = absurd (none e (inl refl))
 
-module _ {V : Type 0} (s : Setting V) (w new : World V) (h : Sound s w) (r : Settles s w new) where
-  ran_sound : Sound s r.ran
-  ran_sound = feeds_sound s r.up r.ran None (wakes_sound s w r.up h r.wakes) r.runs
-
-  ran_end : (length s.packets ≤ r.ran.fed) × ((u : ℕ) → u < s.threads → Rested s r.ran u)
-  ran_end = feeds_end s r.up r.ran None refl r.runs
-
-  ran_up : r.ran.up ≡ true
-  ran_up = feeds_up s r.up r.ran None r.runs ∙ wakes_up w r.up r.wakes
-
+-- What a flow and a settling leave, where so many packets have come in.
+module _ {V : Type 0} (s : Setting V) (total : ℕ) (new : World V) (r : Rested s total new) where
   ran_none : (f : Entry) → IsToCome r.ran f → ⊥
-  ran_none f come = none_to_come s r.ran ran_sound ran_up ran_end.1 f come
+  ran_none f come = none_to_come s r.ran r.sound r.up r.stay f come
 
-  logged : Kept r.ran r.logged × ((t n : ℕ) → Has (event.Log t n) (all_logs s r.ran) → t < s.threads → (e : Entry) → IsEntryOf r.ran t n e → IsKnown r.logged e)
-  logged = logs_do s r.ran r.logged (all_logs s r.ran) ran_sound (each_thread make_log (λ t. entries t (log_of r.ran.past)) s.threads) r.logs
+  parts : (mid : World V) × Arriving s (of_threads kind.Log (λ t. entries t (log_of r.ran.past)) 0 s.threads) r.ran mid
+      × Arriving s (of_threads kind.Out (λ t. outputs t (sent_of r.ran.past)) 0 s.threads) mid new
+  parts = arrivals_part s (of_threads kind.Log (λ t. entries t (log_of r.ran.past)) 0 s.threads) (of_threads kind.Out (λ t. outputs t (sent_of r.ran.past)) 0 s.threads) r.ran new r.arrive
 
-  logged_sound : Sound s r.logged
-  logged_sound = does_sound s r.ran r.logged (all_logs s r.ran) ran_sound r.logs
+  mid : World V
+  mid = parts.0
 
-  logged_all : (e : Entry) → IsIn e (log_of r.logged.past) → IsKnown r.logged e
-  logged_all e i = logged.1 e.thread e.number (has_thread make_log (λ t. entries t (log_of r.ran.past)) e.thread e.number s.threads low n.0 n.1) low e (there, refl, refl)
+  logged : Kept r.ran mid × ((t n : ℕ) → Has (message kind.Log t n) (of_threads kind.Log (λ t. entries t (log_of r.ran.past)) 0 s.threads) → t < s.threads → (e : Entry) → IsEntryOf r.ran t n e → IsKnown mid e)
+  unfolding mid
+  logged = logs_do s (of_threads kind.Log (λ t. entries t (log_of r.ran.past)) 0 s.threads) r.ran mid r.sound (each_thread kind.Log (λ t. entries t (log_of r.ran.past)) 0 s.threads) parts.1
+
+  mid_sound : Sound s mid
+  unfolding mid
+  mid_sound = follows_sound s (goes_on s) (Arrives (of_threads kind.Log (λ t. entries t (log_of r.ran.past)) 0 s.threads)) r.ran mid None r.sound parts.1
+
+  logged_all : (e : Entry) → IsIn e (log_of mid.past) → IsKnown mid e
+  logged_all e i = logged.1 e.thread e.number (has_thread kind.Log (λ t. entries t (log_of r.ran.past)) e.thread e.number 0 s.threads (omega arith) (omega (arith, low)) n.0 n.1) low e (there, refl, refl)
     where
       there : IsIn e (log_of r.ran.past)
       there = subst (λ (p : List (Step V)). IsIn e (log_of p)) logged.0.past i
 
       low : e.thread < s.threads
-      low = entry_thread s.meaning (inputs_fed s r.ran.fed) s.threads r.ran.past e ran_sound.firm.legal there
+      low = entry_thread s.meaning (inputs_fed s r.ran.fed) s.threads r.ran.past e r.sound.firm.legal there
 
       n : (1 ≤ e.number) × (e.number ≤ entries e.thread (log_of r.ran.past))
-      n = number_within (log_of r.ran.past) e (history_log s.meaning (inputs_fed s r.ran.fed) s.threads r.ran.past ran_sound.firm.legal) there
+      n = number_within (log_of r.ran.past) e (history_log s.meaning (inputs_fed s r.ran.fed) s.threads r.ran.past r.sound.firm.legal) there
 
-  logged_none : (f : Entry) → IsToCome r.logged f → ⊥
-  logged_none f come = ran_none f (subst (λ (l : List Entry). IsIn f l) logged.0.followed come.0, λ i. come.1 (subst (λ (p : List (Step V)). IsIn f (log_of p)) (sym logged.0.past) i))
+  mid_none : (f : Entry) → IsToCome mid f → ⊥
+  mid_none f come = ran_none f (subst (λ (l : List Entry). IsIn f l) logged.0.followed come.0, λ i. come.1 (subst (λ (p : List (Step V)). IsIn f (log_of p)) (sym logged.0.past) i))
 
-  sent : Kept r.logged new × ((t j : ℕ) → Has (event.Out t j) (all_outs s r.ran) → t < s.threads → (o : Sent) → IsOutputOf r.logged t j o → IsAmong o new.released)
-  sent = outs_do s r.logged new (all_outs s r.ran) logged_sound logged_all logged_none (each_thread make_out (λ t. outputs t (sent_of r.ran.past)) s.threads) r.outs
+  sent : Kept mid new × ((t j : ℕ) → Has (message kind.Out t j) (of_threads kind.Out (λ t. outputs t (sent_of r.ran.past)) 0 s.threads) → t < s.threads → (o : Sent) → IsOutputOf mid t j o → IsAmong o new.released)
+  unfolding mid
+  sent = outs_do s (of_threads kind.Out (λ t. outputs t (sent_of r.ran.past)) 0 s.threads) mid new mid_sound logged_all mid_none (each_thread kind.Out (λ t. outputs t (sent_of r.ran.past)) 0 s.threads) parts.2
 
   both : Kept r.ran new
-  both = kept_on r.ran r.logged new logged.0 sent.0
+  both = kept_on r.ran mid new logged.0 sent.0
 
-  new_sound : Sound s new
-  new_sound = settles_sound s w new h r
+  pub new_sound : Sound s new
+  unfolding mid
+  new_sound = follows_sound s (goes_on s) (Arrives (of_threads kind.Out (λ t. outputs t (sent_of r.ran.past)) 0 s.threads)) mid new None mid_sound parts.2
 
   -- each output of the past is released
-  all_released : (o : Sent) → SendsAfter new.past o.emission o.after → IsAmong o new.released
-  all_released o sends = sent.1 o.emission.thread o.emission.number (has_thread make_out (λ t. outputs t (sent_of r.ran.past)) o.emission.thread o.emission.number s.threads k.0 k.1 high) k.0 o (at_logged, (refl, refl))
+  pub all_released : (o : Sent) → SendsAfter new.past o.emission o.after → IsAmong o new.released
+  all_released o sends = sent.1 o.emission.thread o.emission.number (has_thread kind.Out (λ t. outputs t (sent_of r.ran.past)) o.emission.thread o.emission.number 0 s.threads (omega arith) (omega (arith, k.0)) k.1 high) k.0 o (at_mid, (refl, refl))
     where
-      at_logged : SendsAfter r.logged.past o.emission o.after
-      at_logged = subst (λ (p : List (Step V)). SendsAfter p o.emission o.after) sent.0.past sends
+      at_mid : SendsAfter mid.past o.emission o.after
+      at_mid = subst (λ (p : List (Step V)). SendsAfter p o.emission o.after) sent.0.past sends
 
       at_ran : SendsAfter r.ran.past o.emission o.after
-      at_ran = subst (λ (p : List (Step V)). SendsAfter p o.emission o.after) logged.0.past at_logged
+      at_ran = subst (λ (p : List (Step V)). SendsAfter p o.emission o.after) logged.0.past at_mid
 
       k : (o.emission.thread < s.threads) × (1 ≤ o.emission.number)
-      k = sends_thread s.meaning (inputs_fed s r.ran.fed) s.threads r.ran.past o.emission o.after ran_sound.firm.legal at_ran
+      k = sends_thread s.meaning (inputs_fed s r.ran.fed) s.threads r.ran.past o.emission o.after r.sound.firm.legal at_ran
 
       high : o.emission.number ≤ outputs o.emission.thread (sent_of r.ran.past)
-      high = number_high s.meaning (inputs_fed s r.ran.fed) s.threads r.ran.past o.emission o.after ran_sound.firm.legal at_ran
+      high = number_high s.meaning (inputs_fed s r.ran.fed) s.threads r.ran.past o.emission o.after r.sound.firm.legal at_ran
+
+  pub none_waits : (o : Sent) → IsAmong o new.waiting → ⊥
+  none_waits o i =
+      let a = among_times o new.released (all_released o (new_sound.firm.sent o i)) in
+      let b = among_times o new.waiting i in
+      let c = new_sound.firm.once o.emission.thread o.emission.number in
+      omega (arith, a, b, c)
+
+  pub past_hand : (t : ℕ) → t < s.threads → (thread_after new.past t).hand ≡ None
+  past_hand t low = ap (λ (p : List (Step V)). (thread_after p t).hand) both.past ∙ (idle s r.ran r.sound r.up r.stay t low).0
+
+  pub past_input : (t : ℕ) → t < s.threads → slice_get (inputs_fed s new.fed t) (thread_after new.past t).taken ≡ None
+  past_input t low =
+      subst (λ (n : ℕ). slice_get (inputs_fed s n t) (thread_after new.past t).taken ≡ None) (sym both.fed)
+      (subst (λ (p : List (Step V)). slice_get (inputs_fed s r.ran.fed t) (thread_after p t).taken ≡ None) (sym both.past) (idle s r.ran r.sound r.up r.stay t low).1)
+
+  pub new_none : (f : Entry) → IsToCome new f → ⊥
+  new_none f come = ran_none f (subst (λ (l : List Entry). IsIn f l) both.followed come.0, λ i. come.1 (subst (λ (p : List (Step V)). IsIn f (log_of p)) (sym both.past) i))
+
+  pub has_flowed : (w : World V) (n : ℕ) → total ≡ min (w.fed + n) (length s.packets) → HasFlowed s w n new
+  has_flowed w n is = record {
+    fed = both.fed ∙ (r.fed ∙ is);
+    taken = λ t low.
+        let a = all_taken (inputs_fed s new.fed t) (thread_after new.past t).taken (past_input t low) in
+        let b = taken_within s.meaning (inputs_fed s new.fed) s.threads new.past new_sound.firm.legal t in
+        omega (arith, a, b);
+    ended = past_hand;
+    released = all_released;
+    none_waits = none_waits;
+  }
+
+-- A settling, where all have come in.
+module _ {V : Type 0} (s : Setting V) (new : World V) (r : Rested s (length s.packets) new) where
+  all_fed : length s.packets ≤ new.fed
+  all_fed = let f : new.fed ≡ r.ran.fed = (both s (length s.packets) new r).fed in let e = r.fed in omega (arith, f, e)
 
   inputs_all : (t : ℕ) → inputs_fed s new.fed t ≡ all_inputs s t
-  inputs_all t = let f : new.fed ≡ r.ran.fed = both.fed in let low = ran_end.0 in
-      ap (λ (l : List Packet). inputs_of (record { threads = s.threads; packets = l }) t) (take_all new.fed s.packets (omega (arith, f, low)))
+  inputs_all t = ap (λ (l : List Packet). inputs_of (record { threads = s.threads; packets = l }) t) (take_all new.fed s.packets all_fed)
 
-  past_hand : (t : ℕ) → t < s.threads → (thread_after new.past t).hand ≡ None
-  past_hand t low = ap (λ (p : List (Step V)). (thread_after p t).hand) both.past ∙ (ran_end.1 t low).1.0
-
-  past_input : (t : ℕ) → t < s.threads → slice_get (all_inputs s t) (thread_after new.past t).taken ≡ None
-  past_input t low =
-      subst (λ (l : List Packet). slice_get l (thread_after new.past t).taken ≡ None) (inputs_all t)
-      (subst (λ (n : ℕ). slice_get (inputs_fed s n t) (thread_after new.past t).taken ≡ None) (sym both.fed)
-      (subst (λ (p : List (Step V)). slice_get (inputs_fed s r.ran.fed t) (thread_after p t).taken ≡ None) (sym both.past) (ran_end.1 t low).1.1))
+  all_input : (t : ℕ) → t < s.threads → slice_get (all_inputs s t) (thread_after new.past t).taken ≡ None
+  all_input t low = subst (λ (l : List Packet). slice_get l (thread_after new.past t).taken ≡ None) (inputs_all t) (past_input s (length s.packets) new r t low)
 
   pub settled : (steps : List (Step V)) → IsFinish s new steps → IsSettled s new steps
   settled steps f = record {
-    ended = λ t low. subst (λ (p : List (Step V)). (thread_after p t).hand ≡ None) (sym same) (past_hand t low);
+    ended = λ t low. subst (λ (p : List (Step V)). (thread_after p t).hand ≡ None) (sym same) (past_hand s (length s.packets) new r t low);
     taken = λ t low.
-        let none : slice_get (all_inputs s t) (thread_after steps t).taken ≡ None = subst (λ (p : List (Step V)). slice_get (all_inputs s t) (thread_after p t).taken ≡ None) (sym same) (past_input t low) in
+        let none : slice_get (all_inputs s t) (thread_after steps t).taken ≡ None = subst (λ (p : List (Step V)). slice_get (all_inputs s t) (thread_after p t).taken ≡ None) (sym same) (all_input t low) in
         let a = all_taken (all_inputs s t) (thread_after steps t).taken none in
         let b = taken_within s.meaning (all_inputs s) s.threads steps f.history t in
         omega (arith, a, b);
-    released = λ o sends. all_released o (subst (λ (p : List (Step V)). SendsAfter p o.emission o.after) same sends);
+    released = λ o sends. all_released s (length s.packets) new r o (subst (λ (p : List (Step V)). SendsAfter p o.emission o.after) same sends);
     only = ends.emits;
     once = ends.once;
-    none_waits = none_waits;
+    none_waits = none_waits s (length s.packets) new r;
   }
     where
       ends : Ends s new steps
-      ends = finish_ends s new steps new_sound f
+      ends = finish_ends s new steps (new_sound s (length s.packets) new r) f
 
       up : f.up ≡ new
       up = go f.up_is
         where
           go : Wakes new f.up → f.up ≡ new
           go (inl a) = a.1
-          go (inr a) = let p : new.up ≡ false = a.0 in let q : new.up ≡ true = both.up ∙ ran_up in absurd (cc)
+          go (inr a) = let p : new.up ≡ false = a.0 in let q : new.up ≡ true = (both s (length s.packets) new r).up ∙ r.up in absurd (cc)
 
       none : (e : Entry) → IsIn e f.line_is.more → ⊥
-      none e i = ran_none e (subst (λ (l : List Entry). IsIn e l) both.followed come.0, λ j. come.1 (subst (λ (p : List (Step V)). IsIn e (log_of p)) (sym both.past) j))
-        where
-          come : IsToCome new e
-          come = subst (λ (z : World V). IsToCome z e) up ((f.line_is.to_come e).0 i)
+      none e i = new_none s (length s.packets) new r e (subst (λ (z : World V). IsToCome z e) up ((f.line_is.to_come e).0 i))
 
       line : f.line ≡ new.past
       line = no_more f.up.past f.line_is.more f.line none f.line_is.led ∙ ap (λ (z : World V). z.past) up
 
       same : steps ≡ new.past
-      same = all_still s.meaning (all_inputs s) s.threads f.up.released s.threads new.past steps (omega arith) f.history past_hand past_input (subst (λ (l : List (Step V)). AllGoOn f.up.released s.threads l steps) line f.goes_on)
-
-      none_waits : (o : Sent) → IsAmong o new.waiting → ⊥
-      none_waits o i =
-          let a = among_times o new.released (all_released o (new_sound.firm.sent o i)) in
-          let b = among_times o new.waiting i in
-          let c = new_sound.firm.once o.emission.thread o.emission.number in
-          omega (arith, a, b, c)
+      same = all_still s.meaning (all_inputs s) s.threads f.up.released s.threads new.past steps (omega arith) f.history (past_hand s (length s.packets) new r) all_input (subst (λ (l : List (Step V)). AllGoOn f.up.released s.threads l steps) line f.goes_on)
 
 -- The last event of a script.
 performs_last : {V : Type 0} (s : Setting V) (w new : World V) (events : List Event) (ev : Event) (lines : List ℕ) → Performs s w (events ++ ev ∷ []) lines new
@@ -547,12 +474,64 @@ performs_last s w new (x ∷ events) ev lines (Writes {mid = mid} one to freed o
     let r = performs_last s mid new events ev _ rest in
     (r.0, r.1, r.2, reply_line one to freed ++ r.3, Writes one to freed on r.4, r.5)
 
-is_settling : {V : Type 0} (s : Setting V) (w new : World V) (ev : Event) (to : Outcome) (freed : List Sent) → ev ≡ event.Settle → OnAny s w ev to freed new → Settles s w new
-is_settling {V} s w new ev to freed is (Single e o f n on) = absurd (subst (λ (x : Event). On s w x to freed new) is on.0)
-is_settling s w new ev to freed is (Settling o n r same) = r
-is_settling s w new ev to freed is (Choosing seed n o m r same) = absurd (cc)
+-- The first events of a settling: a master that was down recovers.
+wakes_up : {X : Type 0} (s : Setting X) (w up : World X) (to : Outcome) (freed : List Sent) → On s w event.Recover to freed up → (up.up ≡ true) × (up.fed ≡ w.fed)
+wakes_up {X} s w up to freed (inl a, f) = (ap (λ (z : World X). z.up) a.2 ∙ a.0, ap (λ (z : World X). z.fed) a.2)
+wakes_up {X} s w up to freed (inr a, f) = (ap (λ (z : World X). z.up) a.1.new_is, ap (λ (z : World X). z.fed) a.1.new_is)
+
+settling_rests : {V : Type 0} (s : Setting V) (q : Phase) (w new : World V) (end : Option Limit) → Sound s w → Follows s (goes_on s) q w end new → end ≡ None → q ≡ WakesFirst → Rested s (length s.packets) new
+settling_rests s q w new end h (NoneIs p same none) is at = let j : goes_on s q w ≡ goes_on s WakesFirst w = ap (λ (x : Phase). goes_on s x w) at in absurd (cc)
+settling_rests s q w new end h (Halts p same c limit some passes) is at = absurd (cc)
+settling_rests {V} s q w new end h (Goes {mid = up} p same c to freed some on rest) is at =
+    comes_to_rest s (length s.packets) up new (length s.packets - w.fed) (omega arith) (within_sound s w event.Recover to freed up h on_recover) woken.0
+    (let f = woken.1 in let k = h.firm.fed in omega (arith, f, k))
+    (subst (λ (e : Option Limit). Follows s (goes_on s) (Steps (length s.packets - w.fed) 0 false) up e new) is (subst (λ (x : Choice Phase). Follows s (goes_on s) (x.leads_to to) up end new) k rest))
+  where
+    k : c ≡ record { event = event.Recover; leads_to = λ to. Steps (length s.packets - w.fed) 0 false }
+    k = let j : goes_on s q w ≡ goes_on s WakesFirst w = ap (λ (x : Phase). goes_on s x w) at in let i = sym some ∙ j in cc
+
+    on_recover : OnWithin s w event.Recover to freed up
+    on_recover = subst (λ (x : Choice Phase). OnWithin s w x.event to freed up) k on
+
+    woken : (up.up ≡ true) × (up.fed ≡ w.fed)
+    woken = wakes_up s w up to freed on_recover.0
+
+any_settled : {V : Type 0} (s : Setting V) (w new : World V) (ev : Event) (to : Outcome) (freed : List Sent) → Sound s w → ev ≡ event.Settle → OnAny s w ev to freed new → Rested s (length s.packets) new
+any_settled {V} s w new ev to freed h is (Single e o f n on) = absurd (subst (λ (x : Event). On s w x to freed new) is on.0)
+any_settled s w new ev to freed h is (Several e q o n at f same) =
+    let j : begins s w ev ≡ Some WakesFirst = ap (λ (x : Event). begins s w x) is in
+    let k : q ≡ WakesFirst = cc in
+    settling_rests s q w new None h f refl k
+
+pub settling_settles : {V : Type 0} (s : Setting V) (w new : World V) (to : Outcome) (freed : List Sent) (steps : List (Step V)) → Sound s w → OnAny s w event.Settle to freed new → IsFinish s new steps → IsSettled s new steps
+settling_settles s w new to freed steps h on f = settled s new (any_settled s w new event.Settle to freed h refl on) steps f
+
+-- A flow while the master is up.
+pub flow_flows : {V : Type 0} (s : Setting V) (w new : World V) (n : ℕ) (ev : Event) (to : Outcome) (freed : List Sent) → Sound s w → w.up ≡ true → ev ≡ event.Flow n → OnAny s w ev to freed new → HasFlowed s w n new
+flow_flows {V} s w new n ev to freed h up is (Single e o f z on) = let a = (subst (λ (x : Event). On s w x to freed new) is on.0).0 in absurd (cc)
+flow_flows {V} s w new n ev to freed h up is (Several e q o z at f same) =
+    has_flowed s total new (comes_to_rest s total w new left most h up fed (subst (λ (x : Phase). Follows s (goes_on s) x w None new) k f)) w n total_is
+  where
+    left : ℕ
+    left = min n (length s.packets - w.fed)
+
+    total : ℕ
+    total = min n (length s.packets - w.fed) + w.fed
+
+    fed : min n (length s.packets - w.fed) + w.fed ≡ min n (length s.packets - w.fed) + w.fed
+    fed = refl
+
+    most : min n (length s.packets - w.fed) + w.fed ≤ length s.packets
+    most = let k = h.firm.fed in omega (arith, k)
+
+    total_is : min n (length s.packets - w.fed) + w.fed ≡ min (w.fed + n) (length s.packets)
+    total_is = let k = h.firm.fed in omega (arith, k)
+
+    k : q ≡ Steps (min n (length s.packets - w.fed)) 0 false
+    k = let j : begins s w (event.Flow n) ≡ Some (Steps (min n (length s.packets - w.fed)) 0 false) = rw up refl in
+        let i : begins s w ev ≡ begins s w (event.Flow n) = ap (λ (x : Event). begins s w x) is in cc
 
 pub script_settled : {V : Type 0} (s : Setting V) (events : List Event) (report : List ℕ) (released : List Packet) (schedule : List PlainMove) → (l : Leaves s (events ++ event.Settle ∷ []) report released schedule) → IsSettled s l.world l.steps
 script_settled {V} s events report released schedule l =
     let r = performs_last s (opening V) l.world events event.Settle l.lines l.performs in
-    settled s r.0 l.world (performs_sound s (opening V) r.0 events r.3 (opening_sound s) r.4) (is_settling s r.0 l.world event.Settle r.1 r.2 refl r.5) l.steps l.finish
+    settling_settles s r.0 l.world r.1 r.2 l.steps (performs_sound s (opening V) r.0 events r.3 (opening_sound s) r.4) r.5 l.finish

@@ -16,7 +16,7 @@ use Rattle.recovery_world.specs.declared.event.Event.TheVariants as event
 use Rattle.plain_text.specs.declared.kind.Kind.{Kind as EventKind}
 use Rattle.plain_text.specs.declared.kind.Kind.TheVariants as kind
 use Rattle.script_text.specs.declared.form.Form.{Form}
-use Rattle.script_text.specs.declared.form.Form.TheVariants.{Feed, Time, Step, Answered, Log, Out, Late, Cut, Snap, Store, Crash, Recover, Show, Settle, Auto}
+use Rattle.script_text.specs.declared.form.Form.TheVariants.{Feed, Time, Step, Answered, Log, Out, Late, Cut, Snap, Store, Crash, Recover, Show, Settle, Flow, Auto}
 use Rattle.script_text.specs.declared.part.Part.{Part}
 use Rattle.script_text.specs.declared.part.Part.TheVariants.{Number, Equals, Kind}
 use Rattle.script_text.specs.Table.{form_named, forms, has_third, kind_words, parts_of, place_of, row_of, rows_for, word_of}
@@ -183,6 +183,9 @@ makes Show (a ∷ []) f = (refl, refl)
 makes Show (a ∷ b ∷ values) f = absurd f.1
 makes Settle [] f = (refl, refl)
 makes Settle (a ∷ values) f = absurd f
+makes Flow [] f = absurd f
+makes Flow (a ∷ []) f = (refl, refl)
+makes Flow (a ∷ b ∷ values) f = absurd f.1
 makes Auto [] f = absurd f
 makes Auto (a ∷ []) f = absurd f.1
 makes Auto (a ∷ b ∷ []) f = (refl, refl)
@@ -204,6 +207,7 @@ front_alone Crash a b c d = refl
 front_alone Recover a b c d = refl
 front_alone Show a b c d = refl
 front_alone Settle a b c d = refl
+front_alone Flow a b c d = refl
 front_alone Auto a b c d = refl
 
 front_of_four : (form : Form) (values : List ℕ) → length values ≡ 4 → event_from form (take (length (parts_of form)) values) ≡ event_from form values
@@ -318,6 +322,7 @@ row_back Crash = refl
 row_back Recover = refl
 row_back Show = refl
 row_back Settle = refl
+row_back Flow = refl
 row_back Auto = refl
 
 pub kind_made : (k : EventKind) → kind_from (kind_value k) ≡ k
@@ -339,6 +344,7 @@ event_back event.Crash = refl
 event_back event.Recover = refl
 event_back (event.Show v) = refl
 event_back event.Settle = refl
+event_back (event.Flow n) = refl
 event_back (event.Auto seed n) = refl
 
 pub one_event : (words : List (List ℕ)) (a b : Event) → SaysEvent words a → SaysEvent words b → a ≡ b

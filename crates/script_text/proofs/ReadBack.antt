@@ -18,7 +18,7 @@ use Rattle.plain_text.specs.declared.kind.Kind.{Kind as EventKind}
 use Rattle.plain_text.specs.declared.kind.Kind.TheVariants as kind
 use Rattle.recovery_world.specs.Files.{event_words}
 use Rattle.script_text.specs.declared.form.Form.{Form}
-use Rattle.script_text.specs.declared.form.Form.TheVariants.{Feed, Time, Step, Answered, Log, Out, Late, Cut, Snap, Store, Crash, Recover, Show, Settle, Auto}
+use Rattle.script_text.specs.declared.form.Form.TheVariants.{Feed, Time, Step, Answered, Log, Out, Late, Cut, Snap, Store, Crash, Recover, Show, Settle, Flow, Auto}
 use Rattle.script_text.specs.declared.part.Part.{Part}
 use Rattle.script_text.specs.declared.part.Part.TheVariants.{Number, Equals, Kind}
 use Rattle.script_text.specs.Table.{form_named, has_third, parts_of, place_of, word_of}
@@ -172,6 +172,7 @@ event_spelled event.Crash f = f
 event_spelled event.Recover f = f
 event_spelled (event.Show v) f = f
 event_spelled event.Settle f = f
+event_spelled (event.Flow n) f = f
 event_spelled (event.Auto seed n) f = f
 
 part_word : (part : Part) (n : ℕ) → IsSpelled part n → IsWord (spelling part n)
@@ -201,6 +202,7 @@ form_word Crash = (refl, above_test 32 (codes "crash") refl)
 form_word Recover = (refl, above_test 32 (codes "recover") refl)
 form_word Show = (refl, above_test 32 (codes "show") refl)
 form_word Settle = (refl, above_test 32 (codes "settle") refl)
+form_word Flow = (refl, above_test 32 (codes "flow") refl)
 form_word Auto = (refl, above_test 32 (codes "auto") refl)
 
 are_words : (ev : Event) → AreNumbers (values_of ev) → AreWords (line_words ev)
@@ -244,6 +246,7 @@ form_back Crash = refl
 form_back Recover = refl
 form_back Show = refl
 form_back Settle = refl
+form_back Flow = refl
 form_back Auto = refl
 
 line_says : (ev : Event) → AreNumbers (values_of ev) → SaysEvent (line_words ev) ev
@@ -274,6 +277,7 @@ written_words event.Crash = refl
 written_words event.Recover = refl
 written_words (event.Show v) = refl
 written_words event.Settle = refl
+written_words (event.Flow n) = refl
 written_words (event.Auto seed n) = refl
 
 -- Lines
@@ -320,6 +324,7 @@ form_counts Crash words = refl
 form_counts Recover words = refl
 form_counts Show words = refl
 form_counts Settle words = refl
+form_counts Flow words = refl
 form_counts Auto words = refl
 
 words_written : (ev : Event) → AreNumbers (values_of ev) → words_of (event_words ev) ≡ line_words ev

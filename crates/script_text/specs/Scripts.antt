@@ -33,6 +33,7 @@ form_of event.Crash = form.Crash
 form_of event.Recover = form.Recover
 form_of (event.Show v) = form.Show
 form_of event.Settle = form.Settle
+form_of (event.Flow n) = form.Flow
 form_of (event.Auto seed n) = form.Auto
 
 -- the place of a kind's word among the words of the kinds
@@ -56,6 +57,7 @@ values_of event.Crash = []
 values_of event.Recover = []
 values_of (event.Show v) = v ∷ []
 values_of event.Settle = []
+values_of (event.Flow n) = n ∷ []
 values_of (event.Auto seed n) = seed ∷ n ∷ []
 
 -- a line with these words says this event
@@ -103,6 +105,7 @@ weight event.Crash = 1
 weight event.Recover = 1
 weight (event.Show v) = 1
 weight event.Settle = 1
+weight (event.Flow n) = 1
 weight (event.Auto seed n) = n
 
 abbrev pub count_of : List Event → ℕ

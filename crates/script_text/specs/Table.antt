@@ -4,7 +4,7 @@ use Rattle.std.specs.Str.{bytes_eq}
 use Rattle.plain_text.specs.Grammar.{Place, Row, OneOf, free_row}
 use Rattle.plain_text.specs.Grammar as place
 use Rattle.script_text.specs.declared.form.Form.{Form}
-use Rattle.script_text.specs.declared.form.Form.TheVariants.{Feed, Time, Step, Answered, Log, Out, Late, Cut, Snap, Store, Crash, Recover, Show, Settle, Auto}
+use Rattle.script_text.specs.declared.form.Form.TheVariants.{Feed, Time, Step, Answered, Log, Out, Late, Cut, Snap, Store, Crash, Recover, Show, Settle, Flow, Auto}
 use Rattle.script_text.specs.declared.part.Part.{Part}
 use Rattle.script_text.specs.declared.part.Part.TheVariants.{Number, Equals, Kind}
 
@@ -33,6 +33,7 @@ word_of Crash = codes "crash"
 word_of Recover = codes "recover"
 word_of Show = codes "show"
 word_of Settle = codes "settle"
+word_of Flow = codes "flow"
 word_of Auto = codes "auto"
 
 abbrev pub parts_of : Form → List Part
@@ -50,6 +51,7 @@ parts_of Crash = []
 parts_of Recover = []
 parts_of Show = Number ∷ []
 parts_of Settle = []
+parts_of Flow = Number ∷ []
 parts_of Auto = Number ∷ Number ∷ []
 
 -- each may stand again
@@ -60,7 +62,7 @@ row_of form = free_row (word_of form) (map place_of (parts_of form))
 -- those of lines with a third word, or of lines without.
 
 abbrev pub short_forms : List Form
-short_forms = Step ∷ Feed ∷ Time ∷ Log ∷ Out ∷ Late ∷ Cut ∷ Snap ∷ Store ∷ Crash ∷ Recover ∷ Show ∷ Settle ∷ Auto ∷ []
+short_forms = Step ∷ Feed ∷ Time ∷ Log ∷ Out ∷ Late ∷ Cut ∷ Snap ∷ Store ∷ Crash ∷ Recover ∷ Show ∷ Settle ∷ Flow ∷ Auto ∷ []
 
 abbrev pub forms : Bool → List Form
 forms false = short_forms

@@ -48,4 +48,5 @@ event_from form.Crash values = event.Crash
 event_from form.Recover values = event.Recover
 event_from form.Show values = event.Show (slice_index values 0)
 event_from form.Settle values = event.Settle
+event_from form.Flow values = event.Flow (slice_index values 0)
 event_from form.Auto values = event.Auto (slice_index values 0) (slice_index values 1)

@@ -23,6 +23,7 @@ pub enum Form {
     Recover,
     Show,
     Settle,
+    Flow,
     Auto,
 }
 
@@ -30,7 +31,7 @@ pub enum Form {
 pub const MOST_VALUES: usize = 4;
 
 /// The forms of lines with a third word.
-static FORMS: [Form; 15] = [
+static FORMS: [Form; 16] = [
     Form::Answered,
     Form::Step,
     Form::Feed,
@@ -45,6 +46,7 @@ static FORMS: [Form; 15] = [
     Form::Recover,
     Form::Show,
     Form::Settle,
+    Form::Flow,
     Form::Auto,
 ];
 
@@ -84,6 +86,7 @@ impl Form {
             Form::Recover => b"recover",
             Form::Show => b"show",
             Form::Settle => b"settle",
+            Form::Flow => b"flow",
             Form::Auto => b"auto",
         }
     }
@@ -93,7 +96,7 @@ impl Form {
         ensures { result.now ≡ parts_of self }
     {
         match self {
-            Form::Feed | Form::Time | Form::Step | Form::Show => &[Part::Number],
+            Form::Feed | Form::Time | Form::Step | Form::Show | Form::Flow => &[Part::Number],
             Form::Answered => &[Part::Number, Part::Equals, Part::Number],
             Form::Log | Form::Out | Form::Auto => &[Part::Number, Part::Number],
             Form::Late => &[Part::Number, Part::Kind, Part::Number, Part::Number],
@@ -144,6 +147,7 @@ impl Form {
             Form::Recover => Event::Recover,
             Form::Show => Event::Show(a),
             Form::Settle => Event::Settle,
+            Form::Flow => Event::Flow(a),
             Form::Auto => Event::Auto { seed: a, n: b },
         }
     }

@@ -55,6 +55,7 @@ pub fn write_event(text: &mut String, event: Event) -> Result<(), NoMemory>
         Event::Recover => put_word(text, "recover"),
         Event::Show(v) => put_one(text, "show ", v),
         Event::Settle => put_word(text, "settle"),
+        Event::Flow(n) => put_one(text, "flow ", n),
         Event::Auto { seed, n } => put_two(text, "auto ", seed, " ", n),
     }
 }
