@@ -1,6 +1,7 @@
 pub mod QuietEvents
+pub mod MessageLists
+pub mod Choices
+pub mod Following
 pub mod RepliesLemmas
-pub mod SettlingRounds
-pub mod SettlingArrivals
 pub mod FinishLemmas
 pub mod ChoosingLemmas

@@ -1,12 +1,10 @@
 -- What a recovering system has in memory, which worlds it stands for, and what performing an event makes of it.
-use Rattle.std.specs.Prelude.{◌≡◌, ℕ, ◌≤◌, Bool, List, [], drop, length}
+use Rattle.std.specs.Prelude.{◌≡◌, ℕ, ◌≤◌, Bool, List, drop, length}
 use Rattle.plain_text.specs.declared.limit.Limit.{Limit}
 use Rattle.plain_machine.specs.Program.{Meaning}
 use Rattle.plain_machine.specs.History.{Step}
 use Rattle.access_log.specs.declared.entry.Output.{Output}
 use Rattle.recovery_world.specs.declared.event.Event.{Event}
-use Rattle.recovery_world.specs.declared.event.Event.TheVariants as event
-use Rattle.recovery_world.specs.declared.event.Outcome.{Outcome}
 use Rattle.recovery_world.specs.World.{Setting, Sent, World}
 use Rattle.recovery_world.specs.Files.{moves_made, sent_names, packets_of}
 use Rattle.recovery_world.specs.Finish.{IsFinish}
@@ -50,10 +48,6 @@ SystemStops {P} {V} m R old new =
 -- any event with this reply
 abbrev pub RepliesAny : {V : Type 0} → Event → Reply → Setting V → World V → World V → Type 0
 RepliesAny ev reply s w next = (freed : List Sent) × OnAny s w ev reply.outcome freed next × (reply.released ≡ sent_names freed)
-
--- the settling has this outcome
-abbrev pub SettlesTo : {V : Type 0} → Outcome → Setting V → World V → World V → Type 0
-SettlesTo to s w next = OnAny s w event.Settle to [] next
 
 -- the event stops at this limit
 abbrev pub IsStopped : {V : Type 0} → Event → Limit → Setting V → World V → World V → Type 0

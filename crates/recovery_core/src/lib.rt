@@ -7,9 +7,11 @@
 #![tactic(auto)]
 
 mod choosing;
+mod messages;
 mod performing;
-mod settling;
+mod progress;
 mod showing;
+mod strategy;
 mod system;
 
 pub use event_replies::{Finished, Releases, Reply, Stop, put_line};

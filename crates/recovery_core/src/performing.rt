@@ -15,7 +15,7 @@ use event_replies::{Reply, Stop, only};
 use access_log::Outputs;
 use box_program::Program;
 use plain_text::Kind;
-use recovery_world::Event;
+use recovery_world::{Event, Outcome};
 
 /// Performs a single event.
 pub fn perform_single<P: Program>(
@@ -24,7 +24,7 @@ pub fn perform_single<P: Program>(
     out: &mut Outputs,
 ) -> Result<Reply, Stop>
     requires stands { StandsForSome (P.meaning core.old.program) core.old }
-    requires single { IsSingle event }
+    requires single { IsSingle core.old.up event }
     ensures on { IfOk result (λ reply.
         MovesOn (P.meaning core.old.program)
         (Releasing out.old out.new (Replies event reply)) core.old core.new) }
@@ -57,6 +57,7 @@ pub fn perform_single<P: Program>(
         Event::Crash => Ok(only(alloc, crash(core))),
         Event::Recover => Ok(only(alloc, recover(core)?)),
         Event::Show(var) => Ok(only(alloc, show(core, var)?)),
+        Event::Flow(_) => Ok(only(alloc, Outcome::Down)),
         Event::Settle | Event::Auto { .. } => unreachable!(),
     }
 }

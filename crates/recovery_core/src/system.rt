@@ -12,11 +12,10 @@ ghost use Rattle.system_parts.specs.Performing.{Appends, MovesOn, StopsAt, Relea
 ghost use Rattle.recovery_core.specs.Systems.{HasReleased, SystemStands, SystemMoves, SystemStops, RepliesAny, IsStopped, FinishesAs};
 
 use system_parts::Core;
-use crate::choosing::auto;
 use system_end::end_awake;
 use crash_recovery::wake;
 use crate::performing::perform_single;
-use crate::settling::settle;
+use crate::strategy::{begin, perform_several};
 use event_replies::{Finished, Reply, Stop, only};
 use access_log::Outputs;
 use box_program::Program;
@@ -76,10 +75,9 @@ fn perform<P: Program>(
     ensures appends { Appends out.old out.new }
 {
     let alloc = core.alloc;
-    match event {
-        Event::Settle => Ok(only(alloc, settle(core, out)?)),
-        Event::Auto { seed, n } => Ok(only(alloc, auto(core, seed, n, out)?)),
-        single => perform_single(core, single, out),
+    match begin(core, event) {
+        Some(from) => Ok(only(alloc, perform_several(core, from, out)?)),
+        None => perform_single(core, event, out),
     }
 }
 
