@@ -55,11 +55,6 @@ fn each_emission_serves_one_packet(rt: HostRuntime) -> Result<(), Fail> {
     assert!(rt; unmatched(rt.alloc(), Unit::Micro, &twice)?.is_none());
     let longer = [(5, 60), (5, 3), (5, 60)];
     assert!(rt; unmatched(rt.alloc(), Unit::Micro, &longer)? == Some(3));
-    Ok(())
-}
-
-#[test]
-fn fractions_are_compared_in_nanoseconds(rt: HostRuntime) -> Result<(), Fail> {
     let fine = [(5000, 3), (5, 3)];
     assert!(rt; unmatched(rt.alloc(), Unit::Nano, &fine)? == Some(2));
     Ok(())

@@ -1,6 +1,6 @@
 ghost use Rattle.std.specs.Prelude.{ℕ, ◌<◌, ◌^◌};
 ghost use Rattle.box_program.specs.Count.{IsCounter};
-ghost use Rattle.test_snapshots.specs.Pinned.{pinned_meaning, pinned_lawful};
+ghost use Rattle.test_logs.specs.Pinned.{pinned_meaning, pinned_lawful};
 
 use box_program::{CountBox, Program};
 use plain_machine::{Local, Move};
@@ -12,7 +12,7 @@ const PINNED: u32 = 1;
 
 /// A program for tests: the box `count`, with a second variable. No packet touches that one, and copying it always runs out of
 /// memory.
-#[derive(Debug, Drop)]
+#[derive(Drop)]
 pub struct PinnedBox {
     count: CountBox,
 }

@@ -4,7 +4,6 @@ ghost use Rattle.wire_frames.specs.Writing.{CanPutEntry, CanPutOutput};
 use access_log::{Output, StampedEntry, What};
 use plain_text::{Bytes, NoMemory, Packet};
 use std::alloc::{AllocError, Global};
-use std::process::Abort;
 use thread_clock::Stamp;
 use wire_frames::{
     Frame, FrameError, FrameFault, entry_length, output_length, put_entry, put_output, take_frame,
@@ -169,25 +168,20 @@ fn output_is_written(alloc: Global) -> Result<bool, NoMemory> {
     Ok(put_output(alloc, 1, 3, output(alloc)?)?.as_slice() == OUTPUT)
 }
 
-/// Whether the bytes are the frame of the output with three captured bytes.
-fn output_is_read(alloc: Global, bytes: &[u8]) -> Result<bool, NoMemory> {
+/// Whether its frame has 66 bytes, and is read in both versions.
+fn output_is_read(alloc: Global) -> Result<bool, NoMemory> {
     let output = output(alloc)?;
-    Ok(is_output(alloc, bytes, &output))
-}
-
-/// How many bytes its frame has.
-fn length_of_output(alloc: Global) -> Result<usize, NoMemory> {
-    let output = output(alloc)?;
-    Ok(output_length(&output))
+    Ok(
+        output_length(&output) == 66
+            && is_output(alloc, OUTPUT, &output)
+            && is_output(alloc, OLD_OUTPUT, &output),
+    )
 }
 
 #[test]
 fn an_output_is_written_and_read(rt: HostRuntime) {
-    let alloc = rt.alloc();
-    assert!(rt; matches!(length_of_output(alloc), Ok(66)));
-    assert!(rt; matches!(output_is_read(alloc, OUTPUT), Ok(true)));
-    assert!(rt; matches!(output_is_read(alloc, OLD_OUTPUT), Ok(true)));
-    assert!(rt; matches!(output_is_written(alloc), Ok(true)));
+    assert!(rt; matches!(output_is_written(rt.alloc()), Ok(true)));
+    assert!(rt; matches!(output_is_read(rt.alloc()), Ok(true)));
 }
 
 /// What an entry may be of, and the code of each.
@@ -223,25 +217,6 @@ fn each_kind_of_entry_is_written_and_read(rt: HostRuntime) {
         };
         let is_kind = matches!(is_kind(rt.alloc(), &entry, *code), Ok(true));
         assert!(rt; is_kind, "code {code}");
-    }
-}
-
-const FRAMES: [&[u8]; 4] = [OLD_TOUCH, TOUCH, OLD_OUTPUT, OUTPUT];
-
-/// Each prefix of the frame is short, and the whole has no fault.
-fn assert_short(rt: &impl Abort, alloc: Global, frame: &[u8]) {
-    for size in 0..frame.len() {
-        let fault = fault_of(alloc, &frame[..size]);
-        let is_short = matches!(fault, Some(FrameError::Fault(FrameFault::Short)));
-        assert!(rt; is_short, "{size} bytes");
-    }
-    assert!(rt; fault_of(alloc, frame).is_none(), "{} bytes", frame.len());
-}
-
-#[test]
-fn a_prefix_is_short(rt: HostRuntime) {
-    for frame in &FRAMES {
-        assert_short(&rt, rt.alloc(), frame);
     }
 }
 
@@ -309,42 +284,5 @@ fn the_first_test_that_fails_answers(rt: HostRuntime) {
     for (frame, place, byte, fault) in &CHANGED {
         let answer = faults(rt.alloc(), frame, *place, *byte, *fault);
         assert!(rt; matches!(answer, Ok(true)), "byte {place} is {byte}");
-    }
-}
-
-/// What becomes of a touch whose byte at this place is turned: the fault, or none where another entry is read.
-fn fault_of_turned(place: usize, is_old: bool) -> Option<FrameError> {
-    match place {
-        0 => Some(FrameError::Fault(FrameFault::BadKind)),
-        1 => Some(FrameError::Fault(FrameFault::BadVersion)),
-        2 | 3 => Some(FrameError::Fault(FrameFault::BadLength)),
-        4 | 5 => Some(FrameError::Fault(FrameFault::Short)),
-        10 | 11 | 20..=26 | 36 => Some(FrameError::Fault(FrameFault::OutOfRange)),
-        37 | 38 if !is_old => Some(FrameError::Fault(FrameFault::OutOfRange)),
-        _ => None,
-    }
-}
-
-/// The touch in both versions, and whether it is in the old one.
-const TOUCHES: [(&[u8], bool); 2] = [(OLD_TOUCH, true), (TOUCH, false)];
-
-/// Whether a touch whose byte at this place is turned has its fault, and is not the touch any more.
-fn is_turned(alloc: Global, frame: &[u8], place: usize, is_old: bool) -> Result<bool, AllocError>
-    requires { place + 1 ≤ length frame.now }
-{
-    let turned = with_byte(alloc, frame, place, 255 - frame[place])?;
-    Ok(
-        fault_of(alloc, &turned) == fault_of_turned(place, is_old)
-            && !is_entry(alloc, &turned, 1, &touch()),
-    )
-}
-
-#[test]
-fn a_turned_byte_is_refused_or_another_entry(rt: HostRuntime) {
-    for (frame, is_old) in &TOUCHES {
-        for place in 0..frame.len() {
-            let answer = is_turned(rt.alloc(), frame, place, *is_old);
-            assert!(rt; matches!(answer, Ok(true)), "byte {place}");
-        }
     }
 }
