@@ -1,3 +1,4 @@
+//! The turns in which what racing threads did is woven.
 use plain_text::{NoMemory, Sequence};
 use round_order::{Marks, weave};
 use std::alloc::Global;
@@ -26,27 +27,18 @@ fn are_woven(
     Ok(turns_of(alloc, first, second)?.as_slice() == turns)
 }
 
-/// Each thread takes a packet and touches a variable of its own: of two touches of weight 1 that of thread 0 stands first.
+/// Each thread takes a packet and touches a variable of its own: of two touches of weight 1 that of thread 0 stands first. Where thread 1
+/// counts first, and sends its packet out, its take and its touch stand first, and what it sent out is left. What no logged move comes
+/// after stands last, thread by thread.
 #[test]
-fn two_threads_apart(rt: HostRuntime) -> Result<(), Fail> {
-    let marks = [None, Some(1)];
-    assert!(rt; are_woven(rt.alloc(), &marks, &marks, &[0, 0, 1, 1])?);
-    Ok(())
-}
-
-/// Thread 1 counts first, and sends its packet out: its take and its touch stand first, and what it sent out is left.
-#[test]
-fn two_threads_count(rt: HostRuntime) -> Result<(), Fail> {
+fn moves_stand_by_weight(rt: HostRuntime) -> Result<(), Fail> {
+    let alloc = rt.alloc();
+    let apart = [None, Some(1)];
+    assert!(rt; are_woven(alloc, &apart, &apart, &[0, 0, 1, 1])?);
     let (first, second) = ([None, Some(2)], [None, Some(1), None]);
-    assert!(rt; are_woven(rt.alloc(), &first, &second, &[1, 1, 0, 0, 1])?);
-    Ok(())
-}
-
-/// What no logged move comes after stands last, thread by thread.
-#[test]
-fn unlogged_moves_stand_last(rt: HostRuntime) -> Result<(), Fail> {
+    assert!(rt; are_woven(alloc, &first, &second, &[1, 1, 0, 0, 1])?);
     let (first, second) = ([None, None], [None, Some(5), Some(7), None]);
-    assert!(rt; are_woven(rt.alloc(), &first, &second, &[1, 1, 1, 0, 0, 1])?);
-    assert!(rt; are_woven(rt.alloc(), &[], &[], &[])?);
+    assert!(rt; are_woven(alloc, &first, &second, &[1, 1, 1, 0, 0, 1])?);
+    assert!(rt; are_woven(alloc, &[], &[], &[])?);
     Ok(())
 }

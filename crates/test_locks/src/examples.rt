@@ -1,8 +1,6 @@
-//! Worked by hand: the example of two threads that count, reads between two touches, and what a clock was told.
-ghost use Rattle.std.specs.Prelude.{◌≡◌, ◌<◌, ◌≤◌, IfOk, IsTrue, length};
-ghost use Rattle.test_scripts.specs.Examples.{IsPlaced, IsFirst, AreFirst};
-
-use access_log::{Held, StampedEntry, Turn, What};
+//! What a guide says, worked by hand: the example of two threads that count, reads between two touches, and what a clock was told.
+use crate::following::guide_of;
+use access_log::{StampedEntry, Turn, What};
 use plain_text::NoMemory;
 use replay_guide::Guide;
 use std::alloc::Global;
@@ -41,57 +39,13 @@ const SECOND_TOUCH: What = What::Access { var: 0, place: 2 };
 
 const READ_BETWEEN: What = What::Read { var: 0, after: 1 };
 
-/// Whether it is the first entry of its thread, and if a touch, that of thread 1 at place 1 or that of thread 0 at place 2.
-fn is_first(entry: &StampedEntry) -> bool
-    ensures { IsTrue result → IsFirst entry.now }
-{
-    entry.thread < 16 && entry.number == 1 && is_placed(entry.thread, entry.what)
-}
-
-fn is_placed(thread: u32, what: What) -> bool
-    ensures { IsTrue result → IsPlaced thread what }
-{
-    match what {
-        What::Access { place, .. } => place == 2 && thread == 0 || place == 1 && thread == 1,
-        What::Read { .. } | What::Clock(_) | What::Draw(_) => true,
-    }
-}
-
-/// Holds one more entry, if it is of an example.
-fn hold(held: &mut Held, entry: &StampedEntry) -> Result<(), NoMemory>
-    requires threads { length held.old ≡ 16 }
-    requires example { AreFirst held.old }
-    ensures threads { length held.new ≡ 16 }
-    ensures example { AreFirst held.new }
-{
-    if is_first(entry) {
-        held.add(*entry)?;
-    }
-    Ok(())
-}
-
-/// Nothing held, for 16 threads.
-fn nothing_held(alloc: Global) -> Result<Held, NoMemory>
-    ensures threads { IfOk result (λ held. length held ≡ 16) }
-    ensures example { IfOk result AreFirst }
-{
-    Held::new(alloc, 16)
-}
-
-/// A guide that follows an example.
-fn follow(alloc: Global, held: &Held) -> Result<Guide, NoMemory>
-    requires { AreFirst held.now }
-{
-    Guide::of(alloc, held)
-}
-
 /// A guide that follows these entries of an example.
-fn guide_of(alloc: Global, entries: &[First]) -> Result<Guide, NoMemory> {
-    let mut held = nothing_held(alloc)?;
+fn guide_to(alloc: Global, entries: &[First]) -> Result<Guide, NoMemory> {
+    let mut stamped = Vec::with_capacity(alloc, entries.len())?;
     for entry in entries {
-        hold(&mut held, &first_entry(*entry))?;
+        stamped.push(first_entry(*entry))?;
     }
-    follow(alloc, &held)
+    guide_of(alloc, &stamped)
 }
 
 /// A move that a thread wants as its first entry: the thread, whether it reads, the places of variable 0, the readers' stamp, and whose
@@ -157,8 +111,8 @@ const TWO_THREADS: [Asked; 7] = [
 
 /// The entries of the two threads.
 const COUNTING: [First; 2] = [
-    (0, SECOND_TOUCH, [1, 1, 0, 0]),
     (1, FIRST_TOUCH, [0, 1, 0, 0]),
+    (0, SECOND_TOUCH, [1, 1, 0, 0]),
 ];
 
 /// Whether a guide has the order of the two threads, with two entries left at first, and one once thread 1 has made its own.
@@ -170,11 +124,10 @@ fn follows_two_threads(alloc: Global, guide: &Guide) -> Result<bool, NoMemory> {
 /// Thread 1 makes touch 1, then thread 0 touch 2. After the crash thread 0 waits.
 #[test]
 fn two_threads_count(rt: HostRuntime) -> Result<(), Fail> {
-    let guide = guide_of(rt.alloc(), &COUNTING)?;
+    let guide = guide_to(rt.alloc(), &COUNTING)?;
     goes_between_threads(&guide);
-    let wrong = first_wrong(&guide, &TWO_THREADS);
-    assert!(rt; wrong.is_none(), "{wrong:?}");
-    assert!(rt; follows_two_threads(rt.alloc(), &guide)?);
+    let right = first_wrong(&guide, &TWO_THREADS).is_none();
+    assert!(rt; right && follows_two_threads(rt.alloc(), &guide)?);
     Ok(())
 }
 
@@ -192,19 +145,18 @@ const READS_BETWEEN: [Asked; 8] = [
 
 /// The entries of those threads.
 const READING: [First; 4] = [
-    (0, SECOND_TOUCH, [1, 1, 1, 1]),
     (1, FIRST_TOUCH, [0, 1, 0, 0]),
     (2, READ_BETWEEN, [0, 1, 1, 0]),
     (3, READ_BETWEEN, [0, 1, 0, 1]),
+    (0, SECOND_TOUCH, [1, 1, 1, 1]),
 ];
 
 /// Between the two touches threads 2 and 3 read. The second touch waits for both, and a free read for it.
 #[test]
 fn reads_stand_between_touches(rt: HostRuntime) -> Result<(), Fail> {
-    let guide = guide_of(rt.alloc(), &READING)?;
-    let wrong = first_wrong(&guide, &READS_BETWEEN);
-    assert!(rt; wrong.is_none(), "{wrong:?}");
-    assert!(rt; is_order(rt.alloc(), &guide, &[(1, 1), (2, 1), (3, 1), (0, 1)])?);
+    let guide = guide_to(rt.alloc(), &READING)?;
+    let right = first_wrong(&guide, &READS_BETWEEN).is_none();
+    assert!(rt; right && is_order(rt.alloc(), &guide, &[(1, 1), (2, 1), (3, 1), (0, 1)])?);
     Ok(())
 }
 
@@ -227,7 +179,7 @@ fn has_answers(guide: &Guide) -> bool {
 /// What a clock and a draw were told is recorded.
 #[test]
 fn answers_are_recorded(rt: HostRuntime) -> Result<(), Fail> {
-    let guide = guide_of(rt.alloc(), &ANSWERED)?;
+    let guide = guide_to(rt.alloc(), &ANSWERED)?;
     assert!(rt; has_answers(&guide));
     Ok(())
 }
