@@ -10,7 +10,7 @@ use thread_clock::Stamp;
 use wire_frames::{FrameError, put_entry, take_frame};
 
 /// How many bytes were written, and how many were read.
-#[derive(Clone, Copy, Debug)]
+#[derive(Clone, Copy)]
 struct Passed {
     written: u64,
     read: u64,

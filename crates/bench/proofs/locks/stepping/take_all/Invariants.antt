@@ -1,7 +1,7 @@
 use Rattle.std.proofs.Common.{◌≡◌, length}
 use Rattle.box_program.specs.Hands.{FitsProgram}
 use Rattle.master_core.specs.Mastered.{value_of}
-use Rattle.bench.proofs.locks.stepping.step_all.Given as goal
+use Rattle.bench.proofs.locks.stepping.take_all.Given as goal
 
 -- the program fits the variables, and there are so many threads
 abbrev pub invariant-loop-thread : goal.invariant-loop-thread

@@ -1,7 +1,7 @@
 use Rattle.std.proofs.Common.{◌≡◌, length}
 use Rattle.box_program.specs.Hands.{FitsProgram}
 use Rattle.master_core.specs.Mastered.{value_of}
-use Rattle.bench.proofs.moves.play_with_master.Given as goal
+use Rattle.bench.proofs.moves.play_all.Given as goal
 
 -- the program fits the variables, and there is one thread
 abbrev pub invariant-loop-packet : goal.invariant-loop-packet
