@@ -1,6 +1,6 @@
 use Rattle.std.proofs.Common.{[], sym, subst, arith}
 use Rattle.master_core.specs.declared.parts.VarPart.{VarPart}
-use Rattle.test_nat.proofs.running.shows.Goals as goal
+use Rattle.test_boxes.proofs.running.shows.Goals as goal
 
 -- a variable's part with this value
 abbrev part_with : {V : Type 0} → V → VarPart V

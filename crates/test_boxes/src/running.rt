@@ -7,17 +7,16 @@ use box_program::Program;
 use master_core::{Master, Stepped};
 use nat_box::NatBox;
 use plain_text::{Bytes, NoMemory, Packet};
+use sample_frames::{OTHER_QUERY, QUERY};
 use std::alloc::Global;
 
-/// The box of the examples: the inside network is 10.0.0.0/8, the outside address 203.0.113.1, and the outside ports begin with 39276.
-pub fn nat_up_to(high: u16) -> NatBox
-    requires { 39276 ≤ high }
-{
-    NatBox::new(1, 0x0a00_0000, 8, 0xcb00_7101, 39_276, high)
+/// The box of the examples: the inside network is 10.0.0.0/8, the outside address 203.0.113.1, and the outside ports 39276 to 39279.
+pub fn four_ports() -> NatBox {
+    NatBox::new(1, 0x0a00_0000, 8, 0xcb00_7101, 39_276, 39_279)
 }
 
 /// A packet of these captured bytes, all that it had on the wire.
-pub fn packet(alloc: Global, frame: &[u8]) -> Result<Packet, NoMemory> {
+fn packet(alloc: Global, frame: &[u8]) -> Result<Packet, NoMemory> {
     Ok(Packet {
         seconds: 100,
         fraction: 5,
@@ -50,7 +49,7 @@ pub fn make<P: Program>(
 }
 
 /// Whether a variable shows so.
-pub fn shows<P: Program>(
+fn shows<P: Program>(
     alloc: Global,
     master: &Master<P>,
     program: &P,
@@ -64,4 +63,28 @@ pub fn shows<P: Program>(
         return Ok(false);
     }
     Ok(program.show(alloc, var, master.value(var))?.as_str() == text)
+}
+
+/// Whether one port alone is taken: the forward table shows this mapping, and the reverse table this binding.
+pub fn shows_one_port<P: Program>(
+    alloc: Global,
+    master: &Master<P>,
+    program: &P,
+    mapping: &str,
+    binding: &str,
+) -> Result<bool, NoMemory>
+    requires program { FitsProgram (P.meaning program.now) (P.fits program.now)
+        value_of master.now.vars }
+{
+    Ok(
+        shows(alloc, master, program, 1, "tcp 4 udp 3")?
+            && shows(alloc, master, program, 2, mapping)?
+            && shows(alloc, master, program, 3, binding)?,
+    )
+}
+
+/// A packet of each of two threads, from one endpoint.
+pub fn two_packets(alloc: Global) -> Result<[Packet; 2], NoMemory> {
+    let query = packet(alloc, &QUERY)?;
+    Ok([query, packet(alloc, &OTHER_QUERY)?])
 }
