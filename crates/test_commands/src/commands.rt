@@ -36,8 +36,14 @@ fn add_fault(world: &mut MemoryWorld, fault: Fault) -> Result<(), NoMemory>
 {
     match fault {
         Fault::Nothing => Ok(()),
-        Fault::Read(nth) => world.fail_read(nth),
-        Fault::Write(nth) => world.fail_write(nth),
+        Fault::Read(nth) => {
+            world.fail_read(nth)?;
+            Ok(())
+        }
+        Fault::Write(nth) => {
+            world.fail_write(nth)?;
+            Ok(())
+        }
     }
 }
 
@@ -68,15 +74,26 @@ fn add_files(
     Ok(())
 }
 
+fn push_words(alloc: Global, texts: &mut Sequence<Text>, words: &[&str]) -> Result<(), NoMemory> {
+    for word in words {
+        texts.push(Text::of(alloc, word)?)?;
+    }
+    Ok(())
+}
+
+/// The words as texts.
+fn texts_of(alloc: Global, words: &[&str]) -> Result<Sequence<Text>, NoMemory> {
+    let mut texts = Sequence::new(alloc);
+    push_words(alloc, &mut texts, words)?;
+    Ok(texts)
+}
+
 /// What words come to.
 fn give_words(alloc: Global, world: &mut MemoryWorld, words: &[&str]) -> Result<Status, NoMemory>
     requires { length world.old.files ≤ 1000 }
     ensures { length world.new.files ≤ length world.old.files + 5 }
 {
-    let mut texts = Sequence::new(alloc);
-    for word in words {
-        texts.push(Text::of(alloc, word)?)?;
-    }
+    let texts = texts_of(alloc, words)?;
     Ok(ftmb(alloc, texts.as_slice(), world))
 }
 

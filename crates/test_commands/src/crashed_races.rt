@@ -229,36 +229,42 @@ fn first_wrong_crash(
     Ok(None)
 }
 
+/// What is kept of a race, its events, and how it goes on behind a crash at each of them.
+const RACES: [(Kept, &[&str], Ending<'static>); 3] = [
+    (Kept::Nothing, &MOVES, CRASHED),
+    (Kept::Entries, &LOGGED, CRASHED),
+    (Kept::Entries, &LOGGED, CRASHED_IN_REPLAYS),
+];
+
 #[test]
-fn a_crash_at_each_move_with_nothing_kept(rt: HostRuntime) -> Result<(), Fail> {
-    let wrong = first_wrong_crash(rt.alloc(), Kept::Nothing, &MOVES, CRASHED)?;
-    assert!(rt; wrong.is_none(), "{wrong:?}");
+fn a_crash_at_each_event(rt: HostRuntime) -> Result<(), Fail> {
+    for (row, (kept, events, ending)) in RACES.iter().enumerate() {
+        let wrong = first_wrong_crash(rt.alloc(), *kept, events, *ending)?;
+        assert!(rt; wrong.is_none(), "{row}: {wrong:?}");
+    }
     Ok(())
 }
 
-#[test]
-fn a_crash_at_each_event_with_each_entry_held(rt: HostRuntime) -> Result<(), Fail> {
-    let wrong = first_wrong_crash(rt.alloc(), Kept::Entries, &LOGGED, CRASHED)?;
-    assert!(rt; wrong.is_none(), "{wrong:?}");
-    Ok(())
-}
-
-#[test]
-fn crashes_at_each_event_and_twice_in_the_replay(rt: HostRuntime) -> Result<(), Fail> {
-    let wrong = first_wrong_crash(rt.alloc(), Kept::Entries, &LOGGED, CRASHED_IN_REPLAYS)?;
-    assert!(rt; wrong.is_none(), "{wrong:?}");
-    Ok(())
-}
-
-#[test]
-fn a_crash_at_each_event_with_snapshots(rt: HostRuntime) -> Result<(), Fail> {
-    let mut events = Vec::new(rt.alloc());
+/// Takes and stores a snapshot behind each move.
+fn add_snapshots(events: &mut Vec<&'static str>) -> Result<(), NoMemory> {
     for event in MOVES {
         events.push(event)?;
         events.push("snap\n")?;
         events.push("store\n")?;
     }
-    let wrong = first_wrong_crash(rt.alloc(), Kept::Snapshots, events.as_slice(), CRASHED)?;
+    Ok(())
+}
+
+/// The least number of events behind which a crash does not leave what it should, with a snapshot behind each move.
+fn first_wrong_with_snapshots(alloc: Global) -> Result<Option<usize>, NoMemory> {
+    let mut events = Vec::new(alloc);
+    add_snapshots(&mut events)?;
+    first_wrong_crash(alloc, Kept::Snapshots, events.as_slice(), CRASHED)
+}
+
+#[test]
+fn a_crash_at_each_event_with_snapshots(rt: HostRuntime) -> Result<(), Fail> {
+    let wrong = first_wrong_with_snapshots(rt.alloc())?;
     assert!(rt; wrong.is_none(), "{wrong:?}");
     Ok(())
 }

@@ -70,6 +70,15 @@ const MAKE: Case<'static> = Case {
     is_whole_report: true,
 };
 
+/// Names, and the bytes that each has, where it is there.
+type Names = &'static [(&'static str, Option<&'static [u8]>)];
+
+/// A capture of no packets, made.
+const MAKE_NONE: Case<'static> = Case {
+    commands: &[&["make", "7", "0", "c"]],
+    ..MAKE
+};
+
 /// The first of this number of reads of a case that fails, and does not come to a read fault with this left and nothing reported.
 fn first_wrong_read<'a>(
     alloc: Global,
@@ -91,28 +100,36 @@ fn first_wrong_read<'a>(
     Ok(None)
 }
 
-/// Each file is opened, gives its bytes, and then gives none.
+/// A command, how many reads it makes, and what is left where one of them fails. Each file is opened, gives its bytes, and then gives none.
+const READS: [(Case<'static>, u64, Names); 3] = [
+    (RUN, 9, &[("out", None), ("moves", None)]),
+    (CHECK, 12, &[("released", Some(ONE_COUNTED))]),
+    (PLAY, 9, &[("out", None)]),
+];
+
 #[test]
 fn names_a_read_that_failed(rt: HostRuntime) -> Result<(), Fail> {
-    let alloc = rt.alloc();
-    let wrong = first_wrong_read(alloc, &RUN, 9, &[("out", None), ("moves", None)])?;
-    assert!(rt; wrong.is_none(), "run {wrong:?}");
-    let wrong = first_wrong_read(alloc, &CHECK, 12, CHECK.left)?;
-    assert!(rt; wrong.is_none(), "check {wrong:?}");
-    let wrong = first_wrong_read(alloc, &PLAY, 9, &[("out", None)])?;
-    assert!(rt; wrong.is_none(), "play {wrong:?}");
+    for (row, (case, reads, left)) in READS.iter().enumerate() {
+        let wrong = first_wrong_read(rt.alloc(), case, *reads, left)?;
+        assert!(rt; wrong.is_none(), "{row}: {wrong:?}");
+    }
     Ok(())
 }
 
-/// A case is done where no call that it makes is to fail.
+/// A command, and a call that it does not make any more.
+const LATER: [(Case<'static>, Fault); 5] = [
+    (RUN, Fault::Read(10)),
+    (RUN, Fault::Write(9)),
+    (CHECK, Fault::Read(13)),
+    (PLAY, Fault::Read(10)),
+    (PLAY, Fault::Write(5)),
+];
+
 #[test]
 fn fails_by_no_later_call(rt: HostRuntime) -> Result<(), Fail> {
-    let alloc = rt.alloc();
-    assert!(rt; comes_to(alloc, Fault::Read(10), &RUN)?);
-    assert!(rt; comes_to(alloc, Fault::Write(9), &RUN)?);
-    assert!(rt; comes_to(alloc, Fault::Read(13), &CHECK)?);
-    assert!(rt; comes_to(alloc, Fault::Read(10), &PLAY)?);
-    assert!(rt; comes_to(alloc, Fault::Write(5), &PLAY)?);
+    for (row, (case, fault)) in LATER.iter().enumerate() {
+        assert!(rt; comes_to(rt.alloc(), *fault, case)?, "{row}");
+    }
     Ok(())
 }
 
@@ -171,42 +188,40 @@ const LEFT_BY_PLAY: [Left; 4] = [
 /// The same of a check, which writes the report alone.
 const LEFT_BY_CHECK: [Left; 1] = [(&[("released", Some(ONE_COUNTED))], b"")];
 
-/// The same of a capture of one packet.
+/// The same of a capture of one packet or of none.
 const LEFT_BY_MAKE: [Left; 3] = [
     (&[("c", None)], b""),
     (&[("c", Some(b""))], b""),
     (&[("c", Some(WRITTEN_MICRO))], b""),
 ];
 
+/// A command, and what is left where the first, the second and so on of its writes fails.
+const WRITES: [(Case<'static>, &[Left]); 5] = [
+    (RUN, &LEFT_BY_RUN),
+    (PLAY, &LEFT_BY_PLAY),
+    (CHECK, &LEFT_BY_CHECK),
+    (MAKE, &LEFT_BY_MAKE),
+    (MAKE_NONE, &LEFT_BY_MAKE),
+];
+
 #[test]
 fn names_a_write_that_failed(rt: HostRuntime) -> Result<(), Fail> {
-    let alloc = rt.alloc();
-    let wrong = first_wrong_write(alloc, &RUN, &LEFT_BY_RUN)?;
-    assert!(rt; wrong.is_none(), "run {wrong:?}");
-    let wrong = first_wrong_write(alloc, &PLAY, &LEFT_BY_PLAY)?;
-    assert!(rt; wrong.is_none(), "play {wrong:?}");
-    let wrong = first_wrong_write(alloc, &CHECK, &LEFT_BY_CHECK)?;
-    assert!(rt; wrong.is_none(), "check {wrong:?}");
-    let wrong = first_wrong_write(alloc, &MAKE, &LEFT_BY_MAKE)?;
-    assert!(rt; wrong.is_none(), "make {wrong:?}");
+    for (row, (case, left)) in WRITES.iter().enumerate() {
+        let wrong = first_wrong_write(rt.alloc(), case, left)?;
+        assert!(rt; wrong.is_none(), "{row}: {wrong:?}");
+    }
     Ok(())
 }
 
-/// A capture of no packets, whose report fails; and an empty word, which is no number.
+/// An empty word is no number.
 #[test]
-fn makes_no_packets_or_nothing(rt: HostRuntime) -> Result<(), Fail> {
-    let none = Case {
-        commands: &[&["make", "7", "0", "c"]],
-        left: &[("c", Some(WRITTEN_MICRO))],
-        ..MAKE
-    };
-    assert!(rt; comes_to(rt.alloc(), Fault::Write(3), &none)?);
-    let no_number = Case {
+fn refuses_an_empty_word(rt: HostRuntime) -> Result<(), Fail> {
+    let case = Case {
         commands: &[&["make", "7", "", "c"]],
         status: Status::BadWords,
         left: &[("c", None)],
         ..MAKE
     };
-    assert!(rt; comes_to(rt.alloc(), Fault::Nothing, &no_number)?);
+    assert!(rt; comes_to(rt.alloc(), Fault::Nothing, &case)?);
     Ok(())
 }
