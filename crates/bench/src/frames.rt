@@ -4,13 +4,14 @@ ghost use Rattle.wire_frames.specs.Writing.{CanPutEntry};
 
 use crate::words::next_number;
 use access_log::{StampedEntry, What};
+use plain_text::{Bytes, NoMemory};
 use std::alloc::Global;
 use std::env::Args;
 use thread_clock::Stamp;
 use wire_frames::{FrameError, put_entry, take_frame};
 
 /// How many bytes were written, and how many were read.
-#[derive(Clone, Copy, Debug)]
+#[derive(Clone, Copy)]
 struct Passed {
     written: u64,
     read: u64,
@@ -46,19 +47,36 @@ fn read_often(alloc: Global, frame: &[u8], times: u64) -> Result<u64, FrameError
     Ok(read)
 }
 
+/// The frame of an entry.
+fn frame_of(alloc: Global, number: u64) -> Result<Bytes, NoMemory>
+    requires { 1 ≤ number }
+{
+    put_entry(alloc, 1, 4, &entry_of(number))
+}
+
+/// Writes a frame, and reads it this number of times.
+fn pass_frame(alloc: Global, number: u64, times: u64) -> Result<Passed, FrameError>
+    requires { 1 ≤ number }
+{
+    let frame = frame_of(alloc, number)?;
+    Ok(Passed {
+        written: frame.len() as u64,
+        read: read_often(alloc, frame.as_slice(), times)?,
+    })
+}
+
 /// Writes the frames of this number of entries, and reads each this number of times.
 fn pass_frames(alloc: Global, count: u64, times: u64) -> Result<Passed, FrameError> {
-    let mut passed = Passed {
+    let mut all = Passed {
         written: 0,
         read: 0,
     };
     for number in 1..=count {
-        let frame = put_entry(alloc, 1, 4, &entry_of(number))?;
-        passed.written = passed.written.wrapping_add(frame.len() as u64);
-        let read = read_often(alloc, frame.as_slice(), times)?;
-        passed.read = passed.read.wrapping_add(read);
+        let passed = pass_frame(alloc, number, times)?;
+        all.written = all.written.wrapping_add(passed.written);
+        all.read = all.read.wrapping_add(passed.read);
     }
-    Ok(passed)
+    Ok(all)
 }
 
 /// Tells how many bytes were written and read, where the words say how many entries there are, and how often each is read.

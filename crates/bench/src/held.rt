@@ -1,5 +1,5 @@
 //! The entries of two threads into a held set, of which one never comes, and then the closed part.
-ghost use Rattle.std.specs.Prelude.{◌≡◌, ◌<◌, ◌≤◌, ◌^◌};
+ghost use Rattle.std.specs.Prelude.{◌≡◌, ◌<◌, ◌≤◌, ◌^◌, length};
 
 use crate::words::next_number;
 use access_log::{Held, Kept, StampedEntry, What};
@@ -25,22 +25,30 @@ fn entry_of(thread: u32, number: u64) -> StampedEntry
     }
 }
 
-/// Holds this number of entries of each thread, but for the middle one of thread 1, and keeps the closed part.
-fn hold_entries(alloc: Global, count: u64) -> Result<Kept, NoMemory> {
-    let mut held = Held::new(alloc, 2)?;
+/// Holds this number of entries of each thread, but for the middle one of thread 1.
+fn hold_entries(held: &mut Held, count: u64) -> Result<(), NoMemory>
+    requires { length held.old ≡ 2 }
+{
     for number in 1..=count {
         held.add(entry_of(0, number))?;
         if number != count / 2 {
             held.add(entry_of(1, number))?;
         }
     }
+    Ok(())
+}
+
+/// Holds them, and keeps the closed part.
+fn keep_entries(alloc: Global, count: u64) -> Result<Kept, NoMemory> {
+    let mut held = Held::new(alloc, 2)?;
+    hold_entries(&mut held, count)?;
     Ok(held.closed_part())
 }
 
 /// Tells how many entries are kept and dropped, where the word says how many each thread makes.
 pub fn run<R: AllocGlobal + Print>(rt: &R, words: &mut Args) -> anyhow::Result<()> {
     let count = next_number(words, "how many entries?")?;
-    let part = hold_entries(rt.alloc(), count)?;
+    let part = keep_entries(rt.alloc(), count)?;
     println!(rt; "{} kept, {} dropped", part.kept, part.dropped)?;
     Ok(())
 }

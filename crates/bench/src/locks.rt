@@ -1,4 +1,6 @@
 //! Threads that touch variables of a small box, with a master alone or under numbered locks.
+ghost use Rattle.std.specs.Prelude.{◌<◌, ◌≤◌};
+
 mod done;
 mod racing;
 mod stepping;
@@ -6,6 +8,7 @@ mod touch_box;
 
 use crate::words::next_number;
 use anyhow::{Context, bail, ensure};
+use done::Done;
 use plain_text::{Bytes, NoMemory, Packet};
 use racing::race;
 use std::alloc::Global;
@@ -36,13 +39,30 @@ fn packets_of(alloc: Global, threads: u8, own: bool) -> Result<Vec<Packet>, NoMe
     Ok(packets)
 }
 
+/// What threads do with these packets, one for each, as a master alone or under locks.
+fn perform<R: AllocGlobal + Threads + Wait + Sync>(
+    rt: &R,
+    who: &str,
+    threads: u32,
+    packets: &[Packet],
+    count: u64,
+) -> anyhow::Result<Done>
+    requires some { 0 < threads }
+    requires few { threads ≤ 16 }
+{
+    match who {
+        "step" => Ok(step_all(rt.alloc(), &TouchBox::new(), threads, packets, count)?),
+        "locks" => Ok(race(rt, &TouchBox::new(), threads, packets, count)?),
+        _ => bail!("{who} is neither step nor locks"),
+    }
+}
+
 /// Tells how many moves and touches were made, where the words say who makes them, how many threads there are, whether each
 /// touches a variable of its own, and how many packets each takes.
 pub fn run<R: AllocGlobal + Print + Threads + Wait + Sync>(
     rt: &R,
     words: &mut Args,
 ) -> anyhow::Result<()> {
-    let alloc = rt.alloc();
     let who = words.next().context("step or locks?")?;
     let threads: u8 = words.next().context("how many threads?")?.parse()?;
     let whose = words.next().context("one or own?")?;
@@ -56,13 +76,8 @@ pub fn run<R: AllocGlobal + Print + Threads + Wait + Sync>(
         "one" => false,
         _ => bail!("{whose} is neither one nor own"),
     };
-    let packets = packets_of(alloc, threads, own)?;
-    let threads = u32::from(threads);
-    let done = match who.as_str() {
-        "step" => step_all(alloc, &TouchBox::new(), threads, &packets, count)?,
-        "locks" => race(rt, &TouchBox::new(), threads, &packets, count)?,
-        _ => bail!("{who} is neither step nor locks"),
-    };
+    let packets = packets_of(rt.alloc(), threads, own)?;
+    let done = perform(rt, who.as_str(), u32::from(threads), &packets, count)?;
     println!(rt;
         "{who}: {} moves, {} touches, {} packets sent out",
         done.moves, done.touches, done.sent

@@ -1,6 +1,6 @@
 //! Log entries and the outputs that depend on them, through an output logger. First each output comes after its entry. Then
 //! all outputs come first, and all entries after them, both the last one first.
-ghost use Rattle.std.specs.Prelude.{◌≡◌, ◌≤◌, length, IfOk};
+ghost use Rattle.std.specs.Prelude.{◌≡◌, ◌≤◌, length};
 
 use crate::words::next_number;
 use access_log::{Output, Outputs, StampedEntry, What};
@@ -66,26 +66,50 @@ fn send(
     Ok(())
 }
 
-/// Each output after its entry. How many outputs were released.
-fn in_order(alloc: Global, count: u64) -> Result<usize, NoMemory> {
-    let mut out = Outputs::new(alloc);
-    let mut logger = OutputLogger::new(alloc, 1)?;
+/// Each output comes after its entry.
+fn come_in_order(
+    alloc: Global,
+    logger: &mut OutputLogger,
+    out: &mut Outputs,
+    count: u64,
+) -> Result<(), NoMemory>
+    requires threads { length logger.old.held ≡ 1 }
+    requires epoch { 1 ≤ logger.old.epoch }
+{
     for i in 0..count {
-        log(&mut logger, &mut out, i + 1)?;
-        send(alloc, &mut logger, &mut out, i + 1)?;
+        log(logger, out, i + 1)?;
+        send(alloc, logger, out, i + 1)?;
     }
-    Ok(out.len())
+    Ok(())
 }
 
-/// All outputs and then all entries, the last one first. How many outputs were released.
-fn in_reverse(alloc: Global, count: u64) -> Result<usize, NoMemory> {
-    let mut out = Outputs::new(alloc);
-    let mut logger = OutputLogger::new(alloc, 1)?;
+/// All outputs come and then all entries, the last one first.
+fn come_in_reverse(
+    alloc: Global,
+    logger: &mut OutputLogger,
+    out: &mut Outputs,
+    count: u64,
+) -> Result<(), NoMemory>
+    requires threads { length logger.old.held ≡ 1 }
+    requires epoch { 1 ≤ logger.old.epoch }
+{
     for i in 0..count {
-        send(alloc, &mut logger, &mut out, count - i)?;
+        send(alloc, logger, out, count - i)?;
     }
     for i in 0..count {
-        log(&mut logger, &mut out, count - i)?;
+        log(logger, out, count - i)?;
+    }
+    Ok(())
+}
+
+/// How many outputs are released where they come in order, or in reverse.
+fn released(alloc: Global, count: u64, in_order: bool) -> Result<usize, NoMemory> {
+    let mut out = Outputs::new(alloc);
+    let mut logger = OutputLogger::new(alloc, 1)?;
+    if in_order {
+        come_in_order(alloc, &mut logger, &mut out, count)?;
+    } else {
+        come_in_reverse(alloc, &mut logger, &mut out, count)?;
     }
     Ok(out.len())
 }
@@ -94,8 +118,8 @@ fn in_reverse(alloc: Global, count: u64) -> Result<usize, NoMemory> {
 pub fn run<R: AllocGlobal + Print>(rt: &R, words: &mut Args) -> anyhow::Result<()> {
     let forward = next_number(words, "how many outputs in order?")?;
     let reverse = next_number(words, "how many in reverse?")?;
-    let first = in_order(rt.alloc(), forward)?;
-    let second = in_reverse(rt.alloc(), reverse)?;
+    let first = released(rt.alloc(), forward, true)?;
+    let second = released(rt.alloc(), reverse, false)?;
     println!(rt; "{first} released in order, {second} in reverse")?;
     Ok(())
 }

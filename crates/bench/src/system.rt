@@ -116,19 +116,36 @@ fn perform_all<P: Program>(
     done
 }
 
+/// Performs all packets by a box of this name.
+fn perform_by(
+    alloc: Global,
+    which: &str,
+    packets: Packets,
+    settles: bool,
+) -> anyhow::Result<(u64, usize)>
+    requires { All IsShort packets }
+{
+    let done = match which {
+        "count" => perform_all(alloc, CountBox::new(), packets, settles),
+        "monitor" => perform_all(alloc, MonitorBox::new(16), packets, settles),
+        _ => bail!("{which} is neither count nor monitor"),
+    };
+    done.map_err(|stop| anyhow!("{stop:?}"))
+}
+
 /// Tells how many events were performed and how many outputs released, where the words say the box, how, and how many packets.
 pub fn run<R: AllocGlobal + Print>(rt: &R, words: &mut Args) -> anyhow::Result<()> {
     let which = words.next().context("count or monitor?")?;
     let how = words.next().context("settle or single?")?;
     let count = next_number(words, "how many packets?")?;
     let packets = make_packets(rt.alloc(), count)?;
-    let settles = how.as_str() == "settle";
-    let done = match which.as_str() {
-        "count" => perform_all(rt.alloc(), CountBox::new(), packets, settles),
-        "monitor" => perform_all(rt.alloc(), MonitorBox::new(16), packets, settles),
-        _ => bail!("{which} is neither count nor monitor"),
-    };
-    let (events, released) = done.map_err(|stop| anyhow!("{stop:?}"))?;
+    let done = perform_by(
+        rt.alloc(),
+        which.as_str(),
+        packets,
+        how.as_str() == "settle",
+    )?;
+    let (events, released) = done;
     println!(rt; "{which}, {how}: {events} events, {released} released")?;
     Ok(())
 }

@@ -1,121 +1,175 @@
-use balancer_box::{Backend, BalancerBox};
-use box_conf::{BoxConf, BoxKind, read_box};
-use nat_box::NatBox;
+use box_conf::{BoxKind, read_box};
 use plain_text::NoMemory;
 use std::alloc::Global;
-use std::process::Abort;
 use std::test::Fail;
 
-/// What is set of a balancer.
-fn told_of_balancer(alloc: Global, balancer: &BalancerBox) -> Result<String, NoMemory> {
-    let mut text = format!(in alloc;
-        " of {} tables, {} {} before",
-        balancer.shards, balancer.address, balancer.port
-    )?;
-    for backend in balancer.backends.as_slice() {
-        add_backend(alloc, &mut text, backend)?;
-    }
-    Ok(text)
+/// A box file: its text, its threads and its seed, the numbers that are set of its box, and its backends.
+struct Read {
+    text: &'static str,
+    threads: u32,
+    seed: u64,
+    settings: [u64; 6],
+    backends: &'static [(u32, u16)],
 }
 
-fn add_backend(alloc: Global, text: &mut String, backend: &Backend) -> Result<(), NoMemory> {
-    let told = format!(in alloc; " {} {}", backend.address, backend.port)?;
-    text.push_str(told.as_str())?;
-    Ok(())
-}
-
-/// What is set of a NAT.
-fn told_of_nat(alloc: Global, nat: &NatBox) -> Result<String, NoMemory> {
-    Ok(format!(in alloc;
-        " of {} tables, {} {} behind {} from {} to {}",
-        nat.shards, nat.inside, nat.length, nat.outside, nat.low, nat.high
-    )?)
-}
-
-/// What is set of a box.
-fn told_of_box(alloc: Global, kind: &BoxKind) -> Result<String, NoMemory> {
+/// The numbers that are set of a box.
+fn settings_of(kind: &BoxKind) -> [u64; 6] {
     match kind {
-        BoxKind::Count(_) => Ok(String::new(alloc)),
-        BoxKind::Monitor(monitor) => Ok(format!(in alloc; " of {} tables", monitor.shards)?),
-        BoxKind::Nat(nat) => told_of_nat(alloc, nat),
-        BoxKind::Balancer(balancer) => told_of_balancer(alloc, balancer),
+        BoxKind::Count(_) => [0; 6],
+        BoxKind::Monitor(monitor) => [u64::from(monitor.shards), 0, 0, 0, 0, 0],
+        BoxKind::Nat(nat) => [
+            u64::from(nat.shards),
+            u64::from(nat.inside),
+            u64::from(nat.length),
+            u64::from(nat.outside),
+            u64::from(nat.low),
+            u64::from(nat.high),
+        ],
+        BoxKind::Balancer(balancer) => [
+            u64::from(balancer.shards),
+            u64::from(balancer.address),
+            u64::from(balancer.port),
+            0,
+            0,
+            0,
+        ],
     }
 }
 
-/// What a box file sets: its threads, its seed and what is set of its box.
-fn told_of_conf(alloc: Global, conf: &BoxConf) -> Result<String, NoMemory> {
-    let told = told_of_box(alloc, &conf.kind)?;
-    Ok(format!(in alloc; "{} {}{}", conf.threads, conf.seed, told.as_str())?)
+/// Whether a box has these backends, each with its address and its port.
+fn has_backends(kind: &BoxKind, wanted: &[(u32, u16)]) -> bool {
+    let BoxKind::Balancer(balancer) = kind else {
+        return wanted.is_empty();
+    };
+    let backends = balancer.backends.as_slice();
+    for (backend, (address, port)) in backends.iter().zip(wanted) {
+        if backend.address != *address || backend.port != *port {
+            return false;
+        }
+    }
+    backends.len() == wanted.len()
 }
 
-/// What a box file comes to: what it sets, or the text of its error.
-fn told(alloc: Global, text: &str) -> Result<String, NoMemory> {
-    match read_box(text.as_bytes()) {
-        Ok(conf) => told_of_conf(alloc, &conf),
-        Err(fault) => Ok(format!(in alloc; "{fault}")?),
+fn is_read(wanted: &Read) -> bool {
+    match read_box(wanted.text.as_bytes()) {
+        Ok(conf) => (conf.threads, conf.seed) == (wanted.threads, wanted.seed)
+            && settings_of(&conf.kind) == wanted.settings
+            && has_backends(&conf.kind, wanted.backends),
+        Err(_) => false,
     }
 }
 
-/// Whether a text comes to this, in the words of `told`.
-fn comes_to(alloc: Global, text: &str, wanted: &str) -> Result<bool, NoMemory> {
-    Ok(told(alloc, text)?.as_str() == wanted)
-}
-
-/// A text, and what it comes to.
-type Row = (&'static str, &'static str);
-
-/// Asserts that each text comes to what stands beside it.
-fn come_to(rt: &impl Abort, alloc: Global, rows: &[Row]) -> Result<(), NoMemory> {
-    for (text, wanted) in rows {
-        let found = comes_to(alloc, text, wanted)?;
-        assert!(rt; found, "at {text:?}");
-    }
-    Ok(())
-}
-
-/// Box files, and what is set by each.
-const READ: [Row; 13] = [
-    ("box count", "1 0"),
-    ("box count\nthreads 16\n", "16 0"),
-    (
-        "#\n\n\tbox  count\r\nseed\t007\r\n # x\nthreads 0002",
-        "2 7",
-    ),
-    (
-        "box count\nseed 18446744073709551615",
-        "1 18446744073709551615",
-    ),
-    ("box count\nseed 00000000000000000009\nthreads 1", "1 9"),
-    ("box monitor", "1 0 of 16 tables"),
-    ("box monitor\nshards 64\nthreads 3", "3 0 of 64 tables"),
-    ("box monitor\nseed 5\nshards 01", "1 5 of 1 tables"),
-    (
-        "box nat\ninside 10.0.0.0 8\noutside 203.0.113.1",
-        "1 0 of 16 tables, 167772160 8 behind 3405803777 from 1024 to 65535",
-    ),
-    (
-        "box nat\nports 1 65535\noutside 0.0.0.0\nseed 42\n\nshards 64\n#\ninside 255.255.255.255 32\nthreads 16",
-        "16 42 of 64 tables, 4294967295 32 behind 0 from 1 to 65535",
-    ),
-    (
-        "box nat\nports 39276 39276\noutside 203.00.0113.1\ninside 10.0.0.5 1",
-        "1 0 of 16 tables, 167772165 1 behind 3405803777 from 39276 to 39276",
-    ),
-    (
-        "box balancer\nvirtual 198.51.100.7 53\nbackend 10.1.0.1 53",
-        "1 0 of 16 tables, 3325256711 53 before 167837697 53",
-    ),
-    (
-        "box balancer\nbackend 0.0.0.0 0\nthreads 4\nbackend 10.1.0.1 0053\nshards 1\nvirtual 0.0.0.0 65535\nseed 5\nbackend 10.1.0.1 54",
-        "4 5 of 1 tables, 0 65535 before 0 0 167837697 53 167837697 54",
-    ),
+const READ: [Read; 13] = [
+    Read {
+        text: "box count",
+        threads: 1,
+        seed: 0,
+        settings: [0, 0, 0, 0, 0, 0],
+        backends: &[],
+    },
+    Read {
+        text: "box count\nthreads 16\n",
+        threads: 16,
+        seed: 0,
+        settings: [0, 0, 0, 0, 0, 0],
+        backends: &[],
+    },
+    Read {
+        text: "#\n\n\tbox  count\r\nseed\t007\r\n # x\nthreads 0002",
+        threads: 2,
+        seed: 7,
+        settings: [0, 0, 0, 0, 0, 0],
+        backends: &[],
+    },
+    Read {
+        text: "box count\nseed 18446744073709551615",
+        threads: 1,
+        seed: u64::MAX,
+        settings: [0, 0, 0, 0, 0, 0],
+        backends: &[],
+    },
+    Read {
+        text: "box count\nseed 00000000000000000009\nthreads 1",
+        threads: 1,
+        seed: 9,
+        settings: [0, 0, 0, 0, 0, 0],
+        backends: &[],
+    },
+    Read {
+        text: "box monitor",
+        threads: 1,
+        seed: 0,
+        settings: [16, 0, 0, 0, 0, 0],
+        backends: &[],
+    },
+    Read {
+        text: "box monitor\nshards 64\nthreads 3",
+        threads: 3,
+        seed: 0,
+        settings: [64, 0, 0, 0, 0, 0],
+        backends: &[],
+    },
+    Read {
+        text: "box monitor\nseed 5\nshards 01",
+        threads: 1,
+        seed: 5,
+        settings: [1, 0, 0, 0, 0, 0],
+        backends: &[],
+    },
+    Read {
+        text: "box nat\ninside 10.0.0.0 8\noutside 203.0.113.1",
+        threads: 1,
+        seed: 0,
+        settings: [16, 167772160, 8, 3405803777, 1024, 65535],
+        backends: &[],
+    },
+    Read {
+        text: "box nat\nports 1 65535\noutside 0.0.0.0\nseed 42\n\nshards 64\n#\ninside 255.255.255.255 32\nthreads 16",
+        threads: 16,
+        seed: 42,
+        settings: [64, 4294967295, 32, 0, 1, 65535],
+        backends: &[],
+    },
+    Read {
+        text: "box nat\nports 39276 39276\noutside 203.00.0113.1\ninside 10.0.0.5 1",
+        threads: 1,
+        seed: 0,
+        settings: [16, 167772165, 1, 3405803777, 39276, 39276],
+        backends: &[],
+    },
+    Read {
+        text: "box balancer\nvirtual 198.51.100.7 53\nbackend 10.1.0.1 53",
+        threads: 1,
+        seed: 0,
+        settings: [16, 3325256711, 53, 0, 0, 0],
+        backends: &[(167837697, 53)],
+    },
+    Read {
+        text: "box balancer\nbackend 0.0.0.0 0\nthreads 4\nbackend 10.1.0.1 0053\nshards 1\nvirtual 0.0.0.0 65535\nseed 5\nbackend 10.1.0.1 54",
+        threads: 4,
+        seed: 5,
+        settings: [1, 0, 65535, 0, 0, 0],
+        backends: &[(0, 0), (167837697, 53), (167837697, 54)],
+    },
 ];
 
 #[test]
-fn reads_box_files(rt: HostRuntime) -> Result<(), Fail> {
-    come_to(&rt, rt.alloc(), &READ)?;
-    Ok(())
+fn reads_box_files(rt: HostRuntime) {
+    for wanted in &READ {
+        assert!(rt; is_read(wanted), "at {:?}", wanted.text);
+    }
 }
+
+/// Whether a text is no box file, with this text of its first fault.
+fn has_fault(alloc: Global, text: &str, wanted: &str) -> Result<bool, NoMemory> {
+    match read_box(text.as_bytes()) {
+        Ok(_) => Ok(false),
+        Err(fault) => Ok(format!(in alloc; "{fault}")?.as_str() == wanted),
+    }
+}
+
+/// A text that is no box file, and its first fault.
+type Row = (&'static str, &'static str);
 
 /// Texts that are no box file, and the first fault of each.
 const FAULTS: [Row; 26] = [
@@ -150,12 +204,6 @@ const FAULTS: [Row; 26] = [
     ),
 ];
 
-#[test]
-fn names_the_first_fault(rt: HostRuntime) -> Result<(), Fail> {
-    come_to(&rt, rt.alloc(), &FAULTS)?;
-    Ok(())
-}
-
 /// The same for a NAT.
 const NAT_FAULTS: [Row; 25] = [
     ("box nat\n\n", "line 3: missing line"),
@@ -184,12 +232,6 @@ const NAT_FAULTS: [Row; 25] = [
     ("box nat\nports 1 2\nports 1 2", "line 3: twice"),
     ("box nat\nports 1 2\nseed 1\nseed 1", "line 4: twice"),
 ];
-
-#[test]
-fn names_the_first_fault_of_a_nat(rt: HostRuntime) -> Result<(), Fail> {
-    come_to(&rt, rt.alloc(), &NAT_FAULTS)?;
-    Ok(())
-}
 
 /// The same for a balancer.
 const BALANCER_FAULTS: [Row; 15] = [
@@ -228,9 +270,17 @@ const BALANCER_FAULTS: [Row; 15] = [
     ),
 ];
 
+/// All of them.
+const ALL_FAULTS: [&[Row]; 3] = [&FAULTS, &NAT_FAULTS, &BALANCER_FAULTS];
+
 #[test]
-fn names_the_first_fault_of_a_balancer(rt: HostRuntime) -> Result<(), Fail> {
-    come_to(&rt, rt.alloc(), &BALANCER_FAULTS)?;
+fn names_the_first_fault(rt: HostRuntime) -> Result<(), Fail> {
+    for rows in &ALL_FAULTS {
+        for (text, wanted) in *rows {
+            let found = has_fault(rt.alloc(), text, wanted)?;
+            assert!(rt; found, "at {text:?}");
+        }
+    }
     Ok(())
 }
 
@@ -245,7 +295,7 @@ fn with_backends(alloc: Global, count: u16) -> Result<String, NoMemory> {
 }
 
 fn backends_come_to(alloc: Global, count: u16, wanted: &str) -> Result<bool, NoMemory> {
-    comes_to(alloc, with_backends(alloc, count)?.as_str(), wanted)
+    has_fault(alloc, with_backends(alloc, count)?.as_str(), wanted)
 }
 
 #[test]

@@ -1,5 +1,6 @@
 //! Two threads race over the tables of a NAT, and the master crashes at each event of the race.
-use crate::runs::{Case, ONE, ends_accepted};
+use crate::commands::{Case, Fault, comes_to};
+use job_top::Status;
 use plain_text::{Bytes, NoMemory};
 use std::alloc::Global;
 use std::test::Fail;
@@ -176,21 +177,28 @@ fn script_of(alloc: Global, events: &[&str], ending: Ending<'_>) -> Result<Bytes
 }
 
 /// Whether a race by this script leaves this released capture and ends with this report, and `check` accepts it.
-fn comes_to<'a>(
+fn is_accepted<'a>(
     alloc: Global,
     script: &'a [u8],
     released: &'a [u8],
     report: &'a [u8],
 ) -> Result<bool, NoMemory> {
     let case = Case {
-        box_file: RACE_BOX,
-        capture: QUERY_AND_OTHER,
-        script,
-        released: Some(released),
+        files: &[
+            ("box", RACE_BOX),
+            ("in", QUERY_AND_OTHER),
+            ("script", script),
+        ],
+        commands: &[
+            &["run", "box", "in", "script", "out", "moves"],
+            &["check", "box", "in", "moves", "out"],
+        ],
+        status: Status::Done,
+        left: &[("out", Some(released))],
         report,
-        ..ONE
+        is_whole_report: false,
     };
-    ends_accepted(alloc, case)
+    comes_to(alloc, Fault::Nothing, &case)
 }
 
 /// Whether a race whose master crashes behind these events leaves this, and `check` accepts it.
@@ -203,7 +211,7 @@ fn leaves(
     let script = script_of(alloc, events, ending)?;
     let mut report = Bytes::of(alloc, left.tables)?;
     report.extend(ending.last)?;
-    comes_to(alloc, script.as_slice(), left.released, report.as_slice())
+    is_accepted(alloc, script.as_slice(), left.released, report.as_slice())
 }
 
 /// The least number of events behind which a crash does not leave what it should.
@@ -221,36 +229,42 @@ fn first_wrong_crash(
     Ok(None)
 }
 
+/// What is kept of a race, its events, and how it goes on behind a crash at each of them.
+const RACES: [(Kept, &[&str], Ending<'static>); 3] = [
+    (Kept::Nothing, &MOVES, CRASHED),
+    (Kept::Entries, &LOGGED, CRASHED),
+    (Kept::Entries, &LOGGED, CRASHED_IN_REPLAYS),
+];
+
 #[test]
-fn a_crash_at_each_move_with_nothing_kept(rt: HostRuntime) -> Result<(), Fail> {
-    let wrong = first_wrong_crash(rt.alloc(), Kept::Nothing, &MOVES, CRASHED)?;
-    assert_eq!(rt; wrong, None);
+fn a_crash_at_each_event(rt: HostRuntime) -> Result<(), Fail> {
+    for (row, (kept, events, ending)) in RACES.iter().enumerate() {
+        let wrong = first_wrong_crash(rt.alloc(), *kept, events, *ending)?;
+        assert!(rt; wrong.is_none(), "{row}: {wrong:?}");
+    }
     Ok(())
 }
 
-#[test]
-fn a_crash_at_each_event_with_each_entry_held(rt: HostRuntime) -> Result<(), Fail> {
-    let wrong = first_wrong_crash(rt.alloc(), Kept::Entries, &LOGGED, CRASHED)?;
-    assert_eq!(rt; wrong, None);
-    Ok(())
-}
-
-#[test]
-fn crashes_at_each_event_and_twice_in_the_replay(rt: HostRuntime) -> Result<(), Fail> {
-    let wrong = first_wrong_crash(rt.alloc(), Kept::Entries, &LOGGED, CRASHED_IN_REPLAYS)?;
-    assert_eq!(rt; wrong, None);
-    Ok(())
-}
-
-#[test]
-fn a_crash_at_each_event_with_snapshots(rt: HostRuntime) -> Result<(), Fail> {
-    let mut events = Vec::new(rt.alloc());
+/// Takes and stores a snapshot behind each move.
+fn add_snapshots(events: &mut Vec<&'static str>) -> Result<(), NoMemory> {
     for event in MOVES {
         events.push(event)?;
         events.push("snap\n")?;
         events.push("store\n")?;
     }
-    let wrong = first_wrong_crash(rt.alloc(), Kept::Snapshots, events.as_slice(), CRASHED)?;
-    assert_eq!(rt; wrong, None);
+    Ok(())
+}
+
+/// The least number of events behind which a crash does not leave what it should, with a snapshot behind each move.
+fn first_wrong_with_snapshots(alloc: Global) -> Result<Option<usize>, NoMemory> {
+    let mut events = Vec::new(alloc);
+    add_snapshots(&mut events)?;
+    first_wrong_crash(alloc, Kept::Snapshots, events.as_slice(), CRASHED)
+}
+
+#[test]
+fn a_crash_at_each_event_with_snapshots(rt: HostRuntime) -> Result<(), Fail> {
+    let wrong = first_wrong_with_snapshots(rt.alloc())?;
+    assert!(rt; wrong.is_none(), "{wrong:?}");
     Ok(())
 }

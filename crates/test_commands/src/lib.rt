@@ -1,23 +1,17 @@
 //! Tests of the commands over the world in memory, of what no stored session of the program can do: reads and writes that fail, files
-//! at the limits of their size, a byte turned at each place, a crash at each event of a race, and large runs from a number. They stand apart from `job_top`, so
-//! that it is proved once and not again with its tests.
+//! at the limits of their size, a crash at each event of a race, and large runs from a number. They stand apart from `job_top`, so that
+//! it is proved once and not again with its tests.
 #![tactic(auto)]
 
 #[cfg(test)]
-mod checks;
+mod commands;
 #[cfg(test)]
 mod crashed_races;
 #[cfg(test)]
 mod endings;
 #[cfg(test)]
+mod faults;
+#[cfg(test)]
 mod large;
 #[cfg(test)]
 mod limits;
-#[cfg(test)]
-mod makes;
-#[cfg(test)]
-mod run_faults;
-#[cfg(test)]
-mod runs;
-#[cfg(test)]
-mod words;

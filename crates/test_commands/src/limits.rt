@@ -1,8 +1,8 @@
 //! Inputs at the limits, and scripts of many events.
-use crate::runs::{Case, ONE, REFUSED, holds};
+use crate::commands::{Case, Fault, comes_to};
 use job_top::{InputFault, Status};
 use plain_text::{Bytes, Limit, LineCause, LineFault, NoMemory};
-use sample_frames::{LITTLE_MICRO, WRITTEN_MICRO};
+use sample_frames::{LITTLE_MICRO, ONE_COUNTED, ONE_PACKET, WRITTEN_MICRO};
 use std::alloc::Global;
 use std::test::Fail;
 
@@ -30,86 +30,73 @@ fn put_spaces_behind(alloc: Global, text: &[u8], count: usize) -> Result<Bytes, 
     Ok(all)
 }
 
-/// Whether a run with a script of this text and this number of spaces comes to this status, and nothing is created.
-fn refuses_script(
+/// Whether a run of one packet through the counting box, but with these bytes as this file, comes to this status, and nothing is created.
+fn refuses<'a>(
     alloc: Global,
+    name: &'a str,
+    bytes: &'a [u8],
+    status: Status,
+) -> Result<bool, NoMemory> {
+    let case = Case {
+        files: &[
+            ("box", b"box count"),
+            ("in", ONE_PACKET),
+            ("script", b"settle"),
+            (name, bytes),
+        ],
+        commands: &[&["run", "box", "in", "script", "out", "moves"]],
+        status,
+        left: &[("out", None), ("moves", None)],
+        report: b"",
+        is_whole_report: true,
+    };
+    comes_to(alloc, Fault::Nothing, &case)
+}
+
+/// A file, its text, the number of spaces behind that, and what a run with it comes to. The lines of a file are judged before its size.
+const LARGE: [(&str, &[u8], usize, Status); 6] = [
+    (
+        "script",
+        b"stop 1\n",
+        MOST,
+        Status::BadInput(InputFault::Script(LineFault {
+            line: 1,
+            cause: LineCause::UnknownWord,
+        })),
+    ),
+    ("script", b"settle\n", MOST, Status::TooLarge(Limit::File)),
+    ("script", b"", MOST + 1, Status::TooLarge(Limit::File)),
+    (
+        "box",
+        b"box count\nthreads 17\n",
+        MOST,
+        Status::BadInput(InputFault::BoxFile(LineFault {
+            line: 2,
+            cause: LineCause::OutOfRange,
+        })),
+    ),
+    ("box", b"box count\n", MOST, Status::TooLarge(Limit::File)),
+    ("box", b"", MOST + 1, Status::TooLarge(Limit::File)),
+];
+
+/// Whether a run with a file of this text and this number of spaces comes to this status, and nothing is created.
+fn refuses_spaces(
+    alloc: Global,
+    name: &str,
     text: &[u8],
     spaces: usize,
     status: Status,
 ) -> Result<bool, NoMemory> {
-    let script = put_spaces_behind(alloc, text, spaces)?;
-    let case = Case {
-        script: script.as_slice(),
-        status,
-        ..REFUSED
-    };
-    holds(alloc, case)
-}
-
-/// The same with a box file.
-fn refuses_box(
-    alloc: Global,
-    text: &[u8],
-    spaces: usize,
-    status: Status,
-) -> Result<bool, NoMemory> {
-    let box_file = put_spaces_behind(alloc, text, spaces)?;
-    let case = Case {
-        box_file: box_file.as_slice(),
-        status,
-        ..REFUSED
-    };
-    holds(alloc, case)
+    let bytes = put_spaces_behind(alloc, text, spaces)?;
+    refuses(alloc, name, bytes.as_slice(), status)
 }
 
 #[test]
-fn judges_the_lines_of_a_script_that_is_too_large(rt: HostRuntime) -> Result<(), Fail> {
-    let alloc = rt.alloc();
-    let unknown_word = Status::BadInput(InputFault::Script(LineFault {
-        line: 1,
-        cause: LineCause::UnknownWord,
-    }));
-    let too_large = Status::TooLarge(Limit::File);
-    assert!(rt; refuses_script(alloc, b"stop 1\n", MOST, unknown_word)?);
-    assert!(rt; refuses_script(alloc, b"settle\n", MOST, too_large)?);
-    assert!(rt; refuses_script(alloc, b"", MOST + 1, too_large)?);
-    Ok(())
-}
-
-#[test]
-fn judges_the_lines_of_a_box_file_that_is_too_large(rt: HostRuntime) -> Result<(), Fail> {
-    let alloc = rt.alloc();
-    let out_of_range = Status::BadInput(InputFault::BoxFile(LineFault {
-        line: 2,
-        cause: LineCause::OutOfRange,
-    }));
-    let too_large = Status::TooLarge(Limit::File);
-    assert!(rt; refuses_box(alloc, b"box count\nthreads 17\n", MOST, out_of_range)?);
-    assert!(rt; refuses_box(alloc, b"box count\n", MOST, too_large)?);
-    assert!(rt; refuses_box(alloc, b"", MOST + 1, too_large)?);
-    Ok(())
-}
-
-#[test]
-fn performs_a_script_as_large_as_a_file_may_be(rt: HostRuntime) -> Result<(), Fail> {
-    let script = put_spaces_behind(rt.alloc(), b"settle\n", MOST - 7)?;
-    let case = Case {
-        script: script.as_slice(),
-        ..ONE
-    };
-    assert!(rt; holds(rt.alloc(), case)?);
-    Ok(())
-}
-
-#[test]
-fn stops_at_too_many_events(rt: HostRuntime) -> Result<(), Fail> {
-    let script = repeat_behind(rt.alloc(), b"", b"time 7\n", 4_000_001)?;
-    let case = Case {
-        script: script.as_slice(),
-        status: Status::TooLarge(Limit::Events),
-        ..REFUSED
-    };
-    assert!(rt; holds(rt.alloc(), case)?);
+fn judges_the_lines_of_a_file_that_is_too_large(rt: HostRuntime) -> Result<(), Fail> {
+    for (row, (name, text, spaces, status)) in LARGE.iter().enumerate() {
+        let right = refuses_spaces(rt.alloc(), name, text, *spaces, *status)?;
+        assert!(rt; right, "row {row}");
+    }
     Ok(())
 }
 
@@ -123,27 +110,71 @@ fn capture_of_large_records(alloc: Global, count: u32) -> Result<Bytes, NoMemory
     repeat_behind(alloc, LITTLE_MICRO, record.as_slice(), count)
 }
 
-/// Whether a run on this capture passes this limit, and nothing is created.
-fn refuses_capture(alloc: Global, capture: &[u8], limit: Limit) -> Result<bool, NoMemory> {
-    let case = Case {
-        capture,
-        status: Status::TooLarge(limit),
-        ..REFUSED
-    };
-    holds(alloc, case)
+/// Whether a run with such a capture is refused.
+fn refuses_large_records(alloc: Global, count: u32) -> Result<bool, NoMemory> {
+    let capture = capture_of_large_records(alloc, count)?;
+    let status = Status::TooLarge(Limit::File);
+    refuses(alloc, "in", capture.as_slice(), status)
+}
+
+/// Whether a run with a file of these bytes and this number of others behind them passes this limit.
+fn refuses_many(
+    alloc: Global,
+    name: &str,
+    first: &[u8],
+    others: (&[u8], u32),
+    limit: Limit,
+) -> Result<bool, NoMemory> {
+    let bytes = repeat_behind(alloc, first, others.0, others.1)?;
+    refuses(alloc, name, bytes.as_slice(), Status::TooLarge(limit))
 }
 
 #[test]
-fn stops_at_a_capture_that_is_too_large(rt: HostRuntime) -> Result<(), Fail> {
-    let capture = capture_of_large_records(rt.alloc(), 256)?;
-    assert!(rt; refuses_capture(rt.alloc(), capture.as_slice(), Limit::File)?);
+fn stops_at_limits(rt: HostRuntime) -> Result<(), Fail> {
+    let alloc = rt.alloc();
+    let events: (&[u8], u32) = (b"time 7\n", 4_000_001);
+    assert!(rt; refuses_many(alloc, "script", b"", events, Limit::Events)?);
+    let packets: (&[u8], u32) = (&[0; 16], 65_537);
+    assert!(rt; refuses_many(alloc, "in", LITTLE_MICRO, packets, Limit::Packets)?);
+    assert!(rt; refuses_large_records(alloc, 256)?);
     Ok(())
 }
 
+/// Whether the run of one packet with this script leaves these files and this report.
+fn performs<'a>(
+    alloc: Global,
+    script: &'a [u8],
+    released: &'a [u8],
+    schedule: &'a [u8],
+    report: &'a [u8],
+) -> Result<bool, NoMemory> {
+    let case = Case {
+        files: &[
+            ("box", b"box count"),
+            ("in", ONE_PACKET),
+            ("script", script),
+        ],
+        commands: &[&["run", "box", "in", "script", "out", "moves"]],
+        status: Status::Done,
+        left: &[("out", Some(released)), ("moves", Some(schedule))],
+        report,
+        is_whole_report: true,
+    };
+    comes_to(alloc, Fault::Nothing, &case)
+}
+
 #[test]
-fn stops_at_too_many_packets(rt: HostRuntime) -> Result<(), Fail> {
-    let capture = repeat_behind(rt.alloc(), LITTLE_MICRO, &[0; 16], 65_537)?;
-    assert!(rt; refuses_capture(rt.alloc(), capture.as_slice(), Limit::Packets)?);
+fn performs_a_script_as_large_as_a_file_may_be(rt: HostRuntime) -> Result<(), Fail> {
+    let script = put_spaces_behind(rt.alloc(), b"settle\n", MOST - 7)?;
+    let report = b"settle moves 4 released 1 epoch 1\ndone fed 1 epoch 1 released 1\n";
+    let right = performs(
+        rt.alloc(),
+        script.as_slice(),
+        ONE_COUNTED,
+        b"0\n0\n0\n0\n",
+        report,
+    )?;
+    assert!(rt; right);
     Ok(())
 }
 
@@ -153,13 +184,13 @@ fn performs_2_000_000_events(rt: HostRuntime) -> Result<(), Fail> {
     let script = repeat_behind(alloc, b"", b"time 7\n", 2_000_000)?;
     let mut report = repeat_behind(alloc, b"", b"time 7 set\n", 2_000_000)?;
     report.extend(b"done fed 0 epoch 1 released 0\n")?;
-    let case = Case {
-        script: script.as_slice(),
-        released: Some(WRITTEN_MICRO),
-        schedule: Some(b""),
-        report: report.as_slice(),
-        ..ONE
-    };
-    assert!(rt; holds(alloc, case)?);
+    let right = performs(
+        alloc,
+        script.as_slice(),
+        WRITTEN_MICRO,
+        b"",
+        report.as_slice(),
+    )?;
+    assert!(rt; right);
     Ok(())
 }

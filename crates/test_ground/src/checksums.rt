@@ -9,50 +9,62 @@ const HEADER: [u8; 20] = [
     0xc6, 0x33, 0x64, 0x07,
 ];
 
-/// What bytes are, the bytes, and the sum of their words.
-const SUMS: [(&str, &[u8], u16); 5] = [
-    ("nothing", &[], 0),
-    ("zeros", &[0; 33], 0),
-    ("ones", &[0xff; 6], 0xffff),
-    ("the example", &NUMERICAL_EXAMPLE, 0xddf2),
-    ("a header", &HEADER, 0xffff),
+/// What bytes are, the bytes, the sum of their words, and their checksum. An odd last byte is the high one of its word.
+const SUMS: [(&str, &[u8], u16, u16); 8] = [
+    ("nothing", &[], 0, 0xffff),
+    ("zeros", &[0; 33], 0, 0xffff),
+    ("ones", &[0xff; 6], 0xffff, 0),
+    ("the example", &NUMERICAL_EXAMPLE, 0xddf2, 0x220d),
+    (
+        "seven bytes of it",
+        &[0x00, 0x01, 0xf2, 0x03, 0xf4, 0xf5, 0xf6],
+        0xdcfb,
+        0x2304,
+    ),
+    ("a header", &HEADER, 0xffff, 0),
+    (
+        "before the change",
+        &[0xcd, 0x7a, 0x55, 0x55],
+        0x22d0,
+        0xdd2f,
+    ),
+    (
+        "after the change",
+        &[0xcd, 0x7a, 0x32, 0x85],
+        0xffff,
+        0x0000,
+    ),
 ];
+
+fn adds_up(bytes: &[u8], total: u16, taken: u16) -> bool {
+    sum(bytes) == total && checksum(bytes) == taken
+}
 
 #[test]
 fn sums_words(rt: HostRuntime) {
-    for (name, bytes, total) in &SUMS {
-        assert!(rt; sum(bytes) == *total, "{name}");
+    for (name, bytes, total, taken) in &SUMS {
+        assert!(rt; adds_up(bytes, *total, *taken), "{name}");
     }
 }
 
-#[test]
-fn an_odd_last_byte_is_the_high_one_of_its_word(rt: HostRuntime) {
-    assert!(rt; sum(&NUMERICAL_EXAMPLE[..7]) == 0xdcfb);
-}
-
-/// What bytes are, the bytes, and their checksum.
-const CHECKSUMS: [(&str, &[u8], u16); 5] = [
-    ("nothing", &[], 0xffff),
-    ("the example", &NUMERICAL_EXAMPLE, 0x220d),
-    ("a header", &HEADER, 0),
-    ("before the change", &[0xcd, 0x7a, 0x55, 0x55], 0xdd2f),
-    ("after the change", &[0xcd, 0x7a, 0x32, 0x85], 0x0000),
+/// A checksum, a word that changes, what it becomes, and the checksum then.
+const CHANGES: [(u16, u16, u16, u16); 3] = [
+    // RFC 1624, section 4: the other words add up to 0xcd7a.
+    (0xdd2f, 0x5555, 0x3285, 0x0000),
+    // A change to the same word changes nothing but all ones.
+    (0x1234, 0xabcd, 0xabcd, 0x1234),
+    (0xffff, 0xabcd, 0xabcd, 0x0000),
 ];
 
-#[test]
-fn takes_checksums(rt: HostRuntime) {
-    for (name, bytes, taken) in &CHECKSUMS {
-        assert!(rt; checksum(bytes) == *taken, "{name}");
-    }
+fn becomes(old: u16, from: u16, to: u16, new: u16) -> bool {
+    adjust16(old, from, to) == new
 }
 
 #[test]
 fn adjusts_checksums(rt: HostRuntime) {
-    // RFC 1624, section 4: the other words add up to 0xcd7a, and a word 0x5555 becomes 0x3285
-    assert!(rt; adjust16(0xdd2f, 0x5555, 0x3285) == 0x0000);
-    // a change to the same word changes nothing but all ones
-    assert!(rt; adjust16(0x1234, 0xabcd, 0xabcd) == 0x1234);
-    assert!(rt; adjust16(0xffff, 0xabcd, 0xabcd) == 0x0000);
+    for (old, from, to, new) in &CHANGES {
+        assert!(rt; becomes(*old, *from, *to, *new), "{old}");
+    }
     // 10.0.0.5 becomes 203.0.113.1
     assert!(rt; adjust32(0x4691, 0x0a00_0005, 0xcb00_7101) == 0x1494);
 }

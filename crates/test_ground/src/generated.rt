@@ -1,7 +1,4 @@
-use inet_checksum::sum;
-use plain_text::{Bytes, NoMemory, Packet};
-use std::alloc::Global;
-use std::process::Abort;
+use plain_text::{NoMemory, Packet};
 use traffic_gen::make;
 
 /// The first three packets of seed 7, and the 20,000th. Another program worked them out, from the published algorithm of the
@@ -49,63 +46,19 @@ fn is_packet(packet: &Packet, time: (u32, u32), bytes: &[u8; 60]) -> bool {
         && packet.bytes.as_slice() == bytes.as_slice()
 }
 
-/// 20,000 packets, and these among them.
-fn assert_made(rt: &impl Abort, packets: &[Packet]) {
-    assert!(rt; packets.len() == 20_000);
+/// Whether these are 20,000 packets, with those of the table among them.
+fn are_made(packets: &[Packet]) -> bool {
     for (place, time, bytes) in &MADE {
-        let is_made = *place < packets.len() && is_packet(&packets[*place], *time, bytes);
-        assert!(rt; is_made, "packet {place}");
+        if *place >= packets.len() || !is_packet(&packets[*place], *time, bytes) {
+            return false;
+        }
     }
+    packets.len() == 20_000
 }
 
 #[test]
 fn makes_the_packets_of_a_seed(rt: HostRuntime) -> Result<(), NoMemory> {
     let packets = make(rt.alloc(), 7, 20_000)?;
-    assert_made(&rt, packets.as_slice());
-    Ok(())
-}
-
-#[test]
-fn makes_no_packets(rt: HostRuntime) -> Result<(), NoMemory> {
-    assert!(rt; make(rt.alloc(), 7, 0)?.is_empty());
-    Ok(())
-}
-
-/// The sums of the header of a frame, and of its transport behind the pseudo-header, if the frame has 60 bytes.
-fn sums(alloc: Global, frame: &[u8]) -> Result<Option<(u16, u16)>, NoMemory> {
-    if frame.len() != 60 {
-        return Ok(None);
-    }
-    let mut covered = Bytes::of(alloc, &frame[26..34])?;
-    covered.extend(&[0, frame[23], 0, 26])?;
-    covered.extend(&frame[34..])?;
-    Ok(Some((sum(&frame[14..34]), sum(covered.as_slice()))))
-}
-
-/// How many of the packets are of TCP.
-fn count_tcp(packets: &[Packet]) -> usize {
-    let mut count: usize = 0;
-    for packet in packets {
-        if packet.bytes.as_slice().get(23) == Some(&6) {
-            count = count.saturating_add(1);
-        }
-    }
-    count
-}
-
-/// The header with its checksum, and the transport with its checksum behind the pseudo-header, add up to all ones. The number of those of TCP.
-fn assert_filled_in(rt: &impl Abort, alloc: Global, packets: &[Packet]) {
-    for (number, packet) in packets.iter().enumerate() {
-        let sums = sums(alloc, packet.bytes.as_slice());
-        let is_filled_in = matches!(sums, Ok(Some((0xffff, 0xffff))));
-        assert!(rt; is_filled_in, "packet {number}");
-    }
-    assert!(rt; count_tcp(packets) == 158);
-}
-
-#[test]
-fn fills_in_checksums(rt: HostRuntime) -> Result<(), NoMemory> {
-    let packets = make(rt.alloc(), 7, 300)?;
-    assert_filled_in(&rt, rt.alloc(), packets.as_slice());
+    assert!(rt; are_made(packets.as_slice()));
     Ok(())
 }

@@ -129,25 +129,6 @@ fn refuses_a_short_tcp_header(rt: HostRuntime) {
     assert!(rt; matches!(answer, Err(NotFlow::BadHeaderLength)));
 }
 
-/// Why no flow is seen in a part of the query that had no more bytes.
-fn fault_of_prefix(length: usize) -> NotFlow {
-    if length < 34 {
-        NotFlow::Short
-    } else {
-        NotFlow::BadTotalLength
-    }
-}
-
-#[test]
-fn sees_no_flow_in_a_prefix(rt: HostRuntime) {
-    for length in 0..42 {
-        let part = &QUERY[..length];
-        assert!(rt; matches!(view(part, 42), Err(NotFlow::Short)), "{length}");
-        let fault = fault_of_prefix(length);
-        assert!(rt; view(part, length as u32) == Err(fault), "{length}");
-    }
-}
-
 /// A frame, the source and the destination that are written into it, and its bytes from the IPv4 checksum on then.
 #[derive(Clone, Copy)]
 struct Rewriting<'a> {

@@ -3,7 +3,6 @@ use plain_text::{Bytes, NoMemory, Packet};
 use sample_frames::{ANSWER, NEXT_QUERY, QUERY};
 use std::alloc::Global;
 use std::marker::{Send, Sync};
-use std::process::Abort;
 
 fn packet(alloc: Global, seconds: u32, bytes: &[u8]) -> Result<Packet, NoMemory> {
     Ok(Packet {
@@ -39,13 +38,14 @@ fn feed(
     log.feed(packet(alloc, seconds, bytes)?)
 }
 
-/// Each packet that is fed comes to its thread and number.
-fn assert_fed(rt: &impl Abort, alloc: Global, log: &mut InputLog) {
+/// Whether each packet that is fed comes to its thread and number.
+fn are_fed(alloc: Global, log: &mut InputLog) -> Result<bool, NoMemory> {
     for (seconds, bytes, input) in &FED {
-        let fed = feed(alloc, log, *seconds, bytes);
-        assert!(rt; matches!(fed, Ok(place) if place == *input), "at {seconds}");
+        if feed(alloc, log, *seconds, bytes)? != *input {
+            return Ok(false);
+        }
     }
-    assert!(rt; log.fed() == 4);
+    Ok(log.fed() == 4 && log.threads() == 2)
 }
 
 /// Threads and numbers, and the second of the packet that is kept under them, if there is one.
@@ -60,36 +60,43 @@ const KEPT: [(u32, u64, Option<u32>); 8] = [
     (2, 1, None),
 ];
 
-fn assert_kept(rt: &impl Abort, log: &InputLog) {
+fn are_kept(log: &InputLog) -> bool {
     for (thread, k, seconds) in &KEPT {
-        let is_kept = seconds_of(log.input(*thread, *k)) == *seconds;
-        assert!(rt; is_kept, "{thread} {k}");
+        if seconds_of(log.input(*thread, *k)) != *seconds {
+            return false;
+        }
     }
+    true
+}
+
+/// Whether the inputs of two threads are kept.
+fn keeps_inputs(alloc: Global) -> Result<bool, NoMemory> {
+    let mut log = InputLog::new(alloc, 2)?;
+    goes_between_threads(&log);
+    Ok(are_fed(alloc, &mut log)? && are_kept(&log))
 }
 
 #[test]
-fn keeps_the_inputs_of_each_thread(rt: HostRuntime) -> Result<(), NoMemory> {
-    let mut log = InputLog::new(rt.alloc(), 2)?;
-    goes_between_threads(&log);
-    assert!(rt; log.threads() == 2 && log.fed() == 0);
-    assert_fed(&rt, rt.alloc(), &mut log);
-    assert_kept(&rt, &log);
-    Ok(())
+fn keeps_the_inputs_of_each_thread(rt: HostRuntime) {
+    assert!(rt; matches!(keeps_inputs(rt.alloc()), Ok(true)));
 }
 
 /// Numbers of threads, and the thread of the answer among them.
 const STEERED: [(u32, u32); 3] = [(1, 0), (7, 4), (16, 10)];
 
 /// 198.51.100.7 + 203.0.113.1 + 53 + 39,276 + 17 is 6,731,099,834.
-fn assert_steered(rt: &impl Abort, answer: &Packet) {
+fn is_steered(answer: &Packet) -> bool {
     for (threads, thread) in &STEERED {
-        assert!(rt; steer(answer, *threads) == *thread, "among {threads}");
+        if steer(answer, *threads) != *thread {
+            return false;
+        }
     }
+    true
 }
 
 #[test]
 fn steers_by_the_whole_sum(rt: HostRuntime) -> Result<(), NoMemory> {
     let answer = packet(rt.alloc(), 0, &ANSWER)?;
-    assert_steered(&rt, &answer);
+    assert!(rt; is_steered(&answer));
     Ok(())
 }

@@ -1,7 +1,10 @@
 //! Tests of the crates on which all others stand: texts and numbers, the world in memory, checksums, headers, packets made from a
-//! number, and the packets that came in. It has no function that another crate may call.
+//! number, and the packets that came in; libpcap savefiles and pcapng, read whole and with faults; and packets that were released,
+//! matched with what was sent out. It has no function that another crate may call.
 #![tactic(auto)]
 
+#[cfg(test)]
+mod blocks;
 #[cfg(test)]
 mod checksums;
 #[cfg(test)]
@@ -12,6 +15,12 @@ mod generated;
 mod headers;
 #[cfg(test)]
 mod inputs;
+#[cfg(test)]
+mod matches;
+#[cfg(test)]
+mod parts;
+#[cfg(test)]
+mod savefiles;
 #[cfg(test)]
 mod texts;
 #[cfg(test)]

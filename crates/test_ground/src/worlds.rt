@@ -1,6 +1,4 @@
-ghost use Rattle.std.specs.Prelude.{◌≡◌, ◌+◌, ◌<◌, ◌≤◌, IfOk, IsTrue, List, ℕ, length, vec_len};
-ghost use Rattle.world_io.specs.All.{WriteFailed};
-ghost use Rattle.world_io.specs.Memory.{IsHealthy};
+ghost use Rattle.std.specs.Prelude.{◌≡◌, ◌<◌, IsTrue, List, ℕ, length, vec_len};
 ghost use Rattle.world_io.specs.World.{is_writable};
 
 use plain_text::{Bytes, NoMemory, Text};
@@ -60,6 +58,7 @@ fn read_through<S: Source>(
     all
 }
 
+/// The bytes of a name, up to a limit.
 fn read_name<W: World>(
     alloc: Global,
     world: &mut W,
@@ -67,8 +66,6 @@ fn read_name<W: World>(
     limit: u64,
 ) -> Result<Bytes, ReadError>
     requires { (W.ledger world.old).given < 1000 }
-    ensures given { (W.ledger world.new).given ≤ (W.ledger world.old).given + 1 }
-    ensures stays_healthy { W.healthy world.old → W.healthy world.new }
 {
     match world.open_file(name) {
         Ok(file) => read_all(alloc, &mut WorldSource::of(world, file), limit),
@@ -77,6 +74,7 @@ fn read_name<W: World>(
     }
 }
 
+/// The first bytes of a name, up to a limit.
 fn read_front_of<W: World>(
     alloc: Global,
     world: &mut W,
@@ -92,11 +90,9 @@ fn read_front_of<W: World>(
     }
 }
 
+/// Writes bytes to a name.
 fn write_name<W: World>(world: &mut W, name: &Text, bytes: &[u8]) -> Result<(), WriteError>
     requires { (W.ledger world.old).given < 1000 }
-    ensures given { (W.ledger world.new).given ≤ (W.ledger world.old).given + 1 }
-    ensures never_fails { W.healthy world.old → ¬ WriteFailed result }
-    ensures stays_healthy { W.healthy world.old → W.healthy world.new }
 {
     match world.create_file(name) {
         Ok(file) => write_all(&mut WorldSink::of(world, file), bytes),
@@ -107,64 +103,101 @@ fn write_name<W: World>(world: &mut W, name: &Text, bytes: &[u8]) -> Result<(), 
 
 /// Sets the bytes of the name "in", which is answered, to "hello".
 fn add_hello(alloc: Global, world: &mut MemoryWorld) -> Result<Text, NoMemory>
-    ensures unused { length world.new.files ≡ length world.old.files }
-    ensures healthy { IsHealthy world.old → IsHealthy world.new }
+    ensures { length world.new.files ≡ length world.old.files }
 {
     let name = Text::of(alloc, "in")?;
     world.add(&name, Bytes::of(alloc, b"hello")?)?;
     Ok(name)
 }
 
-/// Whether reading "in" fails in a world, where this call of reading is told to fail.
-fn reading_fails_in(alloc: Global, world: &mut MemoryWorld, nth: u64) -> Result<bool, NoMemory>
+/// A call of reading that is told to fail, a limit, and how many bytes of "in" are read up to it. The tenth call is never made.
+const READS: [(u64, u64, Result<usize, ReadError>); 8] = [
+    (10, 5, Ok(5)),
+    (10, 6, Ok(5)),
+    (10, 4, Err(ReadError::TooLarge)),
+    (10, 0, Err(ReadError::TooLarge)),
+    (1, 10, Err(ReadError::Failed)),
+    (2, 10, Err(ReadError::Failed)),
+    (3, 10, Err(ReadError::Failed)),
+    (4, 10, Ok(5)),
+];
+
+/// How many bytes of "in" are read in a world.
+fn read_in(alloc: Global, world: &mut MemoryWorld, nth: u64, limit: u64) -> Result<usize, ReadError>
     requires { length world.old.files ≡ 0 }
 {
     let name = add_hello(alloc, world)?;
     world.fail_read(nth)?;
-    let read = read_name(alloc, world, &name, 10);
-    Ok(matches!(read, Err(ReadError::Failed)))
+    Ok(read_name(alloc, world, &name, limit)?.len())
 }
 
-/// Whether it fails in a world of its own.
-fn reading_fails(alloc: Global, nth: u64) -> Result<bool, NoMemory> {
+/// How many are read in a world of its own.
+fn read(alloc: Global, nth: u64, limit: u64) -> Result<usize, ReadError> {
     let mut world = MemoryWorld::new(alloc)?;
-    reading_fails_in(alloc, &mut world, nth)
+    read_in(alloc, &mut world, nth, limit)
 }
 
-/// Whether reading "in" up to a limit fails in a world, where this call of reading is told to fail.
-fn reading_a_front_fails_in(
+#[test]
+fn reads_up_to_a_limit_or_fails(rt: HostRuntime) {
+    for (nth, limit, wanted) in &READS {
+        let is_read = read(rt.alloc(), *nth, *limit) == *wanted;
+        assert!(rt; is_read, "call {nth} and limit {limit}");
+    }
+}
+
+/// What is read of "hello": its first bytes, and whether they are all, or nothing where reading fails.
+type Beginning = Option<(&'static str, bool)>;
+
+/// A call of reading that is told to fail, a limit, and what is read up to it. Where the file is longer than the limit, its end is not
+/// looked for.
+const FRONTS: [(u64, u64, Beginning); 9] = [
+    (10, 6, Some(("hello", true))),
+    (10, 5, Some(("hello", true))),
+    (10, 4, Some(("hell", false))),
+    (10, 0, Some(("", false))),
+    (1, 10, None),
+    (2, 10, None),
+    (3, 10, None),
+    (4, 10, Some(("hello", true))),
+    (3, 4, Some(("hell", false))),
+];
+
+/// Whether this is what is read.
+fn is_front(front: Result<Front, FrontError>, wanted: Beginning) -> bool {
+    match (front, wanted) {
+        (Ok(Front::All(bytes)), Some((text, true))) => bytes.as_slice() == text.as_bytes(),
+        (Ok(Front::More(bytes)), Some((text, false))) => bytes.as_slice() == text.as_bytes(),
+        (Err(FrontError::Failed), None) => true,
+        _ => false,
+    }
+}
+
+/// Whether this is read of "in" in a world.
+fn begins_in(
     alloc: Global,
     world: &mut MemoryWorld,
     nth: u64,
     limit: u64,
+    wanted: Beginning,
 ) -> Result<bool, NoMemory>
     requires { length world.old.files ≡ 0 }
 {
     let name = add_hello(alloc, world)?;
     world.fail_read(nth)?;
-    let read = read_front_of(alloc, world, &name, limit);
-    Ok(matches!(read, Err(FrontError::Failed)))
+    Ok(is_front(read_front_of(alloc, world, &name, limit), wanted))
 }
 
-/// Whether it fails in a world of its own.
-fn reading_a_front_fails(alloc: Global, nth: u64, limit: u64) -> Result<bool, NoMemory> {
+/// Whether it is in a world of its own.
+fn begins(alloc: Global, nth: u64, limit: u64, wanted: Beginning) -> Result<bool, NoMemory> {
     let mut world = MemoryWorld::new(alloc)?;
-    reading_a_front_fails_in(alloc, &mut world, nth, limit)
+    begins_in(alloc, &mut world, nth, limit, wanted)
 }
 
-/// Whether these are the first bytes, and whether they are all.
-fn is_front(front: &Front, text: &str, is_all: bool) -> bool {
-    match front {
-        Front::All(bytes) => is_all && bytes.as_slice() == text.as_bytes(),
-        Front::More(bytes) => !is_all && bytes.as_slice() == text.as_bytes(),
-    }
-}
-
-/// Whether these are the first bytes of "hello" up to a limit, and whether they are all.
-fn front_is(alloc: Global, limit: u64, text: &str, is_all: bool) -> bool {
-    match read_front(alloc, &mut SliceSource::of(b"hello"), limit) {
-        Ok(front) => is_front(&front, text, is_all),
-        Err(_) => false,
+#[test]
+fn reads_the_first_bytes_or_fails(rt: HostRuntime) {
+    for (nth, limit, wanted) in &FRONTS {
+        let begins = begins(rt.alloc(), *nth, *limit, *wanted);
+        assert!(rt; matches!(begins, Ok(true)), "call {nth} and limit {limit}");
     }
 }
 
@@ -187,90 +220,6 @@ fn written_length_in(
 fn written_length(alloc: Global, nth: u64) -> Result<Option<usize>, NoMemory> {
     let mut world = MemoryWorld::new(alloc)?;
     written_length_in(alloc, &mut world, nth)
-}
-
-/// How many bytes of "in" are read in a world, up to a limit.
-fn read_length_in(
-    alloc: Global,
-    world: &mut MemoryWorld,
-    limit: u64,
-) -> Result<Option<usize>, NoMemory>
-    requires { length world.old.files ≡ 0 }
-{
-    let name = add_hello(alloc, world)?;
-    match read_name(alloc, world, &name, limit) {
-        Ok(bytes) => Ok(Some(bytes.len())),
-        Err(_) => Ok(None),
-    }
-}
-
-/// How many are read in a world of its own.
-fn read_length(alloc: Global, limit: u64) -> Result<Option<usize>, NoMemory> {
-    let mut world = MemoryWorld::new(alloc)?;
-    read_length_in(alloc, &mut world, limit)
-}
-
-/// Limits, and how many bytes are read up to each.
-const LENGTHS: [(u64, Option<usize>); 4] = [(5, Some(5)), (6, Some(5)), (4, None), (0, None)];
-
-#[test]
-fn reads_up_to_a_limit(rt: HostRuntime) {
-    for (limit, want) in &LENGTHS {
-        let read = read_length(rt.alloc(), *limit);
-        assert!(rt;
-            matches!(read, Ok(length) if length == *want),
-            "limit {limit}"
-        );
-    }
-}
-
-/// Calls of reading that are told to fail, and whether "in" is read by such a call.
-const FAILED_READS: [(u64, bool); 4] = [(1, true), (2, true), (3, true), (4, false)];
-
-#[test]
-fn fails_where_reading_is_told_to(rt: HostRuntime) {
-    for (nth, fails) in &FAILED_READS {
-        let read = reading_fails(rt.alloc(), *nth);
-        assert!(rt;
-            matches!(read, Ok(failed) if failed == *fails),
-            "call {nth}"
-        );
-    }
-}
-
-/// Limits, the first bytes up to each, and whether they are all.
-const FRONTS: [(u64, &str, bool); 4] = [
-    (6, "hello", true),
-    (5, "hello", true),
-    (4, "hell", false),
-    (0, "", false),
-];
-
-#[test]
-fn reads_the_first_bytes_up_to_a_limit(rt: HostRuntime) {
-    for (limit, text, is_all) in &FRONTS {
-        let is_front = front_is(rt.alloc(), *limit, text, *is_all);
-        assert!(rt; is_front, "limit {limit}");
-    }
-}
-
-/// Calls of reading that are told to fail, limits, and whether the first bytes are read by such a call. Where the file is longer than the
-/// limit, its end is not looked for.
-const FAILED_FRONTS: [(u64, u64, bool); 5] = [
-    (1, 10, true),
-    (2, 10, true),
-    (3, 10, true),
-    (4, 10, false),
-    (3, 4, false),
-];
-
-#[test]
-fn fails_within_the_first_bytes(rt: HostRuntime) {
-    for (nth, limit, fails) in &FAILED_FRONTS {
-        let read = reading_a_front_fails(rt.alloc(), *nth, *limit);
-        let is_so = matches!(read, Ok(failed) if failed == *fails);
-        assert!(rt; is_so, "call {nth} and limit {limit}");
-    }
 }
 
 /// Calls of writing that are told to fail, and how many bytes "out" has then.

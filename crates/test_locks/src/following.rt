@@ -75,14 +75,29 @@ fn follow(alloc: Global, held: &Held) -> Result<Guide, NoMemory>
     Guide::of(alloc, held)
 }
 
-/// A guide that follows the entries of a run.
-pub fn guide_of(alloc: Global, steps: &[WovenStep]) -> Result<Guide, NoMemory> {
+/// A guide that follows these entries.
+pub fn guide_of(alloc: Global, entries: &[StampedEntry]) -> Result<Guide, NoMemory> {
     let mut held = nothing_held(alloc)?;
     let mut last = [0; 16];
-    for step in steps {
-        if let Trace::Did(entry) = &step.trace {
-            hold(&mut held, &mut last, entry)?;
-        }
+    for entry in entries {
+        hold(&mut held, &mut last, entry)?;
     }
     follow(alloc, &held)
+}
+
+/// The entries of a run.
+fn entries_of(alloc: Global, steps: &[WovenStep]) -> Result<Vec<StampedEntry>, NoMemory> {
+    let mut entries = Vec::new(alloc);
+    for step in steps {
+        if let Trace::Did(entry) = step.trace {
+            entries.push(entry)?;
+        }
+    }
+    Ok(entries)
+}
+
+/// A guide that follows the entries of a run.
+pub fn guide_to_run(alloc: Global, steps: &[WovenStep]) -> Result<Guide, NoMemory> {
+    let entries = entries_of(alloc, steps)?;
+    guide_of(alloc, &entries)
 }

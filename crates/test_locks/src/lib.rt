@@ -1,17 +1,15 @@
-//! Tests of numbered locks: rounds in which threads race over one box, and what they come to. They stand apart, so that what they
-//! test is proved once.
+//! Tests of numbered locks: rounds in which threads race over one box, and what they come to; the turns in which it is woven; and what a
+//! guide says that rounds follow. They stand apart, so that what they test is proved once.
 #![tactic(auto)]
 
 #[cfg(test)]
-mod following;
+mod examples;
 #[cfg(test)]
-mod going_on;
+mod following;
 #[cfg(test)]
 mod guides;
 #[cfg(test)]
 mod inputs;
-#[cfg(test)]
-mod orders;
 #[cfg(test)]
 mod outcomes;
 #[cfg(test)]
@@ -22,5 +20,7 @@ mod racing;
 mod rounds;
 #[cfg(test)]
 mod turns;
+#[cfg(test)]
+mod weaves;
 #[cfg(test)]
 mod weaving;

@@ -1,4 +1,4 @@
-//! A round in which two threads of the machine race.
+//! A round of two threads, which race on two threads of the machine, or go one after the other.
 ghost use Rattle.std.specs.Prelude.{◌≡◌, ℕ, ◌<◌, length, false, true, IfOk};
 ghost use Rattle.box_program.specs.Hands.{FitsProgram};
 ghost use Rattle.master_core.specs.Mastered.{value_of};
@@ -26,7 +26,7 @@ use std::thread;
 use std::thread::Threads;
 use var_locks::{Closed, Round, VarSeat, Vars};
 
-/// Both threads take their inputs to their ends, at once.
+/// Both threads take their inputs to their ends, at once or one after the other.
 fn run_both<P: Program + Sync, J: Round + Sync, R: Threads + Wait + Sync>(
     rt: &R,
     alloc: Global,
@@ -45,6 +45,10 @@ fn run_both<P: Program + Sync, J: Round + Sync, R: Threads + Wait + Sync>(
     ensures first { IsAt vars.now.round 0 true result.0 }
     ensures second { IsAt vars.now.round 1 true result.1 }
 {
+    if !feed.at_once {
+        let first = run(rt, alloc, program, vars, guide, 0, first, feed);
+        return (first, run(rt, alloc, program, vars, guide, 1, second, feed));
+    }
     thread::join(
         rt,
         move || -> VarSeat<P>
@@ -62,7 +66,7 @@ fn run_both<P: Program + Sync, J: Round + Sync, R: Threads + Wait + Sync>(
     )
 }
 
-/// A round in which two threads race.
+/// A round in which each of two threads takes its inputs to their ends.
 fn race_of<P: Program + Sync, J: Round + Sync, R: Threads + Wait + Sync>(
     rt: &R,
     alloc: Global,
@@ -87,8 +91,8 @@ fn race_of<P: Program + Sync, J: Round + Sync, R: Threads + Wait + Sync>(
     close_two(alloc, program, vars, first, second)
 }
 
-/// A round in which two threads race, each taking its inputs to their ends.
-pub fn race<P: Program + Sync, R: Threads + Wait + Sync>(
+/// A round in which each of two threads takes its inputs to their ends.
+fn race<P: Program + Sync, R: Threads + Wait + Sync>(
     rt: &R,
     alloc: Global,
     program: &P,
@@ -105,14 +109,12 @@ pub fn race<P: Program + Sync, R: Threads + Wait + Sync>(
     race_of::<P, Brand, R>(rt, alloc, program, master, guide, feed)
 }
 
-/// So often each thread touches a variable.
-const TOUCHES: u64 = 100_000;
-
-/// A race of a fresh master, in which each thread takes all its inputs to their ends.
-fn race_fresh<P: Program + Sync, R: Threads + Wait + Sync>(
+/// A round of two threads of a fresh master, each of which takes its inputs to their ends.
+pub fn race_fresh<P: Program + Sync, R: Threads + Wait + Sync>(
     rt: &R,
     alloc: Global,
     program: &P,
+    guide: &Guide,
     feed: Feed<'_>,
 ) -> Result<Closed<P>, NoMemory>
     ensures fits { IfOk result (λ closed. FitsProgram (P.meaning program.now) (P.fits program.now)
@@ -120,45 +122,46 @@ fn race_fresh<P: Program + Sync, R: Threads + Wait + Sync>(
     ensures two { IfOk result (λ closed. length closed.master.threads ≡ 2) }
 {
     let master = Master::fresh(alloc, program, 2)?;
-    let guide = Guide::none(alloc);
-    race(rt, alloc, program, master, &guide, feed)
+    race(rt, alloc, program, master, guide, feed)
 }
 
-/// What a race of two threads of a fresh master comes to; and whether the variable then shows so.
+/// Whether a race of two threads of a fresh master comes to this, and the variable then shows so.
 fn raced_with<P: Program + Sync, R: Threads + Wait + Sync>(
     rt: &R,
     alloc: Global,
     program: &P,
     feed: Feed<'_>,
+    wanted: &Outcome,
     shown: (u32, &str),
-) -> Result<(Outcome, bool), NoMemory> {
-    let closed = race_fresh(rt, alloc, program, feed)?;
+) -> Result<bool, NoMemory> {
+    let closed = race_fresh(rt, alloc, program, &Guide::none(alloc), feed)?;
     let (var, text) = shown;
-    let shown = shows(alloc, program, &closed.master, var, text)?;
-    let outcome = outcome_of(alloc, program, feed.inputs, &closed)?;
-    Ok((outcome, shown))
+    let shows = shows(alloc, program, &closed.master, var, text)?;
+    Ok(shows && outcome_of(alloc, program, feed.inputs, &closed)? == *wanted)
 }
 
-/// What a race of two threads comes to, each with this number of packets of one of these frames; and whether the variable then shows so.
+/// Whether a race of two threads, each with this number of packets of one of these frames, comes to this, and the variable then shows so.
 fn raced<P: Program + Sync, R: Threads + Wait + Sync>(
     rt: &R,
     alloc: Global,
     program: &P,
     frames: [&[u8]; 2],
     count: u64,
+    wanted: &Outcome,
     shown: (u32, &str),
-) -> Result<(Outcome, bool), NoMemory> {
+) -> Result<bool, NoMemory> {
     let inputs = inputs_of(alloc, frames, count)?;
     let feed = Feed {
         inputs: &inputs,
         count,
         time: 0,
+        at_once: true,
     };
-    raced_with(rt, alloc, program, feed, shown)
+    raced_with(rt, alloc, program, feed, wanted, shown)
 }
 
 /// What comes where each thread took and sent out this number of packets, and logged and made this number of entries and moves.
-fn wanted(packets: u64, entries: u64, moves: usize) -> Outcome {
+pub fn outcome(packets: u64, entries: u64, moves: usize) -> Outcome {
     let counts = Counts {
         taken: packets,
         entries,
@@ -166,36 +169,35 @@ fn wanted(packets: u64, entries: u64, moves: usize) -> Outcome {
     };
     Outcome {
         counts: [counts, counts],
-        touches: [TOUCHES, TOUCHES],
         moves,
         legal: true,
-        same: true,
     }
 }
 
-/// Each packet touches the table of its flow, which is that of its thread alone, and then the totals.
+/// Each packet touches the table of its flow, which is that of its thread alone, and then the totals: 100,000 touches of each thread.
 #[test]
 fn two_threads_race_over_the_monitor(rt: HostRuntime) -> Result<(), Fail> {
     let alloc = rt.alloc();
     let program = MonitorBox::new(2);
+    let wanted = outcome(50_000, 100_000, 500_000);
     let shown = (0, "packets 100000 bytes 4200000 other 0");
-    let (outcome, shown) = raced(&rt, alloc, &program, [&QUERY, &OTHER_QUERY], 50_000, shown)?;
-    assert!(rt; outcome == wanted(50_000, TOUCHES, 500_000));
-    assert!(rt; shown);
+    let frames: [&[u8]; 2] = [&QUERY, &OTHER_QUERY];
+    assert!(rt; raced(&rt, alloc, &program, frames, 50_000, &wanted, shown)?);
     Ok(())
 }
 
 /// The first packet of each endpoint makes 9 moves, and of them 4 touches. Each one after it finds its mapping idle, and makes 11
-/// moves, of which 6 are touches. All are told the time and a word.
+/// moves, of which 6 are touches. All are told the time and a word. So each thread makes 100,000 touches.
 #[test]
 fn two_threads_race_over_the_nat(rt: HostRuntime) -> Result<(), Fail> {
     let alloc = rt.alloc();
+    let wanted = outcome(16_667, 133_334, 366_670);
+    let shown = (1, "tcp 1024 udp 1022");
+    let frames: [&[u8]; 2] = [&QUERY, &NEXT_QUERY];
     for tables in [1, 4] {
         let program = NatBox::new(tables, 0x0a00_0000, 8, 0xcb00_7101, 39_276, 40_299);
-        let shown = (1, "tcp 1024 udp 1022");
-        let (outcome, shown) = raced(&rt, alloc, &program, [&QUERY, &NEXT_QUERY], 16_667, shown)?;
-        assert!(rt; outcome == wanted(16_667, 133_334, 366_670), "{tables}");
-        assert!(rt; shown, "{tables}");
+        let right = raced(&rt, alloc, &program, frames, 16_667, &wanted, shown)?;
+        assert!(rt; right, "{tables}");
     }
     Ok(())
 }

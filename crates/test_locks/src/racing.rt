@@ -29,12 +29,14 @@ pub struct Feed<'a> {
     pub count: u64,
     /// The time of the round, in microseconds: a thread's k-th packet is told the time k times 300 s later.
     pub time: u64,
+    /// Whether the threads race; else the second begins where the first has ended.
+    pub at_once: bool,
 }
 
 /// Makes the next move of the seat's thread. A clock or a draw is told the time of its packet. Out of memory also where the thread made
 /// more moves than a test makes.
 #[tactic(auto, using(crate::proofs::Keeping::steps_keep, crate::proofs::Keeping::touches_keep))]
-pub fn make<P: Program, J: Round, R: Wait>(
+fn make<P: Program, J: Round, R: Wait>(
     rt: &R,
     alloc: Global,
     program: &P,

@@ -1,4 +1,4 @@
-//! A round of two threads, from a master to a master.
+//! How a round of two threads begins and ends.
 ghost use Rattle.std.specs.Prelude.{◌≡◌, ℕ, ◌<◌, List, length, false, true, IfOk, IfSome};
 ghost use Rattle.box_program.specs.Hands.{FitsProgram};
 ghost use Rattle.master_core.specs.Mastered.{value_of};
@@ -9,14 +9,11 @@ ghost use Rattle.var_locks.specs.Openings.{fresh_seats, places_of};
 ghost use Rattle.var_locks.specs.Rounds.{AreVarsOf};
 ghost use Rattle.test_locks.specs.Racing.{IsAt};
 
-use crate::racing::{Feed, run};
 use box_program::Program;
 use master_core::Master;
 use plain_text::NoMemory;
 use replay_guide::Guide;
 use std::alloc::Global;
-use std::marker::Brand;
-use std::sync::Wait;
 use var_locks::{Closed, Round, VarSeat, Vars};
 
 /// The two seats of a round.
@@ -77,48 +74,4 @@ pub fn close_two<P: Program, J: Round>(
     seats.push(first)?;
     seats.push(second)?;
     vars.close(alloc, program, seats)
-}
-
-/// A round in which each of two threads takes its inputs to their ends, one after the other.
-fn round_of<P: Program, J: Round, R: Wait>(
-    rt: &R,
-    alloc: Global,
-    program: &P,
-    master: Master<P>,
-    guide: &Guide,
-    feed: Feed<'_>,
-) -> Result<Closed<P>, NoMemory>
-    requires program { P.row.coded.code program.now ≡ J.program }
-    requires master { (master_code P.Value.row.coded).code master ≡ J.opening }
-    requires threads { master.threads ≡ J.threads }
-    requires places { places_of master.vars ≡ J.places }
-    requires guide { guide.now ≡ J.guide }
-    requires fits { FitsProgram (P.meaning program.now) (P.fits program.now) value_of master.vars }
-    requires two { length master.threads ≡ 2 }
-    ensures fits { IfOk result (λ closed. FitsProgram (P.meaning program.now) (P.fits program.now)
-        value_of closed.master.vars) }
-    ensures two { IfOk result (λ closed. length closed.master.threads ≡ 2) }
-{
-    let (vars, first, second) = open_two::<P, J>(alloc, program, master, guide)?;
-    let first = run(rt, alloc, program, &vars, guide, 0, first, feed);
-    let second = run(rt, alloc, program, &vars, guide, 1, second, feed);
-    close_two(alloc, program, vars, first, second)
-}
-
-/// A round in which each of two threads takes its inputs to their ends, one after the other.
-pub fn take_turns<P: Program, R: Wait>(
-    rt: &R,
-    alloc: Global,
-    program: &P,
-    master: Master<P>,
-    guide: &Guide,
-    feed: Feed<'_>,
-) -> Result<Closed<P>, NoMemory>
-    requires fits { FitsProgram (P.meaning program.now) (P.fits program.now) value_of master.vars }
-    requires two { length master.threads ≡ 2 }
-    ensures fits { IfOk result (λ closed. FitsProgram (P.meaning program.now) (P.fits program.now)
-        value_of closed.master.vars) }
-    ensures two { IfOk result (λ closed. length closed.master.threads ≡ 2) }
-{
-    round_of::<P, Brand, R>(rt, alloc, program, master, guide, feed)
 }

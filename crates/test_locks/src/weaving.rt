@@ -84,15 +84,3 @@ pub fn is_legal<P: Program>(
     }
     Ok(play(alloc, program, inputs, &schedule).is_ok())
 }
-
-/// How many moves the threads made together, if the plain player may make them in one order.
-pub fn legal_moves<P: Program>(
-    alloc: Global,
-    program: &P,
-    inputs: &InputLog,
-    receipts: &[Woven],
-) -> Result<Option<usize>, NoMemory> {
-    let steps = woven(alloc, receipts)?;
-    let legal = is_legal(alloc, program, inputs, steps.as_slice())?;
-    Ok(legal.then_some(steps.len()))
-}

@@ -1,22 +1,16 @@
 ghost use Rattle.std.specs.Prelude.{◌≡◌, ℕ, ◌<◌, ◌≤◌, length, IsTrue, IsSome};
 ghost use Rattle.box_program.specs.Hands.{FitsProgram, has_hand};
-ghost use Rattle.box_program.specs.Count.{IsCounter};
-ghost use Rattle.test_logs.specs.Mixed.{mixed_meaning};
 ghost use Rattle.master_core.specs.Mastered.{value_of, place_in_hand, HasRoom};
 
-use crate::mixed::MixedBox;
 use access_log::{StampedEntry, Turn, What};
 use box_program::{CountBox, PeekBox, Program};
-use entry_order::{LogEntry, precedes, precedes_output, stamp_component, weight};
+use entry_order::LogEntry;
 use master_core::{Master, Stepped, Wants};
 use plain_text::{Bytes, NoMemory, Packet};
-use rand_core::utils::NextWord;
-use rand_pcg::Pcg32;
 use sample_frames::{NEXT_QUERY, QUERY};
-use std::alloc::{AllocError, Global};
+use std::alloc::Global;
 use std::process::Abort;
 use std::test::Fail;
-use thread_clock::Stamp;
 
 /// What a master tells of a move. Of an entry and of a packet that was sent out it has the components of the stamp, and of a packet
 /// its number and that of its input.
@@ -56,7 +50,7 @@ fn told_of(stepped: Stepped) -> Told {
     }
 }
 
-fn packet(alloc: Global, bytes: &[u8]) -> Result<Packet, NoMemory> {
+pub fn packet(alloc: Global, bytes: &[u8]) -> Result<Packet, NoMemory> {
     Ok(Packet {
         seconds: 1,
         fraction: 2,
@@ -364,161 +358,4 @@ fn a_touch_comes_after_a_read(rt: HostRuntime) -> Result<(), Fail> {
         &[&QUERY, &LONGER],
         &READ_AND_TOUCH,
     )
-}
-
-/// What a run logged, newest first; the same entries with their stamps; and for each output its thread, how many entries the thread
-/// had made, and its stamp.
-#[derive(Drop)]
-struct Run {
-    log: Vec<LogEntry>,
-    stamped: Vec<(LogEntry, Stamp)>,
-    outputs: Vec<(u32, u64, Stamp)>,
-}
-
-/// Notes what a move of this thread told, before which it had logged this many entries.
-fn note(run: &mut Run, thread: u32, entries: u64, told: Told) -> Result<(), AllocError> {
-    match told {
-        Told::Did(entry, components) => {
-            run.stamped.insert(0, (entry, Stamp::new(components)))?;
-            run.log.insert(0, entry)?;
-            Ok(())
-        }
-        Told::Sent(_, _, components) => {
-            Ok(run.outputs.push((thread, entries, Stamp::new(components)))?)
-        }
-        _ => Ok(()),
-    }
-}
-
-/// One move of one of three threads. A thread without a packet takes one of one byte, which chooses what the program for tests does.
-fn random_move(
-    alloc: Global,
-    random: &mut Pcg32,
-    chosen: &mut [u8; 3],
-    master: &mut Master<MixedBox>,
-    run: &mut Run,
-) -> Result<(), AllocError>
-    requires fits { FitsProgram mixed_meaning (λ _ n. IsCounter n) value_of master.old.vars }
-    requires threads { length master.old.threads ≡ 3 }
-    ensures fits { FitsProgram mixed_meaning (λ _ n. IsCounter n) value_of master.new.vars }
-    ensures threads { length master.new.threads ≡ 3 }
-{
-    let thread = random.next_word() % 3;
-    if master.in_hand(thread).is_none() {
-        chosen[thread as usize] = (random.next_word() % 8) as u8;
-    }
-    let bytes = [chosen[thread as usize]];
-    let entries = master.counts(thread).entries;
-    let told = make_with(alloc, master, &MixedBox {}, thread, Turn::Free, &bytes);
-    note(run, thread, entries, told)
-}
-
-/// As many moves of three threads of a fresh master.
-fn random_run(
-    alloc: Global,
-    random: &mut Pcg32,
-    count: u32,
-    run: &mut Run,
-) -> Result<(), NoMemory> {
-    let mut chosen = [0u8; 3];
-    let mut master = Master::fresh(alloc, &MixedBox {}, 3)?;
-    for _ in 0..count {
-        random_move(alloc, random, &mut chosen, &mut master, run)?;
-    }
-    Ok(())
-}
-
-/// Whether an entry's number is within the stamp.
-fn covers(stamp: &Stamp, entry: &LogEntry) -> bool {
-    match stamp.components().get(entry.thread as usize) {
-        Some(component) => entry.number <= *component,
-        None => false,
-    }
-}
-
-/// Whether this is the stamp of an entry of the log by its definition.
-fn is_stamp(
-    alloc: Global,
-    log: &[LogEntry],
-    entry: &LogEntry,
-    stamp: &Stamp,
-) -> Result<bool, AllocError> {
-    for thread in 0..4 {
-        if stamp.get(thread) != stamp_component(alloc, log, entry, thread)? {
-            return Ok(false);
-        }
-    }
-    for other in log {
-        let comes_first = other == entry || precedes(alloc, log, other, entry)?;
-        if covers(stamp, other) != comes_first {
-            return Ok(false);
-        }
-    }
-    Ok(stamp.weight() == weight(alloc, log, entry)? as u128)
-}
-
-/// Whether this is the stamp of what a thread sent out after this number of entries.
-fn is_output_stamp(
-    alloc: Global,
-    log: &[LogEntry],
-    thread: u32,
-    entries: u64,
-    stamp: &Stamp,
-) -> Result<bool, AllocError> {
-    for other in log {
-        if covers(stamp, other) != precedes_output(alloc, log, thread, entries, other)? {
-            return Ok(false);
-        }
-    }
-    Ok(true)
-}
-
-/// Whether the stamps of the entries are those of the definitions.
-fn entries_agree(alloc: Global, run: &Run) -> Result<bool, AllocError> {
-    for (entry, stamp) in &run.stamped {
-        if !is_stamp(alloc, &run.log, entry, stamp)? {
-            return Ok(false);
-        }
-    }
-    Ok(true)
-}
-
-/// Whether the stamps of the outputs are those of the definitions.
-fn outputs_agree(alloc: Global, run: &Run) -> Result<bool, AllocError> {
-    for (thread, entries, stamp) in &run.outputs {
-        if !is_output_stamp(alloc, &run.log, *thread, *entries, stamp)? {
-            return Ok(false);
-        }
-    }
-    Ok(true)
-}
-
-/// Whether a random run's stamps are those of the definitions.
-fn run_agrees(
-    alloc: Global,
-    random: &mut Pcg32,
-    count: u32,
-    run: &mut Run,
-) -> Result<bool, NoMemory> {
-    random_run(alloc, random, count, run)?;
-    Ok(entries_agree(alloc, run)? && outputs_agree(alloc, run)?)
-}
-
-/// The same, of a run that has nothing yet.
-fn agrees(alloc: Global, random: &mut Pcg32, count: u32) -> Result<bool, NoMemory> {
-    let mut run = Run {
-        log: Vec::new(alloc),
-        stamped: Vec::new(alloc),
-        outputs: Vec::new(alloc),
-    };
-    run_agrees(alloc, random, count, &mut run)
-}
-
-#[test]
-fn stamps_of_random_runs_agree_with_the_definitions(rt: HostRuntime) -> Result<(), Fail> {
-    let mut random = Pcg32::new(42, 54);
-    for turn in 0..60 {
-        assert!(rt; agrees(rt.alloc(), &mut random, turn)?, "at {turn}");
-    }
-    Ok(())
 }

@@ -41,101 +41,86 @@ const WITH_READS: [LogEntry; 4] = [SECOND, OTHER_READ, ONE_READ, FIRST];
 #[test]
 fn reads_stand_between_touches(rt: HostRuntime) {
     let (first, read, second) = (&FIRST, &ONE_READ, &SECOND);
-    assert!(rt; is_next(first, second));
-    assert!(rt; is_next(first, read));
-    assert!(rt; is_next(read, second));
+    assert!(rt; is_next(first, second) && is_next(first, read) && is_next(read, second));
     assert!(rt; !contains(&[FIRST], second));
 }
 
-fn is_true(answer: Result<bool, AllocError>) -> bool {
-    matches!(answer, Ok(true))
+/// Whether an entry of a log precedes another one.
+fn comes_first(
+    alloc: Global,
+    log: &[LogEntry],
+    first: &LogEntry,
+    second: &LogEntry,
+) -> Result<bool, AllocError> {
+    precedes(alloc, log, first, second)
 }
 
-fn is_false(answer: Result<bool, AllocError>) -> bool {
-    matches!(answer, Ok(false))
+/// Whether a read precedes what this thread sends out after its first entry.
+fn precedes_output_of(alloc: Global, thread: u32) -> Result<bool, AllocError> {
+    precedes_output(alloc, &WITH_READS, thread, 1, &ONE_READ)
 }
 
-#[test]
-fn the_first_touch_precedes_the_second(rt: HostRuntime) {
-    let alloc = rt.alloc();
-    assert!(rt; is_true(precedes(alloc, &TOUCHES, &FIRST, &SECOND)));
-    assert!(rt; is_false(precedes(alloc, &TOUCHES, &SECOND, &FIRST)));
-    assert!(rt; is_false(precedes(alloc, &WITH_READS, &ONE_READ, &OTHER_READ)));
+/// Whether the first touch precedes the second, and its output; and of two reads neither precedes the other.
+fn are_ordered(alloc: Global) -> Result<bool, AllocError> {
+    Ok(
+        comes_first(alloc, &TOUCHES, &FIRST, &SECOND)?
+            && !comes_first(alloc, &TOUCHES, &SECOND, &FIRST)?
+            && !comes_first(alloc, &WITH_READS, &ONE_READ, &OTHER_READ)?
+            && precedes_output_of(alloc, 0)?
+            && !precedes_output_of(alloc, 2)?,
+    )
 }
 
-#[test]
-fn a_read_precedes_the_output_of_a_touch(rt: HostRuntime) {
-    let (alloc, log) = (rt.alloc(), &WITH_READS);
-    assert!(rt; is_true(precedes_output(alloc, log, 0, 1, &ONE_READ)));
-    assert!(rt; is_false(precedes_output(alloc, log, 2, 1, &ONE_READ)));
-}
-
-/// Whether the stamp of an entry has this component for a thread.
-fn has_component(
+/// Whether the stamp of an entry has this component for a thread, and it has this weight.
+fn has_stamp(
     alloc: Global,
     log: &[LogEntry],
     entry: &LogEntry,
-    thread: u32,
-    component: u64,
-) -> bool {
-    matches!(stamp_component(alloc, log, entry, thread), Ok(told) if told == component)
+    of_thread: (u32, u64),
+    weighed: usize,
+) -> Result<bool, AllocError> {
+    let (thread, component) = of_thread;
+    Ok(
+        stamp_component(alloc, log, entry, thread)? == component
+            && weight(alloc, log, entry)? == weighed,
+    )
 }
 
-#[test]
-fn stamps_count_touches_and_reads(rt: HostRuntime) {
-    let (alloc, log, second) = (rt.alloc(), &TOUCHES, &SECOND);
-    assert!(rt; has_component(alloc, log, &FIRST, 0, 0));
-    assert!(rt; has_component(alloc, log, &FIRST, 1, 1));
-    assert!(rt; has_component(alloc, log, second, 0, 1));
-    assert!(rt; has_component(alloc, log, second, 1, 1));
-    assert!(rt; has_component(alloc, &WITH_READS, second, 3, 1));
+/// Whether stamps and weights count touches and reads.
+fn are_counted(alloc: Global) -> Result<bool, AllocError> {
+    Ok(
+        has_stamp(alloc, &TOUCHES, &FIRST, (0, 0), 1)?
+            && has_stamp(alloc, &TOUCHES, &FIRST, (1, 1), 1)?
+            && has_stamp(alloc, &TOUCHES, &SECOND, (0, 1), 2)?
+            && has_stamp(alloc, &TOUCHES, &SECOND, (1, 1), 2)?
+            && has_stamp(alloc, &WITH_READS, &SECOND, (3, 1), 4)?,
+    )
 }
 
-/// Whether the stamp of an entry has this weight.
-fn weighs(alloc: Global, log: &[LogEntry], entry: &LogEntry, expected: usize) -> bool {
-    matches!(weight(alloc, log, entry), Ok(told) if told == expected)
-}
-
-#[test]
-fn weights_count_touches_and_reads(rt: HostRuntime) {
-    let alloc = rt.alloc();
-    assert!(rt; weighs(alloc, &TOUCHES, &FIRST, 1));
-    assert!(rt; weighs(alloc, &TOUCHES, &SECOND, 2));
-    assert!(rt; weighs(alloc, &WITH_READS, &SECOND, 4));
-}
-
-/// Whether this entry is the first that is missing for the first output of thread 0.
-fn is_first_missing(alloc: Global, log: &[LogEntry], held: &[LogEntry], first: &LogEntry) -> bool {
-    match first_missing(alloc, log, &[], held, 0, 1) {
-        Ok(Some(entry)) => entry == *first,
-        _ => false,
-    }
-}
-
-/// Whether this number of entries are missing for it.
-fn are_missing(alloc: Global, log: &[LogEntry], held: &[LogEntry], count: usize) -> bool {
-    match missing_entries(alloc, log, &[], held, 0, 1) {
-        Ok(missing) => missing.len() == count,
-        Err(_) => false,
-    }
+/// Whether this is the first entry that is missing for the first output of thread 0, and this is how many are.
+fn misses(
+    alloc: Global,
+    log: &[LogEntry],
+    held: &[LogEntry],
+    first: Option<LogEntry>,
+    count: usize,
+) -> Result<bool, AllocError> {
+    Ok(
+        first_missing(alloc, log, &[], held, 0, 1)? == first
+            && missing_entries(alloc, log, &[], held, 0, 1)?.len() == count,
+    )
 }
 
 /// Both touches, without the reads.
 const WITHOUT_READS: [LogEntry; 2] = [FIRST, SECOND];
 
-/// A touch waits for the reads of what it ends, and names the one of the least thread.
-#[test]
-fn the_read_of_the_least_thread_is_missing(rt: HostRuntime) {
-    let (alloc, log) = (rt.alloc(), &WITH_READS);
-    assert!(rt; is_first_missing(alloc, log, &WITHOUT_READS, &OTHER_READ));
-    assert!(rt; are_missing(alloc, log, &WITHOUT_READS, 2));
-}
-
-#[test]
-fn the_first_touch_is_missing(rt: HostRuntime) {
-    let (alloc, log) = (rt.alloc(), &TOUCHES);
-    assert!(rt; is_first_missing(alloc, log, &[SECOND], &FIRST));
-    assert!(rt; matches!(first_missing(alloc, log, &[], log, 0, 1), Ok(None)));
+/// Whether a touch waits for the reads of what it ends, and names the one of the least thread.
+fn reads_are_missing(alloc: Global) -> Result<bool, AllocError> {
+    Ok(
+        misses(alloc, &TOUCHES, &[SECOND], Some(FIRST), 1)?
+            && misses(alloc, &TOUCHES, &TOUCHES, None, 0)?
+            && misses(alloc, &WITH_READS, &WITHOUT_READS, Some(OTHER_READ), 2)?,
+    )
 }
 
 /// Whether this is the closed part of what is held of a log.
@@ -145,11 +130,14 @@ fn is_closed_part(
     stored: &[LogEntry],
     held: &[LogEntry],
     part: &[LogEntry],
-) -> bool {
-    match closed_part(alloc, log, stored, held) {
-        Ok(found) => found.as_slice() == part,
-        Err(_) => false,
-    }
+) -> Result<bool, AllocError> {
+    Ok(closed_part(alloc, log, stored, held)?.as_slice() == part)
+}
+
+/// Whether one touch comes up to a read.
+fn comes_up_to_read(alloc: Global) -> Result<bool, AllocError> {
+    let found = entries_up_to(alloc, &WITH_READS, &OTHER_READ)?;
+    Ok(found.as_slice() == [OTHER_READ, FIRST].as_slice())
 }
 
 /// All but the other read.
@@ -158,27 +146,21 @@ const WITH_ONE_READ: [LogEntry; 3] = [SECOND, ONE_READ, FIRST];
 /// The part of it that is closed.
 const UP_TO_ONE_READ: [LogEntry; 2] = [ONE_READ, FIRST];
 
-#[test]
-fn a_closed_part_has_what_precedes_its_entries(rt: HostRuntime) {
-    let (alloc, log, second) = (rt.alloc(), &TOUCHES, &[SECOND]);
-    assert!(rt; is_closed_part(alloc, log, &[], second, &[]));
-    assert!(rt; is_closed_part(alloc, log, &[], log, log));
-    assert!(rt; is_closed_part(alloc, log, &[FIRST], second, second));
-    assert!(rt; is_closed_part(alloc, &WITH_READS, &[], &WITH_ONE_READ, &UP_TO_ONE_READ));
-}
-
-/// The other read, and the touch before it.
-const UP_TO_OTHER_READ: [LogEntry; 2] = [OTHER_READ, FIRST];
-
-/// Whether these are the entries up to one of the log.
-fn are_up_to(alloc: Global, log: &[LogEntry], last: &LogEntry, entries: &[LogEntry]) -> bool {
-    match entries_up_to(alloc, log, last) {
-        Ok(found) => found.as_slice() == entries,
-        Err(_) => false,
-    }
+/// Whether a closed part has what precedes its entries.
+fn are_closed(alloc: Global) -> Result<bool, AllocError> {
+    Ok(
+        is_closed_part(alloc, &TOUCHES, &[], &[SECOND], &[])?
+            && is_closed_part(alloc, &TOUCHES, &[], &TOUCHES, &TOUCHES)?
+            && is_closed_part(alloc, &TOUCHES, &[FIRST], &[SECOND], &[SECOND])?
+            && is_closed_part(alloc, &WITH_READS, &[], &WITH_ONE_READ, &UP_TO_ONE_READ)?
+            && comes_up_to_read(alloc)?,
+    )
 }
 
 #[test]
-fn one_touch_comes_up_to_a_read(rt: HostRuntime) {
-    assert!(rt; are_up_to(rt.alloc(), &WITH_READS, &OTHER_READ, &UP_TO_OTHER_READ));
+fn entries_stand_in_order(rt: HostRuntime) {
+    assert!(rt; matches!(are_ordered(rt.alloc()), Ok(true)));
+    assert!(rt; matches!(are_counted(rt.alloc()), Ok(true)));
+    assert!(rt; matches!(reads_are_missing(rt.alloc()), Ok(true)));
+    assert!(rt; matches!(are_closed(rt.alloc()), Ok(true)));
 }

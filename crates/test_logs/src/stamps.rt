@@ -18,21 +18,8 @@ fn count_by_two_threads() -> (Stamp, Stamp) {
 #[test]
 fn two_threads_count(rt: HostRuntime) {
     let (first, second) = count_by_two_threads();
-    assert!(rt; first.components() == &OF_FIRST);
-    assert!(rt; second.components() == &OF_SECOND);
+    assert!(rt; first.components() == &OF_FIRST && second.components() == &OF_SECOND);
     assert!(rt; Stamp::new(OF_SECOND) == second);
-}
-
-#[test]
-fn a_stamp_is_weighed(rt: HostRuntime) {
-    let (_, second) = count_by_two_threads();
-    assert!(rt; second.weight() == 2);
-    assert!(rt; second.get(2) == 0);
-}
-
-#[test]
-fn the_first_stamp_is_at_most_the_second(rt: HostRuntime) {
-    let (first, second) = count_by_two_threads();
-    assert!(rt; first.at_most(&second));
-    assert!(rt; !second.at_most(&first));
+    assert!(rt; second.weight() == 2 && second.get(2) == 0);
+    assert!(rt; first.at_most(&second) && !second.at_most(&first));
 }

@@ -1,16 +1,15 @@
 ghost use Rattle.std.specs.Prelude.{◌≡◌, ◌≤◌, All, IsTrue, IfOk, false};
 ghost use Rattle.recovery_core.specs.Parts.{IsShort};
 
-use access_log::Outputs;
 use box_program::Program;
-use plain_text::{Bytes, MOST_CAPTURED, NoMemory, Packet, Packets, Unit, put_decimal};
+use plain_text::{Bytes, MOST_CAPTURED, NoMemory, Packet, Packets, Text, Unit, put_decimal};
 use recovery_core::{Finished, Reply, System, put_line};
 use recovery_world::Event;
 use script_text::read_script;
 use std::alloc::Global;
 
-/// The seed of each system.
-pub const SEED: u64 = 42;
+/// The seed of the system.
+const SEED: u64 = 42;
 
 /// Appends a packet of 100 seconds and a fraction.
 fn push_packet(
@@ -29,7 +28,7 @@ fn push_packet(
 }
 
 /// A capture of these frames: the first packet comes at 100.000005 seconds, the next a microsecond later.
-pub fn capture_of(alloc: Global, frames: &[&[u8]]) -> Result<Packets, NoMemory> {
+fn capture_of(alloc: Global, frames: &[&[u8]]) -> Result<Packets, NoMemory> {
     let mut packets = Packets::new(alloc);
     let mut fraction: u32 = 5;
     for frame in frames {
@@ -48,21 +47,9 @@ fn are_taken(packets: &[Packet]) -> bool
         .all(|packet| packet.bytes.len() <= MOST_CAPTURED as usize)
 }
 
-/// What a system tells as it runs: the lines of its events, and the outputs that it released.
-#[derive(Drop)]
-pub struct Told {
-    pub report: String,
-    pub outputs: Outputs,
-}
-
-impl Told {
-    /// Nothing yet.
-    pub fn new(alloc: Global) -> Self {
-        Told {
-            report: String::new(alloc),
-            outputs: Outputs::new(alloc),
-        }
-    }
+/// The line of an event.
+fn line_of(alloc: Global, event: &Event, reply: &Reply) -> Result<Text, NoMemory> {
+    put_line(alloc, event, reply)
 }
 
 /// Appends the line of an event.
@@ -72,7 +59,7 @@ fn put_reply(
     event: &Event,
     reply: &Reply,
 ) -> Result<(), NoMemory> {
-    let line = put_line(alloc, event, reply)?;
+    let line = line_of(alloc, event, reply)?;
     report.push_str(line.as_str())?;
     Ok(())
 }
@@ -115,36 +102,21 @@ fn perform_all<P: Program>(
     }
 }
 
-/// Performs the events, and tells their lines and what they released; whether all were performed.
-fn follow<P: Program>(
-    alloc: Global,
-    system: &mut System<P>,
-    events: &[Event],
-    told: &mut Told,
-) -> Result<bool, NoMemory>
-    requires { system.old.stopped ≡ false }
-    ensures { IfOk result (λ done. IsTrue done → system.new.stopped ≡ false) }
-{
-    let done = perform_all(alloc, system, events, &mut told.report)?;
-    told.outputs = system.take_released();
-    Ok(done)
-}
-
-/// Runs a system of the seed by the events: how it ended; none where an event was not performed.
+/// Runs a system of the seed by the events, and appends their lines: how it ended; none where an event was not performed.
 fn run_of<P: Program>(
     alloc: Global,
     program: P,
     threads: u32,
     packets: Packets,
     events: &[Event],
-    told: &mut Told,
+    report: &mut String,
 ) -> Result<Option<Finished>, NoMemory>
     requires some { 1 ≤ threads }
     requires few { threads ≤ 16 }
     requires short { All IsShort packets }
 {
     let mut system = System::new(alloc, program, threads, SEED, Unit::Micro, packets)?;
-    match follow(alloc, &mut system, events, told) {
+    match perform_all(alloc, &mut system, events, report) {
         Ok(true) => Ok(Some(system.finish()?)),
         ended => {
             system.discard();
@@ -154,13 +126,13 @@ fn run_of<P: Program>(
 }
 
 /// The same on a capture of these frames; none also where a frame is too long.
-pub fn run_on<P: Program>(
+fn run_on<P: Program>(
     alloc: Global,
     program: P,
     threads: u32,
     frames: &[&[u8]],
     events: &[Event],
-    told: &mut Told,
+    report: &mut String,
 ) -> Result<Option<Finished>, NoMemory>
     requires some { 1 ≤ threads }
     requires few { threads ≤ 16 }
@@ -169,7 +141,7 @@ pub fn run_on<P: Program>(
     if !are_taken(packets.as_slice()) {
         return Ok(None);
     }
-    run_of(alloc, program, threads, packets, events, told)
+    run_of(alloc, program, threads, packets, events, report)
 }
 
 /// Appends a move.
@@ -214,9 +186,9 @@ fn leave<P: Program>(
     requires some { 1 ≤ threads }
     requires few { threads ≤ 16 }
 {
-    let mut told = Told::new(alloc);
+    let mut told = String::new(alloc);
     match run_on(alloc, program, threads, frames, events, &mut told)? {
-        Some(end) => is_whole(&mut told.report, &end, report),
+        Some(end) => is_whole(&mut told, &end, report),
         None => Ok(false),
     }
 }

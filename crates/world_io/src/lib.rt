@@ -18,7 +18,7 @@ pub use all::{ReadError, WriteError, read_all, write_all};
 pub use beginning::{Front, FrontError, read_front};
 pub use buffered::BufferedSource;
 pub use memory_world::MemoryWorld;
-pub use piece::fill_piece;
+pub use piece::{fill_behind, fill_piece, read_behind};
 pub use stream::{Filled, Put, Sink, SliceSource, Source};
 pub use world::{OpenFault, World};
 pub use world_stream::{WorldSink, WorldSource};

@@ -4,7 +4,7 @@ use box_program::Program;
 use master_core::Master;
 
 /// How many moves and how many touches were made, and how many packets were sent out.
-#[derive(Clone, Copy, Debug, PartialEq, Eq)]
+#[derive(Clone, Copy)]
 pub struct Done {
     pub moves: u64,
     pub touches: u64,

@@ -16,7 +16,7 @@ const TOUCHES: u32 = 60;
 /// A box that touches much: a packet touches one variable 60 times, each time one more, and goes out as it came.
 ///
 /// Which variable it is says the first byte of the packet, modulo 4.
-#[derive(Debug, Drop)]
+#[derive(Drop)]
 pub struct TouchBox {}
 
 impl TouchBox {

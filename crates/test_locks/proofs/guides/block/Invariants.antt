@@ -1,7 +1,0 @@
-use Rattle.var_locks.specs.Codes.{master_code}
-use Rattle.var_locks.specs.Openings.{places_of}
-use Rattle.test_locks.proofs.guides.block.Given as goal
-
--- the round is that of the program, the master and the guide
-abbrev pub ghosts-block_of : goal.ghosts-block_of
-ghosts-block_of g a = record { program = g.row.P.coded.code a.program.now; opening = (master_code g.row.P-Value.coded).code a.master; threads = a.master.threads; places = places_of a.master.vars; guide = a.guide.now }

@@ -1,2 +1,0 @@
-pub mod Pinned
-pub mod Scene
