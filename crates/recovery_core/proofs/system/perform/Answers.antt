@@ -2,7 +2,8 @@ use Rattle.std.proofs.Common.{sym, subst}
 use Rattle.std.proofs.lemmas.Result.{err_from_is_err_and, IfOk-weaker}
 use Rattle.event_replies.specs.declared.reply.Stop.TheVariants as stop
 use Rattle.system_parts.specs.Performing.{MovesOn, StopsAt, Releasing}
-use Rattle.recovery_core.specs.Systems.{RepliesAny, IsStopped}
+use Rattle.recovery_core.specs.Systems.{RepliesAny}
+use Rattle.system_parts.specs.Performing.{IsStopped}
 use Rattle.system_parts.proofs.EventChains.{exits_as}
 use Rattle.recovery_core.proofs.RepliesLemmas.{replies_any, settles_any, chooses_any, stops_any}
 use Rattle.recovery_core.proofs.system.perform.Goals as goal

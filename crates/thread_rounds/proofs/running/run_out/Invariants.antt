@@ -1,0 +1,14 @@
+use Rattle.std.proofs.Common.{◌≡◌, length, true}
+use Rattle.system_parts.specs.Performing.{MovesOn}
+use Rattle.thread_rounds.proofs.RoundLemmas.{FeedsFirst}
+use Rattle.thread_rounds.proofs.running.run_out.Given as goal
+
+-- whatever the rounds and packets come to from here, they come to from the beginning
+abbrev pub invariant-feeds : goal.invariant-feeds
+invariant-feeds g l = record {
+  moved : MovesOn (g.P.Program.meaning l.fn.core.program) FeedsFirst l.fn.core l.core;
+  up : l.core.up ≡ true;
+}
+
+abbrev pub decreases-feeds : goal.decreases-feeds
+decreases-feeds g l = length l.core.left
