@@ -1,24 +1,22 @@
 -- What a recovery keeps of the held entries, and what is followed then.
-use Rattle.std.proofs.Common.{◌≡◌, ℕ, ◌+◌, List, [], ◌∷◌, ◌++◌, length, refl, sym, ap, ◌∙◌, subst, inl, inr, ◌⊎◌, arith, Some}
+use Rattle.std.proofs.Common.{◌≡◌, ℕ, ◌+◌, List, [], ◌∷◌, ◌++◌, length, refl, ap, ◌∙◌, subst, inl, inr, ◌⊎◌, Some}
 use Rattle.std.specs.Prelude.{◌↔◌, slice_index}
-use Rattle.entry_order.specs.Log.{Entry, entries, IsLog, IsIn, IsNext, IsClosed, Keeps}
-use Rattle.entry_order.specs.Stamps.{IsCount, IsStamp}
+use Rattle.entry_order.specs.Log.{Entry, IsIn, IsClosed, Keeps}
+use Rattle.entry_order.specs.Stamps.{IsCount}
 use Rattle.entry_order.specs.Closed.{IsClosedPart, IsClosedOver}
 use Rattle.entry_order.proofs.ClosedParts.{in_or}
 use Rattle.entry_order.proofs.KeptEntries.{in_left, in_right, in_either}
 use Rattle.line_order.proofs.OneLine.{closed_stamp}
 use Rattle.line_order.proofs.Arrangements.{next_past}
 use Rattle.access_log.specs.declared.entry.StampedEntry.{StampedEntry}
-use Rattle.access_log.specs.declared.held.Kept.{Kept}
 use Rattle.access_log.specs.Held.{Lane, lane, entry_at}
 use Rattle.access_log.specs.Members.{IsMember, IsDropped, IsNumberOf}
-use Rattle.plain_machine.specs.History.{Step, log_of}
+use Rattle.plain_machine.specs.History.{log_of}
 use Rattle.master_core.specs.Holding.{held_entries, HoldsOf}
 use Rattle.master_core.specs.Stepping.{plain_entry}
 use Rattle.master_core.proofs.HeldEntries.{held_at, at_held}
 use Rattle.master_core.proofs.Holdings.{IsClosedOf, part_is_closed_part, part_holds}
 use Rattle.master_core.proofs.Moments.{moment_closed}
-use Rattle.replay_guide.specs.Worlds.{Guides}
 use Rattle.replay_guide.specs.Following.{CanBeFollowed}
 use Rattle.replay_guide.proofs.WorldTurns.{held_follows, closed_can}
 use Rattle.recovery_world.specs.World.{Setting, World, inputs_fed}

@@ -1,23 +1,22 @@
 -- What was sent, as it is after a recovery: the lengths of what the stored snapshot made, and its outputs sent again.
-use Rattle.std.proofs.Common.{◌≡◌, ℕ, zero, suc, ◌+◌, ◌<◌, ◌≤◌, List, [], ◌∷◌, length, take, refl, sym, ap, ◌∙◌, subst, inl, inr, ◌⊎◌, arith, Option, Some, None}
+use Rattle.std.proofs.Common.{◌≡◌, ℕ, zero, suc, ◌+◌, ◌<◌, ◌≤◌, List, [], ◌∷◌, length, take, refl, sym, ap, ◌∙◌, subst, inl, inr, ◌⊎◌, arith, Some, None}
 use Rattle.std.specs.Prelude.{slice_get, slice_index}
 use Rattle.std.proofs.lemmas.Bool.{cases_lt}
 use Rattle.std.proofs.lemmas.List.{length-take-le}
 use Rattle.plain_text.specs.declared.packet.Packet.{Packet}
 use Rattle.plain_text.specs.declared.kind.Kind.TheVariants.{Log, Out}
-use Rattle.entry_order.specs.Log.{Entry, entries, IsLog, IsIn, IsClosed}
+use Rattle.entry_order.specs.Log.{Entry, entries, IsLog, IsIn}
 use Rattle.entry_order.specs.Stamps.{IsStamp, IsOutputStamp}
 use Rattle.entry_order.proofs.Order.{number_within, entry_there}
 use Rattle.entry_order.proofs.Joins.{output_stamp_is, output_stamp_of, zero_first, first_is_zero}
 use Rattle.line_order.proofs.OneLine.{closed_stamp}
 use Rattle.line_order.proofs.QuietMoves.{sends_later}
-use Rattle.access_log.specs.declared.entry.StampedEntry.{StampedEntry}
 use Rattle.access_log.specs.declared.entry.Output.{Output}
-use Rattle.access_log.specs.Held.{Lane, lane, IsKnown}
+use Rattle.access_log.specs.Held.{Lane, lane}
 use Rattle.dup_filter.specs.Numbers.{Numbers, WasMarked}
 use Rattle.link_store.specs.declared.address.Address.{Address}
-use Rattle.link_store.specs.Links.{address, frame_at}
-use Rattle.wire_frames.specs.Writing.{CanSend, CanPutOutput}
+use Rattle.link_store.specs.Links.{frame_at}
+use Rattle.wire_frames.specs.Writing.{CanPutOutput}
 use Rattle.plain_machine.specs.declared.emission.Emission.{Emission}
 use Rattle.plain_machine.specs.Program.{Meaning}
 use Rattle.plain_machine.specs.History.{Step, log_of, sent_of, outputs, IsHistory}
@@ -25,20 +24,17 @@ use Rattle.plain_machine.specs.Agree.{IsEarlier, SendsAfter}
 use Rattle.plain_machine.proofs.Histories.{history_log, earlier_history, earlier_log, earlier_outputs}
 use Rattle.plain_machine.proofs.LoggedEffects.{entry_thread}
 use Rattle.master_core.specs.declared.parts.ThreadPart.{ThreadPart}
-use Rattle.master_core.specs.Mastered.{Mastered}
-use Rattle.master_core.specs.Standing.{Stands}
-use Rattle.master_core.specs.Stepping.{plain_entry, emission_of_output}
 use Rattle.master_core.proofs.Moments.{moment_closed}
 use Rattle.output_logger.specs.Logger.{IsAmong}
-use Rattle.snapshot_store.specs.Stored.{Snapshot, Snapshots}
+use Rattle.snapshot_store.specs.Stored.{Snapshot}
 use Rattle.recovery_world.specs.World.{Setting, Sent, World, inputs_fed}
 use Rattle.recovery_laws.specs.Sound.{Sound}
 use Rattle.recovery_laws.proofs.SoundParts.{sent_after}
 use Rattle.recovery_laws.proofs.Settlings.{number_high}
 use Rattle.recovery_laws.proofs.Finishes.{sends_thread}
 use Rattle.recovery_laws.proofs.OneOutcome.{output_one}
-use Rattle.sent_frames.specs.Sending.{Sending, lengths_of, length_at, entry_size, output_size, entry_address, output_address, HasEntryFrame, HasOutputFrame}
-use Rattle.system_parts.specs.Standing.{IsSentEntry, IsSentOutput, HasSent, IsKeptOutput, IsSnapshot, HasSnapshots}
+use Rattle.sent_frames.specs.Sending.{Sending, lengths_of, length_at, entry_size, output_size, entry_address, output_address, HasOutputFrame}
+use Rattle.system_parts.specs.Standing.{IsSentEntry, IsSentOutput, HasSent, IsKeptOutput, IsSnapshot}
 use Rattle.crash_recovery.specs.Recovering.{TurnsLinks, SendsRest}
 use Rattle.system_parts.proofs.OutputNumbers.{output_there}
 

@@ -1,11 +1,11 @@
 -- The world after a recovery, and the parts that stand for it.
-use Rattle.std.proofs.Common.{◌≡◌, ◌≢◌, ℕ, zero, suc, ◌+◌, ◌-◌, ◌<◌, ◌≤◌, true, false, List, [], ◌∷◌, ◌++◌, length, length-append, map, take, refl, sym, ap, ◌∙◌, subst, inl, inr, ◌⊎◌, arith, Option, Some, None}
+use Rattle.std.proofs.Common.{◌≡◌, ◌≢◌, ℕ, zero, suc, ◌+◌, ◌-◌, ◌<◌, ◌≤◌, true, false, List, [], ◌∷◌, ◌++◌, length, length-append, map, take, refl, sym, ap, ◌∙◌, subst, inl, inr, ◌⊎◌, arith, Some, None}
 use Rattle.std.specs.Prelude.{◌↔◌, slice_get, slice_index_or}
 use Rattle.std.specs.Option.{option_map}
 use Rattle.replay_guide.specs.Following.{CanBeFollowed}
 use Rattle.std.proofs.lemmas.List.{length-map, length-take-le, take-append-le, take_all, get_or-take}
 use Rattle.std.proofs.lemmas.Option.{slice_get_within, slice_get-map, slice_get-get_or}
-use Rattle.entry_order.specs.Log.{Entry, entries, IsIn}
+use Rattle.entry_order.specs.Log.{Entry, entries}
 use Rattle.entry_order.specs.Closed.{IsClosedPart}
 use Rattle.entry_order.proofs.Order.{is_or}
 use Rattle.access_log.specs.declared.entry.StampedEntry.{StampedEntry}
@@ -24,7 +24,6 @@ use Rattle.master_core.specs.declared.parts.ThreadPart.{ThreadPart}
 use Rattle.master_core.specs.Mastered.{Mastered}
 use Rattle.master_core.specs.Standing.{Stands}
 use Rattle.output_logger.specs.Logger.{Logger, ReleasesOnce, IsAmong}
-use Rattle.snapshot_store.specs.Stored.{Snapshot}
 use Rattle.recovery_world.specs.World.{Setting, Ended as EndedEpoch, World}
 use Rattle.recovery_world.specs.Events.{Recovers, IsPartOf, entries_of_line, ended_now}
 use Rattle.recovery_world.specs.Files.{moves_made}

@@ -7,8 +7,6 @@ ghost use Rattle.system_parts.specs.Standing.{StandsForSome};
 ghost use Rattle.system_parts.specs.Performing.{MovesOn, ComesTo};
 ghost use Rattle.crash_recovery.specs.Recovering.{RecoversTo, SendsRest, TurnsLinks, WakesUp};
 
-use system_parts::Core;
-use sent_frames::SentFrames;
 use access_log::{Kept, Outputs};
 use box_program::Program;
 use dup_filter::Released;
@@ -16,7 +14,9 @@ use master_core::{Counts, Master};
 use plain_text::{NoMemory, Sequence};
 use recovery_world::Outcome;
 use replay_guide::Guide;
+use sent_frames::SentFrames;
 use std::alloc::Global;
+use system_parts::Core;
 
 /// The master crashes. A snapshot that was under way is lost.
 pub fn crash<P: Program>(core: &mut Core<P>) -> Outcome

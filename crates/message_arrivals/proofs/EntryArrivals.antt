@@ -4,10 +4,7 @@ use Rattle.plain_text.specs.declared.memory.NoMemory.{NoMemory}
 use Rattle.output_logger.specs.declared.took.EntryTook.{EntryTook}
 use Rattle.output_logger.specs.declared.took.EntryTook.TheVariants as took_of
 use Rattle.std.proofs.lemmas.Bool.{cases_lt}
-use Rattle.std.specs.Prelude.{slice_index, ◌↔◌, HoldsAt}
-use Rattle.input_logger.specs.Inputs.{Fed}
-use Rattle.master_core.specs.declared.parts.Counts.{Counts}
-use Rattle.master_core.specs.declared.parts.ThreadPart.{ThreadPart}
+use Rattle.std.specs.Prelude.{slice_index, ◌↔◌}
 use Rattle.entry_order.proofs.ClosedParts.{Or, in_or}
 use Rattle.plain_text.specs.declared.kind.Kind.TheVariants.{Log, Out}
 use Rattle.entry_order.specs.Log.{Entry, IsLog, IsIn, entries}
@@ -26,29 +23,25 @@ use Rattle.wire_frames.specs.declared.frame.Frame.TheVariants as frame
 use Rattle.wire_frames.specs.Layout.{IsFrame}
 use Rattle.wire_frames.specs.Writing.{CanPutEntry, CanPutOutput}
 use Rattle.plain_machine.specs.Program.{Meaning}
-use Rattle.plain_machine.specs.History.{log_of, sent_of, outputs, IsHistory}
-use Rattle.plain_machine.specs.Agree.{SendsAfter}
+use Rattle.plain_machine.specs.History.{log_of, outputs, IsHistory}
 use Rattle.plain_machine.proofs.Histories.{history_log, earlier_log}
 use Rattle.master_core.specs.Holding.{held_entries, HoldsOf}
 use Rattle.master_core.specs.Stepping.{plain_entry, emission_of_output}
 use Rattle.master_core.proofs.Holdings.{one_more_holds, one_more_held}
-use Rattle.master_core.proofs.Frontiers.{frontier_of, within_frontiers, frontiers_within, frontiers_are_defined, known_is_there, there_is_known}
+use Rattle.master_core.proofs.Frontiers.{frontier_of, within_frontiers, frontiers_within}
 use Rattle.master_core.proofs.Moments.{moment_log}
 use Rattle.output_logger.specs.Logger.{Logger, IsDue, ReleasesOnce, Parts as LoggerParts}
 use Rattle.output_logger.proofs.KeptLemmas.{more_with_entry}
-use Rattle.recovery_world.specs.declared.event.Event.{Event}
 use Rattle.recovery_world.specs.declared.event.Event.TheVariants as event
 use Rattle.recovery_world.specs.declared.event.Outcome.{Outcome}
 use Rattle.recovery_world.specs.declared.event.Outcome.TheVariants as outcome
 use Rattle.recovery_world.specs.World.{Setting, Sent, World, inputs_fed}
-use Rattle.recovery_world.specs.Events.{IsKnown, IsEntryOf, IsAmong, MayGo, On, Parts as WorldParts, entries_of_line}
+use Rattle.recovery_world.specs.Events.{IsKnown, IsEntryOf, MayGo, On, Parts as WorldParts, entries_of_line}
 use Rattle.recovery_laws.proofs.KeptWorlds.{within_sound}
-use Rattle.recovery_laws.proofs.Sets.{parts_go, among_either}
 use Rattle.event_replies.specs.declared.reply.Reply.{Reply}
 use Rattle.sent_frames.specs.Sending.{Sending, length_at, lengths_of, entry_address, output_address, HasEntryFrame, HasOutputFrame, ForgetsEntries}
 use Rattle.system_parts.specs.Parts.{Parts, AreParts}
-use Rattle.system_parts.specs.Standing.{IsSentEntry, IsSentOutput, AreOutputs, StandsFor, StandsForSome}
-use Rattle.system_parts.specs.Performing.{MovesOn, Releasing, Replies}
+use Rattle.system_parts.specs.Standing.{IsSentEntry, IsSentOutput, AreOutputs, StandsFor}
 use Rattle.output_releases.specs.Released.{names_of, NotesReleased}
 use Rattle.system_parts.proofs.LineLemmas.{line_log, past_in, past_stamp, past_of_line, holds_log, known_there, there_known, frontiers}
 use Rattle.system_parts.proofs.SnapshotLemmas.{marks_stay, snapshots_on}

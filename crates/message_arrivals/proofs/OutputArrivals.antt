@@ -16,7 +16,7 @@ use Rattle.plain_machine.specs.Agree.{SendsAfter}
 use Rattle.plain_machine.proofs.Histories.{history_log, earlier_log}
 use Rattle.master_core.specs.Holding.{held_entries, HoldsOf}
 use Rattle.master_core.specs.Stepping.{emission_of_output}
-use Rattle.master_core.proofs.Frontiers.{frontier_of, frontier_is, within_frontiers, frontiers_are_defined}
+use Rattle.master_core.proofs.Frontiers.{frontier_of, frontier_is, within_frontiers}
 use Rattle.master_core.proofs.Moments.{moment_log}
 use Rattle.dup_filter.specs.Numbers.{Numbers, WasMarked}
 use Rattle.output_logger.specs.declared.took.OutputTook.{OutputTook}
@@ -30,7 +30,6 @@ use Rattle.recovery_world.specs.World.{Setting, Sent, World, inputs_fed}
 use Rattle.recovery_world.specs.Events.{HasNumber, IsOutputOf, HasArrived, IsAmong, MayGo, On, entries_of_line}
 use Rattle.recovery_world.specs.Files.{sent_names}
 use Rattle.recovery_laws.proofs.KeptWorlds.{within_sound}
-use Rattle.recovery_laws.proofs.Sets.{among_either}
 use Rattle.recovery_laws.proofs.Settlings.{number_high}
 use Rattle.event_replies.specs.declared.reply.Reply.{Reply}
 use Rattle.sent_frames.specs.Sending.{Sending, output_address, HasOutputFrame}

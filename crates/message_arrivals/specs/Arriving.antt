@@ -1,16 +1,10 @@
 -- What arrives at the output logger.
-use Rattle.std.specs.Prelude.{◌≡◌, ℕ, ◌-◌, ◌<◌, ◌≤◌, ◌⊎◌, List, [], ◌++◌, map, slice_get, slice_index_or, Some, None}
+use Rattle.std.specs.Prelude.{◌≡◌, ℕ, ◌-◌, ◌≤◌, List, [], slice_get, slice_index_or, Some}
 use Rattle.plain_text.specs.declared.kind.Kind.{Kind}
 use Rattle.plain_text.specs.declared.kind.Kind.TheVariants as kind
-use Rattle.access_log.specs.declared.entry.Output.{Output}
-use Rattle.dup_filter.specs.Numbers.{Numbers, numbers}
-use Rattle.link_store.specs.declared.address.Address.{Address}
-use Rattle.link_store.specs.Links.{frame_at}
 use Rattle.master_core.specs.declared.parts.Counts.{Counts}
 use Rattle.recovery_world.specs.declared.event.Event.{Event}
 use Rattle.recovery_world.specs.declared.event.Event.TheVariants as event
-use Rattle.system_parts.specs.Parts.{Parts}
-use Rattle.sent_frames.specs.Sending.{Sending, output_address}
 
 -- entry or output n of thread t arrives
 abbrev pub arrival_of : Kind → ℕ → ℕ → Event

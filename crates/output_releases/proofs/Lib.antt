@@ -2,3 +2,4 @@ pub mod OutputLists
 pub mod ForgottenOutputs
 pub mod ReleasedLists
 pub mod Answering
+pub mod QuietEvents

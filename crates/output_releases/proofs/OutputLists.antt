@@ -1,5 +1,5 @@
 -- Outputs of an output logger as those of a world: their names, their packets, and what is noted of them.
-use Rattle.std.proofs.Common.{◌≡◌, ℕ, ◌≤◌, List, [], ◌∷◌, ◌++◌, length, refl, sym, ap, ◌∙◌, subst, inl, inr, ◌⊎◌, arith}
+use Rattle.std.proofs.Common.{◌≡◌, ℕ, List, [], ◌∷◌, ◌++◌, length, refl, sym, ap, ◌∙◌, subst, inl, inr, ◌⊎◌, arith}
 use Rattle.std.specs.Prelude.{slice_index, ◌↔◌, map, drop, take, ◌-◌}
 use Rattle.std.proofs.lemmas.List.{length-drop, take_all}
 use Rattle.plain_text.specs.declared.packet.Packet.{Packet}

@@ -28,4 +28,5 @@ pub record ForgetsReleased (old new : Sending) (released : List Numbers) : Type 
 
 -- None of them is on the links.
 abbrev pub AreForgotten : Sending → List Numbers → ℕ → Type 0
-AreForgotten sent released threads = (t n : ℕ) → t < threads → n ≤ (numbers released t).floor → frame_at sent.frames (output_address sent t n) ≡ None
+AreForgotten sent released threads =
+    (t n : ℕ) → t < threads → n ≤ (numbers released t).floor → frame_at sent.frames (output_address sent t n) ≡ None

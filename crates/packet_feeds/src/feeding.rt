@@ -3,10 +3,10 @@ ghost use Rattle.recovery_world.specs.declared.event.Event.TheVariants as event_
 ghost use Rattle.recovery_world.specs.World.{microseconds as microseconds_of};
 ghost use Rattle.system_parts.specs.Performing.{MovesOn, ComesTo};
 
-use system_parts::Core;
 use box_program::Program;
 use plain_text::{NoMemory, Packet, Unit};
 use recovery_world::Outcome;
+use system_parts::Core;
 
 /// The time of a packet, in microseconds.
 fn microseconds(unit: Unit, packet: &Packet) -> u64

@@ -1,6 +1,4 @@
 pub use Rattle.system_parts.specs.Parts
 pub use Rattle.system_parts.specs.Standing
 pub use Rattle.system_parts.specs.Performing
-pub mod Choosing
-pub mod Progressing
 pub mod Systems

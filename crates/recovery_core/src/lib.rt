@@ -6,12 +6,6 @@
 //! lengths where the definitions keep whole lists, so no event takes longer the longer the run has been.
 #![tactic(auto)]
 
-mod choosing;
-mod messages;
-mod performing;
-mod progress;
-mod showing;
-mod strategy;
 mod system;
 
 pub use event_replies::{Finished, Releases, Reply, Stop, put_line};

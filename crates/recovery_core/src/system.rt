@@ -9,23 +9,24 @@ ghost use Rattle.run_finish.specs.Ending.{EndsIn};
 ghost use Rattle.system_parts.specs.Parts.{IsShort};
 ghost use Rattle.system_parts.specs.Standing.{StandsFor, StandsForSome};
 ghost use Rattle.system_parts.specs.Performing.{Appends, MovesOn, StopsAt, Releasing, packets_in};
-ghost use Rattle.recovery_core.specs.Systems.{HasReleased, SystemStands, SystemMoves, SystemStops, RepliesAny, IsStopped, FinishesAs};
+ghost use Rattle.recovery_core.specs.Systems.{HasReleased, SystemStands, SystemMoves, SystemStops, RepliesAny, FinishesAs};
+ghost use Rattle.system_parts.specs.Performing.{IsStopped};
 
-use system_parts::Core;
-use system_end::end_awake;
-use crash_recovery::wake;
-use crate::performing::perform_single;
-use crate::strategy::{begin, perform_several};
-use event_replies::{Finished, Reply, Stop, only};
 use access_log::Outputs;
 use box_program::Program;
+use crash_recovery::wake;
+use event_replies::{Finished, Reply, Stop, only};
 use master_core::Counts;
 use plain_machine::Schedule;
 use plain_text::{NoMemory, Packets, Unit};
 use recovery_world::Event;
+use several_events::{begin, perform_several};
+use single_events::perform_single;
 use std::alloc::Global;
 use std::marker::Model;
 use std::mem;
+use system_end::{discard, end_awake};
+use system_parts::Core;
 
 /// A recovering system on the packets of a capture: an input logger, a master that runs a box, its snapshots, the links behind it, and
 /// an output logger.
@@ -60,11 +61,7 @@ impl<P: Program> Model for System<P> {
 }
 
 /// Performs an event. What it releases is put behind the outputs of the list.
-fn perform<P: Program>(
-    core: &mut Core<P>,
-    event: Event,
-    out: &mut Outputs,
-) -> Result<Reply, Stop>
+fn perform<P: Program>(core: &mut Core<P>, event: Event, out: &mut Outputs) -> Result<Reply, Stop>
     requires stands { StandsForSome (P.meaning core.old.program) core.old }
     ensures on { IfOk result (λ reply.
         MovesOn (P.meaning core.old.program)
@@ -87,8 +84,13 @@ fn end<P: Program>(mut core: Core<P>) -> Result<Schedule, NoMemory>
     ensures { IfOk result (λ moves. (s : Setting P.Value) (w : World P.Value)
         → StandsFor (P.meaning core.program) s w core → EndsIn s w moves) }
 {
-    wake(&mut core)?;
-    end_awake(core)
+    match wake(&mut core) {
+        Ok(()) => end_awake(core),
+        Err(no_memory) => {
+            discard(core);
+            Err(no_memory)
+        }
+    }
 }
 
 impl<P: Program> System<P> {
@@ -220,8 +222,10 @@ impl<P: Program> System<P> {
 
     /// Lets go of the system, also of one that is stopped. What it released and nobody took is lost.
     ///
-    /// A function that may end early gives its system to this call: so how all parts are let go is proved once, here.
-    pub fn discard(self) {}
+    /// A function that may end early gives its system to this call: so how all parts are let go is proved once.
+    pub fn discard(self) {
+        discard(self.core);
+    }
 
     /// The run that the script amounts to, once its last event was performed: the schedule, and the counts of the last line of the
     /// report. Where the master is down, the schedule is that after one more recovery, and the counts are those before it.

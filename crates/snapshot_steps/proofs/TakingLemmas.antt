@@ -1,5 +1,5 @@
 -- A snapshot of the master is made.
-use Rattle.std.proofs.Common.{◌≡◌, ℕ, ◌+◌, ◌<◌, ◌≤◌, lit≤, List, [], ◌∷◌, length, refl, sym, ap, ◌∙◌, subst, inl, inr, ◌⊎◌, Option, Some, None, arith, true, false}
+use Rattle.std.proofs.Common.{◌≡◌, ℕ, ◌<◌, ◌≤◌, lit≤, List, [], ◌∷◌, length, refl, sym, ap, ◌∙◌, subst, inl, inr, ◌⊎◌, Option, Some, None, arith, true, false}
 use Rattle.std.specs.Prelude.{slice_index, sum, ◌^◌}
 use Rattle.std.specs.Option.{ForSome}
 use Rattle.std.proofs.lemmas.Bool.{cases_lt}
@@ -12,19 +12,15 @@ use Rattle.dup_filter.specs.Numbers.{WasMarked}
 use Rattle.output_logger.specs.Logger.{IsAmong}
 use Rattle.plain_machine.specs.Program.{Meaning}
 use Rattle.plain_machine.specs.History.{Step, log_of, sent_of, outputs, IsHistory}
-use Rattle.plain_machine.specs.Agree.{IsEarlier}
 use Rattle.box_program.specs.Hands.{FitsProgram}
 use Rattle.master_core.specs.declared.parts.ThreadPart.{ThreadPart}
 use Rattle.master_core.specs.Mastered.{value_of}
-use Rattle.master_core.specs.Standing.{Stands}
 use Rattle.master_core.specs.Deltas.{HasCounts}
 use Rattle.master_core.proofs.Moments.{none_past_threads}
 use Rattle.snapshot_store.specs.Stored.{Snapshot, Snapshots, HasTaken}
 use Rattle.recovery_world.specs.declared.event.Event.TheVariants as event
-use Rattle.recovery_world.specs.declared.event.Outcome.{Outcome}
 use Rattle.recovery_world.specs.declared.event.Outcome.TheVariants as outcome
 use Rattle.recovery_world.specs.World.{Setting, Sent, World, inputs_fed}
-use Rattle.recovery_world.specs.Events.{On}
 use Rattle.recovery_world.specs.Files.{answer_of, moves_made}
 use Rattle.recovery_world.specs.Limits.{OnWithin}
 use Rattle.recovery_laws.proofs.KeptWorlds.{within_sound}

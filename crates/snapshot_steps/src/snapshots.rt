@@ -7,15 +7,15 @@ ghost use Rattle.system_parts.specs.Standing.{StandsFor, StandsForSome};
 ghost use Rattle.snapshot_steps.specs.Unreleased.{HasRest, AddsUnreleased, AreUnreleased};
 ghost use Rattle.system_parts.specs.Performing.{Appends, MovesOn, Releasing, ComesTo, Replies};
 
-use event_replies::{Reply, only};
-use output_releases::{forget_released, note_released};
-use system_parts::Core;
-use sent_frames::SentFrames;
 use access_log::Outputs;
 use box_program::Program;
 use dup_filter::Released;
+use event_replies::{Reply, only};
+use output_releases::{forget_released, note_released};
 use plain_text::NoMemory;
 use recovery_world::Outcome;
+use sent_frames::SentFrames;
+use system_parts::Core;
 use thread_clock::Stamp;
 
 /// Appends the outputs of a thread, up to this number, that are not released.

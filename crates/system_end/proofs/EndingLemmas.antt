@@ -1,37 +1,35 @@
 -- The run in which a world ends: what it begins with.
-use Rattle.std.proofs.Common.{◌≡◌, ℕ, zero, suc, ◌+◌, ◌<◌, ◌≤◌, ◌≢◌, max, true, false, cond, Bool, nat_eq, List, [], ◌∷◌, ◌++◌, length, take, get_or, refl, sym, ap, ◌∙◌, subst, inl, inr, ◌⊎◌, Option, Some, None, arith}
+use Rattle.std.proofs.Common.{◌≡◌, ℕ, ◌+◌, ◌<◌, ◌≤◌, ◌≢◌, max, true, false, cond, Bool, nat_eq, List, [], ◌∷◌, ◌++◌, length, take, get_or, refl, sym, ap, ◌∙◌, subst, inl, inr, ◌⊎◌, Option, Some, None, arith}
 use Rattle.std.specs.Prelude.{slice_index, ◌↔◌, IsSome}
 use Rattle.std.proofs.lemmas.Bool.{cases_lt}
 use Rattle.std.proofs.lemmas.List.{take_more, take_all, get_or_push, get_or_append_left, length-append}
 use Rattle.std.proofs.lemmas.Bool.Decides.{nat_tests}
 use Rattle.input_logger.specs.Inputs.{Fed}
 use Rattle.entry_order.specs.declared.what.What.{What}
-use Rattle.entry_order.specs.Log.{Entry, IsLog, IsIn}
+use Rattle.entry_order.specs.Log.{Entry, IsIn}
 use Rattle.entry_order.proofs.Order.{is_or}
 use Rattle.entry_order.proofs.KeptEntries.{in_left, in_right, in_either}
 use Rattle.line_order.specs.Line.{GoesBefore, IsByWeight}
 use Rattle.access_log.specs.declared.entry.StampedEntry.{StampedEntry}
 use Rattle.access_log.specs.Held.{Lane, lane, entry_at}
-use Rattle.dup_filter.specs.Numbers.{Numbers, numbers, IsMarked, WasMarked, IsGreatest}
+use Rattle.dup_filter.specs.Numbers.{Numbers, numbers, IsMarked, IsGreatest}
 use Rattle.plain_machine.specs.declared.plain_move.PlainMove.{PlainMove}
 use Rattle.plain_machine.specs.Program.{Meaning}
-use Rattle.plain_machine.specs.History.{Step, log_of, IsHistory}
+use Rattle.plain_machine.specs.History.{Step, log_of}
 use Rattle.plain_machine.proofs.Histories.{history_log}
 use Rattle.plain_machine.proofs.LoggedEffects.{entry_thread}
 use Rattle.master_core.specs.Mastered.{Mastered}
-use Rattle.master_core.specs.Holding.{and_found, held_entries, HoldsOf}
+use Rattle.master_core.specs.Holding.{and_found}
 use Rattle.master_core.specs.Stepping.{plain_entry}
-use Rattle.master_core.proofs.HeldEntries.{at_held, held_in_log}
-use Rattle.replay_guide.specs.Following.{Follows}
+use Rattle.master_core.proofs.HeldEntries.{at_held}
 use Rattle.replay_guide.specs.Orders.{IsNamed, IsInOrder}
 use Rattle.replay_guide.specs.Worlds.{put_before, entries_named}
 use Rattle.replay_guide.proofs.WorldOrders.{names_by_weight, all_named}
 use Rattle.recovery_world.specs.World.{Setting, Sent, World, all_inputs}
 use Rattle.recovery_world.specs.Events.{IsAmong, HasNumber, Wakes, entries_of_line}
-use Rattle.recovery_world.specs.Finish.{IsToCome, IsLine, greatest, AllGoOn, IsFinish}
-use Rattle.recovery_laws.proofs.KeptWorlds.{line_entries, entries_line}
+use Rattle.recovery_world.specs.Finish.{IsLine, greatest, AllGoOn, IsFinish}
+use Rattle.recovery_laws.proofs.KeptWorlds.{line_entries}
 use Rattle.recovery_laws.proofs.LedMoves.{led_log}
-use Rattle.run_finish.specs.Playing.{AreGreatest}
 use Rattle.run_finish.specs.Ending.{AreInOrder, IsOrder, IsEndOf, IsEndOfSome, EndsIn}
 use Rattle.system_parts.specs.Parts.{Parts}
 use Rattle.system_parts.specs.Standing.{StandsFor, StandsForSome}

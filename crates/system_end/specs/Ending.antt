@@ -1,5 +1,5 @@
 -- The followed entries in the order in which they can all be made.
-use Rattle.std.specs.Prelude.{ℕ, ◌<◌, ◌↔◌, List}
+use Rattle.std.specs.Prelude.{◌<◌, ◌↔◌, List}
 use Rattle.entry_order.specs.Log.{Entry, IsLog, IsIn}
 use Rattle.access_log.specs.Held.{Lane}
 use Rattle.master_core.specs.Holding.{held_entries, HoldsOf}

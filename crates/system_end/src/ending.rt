@@ -5,7 +5,6 @@ ghost use Rattle.system_parts.specs.Standing.{StandsFor, StandsForSome};
 ghost use Rattle.run_finish.specs.Ending.{EndsIn};
 ghost use Rattle.system_end.specs.Ending.{IsOrderOf};
 
-use system_parts::Core;
 use box_program::Program;
 use dup_filter::Released;
 use entry_order::LogEntry;
@@ -16,6 +15,7 @@ use plain_text::NoMemory;
 use replay_guide::Guide;
 use run_finish::finish_run;
 use std::alloc::Global;
+use system_parts::Core;
 
 /// The followed entries, in the order in which they can be made.
 fn followed_entries(alloc: Global, guide: &Guide) -> Result<Vec<LogEntry>, NoMemory>
@@ -82,6 +82,11 @@ fn taken_apart<P: Program>(core: Core<P>) -> Last<P>
     }
 }
 
+/// Lets go of the parts of a system.
+///
+/// A function that may end early gives them to this call: so how they are let go is proved once, here.
+pub fn discard<P: Program>(_core: Core<P>) {}
+
 /// The schedule of the run in which the world ends, of a master that is up.
 pub fn end_awake<P: Program>(core: Core<P>) -> Result<Schedule, NoMemory>
     requires stands { StandsForSome (P.meaning core.program) core }
@@ -90,20 +95,27 @@ pub fn end_awake<P: Program>(core: Core<P>) -> Result<Schedule, NoMemory>
         → StandsFor (P.meaning core.program) s w core → EndsIn s w moves) }
 {
     let alloc = core.alloc;
-    let (order, numbers) = last_ones(&core)?;
-    let Last {
-        program,
-        inputs,
-        master,
-        schedule,
-    } = taken_apart(core);
-    finish_run(
-        alloc,
-        &program,
-        &inputs,
-        master,
-        schedule,
-        order.as_slice(),
-        numbers.as_slice(),
-    )
+    match last_ones(&core) {
+        Ok((order, numbers)) => {
+            let Last {
+                program,
+                inputs,
+                master,
+                schedule,
+            } = taken_apart(core);
+            finish_run(
+                alloc,
+                &program,
+                &inputs,
+                master,
+                schedule,
+                order.as_slice(),
+                numbers.as_slice(),
+            )
+        }
+        Err(no_memory) => {
+            discard(core);
+            Err(no_memory)
+        }
+    }
 }

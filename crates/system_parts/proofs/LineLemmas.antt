@@ -1,15 +1,14 @@
 -- What is held, read in the entries of the line, and in a log of them.
-use Rattle.std.proofs.Common.{◌≡◌, ℕ, ◌+◌, ◌<◌, ◌≤◌, List, [], ◌∷◌, ◌++◌, refl, sym, ap, ◌∙◌, subst, inl, inr, ◌⊎◌, Option, Some, None, arith}
-use Rattle.std.specs.Prelude.{slice_index, ◌↔◌}
-use Rattle.entry_order.specs.Log.{Entry, IsLog, IsIn, IsNext, IsClosed, Keeps}
+use Rattle.std.proofs.Common.{◌≡◌, ℕ, List, ◌++◌, sym, subst, inl, inr, ◌⊎◌}
+use Rattle.std.specs.Prelude.{slice_index}
+use Rattle.entry_order.specs.Log.{Entry, IsLog, IsIn, IsClosed, Keeps}
 use Rattle.entry_order.specs.Closed.{IsFrontier}
 use Rattle.entry_order.specs.Stamps.{IsStamp}
 use Rattle.entry_order.proofs.KeptEntries.{in_left, in_right, in_either}
 use Rattle.line_order.proofs.OneLine.{closed_stamp}
 use Rattle.line_order.proofs.Arrangements.{next_past}
-use Rattle.access_log.specs.declared.entry.StampedEntry.{StampedEntry}
-use Rattle.access_log.specs.Held.{Lane, lane, entry_at, IsKnown as IsKnownLane}
-use Rattle.plain_machine.specs.History.{Step, log_of, IsHistory}
+use Rattle.access_log.specs.Held.{Lane, lane, IsKnown as IsKnownLane}
+use Rattle.plain_machine.specs.History.{Step, log_of}
 use Rattle.plain_machine.specs.Agree.{IsEarlier}
 use Rattle.plain_machine.proofs.Histories.{history_log, earlier_log}
 use Rattle.master_core.specs.Holding.{held_entries, HoldsOf}

@@ -1,5 +1,5 @@
 -- Before the first event a system stands for the opening.
-use Rattle.std.proofs.Common.{◌≡◌, ℕ, zero, suc, ◌≤◌, All, List, [], length, replicate, slice_index_or, map, drop, refl, sym, ap, ◌∙◌, subst, inl, inr, arith, true, None, ◌<◌, ◌^◌}
+use Rattle.std.proofs.Common.{◌≡◌, ℕ, zero, suc, ◌≤◌, All, List, [], length, replicate, slice_index_or, refl, sym, ap, ◌∙◌, subst, inl, inr, arith, true, None, ◌<◌, ◌^◌}
 use Rattle.rand_pcg.specs.Lcg.{state_after, started, increment_of}
 use Rattle.rand_pcg.specs.Pcg.{multiplier_64}
 use Rattle.plain_text.specs.declared.packet.Packet.{Packet}
@@ -20,10 +20,8 @@ use Rattle.master_core.proofs.HeldEntries.{held_at}
 use Rattle.master_core.proofs.Holdings.{fresh_holds, fresh_holds_none}
 use Rattle.output_logger.specs.Logger.{Logger, IsAmong as IsAmongOutputs}
 use Rattle.recovery_world.specs.World.{Setting, opening}
-use Rattle.recovery_world.specs.Files.{packets_of}
 use Rattle.access_log.specs.declared.entry.Output.{Output}
 use Rattle.std.proofs.lemmas.List.{length-replicate}
-use Rattle.std.proofs.Math.Seq.{drop-nil}
 use Rattle.std.proofs.lemmas.List.Elements.{All-nil}
 use Rattle.recovery_laws.proofs.KeptWorlds.{opening_sound}
 use Rattle.sent_frames.specs.Sending.{Sending, lengths_of, IsUnsent}

@@ -1,5 +1,5 @@
 -- What is read of a system: the value of a variable, and the counts of a thread.
-use Rattle.std.proofs.Common.{◌≡◌, ℕ, ◌<◌, List, [], slice_index_or, refl, sym, ap, ◌∙◌, subst, inr, None, true}
+use Rattle.std.proofs.Common.{◌≡◌, ℕ, suc, ◌<◌, List, [], ◌∷◌, length, slice_index_or, refl, sym, ap, ◌∙◌, subst, inr, None, true}
 use Rattle.std.specs.Prelude.{HoldsAt}
 use Rattle.entry_order.specs.Log.{entries}
 use Rattle.input_logger.specs.Inputs.{Fed}
@@ -10,7 +10,8 @@ use Rattle.master_core.specs.declared.parts.ThreadPart.{ThreadPart}
 use Rattle.master_core.specs.declared.parts.VarPart.{VarPart}
 use Rattle.recovery_world.specs.declared.event.Event.TheVariants as event
 use Rattle.recovery_world.specs.declared.event.Outcome.TheVariants as outcome
-use Rattle.recovery_world.specs.World.{Setting, World}
+use Rattle.recovery_world.specs.World.{Setting, Sent, World}
+use Rattle.recovery_world.specs.Files.{sent_names}
 use Rattle.system_parts.specs.Parts.{Parts}
 use Rattle.system_parts.specs.Standing.{StandsFor}
 use Rattle.system_parts.specs.Performing.{ComesTo}
@@ -51,3 +52,12 @@ counts_stand {P} {V} m t counts {y} {old} is low at s w st = (
 
     here : counts ≡ (slice_index_or old.master.threads t none).counts
     here = at none ∙ ap (λ (q : Parts P V). (slice_index_or q.master.threads t none).counts) is
+
+-- As many outputs were noted as were released.
+
+pub names_length : (sent : List Sent) → length (sent_names sent) ≡ length sent
+names_length [] = refl
+names_length (o ∷ sent) = ap suc (names_length sent)
+
+pub released_count : {P V : Type 0} (m : Meaning V) (s : Setting V) (w : World V) (y : Parts P V) → StandsFor m s w y → length y.released ≡ length w.released
+released_count m s w y st = ap length st.released ∙ names_length w.released

@@ -1,12 +1,11 @@
 -- Snapshots that a system keeps, as it goes on.
-use Rattle.std.proofs.Common.{◌≡◌, ◌≢◌, ◌<◌, ◌≤◌, arith, ℕ, List, [], refl, sym, ap, ◌∙◌, subst, inl, inr, ◌⊎◌, Option, Some, None}
+use Rattle.std.proofs.Common.{◌≡◌, ◌≢◌, ◌<◌, ◌≤◌, arith, ℕ, List, refl, sym, ap, ◌∙◌, subst, inl, inr, ◌⊎◌, Option, Some, None}
 use Rattle.entry_order.specs.Log.{Entry}
 use Rattle.access_log.specs.declared.entry.Output.{Output}
 use Rattle.dup_filter.specs.Numbers.{Numbers, WasMarked}
 use Rattle.output_logger.specs.Logger.{ReleasesOnce, IsAmong as IsAmongOutputs}
 use Rattle.wire_frames.specs.Writing.{CanPutOutput}
 use Rattle.plain_machine.specs.History.{Step, log_of}
-use Rattle.plain_machine.specs.Agree.{SendsAfter}
 use Rattle.snapshot_store.specs.Stored.{Snapshot, Snapshots}
 use Rattle.recovery_world.specs.World.{Setting, Sent}
 use Rattle.plain_text.specs.declared.kind.Kind.{Kind}

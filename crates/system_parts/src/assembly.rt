@@ -5,9 +5,8 @@ ghost use Rattle.recovery_world.specs.World.{Setting, World, opening};
 ghost use Rattle.system_parts.specs.Parts.{IsShort};
 ghost use Rattle.system_parts.specs.Standing.{StandsFor};
 
-use event_replies::Releases;
-use sent_frames::SentFrames;
 use box_program::Program;
+use event_replies::Releases;
 use input_logger::InputLog;
 use master_core::{Counts, Master};
 use output_logger::OutputLogger;
@@ -15,6 +14,7 @@ use plain_machine::Schedule;
 use plain_text::{NoMemory, Packet, Packets, Sequence, Unit};
 use rand_pcg::Pcg32;
 use replay_guide::Guide;
+use sent_frames::SentFrames;
 use snapshot_store::Store;
 use std::alloc::Global;
 use std::marker::Model;

@@ -1,5 +1,5 @@
 -- A system whose master made a move stands for the world after it.
-use Rattle.std.proofs.Common.{◌≡◌, ℕ, ◌+◌, ◌<◌, ◌≤◌, List, [], ◌∷◌, ◌++◌, length, refl, sym, ap, ◌∙◌, subst, inl, inr, ◌⊎◌, arith, Option, Some, None, Result, Ok, Err, Bool, true, false}
+use Rattle.std.proofs.Common.{◌≡◌, ℕ, ◌+◌, ◌<◌, ◌≤◌, List, [], ◌∷◌, ◌++◌, length, refl, sym, ap, ◌∙◌, subst, inl, inr, arith, Option, Some, None, Result, Ok, Err, true, false}
 use Rattle.std.specs.Prelude.{◌↔◌, slice_get, slice_index, is_some, IsTrue, IsSome, IfOk, All}
 use Rattle.std.specs.Option.{unwrap_or, option_map}
 use Rattle.rand_pcg.specs.Lcg.{Lcg}

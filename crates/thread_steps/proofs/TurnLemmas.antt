@@ -1,5 +1,5 @@
 -- A thread has its turn as the guide says.
-use Rattle.std.proofs.Common.{◌≡◌, ℕ, ◌+◌, ◌<◌, length, arith, [], List, refl, sym, ap, ◌∙◌, subst, inl, inr, Option, Some, None, Bool, true, false}
+use Rattle.std.proofs.Common.{◌≡◌, ℕ, ◌+◌, ◌<◌, length, arith, [], List, refl, sym, ap, ◌∙◌, subst, Option, Some, None, true, false}
 use Rattle.std.specs.Prelude.{◌↔◌, slice_index, HoldsAt}
 use Rattle.entry_order.specs.Log.{Entry, entries, places}
 use Rattle.access_log.specs.Held.{Lane}
@@ -16,7 +16,6 @@ use Rattle.master_core.specs.declared.wants.Wants.TheVariants as wants
 use Rattle.master_core.specs.Stepping.{wanted, wanted_in, wanted_by}
 use Rattle.recovery_world.specs.declared.event.Outcome.TheVariants as outcome
 use Rattle.recovery_world.specs.World.{Setting, World}
-use Rattle.recovery_world.specs.Events.{WaitsFor}
 use Rattle.recovery_world.specs.Turns.{Awaits, HasTurn, HandHasTurn}
 use Rattle.recovery_laws.specs.Sound.{Sound}
 use Rattle.replay_guide.specs.Worlds.{Guides}

@@ -23,10 +23,9 @@ ghost use Rattle.access_log.specs.Held.{lane, entry_at};
 ghost use Rattle.system_parts.specs.Performing.{MovesOn, StopsAt, ComesTo, WouldPass};
 ghost use Rattle.thread_steps.specs.Stepping.{CanNote, Notes, NotesMove};
 
-use event_replies::Stop;
-use system_parts::Core;
 use access_log::{Output, StampedEntry, Turn, What};
 use box_program::Program;
+use event_replies::Stop;
 use input_logger::InputLog;
 use master_core::{Master, Stepped, Wants};
 use plain_machine::PlainMove;
@@ -35,6 +34,7 @@ use rand_core::utils::NextWord;
 use rand_pcg::Pcg32;
 use recovery_world::Outcome;
 use replay_guide::Guide;
+use system_parts::Core;
 
 /// The outcome of a logged move.
 fn entry_outcome(entry: &StampedEntry) -> Outcome

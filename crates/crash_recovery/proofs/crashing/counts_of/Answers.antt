@@ -1,4 +1,4 @@
-use Rattle.std.proofs.Common.{◌≡◌, ◌∙◌, ap, sym, subst, length, arith}
+use Rattle.std.proofs.Common.{◌∙◌, arith}
 use Rattle.crash_recovery.proofs.RecoveryCounts.{counts_more}
 use Rattle.crash_recovery.proofs.crashing.counts_of.Goals as goal
 

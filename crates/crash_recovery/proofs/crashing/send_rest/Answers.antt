@@ -1,4 +1,4 @@
-use Rattle.std.proofs.Common.{◌<◌, ◌≡◌, ◌+◌, length, sym, subst, ap, take, arith}
+use Rattle.std.proofs.Common.{◌+◌, sym, subst, take}
 use Rattle.crash_recovery.specs.Recovering.{SendsRest}
 use Rattle.crash_recovery.proofs.RecoveryLinks.{rest_none, can_still, rest_goes, rest_stays}
 use Rattle.crash_recovery.proofs.crashing.send_rest.Goals as goal

@@ -1,4 +1,4 @@
-use Rattle.std.proofs.Common.{◌≡◌, ap, sym, ◌∙◌, true, false}
+use Rattle.std.proofs.Common.{ap, sym, ◌∙◌}
 use Rattle.crash_recovery.proofs.RecoveryWorlds.{awake_stays, wakes_as}
 use Rattle.crash_recovery.proofs.crashing.wake.Goals as goal
 

@@ -1,6 +1,6 @@
 use Rattle.std.proofs.Common.{◌+◌, List, sym, ◌∙◌, subst, arith}
 use Rattle.access_log.specs.declared.entry.Output.{Output}
-use Rattle.snapshot_steps.proofs.UnreleasedLemmas.{AddedSoFar, added_none, added_past, found_is, added_more, added_all}
+use Rattle.snapshot_steps.proofs.UnreleasedLemmas.{AddedSoFar, added_none, added_past, found_is, added_more}
 use Rattle.snapshot_steps.proofs.snapshots.add_unreleased.Goals as goal
 use Rattle.snapshot_steps.proofs.snapshots.add_unreleased.Goals.{then-not-seen+in_ok-output+in-Some+in_ok-push, then-not-seen+in_ok-output+in_default, else-not-seen}
 

@@ -1,4 +1,3 @@
-use Rattle.std.proofs.Common.{ℕ}
 use Rattle.snapshot_steps.proofs.UnreleasedLemmas.{AddedSoFar}
 use Rattle.snapshot_steps.proofs.snapshots.add_unreleased.Given as goal
 

@@ -1,10 +1,7 @@
-use Rattle.std.proofs.Common.{◌≡◌, ◌<◌, ◌≤◌, ℕ, List, [], length, refl, sym, ap, ◌∙◌, subst, inl, arith}
-use Rattle.access_log.specs.Held.{lane}
+use Rattle.std.proofs.Common.{ℕ, List, length, refl, ap, ◌∙◌, subst, inl}
 use Rattle.plain_machine.specs.History.{log_of}
-use Rattle.plain_machine.proofs.Histories.{earlier_history}
 use Rattle.dup_filter.specs.Numbers.{Numbers}
 use Rattle.output_logger.specs.Logger.{appended}
-use Rattle.recovery_world.specs.World.{inputs_fed}
 use Rattle.recovery_world.specs.declared.event.Event.TheVariants as event_is
 use Rattle.recovery_world.specs.declared.event.Outcome.TheVariants as outcome
 use Rattle.output_releases.specs.Released.{ForgetsReleased}

@@ -1,5 +1,4 @@
-use Rattle.std.proofs.Common.{◌≡◌, ◌<◌, sym, ap, ◌∙◌, subst, arith}
-use Rattle.access_log.specs.declared.entry.Turn.TheVariants as turn_of
+use Rattle.std.proofs.Common.{sym, ap, ◌∙◌, subst}
 use Rattle.master_core.specs.Stepping.{wanted}
 use Rattle.master_core.specs.Standing.{Stands}
 use Rattle.system_parts.specs.Standing.{StandsFor}

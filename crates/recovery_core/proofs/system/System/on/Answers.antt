@@ -1,7 +1,8 @@
 use Rattle.std.proofs.Common.{refl}
 use Rattle.std.proofs.lemmas.Result.{IfOk-weaker}
 use Rattle.system_parts.specs.Performing.{Releasing}
-use Rattle.recovery_core.specs.Systems.{RepliesAny, IsStopped}
+use Rattle.recovery_core.specs.Systems.{RepliesAny}
+use Rattle.system_parts.specs.Performing.{IsStopped}
 use Rattle.recovery_core.proofs.FinishLemmas.{system_on, system_at}
 use Rattle.recovery_core.proofs.RepliesLemmas.{moves_some}
 use Rattle.recovery_core.proofs.system.System.on.Goals as goal

@@ -1,4 +1,4 @@
-use Rattle.std.proofs.Common.{◌≡◌, arith, None, [], refl, ap, ◌∙◌, reverse}
+use Rattle.std.proofs.Common.{arith, refl, ap, ◌∙◌, reverse}
 use Rattle.std.proofs.lemmas.List.{reverse-reverse}
 use Rattle.system_parts.proofs.OpeningLemmas.{first_generator, opening_stands, opening_are_parts}
 use Rattle.system_parts.proofs.assembly.Core.new.Goals as goal

@@ -1,0 +1,4 @@
+pub mod ChoosingLemmas
+pub mod MessageLists
+pub mod Choices
+pub mod Following

@@ -1,0 +1,7 @@
+//! A recovering system performs an event that is not one of several.
+#![tactic(auto)]
+
+mod performing;
+mod showing;
+
+pub use performing::perform_single;
