@@ -1,0 +1,18 @@
+use Rattle.std.proofs.Common.{◌≡◌, ℕ, ◌+◌, ◌∙◌, ap, sym, subst, refl, arith, Some}
+use Rattle.rand_pcg.specs.Pcg.{multiplier_64}
+use Rattle.rand_pcg.proofs.LcgLemmas.{advance_zero}
+use Rattle.recovery_world.specs.declared.event.Event.TheVariants as event
+use Rattle.recovery_world.specs.Many.{Phase, Chooses, begins}
+use Rattle.several_events.specs.declared.progress.Progress.TheVariants as progress
+use Rattle.several_events.specs.Progressing.{IsAt}
+use Rattle.several_events.proofs.strategy.begin.Goals as goal
+
+from_none : (n : ℕ) → n ≡ 0 + n
+from_none n = omega arith
+
+pub returns-in-Auto-clause-several : goal.returns-in-Auto-clause-several
+returns-in-Auto-clause-several g c = λ s w st. (
+  Chooses c.in-Auto.seed 0 c.in-Auto.n,
+  ap (begins s w) c.in-Auto.is,
+  (c.in-Auto.seed, 0, ap (Chooses c.in-Auto.seed 0) (from_none c.in-Auto.n), c.new.ensures ∙ sym (advance_zero 64 multiplier_64 _)),
+)

@@ -1,0 +1,14 @@
+use Rattle.std.proofs.Common.{length}
+use Rattle.system_parts.specs.Performing.{Appends, MovesOn, Releasing}
+use Rattle.several_events.specs.Progressing.{Reaches, to_do}
+use Rattle.several_events.proofs.strategy.follow.Given as goal
+
+-- the strategy goes on from here, whatever it comes to
+abbrev pub invariant-events : goal.invariant-events
+invariant-events g l = record {
+  moved : MovesOn (g.P.Program.meaning l.fn.core.program) (Releasing l.fn.out l.out (Reaches l.fn.from l.at)) l.fn.core l.core;
+  appends : Appends l.fn.out l.out;
+}
+
+abbrev pub decreases-events : goal.decreases-events
+decreases-events g l = to_do l.core.inputs.threads (length l.core.left) l.core.moves l.at
