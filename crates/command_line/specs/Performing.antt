@@ -5,7 +5,7 @@ use Rattle.job_top.specs.declared.status.Status.{Status}
 use Rattle.job_top.specs.declared.status.Status.TheVariants.{Done, TooLarge}
 use Rattle.plain_text.specs.declared.limit.Limit.{Limit}
 use Rattle.job_top.specs.Commands.{Leaves, LeavesInOrder, StopsAtLimit, JudgesInputsOf, AcceptsInputsOf, CompletesAs, KeepsNames}
-use Rattle.script_run.specs.Run.{KeepsShown}
+use Rattle.run_writes.specs.Run.{KeepsShown}
 use Rattle.job_top.specs.Headline.{KeepsPromiseOf}
 use Rattle.job_top.specs.Status.{stage_of, stage_of_limit, AtInputs, AtOutputs}
 use Rattle.job_top.specs.Words.{asked}

@@ -16,7 +16,7 @@ use Rattle.schedule_check.specs.Checking.{IsChecked}
 use Rattle.schedule_run.specs.declared.error.ScheduleError.{ScheduleError}
 use Rattle.schedule_run.specs.declared.error.ScheduleError.TheVariants as error
 use Rattle.schedule_run.specs.Checking.{SaysCheck, found_writes}
-use Rattle.script_run.specs.Run.{KeepsShown}
+use Rattle.run_writes.specs.Run.{KeepsShown}
 use Rattle.input_files.specs.Files.{KeepsOutputs}
 use Rattle.job_top.specs.declared.schedule_inputs.CheckInputs.{CheckInputs}
 use Rattle.job_top.specs.declared.status.Status.{Status}

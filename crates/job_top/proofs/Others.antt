@@ -9,9 +9,9 @@ use Rattle.output_files.specs.declared.error.OutputError.{OutputError}
 use Rattle.output_files.specs.Writes.{Write, Creates, Appends, Reports, after_writes, IsPartOf, IsCut, HasBegun}
 use Rattle.output_files.specs.Written.{Writes}
 use Rattle.output_files.proofs.Effects.{begun_all}
-use Rattle.script_run.specs.Replies.{Reply}
-use Rattle.script_run.specs.Run.{OutputNames, KeepsOthers, IsWritten, writes_of, replies_writes}
-use Rattle.script_run.proofs.RunWrites.{other_name}
+use Rattle.run_writes.specs.Replies.{Reply}
+use Rattle.run_writes.specs.Run.{OutputNames, KeepsOthers, IsWritten, writes_of, replies_writes}
+use Rattle.run_writes.proofs.RunWrites.{other_name}
 use Rattle.job_top.specs.Making.{made_writes}
 use Rattle.job_top.specs.Run.{RunsInOrder, outputs_of, setting_for}
 use Rattle.job_top.specs.Schedules.{PlaysInOrder, FindsInOrder}

@@ -12,9 +12,9 @@ use Rattle.output_files.specs.declared.error.OutputError.{OutputError}
 use Rattle.output_files.specs.declared.error.OutputError.TheVariants as output
 use Rattle.output_files.specs.Writes.{report_file, Write, after_writes, reported, HasWritten, HasBegun}
 use Rattle.pcap_io.specs.Capture.{written}
-use Rattle.script_run.specs.declared.error.RunError.{RunError}
-use Rattle.script_run.specs.declared.error.RunError.TheVariants as run_error
-use Rattle.script_run.specs.Run.{OutputNames, HasFiles, HasRun, HasStopped, HasBegunRun, KeepsShown}
+use Rattle.run_writes.specs.declared.error.RunError.{RunError}
+use Rattle.run_writes.specs.declared.error.RunError.TheVariants as run_error
+use Rattle.run_writes.specs.Run.{OutputNames, HasFiles, HasRun, HasStopped, HasBegunRun, KeepsShown}
 use Rattle.input_files.specs.Files.{KeepsOutputs}
 use Rattle.job_top.specs.declared.inputs.Inputs.{Inputs}
 use Rattle.job_top.specs.declared.status.Status.{Status}

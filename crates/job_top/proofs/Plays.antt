@@ -8,7 +8,7 @@ use Rattle.world_io.specs.World.{Shown}
 use Rattle.schedule_run.specs.declared.error.ScheduleError.{ScheduleError}
 use Rattle.schedule_run.specs.declared.error.ScheduleError.TheVariants as error
 use Rattle.schedule_run.specs.Playing.{SaysPlay, HasPlayed, HasBegunPlay, emitted_writes}
-use Rattle.script_run.specs.Run.{KeepsShown}
+use Rattle.run_writes.specs.Run.{KeepsShown}
 use Rattle.input_files.specs.Files.{KeepsOutputs}
 use Rattle.job_top.specs.declared.schedule_inputs.ScheduleInputs.{ScheduleInputs}
 use Rattle.job_top.specs.declared.status.Status.{Status}

@@ -21,7 +21,7 @@ use Rattle.world_io.specs.World.{Shown}
 use Rattle.recovery_laws.proofs.ScriptFiles.{leaves_accepted}
 use Rattle.schedule_check.specs.Checking.{IsChecked}
 use Rattle.schedule_check.specs.declared.checking.Checked.TheVariants.{Found}
-use Rattle.script_run.specs.Run.{FitsRecord, HasRun}
+use Rattle.run_writes.specs.Run.{FitsRecord, HasRun}
 use Rattle.input_files.specs.Judging.{IsToldOf}
 use Rattle.job_top.specs.declared.inputs.Inputs.{Inputs}
 use Rattle.job_top.specs.declared.schedule_inputs.CheckInputs.{CheckInputs}

@@ -3,7 +3,7 @@ use Rattle.std.specs.Prelude.{◌≡◌, ◌⊎◌, ℕ, List}
 use Rattle.world_io.specs.World.{Shown}
 use Rattle.plain_text.specs.declared.limit.Limit.{Limit}
 use Rattle.output_files.specs.Writes.{HasWritten, HasBegun}
-use Rattle.script_run.specs.Run.{KeepsOthers}
+use Rattle.run_writes.specs.Run.{KeepsOthers}
 use Rattle.plain_machine.specs.declared.plain_move.PlayFault.{PlayFault}
 use Rattle.schedule_check.specs.declared.checking.Refutation.{Refutation}
 use Rattle.job_top.specs.declared.schedule_inputs.ScheduleInputs.{ScheduleInputs}

@@ -7,8 +7,8 @@ use Rattle.box_conf.specs.Kinds.{meaning_of}
 use Rattle.world_io.specs.World.{Shown}
 use Rattle.recovery_world.specs.World.{Setting}
 use Rattle.recovery_world.specs.Files.{Leaves, LeavesAt}
-use Rattle.script_run.specs.declared.run.ScriptRun.{ScriptRun}
-use Rattle.script_run.specs.Run.{OutputNames, setting_of, KeepsShown, HasRun, HasStopped, HasBegunRun}
+use Rattle.run_writes.specs.declared.opening.ScriptRun.{ScriptRun}
+use Rattle.run_writes.specs.Run.{OutputNames, setting_of, KeepsShown, HasRun, HasStopped, HasBegunRun}
 use Rattle.input_files.specs.Judging.{AcceptsBox, AcceptsCapture, AcceptsScript}
 use Rattle.job_top.specs.declared.inputs.Inputs.{Inputs}
 use Rattle.job_top.specs.Words.{RunNames}

@@ -15,7 +15,7 @@ use Rattle.schedule_run.specs.declared.run.ScheduleRun.{ScheduleRun}
 use Rattle.schedule_run.specs.Runs.{outcome_of}
 use Rattle.schedule_run.specs.Playing.{SaysPlay, HasPlayed, HasBegunPlay}
 use Rattle.schedule_run.specs.Checking.{IsFound, SaysCheck, found_writes}
-use Rattle.script_run.specs.Run.{KeepsShown}
+use Rattle.run_writes.specs.Run.{KeepsShown}
 use Rattle.input_files.specs.declared.errors.InputError.{InputError}
 use Rattle.input_files.specs.Judging.{JudgesBox, JudgesCapture, JudgesSchedule, AcceptsBox, AcceptsCapture, AcceptsSchedule}
 use Rattle.job_top.specs.declared.schedule_inputs.ScheduleInputs.{ScheduleInputs}

@@ -9,8 +9,8 @@ use Rattle.input_files.specs.declared.errors.InputError.{InputError}
 use Rattle.input_files.specs.declared.errors.InputError.TheVariants as of_input
 use Rattle.output_files.specs.declared.error.OutputError.{OutputError}
 use Rattle.output_files.specs.declared.error.OutputError.TheVariants as of_output
-use Rattle.script_run.specs.declared.error.RunError.{RunError}
-use Rattle.script_run.specs.declared.error.RunError.TheVariants as of_run
+use Rattle.run_writes.specs.declared.error.RunError.{RunError}
+use Rattle.run_writes.specs.declared.error.RunError.TheVariants as of_run
 use Rattle.plain_machine.specs.declared.plain_move.PlayFault.{PlayFault}
 use Rattle.schedule_check.specs.declared.checking.Refutation.{Refutation}
 use Rattle.schedule_run.specs.declared.error.ScheduleError.{ScheduleError}

@@ -6,7 +6,7 @@ ghost use Rattle.world_io.specs.World.{KeepsLedgerWriting};
 ghost use Rattle.output_files.specs.Writes.{HasBegun, HasWritten};
 ghost use Rattle.schedule_run.specs.Checking.{SaysCheck, found_writes};
 ghost use Rattle.schedule_run.specs.Runs.{CanPlay};
-ghost use Rattle.script_run.specs.Run.{KeepsShown};
+ghost use Rattle.run_writes.specs.Run.{KeepsShown};
 ghost use Rattle.job_top.specs.Schedules.{AreFound, FindsAll, FindsInOrder, JudgesCheck, outcome_for, schedule_of};
 ghost use Rattle.job_top.specs.Status.{AtInputs, AtOutputs, stage_of, stage_of_limit};
 ghost use Rattle.job_top.specs.Words.{check_names_of};
@@ -35,10 +35,9 @@ fn check_box<W: World>(
         (W.shown world.old) (W.shown world.new)) }
     ensures refused { (refutation : refuted.Refutation)
         → result ≡ Err (ScheduleError.Refused refutation) → world.new ≡ world.old }
-    ensures ledger { KeepsLedgerWriting (W.ledger world.old) (W.ledger world.new) }
+    ensures only_writes { OnlyWrites W.tells W.shown W.ledger W.healthy world.old world.new }
     ensures cause { IsErrOf result ScheduleError.WriteFault
-        → Rose (W.ledger world.old).write_faults (W.ledger world.new).write_faults }
-    ensures never_fails { W.healthy world.old → ¬ IsErrOf result ScheduleError.WriteFault }
+        → WritingFailed W.ledger W.healthy world.old world.new }
 {
     let played = inputs.played;
     let run = ScheduleRun {

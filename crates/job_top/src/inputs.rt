@@ -1,6 +1,6 @@
 ghost use Rattle.std.specs.Prelude.{◌≡◌, ◌<◌, ◌-◌, ◌^◌, IsTrue, IfOk, IfErr, IsErrOf};
 ghost use Rattle.world_io.specs.Stream.{Rose};
-ghost use Rattle.script_run.specs.Run.{CanRun};
+ghost use Rattle.run_writes.specs.Run.{CanRun};
 ghost use Rattle.input_files.specs.Files.{KeepsOutputs};
 ghost use Rattle.job_top.specs.Judging.{JudgesInputs};
 ghost use Rattle.job_top.specs.Reading.{AfterInputs};

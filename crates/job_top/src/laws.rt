@@ -14,7 +14,7 @@ ghost use Rattle.input_files.specs.Judging.{AcceptsCapture};
 ghost use Rattle.job_top.specs.declared.status.Status.{Status};
 ghost use Rattle.job_top.specs.Judging.{Judges, IsDecided};
 ghost use Rattle.job_top.specs.Schedules.{JudgesCheck, JudgesPlay};
-ghost use Rattle.script_run.specs.Run.{HasRun};
+ghost use Rattle.run_writes.specs.Run.{HasRun};
 ghost use Rattle.job_top.specs.declared.inputs.Inputs.{Inputs};
 ghost use Rattle.job_top.specs.Checked.{AreWithinLimits, StillStand, checked};
 ghost use Rattle.job_top.specs.Run.{AcceptsInputs, outputs_of, setting_for};

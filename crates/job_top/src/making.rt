@@ -36,10 +36,9 @@ pub fn make_capture<W: World>(
     requires few { words.count ≤ MOST_PACKETS }
     ensures told { IsTrue W.tells → Writes result (made_writes (made_of words.entry))
         (W.shown world.old) (W.shown world.new) }
-    ensures ledger { AfterWriting 1 (W.ledger world.old) (W.ledger world.new) }
+    ensures writes_files { WritesFiles W.ledger W.healthy 1 world.old world.new }
     ensures cause { IsErrOf result OutputError.WriteFault
-        → Rose (W.ledger world.old).write_faults (W.ledger world.new).write_faults }
-    ensures never_fails { W.healthy world.old → ¬ IsErrOf result OutputError.WriteFault }
+        → WritingFailed W.ledger W.healthy world.old world.new }
 {
     let records = make_records(alloc, words.seed, words.count)?;
     let report = put_count(alloc, b"made ", words.count)?;

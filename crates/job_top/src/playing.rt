@@ -5,7 +5,7 @@ ghost use Rattle.world_io.specs.Stream.{Rose};
 ghost use Rattle.output_files.specs.Written.{AfterWriting};
 ghost use Rattle.schedule_run.specs.Playing.{HasBegunPlay, HasPlayed, SaysPlay};
 ghost use Rattle.schedule_run.specs.Runs.{CanPlay};
-ghost use Rattle.script_run.specs.Run.{KeepsShown};
+ghost use Rattle.run_writes.specs.Run.{KeepsShown};
 ghost use Rattle.job_top.specs.Schedules.{JudgesPlay, PlaysInOrder, PlaysWhole, outcome_for, schedule_of};
 ghost use Rattle.job_top.specs.Status.{AtInputs, AtOutputs, stage_of, stage_of_limit};
 ghost use Rattle.job_top.specs.Words.{play_names_of};
@@ -36,10 +36,9 @@ fn play_box<W: World>(
         out.now inputs.capture.unit (W.shown world.old) (W.shown world.new) }
     ensures refused { (fault : move_fault.PlayFault) → result ≡ Err (ScheduleError.Refused fault)
         → world.new ≡ world.old }
-    ensures ledger { AfterWriting 1 (W.ledger world.old) (W.ledger world.new) }
+    ensures writes_files { WritesFiles W.ledger W.healthy 1 world.old world.new }
     ensures cause { IsErrOf result ScheduleError.WriteFault
-        → Rose (W.ledger world.old).write_faults (W.ledger world.new).write_faults }
-    ensures never_fails { W.healthy world.old → ¬ IsErrOf result ScheduleError.WriteFault }
+        → WritingFailed W.ledger W.healthy world.old world.new }
 {
     let run = ScheduleRun {
         threads: inputs.conf.threads,

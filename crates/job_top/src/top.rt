@@ -3,7 +3,7 @@ ghost use Rattle.plain_text.specs.declared.limit.Limit.{Limit as LimitKind};
 ghost use Rattle.world_io.specs.Stream.{Rose};
 ghost use Rattle.box_conf.specs.Kinds.{meaning_of};
 ghost use Rattle.output_files.specs.Written.{AfterWriting};
-ghost use Rattle.script_run.specs.Run.{CanRun, HasBegunRun, HasRun, HasStopped, KeepsShown};
+ghost use Rattle.run_writes.specs.Run.{CanRun, HasBegunRun, HasRun, HasStopped, KeepsShown};
 ghost use Rattle.job_top.specs.Commands.{AcceptsInputsOf, CompletesAs, Leaves, LeavesInOrder, JudgesInputsOf, KeepsNames, StopsAtLimit};
 ghost use Rattle.job_top.specs.Headline.{KeepsPromise, KeepsPromiseOf};
 ghost use Rattle.job_top.specs.Judging.{Judges};
@@ -39,10 +39,9 @@ fn run_box<W: World>(
         (W.shown world.old) (W.shown world.new) }
     ensures in_order { IsTrue W.tells → HasBegunRun (setting_for inputs)
         (outputs_of (names_of names.entry)) inputs.events (W.shown world.old) (W.shown world.new) }
-    ensures ledger { AfterWriting 2 (W.ledger world.old) (W.ledger world.new) }
+    ensures writes_files { WritesFiles W.ledger W.healthy 2 world.old world.new }
     ensures cause { IsErrOf result RunError.WriteFault
-        → Rose (W.ledger world.old).write_faults (W.ledger world.new).write_faults }
-    ensures never_fails { W.healthy world.old → ¬ IsErrOf result RunError.WriteFault }
+        → WritingFailed W.ledger W.healthy world.old world.new }
 {
     let files = RunFiles {
         released: names.released,

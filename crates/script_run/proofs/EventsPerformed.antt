@@ -14,8 +14,9 @@ use Rattle.recovery_core.specs.declared.reply.Stop.TheVariants as stop
 use Rattle.recovery_core.specs.Parts.{IsShort, Systemed}
 use Rattle.recovery_core.specs.Standing.{HasReleased, StandsFor}
 use Rattle.recovery_core.specs.Performing.{MovesOn, StopsAt, RepliesAny, IsStopped}
-use Rattle.script_run.specs.Running.{packets_in, IsAt, ComesTo}
-use Rattle.script_run.proofs.ShortPackets.{released_short}
+use Rattle.run_writes.specs.Replies.{packets_in}
+use Rattle.script_run.specs.Running.{IsAt, ComesTo}
+use Rattle.run_writes.proofs.ShortPackets.{released_short}
 
 -- what taking the released outputs promises
 pub record Takes {P V : Type 0} (meaning : P → Meaning V) (outputs : List Output) (old new : Systemed P V) : Type 0 where
