@@ -1,7 +1,7 @@
 ghost use Rattle.std.specs.Prelude.{◌≡◌, ◌<◌, ◌≤◌, ◌+◌, ◌^◌, ◌⊎◌, None, IsTrue, IfErr, IfOk};
 ghost use Rattle.std.specs.IoError.{error_kind};
 ghost use Rattle.world_io.specs.Stream.{Rose};
-ghost use Rattle.job_top.specs.Words.{asked};
+ghost use Rattle.job_commands.specs.Words.{asked};
 ghost use Rattle.command_line.specs.Performing.{Performs};
 ghost use Rattle.command_line.specs.Printing.{Prints, asked_text};
 ghost use Rattle.command_line.specs.Words.{Refuses, words_of};

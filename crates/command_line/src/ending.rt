@@ -1,6 +1,6 @@
 ghost use Rattle.std.specs.Prelude.{◌≡◌};
 ghost use Rattle.std.specs.Process.{exit_status};
-ghost use Rattle.job_top.specs.Status.{exit_code_of};
+ghost use Rattle.job_commands.specs.Status.{exit_code_of};
 
 use job_top::Status;
 use std::process::ExitCode;
