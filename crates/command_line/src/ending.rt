@@ -2,7 +2,7 @@ ghost use Rattle.std.specs.Prelude.{◌≡◌};
 ghost use Rattle.std.specs.Process.{exit_status};
 ghost use Rattle.job_commands.specs.Status.{exit_code_of};
 
-use job_top::Status;
+use job_commands::Status;
 use std::process::ExitCode;
 
 /// The number that the program ends with: that of the status.
