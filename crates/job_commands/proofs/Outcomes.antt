@@ -1,17 +1,15 @@
 -- What the command `run` comes to, from what its run does.
 use Rattle.std.proofs.Common.{◌≡◌, ℕ, List, [], ◌++◌, refl, ap, ◌∙◌, subst, inl, inr, Result, Ok, Err}
-use Rattle.std.specs.Prelude.{⊤, IsErrOf, OnOk, Some}
+use Rattle.std.specs.Prelude.{⊤, IsErrOf, OnOk}
 use Rattle.plain_text.specs.declared.limit.Limit.{Limit}
 use Rattle.plain_text.specs.declared.packet.Packet.{Packet}
 use Rattle.plain_text.specs.declared.packet.Unit.{Unit as FractionUnit}
 use Rattle.world_io.specs.World.{Shown}
 use Rattle.recovery_world.specs.declared.event.Event.{Event}
 use Rattle.recovery_world.specs.World.{Setting}
-use Rattle.recovery_laws.proofs.ScriptFiles.{leaves_ends}
 use Rattle.output_files.specs.declared.error.OutputError.{OutputError}
 use Rattle.output_files.specs.declared.error.OutputError.TheVariants as output
 use Rattle.output_files.specs.Writes.{report_file, Write, after_writes, reported, HasWritten, HasBegun}
-use Rattle.pcap_io.specs.Capture.{written}
 use Rattle.run_writes.specs.declared.error.RunError.{RunError}
 use Rattle.run_writes.specs.declared.error.RunError.TheVariants as run_error
 use Rattle.run_writes.specs.Run.{OutputNames, HasFiles, HasRun, HasStopped, HasBegunRun, KeepsShown}

@@ -2,15 +2,12 @@
 use Rattle.std.specs.Prelude.{ℕ, List, ◌++◌, codes, decimal}
 use Rattle.plain_text.specs.declared.fault.LineCause.{LineCause}
 use Rattle.plain_text.specs.declared.fault.LineCause.TheVariants as line
-use Rattle.plain_text.specs.declared.fault.LineFault.{LineFault}
 use Rattle.plain_text.specs.declared.limit.Limit.{Limit}
 use Rattle.plain_text.specs.declared.limit.Limit.TheVariants.{File, Packets, Events, Moves, OutputBytes}
 use Rattle.pcap_io.specs.declared.fault.CaptureCause.{CaptureCause}
 use Rattle.pcap_io.specs.declared.fault.CaptureCause.TheVariants as capture
-use Rattle.pcap_io.specs.declared.fault.CaptureFault.{CaptureFault}
 use Rattle.pcapng_io.specs.declared.fault.NgCause.{NgCause}
 use Rattle.pcapng_io.specs.declared.fault.NgCause.TheVariants as ng
-use Rattle.pcapng_io.specs.declared.fault.NgFault.{NgFault}
 use Rattle.plain_machine.specs.declared.plain_move.PlayCause.{PlayCause}
 use Rattle.plain_machine.specs.declared.plain_move.PlayCause.TheVariants as move
 use Rattle.schedule_check.specs.declared.checking.Refutation.{Refutation}

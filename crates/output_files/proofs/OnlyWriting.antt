@@ -1,7 +1,7 @@
 -- Where only writing goes on from each state of a world to the next, only writing has gone on from the first to the last.
-use Rattle.std.proofs.Common.{ℕ, ◌+◌, ◌≤◌, Bool, List, Result, ◌∙◌, arith}
+use Rattle.std.proofs.Common.{ℕ, ◌+◌, Bool, List, Result, ◌∙◌, arith}
 use Rattle.std.specs.Prelude.{IsTrue}
-use Rattle.world_io.specs.World.{Shown, Ledger, KeepsLedgerWriting, WritesOn, WritingFailed}
+use Rattle.world_io.specs.World.{Shown, Ledger, WritesOn, WritingFailed}
 use Rattle.world_io.specs.OneFile.{KeepsLedgerWriting-same, KeepsLedgerWriting-more}
 use Rattle.output_files.specs.Written.{AfterWriting, AppendsTo, OnlyWrites, WritesFiles}
 use Rattle.output_files.proofs.Effects.{keeps_all, keeps_both}

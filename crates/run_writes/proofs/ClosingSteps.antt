@@ -1,5 +1,5 @@
 -- The end of a run is written: the schedule, and then the last line.
-use Rattle.std.proofs.Common.{◌≡◌, ℕ, List, [], ◌∷◌, ◌++◌, append_assoc, subst, Result}
+use Rattle.std.proofs.Common.{ℕ, List, [], ◌∷◌, ◌++◌, append_assoc, subst, Result}
 use Rattle.world_io.specs.World.{Shown}
 use Rattle.output_files.specs.declared.error.OutputError.{OutputError}
 use Rattle.output_files.specs.Writes.{Write, Appends, Reports, HasWritten, HasBegun}

@@ -1,5 +1,5 @@
 -- What an event leaves is written: its records, and then its line.
-use Rattle.std.proofs.Common.{◌≡◌, ℕ, List, [], ◌∷◌, ◌++◌, sym, ap, ◌∙◌, append_assoc, subst, Result}
+use Rattle.std.proofs.Common.{◌≡◌, ℕ, List, [], ◌∷◌, ◌++◌, sym, append_assoc, subst, Result}
 use Rattle.world_io.specs.World.{Shown}
 use Rattle.output_files.specs.declared.error.OutputError.{OutputError}
 use Rattle.output_files.specs.Writes.{Write, Appends, Reports, HasWritten, HasBegun, HasGathered}

@@ -1,5 +1,5 @@
 -- A run from its opening to its end.
-use Rattle.std.proofs.Common.{◌≡◌, ℕ, List, [], ◌∷◌, refl, sym, ap, ◌∙◌, append-nil, subst, inl, inr, Result, Ok, Err}
+use Rattle.std.proofs.Common.{◌≡◌, ℕ, List, [], ◌∷◌, refl, sym, ◌∙◌, append-nil, subst, inl, inr, Result, Ok, Err}
 use Rattle.std.specs.Prelude.{⊤, IsErrOf, OnOk}
 use Rattle.std.proofs.lemmas.List.Elements.{All-nil}
 use Rattle.plain_text.specs.declared.limit.Limit.{Limit}

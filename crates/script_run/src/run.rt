@@ -78,7 +78,15 @@ pub fn run_script<P: Program, W: World>(
     let mut system = System::new(alloc, program, run.threads, run.seed, run.unit, run.packets)?;
     let mut lines = Bytes::new(alloc);
     let events = run.events.as_slice();
-    match write_events(alloc, world, files, run.unit, events, &mut system, &mut lines) {
+    match write_events(
+        alloc,
+        world,
+        files,
+        run.unit,
+        events,
+        &mut system,
+        &mut lines,
+    ) {
         Ok(schedule) => {
             let ended = finish_run(alloc, world, schedule, system, &mut lines);
             written(ended)

@@ -1,4 +1,3 @@
-use Rattle.std.proofs.Common.{◌∙◌}
 use Rattle.output_files.proofs.Effects.{err_gathers, gathered_begun}
 use Rattle.script_run.proofs.replying.write_answer.Goals as goal
 

@@ -1,4 +1,4 @@
-use Rattle.std.proofs.Common.{◌≡◌, rules, Err, []}
+use Rattle.std.proofs.Common.{◌≡◌, rules, Err}
 use Rattle.output_files.proofs.OnlyWriting.{OnlyWrites-files, WritesFiles-trans, WritesFiles-failed}
 use Rattle.run_writes.specs.Errors.{run_error_of}
 use Rattle.run_writes.specs.Run.{names_of}
