@@ -16,15 +16,16 @@ use Rattle.recovery_world.specs.declared.event.Outcome.TheVariants as outcome
 use Rattle.recovery_world.specs.World.{Setting, World}
 use Rattle.recovery_world.specs.Limits.{OnWithin, Passes}
 use Rattle.recovery_world.specs.Many.{auto_event, chosen, Autos, Begins, Next, Choosing, ChoosingStops, summary_of}
-use Rattle.recovery_core.specs.declared.reply.Reply.{Reply}
-use Rattle.recovery_core.specs.Parts.{Parts}
-use Rattle.recovery_core.specs.Standing.{StandsFor}
+use Rattle.event_replies.specs.declared.reply.Reply.{Reply}
+use Rattle.system_parts.specs.Parts.{Parts}
+use Rattle.system_parts.specs.Standing.{StandsFor}
 use Rattle.recovery_core.specs.Choosing.{IsSingle, Counted, Chooses, ChoosesTo}
-use Rattle.recovery_core.specs.Performing.{Replies, WouldPass, IsStopped}
+use Rattle.system_parts.specs.Performing.{Replies, WouldPass}
+use Rattle.recovery_core.specs.Systems.{IsStopped}
 use Rattle.recovery_core.proofs.FinishLemmas.{released_count}
-use Rattle.recovery_core.proofs.HandLemmas.{draws_word}
-use Rattle.recovery_core.proofs.ReadLemmas.{counts_stand}
-use Rattle.recovery_core.proofs.SettlingMoves.{threads_of_setting}
+use Rattle.thread_steps.proofs.HandLemmas.{draws_word}
+use Rattle.system_parts.proofs.ReadLemmas.{counts_stand}
+use Rattle.system_parts.proofs.EventChains.{threads_of_setting}
 use Rattle.master_core.specs.declared.parts.Counts.{Counts}
 use Rattle.master_core.specs.declared.parts.ThreadPart.{ThreadPart}
 

@@ -18,11 +18,12 @@ use Rattle.recovery_world.specs.Events.{On, OnLog, OnOut, OfThread, Wakes}
 use Rattle.recovery_world.specs.Files.{sent_names}
 use Rattle.recovery_world.specs.Limits.{OnWithin}
 use Rattle.recovery_world.specs.Many.{Does, Stays, Goes, numbers_of, threads_of, Settling, SettlingStops, summary_of}
-use Rattle.recovery_core.specs.declared.reply.Reply.{Reply}
-use Rattle.recovery_core.specs.Arriving.{arrival_of}
-use Rattle.recovery_core.specs.Parts.{Parts}
-use Rattle.recovery_core.specs.Standing.{StandsFor, HasReleased}
-use Rattle.recovery_core.specs.Performing.{Replies, SettlesTo, IsStopped}
+use Rattle.event_replies.specs.declared.reply.Reply.{Reply}
+use Rattle.message_arrivals.specs.Arriving.{arrival_of}
+use Rattle.system_parts.specs.Parts.{Parts}
+use Rattle.system_parts.specs.Standing.{StandsFor, NotesNames}
+use Rattle.system_parts.specs.Performing.{Replies}
+use Rattle.recovery_core.specs.Systems.{SettlesTo, IsStopped}
 use Rattle.recovery_core.specs.Settling.{FeedsAll, HaltsFeeding, ArriveEach, ArriveAll, count_in}
 
 -- What arrives leaves the past
@@ -146,8 +147,8 @@ names_length [] = refl
 names_length (o ∷ l) = ap suc (names_length l)
 
 -- as many as were released
-how_many : {P V : Type 0} (w : World V) (y : Parts P V) → HasReleased w y → length y.released ≡ length w.released
-how_many w y h = ap length h.names ∙ names_length w.released
+how_many : {P V : Type 0} (w : World V) (y : Parts P V) → NotesNames w y → length y.released ≡ length w.released
+how_many w y h = ap length h ∙ names_length w.released
 
 -- and then all outputs: the world is settled
 pub settles_to : {P V : Type 0} (m : Meaning V) (s : Setting V) (w here next : World V) (old new : Parts P V) (moves released epoch : ℕ) → StandsFor m s w old → StandsFor m s next new

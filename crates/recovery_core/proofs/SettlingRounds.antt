@@ -20,8 +20,8 @@ use Rattle.recovery_world.specs.Events.{On, OnStep, entry_outcome, move_outcome}
 use Rattle.recovery_world.specs.Turns.{Awaits, IsAwaited, IsReadToCome, IsTouchToCome}
 use Rattle.recovery_world.specs.Limits.{limit_passed}
 use Rattle.recovery_world.specs.Many.{StepsOut, IsIdle, Waits, Halts, Steps, Round, NoThread, Thread, HaltsBefore, HaltsThere, Rounds, Rests, HaltsIn, Again, Feeds, Empties, HaltsOn, More}
-use Rattle.recovery_core.specs.Parts.{Parts}
-use Rattle.recovery_core.specs.Standing.{StandsFor, StandsForSome}
+use Rattle.system_parts.specs.Parts.{Parts}
+use Rattle.system_parts.specs.Standing.{StandsFor, StandsForSome}
 use Rattle.std.proofs.lemmas.Bool.{cases_lt}
 use Rattle.entry_order.specs.Closed.{IsNoLater}
 use Rattle.entry_order.proofs.Order.{place_within}
@@ -30,9 +30,9 @@ use Rattle.plain_machine.proofs.LoggedEffects.{entry_thread}
 use Rattle.recovery_world.specs.Finish.{IsToCome}
 use Rattle.recovery_laws.specs.Sound.{Sound}
 use Rattle.recovery_laws.proofs.SoundParts.{to_come_first, followed_moves}
-use Rattle.recovery_core.specs.Performing.{MovesOn, StopsAt, ComesTo, WouldPass}
+use Rattle.system_parts.specs.Performing.{MovesOn, StopsAt, ComesTo, WouldPass}
 use Rattle.recovery_core.specs.Settling.{moves_left, StepsTo, HaltsStepping, GoesRound, HaltsInRound, GoesRounds, HaltsInRounds, FeedsAll, HaltsFeeding}
-use Rattle.recovery_core.proofs.SettlingMoves.{threads_of_setting}
+use Rattle.system_parts.proofs.EventChains.{threads_of_setting}
 
 -- One step
 
@@ -84,7 +84,7 @@ step_up {V} s w t given to new (inr (inr (inr (inr k)))) = ap (λ (z : World V).
 
 pub up_after : {P V : Type 0} (m : Meaning V) (t : ℕ) (to : Outcome) (old new : Parts P V) → StandsForSome m old → old.up ≡ true → MovesOn m (ComesTo (event.Step t None) to) old new → new.up ≡ true
 up_after m t to old new some up a =
-    let k = a.2 some.0 some.1 some.2 in
+    let k = a.1 some.0 some.1 some.2 in
     k.2.master.up ∙ step_up some.0 some.1 t None to k.0 k.1.0.0 ∙ sym some.2.master.up ∙ up
 
 -- a world within the limits has no more moves than there may be
@@ -135,7 +135,7 @@ pub moves_fall : {P V : Type 0} (m : Meaning V) (t : ℕ) (to : Outcome) (old ne
 moves_fall m t to old new low busy free up some a =
     let s = some.0 in
     let w = some.1 in
-    let k = a.2 s w some.2 in
+    let k = a.1 s w some.2 in
     let low_here : t < s.threads = subst (λ (i : ℕ). t < i) (threads_of_setting m s w old some.2) low in
     let one : k.0.moves ≡ w.moves + 1 = makes_one s w t None to k.0 low_here (sym some.2.master.up ∙ up) busy free k.1.0.0 in
     let few : k.0.moves ≤ MOST_MOVES = few_moves k.0.moves k.0.bytes k.1.1 in
@@ -331,7 +331,7 @@ pub round_falls : {P V : Type 0} (m : Meaning V) (idle : Bool) (old new : Parts 
 round_falls {P} {V} m idle old new isnt up some a =
     let s = some.0 in
     let w = some.1 in
-    let k = a.2 s w some.2 in
+    let k = a.1 s w some.2 in
     let more = round_makes s w k.0 some.2.sound (sym some.2.master.up ∙ up) (subst (λ (b : Bool). Round s w s.threads (Ok b) k.0) isnt k.1) in
     let few : k.0.moves ≤ MOST_MOVES = few_moves k.0.moves k.0.bytes k.2.within in
     let before : old.moves ≡ w.moves = some.2.master.moves in
@@ -342,13 +342,13 @@ round_falls {P} {V} m idle old new isnt up some a =
     less most a b c d x y z few = omega (arith, x, y, z, few)
 
 pub up_round : {P V : Type 0} (m : Meaning V) (idle : Bool) (old new : Parts P V) → StandsForSome m old → old.up ≡ true → MovesOn m (GoesRound idle) old new → new.up ≡ true
-up_round m idle old new some up a = let k = a.2 some.0 some.1 some.2 in k.2.master.up ∙ round_up some.0 some.1 some.0.threads k.0 (Ok idle) k.1 ∙ sym some.2.master.up ∙ up
+up_round m idle old new some up a = let k = a.1 some.0 some.1 some.2 in k.2.master.up ∙ round_up some.0 some.1 some.0.threads k.0 (Ok idle) k.1 ∙ sym some.2.master.up ∙ up
 
 pub up_rounds : {P V : Type 0} (m : Meaning V) (old new : Parts P V) → StandsForSome m old → old.up ≡ true → MovesOn m GoesRounds old new → new.up ≡ true
-up_rounds m old new some up a = let k = a.2 some.0 some.1 some.2 in k.2.master.up ∙ rounds_up some.0 some.1 k.0 None k.1 ∙ sym some.2.master.up ∙ up
+up_rounds m old new some up a = let k = a.1 some.0 some.1 some.2 in k.2.master.up ∙ rounds_up some.0 some.1 k.0 None k.1 ∙ sym some.2.master.up ∙ up
 
 pub up_fed : {P V : Type 0} (m : Meaning V) (n : ℕ) (to : Outcome) (old new : Parts P V) → StandsForSome m old → old.up ≡ true → MovesOn m (ComesTo (event.Feed n) to) old new → new.up ≡ true
-up_fed {P} {V} m n to old new some up a = let k = a.2 some.0 some.1 some.2 in k.2.master.up ∙ ap (λ (z : World V). z.up) k.1.0.2 ∙ sym some.2.master.up ∙ up
+up_fed {P} {V} m n to old new some up a = let k = a.1 some.0 some.1 some.2 in k.2.master.up ∙ ap (λ (z : World V). z.up) k.1.0.2 ∙ sym some.2.master.up ∙ up
 
 -- rounds led from the one world to the other
 abbrev pub RoundsFirst : {V : Type 0} → Setting V → World V → World V → Type 0
@@ -448,8 +448,8 @@ pub left_falls : {P V : Type 0} (m : Meaning V) (to : Outcome) (old mid new : Pa
 left_falls m to old mid new left some a b =
     let s = some.0 in
     let w = some.1 in
-    let k = a.2 s w some.2 in
-    let l = b.2 s k.0 k.2 in
+    let k = a.1 s w some.2 in
+    let l = b.1 s k.0 k.2 in
     falls (length s.packets) w.fed k.0.fed l.0.fed (length old.left) (length mid.left) (length new.left) (left_over m s w old some.2) (left_over m s k.0 mid k.2) (left_over m s l.0 new l.2)
     (rounds_fed s w k.0 None k.1) (ap (λ z. z.fed) l.1.0.2) left
   where

@@ -8,8 +8,8 @@ use Rattle.recovery_world.specs.declared.event.Event.TheVariants as event
 use Rattle.recovery_world.specs.declared.event.Outcome.{Outcome}
 use Rattle.recovery_world.specs.World.{Setting, World}
 use Rattle.recovery_world.specs.Many.{Autos, OnAny}
-use Rattle.recovery_core.specs.Parts.{Parts}
-use Rattle.recovery_core.specs.Standing.{StandsFor}
+use Rattle.system_parts.specs.Parts.{Parts}
+use Rattle.system_parts.specs.Standing.{StandsFor}
 
 -- an event that is not one of several
 abbrev pub IsSingle : Event → Type 0

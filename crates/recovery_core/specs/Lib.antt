@@ -1,12 +1,6 @@
-pub mod Sending
-pub mod Parts
-pub mod Standing
-pub mod Unreleased
-pub mod Ending
-pub mod Following
-pub mod Stepping
-pub mod Arriving
-pub mod Recovering
+pub use Rattle.system_parts.specs.Parts
+pub use Rattle.system_parts.specs.Standing
+pub use Rattle.system_parts.specs.Performing
 pub mod Settling
 pub mod Choosing
-pub mod Performing
+pub mod Systems

@@ -7,10 +7,9 @@ use Rattle.entry_order.specs.Log.{entries}
 use Rattle.plain_machine.specs.History.{Step, log_of, sent_of, outputs}
 use Rattle.recovery_world.specs.World.{Setting, World}
 use Rattle.plain_text.specs.declared.limit.TheConstants.{MOST_MOVES}
-use Rattle.recovery_world.specs.Events.{Wakes}
-use Rattle.recovery_core.specs.Parts.{Parts}
+use Rattle.system_parts.specs.Parts.{Parts}
 use Rattle.recovery_world.specs.Many.{Does, StepsOut, Round, Rounds, Feeds, numbers_of, threads_of}
-use Rattle.recovery_core.specs.Arriving.{arrival_of}
+use Rattle.message_arrivals.specs.Arriving.{arrival_of}
 
 -- the thread stepped until it was idle, or waited; or until its next move would pass a limit
 abbrev pub StepsTo : {V : Type 0} → ℕ → Bool → Setting V → World V → World V → Type 0
@@ -54,10 +53,6 @@ pub record ArriveEach {V : Type 0} (which : Kind) (t count : ℕ) (s : Setting V
 pub record ArriveAll {V : Type 0} (which : Kind) (s : Setting V) (w next : World V) : Type 0 where
   pub does : Does s w (threads_of (arrival_of which) (count_in which w.past) s.threads) next
   pub past : next.past ≡ w.past
-
--- the world itself where its master is up, or the one after a recovery
-abbrev pub WakesUp : {V : Type 0} → Setting V → World V → World V → Type 0
-WakesUp s w next = Wakes w next
 
 -- how many moves may still be made
 abbrev pub moves_left : {P V : Type 0} → Parts P V → ℕ

@@ -4,13 +4,15 @@ ghost use Rattle.traffic_gen.specs.Generated.{generator_after};
 ghost use Rattle.recovery_world.specs.declared.event.Event.TheVariants as event_is;
 ghost use Rattle.recovery_world.specs.World.{Setting, World};
 ghost use Rattle.recovery_world.specs.Many.{chosen};
-ghost use Rattle.recovery_core.specs.Standing.{StandsFor, StandsForSome};
+ghost use Rattle.system_parts.specs.Standing.{StandsFor, StandsForSome};
 ghost use Rattle.recovery_core.specs.Choosing.{Counted, IsSingle, Chooses, ChoosesTo};
-ghost use Rattle.recovery_core.specs.Performing.{AddsFresh, MovesOn, StopsAt, IsStopped};
+ghost use Rattle.system_parts.specs.Performing.{Appends, MovesOn, StopsAt, Releasing};
+ghost use Rattle.recovery_core.specs.Systems.{IsStopped};
 
-use crate::Stop;
-use crate::assembly::{Core, STREAM};
+use event_replies::Stop;
+use system_parts::{Core, STREAM};
 use crate::performing::perform_single;
+use access_log::Outputs;
 use box_program::Program;
 use rand_core::utils::NextWord;
 use rand_pcg::Pcg32;
@@ -53,38 +55,47 @@ fn choose_next<P: Program>(core: &Core<P>, words: &mut Pcg32) -> Event
 }
 
 /// This number of events are performed, one after another, each chosen by two words of the generator of the seed.
-fn choose_all<P: Program>(core: &mut Core<P>, seed: u64, n: u64) -> Result<(), Stop>
+fn choose_all<P: Program>(
+    core: &mut Core<P>,
+    seed: u64,
+    n: u64,
+    out: &mut Outputs,
+) -> Result<(), Stop>
     requires stands { StandsForSome (P.meaning core.old.program) core.old }
-    ensures on { OnOk result (MovesOn (P.meaning core.old.program) (Chooses seed n)
-        core.old core.new) }
+    ensures on { OnOk result (MovesOn (P.meaning core.old.program)
+        (Releasing out.old out.new (Chooses seed n)) core.old core.new) }
     ensures limit { (limit : LimitKind) → result ≡ Err (Stop.Limit limit)
-        → StopsAt (P.meaning core.old.program) (IsStopped (event_is.Auto seed n) limit)
-        core.old core.new }
-    ensures fresh { AddsFresh core.old core.new }
-    ensures handed { core.new.handed ≡ core.old.handed }
+        → StopsAt (P.meaning core.old.program)
+        (Releasing out.old out.new (IsStopped (event_is.Auto seed n) limit)) core.old core.new }
+    ensures appends { Appends out.old out.new }
 {
     let mut words = Pcg32::new(seed, STREAM);
     'events: for _ in 0..n {
         let event = choose_next(core, &mut words);
-        perform_single(core, event)?;
+        perform_single(core, event, out)?;
     }
     Ok(())
 }
 
 /// This number of chosen events are performed.
-pub fn auto<P: Program>(core: &mut Core<P>, seed: u64, n: u64) -> Result<Outcome, Stop>
+pub fn auto<P: Program>(
+    core: &mut Core<P>,
+    seed: u64,
+    n: u64,
+    out: &mut Outputs,
+) -> Result<Outcome, Stop>
     requires stands { StandsForSome (P.meaning core.old.program) core.old }
     ensures on { IfOk result (λ to.
-        MovesOn (P.meaning core.old.program) (ChoosesTo seed n to) core.old core.new) }
+        MovesOn (P.meaning core.old.program)
+        (Releasing out.old out.new (ChoosesTo seed n to)) core.old core.new) }
     ensures limit { (limit : LimitKind) → result ≡ Err (Stop.Limit limit)
-        → StopsAt (P.meaning core.old.program) (IsStopped (event_is.Auto seed n) limit)
-        core.old core.new }
-    ensures fresh { AddsFresh core.old core.new }
-    ensures handed { core.new.handed ≡ core.old.handed }
+        → StopsAt (P.meaning core.old.program)
+        (Releasing out.old out.new (IsStopped (event_is.Auto seed n) limit)) core.old core.new }
+    ensures appends { Appends out.old out.new }
 {
     let moves = core.moves;
     let released = core.released.len() as u64;
-    choose_all(core, seed, n)?;
+    choose_all(core, seed, n, out)?;
     Ok(Outcome::Summary {
         moves: core.moves.saturating_sub(moves),
         released: (core.released.len() as u64).saturating_sub(released),

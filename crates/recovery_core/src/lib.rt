@@ -1,27 +1,16 @@
 //! The recovering system: the input log, a master, its snapshots, what it follows after a crash, the links, and the output logger,
 //! put together. It performs the events of a script one by one.
 //!
-//! A system stands for a world of the definitions (`StandsFor`). Each event that it performs is that of the definitions, for every
+//! A system stands for a world of the definitions (`SystemStands`). Each event that it performs is that of the definitions, for every
 //! world that it stands for: the reply is the same, and afterwards it stands for the world of the event. It keeps counts and
 //! lengths where the definitions keep whole lists, so no event takes longer the longer the run has been.
 #![tactic(auto)]
 
-mod arriving;
-mod assembly;
 mod choosing;
-mod crashing;
-mod ending;
-mod feeding;
-mod lines;
 mod performing;
-mod reply;
-mod sending;
 mod settling;
 mod showing;
-mod snapshots;
-mod stepping;
 mod system;
 
-pub use lines::put_line;
-pub use reply::{Finished, Releases, Reply, Stop};
+pub use event_replies::{Finished, Releases, Reply, Stop, put_line};
 pub use system::System;

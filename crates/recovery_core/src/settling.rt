@@ -1,16 +1,18 @@
 ghost use Rattle.std.specs.Prelude.{◌≡◌, ◌<◌, true, false, IfOk, OnOk, Err};
 ghost use Rattle.plain_text.specs.declared.limit.Limit.{Limit as LimitKind};
 ghost use Rattle.recovery_world.specs.declared.event.Event.TheVariants as event_is;
-ghost use Rattle.recovery_core.specs.Standing.{StandsForSome};
-ghost use Rattle.recovery_core.specs.Settling.{StepsTo, HaltsStepping, GoesRound, HaltsInRound, GoesRounds, HaltsInRounds, FeedsAll, HaltsFeeding, ArriveEach, ArriveAll, WakesUp, moves_left};
-ghost use Rattle.recovery_core.specs.Performing.{AddsFresh, MovesOn, StopsAt, SettlesTo, IsStopped};
+ghost use Rattle.system_parts.specs.Standing.{StandsForSome};
+ghost use Rattle.recovery_core.specs.Settling.{StepsTo, HaltsStepping, GoesRound, HaltsInRound, GoesRounds, HaltsInRounds, FeedsAll, HaltsFeeding, ArriveEach, ArriveAll, moves_left};
+ghost use Rattle.system_parts.specs.Performing.{Appends, MovesOn, StopsAt, Releasing};
+ghost use Rattle.recovery_core.specs.Systems.{SettlesTo, IsStopped};
 
-use crate::Stop;
-use crate::arriving::arrive;
-use crate::assembly::Core;
-use crate::crashing::start_over;
-use crate::feeding::feed;
-use crate::stepping::step;
+use event_replies::Stop;
+use message_arrivals::arrive;
+use system_parts::Core;
+use crash_recovery::wake;
+use packet_feeds::feed;
+use thread_steps::step;
+use access_log::Outputs;
 use box_program::Program;
 use plain_text::{Kind, NoMemory};
 use recovery_world::Outcome;
@@ -25,8 +27,6 @@ fn step_out<P: Program>(core: &mut Core<P>, thread: u32) -> Result<bool, Stop>
     ensures limit { (limit : LimitKind) → result ≡ Err (Stop.Limit limit)
         → StopsAt (P.meaning core.old.program) (HaltsStepping thread limit) core.old core.new }
     ensures up { IfOk result (λ _. core.new.up ≡ true) }
-    ensures fresh { core.new.fresh ≡ core.old.fresh }
-    ensures handed { core.new.handed ≡ core.old.handed }
 {
     'steps: loop {
         match step(core, u64::from(thread), None)? {
@@ -47,8 +47,6 @@ fn round<P: Program>(core: &mut Core<P>) -> Result<bool, Stop>
         → StopsAt (P.meaning core.old.program) (HaltsInRound limit) core.old core.new }
     ensures up { IfOk result (λ _. core.new.up ≡ true) }
     ensures moves { IfOk result (λ idle. idle ≡ false → moves_left core.new < moves_left core.old) }
-    ensures fresh { core.new.fresh ≡ core.old.fresh }
-    ensures handed { core.new.handed ≡ core.old.handed }
 {
     let mut all_idle = true;
     'threads: for thread in 0..core.inputs.threads() {
@@ -66,8 +64,6 @@ fn rounds<P: Program>(core: &mut Core<P>) -> Result<(), Stop>
     ensures limit { (limit : LimitKind) → result ≡ Err (Stop.Limit limit)
         → StopsAt (P.meaning core.old.program) (HaltsInRounds limit) core.old core.new }
     ensures up { OnOk result (core.new.up ≡ true) }
-    ensures fresh { core.new.fresh ≡ core.old.fresh }
-    ensures handed { core.new.handed ≡ core.old.handed }
 {
     'rounds: loop {
         if round(core)? {
@@ -83,8 +79,6 @@ fn run_out<P: Program>(core: &mut Core<P>) -> Result<(), Stop>
     ensures on { OnOk result (MovesOn (P.meaning core.old.program) FeedsAll core.old core.new) }
     ensures limit { (limit : LimitKind) → result ≡ Err (Stop.Limit limit)
         → StopsAt (P.meaning core.old.program) (HaltsFeeding limit) core.old core.new }
-    ensures fresh { core.new.fresh ≡ core.old.fresh }
-    ensures handed { core.new.handed ≡ core.old.handed }
 {
     'feeds: loop {
         rounds(core)?;
@@ -101,26 +95,29 @@ fn arrive_each<P: Program>(
     kind: Kind,
     thread: u32,
     count: u64,
+    out: &mut Outputs,
 ) -> Result<(), NoMemory>
     requires stands { StandsForSome (P.meaning core.old.program) core.old }
-    ensures on { OnOk result (MovesOn (P.meaning core.old.program) (ArriveEach kind thread count)
-        core.old core.new) }
-    ensures fresh { AddsFresh core.old core.new }
-    ensures handed { core.new.handed ≡ core.old.handed }
+    ensures on { OnOk result (MovesOn (P.meaning core.old.program)
+        (Releasing out.old out.new (ArriveEach kind thread count)) core.old core.new) }
+    ensures appends { Appends out.old out.new }
 {
     'numbers: for earlier in 0..count {
-        arrive(core, kind, u64::from(thread), earlier + 1)?;
+        arrive(core, kind, u64::from(thread), earlier + 1, out)?;
     }
     Ok(())
 }
 
 /// All entries or outputs of the master arrive, by thread, then number.
-fn arrive_all<P: Program>(core: &mut Core<P>, kind: Kind) -> Result<(), NoMemory>
+fn arrive_all<P: Program>(
+    core: &mut Core<P>,
+    kind: Kind,
+    out: &mut Outputs,
+) -> Result<(), NoMemory>
     requires stands { StandsForSome (P.meaning core.old.program) core.old }
-    ensures on { OnOk result (MovesOn (P.meaning core.old.program) (ArriveAll kind)
-        core.old core.new) }
-    ensures fresh { AddsFresh core.old core.new }
-    ensures handed { core.new.handed ≡ core.old.handed }
+    ensures on { OnOk result (MovesOn (P.meaning core.old.program)
+        (Releasing out.old out.new (ArriveAll kind)) core.old core.new) }
+    ensures appends { Appends out.old out.new }
 {
     'threads: for thread in 0..core.inputs.threads() {
         let counts = core.master.counts(thread);
@@ -128,44 +125,28 @@ fn arrive_all<P: Program>(core: &mut Core<P>, kind: Kind) -> Result<(), NoMemory
             Kind::Log => counts.entries,
             Kind::Out => counts.outputs,
         };
-        arrive_each(core, kind, thread, count)?;
+        arrive_each(core, kind, thread, count, out)?;
     }
-    Ok(())
-}
-
-/// The master recovers, where it is down.
-pub fn wake<P: Program>(core: &mut Core<P>) -> Result<(), NoMemory>
-    requires stands { StandsForSome (P.meaning core.old.program) core.old }
-    ensures on { OnOk result (MovesOn (P.meaning core.old.program) WakesUp core.old core.new) }
-    ensures up { OnOk result (core.new.up ≡ true) }
-    ensures moves { OnOk result (core.new.moves ≡ core.old.moves) }
-    ensures released { OnOk result (core.new.released ≡ core.old.released) }
-    ensures fresh { core.new.fresh ≡ core.old.fresh }
-    ensures handed { core.new.handed ≡ core.old.handed }
-{
-    if core.up {
-        return Ok(());
-    }
-    start_over(core)?;
     Ok(())
 }
 
 /// All threads go on to the end of the capture, and all that they logged and sent out arrives.
-pub fn settle<P: Program>(core: &mut Core<P>) -> Result<Outcome, Stop>
+pub fn settle<P: Program>(core: &mut Core<P>, out: &mut Outputs) -> Result<Outcome, Stop>
     requires stands { StandsForSome (P.meaning core.old.program) core.old }
     ensures on { IfOk result (λ to.
-        MovesOn (P.meaning core.old.program) (SettlesTo to) core.old core.new) }
+        MovesOn (P.meaning core.old.program)
+        (Releasing out.old out.new (SettlesTo to)) core.old core.new) }
     ensures limit { (limit : LimitKind) → result ≡ Err (Stop.Limit limit)
-        → StopsAt (P.meaning core.old.program) (IsStopped event_is.Settle limit) core.old core.new }
-    ensures fresh { AddsFresh core.old core.new }
-    ensures handed { core.new.handed ≡ core.old.handed }
+        → StopsAt (P.meaning core.old.program)
+        (Releasing out.old out.new (IsStopped event_is.Settle limit)) core.old core.new }
+    ensures appends { Appends out.old out.new }
 {
     let moves = core.moves;
     let released = core.released.len() as u64;
     wake(core)?;
     run_out(core)?;
-    arrive_all(core, Kind::Log)?;
-    arrive_all(core, Kind::Out)?;
+    arrive_all(core, Kind::Log, out)?;
+    arrive_all(core, Kind::Out, out)?;
     Ok(Outcome::Summary {
         moves: core.moves.saturating_sub(moves),
         released: (core.released.len() as u64).saturating_sub(released),

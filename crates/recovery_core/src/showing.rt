@@ -2,10 +2,10 @@ ghost use Rattle.std.specs.Prelude.{◌≡◌, ℕ, IfOk};
 ghost use Rattle.recovery_world.specs.declared.event.Event.TheVariants as event_is;
 ghost use Rattle.recovery_world.specs.World.{Setting, World};
 ghost use Rattle.recovery_world.specs.Limits.{OnWithin};
-ghost use Rattle.recovery_core.specs.Standing.{StandsFor};
-ghost use Rattle.recovery_core.specs.Performing.{ComesTo};
+ghost use Rattle.system_parts.specs.Standing.{StandsFor};
+ghost use Rattle.system_parts.specs.Performing.{ComesTo};
 
-use crate::assembly::Core;
+use system_parts::Core;
 use box_program::Program;
 use plain_text::NoMemory;
 use recovery_world::Outcome;

@@ -1,25 +1,27 @@
-ghost use Rattle.std.specs.Prelude.{◌≡◌, ◌<◌, ◌≤◌, ℕ, All, List, [], IfOk, OnOk, OnErr, Err, true, false, drop, length, map};
+ghost use Rattle.std.specs.Prelude.{◌≡◌, ◌<◌, ◌≤◌, ℕ, All, List, [], IfOk, OnOk, OnErr, Err, true, false, drop, length};
 ghost use Rattle.plain_text.specs.declared.limit.Limit.{Limit as LimitKind};
 ghost use Rattle.plain_text.specs.declared.packet.Packet as packet_of;
-ghost use Rattle.access_log.specs.declared.entry.Output as output_of;
 ghost use Rattle.entry_order.specs.Log.{entries};
 ghost use Rattle.plain_machine.specs.History.{log_of, sent_of, outputs, thread_after};
 ghost use Rattle.recovery_world.specs.World.{Setting, World, opening};
 ghost use Rattle.recovery_world.specs.Files.{packets_of};
-ghost use Rattle.recovery_core.specs.Parts.{IsShort};
-ghost use Rattle.recovery_core.specs.Standing.{HasReleased, StandsFor, StandsForSome};
-ghost use Rattle.recovery_core.specs.Performing.{AddsFresh, MovesOn, StopsAt, RepliesAny, IsStopped, FinishesAs};
+ghost use Rattle.run_finish.specs.Ending.{EndsIn};
+ghost use Rattle.system_parts.specs.Parts.{IsShort};
+ghost use Rattle.system_parts.specs.Standing.{StandsFor, StandsForSome};
+ghost use Rattle.system_parts.specs.Performing.{Appends, MovesOn, StopsAt, Releasing, packets_in};
+ghost use Rattle.recovery_core.specs.Systems.{HasReleased, SystemStands, SystemMoves, SystemStops, RepliesAny, IsStopped, FinishesAs};
 
-use crate::arriving::only;
-use crate::assembly::Core;
+use system_parts::Core;
 use crate::choosing::auto;
-use crate::ending::end;
+use system_end::end_awake;
+use crash_recovery::wake;
 use crate::performing::perform_single;
 use crate::settling::settle;
-use crate::{Finished, Reply, Stop};
+use event_replies::{Finished, Reply, Stop, only};
 use access_log::Outputs;
 use box_program::Program;
 use master_core::Counts;
+use plain_machine::Schedule;
 use plain_text::{NoMemory, Packets, Unit};
 use recovery_world::Event;
 use std::alloc::Global;
@@ -35,36 +37,60 @@ use std::mem;
 pub struct System<P: Program> {
     core: Core<P>,
     stopped: bool,
+    /// How many of the released outputs were handed over.
+    handed: usize,
+    /// The others.
+    fresh: Outputs,
 }
 
 impl<P: Program> Model for System<P> {
     ghost use Rattle.std.specs.Prelude.{◌≡◌, false};
-    ghost use Rattle.recovery_core.specs.Parts.{Systemed};
-    ghost use Rattle.recovery_core.specs.Standing.{StandsForSome};
+    ghost use Rattle.recovery_core.specs.Systems.{Systemed};
+    ghost use Rattle.system_parts.specs.Standing.{StandsForSome};
 
     ghost Value = { Systemed P P.Value };
 
-    ghost view = { λ y. record { parts = y.core; stopped = y.stopped } };
+    ghost view = { λ y. record {
+      parts = y.core;
+      stopped = y.stopped;
+      handed = y.handed;
+      fresh = y.fresh;
+    } };
 
     ghost invariant = { λ y. y.stopped ≡ false → StandsForSome (P.meaning y.core.program) y.core };
 }
 
-/// Performs an event.
-fn perform<P: Program>(core: &mut Core<P>, event: Event) -> Result<Reply, Stop>
+/// Performs an event. What it releases is put behind the outputs of the list.
+fn perform<P: Program>(
+    core: &mut Core<P>,
+    event: Event,
+    out: &mut Outputs,
+) -> Result<Reply, Stop>
     requires stands { StandsForSome (P.meaning core.old.program) core.old }
     ensures on { IfOk result (λ reply.
-        MovesOn (P.meaning core.old.program) (RepliesAny event reply) core.old core.new) }
+        MovesOn (P.meaning core.old.program)
+        (Releasing out.old out.new (RepliesAny event reply)) core.old core.new) }
     ensures limit { (limit : LimitKind) → result ≡ Err (Stop.Limit limit)
-        → StopsAt (P.meaning core.old.program) (IsStopped event limit) core.old core.new }
-    ensures fresh { AddsFresh core.old core.new }
-    ensures handed { core.new.handed ≡ core.old.handed }
+        → StopsAt (P.meaning core.old.program)
+        (Releasing out.old out.new (IsStopped event limit)) core.old core.new }
+    ensures appends { Appends out.old out.new }
 {
     let alloc = core.alloc;
     match event {
-        Event::Settle => Ok(only(alloc, settle(core)?)),
-        Event::Auto { seed, n } => Ok(only(alloc, auto(core, seed, n)?)),
-        single => perform_single(core, single),
+        Event::Settle => Ok(only(alloc, settle(core, out)?)),
+        Event::Auto { seed, n } => Ok(only(alloc, auto(core, seed, n, out)?)),
+        single => perform_single(core, single, out),
     }
+}
+
+/// The schedule of the run in which the world ends. Where the master is down, it is that of the one that would start now.
+fn end<P: Program>(mut core: Core<P>) -> Result<Schedule, NoMemory>
+    requires stands { StandsForSome (P.meaning core.program) core }
+    ensures { IfOk result (λ moves. (s : Setting P.Value) (w : World P.Value)
+        → StandsFor (P.meaning core.program) s w core → EndsIn s w moves) }
+{
+    wake(&mut core)?;
+    end_awake(core)
 }
 
 impl<P: Program> System<P> {
@@ -80,21 +106,23 @@ impl<P: Program> System<P> {
         requires some_threads { 1 ≤ threads }
         requires few_threads { threads ≤ 16 }
         requires short { All IsShort packets }
-        ensures stands { IfOk result (λ y. StandsFor (P.meaning program) (record {
+        ensures stands { IfOk result (λ y. SystemStands (P.meaning program) (record {
           meaning = P.meaning program;
           threads = threads;
           fractions = unit;
           packets = packets;
           seed = seed;
-        }) (opening P.Value) y.parts) }
+        }) (opening P.Value) y) }
         ensures program { IfOk result (λ y. y.parts.program ≡ program) }
         ensures runs { IfOk result (λ y. y.stopped ≡ false) }
-        ensures none { IfOk result (λ y. y.parts.handed ≡ 0) }
+        ensures none { IfOk result (λ y. y.handed ≡ 0) }
     {
         let core = Core::new(alloc, program, threads, seed, unit, packets)?;
         Ok(System {
             core,
             stopped: false,
+            handed: 0,
+            fresh: Outputs::new(alloc),
         })
     }
 
@@ -107,25 +135,24 @@ impl<P: Program> System<P> {
 
         // For every world that the system stood for, it stands for that of the event, and the reply is that of the event.
         ensures on { IfOk result (λ reply.
-            MovesOn (P.meaning self.old.parts.program) (RepliesAny event.now reply)
-            self.old.parts self.new.parts) }
+            SystemMoves (P.meaning self.old.parts.program) (RepliesAny event.now reply)
+            self.old self.new) }
         ensures goes_on { OnOk result (self.new.stopped ≡ false) }
 
         // A limit stops it exactly where the event of the definitions stops.
         ensures limit { (limit : LimitKind) → result ≡ Err (Stop.Limit limit)
-            → StopsAt (P.meaning self.old.parts.program) (IsStopped event.now limit)
-            self.old.parts self.new.parts }
+            → SystemStops (P.meaning self.old.parts.program) (IsStopped event.now limit)
+            self.old self.new }
         ensures stops { OnErr result (self.new.stopped ≡ true) }
         ensures no_memory { result ≡ Err Stop.NoMemory
-            → (self.new.parts.fresh ≡ self.old.parts.fresh)
-            × (self.new.parts.handed ≡ self.old.parts.handed) }
+            → (self.new.fresh ≡ self.old.fresh) × (self.new.handed ≡ self.old.handed) }
     {
-        let before = self.core.fresh.len();
-        let done = perform(&mut self.core, *event);
+        let before = self.fresh.len();
+        let done = perform(&mut self.core, *event, &mut self.fresh);
         if let Err(stop) = &done {
             self.stopped = true;
             if matches!(stop, Stop::NoMemory) {
-                self.core.fresh.truncate(before);
+                self.fresh.truncate(before);
             }
         }
         done
@@ -140,20 +167,19 @@ impl<P: Program> System<P> {
 
     /// Hands over the outputs that were released since the last such call, in order of release.
     pub fn take_released(&mut self) -> Outputs
-        ensures outputs { result ≡ self.old.parts.fresh }
-        ensures rest { self.new.parts.fresh ≡ [] }
-        ensures packets { (w : World P.Value) → HasReleased w self.old.parts
-            → (map (λ (o : output_of.Output). o.packet) result
-            ≡ packets_of (drop self.old.parts.handed w.released))
-            × HasReleased w self.new.parts × (self.new.parts.handed ≡ length w.released) }
+        ensures outputs { result ≡ self.old.fresh }
+        ensures rest { self.new.fresh ≡ [] }
+        ensures packets { (w : World P.Value) → HasReleased w self.old
+            → (packets_in result ≡ packets_of (drop self.old.handed w.released))
+            × HasReleased w self.new × (self.new.handed ≡ length w.released) }
         ensures stands { (s : Setting P.Value) (w : World P.Value)
-            → StandsFor (P.meaning self.old.parts.program) s w self.old.parts
-            → StandsFor (P.meaning self.old.parts.program) s w self.new.parts }
+            → SystemStands (P.meaning self.old.parts.program) s w self.old
+            → SystemStands (P.meaning self.old.parts.program) s w self.new }
         ensures program { self.new.parts.program ≡ self.old.parts.program }
         ensures stopped { self.new.stopped ≡ self.old.stopped }
     {
-        self.core.handed = self.core.released.len();
-        mem::replace(&mut self.core.fresh, Outputs::new(self.core.alloc))
+        self.handed = self.core.released.len();
+        mem::replace(&mut self.fresh, Outputs::new(self.core.alloc))
     }
 
     /// Whether the master is up.

@@ -1,9 +1,10 @@
 use Rattle.std.proofs.Common.{◌≡◌, ◌-◌, ◌∙◌, ap, length}
 use Rattle.std.proofs.lemmas.Result.{err_from_is_err_and}
 use Rattle.recovery_world.specs.declared.event.Outcome.TheVariants as outcome
-use Rattle.recovery_core.specs.declared.reply.Stop.TheVariants as stop
+use Rattle.event_replies.specs.declared.reply.Stop.TheVariants as stop
 use Rattle.recovery_core.specs.Choosing.{Chooses, ChoosesTo}
-use Rattle.recovery_core.proofs.SettlingMoves.{moves_as, exits_as}
+use Rattle.system_parts.specs.Performing.{Releasing}
+use Rattle.system_parts.proofs.EventChains.{moves_as, exits_as}
 use Rattle.recovery_core.proofs.ChoosingLemmas.{chooses_to}
 use Rattle.recovery_core.proofs.choosing.auto.Goals as goal
 
@@ -20,5 +21,6 @@ returns-clause-on g c =
     let after : c.len.result ≡ length c.choose_all.new.core.released = c.len.ensures ∙ ap (λ y. length y.released) c.core-2.view_is in
     let released : c.saturating_sub-2.result ≡ length c.choose_all.new.core.released - length c.args.core.now.released = let a = c.saturating_sub-2.ensures in cc in
     let epoch : c.from.result ≡ c.choose_all.new.core.logger.epoch = c.from.ensures ∙ (c.epoch.ensures ∙ ap (λ y. y.logger.epoch) c.core-2.view_is) in
-    moves_as _ (Chooses c.args.seed c.args.n) (ChoosesTo c.args.seed c.args.n (outcome.Summary c.saturating_sub.result c.saturating_sub-2.result c.from.result)) c.args.core.now c.choose_all.new.core
-    (λ s w next st sn a. chooses_to _ s w next c.args.core.now c.choose_all.new.core c.args.seed c.args.n c.saturating_sub.result c.saturating_sub-2.result c.from.result st sn moves released epoch a) c.in_ok-choose_all.ensures.on
+    moves_as _ (Releasing c.args.out.now c.choose_all.new.out (Chooses c.args.seed c.args.n))
+    (Releasing c.args.out.now c.choose_all.new.out (ChoosesTo c.args.seed c.args.n (outcome.Summary c.saturating_sub.result c.saturating_sub-2.result c.from.result))) c.args.core.now c.choose_all.new.core
+    (λ s w next st sn a. (chooses_to _ s w next c.args.core.now c.choose_all.new.core c.args.seed c.args.n c.saturating_sub.result c.saturating_sub-2.result c.from.result st sn moves released epoch a.0, a.1)) c.in_ok-choose_all.ensures.on

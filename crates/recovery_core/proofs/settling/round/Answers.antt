@@ -1,9 +1,9 @@
 use Rattle.std.proofs.Common.{◌≡◌, ◌+◌, ◌<◌, sym, ◌∙◌, ap, subst, refl, true, Bool, arith}
 use Rattle.std.specs.Prelude.{◌&&◌}
 use Rattle.std.proofs.lemmas.Result.{err_from_is_err_and}
-use Rattle.recovery_core.specs.declared.reply.Stop.TheVariants as stop
+use Rattle.event_replies.specs.declared.reply.Stop.TheVariants as stop
 use Rattle.recovery_core.specs.Settling.{StepsTo, HaltsStepping, GoesRound, HaltsInRound}
-use Rattle.recovery_core.proofs.SettlingMoves.{moves_as, moves_none, moves_then, stops_then, stands_then, threads_stay, threads_of_setting, exits_as}
+use Rattle.system_parts.proofs.EventChains.{moves_as, moves_none, moves_then, stops_then, stands_then, threads_stay, threads_of_setting, exits_as}
 use Rattle.recovery_core.proofs.SettlingRounds.{RoundFirst, round_none, round_more, round_halts, round_whole, round_falls}
 use Rattle.recovery_core.proofs.settling.round.Goals as goal
 use Rattle.recovery_core.proofs.settling.round.Goals.{then-all_idle, else-all_idle}
@@ -11,7 +11,6 @@ use Rattle.recovery_core.proofs.settling.round.Goals.{then-all_idle, else-all_id
 pub threads-init : goal.threads-init
 threads-init g c = record {
   moved = moves_none (g.P.Program.meaning c.args.core.now.program) (RoundFirst 0 true) c.args.core.now (λ s w. round_none s w);
-  fresh = refl;
   up = c.requires.up;
   end = c.threads-thread-end.ensures.value ∙ ap (λ y. y.inputs.threads) c.core.view_is;
 }
@@ -40,12 +39,6 @@ returns-in_err-idle-clause-limit g c = λ limit is.
     round_halts s c.threads.thread c.threads.all_idle limit w here next low a b)
     c.threads.invariant.moved (c.step_out.ensures.limit limit made)
 
-pub returns-in_err-idle-clause-fresh : goal.returns-in_err-idle-clause-fresh
-returns-in_err-idle-clause-fresh g c = c.step_out.ensures.fresh ∙ c.threads.invariant.fresh
-
-pub returns-in_err-idle-clause-handed : goal.returns-in_err-idle-clause-handed
-returns-in_err-idle-clause-handed g c = c.step_out.ensures.handed ∙ c.threads.invariant.moved.1
-
 pub threads-preserved : goal.threads-preserved
 threads-preserved g c =
     let both : c.if-all_idle.all_idle ≡ (c.threads.all_idle && c.in_ok-idle.idle) =
@@ -58,7 +51,6 @@ threads-preserved g c =
           moves_then _ _ (RoundFirst c.threads.thread c.threads.all_idle) (StepsTo c.threads.thread c.in_ok-idle.idle) (RoundFirst (c.threads.thread + 1) c.if-all_idle.all_idle) c.args.core.now c.threads.core c.step_out.new.core (ap g.P.Program.meaning c.threads.invariant.moved.0)
           (λ s w here next st sh sn a b. round_more s c.threads.thread c.threads.all_idle c.in_ok-idle.idle c.if-all_idle.all_idle w here next both a b)
           c.threads.invariant.moved c.in_ok-idle.ensures.on;
-      fresh = c.step_out.ensures.fresh ∙ c.threads.invariant.fresh;
       up = c.in_ok-idle.ensures.up;
       end = c.threads.invariant.end;
     }
@@ -80,9 +72,3 @@ returns-clause-moves g c = λ no.
     (moves_as _ (RoundFirst c.threads.thread c.threads.all_idle) (GoesRound c.threads.all_idle) c.args.core.now c.threads.core
     (λ s w next st sn a. round_whole s c.threads.thread c.threads.all_idle w next (last ∙ (c.threads.invariant.end ∙ threads_of_setting _ s w c.args.core.now st)) a)
     c.threads.invariant.moved)
-
-pub returns-clause-fresh : goal.returns-clause-fresh
-returns-clause-fresh g c = c.threads.invariant.fresh
-
-pub returns-clause-handed : goal.returns-clause-handed
-returns-clause-handed g c = c.threads.invariant.moved.1

@@ -1,15 +1,14 @@
 use Rattle.std.proofs.Common.{sym, ◌∙◌, ap, subst, refl}
 use Rattle.std.proofs.lemmas.Result.{err_from_is_err_and}
-use Rattle.recovery_core.specs.declared.reply.Stop.TheVariants as stop
+use Rattle.event_replies.specs.declared.reply.Stop.TheVariants as stop
 use Rattle.recovery_core.specs.Settling.{GoesRound, HaltsInRound, GoesRounds, HaltsInRounds}
-use Rattle.recovery_core.proofs.SettlingMoves.{moves_none, moves_then, stops_then, stands_then, exits_as}
+use Rattle.system_parts.proofs.EventChains.{moves_none, moves_then, stops_then, stands_then, exits_as}
 use Rattle.recovery_core.proofs.SettlingRounds.{RoundsFirst, rounds_more, rounds_last, rounds_halt}
 use Rattle.recovery_core.proofs.settling.rounds.Goals as goal
 
 pub rounds-init : goal.rounds-init
 rounds-init g c = record {
   moved = moves_none (g.P.Program.meaning c.args.core.now.program) RoundsFirst c.args.core.now (λ s w. λ end new h. h);
-  fresh = refl;
   up = c.requires.up;
 }
 
@@ -27,12 +26,6 @@ returns-in_err-round-clause-limit g c = λ limit is.
     stops_then _ _ RoundsFirst (HaltsInRound limit) (HaltsInRounds limit) c.args.core.now c.rounds.core c.round.new.core (ap g.P.Program.meaning c.rounds.invariant.moved.0)
     (λ s w here next st sh a b. rounds_halt s limit w here next a b) c.rounds.invariant.moved (c.round.ensures.limit limit made)
 
-pub returns-in_err-round-clause-fresh : goal.returns-in_err-round-clause-fresh
-returns-in_err-round-clause-fresh g c = c.round.ensures.fresh ∙ c.rounds.invariant.fresh
-
-pub returns-in_err-round-clause-handed : goal.returns-in_err-round-clause-handed
-returns-in_err-round-clause-handed g c = c.round.ensures.handed ∙ c.rounds.invariant.moved.1
-
 pub rounds-smaller : goal.rounds-smaller
 rounds-smaller g c = c.in_ok-round.ensures.moves c.if-branch.false
 
@@ -41,7 +34,6 @@ rounds-preserved g c = record {
   moved =
       moves_then _ _ RoundsFirst (GoesRound c.in_ok-round.field-0) RoundsFirst c.args.core.now c.rounds.core c.round.new.core (ap g.P.Program.meaning c.rounds.invariant.moved.0)
       (λ s w here next st sh sn a b. rounds_more s c.in_ok-round.field-0 w here next c.if-branch.false a b) c.rounds.invariant.moved c.in_ok-round.ensures.on;
-  fresh = c.round.ensures.fresh ∙ c.rounds.invariant.fresh;
   up = c.in_ok-round.ensures.up;
 }
 
@@ -49,9 +41,3 @@ pub returns-then-branch-clause-on : goal.returns-then-branch-clause-on
 returns-then-branch-clause-on g c =
     moves_then _ _ RoundsFirst (GoesRound c.in_ok-round.field-0) GoesRounds c.args.core.now c.rounds.core c.round.new.core (ap g.P.Program.meaning c.rounds.invariant.moved.0)
     (λ s w here next st sh sn a b. rounds_last s c.in_ok-round.field-0 w here next c.if-branch.true a b) c.rounds.invariant.moved c.in_ok-round.ensures.on
-
-pub returns-then-branch-clause-fresh : goal.returns-then-branch-clause-fresh
-returns-then-branch-clause-fresh g c = c.round.ensures.fresh ∙ c.rounds.invariant.fresh
-
-pub returns-then-branch-clause-handed : goal.returns-then-branch-clause-handed
-returns-then-branch-clause-handed g c = c.round.ensures.handed ∙ c.rounds.invariant.moved.1

@@ -3,17 +3,16 @@ use Rattle.std.specs.Vec.{vec_len}
 use Rattle.std.proofs.lemmas.List.{length-reverse}
 use Rattle.std.proofs.lemmas.Result.{err_from_is_err_and}
 use Rattle.recovery_world.specs.declared.event.Event.TheVariants as event
-use Rattle.recovery_core.specs.declared.reply.Stop.TheVariants as stop
-use Rattle.recovery_core.specs.Performing.{MovesOn, ComesTo}
+use Rattle.event_replies.specs.declared.reply.Stop.TheVariants as stop
+use Rattle.system_parts.specs.Performing.{MovesOn, ComesTo}
 use Rattle.recovery_core.specs.Settling.{GoesRounds, HaltsInRounds, FeedsAll, HaltsFeeding}
-use Rattle.recovery_core.proofs.SettlingMoves.{moves_none, moves_as, moves_then, stops_then, stands_then, exits_as}
+use Rattle.system_parts.proofs.EventChains.{moves_none, moves_as, moves_then, stops_then, stands_then, exits_as}
 use Rattle.recovery_core.proofs.SettlingRounds.{FeedsFirst, FeedsRounds, feeds_empty, feeds_halt, feeds_more, left_falls, up_fed, none_left, some_left}
 use Rattle.recovery_core.proofs.settling.run_out.Goals as goal
 
 pub feeds-init : goal.feeds-init
 feeds-init g c = record {
   moved = moves_none (g.P.Program.meaning c.args.core.now.program) FeedsFirst c.args.core.now (λ s w. λ end new h. h);
-  fresh = refl;
   up = c.requires.up;
 }
 
@@ -31,12 +30,6 @@ returns-in_err-rounds-clause-limit g c = λ limit is.
     stops_then _ _ FeedsFirst (HaltsInRounds limit) (HaltsFeeding limit) c.args.core.now c.feeds.core c.rounds.new.core (ap g.P.Program.meaning c.feeds.invariant.moved.0)
     (λ s w here next st sh a b. feeds_halt s limit w here next a b) c.feeds.invariant.moved (c.rounds.ensures.limit limit made)
 
-pub returns-in_err-rounds-clause-fresh : goal.returns-in_err-rounds-clause-fresh
-returns-in_err-rounds-clause-fresh g c = c.rounds.ensures.fresh ∙ c.feeds.invariant.fresh
-
-pub returns-in_err-rounds-clause-handed : goal.returns-in_err-rounds-clause-handed
-returns-in_err-rounds-clause-handed g c = c.rounds.ensures.handed ∙ c.feeds.invariant.moved.1
-
 pub returns-then-is_empty-clause-on : goal.returns-then-is_empty-clause-on
 returns-then-is_empty-clause-on g c =
     let items = ap (λ y. length y.left) c.core.view_is in
@@ -46,24 +39,12 @@ returns-then-is_empty-clause-on g c =
     (λ s w here next st sh sn a b. (here, a, b)) c.feeds.invariant.moved c.in_ok-rounds.ensures.on in
     moves_as _ FeedsRounds FeedsAll c.args.core.now c.rounds.new.core (λ s w next st sn a. feeds_empty _ s w next c.rounds.new.core none sn a) rounded
 
-pub returns-then-is_empty-clause-fresh : goal.returns-then-is_empty-clause-fresh
-returns-then-is_empty-clause-fresh g c = c.rounds.ensures.fresh ∙ c.feeds.invariant.fresh
-
-pub returns-then-is_empty-clause-handed : goal.returns-then-is_empty-clause-handed
-returns-then-is_empty-clause-handed g c = c.rounds.ensures.handed ∙ c.feeds.invariant.moved.1
-
-pub returns-in_err-feed-clause-fresh : goal.returns-in_err-feed-clause-fresh
-returns-in_err-feed-clause-fresh g c = c.feed.ensures.fresh ∙ (c.rounds.ensures.fresh ∙ c.feeds.invariant.fresh)
-
-pub returns-in_err-feed-clause-handed : goal.returns-in_err-feed-clause-handed
-returns-in_err-feed-clause-handed g c = c.feed.ensures.handed ∙ (c.rounds.ensures.handed ∙ c.feeds.invariant.moved.1)
-
 pub feeds-smaller-in_ok-feed : goal.feeds-smaller-in_ok-feed
 feeds-smaller-in_ok-feed g c =
     let items = ap (λ y. length y.left) c.core.view_is in
     let some : 0 < length c.rounds.new.core.left = some_left c.is_empty.result (vec_len c.core.inside.left) _ _ c.is_empty.ensures c.if-is_empty.false (c.core.inside.left.ok.0 ∙ sym (length-reverse c.core.inside.left.items)) items in
     let begun = stands_then _ (g.P.Program.meaning c.feeds.core.program) FeedsFirst c.args.core.now c.feeds.core (ap g.P.Program.meaning c.feeds.invariant.moved.0) c.feeds.invariant.moved c.requires.stands in
-    let on = subst (λ q. MovesOn q (ComesTo (event.Feed 1) c.in_ok-feed.field-0) c.rounds.new.core c.feed.new.core) (ap g.P.Program.meaning c.in_ok-rounds.ensures.on.0) c.in_ok-feed.ensures.on in
+    let on = subst (λ q. MovesOn q (ComesTo (event.Feed 1) c.in_ok-feed.field-0) c.rounds.new.core c.feed.new.core) (ap g.P.Program.meaning c.in_ok-rounds.ensures.on.0) c.in_ok-feed.ensures in
     left_falls _ c.in_ok-feed.field-0 c.feeds.core c.rounds.new.core c.feed.new.core some begun c.in_ok-rounds.ensures.on on
 
 pub feeds-preserved-in_ok-feed : goal.feeds-preserved-in_ok-feed
@@ -76,12 +57,11 @@ feeds-preserved-in_ok-feed g c =
     record {
       moved =
           moves_then _ _ FeedsRounds (ComesTo (event.Feed 1) c.in_ok-feed.field-0) FeedsFirst c.args.core.now c.rounds.new.core c.feed.new.core (ap g.P.Program.meaning rounded.0)
-          (λ s w here next st sh sn a b. feeds_more _ s c.in_ok-feed.field-0 w here next c.rounds.new.core some sh a b) rounded c.in_ok-feed.ensures.on;
-      fresh = c.feed.ensures.fresh ∙ (c.rounds.ensures.fresh ∙ c.feeds.invariant.fresh);
+          (λ s w here next st sh sn a b. feeds_more _ s c.in_ok-feed.field-0 w here next c.rounds.new.core some sh a b) rounded c.in_ok-feed.ensures;
       up =
           let begun = stands_then _ (g.P.Program.meaning c.feeds.core.program) FeedsFirst c.args.core.now c.feeds.core (ap g.P.Program.meaning c.feeds.invariant.moved.0) c.feeds.invariant.moved c.requires.stands in
           let here = stands_then _ (g.P.Program.meaning c.rounds.new.core.program) GoesRounds c.feeds.core c.rounds.new.core (ap g.P.Program.meaning c.in_ok-rounds.ensures.on.0) c.in_ok-rounds.ensures.on begun in
-          up_fed _ 1 c.in_ok-feed.field-0 c.rounds.new.core c.feed.new.core here c.in_ok-rounds.ensures.up c.in_ok-feed.ensures.on;
+          up_fed _ 1 c.in_ok-feed.field-0 c.rounds.new.core c.feed.new.core here c.in_ok-rounds.ensures.up c.in_ok-feed.ensures;
     }
 
 pub feeds-smaller : goal.feeds-smaller
@@ -89,7 +69,7 @@ feeds-smaller g c =
     let items = ap (λ y. length y.left) c.core.view_is in
     let some : 0 < length c.rounds.new.core.left = some_left c.is_empty.result (vec_len c.core.inside.left) _ _ c.is_empty.ensures c.if-is_empty.false (c.core.inside.left.ok.0 ∙ sym (length-reverse c.core.inside.left.items)) items in
     let begun = stands_then _ (g.P.Program.meaning c.feeds.core.program) FeedsFirst c.args.core.now c.feeds.core (ap g.P.Program.meaning c.feeds.invariant.moved.0) c.feeds.invariant.moved c.requires.stands in
-    let on = subst (λ q. MovesOn q (ComesTo (event.Feed 1) c.in_ok-feed.field-0) c.rounds.new.core c.feed.new.core) (ap g.P.Program.meaning c.in_ok-rounds.ensures.on.0) c.in_ok-feed.ensures.on in
+    let on = subst (λ q. MovesOn q (ComesTo (event.Feed 1) c.in_ok-feed.field-0) c.rounds.new.core c.feed.new.core) (ap g.P.Program.meaning c.in_ok-rounds.ensures.on.0) c.in_ok-feed.ensures in
     left_falls _ c.in_ok-feed.field-0 c.feeds.core c.rounds.new.core c.feed.new.core some begun c.in_ok-rounds.ensures.on on
 
 pub feeds-preserved : goal.feeds-preserved
@@ -102,10 +82,9 @@ feeds-preserved g c =
     record {
       moved =
           moves_then _ _ FeedsRounds (ComesTo (event.Feed 1) c.in_ok-feed.field-0) FeedsFirst c.args.core.now c.rounds.new.core c.feed.new.core (ap g.P.Program.meaning rounded.0)
-          (λ s w here next st sh sn a b. feeds_more _ s c.in_ok-feed.field-0 w here next c.rounds.new.core some sh a b) rounded c.in_ok-feed.ensures.on;
-      fresh = c.feed.ensures.fresh ∙ (c.rounds.ensures.fresh ∙ c.feeds.invariant.fresh);
+          (λ s w here next st sh sn a b. feeds_more _ s c.in_ok-feed.field-0 w here next c.rounds.new.core some sh a b) rounded c.in_ok-feed.ensures;
       up =
           let begun = stands_then _ (g.P.Program.meaning c.feeds.core.program) FeedsFirst c.args.core.now c.feeds.core (ap g.P.Program.meaning c.feeds.invariant.moved.0) c.feeds.invariant.moved c.requires.stands in
           let here = stands_then _ (g.P.Program.meaning c.rounds.new.core.program) GoesRounds c.feeds.core c.rounds.new.core (ap g.P.Program.meaning c.in_ok-rounds.ensures.on.0) c.in_ok-rounds.ensures.on begun in
-          up_fed _ 1 c.in_ok-feed.field-0 c.rounds.new.core c.feed.new.core here c.in_ok-rounds.ensures.up c.in_ok-feed.ensures.on;
+          up_fed _ 1 c.in_ok-feed.field-0 c.rounds.new.core c.feed.new.core here c.in_ok-rounds.ensures.up c.in_ok-feed.ensures;
     }

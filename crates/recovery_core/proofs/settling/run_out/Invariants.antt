@@ -1,5 +1,5 @@
 use Rattle.std.proofs.Common.{◌≡◌, length, true}
-use Rattle.recovery_core.specs.Performing.{MovesOn}
+use Rattle.system_parts.specs.Performing.{MovesOn}
 use Rattle.recovery_core.proofs.SettlingRounds.{FeedsFirst}
 use Rattle.recovery_core.proofs.settling.run_out.Given as goal
 
@@ -7,7 +7,6 @@ use Rattle.recovery_core.proofs.settling.run_out.Given as goal
 abbrev pub invariant-feeds : goal.invariant-feeds
 invariant-feeds g l = record {
   moved : MovesOn (g.P.Program.meaning l.fn.core.program) FeedsFirst l.fn.core l.core;
-  fresh : l.core.fresh ≡ l.fn.core.fresh;
   up : l.core.up ≡ true;
 }
 

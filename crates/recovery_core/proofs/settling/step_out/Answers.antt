@@ -1,16 +1,15 @@
 use Rattle.std.proofs.Common.{◌<◌, sym, ◌∙◌, ap, subst, refl, true, false}
 use Rattle.std.proofs.lemmas.Result.{err_from_is_err_and}
 use Rattle.recovery_world.specs.declared.event.Outcome.TheVariants as outcome
-use Rattle.recovery_core.specs.declared.reply.Stop.TheVariants as stop
+use Rattle.event_replies.specs.declared.reply.Stop.TheVariants as stop
 use Rattle.recovery_core.specs.Settling.{StepsTo, HaltsStepping}
-use Rattle.recovery_core.proofs.SettlingMoves.{moves_none, moves_then, stops_then, stands_then, threads_stay, exits_as}
+use Rattle.system_parts.proofs.EventChains.{moves_none, moves_then, stops_then, stands_then, threads_stay, exits_as}
 use Rattle.recovery_core.proofs.SettlingRounds.{StepsFirst, step_as, halt_as, steps_rest, steps_wait, steps_more, steps_halt, moves_fall, up_after}
 use Rattle.recovery_core.proofs.settling.step_out.Goals as goal
 
 pub steps-init : goal.steps-init
 steps-init g c = record {
   moved = moves_none (g.P.Program.meaning c.args.core.now.program) (StepsFirst c.args.thread) c.args.core.now (λ s w. λ end new h. h);
-  fresh = refl;
   up = c.requires.up;
 }
 
@@ -26,23 +25,11 @@ returns-in_err-step-clause-limit g c = λ limit is.
     (λ s w here next st sh a b. steps_halt s c.args.thread limit w here next a b) c.steps.invariant.moved
     (halt_as _ c.from.result c.args.thread limit c.steps.core c.step.new.core c.from.ensures (c.step.ensures.limit limit made))
 
-pub returns-in_err-step-clause-fresh : goal.returns-in_err-step-clause-fresh
-returns-in_err-step-clause-fresh g c = c.step.ensures.fresh ∙ c.steps.invariant.fresh
-
-pub returns-in_err-step-clause-handed : goal.returns-in_err-step-clause-handed
-returns-in_err-step-clause-handed g c = c.step.ensures.handed ∙ c.steps.invariant.moved.1
-
 pub returns-in-Idle-clause-on : goal.returns-in-Idle-clause-on
 returns-in-Idle-clause-on g c =
     moves_then _ _ (StepsFirst c.args.thread) _ (StepsTo c.args.thread true) c.args.core.now c.steps.core c.step.new.core (ap g.P.Program.meaning c.steps.invariant.moved.0)
     (λ s w here next st sh sn a b. steps_rest s c.args.thread w here next a b) c.steps.invariant.moved
     (step_as _ c.from.result c.args.thread c.in_ok-step.field-0 outcome.Idle c.steps.core c.step.new.core c.from.ensures c.in-Idle.is c.in_ok-step.ensures.on)
-
-pub returns-in-Idle-clause-fresh : goal.returns-in-Idle-clause-fresh
-returns-in-Idle-clause-fresh g c = c.step.ensures.fresh ∙ c.steps.invariant.fresh
-
-pub returns-in-Idle-clause-handed : goal.returns-in-Idle-clause-handed
-returns-in-Idle-clause-handed g c = c.step.ensures.handed ∙ c.steps.invariant.moved.1
 
 pub returns-in-Idle-clause-up : goal.returns-in-Idle-clause-up
 returns-in-Idle-clause-up g c =
@@ -62,12 +49,6 @@ returns-in-Waits-clause-up g c =
     up_after _ c.args.thread c.in_ok-step.field-0 c.steps.core c.step.new.core some c.steps.invariant.up
     (step_as _ c.from.result c.args.thread c.in_ok-step.field-0 c.in_ok-step.field-0 c.steps.core c.step.new.core c.from.ensures refl c.in_ok-step.ensures.on)
 
-pub returns-in-Waits-clause-fresh : goal.returns-in-Waits-clause-fresh
-returns-in-Waits-clause-fresh g c = c.step.ensures.fresh ∙ c.steps.invariant.fresh
-
-pub returns-in-Waits-clause-handed : goal.returns-in-Waits-clause-handed
-returns-in-Waits-clause-handed g c = c.step.ensures.handed ∙ c.steps.invariant.moved.1
-
 pub steps-smaller-in_default : goal.steps-smaller-in_default
 steps-smaller-in_default g c =
     let some = stands_then _ (g.P.Program.meaning c.steps.core.program) (StepsFirst c.args.thread) c.args.core.now c.steps.core (ap g.P.Program.meaning c.steps.invariant.moved.0) c.steps.invariant.moved c.requires.stands in
@@ -81,7 +62,6 @@ steps-preserved-in_default g c = record {
       moves_then _ _ (StepsFirst c.args.thread) _ (StepsFirst c.args.thread) c.args.core.now c.steps.core c.step.new.core (ap g.P.Program.meaning c.steps.invariant.moved.0)
       (λ s w here next st sh sn a b. steps_more s c.args.thread c.in_ok-step.field-0 w here next c.in_default.not-Idle c.in_default.not-Waits a b) c.steps.invariant.moved
       (step_as _ c.from.result c.args.thread c.in_ok-step.field-0 c.in_ok-step.field-0 c.steps.core c.step.new.core c.from.ensures refl c.in_ok-step.ensures.on);
-  fresh = c.step.ensures.fresh ∙ c.steps.invariant.fresh;
   up =
       let some = stands_then _ (g.P.Program.meaning c.steps.core.program) (StepsFirst c.args.thread) c.args.core.now c.steps.core (ap g.P.Program.meaning c.steps.invariant.moved.0) c.steps.invariant.moved c.requires.stands in
       up_after _ c.args.thread c.in_ok-step.field-0 c.steps.core c.step.new.core some c.steps.invariant.up
@@ -101,7 +81,6 @@ steps-preserved g c = record {
       moves_then _ _ (StepsFirst c.args.thread) _ (StepsFirst c.args.thread) c.args.core.now c.steps.core c.step.new.core (ap g.P.Program.meaning c.steps.invariant.moved.0)
       (λ s w here next st sh sn a b. steps_more s c.args.thread c.in_ok-step.field-0 w here next c.in_default.not-Idle c.in_default.not-Waits a b) c.steps.invariant.moved
       (step_as _ c.from.result c.args.thread c.in_ok-step.field-0 c.in_ok-step.field-0 c.steps.core c.step.new.core c.from.ensures refl c.in_ok-step.ensures.on);
-  fresh = c.step.ensures.fresh ∙ c.steps.invariant.fresh;
   up =
       let some = stands_then _ (g.P.Program.meaning c.steps.core.program) (StepsFirst c.args.thread) c.args.core.now c.steps.core (ap g.P.Program.meaning c.steps.invariant.moved.0) c.steps.invariant.moved c.requires.stands in
       up_after _ c.args.thread c.in_ok-step.field-0 c.steps.core c.step.new.core some c.steps.invariant.up

@@ -1,5 +1,5 @@
 use Rattle.std.proofs.Common.{◌≡◌, true}
-use Rattle.recovery_core.specs.Performing.{MovesOn}
+use Rattle.system_parts.specs.Performing.{MovesOn}
 use Rattle.recovery_core.proofs.SettlingRounds.{StepsFirst}
 use Rattle.recovery_core.specs.Settling.{moves_left}
 use Rattle.recovery_core.proofs.settling.step_out.Given as goal
@@ -8,7 +8,6 @@ use Rattle.recovery_core.proofs.settling.step_out.Given as goal
 abbrev pub invariant-steps : goal.invariant-steps
 invariant-steps g l = record {
   moved : MovesOn (g.P.Program.meaning l.initial.core.program) (StepsFirst l.thread) l.initial.core l.core;
-  fresh : l.core.fresh ≡ l.initial.core.fresh;
   up : l.core.up ≡ true;
 }
 

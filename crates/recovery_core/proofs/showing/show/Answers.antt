@@ -1,5 +1,5 @@
 use Rattle.std.proofs.Common.{◌≡◌, ◌<◌, sym, ap, subst, arith}
-use Rattle.recovery_core.proofs.ReadLemmas.{part_with, shown_moves}
+use Rattle.system_parts.proofs.ReadLemmas.{part_with, shown_moves}
 use Rattle.recovery_core.proofs.showing.show.Goals as goal
 
 pub show-requires : goal.show-requires

@@ -1,5 +1,5 @@
 use Rattle.std.proofs.Common.{ap, ◌∙◌}
-use Rattle.recovery_core.proofs.ReadLemmas.{counts_stand}
+use Rattle.system_parts.proofs.ReadLemmas.{counts_stand}
 use Rattle.recovery_core.proofs.system.System.counts.Goals as goal
 
 pub returns : goal.returns

@@ -1,0 +1,6 @@
+pub mod CrashLemmas
+pub mod RecoveryLinks
+pub mod RecoveryCounts
+pub mod RecoverySent
+pub mod RecoveryHeld
+pub mod RecoveryWorlds

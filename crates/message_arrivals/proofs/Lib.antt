@@ -1,0 +1,4 @@
+pub mod EntryArrivals
+pub mod OutputArrivals
+pub mod Arrivals
+pub mod ThreadCounts

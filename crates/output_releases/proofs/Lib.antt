@@ -1,0 +1,4 @@
+pub mod OutputLists
+pub mod ForgottenOutputs
+pub mod ReleasedLists
+pub mod Answering

@@ -1,0 +1,11 @@
+use Rattle.std.proofs.lemmas.Result.{IfOk-weaker}
+use Rattle.crash_recovery.specs.Recovering.{WakesUp}
+use Rattle.recovery_core.proofs.FinishLemmas.{ends_then}
+use Rattle.recovery_core.proofs.RepliesLemmas.{moves_some}
+use Rattle.recovery_core.proofs.system.end.Goals as goal
+
+pub end_awake-requires-clause-stands : goal.end_awake-requires-clause-stands
+end_awake-requires-clause-stands g c κs within = moves_some g.P.Program.meaning WakesUp _ _ c.in_ok-wake.ensures.on c.requires.stands
+
+pub returns : goal.returns
+returns g c = IfOk-weaker c.end_awake.result _ _ (λ moves ends. ends_then g.P.Program.meaning _ _ moves c.in_ok-wake.ensures.on ends) c.end_awake.ensures

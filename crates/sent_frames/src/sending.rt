@@ -1,0 +1,249 @@
+ghost use Rattle.std.specs.Prelude.{◌≡◌, ◌<◌, ◌≤◌, ◌+◌, ◌-◌, ◌^◌, ℕ, [], None, Some, IfOk, OnOk, length, replicate};
+ghost use Rattle.access_log.specs.declared.entry.StampedEntry.{StampedEntry};
+ghost use Rattle.access_log.specs.declared.entry.Output.{Output as OutputValue};
+ghost use Rattle.wire_frames.specs.declared.frame.Frame.{Frame as FrameValue};
+ghost use Rattle.plain_text.specs.declared.kind.Kind.TheVariants as kind_is;
+ghost use Rattle.link_store.specs.Links.{frame_at};
+ghost use Rattle.wire_frames.specs.Writing.{CanPutEntry, CanPutOutput};
+ghost use Rattle.wire_frames.specs.declared.frame.Frame.TheVariants as frame_is;
+ghost use Rattle.wire_frames.specs.Layout.{IsFrame};
+ghost use Rattle.sent_frames.specs.Sending.{IsUnsent, SendsEntry, SendsOutput, SendsAgain, ForgetsEntries, ForgetsOutputs, BeginsEpoch, TurnsBack, HasEntryFrame, HasOutputFrame, entry_address, output_address, length_at};
+
+use access_log::{Output, StampedEntry};
+use link_store::Links;
+use plain_text::{Kind, NoMemory, Sequence};
+use snapshot_store::copy_output;
+use std::alloc::Global;
+use std::marker::Model;
+use wire_frames::{Frame, FrameError, put_entry, put_output, take_frame};
+
+/// What a master sends on its links: each entry and each output as a frame, and how long each frame was.
+///
+/// A frame is there until it is forgotten; its length stays. A new master has a new epoch: the frames of the one before are
+/// forgotten, and the lengths of what it did not make.
+#[derive(Drop)]
+pub struct SentFrames {
+    alloc: Global,
+    epoch: u32,
+    threads: u32,
+    links: Links,
+    entries: Vec<Sequence<u32>>,
+    outputs: Vec<Sequence<u32>>,
+}
+
+impl Model for SentFrames {
+    ghost use Rattle.sent_frames.specs.Sending.{Sending, IsSending};
+
+    ghost Value = { Sending };
+
+    ghost view = { λ s. record {
+      epoch = s.epoch;
+      threads = s.threads;
+      frames = s.links;
+      entries = s.entries.items;
+      outputs = s.outputs.items;
+    } };
+
+    ghost invariant = { λ s. IsSending (record {
+      epoch = s.epoch;
+      threads = s.threads;
+      frames = s.links;
+      entries = s.entries.items;
+      outputs = s.outputs.items;
+    }) };
+}
+
+/// No lengths, for each thread.
+fn no_lengths(alloc: Global, threads: u32) -> Result<Vec<Sequence<u32>>, NoMemory>
+    ensures { IfOk result (λ lengths. lengths.items ≡ replicate threads []) }
+{
+    let mut lengths = Vec::with_capacity(alloc, threads as usize)?;
+    for _ in 0..threads {
+        lengths.push(Sequence::new(alloc))?;
+    }
+    Ok(lengths)
+}
+
+/// The entry of a frame, if it is that of an entry.
+fn entry_of(frame: &Frame) -> Option<StampedEntry>
+    ensures { (epoch threads : ℕ) (e : StampedEntry) → frame.now ≡ frame_is.Entry epoch threads e
+        → result ≡ Some e }
+{
+    match frame {
+        Frame::Entry { entry, .. } => Some(*entry),
+        Frame::Output { .. } => None,
+    }
+}
+
+/// The output of a frame, if it is that of an output.
+fn output_of(frame: Frame) -> Option<Output>
+    ensures { (epoch threads : ℕ) (o : OutputValue) → frame ≡ frame_is.Output epoch threads o
+        → result ≡ Some o }
+{
+    match frame {
+        Frame::Output {
+            epoch: _,
+            threads: _,
+            output,
+        } => Some(output),
+        Frame::Entry {
+            epoch: _,
+            threads: _,
+            entry: _,
+        } => None,
+    }
+}
+
+/// The frame that these bytes are, if they are one.
+fn frame_in(alloc: Global, bytes: &[u8]) -> Result<Option<Frame>, NoMemory>
+    ensures { IfOk result (λ found. (f : FrameValue) → IsFrame bytes.now f → found ≡ Some f) }
+{
+    match take_frame(alloc, bytes) {
+        Ok((frame, _)) => Ok(Some(frame)),
+        Err(FrameError::Fault(_)) => Ok(None),
+        Err(FrameError::NoMemory) => Err(NoMemory),
+    }
+}
+
+/// The length of a thread's frame of this number, from 1.
+fn length_in(lengths: &[Sequence<u32>], thread: u32, number: u64) -> Option<u64>
+    ensures { result ≡ length_at lengths.now thread number }
+{
+    let lengths = lengths.get(thread as usize)?;
+    let earlier = number.checked_sub(1)?;
+    let length = lengths.as_slice().get(earlier as usize)?;
+    Some(u64::from(*length))
+}
+
+impl SentFrames {
+    /// Nothing was sent, in epoch 1.
+    pub fn new(alloc: Global, threads: u32) -> Result<Self, NoMemory>
+        requires some { 1 ≤ threads }
+        requires few { threads ≤ 16 }
+        ensures { IfOk result (λ sent. IsUnsent threads sent) }
+    {
+        Ok(SentFrames {
+            alloc,
+            epoch: 1,
+            threads,
+            links: Links::new(alloc)?,
+            entries: no_lengths(alloc, threads)?,
+            outputs: no_lengths(alloc, threads)?,
+        })
+    }
+
+    /// Sends an entry as its thread's next frame. After `NoMemory` the links are of no use any more.
+    pub fn send_entry(&mut self, entry: &StampedEntry) -> Result<(), NoMemory>
+        requires can { CanPutEntry self.old.epoch self.old.threads entry.now }
+        ensures ok { OnOk result (SendsEntry self.old self.new entry.now) }
+        ensures there { entry.now.thread < length self.old.entries }
+        ensures threads { self.new.threads ≡ self.old.threads }
+    {
+        let frame = put_entry(self.alloc, self.epoch, self.threads, entry)?;
+        self.entries[entry.thread as usize].push(frame.len() as u32)?;
+        self.links
+            .send(self.epoch, Kind::Log, entry.thread, entry.number, frame)
+    }
+
+    /// Sends an output as its thread's next frame, in the buffer of its packet. After `NoMemory` the links are of no use any more.
+    pub fn send_output(&mut self, output: Output) -> Result<(), NoMemory>
+        requires can { CanPutOutput self.old.epoch self.old.threads output }
+        ensures ok { OnOk result (SendsOutput self.old self.new output) }
+        ensures there { output.thread < length self.old.outputs }
+        ensures threads { self.new.threads ≡ self.old.threads }
+    {
+        let (thread, number) = (output.thread, output.number);
+        let frame = put_output(self.alloc, self.epoch, self.threads, output)?;
+        self.outputs[thread as usize].push(frame.len() as u32)?;
+        self.links
+            .send(self.epoch, Kind::Out, thread, number, frame)
+    }
+
+    /// Sends an output again, of which the length is known. After `NoMemory` the links are of no use any more.
+    pub fn send_again(&mut self, output: &Output) -> Result<(), NoMemory>
+        requires can { CanPutOutput self.old.epoch self.old.threads output.now }
+        ensures ok { OnOk result (SendsAgain self.old self.new output.now) }
+        ensures threads { self.new.threads ≡ self.old.threads }
+    {
+        let copy = copy_output(self.alloc, output)?;
+        let frame = put_output(self.alloc, self.epoch, self.threads, copy)?;
+        self.links
+            .send(self.epoch, Kind::Out, output.thread, output.number, frame)
+    }
+
+    /// The entry that was sent under this number, if its frame is not forgotten.
+    pub fn entry(&self, thread: u32, number: u64) -> Result<Option<StampedEntry>, NoMemory>
+        ensures there { IfOk result (λ found. (e : StampedEntry) → HasEntryFrame self.now e
+            → e.thread ≡ thread → e.number ≡ number → found ≡ Some e) }
+        ensures forgotten { frame_at self.now.frames (entry_address self.now thread number) ≡ None
+            → IfOk result (λ found. found ≡ None) }
+    {
+        let Some(bytes) = self.links.fetch(self.epoch, Kind::Log, thread, number) else {
+            return Ok(None);
+        };
+        match frame_in(self.alloc, bytes)? {
+            Some(frame) => Ok(entry_of(&frame)),
+            None => Ok(None),
+        }
+    }
+
+    /// The output that was sent under this number, if its frame is not forgotten.
+    pub fn output(&self, thread: u32, number: u64) -> Result<Option<Output>, NoMemory>
+        ensures there { IfOk result (λ found. (o : OutputValue) → HasOutputFrame self.now o
+            → o.thread ≡ thread → o.number ≡ number → found ≡ Some o) }
+        ensures forgotten { frame_at self.now.frames (output_address self.now thread number) ≡ None
+            → IfOk result (λ found. found ≡ None) }
+    {
+        let Some(bytes) = self.links.fetch(self.epoch, Kind::Out, thread, number) else {
+            return Ok(None);
+        };
+        match frame_in(self.alloc, bytes)? {
+            Some(frame) => Ok(output_of(frame)),
+            None => Ok(None),
+        }
+    }
+
+    /// How long the frame of an entry was, or of an output; `None` where none was sent under this number.
+    pub fn length(&self, kind: Kind, thread: u32, number: u64) -> Option<u64>
+        ensures entry { kind ≡ kind_is.Log → result ≡ length_at self.now.entries thread number }
+        ensures output { kind ≡ kind_is.Out → result ≡ length_at self.now.outputs thread number }
+    {
+        match kind {
+            Kind::Log => length_in(&self.entries, thread, number),
+            Kind::Out => length_in(&self.outputs, thread, number),
+        }
+    }
+
+    /// Forgets the frames of a thread's entries up to this number. It takes no memory.
+    pub fn forget_entries(&mut self, thread: u32, up_to: u64)
+        ensures forgets { ForgetsEntries self.old self.new thread up_to }
+    {
+        self.links.forget(self.epoch, Kind::Log, thread, up_to);
+    }
+
+    /// Forgets the frames of a thread's outputs up to this number. It takes no memory.
+    pub fn forget_outputs(&mut self, thread: u32, up_to: u64)
+        ensures forgets { ForgetsOutputs self.old self.new thread up_to }
+    {
+        self.links.forget(self.epoch, Kind::Out, thread, up_to);
+    }
+
+    /// Ends the epoch: its frames are forgotten, and the next one begins. It takes no memory.
+    pub fn begin_epoch(&mut self)
+        requires { self.old.epoch < 2 ^ 32 - 1 }
+        ensures begins { BeginsEpoch self.old self.new }
+    {
+        self.links.forget_epoch(self.epoch);
+        self.epoch += 1;
+    }
+
+    /// Counts only this number of a thread's entries as sent, and only this number of its outputs: the first ones. It takes no
+    /// memory.
+    pub fn turn_back(&mut self, thread: u32, entries: u64, outputs: u64)
+        requires { thread < self.old.threads }
+        ensures { TurnsBack self.old self.new thread entries outputs }
+    {
+        self.entries[thread as usize].truncate(entries as usize);
+        self.outputs[thread as usize].truncate(outputs as usize);
+    }
+}

@@ -1,0 +1,3 @@
+pub mod UnreleasedLemmas
+pub mod TakingLemmas
+pub mod StoreLemmas

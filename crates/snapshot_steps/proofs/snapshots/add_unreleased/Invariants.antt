@@ -1,0 +1,7 @@
+use Rattle.std.proofs.Common.{ℕ}
+use Rattle.snapshot_steps.proofs.UnreleasedLemmas.{AddedSoFar}
+use Rattle.snapshot_steps.proofs.snapshots.add_unreleased.Given as goal
+
+-- those up to the number before this one are there
+abbrev pub invariant-loop-earlier : goal.invariant-loop-earlier
+invariant-loop-earlier l = AddedSoFar l.sent l.released l.thread l.count l.earlier l.initial.outbox l.outbox

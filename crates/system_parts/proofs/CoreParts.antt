@@ -1,0 +1,25 @@
+-- The parts of a system that is opened.
+use Rattle.std.proofs.Common.{reverse}
+use Rattle.system_parts.specs.declared.assembly.Core.TheInside.{Inside}
+use Rattle.system_parts.specs.Parts.{Parts}
+
+abbrev pub parts_in : {P V : Type 0} → Inside P V → Parts P V
+parts_in y = record {
+  program = y.program;
+  fractions = y.unit;
+  clock = y.clock;
+  generator = y.generator;
+  left = reverse y.left.items;
+  inputs = y.inputs;
+  up = y.up;
+  master = y.master;
+  schedule = y.schedule;
+  guide = y.guide;
+  store = y.store;
+  ended = y.ended.items;
+  moves = y.moves;
+  bytes = y.bytes;
+  sent = y.sent;
+  logger = y.logger;
+  released = y.released;
+}

@@ -1,0 +1,227 @@
+-- The packet that a thread's next move is made with, and what the move is told.
+use Rattle.std.proofs.Common.{◌≡◌, ℕ, suc, ◌+◌, ◌<◌, List, [], refl, sym, ap, ◌∙◌, subst, inl, inr, ◌⊎◌, arith, Option, Some, None, add-one}
+use Rattle.std.specs.Prelude.{◌^◌, slice_get, slice_index_or}
+use Rattle.std.specs.Option.{unwrap_or}
+use Rattle.input_logger.specs.Inputs.{Fed, inputs_of, input_at}
+use Rattle.entry_order.specs.Log.{entries}
+use Rattle.plain_machine.specs.declared.local.Local.{Local}
+use Rattle.plain_machine.specs.declared.local.Move.{Move}
+use Rattle.plain_machine.specs.declared.local.Move.TheVariants as move
+use Rattle.plain_machine.specs.Program.{Meaning}
+use Rattle.plain_machine.specs.Machine.{Hand}
+use Rattle.plain_machine.specs.History.{Step, log_of, thread_after, IsHistory}
+use Rattle.box_program.specs.Hands.{place_of, input_for, IsInputAfter}
+use Rattle.box_program.proofs.HandLemmas.{no_hand}
+use Rattle.line_order.proofs.Hands.{hand_input}
+use Rattle.master_core.specs.declared.parts.ThreadPart.{ThreadPart}
+use Rattle.master_core.specs.declared.parts.Counts.{Counts}
+use Rattle.master_core.specs.declared.wants.Wants.TheVariants as wants
+use Rattle.master_core.specs.Mastered.{Mastered, input_in_hand, HasRoom}
+use Rattle.master_core.specs.Standing.{Stands}
+use Rattle.master_core.specs.Stepping.{wanted, wanted_in, wanted_by, told_in, told_for}
+use Rattle.rand_pcg.specs.Lcg.{Lcg}
+use Rattle.rand_pcg.specs.Pcg.{pcg32}
+use Rattle.traffic_gen.specs.Generated.{generator_after, word_of}
+use Rattle.traffic_gen.proofs.Packets.{generator_after-suc}
+use Rattle.recovery_world.specs.World.{Setting, World}
+use Rattle.recovery_world.specs.Turns.{TellsClock, TellsDraw}
+use Rattle.recovery_world.specs.Events.{Tells, TellsHand}
+use Rattle.recovery_laws.specs.Sound.{Sound}
+use Rattle.access_log.specs.Held.{Lane, lane, entry_at}
+use Rattle.replay_guide.specs.Following.{recorded}
+use Rattle.replay_guide.specs.Worlds.{Guides}
+use Rattle.replay_guide.proofs.WorldAnswers.{tells_clock as recorded_clock, tells_draw as recorded_draw, tells_free_clock as free_clock, tells_free_draw as free_draw}
+use Rattle.thread_steps.specs.Following.{or_given}
+
+-- The input that a master in memory asks for is the one that its next move is made with.
+
+-- a part for a thread that is not there
+pub none_part : ThreadPart
+none_part = record { counts = record { taken = 0; entries = 0; outputs = 0 }; hand = None; stamp = [] }
+
+-- a place in hand is that of a packet in hand
+some_hand : (h : Option Hand) (place : Local) → place_of h ≡ Some place → (k : Hand) × (h ≡ Some k)
+some_hand None place e = absurd (cc)
+some_hand (Some h) place e = (h, refl)
+
+-- the packet in hand is the input that was taken last
+pub input_some : {V : Type 0} (m : Meaning V) (fed : Fed) (threads : ℕ) (steps : List (Step V)) (p : Mastered V) (t k : ℕ) (r : Option ℕ)
+    → IsHistory m (inputs_of fed) threads steps → Stands m threads steps p → t < threads
+    → r ≡ Some k → ((d : ThreadPart) → r ≡ input_in_hand (slice_index_or p.threads t d)) → IsInputAfter (inputs_of fed) t steps (input_at fed t k)
+input_some {V} m fed threads steps p t k r h stands low is says = go (slice_index_or p.threads t none_part).hand refl
+  where
+    found : (place : Local) → (slice_index_or p.threads t none_part).hand ≡ Some place → Some (slice_index_or p.threads t none_part).counts.taken ≡ Some k → IsInputAfter (inputs_of fed) t steps (input_at fed t k)
+    found place at q =
+        let th = stands.thread t none_part low in
+        let hand = some_hand (thread_after steps t).hand place (sym th.hand ∙ at) in
+        let l = hand_input m (inputs_of fed) threads steps h t hand.0 hand.1 in
+        let same : (slice_index_or p.threads t none_part).counts.taken ≡ k = cc in
+        let kk : k ≡ suc l.0 = sym same ∙ (th.taken ∙ (l.1 ∙ add-one l.0)) in
+        ap (λ (n : ℕ). input_at fed t n) kk ∙ (l.2 ∙ ap (λ (o : Option Hand). input_for (inputs_of fed t) (thread_after steps t).taken o) (sym hand.1))
+
+    go : (o : Option Local) → (slice_index_or p.threads t none_part).hand ≡ o → IsInputAfter (inputs_of fed) t steps (input_at fed t k)
+    go None at = absurd (let q : None ≡ Some k = sym (says none_part ∙ rw at refl) ∙ is in cc)
+    go (Some place) at = found place at (sym (says none_part ∙ rw at refl) ∙ is)
+
+-- where none is in hand it is the next one
+pub input_none : {V : Type 0} (m : Meaning V) (fed : Fed) (threads : ℕ) (steps : List (Step V)) (p : Mastered V) (t : ℕ) (r : Option ℕ) (counts : Counts)
+    → Stands m threads steps p → t < threads
+    → r ≡ None → ((d : ThreadPart) → r ≡ input_in_hand (slice_index_or p.threads t d)) → ((d : ThreadPart) → counts ≡ (slice_index_or p.threads t d).counts)
+    → IsInputAfter (inputs_of fed) t steps (input_at fed t (counts.taken + 1))
+input_none {V} m fed threads steps p t r counts stands low is says counted = go (slice_index_or p.threads t none_part).hand refl
+  where
+    go : (o : Option Local) → (slice_index_or p.threads t none_part).hand ≡ o → IsInputAfter (inputs_of fed) t steps (input_at fed t (counts.taken + 1))
+    go (Some place) at = absurd (let q : Some (slice_index_or p.threads t none_part).counts.taken ≡ None = sym (says none_part ∙ rw at refl) ∙ is in cc)
+    go None at =
+        let th = stands.thread t none_part low in
+        let hand : (thread_after steps t).hand ≡ None = no_hand (thread_after steps t).hand (sym th.hand ∙ at) in
+        let taken : counts.taken ≡ (thread_after steps t).taken = ap (λ (c : Counts). c.taken) (counted none_part) ∙ th.taken in
+        ap (λ (n : ℕ). input_at fed t n) (add-one counts.taken) ∙ (ap (λ (n : ℕ). slice_get (inputs_of fed t) n) taken ∙ ap (λ (o : Option Hand). input_for (inputs_of fed t) (thread_after steps t).taken o) (sym hand))
+
+-- a thread that may make another move took few inputs
+pub few_taken : {V : Type 0} (p : Mastered V) (t : ℕ) (counts : Counts) → HasRoom p t → ((d : ThreadPart) → counts ≡ (slice_index_or p.threads t d).counts) → counts.taken < 2 ^ 56
+few_taken p t counts room counted =
+    let k = room none_part in
+    let c : counts.taken ≡ (slice_index_or p.threads t none_part).counts.taken = ap (λ (c : Counts). c.taken) (counted none_part) in
+    omega (arith, k, c)
+
+-- What a thread asks for, from what a master wants.
+
+-- the packet in hand asks for this
+pub record Asks {V : Type 0} (m : Meaning V) (hand : Option Hand) (next : Move) : Type 0 where
+  pub packet : Hand
+  pub hand_is : hand ≡ Some packet
+  pub next_is : m.next packet.place ≡ next
+
+-- a master that wants a clock, or a draw, asks for it
+pub asks_clock : {V : Type 0} (m : Meaning V) (steps : List (Step V)) (t n : ℕ) → wanted m steps t ≡ wants.Clock n → Asks m (thread_after steps t).hand move.Clock
+asks_clock {V} m steps t n e = go (thread_after steps t).hand e
+  where
+    at : (h : Hand) (k : Move) → m.next h.place ≡ k → wanted_by t (log_of steps) k ≡ wants.Clock n → Asks m (Some h) move.Clock
+    at h move.Clock is e = record { packet = h; hand_is = refl; next_is = is }
+    at h (move.Access v) is e = absurd (cc)
+    at h (move.Read v) is e = absurd (cc)
+    at h move.Draw is e = absurd (cc)
+    at h move.Emit is e = absurd (cc)
+    at h move.End is e = absurd (cc)
+
+    go : (o : Option Hand) → wanted_in m t (log_of steps) (thread_after steps t).taken o ≡ wants.Clock n → Asks m o move.Clock
+    go None e = absurd (cc)
+    go (Some h) e = at h (m.next h.place) refl e
+
+pub asks_draw : {V : Type 0} (m : Meaning V) (steps : List (Step V)) (t n : ℕ) → wanted m steps t ≡ wants.Draw n → Asks m (thread_after steps t).hand move.Draw
+asks_draw {V} m steps t n e = go (thread_after steps t).hand e
+  where
+    at : (h : Hand) (k : Move) → m.next h.place ≡ k → wanted_by t (log_of steps) k ≡ wants.Draw n → Asks m (Some h) move.Draw
+    at h move.Draw is e = record { packet = h; hand_is = refl; next_is = is }
+    at h (move.Access v) is e = absurd (cc)
+    at h (move.Read v) is e = absurd (cc)
+    at h move.Clock is e = absurd (cc)
+    at h move.Emit is e = absurd (cc)
+    at h move.End is e = absurd (cc)
+
+    go : (o : Option Hand) → wanted_in m t (log_of steps) (thread_after steps t).taken o ≡ wants.Draw n → Asks m o move.Draw
+    go None e = absurd (cc)
+    go (Some h) e = at h (m.next h.place) refl e
+
+-- a clock and a draw are told an answer
+pub asked_clock : {V : Type 0} (m : Meaning V) (hand : Option Hand) (a : ℕ) → Asks m hand move.Clock → told_in m hand a ≡ Some a
+asked_clock m hand a k = ap (λ (o : Option Hand). told_in m o a) k.hand_is ∙ ap (λ (n : Move). told_for n a) k.next_is
+
+pub asked_draw : {V : Type 0} (m : Meaning V) (hand : Option Hand) (a : ℕ) → Asks m hand move.Draw → told_in m hand a ≡ Some a
+asked_draw m hand a k = ap (λ (o : Option Hand). told_in m o a) k.hand_is ∙ ap (λ (n : Move). told_for n a) k.next_is
+
+-- the number of the entry that a clock, or a draw, will be
+pub clock_number : {V : Type 0} (m : Meaning V) (steps : List (Step V)) (t n : ℕ) → wanted m steps t ≡ wants.Clock n → n ≡ entries t (log_of steps) + 1
+clock_number {V} m steps t n e = go (thread_after steps t).hand e
+  where
+    at : (k : Move) → wanted_by t (log_of steps) k ≡ wants.Clock n → n ≡ entries t (log_of steps) + 1
+    at move.Clock e = cc
+    at (move.Access v) e = absurd (cc)
+    at (move.Read v) e = absurd (cc)
+    at move.Draw e = absurd (cc)
+    at move.Emit e = absurd (cc)
+    at move.End e = absurd (cc)
+
+    go : (o : Option Hand) → wanted_in m t (log_of steps) (thread_after steps t).taken o ≡ wants.Clock n → n ≡ entries t (log_of steps) + 1
+    go None e = absurd (cc)
+    go (Some h) e = at (m.next h.place) e
+
+pub draw_number : {V : Type 0} (m : Meaning V) (steps : List (Step V)) (t n : ℕ) → wanted m steps t ≡ wants.Draw n → n ≡ entries t (log_of steps) + 1
+draw_number {V} m steps t n e = go (thread_after steps t).hand e
+  where
+    at : (k : Move) → wanted_by t (log_of steps) k ≡ wants.Draw n → n ≡ entries t (log_of steps) + 1
+    at move.Draw e = cc
+    at (move.Access v) e = absurd (cc)
+    at (move.Read v) e = absurd (cc)
+    at move.Clock e = absurd (cc)
+    at move.Emit e = absurd (cc)
+    at move.End e = absurd (cc)
+
+    go : (o : Option Hand) → wanted_in m t (log_of steps) (thread_after steps t).taken o ≡ wants.Draw n → n ≡ entries t (log_of steps) + 1
+    go None e = absurd (cc)
+    go (Some h) e = at (m.next h.place) e
+
+-- What a clock and a draw are told: what is recorded of a followed one, else the given answer, else the time or the next word.
+
+module _ {V : Type 0} (s : Setting V) (w : World V) (guide : List Lane) (sound : Sound s w) (guides : Guides w.followed (log_of w.past) guide) (t : ℕ) (given : Option ℕ) where
+  -- what the guide has of the thread's next entry
+  abbrev pub next_recorded : Option ℕ
+  next_recorded = recorded (entry_at (lane guide t) (entries t (log_of w.past) + 1))
+
+  pub tells_clock : (a : ℕ) → Asks s.meaning (thread_after w.past t).hand move.Clock → a ≡ unwrap_or (or_given next_recorded given) w.clock → TellsHand s w t given (Some a) w.drawn (thread_after w.past t).hand
+  tells_clock a k is =
+      subst (λ (o : Option Hand). TellsHand s w t given (Some a) w.drawn o) (sym k.hand_is)
+      (subst (λ (n : Move). Tells s w t given (Some a) w.drawn n) (sym k.next_is) (a, refl, refl, go next_recorded refl is))
+    where
+      pick : (q : Option ℕ) → a ≡ unwrap_or q w.clock → (q ≡ Some a) ⊎ ((q ≡ None) × (a ≡ w.clock))
+      pick None is = inr (refl, is)
+      pick (Some b) is = inl (ap Some (sym is))
+
+      go : (o : Option ℕ) → next_recorded ≡ o → a ≡ unwrap_or (or_given o given) w.clock → TellsClock w.followed (log_of w.past) t given w.clock a
+      go (Some b) at is = subst (λ (n : ℕ). TellsClock w.followed (log_of w.past) t given w.clock n) (sym is) (recorded_clock s w guide sound guides t b k.packet given w.clock k.hand_is k.next_is at)
+      go None at is = free_clock s w guide sound guides t a given w.clock at (pick given is)
+
+  pub tells_draw : (a drawn : ℕ) (q : Option ℕ) → q ≡ or_given next_recorded given → Asks s.meaning (thread_after w.past t).hand move.Draw
+      → ((q ≡ Some a) × (drawn ≡ w.drawn)) ⊎ ((q ≡ None) × (a ≡ word_of s.seed w.drawn) × (drawn ≡ w.drawn + 1)) → TellsHand s w t given (Some a) drawn (thread_after w.past t).hand
+  tells_draw a drawn q q_is k is =
+      subst (λ (o : Option Hand). TellsHand s w t given (Some a) drawn o) (sym k.hand_is)
+      (subst (λ (n : Move). Tells s w t given (Some a) drawn n) (sym k.next_is) (a, refl, go next_recorded refl q_is is))
+    where
+      go : (o : Option ℕ) → next_recorded ≡ o → q ≡ or_given o given → ((q ≡ Some a) × (drawn ≡ w.drawn)) ⊎ ((q ≡ None) × (a ≡ word_of s.seed w.drawn) × (drawn ≡ w.drawn + 1))
+          → TellsDraw w.followed (log_of w.past) t given (word_of s.seed) w.drawn a drawn
+      go (Some b) at q_is (inl (some, same)) =
+          let b_is : b ≡ a = cc in
+          subst (λ (n : ℕ). TellsDraw w.followed (log_of w.past) t given (word_of s.seed) w.drawn a n) (sym same)
+          (subst (λ (n : ℕ). TellsDraw w.followed (log_of w.past) t given (word_of s.seed) w.drawn n w.drawn) b_is (recorded_draw s w guide sound guides t b k.packet given (word_of s.seed) w.drawn k.hand_is k.next_is at))
+      go (Some b) at q_is (inr (none, word, next)) = absurd (cc)
+      go None at q_is (inl (some, same)) = free_draw s w guide sound guides t a given (word_of s.seed) w.drawn drawn at (inl (sym q_is ∙ some, same))
+      go None at q_is (inr (none, word, next)) = free_draw s w guide sound guides t a given (word_of s.seed) w.drawn drawn at (inr (sym q_is ∙ none, word, next))
+
+-- no other move is told anything
+pub tells_none : {V : Type 0} (s : Setting V) (w : World V) (t : ℕ) (given : Option ℕ) → ((n : ℕ) → wanted s.meaning w.past t ≡ wants.Clock n → ⊥)
+    → ((n : ℕ) → wanted s.meaning w.past t ≡ wants.Draw n → ⊥)
+    → TellsHand s w t given None w.drawn (thread_after w.past t).hand × ((a : ℕ) → told_in s.meaning (thread_after w.past t).hand a ≡ None)
+tells_none {V} s w t given clock draw = go (thread_after w.past t).hand clock draw
+  where
+    at : (k : Move) → ((n : ℕ) → wanted_by t (log_of w.past) k ≡ wants.Clock n → ⊥) → ((n : ℕ) → wanted_by t (log_of w.past) k ≡ wants.Draw n → ⊥)
+        → Tells s w t given None w.drawn k × ((a : ℕ) → told_for k a ≡ None)
+    at (move.Access v) c d = ((refl, refl), (λ a. refl))
+    at (move.Read v) c d = ((refl, refl), (λ a. refl))
+    at move.Clock c d = absurd (c _ refl)
+    at move.Draw c d = absurd (d _ refl)
+    at move.Emit c d = ((refl, refl), (λ a. refl))
+    at move.End c d = ((refl, refl), (λ a. refl))
+
+    go : (o : Option Hand) → ((n : ℕ) → wanted_in s.meaning t (log_of w.past) (thread_after w.past t).taken o ≡ wants.Clock n → ⊥)
+        → ((n : ℕ) → wanted_in s.meaning t (log_of w.past) (thread_after w.past t).taken o ≡ wants.Draw n → ⊥)
+        → TellsHand s w t given None w.drawn o × ((a : ℕ) → told_in s.meaning o a ≡ None)
+    go None c d = ((refl, refl), (λ a. refl))
+    go (Some h) c d = at (s.meaning.next h.place) c d
+
+-- a word of the generator is the next one, and the generator has used it then
+pub draws_word : (seed drawn word : ℕ) (old new : Lcg) → (word, new) ≡ pcg32 old → old ≡ generator_after seed drawn → (word ≡ word_of seed drawn) × (new ≡ generator_after seed (drawn + 1))
+draws_word seed drawn word old new is at = (
+  ap (λ (p : ℕ × Lcg). p.0) is ∙ ap (λ (g : Lcg). (pcg32 g).0) at,
+  ap (λ (p : ℕ × Lcg). p.1) is ∙ ap (λ (g : Lcg). (pcg32 g).1) at ∙ generator_after-suc seed drawn,
+)

@@ -1,0 +1,5 @@
+pub mod HandLemmas
+pub mod TurnLemmas
+pub mod NoteLemmas
+pub mod MoveLemmas
+pub mod StepLemmas

@@ -1,0 +1,74 @@
+-- What taking note of a master's move does to the parts of a system.
+use Rattle.std.specs.Prelude.{◌≡◌, ℕ, ◌+◌, ◌<◌, [], ◌∷◌, ◌++◌, length, Option, Some, None, Result, Ok, Err}
+use Rattle.access_log.specs.declared.entry.StampedEntry.{StampedEntry}
+use Rattle.access_log.specs.declared.entry.Output.{Output}
+use Rattle.master_core.specs.declared.step.Stepped.{Stepped}
+use Rattle.master_core.specs.declared.step.Stepped.TheVariants as stepped
+use Rattle.wire_frames.specs.Writing.{CanPutEntry, CanPutOutput}
+use Rattle.recovery_world.specs.declared.event.Outcome.{Outcome}
+use Rattle.recovery_world.specs.declared.event.Outcome.TheVariants as outcome
+use Rattle.recovery_world.specs.Events.{entry_outcome}
+use Rattle.recovery_world.specs.Limits.{limit_passed}
+use Rattle.event_replies.specs.declared.reply.Stop.{Stop}
+use Rattle.event_replies.specs.declared.reply.Stop.TheVariants as stop
+use Rattle.sent_frames.specs.Sending.{Sending, SendsEntry, SendsOutput}
+use Rattle.system_parts.specs.Parts.{Parts}
+
+-- with one more move of the master, by which it sent out this number of bytes
+abbrev pub with_move : {P V : Type 0} → ℕ → Option ℕ → ℕ → Parts P V → Parts P V
+with_move t answer bytes y = record y {
+  schedule = y.schedule ++ (record { thread = t; answer = answer }) ∷ [];
+  moves = y.moves + 1;
+  bytes = y.bytes + bytes;
+}
+
+-- The move passes no limit, and is noted.
+pub record NotesMove {P V : Type 0} (t : ℕ) (answer : Option ℕ) (bytes : ℕ) (old new : Parts P V) : Type 0 where
+  pub within : limit_passed (old.moves + 1) (old.bytes + bytes) ≡ None
+  pub new_is : new ≡ with_move t answer bytes old
+
+-- the same, and the links are left so
+pub record NotesSending {P V : Type 0} (t : ℕ) (answer : Option ℕ) (bytes : ℕ) (Sends : Sending → Sending → Type 0) (old new : Parts P V) : Type 0 where
+  pub within : limit_passed (old.moves + 1) (old.bytes + bytes) ≡ None
+  pub sends : Sends old.sent new.sent
+  pub new_is : new ≡ record (with_move t answer bytes old) { sent = new.sent }
+
+-- The move is noted, with this outcome; or it would pass a limit, and nothing changed. Of no memory nothing is said.
+abbrev pub NotesAs : {P V : Type 0} → ℕ → Option ℕ → ℕ → Outcome → (Sending → Sending → Type 0) → Parts P V → Result Outcome Stop → Parts P V → Type 0
+NotesAs t answer bytes to Sends old (Ok other) new = (other ≡ to) × NotesSending t answer bytes Sends old new
+NotesAs t answer bytes to Sends old (Err (stop.Limit limit)) new = (limit_passed (old.moves + 1) (old.bytes + bytes) ≡ Some limit) × (new ≡ old)
+NotesAs t answer bytes to Sends old (Err stop.NoMemory) new = Unit {0}
+
+abbrev pub SendsNothing : Sending → Sending → Type 0
+SendsNothing old new = new ≡ old
+
+-- the entry, or the output, was sent as the next one of its thread, which is one of those there
+abbrev pub AddsEntry : StampedEntry → Sending → Sending → Type 0
+AddsEntry e old new = (e.thread < length old.entries) × SendsEntry old new e
+
+abbrev pub AddsOutput : Output → Sending → Sending → Type 0
+AddsOutput o old new = (o.thread < length old.outputs) × SendsOutput old new o
+
+-- The master made no move, with this outcome.
+abbrev pub NotesNone : {P V : Type 0} → Outcome → Parts P V → Result Outcome Stop → Parts P V → Type 0
+NotesNone to old r new = (r ≡ Ok to) × (new ≡ old)
+
+-- what is noted of a master's answer
+abbrev pub Notes : {P V : Type 0} → ℕ → Option ℕ → Stepped → Parts P V → Result Outcome Stop → Parts P V → Type 0
+Notes t answer (stepped.Took k) old r new = NotesAs t answer 0 (outcome.Take k) SendsNothing old r new
+Notes t answer (stepped.Did e) old r new = NotesAs t answer 0 (entry_outcome e.number e.what) (AddsEntry e) old r new
+Notes t answer (stepped.Emitted o) old r new = NotesAs t answer (length o.packet.bytes) (outcome.Emitted o.number) (AddsOutput o) old r new
+Notes t answer (stepped.Ended k) old r new = NotesAs t answer 0 (outcome.Ended k) SendsNothing old r new
+Notes t answer stepped.Idle old r new = NotesNone outcome.Idle old r new
+Notes t answer (stepped.NotTurn u n) old r new = NotesNone (outcome.Waits u n) old r new
+Notes t answer stepped.NoMemory old r new = r ≡ Err stop.NoMemory
+
+-- what was logged or sent out has a frame
+abbrev pub CanNote : {P V : Type 0} → Parts P V → Stepped → Type 0
+CanNote y (stepped.Took k) = Unit {0}
+CanNote y (stepped.Did e) = CanPutEntry y.sent.epoch y.sent.threads e
+CanNote y (stepped.Emitted o) = CanPutOutput y.sent.epoch y.sent.threads o
+CanNote y (stepped.Ended k) = Unit {0}
+CanNote y stepped.Idle = Unit {0}
+CanNote y (stepped.NotTurn u n) = Unit {0}
+CanNote y stepped.NoMemory = Unit {0}

@@ -1,0 +1,6 @@
+//! A thread of the master of a recovering system makes its next move.
+#![tactic(auto)]
+
+mod stepping;
+
+pub use stepping::step;

@@ -1,0 +1,275 @@
+ghost use Rattle.std.specs.Prelude.{◌≡◌, ◌<◌, ◌≤◌, ◌+◌, ℕ, [], List, IfOk, OnOk, OnErr, Some, Err, length, option_copied};
+ghost use Rattle.std.specs.Option.{unwrap_or};
+ghost use Rattle.traffic_gen.specs.Generated.{generator_after};
+ghost use Rattle.plain_text.specs.declared.limit.Limit.{Limit as LimitKind};
+ghost use Rattle.plain_text.specs.declared.limit.TheConstants.{MOST_CAPTURED};
+ghost use Rattle.input_logger.specs.Inputs.{inputs_of};
+ghost use Rattle.entry_order.specs.Log.{Entry};
+ghost use Rattle.plain_machine.specs.Program.{Meaning};
+ghost use Rattle.plain_machine.specs.History.{Step, thread_after, IsHistory};
+ghost use Rattle.box_program.specs.Hands.{FitsProgram, IsInputAfter};
+ghost use Rattle.master_core.specs.Mastered.{HasRoom, value_of};
+ghost use Rattle.master_core.specs.Standing.{Stands};
+ghost use Rattle.master_core.specs.Stepping.{told_in};
+ghost use Rattle.recovery_world.specs.declared.event.Event.TheVariants as event_is;
+ghost use Rattle.recovery_world.specs.World.{Setting, World};
+ghost use Rattle.recovery_world.specs.Events.{TellsHand, entry_outcome as outcome_is};
+ghost use Rattle.recovery_world.specs.Limits.{limit_passed as passed};
+ghost use Rattle.recovery_laws.specs.Sound.{Sound};
+ghost use Rattle.system_parts.specs.Standing.{HasGuide, StandsFor, StandsForSome};
+ghost use Rattle.thread_steps.specs.Following.{HasTurnBy, or_given};
+ghost use Rattle.replay_guide.specs.Following.{recorded};
+ghost use Rattle.access_log.specs.Held.{lane, entry_at};
+ghost use Rattle.system_parts.specs.Performing.{MovesOn, StopsAt, ComesTo, WouldPass};
+ghost use Rattle.thread_steps.specs.Stepping.{CanNote, Notes, NotesMove};
+
+use event_replies::Stop;
+use system_parts::Core;
+use access_log::{Output, StampedEntry, Turn, What};
+use box_program::Program;
+use input_logger::InputLog;
+use master_core::{Master, Stepped, Wants};
+use plain_machine::PlainMove;
+use plain_text::{Limit, MOST_MOVES, MOST_OUTPUT_BYTES, Packet};
+use rand_core::utils::NextWord;
+use rand_pcg::Pcg32;
+use recovery_world::Outcome;
+use replay_guide::Guide;
+
+/// The outcome of a logged move.
+fn entry_outcome(entry: &StampedEntry) -> Outcome
+    ensures { result ≡ outcome_is entry.now.number entry.now.what }
+{
+    let number = entry.number;
+    match entry.what {
+        What::Access { var, place } => Outcome::Touched {
+            entry: number,
+            var: u64::from(var),
+            place,
+        },
+        What::Read { var, after } => Outcome::Looked {
+            entry: number,
+            var: u64::from(var),
+            after,
+        },
+        What::Clock(value) => Outcome::ClockTold {
+            entry: number,
+            value,
+        },
+        What::Draw(value) => Outcome::Drawn {
+            entry: number,
+            value,
+        },
+    }
+}
+
+/// The limit that these numbers of moves and of bytes pass, that of the moves where they pass both.
+fn limit_passed(moves: u64, bytes: u64) -> Option<Limit>
+    ensures { result ≡ passed moves bytes }
+{
+    if moves > u64::from(MOST_MOVES) {
+        return Some(Limit::Moves);
+    }
+    if bytes > u64::from(MOST_OUTPUT_BYTES) {
+        return Some(Limit::OutputBytes);
+    }
+    None
+}
+
+/// The packet that the thread's next move is made with: the one in hand, else its next input, if there is one.
+fn input_of<'a, P: Program>(
+    inputs: &'a InputLog,
+    master: &Master<P>,
+    thread: u32,
+) -> Option<&'a Packet>
+    requires thread_in { thread < length master.now.threads }
+    requires room { HasRoom master.now thread }
+    ensures { (m : Meaning P.Value) (threads : ℕ) (steps : List (Step P.Value))
+        → IsHistory m (inputs_of inputs.now) threads steps → Stands m threads steps master.now
+        → thread < threads
+        → IsInputAfter (inputs_of inputs.now) thread steps (option_copied result) }
+{
+    match master.in_hand(thread) {
+        Some(k) => inputs.input(thread, k),
+        None => inputs.input(thread, master.counts(thread).taken + 1),
+    }
+}
+
+/// Whether the thread may make its next move now, where it wants a variable.
+fn turn_of<P: Program>(core: &Core<P>, thread: u32) -> Turn
+    requires stands { StandsForSome (P.meaning core.now.program) core.now }
+    requires thread_in { thread < core.now.inputs.threads }
+    ensures { (s : Setting P.Value) (w : World P.Value)
+        → StandsFor (P.meaning core.now.program) s w core.now
+        → HasTurnBy s w thread result }
+{
+    match core.master.wants(&core.program, thread) {
+        Wants::Touch {
+            number,
+            var,
+            places,
+        } => {
+            let readers = core.master.readers(var);
+            core.guide.turn(thread, number, var, false, places, readers)
+        }
+        Wants::Read {
+            number,
+            var,
+            places,
+        } => {
+            let readers = core.master.readers(var);
+            core.guide.turn(thread, number, var, true, places, readers)
+        }
+        _ => Turn::Free,
+    }
+}
+
+/// The recorded answer of an entry, else the given one.
+fn recorded_or(guide: &Guide, thread: u32, number: u64, given: Option<u64>) -> Option<u64>
+    ensures { result ≡ or_given (recorded (entry_at (lane guide.now thread) number)) given }
+{
+    match guide.answer(thread, number) {
+        Some(recorded) => Some(recorded),
+        None => given,
+    }
+}
+
+/// What the thread's next move is told, if it asks: what is recorded, else the given answer, else the time or the next word of the
+/// generator.
+fn told<P: Program>(
+    program: &P,
+    master: &Master<P>,
+    guide: &Guide,
+    generator: &mut Pcg32,
+    clock: u64,
+    thread: u32,
+    given: Option<u64>,
+) -> Option<u64>
+    requires fits { FitsProgram (P.meaning program.now) (P.fits program.now)
+        value_of master.now.vars }
+    requires thread_in { thread < length master.now.threads }
+    ensures tells { (s : Setting P.Value) (w : World P.Value)
+        → s.meaning ≡ P.meaning program.now → Sound s w → HasGuide w.followed w.past guide.now
+        → Stands s.meaning s.threads w.past master.now → w.clock ≡ clock
+        → generator.old ≡ generator_after s.seed w.drawn
+        → (drawn : ℕ) × TellsHand s w thread given result drawn (thread_after w.past thread).hand
+        × (generator.new ≡ generator_after s.seed drawn) }
+    ensures asked { (s : Setting P.Value) (w : World P.Value)
+        → s.meaning ≡ P.meaning program.now → Stands s.meaning s.threads w.past master.now
+        → told_in s.meaning (thread_after w.past thread).hand (unwrap_or result 0) ≡ result }
+{
+    match master.wants(program, thread) {
+        Wants::Clock(number) => Some(recorded_or(guide, thread, number, given).unwrap_or(clock)),
+        Wants::Draw(number) => match recorded_or(guide, thread, number, given) {
+            Some(answer) => Some(answer),
+            None => Some(u64::from(generator.next_word())),
+        },
+        _ => None,
+    }
+}
+
+/// Takes note of a move that the master made, by which it sent out this number of bytes.
+fn note_move<P: Program>(
+    core: &mut Core<P>,
+    thread: u32,
+    answer: Option<u64>,
+    bytes: u64,
+) -> Result<(), Stop>
+    requires { bytes ≤ MOST_CAPTURED }
+    ensures noted { OnOk result (NotesMove thread answer bytes core.old core.new) }
+    ensures limit { (limit : LimitKind) → result ≡ Err (Stop.Limit limit)
+        → passed (core.old.moves + 1) (core.old.bytes + bytes) ≡ Some limit }
+    ensures same { OnErr result (core.new ≡ core.old) }
+{
+    let moves = core.moves + 1;
+    let bytes = core.bytes + bytes;
+    if let Some(limit) = limit_passed(moves, bytes) {
+        return Err(Stop::Limit(limit));
+    }
+    core.schedule.push(PlainMove { thread, answer })?;
+    core.moves = moves;
+    core.bytes = bytes;
+    Ok(())
+}
+
+/// Takes note of what the master answered, and sends what it logged or sent out.
+fn note<P: Program>(
+    core: &mut Core<P>,
+    thread: u32,
+    answer: Option<u64>,
+    stepped: Stepped,
+) -> Result<Outcome, Stop>
+    requires can { CanNote core.old stepped }
+    ensures { Notes thread answer stepped core.old result core.new }
+{
+    match stepped {
+        Stepped::Took(k) => {
+            note_move(core, thread, answer, 0)?;
+            Ok(Outcome::Take(k))
+        }
+        Stepped::Did(entry) => {
+            note_move(core, thread, answer, 0)?;
+            core.sent.send_entry(&entry)?;
+            Ok(entry_outcome(&entry))
+        }
+        Stepped::Emitted(output) => {
+            let number = output.number;
+            note_move(core, thread, answer, output.packet.bytes.len() as u64)?;
+            core.sent.send_output(output)?;
+            Ok(Outcome::Emitted(number))
+        }
+        Stepped::Ended(k) => {
+            note_move(core, thread, answer, 0)?;
+            Ok(Outcome::Ended(k))
+        }
+        Stepped::Idle => Ok(Outcome::Idle),
+        Stepped::NotTurn { thread, number } => Ok(Outcome::Waits {
+            thread: u64::from(thread),
+            number,
+        }),
+        Stepped::NoMemory => Err(Stop::NoMemory),
+    }
+}
+
+/// The master makes the next move of a thread; a clock or a draw is told the given answer, if there is one.
+pub fn step<P: Program>(
+    core: &mut Core<P>,
+    thread: u64,
+    given: Option<u64>,
+) -> Result<Outcome, Stop>
+    requires stands { StandsForSome (P.meaning core.old.program) core.old }
+    ensures on { IfOk result (λ to.
+        MovesOn (P.meaning core.old.program) (ComesTo (event_is.Step thread given) to)
+        core.old core.new) }
+    ensures limit { (limit : LimitKind) → result ≡ Err (Stop.Limit limit)
+        → StopsAt (P.meaning core.old.program) (WouldPass (event_is.Step thread given) limit)
+        core.old core.new }
+{
+    if thread >= u64::from(core.inputs.threads()) {
+        return Ok(Outcome::Nothing);
+    }
+    if !core.up {
+        return Ok(Outcome::Down);
+    }
+    let thread = thread as u32;
+    let turn = turn_of(core, thread);
+    let answer = told(
+        &core.program,
+        &core.master,
+        &core.guide,
+        &mut core.generator,
+        core.clock,
+        thread,
+        given,
+    );
+    let input = input_of(&core.inputs, &core.master, thread);
+    let stepped = core.master.step(
+        core.alloc,
+        &core.program,
+        thread,
+        turn,
+        answer.unwrap_or(0),
+        input,
+    );
+    note(core, thread, answer, stepped)
+}
