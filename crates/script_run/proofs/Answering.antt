@@ -7,9 +7,9 @@ use Rattle.world_io.specs.World.{Shown}
 use Rattle.recovery_world.specs.declared.event.Event.{Event}
 use Rattle.recovery_world.specs.World.{Sent}
 use Rattle.recovery_world.specs.Files.{reply_line, sent_names}
-use Rattle.recovery_core.specs.declared.reply.Reply.{Reply as SystemReply}
-use Rattle.recovery_core.specs.declared.reply.Stop.{Stop}
-use Rattle.recovery_core.specs.declared.reply.Stop.TheVariants as stop
+use Rattle.event_replies.specs.declared.reply.Reply.{Reply as SystemReply}
+use Rattle.event_replies.specs.declared.reply.Stop.{Stop}
+use Rattle.event_replies.specs.declared.reply.Stop.TheVariants as stop
 use Rattle.output_files.specs.declared.error.OutputError.{OutputError}
 use Rattle.output_files.specs.Writes.{Write, HasBegun, HasGathered}
 use Rattle.output_files.specs.Written.{Writes, WritesGathered}

@@ -9,9 +9,9 @@ use Rattle.world_io.specs.World.{Shown}
 use Rattle.recovery_world.specs.declared.event.Event.{Event}
 use Rattle.recovery_world.specs.World.{Setting}
 use Rattle.recovery_world.specs.Files.{done_line, moves_made}
-use Rattle.recovery_core.specs.declared.reply.Finished.{Finished}
-use Rattle.recovery_core.specs.Parts.{Systemed}
-use Rattle.recovery_core.specs.Performing.{FinishesAs}
+use Rattle.event_replies.specs.declared.reply.Finished.{Finished}
+use Rattle.recovery_core.specs.Systems.{Systemed}
+use Rattle.recovery_core.specs.Systems.{FinishesAs}
 use Rattle.output_files.specs.declared.error.OutputError.{OutputError}
 use Rattle.output_files.specs.Writes.{Write, Appends, Reports, HasBegun}
 use Rattle.output_files.specs.Written.{Writes}

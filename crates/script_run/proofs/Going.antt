@@ -11,10 +11,10 @@ use Rattle.recovery_world.specs.declared.event.Event.{Event}
 use Rattle.recovery_world.specs.World.{Setting, Sent, World}
 use Rattle.recovery_world.specs.Many.{OnAny, Stops}
 use Rattle.recovery_world.specs.Files.{reply_line, sent_names}
-use Rattle.recovery_core.specs.declared.reply.Reply.{Reply as SystemReply}
-use Rattle.recovery_core.specs.declared.reply.Stop.{Stop}
-use Rattle.recovery_core.specs.declared.reply.Stop.TheVariants as stop
-use Rattle.recovery_core.specs.Parts.{Systemed}
+use Rattle.event_replies.specs.declared.reply.Reply.{Reply as SystemReply}
+use Rattle.event_replies.specs.declared.reply.Stop.{Stop}
+use Rattle.event_replies.specs.declared.reply.Stop.TheVariants as stop
+use Rattle.recovery_core.specs.Systems.{Systemed}
 use Rattle.output_files.specs.declared.error.OutputError.{OutputError}
 use Rattle.output_files.specs.declared.error.OutputError.TheVariants as output
 use Rattle.output_files.specs.Writes.{Write, HasBegun}

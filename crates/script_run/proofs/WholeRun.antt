@@ -9,8 +9,8 @@ use Rattle.plain_machine.specs.Program.{Meaning}
 use Rattle.world_io.specs.World.{Shown}
 use Rattle.recovery_world.specs.declared.event.Event.{Event}
 use Rattle.recovery_world.specs.World.{Setting, opening}
-use Rattle.recovery_core.specs.Parts.{Systemed}
-use Rattle.recovery_core.specs.Standing.{StandsFor}
+use Rattle.recovery_core.specs.Systems.{Systemed}
+use Rattle.recovery_core.specs.Systems.{SystemStands}
 use Rattle.output_files.specs.declared.error.OutputError.{OutputError}
 use Rattle.output_files.specs.declared.error.OutputError.TheVariants as output
 use Rattle.output_files.specs.Writes.{Write, HasWritten, HasBegun, HasGathered}
@@ -29,10 +29,10 @@ no_outputs [] e = refl
 no_outputs (o ∷ outputs) e = absurd (cc)
 
 -- a new system is at the opening
-pub opens_at : {P V : Type 0} (m : Meaning V) (s : Setting V) (y : Systemed P V) → StandsFor m s (opening V) y.parts → y.parts.handed ≡ 0 → IsAt m s (opening V) y
+pub opens_at : {P V : Type 0} (m : Meaning V) (s : Setting V) (y : Systemed P V) → SystemStands m s (opening V) y → y.handed ≡ 0 → IsAt m s (opening V) y
 opens_at m s y stands handed = record {
   stands = stands;
-  fresh = no_outputs y.parts.fresh (stands.released.fresh ∙ rw handed refl);
+  fresh = no_outputs y.fresh (stands.released.fresh ∙ rw handed refl);
   handed = handed;
 }
 

@@ -8,11 +8,11 @@ use Rattle.recovery_world.specs.World.{Setting, Sent, World}
 use Rattle.recovery_world.specs.Many.{OnAny, Stops}
 use Rattle.recovery_world.specs.Files.{reply_line, sent_names}
 use Rattle.plain_text.specs.declared.limit.Limit.{Limit}
-use Rattle.recovery_core.specs.declared.reply.Reply.{Reply as SystemReply}
-use Rattle.recovery_core.specs.declared.reply.Stop.{Stop}
-use Rattle.recovery_core.specs.declared.reply.Stop.TheVariants as stop
-use Rattle.recovery_core.specs.Parts.{Systemed}
-use Rattle.recovery_core.specs.Standing.{StandsFor}
+use Rattle.event_replies.specs.declared.reply.Reply.{Reply as SystemReply}
+use Rattle.event_replies.specs.declared.reply.Stop.{Stop}
+use Rattle.event_replies.specs.declared.reply.Stop.TheVariants as stop
+use Rattle.recovery_core.specs.Systems.{Systemed}
+use Rattle.recovery_core.specs.Systems.{SystemStands}
 use Rattle.plain_text.specs.declared.packet.Packet.{Packet}
 use Rattle.output_files.specs.declared.error.OutputError.{OutputError}
 use Rattle.output_files.specs.Writes.{Write, HasWritten, HasBegun, HasGathered}
@@ -25,9 +25,9 @@ use Rattle.run_writes.specs.declared.error.RunError.TheVariants as run
 
 -- The system stands for the world, and all that was released was handed over.
 pub record IsAt {P V : Type 0} (m : Meaning V) (s : Setting V) (w : World V) (y : Systemed P V) : Type 0 where
-  pub stands : StandsFor m s w y.parts
-  pub fresh : y.parts.fresh ≡ []
-  pub handed : y.parts.handed ≡ length w.released
+  pub stands : SystemStands m s w y
+  pub fresh : y.fresh ≡ []
+  pub handed : y.handed ≡ length w.released
 
 -- What performing an event came to, for each world that the system was at: the reply is that of the event, or the event stops at the
 -- limit; and these are the outputs that it released. Where memory ran out, none is handed over.
