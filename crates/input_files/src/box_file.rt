@@ -1,4 +1,4 @@
-ghost use Rattle.std.specs.Prelude.{◌≡◌, ◌<◌, ◌≤◌, ◌-◌, ◌^◌, IsTrue, IfOk, IsErrOf, List, ℕ};
+ghost use Rattle.std.specs.Prelude.{◌<◌, ◌≤◌, ◌-◌, ◌^◌, IsTrue, IfOk, IsErrOf, List, ℕ};
 ghost use Rattle.world_io.specs.Stream.{Rose};
 ghost use Rattle.input_files.specs.Answers.{SaysBox};
 ghost use Rattle.input_files.specs.Files.{OnlyReads};

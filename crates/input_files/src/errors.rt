@@ -2,7 +2,7 @@ use plain_text::Limit;
 use world_io::FrontError;
 
 /// Why an input file, which is refused by faults of this type, was not accepted.
-#[derive(Clone, Copy, Debug, PartialEq, Eq)]
+#[derive(Clone, Copy, PartialEq, Eq)]
 pub enum InputError<F> {
     /// It could not be opened, or reading failed.
     ReadFault,

@@ -1,4 +1,4 @@
-ghost use Rattle.std.specs.Prelude.{◌≡◌, ◌≢◌, ◌≤◌, IsTrue};
+ghost use Rattle.std.specs.Prelude.{◌≡◌, IsTrue};
 ghost use Rattle.world_io.specs.Stream.{GoesOn, HasFailed};
 ghost use Rattle.pcap_io.specs.Captured.{Says, TakesCapture, EndsAt, CapturesBytes};
 

@@ -8,7 +8,6 @@ mod header;
 pub mod laws;
 mod next;
 mod order;
-mod piece;
 mod reader;
 mod record;
 mod started;

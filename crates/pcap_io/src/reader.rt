@@ -5,13 +5,12 @@ ghost use Rattle.pcap_io.specs.Reader.{AnswersAt, Takes, IsGiven, GivesBytes, af
 ghost use Rattle.pcap_io.specs.Started.{Starts, TakesHeader, IsFresh};
 
 use crate::header::{FILE_HEADER, read_header};
-use crate::piece::fill_piece;
 use crate::record::{Place, RECORD_HEADER};
 use crate::{CaptureCause, CaptureFault, Next, Order, Started};
 use plain_text::{Limit, MOST_FILE_BYTES, MOST_PACKETS, Unit};
 use std::alloc::Global;
 use std::marker::Model;
-use world_io::Source;
+use world_io::{Source, fill_piece};
 
 /// Reads a capture's packets, one at a time, from the source that is lent to each call.
 ///

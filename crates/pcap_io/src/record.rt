@@ -4,12 +4,11 @@ ghost use Rattle.pcap_io.specs.Capture.{record_of};
 ghost use Rattle.pcap_io.specs.Reader.{Answers, Takes, IsGiven, GivesBytes};
 ghost use Rattle.pcap_io.specs.Record.{TakesBody};
 
-use crate::piece::fill_piece;
 use crate::{CaptureCause, CaptureFault, Next, Order};
 use byteorder::{ByteOrder, LittleEndian};
 use plain_text::{Bytes, Limit, MOST_CAPTURED, NoMemory, Packet};
 use std::alloc::Global;
-use world_io::Source;
+use world_io::{FrontError, Source, fill_piece, read_behind};
 
 pub(crate) const RECORD_HEADER: usize = 16;
 
@@ -69,23 +68,22 @@ impl Place {
         if captured > MOST_CAPTURED {
             return self.refused(CaptureCause::TooLong);
         }
-        let Ok(mut bytes) = vec![in alloc; 0u8; captured as usize] else {
-            return Next::NoMemory;
+        let bytes = match read_behind(alloc, source, &[], captured as usize) {
+            Ok(bytes) => bytes,
+            Err(FrontError::Failed) => return Next::ReadFault,
+            Err(FrontError::NoMemory) => return Next::NoMemory,
         };
-        let Some(had) = fill_piece(source, &mut bytes) else {
-            return Next::ReadFault;
-        };
-        if (RECORD_HEADER + had) as u64 > self.room {
+        if (RECORD_HEADER + bytes.len()) as u64 > self.room {
             return Next::TooLarge(self.limit);
         }
-        if had < captured as usize {
+        if bytes.len() < captured as usize {
             return self.refused(CaptureCause::ShortRecord);
         }
         Next::Packet(Packet {
             seconds: self.order.read_u32(head),
             fraction: self.order.read_u32(&head[4..]),
             original: self.order.read_u32(&head[12..]),
-            bytes: Bytes::from_vec(bytes),
+            bytes,
         })
     }
 

@@ -159,10 +159,9 @@ head_is o q head n total k told n_is k_is told_is q_is total_is =
       total = total_is ∙ ap (number q 4) (take_rest head 4);
     }
 
--- a piece that was filled behind the last four bytes of a head
-pub filled_is : (head taken piece : List ℕ) (had : ℕ) → length head ≡ 12 → take (length head - 8) (drop 8 head) ++ taken ≡ take had piece → had ≤ length piece
-    → (drop 8 head ++ taken ≡ take had piece) × (4 + length taken ≡ had)
-filled_is head taken piece had twelve is within =
-    let parts : drop 8 head ++ taken ≡ take had piece = ap (λ l. l ++ taken) (sym (take_rest head 8)) ∙ is in
-    let size : length (drop 8 head ++ taken) ≡ length (take had piece) = ap length parts in
-    (parts, omega (arith, size, length-append (drop 8 head) taken, length-drop 8 head, length-take had piece))
+-- what was read behind the last four bytes of a head
+pub read_is : (head taken bytes : List ℕ) → length head ≡ 12 → bytes ≡ take (length head - 8) (drop 8 head) ++ taken
+    → (bytes ≡ drop 8 head ++ taken) × (4 + length taken ≡ length bytes)
+read_is head taken bytes twelve is =
+    let parts : bytes ≡ drop 8 head ++ taken = is ∙ ap (λ l. l ++ taken) (take_rest head 8) in
+    (parts, omega (arith, ap length parts, length-append (drop 8 head) taken, length-drop 8 head))

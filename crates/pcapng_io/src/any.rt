@@ -1,4 +1,4 @@
-ghost use Rattle.std.specs.Prelude.{◌≡◌, ◌≢◌, ◌≤◌, ◌↔◌, true, List, ℕ, length, IsTrue};
+ghost use Rattle.std.specs.Prelude.{◌≡◌, ◌≢◌, ◌≤◌, ◌↔◌, true, length, IsTrue};
 ghost use Rattle.world_io.specs.Stream.{GoesOn, HasFailed};
 ghost use Rattle.pcap_io.specs.Started.{Starts, IsFresh};
 ghost use Rattle.pcapng_io.specs.Capture.{begins_ng};
@@ -7,14 +7,13 @@ ghost use Rattle.pcapng_io.specs.Any.{any_started, StartsAny, TakesStart, unit_o
 
 use crate::block::SECTION;
 use crate::number::read_u32;
-use crate::piece::{fill_behind, fill_piece};
 use crate::reader::NgReader;
 use crate::{AnyFault, AnyNext};
 use pcap_io::{Order, Reader, Started};
 use plain_text::Unit;
 use std::alloc::Global;
 use std::marker::Model;
-use world_io::{SliceSource, Source};
+use world_io::{SliceSource, Source, fill_behind, fill_piece};
 
 const FILE_HEADER: usize = 24;
 

@@ -5,13 +5,13 @@ ghost use Rattle.pcapng_io.specs.Limits.{shows_packet};
 ghost use Rattle.pcapng_io.specs.Stops.{held_type, StopsHere, StandsHere, TakesBlock, PassesRest};
 
 use crate::number::read_u32;
-use crate::piece::{fill_behind, read_past};
+use crate::piece::read_past;
 use crate::place::{BLOCK_HEAD, Place, Stop};
 use crate::{Block, BlockKind, NgCause};
 use pcap_io::Order;
-use plain_text::{Bytes, Limit};
+use plain_text::Limit;
 use std::alloc::Global;
-use world_io::Source;
+use world_io::{FrontError, Source, fill_behind, read_behind};
 
 const MAGIC: u32 = 0x1a2b_3c4d;
 
@@ -97,26 +97,25 @@ impl Place {
             return Err(self.pass_rest(total, source));
         }
         let total = total as usize;
-        let Ok(mut bytes) = vec![in alloc; 0u8; total - 8] else {
-            return Err(Stop::NoMemory);
+        let mut body = match read_behind(alloc, source, &head[8..], total - 8) {
+            Ok(bytes) => bytes,
+            Err(FrontError::Failed) => return Err(Stop::ReadFault),
+            Err(FrontError::NoMemory) => return Err(Stop::NoMemory),
         };
-        let Some(had) = fill_behind(source, &head[8..], bytes.as_mut_slice()) else {
-            return Err(Stop::ReadFault);
-        };
-        if (8 + had) as u64 > self.room {
+        if (8 + body.len()) as u64 > self.room {
             return Err(Stop::TooLarge(Limit::File));
         }
-        if 8 + had < total {
+        if 8 + body.len() < total {
             return Err(Stop::Refused(NgCause::ShortBlock));
         }
-        if read_u32(order, &bytes[total - 12..]) as usize != total {
+        if read_u32(order, &body.as_slice()[total - 12..]) as usize != total {
             return Err(Stop::Refused(NgCause::BadLength));
         }
-        bytes.truncate(total - 12);
+        body.truncate(total - 12);
         Ok(Block {
             order,
             number,
-            body: Bytes::from_vec(bytes),
+            body,
         })
     }
 

@@ -1,6 +1,6 @@
-ghost use Rattle.std.specs.Prelude.{◌≡◌, ◌≤◌, ◌*◌, ◌+◌, ◌^◌, length, drop, All, Some};
+ghost use Rattle.std.specs.Prelude.{◌≡◌, ◌≤◌, ◌*◌, ◌+◌, length, Some};
 ghost use Rattle.pcap_io.specs.Capture.{number};
-ghost use Rattle.pcapng_io.specs.Contents.{HasUnits, Tells, passes_body, enhanced_time, enhanced_on, captured_of, simple_on};
+ghost use Rattle.pcapng_io.specs.Contents.{Tells, passes_body, enhanced_time, enhanced_on, captured_of, simple_on};
 
 use crate::number::read_u32;
 use crate::{Interface, NgCause};
@@ -9,7 +9,7 @@ use plain_text::{Bytes, MOST_CAPTURED, NoMemory, Packet};
 use std::alloc::Global;
 
 /// Why a block is not read.
-#[derive(Clone, Copy, PartialEq, Eq)]
+#[derive(Clone, Copy)]
 pub enum BlockError {
     Fault(NgCause),
     NoMemory,

@@ -20,7 +20,7 @@ pub struct Place {
 }
 
 /// Why no block is read.
-#[derive(Clone, Copy, PartialEq, Eq)]
+#[derive(Clone, Copy)]
 pub enum Stop {
     End,
     Refused(NgCause),

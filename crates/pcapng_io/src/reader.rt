@@ -1,4 +1,4 @@
-ghost use Rattle.std.specs.Prelude.{◌≡◌, ◌≢◌, ◌≤◌, ◌<◌, ◌-◌, ◌==◌, ◌↔◌, ◌++◌, true, false, [], IsTrue, OnOk, IfErr, IsErrOf};
+ghost use Rattle.std.specs.Prelude.{◌≡◌, ◌≤◌, ◌<◌, ◌-◌, ◌==◌, ◌↔◌, ◌++◌, true, false, [], IsTrue, OnOk, IfErr, IsErrOf};
 ghost use Rattle.plain_text.specs.declared.limit.TheConstants.{MOST_FILE_BYTES, MOST_PACKETS};
 ghost use Rattle.pcap_io.specs.declared.order.Order.TheVariants.{Little};
 ghost use Rattle.world_io.specs.Stream.{GoesOn, HasFailed};

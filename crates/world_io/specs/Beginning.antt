@@ -13,6 +13,11 @@ ReadsFront reads (Ok (More bytes)) limit old new =
     (next : List ℕ) × reads old (bytes ++ next) new × (length bytes ≡ limit) × (length next ≡ 1)
 ReadsFront reads (Err error) limit old new = TakesSome reads old new
 
+-- these bytes, and behind them those that were taken, by the source's relation; after an error some were taken
+abbrev pub ReadsBehind : {S : Type 0} → (S → List ℕ → S → Type 0) → List ℕ → Result (List ℕ) FrontError → S → S → Type 0
+ReadsBehind reads first (Ok bytes) old new = (taken : List ℕ) × reads old taken new × (bytes ≡ first ++ taken)
+ReadsBehind reads first (Err error) old new = TakesSome reads old new
+
 -- all that was left, and nothing is left; or the first bytes of what was left, which was more than the limit
 abbrev pub IsFront : Result Front FrontError → ℕ → List ℕ → List ℕ → Type 0
 IsFront (Ok (All bytes)) limit old new = (old ≡ bytes) × (new ≡ [])

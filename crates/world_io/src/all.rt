@@ -1,15 +1,12 @@
-ghost use Rattle.std.specs.Prelude.{◌≡◌, ◌++◌, IsTrue, IsErrOf, IfOk, OnOk};
+ghost use Rattle.std.specs.Prelude.{IsTrue, IsErrOf, IfOk};
 ghost use Rattle.plain_text.specs.Octets.{AreBytes};
 ghost use Rattle.world_io.specs.Stream.{GoesOn, HasFailed};
 ghost use Rattle.world_io.specs.All.{ReadsAll, ReadsToEnd, WritesAll, WriteFailed};
 
-use crate::{Filled, Put, Sink, Source};
-use plain_text::{Bytes, NoMemory};
+use crate::{Front, FrontError, Put, Sink, Source, read_front};
+use plain_text::Bytes;
 use std::alloc::Global;
 use thiserror::Error;
-
-/// The bytes that are asked of a source at once.
-const PIECE: usize = 8_192;
 
 /// Why not all of a source was read.
 #[derive(Clone, Copy, Debug, PartialEq, Eq, Error)]
@@ -22,17 +19,6 @@ pub enum ReadError {
     Failed,
     #[error("no memory")]
     NoMemory,
-}
-
-impl From<NoMemory> for ReadError {
-    ghost use Rattle.std.specs.Prelude.{◌≡◌};
-    ghost use Rattle.world_io.specs.declared.all.ReadError.TheVariants as error;
-
-    ghost from_gives = { λ _ e. e ≡ error.NoMemory };
-
-    fn from(_: NoMemory) -> Self {
-        ReadError::NoMemory
-    }
 }
 
 /// Why not all of some bytes were written.
@@ -60,31 +46,12 @@ pub fn read_all<S: Source>(alloc: Global, source: &mut S, limit: u64) -> Result<
     ensures cause { IsErrOf result ReadError.Failed
         → HasFailed S.faults S.healthy source.old source.new }
 {
-    let mut bytes = Bytes::new(alloc);
-    let mut room = limit;
-    let mut piece = [0u8; PIECE];
-    loop {
-        let want = room.saturating_add(1).min(PIECE as u64) as usize;
-        match source.fill(&mut piece[..want]) {
-            Filled::End => return Ok(bytes),
-            Filled::Failed => return Err(ReadError::Failed),
-            Filled::Got(count) => {
-                if count as u64 > room {
-                    return Err(ReadError::TooLarge);
-                }
-                keep(&mut bytes, &piece[..count])?;
-                room -= count as u64;
-            }
-        }
+    match read_front(alloc, source, limit) {
+        Ok(Front::All(bytes)) => Ok(bytes),
+        Ok(Front::More(_bytes)) => Err(ReadError::TooLarge),
+        Err(FrontError::Failed) => Err(ReadError::Failed),
+        Err(FrontError::NoMemory) => Err(ReadError::NoMemory),
     }
-}
-
-/// Appends what was read.
-fn keep(bytes: &mut Bytes, piece: &[u8]) -> Result<(), NoMemory>
-    ensures ok { OnOk result (bytes.new ≡ bytes.old ++ piece.now) }
-    ensures octets { AreBytes piece.now }
-{
-    bytes.extend(piece)
 }
 
 /// Appends all these bytes, or tells how many of them were appended.

@@ -1,7 +1,7 @@
-ghost use Rattle.std.specs.Prelude.{◌≡◌, ◌<◌, ◌-◌, ◌^◌, ◌⊎◌, ◌++◌, ◌∷◌, [], length, true, IsTrue, IfOk, OnOk, OnErr, IsErrOf, None};
+ghost use Rattle.std.specs.Prelude.{◌≡◌, ◌<◌, ◌-◌, ◌^◌, length, true, IsTrue, IfOk, OnOk, OnErr};
 ghost use Rattle.std.specs.Option.{option_copied};
-ghost use Rattle.world_io.specs.Stream.{Rose, FillCount, filled_bytes, EndsAtEnd, PutCount, put_bytes};
-ghost use Rattle.world_io.specs.World.{KeepsLedgerReading, KeepsLedgerWriting, ReadsOn, WritesOn, ReadingFailed, WritingFailed, GivesOpened, GivesCreated, OpensFile, ReadsFile, CreatesFile, CreatesNothing, WritesFile, FilledNothing, PutNothing, is_writable};
+ghost use Rattle.world_io.specs.Stream.{FillCount, PutCount, put_bytes};
+ghost use Rattle.world_io.specs.World.{OpensFile, WritesFile, is_writable};
 ghost use Rattle.world_io.specs.Names.{bytes_under, SetsName};
 ghost use Rattle.world_io.specs.Calls.{with_failing};
 ghost use Rattle.world_io.specs.Files.{file_of, is_opened, is_created};
@@ -200,22 +200,14 @@ impl World for MemoryWorld {
 
     ghost healthy = { IsHealthy };
 
+    // Each call says when it fails, and what it does to the plain data. What any world promises
+    // follows from that; it stands here only where the check does not find it by itself.
+
     fn open_file(&mut self, name: &Text) -> Result<u32, OpenFault>
         requires { (ledger_of self.old).given < 2 ^ 32 - 1 }
         ensures told { IsTrue true → IfOk result
             (λ file. OpensFile name.now file (shown_of self.old) (shown_of self.new)) }
-        ensures told_err { IsTrue true → OnErr result (shown_of self.new ≡ shown_of self.old) }
-        ensures given { IfOk result
-            (λ file. GivesOpened file (ledger_of self.old) (ledger_of self.new)) }
-        ensures not_given { OnErr result
-            (KeepsLedgerReading (ledger_of self.old) (ledger_of self.new)) }
-        ensures cause { IsErrOf result OpenFault.Failed
-            → Rose (ledger_of self.old).read_faults (ledger_of self.new).read_faults }
-        ensures there { IsHealthy self.old → IsTrue true
-            → IsErrOf result OpenFault.Failed → (shown_of self.old).names name.now ≡ None }
         ensures stays_healthy { IsHealthy self.old → IsHealthy self.new }
-
-        // Beyond any world: when it fails, and what it does to the plain data.
         ensures opens { Opens self.old name.now result self.new }
     {
         self.open(name)
@@ -224,16 +216,6 @@ impl World for MemoryWorld {
     fn fill(&mut self, file: u32, piece: &mut [u8]) -> Filled
         requires { IsTrue ((ledger_of self.old).opened file) }
         ensures count { FillCount result (length piece.old) }
-        ensures told { IsTrue true → ReadsFile file (filled_bytes result piece.new)
-            (shown_of self.old) (shown_of self.new) }
-        ensures told_nothing { IsTrue true
-            → FilledNothing result → shown_of self.new ≡ shown_of self.old }
-        ensures end { IsTrue true → EndsAtEnd result ((shown_of self.old).left file) }
-        ensures reads_on { ReadsOn ledger_of IsHealthy self.old self.new }
-        ensures cause { result ≡ Filled.Failed
-            → ReadingFailed ledger_of IsHealthy self.old self.new }
-
-        // Beyond any world: when it fails, and what it does to the plain data.
         ensures fills { Fills self.old file result piece.new self.new }
     {
         self.take(file, piece)
@@ -241,19 +223,6 @@ impl World for MemoryWorld {
 
     fn create_file(&mut self, name: &Text) -> Result<u32, OpenFault>
         requires { (ledger_of self.old).given < 2 ^ 32 - 1 }
-        ensures told { IsTrue true → IfOk result
-            (λ file. CreatesFile name.now file (shown_of self.old) (shown_of self.new)) }
-        ensures told_err { IsTrue true
-            → OnErr result (CreatesNothing name.now (shown_of self.old) (shown_of self.new)) }
-        ensures given { IfOk result
-            (λ file. GivesCreated file (ledger_of self.old) (ledger_of self.new)) }
-        ensures not_given { OnErr result
-            (KeepsLedgerWriting (ledger_of self.old) (ledger_of self.new)) }
-        ensures cause { IsErrOf result OpenFault.Failed
-            → WritingFailed ledger_of IsHealthy self.old self.new }
-        ensures stays_healthy { IsHealthy self.old → IsHealthy self.new }
-
-        // Beyond any world: when it fails, and what it does to the plain data.
         ensures creates { Creates self.old name.now result self.new }
     {
         self.create(name)
@@ -264,12 +233,6 @@ impl World for MemoryWorld {
         ensures count { PutCount result (length piece.now) }
         ensures told { IsTrue true
             → WritesFile file (put_bytes result piece.now) (shown_of self.old) (shown_of self.new) }
-        ensures told_nothing { IsTrue true
-            → PutNothing result → shown_of self.new ≡ shown_of self.old }
-        ensures writes_on { WritesOn ledger_of IsHealthy self.old self.new }
-        ensures cause { result ≡ Put.Failed → WritingFailed ledger_of IsHealthy self.old self.new }
-
-        // Beyond any world: when it fails, and what it does to the plain data.
         ensures puts { Puts self.old file result piece.now self.new }
     {
         self.append(file, piece)

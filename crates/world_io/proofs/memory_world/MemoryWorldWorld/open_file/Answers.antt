@@ -1,9 +1,5 @@
-use Rattle.world_io.proofs.MemoryLemmas.{Opens-not_given, Opens-healthy}
+use Rattle.world_io.proofs.MemoryLemmas.{Opens-healthy}
 use Rattle.world_io.proofs.memory_world.MemoryWorldWorld.open_file.Goals as goal
-
-pub returns-clause-not_given : goal.returns-clause-not_given
-returns-clause-not_given c =
-    Opens-not_given c.args.self.now c.open.new.self c.args.name.now c.open.result c.open.ensures
 
 pub returns-clause-stays_healthy : goal.returns-clause-stays_healthy
 returns-clause-stays_healthy c =

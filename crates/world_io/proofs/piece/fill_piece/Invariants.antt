@@ -1,7 +1,7 @@
 use Rattle.std.proofs.Common.{length, ◌-◌, ◌≤◌, take}
 use Rattle.plain_text.specs.Octets.{AreBytes}
 use Rattle.world_io.specs.Stream.{GoesOn}
-use Rattle.pcapng_io.proofs.piece.fill_piece.Given as goal
+use Rattle.world_io.proofs.piece.fill_piece.Given as goal
 
 -- the first `done` bytes of the piece are those that were taken
 abbrev pub invariant-loop-done : goal.invariant-loop-done

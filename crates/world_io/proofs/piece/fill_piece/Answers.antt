@@ -1,8 +1,8 @@
 use Rattle.std.proofs.Common.{List, ℕ, sym, subst, arith}
 use Rattle.std.proofs.lemmas.Grind.{common_steps}
-use Rattle.pcap_io.proofs.Pieces.{take-put_mid_more, take-put_mid}
+use Rattle.world_io.proofs.Filling.{take-put_mid_more, take-put_mid}
 use Rattle.world_io.proofs.GoingOn.{GoesOn-trans}
-use Rattle.pcapng_io.proofs.piece.fill_piece.Goals as goal
+use Rattle.world_io.proofs.piece.fill_piece.Goals as goal
 
 pub loop-done-preserved : goal.loop-done-preserved
 loop-done-preserved g c =

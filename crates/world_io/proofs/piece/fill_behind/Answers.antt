@@ -1,8 +1,8 @@
 use Rattle.std.proofs.Common.{◌≡◌, ◌-◌, ◌++◌, length, take, drop, sym, ap, ◌∙◌, arith}
 use Rattle.std.proofs.lemmas.Grind.{common_steps}
 use Rattle.std.proofs.lemmas.List.{take_at}
-use Rattle.pcap_io.proofs.Pieces.{take-put_mid_more}
-use Rattle.pcapng_io.proofs.piece.fill_behind.Goals as goal
+use Rattle.world_io.proofs.Filling.{take-put_mid_more}
+use Rattle.world_io.proofs.piece.fill_behind.Goals as goal
 
 pub returns-in-Some-clause-taken : goal.returns-in-Some-clause-taken
 returns-in-Some-clause-taken g c =
