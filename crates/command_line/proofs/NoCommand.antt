@@ -3,9 +3,9 @@ use Rattle.std.proofs.Common.{◌≡◌, ℕ, List, ap, ◌∙◌, ◌⊎◌, in
 use Rattle.std.specs.Prelude.{IfOk}
 use Rattle.std.specs.declared.string.String.{String}
 use Rattle.std.specs.declared.vec.IntoIter.{IntoIter}
-use Rattle.job_top.specs.declared.status.Status.{Status}
-use Rattle.job_top.specs.declared.status.Status.TheVariants.{BadWords, NoMemory}
-use Rattle.job_top.specs.Words.{asked}
+use Rattle.job_commands.specs.declared.status.Status.{Status}
+use Rattle.job_commands.specs.declared.status.Status.TheVariants.{BadWords, NoMemory}
+use Rattle.job_commands.specs.Words.{asked}
 use Rattle.command_line.specs.Printing.{asked_text}
 use Rattle.command_line.specs.Words.{words_of}
 

@@ -1,9 +1,9 @@
 -- What was written to the report is a prefix of the text that is printed.
 use Rattle.std.proofs.Common.{◌≡◌, ℕ, List, [], ◌∷◌, ◌++◌, ap, sym, refl, ◌∙◌, subst, inl, inr, append-nil}
 use Rattle.world_io.specs.World.{Shown}
-use Rattle.output_files.specs.Writes.{report_file, Write, Creates, Appends, Reports, HasWritten, HasBegun, IsCut, reported, after_writes}
-use Rattle.job_top.specs.declared.status.Status.{Status}
-use Rattle.job_top.specs.declared.status.Status.TheVariants.{Done}
+use Rattle.output_files.specs.Writes.{report_file, Write, Creates, Appends, Reports, HasWritten, HasBegun, IsCut}
+use Rattle.job_commands.specs.declared.status.Status.{Status}
+use Rattle.job_commands.specs.declared.status.Status.TheVariants.{Done}
 use Rattle.command_line.specs.Printing.{Prints}
 
 pub prints_whole : (text : List ℕ) (status : Status) (old new : Shown) → HasWritten (Reports text ∷ []) old new → Prints text status old new

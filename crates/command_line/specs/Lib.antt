@@ -1,5 +1,4 @@
 pub mod Performing
 pub mod Printing
 pub mod Request
-pub mod Text
 pub mod Words

@@ -1,14 +1,14 @@
 -- What the program does with its words, in a world that tells its bytes and may be healthy.
 use Rattle.std.specs.Prelude.{◌≡◌, ℕ, List, IfSome}
 use Rattle.world_io.specs.World.{Shown}
-use Rattle.job_top.specs.declared.status.Status.{Status}
-use Rattle.job_top.specs.declared.status.Status.TheVariants.{Done, TooLarge}
+use Rattle.job_commands.specs.declared.status.Status.{Status}
+use Rattle.job_commands.specs.declared.status.Status.TheVariants.{Done, TooLarge}
 use Rattle.plain_text.specs.declared.limit.Limit.{Limit}
 use Rattle.job_top.specs.Commands.{Leaves, LeavesInOrder, StopsAtLimit, JudgesInputsOf, AcceptsInputsOf, CompletesAs, KeepsNames}
-use Rattle.script_run.specs.Run.{KeepsShown}
+use Rattle.run_writes.specs.Run.{KeepsShown}
 use Rattle.job_top.specs.Headline.{KeepsPromiseOf}
-use Rattle.job_top.specs.Status.{stage_of, stage_of_limit, AtInputs, AtOutputs}
-use Rattle.job_top.specs.Words.{asked}
+use Rattle.job_commands.specs.Status.{stage_of, stage_of_limit, AtInputs, AtOutputs}
+use Rattle.job_commands.specs.Words.{asked}
 use Rattle.command_line.specs.Printing.{asked_text, Prints}
 
 -- the help or the version was printed, or the command did all that the top call promises

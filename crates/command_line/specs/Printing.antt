@@ -1,8 +1,8 @@
 -- What the program prints without running a command.
 use Rattle.std.specs.Prelude.{◌≡◌, ℕ, List, ◌++◌, Option, Some, None}
 use Rattle.world_io.specs.World.{Shown}
-use Rattle.job_top.specs.declared.status.Status.{Status}
-use Rattle.job_top.specs.declared.status.Status.TheVariants.{Done}
+use Rattle.job_commands.specs.declared.status.Status.{Status}
+use Rattle.job_commands.specs.declared.status.Status.TheVariants.{Done}
 use Rattle.command_line.specs.Request.{request_of}
 use Rattle.command_line.specs.declared.request.Request.{Request}
 use Rattle.command_line.specs.declared.request.Request.TheVariants.{Help, Version, Command}

@@ -6,8 +6,8 @@ use Rattle.std.specs.declared.string.String.{String}
 use Rattle.std.specs.declared.vec.IntoIter.{IntoIter}
 use Rattle.std.specs.declared.io.ErrorKind.{ErrorKind}
 use Rattle.std.specs.declared.io.ErrorKind.TheVariants as kind
-use Rattle.job_top.specs.declared.status.Status.{Status}
-use Rattle.job_top.specs.declared.status.Status.TheVariants.{BadWords, NoMemory}
+use Rattle.job_commands.specs.declared.status.Status.{Status}
+use Rattle.job_commands.specs.declared.status.Status.TheVariants.{BadWords, NoMemory}
 
 -- the bytes of each argument after the program's name, in order
 abbrev pub words_of : {Y Z : Type 0} → IntoIter (String Y) Z → List (List ℕ)

@@ -1,13 +1,15 @@
 ghost use Rattle.std.specs.Prelude.{◌≡◌, ◌<◌, ◌≤◌, ◌+◌, ◌^◌, ◌⊎◌, None, IsTrue, IfErr, IfOk};
 ghost use Rattle.std.specs.IoError.{error_kind};
 ghost use Rattle.world_io.specs.Stream.{Rose};
-ghost use Rattle.job_top.specs.Words.{asked};
+ghost use Rattle.job_commands.specs.Words.{asked};
 ghost use Rattle.command_line.specs.Performing.{Performs};
 ghost use Rattle.command_line.specs.Printing.{Prints, asked_text};
 ghost use Rattle.command_line.specs.Words.{Refuses, words_of};
+ghost use Rattle.world_io.specs.World.{WritingFailed};
 
 use crate::{Request, help, read_request, read_words, version};
-use job_top::{Status, ftmb};
+use job_commands::Status;
+use job_top::ftmb;
 use output_files::{OutputError, report};
 use plain_text::Text;
 use std::alloc::Global;
@@ -24,8 +26,7 @@ fn print<W: World>(world: &mut W, text: &str) -> Status
         ⊎ ((result ≡ Status.WriteFault) ⊎ (result ≡ Status.NoMemory)) }
     ensures given { (W.ledger world.new).given ≡ (W.ledger world.old).given }
     ensures write_fault { result ≡ Status.WriteFault
-        → Rose (W.ledger world.old).write_faults (W.ledger world.new).write_faults }
-    ensures never_fails { W.healthy world.old → ¬ (result ≡ Status.WriteFault) }
+        → WritingFailed W.ledger W.healthy world.old world.new }
 {
     match report(world, text.as_bytes()) {
         Ok(()) => Status::Done,
@@ -49,8 +50,7 @@ pub fn perform<W: World>(alloc: Global, words: &[Text], world: &mut W) -> Status
     ensures read_fault { result ≡ Status.ReadFault
         → Rose (W.ledger world.old).read_faults (W.ledger world.new).read_faults }
     ensures write_fault { result ≡ Status.WriteFault
-        → Rose (W.ledger world.old).write_faults (W.ledger world.new).write_faults }
-    ensures never_fails { W.healthy world.old → ¬ (result ≡ Status.WriteFault) }
+        → WritingFailed W.ledger W.healthy world.old world.new }
 {
     match read_request(words) {
         Request::Help => print(world, help()),
@@ -79,8 +79,7 @@ pub fn answer<W: World>(alloc: Global, arguments: io::Result<Args>, world: &mut 
     ensures read_fault { result ≡ Status.ReadFault
         → Rose (W.ledger world.old).read_faults (W.ledger world.new).read_faults }
     ensures write_fault { result ≡ Status.WriteFault
-        → Rose (W.ledger world.old).write_faults (W.ledger world.new).write_faults }
-    ensures never_fails { W.healthy world.old → ¬ (result ≡ Status.WriteFault) }
+        → WritingFailed W.ledger W.healthy world.old world.new }
 {
     match read_words(alloc, arguments) {
         Ok(words) => perform(alloc, words.as_slice(), world),

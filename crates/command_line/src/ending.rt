@@ -1,8 +1,8 @@
 ghost use Rattle.std.specs.Prelude.{◌≡◌};
 ghost use Rattle.std.specs.Process.{exit_status};
-ghost use Rattle.job_top.specs.Status.{exit_code_of};
+ghost use Rattle.job_commands.specs.Status.{exit_code_of};
 
-use job_top::Status;
+use job_commands::Status;
 use std::process::ExitCode;
 
 /// The number that the program ends with: that of the status.

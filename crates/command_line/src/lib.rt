@@ -9,14 +9,13 @@ mod answering;
 mod ending;
 mod program;
 mod request;
-mod text;
 mod usage;
 mod words;
 
 pub use answering::{answer, perform};
 pub use ending::exit_of;
+pub use job_commands::StatusText;
 pub use program::run_program;
 pub use request::{Request, read_request};
-pub use text::StatusText;
 pub use usage::{help, version};
 pub use words::read_words;

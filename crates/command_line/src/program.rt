@@ -1,10 +1,10 @@
 ghost use Rattle.std.specs.Prelude.{◌≡◌, ◌⊎◌};
 ghost use Rattle.std.specs.Process.{exit_status};
-ghost use Rattle.job_top.specs.Status.{exit_code_of};
-ghost use Rattle.job_top.specs.declared.status.Status.{Status};
+ghost use Rattle.job_commands.specs.Status.{exit_code_of};
+ghost use Rattle.job_commands.specs.declared.status.Status.{Status};
 
-use crate::{StatusText, answer, exit_of};
-use job_top::Status;
+use crate::{answer, exit_of};
+use job_commands::{Status, StatusText};
 use std::env;
 use std::process::ExitCode;
 use std::rt::{Env, Files};

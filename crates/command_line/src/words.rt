@@ -5,7 +5,7 @@ ghost use Rattle.std.specs.String.{string_bytes};
 ghost use Rattle.std.specs.Vec.Iter.{into_iter_items};
 ghost use Rattle.command_line.specs.Words.{Refuses, words_of};
 
-use job_top::Status;
+use job_commands::Status;
 use plain_text::{NoMemory, Text};
 use std::alloc::Global;
 use std::env::Args;

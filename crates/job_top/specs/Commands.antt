@@ -3,20 +3,20 @@ use Rattle.std.specs.Prelude.{◌≡◌, ◌⊎◌, ℕ, List}
 use Rattle.world_io.specs.World.{Shown}
 use Rattle.plain_text.specs.declared.limit.Limit.{Limit}
 use Rattle.output_files.specs.Writes.{HasWritten, HasBegun}
-use Rattle.script_run.specs.Run.{KeepsOthers}
+use Rattle.run_writes.specs.Run.{KeepsOthers}
 use Rattle.plain_machine.specs.declared.plain_move.PlayFault.{PlayFault}
 use Rattle.schedule_check.specs.declared.checking.Refutation.{Refutation}
-use Rattle.job_top.specs.declared.schedule_inputs.ScheduleInputs.{ScheduleInputs}
-use Rattle.job_top.specs.declared.schedule_inputs.CheckInputs.{CheckInputs}
-use Rattle.job_top.specs.declared.status.Status.{Status}
-use Rattle.job_top.specs.declared.status.Status.TheVariants.{Refuted, BadInput}
-use Rattle.job_top.specs.declared.status.InputFault.TheVariants.{Moves}
-use Rattle.job_top.specs.Judging.{AreAccepted, Judges}
-use Rattle.job_top.specs.Making.{made_writes}
-use Rattle.job_top.specs.Run.{RunsWhole, RunsToLimit, RunsInOrder, outputs_of}
-use Rattle.job_top.specs.Schedules.{AcceptsScheduleInputs, AcceptsCheckInputs, JudgesPlay, JudgesCheck, PlaysWhole, PlaysInOrder, FindsAll, FindsInOrder}
-use Rattle.job_top.specs.Status.{AtOutputs, ComesAt, Completes}
-use Rattle.job_top.specs.Words.{Asked, Runs, Makes, Plays, Checks}
+use Rattle.job_commands.specs.declared.schedule_inputs.ScheduleInputs.{ScheduleInputs}
+use Rattle.job_commands.specs.declared.schedule_inputs.CheckInputs.{CheckInputs}
+use Rattle.job_commands.specs.declared.status.Status.{Status}
+use Rattle.job_commands.specs.declared.status.Status.TheVariants.{Refuted, BadInput}
+use Rattle.job_commands.specs.declared.status.InputFault.TheVariants.{Moves}
+use Rattle.job_commands.specs.Judging.{AreAccepted, Judges}
+use Rattle.job_commands.specs.Making.{made_writes}
+use Rattle.job_commands.specs.Run.{RunsWhole, RunsToLimit, RunsInOrder, outputs_of}
+use Rattle.job_commands.specs.Schedules.{AcceptsScheduleInputs, AcceptsCheckInputs, JudgesPlay, JudgesCheck, PlaysWhole, PlaysInOrder, FindsAll, FindsInOrder}
+use Rattle.job_commands.specs.Status.{AtOutputs, ComesAt, Completes}
+use Rattle.job_commands.specs.Words.{Asked, Runs, Makes, Plays, Checks}
 
 -- the outputs have all that the command gives
 abbrev pub Leaves : Asked → Shown → Shown → Type 0

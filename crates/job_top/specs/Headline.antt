@@ -9,9 +9,9 @@ use Rattle.world_io.specs.World.{Shown}
 use Rattle.recovery_world.specs.World.{World, opening, all_inputs}
 use Rattle.recovery_world.specs.Files.{Performs, packets_of}
 use Rattle.recovery_laws.specs.Ends.{Ends}
-use Rattle.job_top.specs.declared.inputs.Inputs.{Inputs}
-use Rattle.job_top.specs.Run.{AcceptsInputs, setting_for}
-use Rattle.job_top.specs.Words.{RunNames, Asked, Runs, Makes, Plays, Checks}
+use Rattle.job_commands.specs.declared.inputs.Inputs.{Inputs}
+use Rattle.job_commands.specs.Run.{AcceptsInputs, setting_for}
+use Rattle.job_commands.specs.Words.{RunNames, Asked, Runs, Makes, Plays, Checks}
 
 -- The written schedule, played by the plain machine on the captured packets, is a legal crash-free run. It performs every log entry that
 -- is held with all its predecessors, in its recorded place and with its recorded value; it sends out every packet that was released, and

@@ -1,10 +1,2 @@
-pub mod Words
-pub mod Making
-pub mod Status
-pub mod Judging
-pub mod Run
-pub mod Schedules
-pub mod Checked
 pub mod Commands
-pub mod Reading
 pub mod Headline

@@ -1,30 +1,7 @@
-//! The commands of FTMB.
+//! The top call: the commands of FTMB, over any world.
 #![tactic(auto)]
 
-mod checking;
-mod command;
-mod inputs;
-mod laws;
-mod make_words;
-mod making;
-mod playing;
-mod run_words;
-mod schedule_inputs;
-mod schedule_words;
-mod status;
 mod top;
 
-pub use checking::check_released;
-pub use command::{Command, read_command};
-pub use inputs::{Inputs, read_inputs};
-pub use laws::{
-    inputs_are_of_bytes, one_verdict, pcapng_captures_are_savefiles, what_run_leaves_is_accepted,
-};
-pub use make_words::{MakeWords, read_make_words};
-pub use making::make_capture;
-pub use playing::play_capture;
-pub use run_words::{RunWords, read_run_words};
-pub use schedule_inputs::{CheckInputs, ScheduleInputs, read_check_inputs, read_schedule_inputs};
-pub use schedule_words::{CheckWords, PlayWords, ScheduleFiles, read_check_words, read_play_words};
-pub use status::{InputFault, Status};
+pub use job_commands::{InputFault, Status};
 pub use top::ftmb;

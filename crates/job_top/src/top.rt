@@ -1,24 +1,24 @@
 ghost use Rattle.std.specs.Prelude.{◌≡◌, ◌+◌, ◌<◌, ◌≤◌, ◌-◌, ◌^◌, ◌↔◌, None, Err, IsTrue, IfSome, OnOk, IsErrOf};
 ghost use Rattle.plain_text.specs.declared.limit.Limit.{Limit as LimitKind};
 ghost use Rattle.world_io.specs.Stream.{Rose};
-ghost use Rattle.box_conf.specs.Kinds.{meaning_of};
-ghost use Rattle.output_files.specs.Written.{AfterWriting};
-ghost use Rattle.script_run.specs.Run.{CanRun, HasBegunRun, HasRun, HasStopped, KeepsShown};
+ghost use Rattle.output_files.specs.Written.{WritesFiles};
+ghost use Rattle.run_writes.specs.Run.{CanRun, HasBegunRun, HasRun, HasStopped, KeepsShown};
 ghost use Rattle.job_top.specs.Commands.{AcceptsInputsOf, CompletesAs, Leaves, LeavesInOrder, JudgesInputsOf, KeepsNames, StopsAtLimit};
 ghost use Rattle.job_top.specs.Headline.{KeepsPromise, KeepsPromiseOf};
-ghost use Rattle.job_top.specs.Judging.{Judges};
-ghost use Rattle.job_top.specs.Run.{RunsInOrder, RunsToLimit, RunsWhole, outputs_of, script_of, setting_for};
-ghost use Rattle.job_top.specs.Status.{AtInputs, AtOutputs, stage_of, stage_of_limit};
-ghost use Rattle.job_top.specs.Words.{asked, names_of};
+ghost use Rattle.job_commands.specs.Judging.{Judges};
+ghost use Rattle.job_commands.specs.Run.{RunsInOrder, RunsToLimit, RunsWhole, outputs_of, script_of, setting_for};
+ghost use Rattle.job_commands.specs.Status.{AtInputs, AtOutputs, stage_of, stage_of_limit};
+ghost use Rattle.job_commands.specs.Words.{asked, names_of};
+ghost use Rattle.world_io.specs.World.{WritingFailed};
 
-use crate::status::{outcome, run_outcome};
-use crate::{
-    Command, Inputs, RunWords, Status, check_released, make_capture, play_capture, read_command,
-    read_inputs,
-};
 use box_conf::BoxKind;
+use job_commands::{
+    Command, Inputs, RunWords, Status, check_released, make_capture, outcome, play_capture,
+    read_command, read_inputs, run_outcome,
+};
 use plain_text::Text;
-use script_run::{RunError, RunFiles, ScriptRun, run_script};
+use run_writes::{RunError, RunFiles, ScriptRun};
+use script_run::run_script;
 use std::alloc::Global;
 use world_io::World;
 
@@ -39,10 +39,9 @@ fn run_box<W: World>(
         (W.shown world.old) (W.shown world.new) }
     ensures in_order { IsTrue W.tells → HasBegunRun (setting_for inputs)
         (outputs_of (names_of names.entry)) inputs.events (W.shown world.old) (W.shown world.new) }
-    ensures ledger { AfterWriting 2 (W.ledger world.old) (W.ledger world.new) }
+    ensures writes_files { WritesFiles W.ledger W.healthy 2 world.old world.new }
     ensures cause { IsErrOf result RunError.WriteFault
-        → Rose (W.ledger world.old).write_faults (W.ledger world.new).write_faults }
-    ensures never_fails { W.healthy world.old → ¬ IsErrOf result RunError.WriteFault }
+        → WritingFailed W.ledger W.healthy world.old world.new }
 {
     let files = RunFiles {
         released: names.released,
@@ -85,8 +84,7 @@ fn run<W: World>(alloc: Global, world: &mut W, names: RunWords<'_>) -> Status
     ensures read_fault { result ≡ Status.ReadFault
         → Rose (W.ledger world.old).read_faults (W.ledger world.new).read_faults }
     ensures write_fault { result ≡ Status.WriteFault
-        → Rose (W.ledger world.old).write_faults (W.ledger world.new).write_faults }
-    ensures never_fails { W.healthy world.old → ¬ (result ≡ Status.WriteFault) }
+        → WritingFailed W.ledger W.healthy world.old world.new }
 {
     match read_inputs(alloc, world, names) {
         Ok(inputs) => run_outcome(run_box(alloc, world, names, inputs)),

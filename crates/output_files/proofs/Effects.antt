@@ -302,7 +302,7 @@ pub reports_to : {A : Type 0} (r : Result A OutputError) (bytes : List ℕ) (a b
 reports_to (Ok done) bytes a b w = reports bytes a b w
 reports_to (Err error) bytes a b w = reports_part w.0 bytes a b w.1
 
-pub keeps_all : {A : Type 0} (r : Result A OutputError) (file : ℕ) (bytes : List ℕ) (a b : Shown) → AppendsTo r file bytes a b → KeepsOutputs a b
+pub keeps_all : {A E : Type 0} (r : Result A E) (file : ℕ) (bytes : List ℕ) (a b : Shown) → AppendsTo r file bytes a b → KeepsOutputs a b
 keeps_all (Ok done) file bytes a b w = keeps_outputs file bytes a b w
 keeps_all (Err error) file bytes a b w = keeps_outputs file (take w.0 bytes) a b w.1
 

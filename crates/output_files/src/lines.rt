@@ -1,8 +1,7 @@
 ghost use Rattle.std.specs.Prelude.{◌≡◌, ◌∷◌, ◌++◌, [], ℕ, List, IsTrue, OnOk, IsErrOf};
-ghost use Rattle.world_io.specs.Stream.{Rose};
-ghost use Rattle.world_io.specs.World.{Shown, KeepsLedgerWriting, is_writable};
-ghost use Rattle.output_files.specs.Writes.{Write, Appends, HasGathered, IsOutput, KeepsOutputs};
-ghost use Rattle.output_files.specs.Written.{Writes, WritesGathered};
+ghost use Rattle.world_io.specs.World.{Shown, is_writable, WritingFailed};
+ghost use Rattle.output_files.specs.Writes.{Write, Appends, HasGathered, IsOutput};
+ghost use Rattle.output_files.specs.Written.{Writes, WritesGathered, OnlyWrites};
 
 use crate::writing::put_all;
 use crate::{OutputError, REPORT, append};
@@ -15,12 +14,9 @@ pub fn write_lines<W: World>(world: &mut W, lines: &mut Bytes) -> Result<(), Out
         → HasGathered writes lines.old before (W.shown world.old)
         → Writes result writes before (W.shown world.new) }
     ensures none { OnOk result (lines.new ≡ []) }
-    ensures outputs { IsTrue W.tells → KeepsOutputs (W.shown world.old) (W.shown world.new) }
-    ensures ledger { KeepsLedgerWriting (W.ledger world.old) (W.ledger world.new) }
+    ensures only_writes { OnlyWrites W.tells W.shown W.ledger W.healthy world.old world.new }
     ensures cause { IsErrOf result OutputError.WriteFault
-        → Rose (W.ledger world.old).write_faults (W.ledger world.new).write_faults }
-    ensures never_fails { W.healthy world.old → ¬ IsErrOf result OutputError.WriteFault }
-    ensures stays_healthy { W.healthy world.old → W.healthy world.new }
+        → WritingFailed W.ledger W.healthy world.old world.new }
 {
     put_all(world, REPORT, lines.as_slice())?;
     lines.truncate(0);
@@ -40,12 +36,9 @@ pub fn write_records<W: World>(
         → HasGathered writes lines.old before (W.shown world.old)
         → WritesGathered result (writes ++ Appends name records.now ∷ []) lines.new before
         (W.shown world.new) }
-    ensures outputs { IsTrue W.tells → KeepsOutputs (W.shown world.old) (W.shown world.new) }
-    ensures ledger { KeepsLedgerWriting (W.ledger world.old) (W.ledger world.new) }
+    ensures only_writes { OnlyWrites W.tells W.shown W.ledger W.healthy world.old world.new }
     ensures cause { IsErrOf result OutputError.WriteFault
-        → Rose (W.ledger world.old).write_faults (W.ledger world.new).write_faults }
-    ensures never_fails { W.healthy world.old → ¬ IsErrOf result OutputError.WriteFault }
-    ensures stays_healthy { W.healthy world.old → W.healthy world.new }
+        → WritingFailed W.ledger W.healthy world.old world.new }
 {
     if records.is_empty() {
         return Ok(());

@@ -1,6 +1,6 @@
-ghost use Rattle.std.specs.Prelude.{◌≡◌, ◌<◌, ◌-◌, ◌^◌, IsTrue, IsErrOf};
-ghost use Rattle.world_io.specs.Stream.{Rose};
-ghost use Rattle.output_files.specs.Written.{AfterWriting, Writes, single_writes};
+ghost use Rattle.std.specs.Prelude.{◌<◌, ◌-◌, ◌^◌, IsTrue, IsErrOf};
+ghost use Rattle.output_files.specs.Written.{Writes, single_writes, WritesFiles};
+ghost use Rattle.world_io.specs.World.{WritingFailed};
 
 use crate::{OutputError, append, create, report};
 use plain_text::Text;
@@ -18,11 +18,9 @@ pub fn write_output<W: World>(
     ensures told { IsTrue W.tells → Writes result
         (single_writes name.now header.now body.now text.now)
         (W.shown world.old) (W.shown world.new) }
-    ensures ledger { AfterWriting 1 (W.ledger world.old) (W.ledger world.new) }
+    ensures writes_files { WritesFiles W.ledger W.healthy 1 world.old world.new }
     ensures cause { IsErrOf result OutputError.WriteFault
-        → Rose (W.ledger world.old).write_faults (W.ledger world.new).write_faults }
-    ensures never_fails { W.healthy world.old → ¬ IsErrOf result OutputError.WriteFault }
-    ensures stays_healthy { W.healthy world.old → W.healthy world.new }
+        → WritingFailed W.ledger W.healthy world.old world.new }
 {
     let file = create(world, name)?;
     append(world, file, header)?;

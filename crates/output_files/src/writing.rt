@@ -1,8 +1,7 @@
 ghost use Rattle.std.specs.Prelude.{◌≡◌, ◌<◌, ◌-◌, ◌^◌, ◌∷◌, [], ℕ, List, IsTrue, IfOk, OnErr, IsErrOf};
-ghost use Rattle.world_io.specs.Stream.{Rose};
-ghost use Rattle.world_io.specs.World.{GivesCreated, KeepsLedgerWriting, is_writable};
-ghost use Rattle.output_files.specs.Writes.{Creates, Appends, Reports, IsOutput, KeepsOutputs};
-ghost use Rattle.output_files.specs.Written.{AppendsTo, Writes};
+ghost use Rattle.world_io.specs.World.{GivesCreated, KeepsLedgerWriting, is_writable, WritingFailed, WritesOn};
+ghost use Rattle.output_files.specs.Writes.{Creates, Appends, Reports, IsOutput};
+ghost use Rattle.output_files.specs.Written.{AppendsTo, Writes, OnlyWrites};
 
 use crate::OutputError;
 use plain_text::Text;
@@ -27,8 +26,7 @@ pub fn create<W: World>(world: &mut W, name: &Text) -> Result<u32, OutputError>
     ensures not_given { OnErr result
         (KeepsLedgerWriting (W.ledger world.old) (W.ledger world.new)) }
     ensures cause { IsErrOf result OutputError.WriteFault
-        → Rose (W.ledger world.old).write_faults (W.ledger world.new).write_faults }
-    ensures never_fails { W.healthy world.old → ¬ IsErrOf result OutputError.WriteFault }
+        → WritingFailed W.ledger W.healthy world.old world.new }
     ensures stays_healthy { W.healthy world.old → W.healthy world.new }
 {
     let file = world.create_file(name)?;
@@ -40,11 +38,9 @@ pub fn put_all<W: World>(world: &mut W, file: u32, bytes: &[u8]) -> Result<(), O
     requires { IsTrue (is_writable (W.ledger world.old) file) }
     ensures told { IsTrue W.tells
         → AppendsTo result file bytes.now (W.shown world.old) (W.shown world.new) }
-    ensures ledger { KeepsLedgerWriting (W.ledger world.old) (W.ledger world.new) }
+    ensures writes_on { WritesOn W.ledger W.healthy world.old world.new }
     ensures cause { IsErrOf result OutputError.WriteFault
-        → Rose (W.ledger world.old).write_faults (W.ledger world.new).write_faults }
-    ensures never_fails { W.healthy world.old → ¬ IsErrOf result OutputError.WriteFault }
-    ensures stays_healthy { W.healthy world.old → W.healthy world.new }
+        → WritingFailed W.ledger W.healthy world.old world.new }
 {
     let mut sink = WorldSink::of(world, file);
     match write_all(&mut sink, bytes) {
@@ -59,12 +55,9 @@ pub fn append<W: World>(world: &mut W, file: u32, bytes: &[u8]) -> Result<(), Ou
     requires { IsTrue (is_writable (W.ledger world.old) file) }
     ensures told { IsTrue W.tells → (name : List ℕ) → IsOutput file name (W.shown world.old)
         → Writes result (Appends name bytes.now ∷ []) (W.shown world.old) (W.shown world.new) }
-    ensures outputs { IsTrue W.tells → KeepsOutputs (W.shown world.old) (W.shown world.new) }
-    ensures ledger { KeepsLedgerWriting (W.ledger world.old) (W.ledger world.new) }
+    ensures only_writes { OnlyWrites W.tells W.shown W.ledger W.healthy world.old world.new }
     ensures cause { IsErrOf result OutputError.WriteFault
-        → Rose (W.ledger world.old).write_faults (W.ledger world.new).write_faults }
-    ensures never_fails { W.healthy world.old → ¬ IsErrOf result OutputError.WriteFault }
-    ensures stays_healthy { W.healthy world.old → W.healthy world.new }
+        → WritingFailed W.ledger W.healthy world.old world.new }
 {
     put_all(world, file, bytes)
 }
@@ -73,12 +66,9 @@ pub fn append<W: World>(world: &mut W, file: u32, bytes: &[u8]) -> Result<(), Ou
 pub fn report<W: World>(world: &mut W, bytes: &[u8]) -> Result<(), OutputError>
     ensures told { IsTrue W.tells
         → Writes result (Reports bytes.now ∷ []) (W.shown world.old) (W.shown world.new) }
-    ensures outputs { IsTrue W.tells → KeepsOutputs (W.shown world.old) (W.shown world.new) }
-    ensures ledger { KeepsLedgerWriting (W.ledger world.old) (W.ledger world.new) }
+    ensures only_writes { OnlyWrites W.tells W.shown W.ledger W.healthy world.old world.new }
     ensures cause { IsErrOf result OutputError.WriteFault
-        → Rose (W.ledger world.old).write_faults (W.ledger world.new).write_faults }
-    ensures never_fails { W.healthy world.old → ¬ IsErrOf result OutputError.WriteFault }
-    ensures stays_healthy { W.healthy world.old → W.healthy world.new }
+        → WritingFailed W.ledger W.healthy world.old world.new }
 {
     put_all(world, REPORT, bytes)
 }

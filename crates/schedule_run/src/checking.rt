@@ -1,9 +1,8 @@
 ghost use Rattle.std.specs.Prelude.{◌≡◌, ◌⊎◌, Err, IfOk, IsTrue, OnOk, IsErrOf, length};
 ghost use Rattle.schedule_check.specs.declared.checking.Refutation as refuted;
-ghost use Rattle.world_io.specs.Stream.{Rose};
-ghost use Rattle.world_io.specs.World.{KeepsLedgerWriting};
+ghost use Rattle.world_io.specs.World.{WritingFailed};
 ghost use Rattle.output_files.specs.Writes.{HasBegun, HasWritten};
-ghost use Rattle.output_files.specs.Written.{Writes};
+ghost use Rattle.output_files.specs.Written.{Writes, OnlyWrites};
 ghost use Rattle.schedule_run.specs.Checking.{IsFound, SaysCheck, found_writes};
 ghost use Rattle.schedule_run.specs.Runs.{CanPlay, outcome_of};
 
@@ -50,10 +49,9 @@ fn find_released<P: Program>(
 fn report_found<W: World>(alloc: Global, world: &mut W, count: u64) -> Result<(), OutputError>
     ensures told { IsTrue W.tells → Writes result (found_writes count)
         (W.shown world.old) (W.shown world.new) }
-    ensures ledger { KeepsLedgerWriting (W.ledger world.old) (W.ledger world.new) }
+    ensures only_writes { OnlyWrites W.tells W.shown W.ledger W.healthy world.old world.new }
     ensures cause { IsErrOf result OutputError.WriteFault
-        → Rose (W.ledger world.old).write_faults (W.ledger world.new).write_faults }
-    ensures never_fails { W.healthy world.old → ¬ IsErrOf result OutputError.WriteFault }
+        → WritingFailed W.ledger W.healthy world.old world.new }
 {
     let text = put_count(alloc, b"found ", count)?;
     report(world, text.as_slice())
@@ -82,10 +80,9 @@ pub fn check_schedule<P: Program, W: World>(
         × HasBegun (found_writes (length released.now)) (W.shown world.old) (W.shown world.new)) }
     ensures refused { (refutation : refuted.Refutation)
         → result ≡ Err (ScheduleError.Refused refutation) → world.new ≡ world.old }
-    ensures ledger { KeepsLedgerWriting (W.ledger world.old) (W.ledger world.new) }
+    ensures only_writes { OnlyWrites W.tells W.shown W.ledger W.healthy world.old world.new }
     ensures cause { IsErrOf result ScheduleError.WriteFault
-        → Rose (W.ledger world.old).write_faults (W.ledger world.new).write_faults }
-    ensures never_fails { W.healthy world.old → ¬ IsErrOf result ScheduleError.WriteFault }
+        → WritingFailed W.ledger W.healthy world.old world.new }
 {
     let count = match find_released(alloc, run, released, released_unit, program) {
         Ok(count) => count,

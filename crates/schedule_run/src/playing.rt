@@ -1,10 +1,10 @@
 ghost use Rattle.std.specs.Prelude.{◌≡◌, ◌⊎◌, ◌<◌, ◌-◌, ◌^◌, All, Err, IfOk, IsTrue, OnOk, IsErrOf};
 ghost use Rattle.plain_machine.specs.declared.plain_move.PlayFault as move_fault;
-ghost use Rattle.world_io.specs.Stream.{Rose};
-ghost use Rattle.output_files.specs.Written.{AfterWriting, Writes};
+ghost use Rattle.output_files.specs.Written.{Writes, WritesFiles};
 ghost use Rattle.schedule_check.specs.Checking.{IsEmitted};
 ghost use Rattle.schedule_run.specs.Playing.{HasBegunPlay, HasPlayed, SaysPlay, packet_writes};
 ghost use Rattle.schedule_run.specs.Runs.{CanPlay, IsShort, outcome_of};
+ghost use Rattle.world_io.specs.World.{WritingFailed};
 
 use crate::{ScheduleError, ScheduleRun, put_count, put_records};
 use box_program::Program;
@@ -43,10 +43,9 @@ fn write_packets<W: World>(
     requires room { (W.ledger world.old).given < 2 ^ 32 - 1 }
     ensures told { IsTrue W.tells → Writes result (packet_writes out.now unit packets.now)
         (W.shown world.old) (W.shown world.new) }
-    ensures ledger { AfterWriting 1 (W.ledger world.old) (W.ledger world.new) }
+    ensures writes_files { WritesFiles W.ledger W.healthy 1 world.old world.new }
     ensures cause { IsErrOf result OutputError.WriteFault
-        → Rose (W.ledger world.old).write_faults (W.ledger world.new).write_faults }
-    ensures never_fails { W.healthy world.old → ¬ IsErrOf result OutputError.WriteFault }
+        → WritingFailed W.ledger W.healthy world.old world.new }
 {
     let records = put_records(alloc, packets)?;
     let report = put_count(alloc, b"emitted ", packets.len() as u64)?;
@@ -76,10 +75,9 @@ pub fn play_schedule<P: Program, W: World>(
         out.now run.unit (W.shown world.old) (W.shown world.new) }
     ensures refused { (fault : move_fault.PlayFault) → result ≡ Err (ScheduleError.Refused fault)
         → world.new ≡ world.old }
-    ensures ledger { AfterWriting 1 (W.ledger world.old) (W.ledger world.new) }
+    ensures writes_files { WritesFiles W.ledger W.healthy 1 world.old world.new }
     ensures cause { IsErrOf result ScheduleError.WriteFault
-        → Rose (W.ledger world.old).write_faults (W.ledger world.new).write_faults }
-    ensures never_fails { W.healthy world.old → ¬ IsErrOf result ScheduleError.WriteFault }
+        → WritingFailed W.ledger W.healthy world.old world.new }
 {
     let unit = run.unit;
     let packets = match play_whole(alloc, run, program) {

@@ -1,6 +1,7 @@
 -- A run goes on event by event.
 use Rattle.std.proofs.Common.{◌≡◌, ℕ, ◌+◌, ◌<◌, ◌≤◌, List, [], ◌∷◌, ◌++◌, take, drop, length, refl, sym, ap, ◌∙◌, append-nil, append_assoc, subst, inl, inr, Result, Ok, Err, zero, suc, arith, add-one, get_or}
 use Rattle.std.specs.Prelude.{⊤, All, IsErrOf, OnOk}
+use Rattle.std.specs.Result.{IsOk}
 use Rattle.std.proofs.lemmas.List.Elements.{All-append}
 use Rattle.plain_text.specs.declared.limit.Limit.{Limit}
 use Rattle.access_log.specs.declared.entry.Output.{Output}
@@ -10,23 +11,23 @@ use Rattle.recovery_world.specs.declared.event.Event.{Event}
 use Rattle.recovery_world.specs.World.{Setting, Sent, World}
 use Rattle.recovery_world.specs.Many.{OnAny, Stops}
 use Rattle.recovery_world.specs.Files.{reply_line, sent_names}
-use Rattle.recovery_core.specs.declared.reply.Reply.{Reply as SystemReply}
-use Rattle.recovery_core.specs.declared.reply.Stop.{Stop}
-use Rattle.recovery_core.specs.declared.reply.Stop.TheVariants as stop
-use Rattle.recovery_core.specs.Parts.{Systemed}
+use Rattle.event_replies.specs.declared.reply.Reply.{Reply as SystemReply}
+use Rattle.event_replies.specs.declared.reply.Stop.{Stop}
+use Rattle.event_replies.specs.declared.reply.Stop.TheVariants as stop
+use Rattle.recovery_core.specs.Systems.{Systemed}
 use Rattle.output_files.specs.declared.error.OutputError.{OutputError}
 use Rattle.output_files.specs.declared.error.OutputError.TheVariants as output
 use Rattle.output_files.specs.Writes.{Write, HasBegun}
 use Rattle.output_files.specs.Written.{Writes, WritesGathered}
-use Rattle.output_files.proofs.Effects.{gathered_begun}
-use Rattle.script_run.specs.declared.error.RunError.{RunError}
-use Rattle.script_run.specs.declared.error.RunError.TheVariants as run
-use Rattle.script_run.specs.Errors.{run_result_of, stopped_result}
-use Rattle.script_run.specs.Replies.{Reply, Answers, Goes, newly_released, released_in}
-use Rattle.script_run.specs.Run.{OutputNames, FitsRecord, opening_writes, release_writes, reply_writes, replies_writes, writes_of, WritesUntil}
+use Rattle.run_writes.specs.declared.error.RunError.{RunError}
+use Rattle.run_writes.specs.declared.error.RunError.TheVariants as run
+use Rattle.run_writes.specs.Errors.{run_result_of, stopped_result}
+use Rattle.run_writes.specs.Replies.{Reply, Answers, Goes, newly_released, released_in}
+use Rattle.run_writes.specs.Run.{OutputNames, FitsRecord, opening_writes, release_writes, reply_writes, replies_writes, writes_of, WritesUntil}
 use Rattle.plain_text.specs.declared.packet.Packet.{Packet}
-use Rattle.script_run.specs.Running.{HasBegunSome, packets_in, IsAt, ComesTo, IsSomewhere, HasCome, GoesOn}
-use Rattle.script_run.proofs.ScriptAnswers.{released_more}
+use Rattle.run_writes.specs.Replies.{packets_in}
+use Rattle.script_run.specs.Running.{HasBegunSome, IsAt, ComesTo, IsSomewhere, HasCome, GoesOn, WritesPerformed}
+use Rattle.run_writes.proofs.ScriptAnswers.{released_more}
 
 -- an error of a run is a write fault only where that of its outputs is
 pub fault_written : (r : Result ⊤ OutputError) → IsErrOf (run_result_of r) run.WriteFault → IsErrOf r output.WriteFault
@@ -48,9 +49,9 @@ module _ {P V : Type 0} (m : Meaning V) (s : Setting V) (names : OutputNames) (e
   with_reply r = ap (λ l. opening_writes names s.fractions ++ l) (replies_more names.released come.replies r) ∙ sym (append_assoc (opening_writes names s.fractions) (replies_writes names.released come.replies) (reply_writes names.released r))
 
   -- an event was performed, and what it leaves was written
-  pub reply_goes : (ev : Event) (reply : SystemReply) (outputs : List Output) (w : Result ⊤ OutputError) (new : Systemed P V) (more : List ℕ) (c : Shown) → ComesTo m ev (Ok reply) outputs y new
-      → ((freed : List Sent) → reply.released ≡ sent_names freed
-      → WritesGathered w (writes_of names s.fractions come.replies ++ reply_writes names.released (record { released = packets_in outputs; line = reply_line ev reply.outcome freed })) more a c)
+  reply_goes : (ev : Event) (reply : SystemReply) (outputs : List Output) (w : Result ⊤ OutputError) (new : Systemed P V) (more : List ℕ) (c : Shown)
+      → (comes : ComesTo m ev (Ok reply) outputs y new)
+      → WritesGathered w (writes_of names s.fractions come.replies ++ reply_writes names.released (record { released = packets_in outputs; line = reply_line ev reply.outcome (comes s come.world come.at).1 })) more a c
       → OnOk w (All FitsRecord (packets_in outputs))
       → GoesOn (run_result_of w) m s names (events ++ ev ∷ []) new more a c
   reply_goes ev reply outputs w new more c comes written fit = go w here fit
@@ -68,7 +69,7 @@ module _ {P V : Type 0} (m : Meaning V) (s : Setting V) (names : OutputNames) (e
       same = ap (λ (l : List Packet). writes_of names s.fractions come.replies ++ reply_writes names.released (record { released = l; line = reply_line ev reply.outcome came.1 })) came.4 ∙ sym (with_reply r)
 
       here : WritesGathered w (writes_of names s.fractions (come.replies ++ r ∷ [])) more a c
-      here = subst (λ (ws : List Write). WritesGathered w ws more a c) same (written came.1 came.3)
+      here = subst (λ (ws : List Write). WritesGathered w ws more a c) same written
 
       all_fit : All FitsRecord (packets_in outputs) → All FitsRecord (released_in (come.replies ++ r ∷ []))
       all_fit each =
@@ -88,7 +89,7 @@ module _ {P V : Type 0} (m : Meaning V) (s : Setting V) (names : OutputNames) (e
       go (Err output.NoMemory) h each = begun h
 
   -- an event stopped at a limit, and what it released before was written
-  pub stopped_goes : (ev : Event) (limit : Limit) (outputs : List Output) (w : Result ⊤ OutputError) (new : Systemed P V) (more : List ℕ) (c : Shown) → ComesTo m ev (Err (stop.Limit limit)) outputs y new
+  stopped_goes : (ev : Event) (limit : Limit) (outputs : List Output) (w : Result ⊤ OutputError) (new : Systemed P V) (more : List ℕ) (c : Shown) → ComesTo m ev (Err (stop.Limit limit)) outputs y new
       → Writes w (writes_of names s.fractions come.replies ++ release_writes names.released (packets_in outputs)) a c
       → GoesOn (stopped_result w limit) m s names (events ++ ev ∷ []) new more a c
   stopped_goes ev limit outputs w new more c comes written = go w here
@@ -108,12 +109,29 @@ module _ {P V : Type 0} (m : Meaning V) (s : Setting V) (names : OutputNames) (e
       go (Err output.NoMemory) h = (_, inr (limit, until), h)
 
   -- nothing more was written
-  pub nothing_more : (rest : List Event) → HasBegunSome s names (events ++ rest) a b
-  nothing_more rest = (
-    writes_of names s.fractions come.replies ++ [],
-    inl (record { before = events; after = rest; events_are = refl; replies = come.replies; world = come.world; answers = come.answers; writes_are = append-nil (writes_of names s.fractions come.replies) }),
-    gathered_begun (writes_of names s.fractions come.replies) [] lines a b come.gathered,
+  nothing_more : (rest : List Event) (c : Shown) → HasBegun (writes_of names s.fractions come.replies) a c → HasBegunSome s names (events ++ rest) a c
+  nothing_more rest c begun = (
+    writes_of names s.fractions come.replies,
+    inl (record { before = events; after = rest; events_are = refl; replies = come.replies; world = come.world; answers = come.answers; writes_are = refl }),
+    begun,
   )
+
+  -- an event was performed, or stopped, and what it left was written
+  pub performed_goes : (ev : Event) (reply : Result SystemReply Stop) (outputs : List Output) (r : Result ⊤ RunError) (new : Systemed P V) (more : List ℕ) (c : Shown)
+      → ComesTo m ev reply outputs y new
+      → WritesPerformed r reply ev (packets_in outputs) (writes_of names s.fractions come.replies) names.released more a c
+      → GoesOn r m s names (events ++ ev ∷ []) new more a c
+  performed_goes ev (Ok reply) outputs r new more c comes written =
+      let came = comes s come.world come.at in
+      let files = written came.1 came.3 in
+      subst (λ (x : Result ⊤ RunError). GoesOn x m s names (events ++ ev ∷ []) new more a c) (sym files.1)
+      (reply_goes ev reply outputs files.0 new more c comes files.3 files.2)
+  performed_goes ev (Err (stop.Limit limit)) outputs r new more c comes written =
+      subst (λ (x : Result ⊤ RunError). GoesOn x m s names (events ++ ev ∷ []) new more a c) (sym written.1)
+      (stopped_goes ev limit outputs written.0 new more c comes written.2)
+  performed_goes ev (Err stop.NoMemory) outputs r new more c comes written =
+      subst (λ (x : Result ⊤ RunError). GoesOn x m s names (events ++ ev ∷ []) new more a c) (sym written.0)
+      (nothing_more (ev ∷ []) c written.1)
 
 until_longer : {V : Type 0} (s : Setting V) (names : OutputNames) (events rest : List Event) (limit : Limit) (writes : List Write) → WritesUntil s names events limit writes → WritesUntil s names (events ++ rest) limit writes
 until_longer s names events rest limit writes until =
@@ -153,21 +171,26 @@ some_longer s names events rest a b (writes, (inr (limit, until)), begun) = (
 
 -- what the first events came to that did not come to their end is what all come to
 pub goes_longer : {P V : Type 0} (e : RunError) (m n : Meaning V) (s : Setting V) (names : OutputNames) (events rest all : List Event) (y z : Systemed P V) (lines more : List ℕ) (a b : Shown) → all ≡ events ++ rest
-    → GoesOn (Err e) m s names events y lines a b → GoesOn (Err e) n s names all z more a b
-goes_longer {P} {V} e m n s names events rest all y z lines more a b same goes = subst (λ (l : List Event). GoesOn (Err e) n s names l z more a b) (sym same) (longer e goes)
+    → GoesOn {A = ⊤} (Err e) m s names events y lines a b → GoesOn {A = ⊤} (Err e) n s names all z more a b
+goes_longer {P} {V} e m n s names events rest all y z lines more a b same goes = subst (λ (l : List Event). GoesOn {A = ⊤} (Err e) n s names l z more a b) (sym same) (longer e goes)
   where
-    longer : (e : RunError) → GoesOn (Err e) m s names events y lines a b → GoesOn (Err e) n s names (events ++ rest) z more a b
+    longer : (e : RunError) → GoesOn {A = ⊤} (Err e) m s names events y lines a b → GoesOn {A = ⊤} (Err e) n s names (events ++ rest) z more a b
     longer (run.Limit limit) h = record { writes = h.writes; until = until_longer s names events rest limit h.writes h.until; written = h.written }
     longer run.WriteFault h = some_longer s names events rest a b h
     longer run.NoMemory h = some_longer s names events rest a b h
 
--- the system is somewhere again
-pub somewhere_again : {P V : Type 0} (m : Meaning V) (ev : Event) (reply : SystemReply) (outputs : List Output) (y new : Systemed P V) → ComesTo m ev (Ok reply) outputs y new → IsSomewhere m y → IsSomewhere m new
-somewhere_again m ev reply outputs y new comes here = let came = comes here.0 here.1 here.2 in (here.0, came.0, came.5, here.3)
+-- the system is somewhere again, where the event ended
+pub somewhere_again : {A E P V : Type 0} (r : Result A E) (m : Meaning V) (ev : Event) (reply : Result SystemReply Stop) (outputs : List Output) (y new : Systemed P V)
+    → OnOk r (IsOk reply) → ComesTo m ev reply outputs y new → IsSomewhere m y → OnOk r (IsSomewhere m new)
+somewhere_again (Ok x) m ev (Ok reply) outputs y new ended comes here = let came = comes here.0 here.1 here.2 in (here.0, came.0, came.5, here.3)
+somewhere_again (Ok x) m ev (Err e) outputs y new ended comes here = absurd (cc)
+somewhere_again (Err e) m ev reply outputs y new ended comes here = tt
 
-pub on_ok : {A E P : Type 0} (r : Result A E) → P → OnOk r P
-on_ok (Ok x) p = p
-on_ok (Err e) p = tt
+-- what is true where the event ended
+pub on_ended : {A B E F : Type 0} (P : Type 0) (r : Result A E) (reply : Result B F) → OnOk r (IsOk reply) → OnOk reply P → OnOk r P
+on_ended P (Ok x) (Ok y) ended p = p
+on_ended P (Ok x) (Err e) ended p = absurd (cc)
+on_ended P (Err e) reply ended p = tt
 
 -- the first events, with one more, and those behind it
 pub split_here : (events : List Event) (i : ℕ) (x : Event) → i < length events → x ≡ get_or events i x → events ≡ (take i events ++ x ∷ []) ++ drop (suc i) events
@@ -211,6 +234,10 @@ take_all (y ∷ events) (suc n) low = ap (λ l. y ∷ l) (take_all events n (ome
 pub come_all : {P V : Type 0} (m : Meaning V) (s : Setting V) (names : OutputNames) (events : List Event) (n : ℕ) (y : Systemed P V) (lines : List ℕ) (a b : Shown) → length events ≤ n → HasCome m s names (take n events) y lines a b → HasCome m s names events y lines a b
 come_all {P} {V} m s names events n y lines a b low h = subst (λ (l : List Event). HasCome m s names l y lines a b) (take_all events n low) h
 
--- an event that stopped at a limit
-pub limit_comes : {P V : Type 0} (m : Meaning V) (ev : Event) (e : Stop) (limit : Limit) (outputs : List Output) (y new : Systemed P V) → e ≡ stop.Limit limit → ComesTo m ev (Err e) outputs y new → ComesTo m ev (Err (stop.Limit limit)) outputs y new
-limit_comes {P} {V} m ev e limit outputs y new is h = subst (λ (x : Stop). ComesTo m ev (Err x) outputs y new) is h
+pub at_same : {P V : Type 0} (m n : Meaning V) (s : Setting V) (w : World V) (y : Systemed P V) → m ≡ n → IsAt m s w y → IsAt n s w y
+at_same {P} {V} m n s w y same h = subst (λ (k : Meaning V). IsAt k s w y) same h
+
+pub goes_same : {A P V : Type 0} (r : Result A RunError) (m n : Meaning V) (s : Setting V) (names : OutputNames) (events other : List Event) (y : Systemed P V) (lines : List ℕ) (a b : Shown)
+    → m ≡ n → events ≡ other → GoesOn r m s names events y lines a b → GoesOn r n s names other y lines a b
+goes_same {A} {P} {V} r m n s names events other y lines a b same all h =
+    subst (λ (l : List Event). GoesOn r n s names l y lines a b) all (subst (λ (k : Meaning V). GoesOn r k s names events y lines a b) same h)

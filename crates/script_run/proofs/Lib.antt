@@ -1,10 +1,5 @@
-pub mod ScriptAnswers
-pub mod ShortPackets
-pub mod RunWrites
 pub mod Going
 pub mod EventsPerformed
-pub mod KeepingStep
-pub mod ReplySteps
-pub mod OutputRecords
 pub mod Closing
 pub mod WholeRun
+pub mod Answering

@@ -1,35 +1,33 @@
 -- A run within its script: the system that performs the events, and what was written so far.
-use Rattle.std.specs.Prelude.{◌≡◌, ℕ, All, List, [], ◌++◌, length, map, codes, Result, Ok, Err, ⊤, ◌⊎◌}
-use Rattle.plain_text.specs.declared.packet.Packet.{Packet}
+use Rattle.std.specs.Prelude.{◌≡◌, ℕ, All, List, [], ◌++◌, length, Result, Ok, Err, OnOk, ⊤, ◌⊎◌}
 use Rattle.access_log.specs.declared.entry.Output.{Output}
 use Rattle.plain_machine.specs.Program.{Meaning}
 use Rattle.world_io.specs.World.{Shown}
 use Rattle.recovery_world.specs.declared.event.Event.{Event}
 use Rattle.recovery_world.specs.World.{Setting, Sent, World}
 use Rattle.recovery_world.specs.Many.{OnAny, Stops}
-use Rattle.recovery_world.specs.Files.{one, two, sent_names}
+use Rattle.recovery_world.specs.Files.{reply_line, sent_names}
 use Rattle.plain_text.specs.declared.limit.Limit.{Limit}
-use Rattle.recovery_core.specs.declared.reply.Reply.{Reply as SystemReply}
-use Rattle.recovery_core.specs.declared.reply.Stop.{Stop}
-use Rattle.recovery_core.specs.declared.reply.Stop.TheVariants as stop
-use Rattle.recovery_core.specs.declared.reply.Finished.{Finished}
-use Rattle.recovery_core.specs.Parts.{IsShort, Systemed}
-use Rattle.recovery_core.specs.Standing.{StandsFor}
+use Rattle.event_replies.specs.declared.reply.Reply.{Reply as SystemReply}
+use Rattle.event_replies.specs.declared.reply.Stop.{Stop}
+use Rattle.event_replies.specs.declared.reply.Stop.TheVariants as stop
+use Rattle.recovery_core.specs.Systems.{Systemed}
+use Rattle.recovery_core.specs.Systems.{SystemStands}
+use Rattle.plain_text.specs.declared.packet.Packet.{Packet}
+use Rattle.output_files.specs.declared.error.OutputError.{OutputError}
 use Rattle.output_files.specs.Writes.{Write, HasWritten, HasBegun, HasGathered}
-use Rattle.script_run.specs.Replies.{Reply, Answers, newly_released, released_in}
-use Rattle.script_run.specs.Run.{OutputNames, FitsRecord, writes_of, WritesSome, WritesUntil}
-use Rattle.script_run.specs.declared.error.RunError.{RunError}
-use Rattle.script_run.specs.declared.error.RunError.TheVariants as run
-
--- the packets of outputs
-abbrev pub packets_in : List Output → List Packet
-packets_in outputs = map (λ (o : Output). o.packet) outputs
+use Rattle.output_files.specs.Written.{Writes, WritesGathered}
+use Rattle.run_writes.specs.Replies.{Reply, Answers, newly_released, packets_in, released_in}
+use Rattle.run_writes.specs.Run.{OutputNames, FitsRecord, IsShort, release_writes, reply_writes, writes_of, WritesSome, WritesUntil}
+use Rattle.run_writes.specs.Errors.{run_result_of, stopped_result}
+use Rattle.run_writes.specs.declared.error.RunError.{RunError}
+use Rattle.run_writes.specs.declared.error.RunError.TheVariants as run
 
 -- The system stands for the world, and all that was released was handed over.
 pub record IsAt {P V : Type 0} (m : Meaning V) (s : Setting V) (w : World V) (y : Systemed P V) : Type 0 where
-  pub stands : StandsFor m s w y.parts
-  pub fresh : y.parts.fresh ≡ []
-  pub handed : y.parts.handed ≡ length w.released
+  pub stands : SystemStands m s w y
+  pub fresh : y.fresh ≡ []
+  pub handed : y.handed ≡ length w.released
 
 -- What performing an event came to, for each world that the system was at: the reply is that of the event, or the event stops at the
 -- limit; and these are the outputs that it released. Where memory ran out, none is handed over.
@@ -42,13 +40,20 @@ ComesTo {P} {V} m ev (Err (stop.Limit limit)) outputs old new =
     (s : Setting V) (w : World V) → IsAt m s w old → (next : World V) × Stops s w ev limit next × (packets_in outputs ≡ newly_released w next)
 ComesTo {P} {V} m ev (Err stop.NoMemory) outputs old new = (s : Setting V) (w : World V) → IsAt m s w old → outputs ≡ []
 
+-- What it came to to write, behind these writes, what an event left: its records and its line; or, where it stopped at a limit, what it
+-- released before; or nothing, where memory ran out.
+abbrev pub WritesPerformed : Result ⊤ RunError → Result SystemReply Stop → Event → List Packet → List Write → List ℕ → List ℕ → Shown → Shown → Type 0
+WritesPerformed result (Ok reply) ev released writes name lines old new =
+    (freed : List Sent) → reply.released ≡ sent_names freed
+    → (files : Result ⊤ OutputError) × (result ≡ run_result_of files) × OnOk files (All FitsRecord released)
+    × WritesGathered files (writes ++ reply_writes name (record { released = released; line = reply_line ev reply.outcome freed })) lines old new
+WritesPerformed result (Err (stop.Limit limit)) ev released writes name lines old new =
+    (files : Result ⊤ OutputError) × (result ≡ stopped_result files limit) × Writes files (writes ++ release_writes name released) old new
+WritesPerformed result (Err stop.NoMemory) ev released writes name lines old new = (result ≡ Err run.NoMemory) × HasBegun writes old new
+
 -- The system is at some world, on packets that a record can have.
 abbrev pub IsSomewhere : {P V : Type 0} → Meaning V → Systemed P V → Type 0
 IsSomewhere {P} {V} m y = (s : Setting V) × (w : World V) × IsAt m s w y × All IsShort s.packets
-
--- the last line of a report, with these counts
-abbrev pub counts_line : Finished → List ℕ
-counts_line f = one (codes "done fed ") f.fed ++ two (codes " epoch ") f.epoch (codes " released ") f.released ++ codes "\n"
 
 -- The events were performed, the system is at their world, and what they write was written but for the lines that are gathered.
 pub record HasCome {P V : Type 0} (m : Meaning V) (s : Setting V) (names : OutputNames) (events : List Event) (y : Systemed P V) (lines : List ℕ) (old new : Shown) : Type 0 where
@@ -71,7 +76,7 @@ HasBegunSome s names events old new =
     (writes : List Write) × (WritesSome s names events writes ⊎ ((limit : Limit) × WritesUntil s names events limit writes)) × HasBegun writes old new
 
 -- What performing and writing the events came to: all of it was done; or it stopped at a limit; or a first part of it was written.
-abbrev pub GoesOn : {P V : Type 0} → Result ⊤ RunError → Meaning V → Setting V → OutputNames → List Event → Systemed P V → List ℕ → Shown → Shown → Type 0
+abbrev pub GoesOn : {A P V : Type 0} → Result A RunError → Meaning V → Setting V → OutputNames → List Event → Systemed P V → List ℕ → Shown → Shown → Type 0
 GoesOn (Ok done) m s names events y lines old new = HasCome m s names events y lines old new
 GoesOn (Err (run.Limit limit)) m s names events y lines old new = StoppedThere s names events limit old new
 GoesOn (Err run.WriteFault) m s names events y lines old new = HasBegunSome s names events old new

@@ -2,16 +2,14 @@
 //! the records of the packets that it released, then its line of the report.
 #![tactic(auto)]
 
-mod error;
-mod laws;
+mod ending;
 mod performing;
 mod replying;
 mod run;
 mod running;
 
-pub use error::RunError;
-pub use laws::outputs_keep_step;
+pub use ending::finish_run;
 pub use performing::{Performed, perform};
-pub use replying::{put_done, put_outputs, write_reply, write_stopped};
-pub use run::{RunFiles, ScriptRun, run_script};
-pub use running::{finish_run, perform_event, perform_events};
+pub use replying::write_performed;
+pub use run::run_script;
+pub use running::{perform_event, perform_events};

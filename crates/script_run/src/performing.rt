@@ -1,7 +1,8 @@
 ghost use Rattle.std.specs.Prelude.{◌≡◌, All, OnOk, false};
 ghost use Rattle.recovery_world.specs.World.{Setting, World};
-ghost use Rattle.recovery_core.specs.Parts.{IsShort};
-ghost use Rattle.script_run.specs.Running.{ComesTo, IsAt, packets_in};
+ghost use Rattle.run_writes.specs.Replies.{packets_in};
+ghost use Rattle.run_writes.specs.Run.{IsShort};
+ghost use Rattle.script_run.specs.Running.{ComesTo, IsAt};
 
 use access_log::Outputs;
 use box_program::Program;

@@ -1,75 +1,52 @@
-ghost use Rattle.std.specs.Prelude.{◌≡◌, ◌<◌, ◌-◌, ◌^◌, IfOk, IsTrue, OnOk, OnErr, IsErrOf, Err};
+ghost use Rattle.std.specs.Prelude.{◌≡◌, ◌<◌, ◌-◌, ◌^◌, [], IfOk, IsTrue, OnOk, IsErrOf, Err, false};
 ghost use Rattle.plain_text.specs.declared.limit.Limit.{Limit as LimitKind};
-ghost use Rattle.world_io.specs.Stream.{Rose};
-ghost use Rattle.world_io.specs.World.{is_writable};
+ghost use Rattle.world_io.specs.World.{is_writable, WritingFailed};
+ghost use Rattle.recovery_world.specs.World.{Setting, opening};
 ghost use Rattle.output_files.specs.Writes.{IsOutput};
-ghost use Rattle.output_files.specs.Written.{AfterWriting, Writes};
-ghost use Rattle.script_run.specs.Run.{CanRun, HasBegunRun, HasRun, HasStopped, names_of, opening_writes, setting_of};
+ghost use Rattle.output_files.specs.Written.{WritesFiles};
+ghost use Rattle.run_writes.specs.Run.{CanRun, HasBegunRun, HasRun, HasStopped, names_of, setting_of};
+ghost use Rattle.script_run.specs.Running.{GoesOn, IsAt, IsSomewhere};
 
-use crate::error::written;
-use crate::{RunError, finish_run, perform_events};
+use crate::{finish_run, perform_events};
 use box_program::Program;
-use output_files::{OutputError, append, create};
-use pcap_io::put_header;
-use plain_text::{Bytes, Packets, Text, Unit};
+use plain_text::{Bytes, Unit};
 use recovery_core::System;
-use script_text::Events;
+use recovery_world::Event;
+use run_writes::{RunError, RunFiles, ScriptRun, open_outputs, written};
 use std::alloc::Global;
 use world_io::World;
 
-/// What is run: the packets of a capture, on 1 to 16 threads, by the events of a script. Random words come from the generator of the
-/// seed.
-#[derive(Debug, Drop)]
-pub struct ScriptRun {
-    pub threads: u32,
-    pub seed: u64,
-    /// What the fractions of the packets count.
-    pub unit: Unit,
-    pub packets: Packets,
-    pub events: Events,
-}
-
-/// The names of the two outputs of a run, which differ.
-#[derive(Clone, Copy, Debug)]
-pub struct RunFiles<'a> {
-    pub released: &'a Text,
-    pub schedule: &'a Text,
-}
-
-/// The outputs that were created, by their numbers.
-#[derive(Clone, Copy, Debug)]
-struct OutputFiles {
-    released: u32,
-    schedule: u32,
-}
-
-/// Creates the released capture, which gets its header, and then the schedule.
-fn open_outputs<W: World>(
+/// Creates the outputs, and performs the events of a script and writes what each leaves. Gives the number of the schedule.
+fn write_events<P: Program, W: World>(
+    alloc: Global,
     world: &mut W,
     files: RunFiles<'_>,
     unit: Unit,
-) -> Result<OutputFiles, OutputError>
+    events: &[Event],
+    system: &mut System<P>,
+    lines: &mut Bytes,
+) -> Result<u32, RunError>
     requires room { (W.ledger world.old).given < 2 ^ 32 - 2 }
     requires apart { files.released.now ≡ files.schedule.now → ⊥ }
-    ensures told { IsTrue W.tells → Writes result (opening_writes (names_of files.entry) unit)
-        (W.shown world.old) (W.shown world.new) }
-    ensures released { IsTrue W.tells → IfOk result
-        (λ o. IsOutput o.released (names_of files.entry).released (W.shown world.new)) }
+    requires runs { system.old.stopped ≡ false }
+    requires somewhere { IsSomewhere (P.meaning system.old.parts.program) system.old }
+    requires none { lines.old ≡ [] }
+    ensures told { IsTrue W.tells → (s : Setting P.Value) → s.fractions ≡ unit
+        → IsAt (P.meaning system.old.parts.program) s (opening P.Value) system.old
+        → GoesOn result (P.meaning system.old.parts.program) s (names_of files.entry) events.now
+        system.new lines.new (W.shown world.old) (W.shown world.new) }
     ensures schedule { IsTrue W.tells → IfOk result
-        (λ o. IsOutput o.schedule (names_of files.entry).schedule (W.shown world.new)) }
-    ensures writable { IfOk result
-        (λ o. IsTrue (is_writable (W.ledger world.new) o.released)
-        × IsTrue (is_writable (W.ledger world.new) o.schedule)) }
-    ensures ledger { AfterWriting 2 (W.ledger world.old) (W.ledger world.new) }
-    ensures cause { IsErrOf result OutputError.WriteFault
-        → Rose (W.ledger world.old).write_faults (W.ledger world.new).write_faults }
-    ensures never_fails { W.healthy world.old → ¬ IsErrOf result OutputError.WriteFault }
-    ensures stays_healthy { W.healthy world.old → W.healthy world.new }
+        (λ file. IsOutput file (names_of files.entry).schedule (W.shown world.new)) }
+    ensures writable { IfOk result (λ file. IsTrue (is_writable (W.ledger world.new) file)) }
+    ensures runs { OnOk result (system.new.stopped ≡ false) }
+    ensures program { OnOk result (system.new.parts.program ≡ system.old.parts.program) }
+    ensures writes_files { WritesFiles W.ledger W.healthy 2 world.old world.new }
+    ensures cause { IsErrOf result RunError.WriteFault
+        → WritingFailed W.ledger W.healthy world.old world.new }
 {
-    let released = create(world, files.released)?;
-    append(world, released, &put_header(unit))?;
-    let schedule = create(world, files.schedule)?;
-    Ok(OutputFiles { released, schedule })
+    let outputs = open_outputs(world, files, unit)?;
+    perform_events(alloc, world, outputs.released, system, events, lines)?;
+    Ok(outputs.schedule)
 }
 
 /// Runs a program on the packets, by the events of a script, and writes the outputs.
@@ -94,27 +71,29 @@ pub fn run_script<P: Program, W: World>(
         (W.shown world.old) (W.shown world.new) }
     ensures in_order { IsTrue W.tells → HasBegunRun (setting_of (P.meaning program) run)
         (names_of files.entry) run.events (W.shown world.old) (W.shown world.new) }
-    ensures ledger { AfterWriting 2 (W.ledger world.old) (W.ledger world.new) }
+    ensures writes_files { WritesFiles W.ledger W.healthy 2 world.old world.new }
     ensures cause { IsErrOf result RunError.WriteFault
-        → Rose (W.ledger world.old).write_faults (W.ledger world.new).write_faults }
-    ensures never_fails { W.healthy world.old → ¬ IsErrOf result RunError.WriteFault }
+        → WritingFailed W.ledger W.healthy world.old world.new }
 {
     let mut system = System::new(alloc, program, run.threads, run.seed, run.unit, run.packets)?;
-    let outputs = open_outputs(world, files, run.unit)?;
     let mut lines = Bytes::new(alloc);
     let events = run.events.as_slice();
-    match perform_events(
+    match write_events(
         alloc,
         world,
-        outputs.released,
-        &mut system,
+        files,
+        run.unit,
         events,
+        &mut system,
         &mut lines,
     ) {
-        Ok(()) => {
-            let files = finish_run(alloc, world, outputs.schedule, system, lines);
-            written(files)
+        Ok(schedule) => {
+            let ended = finish_run(alloc, world, schedule, system, &mut lines);
+            written(ended)
         }
-        Err(error) => Err(error),
+        Err(error) => {
+            system.discard();
+            Err(error)
+        }
     }
 }

@@ -1,11 +1,11 @@
 use Rattle.std.proofs.Common.{ap, sym, ◌∙◌}
-use Rattle.job_top.specs.Status.{stage_of}
-use Rattle.job_top.specs.Words.{check_names_of, made_of, names_of, play_names_of}
-use Rattle.job_top.proofs.Outcomes.{made_completes, made_not_at_inputs}
-use Rattle.job_top.proofs.OneVerdict.{run_completes}
-use Rattle.job_top.proofs.Plays.{play_completes}
-use Rattle.job_top.proofs.Finds.{check_completes}
-use Rattle.job_top.proofs.Others.{run_others, made_others, play_others, check_others}
+use Rattle.job_commands.specs.Status.{stage_of}
+use Rattle.job_commands.specs.Words.{check_names_of, made_of, names_of, play_names_of}
+use Rattle.job_commands.proofs.Outcomes.{made_completes, made_not_at_inputs}
+use Rattle.job_commands.proofs.OneVerdict.{run_completes}
+use Rattle.job_commands.proofs.Plays.{play_completes}
+use Rattle.job_commands.proofs.Finds.{check_completes}
+use Rattle.job_commands.proofs.Others.{run_others, made_others, play_others, check_others}
 use Rattle.job_top.proofs.top.ftmb.Goals as goal
 
 pub returns-in-Some-Run-clause-done : goal.returns-in-Some-Run-clause-done
@@ -18,7 +18,7 @@ returns-in-Some-Run-clause-completes g c ok told =
 
 pub returns-in-Some-Make-clause-completes : goal.returns-in-Some-Make-clause-completes
 returns-in-Some-Make-clause-completes g c ok told =
-    rw (c.in-Some-Make.ensures, c.in-Some-Make.field-0-is) (λ _. rw c.outcome.ensures (made_completes c.make_capture.result (c.make_capture.ensures.never_fails ok)))
+    rw (c.in-Some-Make.ensures, c.in-Some-Make.field-0-is) (λ _. rw c.outcome.ensures (made_completes c.make_capture.result (λ fault. (c.make_capture.ensures.cause fault).not_healthy ok)))
 
 pub returns-in-Some-Make-clause-refused : goal.returns-in-Some-Make-clause-refused
 returns-in-Some-Make-clause-refused g c told e = absurd (made_not_at_inputs c.make_capture.result (ap stage_of (sym c.outcome.ensures) ∙ e))
@@ -63,3 +63,21 @@ returns-in-Some-Check-clause-limit g c told limit e stage = absurd (c.check_rele
 pub returns-in-Some-Check-clause-others : goal.returns-in-Some-Check-clause-others
 returns-in-Some-Check-clause-others g c told =
     rw (c.in-Some-Check.ensures, c.in-Some-Check.field-0-is) (check_others (check_names_of c.in-Some-Check.names) (g.W.World.shown c.args.world.now) (g.W.World.shown c.check_released.new.world) (c.check_released.ensures.in_order told))
+
+pub returns-in-Some-Run-clause-write_fault : goal.returns-in-Some-Run-clause-write_fault
+returns-in-Some-Run-clause-write_fault g c e = (c.run.ensures.write_fault e).rose
+
+pub returns-in-Some-Run-clause-never_fails : goal.returns-in-Some-Run-clause-never_fails
+returns-in-Some-Run-clause-never_fails g c ok e = (c.run.ensures.write_fault e).not_healthy ok
+
+pub returns-in-Some-Play-clause-write_fault : goal.returns-in-Some-Play-clause-write_fault
+returns-in-Some-Play-clause-write_fault g c e = (c.play_capture.ensures.write_fault e).rose
+
+pub returns-in-Some-Play-clause-never_fails : goal.returns-in-Some-Play-clause-never_fails
+returns-in-Some-Play-clause-never_fails g c ok e = (c.play_capture.ensures.write_fault e).not_healthy ok
+
+pub returns-in-Some-Check-clause-write_fault : goal.returns-in-Some-Check-clause-write_fault
+returns-in-Some-Check-clause-write_fault g c e = (c.check_released.ensures.write_fault e).rose
+
+pub returns-in-Some-Check-clause-never_fails : goal.returns-in-Some-Check-clause-never_fails
+returns-in-Some-Check-clause-never_fails g c ok e = (c.check_released.ensures.write_fault e).not_healthy ok

@@ -1,4 +1,5 @@
 use Rattle.output_files.proofs.Effects.{err_writes, lines_done, lines_cut}
+use Rattle.output_files.proofs.OnlyWriting.{OnlyWrites-appended}
 use Rattle.output_files.proofs.lines.write_lines.Goals as goal
 
 pub returns-in_err-put_all-clause-told : goal.returns-in_err-put_all-clause-told
@@ -7,3 +8,11 @@ returns-in_err-put_all-clause-told g c told before writes gathered =
 
 pub returns-clause-told : goal.returns-clause-told
 returns-clause-told g c told before writes gathered = lines_done writes _ _ before _ _ c.as_slice.ensures gathered (c.in_ok-put_all.ensures.told told)
+
+pub returns-in_err-put_all-clause-only_writes : goal.returns-in_err-put_all-clause-only_writes
+returns-in_err-put_all-clause-only_writes g c =
+    OnlyWrites-appended _ _ _ _ _ _ _ _ _ c.put_all.ensures.told c.put_all.ensures.writes_on
+
+pub returns-clause-only_writes : goal.returns-clause-only_writes
+returns-clause-only_writes g c =
+    OnlyWrites-appended _ _ _ _ _ _ _ _ _ c.put_all.ensures.told c.put_all.ensures.writes_on

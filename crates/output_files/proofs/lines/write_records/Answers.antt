@@ -15,4 +15,4 @@ returns-in_err-write_lines-clause-told g c told before writes name is gathered =
 pub returns-clause-told : goal.returns-clause-told
 returns-clause-told g c told before writes name is gathered =
     gathers_behind _ writes _ _ before _ _ c.in_ok-write_lines.ensures.none (c.in_ok-write_lines.ensures.told told before writes gathered)
-    (c.append.ensures.told told name (c.in_ok-write_lines.ensures.outputs told _ name is))
+    (c.append.ensures.told told name (c.in_ok-write_lines.ensures.only_writes.outputs told _ name is))

@@ -23,14 +23,14 @@ returns-in_err-append-2-clause-told g c told =
     err_writes _ _ _ _ c.from_residual-in_err-append-2.ensures.0
     (begun_behind (Creates c.args.name.now ∷ Appends c.args.name.now c.args.header.now ∷ []) _ _ _ _ first
     (begun_before (Appends c.args.name.now c.args.body.now ∷ []) _ _ _
-    (c.in_err-append-2.ensures.told told c.args.name.now (c.in_ok-append.ensures.outputs told _ _ is))))
+    (c.in_err-append-2.ensures.told told c.args.name.now (c.in_ok-append.ensures.only_writes.outputs told _ _ is))))
 
 pub returns-clause-told : goal.returns-clause-told
 returns-clause-told g c told =
     let created = c.in_ok-file.ensures.told told in
     let is = c.in_ok-file.ensures.output told in
     let header = c.in_ok-append.ensures.told told c.args.name.now is in
-    let body = c.in_ok-append-2.ensures.told told c.args.name.now (c.in_ok-append.ensures.outputs told _ _ is) in
+    let body = c.in_ok-append-2.ensures.told told c.args.name.now (c.in_ok-append.ensures.only_writes.outputs told _ _ is) in
     let first = written_more (Creates c.args.name.now ∷ []) (Appends c.args.name.now c.args.header.now ∷ []) _ _ _ created header in
     let second = written_more (Creates c.args.name.now ∷ Appends c.args.name.now c.args.header.now ∷ []) (Appends c.args.name.now c.args.body.now ∷ []) _ _ _ first body in
     then_writes _ (Creates c.args.name.now ∷ Appends c.args.name.now c.args.header.now ∷ Appends c.args.name.now c.args.body.now ∷ []) _ _ _ _ second (c.report.ensures.told told)

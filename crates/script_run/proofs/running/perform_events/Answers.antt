@@ -1,5 +1,5 @@
 use Rattle.std.proofs.Common.{◌≡◌, ◌<◌, ap, sym, ◌∙◌, arith, rules, length, take, Err}
-use Rattle.world_io.specs.OneFile.{KeepsLedgerWriting-more}
+use Rattle.output_files.proofs.OnlyWriting.{OnlyWrites-trans}
 use Rattle.script_run.proofs.Going.{goes_longer, split_here, come_on, come_all, come_same, somewhere_same, same_item}
 use Rattle.script_run.proofs.running.perform_events.Goals as goal
 
@@ -15,12 +15,10 @@ loop-event-preserved g c =
       runs = c.in_ok-perform_event.ensures.runs;
       program = c.in_ok-perform_event.ensures.program ∙ inv.program;
       somewhere = somewhere_same _ _ c.perform_event.new.system (ap g.P.Program.meaning inv.program) c.in_ok-perform_event.ensures.somewhere;
-      ledger = KeepsLedgerWriting-more _ _ _ inv.ledger c.in_ok-perform_event.ensures.ledger;
-      healthy = λ h. c.in_ok-perform_event.ensures.stays_healthy (inv.healthy h);
-      outputs = λ told file name is. c.in_ok-perform_event.ensures.outputs told file name (inv.outputs told file name is);
+      only_writes = OnlyWrites-trans _ _ _ _ _ _ _ inv.only_writes c.in_ok-perform_event.ensures.only_writes;
       come = λ told s names before is come.
           come_on _ _ s names c.args.events.now c.loop-event.event-index _ _ _ before _ (ap g.P.Program.meaning inv.program) low (same_item c.args.events.now c.loop-event.event-index _ low)
-          (c.in_ok-perform_event.ensures.told told s names (take c.loop-event.event-index c.args.events.now) before (inv.outputs told _ _ is)
+          (c.in_ok-perform_event.ensures.told told s names (take c.loop-event.event-index c.args.events.now) before (inv.only_writes.outputs told _ _ is)
           (come_same _ _ s names _ c.loop-event.system c.loop-event.lines before _ (ap g.P.Program.meaning (sym inv.program)) (inv.come told s names before is come)));
     }
 
@@ -32,7 +30,7 @@ returns-in_err-perform_event-clause-told g c told s names before is come =
     rw e
     (goes_longer c.in_err-perform_event.field-0.0 _ _ s names _ _ c.args.events.now c.perform_event.new.system _ c.perform_event.new.lines _ before _
     (split_here c.args.events.now c.loop-event.event-index _ low (same_item c.args.events.now c.loop-event.event-index _ low))
-    (c.in_err-perform_event.ensures.told told s names (take c.loop-event.event-index c.args.events.now) before (inv.outputs told _ _ is)
+    (c.in_err-perform_event.ensures.told told s names (take c.loop-event.event-index c.args.events.now) before (inv.only_writes.outputs told _ _ is)
     (come_same _ _ s names _ c.loop-event.system c.loop-event.lines before _ (ap g.P.Program.meaning (sym inv.program)) (inv.come told s names before is come))))
 
 pub returns-clause-told : goal.returns-clause-told

@@ -1,9 +1,10 @@
 use Rattle.std.proofs.Common.{◌≡◌, [], take, false}
 use Rattle.std.specs.Prelude.{IsTrue}
-use Rattle.world_io.specs.World.{Shown, KeepsLedgerWriting}
+use Rattle.world_io.specs.World.{Shown}
 use Rattle.recovery_world.specs.World.{Setting}
-use Rattle.output_files.specs.Writes.{IsOutput, KeepsOutputs}
-use Rattle.script_run.specs.Run.{OutputNames}
+use Rattle.output_files.specs.Writes.{IsOutput}
+use Rattle.output_files.specs.Written.{OnlyWrites}
+use Rattle.run_writes.specs.Run.{OutputNames}
 use Rattle.script_run.specs.Running.{HasCome, IsSomewhere}
 use Rattle.script_run.proofs.running.perform_events.Given as goal
 
@@ -15,9 +16,7 @@ invariant-loop-event g l =
       runs : l.system.stopped ≡ false;
       program : l.system.parts.program ≡ l.fn.system.parts.program;
       somewhere : IsSomewhere m l.system;
-      ledger : KeepsLedgerWriting (g.W.World.ledger l.fn.world) (g.W.World.ledger l.world);
-      healthy : g.W.World.healthy l.fn.world → g.W.World.healthy l.world;
-      outputs : IsTrue g.W.World.tells → KeepsOutputs (g.W.World.shown l.fn.world) (g.W.World.shown l.world);
+      only_writes : OnlyWrites g.W.World.tells g.W.World.shown g.W.World.ledger g.W.World.healthy l.fn.world l.world;
       come : IsTrue g.W.World.tells → (s : Setting g.row.P-Value.Denot) (names : OutputNames) (before : Shown) → IsOutput l.file names.released (g.W.World.shown l.fn.world)
           → HasCome m s names [] l.fn.system l.fn.lines before (g.W.World.shown l.fn.world)
           → HasCome m s names (take l.event-index l.events) l.system l.lines before (g.W.World.shown l.world);

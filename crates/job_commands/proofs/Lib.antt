@@ -1,0 +1,14 @@
+pub mod Verdicts
+pub mod Stages
+pub mod OneVerdict
+pub mod RunLimits
+pub mod Outcomes
+pub mod Others
+pub mod Savefiles
+pub mod Recorded
+pub mod Turns
+pub mod FilesInTurn
+pub mod Plays
+pub mod Finds
+pub mod RunChecked
+pub mod Failing

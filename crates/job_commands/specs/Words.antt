@@ -1,0 +1,137 @@
+-- The words of the commands.
+use Rattle.std.specs.Prelude.{ℕ, ◌&&◌, not, nat_le, List, [], ◌∷◌, codes, if◌then◌else◌, Option, Some, None}
+use Rattle.std.specs.Str.{bytes_eq}
+use Rattle.plain_text.specs.Lines.{number_of}
+use Rattle.plain_text.specs.declared.limit.TheConstants.{MOST_PACKETS}
+use Rattle.job_commands.specs.declared.run_words.RunWords.{RunWords}
+use Rattle.job_commands.specs.declared.make_words.MakeWords.{MakeWords}
+use Rattle.job_commands.specs.declared.schedule_words.ScheduleFiles.{ScheduleFiles}
+use Rattle.job_commands.specs.declared.schedule_words.PlayWords.{PlayWords}
+use Rattle.job_commands.specs.declared.schedule_words.CheckWords.{CheckWords}
+use Rattle.job_commands.specs.declared.command.Command as command_words
+use Rattle.job_commands.specs.declared.command.Command.TheVariants as words
+
+-- the names of a run's files
+pub record RunNames : Type 0 where
+  pub box_file : List ℕ
+  pub capture : List ℕ
+  pub script : List ℕ
+  pub released : List ℕ
+  pub schedule : List ℕ
+
+abbrev pub names_of : RunWords → RunNames
+names_of w = record { box_file = w.box_file.now; capture = w.capture.now; script = w.script.now; released = w.released.now; schedule = w.schedule.now }
+
+-- `run` with five names, of which the two outputs differ
+abbrev pub run_names : List (List ℕ) → Option RunNames
+run_names [] = None
+run_names (a ∷ []) = None
+run_names (a ∷ b ∷ []) = None
+run_names (a ∷ b ∷ c ∷ []) = None
+run_names (a ∷ b ∷ c ∷ d ∷ []) = None
+run_names (a ∷ b ∷ c ∷ d ∷ e ∷ []) = None
+run_names (command ∷ box_file ∷ capture ∷ script ∷ released ∷ schedule ∷ []) =
+    if bytes_eq command (codes "run") && not (bytes_eq released schedule)
+    then Some (record { box_file = box_file; capture = capture; script = script; released = released; schedule = schedule })
+    else None
+run_names (a ∷ b ∷ c ∷ d ∷ e ∷ f ∷ g ∷ more) = None
+
+-- what a made capture is made of, and the name that it gets
+pub record MakeNames : Type 0 where
+  pub seed : ℕ
+  pub count : ℕ
+  pub capture : List ℕ
+
+abbrev pub made_of : MakeWords → MakeNames
+made_of w = record { seed = w.seed; count = w.count; capture = w.capture.now }
+
+-- two numbers, of which the second is at most what a capture may have
+abbrev pub of_numbers : Option ℕ → Option ℕ → List ℕ → Option MakeNames
+of_numbers None count capture = None
+of_numbers (Some seed) None capture = None
+of_numbers (Some seed) (Some count) capture = if nat_le count MOST_PACKETS then Some (record { seed = seed; count = count; capture = capture }) else None
+
+-- `make` with two numbers and a name
+abbrev pub make_names : List (List ℕ) → Option MakeNames
+make_names [] = None
+make_names (a ∷ []) = None
+make_names (a ∷ b ∷ []) = None
+make_names (a ∷ b ∷ c ∷ []) = None
+make_names (command ∷ seed ∷ count ∷ capture ∷ []) = if bytes_eq command (codes "make") then of_numbers (number_of seed) (number_of count) capture else None
+make_names (a ∷ b ∷ c ∷ d ∷ e ∷ more) = None
+
+-- the names of the inputs of a command that plays a schedule
+pub record ScheduleNames : Type 0 where
+  pub box_file : List ℕ
+  pub capture : List ℕ
+  pub schedule : List ℕ
+
+abbrev pub files_of : ScheduleFiles → ScheduleNames
+files_of f = record { box_file = f.box_file.now; capture = f.capture.now; schedule = f.schedule.now }
+
+-- those, and the name of the capture that is written
+pub record PlayNames : Type 0 where
+  pub files : ScheduleNames
+  pub out : List ℕ
+
+abbrev pub play_names_of : PlayWords → PlayNames
+play_names_of w = record { files = files_of w.files; out = w.out.now }
+
+-- those, and the name of the released capture
+pub record CheckNames : Type 0 where
+  pub files : ScheduleNames
+  pub released : List ℕ
+
+abbrev pub check_names_of : CheckWords → CheckNames
+check_names_of w = record { files = files_of w.files; released = w.released.now }
+
+-- `play` with four names
+abbrev pub play_names : List (List ℕ) → Option PlayNames
+play_names [] = None
+play_names (a ∷ []) = None
+play_names (a ∷ b ∷ []) = None
+play_names (a ∷ b ∷ c ∷ []) = None
+play_names (a ∷ b ∷ c ∷ d ∷ []) = None
+play_names (command ∷ box_file ∷ capture ∷ schedule ∷ out ∷ []) =
+    if bytes_eq command (codes "play")
+    then Some (record { files = record { box_file = box_file; capture = capture; schedule = schedule }; out = out })
+    else None
+play_names (a ∷ b ∷ c ∷ d ∷ e ∷ f ∷ more) = None
+
+-- `check` with four names
+abbrev pub check_names : List (List ℕ) → Option CheckNames
+check_names [] = None
+check_names (a ∷ []) = None
+check_names (a ∷ b ∷ []) = None
+check_names (a ∷ b ∷ c ∷ []) = None
+check_names (a ∷ b ∷ c ∷ d ∷ []) = None
+check_names (command ∷ box_file ∷ capture ∷ schedule ∷ released ∷ []) =
+    if bytes_eq command (codes "check")
+    then Some (record { files = record { box_file = box_file; capture = capture; schedule = schedule }; released = released })
+    else None
+check_names (a ∷ b ∷ c ∷ d ∷ e ∷ f ∷ more) = None
+
+-- a command, with what its words name
+pub data Asked : Type 0 where
+  Runs : RunNames → Asked
+  Makes : MakeNames → Asked
+  Plays : PlayNames → Asked
+  Checks : CheckNames → Asked
+
+-- the one command whose names are there; no words are those of two
+abbrev pub one_of : Option RunNames → Option MakeNames → Option PlayNames → Option CheckNames → Option Asked
+one_of (Some names) make play check = Some (Runs names)
+one_of None (Some names) play check = Some (Makes names)
+one_of None None (Some names) check = Some (Plays names)
+one_of None None None (Some names) = Some (Checks names)
+one_of None None None None = None
+
+-- the command that words ask for: `run`, `make`, `play` or `check`
+abbrev pub asked : List (List ℕ) → Option Asked
+asked words = one_of (run_names words) (make_names words) (play_names words) (check_names words)
+
+abbrev pub asked_of : command_words.Command → Asked
+asked_of (words.Run w) = Runs (names_of w)
+asked_of (words.Make w) = Makes (made_of w)
+asked_of (words.Play w) = Plays (play_names_of w)
+asked_of (words.Check w) = Checks (check_names_of w)

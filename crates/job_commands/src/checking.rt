@@ -1,0 +1,86 @@
+ghost use Rattle.std.specs.Prelude.{◌≡◌, ◌⊎◌, ◌+◌, ◌<◌, ◌≤◌, ◌^◌, Err, IsTrue, OnOk, IsErrOf, length};
+ghost use Rattle.plain_text.specs.declared.limit.Limit.{Limit as LimitKind};
+ghost use Rattle.schedule_check.specs.declared.checking.Refutation as refuted;
+ghost use Rattle.world_io.specs.Stream.{Rose};
+ghost use Rattle.world_io.specs.World.{WritingFailed};
+ghost use Rattle.output_files.specs.Writes.{HasBegun, HasWritten};
+ghost use Rattle.schedule_run.specs.Checking.{SaysCheck, found_writes};
+ghost use Rattle.schedule_run.specs.Runs.{CanPlay};
+ghost use Rattle.run_writes.specs.Run.{KeepsShown};
+ghost use Rattle.job_commands.specs.Schedules.{AreFound, FindsAll, FindsInOrder, JudgesCheck, outcome_for, schedule_of};
+ghost use Rattle.job_commands.specs.Status.{AtInputs, AtOutputs, stage_of, stage_of_limit};
+ghost use Rattle.job_commands.specs.Words.{check_names_of};
+ghost use Rattle.output_files.specs.Written.{OnlyWrites};
+
+use crate::status::check_outcome;
+use crate::{CheckInputs, CheckWords, Status, read_check_inputs};
+use box_conf::BoxKind;
+use schedule_check::Refutation;
+use schedule_run::{ScheduleError, ScheduleRun, check_schedule};
+use std::alloc::Global;
+use world_io::World;
+
+/// Checks the schedule and the released packets with the box that the inputs name.
+fn check_box<W: World>(
+    alloc: Global,
+    world: &mut W,
+    inputs: CheckInputs,
+) -> Result<(), ScheduleError<Refutation>>
+    requires { CanPlay (schedule_of inputs.played) }
+    ensures says { SaysCheck (outcome_for inputs.played) inputs.played.capture.unit
+        inputs.released.packets inputs.released.unit result }
+    ensures reported { IsTrue W.tells → OnOk result (HasWritten
+        (found_writes (length inputs.released.packets)) (W.shown world.old) (W.shown world.new)) }
+    ensures in_order { IsTrue W.tells → (world.new ≡ world.old)
+        ⊎ (AreFound inputs × HasBegun (found_writes (length inputs.released.packets))
+        (W.shown world.old) (W.shown world.new)) }
+    ensures refused { (refutation : refuted.Refutation)
+        → result ≡ Err (ScheduleError.Refused refutation) → world.new ≡ world.old }
+    ensures only_writes { OnlyWrites W.tells W.shown W.ledger W.healthy world.old world.new }
+    ensures cause { IsErrOf result ScheduleError.WriteFault
+        → WritingFailed W.ledger W.healthy world.old world.new }
+{
+    let played = inputs.played;
+    let run = ScheduleRun {
+        threads: played.conf.threads,
+        unit: played.capture.unit,
+        packets: played.capture.packets,
+        schedule: played.schedule,
+    };
+    let unit = inputs.released.unit;
+    let released = inputs.released.packets.as_slice();
+    match played.conf.kind {
+        BoxKind::Count(count) => check_schedule(alloc, world, run, released, unit, &count),
+        BoxKind::Monitor(monitor) => check_schedule(alloc, world, run, released, unit, &monitor),
+        BoxKind::Nat(nat) => check_schedule(alloc, world, run, released, unit, &nat),
+        BoxKind::Balancer(balancer) => {
+            check_schedule(alloc, world, run, released, unit, &balancer)
+        }
+    }
+}
+
+/// The command `check`: all input files are judged, then the schedule, and then the released packets.
+pub fn check_released<W: World>(alloc: Global, world: &mut W, names: CheckWords<'_>) -> Status
+    requires { (W.ledger world.old).given < 2 ^ 31 }
+    ensures done { IsTrue W.tells → result ≡ Status.Done
+        → FindsAll (check_names_of names.entry) (W.shown world.old) (W.shown world.new) }
+    ensures no_limit { IsTrue W.tells → (limit : LimitKind) → result ≡ Status.TooLarge limit
+        → stage_of_limit limit ≡ AtOutputs → ⊥ }
+    ensures judged { IsTrue W.tells → JudgesCheck (W.healthy world.old)
+        (check_names_of names.entry) result (W.shown world.old) }
+    ensures in_order { IsTrue W.tells
+        → FindsInOrder (check_names_of names.entry) (W.shown world.old) (W.shown world.new) }
+    ensures refused { IsTrue W.tells → stage_of result ≡ AtInputs
+        → KeepsShown (W.shown world.old) (W.shown world.new) }
+    ensures words { result ≡ Status.BadWords → ⊥ }
+    ensures given { (W.ledger world.new).given ≤ (W.ledger world.old).given + 4 }
+    ensures read_fault { result ≡ Status.ReadFault
+        → Rose (W.ledger world.old).read_faults (W.ledger world.new).read_faults }
+    ensures write_fault { result ≡ Status.WriteFault
+        → WritingFailed W.ledger W.healthy world.old world.new }
+{
+    match read_check_inputs(alloc, world, names) {
+        Ok(inputs) => check_outcome(check_box(alloc, world, inputs)),
+        Err(status) => status,
+    }
+}

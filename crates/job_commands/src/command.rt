@@ -1,0 +1,35 @@
+ghost use Rattle.std.specs.Prelude.{◌≡◌, MatchOption, None, Some};
+ghost use Rattle.job_commands.specs.Words.{asked, asked_of};
+
+use crate::{
+    CheckWords, MakeWords, PlayWords, RunWords, read_check_words, read_make_words, read_play_words,
+    read_run_words,
+};
+use plain_text::Text;
+
+/// A command, with what its words name.
+#[derive(Clone, Copy)]
+pub enum Command<'a> {
+    Run(RunWords<'a>),
+    Make(MakeWords<'a>),
+    Play(PlayWords<'a>),
+    Check(CheckWords<'a>),
+}
+
+/// The command that the words ask for. None where they are no command's.
+pub fn read_command(words: &[Text]) -> Option<Command<'_>>
+    ensures { MatchOption result (asked words.now ≡ None)
+        (λ command. asked words.now ≡ Some (asked_of command)) }
+{
+    if let Some(names) = read_run_words(words) {
+        return Some(Command::Run(names));
+    }
+    if let Some(names) = read_make_words(words) {
+        return Some(Command::Make(names));
+    }
+    if let Some(names) = read_play_words(words) {
+        return Some(Command::Play(names));
+    }
+    let names = read_check_words(words)?;
+    Some(Command::Check(names))
+}

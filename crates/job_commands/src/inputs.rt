@@ -1,0 +1,58 @@
+ghost use Rattle.std.specs.Prelude.{◌<◌, ◌-◌, ◌^◌, IsTrue, IfOk, IfErr, IsErrOf};
+ghost use Rattle.world_io.specs.Stream.{Rose};
+ghost use Rattle.run_writes.specs.Run.{CanRun};
+ghost use Rattle.input_files.specs.Files.{OnlyReads};
+ghost use Rattle.job_commands.specs.Judging.{JudgesInputs};
+ghost use Rattle.job_commands.specs.Run.{script_of};
+ghost use Rattle.job_commands.specs.Status.{AtInputs, ComesAt, EndsReading};
+ghost use Rattle.job_commands.specs.Words.{names_of};
+
+use crate::status::{box_status, capture_status, script_status};
+use crate::{RunWords, Status};
+use box_conf::BoxConf;
+use input_files::{Capture, read_box_file, read_capture_file, read_script_file};
+use script_text::Events;
+use std::alloc::Global;
+use world_io::World;
+
+/// The inputs of a run that were accepted.
+#[derive(Drop)]
+pub struct Inputs {
+    pub conf: BoxConf,
+    pub capture: Capture,
+    pub events: Events,
+}
+
+/// Reads and judges the input files, in their order: box, capture, script. The first that is not accepted ends the command.
+pub fn read_inputs<W: World>(
+    alloc: Global,
+    world: &mut W,
+    names: RunWords<'_>,
+) -> Result<Inputs, Status>
+    requires { (W.ledger world.old).given < 2 ^ 31 }
+    ensures judged { IsTrue W.tells
+        → JudgesInputs (W.healthy world.old) (names_of names.entry) result (W.shown world.old) }
+    ensures stage { IsTrue W.tells → IfErr result (ComesAt AtInputs) }
+    ensures quiet { IfErr result EndsReading }
+    ensures can_run { IfOk result (λ inputs. CanRun (script_of inputs)) }
+    ensures only_reads { OnlyReads W.tells W.shown W.ledger W.healthy 3 world.old world.new }
+    ensures cause { IsErrOf result Status.ReadFault
+        → Rose (W.ledger world.old).read_faults (W.ledger world.new).read_faults }
+{
+    let conf = match read_box_file(alloc, world, names.box_file) {
+        Ok(conf) => conf,
+        Err(error) => return Err(box_status(error)),
+    };
+    let capture = match read_capture_file(alloc, world, names.capture) {
+        Ok(capture) => capture,
+        Err(error) => return Err(capture_status(error)),
+    };
+    match read_script_file(alloc, world, names.script) {
+        Ok(events) => Ok(Inputs {
+            conf,
+            capture,
+            events,
+        }),
+        Err(error) => Err(script_status(error)),
+    }
+}

@@ -1,0 +1,30 @@
+//! The commands of FTMB beside the top call: their words and statuses, `make`, `play` and `check`, the inputs of `run`, and the laws.
+#![tactic(auto)]
+
+mod checking;
+mod command;
+mod inputs;
+mod laws;
+mod make_words;
+mod making;
+mod playing;
+mod run_words;
+mod schedule_inputs;
+mod schedule_words;
+mod status;
+mod text;
+
+pub use checking::check_released;
+pub use command::{Command, read_command};
+pub use inputs::{Inputs, read_inputs};
+pub use laws::{
+    inputs_are_of_bytes, one_verdict, pcapng_captures_are_savefiles, what_run_leaves_is_accepted,
+};
+pub use make_words::{MakeWords, read_make_words};
+pub use making::make_capture;
+pub use playing::play_capture;
+pub use run_words::{RunWords, read_run_words};
+pub use schedule_inputs::{CheckInputs, ScheduleInputs, read_check_inputs, read_schedule_inputs};
+pub use schedule_words::{CheckWords, PlayWords, ScheduleFiles, read_check_words, read_play_words};
+pub use status::{InputFault, Status, outcome, run_outcome};
+pub use text::StatusText;

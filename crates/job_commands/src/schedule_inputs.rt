@@ -1,0 +1,90 @@
+ghost use Rattle.std.specs.Prelude.{◌<◌, ◌^◌, IsTrue, IfOk, IfErr, IsErrOf};
+ghost use Rattle.world_io.specs.Stream.{Rose};
+ghost use Rattle.schedule_run.specs.Runs.{CanPlay};
+ghost use Rattle.input_files.specs.Files.{OnlyReads};
+ghost use Rattle.job_commands.specs.Schedules.{JudgesScheduleFiles, JudgesCheckFiles, schedule_of};
+ghost use Rattle.job_commands.specs.Status.{AtInputs, ComesAt, EndsReading};
+ghost use Rattle.job_commands.specs.Words.{check_names_of, files_of};
+
+use crate::status::{box_status, capture_status, released_status, schedule_status};
+use crate::{CheckWords, ScheduleFiles, Status};
+use box_conf::BoxConf;
+use input_files::{Capture, read_box_file, read_capture_file, read_schedule_file};
+use plain_machine::Schedule;
+use std::alloc::Global;
+use world_io::World;
+
+/// The inputs of a command that plays a schedule, which were accepted.
+#[derive(Drop)]
+pub struct ScheduleInputs {
+    pub conf: BoxConf,
+    pub capture: Capture,
+    pub schedule: Schedule,
+}
+
+/// The inputs of `check` that were accepted.
+#[derive(Drop)]
+pub struct CheckInputs {
+    pub played: ScheduleInputs,
+    pub released: Capture,
+}
+
+/// Reads and judges box, capture and schedule, in their order.
+pub fn read_schedule_inputs<W: World>(
+    alloc: Global,
+    world: &mut W,
+    files: ScheduleFiles<'_>,
+) -> Result<ScheduleInputs, Status>
+    requires { (W.ledger world.old).given < 2 ^ 31 }
+    ensures judged { IsTrue W.tells → JudgesScheduleFiles (W.healthy world.old)
+        (files_of files.entry) result (W.shown world.old) }
+    ensures stage { IsTrue W.tells → IfErr result (ComesAt AtInputs) }
+    ensures quiet { IfErr result EndsReading }
+    ensures can_play { IfOk result (λ inputs. CanPlay (schedule_of inputs)) }
+    ensures only_reads { OnlyReads W.tells W.shown W.ledger W.healthy 3 world.old world.new }
+    ensures cause { IsErrOf result Status.ReadFault
+        → Rose (W.ledger world.old).read_faults (W.ledger world.new).read_faults }
+{
+    let conf = match read_box_file(alloc, world, files.box_file) {
+        Ok(conf) => conf,
+        Err(error) => return Err(box_status(error)),
+    };
+    let capture = match read_capture_file(alloc, world, files.capture) {
+        Ok(capture) => capture,
+        Err(error) => return Err(capture_status(error)),
+    };
+    match read_schedule_file(alloc, world, files.schedule) {
+        Ok(schedule) => Ok(ScheduleInputs {
+            conf,
+            capture,
+            schedule,
+        }),
+        Err(error) => Err(schedule_status(error)),
+    }
+}
+
+/// Reads and judges the input files of `check`: those of the schedule, and then the released capture.
+pub fn read_check_inputs<W: World>(
+    alloc: Global,
+    world: &mut W,
+    names: CheckWords<'_>,
+) -> Result<CheckInputs, Status>
+    requires { (W.ledger world.old).given < 2 ^ 31 }
+    ensures judged { IsTrue W.tells → JudgesCheckFiles (W.healthy world.old)
+        (check_names_of names.entry) result (W.shown world.old) }
+    ensures stage { IsTrue W.tells → IfErr result (ComesAt AtInputs) }
+    ensures quiet { IfErr result EndsReading }
+    ensures can_play { IfOk result (λ inputs. CanPlay (schedule_of inputs.played)) }
+    ensures only_reads { OnlyReads W.tells W.shown W.ledger W.healthy 4 world.old world.new }
+    ensures cause { IsErrOf result Status.ReadFault
+        → Rose (W.ledger world.old).read_faults (W.ledger world.new).read_faults }
+{
+    let played = match read_schedule_inputs(alloc, world, names.files) {
+        Ok(played) => played,
+        Err(status) => return Err(status),
+    };
+    match read_capture_file(alloc, world, names.released) {
+        Ok(released) => Ok(CheckInputs { played, released }),
+        Err(error) => Err(released_status(error)),
+    }
+}

@@ -1,0 +1,188 @@
+ghost use Rattle.std.specs.Prelude.{◌≡◌};
+ghost use Rattle.job_commands.specs.Status.{exit_code_of, of_box_error, of_capture_error, of_released_error, of_schedule_error, of_script_error, check_outcome as check_outcome_of, outcome_of, play_outcome as play_outcome_of, run_outcome as run_outcome_of};
+
+use input_files::InputError;
+use output_files::OutputError;
+use pcap_io::CaptureFault;
+use pcapng_io::{AnyFault, NgFault};
+use plain_machine::PlayFault;
+use plain_text::{Limit, LineFault};
+use run_writes::RunError;
+use schedule_check::Refutation;
+use schedule_run::ScheduleError;
+
+/// An input file that leaves its grammar: which, where and why.
+#[derive(Clone, Copy, Debug, PartialEq, Eq)]
+pub enum InputFault {
+    BoxFile(LineFault),
+    Capture(CaptureFault),
+    NgCapture(NgFault),
+    Script(LineFault),
+    /// The text of the schedule.
+    Schedule(LineFault),
+    /// The schedule that is played is not legal: its first illegal move, and why.
+    Moves(PlayFault),
+    Released(CaptureFault),
+    NgReleased(NgFault),
+}
+
+/// What a command came to.
+#[derive(Clone, Copy, Debug, PartialEq, Eq)]
+pub enum Status {
+    Done,
+    /// What `check` refutes: the first illegal move of the schedule, or where it is legal the first packet that was not sent out.
+    Refuted(Refutation),
+    /// The words are no command's. Nothing was opened.
+    BadWords,
+    /// An input file could not be opened or read.
+    ReadFault,
+    /// An output file could not be created or written.
+    WriteFault,
+    NoMemory,
+    /// The first input file, in the order of the words, that leaves its grammar.
+    BadInput(InputFault),
+    /// A file passes a limit, or the run would.
+    TooLarge(Limit),
+}
+
+impl Status {
+    /// The exit status of the program.
+    pub fn exit_code(self) -> u8
+        ensures { result ≡ exit_code_of self }
+    {
+        match self {
+            Status::Done => 0,
+            Status::Refuted(_) => 1,
+            Status::BadWords => 2,
+            Status::ReadFault => 3,
+            Status::WriteFault => 4,
+            Status::NoMemory => 5,
+            Status::BadInput(_) => 6,
+            Status::TooLarge(_) => 7,
+        }
+    }
+}
+
+impl From<AnyFault> for InputFault {
+    ghost use Rattle.std.specs.Prelude.{◌≡◌};
+    ghost use Rattle.job_commands.specs.Status.{of_capture_fault};
+
+    ghost from_gives = { λ fault input. input ≡ of_capture_fault fault };
+
+    fn from(fault: AnyFault) -> Self {
+        match fault {
+            AnyFault::Capture(fault) => InputFault::Capture(fault),
+            AnyFault::Ng(fault) => InputFault::NgCapture(fault),
+        }
+    }
+}
+
+/// What a command comes to whose box file is not accepted.
+pub fn box_status(error: InputError<LineFault>) -> Status
+    ensures { result ≡ of_box_error error }
+{
+    match error {
+        InputError::ReadFault => Status::ReadFault,
+        InputError::TooLarge(limit) => Status::TooLarge(limit),
+        InputError::Fault(fault) => Status::BadInput(InputFault::BoxFile(fault)),
+        InputError::NoMemory => Status::NoMemory,
+    }
+}
+
+/// What a command comes to whose capture is not accepted.
+pub fn capture_status(error: InputError<AnyFault>) -> Status
+    ensures { result ≡ of_capture_error error }
+{
+    match error {
+        InputError::ReadFault => Status::ReadFault,
+        InputError::TooLarge(limit) => Status::TooLarge(limit),
+        InputError::Fault(fault) => Status::BadInput(fault.into()),
+        InputError::NoMemory => Status::NoMemory,
+    }
+}
+
+/// What a command comes to whose script is not accepted.
+pub fn script_status(error: InputError<LineFault>) -> Status
+    ensures { result ≡ of_script_error error }
+{
+    match error {
+        InputError::ReadFault => Status::ReadFault,
+        InputError::TooLarge(limit) => Status::TooLarge(limit),
+        InputError::Fault(fault) => Status::BadInput(InputFault::Script(fault)),
+        InputError::NoMemory => Status::NoMemory,
+    }
+}
+
+/// What a command comes to whose schedule is not accepted.
+pub fn schedule_status(error: InputError<LineFault>) -> Status
+    ensures { result ≡ of_schedule_error error }
+{
+    match error {
+        InputError::ReadFault => Status::ReadFault,
+        InputError::TooLarge(limit) => Status::TooLarge(limit),
+        InputError::Fault(fault) => Status::BadInput(InputFault::Schedule(fault)),
+        InputError::NoMemory => Status::NoMemory,
+    }
+}
+
+/// What a command comes to whose released capture is not accepted.
+pub fn released_status(error: InputError<AnyFault>) -> Status
+    ensures { result ≡ of_released_error error }
+{
+    match error {
+        InputError::ReadFault => Status::ReadFault,
+        InputError::TooLarge(limit) => Status::TooLarge(limit),
+        InputError::Fault(AnyFault::Capture(fault)) => {
+            Status::BadInput(InputFault::Released(fault))
+        }
+        InputError::Fault(AnyFault::Ng(fault)) => Status::BadInput(InputFault::NgReleased(fault)),
+        InputError::NoMemory => Status::NoMemory,
+    }
+}
+
+/// What `make` comes to.
+pub fn outcome(written: Result<(), OutputError>) -> Status
+    ensures { result ≡ outcome_of written }
+{
+    match written {
+        Ok(()) => Status::Done,
+        Err(OutputError::WriteFault) => Status::WriteFault,
+        Err(OutputError::NoMemory) => Status::NoMemory,
+    }
+}
+
+/// What `run` comes to.
+pub fn run_outcome(run: Result<(), RunError>) -> Status
+    ensures { result ≡ run_outcome_of run }
+{
+    match run {
+        Ok(()) => Status::Done,
+        Err(RunError::Limit(limit)) => Status::TooLarge(limit),
+        Err(RunError::WriteFault) => Status::WriteFault,
+        Err(RunError::NoMemory) => Status::NoMemory,
+    }
+}
+
+/// What `play` comes to.
+pub fn play_outcome(play: Result<(), ScheduleError<PlayFault>>) -> Status
+    ensures { result ≡ play_outcome_of play }
+{
+    match play {
+        Ok(()) => Status::Done,
+        Err(ScheduleError::Refused(fault)) => Status::BadInput(InputFault::Moves(fault)),
+        Err(ScheduleError::WriteFault) => Status::WriteFault,
+        Err(ScheduleError::NoMemory) => Status::NoMemory,
+    }
+}
+
+/// What `check` comes to.
+pub fn check_outcome(check: Result<(), ScheduleError<Refutation>>) -> Status
+    ensures { result ≡ check_outcome_of check }
+{
+    match check {
+        Ok(()) => Status::Done,
+        Err(ScheduleError::Refused(refutation)) => Status::Refuted(refutation),
+        Err(ScheduleError::WriteFault) => Status::WriteFault,
+        Err(ScheduleError::NoMemory) => Status::NoMemory,
+    }
+}

@@ -1,0 +1,4 @@
+pub mod Replies
+pub mod Run
+pub mod Errors
+pub mod Steps

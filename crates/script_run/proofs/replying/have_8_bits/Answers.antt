@@ -1,5 +1,0 @@
-use Rattle.std.proofs.Common.{arith}
-use Rattle.script_run.proofs.replying.have_8_bits.Goals as goal
-
-pub returns : goal.returns
-returns c = λ k. omega (arith, c.type_inv.bytes k)

@@ -1,6 +1,0 @@
-use Rattle.std.proofs.Common.{arith}
-use Rattle.script_run.proofs.OutputRecords.{short_one}
-use Rattle.script_run.proofs.replying.room_for.Goals as goal
-
-pub record_len-requires : goal.record_len-requires
-record_len-requires c = short_one c.args.outputs.now c.loop-output.output-index c.output-item.result c.requires (omega arith) c.output-item.is
