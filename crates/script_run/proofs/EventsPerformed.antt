@@ -11,8 +11,9 @@ use Rattle.recovery_laws.proofs.KeptWorlds.{any_sound, stops_sound}
 use Rattle.event_replies.specs.declared.reply.Reply.{Reply as SystemReply}
 use Rattle.event_replies.specs.declared.reply.Stop.{Stop}
 use Rattle.event_replies.specs.declared.reply.Stop.TheVariants as stop
+use Rattle.system_parts.specs.Performing.{IsStopped}
 use Rattle.recovery_core.specs.Systems.{Systemed}
-use Rattle.recovery_core.specs.Systems.{HasReleased, SystemStands, SystemMoves, SystemStops, RepliesAny, IsStopped}
+use Rattle.recovery_core.specs.Systems.{HasReleased, SystemStands, SystemMoves, SystemStops, RepliesAny}
 use Rattle.run_writes.specs.Run.{IsShort}
 use Rattle.run_writes.specs.Replies.{packets_in}
 use Rattle.script_run.specs.Running.{IsAt, ComesTo}
