@@ -1,5 +1,5 @@
 -- A run stops at the limit of moves or at that of bytes sent out.
-use Rattle.std.proofs.Common.{◌≡◌, ℕ, Bool, true, false, sym, ap, Option, Some, None, Result, Ok, Err}
+use Rattle.std.proofs.Common.{◌≡◌, ℕ, Bool, true, false, refl, sym, ap, subst, Option, Some, None}
 use Rattle.std.specs.Prelude.{nat_lt, cond}
 use Rattle.plain_text.specs.declared.limit.TheConstants.{MOST_MOVES, MOST_OUTPUT_BYTES}
 use Rattle.plain_text.specs.declared.limit.Limit.{Limit}
@@ -7,7 +7,8 @@ use Rattle.plain_text.specs.declared.limit.Limit.TheVariants as limit_of
 use Rattle.recovery_world.specs.declared.event.Event.{Event}
 use Rattle.recovery_world.specs.World.{Setting, World}
 use Rattle.recovery_world.specs.Limits.{Passes, limit_passed}
-use Rattle.recovery_world.specs.Many.{StepsOut, IsIdle, Waits, Halts, Steps, Round, NoThread, Thread, HaltsBefore, HaltsThere, Rounds, Rests, HaltsIn, Again, Feeds, Empties, HaltsOn, More, Stops, SingleStops, SettlingStops, ChoosingStops}
+use Rattle.recovery_world.specs.Strategies.{Strategy, Follows, Ends, Halts, Goes}
+use Rattle.recovery_world.specs.Many.{goes_on, Stops, SingleStops, SeveralStops}
 use Rattle.job_commands.specs.Status.{AtOutputs, stage_of_limit}
 
 abbrev pub IsOfRun : Limit → Type 0
@@ -24,40 +25,18 @@ passed_is moves bytes limit e = first (nat_lt MOST_MOVES moves) (nat_lt MOST_OUT
     first true b e = let q : limit_of.Moves ≡ limit = cc in ap stage_of_limit (sym q)
     first false b e = second b e
 
-event_is : {V : Type 0} (s : Setting V) (w : World V) (ev : Event) (limit : Limit) → Passes s w ev limit → IsOfRun limit
-event_is s w ev limit p = passed_is p.new.moves p.new.bytes limit p.passed
+passes_is : {V : Type 0} (s : Setting V) (w : World V) (ev : Event) (limit : Limit) → Passes s w ev limit → IsOfRun limit
+passes_is s w ev limit p = passed_is p.new.moves p.new.bytes limit p.passed
 
-abbrev OfResult : {A : Type 0} → Result A Limit → Type 0
-OfResult (Ok x) = Unit {0}
-OfResult (Err limit) = IsOfRun limit
+follows_is : {Q V : Type 0} (s : Setting V) (next : Strategy Q V) (q : Q) (w new : World V) (end : Option Limit)
+    → Follows s next q w end new → (limit : Limit) → end ≡ Some limit → IsOfRun limit
+follows_is s next q w new end (Ends p same none) limit is = absurd (cc)
+follows_is s next q w new end (Halts p same c l some passes) limit is =
+    let q : l ≡ limit = cc in subst IsOfRun q (passes_is s same c.event l passes)
+follows_is s next q w new end (Goes {mid = mid} p same c to freed some on rest) limit is =
+    follows_is s next (c.leads_to to) mid new end rest limit is
 
-abbrev OfOption : Option Limit → Type 0
-OfOption None = Unit {0}
-OfOption (Some limit) = IsOfRun limit
-
-steps_are : {V : Type 0} (s : Setting V) (t : ℕ) (w new : World V) (end : Result Bool Limit) → StepsOut s t w end new → OfResult end
-steps_are s t w new end (IsIdle same on) = tt
-steps_are s t w new end (Waits same u n on) = tt
-steps_are s t w new end (Halts same limit passes) = event_is s same _ limit passes
-steps_are s t w new end (Steps {mid = mid} to on a b rest) = steps_are s t mid new end rest
-
-round_is : {V : Type 0} (s : Setting V) (w : World V) (t : ℕ) (new : World V) (end : Result Bool Limit) → Round s w t end new → OfResult end
-round_is s w t new end NoThread = tt
-round_is s w t new end (Thread before own idle r out is) = tt
-round_is s w t new end (HaltsBefore {t = k} limit r) = round_is s w k new (Err limit) r
-round_is s w t new end (HaltsThere {t = k} {mid = mid} before limit r out) = steps_are s k mid new (Err limit) out
-
-rounds_are : {V : Type 0} (s : Setting V) (w new : World V) (end : Option Limit) → Rounds s w end new → OfOption end
-rounds_are s w new end (Rests r) = tt
-rounds_are s w new end (HaltsIn limit r) = round_is s w s.threads new (Err limit) r
-rounds_are s w new end (Again {mid = mid} r rest) = rounds_are s mid new end rest
-
-feeds_are : {V : Type 0} (s : Setting V) (w new : World V) (end : Option Limit) → Feeds s w end new → OfOption end
-feeds_are s w new end (Empties r all) = tt
-feeds_are s w new end (HaltsOn limit r) = rounds_are s w new (Some limit) r
-feeds_are s w new end (More {fed = fed} to r some on rest) = feeds_are s fed new end rest
-
-pub stops_are : {V : Type 0} (s : Setting V) (w : World V) (ev : Event) (limit : Limit) (new : World V) → Stops s w ev limit new → IsOfRun limit
-stops_are s w ev limit new (SingleStops e l passes) = event_is s w e l passes
-stops_are s w ev limit new (SettlingStops l n r) = feeds_are s r.up new (Some limit) r.runs
-stops_are s w ev limit new (ChoosingStops seed n k l m low r passes) = event_is s new _ l passes
+pub stops_are : {V : Type 0} (s : Setting V) (w : World V) (ev : Event) (limit : Limit) (new : World V)
+    → Stops s w ev limit new → IsOfRun limit
+stops_are s w ev limit new (SingleStops e l passes) = passes_is s w e l passes
+stops_are s w ev limit new (SeveralStops e q l n begun follows) = follows_is s (goes_on s) q w n (Some l) follows l refl

@@ -26,6 +26,7 @@ use std::alloc::Global;
 use std::marker::Model;
 use std::mem;
 use system_end::{discard, end_awake};
+use system_opening::open_parts;
 use system_parts::Core;
 
 /// A recovering system on the packets of a capture: an input logger, a master that runs a box, its snapshots, the links behind it, and
@@ -117,7 +118,7 @@ impl<P: Program> System<P> {
         ensures runs { IfOk result (λ y. y.stopped ≡ false) }
         ensures none { IfOk result (λ y. y.handed ≡ 0) }
     {
-        let core = Core::new(alloc, program, threads, seed, unit, packets)?;
+        let core = open_parts(alloc, program, threads, seed, unit, packets)?;
         Ok(System {
             core,
             stopped: false,

@@ -1,5 +1,4 @@
 pub mod CoreParts
-pub mod OpeningLemmas
 pub mod LineLemmas
 pub mod SnapshotLemmas
 pub mod OutputNumbers

@@ -7,4 +7,4 @@ pub invariant_of-result : goal.invariant_of-result
 invariant_of-result g c = λ runs. subst (λ p. StandsForSome (g.P.Program.meaning p) c.in_ok-core.core) (sym c.in_ok-core.ensures.program) (_, _, c.in_ok-core.ensures.stands)
 
 pub returns-clause-stands : goal.returns-clause-stands
-returns-clause-stands g c = system_opens _ _ _ c.in_ok-core.ensures.stands refl c.new-2.ensures
+returns-clause-stands g c = system_opens _ _ _ c.in_ok-core.ensures.stands refl c.new.ensures

@@ -1,7 +1,7 @@
 use Rattle.std.proofs.Common.{arith, refl, ap, ◌∙◌, reverse}
 use Rattle.std.proofs.lemmas.List.{reverse-reverse}
-use Rattle.system_parts.proofs.OpeningLemmas.{first_generator, opening_stands, opening_are_parts}
-use Rattle.system_parts.proofs.assembly.Core.new.Goals as goal
+use Rattle.system_opening.proofs.OpeningLemmas.{first_generator, opening_stands, opening_are_parts}
+use Rattle.system_opening.proofs.opening.open_parts.Goals as goal
 
 pub invariant_of-result : goal.invariant_of-result
 invariant_of-result g c =

@@ -1,0 +1,76 @@
+ghost use Rattle.std.specs.Prelude.{◌≡◌, ◌≤◌, ℕ, All, IfOk, length};
+ghost use Rattle.plain_text.specs.declared.packet.Packet as packet_of;
+ghost use Rattle.plain_text.specs.declared.packet.Unit as unit_of;
+ghost use Rattle.recovery_world.specs.World.{Setting, World, opening};
+ghost use Rattle.system_parts.specs.Parts.{IsShort};
+ghost use Rattle.system_parts.specs.Standing.{StandsFor};
+
+use box_program::Program;
+use event_replies::Releases;
+use input_logger::InputLog;
+use master_core::Master;
+use output_logger::OutputLogger;
+use plain_machine::Schedule;
+use plain_text::{NoMemory, Packets, Unit};
+use rand_pcg::Pcg32;
+use replay_guide::Guide;
+use sent_frames::SentFrames;
+use snapshot_store::Store;
+use std::alloc::Global;
+use system_parts::{Core, STREAM};
+
+/// More packets than this are taken for more than memory has.
+const MOST_PACKETS: usize = 1 << 50;
+
+/// The parts of a system on these packets, before the first event.
+pub fn open_parts<P: Program>(
+    alloc: Global,
+    program: P,
+    threads: u32,
+    seed: u64,
+    unit: Unit,
+    packets: Packets,
+) -> Result<Core<P>, NoMemory>
+    requires some_threads { 1 ≤ threads }
+    requires few_threads { threads ≤ 16 }
+    requires short { All IsShort packets }
+    ensures stands { IfOk result (λ y. StandsFor (P.meaning program) (record {
+      meaning = P.meaning program;
+      threads = threads;
+      fractions = unit;
+      packets = packets;
+      seed = seed;
+    }) (opening P.Value) y) }
+    ensures program { IfOk result (λ y. y.program ≡ program) }
+{
+    if packets.len() >= MOST_PACKETS {
+        return Err(NoMemory);
+    }
+    let inputs = InputLog::new(alloc, threads)?;
+    let sent = SentFrames::new(alloc, threads)?;
+    let logger = OutputLogger::new(alloc, threads)?;
+    let master = Master::fresh(alloc, &program, threads)?;
+    let store = Store::new(alloc, &program, threads)?;
+    let mut left = packets.into_vec();
+    left.reverse();
+    Ok(Core {
+        alloc,
+        program,
+        unit,
+        clock: 0,
+        generator: Pcg32::new(seed, STREAM),
+        left,
+        inputs,
+        up: true,
+        master,
+        schedule: Schedule::new(alloc),
+        guide: Guide::none(alloc),
+        store,
+        ended: Vec::new(alloc),
+        moves: 0,
+        bytes: 0,
+        sent,
+        logger,
+        released: Releases::new(alloc),
+    })
+}
