@@ -8,7 +8,7 @@ PREFIX ?= /usr/local
 
 SOURCES := crates.txt scripts/build $(shell find crates -name out -prune -o -type f -print)
 
-.PHONY: all try test example bench soak interop install clean distclean
+.PHONY: all try test plants example bench soak interop install clean distclean
 
 # The program, proved and built.
 all: build/ftmb
@@ -28,6 +28,10 @@ try:
 # Every proof, edit that must fail, test and stored run.
 test:
 	$(RT) ci
+
+# Tries the wrong bodies of plants, in a copy, and says which goal refuses each; no part of the gate.
+plants:
+	scripts/plants $(RT)
 
 # Runs a box on a packet, the one of the program's stored run, and checks what it wrote; and runs a box on two threads by a script of single
 # events, and the NAT on packets of two hosts. Shows what was written. Last, the NAT crashes when a host's first packet has left: both its

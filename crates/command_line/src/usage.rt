@@ -14,7 +14,7 @@ what it released is written, and then its line of the report.
             `time N`, `step T`, `step T = V`, `log T N`, `out T J`,
             `late E log T N`, `late E out T J`, `cut log T N LEN`,
             `cut out T J LEN`, `snap`, `store`, `crash`, `recover`,
-            `show V`, `settle`, `auto S N`
+            `show V`, `settle`, `flow N`, `auto S N`
   RELEASED  capture of the packets that were released, written
   SCHEDULE  text of the moves of the run in which it ends, written
 

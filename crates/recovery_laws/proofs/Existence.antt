@@ -13,12 +13,11 @@ use Rattle.plain_text.specs.declared.kind.Kind.TheVariants as kind
 use Rattle.recovery_world.specs.declared.event.Event.{Event}
 use Rattle.recovery_world.specs.declared.event.Event.TheVariants as event
 use Rattle.recovery_world.specs.declared.event.Outcome.{Outcome}
-use Rattle.recovery_world.specs.declared.event.Outcome.TheVariants as outcome
 use Rattle.recovery_world.specs.World.{Setting, Sent, World}
 use Rattle.recovery_world.specs.Events.{OnStep, OnRecover, On}
-use Rattle.recovery_world.specs.Limits.{limit_passed, IsWithin, OnWithin, Passes}
-use Rattle.recovery_world.specs.Strategies.{Choice, Strategy, Follows, Ends, Halts, Goes}
-use Rattle.recovery_world.specs.Many.{Message, arrival, arrival_of, Phase, Wakes, Steps, Arrives, Chooses, rests, turn_at, after_step, first_of, all_messages, at_rest, auto_event, chosen, goes_on, begins, summary_of, OnAny, Single, Several, Stops, SingleStops, SeveralStops}
+use Rattle.recovery_world.specs.Limits.{limit_passed, IsWithin, OnWithin}
+use Rattle.recovery_world.specs.Strategies.{Choice, Follows, Ends, Halts, Goes}
+use Rattle.recovery_world.specs.Many.{Message, arrival, arrival_of, Phase, Wakes, Steps, Arrives, Chooses, rests, turn_at, after_step, all_messages, auto_event, chosen, goes_on, begins, summary_of, OnAny, Single, Several, Stops, SingleStops, SeveralStops}
 use Rattle.recovery_laws.specs.Sound.{Sound}
 use Rattle.recovery_laws.proofs.KeptWorlds.{within_sound}
 use Rattle.recovery_laws.proofs.EventOutcomes.{on_there}
@@ -139,7 +138,7 @@ module _ {V : Type 0} (s : Setting V) where
       (MOST_MOVES - w.moves) w r (omega arith) t moved few
   feeds_end (suc k) w r t moved few =
       moves_end (suc k) (λ z ready b. by_event (Steps (suc k) s.threads b) z (record { event = event.Feed 1; leads_to = λ to. Steps k 0 false }) ready.sound (rests_next s (suc k) s.threads b z refl) refl
-        (λ mid to freed on. feeds_end k mid (record { sound = within_sound s z (event.Feed 1) to freed mid ready.sound on; within = on.1; up = ap (λ (x : World V). x.up) on.0.2 ∙ ready.up }) 0 false (omega arith)))
+      (λ mid to freed on. feeds_end k mid (record { sound = within_sound s z (event.Feed 1) to freed mid ready.sound on; within = on.1; up = ap (λ (x : World V). x.up) on.0.2 ∙ ready.up }) 0 false (omega arith)))
       (MOST_MOVES - w.moves) w r (omega arith) t moved few
 
   woken : (w up : World V) (to : Outcome) → OnRecover w to up → up.up ≡ true

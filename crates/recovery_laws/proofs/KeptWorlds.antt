@@ -1,6 +1,6 @@
 -- Each event keeps what holds of a world.
 use Rattle.std.proofs.Common.{◌≡◌, ℕ, ◌+◌, ◌≤◌, ◌≢◌, Bool, true, false, List, [], ◌∷◌, ◌++◌, length, refl, sym, ap, ◌∙◌, subst, inl, inr, ◌⊎◌, arith, Option, Some, None}
-use Rattle.std.specs.Prelude.{◌↔◌, Result, Ok, Err}
+use Rattle.std.specs.Prelude.{◌↔◌}
 use Rattle.plain_text.specs.declared.limit.Limit.{Limit}
 use Rattle.entry_order.specs.Log.{Entry, IsLog, IsIn, IsClosed, Keeps, PrecedesOutput}
 use Rattle.entry_order.specs.Closed.{IsClosedOver, IsMissing}
@@ -17,7 +17,7 @@ use Rattle.plain_text.specs.declared.kind.Kind.{Kind}
 use Rattle.plain_text.specs.declared.kind.Kind.TheVariants as kind
 use Rattle.recovery_world.specs.declared.event.Outcome.{Outcome}
 use Rattle.recovery_world.specs.World.{Setting, Sent, Ended as EndedEpoch, World, opening, inputs_fed}
-use Rattle.recovery_world.specs.Events.{IsKnown, IsPartOf, MayGo, Releases, IsAmong, HasNumber, HasArrived, OnStep, OnLog, OnOut, OnLate, OnCut, OnStore, Recovers, Wakes, entries_of_line, ended_now, fed_after, after_feed, On}
+use Rattle.recovery_world.specs.Events.{IsKnown, IsPartOf, MayGo, Releases, IsAmong, HasNumber, HasArrived, OnStep, OnLog, OnOut, OnLate, OnCut, OnStore, Recovers, entries_of_line, ended_now, fed_after, after_feed, On}
 use Rattle.recovery_world.specs.Limits.{OnWithin}
 use Rattle.recovery_world.specs.Strategies.{Strategy, Follows, Ends, Halts, Goes as GoesOn}
 use Rattle.recovery_world.specs.Many.{goes_on, OnAny, Single, Several, Stops, SingleStops, SeveralStops}

@@ -1,6 +1,5 @@
 -- What was released stays, in its order: each event adds to it, or leaves it.
-use Rattle.std.proofs.Common.{◌≡◌, ℕ, Bool, true, false, List, [], ◌∷◌, ◌++◌, append_assoc, append-nil, refl, sym, ap, ◌∙◌, inl, inr, Option, Some, None}
-use Rattle.std.specs.Prelude.{Result, Ok, Err}
+use Rattle.std.proofs.Common.{◌≡◌, ℕ, List, [], ◌∷◌, ◌++◌, append_assoc, append-nil, refl, sym, ap, ◌∙◌, inl, inr, Option, Some, None}
 use Rattle.plain_text.specs.declared.limit.Limit.{Limit}
 use Rattle.recovery_world.specs.declared.event.Event.{Event}
 use Rattle.recovery_world.specs.declared.event.Event.TheVariants as event
@@ -8,7 +7,7 @@ use Rattle.plain_text.specs.declared.kind.Kind.{Kind}
 use Rattle.plain_text.specs.declared.kind.Kind.TheVariants as kind
 use Rattle.recovery_world.specs.declared.event.Outcome.{Outcome}
 use Rattle.recovery_world.specs.World.{Setting, Sent, World}
-use Rattle.recovery_world.specs.Events.{OnStep, OnLog, OnOut, OnLate, OnCut, Releases, Wakes, On}
+use Rattle.recovery_world.specs.Events.{OnStep, OnLog, OnOut, OnLate, OnCut, Releases, On}
 use Rattle.recovery_world.specs.Strategies.{Strategy, Follows, Ends, Halts, Goes}
 use Rattle.recovery_world.specs.Many.{goes_on, OnAny, Single, Several, Stops, SingleStops, SeveralStops}
 

@@ -1,28 +1,26 @@
 -- The threads go on in rounds until none moves in one, packets coming in between: they are idle then.
-use Rattle.std.proofs.Common.{◌≡◌, ℕ, zero, suc, ◌+◌, ◌-◌, ◌≤◌, ◌<◌, ◌≢◌, Bool, true, false, List, [], length, refl, sym, ap, ◌∙◌, subst, inl, inr, ◌⊎◌, arith, Option, Some, None}
-use Rattle.std.specs.Prelude.{◌||◌, not, nat_lt, min}
+use Rattle.std.proofs.Common.{◌≡◌, ℕ, zero, suc, ◌+◌, ◌≤◌, ◌<◌, ◌≢◌, Bool, true, false, List, [], length, refl, sym, ap, ◌∙◌, subst, inl, inr, ◌⊎◌, arith, Option, Some, None}
+use Rattle.std.specs.Prelude.{◌||◌, nat_lt, min}
 use Rattle.std.proofs.lemmas.Bool.Decides.{nat_tests}
 use Rattle.plain_text.specs.declared.limit.Limit.{Limit}
 use Rattle.entry_order.specs.declared.what.What.{What}
 use Rattle.entry_order.specs.declared.what.What.TheVariants as what
-use Rattle.entry_order.specs.Log.{Entry, entries, places, IsLog, IsIn, IsNext}
+use Rattle.entry_order.specs.Log.{Entry, entries, places, IsLog, IsNext}
 use Rattle.entry_order.specs.Closed.{IsNoLater}
 use Rattle.entry_order.proofs.Order.{is_or, place_within}
 use Rattle.plain_machine.specs.declared.local.Move.{Move}
 use Rattle.plain_machine.specs.declared.local.Move.TheVariants as move
 use Rattle.plain_machine.specs.History.{Act, Took, Did, Emitted, Ended, log_of}
 use Rattle.plain_machine.proofs.Histories.{history_log}
-use Rattle.recovery_world.specs.declared.event.Event.{Event}
 use Rattle.recovery_world.specs.declared.event.Event.TheVariants as event
 use Rattle.recovery_world.specs.declared.event.Outcome.{Outcome}
-use Rattle.recovery_world.specs.declared.event.Outcome.TheVariants as outcome
 use Rattle.recovery_world.specs.World.{Setting, Sent, World, inputs_fed}
 use Rattle.recovery_world.specs.Turns.{IsReadToCome, IsTouchToCome, IsAwaited, Awaits}
 use Rattle.recovery_world.specs.Events.{move_outcome, entry_outcome, MakesMove, WantsMore, OnStep, On}
 use Rattle.recovery_world.specs.Finish.{IsToCome}
 use Rattle.recovery_world.specs.Limits.{OnWithin}
 use Rattle.recovery_world.specs.Strategies.{Choice, Follows, Ends, Halts, Goes}
-use Rattle.recovery_world.specs.Many.{Message, Phase, Wakes, Steps, Arrives, Chooses, rests, turn_at, after_step, all_messages, at_rest, goes_on}
+use Rattle.recovery_world.specs.Many.{Phase, Wakes, Steps, Arrives, Chooses, rests, turn_at, after_step, all_messages, at_rest, goes_on}
 use Rattle.recovery_laws.specs.Sound.{Sound}
 use Rattle.recovery_laws.proofs.KeptWorlds.{within_sound}
 use Rattle.recovery_laws.proofs.SoundParts.{to_come_first, to_come_thread, followed_moves}
@@ -225,7 +223,7 @@ module _ {V : Type 0} (s : Setting V) where
       pick zero some b (inr is) = resting total w new t moved is b (Goes (Arrives (all_messages s w)) w c to freed (sym (rests_next 0 t moved w is) ∙ some) on rest)
       pick (suc k) some b (inr is) = (subst (λ (x : Choice Phase). Shows total (x.leads_to to) mid new) is_feed shown)
           (first_turn total mid k (ap (λ (z : World V). z.up) on_feed.0.2 ∙ b.up) (within_sound s w (event.Feed 1) to freed mid b.sound on_feed)
-            (let f = one_fed w mid to freed on_feed.0 some_left in let e = b.fed in omega (arith, e, f)))
+          (let f = one_fed w mid to freed on_feed.0 some_left in let e = b.fed in omega (arith, e, f)))
         where
           is_feed : c ≡ record { event = event.Feed 1; leads_to = λ to. Steps k 0 false }
           is_feed = let j = sym some ∙ rests_next (suc k) t moved w is in cc
@@ -257,7 +255,7 @@ module _ {V : Type 0} (s : Setting V) where
           })
           step true r = next_turn total w new left t moved low b (record { to = to; on = (subst (λ (z : World V). OnStep s w t None to z) same on_step.0.0, refl); at_rest = r })
               (subst (λ (z : World V). Shows total (turn_at s.threads left (t + 1) moved) z new) same
-                (subst (λ (q : Phase). Shows total q mid new) (let e : after_step s.threads left t moved to ≡ turn_at s.threads left (t + 1) moved = rw r refl in e) after))
+              (subst (λ (q : Phase). Shows total q mid new) (let e : after_step s.threads left t moved to ≡ turn_at s.threads left (t + 1) moved = rw r refl in e) after))
             where
               same : mid ≡ w
               same = no_move w mid t to on_step.0.0 r

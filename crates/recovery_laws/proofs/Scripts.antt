@@ -1,27 +1,23 @@
 -- A script comes to one thing: so do events of several, and so what it leaves is one.
-use Rattle.std.proofs.Common.{◌≡◌, ℕ, ◌≤◌, ◌<◌, ◌≢◌, Bool, true, false, List, [], ◌∷◌, ◌++◌, refl, sym, ap, ◌∙◌, subst, inl, inr, ◌⊎◌, arith, Option, Some, None}
-use Rattle.std.specs.Prelude.{Result, Ok, Err, ◌&&◌}
+use Rattle.std.proofs.Common.{◌≡◌, ℕ, List, [], ◌∷◌, ◌++◌, refl, sym, ap, ◌∙◌, subst, Option, Some, None}
 use Rattle.plain_text.specs.declared.limit.Limit.{Limit}
 use Rattle.plain_text.specs.declared.packet.Packet.{Packet}
 use Rattle.plain_machine.specs.declared.plain_move.PlainMove.{PlainMove}
 use Rattle.plain_machine.specs.History.{Step}
-use Rattle.std.proofs.lemmas.Bool.{cases_lt}
-use Rattle.entry_order.proofs.Order.{is_or}
 use Rattle.recovery_world.specs.declared.event.Event.{Event}
 use Rattle.recovery_world.specs.declared.event.Event.TheVariants as event
 use Rattle.recovery_world.specs.declared.event.Outcome.{Outcome}
-use Rattle.recovery_world.specs.declared.event.Outcome.TheVariants as outcome
 use Rattle.recovery_world.specs.World.{Setting, Sent, World, opening}
-use Rattle.recovery_world.specs.Events.{Wakes, On}
+use Rattle.recovery_world.specs.Events.{On}
 use Rattle.recovery_world.specs.Limits.{limit_passed, IsWithin, OnWithin, Passes}
 use Rattle.recovery_world.specs.Strategies.{Choice, Strategy, Follows, Ends, Halts, Goes}
-use Rattle.recovery_world.specs.Many.{Phase, Steps, goes_on, begins, summary_of, OnAny, Single, Several, Stops, SingleStops, SeveralStops}
+use Rattle.recovery_world.specs.Many.{Phase, goes_on, begins, summary_of, OnAny, Single, Several, Stops, SingleStops, SeveralStops}
 use Rattle.recovery_world.specs.Files.{reply_line, done_line, packets_of, moves_made, Performs, Rests as NoMore, Goes as Writes, Leaves, LeavesAt}
 use Rattle.recovery_world.specs.Finish.{IsFinish}
 use Rattle.recovery_laws.specs.Sound.{Sound}
 use Rattle.recovery_laws.proofs.KeptWorlds.{opening_sound, within_sound, any_sound}
 use Rattle.recovery_laws.proofs.OneFinish.{finish_one}
-use Rattle.recovery_laws.proofs.OneOutcome.{Same, on_one, recovers_one}
+use Rattle.recovery_laws.proofs.OneOutcome.{Same, on_one}
 
 -- The counts stay within the limits
 
@@ -71,7 +67,7 @@ follows_one {Q} {V} s next q w a b end other h (Goes {mid = mid} p same c to fre
     let one = on_one s w h c.event to to2 freed freed2 mid mid2 on.0 on3.0 in
     let at : c2.leads_to to2 ≡ c.leads_to to = ap (λ (x : Choice Q). x.leads_to to2) e ∙ ap c.leads_to (sym one.outcome_is) in
     follows_one s next (c.leads_to to) mid a b end other (within_sound s w c.event to freed mid h on) rest
-      (subst (λ (z : World V). Follows s next (c.leads_to to) z other b) (sym one.new_is) (subst (λ (x : Q). Follows s next x mid2 other b) at rest2))
+    (subst (λ (z : World V). Follows s next (c.leads_to to) z other b) (sym one.new_is) (subst (λ (x : Q). Follows s next x mid2 other b) at rest2))
 
 -- Each event of a script
 

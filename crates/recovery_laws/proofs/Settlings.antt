@@ -1,16 +1,14 @@
 -- A flow and a settling release all: behind the packets that came in all threads are idle, all that they logged is held, and all that
 -- they sent out is released.
-use Rattle.std.proofs.Common.{◌≡◌, ℕ, zero, suc, ◌+◌, ◌≤◌, ◌<◌, ◌≢◌, Bool, true, false, List, [], ◌∷◌, ◌++◌, length, refl, sym, ap, ◌∙◌, subst, inl, inr, ◌⊎◌, arith, Option, Some, None}
-use Rattle.std.specs.Prelude.{◌-◌, min, nat_eq, take, slice_get, if◌then◌else◌}
+use Rattle.std.proofs.Common.{◌≡◌, ℕ, zero, suc, ◌+◌, ◌≤◌, ◌<◌, ◌≢◌, true, false, List, [], ◌∷◌, ◌++◌, length, refl, sym, ap, ◌∙◌, subst, inl, inr, ◌⊎◌, arith, Option, Some, None}
+use Rattle.std.specs.Prelude.{◌-◌, min, nat_eq, take, slice_get}
 use Rattle.std.proofs.lemmas.Bool.Decides.{nat_tests}
 use Rattle.plain_text.specs.declared.limit.Limit.{Limit}
 use Rattle.plain_text.specs.declared.kind.Kind.{Kind}
 use Rattle.plain_text.specs.declared.kind.Kind.TheVariants as kind
 use Rattle.plain_text.specs.declared.packet.Packet.{Packet}
 use Rattle.input_logger.specs.Inputs.{inputs_of}
-use Rattle.entry_order.specs.declared.what.What.{What}
-use Rattle.entry_order.specs.declared.what.What.TheVariants as what
-use Rattle.entry_order.specs.Log.{Entry, entries, IsIn, IsNext}
+use Rattle.entry_order.specs.Log.{Entry, entries, IsIn}
 use Rattle.entry_order.specs.Closed.{IsMissing}
 use Rattle.entry_order.proofs.Order.{is_or, number_within}
 use Rattle.entry_order.proofs.KeptEntries.{in_either}
@@ -18,8 +16,7 @@ use Rattle.entry_order.proofs.Missing.{output_in}
 use Rattle.plain_machine.specs.declared.emission.Emission.{Emission}
 use Rattle.plain_machine.specs.declared.plain_move.PlainMove.{PlainMove}
 use Rattle.plain_machine.specs.Program.{Meaning}
-use Rattle.plain_machine.specs.Machine.{Thread as MachineThread}
-use Rattle.plain_machine.specs.History.{Act, Took, Did, Emitted, Ended, Step, log_of, sent_of, outputs, thread_after, IsStep, IsHistory}
+use Rattle.plain_machine.specs.History.{Emitted, Step, log_of, sent_of, outputs, thread_after, IsStep, IsHistory}
 use Rattle.plain_machine.specs.Agree.{IsEarlier, SendsAfter}
 use Rattle.plain_machine.proofs.Histories.{history_log, did_emission, earlier_history, earlier_outputs}
 use Rattle.plain_machine.proofs.Agreement.{histories_agree, sends_at}
@@ -30,26 +27,23 @@ use Rattle.line_order.proofs.QuietMoves.{quiet_later}
 use Rattle.recovery_world.specs.declared.event.Event.{Event}
 use Rattle.recovery_world.specs.declared.event.Event.TheVariants as event
 use Rattle.recovery_world.specs.declared.event.Outcome.{Outcome}
-use Rattle.recovery_world.specs.declared.event.Outcome.TheVariants as outcome
 use Rattle.recovery_world.specs.World.{Setting, Sent, World, inputs_fed, all_inputs, opening}
-use Rattle.recovery_world.specs.Events.{entry_outcome, move_outcome, MakesMove, WantsMore, OnStep, IsKnown, IsEntryOf, IsAmong, HasNumber, IsOutputOf, Wakes, On}
+use Rattle.recovery_world.specs.Events.{IsKnown, IsEntryOf, IsAmong, HasNumber, IsOutputOf, Wakes, On}
 use Rattle.recovery_world.specs.Limits.{OnWithin}
 use Rattle.recovery_world.specs.Finish.{IsToCome, AllGoOn, IsFinish}
 use Rattle.recovery_world.specs.Strategies.{Choice, Follows, Ends as NoneIs, Halts, Goes}
-use Rattle.recovery_world.specs.Many.{Message, arrival, numbered, of_threads, all_messages, Phase, Wakes as WakesFirst, Steps, Arrives, first_of, goes_on, begins, OnAny, Single, Several}
+use Rattle.recovery_world.specs.Many.{Message, arrival, numbered, of_threads, Phase, Wakes as WakesFirst, Steps, Arrives, first_of, goes_on, begins, OnAny, Single, Several}
 use Rattle.recovery_world.specs.Files.{reply_line, Performs, Rests as NoMore, Goes as Writes, Leaves}
 use Rattle.recovery_laws.specs.Sound.{IsKept, Sound}
 use Rattle.recovery_laws.specs.Ends.{Ends}
 use Rattle.recovery_laws.specs.Settled.{IsSettled, HasFlowed}
-use Rattle.recovery_laws.proofs.LedMoves.{Made, made_move}
-use Rattle.recovery_laws.proofs.KeptWorlds.{within_sound, follows_sound, any_sound, opening_sound, performs_sound}
-use Rattle.recovery_laws.proofs.Rounds.{Rested, StaysAt, none_to_come, idle, comes_to_rest}
+use Rattle.recovery_laws.proofs.KeptWorlds.{within_sound, follows_sound, opening_sound, performs_sound}
+use Rattle.recovery_laws.proofs.Rounds.{Rested, none_to_come, idle, comes_to_rest}
 use Rattle.recovery_laws.proofs.Worlds.{known_here}
 use Rattle.recovery_laws.proofs.Finishes.{sends_thread, finish_ends}
 use Rattle.recovery_laws.proofs.Replays.{no_step}
-use Rattle.recovery_laws.proofs.SoundParts.{to_come_thread, to_come_first, followed_moves}
 use Rattle.recovery_laws.proofs.AcceptedRuns.{among_times}
-use Rattle.recovery_laws.proofs.OneOutcome.{sent_eq, entry_one, output_one, not_idle}
+use Rattle.recovery_laws.proofs.OneOutcome.{sent_eq, entry_one, output_one}
 
 -- All that arrives
 
@@ -217,8 +211,13 @@ module _ {V : Type 0} (s : Setting V) where
   first_arrives q w new end m messages (Goes {mid = mid} p same c to freed some on rest) is at =
       let j : goes_on s q w ≡ first_of (m ∷ messages) = ap (λ (x : Phase). goes_on s x w) at in
       let k : c ≡ record { event = arrival m; leads_to = λ to. Arrives messages } = let i = sym some ∙ j in cc in
-      record { mid = mid; to = to; freed = freed; on = subst (λ (x : Choice Phase). OnWithin s w x.event to freed mid) k on;
-        rest = subst (λ (e : Option Limit). Follows s (goes_on s) (Arrives messages) mid e new) is (subst (λ (x : Choice Phase). Follows s (goes_on s) (x.leads_to to) mid end new) k rest) }
+      record {
+        mid = mid;
+        to = to;
+        freed = freed;
+        on = subst (λ (x : Choice Phase). OnWithin s w x.event to freed mid) k on;
+        rest = subst (λ (e : Option Limit). Follows s (goes_on s) (Arrives messages) mid e new) is (subst (λ (x : Choice Phase). Follows s (goes_on s) (x.leads_to to) mid end new) k rest);
+      }
 
   none_arrives : (q : Phase) (w new : World V) (end : Option Limit) → Follows s (goes_on s) q w end new → end ≡ None → q ≡ Arrives [] → new ≡ w
   none_arrives q w new end (NoneIs p same none) is at = refl

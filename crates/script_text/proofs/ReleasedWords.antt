@@ -1,5 +1,5 @@
 -- The words of released outputs, by their threads and numbers.
-use Rattle.std.proofs.Common.{◌≡◌, ℕ, List, [], ◌∷◌, ◌++◌, refl, ap, append_assoc}
+use Rattle.std.proofs.Common.{◌≡◌, ℕ, List, [], ◌∷◌, ◌++◌, refl, ap}
 use Rattle.std.specs.Prelude.{codes}
 use Rattle.recovery_world.specs.World.{Sent}
 use Rattle.recovery_world.specs.Files.{two, freed_words, sent_names}

@@ -1,10 +1,9 @@
 -- What the strategy chooses next, and that less is to be done behind it.
-use Rattle.std.proofs.Common.{◌≡◌, ℕ, zero, suc, ◌+◌, ◌-◌, ◌*◌, ◌<◌, ◌≤◌, ◌⊎◌, ◌||◌, nat_lt, not, if◌then◌else◌, Bool, true, false, List, [], ◌∷◌, length, length-drop, Option, Some, None, min, refl, sym, ap, ◌∙◌, subst, inl, inr, arith}
+use Rattle.std.proofs.Common.{◌≡◌, ℕ, suc, ◌+◌, ◌-◌, ◌*◌, ◌<◌, ◌≤◌, ◌⊎◌, ◌||◌, nat_lt, not, if◌then◌else◌, Bool, true, false, List, length, length-drop, Some, None, refl, sym, ap, ◌∙◌, subst, inl, inr, arith}
 use Rattle.plain_text.specs.declared.kind.Kind.{Kind}
 use Rattle.plain_text.specs.declared.kind.Kind.TheVariants as kind
 use Rattle.plain_text.specs.declared.limit.TheConstants.{MOST_MOVES}
 use Rattle.plain_machine.specs.Program.{Meaning}
-use Rattle.plain_machine.specs.History.{Step}
 use Rattle.traffic_gen.specs.Generated.{generator_after}
 use Rattle.rand_pcg.specs.Lcg.{Lcg}
 use Rattle.recovery_world.specs.declared.event.Event.{Event}
@@ -12,9 +11,7 @@ use Rattle.recovery_world.specs.declared.event.Event.TheVariants as event
 use Rattle.recovery_world.specs.declared.event.Outcome.{Outcome}
 use Rattle.recovery_world.specs.World.{Setting, Sent, World}
 use Rattle.recovery_world.specs.Events.{On, OnLog, OnOut, OfThread, OnStep, OnRecover}
-use Rattle.recovery_world.specs.Limits.{OnWithin}
-use Rattle.recovery_world.specs.Strategies.{Choice}
-use Rattle.recovery_world.specs.Many.{Message, arrival, arrival_of, Phase, Wakes, Steps, Arrives, Chooses, rests, turn_at, after_step, first_of, all_messages, at_rest, chosen, goes_on}
+use Rattle.recovery_world.specs.Many.{arrival_of, Phase, Steps, Arrives, Chooses, rests, after_step, first_of, at_rest, chosen, goes_on}
 use Rattle.recovery_laws.proofs.Rounds.{lt_true, lt_false, move_moves}
 use Rattle.system_parts.specs.Parts.{Parts}
 use Rattle.system_parts.specs.Standing.{StandsFor}
@@ -22,7 +19,7 @@ use Rattle.system_parts.proofs.EventChains.{threads_of_setting}
 use Rattle.several_events.specs.declared.progress.Progress.{Progress}
 use Rattle.several_events.specs.declared.progress.Progress.TheVariants as progress
 use Rattle.single_events.specs.Single.{IsSingle}
-use Rattle.several_events.specs.Progressing.{messages_from, count_in, to_arrive, to_do, after_turn, after_of, IsAt, IsTurn, IsOver, IsNext, IsMessage, NoMessage}
+use Rattle.several_events.specs.Progressing.{messages_from, to_arrive, to_do, after_turn, after_of, IsAt, IsOver, IsNext, IsMessage, NoMessage}
 use Rattle.several_events.proofs.MessageLists.{messages_whole, few_moves}
 
 -- What arrives leaves the past and the moves
@@ -60,8 +57,7 @@ pub next_arrival : {P V : Type 0} (m : Meaning V) (y : Parts P V) (k : Kind) (t 
 next_arrival {P} {V} m y k t arrived which u number ev is message =
     subst (λ (e : Event). IsNext m y (progress.Arrives k t arrived) e (progress.Arrives which u number)) (sym is) (record {
       chosen = λ s w q st at.
-          let next = message s w st in
-          (
+          let next = message s w st in (
             record { event = arrival_of which u number; leads_to = λ to. Arrives (messages_from s w which u number) },
             ap (λ (p : Phase). goes_on s p w) at ∙ ap first_of next.messages,
             refl,
@@ -99,13 +95,12 @@ pub next_step : {P V : Type 0} (m : Meaning V) (y : Parts P V) (left t u : ℕ) 
 next_step {P} {V} m y left t u moved same low few =
     subst (λ (i : ℕ). IsNext m y (progress.Steps left t moved) (event.Step i None) (progress.Steps left t moved)) (sym same) (record {
       chosen = λ s w q st at.
-          let here : t < s.threads = subst (λ (n : ℕ). t < n) (threads_of_setting m s w y st) low in
-          (
+          let here : t < s.threads = subst (λ (n : ℕ). t < n) (threads_of_setting m s w y st) low in (
             record { event = event.Step t None; leads_to = after_step s.threads left t moved },
             ap (λ (p : Phase). goes_on s p w) at.0 ∙ goes s w here,
             refl,
             λ to freed new on. subst (λ (n : ℕ). IsAt s new (after_turn n left t moved to) (after_step s.threads left t moved to)) (sym (threads_of_setting m s w y st))
-            (arrives s new to (rests to) refl (up w new to at.1 (step_kind s w new t to here at.1 on.0.0))),
+                (arrives s new to (rests to) refl (up w new to at.1 (step_kind s w new t to here at.1 on.0.0))),
           );
       falls = λ s w q st at to freed new on packets.
           let here : t < s.threads = subst (λ (n : ℕ). t < n) (threads_of_setting m s w y st) low in
@@ -242,8 +237,7 @@ pub next_chosen : {P V : Type 0} (m : Meaning V) (y : Parts P V) (words further 
 next_chosen {P} {V} m y words further left ev more which further_is single = record {
   chosen = λ s w q st at.
       let seed = at.0 in
-      let k = at.1 in
-      (
+      let k = at.1 in (
         record { event = chosen s seed k w; leads_to = λ to. Chooses seed (k + 1) (k + left) },
         ap (λ (p : Phase). goes_on s p w) at.2 ∙ goes s w seed k,
         sym (which s w seed k st at.3),

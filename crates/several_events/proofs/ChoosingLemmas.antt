@@ -1,5 +1,5 @@
 -- Events that are chosen by words.
-use Rattle.std.proofs.Common.{◌≡◌, ℕ, ◌+◌, ◌*◌, ◌%◌, ◌<◌, ◌≤◌, ◌≢◌, List, length, take, nat_lt, if◌then◌else◌, Bool, true, false, refl, sym, ap, ◌∙◌, subst, arith, below_more, get_or-set_other, get_or-set_same, None}
+use Rattle.std.proofs.Common.{◌≡◌, ℕ, ◌+◌, ◌*◌, ◌%◌, ◌<◌, ◌≤◌, ◌≢◌, List, length, take, nat_lt, if◌then◌else◌, Bool, true, false, sym, ap, ◌∙◌, subst, arith, below_more, get_or-set_other, get_or-set_same}
 use Rattle.std.specs.Prelude.{slice_index, slice_set, HoldsAt}
 use Rattle.std.proofs.lemmas.List.{get_or-take, length-take-le, length-set}
 use Rattle.entry_order.specs.Log.{entries}

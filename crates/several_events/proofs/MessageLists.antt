@@ -16,7 +16,7 @@ use Rattle.recovery_world.specs.Many.{Message, numbered, of_threads, all_message
 use Rattle.system_parts.specs.Parts.{Parts}
 use Rattle.system_parts.specs.Standing.{StandsFor}
 use Rattle.system_parts.proofs.ReadLemmas.{counts_stand}
-use Rattle.several_events.specs.Progressing.{count_in, of_rest, messages_from, to_arrive_of, to_arrive, IsOfKind, IsMessage, NoMessage}
+use Rattle.several_events.specs.Progressing.{count_in, of_rest, messages_from, to_arrive_of, IsOfKind, IsMessage, NoMessage}
 
 -- No thread has more of a kind in the past than there are moves
 

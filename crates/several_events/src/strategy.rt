@@ -90,11 +90,7 @@ fn choose_step<P: Program>(
 }
 
 /// The next of the events that are chosen by words.
-fn choose_by_words<P: Program>(
-    core: &Core<P>,
-    words: Pcg32,
-    left: u64,
-) -> Option<(Event, Progress)>
+fn choose_by_words<P: Program>(core: &Core<P>, words: Pcg32, left: u64) -> Option<(Event, Progress)>
     ensures over { result ≡ None → IsOver (P.meaning core.now.program) core.now
         (progress_is.Chooses words left) }
     ensures next { IfSome result (λ next. IsNext (P.meaning core.now.program) core.now

@@ -1,7 +1,6 @@
-use Rattle.std.proofs.Common.{◌≡◌, ◌++◌, ◌∙◌, List, ℕ, ap, sym, append-nil, arith}
+use Rattle.std.proofs.Common.{◌++◌, ◌∙◌, List, ℕ, ap, sym, append-nil, arith}
 use Rattle.std.specs.String.{string_bytes}
 use Rattle.std.proofs.lemmas.List.{drop_all}
-use Rattle.recovery_world.specs.Files.{sent_names}
 use Rattle.script_text.proofs.ReleasedWords.{names_words, words_of_names}
 use Rattle.script_text.proofs.outcome.write_released.Goals as goal
 

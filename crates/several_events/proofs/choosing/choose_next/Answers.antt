@@ -1,4 +1,4 @@
-use Rattle.std.proofs.Common.{◌≡◌, ◌≤◌, ◌∙◌, take, ap, arith}
+use Rattle.std.proofs.Common.{◌≡◌, ◌∙◌, take, ap}
 use Rattle.script_text.specs.Choosing.{chosen_event}
 use Rattle.several_events.proofs.ChoosingLemmas.{single_chosen, chosen_counted, two_words}
 use Rattle.several_events.proofs.choosing.choose_next.Goals as goal

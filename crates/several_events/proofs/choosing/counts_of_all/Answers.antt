@@ -1,4 +1,4 @@
-use Rattle.std.proofs.Common.{◌≡◌, ◌<◌, ◌∙◌, refl, ap, arith}
+use Rattle.std.proofs.Common.{◌≡◌, ◌∙◌, refl, ap, arith}
 use Rattle.several_events.proofs.ChoosingLemmas.{counted_none, counted_next, counted_whole}
 use Rattle.several_events.proofs.choosing.counts_of_all.Goals as goal
 

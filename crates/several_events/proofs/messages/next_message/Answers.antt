@@ -1,5 +1,4 @@
-use Rattle.std.proofs.Common.{◌≡◌, ◌∙◌, sym, subst, ap, None}
-use Rattle.recovery_world.specs.World.{Setting, World}
+use Rattle.std.proofs.Common.{sym, subst}
 use Rattle.plain_text.specs.declared.kind.Kind.{Kind}
 use Rattle.plain_text.specs.declared.kind.Kind.TheVariants as kind
 use Rattle.several_events.specs.Progressing.{IsMessage, NoMessage}

@@ -1,4 +1,4 @@
-use Rattle.std.proofs.Common.{◌<◌, ◌∙◌, arith, subst}
+use Rattle.std.proofs.Common.{◌<◌, arith}
 use Rattle.system_parts.proofs.EventChains.{threads_of_setting}
 use Rattle.several_events.proofs.MessageLists.{goes_more, goes_next}
 use Rattle.several_events.proofs.messages.next_of_kind.Goals as goal

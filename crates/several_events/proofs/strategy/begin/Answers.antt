@@ -1,10 +1,7 @@
-use Rattle.std.proofs.Common.{◌≡◌, ℕ, ◌+◌, ◌∙◌, ap, sym, subst, refl, arith, Some}
+use Rattle.std.proofs.Common.{◌≡◌, ℕ, ◌+◌, ◌∙◌, ap, sym, arith}
 use Rattle.rand_pcg.specs.Pcg.{multiplier_64}
 use Rattle.rand_pcg.proofs.LcgLemmas.{advance_zero}
-use Rattle.recovery_world.specs.declared.event.Event.TheVariants as event
-use Rattle.recovery_world.specs.Many.{Phase, Chooses, begins}
-use Rattle.several_events.specs.declared.progress.Progress.TheVariants as progress
-use Rattle.several_events.specs.Progressing.{IsAt}
+use Rattle.recovery_world.specs.Many.{Chooses, begins}
 use Rattle.several_events.proofs.strategy.begin.Goals as goal
 
 from_none : (n : ℕ) → n ≡ 0 + n

@@ -1,4 +1,4 @@
-use Rattle.std.proofs.Common.{◌≡◌, ◌≤◌, ◌<◌, ap, sym, ◌∙◌, arith}
+use Rattle.std.proofs.Common.{◌≤◌, ap, arith}
 use Rattle.std.proofs.lemmas.Option.{IfSome_then}
 use Rattle.several_events.proofs.Choices.{next_step, next_feed, next_at_rest, over_at_rest}
 use Rattle.several_events.proofs.strategy.choose_step.Goals as goal

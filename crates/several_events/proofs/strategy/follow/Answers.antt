@@ -1,7 +1,7 @@
-use Rattle.std.proofs.Common.{◌≡◌, ◌∙◌, ap, refl, sym, subst, Some, None}
+use Rattle.std.proofs.Common.{◌∙◌, ap, refl, sym, subst, Some, None}
 use Rattle.std.proofs.lemmas.Result.{err_from_is_err_and}
 use Rattle.event_replies.specs.declared.reply.Stop.TheVariants as stop
-use Rattle.system_parts.specs.Standing.{StandsFor, StandsForSome}
+use Rattle.system_parts.specs.Standing.{StandsFor}
 use Rattle.system_parts.specs.Performing.{MovesOn, Releasing, Replies, WouldPass}
 use Rattle.system_parts.proofs.EventChains.{moves_as, moves_none, moves_then, stops_then, stands_then, threads_stay, exits_as}
 use Rattle.output_releases.proofs.ReleasedLists.{appends_none, appends_then, releases_none, releases_then}
@@ -34,8 +34,9 @@ returns-in_err-reply-in-Some-clause-limit g c = λ limit is.
     stops_then _ _ (Releasing c.args.out.now c.events.out (Reaches c.args.from c.events.at)) (Releasing c.events.out c.perform_single.new.out (WouldPass c.in-Some.event limit))
     (Releasing c.args.out.now c.perform_single.new.out (Comes c.args.from (Some limit))) c.args.core.now c.events.core c.perform_single.new.core same
     (λ s w here next st sh a b. (
-    reaches_halt _ c.events.core s w here (subst (λ m. StandsFor m s here c.events.core) (sym same) sh) c.args.from c.events.at next c.in-Some.event c.in-Some.further limit c.in-Some.ensures.next a.0 b.0,
-    releases_then c.args.out.now c.events.out c.perform_single.new.out w here next a.1 b.1)) c.events.invariant.moved (c.perform_single.ensures.limit limit made)
+      reaches_halt _ c.events.core s w here (subst (λ m. StandsFor m s here c.events.core) (sym same) sh) c.args.from c.events.at next c.in-Some.event c.in-Some.further limit c.in-Some.ensures.next a.0 b.0,
+      releases_then c.args.out.now c.events.out c.perform_single.new.out w here next a.1 b.1,
+    )) c.events.invariant.moved (c.perform_single.ensures.limit limit made)
 
 pub events-smaller : goal.events-smaller
 events-smaller g c =
@@ -62,7 +63,8 @@ events-preserved g c =
           moves_then _ _ (Releasing c.args.out.now c.events.out (Reaches c.args.from c.events.at)) (Releasing c.events.out c.perform_single.new.out (Replies c.in-Some.event c.in_ok-reply-in-Some.reply))
           (Releasing c.args.out.now c.perform_single.new.out (Reaches c.args.from _)) c.args.core.now c.events.core c.perform_single.new.core same
           (λ s w here next st sh sn a b. (
-          reaches_more _ c.events.core s w here (subst (λ m. StandsFor m s here c.events.core) (sym same) sh) c.args.from c.events.at next c.in-Some.event c.in-Some.further _ c.in_ok-reply-in-Some.reply c.in-Some.ensures.next is a.0 b.0,
-          releases_then c.args.out.now c.events.out c.perform_single.new.out w here next a.1 b.1)) c.events.invariant.moved c.in_ok-reply-in-Some.ensures.on;
+            reaches_more _ c.events.core s w here (subst (λ m. StandsFor m s here c.events.core) (sym same) sh) c.args.from c.events.at next c.in-Some.event c.in-Some.further _ c.in_ok-reply-in-Some.reply c.in-Some.ensures.next is a.0 b.0,
+            releases_then c.args.out.now c.events.out c.perform_single.new.out w here next a.1 b.1,
+          )) c.events.invariant.moved c.in_ok-reply-in-Some.ensures.on;
       appends = appends_then c.args.out.now c.events.out c.perform_single.new.out c.events.invariant.appends c.perform_single.ensures.appends;
     }
