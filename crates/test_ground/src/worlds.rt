@@ -123,16 +123,24 @@ const READS: [(u64, u64, Result<usize, ReadError>); 8] = [
 ];
 
 /// How many bytes of "in" are read in a world.
-fn read_in(alloc: Global, world: &mut MemoryWorld, nth: u64, limit: u64) -> Result<usize, ReadError>
+fn read_in(
+    alloc: Global,
+    world: &mut MemoryWorld,
+    nth: u64,
+    limit: u64,
+) -> Result<Result<usize, ReadError>, NoMemory>
     requires { length world.old.files ≡ 0 }
 {
     let name = add_hello(alloc, world)?;
     world.fail_read(nth)?;
-    Ok(read_name(alloc, world, &name, limit)?.len())
+    match read_name(alloc, world, &name, limit) {
+        Ok(bytes) => Ok(Ok(bytes.len())),
+        Err(error) => Ok(Err(error)),
+    }
 }
 
 /// How many are read in a world of its own.
-fn read(alloc: Global, nth: u64, limit: u64) -> Result<usize, ReadError> {
+fn read(alloc: Global, nth: u64, limit: u64) -> Result<Result<usize, ReadError>, NoMemory> {
     let mut world = MemoryWorld::new(alloc)?;
     read_in(alloc, &mut world, nth, limit)
 }
@@ -140,7 +148,7 @@ fn read(alloc: Global, nth: u64, limit: u64) -> Result<usize, ReadError> {
 #[test]
 fn reads_up_to_a_limit_or_fails(rt: HostRuntime) {
     for (nth, limit, wanted) in &READS {
-        let is_read = read(rt.alloc(), *nth, *limit) == *wanted;
+        let is_read = matches!(read(rt.alloc(), *nth, *limit), Ok(read) if read == *wanted);
         assert!(rt; is_read, "call {nth} and limit {limit}");
     }
 }
