@@ -29,7 +29,7 @@ try:
 test:
 	$(RT) ci
 
-# Tries the wrong bodies of plants, in a copy, and says which goal refuses each; no part of the gate.
+# Tries the wrong bodies of plants, in a copy, and says what refuses each; no part of the gate.
 plants:
 	scripts/plants $(RT)
 
