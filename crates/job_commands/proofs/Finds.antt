@@ -6,16 +6,16 @@ use Rattle.plain_text.specs.declared.packet.Packet.{Packet}
 use Rattle.plain_text.specs.declared.packet.Unit.{Unit as FractionUnit}
 use Rattle.plain_machine.specs.declared.plain_move.PlayFault.{PlayFault}
 use Rattle.plain_machine.specs.History.{Step, emissions}
-use Rattle.packet_match.proofs.FirstOnes.{none_unmatched, one_first}
+use Rattle.schedule_check.proofs.FirstOnes.{none_unmatched, one_first}
 use Rattle.world_io.specs.World.{Shown}
 use Rattle.output_files.specs.Writes.{HasWritten, HasBegun}
 use Rattle.schedule_check.specs.declared.checking.Checked.TheVariants.{Found, Refuted}
 use Rattle.schedule_check.specs.declared.checking.Refutation.{Refutation}
 use Rattle.schedule_check.specs.declared.checking.Refutation.TheVariants as refuted
 use Rattle.schedule_check.specs.Checking.{IsChecked}
-use Rattle.schedule_run.specs.declared.error.ScheduleError.{ScheduleError}
-use Rattle.schedule_run.specs.declared.error.ScheduleError.TheVariants as error
-use Rattle.schedule_run.specs.Checking.{SaysCheck, found_writes}
+use Rattle.schedule_commands.specs.declared.error.ScheduleError.{ScheduleError}
+use Rattle.schedule_commands.specs.declared.error.ScheduleError.TheVariants as error
+use Rattle.schedule_commands.specs.Checking.{SaysCheck, found_writes}
 use Rattle.run_writes.specs.Run.{KeepsShown}
 use Rattle.input_files.specs.Files.{KeepsOutputs}
 use Rattle.job_commands.specs.declared.schedule_inputs.CheckInputs.{CheckInputs}

@@ -5,9 +5,9 @@ use Rattle.plain_text.specs.declared.limit.Limit.{Limit}
 use Rattle.plain_machine.specs.declared.plain_move.PlayFault.{PlayFault}
 use Rattle.plain_machine.specs.History.{Step}
 use Rattle.world_io.specs.World.{Shown}
-use Rattle.schedule_run.specs.declared.error.ScheduleError.{ScheduleError}
-use Rattle.schedule_run.specs.declared.error.ScheduleError.TheVariants as error
-use Rattle.schedule_run.specs.Playing.{SaysPlay, HasPlayed, HasBegunPlay, emitted_writes}
+use Rattle.schedule_commands.specs.declared.error.ScheduleError.{ScheduleError}
+use Rattle.schedule_commands.specs.declared.error.ScheduleError.TheVariants as error
+use Rattle.schedule_commands.specs.Playing.{SaysPlay, HasPlayed, HasBegunPlay, emitted_writes}
 use Rattle.run_writes.specs.Run.{KeepsShown}
 use Rattle.input_files.specs.Files.{KeepsOutputs}
 use Rattle.job_commands.specs.declared.schedule_inputs.ScheduleInputs.{ScheduleInputs}

@@ -9,12 +9,12 @@ use Rattle.box_conf.specs.Kinds.{meaning_of}
 use Rattle.world_io.specs.World.{Shown}
 use Rattle.output_files.specs.Writes.{HasWritten, HasBegun}
 use Rattle.schedule_check.specs.declared.checking.Refutation.{Refutation}
-use Rattle.schedule_run.specs.declared.error.ScheduleError.{ScheduleError}
-use Rattle.schedule_run.specs.declared.error.ScheduleError.TheVariants as error
-use Rattle.schedule_run.specs.declared.run.ScheduleRun.{ScheduleRun}
-use Rattle.schedule_run.specs.Runs.{outcome_of}
-use Rattle.schedule_run.specs.Playing.{SaysPlay, HasPlayed, HasBegunPlay}
-use Rattle.schedule_run.specs.Checking.{IsFound, SaysCheck, found_writes}
+use Rattle.schedule_commands.specs.declared.error.ScheduleError.{ScheduleError}
+use Rattle.schedule_commands.specs.declared.error.ScheduleError.TheVariants as error
+use Rattle.schedule_commands.specs.declared.run.ScheduleRun.{ScheduleRun}
+use Rattle.schedule_commands.specs.Runs.{outcome_of}
+use Rattle.schedule_commands.specs.Playing.{SaysPlay, HasPlayed, HasBegunPlay}
+use Rattle.schedule_commands.specs.Checking.{IsFound, SaysCheck, found_writes}
 use Rattle.run_writes.specs.Run.{KeepsShown}
 use Rattle.input_files.specs.declared.errors.InputError.{InputError}
 use Rattle.input_files.specs.Judging.{JudgesBox, JudgesCapture, JudgesSchedule, AcceptsBox, AcceptsCapture, AcceptsSchedule}

@@ -13,8 +13,8 @@ use Rattle.run_writes.specs.declared.error.RunError.{RunError}
 use Rattle.run_writes.specs.declared.error.RunError.TheVariants as of_run
 use Rattle.plain_machine.specs.declared.plain_move.PlayFault.{PlayFault}
 use Rattle.schedule_check.specs.declared.checking.Refutation.{Refutation}
-use Rattle.schedule_run.specs.declared.error.ScheduleError.{ScheduleError}
-use Rattle.schedule_run.specs.declared.error.ScheduleError.TheVariants as of_schedule
+use Rattle.schedule_commands.specs.declared.error.ScheduleError.{ScheduleError}
+use Rattle.schedule_commands.specs.declared.error.ScheduleError.TheVariants as of_schedule
 use Rattle.job_commands.specs.declared.status.InputFault.{InputFault}
 use Rattle.job_commands.specs.declared.status.InputFault.TheVariants.{BoxFile, Capture, NgCapture, Script, Schedule, Moves, Released, NgReleased}
 use Rattle.job_commands.specs.declared.status.Status.{Status}

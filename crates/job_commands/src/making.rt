@@ -12,7 +12,7 @@ use crate::MakeWords;
 use output_files::{OutputError, write_output};
 use pcap_io::put_header;
 use plain_text::{Bytes, NoMemory, Unit};
-use schedule_run::{put_count, put_records};
+use schedule_commands::{put_count, put_records};
 use std::alloc::Global;
 use traffic_gen::make;
 use world_io::World;

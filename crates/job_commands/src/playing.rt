@@ -3,8 +3,8 @@ ghost use Rattle.plain_machine.specs.declared.plain_move.PlayFault as move_fault
 ghost use Rattle.plain_text.specs.declared.limit.Limit.{Limit as LimitKind};
 ghost use Rattle.world_io.specs.Stream.{Rose};
 ghost use Rattle.output_files.specs.Written.{WritesFiles};
-ghost use Rattle.schedule_run.specs.Playing.{HasBegunPlay, HasPlayed, SaysPlay};
-ghost use Rattle.schedule_run.specs.Runs.{CanPlay};
+ghost use Rattle.schedule_commands.specs.Playing.{HasBegunPlay, HasPlayed, SaysPlay};
+ghost use Rattle.schedule_commands.specs.Runs.{CanPlay};
 ghost use Rattle.run_writes.specs.Run.{KeepsShown};
 ghost use Rattle.job_commands.specs.Schedules.{JudgesPlay, PlaysInOrder, PlaysWhole, outcome_for, schedule_of};
 ghost use Rattle.job_commands.specs.Status.{AtInputs, AtOutputs, stage_of, stage_of_limit};
@@ -16,7 +16,7 @@ use crate::{PlayWords, ScheduleInputs, Status, read_schedule_inputs};
 use box_conf::BoxKind;
 use plain_machine::PlayFault;
 use plain_text::Text;
-use schedule_run::{ScheduleError, ScheduleRun, play_schedule};
+use schedule_commands::{ScheduleError, ScheduleRun, play_schedule};
 use std::alloc::Global;
 use world_io::World;
 

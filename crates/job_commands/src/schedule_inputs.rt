@@ -1,6 +1,6 @@
 ghost use Rattle.std.specs.Prelude.{◌<◌, ◌^◌, IsTrue, IfOk, IfErr, IsErrOf};
 ghost use Rattle.world_io.specs.Stream.{Rose};
-ghost use Rattle.schedule_run.specs.Runs.{CanPlay};
+ghost use Rattle.schedule_commands.specs.Runs.{CanPlay};
 ghost use Rattle.input_files.specs.Files.{OnlyReads};
 ghost use Rattle.job_commands.specs.Schedules.{JudgesScheduleFiles, JudgesCheckFiles, schedule_of};
 ghost use Rattle.job_commands.specs.Status.{AtInputs, ComesAt, EndsReading};

@@ -9,7 +9,7 @@ use plain_machine::PlayFault;
 use plain_text::{Limit, LineFault};
 use run_writes::RunError;
 use schedule_check::Refutation;
-use schedule_run::ScheduleError;
+use schedule_commands::ScheduleError;
 
 /// An input file that leaves its grammar: which, where and why.
 #[derive(Clone, Copy, Debug, PartialEq, Eq)]

@@ -18,7 +18,7 @@ use job_commands::{
 };
 use plain_text::Text;
 use run_writes::{RunError, RunFiles, ScriptRun};
-use script_run::run_script;
+use run_command::run_script;
 use std::alloc::Global;
 use world_io::World;
 

@@ -9,7 +9,7 @@ use Rattle.plain_machine.specs.Program.{Meaning}
 use Rattle.plain_machine.specs.declared.plain_move.PlainMove.{PlainMove}
 use Rattle.recovery_world.specs.World.{Setting, Sent, World, opening}
 use Rattle.recovery_world.specs.Files.{packets_of}
-use Rattle.run_finish.specs.Ending.{EndsIn}
+use Rattle.run_end.specs.Ending.{EndsIn}
 use Rattle.recovery_core.specs.declared.system.System.TheInside.{Inside}
 use Rattle.system_parts.specs.Parts.{Parts}
 use Rattle.system_parts.specs.Standing.{NotesNames, StandsFor}

@@ -5,7 +5,7 @@ ghost use Rattle.entry_order.specs.Log.{entries};
 ghost use Rattle.plain_machine.specs.History.{log_of, sent_of, outputs, thread_after};
 ghost use Rattle.recovery_world.specs.World.{Setting, World, opening};
 ghost use Rattle.recovery_world.specs.Files.{packets_of};
-ghost use Rattle.run_finish.specs.Ending.{EndsIn};
+ghost use Rattle.run_end.specs.Ending.{EndsIn};
 ghost use Rattle.system_parts.specs.Parts.{IsShort};
 ghost use Rattle.system_parts.specs.Standing.{StandsFor, StandsForSome};
 ghost use Rattle.system_parts.specs.Performing.{Appends, MovesOn, StopsAt, Releasing, packets_in};

@@ -4,7 +4,7 @@ use Rattle.std.specs.Prelude.{Ok, slice_get, nat_lt, min, ◌↔◌}
 use Rattle.std.proofs.lemmas.Bool.{cases_lt}
 use Rattle.std.proofs.lemmas.Bool.Decides.{nat_tests}
 use Rattle.plain_text.specs.declared.packet.Packet.{Packet}
-use Rattle.traffic_gen.specs.Generated.{word_of}
+use Rattle.random_words.specs.Words.{word_of}
 use Rattle.entry_order.specs.declared.what.What.{What}
 use Rattle.entry_order.specs.declared.what.What.TheVariants as what
 use Rattle.entry_order.specs.Log.{Entry, entries, places, IsLog, IsIn, PrecedesOrIs, PrecedesOutput}

@@ -1,7 +1,7 @@
 -- Every event of a script comes to something or stops at a limit, from each sound world within the limits: a strategy has an end.
 use Rattle.std.proofs.Common.{◌≡◌, ℕ, zero, suc, ◌+◌, ◌-◌, ◌*◌, ◌/◌, ◌%◌, ◌≤◌, ◌<◌, Bool, true, false, List, [], ◌∷◌, length, refl, sym, ap, ◌∙◌, subst, inl, inr, ◌⊎◌, arith, Option, Some, None, cond}
 use Rattle.std.specs.Prelude.{nat_lt, min, max, if◌then◌else◌}
-use Rattle.traffic_gen.specs.Generated.{word_of}
+use Rattle.random_words.specs.Words.{word_of}
 use Rattle.entry_order.specs.Log.{entries}
 use Rattle.plain_machine.specs.History.{log_of, sent_of, outputs}
 use Rattle.std.proofs.lemmas.Bool.Decides.{nat_tests}

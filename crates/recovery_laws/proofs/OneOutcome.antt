@@ -17,7 +17,7 @@ use Rattle.plain_machine.specs.Machine.{Hand}
 use Rattle.plain_machine.specs.History.{Step, log_of, entry_of, thread_after, plain_move}
 use Rattle.plain_machine.proofs.Histories.{history_log}
 use Rattle.plain_machine.proofs.Agreement.{histories_agree}
-use Rattle.traffic_gen.specs.Generated.{word_of}
+use Rattle.random_words.specs.Words.{word_of}
 use Rattle.recovery_world.specs.declared.event.Event.{Event}
 use Rattle.recovery_world.specs.declared.event.Event.TheVariants as event
 use Rattle.plain_text.specs.declared.kind.Kind.{Kind}

@@ -7,7 +7,7 @@ use Rattle.plain_machine.specs.declared.plain_move.PlayFault.{PlayFault}
 use Rattle.plain_machine.specs.History.{Step, emissions}
 use Rattle.plain_player.specs.declared.whole.PlayError.{PlayError}
 use Rattle.plain_player.specs.declared.whole.PlayError.TheVariants as error
-use Rattle.packet_match.specs.Unmatched.{FirstUnmatched}
+use Rattle.schedule_check.specs.Unmatched.{FirstUnmatched}
 use Rattle.recovery_world.specs.Matching.{IsMatched}
 use Rattle.schedule_check.specs.declared.checking.Checked.{Checked}
 use Rattle.schedule_check.specs.declared.checking.Checked.TheVariants.{Found, Refuted}

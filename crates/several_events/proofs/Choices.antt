@@ -4,7 +4,7 @@ use Rattle.plain_text.specs.declared.kind.Kind.{Kind}
 use Rattle.plain_text.specs.declared.kind.Kind.TheVariants as kind
 use Rattle.plain_text.specs.declared.limit.TheConstants.{MOST_MOVES}
 use Rattle.plain_machine.specs.Program.{Meaning}
-use Rattle.traffic_gen.specs.Generated.{generator_after}
+use Rattle.random_words.specs.Words.{generator_after}
 use Rattle.rand_pcg.specs.Lcg.{Lcg}
 use Rattle.recovery_world.specs.declared.event.Event.{Event}
 use Rattle.recovery_world.specs.declared.event.Event.TheVariants as event

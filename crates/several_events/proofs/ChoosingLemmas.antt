@@ -5,9 +5,7 @@ use Rattle.std.proofs.lemmas.List.{get_or-take, length-take-le, length-set}
 use Rattle.entry_order.specs.Log.{entries}
 use Rattle.plain_machine.specs.Program.{Meaning}
 use Rattle.plain_machine.specs.History.{log_of, sent_of, outputs}
-use Rattle.rand_pcg.specs.Lcg.{Lcg}
-use Rattle.rand_pcg.specs.Pcg.{pcg32}
-use Rattle.traffic_gen.specs.Generated.{word_of, generator_after}
+use Rattle.random_words.specs.Words.{word_of}
 use Rattle.script_text.specs.Choosing.{chosen_event}
 use Rattle.recovery_world.specs.declared.event.Event.{Event}
 use Rattle.recovery_world.specs.World.{Setting, World}
@@ -91,12 +89,3 @@ chosen_counted m s w y seed k a b n es os ev st is threads some few has first se
     (λ t low. get_or-take n es t 0 (omega (arith, low, all)) ∙ (has.each s w st t (omega (arith, low, all, threads))).0)
     (λ t low. get_or-take n os t 0 (omega (arith, low, all)) ∙ (has.each s w st t (omega (arith, low, all, threads))).1)
     first second
-
--- two words of the generator
-pub two_words : (seed k first second : ℕ) (old mid new : Lcg) → (first, mid) ≡ pcg32 old → (second, new) ≡ pcg32 mid → old ≡ generator_after seed (2 * k)
-    → (first ≡ word_of seed (2 * k)) × (second ≡ word_of seed (2 * k + 1)) × (new ≡ generator_after seed (2 * (k + 1)))
-two_words seed k first second old mid new one two at =
-    let a = draws_word seed (2 * k) first old mid one at in
-    let b = draws_word seed (2 * k + 1) second mid new two a.1 in
-    let count : 2 * k + 1 + 1 ≡ 2 * (k + 1) = omega arith in
-    (a.0, b.0, b.1 ∙ ap (generator_after seed) count)

@@ -7,7 +7,7 @@ use Rattle.plain_text.specs.declared.limit.TheConstants.{MOST_MOVES}
 use Rattle.entry_order.specs.Log.{entries}
 use Rattle.plain_machine.specs.Program.{Meaning}
 use Rattle.plain_machine.specs.History.{Step, log_of, sent_of, outputs}
-use Rattle.traffic_gen.specs.Generated.{generator_after}
+use Rattle.random_words.specs.Words.{generator_after}
 use Rattle.recovery_world.specs.declared.event.Event.{Event}
 use Rattle.recovery_world.specs.declared.event.Event.TheVariants as event
 use Rattle.recovery_world.specs.declared.event.Outcome.{Outcome}

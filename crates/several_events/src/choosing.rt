@@ -1,5 +1,5 @@
 ghost use Rattle.std.specs.Prelude.{◌≡◌, ◌+◌, ◌*◌, ℕ, Bool};
-ghost use Rattle.traffic_gen.specs.Generated.{generator_after};
+ghost use Rattle.random_words.specs.Words.{generator_after};
 ghost use Rattle.recovery_world.specs.World.{Setting, World};
 ghost use Rattle.recovery_world.specs.Many.{chosen};
 ghost use Rattle.system_parts.specs.Standing.{StandsFor};
@@ -7,8 +7,8 @@ ghost use Rattle.single_events.specs.Single.{IsSingle};
 ghost use Rattle.several_events.specs.Choosing.{Counted};
 
 use box_program::Program;
-use rand_core::utils::NextWord;
 use rand_pcg::Pcg32;
+use random_words::next_word;
 use recovery_world::Event;
 use script_text::auto_event;
 use system_parts::Core;
@@ -41,8 +41,8 @@ pub fn choose_next<P: Program>(core: &Core<P>, words: &mut Pcg32) -> Event
     ensures words { (seed k : ℕ) → words.old ≡ generator_after seed (2 * k)
         → words.new ≡ generator_after seed (2 * (k + 1)) }
 {
-    let first = words.next_word();
-    let second = words.next_word();
+    let first = next_word(words);
+    let second = next_word(words);
     let threads = core.inputs.threads() as usize;
     let (entries, outputs) = counts_of_all(core);
     auto_event(first, second, &entries[..threads], &outputs[..threads])

@@ -15,7 +15,7 @@ use plain_text::Kind;
 use rand_pcg::Pcg32;
 use recovery_world::{Event, Outcome};
 use single_events::perform_single;
-use system_parts::{Core, STREAM};
+use system_parts::Core;
 
 /// The next message arrives. Of this thread this number arrived.
 fn choose_arrival<P: Program>(
@@ -180,7 +180,7 @@ pub fn begin<P: Program>(core: &Core<P>, event: Event) -> Option<Progress>
             })
         }
         Event::Auto { seed, n } => Some(Progress::Chooses {
-            words: Pcg32::new(seed, STREAM),
+            words: random_words::generator(seed),
             left: n,
         }),
         _ => None,

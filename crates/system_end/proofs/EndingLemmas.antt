@@ -30,7 +30,7 @@ use Rattle.recovery_world.specs.Events.{IsAmong, HasNumber, Wakes, entries_of_li
 use Rattle.recovery_world.specs.Finish.{IsLine, greatest, AllGoOn, IsFinish}
 use Rattle.recovery_laws.proofs.KeptWorlds.{line_entries}
 use Rattle.recovery_laws.proofs.LedMoves.{led_log}
-use Rattle.run_finish.specs.Ending.{AreInOrder, IsOrder, IsEndOf, IsEndOfSome, EndsIn}
+use Rattle.run_end.specs.Ending.{AreInOrder, IsOrder, IsEndOf, IsEndOfSome, EndsIn}
 use Rattle.system_parts.specs.Parts.{Parts}
 use Rattle.system_parts.specs.Standing.{StandsFor, StandsForSome}
 use Rattle.system_end.specs.Ending.{IsOrderOf}

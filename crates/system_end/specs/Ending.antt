@@ -3,7 +3,7 @@ use Rattle.std.specs.Prelude.{◌<◌, ◌↔◌, List}
 use Rattle.entry_order.specs.Log.{Entry, IsLog, IsIn}
 use Rattle.access_log.specs.Held.{Lane}
 use Rattle.master_core.specs.Holding.{held_entries, HoldsOf}
-use Rattle.run_finish.specs.Ending.{AreInOrder}
+use Rattle.run_end.specs.Ending.{AreInOrder}
 
 -- The list has just the entries of the guide. In each log that they are of, they stand by weight, then thread.
 pub record IsOrderOf (guide : List Lane) (order : List Entry) : Type 0 where

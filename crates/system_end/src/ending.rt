@@ -2,7 +2,7 @@ ghost use Rattle.std.specs.Prelude.{◌≡◌, ◌<◌, ℕ, true, IfOk, slice_i
 ghost use Rattle.dup_filter.specs.Numbers.{numbers, IsGreatest};
 ghost use Rattle.recovery_world.specs.World.{Setting, World};
 ghost use Rattle.system_parts.specs.Standing.{StandsFor, StandsForSome};
-ghost use Rattle.run_finish.specs.Ending.{EndsIn};
+ghost use Rattle.run_end.specs.Ending.{EndsIn};
 ghost use Rattle.system_end.specs.Ending.{IsOrderOf};
 
 use box_program::Program;
@@ -13,7 +13,7 @@ use master_core::Master;
 use plain_machine::Schedule;
 use plain_text::NoMemory;
 use replay_guide::Guide;
-use run_finish::finish_run;
+use run_end::finish_run;
 use std::alloc::Global;
 use system_parts::Core;
 

@@ -1,10 +1,8 @@
 -- Before the first event a system stands for the opening.
 use Rattle.std.proofs.Common.{◌≡◌, ℕ, zero, suc, ◌≤◌, All, List, [], length, replicate, slice_index_or, refl, sym, ap, ◌∙◌, subst, inl, inr, arith, true, None, ◌<◌, ◌^◌}
-use Rattle.rand_pcg.specs.Lcg.{state_after, started, increment_of}
-use Rattle.rand_pcg.specs.Pcg.{multiplier_64}
 use Rattle.plain_text.specs.declared.packet.Packet.{Packet}
 use Rattle.plain_text.specs.declared.packet.Unit.{Unit as FractionUnit}
-use Rattle.traffic_gen.specs.Generated.{generator_after}
+use Rattle.random_words.specs.Words.{generator_after}
 use Rattle.input_logger.specs.Inputs.{Fed}
 use Rattle.entry_order.specs.Log.{Entry, IsIn}
 use Rattle.access_log.specs.Held.{Lane, fresh_lane}
@@ -40,11 +38,6 @@ one_of_all : {X : Type 0} (n t : ℕ) (x : X) → slice_index_or (replicate n x)
 one_of_all zero t x = refl
 one_of_all (suc n) zero x = refl
 one_of_all (suc n) (suc t) x = one_of_all n t x
-
--- a new generator used no word
-pub first_generator : (seed : ℕ) → started 64 multiplier_64 seed (increment_of 64 54) ≡ generator_after seed 0
-unfolding state_after
-first_generator seed = refl
 
 abbrev pub fresh_logger : ℕ → Logger
 fresh_logger threads = record { epoch = 1; held = replicate threads fresh_lane; released = replicate threads no_numbers; waiting = [] }

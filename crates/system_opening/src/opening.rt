@@ -12,12 +12,11 @@ use master_core::Master;
 use output_logger::OutputLogger;
 use plain_machine::Schedule;
 use plain_text::{NoMemory, Packets, Unit};
-use rand_pcg::Pcg32;
 use replay_guide::Guide;
 use sent_frames::SentFrames;
 use snapshot_store::Store;
 use std::alloc::Global;
-use system_parts::{Core, STREAM};
+use system_parts::Core;
 
 /// More packets than this are taken for more than memory has.
 const MOST_PACKETS: usize = 1 << 50;
@@ -58,7 +57,7 @@ pub fn open_parts<P: Program>(
         program,
         unit,
         clock: 0,
-        generator: Pcg32::new(seed, STREAM),
+        generator: random_words::generator(seed),
         left,
         inputs,
         up: true,

@@ -1,6 +1,6 @@
 -- Which worlds a recovering system stands for: a record for each of its parts.
 use Rattle.std.specs.Prelude.{◌≡◌, ℕ, ◌+◌, ◌-◌, ◌≤◌, ◌<◌, ◌⊎◌, ◌↔◌, List, [], ◌∷◌, ◌++◌, length, take, drop, slice_get, slice_index, slice_index_or, Option, Some, None}
-use Rattle.traffic_gen.specs.Generated.{generator_after}
+use Rattle.random_words.specs.Words.{generator_after}
 use Rattle.entry_order.specs.Log.{Entry, entries, IsIn}
 use Rattle.entry_order.specs.Stamps.{IsStamp, IsOutputStamp}
 use Rattle.access_log.specs.declared.entry.StampedEntry.{StampedEntry}

@@ -12,9 +12,6 @@ use snapshot_store::Store;
 use std::alloc::Global;
 use std::marker::Model;
 
-/// The stream of the generator from which free draws are answered.
-pub const STREAM: u64 = 54;
-
 /// The parts of a system, put together.
 #[derive(Drop)]
 pub struct Core<P: Program> {

@@ -3,4 +3,4 @@
 
 mod assembly;
 
-pub use assembly::{Core, STREAM};
+pub use assembly::Core;

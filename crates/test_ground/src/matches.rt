@@ -1,4 +1,4 @@
-use packet_match::first_unmatched;
+use schedule_check::first_unmatched;
 use plain_machine::Emission;
 use plain_text::{Bytes, NoMemory, Packet, Unit};
 use std::alloc::Global;

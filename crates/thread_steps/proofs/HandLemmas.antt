@@ -19,10 +19,7 @@ use Rattle.master_core.specs.declared.wants.Wants.TheVariants as wants
 use Rattle.master_core.specs.Mastered.{Mastered, input_in_hand, HasRoom}
 use Rattle.master_core.specs.Standing.{Stands}
 use Rattle.master_core.specs.Stepping.{wanted, wanted_in, wanted_by, told_in, told_for}
-use Rattle.rand_pcg.specs.Lcg.{Lcg}
-use Rattle.rand_pcg.specs.Pcg.{pcg32}
-use Rattle.traffic_gen.specs.Generated.{generator_after, word_of}
-use Rattle.traffic_gen.proofs.Packets.{generator_after-suc}
+use Rattle.random_words.specs.Words.{word_of}
 use Rattle.recovery_world.specs.World.{Setting, World}
 use Rattle.recovery_world.specs.Turns.{TellsClock, TellsDraw}
 use Rattle.recovery_world.specs.Events.{Tells, TellsHand}
@@ -219,9 +216,3 @@ tells_none {V} s w t given clock draw = go (thread_after w.past t).hand clock dr
     go None c d = ((refl, refl), (λ a. refl))
     go (Some h) c d = at (s.meaning.next h.place) c d
 
--- a word of the generator is the next one, and the generator has used it then
-pub draws_word : (seed drawn word : ℕ) (old new : Lcg) → (word, new) ≡ pcg32 old → old ≡ generator_after seed drawn → (word ≡ word_of seed drawn) × (new ≡ generator_after seed (drawn + 1))
-draws_word seed drawn word old new is at = (
-  ap (λ (p : ℕ × Lcg). p.0) is ∙ ap (λ (g : Lcg). (pcg32 g).0) at,
-  ap (λ (p : ℕ × Lcg). p.1) is ∙ ap (λ (g : Lcg). (pcg32 g).1) at ∙ generator_after-suc seed drawn,
-)

@@ -3,7 +3,7 @@ use Rattle.std.proofs.Common.{◌≡◌, ℕ, ◌+◌, ◌<◌, ◌≤◌, List,
 use Rattle.std.specs.Prelude.{◌↔◌, slice_get, slice_index, is_some, IsTrue, IsSome, IfOk, All}
 use Rattle.std.specs.Option.{unwrap_or, option_map}
 use Rattle.rand_pcg.specs.Lcg.{Lcg}
-use Rattle.traffic_gen.specs.Generated.{generator_after}
+use Rattle.random_words.specs.Words.{generator_after}
 use Rattle.plain_text.specs.declared.limit.Limit.{Limit}
 use Rattle.plain_text.specs.declared.limit.TheConstants.{MOST_MOVES}
 use Rattle.plain_text.specs.declared.packet.Packet.{Packet}

@@ -1,6 +1,6 @@
 ghost use Rattle.std.specs.Prelude.{◌≡◌, ◌<◌, ◌≤◌, ◌+◌, ℕ, [], List, IfOk, OnOk, OnErr, Some, Err, length, option_copied};
 ghost use Rattle.std.specs.Option.{unwrap_or};
-ghost use Rattle.traffic_gen.specs.Generated.{generator_after};
+ghost use Rattle.random_words.specs.Words.{generator_after};
 ghost use Rattle.plain_text.specs.declared.limit.Limit.{Limit as LimitKind};
 ghost use Rattle.plain_text.specs.declared.limit.TheConstants.{MOST_CAPTURED};
 ghost use Rattle.input_logger.specs.Inputs.{inputs_of};
@@ -30,8 +30,8 @@ use input_logger::InputLog;
 use master_core::{Master, Stepped, Wants};
 use plain_machine::PlainMove;
 use plain_text::{Limit, MOST_MOVES, MOST_OUTPUT_BYTES, Packet};
-use rand_core::utils::NextWord;
 use rand_pcg::Pcg32;
+use random_words::next_word;
 use recovery_world::Outcome;
 use replay_guide::Guide;
 use system_parts::Core;
@@ -162,7 +162,7 @@ fn told<P: Program>(
         Wants::Clock(number) => Some(recorded_or(guide, thread, number, given).unwrap_or(clock)),
         Wants::Draw(number) => match recorded_or(guide, thread, number, given) {
             Some(answer) => Some(answer),
-            None => Some(u64::from(generator.next_word())),
+            None => Some(u64::from(next_word(generator))),
         },
         _ => None,
     }

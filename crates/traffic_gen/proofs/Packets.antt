@@ -1,31 +1,10 @@
--- The generator after one word more, and the packets after one packet more.
+-- The packets after one packet more.
 use Rattle.std.proofs.Common.{◌≡◌, ℕ, zero, suc, ◌+◌, ◌*◌, List, [], ◌∷◌, ◌++◌, length, refl, sym, ap, ◌∙◌, arith, add-one, length-append}
 use Rattle.std.specs.List.{All}
 use Rattle.std.proofs.lemmas.List.Elements.{All-append}
-use Rattle.rand_pcg.specs.Lcg.{Lcg, next, next_state, state_after, started, increment_of}
-use Rattle.rand_pcg.specs.Pcg.{multiplier_64, pcg32}
 use Rattle.plain_text.specs.declared.packet.Packet.{Packet}
-use Rattle.traffic_gen.specs.Generated.{packet_of, generator_after, word_of, generated}
-
--- a step after n steps is the last of n + 1
-state_after-suc : (w m p n s : ℕ) → next_state w m p (state_after w m p n s) ≡ state_after w m p (suc n) s
-unfolding state_after
-state_after-suc w m p zero s = refl
-state_after-suc w m p (suc n) s = state_after-suc w m p n (next_state w m p s)
-
-pub generator_after-suc : (seed count : ℕ) → next 64 multiplier_64 (generator_after seed count) ≡ generator_after seed (count + 1)
-generator_after-suc seed count =
-    let start = started 64 multiplier_64 seed (increment_of 64 54) in
-    rw add-one (ap (λ (s : ℕ). let g : Lcg = record { state = s; increment = start.increment } in g) (state_after-suc 64 multiplier_64 start.increment count start.state))
-
--- the word behind word k, and the generator after the two words of packet i
-pub second_word : (seed k : ℕ) → (pcg32 (pcg32 (generator_after seed k)).1).0 ≡ word_of seed (k + 1)
-second_word seed k = ap (λ (g : Lcg). (pcg32 g).0) (generator_after-suc seed k)
-
-pub after_two : (seed i : ℕ) → (pcg32 (pcg32 (generator_after seed (2 * i))).1).1 ≡ generator_after seed (2 * (i + 1))
-after_two seed i =
-    let two_more : 2 * i + 1 + 1 ≡ 2 * (i + 1) = omega arith in
-    ap (next 64 multiplier_64) (generator_after-suc seed (2 * i)) ∙ generator_after-suc seed (2 * i + 1) ∙ ap (generator_after seed) two_more
+use Rattle.random_words.specs.Words.{word_of}
+use Rattle.traffic_gen.specs.Generated.{packet_of, generated}
 
 pub generated-more : (seed i a b : ℕ) (packets : List Packet) (packet : Packet)
     → packets ≡ generated seed i → a ≡ word_of seed (2 * i) → b ≡ word_of seed (2 * i + 1) → packet ≡ packet_of i a b

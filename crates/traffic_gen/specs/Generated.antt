@@ -1,9 +1,7 @@
--- Packets made from a number: packet i, from 0, is made of the words 2i and 2i + 1 of a Pcg32 that starts at this number
--- (O'Neill, "PCG: A Family of Simple Fast Space-Efficient Statistically Good Algorithms for Random Number Generation").
+-- Packets made from a seed: packet i, from 0, is made of the words 2i and 2i + 1 of the seed.
 use Rattle.std.specs.Prelude.{ℕ, zero, suc, ◌+◌, ◌*◌, ◌/◌, ◌%◌, ◌==◌, if◌then◌else◌, List, [], ◌∷◌, ◌++◌}
-use Rattle.rand_pcg.specs.Lcg.{Lcg, started, advance, increment_of}
-use Rattle.rand_pcg.specs.Pcg.{multiplier_64, pcg32}
 use Rattle.plain_text.specs.declared.packet.Packet.{Packet}
+use Rattle.random_words.specs.Words.{word_of}
 use Rattle.traffic_gen.specs.declared.fields.Fields.{Fields}
 use Rattle.traffic_gen.specs.declared.fields.Protocol.TheVariants.{Tcp, Udp}
 use Rattle.traffic_gen.specs.Frame.{frame}
@@ -26,14 +24,6 @@ packet_of i a b = record {
   original = 60;
   bytes = frame (fields_of i a b);
 }
-
--- the generator of a seed, on stream 54, after this number of words
-abbrev pub generator_after : ℕ → ℕ → Lcg
-generator_after seed count = advance 64 multiplier_64 count (started 64 multiplier_64 seed (increment_of 64 54))
-
--- word k of a seed, from 0
-abbrev pub word_of : ℕ → ℕ → ℕ
-word_of seed k = (pcg32 (generator_after seed k)).0
 
 -- the first n packets of a seed
 abbrev pub generated : ℕ → ℕ → List Packet

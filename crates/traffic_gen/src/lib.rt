@@ -3,7 +3,6 @@
 
 ghost use Rattle.plain_text.specs.declared.limit.TheConstants.{MOST_PACKETS};
 ghost use Rattle.std.specs.Prelude.{◌≡◌, ◌≤◌, ◌<◌, IfOk, All, length};
-ghost use Rattle.rand_pcg.specs.Pcg.{pcg32};
 ghost use Rattle.traffic_gen.specs.Checksums.{HasRightChecksums};
 ghost use Rattle.traffic_gen.specs.Generated.{packet_of, generated};
 
@@ -13,12 +12,8 @@ mod frame;
 use fields::choose_fields;
 use frame::{FRAME_LENGTH, build_frame};
 use plain_text::{NoMemory, Packet, Packets};
-use rand_core::utils::NextWord;
-use rand_pcg::Pcg32;
+use random_words::next_word;
 use std::alloc::Global;
-
-/// The stream of the generator, whatever the seed.
-const STREAM: u64 = 54;
 
 /// The time of the first packet, in seconds since 1970.
 const START: u64 = 1_600_000_000;
@@ -34,24 +29,14 @@ pub fn make(alloc: Global, seed: u64, n: u64) -> Result<Packets, NoMemory>
     ensures sixty_bytes { IfOk result (All (λ packet. length packet.bytes ≡ 60)) }
     ensures right_checksums { IfOk result (All (λ packet. HasRightChecksums packet.bytes)) }
 {
-    let mut generator = Pcg32::new(seed, STREAM);
+    let mut words = random_words::generator(seed);
     let mut packets = Packets::new(alloc);
     for index in 0..n {
-        let (first, second) = draw_two(&mut generator);
+        let first = next_word(&mut words);
+        let second = next_word(&mut words);
         packets.push(build_packet(alloc, index, first, second)?)?;
     }
     Ok(packets)
-}
-
-/// The next two words, in the order in which they come.
-fn draw_two(generator: &mut Pcg32) -> (u32, u32)
-    ensures first { result.0 ≡ (pcg32 generator.old).0 }
-    ensures second { result.1 ≡ (pcg32 (pcg32 generator.old).1).0 }
-    ensures after { generator.new ≡ (pcg32 (pcg32 generator.old).1).1 }
-{
-    let first = generator.next_word();
-    let second = generator.next_word();
-    (first, second)
 }
 
 /// The packet of this index, by its two words.

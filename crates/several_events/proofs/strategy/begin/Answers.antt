@@ -1,6 +1,4 @@
-use Rattle.std.proofs.Common.{◌≡◌, ℕ, ◌+◌, ◌∙◌, ap, sym, arith}
-use Rattle.rand_pcg.specs.Pcg.{multiplier_64}
-use Rattle.rand_pcg.proofs.LcgLemmas.{advance_zero}
+use Rattle.std.proofs.Common.{◌≡◌, ℕ, ◌+◌, ◌∙◌, ap, arith}
 use Rattle.recovery_world.specs.Many.{Chooses, begins}
 use Rattle.several_events.proofs.strategy.begin.Goals as goal
 
@@ -11,5 +9,5 @@ pub returns-in-Auto-clause-several : goal.returns-in-Auto-clause-several
 returns-in-Auto-clause-several g c = λ s w st. (
   Chooses c.in-Auto.seed 0 c.in-Auto.n,
   ap (begins s w) c.in-Auto.is,
-  (c.in-Auto.seed, 0, ap (Chooses c.in-Auto.seed 0) (from_none c.in-Auto.n), c.new.ensures ∙ sym (advance_zero 64 multiplier_64 _)),
+  (c.in-Auto.seed, 0, ap (Chooses c.in-Auto.seed 0) (from_none c.in-Auto.n), c.generator.ensures.fresh),
 )

@@ -1,6 +1,6 @@
 use Rattle.std.proofs.Common.{arith, refl, ap, ◌∙◌, reverse}
 use Rattle.std.proofs.lemmas.List.{reverse-reverse}
-use Rattle.system_opening.proofs.OpeningLemmas.{first_generator, opening_stands, opening_are_parts}
+use Rattle.system_opening.proofs.OpeningLemmas.{opening_stands, opening_are_parts}
 use Rattle.system_opening.proofs.opening.open_parts.Goals as goal
 
 pub invariant_of-result : goal.invariant_of-result
@@ -23,11 +23,11 @@ invariant_of-result g c =
 pub returns-clause-stands : goal.returns-clause-stands
 returns-clause-stands g c =
     opening_stands (g.P.Program.meaning c.args.program) c.args.threads c.args.seed c.args.unit c.args.packets _
-    refl refl (c.new-5.ensures ∙ first_generator c.args.seed)
+    refl refl c.generator.ensures.fresh
     (ap reverse c.reverse.ensures.items ∙ reverse-reverse c.into_vec-left.result.items ∙ c.into_vec-left.ensures)
     c.in_ok-inputs.ensures refl
     c.in_ok-master.ensures.stands
-    c.new-6.ensures c.none.ensures
+    c.new-5.ensures c.none.ensures
     (record {
       stands = c.in_ok-store.ensures.fresh;
       moves = c.in_ok-store.ensures.moves;

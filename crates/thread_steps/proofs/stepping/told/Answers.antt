@@ -7,7 +7,7 @@ use Rattle.master_core.specs.Stepping.{wanted}
 use Rattle.master_core.specs.Standing.{Stands}
 use Rattle.replay_guide.specs.Following.{recorded}
 use Rattle.thread_steps.specs.Following.{or_given}
-use Rattle.thread_steps.proofs.HandLemmas.{asks_clock, asks_draw, asked_clock, asked_draw, clock_number, draw_number, tells_clock, tells_draw, tells_none, draws_word}
+use Rattle.thread_steps.proofs.HandLemmas.{asks_clock, asks_draw, asked_clock, asked_draw, clock_number, draw_number, tells_clock, tells_draw, tells_none}
 use Rattle.thread_steps.proofs.stepping.told.Goals as goal
 
 pub returns-in-Clock-clause-tells : goal.returns-in-Clock-clause-tells
@@ -42,8 +42,9 @@ returns-in-None-clause-tells g c = λ s w is sound guides stands time generator.
     let wants = ap (λ q. wanted q w.past c.args.thread) is ∙ sym (c.wants.ensures.wanted s.threads w.past at) ∙ c.in-Draw.is in
     let number = draw_number s.meaning w.past c.args.thread _ wants in
     let told = c.recorded_or-in-Draw.ensures ∙ ap (λ k. or_given (recorded (entry_at (lane c.args.guide.now c.args.thread) k)) c.args.given) number in
-    let word = draws_word s.seed w.drawn c.next_word.result c.args.generator.now c.next_word.new.self c.next_word.ensures generator in
-    (w.drawn + 1, tells_draw s w c.args.guide.now sound guides.follows c.args.thread c.args.given c.from.result (w.drawn + 1) c.recorded_or-in-Draw.result told (asks_draw s.meaning w.past c.args.thread _ wants) (inr (c.in-None.is, c.from.ensures ∙ word.0, refl)), word.1)
+    let word = c.next_word.ensures.word s.seed w.drawn generator in
+    let after = c.next_word.ensures.after s.seed w.drawn generator in
+    (w.drawn + 1, tells_draw s w c.args.guide.now sound guides.follows c.args.thread c.args.given c.from.result (w.drawn + 1) c.recorded_or-in-Draw.result told (asks_draw s.meaning w.past c.args.thread _ wants) (inr (c.in-None.is, c.from.ensures ∙ word, refl)), after)
 
 pub returns-in-None-clause-asked : goal.returns-in-None-clause-asked
 returns-in-None-clause-asked g c = λ s w is stands.

@@ -1,4 +1,0 @@
-pub mod Alike
-pub mod Tables
-pub mod Counted
-pub mod FirstOnes

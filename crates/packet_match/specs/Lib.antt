@@ -1,4 +1,0 @@
-pub mod Contents
-pub mod Counting
-pub mod Hashing
-pub mod Unmatched

@@ -1,0 +1,23 @@
+use Rattle.std.proofs.Common.{◌≡◌, [], take, false}
+use Rattle.std.specs.Prelude.{IsTrue}
+use Rattle.world_io.specs.World.{Shown}
+use Rattle.recovery_world.specs.World.{Setting}
+use Rattle.output_files.specs.Writes.{IsOutput}
+use Rattle.output_files.specs.Written.{OnlyWrites}
+use Rattle.run_writes.specs.Run.{OutputNames}
+use Rattle.run_command.specs.Running.{HasCome, IsSomewhere}
+use Rattle.run_command.proofs.running.perform_events.Given as goal
+
+-- the events so far were performed, and what they leave was written or is gathered
+abbrev pub invariant-loop-event : goal.invariant-loop-event
+invariant-loop-event g l =
+    let m = g.P.Program.meaning l.fn.system.parts.program in
+    record {
+      runs : l.system.stopped ≡ false;
+      program : l.system.parts.program ≡ l.fn.system.parts.program;
+      somewhere : IsSomewhere m l.system;
+      only_writes : OnlyWrites g.W.World.tells g.W.World.shown g.W.World.ledger g.W.World.healthy l.fn.world l.world;
+      come : IsTrue g.W.World.tells → (s : Setting g.row.P-Value.Denot) (names : OutputNames) (before : Shown) → IsOutput l.file names.released (g.W.World.shown l.fn.world)
+          → HasCome m s names [] l.fn.system l.fn.lines before (g.W.World.shown l.fn.world)
+          → HasCome m s names (take l.event-index l.events) l.system l.lines before (g.W.World.shown l.world);
+    }

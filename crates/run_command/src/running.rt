@@ -1,0 +1,79 @@
+ghost use Rattle.std.specs.Prelude.{◌≡◌, ◌∷◌, ◌++◌, [], List, IsTrue, OnOk, IsErrOf, false};
+ghost use Rattle.world_io.specs.World.{Shown, is_writable, WritingFailed};
+ghost use Rattle.recovery_world.specs.declared.event.Event.{Event as EventKind};
+ghost use Rattle.recovery_world.specs.World.{Setting};
+ghost use Rattle.output_files.specs.Writes.{IsOutput};
+ghost use Rattle.output_files.specs.Written.{OnlyWrites};
+ghost use Rattle.run_writes.specs.Run.{OutputNames};
+ghost use Rattle.run_command.specs.Running.{GoesOn, HasCome, IsSomewhere};
+
+use crate::{perform, write_performed};
+use box_program::Program;
+use plain_text::Bytes;
+use recovery_core::System;
+use recovery_world::Event;
+use run_writes::RunError;
+use std::alloc::Global;
+use world_io::World;
+
+/// Performs an event, and writes what it leaves: the records of what it released, and then its line, which may be gathered. Where it
+/// stops at a limit, what it released before and all lines before it are written.
+pub fn perform_event<P: Program, W: World>(
+    alloc: Global,
+    world: &mut W,
+    file: u32,
+    system: &mut System<P>,
+    event: &Event,
+    lines: &mut Bytes,
+) -> Result<(), RunError>
+    requires runs { system.old.stopped ≡ false }
+    requires somewhere { IsSomewhere (P.meaning system.old.parts.program) system.old }
+    requires writable { IsTrue (is_writable (W.ledger world.old) file) }
+    ensures told { IsTrue W.tells → (s : Setting P.Value) (names : OutputNames)
+        (events : List EventKind) (before : Shown)
+        → IsOutput file names.released (W.shown world.old)
+        → HasCome (P.meaning system.old.parts.program) s names events system.old lines.old before
+        (W.shown world.old)
+        → GoesOn result (P.meaning system.old.parts.program) s names (events ++ event.now ∷ [])
+        system.new lines.new before (W.shown world.new) }
+    ensures runs { OnOk result (system.new.stopped ≡ false) }
+    ensures somewhere { OnOk result
+        (IsSomewhere (P.meaning system.old.parts.program) system.new) }
+    ensures program { OnOk result (system.new.parts.program ≡ system.old.parts.program) }
+    ensures only_writes { OnlyWrites W.tells W.shown W.ledger W.healthy world.old world.new }
+    ensures cause { IsErrOf result RunError.WriteFault
+        → WritingFailed W.ledger W.healthy world.old world.new }
+{
+    let performed = perform(system, event);
+    write_performed(alloc, world, file, lines, event, &performed)
+}
+
+/// Performs the events of a script, in order, and writes what each leaves before the next one's.
+pub fn perform_events<P: Program, W: World>(
+    alloc: Global,
+    world: &mut W,
+    file: u32,
+    system: &mut System<P>,
+    events: &[Event],
+    lines: &mut Bytes,
+) -> Result<(), RunError>
+    requires runs { system.old.stopped ≡ false }
+    requires somewhere { IsSomewhere (P.meaning system.old.parts.program) system.old }
+    requires writable { IsTrue (is_writable (W.ledger world.old) file) }
+    ensures told { IsTrue W.tells → (s : Setting P.Value) (names : OutputNames) (before : Shown)
+        → IsOutput file names.released (W.shown world.old)
+        → HasCome (P.meaning system.old.parts.program) s names [] system.old lines.old before
+        (W.shown world.old)
+        → GoesOn result (P.meaning system.old.parts.program) s names events.now
+        system.new lines.new before (W.shown world.new) }
+    ensures runs { OnOk result (system.new.stopped ≡ false) }
+    ensures program { OnOk result (system.new.parts.program ≡ system.old.parts.program) }
+    ensures only_writes { OnlyWrites W.tells W.shown W.ledger W.healthy world.old world.new }
+    ensures cause { IsErrOf result RunError.WriteFault
+        → WritingFailed W.ledger W.healthy world.old world.new }
+{
+    for event in events {
+        perform_event(alloc, world, file, system, event, lines)?;
+    }
+    Ok(())
+}

@@ -1,0 +1,42 @@
+ghost use Rattle.std.specs.Prelude.{◌≡◌, ◌++◌, [], All, IfOk, codes, decimal};
+ghost use Rattle.pcap_io.specs.Capture.{records_of};
+ghost use Rattle.pcap_io.specs.declared.order.Order.TheVariants as order;
+ghost use Rattle.schedule_commands.specs.Runs.{IsShort};
+
+use pcap_io::{put_packet, record_len};
+use plain_text::{Bytes, NoMemory, Packet, put_u64};
+use std::alloc::Global;
+
+/// No bytes, with room for the records of packets.
+fn room_for(alloc: Global, packets: &[Packet]) -> Result<Bytes, NoMemory>
+    requires { All IsShort packets.now }
+    ensures { IfOk result (λ bytes. bytes ≡ []) }
+{
+    let mut room: usize = 0;
+    for packet in packets {
+        room = room.saturating_add(record_len(packet));
+    }
+    Ok(Bytes::from_vec(Vec::with_capacity(alloc, room)?))
+}
+
+/// The records of packets, in order.
+pub fn put_records(alloc: Global, packets: &[Packet]) -> Result<Bytes, NoMemory>
+    requires { All IsShort packets.now }
+    ensures { IfOk result (λ records. records ≡ records_of order.Little packets.now) }
+{
+    let mut records = room_for(alloc, packets)?;
+    for packet in packets {
+        put_packet(&mut records, packet)?;
+    }
+    Ok(records)
+}
+
+/// A line of one word and a number behind it.
+pub fn put_count(alloc: Global, word: &[u8], count: u64) -> Result<Bytes, NoMemory>
+    ensures { IfOk result (λ text. text ≡ word.now ++ decimal count ++ codes "\n") }
+{
+    let mut text = Bytes::of(alloc, word)?;
+    put_u64(&mut text, count)?;
+    text.push(b'\n')?;
+    Ok(text)
+}
