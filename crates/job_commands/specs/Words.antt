@@ -1,5 +1,5 @@
 -- The words of the commands.
-use Rattle.std.specs.Prelude.{ℕ, ◌&&◌, not, nat_le, List, [], ◌∷◌, codes, if◌then◌else◌, Option, Some, None}
+use Rattle.std.specs.Prelude.{ℕ, ◌&&◌, not, nat_le, List, [], ◌∷◌, codes, if◌then◌else◌, Option, Some, None, IfSome}
 use Rattle.std.specs.Str.{bytes_eq}
 use Rattle.plain_text.specs.Lines.{number_of}
 use Rattle.plain_text.specs.declared.limit.TheConstants.{MOST_PACKETS}
@@ -129,6 +129,10 @@ one_of None None None None = None
 -- the command that words ask for: `run`, `make`, `play` or `check`
 abbrev pub asked : List (List ℕ) → Option Asked
 asked words = one_of (run_names words) (make_names words) (play_names words) (check_names words)
+
+-- where the words ask for a command, this is so of it
+abbrev pub IfAsks : List (List ℕ) → (Asked → Type 0) → Type 0
+IfAsks words Holds = IfSome (asked words) Holds
 
 abbrev pub asked_of : command_words.Command → Asked
 asked_of (words.Run w) = Runs (names_of w)
