@@ -78,6 +78,16 @@ abbrev pub EmittedOutput : {V : Type 0} → List (Step V) → Output → Step V 
 EmittedOutput steps o step =
     (step.act ≡ Emitted (emission_of_output o)) × IsOutputStamp (log_of steps) o.thread (entries o.thread (log_of steps)) (λ u. slice_index o.stamp u)
 
+-- What an answer shows of the step that was made after a history: what it logged or sent out, with its stamp.
+abbrev pub Shows : {V : Type 0} → List (Step V) → Stepped → Step V → Type 0
+Shows steps (stepped.Took k) step = step.act ≡ Took k
+Shows steps (stepped.Did e) step = DidEntry steps e step
+Shows steps (stepped.Emitted o) step = EmittedOutput steps o step
+Shows steps (stepped.Ended k) step = step.act ≡ Ended k
+Shows steps stepped.Idle step = ⊥
+Shows steps (stepped.NotTurn u n) step = ⊥
+Shows steps stepped.NoMemory step = ⊥
+
 -- What a call answers of the move of a thread after a history: the move that it made, or that it made none.
 abbrev pub Follows : {V : Type 0} → Meaning V → (ℕ → List Packet) → ℕ → List (Step V) → PlainMove → Stepped → Mastered V → Type 0
 Follows m inputs threads steps plain (stepped.Took k) p = Makes m inputs threads steps plain p (λ step. step.act ≡ Took k)
