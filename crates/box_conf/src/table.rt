@@ -1,6 +1,6 @@
 ghost use Rattle.std.specs.Prelude.{◌≡◌, option_map};
 ghost use Rattle.plain_text.specs.Grammar.{is_within};
-ghost use Rattle.box_conf.specs.Table.{word_of, place_of, places_of, again_of, field_of, are_within, usual_of, fits_of, values_from};
+ghost use Rattle.box_conf.specs.Table.{word_of, grammar_place, places_of, again_of, field_of, are_within, usual_of, fits_of, values_from};
 
 use plain_text::Field;
 
@@ -53,7 +53,7 @@ impl LinePlace {
 
     /// Whether a value is in the range of the place.
     fn has(self, value: u64) -> bool
-        ensures { result ≡ is_within (place_of self) value }
+        ensures { result ≡ is_within (grammar_place self) value }
     {
         match self {
             LinePlace::Number { low, high } => low <= value && value <= high,

@@ -7,7 +7,7 @@ ghost use Rattle.recovery_world.specs.World.{Setting, World, opening};
 ghost use Rattle.recovery_world.specs.Files.{packets_of};
 ghost use Rattle.run_end.specs.Ending.{EndsIn};
 ghost use Rattle.system_parts.specs.Parts.{IsShort};
-ghost use Rattle.system_parts.specs.Standing.{StandsFor, StandsForSome};
+ghost use Rattle.system_parts.specs.SystemStanding.{StandsFor, StandsForSome};
 ghost use Rattle.system_parts.specs.Performing.{Appends, MovesOn, StopsAt, Releasing, packets_in};
 ghost use Rattle.recovery_core.specs.Systems.{HasReleased, SystemStands, SystemMoves, SystemStops, RepliesAny, FinishesAs};
 ghost use Rattle.system_parts.specs.Performing.{IsStopped};
@@ -47,7 +47,7 @@ pub struct System<P: Program> {
 impl<P: Program> Model for System<P> {
     ghost use Rattle.std.specs.Prelude.{◌≡◌, false};
     ghost use Rattle.recovery_core.specs.Systems.{Systemed};
-    ghost use Rattle.system_parts.specs.Standing.{StandsForSome};
+    ghost use Rattle.system_parts.specs.SystemStanding.{StandsForSome};
 
     ghost Value = { Systemed P P.Value };
 

@@ -2,7 +2,7 @@ ghost use Rattle.std.specs.Prelude.{◌≡◌, ◌↔◌, ℕ, ◌≤◌, [], le
 ghost use Rattle.std.specs.Option.{ForSome};
 ghost use Rattle.box_program.specs.Hands.{FitsProgram};
 ghost use Rattle.master_core.specs.Mastered.{value_of};
-ghost use Rattle.master_core.specs.Standing.{Stands};
+ghost use Rattle.master_core.specs.MasterStanding.{Stands};
 ghost use Rattle.master_core.specs.Deltas.{delta_of, HasCounts};
 ghost use Rattle.snapshot_store.specs.Stored.{HasTaken};
 

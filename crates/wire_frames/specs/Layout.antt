@@ -48,11 +48,11 @@ subject_of (Clock value) = value
 subject_of (Draw value) = value
 subject_of (Read var after) = var
 
-abbrev pub place_of : What → ℕ
-place_of (Access var place) = place
-place_of (Clock value) = 0
-place_of (Draw value) = 0
-place_of (Read var after) = after
+abbrev pub place_field : What → ℕ
+place_field (Access var place) = place
+place_field (Clock value) = 0
+place_field (Draw value) = 0
+place_field (Read var after) = after
 
 -- The first 28 bytes. The length is that of the whole frame; the code of an output is 0, and its subject is its input.
 abbrev pub head : Kind → Version → ℕ → ℕ → ℕ → ℕ → ℕ → ℕ → List Field
@@ -89,7 +89,7 @@ packet_fields p = field 4 p.seconds ∷ field 4 p.fraction ∷ field 4 p.origina
 abbrev pub entry_fields : Version → ℕ → ℕ → ℕ → StampedEntry → List Field
 entry_fields version length epoch threads e =
     head Log version length epoch e.thread (code_of e.what) e.number (subject_of e.what)
-    ++ field 8 (place_of e.what)
+    ++ field 8 (place_field e.what)
     ∷ stamp_fields version threads e.stamp
 
 abbrev pub output_fields : Version → ℕ → ℕ → ℕ → Output → List Field
