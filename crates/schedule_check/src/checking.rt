@@ -5,7 +5,7 @@ ghost use Rattle.schedule_check.specs.Checking.{IsChecked};
 
 use box_program::Program;
 use input_logger::InputLog;
-use schedule_check::first_unmatched;
+use crate::first_unmatched;
 use plain_machine::{PlayFault, Schedule};
 use plain_player::{PlayError, play};
 use plain_text::{NoMemory, Packet, Unit};
