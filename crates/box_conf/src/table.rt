@@ -22,21 +22,25 @@ pub enum BoxLine {
 pub enum LinePlace {
     /// A number, with the least and the greatest that it may be.
     Number { low: u64, high: u64 },
-    /// An address.
+    /// An IPv4 address, of four decimal numbers with points between them.
     Address,
 }
 
 /// What stands on a line after its first word.
 #[derive(Clone, Copy, Debug, PartialEq, Eq)]
 pub enum Places {
+    /// One word stands there.
     One(LinePlace),
+    /// Two words stand there.
     Two(LinePlace, LinePlace),
 }
 
 /// The values of a line. Of a line with one value the second is 0.
 #[derive(Clone, Copy, Debug, PartialEq, Eq)]
 pub struct Values {
+    /// The number behind the first word, or the address as a number below 2^32.
     pub first: u64,
+    /// The number behind that.
     pub second: u64,
 }
 

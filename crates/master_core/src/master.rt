@@ -101,7 +101,7 @@ impl<P: Program> Master<P> {
         }
     }
 
-    /// How much the thread did.
+    /// How many inputs the thread took, moves it logged and packets it sent out.
     pub fn counts(&self, thread: u32) -> Counts
         requires { thread < length self.now.threads }
         ensures { HoldsAt (λ part. result ≡ part.counts) self.now.threads thread }
@@ -121,7 +121,7 @@ impl<P: Program> Master<P> {
         }
     }
 
-    /// The value of a variable.
+    /// The value that a variable has now.
     pub fn value(&self, var: u32) -> &P::Value
         requires { var < length self.now.vars }
         ensures { HoldsAt (λ part. result.now ≡ part.value) self.now.vars var }

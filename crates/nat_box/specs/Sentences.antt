@@ -54,7 +54,7 @@ IsBetween port key None = ⊥
 IsBetween port key (Some h) =
     ((place_numbered h.place.at ≡ FindsOrBinds) × (source_key (noted h.place) ≡ port) × ((noted h.place).source ≡ key))
     ⊎ (((place_numbered h.place.at ≡ UnbindsFreed) ⊎ (place_numbered h.place.at ≡ UnbindsLost))
-        × ((noted h.place).freed ≡ port))
+    × ((noted h.place).freed ≡ port))
 
 abbrev pub Belong : Settings → ℕ → (ℕ → NatValue) → (ℕ → Thread) → Type 0
 Belong s threads value thread =

@@ -183,7 +183,7 @@ impl<P: Program> System<P> {
         mem::replace(&mut self.fresh, Outputs::new(self.core.alloc))
     }
 
-    /// Whether the master is up.
+    /// Whether the master is up: it is down from a crash to the next recovery.
     pub fn up(&self) -> bool
         ensures { self.now.stopped ≡ false → (s : Setting P.Value) (w : World P.Value)
             → StandsFor (P.meaning self.now.parts.program) s w self.now.parts → result ≡ w.up }
@@ -191,7 +191,7 @@ impl<P: Program> System<P> {
         self.core.up
     }
 
-    /// The epoch, from 1.
+    /// The epoch, from 1: each recovery raises it by 1.
     pub fn epoch(&self) -> u32
         ensures { (s : Setting P.Value) (w : World P.Value)
             → StandsFor (P.meaning self.now.parts.program) s w self.now.parts

@@ -66,7 +66,7 @@ values_say (part ∷ parts) (word ∷ words) values e = go (value_at (grammar_pl
     go : (o : Option ℕ) (r : Result (List ℕ) LineCause) → value_at (grammar_place part) word ≡ o → values_at (map grammar_place parts) words ≡ r
         → and_values (value_or_misfit (grammar_place part) o) r ≡ Ok values
         → ((more : List ℕ) → values_at (map grammar_place parts) words ≡ Ok more
-            → PlacesSay (map grammar_place parts) words more)
+        → PlacesSay (map grammar_place parts) words more)
         → PlacesSay (map grammar_place (part ∷ parts)) (word ∷ words) values
     go None r is are e behind = absurd (cc)
     go (Some v) (Err cause) is are e behind = absurd (cc)

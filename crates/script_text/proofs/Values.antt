@@ -31,12 +31,12 @@ missing values parts i words r less none e =
 pub one_more : (values : List ℕ) (parts : List Part) (i n : ℕ) (word : List ℕ) (words left : List (List ℕ)) (r : Result (List ℕ) LineCause)
     → i < length parts → i < length values → words ≡ word ∷ left
     → value_or_misfit (grammar_place (get_or parts i Number))
-        (value_at (grammar_place (get_or parts i Number)) word) ≡ Ok n
+    (value_at (grammar_place (get_or parts i Number)) word) ≡ Ok n
     → behind (take i values) (values_at (map grammar_place (drop i parts)) words) ≡ r
     → behind (take (i + 1) (set values i n)) (values_at (map grammar_place (drop (i + 1) parts)) left) ≡ r
 one_more values parts i n word words left r less room front value e =
     ap (λ (vs : List ℕ). behind vs (values_at (map grammar_place (drop (i + 1) parts)) left))
-        (take_more_set values i n room)
+    (take_more_set values i n room)
     ∙ behind_one (take i values) n (values_at (map grammar_place (drop (i + 1) parts)) left)
     ∙ sym (ap (λ (v : Result ℕ LineCause). behind (take i values) (and_values v (values_at (map grammar_place (drop (i + 1) parts)) left))) value)
     ∙ sym (ap (λ (ws : List (List ℕ)). behind (take i values) (values_at (map grammar_place (get_or parts i Number ∷ drop (i + 1) parts)) ws)) front)

@@ -86,7 +86,7 @@ fn read_values(mut words: WordIter<'_>, parts: &[Part]) -> Result<[u64; MOST_VAL
     requires { length parts.now ≤ 4 }
     ensures values { IfOk result (λ values.
         values_at (map grammar_place parts.now) words.entry
-            ≡ Ok (take (length parts.now) values)) }
+        ≡ Ok (take (length parts.now) values)) }
     ensures fault { IfErr result (λ cause.
         values_at (map grammar_place parts.now) words.entry ≡ Err cause) }
 {

@@ -17,7 +17,7 @@ use snapshot_steps::{snap, store};
 use system_parts::Core;
 use thread_steps::step;
 
-/// Performs a single event.
+/// Performs an event that is one by itself: no settling, no choice of events, and a flow only while the master is down.
 pub fn perform_single<P: Program>(
     core: &mut Core<P>,
     event: Event,

@@ -18,8 +18,11 @@ use thread_clock::Stamp;
 /// What a recovery starts from: a master as it was stored, how many moves it had made, and its outputs that were not released then.
 #[derive(Drop)]
 pub struct Restored<P: Program> {
+    /// A master of its own, which moves apart from the stored one.
     pub master: Master<P>,
+    /// How many moves it had made.
     pub moves: u64,
+    /// The outputs that are to be sent again.
     pub outbox: Outputs,
 }
 

@@ -21,7 +21,7 @@ fn two_of<P: Program>(mut seats: Vec<VarSeat<P>>) -> Option<(VarSeat<P>, VarSeat
     ensures { (round : TableId) (places : List ℕ) (threads : List ThreadPart)
         → seats.items ≡ fresh_seats round places 0 threads → length threads ≡ 2
         → IfSome result
-            (λ both. IsSeatIn round 0 false both.0 × IsSeatIn round 1 false both.1) }
+        (λ both. IsSeatIn round 0 false both.0 × IsSeatIn round 1 false both.1) }
 {
     let second = seats.pop()?;
     let first = seats.pop()?;

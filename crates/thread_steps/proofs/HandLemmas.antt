@@ -215,4 +215,3 @@ tells_none {V} s w t given clock draw = go (thread_after w.past t).hand clock dr
         → TellsHand s w t given None w.drawn o × ((a : ℕ) → told_in s.meaning o a ≡ None)
     go None c d = ((refl, refl), (λ a. refl))
     go (Some h) c d = at (s.meaning.next h.place) c d
-
