@@ -13,6 +13,7 @@ use Rattle.recovery_world.specs.Files.{reply_line, packets_of}
 abbrev pub packets_in : List Output → List Packet
 packets_in outputs = map (λ (o : Output). o.packet) outputs
 
+-- what an event released, in order of release, and its line of the report, as bytes
 pub record Reply : Type 0 where
   pub released : List Packet
   pub line : List ℕ

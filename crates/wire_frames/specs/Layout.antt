@@ -48,6 +48,7 @@ subject_of (Clock value) = value
 subject_of (Draw value) = value
 subject_of (Read var after) = var
 
+-- the number of the place field: the place of a touch, how many touches were before a read, or 0
 abbrev pub place_field : What → ℕ
 place_field (Access var place) = place
 place_field (Clock value) = 0
@@ -111,6 +112,7 @@ pub record AreComponents (threads : ℕ) (stamp : List ℕ) : Type 0 where
   pub fit : (u : ℕ) → slice_index stamp u < 2 ^ 64
   pub none : (u : ℕ) → threads ≤ u → slice_index stamp u ≡ 0
 
+-- the epoch, the thread and the number that a frame may carry, with its sender's number of threads and the stamp
 pub record IsSent (epoch threads thread number : ℕ) (stamp : List ℕ) : Type 0 where
   pub epoch_from : 1 ≤ epoch
   pub epoch_to : epoch < 2 ^ 32
@@ -129,6 +131,7 @@ IsDone version (Draw value) = value < 2 ^ 64
 IsDone One (Read var after) = ⊥
 IsDone Two (Read var after) = (var < 256) × (after < 2 ^ 64)
 
+-- the numbers of the packet fit their fields, and its bytes are no more than a capture holds
 pub record IsCaptured (p : Packet) : Type 0 where
   pub seconds : p.seconds < 2 ^ 32
   pub fraction : p.fraction < 2 ^ 32
