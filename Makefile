@@ -17,7 +17,7 @@ all: build/ftmb
 build/ftmb: $(SOURCES)
 	scripts/build $(RT) ftmb
 
-# The program for a stopwatch likewise.
+# The benchmark likewise.
 build/bench: $(SOURCES)
 	scripts/build $(RT) bench
 

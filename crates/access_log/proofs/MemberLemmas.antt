@@ -65,9 +65,9 @@ IsNumberOf-same P Q n same p =
 -- The entries of one lane
 
 -- the lane has this entry at this number
-abbrev IsAt : ℕ → StampedEntry → List (ℕ × StampedEntry) → Type 0
-IsAt n e [] = ⊥
-IsAt n e (x ∷ rest) = ((x.0 ≡ n) × (x.1 ≡ e)) ⊎ IsAt n e rest
+abbrev LaneHas : ℕ → StampedEntry → List (ℕ × StampedEntry) → Type 0
+LaneHas n e [] = ⊥
+LaneHas n e (x ∷ rest) = ((x.0 ≡ n) × (x.1 ≡ e)) ⊎ LaneHas n e rest
 
 abbrev entries_of : List (ℕ × StampedEntry) → List StampedEntry
 entries_of [] = []
@@ -77,12 +77,12 @@ length-entries_of : (es : List (ℕ × StampedEntry)) → length (entries_of es)
 length-entries_of [] = refl
 length-entries_of (x ∷ es) = let r = length-entries_of es in omega arith
 
-above_least : (least n : ℕ) (e : StampedEntry) (es : List (ℕ × StampedEntry)) → IsRising least es → IsAt n e es → least < n
+above_least : (least n : ℕ) (e : StampedEntry) (es : List (ℕ × StampedEntry)) → IsRising least es → LaneHas n e es → least < n
 above_least least n e [] rising h = absurd h
 above_least least n e (x ∷ es) rising (inl (number, same)) = let first = rising.0 in omega arith
 above_least least n e (x ∷ es) rising (inr h) = let first = rising.0 in let later = above_least x.0 n e es rising.1 h in omega arith
 
-at_number : (least n : ℕ) (e : StampedEntry) (es : List (ℕ × StampedEntry)) → IsRising least es → IsAt n e es → at es n ≡ Some e
+at_number : (least n : ℕ) (e : StampedEntry) (es : List (ℕ × StampedEntry)) → IsRising least es → LaneHas n e es → at es n ≡ Some e
 at_number least n e [] rising h = absurd h
 at_number least n e (x ∷ es) rising (inl (number, same)) = ap (λ b. cond b (Some x.1) (at es n)) (is_at-same n x.0 (sym number)) ∙ ap Some same
 at_number least n e (x ∷ es) rising (inr h) =
@@ -90,7 +90,7 @@ at_number least n e (x ∷ es) rising (inr h) =
     let apart : n ≢ x.0 = λ q. omega arith in
     ap (λ b. cond b (Some x.1) (at es n)) (is_at-apart n x.0 apart) ∙ at_number x.0 n e es rising.1 h
 
-number_at : (n : ℕ) (e : StampedEntry) (es : List (ℕ × StampedEntry)) → at es n ≡ Some e → IsAt n e es
+number_at : (n : ℕ) (e : StampedEntry) (es : List (ℕ × StampedEntry)) → at es n ≡ Some e → LaneHas n e es
 number_at n e [] h = absurd cc
 number_at n e (x ∷ es) h = ⊎_elim (λ (q : n ≡ x.0). inl (sym q, let found = ap (λ b. cond b (Some x.1) (at es n)) (is_at-same n x.0 q) in let both : Some x.1 ≡ Some e = sym found ∙ h in cc)) (λ (q : n ≢ x.0). inr (number_at n e es (sym (ap (λ b. cond b (Some x.1) (at es n)) (is_at-apart n x.0 q)) ∙ h))) (is_or n x.0)
 
@@ -123,17 +123,17 @@ slotted_rising covered contiguous out_of_order is sorted =
     rising_slots covered contiguous out_of_order (rising_map (covered + length contiguous) out_of_order sorted is.past)
 
 -- where each entry has its number, none stands twice
-listed_at : (e : StampedEntry) (es : List (ℕ × StampedEntry)) → IsListed e (entries_of es) → (n : ℕ) × IsAt n e es
+listed_at : (e : StampedEntry) (es : List (ℕ × StampedEntry)) → IsListed e (entries_of es) → (n : ℕ) × LaneHas n e es
 listed_at e [] h = absurd h
 listed_at e (x ∷ es) (inl same) = (x.0, inl (refl, same))
 listed_at e (x ∷ es) (inr h) = let r = listed_at e es h in (r.0, inr r.1)
 
-at_listed : (n : ℕ) (e : StampedEntry) (es : List (ℕ × StampedEntry)) → IsAt n e es → IsListed e (entries_of es)
+at_listed : (n : ℕ) (e : StampedEntry) (es : List (ℕ × StampedEntry)) → LaneHas n e es → IsListed e (entries_of es)
 at_listed n e [] h = absurd h
 at_listed n e (x ∷ es) (inl h) = inl h.1
 at_listed n e (x ∷ es) (inr h) = inr (at_listed n e es h)
 
-entries_apart : (least : ℕ) (es : List (ℕ × StampedEntry)) → IsRising least es → ((n : ℕ) (e : StampedEntry) → IsAt n e es → e.number ≡ n) → AreApart (entries_of es)
+entries_apart : (least : ℕ) (es : List (ℕ × StampedEntry)) → IsRising least es → ((n : ℕ) (e : StampedEntry) → LaneHas n e es → e.number ≡ n) → AreApart (entries_of es)
 entries_apart least [] rising numbered = tt
 entries_apart least (x ∷ es) rising numbered = (
   λ h. let r = listed_at x.1 es h in let later = above_least x.0 r.0 x.1 es rising.1 r.1 in let here = numbered x.0 x.1 (inl (refl, refl)) in let there = numbered r.0 x.1 (inr r.1) in omega arith,

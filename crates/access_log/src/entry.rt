@@ -5,8 +5,11 @@ use thread_clock::Stamp;
 /// One log entry: the `number`-th logged move of `thread`, counted from 1, what it did, and its stamp.
 #[derive(Clone, Copy, Debug, PartialEq)]
 pub struct StampedEntry {
+    /// The thread that made the move, below 16.
     pub thread: u32,
+    /// Its number among the logged moves of the thread, from 1.
     pub number: u64,
+    /// What the move did: a touch or a read of a variable, or a time or a random word that was told.
     pub what: What,
     /// For each thread, the greatest number of an entry of it that precedes this one or is it; 0 where there is none.
     pub stamp: Stamp,
@@ -15,15 +18,19 @@ pub struct StampedEntry {
 /// A packet that a thread sends out: its `number`-th, counted from 1, made of this input.
 #[derive(Debug, Drop)]
 pub struct Output {
+    /// The thread that sends it out, below 16.
     pub thread: u32,
+    /// Its number among the packets that the thread sends out, from 1.
     pub number: u64,
+    /// The number of the thread's input that it was made of, from 1.
     pub input: u64,
     /// For each thread, the greatest number of an entry of it among the output's predecessors; 0 where there is none.
     pub stamp: Stamp,
+    /// The packet as it is to leave.
     pub packet: Packet,
 }
 
-/// Outputs in order.
+/// Outputs, in the order in which they were made or released.
 pub type Outputs = Sequence<Output>;
 
 /// Whether a thread may make the touch that it wants.

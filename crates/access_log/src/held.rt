@@ -13,7 +13,9 @@ use thread_clock::Stamp;
 /// How many entries a call let stay and dropped.
 #[derive(Clone, Copy, Debug, PartialEq, Eq)]
 pub struct Kept {
+    /// How many entries are held after the call.
     pub kept: u64,
+    /// How many were held before it and are not any more.
     pub dropped: u64,
 }
 

@@ -29,7 +29,7 @@ use Rattle.balancer_box.specs.declared.value.BalancerValue.TheVariants.{Dropped,
 use Rattle.balancer_box.specs.declared.place.Goes.{Goes}
 use Rattle.balancer_box.specs.Loads.{raised, lowered, least_loaded, no_loads}
 use Rattle.balancer_box.specs.Connections.{closed, without_if}
-use Rattle.balancer_box.specs.Places.{place_of}
+use Rattle.balancer_box.specs.Places.{place_numbered}
 use Rattle.balancer_box.specs.Balancer.{Settings, next_move, is_virtual, backend_at, begun_answer, begun_flow, begun, begins, goes_to, after_find, after_bind, after_check, touched, after_time, told, local_at, fresh_value, noted_by, balancer_meaning, Fits}
 use Rattle.balancer_box.specs.Noting.{place_again, IsNoted, is_noted, noted_again}
 use Rattle.balancer_box.specs.Lawful.{AreSettings, var_of, touches_it, below_all, balancer_lawful}
@@ -235,13 +235,13 @@ touch_balanced s is i low Ends x n v e at fits = absurd (cc)
 -- a hand that goes on as this: its numbers are those of where it goes
 hand_number : (s : Settings) (number : Place → Noted → ℕ) (p : Packet) (g : Goes) → IsNoted (length s.backends) g.noted → in_hand s number (Some (record { packet = p; place = local_at g })) ≡ number g.place g.noted
 hand_number s number p g is =
-    let a : place_of (local_at g).at ≡ g.place = place_again g.place in
+    let a : place_numbered (local_at g).at ≡ g.place = place_again g.place in
     let b : noted_by s (local_at g) ≡ g.noted = noted_again (length s.backends) g.place g.noted is in
     rw (a, b) refl
 
 -- a hand that goes on owing nothing
 hand_owes_none : (s : Settings) (i : ℕ) (p : Packet) (g : Goes) → OwesNone g.place → in_hand s (owed i) (Some (record { packet = p; place = local_at g })) ≡ 0
-hand_owes_none s i p g none = owes_none i (place_of (local_at g).at) (noted_by s (local_at g)) (subst OwesNone (sym (place_again g.place)) none)
+hand_owes_none s i p g none = owes_none i (place_numbered (local_at g).at) (noted_by s (local_at g)) (subst OwesNone (sym (place_again g.place)) none)
 
 module _ (s : Settings) (is : AreSettings s) (threads : ℕ) (i : ℕ) (in_number : i < length s.backends) (value : ℕ → BalancerValue) (thread : ℕ → Thread) (sound : IsCharged s threads i value thread) where
   -- a move of one thread
@@ -306,22 +306,22 @@ module _ (s : Settings) (is : AreSettings s) (threads : ℕ) (i : ℕ) (in_numbe
     deed_charged packets taken earlier (HearsDraw a) fits m = absurd m
     deed_charged packets taken earlier (HearsClock a) fits m =
         let h : Hand = m.0 in
-        let p : Place = place_of h.place.at in
+        let p : Place = place_numbered h.place.at in
         let n : Noted = noted_by s h.place in
         still_charged (ap (in_hand s (owed i)) m.1 ∙ owes_none i p n (clock_owes_none s p n m.2)) (ap (in_hand s (owed i)) m.3 ∙ hand_owes_none s i h.packet (told p a n) (told_owes_none p a n))
     deed_charged packets taken earlier (Sends q) fits m =
         let h : Hand = m.0 in
-        let p : Place = place_of h.place.at in
+        let p : Place = place_numbered h.place.at in
         let n : Noted = noted_by s h.place in
         still_charged (ap (in_hand s (owed i)) m.1 ∙ owes_none i p n (emit_owes_none s p n m.2)) (ap (in_hand s (owed i)) m.4 ∙ hand_owes_none s i h.packet (record { place = Ends; noted = n }) tt)
     deed_charged packets taken earlier EndsIt fits m =
         let h : Hand = m.0 in
-        let p : Place = place_of h.place.at in
+        let p : Place = place_numbered h.place.at in
         let n : Noted = noted_by s h.place in
         still_charged (ap (in_hand s (owed i)) m.1 ∙ owes_none i p n (end_owes_none s p n m.2)) (ap (in_hand s (owed i)) m.3)
     deed_charged packets taken earlier (Touches w left) fits m =
         let h : Hand = m.0 in
-        let p : Place = place_of h.place.at in
+        let p : Place = place_numbered h.place.at in
         let n : Noted = noted_by s h.place in
         let r : BalancerValue × Goes = touched p (value w) n in
         let at : var_of s p n ≡ w = touches_it s p n w m.2 in

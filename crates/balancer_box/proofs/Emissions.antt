@@ -35,7 +35,7 @@ use Rattle.balancer_box.specs.declared.backends.Backend.{Backend}
 use Rattle.balancer_box.specs.declared.place.Goes.{Goes}
 use Rattle.balancer_box.specs.Loads.{least_loaded}
 use Rattle.balancer_box.specs.Connections.{closed, without_if}
-use Rattle.balancer_box.specs.Places.{place_of}
+use Rattle.balancer_box.specs.Places.{place_numbered}
 use Rattle.balancer_box.specs.Balancer.{Settings, goes, next_move, resets, is_virtual, backend_at, nothing_noted, of_client, of_answer, begun_answer, begun_flow, begun, begins, goes_to, after_find, after_bind, after_check, touched, after_time, told, frame_to, frame_out, local_at, noted_by, balancer_meaning, Fits}
 use Rattle.balancer_box.specs.Noting.{place_again, IsNoted, is_noted, noted_again}
 use Rattle.balancer_box.specs.Lawful.{AreSettings, var_of, touches_it, below_all, balancer_lawful}
@@ -75,11 +75,11 @@ KnownAt s r p Ends n = Unit {0}
 
 abbrev Known : Settings → Trail → Option Hand → Type 0
 Known s r None = Unit {0}
-Known s r (Some h) = KnownAt s r h.packet (place_of h.place.at) (noted_by s h.place)
+Known s r (Some h) = KnownAt s r h.packet (place_numbered h.place.at) (noted_by s h.place)
 
 known_on : (s : Settings) (r : Trail) (h : Hand) (g : Goes) → IsNoted (length s.backends) g.noted → KnownAt s r h.packet g.place g.noted → Known s r (goes_on h g)
 known_on s r h g is k =
-    let a : place_of (local_at g).at ≡ g.place = place_again g.place in
+    let a : place_numbered (local_at g).at ≡ g.place = place_again g.place in
     let b : noted_by s (local_at g) ≡ g.noted = noted_again (length s.backends) g.place g.noted is in
     rw (a, b) k
 
@@ -294,7 +294,7 @@ made_known s is packets t earlier taken tn before after Takes bytes fits r k m =
     subst (Known s no_trail) (sym m.3) (begun_known s is m.1 (viewed m.1.bytes m.1.original) (bytes taken m.1 m.2) refl)
 made_known s is packets t earlier taken tn before after (Touches v left) bytes fits r k m =
     let h : Hand = m.0 in
-    let place : Place = place_of h.place.at in
+    let place : Place = place_numbered h.place.at in
     let n : Noted = noted_by s h.place in
     let x : BalancerValue = value_after (balancer_meaning s) earlier v in
     let at : var_of s place n ≡ v = touches_it s place n v m.2 in
@@ -308,7 +308,7 @@ made_known s is packets t earlier taken tn before after (Touches v left) bytes f
 made_known s is packets t earlier taken tn before after (Looks v) bytes fits r k m = absurd m
 made_known s is packets t earlier taken tn before after (HearsClock a) bytes fits r k m =
     let h : Hand = m.0 in
-    let place : Place = place_of h.place.at in
+    let place : Place = place_numbered h.place.at in
     let n : Noted = noted_by s h.place in
     let known : KnownAt s r h.packet place n = subst (Known s r) m.1 k in
     let noted : IsNoted (length s.backends) n = is_noted (length s.backends) h.place is.some_backends in
@@ -376,7 +376,7 @@ send_follows : (s : Settings) (is : AreSettings s) (r : Trail) (h : Hand) → co
 send_follows s is r h at k =
     let n : Noted = noted_by s h.place in
     let noted : IsNoted (length s.backends) n = is_noted (length s.backends) h.place is.some_backends in
-    let known : KnownAt s r h.packet SendsOut n = subst (λ (q : Place). KnownAt s r h.packet q n) (at_send s (place_of h.place.at) n at) k in
+    let known : KnownAt s r h.packet SendsOut n = subst (λ (q : Place). KnownAt s r h.packet q n) (at_send s (place_numbered h.place.at) n at) k in
     let base : IsBase s h.packet n = known.0 in
     let t : SentOn s h.packet.bytes base.flow r (frame_out s n.class h.packet.bytes base.flow n) =
     sent_on s r h.packet.bytes base.flow n n.class base.reset base.of known.1 noted.backend in

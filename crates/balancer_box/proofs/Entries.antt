@@ -17,7 +17,7 @@ use Rattle.balancer_box.specs.declared.place.Noted.{Noted}
 use Rattle.balancer_box.specs.declared.value.BalancerValue.{BalancerValue}
 use Rattle.balancer_box.specs.declared.value.BalancerValue.TheVariants.{Dropped, Loaded, Connected}
 use Rattle.balancer_box.specs.Connections.{closed, without_if}
-use Rattle.balancer_box.specs.Places.{place_of}
+use Rattle.balancer_box.specs.Places.{place_numbered}
 use Rattle.balancer_box.specs.Balancer.{Settings, touched, noted_by, balancer_meaning, MayConnect, Fits}
 use Rattle.balancer_box.specs.Lawful.{balancer_lawful}
 use Rattle.balancer_box.specs.Entries.{connections_in, IsKept, AreKept, ConnectionsKeepBackends}
@@ -145,8 +145,8 @@ deed_keeps s packets t taken taken_then value before after earlier (Touches w le
     by false q = kept_all (connections_in (value v))
     by true q =
         let e : w ≡ v = eqb-true _ _ q in
-        let same : left ≡ (touched (place_of h.place.at) (value v) (noted_by s h.place)).0 = m.3 ∙ ap (λ (u : ℕ). (touched (place_of h.place.at) (value u) (noted_by s h.place)).0) e in
-        subst (λ (x : BalancerValue). AreKept (connections_in (value v)) (connections_in x)) (sym same) (kept_touch s (place_of h.place.at) (value v) (noted_by s h.place) v fits)
+        let same : left ≡ (touched (place_numbered h.place.at) (value v) (noted_by s h.place)).0 = m.3 ∙ ap (λ (u : ℕ). (touched (place_numbered h.place.at) (value u) (noted_by s h.place)).0) e in
+        subst (λ (x : BalancerValue). AreKept (connections_in (value v)) (connections_in x)) (sym same) (kept_touch s (place_numbered h.place.at) (value v) (noted_by s h.place) v fits)
 
 pub connections_keep : ConnectionsKeepBackends
 connections_keep s threads inputs x earlier is h v low =

@@ -27,7 +27,7 @@ use Rattle.balancer_box.specs.declared.value.BalancerValue.{BalancerValue}
 use Rattle.balancer_box.specs.declared.value.BalancerValue.TheVariants.{Dropped, Loaded, Connected}
 use Rattle.balancer_box.specs.Loads.{raised, lowered, least_loaded, no_loads}
 use Rattle.balancer_box.specs.Connections.{find_connection, check_connection}
-use Rattle.balancer_box.specs.Places.{place_of, noted, local_of, endpoint}
+use Rattle.balancer_box.specs.Places.{place_numbered, noted, local_of, endpoint}
 use Rattle.balancer_box.specs.Shown.{shown_value}
 
 pub record Settings : Type 0 where
@@ -223,14 +223,14 @@ balancer_meaning s = record {
   vars = 2 + s.shards;
   fresh = fresh_value s;
   begin = λ p. local_at (begun s (viewed p.bytes p.original));
-  next = λ l. next_move s (place_of l.at) (noted_by s l);
-  touch = λ _ x l. let r = touched (place_of l.at) x (noted_by s l) in (r.0, local_at r.1);
+  next = λ l. next_move s (place_numbered l.at) (noted_by s l);
+  touch = λ _ x l. let r = touched (place_numbered l.at) x (noted_by s l) in (r.0, local_at r.1);
   look = λ _ _ l. local_at (goes Ends (noted_by s l));
-  told = λ a l. local_at (told (place_of l.at) a (noted_by s l));
+  told = λ a l. local_at (told (place_numbered l.at) a (noted_by s l));
   emitted = λ l. local_at (goes Ends (noted_by s l));
   out = λ p l. bytes_out s p.bytes (noted_by s l) (viewed p.bytes p.original);
   shown = λ _ x. shown_value x;
-  rank = λ l. moves_left (place_of l.at);
+  rank = λ l. moves_left (place_numbered l.at);
 }
 
 -- Each variable has a value of its kind: a load of each backend, and in a connection table connections that stand by their clients,

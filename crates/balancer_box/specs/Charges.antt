@@ -14,7 +14,7 @@ use Rattle.balancer_box.specs.declared.place.Place.TheVariants.{LowersIdle, Conn
 use Rattle.balancer_box.specs.declared.place.Noted.{Noted}
 use Rattle.balancer_box.specs.declared.value.BalancerValue.{BalancerValue}
 use Rattle.balancer_box.specs.declared.value.BalancerValue.TheVariants.{Dropped, Loaded, Connected}
-use Rattle.balancer_box.specs.Places.{place_of}
+use Rattle.balancer_box.specs.Places.{place_numbered}
 use Rattle.balancer_box.specs.Balancer.{Settings, noted_by, balancer_meaning}
 use Rattle.balancer_box.specs.Lawful.{AreSettings}
 
@@ -43,7 +43,7 @@ owed backend _ n = 0
 
 abbrev pub in_hand : Settings → (Place → Noted → ℕ) → Option Hand → ℕ
 in_hand s number None = 0
-in_hand s number (Some h) = number (place_of h.place.at) (noted_by s h.place)
+in_hand s number (Some h) = number (place_numbered h.place.at) (noted_by s h.place)
 
 -- Over all variables, and over all packets in hand
 

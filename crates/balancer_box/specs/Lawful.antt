@@ -29,7 +29,7 @@ use Rattle.balancer_box.specs.declared.value.BalancerValue.TheVariants.{Dropped,
 use Rattle.balancer_box.specs.declared.place.Goes.{Goes}
 use Rattle.balancer_box.specs.Loads.{raised, lowered, least_loaded, no_loads}
 use Rattle.balancer_box.specs.Connections.{closed, find_connection, without_if, check_connection}
-use Rattle.balancer_box.specs.Places.{place_of}
+use Rattle.balancer_box.specs.Places.{place_numbered}
 use Rattle.balancer_box.specs.Balancer.{Settings, table_of, next_move, moves_left, is_virtual, backend_at, begun_answer, begun, begins, goes_to, after_find, after_bind, after_check, touched, after_time, told, frame_to, frame_out, bytes_out, local_at, fresh_value, noted_by, balancer_meaning, MayConnect, Fits}
 use Rattle.balancer_box.specs.Noting.{place_again, IsNoted, is_noted}
 
@@ -105,7 +105,7 @@ below_all s Ends n some = omega arith
 
 -- Ranks fall
 
-rank_at : (g : Goes) → moves_left (place_of (local_at g).at) ≡ moves_left g.place
+rank_at : (g : Goes) → moves_left (place_numbered (local_at g).at) ≡ moves_left g.place
 rank_at g = ap moves_left (place_again g.place)
 
 begins_falls : (n : Noted) (b : Bool) → moves_left (begins n b).place ≤ 4
@@ -314,16 +314,16 @@ pub balancer_lawful : (s : Settings) → AreSettings s → IsLawful (balancer_me
 balancer_lawful s is = record {
   some_vars = omega arith;
   few_vars = omega (arith, is.few);
-  touches_var = λ l v e. subst (λ (u : ℕ). u < 2 + s.shards) (touches_it s (place_of l.at) (noted_by s l) v e) (below_all s (place_of l.at) (noted_by s l) is.some);
-  reads_var = λ l v e. absurd (reads_none s (place_of l.at) (noted_by s l) v e);
+  touches_var = λ l v e. subst (λ (u : ℕ). u < 2 + s.shards) (touches_it s (place_numbered l.at) (noted_by s l) v e) (below_all s (place_numbered l.at) (noted_by s l) is.some);
+  reads_var = λ l v e. absurd (reads_none s (place_numbered l.at) (noted_by s l) v e);
   begins = λ p. rw (rank_at (begun s (viewed p.bytes p.original))) (few_to_make s (viewed p.bytes p.original));
-  touch_falls = λ v x l e f. rw (rank_at (touched (place_of l.at) x (noted_by s l)).1) (touch_falls_at s (place_of l.at) x (noted_by s l) v e);
-  look_falls = λ v x l e f. absurd (reads_none s (place_of l.at) (noted_by s l) v e);
-  clock_falls = λ a l e. rw (rank_at (told (place_of l.at) a (noted_by s l))) (clock_falls_at s (place_of l.at) a (noted_by s l) e);
-  draw_falls = λ a l e. absurd (draws_none s (place_of l.at) (noted_by s l) e);
-  emit_falls = λ l e. emit_falls_at s (place_of l.at) (noted_by s l) e;
-  ends = λ l e. ends_at s (place_of l.at) (noted_by s l) e;
+  touch_falls = λ v x l e f. rw (rank_at (touched (place_numbered l.at) x (noted_by s l)).1) (touch_falls_at s (place_numbered l.at) x (noted_by s l) v e);
+  look_falls = λ v x l e f. absurd (reads_none s (place_numbered l.at) (noted_by s l) v e);
+  clock_falls = λ a l e. rw (rank_at (told (place_numbered l.at) a (noted_by s l))) (clock_falls_at s (place_numbered l.at) a (noted_by s l) e);
+  draw_falls = λ a l e. absurd (draws_none s (place_numbered l.at) (noted_by s l) e);
+  emit_falls = λ l e. emit_falls_at s (place_numbered l.at) (noted_by s l) e;
+  ends = λ l e. ends_at s (place_numbered l.at) (noted_by s l) e;
   fresh_fits = λ v low. fresh_fits_at s v low;
-  touch_fits = λ v x l e f. touched_fits s (place_of l.at) x (noted_by s l) v (is_noted (length s.backends) l is.some_backends) (touches_it s (place_of l.at) (noted_by s l) v e) f;
+  touch_fits = λ v x l e f. touched_fits s (place_numbered l.at) x (noted_by s l) v (is_noted (length s.backends) l is.some_backends) (touches_it s (place_numbered l.at) (noted_by s l) v e) f;
   as_long = λ p l e. long_out s p.bytes (noted_by s l) (viewed p.bytes p.original);
 }

@@ -8,9 +8,10 @@ use Rattle.balancer_box.specs.declared.place.Place.TheVariants.{HearsTime, Finds
 use Rattle.balancer_box.specs.declared.place.Class.{Class}
 use Rattle.balancer_box.specs.declared.place.Class.TheVariants.{Client, Answer}
 use Rattle.balancer_box.specs.declared.place.Noted.{Noted}
-use Rattle.balancer_box.specs.Places.{number_of, place_of, number_of_class, class_of, number_of_flag, noted, local_of}
+use Rattle.balancer_box.specs.Places.{number_of, place_numbered, number_of_class, class_of, number_of_flag, noted}
+use Rattle.balancer_box.specs.Places.{local_of}
 
-pub place_again : (p : Place) → place_of (number_of p) ≡ p
+pub place_again : (p : Place) → place_numbered (number_of p) ≡ p
 place_again HearsTime = refl
 place_again FindsConnection = refl
 place_again LowersIdle = refl

@@ -21,8 +21,8 @@ number_of CountsDrop = 7
 number_of SendsOut = 8
 number_of Ends = 9
 
-abbrev pub place_of : ℕ → Place
-place_of at =
+abbrev pub place_numbered : ℕ → Place
+place_numbered at =
     if at == 0 then HearsTime else if at == 1 then FindsConnection else if at == 2 then LowersIdle else if at == 3 then RaisesLeast
     else if at == 4 then Connects else if at == 5 then LowersSpare else if at == 6 then ChecksConnection else if at == 7 then CountsDrop
     else if at == 8 then SendsOut else Ends

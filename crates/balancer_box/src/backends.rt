@@ -5,7 +5,9 @@ use std::marker::Model;
 /// A server behind the virtual address.
 #[derive(Clone, Copy, Debug, PartialEq, Eq)]
 pub struct Backend {
+    /// Its IPv4 address; the first byte on the wire is the highest.
     pub address: u32,
+    /// Its TCP and UDP port.
     pub port: u16,
 }
 
@@ -32,7 +34,7 @@ impl Model for Backends {
 }
 
 impl Backends {
-    /// No backends.
+    /// A list of no backends, which takes no memory.
     pub fn new() -> Self
         ensures { result ≡ [] }
     {
@@ -55,18 +57,21 @@ impl Backends {
         self.count += 1;
     }
 
+    /// The backends, that of number 0 first.
     pub fn as_slice(&self) -> &[Backend]
         ensures { result.now ≡ self.now }
     {
         &self.members[..self.count]
     }
 
+    /// How many backends there are, at most 64.
     pub fn len(&self) -> usize
         ensures { result ≡ length self.now }
     {
         self.as_slice().len()
     }
 
+    /// Whether there is no backend.
     pub fn is_empty(&self) -> bool
         ensures { IsTrue result ↔ (self.now ≡ []) }
     {

@@ -16,9 +16,9 @@ use nat_tables::Endpoint;
 pub struct BalancerBox {
     /// The number of connection tables, 1 to 64.
     pub shards: u32,
-    /// The virtual address.
+    /// The address that clients send to.
     pub address: u32,
-    /// The virtual port.
+    /// The port there, of TCP and of UDP.
     pub port: u16,
     /// The backends, 1 to 64.
     pub backends: Backends,

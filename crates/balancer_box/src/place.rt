@@ -1,5 +1,5 @@
 ghost use Rattle.std.specs.Prelude.{◌≡◌, ◌≤◌, IsTrue};
-ghost use Rattle.balancer_box.specs.Places.{number_of, place_of, number_of_class, class_of, number_of_flag, noted, local_of};
+ghost use Rattle.balancer_box.specs.Places.{number_of, place_numbered, number_of_class, class_of, number_of_flag, noted, local_of};
 
 use box_program::Local;
 use nat_tables::Endpoint;
@@ -50,7 +50,7 @@ impl Place {
 
     /// The place of a number; the end for a number of no place.
     pub(crate) fn numbered(number: u32) -> Place
-        ensures { result ≡ place_of number }
+        ensures { result ≡ place_numbered number }
     {
         match number {
             0 => Place::HearsTime,

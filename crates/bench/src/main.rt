@@ -1,4 +1,4 @@
-//! Work for a stopwatch. The first word says which work, and the other words what it is done with:
+//! The benchmark. The first word says which work, and the other words what it is done with:
 //!
 //! - `frames COUNT TIMES`: COUNT frames of log entries, each read TIMES times
 //! - `headers CHECKSUMS REWRITINGS`: the checksums of CHECKSUMS payloads, and REWRITINGS rewritings of a frame

@@ -69,21 +69,21 @@ usual_of Backend = None
 
 -- Of all lines
 
-abbrev pub place_of : LinePlace → Place
-place_of (Number low high) = place.Number low high
-place_of Address = place.Address
+abbrev pub grammar_place : LinePlace → Place
+grammar_place (Number low high) = place.Number low high
+grammar_place Address = place.Address
 
 abbrev pub field_of : LinePlace → Field
 field_of (Number low high) = field.Number
 field_of Address = field.Address
 
 abbrev pub all_places : Places → List Place
-all_places (One place) = place_of place ∷ []
-all_places (Two first second) = place_of first ∷ place_of second ∷ []
+all_places (One place) = grammar_place place ∷ []
+all_places (Two first second) = grammar_place first ∷ grammar_place second ∷ []
 
 abbrev pub are_within : Places → Values → Bool
-are_within (One place) values = is_within (place_of place) values.first
-are_within (Two first second) values = is_within (place_of first) values.first && is_within (place_of second) values.second
+are_within (One place) values = is_within (grammar_place place) values.first
+are_within (Two first second) values = is_within (grammar_place first) values.first && is_within (grammar_place second) values.second
 
 -- the values of a line as a pair, where those that are not there are 0
 abbrev pub values_from : List ℕ → Values

@@ -10,7 +10,7 @@ use box_program::CountBox;
 use monitor_box::MonitorBox;
 use nat_box::NatBox;
 
-/// Which box runs.
+/// The box that runs, with its settings.
 #[derive(Debug, Drop)]
 pub enum BoxKind {
     Count(CountBox),
@@ -26,6 +26,7 @@ pub struct BoxConf {
     pub threads: u32,
     /// The seed of its random words.
     pub seed: u64,
+    /// Which box it is.
     pub kind: BoxKind,
 }
 

@@ -7,7 +7,7 @@ ghost use Rattle.box_conf.specs.declared.table.Places.TheVariants.{One, Two};
 use crate::table::{BoxLine, LinePlace, Places, Values};
 use plain_text::{LineCause, WordIter, end_of_line, read_field};
 
-/// What the lines of a box file have set.
+/// What the lines of a box file have set, by their first words; `None` where there was no such line.
 #[derive(Clone, Copy, Debug, PartialEq, Eq)]
 pub struct Settings {
     pub threads: Option<Values>,

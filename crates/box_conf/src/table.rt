@@ -1,6 +1,6 @@
 ghost use Rattle.std.specs.Prelude.{◌≡◌, option_map};
 ghost use Rattle.plain_text.specs.Grammar.{is_within};
-ghost use Rattle.box_conf.specs.Table.{word_of, place_of, places_of, again_of, field_of, are_within, usual_of, fits_of, values_from};
+ghost use Rattle.box_conf.specs.Table.{word_of, grammar_place, places_of, again_of, field_of, are_within, usual_of, fits_of, values_from};
 
 use plain_text::Field;
 
@@ -22,21 +22,25 @@ pub enum BoxLine {
 pub enum LinePlace {
     /// A number, with the least and the greatest that it may be.
     Number { low: u64, high: u64 },
-    /// An address.
+    /// An IPv4 address, of four decimal numbers with points between them.
     Address,
 }
 
 /// What stands on a line after its first word.
 #[derive(Clone, Copy, Debug, PartialEq, Eq)]
 pub enum Places {
+    /// One word stands there.
     One(LinePlace),
+    /// Two words stand there.
     Two(LinePlace, LinePlace),
 }
 
 /// The values of a line. Of a line with one value the second is 0.
 #[derive(Clone, Copy, Debug, PartialEq, Eq)]
 pub struct Values {
+    /// The number behind the first word, or the address as a number below 2^32.
     pub first: u64,
+    /// The number behind that.
     pub second: u64,
 }
 
@@ -53,7 +57,7 @@ impl LinePlace {
 
     /// Whether a value is in the range of the place.
     fn has(self, value: u64) -> bool
-        ensures { result ≡ is_within (place_of self) value }
+        ensures { result ≡ is_within (grammar_place self) value }
     {
         match self {
             LinePlace::Number { low, high } => low <= value && value <= high,

@@ -8,9 +8,9 @@ use Rattle.plain_machine.specs.Machine.{Hand}
 use Rattle.plain_machine.specs.History.{Step, thread_after}
 
 -- the place of a thread's packet in hand
-abbrev pub place_of : Option Hand → Option Local
-place_of None = None
-place_of (Some h) = Some h.place
+abbrev pub local_in : Option Hand → Option Local
+local_in None = None
+local_in (Some h) = Some h.place
 
 -- the packet that a move of a thread with these inputs is made with: the one in hand, else the next input, if there is one
 abbrev pub input_for : List Packet → ℕ → Option Hand → Option Packet

@@ -22,6 +22,7 @@ const ENDS: u32 = 2;
 pub struct CountBox {}
 
 impl CountBox {
+    /// The box. It has no settings.
     pub fn new() -> Self {
         CountBox {}
     }

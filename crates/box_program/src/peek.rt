@@ -23,6 +23,7 @@ const ENDS: u32 = 3;
 pub struct PeekBox {}
 
 impl PeekBox {
+    /// The program. It has no settings.
     pub fn new() -> Self {
         PeekBox {}
     }

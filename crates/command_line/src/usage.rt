@@ -1,7 +1,9 @@
 ghost use Rattle.std.specs.Prelude.{◌≡◌};
 
+/// The name and the version of the program, as one line.
 pub const VERSION: &str = "ftmb 0.1.0\n";
 
+/// How each command is called and what it does, its files and the exit status, in lines that end in a newline.
 pub const HELP: &str = "\
 ftmb run BOX CAPTURE SCRIPT RELEASED SCHEDULE
 
@@ -45,14 +47,14 @@ Exit status: 0 done, 1 refuted, 2 bad words, 3 read fault, 4 write fault, 5 no m
 6 bad input, 7 too large. What is not done is told on standard error.
 ";
 
-/// What `--help` prints.
+/// The text that `--help` prints on standard output.
 pub fn help() -> &'static str
     ensures { result.now ≡ HELP.now }
 {
     HELP
 }
 
-/// What `--version` prints.
+/// The line that `--version` prints on standard output.
 pub fn version() -> &'static str
     ensures { result.now ≡ VERSION.now }
 {

@@ -15,7 +15,7 @@ use std::io::ErrorKind;
 /// The words of the command line: all arguments after the program's name, in order, each with its
 /// bytes.
 ///
-/// std gives no arguments where one is not UTF-8: these are bad words.
+/// std gives no arguments where one is not UTF-8: this is a usage error.
 pub fn read_words(alloc: Global, arguments: io::Result<Args>) -> Result<Vec<Text>, Status>
     ensures words { IfOk arguments (λ all. IfOk result (λ words. words.items ≡ words_of all)) }
     ensures copied { IfOk arguments (λ all. IfErr result (λ status. status ≡ Status.NoMemory)) }

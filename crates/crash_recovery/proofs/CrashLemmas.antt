@@ -8,7 +8,7 @@ use Rattle.recovery_world.specs.World.{Setting, World}
 use Rattle.recovery_world.specs.Limits.{OnWithin}
 use Rattle.recovery_laws.proofs.KeptWorlds.{within_sound}
 use Rattle.system_parts.specs.Parts.{Parts}
-use Rattle.system_parts.specs.Standing.{IsSnapshot, StandsFor}
+use Rattle.system_parts.specs.SystemStanding.{IsSnapshot, StandsFor}
 use Rattle.system_parts.specs.Performing.{MovesOn, ComesTo}
 
 module _ {P V : Type 0} (m : Meaning V) (s : Setting V) (w : World V) (y : Parts P V) (st : StandsFor m s w y) where

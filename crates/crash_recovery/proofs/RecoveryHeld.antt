@@ -24,7 +24,7 @@ use Rattle.recovery_world.specs.Events.{entries_of_line}
 use Rattle.recovery_laws.specs.Sound.{Firm, IsEachOnce}
 use Rattle.recovery_laws.proofs.KeptWorlds.{line_entries, entries_line}
 use Rattle.recovery_laws.proofs.Sets.{outside, outside_in, in_outside}
-use Rattle.system_parts.specs.Standing.{HasGuide}
+use Rattle.system_parts.specs.SystemStanding.{HasGuide}
 use Rattle.system_parts.proofs.LineLemmas.{line_log, stored_good, stored_in, stored_past, holds_log}
 use Rattle.crash_recovery.proofs.RecoveryCounts.{kept_list, dropped_list, parts_long, count_of_members}
 

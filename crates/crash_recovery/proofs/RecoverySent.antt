@@ -34,7 +34,7 @@ use Rattle.recovery_laws.proofs.Settlings.{number_high}
 use Rattle.recovery_laws.proofs.Finishes.{sends_thread}
 use Rattle.recovery_laws.proofs.OneOutcome.{output_one}
 use Rattle.sent_frames.specs.Sending.{Sending, lengths_of, length_at, entry_size, output_size, entry_address, output_address, HasOutputFrame}
-use Rattle.system_parts.specs.Standing.{IsSentEntry, IsSentOutput, HasSent, IsKeptOutput, IsSnapshot}
+use Rattle.system_parts.specs.SystemStanding.{IsSentEntry, IsSentOutput, HasSent, IsKeptOutput, IsSnapshot}
 use Rattle.crash_recovery.specs.Recovering.{TurnsLinks, SendsRest}
 use Rattle.system_parts.proofs.OutputNumbers.{output_there}
 

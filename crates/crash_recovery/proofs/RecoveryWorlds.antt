@@ -22,7 +22,7 @@ use Rattle.plain_machine.specs.Agree.{IsEarlier}
 use Rattle.master_core.specs.declared.parts.Counts.{Counts}
 use Rattle.master_core.specs.declared.parts.ThreadPart.{ThreadPart}
 use Rattle.master_core.specs.Mastered.{Mastered}
-use Rattle.master_core.specs.Standing.{Stands}
+use Rattle.master_core.specs.MasterStanding.{Stands}
 use Rattle.output_logger.specs.Logger.{Logger, ReleasesOnce, IsAmong}
 use Rattle.recovery_world.specs.World.{Setting, Ended as EndedEpoch, World}
 use Rattle.recovery_world.specs.Events.{Recovers, IsPartOf, entries_of_line, ended_now}
@@ -32,7 +32,7 @@ use Rattle.recovery_laws.proofs.KeptWorlds.{recovers_sound}
 use Rattle.recovery_laws.proofs.Finishes.{recovers_there}
 use Rattle.sent_frames.specs.Sending.{Sending}
 use Rattle.system_parts.specs.Parts.{Parts}
-use Rattle.system_parts.specs.Standing.{AreCounts, AreOutputs, HasEnded, HasLogger, StandsFor, StandsForSome}
+use Rattle.system_parts.specs.SystemStanding.{AreCounts, AreOutputs, HasEnded, HasLogger, StandsFor, StandsForSome}
 use Rattle.recovery_world.specs.declared.event.Event.TheVariants as event
 use Rattle.recovery_world.specs.declared.event.Outcome.TheVariants as outcome
 use Rattle.system_parts.specs.Performing.{MovesOn, ComesTo}

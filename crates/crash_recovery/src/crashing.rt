@@ -3,7 +3,7 @@ ghost use Rattle.access_log.specs.declared.entry.Output as output_of;
 ghost use Rattle.output_logger.specs.Logger.{IsAmong};
 ghost use Rattle.wire_frames.specs.Writing.{CanPutOutput};
 ghost use Rattle.recovery_world.specs.declared.event.Event.TheVariants as event_is;
-ghost use Rattle.system_parts.specs.Standing.{StandsForSome};
+ghost use Rattle.system_parts.specs.SystemStanding.{StandsForSome};
 ghost use Rattle.system_parts.specs.Performing.{MovesOn, ComesTo};
 ghost use Rattle.crash_recovery.specs.Recovering.{RecoversTo, SendsRest, TurnsLinks, WakesUp};
 

@@ -4,8 +4,11 @@ use std::marker::Model;
 /// One entry of a log, as plain data: the `number`-th logged move of `thread`, counted from 1, and what it did.
 #[derive(Clone, Copy, Debug, PartialEq, Eq)]
 pub struct LogEntry {
+    /// The thread that made the move.
     pub thread: u32,
+    /// Its number among the logged moves of the thread, from 1.
     pub number: u64,
+    /// What the move did: a touch or a read of a variable, or a time or a random word that was told.
     pub what: What,
 }
 

@@ -11,7 +11,9 @@ pub type Releases = Sequence<(u32, u64)>;
 /// What an event came to, and the outputs that it released.
 #[derive(Debug, Drop)]
 pub struct Reply {
+    /// What the event came to.
     pub outcome: Outcome,
+    /// The outputs that it released, in order of release; none for most events.
     pub released: Releases,
 }
 
@@ -48,8 +50,12 @@ impl From<NoMemory> for Stop {
 /// were released.
 #[derive(Debug, Drop)]
 pub struct Finished {
+    /// The moves of the plain run, from the first.
     pub schedule: Schedule,
+    /// How many packets of the capture were fed, at most 65,536.
     pub fed: u64,
+    /// The epoch at the end, from 1: one more than there were recoveries.
     pub epoch: u32,
+    /// How many outputs were released in the whole run.
     pub released: u64,
 }

@@ -20,7 +20,9 @@ const BUFFER: usize = 65_536;
 /// The packets of a capture, and what their fractions count.
 #[derive(Debug, Drop)]
 pub struct Capture {
+    /// What the fractions of the packets count: nanoseconds where the file is a pcapng capture.
     pub unit: Unit,
+    /// The packets in the order of the file, at most 65,536.
     pub packets: Packets,
 }
 

@@ -5,7 +5,7 @@ use Rattle.std.proofs.lemmas.List.Elements.{All-filter}
 use Rattle.std.proofs.lemmas.Option.{slice_get_within, get_or_from_slice_get}
 use Rattle.plain_text.specs.Octets.{IsOfBytes}
 use Rattle.input_logger.specs.Inputs.{thread_of}
-use Rattle.monitor_box.specs.Standing.{HaveBytes}
+use Rattle.monitor_box.specs.FlowStanding.{HaveBytes}
 use Rattle.recovery_world.specs.World.{Setting, all_inputs}
 
 pub inputs_have_bytes : {V : Type 0} (s : Setting V) → All IsOfBytes s.packets → HaveBytes (all_inputs s)

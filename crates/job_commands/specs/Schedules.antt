@@ -31,6 +31,7 @@ pub record AcceptsScheduleInputs (names : ScheduleNames) (inputs : ScheduleInput
   pub capture_accepted : AcceptsCapture names.capture inputs.capture shown
   pub schedule_accepted : AcceptsSchedule names.schedule inputs.schedule shown
 
+-- Each input of `check` was accepted: those of `play`, and the capture of released packets.
 pub record AcceptsCheckInputs (names : CheckNames) (inputs : CheckInputs) (shown : Shown) : Type 0 where
   pub played_accepted : AcceptsScheduleInputs names.files inputs.played shown
   pub released_accepted : AcceptsCapture names.released inputs.released shown

@@ -6,7 +6,7 @@ ghost use Rattle.plain_text.specs.declared.limit.TheConstants.{MOST_FILE_BYTES, 
 ghost use Rattle.plain_text.specs.declared.packet.Unit.TheVariants.{Nano};
 ghost use Rattle.pcap_io.specs.Capture.{written};
 ghost use Rattle.pcapng_io.specs.Capture.{IsNg};
-ghost use Rattle.monitor_box.specs.Standing.{HaveBytes};
+ghost use Rattle.monitor_box.specs.FlowStanding.{HaveBytes};
 ghost use Rattle.recovery_world.specs.World.{Setting, all_inputs};
 ghost use Rattle.world_io.specs.World.{Shown};
 ghost use Rattle.input_files.specs.declared.capture_file.Capture.{Capture};

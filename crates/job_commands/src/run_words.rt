@@ -6,10 +6,15 @@ use plain_text::Text;
 /// The files that the words of the command `run` name.
 #[derive(Clone, Copy)]
 pub struct RunWords<'a> {
+    /// The name of the text that chooses the box.
     pub box_file: &'a Text,
+    /// The name of the capture whose packets come in.
     pub capture: &'a Text,
+    /// The name of the text of the events.
     pub script: &'a Text,
+    /// The name of the capture that is written. It differs from that of the schedule.
     pub released: &'a Text,
+    /// The name of the text of moves that is written.
     pub schedule: &'a Text,
 }
 

@@ -6,8 +6,11 @@ use plain_text::Text;
 /// The input files of a command that plays a schedule.
 #[derive(Clone, Copy)]
 pub struct ScheduleFiles<'a> {
+    /// The name of the text that chooses the box.
     pub box_file: &'a Text,
+    /// The name of the capture whose packets come in.
     pub capture: &'a Text,
+    /// The name of the text of moves.
     pub schedule: &'a Text,
 }
 

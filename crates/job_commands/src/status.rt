@@ -14,21 +14,28 @@ use schedule_commands::ScheduleError;
 /// An input file that leaves its grammar: which, where and why.
 #[derive(Clone, Copy, Debug, PartialEq, Eq)]
 pub enum InputFault {
+    /// The text that chooses the box.
     BoxFile(LineFault),
+    /// The capture of the packets that come in, as a libpcap savefile.
     Capture(CaptureFault),
+    /// The same, as a pcapng capture.
     NgCapture(NgFault),
+    /// The text of the events.
     Script(LineFault),
     /// The text of the schedule.
     Schedule(LineFault),
     /// The schedule that is played is not legal: its first illegal move, and why.
     Moves(PlayFault),
+    /// The capture of released packets that `check` reads, as a libpcap savefile.
     Released(CaptureFault),
+    /// The same, as a pcapng capture.
     NgReleased(NgFault),
 }
 
 /// What a command came to.
 #[derive(Clone, Copy, Debug, PartialEq, Eq)]
 pub enum Status {
+    /// All was done.
     Done,
     /// What `check` refutes: the first illegal move of the schedule, or where it is legal the first packet that was not sent out.
     Refuted(Refutation),
@@ -38,6 +45,7 @@ pub enum Status {
     ReadFault,
     /// An output file could not be created or written.
     WriteFault,
+    /// Memory ran out.
     NoMemory,
     /// The first input file, in the order of the words, that leaves its grammar.
     BadInput(InputFault),

@@ -6,7 +6,7 @@ use Rattle.plain_machine.specs.History.{Step, play}
 use Rattle.plain_player.specs.ScheduleText.{schedule_text}
 use Rattle.box_conf.specs.Kinds.{meaning_of}
 use Rattle.world_io.specs.World.{Shown}
-use Rattle.recovery_world.specs.World.{World, opening, all_inputs}
+use Rattle.recovery_world.specs.World.{World as SystemWorld, opening, all_inputs}
 use Rattle.recovery_world.specs.Files.{Performs, packets_of}
 use Rattle.recovery_laws.specs.Ends.{Ends}
 use Rattle.job_commands.specs.declared.inputs.Inputs.{Inputs}
@@ -20,7 +20,7 @@ pub record KeepsPromise (names : RunNames) (old new : Shown) : Type 0 where
   pub inputs : Inputs
   pub accepted : AcceptsInputs names inputs old
   -- the world to which the script leads
-  pub world : World (meaning_of inputs.conf.kind).value
+  pub world : SystemWorld (meaning_of inputs.conf.kind).value
   pub lines : List ℕ
   pub performs : Performs (setting_for inputs) (opening (meaning_of inputs.conf.kind).value) inputs.events lines world
   -- the written files

@@ -7,9 +7,13 @@ use plain_text::Kind;
 /// this epoch made.
 #[derive(Clone, Copy, Debug, PartialEq, Eq, PartialOrd, Ord)]
 pub struct Address {
+    /// The epoch in which it was sent, from 1.
     pub epoch: u32,
+    /// Whether it tells a log entry or an output.
     pub kind: Kind,
+    /// The thread that made the entry or output.
     pub thread: u32,
+    /// Its number among those of the thread and kind, from 1.
     pub number: u64,
 }
 

@@ -44,7 +44,7 @@ impl Run {
     }
 
     /// How many numbers the address is behind the first, if it is of the same epoch, kind and thread.
-    fn place_of(&self, at: &Address) -> Option<u64>
+    fn index_of(&self, at: &Address) -> Option<u64>
         ensures there { IfSome result (λ i. at.now ≡ later self.now.first i) }
         ensures none { IfNone result ((i : ℕ) → at.now ≡ later self.now.first i → ⊥) }
     {
@@ -58,7 +58,7 @@ impl Run {
     pub fn takes(&self, at: &Address) -> bool
         ensures { IsTrue result ↔ Takes self.now at.now }
     {
-        match self.place_of(at) {
+        match self.index_of(at) {
             Some(place) => place <= self.frames.len() as u64,
             None => false,
         }
@@ -68,7 +68,7 @@ impl Run {
     pub fn get(&self, at: &Address) -> Option<&Bytes>
         ensures { option_copied result ≡ frame_at (frames_of self.now) at.now }
     {
-        self.frames.get(self.place_of(at)? as usize)
+        self.frames.get(self.index_of(at)? as usize)
     }
 
     /// Puts a frame at this address, in the place of the one before or as the next.

@@ -21,7 +21,7 @@ use Rattle.master_core.specs.declared.parts.ThreadPart.{ThreadPart}
 use Rattle.master_core.specs.declared.step.Stepped.{Stepped}
 use Rattle.master_core.specs.declared.step.Stepped.TheVariants as stepped
 use Rattle.master_core.specs.Mastered.{Mastered, value_of, place_in_hand, in_hand_count, IsOnVariable, WantsVariable, IsBounded}
-use Rattle.master_core.specs.Standing.{IsThread, Stands}
+use Rattle.master_core.specs.MasterStanding.{IsThread, Stands}
 use Rattle.master_core.specs.Stepping.{move_of, Follows, MadeNone, MadeOne}
 use Rattle.master_core.specs.Effects.{InTurn, Played, next_output, after_take, DoneTake, DoneTouch, DoneLook}
 use Rattle.box_program.proofs.HandLemmas.{in_hand}

@@ -11,7 +11,7 @@ use Rattle.plain_machine.specs.History.{Step, log_of, IsHistory}
 use Rattle.plain_machine.proofs.Histories.{is_eq, not_eq}
 use Rattle.plain_machine.proofs.LoggedEffects.{entry_thread}
 use Rattle.master_core.specs.Mastered.{Mastered}
-use Rattle.master_core.specs.Standing.{Stands}
+use Rattle.master_core.specs.MasterStanding.{Stands}
 use Rattle.master_core.specs.Deltas.{HasCounts}
 use Rattle.master_core.proofs.FreshLemmas.{fresh_part}
 use Rattle.master_core.proofs.Moments.{none_past_threads}

@@ -15,7 +15,7 @@ use Rattle.master_core.specs.declared.parts.VarPart.{VarPart}
 use Rattle.master_core.specs.declared.parts.ThreadPart.{ThreadPart}
 use Rattle.master_core.specs.Mastered.{Mastered, IsBounded}
 use Rattle.master_core.specs.Stamped.{IsTouchStamp}
-use Rattle.master_core.specs.Standing.{IsVariable}
+use Rattle.master_core.specs.MasterStanding.{IsVariable}
 use Rattle.master_core.specs.Effects.{fresh_var}
 use Rattle.master_core.specs.Deltas.{changed_part, changed_parts, delta_of, applied_part, applied_parts, applied, HasTouched, LeadsVariable, LeadsOn, StandsAfter}
 use Rattle.master_core.proofs.Moments.{moment_stamp}

@@ -22,7 +22,7 @@ use Rattle.master_core.specs.declared.parts.ThreadPart.{ThreadPart}
 use Rattle.master_core.specs.declared.step.Stepped.{Stepped}
 use Rattle.master_core.specs.declared.step.Stepped.TheVariants as stepped
 use Rattle.master_core.specs.Mastered.{Mastered}
-use Rattle.master_core.specs.Standing.{IsVariable, IsThread, Stands}
+use Rattle.master_core.specs.MasterStanding.{IsVariable, IsThread, Stands}
 use Rattle.master_core.specs.Stepping.{told_for, move_of, plain_entry, DidEntry, Follows}
 use Rattle.master_core.specs.Effects.{next_output, DoneTake, DoneTouch, DoneLook, DoneHear, DoneEmit, DoneEnd, after_take, after_entry, after_emit, after_end}
 use Rattle.master_core.proofs.EffectLemmas.{touched_master, looked_master, heard_master}

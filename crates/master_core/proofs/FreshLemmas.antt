@@ -7,7 +7,7 @@ use Rattle.plain_machine.specs.Program.{Meaning}
 use Rattle.plain_machine.specs.History.{Step}
 use Rattle.master_core.specs.declared.parts.VarPart.{VarPart}
 use Rattle.master_core.specs.declared.parts.ThreadPart.{ThreadPart}
-use Rattle.master_core.specs.Standing.{IsVariable, IsThread, Stands}
+use Rattle.master_core.specs.MasterStanding.{IsVariable, IsThread, Stands}
 use Rattle.master_core.specs.Effects.{fresh_var, HasFresh}
 use Rattle.master_core.proofs.Variables.{zero_stamp}
 

@@ -9,7 +9,7 @@ use Rattle.plain_machine.proofs.Histories.{moves_step}
 use Rattle.master_core.specs.declared.step.Stepped.{Stepped}
 use Rattle.master_core.specs.declared.step.Stepped.TheVariants as stepped
 use Rattle.master_core.specs.Mastered.{Mastered}
-use Rattle.master_core.specs.Standing.{Stands, StandsFor}
+use Rattle.master_core.specs.MasterStanding.{Stands, StandsFor}
 use Rattle.master_core.specs.Stepping.{Makes, Follows, MadeOne}
 
 pub grown : {X : Type 0} (m : Meaning X) (inputs : ℕ → List Packet) (threads : ℕ) (moves : List PlainMove) (steps next : List (Step X)) (plain : PlainMove) (p : Mastered X)

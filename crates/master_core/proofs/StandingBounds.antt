@@ -7,7 +7,7 @@ use Rattle.plain_text.specs.declared.packet.Packet.{Packet}
 use Rattle.entry_order.specs.Log.{Entry, entries, places, touches}
 use Rattle.entry_order.specs.Stamps.{sum_below}
 use Rattle.entry_order.proofs.Order.{is_or}
-use Rattle.box_program.specs.Hands.{place_of}
+use Rattle.box_program.specs.Hands.{local_in}
 use Rattle.plain_machine.specs.declared.local.Move.{Move}
 use Rattle.plain_machine.specs.declared.local.Move.TheVariants.{Access, Read, Clock, Draw, Emit, End}
 use Rattle.plain_machine.specs.declared.plain_move.PlainMove.{PlainMove}
@@ -20,13 +20,13 @@ use Rattle.plain_machine.proofs.PlayedLists.{play_history}
 use Rattle.master_core.specs.declared.parts.ThreadPart.{ThreadPart}
 use Rattle.master_core.specs.declared.parts.VarPart.{VarPart}
 use Rattle.master_core.specs.Mastered.{Mastered, IsBounded, in_hand_count, moves_made}
-use Rattle.master_core.specs.Standing.{Stands}
+use Rattle.master_core.specs.MasterStanding.{Stands}
 use Rattle.master_core.proofs.CountedEntries.{entries_sum}
 use Rattle.master_core.proofs.FreshLemmas.{fresh_part}
 
 -- a packet in hand was taken
 abbrev WasTaken : Thread → Type 0
-WasTaken th = in_hand_count (place_of th.hand) ≤ th.taken
+WasTaken th = in_hand_count (local_in th.hand) ≤ th.taken
 
 -- so it is after a move with it
 hand_taken : {V : Type 0} (m : Meaning V) (value : ℕ → V) (taken : ℕ) (h : Hand) (a : Option ℕ) (w : Move) (after : Thread) (d : Effect V) → 1 ≤ taken → hand_move m value taken h a w ≡ Moves after d → WasTaken after
@@ -44,7 +44,7 @@ hand_taken m value taken h None End after d low e = let none : Thread = record {
 hand_taken m value taken h (Some a) End after d low e = absurd (cc)
 
 -- and after each move
-held_taken : {V : Type 0} (m : Meaning V) (packets : List Packet) (value : ℕ → V) (taken : ℕ) (a : Option ℕ) (hand : Option Hand) (after : Thread) (d : Effect V) → in_hand_count (place_of hand) ≤ taken → held_move m packets value taken a hand ≡ Moves after d → WasTaken after
+held_taken : {V : Type 0} (m : Meaning V) (packets : List Packet) (value : ℕ → V) (taken : ℕ) (a : Option ℕ) (hand : Option Hand) (after : Thread) (d : Effect V) → in_hand_count (local_in hand) ≤ taken → held_move m packets value taken a hand ≡ Moves after d → WasTaken after
 held_taken m packets value taken a (Some h) after d low e = hand_taken m value taken h a (m.next h.place) after d low e
 held_taken {V} m packets value taken a None after d low e = go a (slice_get packets taken) e
   where
@@ -89,8 +89,8 @@ standing_bounded {V} m inputs threads moves steps q legal is few count room = re
   made = λ t d low. room t d (omega (arith, is.threads_are));
   taken = λ t d low.
       let th = is.thread t d (omega (arith, is.threads_are)) in
-      let had : in_hand_count (place_of (thread_after steps t).hand) ≤ (thread_after steps t).taken = was_taken m inputs threads steps history t in
-      let held : in_hand_count (slice_index_or q.threads t d).hand ≡ in_hand_count (place_of (thread_after steps t).hand) = ap in_hand_count th.hand in
+      let had : in_hand_count (local_in (thread_after steps t).hand) ≤ (thread_after steps t).taken = was_taken m inputs threads steps history t in
+      let held : in_hand_count (slice_index_or q.threads t d).hand ≡ in_hand_count (local_in (thread_after steps t).hand) = ap in_hand_count th.hand in
       omega (arith, th.taken);
   places = λ v d low.
       let x : (slice_index_or q.vars v d).places ≡ places v (log_of steps) = (is.var v d (omega arith)).places in

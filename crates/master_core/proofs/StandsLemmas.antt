@@ -14,7 +14,7 @@ use Rattle.plain_machine.specs.History.{Step, log_of, entry_of, step_of}
 use Rattle.master_core.specs.declared.parts.VarPart.{VarPart}
 use Rattle.master_core.specs.declared.parts.ThreadPart.{ThreadPart}
 use Rattle.master_core.specs.Mastered.{Mastered}
-use Rattle.master_core.specs.Standing.{IsVariable, IsThread, Stands}
+use Rattle.master_core.specs.MasterStanding.{IsVariable, IsThread, Stands}
 use Rattle.master_core.specs.Stepping.{plain_entry}
 use Rattle.master_core.specs.Effects.{next_entry, HasStamp, before_touch, before_read}
 use Rattle.master_core.proofs.EntryStamps.{touch_stamp, read_stamp, own_stamp, stamp_by}

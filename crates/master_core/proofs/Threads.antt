@@ -7,13 +7,13 @@ use Rattle.entry_order.specs.declared.what.What.{What}
 use Rattle.entry_order.specs.declared.what.What.TheVariants.{Access, Read, Clock, Draw}
 use Rattle.entry_order.specs.Log.{Entry, entries, places, IsLog}
 use Rattle.entry_order.specs.Stamps.{IsStamp, IsOutputStamp}
-use Rattle.box_program.specs.Hands.{place_of}
+use Rattle.box_program.specs.Hands.{local_in}
 use Rattle.plain_machine.specs.declared.local.Local.{Local}
 use Rattle.plain_machine.specs.Machine.{Thread, Effect, Takes, Touches, Looks, HearsClock, HearsDraw, Sends, Ends, holding}
 use Rattle.plain_machine.specs.History.{Step, log_of, sent_of, outputs, moves_of, thread_after, entry_of, step_of}
 use Rattle.master_core.specs.declared.parts.ThreadPart.{ThreadPart}
 use Rattle.master_core.specs.Mastered.{in_hand_count}
-use Rattle.master_core.specs.Standing.{IsThread}
+use Rattle.master_core.specs.MasterStanding.{IsThread}
 use Rattle.master_core.specs.Effects.{after_take, after_entry, after_emit, after_end}
 use Rattle.plain_machine.proofs.Histories.{moved_thread}
 use Rattle.master_core.proofs.StampedLemmas.{own_output, other_output}
@@ -34,7 +34,7 @@ take_on {V} steps t packet place part none is = record {
   taken = ap (λ n. n + 1) is.taken ∙ ap (λ (th : Thread). th.taken) (sym here);
   logged = is.logged;
   outputs = is.outputs;
-  hand = ap (λ (th : Thread). place_of th.hand) (sym here);
+  hand = ap (λ (th : Thread). local_in th.hand) (sym here);
   made = let zero_in : in_hand_count part.hand ≡ 0 = ap in_hand_count none in omega (arith, zero_in, is.made, more);
   stamp = is.stamp;
 }
@@ -58,7 +58,7 @@ emit_on {V} steps t packet sent place place' part some is = record {
   taken = is.taken ∙ ap (λ (th : Thread). th.taken) (sym here);
   logged = is.logged;
   outputs = ap (λ n. n + 1) is.outputs ∙ sym (rw (mine t) refl);
-  hand = ap (λ (th : Thread). place_of th.hand) (sym here);
+  hand = ap (λ (th : Thread). local_in th.hand) (sym here);
   made = let one_in : in_hand_count part.hand ≡ 1 = ap in_hand_count some in omega (arith, one_in, is.made, more);
   stamp = is.stamp;
 }
@@ -82,7 +82,7 @@ end_on {V} steps t place part some low is = record {
   taken = is.taken ∙ ap (λ (th : Thread). th.taken) (sym here);
   logged = is.logged;
   outputs = is.outputs;
-  hand = ap (λ (th : Thread). place_of th.hand) (sym here);
+  hand = ap (λ (th : Thread). local_in th.hand) (sym here);
   made = let one_in : in_hand_count part.hand ≡ 1 = ap in_hand_count some in omega (arith, one_in, is.made, more);
   stamp = is.stamp;
 }
@@ -110,7 +110,7 @@ entry_on {V} steps t packet place place' effect what stamp part log_is sent_is g
   taken = is.taken ∙ ap (λ (th : Thread). th.taken) (sym here);
   logged = ap (λ n. n + 1) is.logged ∙ (sym counted ∙ ap (entries t) (sym log_is));
   outputs = is.outputs ∙ ap (outputs t) (sym sent_is);
-  hand = ap (λ (th : Thread). place_of th.hand) (sym here);
+  hand = ap (λ (th : Thread). local_in th.hand) (sym here);
   made = let one_in : in_hand_count part.hand ≡ 1 = ap in_hand_count some in omega (arith, one_in, is.made, more);
   stamp = subst (λ (log : List Entry). IsOutputStamp log t (entries t log) (λ u. slice_index stamp u)) (sym log_is) (own_output (log_of steps) (entry_of t (log_of steps) what) (λ u. slice_index stamp u) good st);
 }
@@ -168,7 +168,7 @@ other_on {V} steps t u after effect part other good is = record {
   taken = is.taken ∙ ap (λ (th : Thread). th.taken) (sym here);
   logged = is.logged ∙ sym logged;
   outputs = is.outputs ∙ sym (other_outputs steps t u after effect never);
-  hand = is.hand ∙ ap (λ (th : Thread). place_of th.hand) (sym here);
+  hand = is.hand ∙ ap (λ (th : Thread). local_in th.hand) (sym here);
   made = is.made ∙ sym (rw never refl);
   stamp = subst (λ (n : ℕ). IsOutputStamp (log_of (step_of t steps after effect ∷ steps)) u n (λ w. slice_index part.stamp w)) (sym logged)
       (other_stamp steps t u (entries u (log_of steps)) after effect (λ w. slice_index part.stamp w) good (omega arith) is.stamp);

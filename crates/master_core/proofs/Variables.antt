@@ -14,7 +14,7 @@ use Rattle.plain_machine.specs.Machine.{Thread, Effect, Takes, Touches, Looks, S
 use Rattle.plain_machine.specs.History.{Act, Did, Step, log_more, log_of, left_by_entry, left_by, value_after, entry_of, act_of, step_of}
 use Rattle.master_core.specs.declared.parts.VarPart.{VarPart}
 use Rattle.master_core.specs.Stamped.{IsTouchStamp, IsReadersStamp}
-use Rattle.master_core.specs.Standing.{IsVariable}
+use Rattle.master_core.specs.MasterStanding.{IsVariable}
 use Rattle.master_core.proofs.StampedLemmas.{places_stay, touch_stays, touch_last, readers_stay, readers_more, readers_gone}
 
 -- each variable has what the history tells of it

@@ -2,7 +2,7 @@
 use Rattle.std.proofs.Common.{◌≡◌, ℕ, ◌+◌, ◌<◌, List, length, sym, ap, ◌∙◌, subst, arith, Option, Some, None}
 use Rattle.std.specs.Prelude.{slice_index_or}
 use Rattle.entry_order.specs.Log.{entries}
-use Rattle.box_program.specs.Hands.{place_of}
+use Rattle.box_program.specs.Hands.{local_in}
 use Rattle.plain_machine.specs.declared.local.Local.{Local}
 use Rattle.plain_machine.specs.declared.local.Move.{Move}
 use Rattle.plain_machine.specs.declared.local.Move.TheVariants as move
@@ -13,7 +13,7 @@ use Rattle.master_core.specs.declared.parts.VarPart.{VarPart}
 use Rattle.master_core.specs.declared.parts.ThreadPart.{ThreadPart}
 use Rattle.master_core.specs.declared.wants.Wants.TheVariants as wants
 use Rattle.master_core.specs.Mastered.{Mastered}
-use Rattle.master_core.specs.Standing.{IsThread, Stands}
+use Rattle.master_core.specs.MasterStanding.{IsThread, Stands}
 use Rattle.master_core.specs.Stepping.{wanted_by, wanted_in, wanted}
 use Rattle.master_core.specs.Effects.{fresh_var}
 
@@ -22,7 +22,7 @@ wanted_here : {V : Type 0} (m : Meaning V) (steps : List (Step V)) (t : ℕ) (pa
     → wanted m steps t ≡ wanted_by t (log_of steps) next
 wanted_here m steps t part place next is hand next_is = go (thread_after steps t).hand (sym is.hand ∙ hand)
   where
-    go : (h : Option Hand) → place_of h ≡ Some place → wanted_in m t (log_of steps) (thread_after steps t).taken h ≡ wanted_by t (log_of steps) next
+    go : (h : Option Hand) → local_in h ≡ Some place → wanted_in m t (log_of steps) (thread_after steps t).taken h ≡ wanted_by t (log_of steps) next
     go None e = absurd (cc)
     go (Some h) e = let same : h.place ≡ place = cc in ap (λ (l : Local). wanted_by t (log_of steps) (m.next l)) same ∙ ap (λ (x : Move). wanted_by t (log_of steps) x) next_is
 

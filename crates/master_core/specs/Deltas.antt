@@ -8,7 +8,7 @@ use Rattle.master_core.specs.declared.parts.VarPart.{VarPart}
 use Rattle.master_core.specs.declared.parts.ThreadPart.{ThreadPart}
 use Rattle.master_core.specs.Mastered.{Mastered}
 use Rattle.master_core.specs.Stamped.{IsTouchStamp, IsReadersStamp}
-use Rattle.master_core.specs.Standing.{IsThread, Stands}
+use Rattle.master_core.specs.MasterStanding.{IsThread, Stands}
 
 -- A delta has a part for each variable and each thread, as a master has. Of a variable that was not touched in between, the
 -- value is left out.

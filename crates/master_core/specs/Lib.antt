@@ -1,6 +1,6 @@
 pub mod Mastered
 pub mod Stamped
-pub mod Standing
+pub mod MasterStanding
 pub mod Stepping
 pub mod Effects
 pub mod Lists

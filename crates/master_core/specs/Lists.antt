@@ -7,7 +7,7 @@ use Rattle.plain_machine.specs.Program.{Meaning}
 use Rattle.plain_machine.specs.History.{Step, log_of, moves_of, plain_move, play, IsHistory}
 use Rattle.master_core.specs.declared.step.Stepped.{Stepped}
 use Rattle.master_core.specs.Mastered.{Mastered}
-use Rattle.master_core.specs.Standing.{Stands, StandsFor}
+use Rattle.master_core.specs.MasterStanding.{Stands, StandsFor}
 use Rattle.master_core.specs.Stepping.{Follows, MadeOne}
 
 -- a master that stands for no move stands for the empty list

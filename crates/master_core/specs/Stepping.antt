@@ -17,7 +17,7 @@ use Rattle.master_core.specs.declared.step.Stepped.TheVariants as stepped
 use Rattle.master_core.specs.declared.wants.Wants.{Wants}
 use Rattle.master_core.specs.declared.wants.Wants.TheVariants as wants
 use Rattle.master_core.specs.Mastered.{Mastered}
-use Rattle.master_core.specs.Standing.{Stands}
+use Rattle.master_core.specs.MasterStanding.{Stands}
 
 -- what a thread wants that made this number of entries, after this log, where the program's next move is this
 abbrev pub wanted_by : ℕ → List Entry → Move → Wants

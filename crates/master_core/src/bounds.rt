@@ -6,7 +6,7 @@ ghost use Rattle.plain_machine.specs.History.{Step, play};
 ghost use Rattle.plain_machine.specs.declared.plain_move.PlainMove.{PlainMove};
 ghost use Rattle.master_core.specs.declared.parts.ThreadPart.{ThreadPart};
 ghost use Rattle.master_core.specs.Mastered.{Mastered, IsBounded, moves_made};
-ghost use Rattle.master_core.specs.Standing.{Stands};
+ghost use Rattle.master_core.specs.MasterStanding.{Stands};
 
 /// What stands for a legal list of moves is within the bounds of a master, where it has a part for each variable and at most
 /// 16 threads, and none of these made more than 2^56 moves. So its parts can be put together by `Master::of_parts`.

@@ -5,7 +5,7 @@ ghost use Rattle.entry_order.specs.Log.{entries};
 ghost use Rattle.plain_machine.specs.Program.{Meaning};
 ghost use Rattle.plain_machine.specs.History.{Step, log_of, IsHistory};
 ghost use Rattle.master_core.specs.Mastered.{Mastered};
-ghost use Rattle.master_core.specs.Standing.{Stands};
+ghost use Rattle.master_core.specs.MasterStanding.{Stands};
 ghost use Rattle.master_core.specs.Deltas.{HasCounts};
 
 /// The counts of entries of a master are those of the log that it stands for, and add up to its length.

@@ -7,7 +7,7 @@ ghost use Rattle.plain_machine.specs.declared.local.Move.TheVariants as move_is;
 ghost use Rattle.access_log.specs.declared.entry.Output as output_of;
 ghost use Rattle.access_log.specs.declared.entry.Turn.TheVariants as turn_of;
 ghost use Rattle.master_core.specs.Mastered.{value_of, place_in_hand, input_in_hand, HasRoom, HasHand, HasNoHand, WantsVariable};
-ghost use Rattle.master_core.specs.Standing.{Stands};
+ghost use Rattle.master_core.specs.MasterStanding.{Stands};
 ghost use Rattle.master_core.specs.Stepping.{wanted, move_of, Follows, MadeNone, MadeOne};
 ghost use Rattle.master_core.specs.Effects.{HasFresh, DoneTake, DoneTouch, DoneLook, DoneHear, DoneEmit, DoneEnd, HasPlayed};
 
@@ -101,7 +101,7 @@ impl<P: Program> Master<P> {
         }
     }
 
-    /// How much the thread did.
+    /// How many inputs the thread took, moves it logged and packets it sent out.
     pub fn counts(&self, thread: u32) -> Counts
         requires { thread < length self.now.threads }
         ensures { HoldsAt (λ part. result ≡ part.counts) self.now.threads thread }
@@ -121,7 +121,7 @@ impl<P: Program> Master<P> {
         }
     }
 
-    /// The value of a variable.
+    /// The value that a variable has now.
     pub fn value(&self, var: u32) -> &P::Value
         requires { var < length self.now.vars }
         ensures { HoldsAt (λ part. result.now ≡ part.value) self.now.vars var }

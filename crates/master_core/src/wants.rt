@@ -3,7 +3,9 @@
 pub enum Wants {
     /// Takes its input of this number, from 1.
     Take(u64),
+    /// Touches a variable: it may change it.
     Touch { number: u64, var: u32, places: u64 },
+    /// Reads a variable and leaves it as it is.
     Read { number: u64, var: u32, places: u64 },
     /// Is told the time, as the entry of this number.
     Clock(u64),

@@ -25,7 +25,7 @@ use Rattle.master_core.specs.declared.parts.Counts.{Counts}
 use Rattle.event_replies.specs.declared.reply.Reply.{Reply}
 use Rattle.sent_frames.specs.Sending.{length_at, lengths_of, entry_size, output_size}
 use Rattle.system_parts.specs.Parts.{Parts}
-use Rattle.system_parts.specs.Standing.{AreCounts, StandsFor}
+use Rattle.system_parts.specs.SystemStanding.{AreCounts, StandsFor}
 use Rattle.system_parts.specs.Performing.{MovesOn, Releasing, Replies}
 use Rattle.message_arrivals.specs.Arriving.{HadSent, arrival_of, counted}
 use Rattle.output_releases.proofs.Answering.{in_setting}

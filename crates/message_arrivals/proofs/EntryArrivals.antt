@@ -41,7 +41,7 @@ use Rattle.recovery_laws.proofs.KeptWorlds.{within_sound}
 use Rattle.event_replies.specs.declared.reply.Reply.{Reply}
 use Rattle.sent_frames.specs.Sending.{Sending, length_at, lengths_of, entry_address, output_address, HasEntryFrame, HasOutputFrame, ForgetsEntries}
 use Rattle.system_parts.specs.Parts.{Parts, AreParts}
-use Rattle.system_parts.specs.Standing.{IsSentEntry, IsSentOutput, AreOutputs, StandsFor}
+use Rattle.system_parts.specs.SystemStanding.{IsSentEntry, IsSentOutput, AreOutputs, StandsFor}
 use Rattle.output_releases.specs.Released.{names_of, NotesReleased}
 use Rattle.system_parts.proofs.LineLemmas.{line_log, past_in, past_stamp, past_of_line, holds_log, known_there, there_known, frontiers}
 use Rattle.system_parts.proofs.SnapshotLemmas.{marks_stay, snapshots_on}

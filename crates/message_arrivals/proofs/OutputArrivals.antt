@@ -34,7 +34,7 @@ use Rattle.recovery_laws.proofs.Settlings.{number_high}
 use Rattle.event_replies.specs.declared.reply.Reply.{Reply}
 use Rattle.sent_frames.specs.Sending.{Sending, output_address, HasOutputFrame}
 use Rattle.system_parts.specs.Parts.{Parts}
-use Rattle.system_parts.specs.Standing.{IsSentEntry, IsSentOutput, AreOutputs, StandsFor}
+use Rattle.system_parts.specs.SystemStanding.{IsSentEntry, IsSentOutput, AreOutputs, StandsFor}
 use Rattle.output_releases.proofs.OutputLists.{outputs_more, named_as, noted_more, releases_as, sent_names_both}
 use Rattle.output_releases.proofs.ReleasedLists.{releases_none}
 use Rattle.system_parts.proofs.OutputNumbers.{output_from_one}

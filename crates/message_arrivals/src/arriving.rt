@@ -1,6 +1,6 @@
 ghost use Rattle.std.specs.Prelude.{◌≡◌, ◌<◌, ◌≤◌, ◌++◌, ◌↔◌, IsTrue, [], IfOk, OnOk, length};
 ghost use Rattle.recovery_world.specs.declared.event.Event.TheVariants as event_is;
-ghost use Rattle.system_parts.specs.Standing.{StandsForSome};
+ghost use Rattle.system_parts.specs.SystemStanding.{StandsForSome};
 ghost use Rattle.message_arrivals.specs.Arriving.{HadSent, arrival_of};
 ghost use Rattle.system_parts.specs.Performing.{Appends, MovesOn, Releasing, Replies};
 

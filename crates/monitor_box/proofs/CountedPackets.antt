@@ -27,7 +27,7 @@ use Rattle.monitor_box.specs.declared.value.MonitorValue.TheVariants.{Totals, Ta
 use Rattle.monitor_box.specs.Flows.{Flows, same_flow, no_packets, with_packet, IsCount, AreFlows}
 use Rattle.monitor_box.specs.Monitor.{next_move, begun, noted_flow, noted_length, touched, fresh_value, monitor_meaning, Fits}
 use Rattle.monitor_box.specs.Lawful.{touches, monitor_lawful}
-use Rattle.monitor_box.specs.Standing.{as_flow}
+use Rattle.monitor_box.specs.FlowStanding.{as_flow}
 use Rattle.monitor_box.specs.Sums.{totals_of, IsAtRest}
 use Rattle.monitor_box.specs.Arrivals.{key_of, flow_of_packet, if_same, share, other_share, shares, taken_sum, count_in, flows_in, count_of, others_of, Counts, CountsFlow, CountsFlowAtRest, CountsOthers, CountsOthersAtRest}
 use Rattle.monitor_box.specs.Coming.{coming_by, coming_sum}

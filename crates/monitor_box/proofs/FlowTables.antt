@@ -21,7 +21,7 @@ use Rattle.monitor_box.specs.declared.value.MonitorValue.TheVariants.{Totals, Ta
 use Rattle.monitor_box.specs.Flows.{Flows, same_flow, with_packet}
 use Rattle.monitor_box.specs.Monitor.{begun, noted_flow, noted_length, touched, fresh_value, monitor_meaning, Fits}
 use Rattle.monitor_box.specs.Lawful.{touches, monitor_lawful}
-use Rattle.monitor_box.specs.Standing.{as_flow, StandIn, ValueStands, HaveBytes}
+use Rattle.monitor_box.specs.FlowStanding.{as_flow, StandIn, ValueStands, HaveBytes}
 use Rattle.monitor_box.proofs.ThreadMoves.{hand_of, at_access, by_move}
 
 -- a packet that is on its way to its flow's table has noted the sum of its flow

@@ -16,7 +16,7 @@ use Rattle.monitor_box.specs.declared.value.MonitorValue.TheVariants.{Totals, Ta
 use Rattle.monitor_box.specs.Flows.{Flows, same_flow}
 use Rattle.monitor_box.specs.Coming.{coming_sum}
 use Rattle.monitor_box.specs.Monitor.{monitor_meaning, counts_flow_at, adds_other_at, totals_var, table_var}
-use Rattle.monitor_box.specs.Standing.{as_flow, HaveBytes}
+use Rattle.monitor_box.specs.FlowStanding.{as_flow, HaveBytes}
 use Rattle.monitor_box.specs.Sums.{totals_of, IsAtRest}
 
 -- what tells a packet's flow from others, where its headers are those of a flow

@@ -5,5 +5,5 @@ pub mod Flows
 pub mod Lawful
 pub mod Monitor
 pub mod Shown
-pub mod Standing
+pub mod FlowStanding
 pub mod Sums

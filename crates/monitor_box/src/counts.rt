@@ -13,7 +13,7 @@ pub struct Totals {
 }
 
 impl Totals {
-    /// No packets.
+    /// The totals before the first packet: all 0.
     pub fn new() -> Self
         ensures { result ≡ no_totals }
     {
@@ -52,22 +52,27 @@ impl Totals {
 pub struct FlowKey {
     /// 6 for TCP, 17 for UDP, as in the IPv4 header.
     pub protocol: u8,
+    /// The IPv4 address of the sender; the first byte on the wire is the highest.
     pub source: u32,
+    /// The port of the sender.
     pub source_port: u16,
+    /// The IPv4 address of the receiver, likewise.
     pub dest: u32,
+    /// The port of the receiver.
     pub dest_port: u16,
 }
 
 /// How many packets a flow had, modulo 2^64.
 #[derive(Clone, Copy, Debug, PartialEq, Eq)]
 pub struct FlowCount {
+    /// The packets of the flow.
     pub packets: u64,
     /// The bytes that these had on the wire.
     pub bytes: u64,
 }
 
 impl FlowCount {
-    /// No packets.
+    /// The count before the first packet: 0 packets and 0 bytes.
     pub fn new() -> Self
         ensures { result ≡ no_packets }
     {

@@ -1,7 +1,7 @@
 //! The laws of the box's runs. Each is proved, and does nothing: a caller has it by the call.
 ghost use Rattle.monitor_box.specs.Arrivals.{CountsFlow, CountsFlowAtRest, CountsOthers, CountsOthersAtRest};
 ghost use Rattle.monitor_box.specs.Sums.{InEachRun, InEachRunAtRest, PacketsMatch, BytesMatch, PacketsAreSum, BytesAreSum};
-ghost use Rattle.monitor_box.specs.Standing.{FlowsStand};
+ghost use Rattle.monitor_box.specs.FlowStanding.{FlowsStand};
 
 /// After each move of each run, whatever its threads, its inputs and the order of its moves, the totals are the sum over all
 /// flows of all tables, but for the packets that have touched their flow's table and not yet the totals. So where no packet

@@ -21,7 +21,7 @@ use Rattle.nat_box.specs.declared.value.NatValue.TheVariants.{Dropped, Free, Map
 use Rattle.nat_box.specs.Places.{source_key}
 use Rattle.nat_box.specs.Nat.{Settings, reverse_table, mapped, after_find, after_reserve, after_bind, touched, Fits}
 use Rattle.nat_box.specs.Lawful.{var_of}
-use Rattle.nat_box.specs.Standing.{free_at, maps, maps_for, mapped_at, binds, binds_for, taken_at, bare, queued, queued_for, loose, Tally, IsSound}
+use Rattle.nat_box.specs.PortStanding.{free_at, maps, maps_for, mapped_at, binds, binds_for, taken_at, bare, queued, queued_for, loose, Tally, IsSound}
 
 -- a packet at this place has no port out
 abbrev pub HoldsNone : Place → Type 0

@@ -29,7 +29,7 @@ use Rattle.nat_box.specs.declared.place.Class.TheVariants.{Outbound, Hairpin, In
 use Rattle.nat_box.specs.declared.place.Noted.{Noted}
 use Rattle.nat_box.specs.declared.value.NatValue.{NatValue}
 use Rattle.nat_box.specs.declared.value.NatValue.TheVariants.{Dropped, Free, Mapped, Taken}
-use Rattle.nat_box.specs.Places.{place_of, noted, source_key, dest_key, endpoint}
+use Rattle.nat_box.specs.Places.{place_numbered, noted, source_key, dest_key, endpoint}
 use Rattle.nat_box.specs.declared.place.Goes.{Goes}
 use Rattle.nat_box.specs.Nat.{Settings, goes, next_move, class_of_flow, noted_flow, nothing_noted, reason_of, begun_as, begun, mapped, after_find, after_reserve, after_bind, touched, after_endpoint, looked_by, looked, after_time, told, frame_out, local_at, nat_meaning, MayBind, Fits}
 use Rattle.nat_box.specs.Noting.{place_again, IsNoted, is_noted, noted_again}
@@ -106,11 +106,11 @@ KnownAt s r p Ends n = Unit {0}
 
 abbrev Known : Settings → Trail → Option Hand → Type 0
 Known s r None = Unit {0}
-Known s r (Some h) = KnownAt s r h.packet (place_of h.place.at) (noted h.place)
+Known s r (Some h) = KnownAt s r h.packet (place_numbered h.place.at) (noted h.place)
 
 known_on : (s : Settings) (r : Trail) (h : Hand) (g : Goes) → IsNoted g.noted → KnownAt s r h.packet g.place g.noted → Known s r (goes_on h g)
 known_on s r h g is k =
-    let a : place_of (local_at g).at ≡ g.place = place_again g.place in
+    let a : place_numbered (local_at g).at ≡ g.place = place_again g.place in
     let b : noted (local_at g) ≡ g.noted = noted_again g.place g.noted is in
     rw (a, b) k
 
@@ -435,7 +435,7 @@ made_known s is packets t earlier taken tn before after Takes bytes fits r k m =
     subst (Known s no_trail) (sym m.2) (begun_known s m.0 (viewed m.0.bytes m.0.original) (bytes taken m.0 m.1) refl)
 made_known s is packets t earlier taken tn before after (Touches v left) bytes fits r k m =
     let h : Hand = m.0 in
-    let place : Place = place_of h.place.at in
+    let place : Place = place_numbered h.place.at in
     let n : Noted = noted h.place in
     let x : NatValue = value_after (nat_meaning s) earlier v in
     let at : var_of s place n ≡ v = touches_it s place n v m.2 in
@@ -446,7 +446,7 @@ made_known s is packets t earlier taken tn before after (Touches v left) bytes f
     subst (λ (y : NatValue). Known s (after_touch y r) after) (sym m.3) (subst (Known s (after_touch (touched place x n).0 r)) (sym m.4) on)
 made_known s is packets t earlier taken tn before after (Looks v) bytes fits r k m =
     let h : Hand = m.0 in
-    let place : Place = place_of h.place.at in
+    let place : Place = place_numbered h.place.at in
     let n : Noted = noted h.place in
     let x : NatValue = value_after (nat_meaning s) earlier v in
     let at : var_of s place n ≡ v = reads_it s place n v m.2 in
@@ -456,13 +456,13 @@ made_known s is packets t earlier taken tn before after (Looks v) bytes fits r k
     subst (Known s (after_look s h.packet x r)) (sym m.3) (known_on s (after_look s h.packet x r) h (looked place x n) (looked_noted s place x n v (is_noted h.place) (fits v below)) next)
 made_known s is packets t earlier taken tn before after (HearsClock a) bytes fits r k m =
     let h : Hand = m.0 in
-    let place : Place = place_of h.place.at in
+    let place : Place = place_numbered h.place.at in
     let n : Noted = noted h.place in
     let known : KnownAt s r h.packet place n = subst (Known s r) m.1 k in
     subst (Known s (after_clock s h.packet a r)) (sym m.3) (known_on s (after_clock s h.packet a r) h (told place a n) (told_noted place a n (is_noted h.place)) (clock_known s h.packet r place a n m.2 known))
 made_known s is packets t earlier taken tn before after (HearsDraw a) bytes fits r k m =
     let h : Hand = m.0 in
-    let place : Place = place_of h.place.at in
+    let place : Place = place_numbered h.place.at in
     let n : Noted = noted h.place in
     let known : KnownAt s r h.packet place n = subst (Known s r) m.1 k in
     subst (Known s r) (sym m.3) (known_on s r h (told place a n) (told_noted place a n (is_noted h.place)) (draw_known s h.packet r place a n m.2 known))
@@ -516,7 +516,7 @@ translated s r bytes flow n Hairpin source dest tp m l =
 send_translates : (s : Settings) (r : Trail) (h : Hand) → comes_to s h Emit → Known s r (Some h) → IsTranslationOf s r ((nat_meaning s).out h.packet h.place) (Some h.packet)
 send_translates s r h at k =
     let n : Noted = noted h.place in
-    let known : KnownAt s r h.packet SendsOut n = subst (λ (q : Place). KnownAt s r h.packet q n) (at_send s (place_of h.place.at) n at) k in
+    let known : KnownAt s r h.packet SendsOut n = subst (λ (q : Place). KnownAt s r h.packet q n) (at_send s (place_numbered h.place.at) n at) k in
     let base : IsBase s h.packet n = known.0 in
     let t : IsTranslated s h.packet.bytes base.flow r (frame_out s n.class h.packet.bytes base.flow n) n.class =
     translated s r h.packet.bytes base.flow n n.class base.source base.dest_port refl known.1 known.2 in

@@ -11,7 +11,7 @@ use Rattle.plain_machine.specs.declared.local.Move.TheVariants.{Access, Read, Cl
 use Rattle.plain_machine.specs.Machine.{Hand, Thread, Effect, Takes, Touches, Looks, HearsClock, HearsDraw, Sends, Ends as EndsIt, Moves, holding, sent_packet, take_move, hand_move, held_move}
 use Rattle.nat_tables.specs.Forwards.{lives}
 use Rattle.nat_tables.specs.Reverses.{endpoint_of}
-use Rattle.nat_box.specs.Places.{place_of, noted, dest_key}
+use Rattle.nat_box.specs.Places.{place_numbered, noted, dest_key}
 use Rattle.nat_box.specs.declared.place.Goes.{Goes}
 use Rattle.nat_box.specs.Nat.{Settings, goes, next_move, class_of_flow, begun_as, begun, touched, after_endpoint, looked_by, looked, after_time, told, local_at, nat_meaning}
 use Rattle.nat_box.specs.Noting.{place_again}
@@ -28,7 +28,7 @@ use Rattle.nat_box.specs.declared.value.NatValue.TheVariants.{Dropped, Free, Map
 -- no packet in hand has a port out
 abbrev pub HandNone : Option Hand → Type 0
 HandNone None = Unit {0}
-HandNone (Some h) = HoldsNone (place_of h.place.at)
+HandNone (Some h) = HoldsNone (place_numbered h.place.at)
 
 none_at : (p : Packet) (g : Goes) → HoldsNone g.place → HandNone (Some (record { packet = p; place = local_at g }))
 none_at p g h = subst HoldsNone (sym (place_again g.place)) h
@@ -165,9 +165,9 @@ look_none s Ends x n v e = absurd (cc)
 -- Of a touch: what it found, left and noted. Of each other move: that no port is out before it, and none after it.
 abbrev pub Outcome : Settings → (ℕ → NatValue) → Option Hand → Option Hand → Effect NatValue → Type 0
 Outcome s value before after (Touches v left) =
-    (h : Hand) × (before ≡ Some h) × (next_move s (place_of h.place.at) (noted h.place) ≡ Access v)
-    × (left ≡ (touched (place_of h.place.at) (value v) (noted h.place)).0)
-    × (after ≡ Some (record { packet = h.packet; place = local_at (touched (place_of h.place.at) (value v) (noted h.place)).1 }))
+    (h : Hand) × (before ≡ Some h) × (next_move s (place_numbered h.place.at) (noted h.place) ≡ Access v)
+    × (left ≡ (touched (place_numbered h.place.at) (value v) (noted h.place)).0)
+    × (after ≡ Some (record { packet = h.packet; place = local_at (touched (place_numbered h.place.at) (value v) (noted h.place)).1 }))
 Outcome s value before after Takes = HandNone before × HandNone after
 Outcome s value before after (Looks v) = HandNone before × HandNone after
 Outcome s value before after (HearsClock a) = HandNone before × HandNone after
@@ -179,22 +179,22 @@ module _ (s : Settings) (packets : List Packet) (value : ℕ → NatValue) (take
   along : (before : Option Hand) (th : Thread) (u : Effect NatValue) → th ≡ after → u ≡ d → Outcome s value before th.hand u → Outcome s value before after.hand d
   along before th u q r h = subst (λ (x : Effect NatValue). Outcome s value before after.hand x) r (subst (λ (x : Thread). Outcome s value before x.hand u) q h)
 
-  of_hand : (h : Hand) (a : Option ℕ) (w : Move) → next_move s (place_of h.place.at) (noted h.place) ≡ w → hand_move (nat_meaning s) value taken h a w ≡ Moves after d → Outcome s value (Some h) after.hand d
+  of_hand : (h : Hand) (a : Option ℕ) (w : Move) → next_move s (place_numbered h.place.at) (noted h.place) ≡ w → hand_move (nat_meaning s) value taken h a w ≡ Moves after d → Outcome s value (Some h) after.hand d
   of_hand h None (Access v) w e =
       along (Some h) (holding taken h.packet ((nat_meaning s).touch v (value v) h.place).1) (Touches v ((nat_meaning s).touch v (value v) h.place).0) (cc) (cc) (h, refl, w, refl, refl)
   of_hand h None (Read v) w e =
-      let g : Goes = looked (place_of h.place.at) (value v) (noted h.place) in
-      let n = look_none s (place_of h.place.at) (value v) (noted h.place) v w in
+      let g : Goes = looked (place_numbered h.place.at) (value v) (noted h.place) in
+      let n = look_none s (place_numbered h.place.at) (value v) (noted h.place) v w in
       along (Some h) (holding taken h.packet ((nat_meaning s).look v (value v) h.place)) (Looks v) (cc) (cc) (n.0, none_at h.packet g n.1)
   of_hand h (Some x) Clock w e =
-      let n = clock_none s (place_of h.place.at) (noted h.place) x w in
-      along (Some h) (holding taken h.packet ((nat_meaning s).told x h.place)) (HearsClock x) (cc) (cc) (n.0, none_at h.packet (told (place_of h.place.at) x (noted h.place)) n.1)
+      let n = clock_none s (place_numbered h.place.at) (noted h.place) x w in
+      along (Some h) (holding taken h.packet ((nat_meaning s).told x h.place)) (HearsClock x) (cc) (cc) (n.0, none_at h.packet (told (place_numbered h.place.at) x (noted h.place)) n.1)
   of_hand h (Some x) Draw w e =
-      let n = draw_none s (place_of h.place.at) (noted h.place) x w in
-      along (Some h) (holding taken h.packet ((nat_meaning s).told x h.place)) (HearsDraw x) (cc) (cc) (n.0, none_at h.packet (told (place_of h.place.at) x (noted h.place)) n.1)
+      let n = draw_none s (place_numbered h.place.at) (noted h.place) x w in
+      along (Some h) (holding taken h.packet ((nat_meaning s).told x h.place)) (HearsDraw x) (cc) (cc) (n.0, none_at h.packet (told (place_numbered h.place.at) x (noted h.place)) n.1)
   of_hand h None Emit w e =
-      along (Some h) (holding taken h.packet ((nat_meaning s).emitted h.place)) (Sends (sent_packet (nat_meaning s) h)) (cc) (cc) (emit_none s (place_of h.place.at) (noted h.place) w, none_at h.packet (goes Ends (noted h.place)) tt)
-  of_hand h None End w e = along (Some h) (record { taken = taken; hand = None }) EndsIt (cc) (cc) (end_none s (place_of h.place.at) (noted h.place) w, tt)
+      along (Some h) (holding taken h.packet ((nat_meaning s).emitted h.place)) (Sends (sent_packet (nat_meaning s) h)) (cc) (cc) (emit_none s (place_numbered h.place.at) (noted h.place) w, none_at h.packet (goes Ends (noted h.place)) tt)
+  of_hand h None End w e = along (Some h) (record { taken = taken; hand = None }) EndsIt (cc) (cc) (end_none s (place_numbered h.place.at) (noted h.place) w, tt)
   of_hand h (Some x) (Access v) w e = absurd (cc)
   of_hand h (Some x) (Read v) w e = absurd (cc)
   of_hand h (Some x) Emit w e = absurd (cc)
@@ -210,4 +210,4 @@ module _ (s : Settings) (packets : List Packet) (value : ℕ → NatValue) (take
 
   pub outcome : (hand : Option Hand) (a : Option ℕ) → held_move (nat_meaning s) packets value taken a hand ≡ Moves after d → Outcome s value hand after.hand d
   outcome None a e = of_none a (slice_get packets taken) e
-  outcome (Some h) a e = of_hand h a (next_move s (place_of h.place.at) (noted h.place)) refl e
+  outcome (Some h) a e = of_hand h a (next_move s (place_numbered h.place.at) (noted h.place)) refl e

@@ -19,10 +19,10 @@ use Rattle.nat_box.specs.declared.place.Place.TheVariants.{HearsTime, FindsMappi
 use Rattle.nat_box.specs.declared.place.Noted.{Noted}
 use Rattle.nat_box.specs.declared.value.NatValue.{NatValue}
 use Rattle.nat_box.specs.declared.value.NatValue.TheVariants.{Dropped, Free, Mapped, Taken}
-use Rattle.nat_box.specs.Places.{place_of, noted, source_key}
+use Rattle.nat_box.specs.Places.{place_numbered, noted, source_key}
 use Rattle.nat_box.specs.Nat.{Settings, forward_table, reverse_table, nat_meaning, MayMap, MayBind, Fits}
 use Rattle.nat_box.specs.Lawful.{AreSettings, nat_lawful}
-use Rattle.nat_box.specs.Standing.{maps, maps_for, mapped_at, binds, binds_for, taken_at, queued, queued_for, loose, in_values, in_hand, in_hands, tally_of, IsSound}
+use Rattle.nat_box.specs.PortStanding.{maps, maps_for, mapped_at, binds, binds_for, taken_at, queued, queued_for, loose, in_values, in_hand, in_hands, tally_of, IsSound}
 use Rattle.nat_box.specs.Sentences.{Has, mappings_in, bound_in, IsMapping, HaveReverse, HaveOneEndpoint, HaveOneMapping, IsBetween, Belong, EntriesStand}
 use Rattle.nat_box.proofs.Summing.{term_of_sum}
 use Rattle.nat_box.proofs.Effects.{of_range_one}
@@ -170,13 +170,15 @@ loose_at k SendsOut n some = absurd (omega arith)
 loose_at k Ends n some = absurd (omega arith)
 
 between_queued : (k : PortKey) (h : Option Hand) → 1 ≤ in_hand (queued k) h
-    → (g : Hand) × (h ≡ Some g) × (place_of g.place.at ≡ FindsOrBinds) × (k ≡ source_key (noted g.place))
+    → (g : Hand) × (h ≡ Some g) × (place_numbered g.place.at ≡ FindsOrBinds) × (k ≡ source_key (noted g.place))
 between_queued k None some = absurd (omega arith)
-between_queued k (Some g) some = let q = queued_at k (place_of g.place.at) (noted g.place) some in (g, refl, q.0, q.1)
+between_queued k (Some g) some =
+    let q = queued_at k (place_numbered g.place.at) (noted g.place) some in (g, refl, q.0, q.1)
 
 between_loose : (k : PortKey) (key : Endpoint) (h : Option Hand) → 1 ≤ in_hand (loose k) h → IsBetween k key h
 between_loose k key None some = absurd (omega arith)
-between_loose k key (Some g) some = let q = loose_at k (place_of g.place.at) (noted g.place) some in inr (q.0, sym q.1)
+between_loose k key (Some g) some =
+    let q = loose_at k (place_numbered g.place.at) (noted g.place) some in inr (q.0, sym q.1)
 
 module _ (s : Settings) (is : AreSettings s) (threads : ℕ) (value : ℕ → NatValue) (thread : ℕ → Thread)
     (sound : (k : PortKey) (e : Endpoint) → IsSound (of_range s.low s.high k) (tally_of s threads k e value thread))
@@ -271,7 +273,7 @@ module _ (s : Settings) (is : AreSettings s) (threads : ℕ) (value : ℕ → Na
           let source : Endpoint = (noted q.0.place).source in
           let w : Place → Noted → ℕ = queued_for port source in
           let a : in_hand w (thread some.0).hand ≤ in_hands w threads thread = term_of_sum threads some.0 (λ u. in_hand w (thread u).hand) some.1 in
-          let b : in_hand w (thread some.0).hand ≡ 1 = ap (in_hand w) q.1 ∙ one_queued (place_of q.0.place.at) (noted q.0.place) q.2 q.3 in
+          let b : in_hand w (thread some.0).hand ≡ 1 = ap (in_hand w) q.1 ∙ one_queued (place_numbered q.0.place.at) (noted q.0.place) q.2 q.3 in
           let c : endpoint_of port (bound_in (value (reverse_table s port))) ≡ Some source = named port source (omega (arith, a, b)) in
           let d : Some source ≡ Some key = sym c ∙ bound in
           let f : source ≡ key = cc in

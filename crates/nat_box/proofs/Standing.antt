@@ -20,12 +20,12 @@ use Rattle.nat_box.specs.declared.place.Place.TheVariants.{HearsTime, FindsMappi
 use Rattle.nat_box.specs.declared.place.Noted.{Noted}
 use Rattle.nat_box.specs.declared.value.NatValue.{NatValue}
 use Rattle.nat_box.specs.declared.value.NatValue.TheVariants.{Dropped, Free, Mapped, Taken}
-use Rattle.nat_box.specs.Places.{place_of, noted, source_key}
+use Rattle.nat_box.specs.Places.{place_numbered, noted, source_key}
 use Rattle.nat_box.specs.declared.place.Goes.{Goes}
 use Rattle.nat_box.specs.Nat.{Settings, touched, reverse_table, local_at, fresh_value, nat_meaning, Fits}
 use Rattle.nat_box.specs.Noting.{place_again, IsNoted, is_noted, noted_again}
 use Rattle.nat_box.specs.Lawful.{AreSettings, var_of, touches_it, below_all, nat_lawful}
-use Rattle.nat_box.specs.Standing.{free_at, maps, maps_for, mapped_at, binds, binds_for, taken_at, bare, queued, queued_for, loose, in_values, in_hand, in_hands, Tally, tally_of, IsSound, PortsStand}
+use Rattle.nat_box.specs.PortStanding.{free_at, maps, maps_for, mapped_at, binds, binds_for, taken_at, bare, queued, queued_for, loose, in_values, in_hand, in_hands, Tally, tally_of, IsSound, PortsStand}
 use Rattle.nat_box.proofs.Summing.{one_changes, sum_of_none, term_of_sum, sums_below, one_term}
 use Rattle.nat_box.proofs.Effects.{holds_none, seen, Shifts, IsPart, IsUnder, Own, of_range_one, touch_sound}
 use Rattle.nat_box.proofs.Noting.{touched_noted}
@@ -34,7 +34,7 @@ use Rattle.nat_box.proofs.Moving.{HandNone, touching, Outcome, outcome}
 -- a hand that goes on as this: its numbers are those of where it goes
 hand_number : (number : Place → Noted → ℕ) (p : Packet) (g : Goes) → IsNoted g.noted → in_hand number (Some (record { packet = p; place = local_at g })) ≡ number g.place g.noted
 hand_number number p g is =
-    let a : place_of (local_at g).at ≡ g.place = place_again g.place in
+    let a : place_numbered (local_at g).at ≡ g.place = place_again g.place in
     let b : noted (local_at g) ≡ g.noted = noted_again g.place g.noted is in
     rw (a, b) refl
 
@@ -68,11 +68,11 @@ mapped_below k e (Taken bs) = omega arith
 
 hand_below : (k : PortKey) (e : Endpoint) (h : Option Hand) → in_hand (queued_for k e) h ≤ in_hand (queued k) h
 hand_below k e None = omega arith
-hand_below k e (Some h) = queued_below k e (place_of h.place.at) (noted h.place)
+hand_below k e (Some h) = queued_below k e (place_numbered h.place.at) (noted h.place)
 
 free_numbers : (k : PortKey) (e : Endpoint) (h : Option Hand) → HandNone h → (in_hand (bare k) h ≡ 0) × (in_hand (queued k) h ≡ 0) × (in_hand (queued_for k e) h ≡ 0) × (in_hand (loose k) h ≡ 0)
 free_numbers k e None h = (refl, refl, refl, refl)
-free_numbers k e (Some x) h = holds_none k e (place_of x.place.at) (noted x.place) h
+free_numbers k e (Some x) h = holds_none k e (place_numbered x.place.at) (noted x.place) h
 
 module _ (s : Settings) (is : AreSettings s) (threads : ℕ) (k : PortKey) (e : Endpoint) (value : ℕ → NatValue) (thread : ℕ → Thread) where
   under : IsUnder (tally_of s threads k e value thread)
@@ -167,7 +167,7 @@ module _ (s : Settings) (is : AreSettings s) (threads : ℕ) (k : PortKey) (e : 
     deed_sound earlier Ends fits o sound = still_sound o.0 o.1 sound
     deed_sound earlier (Touches w left) fits o sound =
         let h : Hand = o.0 in
-        let p : Place = place_of h.place.at in
+        let p : Place = place_numbered h.place.at in
         let n : Noted = noted h.place in
         let r : NatValue × Goes = touched p (value w) n in
         let at : var_of s p n ≡ w = touches_it s p n w o.2 in

@@ -28,7 +28,7 @@ use Rattle.nat_box.specs.declared.place.Class.TheVariants.{Outbound, Hairpin, In
 use Rattle.nat_box.specs.declared.place.Noted.{Noted}
 use Rattle.nat_box.specs.declared.value.NatValue.{NatValue}
 use Rattle.nat_box.specs.declared.value.NatValue.TheVariants.{Dropped, Free, Mapped, Taken}
-use Rattle.nat_box.specs.Places.{place_of, noted, source_key, dest_key}
+use Rattle.nat_box.specs.Places.{place_numbered, noted, source_key, dest_key}
 use Rattle.nat_box.specs.declared.place.Goes.{Goes}
 use Rattle.nat_box.specs.Nat.{Settings, forward_table, reverse_table, next_move, moves_left, class_of_flow, begun_as, begun, mapped, after_find, after_reserve, after_bind, touched, after_endpoint, looked_by, looked, after_time, told, frame_out, bytes_out, local_at, fresh_value, nat_meaning, MayMap, MayBind, Fits}
 use Rattle.nat_box.specs.Noting.{place_again, IsNoted, is_noted}
@@ -115,7 +115,7 @@ below_all s Ends n some = omega arith
 
 -- Ranks fall
 
-rank_at : (g : Goes) → moves_left (place_of (local_at g).at) ≡ moves_left g.place
+rank_at : (g : Goes) → moves_left (place_numbered (local_at g).at) ≡ moves_left g.place
 rank_at g = ap moves_left (place_again g.place)
 
 mapped_falls : (n : Noted) (c : Class) → moves_left (mapped n c).place ≤ 3
@@ -490,16 +490,17 @@ pub nat_lawful : (s : Settings) → AreSettings s → IsLawful (nat_meaning s) (
 nat_lawful s is = record {
   some_vars = omega arith;
   few_vars = omega (arith, is.few);
-  touches_var = λ l v e. subst (λ (u : ℕ). u < 2 + 2 * s.shards) (touches_it s (place_of l.at) (noted l) v e) (below_all s (place_of l.at) (noted l) is.some);
-  reads_var = λ l v e. subst (λ (u : ℕ). u < 2 + 2 * s.shards) (reads_it s (place_of l.at) (noted l) v e) (below_all s (place_of l.at) (noted l) is.some);
+  touches_var = λ l v e. subst (λ (u : ℕ). u < 2 + 2 * s.shards) (touches_it s (place_numbered l.at) (noted l) v e) (below_all s (place_numbered l.at) (noted l) is.some);
+  reads_var = λ l v e. subst (λ (u : ℕ). u < 2 + 2 * s.shards) (reads_it s (place_numbered l.at) (noted l) v e) (below_all s (place_numbered l.at) (noted l) is.some);
   begins = λ p. rw (rank_at (begun s (viewed p.bytes p.original))) (few_to_make s (viewed p.bytes p.original));
-  touch_falls = λ v x l e f. rw (rank_at (touched (place_of l.at) x (noted l)).1) (touch_falls_at s (place_of l.at) x (noted l) v e);
-  look_falls = λ v x l e f. rw (rank_at (looked (place_of l.at) x (noted l))) (look_falls_at s (place_of l.at) x (noted l) v e);
-  clock_falls = λ a l e. rw (rank_at (told (place_of l.at) a (noted l))) (clock_falls_at s (place_of l.at) a (noted l) e);
-  draw_falls = λ a l e. rw (rank_at (told (place_of l.at) a (noted l))) (draw_falls_at s (place_of l.at) a (noted l) e);
-  emit_falls = λ l e. emit_falls_at s (place_of l.at) (noted l) e;
-  ends = λ l e. ends_at s (place_of l.at) (noted l) e;
+  touch_falls = λ v x l e f. rw (rank_at (touched (place_numbered l.at) x (noted l)).1) (touch_falls_at s (place_numbered l.at) x (noted l) v e);
+  look_falls = λ v x l e f. rw (rank_at (looked (place_numbered l.at) x (noted l))) (look_falls_at s (place_numbered l.at) x (noted l) v e);
+  clock_falls = λ a l e. rw (rank_at (told (place_numbered l.at) a (noted l))) (clock_falls_at s (place_numbered l.at) a (noted l) e);
+  draw_falls = λ a l e. rw (rank_at (told (place_numbered l.at) a (noted l)))
+      (draw_falls_at s (place_numbered l.at) a (noted l) e);
+  emit_falls = λ l e. emit_falls_at s (place_numbered l.at) (noted l) e;
+  ends = λ l e. ends_at s (place_numbered l.at) (noted l) e;
   fresh_fits = λ v _. fresh_fits_at s is v;
-  touch_fits = λ v x l e f. touched_fits s (place_of l.at) x (noted l) v (is_noted l) (touches_it s (place_of l.at) (noted l) v e) f;
+  touch_fits = λ v x l e f. touched_fits s (place_numbered l.at) x (noted l) v (is_noted l) (touches_it s (place_numbered l.at) (noted l) v e) f;
   as_long = λ p l e. long_out s p.bytes (noted l) (viewed p.bytes p.original);
 }

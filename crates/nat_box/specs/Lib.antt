@@ -2,7 +2,7 @@ pub mod Places
 pub mod Nat
 pub mod Noting
 pub mod Lawful
-pub mod Standing
+pub mod PortStanding
 pub mod Sentences
 pub mod Emissions
 pub mod Shown

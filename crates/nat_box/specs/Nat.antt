@@ -30,7 +30,7 @@ use Rattle.nat_box.specs.declared.value.Drops.{Drops}
 use Rattle.nat_box.specs.declared.value.NatValue.{NatValue}
 use Rattle.nat_box.specs.declared.value.NatValue.TheVariants.{Dropped, Free, Mapped, Taken}
 use Rattle.nat_box.specs.Shown.{shown_value}
-use Rattle.nat_box.specs.Places.{place_of, noted, local_of, source_key, dest_key, endpoint}
+use Rattle.nat_box.specs.Places.{place_numbered, noted, local_of, source_key, dest_key, endpoint}
 
 pub record Settings : Type 0 where
   -- how many forward tables there are, and how many reverse tables
@@ -250,14 +250,14 @@ nat_meaning s = record {
   vars = 2 + 2 * s.shards;
   fresh = fresh_value s;
   begin = λ p. local_at (begun s (viewed p.bytes p.original));
-  next = λ l. next_move s (place_of l.at) (noted l);
-  touch = λ _ x l. let r = touched (place_of l.at) x (noted l) in (r.0, local_at r.1);
-  look = λ _ x l. local_at (looked (place_of l.at) x (noted l));
-  told = λ a l. local_at (told (place_of l.at) a (noted l));
+  next = λ l. next_move s (place_numbered l.at) (noted l);
+  touch = λ _ x l. let r = touched (place_numbered l.at) x (noted l) in (r.0, local_at r.1);
+  look = λ _ x l. local_at (looked (place_numbered l.at) x (noted l));
+  told = λ a l. local_at (told (place_numbered l.at) a (noted l));
   emitted = λ l. local_at (goes Ends (noted l));
   out = λ p l. bytes_out s p.bytes (noted l) (viewed p.bytes p.original);
   shown = λ _ x. shown_value x;
-  rank = λ l. moves_left (place_of l.at);
+  rank = λ l. moves_left (place_numbered l.at);
 }
 
 -- Each variable has a value of its kind. In a forward table, mappings stand by their endpoints, and no endpoint has two; in a

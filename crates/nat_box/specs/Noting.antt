@@ -7,9 +7,9 @@ use Rattle.nat_box.specs.declared.place.Place.TheVariants.{HearsTime, FindsMappi
 use Rattle.nat_box.specs.declared.place.Class.{Class}
 use Rattle.nat_box.specs.declared.place.Class.TheVariants.{Outbound, Hairpin, Inbound}
 use Rattle.nat_box.specs.declared.place.Noted.{Noted}
-use Rattle.nat_box.specs.Places.{number_of, place_of, number_of_class, class_of, noted, local_of}
+use Rattle.nat_box.specs.Places.{number_of, place_numbered, number_of_class, class_of, noted, local_of}
 
-pub place_again : (p : Place) → place_of (number_of p) ≡ p
+pub place_again : (p : Place) → place_numbered (number_of p) ≡ p
 place_again HearsTime = refl
 place_again FindsMapping = refl
 place_again UnbindsFreed = refl

@@ -28,8 +28,8 @@ number_of CountsDrop = 12
 number_of SendsOut = 13
 number_of Ends = 14
 
-abbrev pub place_of : ℕ → Place
-place_of at =
+abbrev pub place_numbered : ℕ → Place
+place_numbered at =
     if at == 0 then HearsTime else if at == 1 then FindsMapping else if at == 2 then UnbindsFreed else if at == 3 then GivesBackFreed
     else if at == 4 then DrawsWord else if at == 5 then ReservesPort else if at == 6 then BindsPort else if at == 7 then FindsOrBinds
     else if at == 8 then UnbindsLost else if at == 9 then GivesBackLost else if at == 10 then FindsEndpoint else if at == 11 then AsksIfLives

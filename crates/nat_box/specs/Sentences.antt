@@ -13,7 +13,7 @@ use Rattle.nat_tables.specs.Reverses.{Reverses, endpoint_of}
 use Rattle.nat_box.specs.declared.place.Place.TheVariants.{FindsOrBinds, UnbindsFreed, UnbindsLost}
 use Rattle.nat_box.specs.declared.value.NatValue.{NatValue}
 use Rattle.nat_box.specs.declared.value.NatValue.TheVariants.{Dropped, Free, Mapped, Taken}
-use Rattle.nat_box.specs.Places.{place_of, noted, source_key}
+use Rattle.nat_box.specs.Places.{place_numbered, noted, source_key}
 use Rattle.nat_box.specs.Nat.{Settings, reverse_table, nat_meaning}
 use Rattle.nat_box.specs.Lawful.{AreSettings}
 
@@ -52,8 +52,9 @@ HaveOneMapping s value = (v w : ℕ) (e f : Endpoint × Slot) → IsMapping s va
 abbrev pub IsBetween : PortKey → Endpoint → Option Hand → Type 0
 IsBetween port key None = ⊥
 IsBetween port key (Some h) =
-    ((place_of h.place.at ≡ FindsOrBinds) × (source_key (noted h.place) ≡ port) × ((noted h.place).source ≡ key))
-    ⊎ (((place_of h.place.at ≡ UnbindsFreed) ⊎ (place_of h.place.at ≡ UnbindsLost)) × ((noted h.place).freed ≡ port))
+    ((place_numbered h.place.at ≡ FindsOrBinds) × (source_key (noted h.place) ≡ port) × ((noted h.place).source ≡ key))
+    ⊎ (((place_numbered h.place.at ≡ UnbindsFreed) ⊎ (place_numbered h.place.at ≡ UnbindsLost))
+    × ((noted h.place).freed ≡ port))
 
 abbrev pub Belong : Settings → ℕ → (ℕ → NatValue) → (ℕ → Thread) → Type 0
 Belong s threads value thread =

@@ -1,5 +1,5 @@
 //! The laws of the box's runs. Each is proved, and does nothing: a caller has it by the call.
-ghost use Rattle.nat_box.specs.Standing.{PortsStand};
+ghost use Rattle.nat_box.specs.PortStanding.{PortsStand};
 ghost use Rattle.nat_box.specs.Sentences.{EntriesStand};
 ghost use Rattle.nat_box.specs.Emissions.{EmissionsTranslate};
 

@@ -1,5 +1,5 @@
 ghost use Rattle.std.specs.Prelude.{◌≡◌};
-ghost use Rattle.nat_box.specs.Places.{number_of, place_of, number_of_class, class_of, noted, local_of, source_key, dest_key};
+ghost use Rattle.nat_box.specs.Places.{number_of, place_numbered, number_of_class, class_of, noted, local_of, source_key, dest_key};
 
 use box_program::Local;
 use nat_tables::{Endpoint, PortKey};
@@ -65,7 +65,7 @@ impl Place {
 
     /// The place of a number; the end for a number of no place.
     pub(crate) fn numbered(number: u32) -> Place
-        ensures { result ≡ place_of number }
+        ensures { result ≡ place_numbered number }
     {
         match number {
             0 => Place::HearsTime,

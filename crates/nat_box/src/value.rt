@@ -13,11 +13,12 @@ use std::alloc::Global;
 /// 9 one that neither comes from inside nor goes to the outside address, or goes from inside to inside.
 #[derive(Clone, Copy, Debug, PartialEq, Eq)]
 pub struct Drops {
+    /// The count of reason 1 first.
     pub counts: [u64; 9],
 }
 
 impl Drops {
-    /// No drops.
+    /// The counts before the first packet: all 0.
     pub fn new() -> Self
         ensures { result ≡ no_drops }
     {

@@ -6,7 +6,7 @@ use Rattle.std.proofs.lemmas.List.{nil_from_length}
 use Rattle.std.proofs.lemmas.List.Sums.{sum_by-le}
 use Rattle.nat_tables.specs.Ports.{with_port}
 use Rattle.nat_tables.specs.declared.port_group.Group.{Group}
-use Rattle.nat_tables.specs.Placing.{word_ports, word_count, words_ports, group_ports, group_count, groups_ports, IsCounted, AreCounted, IsAt}
+use Rattle.nat_tables.specs.Placing.{word_ports, word_count, words_ports, group_ports, group_count, groups_ports, IsCounted, AreCounted, FallsIn}
 use Rattle.nat_tables.proofs.PlaceLemmas.{AreBelow, AreFrom, row_length, row_from, row_below, row_index, row_removed, row_with}
 use Rattle.nat_tables.proofs.WordLemmas.{word_counted, word_low, word_high, word_few}
 
@@ -14,12 +14,12 @@ use Rattle.nat_tables.proofs.WordLemmas.{word_counted, word_low, word_high, word
 abbrev Any : ℕ → Type 0
 Any w = Unit {0}
 
-pub words_index : (words : List ℕ) (first at i left : ℕ) → IsAt word_count words at i left
+pub words_index : (words : List ℕ) (first at i left : ℕ) → FallsIn word_count words at i left
     → slice_index (words_ports first words) at ≡ slice_index (word_ports (first + 128 * i) (slice_index words i)) left
 words_index words first at i left is =
     row_index word_ports word_count 128 Any word_counted word_low word_high 0 first at i left (first + 128 * i) words (λ k d less. tt) is.inside is.before (is.within 0) (omega arith)
 
-pub words_removed : (words : List ℕ) (v first at i left : ℕ) → IsAt word_count words at i left
+pub words_removed : (words : List ℕ) (v first at i left : ℕ) → FallsIn word_count words at i left
     → word_ports (first + 128 * i) v ≡ remove (word_ports (first + 128 * i) (slice_index words i)) left → words_ports first (set words i v) ≡ remove (words_ports first words) at
 words_removed words v first at i left is new =
     row_removed word_ports word_count 128 Any word_counted word_low word_high 0 first at i left (first + 128 * i) v words (λ k d less. tt) is.inside is.before (is.within 0) (omega arith) new
@@ -49,13 +49,13 @@ group_few g is =
 pub group_none : (g : Group) → IsCounted g → g.count ≡ 0 → (first : ℕ) → group_ports first g ≡ []
 group_none g is none first = nil_from_length (group_ports first g) (group_counted first g is ∙ none)
 
-pub groups_index : (groups : List Group) (old : Group) (first at i left : ℕ) → All IsCounted groups → IsAt group_count groups at i left → old ≡ get_or groups i old
+pub groups_index : (groups : List Group) (old : Group) (first at i left : ℕ) → All IsCounted groups → FallsIn group_count groups at i left → old ≡ get_or groups i old
     → slice_index (groups_ports first groups) at ≡ slice_index (group_ports (first + 1024 * i) old) left
 groups_index groups old first at i left each is there =
     row_index group_ports group_count 1024 IsCounted group_counted group_low group_high old first at i left (first + 1024 * i) groups each is.inside is.before (is.within old) (omega arith)
     ∙ ap (λ (g : Group). slice_index (group_ports (first + 1024 * i) g) left) (sym there)
 
-pub groups_removed : (groups : List Group) (old new : Group) (first at i left : ℕ) → All IsCounted groups → IsAt group_count groups at i left → old ≡ get_or groups i old
+pub groups_removed : (groups : List Group) (old new : Group) (first at i left : ℕ) → All IsCounted groups → FallsIn group_count groups at i left → old ≡ get_or groups i old
     → group_ports (first + 1024 * i) new ≡ remove (group_ports (first + 1024 * i) old) left → groups_ports first (set groups i new) ≡ remove (groups_ports first groups) at
 groups_removed groups old new first at i left each is there others =
     row_removed group_ports group_count 1024 IsCounted group_counted group_low group_high old first at i left (first + 1024 * i) new groups each is.inside is.before (is.within old) (omega arith)

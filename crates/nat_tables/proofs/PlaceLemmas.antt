@@ -8,7 +8,7 @@ use Rattle.std.proofs.lemmas.List.Elements.{All-head, All-tail}
 use Rattle.std.proofs.lemmas.List.Sums.{sum_by-cons, sum_by_more}
 use Rattle.std.proofs.lemmas.Bool.Decides.{nat_tests}
 use Rattle.nat_tables.specs.Ports.{given_back_to, with_port, ports_from, no_ports}
-use Rattle.nat_tables.specs.Placing.{in_row, IsAt}
+use Rattle.nat_tables.specs.Placing.{in_row, FallsIn}
 
 -- each of these is below the port
 abbrev pub AreBelow : ℕ → List ℕ → Type 0
@@ -132,7 +132,7 @@ module _ {B : Type 0} (ports : ℕ → B → List ℕ) (count : B → ℕ) (span
 
 -- a walk over the counts: the index is behind the parts so far
 
-pub found : {B : Type 0} (count : B → ℕ) (bs : List B) (at i left : ℕ) (d : B) → i < length bs → at ≡ sum_by count (take i bs) + left → left < count (get_or bs i d) → IsAt count bs at i left
+pub found : {B : Type 0} (count : B → ℕ) (bs : List B) (at i left : ℕ) (d : B) → i < length bs → at ≡ sum_by count (take i bs) + left → left < count (get_or bs i d) → FallsIn count bs at i left
 found count bs at i left d inside before within =
     record { inside = inside; before = before; within = λ e. subst (λ b. left < count b) (get_or_default bs i d e inside) within }
 

@@ -10,7 +10,7 @@ use Rattle.std.proofs.lemmas.List.Sums.{sum_by-cons, sum_by-le, sum_by-set}
 use Rattle.std.proofs.lemmas.Nat.{ones_cat, ones_le_self, zero_from_ones}
 use Rattle.std.proofs.lemmas.Nat.Bits.{bit_at_lowest, bit_at-suc}
 use Rattle.nat_tables.specs.Ports.{one_if, with_port}
-use Rattle.nat_tables.specs.Placing.{in_row, bit_ports, bits_of, word_bits, word_ports, word_count, IsAt}
+use Rattle.nat_tables.specs.Placing.{in_row, bit_ports, bits_of, word_bits, word_ports, word_count, FallsIn}
 use Rattle.nat_tables.proofs.PlaceLemmas.{AreBelow, AreFrom, row_length, row_from, row_below, row_index, row_removed, row_with}
 
 bits_long : (n w : ℕ) → length (bits_of n w) ≡ n
@@ -106,10 +106,10 @@ bit_high first false holds = tt
 abbrev Any : Bool → Type 0
 Any b = Unit {0}
 
-pub word_inside : (w at bit : ℕ) → IsAt one_if (word_bits w) at bit 0 → bit < 64
+pub word_inside : (w at bit : ℕ) → FallsIn one_if (word_bits w) at bit 0 → bit < 64
 word_inside w at bit is = let long = word_long w in let inside = is.inside in omega arith
 
-pub word_index : (w first at bit : ℕ) → IsAt one_if (word_bits w) at bit 0 → slice_index (word_ports first w) at ≡ first + 2 * bit
+pub word_index : (w first at bit : ℕ) → FallsIn one_if (word_bits w) at bit 0 → slice_index (word_ports first w) at ≡ first + 2 * bit
 word_index w first at bit is =
     row_index bit_ports one_if 2 Any bit_counted bit_low bit_high false first at bit 0 (first + 2 * bit) (word_bits w) (λ k d less. tt) is.inside is.before (is.within false) (omega arith)
     ∙ set_bit (get_or (word_bits w) bit false) (is.within false)
@@ -118,7 +118,7 @@ word_index w first at bit is =
     set_bit true some = refl
     set_bit false some = absurd (omega arith)
 
-pub word_removed : (w v first at bit : ℕ) → IsAt one_if (word_bits w) at bit 0 → word_bits v ≡ set (word_bits w) bit false → word_ports first v ≡ remove (word_ports first w) at
+pub word_removed : (w v first at bit : ℕ) → FallsIn one_if (word_bits w) at bit 0 → word_bits v ≡ set (word_bits w) bit false → word_ports first v ≡ remove (word_ports first w) at
 word_removed w v first at bit is new =
     ap (λ (bits : List Bool). in_row bit_ports 2 first bits) new
     ∙ row_removed bit_ports one_if 2 Any bit_counted bit_low bit_high false first at bit 0 (first + 2 * bit) false (word_bits w) (λ k d less. tt) is.inside is.before (is.within false)
@@ -128,7 +128,7 @@ word_removed w v first at bit is new =
     set_bit true some = refl
     set_bit false some = absurd (omega arith)
 
-pub word_less : (w v at bit : ℕ) → IsAt one_if (word_bits w) at bit 0 → word_bits v ≡ set (word_bits w) bit false → word_count v + 1 ≡ word_count w
+pub word_less : (w v at bit : ℕ) → FallsIn one_if (word_bits w) at bit 0 → word_bits v ≡ set (word_bits w) bit false → word_count v + 1 ≡ word_count w
 word_less w v at bit is new =
     let sums = sum_by-set one_if (word_bits w) bit false false is.inside in
     let same : word_count v ≡ sum_by one_if (set (word_bits w) bit false) = ap (sum_by one_if) new in

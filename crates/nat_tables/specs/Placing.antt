@@ -53,7 +53,7 @@ pub record AreCounted (free : ℕ) (groups : List Group) : Type 0 where
   pub total : free ≡ sum_by group_count groups
 
 -- the item at an index of all parts is the one at `left` of the part `i`
-pub record IsAt {B : Type 0} (count : B → ℕ) (parts : List B) (at i left : ℕ) : Type 0 where
+pub record FallsIn {B : Type 0} (count : B → ℕ) (parts : List B) (at i left : ℕ) : Type 0 where
   pub inside : i < length parts
   pub before : at ≡ sum_by count (take i parts) + left
   pub within : (d : B) → left < count (get_or parts i d)

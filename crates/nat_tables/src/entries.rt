@@ -5,22 +5,25 @@
 pub struct Endpoint {
     /// 6 for TCP, 17 for UDP, as in the IPv4 header.
     pub protocol: u8,
+    /// The IPv4 address; the first byte on the wire is the highest.
     pub address: u32,
+    /// The port of this protocol.
     pub port: u16,
 }
 
-/// A port of the outside address.
+/// A port of one protocol at the outside address.
 #[derive(Clone, Copy, Debug, PartialEq, Eq, Hash)]
 pub struct PortKey {
     /// 6 for TCP, 17 for UDP, as in the IPv4 header.
     pub protocol: u8,
+    /// The port at the outside address, which is that of no inside host.
     pub port: u16,
 }
 
 /// The outside port of an idle mapping that was removed: it is to be unbound and given back.
 pub type Freed = PortKey;
 
-/// A mapping of a forward table.
+/// A mapping of a forward table: an inside endpoint, the outside port that stands for it, and when it was last used.
 #[derive(Clone, Copy, Debug, PartialEq, Eq)]
 pub struct Mapping {
     /// The inside endpoint.
@@ -42,7 +45,7 @@ pub struct BoundPort {
     pub key: Endpoint,
 }
 
-/// What was found of an endpoint.
+/// What a forward table has for an endpoint at the time of a packet.
 #[derive(Clone, Copy, Debug, PartialEq, Eq)]
 pub enum Find {
     /// The outside port of its mapping, which is not idle and was refreshed.

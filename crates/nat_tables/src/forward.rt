@@ -166,7 +166,7 @@ impl Forward {
         }
     }
 
-    /// How many mappings there are.
+    /// How many mappings there are, idle ones included.
     pub fn len(&self) -> usize
         ensures { result ≡ length self.now }
     {

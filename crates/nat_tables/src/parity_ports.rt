@@ -1,7 +1,7 @@
 ghost use Rattle.std.specs.Prelude.{◌≡◌, ℕ, ◌+◌, ◌%◌, ◌^◌, ◌<◌, ◌≤◌, slice_index, length, [], IfOk};
 ghost use Rattle.std.specs.List.{remove, sum_by};
 ghost use Rattle.nat_tables.specs.Ports.{with_port};
-ghost use Rattle.nat_tables.specs.Placing.{groups_ports, group_count, IsAt};
+ghost use Rattle.nat_tables.specs.Placing.{groups_ports, group_count, FallsIn};
 
 use crate::port_group::Group;
 use plain_text::NoMemory;
@@ -31,7 +31,7 @@ impl Model for ParityPorts {
 /// The group of the port at the index, and the index among those of that group.
 fn find_group(groups: &[Group], at: usize) -> (usize, u16)
     requires { at < sum_by group_count groups.now }
-    ensures { IsAt group_count groups.now at result.0 result.1 }
+    ensures { FallsIn group_count groups.now at result.0 result.1 }
 {
     let mut left = at;
     for (index, group) in groups.iter().enumerate() {

@@ -1,7 +1,7 @@
 ghost use Rattle.std.specs.Prelude.{◌≡◌, ℕ, ◌+◌, ◌-◌, ◌%◌, ◌^◌, ◌<◌, ◌≤◌, slice_index, []};
 ghost use Rattle.std.specs.List.{remove, sum_by};
 ghost use Rattle.nat_tables.specs.Ports.{one_if, with_port};
-ghost use Rattle.nat_tables.specs.Placing.{group_ports, word_count, IsCounted, IsAt};
+ghost use Rattle.nat_tables.specs.Placing.{group_ports, word_count, IsCounted, FallsIn};
 
 use crate::port_word::{count_in_word, put_into_word, take_from_word};
 
@@ -15,7 +15,7 @@ pub(crate) struct Group {
 /// The word of the port at the index, and the index among those of that word.
 fn find_word(words: &[u64; 8], at: u16) -> (usize, u16)
     requires { at < sum_by word_count words.now }
-    ensures { IsAt word_count words.now at result.0 result.1 }
+    ensures { FallsIn word_count words.now at result.0 result.1 }
 {
     let mut left = at;
     for (index, word) in words.iter().enumerate() {

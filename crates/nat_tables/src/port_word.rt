@@ -1,7 +1,7 @@
 ghost use Rattle.std.specs.Prelude.{◌≡◌, ℕ, ◌+◌, ◌-◌, ◌*◌, ◌%◌, ◌^◌, ◌<◌, ◌≤◌, set, get_or, slice_index, true, false};
 ghost use Rattle.std.specs.List.{remove};
 ghost use Rattle.nat_tables.specs.Ports.{one_if, with_port};
-ghost use Rattle.nat_tables.specs.Placing.{word_bits, word_ports, word_count, IsAt};
+ghost use Rattle.nat_tables.specs.Placing.{word_bits, word_ports, word_count, FallsIn};
 
 /// Whether the bit is set.
 fn has_bit(word: u64, bit: u32) -> bool
@@ -30,7 +30,7 @@ fn without_bit(word: u64, bit: u32) -> u64
 /// The bit that is set behind this number of others that are.
 fn find_bit(word: u64, at: u16) -> u32
     requires { at < word_count word }
-    ensures { IsAt one_if (word_bits word) at result 0 }
+    ensures { FallsIn one_if (word_bits word) at result 0 }
 {
     let mut left = at;
     for bit in 0..64 {

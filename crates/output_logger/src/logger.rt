@@ -400,14 +400,14 @@ impl OutputLogger {
         &self.released
     }
 
-    /// The epoch, from 1.
+    /// The epoch of the master from which it takes messages, from 1.
     pub fn epoch(&self) -> u32
         ensures { result ≡ self.now.epoch }
     {
         self.epoch
     }
 
-    /// How many outputs wait.
+    /// How many outputs arrived and wait for a missing log entry.
     pub fn waiting(&self) -> usize
         ensures { result ≡ length self.now.waiting }
     {

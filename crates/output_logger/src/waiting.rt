@@ -20,7 +20,9 @@ use thread_clock::Stamp;
 /// number and arrival; and maybe under others.
 #[derive(Debug, Drop)]
 pub struct Waiting {
+    /// By the number of its arrival, from 0.
     pub outputs: BTreeMap<u64, Output>,
+    /// Thread and number of a log entry, and the arrival of an output that names it.
     pub index: BTreeSet<(u32, u64, u64)>,
 }
 

@@ -14,7 +14,7 @@ use Rattle.recovery_world.specs.World.{Setting, World}
 use Rattle.recovery_world.specs.Events.{On}
 use Rattle.event_replies.specs.declared.reply.Reply.{Reply}
 use Rattle.system_parts.specs.Parts.{Parts}
-use Rattle.system_parts.specs.Standing.{StandsFor, StandsForSome}
+use Rattle.system_parts.specs.SystemStanding.{StandsFor, StandsForSome}
 use Rattle.system_parts.specs.Performing.{MovesOn, Releasing, Replies}
 use Rattle.output_releases.proofs.ReleasedLists.{releases_none}
 

@@ -13,7 +13,7 @@ use Rattle.recovery_world.specs.World.{Setting, Sent, World}
 use Rattle.sent_frames.specs.Sending.{Sending, length_at, lengths_of, entry_address, output_address, ForgetsOutputs}
 use Rattle.output_releases.specs.Released.{ForgetsReleased, AreForgotten}
 use Rattle.system_parts.specs.Parts.{Parts}
-use Rattle.system_parts.specs.Standing.{IsSentEntry, IsSentOutput, HasSent, StandsFor}
+use Rattle.system_parts.specs.SystemStanding.{IsSentEntry, IsSentOutput, HasSent, StandsFor}
 use Rattle.system_parts.proofs.SentLemmas.{entry_stays_sent, output_stays_sent}
 use Rattle.system_parts.proofs.SnapshotLemmas.{address_or, snapshots_on}
 

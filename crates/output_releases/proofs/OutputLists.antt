@@ -16,7 +16,7 @@ use Rattle.recovery_world.specs.Files.{sent_names, packets_of}
 use Rattle.recovery_laws.proofs.Sets.{among_either}
 use Rattle.output_releases.specs.Released.{names_of, NotesReleased}
 use Rattle.system_parts.specs.Parts.{Parts}
-use Rattle.system_parts.specs.Standing.{AreOutputs, NotesNames}
+use Rattle.system_parts.specs.SystemStanding.{AreOutputs, NotesNames}
 use Rattle.system_parts.specs.Performing.{ReleasesInto}
 use Rattle.output_releases.proofs.ReleasedLists.{releases_go}
 

@@ -15,7 +15,7 @@ use Rattle.recovery_world.specs.Limits.{OnWithin}
 use Rattle.recovery_laws.specs.Sound.{Sound}
 use Rattle.recovery_laws.proofs.KeptWorlds.{within_sound}
 use Rattle.system_parts.specs.Parts.{Parts, IsShort, AreParts}
-use Rattle.system_parts.specs.Standing.{HasInputs, StandsFor}
+use Rattle.system_parts.specs.SystemStanding.{HasInputs, StandsFor}
 use Rattle.system_parts.specs.Performing.{MovesOn, ComesTo}
 
 -- Of the packets that are left, the first k are fed.

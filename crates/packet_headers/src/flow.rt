@@ -11,9 +11,13 @@ pub(crate) const UDP: u8 = 17;
 pub struct Flow {
     /// 6 for TCP, 17 for UDP, as in the IPv4 header (RFC 791).
     pub protocol: u8,
+    /// The IPv4 address of the sender; the first byte on the wire is the highest.
     pub source: u32,
+    /// The port of the sender.
     pub source_port: u16,
+    /// The IPv4 address of the receiver, likewise.
     pub dest: u32,
+    /// The port of the receiver.
     pub dest_port: u16,
     /// The control bits of a TCP segment, CWR first and FIN last (RFC 9293, section 3.1); 0 for UDP.
     pub flags: u8,

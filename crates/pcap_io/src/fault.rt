@@ -28,6 +28,8 @@ pub enum CaptureCause {
 #[derive(Clone, Copy, Debug, PartialEq, Eq, Error)]
 #[error("offset {offset}: {cause}")]
 pub struct CaptureFault {
+    /// The place in bytes from the beginning of the file, from 0.
     pub offset: u64,
+    /// Why the bytes there are none of a capture.
     pub cause: CaptureCause,
 }

@@ -77,7 +77,10 @@ impl BlockKind {
 /// length.
 #[derive(Drop)]
 pub struct Block {
+    /// The byte order of the section, in which the body is written.
     pub order: Order,
+    /// The type, as it stands in the file.
     pub number: u32,
+    /// The bytes of the body, with the padding of its options: 12 fewer than the total length.
     pub body: Bytes,
 }

@@ -39,15 +39,19 @@ pub enum NgCause {
 #[derive(Clone, Copy, Debug, PartialEq, Eq, Error)]
 #[error("offset {offset}: {cause}")]
 pub struct NgFault {
+    /// The place in bytes from the beginning of the file, from 0.
     pub offset: u64,
+    /// Why the bytes there are no block of a capture.
     pub cause: NgCause,
 }
 
 /// The first place where bytes are no capture of the format that their first four bytes tell.
 #[derive(Clone, Copy, Debug, PartialEq, Eq, Error)]
 pub enum AnyFault {
+    /// The file begins as a libpcap savefile, or as neither.
     #[error("{0}")]
     Capture(CaptureFault),
+    /// The file begins as a pcapng capture.
     #[error("{0}")]
     Ng(NgFault),
 }

@@ -13,9 +13,13 @@ pub(crate) const BLOCK_HEAD: usize = 12;
 /// the bytes that are left of a file's limit, and whether all packets of a capture were given.
 #[derive(Clone, Copy)]
 pub struct Place {
+    /// The byte order of the section.
     pub order: Order,
+    /// Whether the four bytes of the type were read before.
     pub typed: bool,
+    /// How many bytes may follow before the file passes its limit of 64 MiB.
     pub room: u64,
+    /// Whether 65,536 packets were given, so that one more passes the limit.
     pub full: bool,
 }
 

@@ -3,6 +3,7 @@ use plain_text::Packet;
 /// A packet that a thread sent out.
 #[derive(Debug, Drop)]
 pub struct Emission {
+    /// The thread that sent it out.
     pub thread: u32,
     /// Its number among those of the thread, from 1.
     pub number: u64,

@@ -4,7 +4,9 @@ use thiserror::Error;
 /// One move of a thread, with what it was told where it was told something: a time in microseconds, or a word.
 #[derive(Clone, Copy, Debug, PartialEq, Eq)]
 pub struct PlainMove {
+    /// The thread that moves, from 0.
     pub thread: u32,
+    /// What it is told; `None` exactly where the program asks for nothing, in a legal move.
     pub answer: Option<u64>,
 }
 
@@ -32,6 +34,8 @@ pub enum PlayCause {
 #[derive(Clone, Copy, Debug, PartialEq, Eq, Error)]
 #[error("move {number}: {cause}")]
 pub struct PlayFault {
+    /// The number of the move in the list, from 1.
     pub number: u64,
+    /// Why the machine may not make it.
     pub cause: PlayCause,
 }

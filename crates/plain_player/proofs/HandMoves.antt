@@ -18,14 +18,14 @@ use Rattle.plain_player.specs.declared.hand.MoveError.{MoveError}
 use Rattle.plain_player.specs.declared.hand.MoveError.TheVariants as error
 use Rattle.plain_player.specs.Hands.{HasValues, values_after, sent_by, with_bytes, IsHandMove, MakesHandMove, PlaysHand, seat_after}
 use Rattle.plain_player.specs.Playing.{Playing, IsSeat, Stands, Follows}
-use Rattle.box_program.specs.Hands.{place_of, input_for}
+use Rattle.box_program.specs.Hands.{local_in, input_for}
 use Rattle.box_program.proofs.HandLemmas.{in_hand}
 use Rattle.plain_machine.proofs.Histories.{moved_thread}
 use Rattle.entry_order.proofs.Order.{is_or}
 
 -- the move of such a thread
 pub hand_plays : {V : Type 0} (m : Meaning V) (inputs : ℕ → List Packet) (threads : ℕ) (steps : List (Step V)) (plain : PlainMove) (packet : Packet) (local : Local) (input : Option Packet)
-    → plain.thread < threads → place_of (thread_after steps plain.thread).hand ≡ Some local → input ≡ Some packet
+    → plain.thread < threads → local_in (thread_after steps plain.thread).hand ≡ Some local → input ≡ Some packet
     → input ≡ input_for (inputs plain.thread) (thread_after steps plain.thread).taken (thread_after steps plain.thread).hand
     → plain_move m inputs threads steps plain ≡ after_moved steps plain.thread (hand_move m (value_after m steps) (thread_after steps plain.thread).taken (record { packet = packet; place = local }) plain.answer (m.next local))
 hand_plays m inputs threads steps plain packet local input below place is_packet given =
@@ -83,8 +83,8 @@ seat_on {V} steps t after effect s packet made old new is h = go made.sent refl
     taken : s.taken ≡ (thread_after (step_of t steps after effect ∷ steps) t).taken
     taken = is.taken ∙ sym h.taken_stays ∙ ap (λ (th : Thread). th.taken) (sym here)
 
-    hand : made.place ≡ place_of (thread_after (step_of t steps after effect ∷ steps) t).hand
-    hand = h.place ∙ ap (λ (th : Thread). place_of th.hand) (sym here)
+    hand : made.place ≡ local_in (thread_after (step_of t steps after effect ∷ steps) t).hand
+    hand = h.place ∙ ap (λ (th : Thread). local_in th.hand) (sym here)
 
     go : (o : Option (List ℕ)) → made.sent ≡ o → IsSeat (step_of t steps after effect ∷ steps) t (seat_after t s packet made).0
         × (sent_of (step_of t steps after effect ∷ steps) ≡ option_to_list (seat_after t s packet made).1 ++ sent_of steps)
@@ -118,7 +118,7 @@ other_on {V} steps t u after effect s other is = go (sent_by effect) refl
     make e = record {
       taken = is.taken ∙ ap (λ (th : Thread). th.taken) (sym here);
       outputs = is.outputs ∙ sym e;
-      hand = is.hand ∙ ap (λ (th : Thread). place_of th.hand) (sym here);
+      hand = is.hand ∙ ap (λ (th : Thread). local_in th.hand) (sym here);
     }
 
     go : (o : Option Packet) → sent_by effect ≡ o → IsSeat (step_of t steps after effect ∷ steps) u s
@@ -171,7 +171,7 @@ hand_follows {V} m inputs threads steps plain p packet local input made new s is
     moved : Moved V
     moved = hand_move m (value_after m steps) (thread_after steps t).taken (record { packet = packet; place = local }) plain.answer (m.next local)
 
-    place : place_of (thread_after steps t).hand ≡ Some local
+    place : local_in (thread_after steps t).hand ≡ Some local
     place = sym (is.seat t s under).hand ∙ ap (λ (x : Seat). x.hand) (sym s_is) ∙ hand
 
     plays : plain_move m inputs threads steps plain ≡ after_moved steps t moved
@@ -202,7 +202,7 @@ hand_fails {V} m inputs threads steps plain p after packet local input new s e r
     moved : Moved V
     moved = hand_move m (value_after m steps) (thread_after steps t).taken (record { packet = packet; place = local }) plain.answer (m.next local)
 
-    place : place_of (thread_after steps t).hand ≡ Some local
+    place : local_in (thread_after steps t).hand ≡ Some local
     place = sym (is.seat t s under).hand ∙ ap (λ (x : Seat). x.hand) (sym s_is) ∙ hand
 
     plays : plain_move m inputs threads steps plain ≡ after_moved steps t moved

@@ -11,7 +11,7 @@ use Rattle.plain_machine.specs.Program.{Meaning}
 use Rattle.plain_machine.specs.Machine.{Hand}
 use Rattle.plain_machine.specs.History.{Step, start_thread, thread_after, IsHistory}
 use Rattle.plain_machine.proofs.Histories.{not_eq}
-use Rattle.box_program.specs.Hands.{place_of, input_for, hand_of, has_hand, IsInputAfter}
+use Rattle.box_program.specs.Hands.{local_in, input_for, hand_of, has_hand, IsInputAfter}
 use Rattle.box_program.proofs.HandLemmas.{no_hand}
 use Rattle.line_order.proofs.Hands.{hand_input}
 use Rattle.plain_player.specs.declared.seat.Seat.{Seat}
@@ -22,7 +22,7 @@ none_seat : Seat
 none_seat = record { taken = 0; outputs = 0; hand = None }
 
 -- a place in hand is that of a packet in hand
-some_hand : (h : Option Hand) (place : Local) → place_of h ≡ Some place → (k : Hand) × (h ≡ Some k)
+some_hand : (h : Option Hand) (place : Local) → local_in h ≡ Some place → (k : Hand) × (h ≡ Some k)
 some_hand None place e = absurd (cc)
 some_hand (Some h) place e = (h, refl)
 
@@ -40,7 +40,7 @@ next_is {V} m fed threads steps p t hist stands low = by seat.hand refl
     taken : seat.taken ≡ (thread_after steps t).taken
     taken = (stands.seat t none_seat low).taken
 
-    hand : seat.hand ≡ place_of (thread_after steps t).hand
+    hand : seat.hand ≡ local_in (thread_after steps t).hand
     hand = (stands.seat t none_seat low).hand
 
     by : (o : Option Local) → seat.hand ≡ o → IsInputAfter (inputs_of fed) t steps (input_at fed t (next_input p t))
@@ -76,7 +76,7 @@ pub input_there : {V A : Type 0} (m : Meaning V) (fed : Fed) (threads : ℕ) (st
     → IsHistory m (inputs_of fed) threads steps → Stands m threads steps p → option_map f o ≡ input_at fed t (next_input p t) → IsTrue (has_hand (place_in_hand p t)) → IsSome o
 input_there {V} {A} m fed threads steps p t f o hist stands is has = by (slice_get p.seats t) refl
   where
-    same : (h : Option Hand) → is_some (place_of h) ≡ is_some h
+    same : (h : Option Hand) → is_some (local_in h) ≡ is_some h
     same None = refl
     same (Some h) = refl
 

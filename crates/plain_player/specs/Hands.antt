@@ -1,7 +1,7 @@
 -- What a player does with the packet in hand.
 use Rattle.std.specs.Prelude.{◌≡◌, ℕ, ◌+◌, ◌<◌, List, length, Option, Some, None, option_map, slice_index_or, slice_set, Result, Ok, Err}
 use Rattle.plain_text.specs.declared.packet.Packet.{Packet}
-use Rattle.box_program.specs.Hands.{place_of}
+use Rattle.box_program.specs.Hands.{local_in}
 use Rattle.plain_machine.specs.declared.local.Local.{Local}
 use Rattle.plain_machine.specs.Program.{Meaning}
 use Rattle.plain_machine.specs.Machine.{Hand, Thread, Effect, Takes, Touches, Looks, HearsClock, HearsDraw, Sends, Ends, Moved, Moves, Illegal}
@@ -40,7 +40,7 @@ with_bytes packet bytes = record packet { bytes = bytes }
 -- What was done with the packet in hand is the move that leads to this thread by this effect.
 pub record IsHandMove {V : Type 0} (after : Thread) (effect : Effect V) (taken : ℕ) (packet : Packet) (made : HandMove) (old new : List V) : Type 0 where
   pub taken_stays : after.taken ≡ taken
-  pub place : made.place ≡ place_of after.hand
+  pub place : made.place ≡ local_in after.hand
   pub sent : option_map (with_bytes packet) made.sent ≡ sent_by effect
   pub values : new ≡ values_after old effect
 
@@ -66,7 +66,7 @@ seat_after thread seat packet made = sent_after made.sent
 
 -- a thread without a packet in hand takes its next input
 abbrev pub TakesInput : {V : Type 0} → Moved V → Seat → Result Seat MoveError → Type 0
-TakesInput (Moves after effect) seat (Ok s) = (s.taken ≡ after.taken) × (s.outputs ≡ seat.outputs) × (s.hand ≡ place_of after.hand)
+TakesInput (Moves after effect) seat (Ok s) = (s.taken ≡ after.taken) × (s.outputs ≡ seat.outputs) × (s.hand ≡ local_in after.hand)
 TakesInput (Moves after effect) seat (Err e) = ⊥
 TakesInput (Illegal cause) seat (Ok s) = ⊥
 TakesInput (Illegal cause) seat (Err e) = e ≡ error.Illegal cause

@@ -12,7 +12,7 @@ use Rattle.plain_machine.specs.History.{Step, value_after, thread_after, sent_of
 use Rattle.plain_player.specs.declared.seat.Seat.{Seat}
 use Rattle.plain_player.specs.declared.hand.MoveError.{MoveError}
 use Rattle.plain_player.specs.declared.hand.MoveError.TheVariants as error
-use Rattle.box_program.specs.Hands.{place_of, hand_of}
+use Rattle.box_program.specs.Hands.{local_in, hand_of}
 use Rattle.plain_player.specs.Hands.{HasValues}
 
 -- what a player has: the values of the variables, the threads, and how many moves it made
@@ -29,7 +29,7 @@ SeatsWithin seats made = (t : ℕ) (d : Seat) → t < length seats → ((slice_i
 pub record IsSeat {V : Type 0} (steps : List (Step V)) (t : ℕ) (s : Seat) : Type 0 where
   pub taken : s.taken ≡ (thread_after steps t).taken
   pub outputs : s.outputs ≡ outputs t (sent_of steps)
-  pub hand : s.hand ≡ place_of (thread_after steps t).hand
+  pub hand : s.hand ≡ local_in (thread_after steps t).hand
 
 -- The player is where the machine with this number of threads is after this history.
 pub record Stands {V : Type 0} (m : Meaning V) (threads : ℕ) (steps : List (Step V)) (p : Playing V) : Type 0 where

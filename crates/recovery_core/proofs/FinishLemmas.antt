@@ -12,7 +12,7 @@ use Rattle.recovery_world.specs.Files.{packets_of}
 use Rattle.run_end.specs.Ending.{EndsIn}
 use Rattle.recovery_core.specs.declared.system.System.TheInside.{Inside}
 use Rattle.system_parts.specs.Parts.{Parts}
-use Rattle.system_parts.specs.Standing.{NotesNames, StandsFor}
+use Rattle.system_parts.specs.SystemStanding.{NotesNames, StandsFor}
 use Rattle.event_replies.specs.declared.reply.Finished.{Finished}
 use Rattle.system_parts.specs.Performing.{MovesOn, StopsAt, ReleasesInto, Releasing, packets_in}
 use Rattle.system_parts.proofs.ReadLemmas.{names_length, released_count}

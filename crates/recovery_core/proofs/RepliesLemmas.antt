@@ -9,7 +9,7 @@ use Rattle.recovery_world.specs.World.{Setting, World}
 use Rattle.recovery_world.specs.Many.{Single, Several, SingleStops, SeveralStops}
 use Rattle.event_replies.specs.declared.reply.Reply.{Reply}
 use Rattle.system_parts.specs.Parts.{Parts}
-use Rattle.system_parts.specs.Standing.{StandsFor, StandsForSome}
+use Rattle.system_parts.specs.SystemStanding.{StandsFor, StandsForSome}
 use Rattle.system_parts.specs.Performing.{MovesOn, StopsAt, Releasing, Replies, WouldPass, IsStopped}
 use Rattle.recovery_core.specs.Systems.{RepliesAny}
 use Rattle.several_events.specs.declared.progress.Progress.{Progress}

@@ -1,4 +1,4 @@
 pub use Rattle.system_parts.specs.Parts
-pub use Rattle.system_parts.specs.Standing
+pub use Rattle.system_parts.specs.SystemStanding
 pub use Rattle.system_parts.specs.Performing
 pub mod Systems

@@ -11,7 +11,7 @@ use Rattle.recovery_world.specs.Many.{OnAny}
 use Rattle.event_replies.specs.declared.reply.Reply.{Reply}
 use Rattle.event_replies.specs.declared.reply.Finished.{Finished}
 use Rattle.system_parts.specs.Parts.{Parts}
-use Rattle.system_parts.specs.Standing.{NotesNames, StandsFor}
+use Rattle.system_parts.specs.SystemStanding.{NotesNames, StandsFor}
 use Rattle.system_parts.specs.Performing.{packets_in}
 
 -- the parts; whether an event did not end; how many of the released outputs were handed over, and the others

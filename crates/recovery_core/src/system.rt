@@ -7,7 +7,7 @@ ghost use Rattle.recovery_world.specs.World.{Setting, World, opening};
 ghost use Rattle.recovery_world.specs.Files.{packets_of};
 ghost use Rattle.run_end.specs.Ending.{EndsIn};
 ghost use Rattle.system_parts.specs.Parts.{IsShort};
-ghost use Rattle.system_parts.specs.Standing.{StandsFor, StandsForSome};
+ghost use Rattle.system_parts.specs.SystemStanding.{StandsFor, StandsForSome};
 ghost use Rattle.system_parts.specs.Performing.{Appends, MovesOn, StopsAt, Releasing, packets_in};
 ghost use Rattle.recovery_core.specs.Systems.{HasReleased, SystemStands, SystemMoves, SystemStops, RepliesAny, FinishesAs};
 ghost use Rattle.system_parts.specs.Performing.{IsStopped};
@@ -47,7 +47,7 @@ pub struct System<P: Program> {
 impl<P: Program> Model for System<P> {
     ghost use Rattle.std.specs.Prelude.{◌≡◌, false};
     ghost use Rattle.recovery_core.specs.Systems.{Systemed};
-    ghost use Rattle.system_parts.specs.Standing.{StandsForSome};
+    ghost use Rattle.system_parts.specs.SystemStanding.{StandsForSome};
 
     ghost Value = { Systemed P P.Value };
 
@@ -183,7 +183,7 @@ impl<P: Program> System<P> {
         mem::replace(&mut self.fresh, Outputs::new(self.core.alloc))
     }
 
-    /// Whether the master is up.
+    /// Whether the master is up: it is down from a crash to the next recovery.
     pub fn up(&self) -> bool
         ensures { self.now.stopped ≡ false → (s : Setting P.Value) (w : World P.Value)
             → StandsFor (P.meaning self.now.parts.program) s w self.now.parts → result ≡ w.up }
@@ -191,7 +191,7 @@ impl<P: Program> System<P> {
         self.core.up
     }
 
-    /// The epoch, from 1.
+    /// The epoch, from 1: each recovery raises it by 1.
     pub fn epoch(&self) -> u32
         ensures { (s : Setting P.Value) (w : World P.Value)
             → StandsFor (P.meaning self.now.parts.program) s w self.now.parts

@@ -15,7 +15,9 @@ use thread_clock::Stamp;
 /// The place of a touch is here the number of touches before it.
 #[derive(Debug, Drop)]
 pub struct Index {
+    /// By variable and place: the thread and number of the touch.
     pub touches: BTreeMap<(u32, u64), (u32, u64)>,
+    /// Variable, place, thread and number of each read; the place is the number of touches before it.
     pub reads: BTreeSet<(u32, u64, u32, u64)>,
 }
 
@@ -31,7 +33,7 @@ impl Index {
         }
     }
 
-    /// Adds one entry.
+    /// Adds a log entry; those that neither touch nor read a variable change nothing.
     pub fn add(&mut self, entry: &StampedEntry) -> Result<(), NoMemory>
         ensures { OnOk result (AddsEntry self.old.touches.entries self.new.touches.entries
             self.old.reads.keys self.new.reads.keys entry.now) }

@@ -18,7 +18,7 @@ use Rattle.plain_machine.proofs.PlayedLists.{play_history}
 use Rattle.master_core.specs.declared.parts.VarPart.{VarPart}
 use Rattle.master_core.specs.declared.parts.ThreadPart.{ThreadPart}
 use Rattle.master_core.specs.Mastered.{Mastered}
-use Rattle.master_core.specs.Standing.{IsVariable, IsThread, Stands}
+use Rattle.master_core.specs.MasterStanding.{IsVariable, IsThread, Stands}
 use Rattle.round_order.specs.Receipts.{Receipt, Receipts, InRound, Among, own, after, IsLogged, IsTouch, weight}
 use Rattle.round_order.specs.Linked.{AreOwnMoves, IsKnown, IsJoinOf, IsLinked}
 use Rattle.round_order.specs.Home.{IsHome, IsSeat, count}
@@ -134,7 +134,7 @@ module _ {V : Type 0} (m : Meaning V) (inputs : ℕ → List Packet) (threads : 
     taken = seat.taken ∙ ap (λ (th : Thread). th.taken) (sym (same.thread ∙ ap (λ (l : List (Receipt V)). thread_after (after l past) t) (o.each t)));
     logged = seat.logged ∙ sym counted;
     outputs = seat.outputs ∙ sym (same.outputs ∙ ap (λ (l : List (Receipt V)). Rattle.plain_machine.specs.History.outputs t (Rattle.plain_machine.specs.History.sent_of (after l past))) (o.each t));
-    hand = seat.hand ∙ ap (λ (th : Thread). Rattle.box_program.specs.Hands.place_of th.hand) (sym (same.thread ∙ ap (λ (l : List (Receipt V)). thread_after (after l past) t) (o.each t)));
+    hand = seat.hand ∙ ap (λ (th : Thread). Rattle.box_program.specs.Hands.local_in th.hand) (sym (same.thread ∙ ap (λ (l : List (Receipt V)). thread_after (after l past) t) (o.each t)));
     made = seat.made ∙ sym (moves_own t order past ∙ ap (λ (l : List (Receipt V)). moves_of t (after l past)) (o.each t));
     stamp = subst (λ (n : ℕ). IsOutputStamp (log_of (after order past)) t n (λ u. slice_index part.stamp u)) (sym counted) (last (entries t (log_of (after (rs t) past))) (sym counted) seat.stamp);
   }

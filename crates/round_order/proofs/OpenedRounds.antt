@@ -10,7 +10,7 @@ use Rattle.plain_machine.specs.Program.{Meaning}
 use Rattle.plain_machine.specs.History.{Step, log_of}
 use Rattle.master_core.specs.declared.parts.VarPart.{VarPart}
 use Rattle.master_core.specs.declared.parts.ThreadPart.{ThreadPart}
-use Rattle.master_core.specs.Standing.{IsVariable, IsThread}
+use Rattle.master_core.specs.MasterStanding.{IsVariable, IsThread}
 use Rattle.round_order.specs.Receipts.{no_receipts}
 use Rattle.round_order.specs.Linked.{IsKnown, IsJoinOf}
 use Rattle.plain_text.specs.declared.packet.Packet.{Packet}

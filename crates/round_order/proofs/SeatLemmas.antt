@@ -4,7 +4,7 @@ use Rattle.std.specs.Prelude.{slice_get, slice_index}
 use Rattle.plain_text.specs.declared.packet.Packet.{Packet}
 use Rattle.entry_order.specs.Log.{Entry, entries}
 use Rattle.entry_order.proofs.Order.{number_within}
-use Rattle.box_program.specs.Hands.{place_of}
+use Rattle.box_program.specs.Hands.{local_in}
 use Rattle.plain_machine.specs.declared.local.Move.{Move}
 use Rattle.plain_machine.specs.declared.local.Move.TheVariants.{Access, Read, Clock, Draw, Emit, End}
 use Rattle.plain_machine.specs.Program.{Meaning}
@@ -23,13 +23,13 @@ use Rattle.round_order.proofs.RoundCounts.{own_number, legal_at, past_grows}
 
 -- where a move leaves its thread
 abbrev Leads : {V : Type 0} → ℕ → ℕ → Thread → Effect V → Type 0
-Leads taken held after Takes = (held ≡ 0) × (after.taken ≡ taken + 1) × (in_hand_count (place_of after.hand) ≡ 1)
-Leads taken held after (Touches v left) = (held ≡ 1) × (after.taken ≡ taken) × (in_hand_count (place_of after.hand) ≡ 1)
-Leads taken held after (Looks v) = (held ≡ 1) × (after.taken ≡ taken) × (in_hand_count (place_of after.hand) ≡ 1)
-Leads taken held after (HearsClock a) = (held ≡ 1) × (after.taken ≡ taken) × (in_hand_count (place_of after.hand) ≡ 1)
-Leads taken held after (HearsDraw a) = (held ≡ 1) × (after.taken ≡ taken) × (in_hand_count (place_of after.hand) ≡ 1)
-Leads taken held after (Sends packet) = (held ≡ 1) × (after.taken ≡ taken) × (in_hand_count (place_of after.hand) ≡ 1)
-Leads taken held after Ends = (held ≡ 1) × (after.taken ≡ taken) × (in_hand_count (place_of after.hand) ≡ 0)
+Leads taken held after Takes = (held ≡ 0) × (after.taken ≡ taken + 1) × (in_hand_count (local_in after.hand) ≡ 1)
+Leads taken held after (Touches v left) = (held ≡ 1) × (after.taken ≡ taken) × (in_hand_count (local_in after.hand) ≡ 1)
+Leads taken held after (Looks v) = (held ≡ 1) × (after.taken ≡ taken) × (in_hand_count (local_in after.hand) ≡ 1)
+Leads taken held after (HearsClock a) = (held ≡ 1) × (after.taken ≡ taken) × (in_hand_count (local_in after.hand) ≡ 1)
+Leads taken held after (HearsDraw a) = (held ≡ 1) × (after.taken ≡ taken) × (in_hand_count (local_in after.hand) ≡ 1)
+Leads taken held after (Sends packet) = (held ≡ 1) × (after.taken ≡ taken) × (in_hand_count (local_in after.hand) ≡ 1)
+Leads taken held after Ends = (held ≡ 1) × (after.taken ≡ taken) × (in_hand_count (local_in after.hand) ≡ 0)
 
 leads_same : {V : Type 0} (taken held : ℕ) (a b : Thread) (d e : Effect V) → a ≡ b → d ≡ e → Leads taken held a d → Leads taken held b e
 leads_same {V} taken held a b d e th eff h = subst (λ (z : Thread). Leads taken held z e) th (subst (λ (z : Effect V). Leads taken held a z) eff h)
@@ -48,7 +48,7 @@ hand_leads m value taken h (Some a) Emit after d e = absurd (cc)
 hand_leads m value taken h None End after d e = leads_same taken 1 (record { taken = taken; hand = None }) after Ends d (cc) (cc) (refl, refl, refl)
 hand_leads m value taken h (Some a) End after d e = absurd (cc)
 
-move_leads : {V : Type 0} (m : Meaning V) (packets : List Packet) (value : ℕ → V) (taken : ℕ) (a : Option ℕ) (hand : Option Hand) (after : Thread) (d : Effect V) → held_move m packets value taken a hand ≡ Moves after d → Leads taken (in_hand_count (place_of hand)) after d
+move_leads : {V : Type 0} (m : Meaning V) (packets : List Packet) (value : ℕ → V) (taken : ℕ) (a : Option ℕ) (hand : Option Hand) (after : Thread) (d : Effect V) → held_move m packets value taken a hand ≡ Moves after d → Leads taken (in_hand_count (local_in hand)) after d
 move_leads m packets value taken a (Some h) after d e = hand_leads m value taken h a (m.next h.place) after d e
 move_leads {V} m packets value taken a None after d e = go a (slice_get packets taken) e
   where
@@ -80,7 +80,7 @@ module _ {V : Type 0} (m : Meaning V) (inputs : ℕ → List Packet) (threads : 
     taken = seat.taken ∙ ap (λ (l : List (Receipt V)). (thread_after (after l past) u).taken) back;
     logged = seat.logged ∙ counted;
     outputs = seat.outputs ∙ ap (λ (l : List (Receipt V)). outputs u (sent_of (after l past))) back;
-    hand = seat.hand ∙ ap (λ (l : List (Receipt V)). place_of (thread_after (after l past) u).hand) back;
+    hand = seat.hand ∙ ap (λ (l : List (Receipt V)). local_in (thread_after (after l past) u).hand) back;
     made = seat.made ∙ ap (λ (l : List (Receipt V)). moves_of u (after l past)) back;
     stamp = join_stays m inputs threads past rs round.linked r (IsEntryOf u (count past (with_one rs r) u)) (λ w. slice_index other.stamp w) not_mine
         (subst (λ (n : ℕ). IsJoinOf past rs (IsEntryOf u n) (λ w. slice_index other.stamp w)) counted seat.stamp);
@@ -100,7 +100,7 @@ module _ {V : Type 0} (m : Meaning V) (inputs : ℕ → List Packet) (threads : 
   own_is : with_one rs r r.step.thread ≡ r ∷ rs r.step.thread
   own_is = updated r.step.thread (r ∷ rs r.step.thread) rs
 
-  leads : Leads (thread_after (after (rs r.step.thread) past) r.step.thread).taken (in_hand_count (place_of (thread_after (after (rs r.step.thread) past) r.step.thread).hand)) r.step.after next.alone.0
+  leads : Leads (thread_after (after (rs r.step.thread) past) r.step.thread).taken (in_hand_count (local_in (thread_after (after (rs r.step.thread) past) r.step.thread).hand)) r.step.after next.alone.0
   leads = move_leads m (inputs r.step.thread) (λ v. r.found) (thread_after (after (rs r.step.thread) past) r.step.thread).taken r.answer (thread_after (after (rs r.step.thread) past) r.step.thread).hand r.step.after next.alone.0 next.alone.1
 
   -- the stamp of the thread's last entry, where the move is logged and where it is not
@@ -127,7 +127,7 @@ module _ {V : Type 0} (m : Meaning V) (inputs : ℕ → List Packet) (threads : 
   unlogged_stamp : IsUnlogged r → IsJoinOf past (with_one rs r) (IsEntryOf r.step.thread (count past rs r.step.thread)) (λ u. slice_index part.stamp u)
   unlogged_stamp none = join_stays m inputs threads past rs round.linked r (IsEntryOf r.step.thread (count past rs r.step.thread)) (λ u. slice_index part.stamp u) (λ d l of_t. none d l) next.seat.stamp
 
-  held_is : in_hand_count part.hand ≡ in_hand_count (place_of (thread_after (after (rs r.step.thread) past) r.step.thread).hand)
+  held_is : in_hand_count part.hand ≡ in_hand_count (local_in (thread_after (after (rs r.step.thread) past) r.step.thread).hand)
   held_is = ap in_hand_count next.seat.hand
 
   here : thread_after (r.step ∷ after (rs r.step.thread) past) r.step.thread ≡ r.step.after
@@ -137,7 +137,7 @@ module _ {V : Type 0} (m : Meaning V) (inputs : ℕ → List Packet) (threads : 
   Acts d = r.step.act ≡ act_at r.step.thread (after (rs r.step.thread) past) r.step.after.taken r.place d
 
   abbrev LeadsOn : Effect V → Type 0
-  LeadsOn d = Leads (thread_after (after (rs r.step.thread) past) r.step.thread).taken (in_hand_count (place_of (thread_after (after (rs r.step.thread) past) r.step.thread).hand)) r.step.after d
+  LeadsOn d = Leads (thread_after (after (rs r.step.thread) past) r.step.thread).taken (in_hand_count (local_in (thread_after (after (rs r.step.thread) past) r.step.thread).hand)) r.step.after d
 
   taken_is : (d : Effect V) → Acts d → LeadsOn d → (part_after part r).counts.taken ≡ r.step.after.taken
   taken_is Takes is l = rw is (ap (λ n. n + 1) next.seat.taken ∙ sym l.1)
@@ -216,7 +216,7 @@ module _ {V : Type 0} (m : Meaning V) (inputs : ℕ → List Packet) (threads : 
   pub held_grows : in_hand_count (part_after part r).hand ≤ (part_after part r).counts.taken
   held_grows = go next.alone.0 next.alone.2 leads
     where
-      go : (d : Effect V) → Acts d → LeadsOn d → in_hand_count (place_of r.step.after.hand) ≤ (part_after part r).counts.taken
+      go : (d : Effect V) → Acts d → LeadsOn d → in_hand_count (local_in r.step.after.hand) ≤ (part_after part r).counts.taken
       go Takes is l = rw is (omega (arith, l.2))
       go (Touches v left) is l = rw is (omega (arith, held_is, next.held, l.0, l.2))
       go (Looks v) is l = rw is (omega (arith, held_is, next.held, l.0, l.2))
@@ -230,7 +230,7 @@ module _ {V : Type 0} (m : Meaning V) (inputs : ℕ → List Packet) (threads : 
     taken = taken_is next.alone.0 next.alone.2 leads ∙ (sym (ap (λ (th : Thread). th.taken) here) ∙ ap (λ (l : List (Receipt V)). (thread_after (after l past) r.step.thread).taken) back);
     logged = entries_is next.alone.0 next.alone.2 ∙ counted;
     outputs = outputs_is next.alone.0 next.alone.2 ∙ ap (λ (l : List (Receipt V)). outputs r.step.thread (sent_of (after l past))) back;
-    hand = sym (ap (λ (th : Thread). place_of th.hand) here) ∙ ap (λ (l : List (Receipt V)). place_of (thread_after (after l past) r.step.thread).hand) back;
+    hand = sym (ap (λ (th : Thread). local_in th.hand) here) ∙ ap (λ (l : List (Receipt V)). local_in (thread_after (after l past) r.step.thread).hand) back;
     made = made_is next.alone.0 next.alone.2 leads ∙ ap (λ (l : List (Receipt V)). moves_of r.step.thread (after l past)) back;
     stamp = stamp_is (count past (with_one rs r) r.step.thread) (sym counted);
   }

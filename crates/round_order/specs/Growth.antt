@@ -4,7 +4,7 @@ use Rattle.std.specs.Prelude.{◌≡◌, ◌≢◌, ℕ, ◌+◌, ◌<◌, ◌�
 use Rattle.plain_text.specs.declared.packet.Packet.{Packet}
 use Rattle.entry_order.specs.Log.{Entry, IsLog}
 use Rattle.entry_order.specs.Stamps.{bumped}
-use Rattle.box_program.specs.Hands.{place_of}
+use Rattle.box_program.specs.Hands.{local_in}
 use Rattle.plain_machine.specs.Program.{Meaning}
 use Rattle.plain_machine.specs.History.{Act, Took, Did, Emitted, Ended, Step, log_of}
 use Rattle.master_core.specs.declared.parts.VarPart.{VarPart}
@@ -81,7 +81,7 @@ stamp_after (Emitted o) before own = before
 stamp_after (Ended k) before own = before
 
 abbrev pub part_after : {V : Type 0} → ThreadPart → Receipt V → ThreadPart
-part_after part r = record { counts = counts_after r.step.act part.counts; hand = place_of r.step.after.hand; stamp = stamp_after r.step.act part.stamp r.stamp }
+part_after part r = record { counts = counts_after r.step.act part.counts; hand = local_in r.step.after.hand; stamp = stamp_after r.step.act part.stamp r.stamp }
 
 -- With it, what holds between any two moves holds again. Its thread has what the move left, the other threads have what they
 -- had, and what is at home of the other variables stays.

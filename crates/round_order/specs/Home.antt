@@ -4,14 +4,14 @@ use Rattle.std.specs.Prelude.{◌≡◌, ℕ, ◌+◌, ◌<◌, ◌≤◌, ◌�
 use Rattle.plain_text.specs.declared.packet.Packet.{Packet}
 use Rattle.entry_order.specs.declared.what.What.TheVariants.{Access, Read}
 use Rattle.entry_order.specs.Log.{Entry, entries, places}
-use Rattle.box_program.specs.Hands.{place_of}
+use Rattle.box_program.specs.Hands.{local_in}
 use Rattle.plain_machine.specs.declared.plain_move.PlainMove.{PlainMove}
 use Rattle.plain_machine.specs.Program.{Meaning}
 use Rattle.plain_machine.specs.History.{Step, log_of, sent_of, outputs, moves_of, value_after, thread_after, play}
 use Rattle.master_core.specs.declared.parts.VarPart.{VarPart}
 use Rattle.master_core.specs.declared.parts.ThreadPart.{ThreadPart}
 use Rattle.master_core.specs.Mastered.{Mastered, moves_made}
-use Rattle.master_core.specs.Standing.{Stands}
+use Rattle.master_core.specs.MasterStanding.{Stands}
 use Rattle.round_order.specs.Receipts.{Receipt, Receipts, no_receipts, InRound, after, IsTouch, IsRead}
 use Rattle.round_order.specs.Linked.{IsJoinOf, IsLinked}
 use Rattle.round_order.specs.Woven.{IsOrder}
@@ -41,7 +41,7 @@ pub record IsSeat {V : Type 0} (past : List (Step V)) (rs : Receipts V) (t : ℕ
   pub taken : part.counts.taken ≡ (thread_after (after (rs t) past) t).taken
   pub logged : part.counts.entries ≡ count past rs t
   pub outputs : part.counts.outputs ≡ outputs t (sent_of (after (rs t) past))
-  pub hand : part.hand ≡ place_of (thread_after (after (rs t) past) t).hand
+  pub hand : part.hand ≡ local_in (thread_after (after (rs t) past) t).hand
   pub made : moves_made part ≡ moves_of t (after (rs t) past)
   pub stamp : IsJoinOf past rs (IsEntryOf t (count past rs t)) (λ u. slice_index part.stamp u)
 

@@ -5,7 +5,7 @@ use Rattle.plain_text.specs.declared.limit.Limit.{Limit}
 use Rattle.access_log.specs.declared.entry.Output.{Output}
 use Rattle.plain_machine.specs.Program.{Meaning, IsLawful}
 use Rattle.recovery_world.specs.declared.event.Event.{Event}
-use Rattle.recovery_world.specs.World.{Setting, World}
+use Rattle.recovery_world.specs.World.{Setting, World as SystemWorld}
 use Rattle.recovery_world.specs.Files.{packets_of}
 use Rattle.recovery_laws.proofs.KeptWorlds.{any_sound, stops_sound}
 use Rattle.event_replies.specs.declared.reply.Reply.{Reply as SystemReply}
@@ -16,15 +16,15 @@ use Rattle.recovery_core.specs.Systems.{Systemed}
 use Rattle.recovery_core.specs.Systems.{HasReleased, SystemStands, SystemMoves, SystemStops, RepliesAny}
 use Rattle.run_writes.specs.Run.{IsShort}
 use Rattle.run_writes.specs.Replies.{packets_in}
-use Rattle.run_command.specs.Running.{IsAt, ComesTo}
+use Rattle.run_command.specs.Running.{IsSystemAt, ComesTo}
 use Rattle.run_writes.proofs.ShortPackets.{released_short}
 
 -- what taking the released outputs promises
 pub record Takes {P V : Type 0} (meaning : P → Meaning V) (outputs : List Output) (old new : Systemed P V) : Type 0 where
   pub taken : outputs ≡ old.fresh
   pub rest : new.fresh ≡ []
-  pub packets : (w : World V) → HasReleased w old → (packets_in outputs ≡ packets_of (drop old.handed w.released)) × HasReleased w new × (new.handed ≡ length w.released)
-  pub stands : (s : Setting V) (w : World V) → SystemStands (meaning old.parts.program) s w old → SystemStands (meaning old.parts.program) s w new
+  pub packets : (w : SystemWorld V) → HasReleased w old → (packets_in outputs ≡ packets_of (drop old.handed w.released)) × HasReleased w new × (new.handed ≡ length w.released)
+  pub stands : (s : Setting V) (w : SystemWorld V) → SystemStands (meaning old.parts.program) s w old → SystemStands (meaning old.parts.program) s w new
 
 -- what the system promises of an event
 pub record Answers {P V : Type 0} (meaning : P → Meaning V) (ev : Event) (r : Result SystemReply Stop) (old new : Systemed P V) : Type 0 where
@@ -59,7 +59,8 @@ comes_to {P} {V} meaning ev (Err (stop.Limit limit)) outputs old mid new does ta
 comes_to {P} {V} meaning ev (Err stop.NoMemory) outputs old mid new does takes = λ s w at. takes.taken ∙ (does.no_memory refl).0 ∙ at.fresh
 
 pub came_short : {P V : Type 0} (m : Meaning V) (fits : ℕ → V → Type 0) (ev : Event) (r : Result SystemReply Stop) (outputs : List Output) (old new : Systemed P V) → IsLawful m fits → ComesTo m ev r outputs old new
-    → (s : Setting V) (w : World V) → IsAt m s w old → All IsShort s.packets → All IsShort (packets_in outputs)
+    → (s : Setting V) (w : SystemWorld V) → IsSystemAt m s w old
+    → All IsShort s.packets → All IsShort (packets_in outputs)
 came_short {P} {V} m fits ev r outputs old new lawful comes s w at short = go r comes
   where
     law : IsLawful s.meaning fits

@@ -8,7 +8,7 @@ use Rattle.access_log.specs.declared.entry.Output.{Output}
 use Rattle.plain_machine.specs.Program.{Meaning}
 use Rattle.world_io.specs.World.{Shown}
 use Rattle.recovery_world.specs.declared.event.Event.{Event}
-use Rattle.recovery_world.specs.World.{Setting, Sent, World}
+use Rattle.recovery_world.specs.World.{Setting, Sent, World as SystemWorld}
 use Rattle.recovery_world.specs.Many.{OnAny, Stops}
 use Rattle.recovery_world.specs.Files.{reply_line, sent_names}
 use Rattle.event_replies.specs.declared.reply.Reply.{Reply as SystemReply}
@@ -26,7 +26,7 @@ use Rattle.run_writes.specs.Replies.{Reply, Answers, Goes, newly_released, relea
 use Rattle.run_writes.specs.Run.{OutputNames, FitsRecord, opening_writes, release_writes, reply_writes, replies_writes, writes_of, WritesUntil}
 use Rattle.plain_text.specs.declared.packet.Packet.{Packet}
 use Rattle.run_writes.specs.Replies.{packets_in}
-use Rattle.run_command.specs.Running.{HasBegunSome, IsAt, ComesTo, IsSomewhere, HasCome, GoesOn, WritesPerformed}
+use Rattle.run_command.specs.Running.{HasBegunSome, IsSystemAt, ComesTo, IsSomewhere, HasCome, GoesOn, WritesPerformed}
 use Rattle.run_writes.proofs.ScriptAnswers.{released_more}
 
 -- an error of a run is a write fault only where that of its outputs is
@@ -56,7 +56,7 @@ module _ {P V : Type 0} (m : Meaning V) (s : Setting V) (names : OutputNames) (e
       → GoesOn (run_result_of w) m s names (events ++ ev ∷ []) new more a c
   reply_goes ev reply outputs w new more c comes written fit = go w here fit
     where
-      came : (next : World V) × (freed : List Sent) × OnAny s come.world ev reply.outcome freed next × (reply.released ≡ sent_names freed) × (packets_in outputs ≡ newly_released come.world next) × IsAt m s next new
+      came : (next : SystemWorld V) × (freed : List Sent) × OnAny s come.world ev reply.outcome freed next × (reply.released ≡ sent_names freed) × (packets_in outputs ≡ newly_released come.world next) × IsSystemAt m s next new
       came = comes s come.world come.at
 
       r : Reply
@@ -94,7 +94,8 @@ module _ {P V : Type 0} (m : Meaning V) (s : Setting V) (names : OutputNames) (e
       → GoesOn (stopped_result w limit) m s names (events ++ ev ∷ []) new more a c
   stopped_goes ev limit outputs w new more c comes written = go w here
     where
-      came : (next : World V) × Stops s come.world ev limit next × (packets_in outputs ≡ newly_released come.world next)
+      came : (next : SystemWorld V) × Stops s come.world ev limit next
+          × (packets_in outputs ≡ newly_released come.world next)
       came = comes s come.world come.at
 
       here : Writes w (writes_of names s.fractions come.replies ++ release_writes names.released (newly_released come.world came.0)) a c
@@ -234,8 +235,8 @@ take_all (y ∷ events) (suc n) low = ap (λ l. y ∷ l) (take_all events n (ome
 pub come_all : {P V : Type 0} (m : Meaning V) (s : Setting V) (names : OutputNames) (events : List Event) (n : ℕ) (y : Systemed P V) (lines : List ℕ) (a b : Shown) → length events ≤ n → HasCome m s names (take n events) y lines a b → HasCome m s names events y lines a b
 come_all {P} {V} m s names events n y lines a b low h = subst (λ (l : List Event). HasCome m s names l y lines a b) (take_all events n low) h
 
-pub at_same : {P V : Type 0} (m n : Meaning V) (s : Setting V) (w : World V) (y : Systemed P V) → m ≡ n → IsAt m s w y → IsAt n s w y
-at_same {P} {V} m n s w y same h = subst (λ (k : Meaning V). IsAt k s w y) same h
+pub at_same : {P V : Type 0} (m n : Meaning V) (s : Setting V) (w : SystemWorld V) (y : Systemed P V) → m ≡ n → IsSystemAt m s w y → IsSystemAt n s w y
+at_same {P} {V} m n s w y same h = subst (λ (k : Meaning V). IsSystemAt k s w y) same h
 
 pub goes_same : {A P V : Type 0} (r : Result A RunError) (m n : Meaning V) (s : Setting V) (names : OutputNames) (events other : List Event) (y : Systemed P V) (lines : List ℕ) (a b : Shown)
     → m ≡ n → events ≡ other → GoesOn r m s names events y lines a b → GoesOn r n s names other y lines a b

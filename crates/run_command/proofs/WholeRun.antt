@@ -21,7 +21,7 @@ use Rattle.run_writes.specs.Errors.{run_error_of, run_result_of}
 use Rattle.run_writes.specs.Replies.{Opens}
 use Rattle.run_writes.specs.Run.{OutputNames, FitsRecord, opening_writes, writes_of, HasRun, HasStopped, HasBegunRun, Finishes}
 use Rattle.run_writes.specs.Replies.{packets_in}
-use Rattle.run_command.specs.Running.{IsAt, HasCome, HasBegunSome, GoesOn}
+use Rattle.run_command.specs.Running.{IsSystemAt, HasCome, HasBegunSome, GoesOn}
 use Rattle.run_writes.proofs.RunWrites.{has_run, has_stopped}
 
 no_outputs : (outputs : List Output) → packets_in outputs ≡ [] → outputs ≡ []
@@ -29,7 +29,7 @@ no_outputs [] e = refl
 no_outputs (o ∷ outputs) e = absurd (cc)
 
 -- a new system is at the opening
-pub opens_at : {P V : Type 0} (m : Meaning V) (s : Setting V) (y : Systemed P V) → SystemStands m s (opening V) y → y.handed ≡ 0 → IsAt m s (opening V) y
+pub opens_at : {P V : Type 0} (m : Meaning V) (s : Setting V) (y : Systemed P V) → SystemStands m s (opening V) y → y.handed ≡ 0 → IsSystemAt m s (opening V) y
 opens_at m s y stands handed = record {
   stands = stands;
   fresh = no_outputs y.fresh (stands.released.fresh ∙ rw handed refl);
@@ -38,7 +38,7 @@ opens_at m s y stands handed = record {
 
 -- nothing was performed yet, and the outputs are open
 pub opens : {P V : Type 0} (m : Meaning V) (s : Setting V) (names : OutputNames) (y : Systemed P V) (lines : List ℕ) (u : FractionUnit) (a b : Shown)
-    → lines ≡ [] → IsAt m s (opening V) y → s.fractions ≡ u → HasWritten (opening_writes names u) a b → HasCome m s names [] y lines a b
+    → lines ≡ [] → IsSystemAt m s (opening V) y → s.fractions ≡ u → HasWritten (opening_writes names u) a b → HasCome m s names [] y lines a b
 opens {P} {V} m s names y lines u a b none at unit w = record {
   replies = [];
   world = opening V;

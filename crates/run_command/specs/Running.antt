@@ -4,7 +4,7 @@ use Rattle.access_log.specs.declared.entry.Output.{Output}
 use Rattle.plain_machine.specs.Program.{Meaning}
 use Rattle.world_io.specs.World.{Shown}
 use Rattle.recovery_world.specs.declared.event.Event.{Event}
-use Rattle.recovery_world.specs.World.{Setting, Sent, World}
+use Rattle.recovery_world.specs.World.{Setting, Sent, World as SystemWorld}
 use Rattle.recovery_world.specs.Many.{OnAny, Stops}
 use Rattle.recovery_world.specs.Files.{reply_line, sent_names}
 use Rattle.plain_text.specs.declared.limit.Limit.{Limit}
@@ -24,7 +24,8 @@ use Rattle.run_writes.specs.declared.error.RunError.{RunError}
 use Rattle.run_writes.specs.declared.error.RunError.TheVariants as run
 
 -- The system stands for the world, and all that was released was handed over.
-pub record IsAt {P V : Type 0} (m : Meaning V) (s : Setting V) (w : World V) (y : Systemed P V) : Type 0 where
+pub record IsSystemAt {P V : Type 0} (m : Meaning V) (s : Setting V) (w : SystemWorld V) (y : Systemed P V)
+    : Type 0 where
   pub stands : SystemStands m s w y
   pub fresh : y.fresh ≡ []
   pub handed : y.handed ≡ length w.released
@@ -33,12 +34,13 @@ pub record IsAt {P V : Type 0} (m : Meaning V) (s : Setting V) (w : World V) (y 
 -- limit; and these are the outputs that it released. Where memory ran out, none is handed over.
 abbrev pub ComesTo : {P V : Type 0} → Meaning V → Event → Result SystemReply Stop → List Output → Systemed P V → Systemed P V → Type 0
 ComesTo {P} {V} m ev (Ok reply) outputs old new =
-    (s : Setting V) (w : World V) → IsAt m s w old
-    → (next : World V) × (freed : List Sent) × OnAny s w ev reply.outcome freed next × (reply.released ≡ sent_names freed)
-    × (packets_in outputs ≡ newly_released w next) × IsAt m s next new
+    (s : Setting V) (w : SystemWorld V) → IsSystemAt m s w old
+    → (next : SystemWorld V) × (freed : List Sent) × OnAny s w ev reply.outcome freed next × (reply.released ≡ sent_names freed)
+    × (packets_in outputs ≡ newly_released w next) × IsSystemAt m s next new
 ComesTo {P} {V} m ev (Err (stop.Limit limit)) outputs old new =
-    (s : Setting V) (w : World V) → IsAt m s w old → (next : World V) × Stops s w ev limit next × (packets_in outputs ≡ newly_released w next)
-ComesTo {P} {V} m ev (Err stop.NoMemory) outputs old new = (s : Setting V) (w : World V) → IsAt m s w old → outputs ≡ []
+    (s : Setting V) (w : SystemWorld V) → IsSystemAt m s w old → (next : SystemWorld V) × Stops s w ev limit next × (packets_in outputs ≡ newly_released w next)
+ComesTo {P} {V} m ev (Err stop.NoMemory) outputs old new =
+    (s : Setting V) (w : SystemWorld V) → IsSystemAt m s w old → outputs ≡ []
 
 -- What it came to to write, behind these writes, what an event left: its records and its line; or, where it stopped at a limit, what it
 -- released before; or nothing, where memory ran out.
@@ -53,14 +55,14 @@ WritesPerformed result (Err stop.NoMemory) ev released writes name lines old new
 
 -- The system is at some world, on packets that a record can have.
 abbrev pub IsSomewhere : {P V : Type 0} → Meaning V → Systemed P V → Type 0
-IsSomewhere {P} {V} m y = (s : Setting V) × (w : World V) × IsAt m s w y × All IsShort s.packets
+IsSomewhere {P} {V} m y = (s : Setting V) × (w : SystemWorld V) × IsSystemAt m s w y × All IsShort s.packets
 
 -- The events were performed, the system is at their world, and what they write was written but for the lines that are gathered.
 pub record HasCome {P V : Type 0} (m : Meaning V) (s : Setting V) (names : OutputNames) (events : List Event) (y : Systemed P V) (lines : List ℕ) (old new : Shown) : Type 0 where
   pub replies : List Reply
-  pub world : World V
+  pub world : SystemWorld V
   pub answers : Answers s events replies world
-  pub at : IsAt m s world y
+  pub at : IsSystemAt m s world y
   pub fit_records : All FitsRecord (released_in replies)
   pub gathered : HasGathered (writes_of names s.fractions replies) lines old new
 

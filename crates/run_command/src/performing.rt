@@ -1,8 +1,8 @@
 ghost use Rattle.std.specs.Prelude.{◌≡◌, All, OnOk, false};
-ghost use Rattle.recovery_world.specs.World.{Setting, World};
+ghost use Rattle.recovery_world.specs.World.{Setting, World as SystemWorld};
 ghost use Rattle.run_writes.specs.Replies.{packets_in};
 ghost use Rattle.run_writes.specs.Run.{IsShort};
-ghost use Rattle.run_command.specs.Running.{ComesTo, IsAt};
+ghost use Rattle.run_command.specs.Running.{ComesTo, IsSystemAt};
 
 use access_log::Outputs;
 use box_program::Program;
@@ -23,8 +23,8 @@ pub fn perform<P: Program>(system: &mut System<P>, event: &Event) -> Performed
     requires runs { system.old.stopped ≡ false }
     ensures comes { ComesTo (P.meaning system.old.parts.program) event.now result.reply
         result.outputs system.old system.new }
-    ensures short { (s : Setting P.Value) (w : World P.Value)
-        → IsAt (P.meaning system.old.parts.program) s w system.old → All IsShort s.packets
+    ensures short { (s : Setting P.Value) (w : SystemWorld P.Value)
+        → IsSystemAt (P.meaning system.old.parts.program) s w system.old → All IsShort s.packets
         → All IsShort (packets_in result.outputs) }
     ensures goes_on { OnOk result.reply (system.new.stopped ≡ false) }
     ensures program { OnOk result.reply (system.new.parts.program ≡ system.old.parts.program) }

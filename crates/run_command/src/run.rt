@@ -5,7 +5,7 @@ ghost use Rattle.recovery_world.specs.World.{Setting, opening};
 ghost use Rattle.output_files.specs.Writes.{IsOutput};
 ghost use Rattle.output_files.specs.Written.{WritesFiles};
 ghost use Rattle.run_writes.specs.Run.{CanRun, HasBegunRun, HasRun, HasStopped, names_of, setting_of};
-ghost use Rattle.run_command.specs.Running.{GoesOn, IsAt, IsSomewhere};
+ghost use Rattle.run_command.specs.Running.{GoesOn, IsSystemAt, IsSomewhere};
 
 use crate::{close_run, perform_events};
 use box_program::Program;
@@ -32,7 +32,7 @@ fn write_events<P: Program, W: World>(
     requires somewhere { IsSomewhere (P.meaning system.old.parts.program) system.old }
     requires none { lines.old ≡ [] }
     ensures told { IsTrue W.tells → (s : Setting P.Value) → s.fractions ≡ unit
-        → IsAt (P.meaning system.old.parts.program) s (opening P.Value) system.old
+        → IsSystemAt (P.meaning system.old.parts.program) s (opening P.Value) system.old
         → GoesOn result (P.meaning system.old.parts.program) s (names_of files.entry) events.now
         system.new lines.new (W.shown world.old) (W.shown world.new) }
     ensures schedule { IsTrue W.tells → IfOk result

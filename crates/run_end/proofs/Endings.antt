@@ -24,7 +24,7 @@ use Rattle.recovery_laws.specs.Sound.{IsKept, Sound}
 use Rattle.recovery_laws.proofs.LedMoves.{led_log}
 use Rattle.recovery_laws.proofs.Worlds.{fed_found}
 use Rattle.recovery_laws.proofs.Finishes.{finish_there}
-use Rattle.run_end.specs.Playing.{IsAt, StandsBefore, PlaysOn, LeadsTo, LeadsBy, SendsAll}
+use Rattle.run_end.specs.Playing.{IsMasterAfter, StandsBefore, PlaysOn, LeadsTo, LeadsBy, SendsAll}
 use Rattle.run_end.proofs.Ways.{led_later, led_split}
 use Rattle.run_end.specs.Ending.{AreInOrder, IsOrder, IsEndOf, IsEndOfSome, EndsIn}
 
@@ -226,7 +226,7 @@ module _ {V : Type 0} (s : Setting V) (w : World V) (h : Sound s w) where
 pub record EndWays {V : Type 0} (m : Meaning V) (s : Setting V) (w : World V) (fed : Fed) (p : Mastered V) (schedule : List PlainMove) (order : List Entry) (numbers : List ℕ) : Type 0 where
   pub line : List (Step V)
   pub steps : List (Step V)
-  pub at : IsAt m s.threads w.past p schedule
+  pub at : IsMasterAfter m s.threads w.past p schedule
   pub leads : LeadsBy m fed order s.threads w.past line
   pub sends : SendsAll m fed numbers s.threads line steps
   pub finish : IsFinish s w steps
@@ -235,7 +235,7 @@ pub end_ways : {V : Type 0} (m : Meaning V) (s : Setting V) (w : World V) (fed :
 end_ways {V} m s w fed p schedule order numbers e = record {
   line = f.line;
   steps = f.steps;
-  at = subst (λ (n : Meaning V). IsAt n s.threads w.past p schedule) e.meaning e.master;
+  at = subst (λ (n : Meaning V). IsMasterAfter n s.threads w.past p schedule) e.meaning e.master;
   leads = leads_by m fed s.threads (log_of w.past) order w.past f.line (λ g i. i) (as_fed f.line f.line_fed) (subst (λ (l : List Entry). IsLed w.past l f.line) (order_is s w e.sound order f.line e.in_order f.line_is) f.line_is.led);
   sends = (sym (ap (λ (i : Fed). i.threads) e.inputs), as_fed f.steps f.steps_fed, w.released, e.released, f.goes_on);
   finish = f.finish;

@@ -9,13 +9,13 @@ use Rattle.plain_machine.specs.declared.local.Local.{Local}
 use Rattle.plain_machine.specs.Program.{Meaning}
 use Rattle.plain_machine.specs.Machine.{Hand}
 use Rattle.plain_machine.specs.History.{Step, thread_after, IsHistory}
-use Rattle.box_program.specs.Hands.{place_of, input_for, hand_of, has_hand, IsInputAfter}
+use Rattle.box_program.specs.Hands.{local_in, input_for, hand_of, has_hand, IsInputAfter}
 use Rattle.box_program.proofs.HandLemmas.{no_hand}
 use Rattle.line_order.proofs.Hands.{hand_input}
 use Rattle.master_core.specs.declared.parts.ThreadPart.{ThreadPart}
 use Rattle.master_core.specs.declared.parts.Counts.{Counts}
 use Rattle.master_core.specs.Mastered.{Mastered, input_in_hand, place_in_hand, HasRoom}
-use Rattle.master_core.specs.Standing.{Stands}
+use Rattle.master_core.specs.MasterStanding.{Stands}
 
 -- The input that a master in memory asks for is the one that its next move is made with.
 
@@ -24,7 +24,7 @@ pub none_part : ThreadPart
 none_part = record { counts = record { taken = 0; entries = 0; outputs = 0 }; hand = None; stamp = [] }
 
 -- a place in hand is that of a packet in hand
-some_hand : (h : Option Hand) (place : Local) → place_of h ≡ Some place → (k : Hand) × (h ≡ Some k)
+some_hand : (h : Option Hand) (place : Local) → local_in h ≡ Some place → (k : Hand) × (h ≡ Some k)
 some_hand None place e = absurd (cc)
 some_hand (Some h) place e = (h, refl)
 
@@ -77,7 +77,7 @@ hand_is m threads steps p t is below =
     ap (λ (o : Option ThreadPart). is_some (hand_of (λ (part : ThreadPart). part.hand) o)) (slice_get-get_or p.threads t none_part (omega (arith, is.threads_are)))
     ∙ (ap is_some (is.thread t none_part below).hand ∙ same (thread_after steps t).hand)
   where
-    same : (h : Option Hand) → is_some (place_of h) ≡ is_some h
+    same : (h : Option Hand) → is_some (local_in h) ≡ is_some h
     same None = refl
     same (Some h) = refl
 

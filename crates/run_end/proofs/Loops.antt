@@ -12,7 +12,8 @@ use Rattle.master_core.specs.declared.parts.ThreadPart.{ThreadPart}
 use Rattle.master_core.specs.declared.parts.Counts.{Counts}
 use Rattle.master_core.specs.Mastered.{Mastered}
 use Rattle.recovery_world.specs.Files.{answer_of_entry}
-use Rattle.run_end.specs.Playing.{IsAt, StandsBefore, PlaysOn, MakesNext, LeadsTo, LeadsBy, SendsUpTo, SendsAll}
+use Rattle.run_end.specs.Playing.{IsMasterAfter, StandsBefore, PlaysOn, MakesNext}
+use Rattle.run_end.specs.Playing.{LeadsTo, LeadsBy, SendsUpTo, SendsAll}
 use Rattle.run_end.proofs.InputLemmas.{none_part}
 use Rattle.run_end.proofs.Ways.{IsOnWay, LedOn, LeadsOrMade, led_count, led_on, led_start, led_low, led_high, sends_on, sends_end, SendsRest, sends_first, sends_next, sends_over}
 
@@ -28,7 +29,7 @@ pub record GoesOneOn {V : Type 0} (m : Meaning V) (fed : Fed) (t answer threads 
 
 -- What leads to a move, from wherever the way is, is made by it.
 module _ {V : Type 0} (m : Meaning V) (fed : Fed) (t answer : ℕ) (Leads Rests : ℕ → List (Step V) → List (Step V) → Type 0) (old p : Mastered V) (before moves : List PlainMove) (way : IsOnWay Leads Rests m old before p moves)
-    (goes : (threads : ℕ) (now steps mid : List (Step V)) → Leads threads now steps → Rests threads mid steps → IsAt m threads mid p moves → GoesOneOn m fed t answer threads Rests mid steps) where
+    (goes : (threads : ℕ) (now steps mid : List (Step V)) → Leads threads now steps → Rests threads mid steps → IsMasterAfter m threads mid p moves → GoesOneOn m fed t answer threads Rests mid steps) where
   -- there is such a move
   pub one_stands : StandsBefore Leads m old before → StandsBefore (MakesNext m fed t answer) m p moves
   one_stands some =
@@ -59,10 +60,10 @@ to_low m fed e old p before moves way some =
 
 -- its thread, number and answer are these
 module _ {V : Type 0} (m : Meaning V) (fed : Fed) (e : Entry) (t number answer : ℕ) (th : t ≡ e.thread) (num : number ≡ e.number) (ans : answer ≡ unwrap_or (answer_of_entry e.what) 0) (p : Mastered V) (moves : List PlainMove) (counts : Counts) (counted : IsCounted p t counts) where
-  count_is : (threads : ℕ) (mid : List (Step V)) → t < threads → IsAt m threads mid p moves → counts.entries ≡ entries e.thread (log_of mid)
+  count_is : (threads : ℕ) (mid : List (Step V)) → t < threads → IsMasterAfter m threads mid p moves → counts.entries ≡ entries e.thread (log_of mid)
   count_is threads mid low at = ap (λ (c : Counts). c.entries) (counted none_part) ∙ ((at.stands.thread t none_part low).logged ∙ ap (λ (u : ℕ). entries u (log_of mid)) th)
 
-  pub to_goes : counts.entries < number → (threads : ℕ) (now steps mid : List (Step V)) → LeadsTo m fed e threads now steps → LeadsOrMade m fed e threads mid steps → IsAt m threads mid p moves
+  pub to_goes : counts.entries < number → (threads : ℕ) (now steps mid : List (Step V)) → LeadsTo m fed e threads now steps → LeadsOrMade m fed e threads mid steps → IsMasterAfter m threads mid p moves
       → GoesOneOn m fed t answer threads (LeadsOrMade m fed e) mid steps
   to_goes few threads now steps mid leads rest at = go rest
     where
@@ -87,21 +88,21 @@ module _ {V : Type 0} (m : Meaning V) (fed : Fed) (e : Entry) (t number answer :
   pub to_over : number ≤ counts.entries → (old : Mastered V) (before : List PlainMove) → IsOnWay (LeadsTo m fed e) (LeadsOrMade m fed e) m old before p moves → PlaysOn (LeadsTo m fed e) m old before p moves
   to_over enough old before way = λ threads now steps leads at. go threads now steps leads (way threads now steps leads at)
     where
-      go : (threads : ℕ) (now steps : List (Step V)) → LeadsTo m fed e threads now steps → (mid : List (Step V)) × LeadsOrMade m fed e threads mid steps × IsAt m threads mid p moves → IsAt m threads steps p moves
+      go : (threads : ℕ) (now steps : List (Step V)) → LeadsTo m fed e threads now steps → (mid : List (Step V)) × LeadsOrMade m fed e threads mid steps × IsMasterAfter m threads mid p moves → IsMasterAfter m threads steps p moves
       go threads now steps leads (mid, inl l, at) =
           let k = led_count m fed threads e mid steps l in
           let low : t < threads = subst (λ (u : ℕ). u < threads) (sym th) k.0 in
           let here = count_is threads mid low at in
           let next = k.1 in
           absurd (omega (arith, next, here, enough, num))
-      go threads now steps leads (mid, inr same, at) = subst (λ (l : List (Step V)). IsAt m threads l p moves) (sym same) at
+      go threads now steps leads (mid, inr same, at) = subst (λ (l : List (Step V)). IsMasterAfter m threads l p moves) (sym same) at
 
 -- To an output
 module _ {V : Type 0} (m : Meaning V) (fed : Fed) (t many : ℕ) (p : Mastered V) (moves : List PlainMove) (counts : Counts) (counted : IsCounted p t counts) where
-  sent_is : (threads : ℕ) (mid : List (Step V)) → t < threads → IsAt m threads mid p moves → counts.outputs ≡ outputs t (sent_of mid)
+  sent_is : (threads : ℕ) (mid : List (Step V)) → t < threads → IsMasterAfter m threads mid p moves → counts.outputs ≡ outputs t (sent_of mid)
   sent_is threads mid low at = ap (λ (c : Counts). c.outputs) (counted none_part) ∙ (at.stands.thread t none_part low).outputs
 
-  pub out_goes : counts.outputs < many → (threads : ℕ) (now steps mid : List (Step V)) → SendsUpTo m fed t many threads now steps → SendsUpTo m fed t many threads mid steps → IsAt m threads mid p moves
+  pub out_goes : counts.outputs < many → (threads : ℕ) (now steps mid : List (Step V)) → SendsUpTo m fed t many threads now steps → SendsUpTo m fed t many threads mid steps → IsMasterAfter m threads mid p moves
       → GoesOneOn m fed t 0 threads (SendsUpTo m fed t many) mid steps
   out_goes few threads now steps mid leads rest at =
       let here = sent_is threads mid rest.0 at in
@@ -112,7 +113,7 @@ module _ {V : Type 0} (m : Meaning V) (fed : Fed) (t many : ℕ) (p : Mastered V
   out_over enough old before way = λ threads now steps leads at.
       let k = way threads now steps leads at in
       let here = sent_is threads k.0 k.1.0 k.2 in
-      subst (λ (l : List (Step V)). IsAt m threads l p moves) (sends_end m fed t many threads k.0 steps k.1 (omega (arith, here, enough))) k.2
+      subst (λ (l : List (Step V)). IsMasterAfter m threads l p moves) (sends_end m fed t many threads k.0 steps k.1 (omega (arith, here, enough))) k.2
 
 -- Entry by entry
 module _ {V : Type 0} (m : Meaning V) (fed : Fed) (order : List Entry) (i : ℕ) (e : Entry) (is : e ≡ slice_index_or order i e) (low : i < length order) (old p : Mastered V) (before moves : List PlainMove)
@@ -159,4 +160,4 @@ module _ {V : Type 0} (m : Meaning V) (fed : Fed) (numbers : List ℕ) (i : ℕ)
   pub threads_over : fed.threads ≤ i → PlaysOn (SendsAll m fed numbers) m old before p moves
   threads_over high = λ threads now steps leads at.
       let k = way threads now steps leads at in
-      subst (λ (l : List (Step V)). IsAt m threads l p moves) (sends_over m fed numbers i threads k.0 steps k.1 high) k.2
+      subst (λ (l : List (Step V)). IsMasterAfter m threads l p moves) (sends_over m fed numbers i threads k.0 steps k.1 high) k.2

@@ -16,12 +16,12 @@ use Rattle.box_program.specs.Hands.{has_hand, IsInputAfter, input_for}
 use Rattle.master_core.specs.declared.step.Stepped.{Stepped}
 use Rattle.master_core.specs.declared.step.Stepped.TheVariants as stepped
 use Rattle.master_core.specs.Mastered.{Mastered, place_in_hand, HasRoom}
-use Rattle.master_core.specs.Standing.{Stands}
+use Rattle.master_core.specs.MasterStanding.{Stands}
 use Rattle.master_core.specs.Stepping.{told_for, told_in, move_of, Makes, Follows, MadeOne}
 use Rattle.recovery_world.specs.Files.{answer_of_entry, answer_of, moves_made}
 use Rattle.recovery_laws.proofs.LedMoves.{EntryFor, move_entry, Made, made_move, made_step}
 use Rattle.recovery_laws.proofs.Replays.{no_step}
-use Rattle.run_end.specs.Playing.{IsAt, StandsBefore, PlaysOn, IsTold, MakesNext, told_by, IsBusy}
+use Rattle.run_end.specs.Playing.{IsMasterAfter, StandsBefore, PlaysOn, IsTold, MakesNext, told_by, IsBusy}
 use Rattle.run_end.proofs.InputLemmas.{hand_is}
 use Rattle.run_end.proofs.Rooms.{room_there, moves_left, moves_fall}
 
@@ -89,8 +89,8 @@ module _ {V : Type 0} (m : Meaning V) (inputs : ℕ → List Packet) (threads : 
   makes_next stepped.NoMemory q f one = absurd one
 
   -- The master and the schedule are past the next step.
-  pub next_at : (p q : Mastered V) (moves schedule : List PlainMove) (a : Option ℕ) → IsAt m threads now p moves → Stands m threads (x ∷ now) q → a ≡ answer_of x.act → schedule ≡ moves ++ (record { thread = t; answer = a }) ∷ []
-      → IsAt m threads (x ∷ now) q schedule
+  pub next_at : (p q : Mastered V) (moves schedule : List PlainMove) (a : Option ℕ) → IsMasterAfter m threads now p moves → Stands m threads (x ∷ now) q → a ≡ answer_of x.act → schedule ≡ moves ++ (record { thread = t; answer = a }) ∷ []
+      → IsMasterAfter m threads (x ∷ now) q schedule
   next_at p q moves schedule a at stands is added = record {
     stands = stands;
     schedule_is =
@@ -165,7 +165,7 @@ pub plays_next : {V : Type 0} (m : Meaning V) (fed : Fed) (t answer : ℕ) (p q 
 plays_next {V} m fed t answer p q moves schedule i r a input move is one added = λ threads now steps k at.
     let n = next_of m fed t answer threads now steps k in
     let made = makes_next m (inputs_of fed) threads now t answer n.x n.history.0 n.thread n.told r q (move (inputs_of fed) threads now at.stands (input m threads now n.history.1 at.stands n.low)) one in
-    subst (λ (l : List (Step V)). IsAt m threads l q schedule) (sym n.steps_are)
+    subst (λ (l : List (Step V)). IsMasterAfter m threads l q schedule) (sym n.steps_are)
     (next_at m (inputs_of fed) threads now t answer n.x n.history.0 n.thread n.told p q moves schedule a at made.0 (is ∙ made.1) added)
 
 -- There is room for it.

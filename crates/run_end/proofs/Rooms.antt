@@ -9,7 +9,7 @@ use Rattle.plain_machine.proofs.Histories.{moves_step}
 use Rattle.plain_machine.proofs.Bounds.{few_moves}
 use Rattle.line_order.proofs.Hands.{taken_within}
 use Rattle.master_core.specs.Mastered.{Mastered, moves_made as part_moves, HasRoom}
-use Rattle.master_core.specs.Standing.{Stands}
+use Rattle.master_core.specs.MasterStanding.{Stands}
 use Rattle.run_end.proofs.InputLemmas.{none_part}
 
 -- a thread has no more inputs than were fed

@@ -16,13 +16,13 @@ use Rattle.master_core.specs.Mastered.{Mastered}
 use Rattle.recovery_world.specs.World.{Sent}
 use Rattle.recovery_world.specs.Files.{answer_of_entry}
 use Rattle.recovery_world.specs.Finish.{greatest, GoesOn, AllGoOn}
-use Rattle.run_end.specs.Playing.{IsAt, IsTold, MakesNext, LeadsTo, SendsUpTo, AreGreatest, SendsAll}
+use Rattle.run_end.specs.Playing.{IsMasterAfter, IsTold, MakesNext, LeadsTo, SendsUpTo, AreGreatest, SendsAll}
 
 -- Wherever a way of the one kind begins where the master was, one of the other kind goes on from where it is, to the same end.
 abbrev pub IsOnWay : {V : Type 0} → (ℕ → List (Step V) → List (Step V) → Type 0) → (ℕ → List (Step V) → List (Step V) → Type 0) → Meaning V → Mastered V → List PlainMove → Mastered V → List PlainMove → Type 0
 IsOnWay {V} Leads Rests m old moves new schedule =
-    (threads : ℕ) (now steps : List (Step V)) → Leads threads now steps → IsAt m threads now old moves
-    → (mid : List (Step V)) × Rests threads mid steps × IsAt m threads mid new schedule
+    (threads : ℕ) (now steps : List (Step V)) → Leads threads now steps → IsMasterAfter m threads now old moves
+    → (mid : List (Step V)) × Rests threads mid steps × IsMasterAfter m threads mid new schedule
 
 -- Quiet moves
 

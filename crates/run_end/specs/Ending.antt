@@ -11,7 +11,7 @@ use Rattle.recovery_world.specs.World.{Setting, World}
 use Rattle.recovery_world.specs.Files.{moves_made}
 use Rattle.recovery_world.specs.Finish.{IsToCome, IsLine, IsFinish}
 use Rattle.recovery_laws.specs.Sound.{Sound}
-use Rattle.run_end.specs.Playing.{IsAt, AreGreatest}
+use Rattle.run_end.specs.Playing.{IsMasterAfter, AreGreatest}
 
 -- Oldest first: by weight, then thread.
 abbrev pub AreInOrder : List Entry → List Entry → Type 0
@@ -31,7 +31,7 @@ pub record IsEndOf {V : Type 0} (m : Meaning V) (s : Setting V) (w : World V) (f
   pub up : w.up ≡ true
   pub meaning : s.meaning ≡ m
   pub inputs : fed ≡ record { threads = s.threads; packets = take w.fed s.packets }
-  pub master : IsAt s.meaning s.threads w.past p schedule
+  pub master : IsMasterAfter s.meaning s.threads w.past p schedule
   pub in_order : IsOrder s w order
   pub released : AreGreatest w.released s.threads numbers
 

@@ -7,7 +7,7 @@ use Rattle.plain_machine.specs.Program.{Meaning}
 use Rattle.plain_machine.specs.History.{Act, Step, log_of, IsHistory}
 use Rattle.plain_machine.specs.Continue.{IsLed}
 use Rattle.master_core.specs.Mastered.{Mastered}
-use Rattle.master_core.specs.Standing.{Stands}
+use Rattle.master_core.specs.MasterStanding.{Stands}
 use Rattle.master_core.specs.declared.step.Stepped.{Stepped}
 use Rattle.master_core.specs.declared.step.Stepped.TheVariants as stepped
 use Rattle.recovery_world.specs.World.{Sent}
@@ -15,19 +15,19 @@ use Rattle.recovery_world.specs.Files.{answer_of_entry, answer_of, moves_made}
 use Rattle.recovery_world.specs.Finish.{greatest, GoesOn, AllGoOn}
 
 -- The master is where the machine is after these steps, and the schedule has their moves.
-pub record IsAt {V : Type 0} (m : Meaning V) (threads : ℕ) (steps : List (Step V)) (p : Mastered V) (schedule : List PlainMove) : Type 0 where
+pub record IsMasterAfter {V : Type 0} (m : Meaning V) (threads : ℕ) (steps : List (Step V)) (p : Mastered V) (schedule : List PlainMove) : Type 0 where
   pub stands : Stands m threads steps p
   pub schedule_is : schedule ≡ moves_made steps
 
 -- The master is where some way begins: one of a machine with this number of threads, from the steps until now to more steps.
 abbrev pub StandsBefore : {V : Type 0} → (ℕ → List (Step V) → List (Step V) → Type 0) → Meaning V → Mastered V → List PlainMove → Type 0
 StandsBefore {V} Leads m p schedule =
-    (threads : ℕ) × (now : List (Step V)) × (steps : List (Step V)) × Leads threads now steps × IsAt m threads now p schedule
+    (threads : ℕ) × (now : List (Step V)) × (steps : List (Step V)) × Leads threads now steps × IsMasterAfter m threads now p schedule
 
 -- Wherever such a way begins where the master was, it ends where the master is.
 abbrev pub PlaysOn : {V : Type 0} → (ℕ → List (Step V) → List (Step V) → Type 0) → Meaning V → Mastered V → List PlainMove → Mastered V → List PlainMove → Type 0
 PlaysOn {V} Leads m old moves new schedule =
-    (threads : ℕ) (now steps : List (Step V)) → Leads threads now steps → IsAt m threads now old moves → IsAt m threads steps new schedule
+    (threads : ℕ) (now steps : List (Step V)) → Leads threads now steps → IsMasterAfter m threads now old moves → IsMasterAfter m threads steps new schedule
 
 -- what a move is told, where it is told something, is this
 abbrev pub IsTold : {V : Type 0} → Act V → ℕ → Type 0

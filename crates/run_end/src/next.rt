@@ -5,7 +5,7 @@ ghost use Rattle.plain_machine.specs.History.{Step, IsHistory};
 ghost use Rattle.box_program.specs.Hands.{IsInputAfter};
 ghost use Rattle.master_core.specs.Mastered.{HasRoom};
 ghost use Rattle.master_core.specs.Stepping.{MadeOne};
-ghost use Rattle.master_core.specs.Standing.{Stands};
+ghost use Rattle.master_core.specs.MasterStanding.{Stands};
 ghost use Rattle.recovery_world.specs.Files.{answer_of_entry};
 ghost use Rattle.run_end.specs.Playing.{told_by as told_is, IsBusy};
 

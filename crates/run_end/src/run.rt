@@ -16,7 +16,9 @@ use std::alloc::Global;
 /// A master that plays on, and the schedule of all its moves.
 #[derive(Drop)]
 pub struct Run<P: Program> {
+    /// The master after the last of these moves.
     pub master: Master<P>,
+    /// All moves from the beginning of the run.
     pub schedule: Schedule,
 }
 

@@ -7,7 +7,7 @@ use Rattle.plain_text.specs.declared.packet.Unit.{Unit as FractionUnit}
 use Rattle.pcap_io.specs.Capture.{written, written_header, record_of, records_of}
 use Rattle.pcap_io.specs.declared.order.Order.TheVariants as order
 use Rattle.recovery_world.specs.declared.event.Event.{Event}
-use Rattle.recovery_world.specs.World.{Setting, World}
+use Rattle.recovery_world.specs.World.{Setting, World as SystemWorld}
 use Rattle.recovery_world.specs.Files.{reply_line}
 use Rattle.output_files.specs.Writes.{Write, Creates, Appends, Reports, after_write, after_writes, reported_by, reported, IsPrefix, IsPartOf, IsCut}
 use Rattle.output_files.proofs.Effects.{Compared, IsSame, Differs, compared, reported_more}
@@ -273,7 +273,7 @@ lines_push : (replies : List Reply) (r : Reply) → HaveLines replies → ¬ (r.
 lines_push [] r have some = (some, tt)
 lines_push (x ∷ replies) r have some = (have.0, lines_push replies r have.1 some)
 
-pub have_lines : {V : Type 0} (s : Setting V) (events : List Event) (replies : List Reply) (w : World V) → Answers s events replies w → HaveLines replies
+pub have_lines : {V : Type 0} (s : Setting V) (events : List Event) (replies : List Reply) (w : SystemWorld V) → Answers s events replies w → HaveLines replies
 have_lines s events replies w Opens = tt
 have_lines s events replies w (Goes {events = before} {replies = earlier} {w = mid} ev to freed rest on) =
     lines_push earlier (record { released = newly_released mid w; line = reply_line ev to freed }) (have_lines s before earlier mid rest) (not_empty _)

@@ -13,7 +13,7 @@ use Rattle.plain_machine.specs.Agree.{SendsAfter}
 use Rattle.plain_machine.proofs.Histories.{earlier_history}
 use Rattle.plain_machine.proofs.Agreement.{sends_at}
 use Rattle.line_order.proofs.Hands.{hand_input}
-use Rattle.recovery_world.specs.World.{Setting, Sent, World, inputs_fed}
+use Rattle.recovery_world.specs.World.{Setting, Sent, World as SystemWorld, inputs_fed}
 use Rattle.recovery_world.specs.Events.{IsAmong}
 use Rattle.recovery_world.specs.Files.{packets_of}
 use Rattle.recovery_laws.specs.Sound.{Sound}
@@ -74,7 +74,7 @@ sent_short m fits inputs threads steps o n lawful short history sends =
     subst IsShort sent.2 (omega (arith, same, long))
 
 -- what was released in a sound world is short, where the packets of the capture are
-among_short : {V : Type 0} (s : Setting V) (fits : ℕ → V → Type 0) (w : World V) → IsLawful s.meaning fits → All IsShort s.packets → Sound s w → (o : Sent) → IsAmong o w.released → IsShort o.emission.packet
+among_short : {V : Type 0} (s : Setting V) (fits : ℕ → V → Type 0) (w : SystemWorld V) → IsLawful s.meaning fits → All IsShort s.packets → Sound s w → (o : Sent) → IsAmong o w.released → IsShort o.emission.packet
 among_short s fits w lawful short sound o is =
     let kept = sound.firm.released o is in
     sent_short s.meaning fits (inputs_fed s w.fed) s.threads kept.run o.emission o.after lawful
@@ -89,6 +89,6 @@ packets_drop zero sent = refl
 packets_drop (suc n) [] = refl
 packets_drop (suc n) (o ∷ sent) = packets_drop n sent
 
-pub released_short : {V : Type 0} (s : Setting V) (fits : ℕ → V → Type 0) (w : World V) (n : ℕ) → IsLawful s.meaning fits → All IsShort s.packets → Sound s w → All IsShort (packets_of (drop n w.released))
+pub released_short : {V : Type 0} (s : Setting V) (fits : ℕ → V → Type 0) (w : SystemWorld V) (n : ℕ) → IsLawful s.meaning fits → All IsShort s.packets → Sound s w → All IsShort (packets_of (drop n w.released))
 released_short s fits w n lawful short sound =
     subst (All IsShort) (sym (packets_drop n w.released)) (All-drop IsShort n (packets_of w.released) (all_short w.released (among_short s fits w lawful short sound)))

@@ -5,7 +5,7 @@ use Rattle.plain_text.specs.declared.packet.Packet.{Packet}
 use Rattle.access_log.specs.declared.entry.Output.{Output}
 use Rattle.recovery_world.specs.declared.event.Event.{Event}
 use Rattle.recovery_world.specs.declared.event.Outcome.{Outcome}
-use Rattle.recovery_world.specs.World.{Setting, Sent, World, opening}
+use Rattle.recovery_world.specs.World.{Setting, Sent, World as SystemWorld, opening}
 use Rattle.recovery_world.specs.Many.{OnAny}
 use Rattle.recovery_world.specs.Files.{reply_line, packets_of}
 
@@ -13,18 +13,20 @@ use Rattle.recovery_world.specs.Files.{reply_line, packets_of}
 abbrev pub packets_in : List Output → List Packet
 packets_in outputs = map (λ (o : Output). o.packet) outputs
 
+-- what an event released, in order of release, and its line of the report, as bytes
 pub record Reply : Type 0 where
   pub released : List Packet
   pub line : List ℕ
 
 -- the packets that were released on the way from one world to a later one
-abbrev pub newly_released : {V : Type 0} → World V → World V → List Packet
+abbrev pub newly_released : {V : Type 0} → SystemWorld V → SystemWorld V → List Packet
 newly_released w new = packets_of (drop (length w.released) new.released)
 
 -- The events, performed in order from the opening, leave these replies, one each, and lead to this world.
-pub data Answers {V : Type 0} (s : Setting V) : List Event → List Reply → World V → Type 0 where
+pub data Answers {V : Type 0} (s : Setting V) : List Event → List Reply → SystemWorld V → Type 0 where
   Opens : Answers s [] [] (opening V)
-  Goes : {events : List Event} {replies : List Reply} {w new : World V} (ev : Event) (to : Outcome) (freed : List Sent)
+  Goes : {events : List Event} {replies : List Reply} {w new : SystemWorld V}
+      (ev : Event) (to : Outcome) (freed : List Sent)
       → Answers s events replies w → OnAny s w ev to freed new
       → Answers s (events ++ ev ∷ []) (replies ++ (record { released = newly_released w new; line = reply_line ev to freed }) ∷ []) new
 

@@ -15,7 +15,7 @@ use Rattle.plain_player.specs.ScheduleText.{schedule_text}
 use Rattle.plain_player.specs.Schedules.{FitLines}
 use Rattle.world_io.specs.World.{Shown}
 use Rattle.recovery_world.specs.declared.event.Event.{Event}
-use Rattle.recovery_world.specs.World.{Setting, World}
+use Rattle.recovery_world.specs.World.{Setting, World as SystemWorld}
 use Rattle.recovery_world.specs.Many.{Stops}
 use Rattle.recovery_world.specs.Finish.{IsFinish}
 use Rattle.recovery_world.specs.Files.{one, two, done_line, moves_made, Leaves, LeavesAt}
@@ -91,7 +91,7 @@ pub record WritesSome {V : Type 0} (s : Setting V) (names : OutputNames) (events
   pub after : List Event
   pub events_are : events ≡ before ++ after
   pub replies : List Reply
-  pub world : World V
+  pub world : SystemWorld V
   pub answers : Answers s before replies world
   pub writes_are : writes ≡ writes_of names s.fractions replies
 
@@ -102,16 +102,16 @@ pub record WritesUntil {V : Type 0} (s : Setting V) (names : OutputNames) (event
   pub after : List Event
   pub events_are : events ≡ before ++ event ∷ after
   pub replies : List Reply
-  pub there : World V
+  pub there : SystemWorld V
   pub answers : Answers s before replies there
-  pub world : World V
+  pub world : SystemWorld V
   pub stops : Stops s there event limit world
   pub writes_are : writes ≡ writes_of names s.fractions replies ++ release_writes names.released (newly_released there world)
 
 -- All events were performed, and the run is finished.
 pub record WritesAll {V : Type 0} (s : Setting V) (names : OutputNames) (events : List Event) (writes : List Write) : Type 0 where
   pub replies : List Reply
-  pub world : World V
+  pub world : SystemWorld V
   pub answers : Answers s events replies world
   pub steps : List (Step V)
   pub finish : IsFinish s world steps

@@ -14,25 +14,33 @@ use world_io::World;
 /// seed.
 #[derive(Drop)]
 pub struct ScriptRun {
+    /// The number of threads, 1 to 16.
     pub threads: u32,
+    /// The seed of the generator of random words.
     pub seed: u64,
     /// What the fractions of the packets count.
     pub unit: Unit,
+    /// The packets of the capture, in its order, at most 65,536.
     pub packets: Packets,
+    /// The events of the script, in its order.
     pub events: Events,
 }
 
 /// The names of the two outputs of a run, which differ.
 #[derive(Clone, Copy)]
 pub struct RunFiles<'a> {
+    /// The name of the capture of released packets.
     pub released: &'a Text,
+    /// The name of the text of moves.
     pub schedule: &'a Text,
 }
 
 /// The outputs that were created, by their numbers.
 #[derive(Clone, Copy)]
 pub struct OutputFiles {
+    /// The number of the capture of released packets.
     pub released: u32,
+    /// The number of the text of moves.
     pub schedule: u32,
 }
 

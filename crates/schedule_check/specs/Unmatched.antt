@@ -15,6 +15,7 @@ pub record IsUnmatched (u : FractionUnit) (packets : List Packet) (v : FractionU
   pub counted_sent : IsEmissionCount u packet v sent alike_sent
   pub more : alike_sent < alike
 
+-- The packet of this number, from 1, is unmatched, and none before it is.
 pub record FirstUnmatched (u : FractionUnit) (packets : List Packet) (v : FractionUnit) (sent : List Emission) (i : ℕ) : Type 0 where
   pub unmatched : IsUnmatched u packets v sent i
   pub first : (j : ℕ) → IsUnmatched u packets v sent j → i ≤ j

@@ -8,9 +8,13 @@ use std::hash::{Hash, Hasher};
 /// What two packets share that are the same: the time, the length on the wire and the bytes.
 #[derive(Clone, Copy, Debug, PartialEq, Eq)]
 pub struct Content<'a> {
+    /// Whole seconds since 1970.
     pub seconds: u32,
+    /// The rest of the time, in nanoseconds in either unit of a capture.
     pub nanoseconds: u64,
+    /// The length on the wire, in bytes.
     pub original: u32,
+    /// The bytes that the capture has of it.
     pub bytes: &'a [u8],
 }
 

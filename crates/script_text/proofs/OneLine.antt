@@ -19,7 +19,7 @@ use Rattle.script_text.specs.declared.form.Form.{Form}
 use Rattle.script_text.specs.declared.form.Form.TheVariants.{Feed, Time, Step, Answered, Log, Out, Late, Cut, Snap, Store, Crash, Recover, Show, Settle, Flow, Auto}
 use Rattle.script_text.specs.declared.part.Part.{Part}
 use Rattle.script_text.specs.declared.part.Part.TheVariants.{Number, Equals, Kind}
-use Rattle.script_text.specs.Table.{form_named, forms, has_third, kind_words, parts_of, place_of, row_of, rows_for, word_of}
+use Rattle.script_text.specs.Table.{form_named, forms, has_third, kind_words, parts_of, grammar_place, row_of, rows_for, word_of}
 use Rattle.script_text.specs.Scripts.{form_of, values_of, kind_value, SaysEvent, event_fault}
 use Rattle.script_text.specs.Values.{and_values, value_or_misfit, values_at, kind_from, event_from}
 
@@ -43,35 +43,36 @@ number_small word n = go (is_number word) refl
         let less : digits_value 10 word < 2 ^ 64 = grind (arith, nat_tests) in
         omega arith
 
-pub number_within : (n : ℕ) → n < 2 ^ 64 → is_within (place_of Number) n ≡ true
+pub number_within : (n : ℕ) → n < 2 ^ 64 → is_within (grammar_place Number) n ≡ true
 number_within n less =
     let low : nat_le 0 n ≡ true = grind (arith, nat_tests) in
     let high : nat_le n (2 ^ 64 - 1) ≡ true = grind (arith, nat_tests) in
     rw (low, high) refl
 
-value_within : (part : Part) (word : List ℕ) (n : ℕ) → value_at (place_of part) word ≡ Some n → is_within (place_of part) n ≡ true
+value_within : (part : Part) (word : List ℕ) (n : ℕ) → value_at (grammar_place part) word ≡ Some n → is_within (grammar_place part) n ≡ true
 value_within Number word n e = number_within n (number_small word n e)
 value_within Equals word n e = refl
 value_within Kind word n e = refl
 
 -- The values of the words after the first
 
-pub values_say : (parts : List Part) (words : List (List ℕ)) (values : List ℕ) → values_at (map place_of parts) words ≡ Ok values → PlacesSay (map place_of parts) words values
+pub values_say : (parts : List Part) (words : List (List ℕ)) (values : List ℕ) → values_at (map grammar_place parts) words ≡ Ok values → PlacesSay (map grammar_place parts) words values
 values_say [] [] [] e = tt
 values_say [] [] (n ∷ values) e = absurd (cc)
 values_say [] (word ∷ words) values e = absurd (cc)
 values_say (part ∷ parts) [] values e = absurd (cc)
-values_say (part ∷ parts) (word ∷ words) values e = go (value_at (place_of part) word) (values_at (map place_of parts) words) refl refl e (values_say parts words)
+values_say (part ∷ parts) (word ∷ words) values e = go (value_at (grammar_place part) word) (values_at (map grammar_place parts) words) refl refl e (values_say parts words)
   where
-    go : (o : Option ℕ) (r : Result (List ℕ) LineCause) → value_at (place_of part) word ≡ o → values_at (map place_of parts) words ≡ r
-        → and_values (value_or_misfit (place_of part) o) r ≡ Ok values
-        → ((more : List ℕ) → values_at (map place_of parts) words ≡ Ok more → PlacesSay (map place_of parts) words more)
-        → PlacesSay (map place_of (part ∷ parts)) (word ∷ words) values
+    go : (o : Option ℕ) (r : Result (List ℕ) LineCause) → value_at (grammar_place part) word ≡ o → values_at (map grammar_place parts) words ≡ r
+        → and_values (value_or_misfit (grammar_place part) o) r ≡ Ok values
+        → ((more : List ℕ) → values_at (map grammar_place parts) words ≡ Ok more
+        → PlacesSay (map grammar_place parts) words more)
+        → PlacesSay (map grammar_place (part ∷ parts)) (word ∷ words) values
     go None r is are e behind = absurd (cc)
     go (Some v) (Err cause) is are e behind = absurd (cc)
     go (Some v) (Ok more) is are e behind =
         let same : v ∷ more ≡ values = cc in
-        subst (PlacesSay (map place_of (part ∷ parts)) (word ∷ words)) same (is, value_within part word v is, behind more are)
+        subst (PlacesSay (map grammar_place (part ∷ parts)) (word ∷ words)) same (is, value_within part word v is, behind more are)
 
 pub values_fault : (places : List Place) (words : List (List ℕ)) (cause : LineCause) → values_at places words ≡ Err cause → form_fault places words ≡ Some cause
 values_fault [] [] cause e = absurd (cc)
@@ -119,12 +120,12 @@ sign_back word n = go (bytes_eq word (codes "="))
     go true e = cc
     go false e = absurd (cc)
 
-part_fits : (part : Part) (word : List ℕ) (n : ℕ) → value_at (place_of part) word ≡ Some n → FitsPart part n
+part_fits : (part : Part) (word : List ℕ) (n : ℕ) → value_at (grammar_place part) word ≡ Some n → FitsPart part n
 part_fits Number word n e = tt
 part_fits Equals word n e = sign_back word n e
 part_fits Kind word n e = kind_back word n e
 
-says_fits : (parts : List Part) (words : List (List ℕ)) (values : List ℕ) → PlacesSay (map place_of parts) words values → Fits parts values
+says_fits : (parts : List Part) (words : List (List ℕ)) (values : List ℕ) → PlacesSay (map grammar_place parts) words values → Fits parts values
 says_fits [] [] [] s = tt
 says_fits [] [] (n ∷ values) s = absurd s
 says_fits [] (word ∷ words) values s = absurd s
@@ -238,13 +239,13 @@ fault_is word left o e =
     ap (λ (r : Option Row). row_fault r left) (row_of_form word (forms (has_third (word ∷ left))) ∙ ap (option_map row_of) e)
 
 pub says_from : (word : List ℕ) (left : List (List ℕ)) (form : Form) (values : List ℕ) → form_named (has_third (word ∷ left)) word ≡ Some form
-    → PlacesSay (map place_of (parts_of form)) left values → SaysEvent (word ∷ left) (event_from form values)
+    → PlacesSay (map grammar_place (parts_of form)) left values → SaysEvent (word ∷ left) (event_from form values)
 says_from word left form values e says =
     let made = makes form values (says_fits (parts_of form) left values says) in
     let row : row_named word (rows_for (word ∷ left)) ≡ Some (row_of form) = row_of_form word (forms (has_third (word ∷ left))) ∙ ap (option_map row_of) e in
     let first : row_named word (rows_for (word ∷ left)) ≡ Some (row_of (form_of (event_from form values))) = row ∙ sym (ap (λ (f : Form). Some (row_of f)) made.0) in
-    let places : PlacesSay (map place_of (parts_of (form_of (event_from form values)))) left values = subst (λ (f : Form). PlacesSay (map place_of (parts_of f)) left values) (sym made.0) says in
-    (first, subst (PlacesSay (map place_of (parts_of (form_of (event_from form values)))) left) (sym made.1) places, refl)
+    let places : PlacesSay (map grammar_place (parts_of (form_of (event_from form values)))) left values = subst (λ (f : Form). PlacesSay (map grammar_place (parts_of f)) left values) (sym made.0) says in
+    (first, subst (PlacesSay (map grammar_place (parts_of (form_of (event_from form values)))) left) (sym made.1) places, refl)
 
 -- As the reader finds it
 
@@ -259,15 +260,15 @@ no_form words third word left is front none =
     ap event_fault front ∙ fault_is word left None named
 
 pub no_values : (words : List (List ℕ)) (third : Bool) (word : List ℕ) (left : List (List ℕ)) (form : Form) (cause : LineCause) → third ≡ has_third words → words ≡ word ∷ left
-    → form_named third word ≡ Some form → values_at (map place_of (parts_of form)) left ≡ Err cause → event_fault words ≡ Some cause
+    → form_named third word ≡ Some form → values_at (map grammar_place (parts_of form)) left ≡ Err cause → event_fault words ≡ Some cause
 no_values words third word left form cause is front some bad =
     let third2 : has_third (word ∷ left) ≡ third = ap has_third (sym front) ∙ sym is in
     let named : form_named (has_third (word ∷ left)) word ≡ Some form = ap (λ (t : Bool). form_named t word) third2 ∙ some in
     ap event_fault front ∙ fault_is word left (Some form) named
-    ∙ ap (λ (o : Option LineCause). or_else o (numbers_fault (row_of form) left)) (values_fault (map place_of (parts_of form)) left cause bad)
+    ∙ ap (λ (o : Option LineCause). or_else o (numbers_fault (row_of form) left)) (values_fault (map grammar_place (parts_of form)) left cause bad)
 
 pub says_read : (words : List (List ℕ)) (third : Bool) (word : List ℕ) (left : List (List ℕ)) (form : Form) (values : List ℕ) → third ≡ has_third words → words ≡ word ∷ left
-    → form_named third word ≡ Some form → length values ≡ 4 → values_at (map place_of (parts_of form)) left ≡ Ok (take (length (parts_of form)) values)
+    → form_named third word ≡ Some form → length values ≡ 4 → values_at (map grammar_place (parts_of form)) left ≡ Ok (take (length (parts_of form)) values)
     → SaysEvent words (event_from form values)
 says_read words third word left form values is front some four good =
     let third2 : has_third (word ∷ left) ≡ third = ap has_third (sym front) ∙ sym is in
@@ -290,18 +291,18 @@ pub no_fault_says_event : (words : List (List ℕ)) → event_fault words ≡ No
 no_fault_says_event [] e = absurd (cc)
 no_fault_says_event (word ∷ left) e = by_form (form_named (has_third (word ∷ left)) word) refl
   where
-    by_values : (form : Form) (r : Result (List ℕ) LineCause) → form_named (has_third (word ∷ left)) word ≡ Some form → values_at (map place_of (parts_of form)) left ≡ r
+    by_values : (form : Form) (r : Result (List ℕ) LineCause) → form_named (has_third (word ∷ left)) word ≡ Some form → values_at (map grammar_place (parts_of form)) left ≡ r
         → (ev : Event) × SaysEvent (word ∷ left) ev
     by_values form (Ok values) named good = (event_from form values, says_from word left form values named (values_say (parts_of form) left values good))
     by_values form (Err cause) named bad =
-        let none : form_fault (map place_of (parts_of form)) left ≡ None = or_none (form_fault (map place_of (parts_of form)) left) (numbers_fault (row_of form) left) (sym (fault_is word left (Some form) named) ∙ e) in
-        let some = values_fault (map place_of (parts_of form)) left cause bad in
+        let none : form_fault (map grammar_place (parts_of form)) left ≡ None = or_none (form_fault (map grammar_place (parts_of form)) left) (numbers_fault (row_of form) left) (sym (fault_is word left (Some form) named) ∙ e) in
+        let some = values_fault (map grammar_place (parts_of form)) left cause bad in
         let clash : None ≡ Some cause = sym none ∙ some in
         absurd (cc)
 
     by_form : (o : Option Form) → form_named (has_third (word ∷ left)) word ≡ o → (ev : Event) × SaysEvent (word ∷ left) ev
     by_form None named = let clash : Some UnknownWord ≡ None = sym (fault_is word left None named) ∙ e in absurd (cc)
-    by_form (Some form) named = by_values form (values_at (map place_of (parts_of form)) left) named refl
+    by_form (Some form) named = by_values form (values_at (map grammar_place (parts_of form)) left) named refl
 
 -- the form of a row
 abbrev form_of_row : Row → Form

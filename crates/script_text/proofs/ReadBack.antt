@@ -21,7 +21,7 @@ use Rattle.script_text.specs.declared.form.Form.{Form}
 use Rattle.script_text.specs.declared.form.Form.TheVariants.{Feed, Time, Step, Answered, Log, Out, Late, Cut, Snap, Store, Crash, Recover, Show, Settle, Flow, Auto}
 use Rattle.script_text.specs.declared.part.Part.{Part}
 use Rattle.script_text.specs.declared.part.Part.TheVariants.{Number, Equals, Kind}
-use Rattle.script_text.specs.Table.{form_named, has_third, parts_of, place_of, word_of}
+use Rattle.script_text.specs.Table.{form_named, has_third, parts_of, grammar_place, word_of}
 use Rattle.script_text.specs.Scripts.{form_of, values_of, kind_value, SaysEvent, Begins, IsScript, AreNumbers, FitWords, script_text}
 use Rattle.script_text.proofs.OneLine.{number_within, says_from, event_back}
 
@@ -210,14 +210,15 @@ are_words ev f = (form_word (form_of ev), part_words (parts_of (form_of ev)) (va
 
 -- They say the event
 
-part_says : (part : Part) (n : ℕ) → IsSpelled part n → PlacesSay (place_of part ∷ []) (spelling part n ∷ []) (n ∷ [])
+part_says : (part : Part) (n : ℕ) → IsSpelled part n
+    → PlacesSay (grammar_place part ∷ []) (spelling part n ∷ []) (n ∷ [])
 part_says Number n is = (decimal_number n is, number_within n is, tt)
-part_says Equals n is = subst (λ (k : ℕ). PlacesSay (place_of Equals ∷ []) (spelling Equals k ∷ []) (k ∷ [])) (sym is) (refl, refl, tt)
+part_says Equals n is = subst (λ (k : ℕ). PlacesSay (grammar_place Equals ∷ []) (spelling Equals k ∷ []) (k ∷ [])) (sym is) (refl, refl, tt)
 part_says Kind zero is = (refl, refl, tt)
 part_says Kind (suc zero) is = (refl, refl, tt)
 part_says Kind (suc (suc n)) is = absurd (omega arith)
 
-parts_say : (parts : List Part) (values : List ℕ) → AreSpelled parts values → PlacesSay (map place_of parts) (spellings parts values) values
+parts_say : (parts : List Part) (values : List ℕ) → AreSpelled parts values → PlacesSay (map grammar_place parts) (spellings parts values) values
 parts_say [] [] are = tt
 parts_say [] (n ∷ values) are = absurd are
 parts_say (part ∷ parts) [] are = absurd are

@@ -7,7 +7,7 @@ use Rattle.plain_text.specs.declared.fault.LineCause.TheVariants.{MissingWord}
 use Rattle.plain_text.specs.Grammar.{value_at}
 use Rattle.script_text.specs.declared.part.Part.{Part}
 use Rattle.script_text.specs.declared.part.Part.TheVariants.{Number}
-use Rattle.script_text.specs.Table.{place_of}
+use Rattle.script_text.specs.Table.{grammar_place}
 use Rattle.script_text.specs.Values.{onto_values, and_values, value_or_misfit, values_at}
 
 -- values, and then those of a result
@@ -21,22 +21,24 @@ behind_one values n (Err cause) = refl
 
 -- where no word is left at a place
 pub missing : (values : List ℕ) (parts : List Part) (i : ℕ) (words : List (List ℕ)) (r : Result (List ℕ) LineCause) → i < length parts → words ≡ []
-    → behind values (values_at (map place_of (drop i parts)) words) ≡ r → r ≡ Err MissingWord
+    → behind values (values_at (map grammar_place (drop i parts)) words) ≡ r → r ≡ Err MissingWord
 missing values parts i words r less none e =
     sym e
-    ∙ ap (λ (ps : List Part). behind values (values_at (map place_of ps) words)) (drop_more parts i Number less)
-    ∙ ap (λ (ws : List (List ℕ)). behind values (values_at (map place_of (get_or parts i Number ∷ drop (i + 1) parts)) ws)) none
+    ∙ ap (λ (ps : List Part). behind values (values_at (map grammar_place ps) words)) (drop_more parts i Number less)
+    ∙ ap (λ (ws : List (List ℕ)). behind values (values_at (map grammar_place (get_or parts i Number ∷ drop (i + 1) parts)) ws)) none
 
 -- one more value
 pub one_more : (values : List ℕ) (parts : List Part) (i n : ℕ) (word : List ℕ) (words left : List (List ℕ)) (r : Result (List ℕ) LineCause)
     → i < length parts → i < length values → words ≡ word ∷ left
-    → value_or_misfit (place_of (get_or parts i Number)) (value_at (place_of (get_or parts i Number)) word) ≡ Ok n
-    → behind (take i values) (values_at (map place_of (drop i parts)) words) ≡ r
-    → behind (take (i + 1) (set values i n)) (values_at (map place_of (drop (i + 1) parts)) left) ≡ r
+    → value_or_misfit (grammar_place (get_or parts i Number))
+    (value_at (grammar_place (get_or parts i Number)) word) ≡ Ok n
+    → behind (take i values) (values_at (map grammar_place (drop i parts)) words) ≡ r
+    → behind (take (i + 1) (set values i n)) (values_at (map grammar_place (drop (i + 1) parts)) left) ≡ r
 one_more values parts i n word words left r less room front value e =
-    ap (λ (vs : List ℕ). behind vs (values_at (map place_of (drop (i + 1) parts)) left)) (take_more_set values i n room)
-    ∙ behind_one (take i values) n (values_at (map place_of (drop (i + 1) parts)) left)
-    ∙ sym (ap (λ (v : Result ℕ LineCause). behind (take i values) (and_values v (values_at (map place_of (drop (i + 1) parts)) left))) value)
-    ∙ sym (ap (λ (ws : List (List ℕ)). behind (take i values) (values_at (map place_of (get_or parts i Number ∷ drop (i + 1) parts)) ws)) front)
-    ∙ sym (ap (λ (ps : List Part). behind (take i values) (values_at (map place_of ps) words)) (drop_more parts i Number less))
+    ap (λ (vs : List ℕ). behind vs (values_at (map grammar_place (drop (i + 1) parts)) left))
+    (take_more_set values i n room)
+    ∙ behind_one (take i values) n (values_at (map grammar_place (drop (i + 1) parts)) left)
+    ∙ sym (ap (λ (v : Result ℕ LineCause). behind (take i values) (and_values v (values_at (map grammar_place (drop (i + 1) parts)) left))) value)
+    ∙ sym (ap (λ (ws : List (List ℕ)). behind (take i values) (values_at (map grammar_place (get_or parts i Number ∷ drop (i + 1) parts)) ws)) front)
+    ∙ sym (ap (λ (ps : List Part). behind (take i values) (values_at (map grammar_place ps) words)) (drop_more parts i Number less))
     ∙ e

@@ -13,10 +13,10 @@ abbrev pub kind_words : List (List ℕ)
 kind_words = codes "log" ∷ codes "out" ∷ []
 
 -- what may stand at a place: any number below 2^64, the sign `=`, or the word of a kind
-abbrev pub place_of : Part → Place
-place_of Number = place.Number 0 (2 ^ 64 - 1)
-place_of Equals = OneOf (codes "=" ∷ [])
-place_of Kind = OneOf kind_words
+abbrev pub grammar_place : Part → Place
+grammar_place Number = place.Number 0 (2 ^ 64 - 1)
+grammar_place Equals = OneOf (codes "=" ∷ [])
+grammar_place Kind = OneOf kind_words
 
 abbrev pub word_of : Form → List ℕ
 word_of Feed = codes "feed"
@@ -56,7 +56,7 @@ parts_of Auto = Number ∷ Number ∷ []
 
 -- each may stand again
 abbrev pub row_of : Form → Row
-row_of form = free_row (word_of form) (map place_of (parts_of form))
+row_of form = free_row (word_of form) (map grammar_place (parts_of form))
 
 -- The forms that a line may have. A line `step` with a third word gives an answer, and one without does not; so the forms are
 -- those of lines with a third word, or of lines without.

@@ -1,6 +1,6 @@
 ghost use Rattle.std.specs.Prelude.{◌≡◌};
 ghost use Rattle.plain_text.specs.Grammar.{value_at};
-ghost use Rattle.script_text.specs.Table.{place_of};
+ghost use Rattle.script_text.specs.Table.{grammar_place};
 ghost use Rattle.script_text.specs.Values.{value_or_misfit};
 
 use plain_text::{LineCause, read_u64};
@@ -19,7 +19,7 @@ pub enum Part {
 impl Part {
     /// The value of a word at this place, or its fault.
     pub fn value(self, word: &[u8]) -> Result<u64, LineCause>
-        ensures { result ≡ value_or_misfit (place_of self) (value_at (place_of self) word.now) }
+        ensures { result ≡ value_or_misfit (grammar_place self) (value_at (grammar_place self) word.now) }
     {
         match self {
             Part::Number => read_u64(word).ok_or(LineCause::BadNumber),

@@ -2,7 +2,7 @@ ghost use Rattle.std.specs.Prelude.{◌≡◌, ◌≤◌, Ok, Err, Some, IfOk, I
 ghost use Rattle.plain_text.specs.declared.limit.TheConstants.{MOST_EVENTS as most_events};
 ghost use Rattle.plain_text.specs.Lines.{words_of};
 ghost use Rattle.script_text.specs.Scripts.{IsScript, IsRefused, SaysEvent, count_of, event_fault, weight};
-ghost use Rattle.script_text.specs.Table.{has_third, place_of};
+ghost use Rattle.script_text.specs.Table.{has_third, grammar_place};
 ghost use Rattle.script_text.specs.Values.{values_at};
 
 use crate::form::{Form, MOST_VALUES};
@@ -85,9 +85,10 @@ fn is_third_there(mut words: WordIter<'_>) -> bool
 fn read_values(mut words: WordIter<'_>, parts: &[Part]) -> Result<[u64; MOST_VALUES], LineCause>
     requires { length parts.now ≤ 4 }
     ensures values { IfOk result (λ values.
-        values_at (map place_of parts.now) words.entry ≡ Ok (take (length parts.now) values)) }
+        values_at (map grammar_place parts.now) words.entry
+        ≡ Ok (take (length parts.now) values)) }
     ensures fault { IfErr result (λ cause.
-        values_at (map place_of parts.now) words.entry ≡ Err cause) }
+        values_at (map grammar_place parts.now) words.entry ≡ Err cause) }
 {
     let mut values = [0; MOST_VALUES];
     for (index, part) in parts.iter().enumerate() {

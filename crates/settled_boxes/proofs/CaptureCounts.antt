@@ -10,7 +10,7 @@ use Rattle.plain_machine.specs.Program.{Meaning}
 use Rattle.plain_machine.specs.History.{Step, thread_after, value_after, IsHistory}
 use Rattle.monitor_box.specs.declared.value.MonitorValue.{MonitorValue}
 use Rattle.monitor_box.specs.Monitor.{monitor_meaning}
-use Rattle.monitor_box.specs.Standing.{HaveBytes}
+use Rattle.monitor_box.specs.FlowStanding.{HaveBytes}
 use Rattle.monitor_box.specs.Arrivals.{share, other_share, shares, taken_sum}
 use Rattle.monitor_box.proofs.MatchedTotals.{packets_counted, bytes_counted}
 use Rattle.monitor_box.proofs.CountedPackets.{counts_flow_at_rest, counts_others_at_rest}

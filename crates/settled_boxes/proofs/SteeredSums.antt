@@ -14,7 +14,7 @@ use Rattle.packet_headers.specs.Steering.{steering_sum}
 use Rattle.packet_headers.specs.View.{viewed}
 use Rattle.input_logger.specs.Inputs.{thread_of, thread_of_view}
 use Rattle.recovery_world.specs.World.{Setting, all_inputs}
-use Rattle.monitor_box.specs.Standing.{HaveBytes}
+use Rattle.monitor_box.specs.FlowStanding.{HaveBytes}
 use Rattle.monitor_box.specs.Arrivals.{shares}
 use Rattle.monitor_box.proofs.ChangedSums.{one_changes, sum_of_none}
 

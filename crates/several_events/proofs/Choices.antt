@@ -14,12 +14,12 @@ use Rattle.recovery_world.specs.Events.{On, OnLog, OnOut, OfThread, OnStep, OnRe
 use Rattle.recovery_world.specs.Many.{arrival_of, Phase, Steps, Arrives, Chooses, rests, after_step, first_of, at_rest, chosen, goes_on}
 use Rattle.recovery_laws.proofs.Rounds.{lt_true, lt_false, move_moves}
 use Rattle.system_parts.specs.Parts.{Parts}
-use Rattle.system_parts.specs.Standing.{StandsFor}
+use Rattle.system_parts.specs.SystemStanding.{StandsFor}
 use Rattle.system_parts.proofs.EventChains.{threads_of_setting}
 use Rattle.several_events.specs.declared.progress.Progress.{Progress}
 use Rattle.several_events.specs.declared.progress.Progress.TheVariants as progress
 use Rattle.single_events.specs.Single.{IsSingle}
-use Rattle.several_events.specs.Progressing.{messages_from, to_arrive, to_do, after_turn, after_of, IsAt, IsOver, IsNext, IsMessage, NoMessage}
+use Rattle.several_events.specs.Progressing.{messages_from, to_arrive, to_do, after_turn, after_of, IsInPhase, IsOver, IsNext, IsMessage, NoMessage}
 use Rattle.several_events.proofs.MessageLists.{messages_whole, few_moves}
 
 -- What arrives leaves the past and the moves
@@ -99,7 +99,7 @@ next_step {P} {V} m y left t u moved same low few =
             record { event = event.Step t None; leads_to = after_step s.threads left t moved },
             ap (λ (p : Phase). goes_on s p w) at.0 ∙ goes s w here,
             refl,
-            λ to freed new on. subst (λ (n : ℕ). IsAt s new (after_turn n left t moved to) (after_step s.threads left t moved to)) (sym (threads_of_setting m s w y st))
+            λ to freed new on. subst (λ (n : ℕ). IsInPhase s new (after_turn n left t moved to) (after_step s.threads left t moved to)) (sym (threads_of_setting m s w y st))
                 (arrives s new to (rests to) refl (up w new to at.1 (step_kind s w new t to here at.1 on.0.0))),
           );
       falls = λ s w q st at to freed new on packets.
@@ -118,11 +118,11 @@ next_step {P} {V} m y left t u moved same low few =
     up w new to at (inr k) = k.2
 
     turns : (s : Setting V) (new : World V) (b : Bool) → new.up ≡ true
-        → IsAt s new (if b then progress.Steps left (t + 1) moved else progress.Steps left 0 false) (if b then Steps left (t + 1) moved else Steps left 0 false)
+        → IsInPhase s new (if b then progress.Steps left (t + 1) moved else progress.Steps left 0 false) (if b then Steps left (t + 1) moved else Steps left 0 false)
     turns s new true is_up = (refl, is_up)
     turns s new false is_up = (refl, is_up)
 
-    arrives : (s : Setting V) (new : World V) (to : Outcome) (r : Bool) → rests to ≡ r → new.up ≡ true → IsAt s new (after_turn s.threads left t moved to) (after_step s.threads left t moved to)
+    arrives : (s : Setting V) (new : World V) (to : Outcome) (r : Bool) → rests to ≡ r → new.up ≡ true → IsInPhase s new (after_turn s.threads left t moved to) (after_step s.threads left t moved to)
     arrives s new to true is is_up = rw is (turns s new (nat_lt (t + 1) s.threads || not moved) is_up)
     arrives s new to false is is_up = rw is (refl, is_up)
 
@@ -182,7 +182,8 @@ next_feed {P} {V} m y left t moved over some few more = record {
 
 -- all that was made arrives
 same_at_rest : {P V : Type 0} (m : Meaning V) (y : Parts P V) (left t : ℕ) (moved : Bool) (s : Setting V) (w : World V) (q : Phase) → StandsFor m s w y → y.inputs.threads ≤ t → left ≡ 0
-    → IsAt s w (progress.Steps left t moved) q → goes_on s q w ≡ goes_on s (Arrives (messages_from s w kind.Log 0 0)) w
+    → IsInPhase s w (progress.Steps left t moved) q
+    → goes_on s q w ≡ goes_on s (Arrives (messages_from s w kind.Log 0 0)) w
 same_at_rest {P} {V} m y left t moved s w q st over none at =
     ap (λ (p : Phase). goes_on s p w) at.0 ∙ (rests_at s w left t moved (at_threads m s w y t st over) ∙ (ap (at_rest s w) none ∙ sym (ap first_of (messages_whole s w))))
 
@@ -241,7 +242,7 @@ next_chosen {P} {V} m y words further left ev more which further_is single = rec
         record { event = chosen s seed k w; leads_to = λ to. Chooses seed (k + 1) (k + left) },
         ap (λ (p : Phase). goes_on s p w) at.2 ∙ goes s w seed k,
         sym (which s w seed k st at.3),
-        λ to freed new on. subst (λ (g : Progress). IsAt s new g (Chooses seed (k + 1) (k + left))) (sym (same ev to)) (seed, k + 1, ap (Chooses seed (k + 1)) (count k), further_is seed k at.3),
+        λ to freed new on. subst (λ (g : Progress). IsInPhase s new g (Chooses seed (k + 1) (k + left))) (sym (same ev to)) (seed, k + 1, ap (Chooses seed (k + 1)) (count k), further_is seed k at.3),
       );
   falls = λ s w q st at to freed new on packets.
       subst (λ (g : Progress). to_do y.inputs.threads packets new.moves g < left) (sym (same ev to)) (omega (arith, more));

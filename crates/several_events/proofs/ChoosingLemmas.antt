@@ -11,10 +11,9 @@ use Rattle.recovery_world.specs.declared.event.Event.{Event}
 use Rattle.recovery_world.specs.World.{Setting, World}
 use Rattle.recovery_world.specs.Many.{auto_event, chosen}
 use Rattle.system_parts.specs.Parts.{Parts}
-use Rattle.system_parts.specs.Standing.{StandsFor}
+use Rattle.system_parts.specs.SystemStanding.{StandsFor}
 use Rattle.single_events.specs.Single.{IsSingle}
 use Rattle.several_events.specs.Choosing.{Counted}
-use Rattle.thread_steps.proofs.HandLemmas.{draws_word}
 use Rattle.system_parts.proofs.ReadLemmas.{counts_stand}
 use Rattle.system_parts.proofs.EventChains.{threads_of_setting}
 use Rattle.master_core.specs.declared.parts.Counts.{Counts}

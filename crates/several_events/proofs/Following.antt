@@ -10,11 +10,12 @@ use Rattle.recovery_world.specs.Strategies.{Follows, Ends, Halts, Goes}
 use Rattle.recovery_world.specs.Many.{goes_on, summary_of}
 use Rattle.event_replies.specs.declared.reply.Reply.{Reply}
 use Rattle.system_parts.specs.Parts.{Parts}
-use Rattle.system_parts.specs.Standing.{StandsFor}
+use Rattle.system_parts.specs.SystemStanding.{StandsFor}
 use Rattle.system_parts.specs.Performing.{MovesOn, Replies, WouldPass}
 use Rattle.system_parts.proofs.EventChains.{threads_of_setting}
 use Rattle.several_events.specs.declared.progress.Progress.{Progress}
-use Rattle.several_events.specs.Progressing.{to_do, after_of, IsAt, IsNext, IsOver, StandsAt, Reaches, Comes, SumsUp}
+use Rattle.several_events.specs.Progressing.{to_do, after_of, IsInPhase, IsNext, IsOver, StandsAt}
+use Rattle.several_events.specs.Progressing.{Reaches, Comes, SumsUp}
 use Rattle.system_parts.proofs.ReadLemmas.{released_count}
 
 -- it goes on from where it began
@@ -41,7 +42,8 @@ module _ {P V : Type 0} (m : Meaning V) (y : Parts P V) (s : Setting V) (w here 
       let k = a q at_is in
       let c = chosen.chosen s here k.0 st k.1 in (
         c.0.leads_to reply.outcome,
-        subst (λ (g : Progress). IsAt s next g (c.0.leads_to reply.outcome)) (sym is) (c.3 reply.outcome b.0 next b.1),
+        subst (λ (g : Progress). IsInPhase s next g (c.0.leads_to reply.outcome)) (sym is)
+            (c.3 reply.outcome b.0 next b.1),
         λ end new rest. k.2 end new (Goes k.0 here c.0 reply.outcome b.0 c.1 (subst (λ (e : Event). OnWithin s here e reply.outcome b.0 next) (sym c.2) b.1) rest),
       )
 

@@ -14,7 +14,7 @@ use Rattle.recovery_world.specs.World.{Setting, World}
 use Rattle.recovery_world.specs.Limits.{limit_passed}
 use Rattle.recovery_world.specs.Many.{Message, numbered, of_threads, all_messages}
 use Rattle.system_parts.specs.Parts.{Parts}
-use Rattle.system_parts.specs.Standing.{StandsFor}
+use Rattle.system_parts.specs.SystemStanding.{StandsFor}
 use Rattle.system_parts.proofs.ReadLemmas.{counts_stand}
 use Rattle.several_events.specs.Progressing.{count_in, of_rest, messages_from, to_arrive_of, IsOfKind, IsMessage, NoMessage}
 

@@ -5,7 +5,7 @@ use Rattle.plain_machine.specs.Program.{Meaning}
 use Rattle.plain_machine.specs.History.{log_of, sent_of, outputs}
 use Rattle.recovery_world.specs.World.{Setting, World}
 use Rattle.system_parts.specs.Parts.{Parts}
-use Rattle.system_parts.specs.Standing.{StandsFor}
+use Rattle.system_parts.specs.SystemStanding.{StandsFor}
 
 -- The lists have how many entries and outputs each of the first threads had, and room for those of 16.
 pub record Counted {P V : Type 0} (m : Meaning V) (y : Parts P V) (many : ℕ) (es os : List ℕ) : Type 0 where

@@ -16,7 +16,7 @@ use Rattle.recovery_world.specs.Limits.{OnWithin}
 use Rattle.recovery_world.specs.Strategies.{Choice, Follows}
 use Rattle.recovery_world.specs.Many.{Message, numbered, of_threads, Phase, Wakes, Steps, Arrives, Chooses, rests, goes_on, begins, summary_of}
 use Rattle.system_parts.specs.Parts.{Parts}
-use Rattle.system_parts.specs.Standing.{StandsFor}
+use Rattle.system_parts.specs.SystemStanding.{StandsFor}
 use Rattle.several_events.specs.declared.progress.Progress.{Progress}
 use Rattle.several_events.specs.declared.progress.Progress.TheVariants as progress
 use Rattle.single_events.specs.Single.{IsSingle}
@@ -42,11 +42,11 @@ messages_from s w kind.Out t arrived = of_rest kind.Out (count_in kind.Out w.pas
 -- The phase
 
 -- the phase of the definitions that this is
-abbrev pub IsAt : {V : Type 0} → Setting V → World V → Progress → Phase → Type 0
-IsAt s w progress.Wakes q = q ≡ Wakes
-IsAt s w (progress.Steps left t moved) q = (q ≡ Steps left t moved) × (w.up ≡ true)
-IsAt s w (progress.Arrives k t arrived) q = q ≡ Arrives (messages_from s w k t arrived)
-IsAt s w (progress.Chooses words left) q =
+abbrev pub IsInPhase : {V : Type 0} → Setting V → World V → Progress → Phase → Type 0
+IsInPhase s w progress.Wakes q = q ≡ Wakes
+IsInPhase s w (progress.Steps left t moved) q = (q ≡ Steps left t moved) × (w.up ≡ true)
+IsInPhase s w (progress.Arrives k t arrived) q = q ≡ Arrives (messages_from s w k t arrived)
+IsInPhase s w (progress.Chooses words left) q =
     (seed k : ℕ) × (q ≡ Chooses seed k (k + left)) × (words ≡ generator_after seed (2 * k))
 
 -- it is the turn of a thread that there is
@@ -90,15 +90,15 @@ to_do n packets moves (progress.Chooses words left) = left
 
 -- Nothing more is done.
 abbrev pub IsOver : {P V : Type 0} → Meaning V → Parts P V → Progress → Type 0
-IsOver {P} {V} m y at = (s : Setting V) (w : World V) (q : Phase) → StandsFor m s w y → IsAt s w at q → goes_on s q w ≡ None
+IsOver {P} {V} m y at = (s : Setting V) (w : World V) (q : Phase) → StandsFor m s w y → IsInPhase s w at q → goes_on s q w ≡ None
 
 -- The strategy chooses this event, behind which it goes on from there, and less is to be done.
 pub record IsNext {P V : Type 0} (m : Meaning V) (y : Parts P V) (at : Progress) (ev : Event) (further : Progress) : Type 0 where
-  pub chosen : (s : Setting V) (w : World V) (q : Phase) → StandsFor m s w y → IsAt s w at q
+  pub chosen : (s : Setting V) (w : World V) (q : Phase) → StandsFor m s w y → IsInPhase s w at q
       → (c : Choice Phase) × (goes_on s q w ≡ Some c) × (c.event ≡ ev)
       × ((to : Outcome) (freed : List Sent) (new : World V) → OnWithin s w ev to freed new
-      → IsAt s new (after_of y.inputs.threads further ev to) (c.leads_to to))
-  pub falls : (s : Setting V) (w : World V) (q : Phase) → StandsFor m s w y → IsAt s w at q
+      → IsInPhase s new (after_of y.inputs.threads further ev to) (c.leads_to to))
+  pub falls : (s : Setting V) (w : World V) (q : Phase) → StandsFor m s w y → IsInPhase s w at q
       → (to : Outcome) (freed : List Sent) (new : World V) → OnWithin s w ev to freed new
       → (packets : ℕ) → to_do y.inputs.threads packets new.moves (after_of y.inputs.threads further ev to)
       < to_do y.inputs.threads (length y.left) w.moves at
@@ -125,20 +125,20 @@ NoMessage s w k t arrived = messages_from s w k t arrived ≡ []
 
 -- An event of several begins so.
 abbrev pub IsBegun : {P V : Type 0} → Meaning V → Parts P V → Event → Progress → Type 0
-IsBegun {P} {V} m y ev at = (s : Setting V) (w : World V) → StandsFor m s w y → (q : Phase) × (begins s w ev ≡ Some q) × IsAt s w at q
+IsBegun {P} {V} m y ev at = (s : Setting V) (w : World V) → StandsFor m s w y → (q : Phase) × (begins s w ev ≡ Some q) × IsInPhase s w at q
 
 -- it is so far, in some world that the parts stand for
 abbrev pub StandsAt : {P V : Type 0} → Meaning V → Parts P V → Progress → Type 0
-StandsAt {P} {V} m y at = (s : Setting V) × (w : World V) × StandsFor m s w y × (q : Phase) × IsAt s w at q
+StandsAt {P} {V} m y at = (s : Setting V) × (w : World V) × StandsFor m s w y × (q : Phase) × IsInPhase s w at q
 
 -- the strategy goes on from there
 abbrev pub Reaches : {V : Type 0} → Progress → Progress → Setting V → World V → World V → Type 0
-Reaches {V} at further s w next = (q : Phase) → IsAt s w at q → (p : Phase) × IsAt s next further p
+Reaches {V} at further s w next = (q : Phase) → IsInPhase s w at q → (p : Phase) × IsInPhase s next further p
     × ((end : Option Limit) (new : World V) → Follows s (goes_on s) p next end new → Follows s (goes_on s) q w end new)
 
 -- the strategy came to its end, or to this limit
 abbrev pub Comes : {V : Type 0} → Progress → Option Limit → Setting V → World V → World V → Type 0
-Comes {V} at end s w next = (q : Phase) → IsAt s w at q → Follows s (goes_on s) q w end next
+Comes {V} at end s w next = (q : Phase) → IsInPhase s w at q → Follows s (goes_on s) q w end next
 
 -- it came to its end, with this summary
 abbrev pub SumsUp : {V : Type 0} → Progress → Outcome → Setting V → World V → World V → Type 0

@@ -2,7 +2,7 @@ ghost use Rattle.std.specs.Prelude.{◌≡◌, ◌+◌, ◌*◌, ℕ, Bool};
 ghost use Rattle.random_words.specs.Words.{generator_after};
 ghost use Rattle.recovery_world.specs.World.{Setting, World};
 ghost use Rattle.recovery_world.specs.Many.{chosen};
-ghost use Rattle.system_parts.specs.Standing.{StandsFor};
+ghost use Rattle.system_parts.specs.SystemStanding.{StandsFor};
 ghost use Rattle.single_events.specs.Single.{IsSingle};
 ghost use Rattle.several_events.specs.Choosing.{Counted};
 

@@ -1,6 +1,6 @@
 ghost use Rattle.std.specs.Prelude.{◌≡◌, ◌<◌, ◌-◌, [], IfSome, None};
 ghost use Rattle.recovery_world.specs.World.{Setting, World};
-ghost use Rattle.system_parts.specs.Standing.{StandsFor};
+ghost use Rattle.system_parts.specs.SystemStanding.{StandsFor};
 ghost use Rattle.several_events.specs.Progressing.{IsMessage, IsOfKind, NoMessage, count_in, of_rest};
 
 use box_program::Program;

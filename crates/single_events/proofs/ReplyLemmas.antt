@@ -8,7 +8,7 @@ use Rattle.recovery_world.specs.declared.event.Outcome.{Outcome}
 use Rattle.recovery_world.specs.World.{Setting, World}
 use Rattle.event_replies.specs.declared.reply.Reply.{Reply}
 use Rattle.system_parts.specs.Parts.{Parts}
-use Rattle.system_parts.specs.Standing.{StandsFor}
+use Rattle.system_parts.specs.SystemStanding.{StandsFor}
 use Rattle.system_parts.specs.Performing.{MovesOn, StopsAt, Releasing, ComesTo, Replies, WouldPass}
 use Rattle.output_releases.proofs.QuietEvents.{IsQuiet, quiet_on}
 use Rattle.output_releases.proofs.ReleasedLists.{releases_none}

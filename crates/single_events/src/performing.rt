@@ -1,6 +1,6 @@
 ghost use Rattle.std.specs.Prelude.{◌≡◌, IfOk, Err};
 ghost use Rattle.plain_text.specs.declared.limit.Limit.{Limit as LimitKind};
-ghost use Rattle.system_parts.specs.Standing.{StandsForSome};
+ghost use Rattle.system_parts.specs.SystemStanding.{StandsForSome};
 ghost use Rattle.single_events.specs.Single.{IsSingle};
 ghost use Rattle.system_parts.specs.Performing.{Appends, MovesOn, StopsAt, Releasing, Replies, WouldPass};
 
@@ -17,7 +17,7 @@ use snapshot_steps::{snap, store};
 use system_parts::Core;
 use thread_steps::step;
 
-/// Performs a single event.
+/// Performs an event that is one by itself: no settling, no choice of events, and a flow only while the master is down.
 pub fn perform_single<P: Program>(
     core: &mut Core<P>,
     event: Event,

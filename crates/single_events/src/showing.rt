@@ -2,7 +2,7 @@ ghost use Rattle.std.specs.Prelude.{◌≡◌, ℕ, IfOk};
 ghost use Rattle.recovery_world.specs.declared.event.Event.TheVariants as event_is;
 ghost use Rattle.recovery_world.specs.World.{Setting, World};
 ghost use Rattle.recovery_world.specs.Limits.{OnWithin};
-ghost use Rattle.system_parts.specs.Standing.{StandsFor};
+ghost use Rattle.system_parts.specs.SystemStanding.{StandsFor};
 ghost use Rattle.system_parts.specs.Performing.{ComesTo};
 
 use box_program::Program;

@@ -40,7 +40,7 @@ use Rattle.output_logger.specs.Logger.{Logger, IsDue, ReleasesOnce, Parts as Log
 use Rattle.recovery_world.specs.World.{Setting, Sent, World, inputs_fed}
 use Rattle.recovery_world.specs.Events.{On, MayGo, Parts as WorldParts, entries_of_line}
 use Rattle.system_parts.specs.Parts.{Parts, AreParts}
-use Rattle.system_parts.specs.Standing.{AreOutputs, IsSentEntry, IsSentOutput, IsSnapshot, StandsFor}
+use Rattle.system_parts.specs.SystemStanding.{AreOutputs, IsSentEntry, IsSentOutput, IsSnapshot, StandsFor}
 use Rattle.recovery_world.specs.declared.event.Event.TheVariants as event
 use Rattle.recovery_world.specs.declared.event.Outcome.{Outcome}
 use Rattle.recovery_world.specs.declared.event.Outcome.TheVariants as outcome

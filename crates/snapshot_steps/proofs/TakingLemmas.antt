@@ -25,7 +25,7 @@ use Rattle.recovery_world.specs.Files.{answer_of, moves_made}
 use Rattle.recovery_world.specs.Limits.{OnWithin}
 use Rattle.recovery_laws.proofs.KeptWorlds.{within_sound}
 use Rattle.system_parts.specs.Parts.{Parts, AreParts}
-use Rattle.system_parts.specs.Standing.{IsKeptOutput, IsSnapshot, StandsFor}
+use Rattle.system_parts.specs.SystemStanding.{IsKeptOutput, IsSnapshot, StandsFor}
 use Rattle.snapshot_steps.specs.Unreleased.{AreUnreleased}
 use Rattle.system_parts.specs.Performing.{MovesOn, ComesTo}
 use Rattle.snapshot_steps.proofs.StoreLemmas.{log_short, total_is}

@@ -17,7 +17,7 @@ use Rattle.recovery_laws.proofs.Settlings.{number_high}
 use Rattle.link_store.specs.Links.{frame_at}
 use Rattle.sent_frames.specs.Sending.{Sending, output_address, HasOutputFrame}
 use Rattle.system_parts.specs.Parts.{Parts}
-use Rattle.system_parts.specs.Standing.{IsSentOutput, IsKeptOutput, StandsFor, StandsForSome}
+use Rattle.system_parts.specs.SystemStanding.{IsSentOutput, IsKeptOutput, StandsFor, StandsForSome}
 use Rattle.snapshot_steps.specs.Unreleased.{IsUnreleased, Lists, HasFrameOf, HasRest, AddsUnreleased, AreUnreleased}
 use Rattle.recovery_laws.proofs.Finishes.{sends_thread}
 use Rattle.input_logger.specs.Inputs.{Fed}

@@ -3,7 +3,7 @@ ghost use Rattle.plain_machine.specs.History.{sent_of, outputs};
 ghost use Rattle.recovery_world.specs.World.{Setting, World};
 ghost use Rattle.recovery_world.specs.declared.event.Event.TheVariants as event_is;
 ghost use Rattle.sent_frames.specs.Sending.{ForgetsCovered};
-ghost use Rattle.system_parts.specs.Standing.{StandsFor, StandsForSome};
+ghost use Rattle.system_parts.specs.SystemStanding.{StandsFor, StandsForSome};
 ghost use Rattle.snapshot_steps.specs.Unreleased.{HasRest, AddsUnreleased, AreUnreleased};
 ghost use Rattle.system_parts.specs.Performing.{Appends, MovesOn, Releasing, ComesTo, Replies};
 

@@ -5,7 +5,7 @@ use Rattle.plain_machine.specs.Program.{Meaning}
 use Rattle.plain_machine.specs.History.{Step}
 use Rattle.plain_machine.specs.Agree.{IsEarlier}
 use Rattle.master_core.specs.Mastered.{Mastered}
-use Rattle.master_core.specs.Standing.{Stands}
+use Rattle.master_core.specs.MasterStanding.{Stands}
 
 -- a master at one moment, how many moves it had made, and its outputs that were not released then
 pub record Snapshot (V : Type 0) : Type 0 where

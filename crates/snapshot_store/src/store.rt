@@ -2,7 +2,7 @@ ghost use Rattle.std.specs.Prelude.{◌≡◌, ◌↔◌, ℕ, ◌≤◌, [], le
 ghost use Rattle.std.specs.Option.{ForSome};
 ghost use Rattle.box_program.specs.Hands.{FitsProgram};
 ghost use Rattle.master_core.specs.Mastered.{value_of};
-ghost use Rattle.master_core.specs.Standing.{Stands};
+ghost use Rattle.master_core.specs.MasterStanding.{Stands};
 ghost use Rattle.master_core.specs.Deltas.{delta_of, HasCounts};
 ghost use Rattle.snapshot_store.specs.Stored.{HasTaken};
 
@@ -18,8 +18,11 @@ use thread_clock::Stamp;
 /// What a recovery starts from: a master as it was stored, how many moves it had made, and its outputs that were not released then.
 #[derive(Drop)]
 pub struct Restored<P: Program> {
+    /// A master of its own, which moves apart from the stored one.
     pub master: Master<P>,
+    /// How many moves it had made.
     pub moves: u64,
+    /// The outputs that are to be sent again.
     pub outbox: Outputs,
 }
 

@@ -32,7 +32,7 @@ use Rattle.recovery_laws.proofs.KeptWorlds.{line_entries}
 use Rattle.recovery_laws.proofs.LedMoves.{led_log}
 use Rattle.run_end.specs.Ending.{AreInOrder, IsOrder, IsEndOf, IsEndOfSome, EndsIn}
 use Rattle.system_parts.specs.Parts.{Parts}
-use Rattle.system_parts.specs.Standing.{StandsFor, StandsForSome}
+use Rattle.system_parts.specs.SystemStanding.{StandsFor, StandsForSome}
 use Rattle.system_end.specs.Ending.{IsOrderOf}
 use Rattle.system_parts.proofs.LineLemmas.{holds_moves}
 

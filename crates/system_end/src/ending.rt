@@ -1,7 +1,7 @@
 ghost use Rattle.std.specs.Prelude.{◌≡◌, ◌<◌, ℕ, true, IfOk, slice_index};
 ghost use Rattle.dup_filter.specs.Numbers.{numbers, IsGreatest};
 ghost use Rattle.recovery_world.specs.World.{Setting, World};
-ghost use Rattle.system_parts.specs.Standing.{StandsFor, StandsForSome};
+ghost use Rattle.system_parts.specs.SystemStanding.{StandsFor, StandsForSome};
 ghost use Rattle.run_end.specs.Ending.{EndsIn};
 ghost use Rattle.system_end.specs.Ending.{IsOrderOf};
 

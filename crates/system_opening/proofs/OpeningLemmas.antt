@@ -12,7 +12,7 @@ use Rattle.dup_filter.specs.Numbers.{Numbers, no_numbers, IsMarked, WasMarked}
 use Rattle.plain_machine.specs.Program.{Meaning}
 use Rattle.box_program.specs.Hands.{FitsProgram}
 use Rattle.master_core.specs.Mastered.{value_of}
-use Rattle.master_core.specs.Standing.{Stands}
+use Rattle.master_core.specs.MasterStanding.{Stands}
 use Rattle.master_core.specs.Holding.{held_entries}
 use Rattle.master_core.proofs.HeldEntries.{held_at}
 use Rattle.master_core.proofs.Holdings.{fresh_holds, fresh_holds_none}
@@ -24,7 +24,7 @@ use Rattle.std.proofs.lemmas.List.Elements.{All-nil}
 use Rattle.recovery_laws.proofs.KeptWorlds.{opening_sound}
 use Rattle.sent_frames.specs.Sending.{Sending, lengths_of, IsUnsent}
 use Rattle.system_parts.specs.Parts.{Parts, IsShort, AreParts}
-use Rattle.system_parts.specs.Standing.{HasLogger, HasSent, HasSnapshots, HasEnded, HasGuide, StandsFor}
+use Rattle.system_parts.specs.SystemStanding.{HasLogger, HasSent, HasSnapshots, HasEnded, HasGuide, StandsFor}
 
 -- a store with a fresh master, which made no move and sent nothing
 pub record IsFreshStore {V : Type 0} (m : Meaning V) (threads : ℕ) (store : Snapshots V) : Type 0 where

@@ -3,7 +3,7 @@ ghost use Rattle.plain_text.specs.declared.packet.Packet as packet_of;
 ghost use Rattle.plain_text.specs.declared.packet.Unit as unit_of;
 ghost use Rattle.recovery_world.specs.World.{Setting, World, opening};
 ghost use Rattle.system_parts.specs.Parts.{IsShort};
-ghost use Rattle.system_parts.specs.Standing.{StandsFor};
+ghost use Rattle.system_parts.specs.SystemStanding.{StandsFor};
 
 use box_program::Program;
 use event_replies::Releases;

@@ -4,7 +4,7 @@ use Rattle.std.specs.Prelude.{Result, Err}
 use Rattle.plain_machine.specs.Program.{Meaning}
 use Rattle.recovery_world.specs.World.{Setting, World}
 use Rattle.system_parts.specs.Parts.{Parts}
-use Rattle.system_parts.specs.Standing.{StandsFor, StandsForSome}
+use Rattle.system_parts.specs.SystemStanding.{StandsFor, StandsForSome}
 use Rattle.system_parts.specs.Performing.{MovesOn, StopsAt}
 
 -- what an event makes of a world

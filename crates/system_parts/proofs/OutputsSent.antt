@@ -6,7 +6,7 @@ use Rattle.plain_machine.specs.Agree.{SendsAfter}
 use Rattle.recovery_world.specs.World.{Setting, Sent, World, inputs_fed}
 use Rattle.recovery_world.specs.Events.{HasNumber}
 use Rattle.system_parts.specs.Parts.{Parts}
-use Rattle.system_parts.specs.Standing.{IsSentOutput, StandsFor}
+use Rattle.system_parts.specs.SystemStanding.{IsSentOutput, StandsFor}
 use Rattle.system_parts.proofs.OutputNumbers.{HasOutput, output_there}
 
 pub there_sent : {P V : Type 0} (m : Meaning V) (s : Setting V) (w : World V) (y : Parts P V) → StandsFor m s w y

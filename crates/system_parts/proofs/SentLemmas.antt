@@ -33,7 +33,7 @@ use Rattle.recovery_laws.proofs.SoundParts.{sent_after}
 use Rattle.recovery_laws.proofs.Settlings.{number_high}
 use Rattle.sent_frames.specs.Sending.{Sending, lengths_of, length_at, one_longer, entry_size, output_size, entry_address, output_address, HasEntryFrame, HasOutputFrame, SendsEntry, SendsOutput}
 use Rattle.system_parts.specs.Parts.{Parts}
-use Rattle.system_parts.specs.Standing.{IsSentEntry, IsSentOutput, HasSent}
+use Rattle.system_parts.specs.SystemStanding.{IsSentEntry, IsSentOutput, HasSent}
 use Rattle.dup_filter.specs.Numbers.{Numbers, WasMarked}
 
 -- One more length

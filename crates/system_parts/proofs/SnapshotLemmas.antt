@@ -16,7 +16,7 @@ use Rattle.entry_order.proofs.Order.{is_or}
 use Rattle.link_store.specs.declared.address.Address.{Address}
 use Rattle.link_store.specs.Links.{frame_at, IsUpTo}
 use Rattle.sent_frames.specs.Sending.{Sending, length_at, entry_address, ForgetsEntries, ForgetsCovered}
-use Rattle.system_parts.specs.Standing.{IsKeptOutput, IsSnapshot, HasSnapshots}
+use Rattle.system_parts.specs.SystemStanding.{IsKeptOutput, IsSnapshot, HasSnapshots}
 
 -- what was released stays so
 pub marks_stay : (old new : List Numbers) (go : List Output) → ReleasesOnce old new go → (t n : ℕ) → WasMarked old t n → WasMarked new t n

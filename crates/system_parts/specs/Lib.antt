@@ -1,3 +1,3 @@
 pub mod Parts
-pub mod Standing
+pub mod SystemStanding
 pub mod Performing

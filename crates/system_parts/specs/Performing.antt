@@ -12,7 +12,7 @@ use Rattle.recovery_world.specs.Many.{Stops}
 use Rattle.recovery_world.specs.Files.{sent_names, packets_of}
 use Rattle.event_replies.specs.declared.reply.Reply.{Reply}
 use Rattle.system_parts.specs.Parts.{Parts}
-use Rattle.system_parts.specs.Standing.{NotesNames, StandsFor}
+use Rattle.system_parts.specs.SystemStanding.{NotesNames, StandsFor}
 
 -- The world moved so, from any that the parts stood for, and they stand for it now.
 abbrev pub MovesOn : {P V : Type 0} → Meaning V → (Setting V → World V → World V → Type 0) → Parts P V → Parts P V

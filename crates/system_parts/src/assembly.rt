@@ -16,21 +16,27 @@ use std::marker::Model;
 #[derive(Drop)]
 pub struct Core<P: Program> {
     pub alloc: Global,
+    /// The program of the box.
     pub program: P,
+    /// What the fractions of the packets count.
     pub unit: Unit,
     /// The time, in microseconds.
     pub clock: u64,
+    /// The generator of random words, as it is after those that were drawn.
     pub generator: Pcg32,
     /// The packets of the capture that are not fed yet, the next one last.
     pub left: Vec<Packet>,
+    /// The packets that were fed, by the thread to which each was steered. It survives a crash.
     pub inputs: InputLog,
     /// Whether the master is up. The one that crashed stays until there is a new one.
     pub up: bool,
+    /// The master, or the one that crashed.
     pub master: Master<P>,
     /// The moves that the master made.
     pub schedule: Schedule,
     /// What the master follows of the log of those before it.
     pub guide: Guide,
+    /// The stored snapshot, and the one under way. It survives a crash.
     pub store: Store<P>,
     /// How much each thread did until the end of each earlier epoch, the first epoch first.
     pub ended: Vec<Sequence<Counts>>,
@@ -38,7 +44,9 @@ pub struct Core<P: Program> {
     pub moves: u64,
     /// How many bytes they sent out.
     pub bytes: u64,
+    /// The frames that were sent and may still arrive.
     pub sent: SentFrames,
+    /// What holds log entries and releases outputs. It survives a crash.
     pub logger: OutputLogger,
     /// Each released output, in order of release.
     pub released: Releases,

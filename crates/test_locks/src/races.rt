@@ -5,7 +5,7 @@ ghost use Rattle.master_core.specs.Mastered.{value_of};
 ghost use Rattle.var_locks.specs.Codes.{master_code};
 ghost use Rattle.var_locks.specs.Openings.{places_of};
 ghost use Rattle.var_locks.specs.Rounds.{AreVarsOf};
-ghost use Rattle.test_locks.specs.Racing.{IsAt};
+ghost use Rattle.test_locks.specs.Racing.{IsSeatIn};
 
 use crate::inputs::inputs_of;
 use crate::outcomes::{Outcome, outcome_of, shows};
@@ -40,10 +40,10 @@ fn run_both<P: Program + Sync, J: Round + Sync, R: Threads + Wait + Sync>(
     requires of { AreVarsOf P.meaning P.row.coded P.Value.row.coded program.now vars.now }
     requires guide { guide.now ≡ J.guide }
     requires two { vars.now.threads ≡ 2 }
-    requires first { IsAt vars.now.round 0 false first }
-    requires second { IsAt vars.now.round 1 false second }
-    ensures first { IsAt vars.now.round 0 true result.0 }
-    ensures second { IsAt vars.now.round 1 true result.1 }
+    requires first { IsSeatIn vars.now.round 0 false first }
+    requires second { IsSeatIn vars.now.round 1 false second }
+    ensures first { IsSeatIn vars.now.round 0 true result.0 }
+    ensures second { IsSeatIn vars.now.round 1 true result.1 }
 {
     if !feed.at_once {
         let first = run(rt, alloc, program, vars, guide, 0, first, feed);
@@ -54,14 +54,14 @@ fn run_both<P: Program + Sync, J: Round + Sync, R: Threads + Wait + Sync>(
         move || -> VarSeat<P>
             requires { AreVarsOf P.meaning P.row.coded P.Value.row.coded program.now vars.now
                 × (guide.now ≡ J.guide) × (vars.now.threads ≡ 2)
-                × IsAt vars.now.round 0 false first }
-            ensures { IsAt vars.entry.now.round 0 true result }
+                × IsSeatIn vars.now.round 0 false first }
+            ensures { IsSeatIn vars.entry.now.round 0 true result }
         { run(rt, alloc, program, vars, guide, 0, first, feed) },
         move || -> VarSeat<P>
             requires { AreVarsOf P.meaning P.row.coded P.Value.row.coded program.now vars.now
                 × (guide.now ≡ J.guide) × (vars.now.threads ≡ 2)
-                × IsAt vars.now.round 1 false second }
-            ensures { IsAt vars.entry.now.round 1 true result }
+                × IsSeatIn vars.now.round 1 false second }
+            ensures { IsSeatIn vars.entry.now.round 1 true result }
         { run(rt, alloc, program, vars, guide, 1, second, feed) },
     )
 }

@@ -1,7 +1,7 @@
 //! A thread of a round, as it takes packets to their ends.
 ghost use Rattle.std.specs.Prelude.{◌≡◌, ℕ, ◌<◌, ◌^◌, false, true};
 ghost use Rattle.var_locks.specs.Rounds.{AreVarsOf};
-ghost use Rattle.test_locks.specs.Racing.{IsAt};
+ghost use Rattle.test_locks.specs.Racing.{IsSeatIn};
 
 use box_program::Program;
 use input_logger::InputLog;
@@ -50,8 +50,8 @@ fn make<P: Program, J: Round, R: Wait>(
     requires of { AreVarsOf P.meaning P.row.coded P.Value.row.coded program.now vars.now }
     requires guide { guide.now ≡ J.guide }
     requires low { thread < vars.now.threads }
-    requires seat { IsAt vars.now.round thread false seat.old }
-    ensures seat { IsAt vars.now.round thread false seat.new }
+    requires seat { IsSeatIn vars.now.round thread false seat.old }
+    ensures seat { IsSeatIn vars.now.round thread false seat.new }
 {
     let counts = seat.counts();
     if counts.taken > MOST_COUNT || counts.entries > MOST_COUNT || counts.outputs > MOST_COUNT {
@@ -83,8 +83,8 @@ fn run_one<P: Program, J: Round, R: Wait>(
     requires of { AreVarsOf P.meaning P.row.coded P.Value.row.coded program.now vars.now }
     requires guide { guide.now ≡ J.guide }
     requires low { thread < vars.now.threads }
-    requires seat { IsAt vars.now.round thread false seat.old }
-    ensures seat { IsAt vars.now.round thread false seat.new }
+    requires seat { IsSeatIn vars.now.round thread false seat.old }
+    ensures seat { IsSeatIn vars.now.round thread false seat.new }
 {
     for _made in 0..MOST_MOVES {
         match make(rt, alloc, program, vars, guide, thread, seat, packet, time) {
@@ -110,8 +110,8 @@ pub fn run<P: Program, J: Round, R: Wait>(
     requires of { AreVarsOf P.meaning P.row.coded P.Value.row.coded program.now vars.now }
     requires guide { guide.now ≡ J.guide }
     requires low { thread < vars.now.threads }
-    requires seat { IsAt vars.now.round thread false seat }
-    ensures seat { IsAt vars.now.round thread true result }
+    requires seat { IsSeatIn vars.now.round thread false seat }
+    ensures seat { IsSeatIn vars.now.round thread true result }
 {
     for number in 0..feed.count {
         let Some(packet) = feed.inputs.input(thread, number + 1) else {

@@ -7,7 +7,7 @@ ghost use Rattle.atomic_table.specs.Seated.{TableId};
 ghost use Rattle.var_locks.specs.Codes.{master_code};
 ghost use Rattle.var_locks.specs.Openings.{fresh_seats, places_of};
 ghost use Rattle.var_locks.specs.Rounds.{AreVarsOf};
-ghost use Rattle.test_locks.specs.Racing.{IsAt};
+ghost use Rattle.test_locks.specs.Racing.{IsSeatIn};
 
 use box_program::Program;
 use master_core::Master;
@@ -20,7 +20,8 @@ use var_locks::{Closed, Round, VarSeat, Vars};
 fn two_of<P: Program>(mut seats: Vec<VarSeat<P>>) -> Option<(VarSeat<P>, VarSeat<P>)>
     ensures { (round : TableId) (places : List ℕ) (threads : List ThreadPart)
         → seats.items ≡ fresh_seats round places 0 threads → length threads ≡ 2
-        → IfSome result (λ both. IsAt round 0 false both.0 × IsAt round 1 false both.1) }
+        → IfSome result
+        (λ both. IsSeatIn round 0 false both.0 × IsSeatIn round 1 false both.1) }
 {
     let second = seats.pop()?;
     let first = seats.pop()?;
@@ -44,8 +45,8 @@ pub fn open_two<P: Program, J: Round>(
     ensures vars { IfOk result (λ r.
         AreVarsOf P.meaning P.row.coded P.Value.row.coded program.now r.0) }
     ensures two { IfOk result (λ r. r.0.threads ≡ 2) }
-    ensures first { IfOk result (λ r. IsAt r.0.round 0 false r.1) }
-    ensures second { IfOk result (λ r. IsAt r.0.round 1 false r.2) }
+    ensures first { IfOk result (λ r. IsSeatIn r.0.round 0 false r.1) }
+    ensures second { IfOk result (λ r. IsSeatIn r.0.round 1 false r.2) }
 {
     let (vars, seats) = Vars::<P, J>::of(alloc, program, master, guide)?;
     let Some((first, second)) = two_of(seats) else {
@@ -64,8 +65,8 @@ pub fn close_two<P: Program, J: Round>(
 ) -> Result<Closed<P>, NoMemory>
     requires of { AreVarsOf P.meaning P.row.coded P.Value.row.coded program.now vars }
     requires two { vars.threads ≡ 2 }
-    requires first { IsAt vars.round 0 true first }
-    requires second { IsAt vars.round 1 true second }
+    requires first { IsSeatIn vars.round 0 true first }
+    requires second { IsSeatIn vars.round 1 true second }
     ensures fits { IfOk result (λ closed. FitsProgram (P.meaning program.now) (P.fits program.now)
         value_of closed.master.vars) }
     ensures two { IfOk result (λ closed. length closed.master.threads ≡ 2) }

@@ -10,14 +10,14 @@ use Rattle.plain_machine.specs.declared.local.Move.TheVariants as move
 use Rattle.plain_machine.specs.Program.{Meaning}
 use Rattle.plain_machine.specs.Machine.{Hand}
 use Rattle.plain_machine.specs.History.{Step, log_of, thread_after, IsHistory}
-use Rattle.box_program.specs.Hands.{place_of, input_for, IsInputAfter}
+use Rattle.box_program.specs.Hands.{local_in, input_for, IsInputAfter}
 use Rattle.box_program.proofs.HandLemmas.{no_hand}
 use Rattle.line_order.proofs.Hands.{hand_input}
 use Rattle.master_core.specs.declared.parts.ThreadPart.{ThreadPart}
 use Rattle.master_core.specs.declared.parts.Counts.{Counts}
 use Rattle.master_core.specs.declared.wants.Wants.TheVariants as wants
 use Rattle.master_core.specs.Mastered.{Mastered, input_in_hand, HasRoom}
-use Rattle.master_core.specs.Standing.{Stands}
+use Rattle.master_core.specs.MasterStanding.{Stands}
 use Rattle.master_core.specs.Stepping.{wanted, wanted_in, wanted_by, told_in, told_for}
 use Rattle.random_words.specs.Words.{word_of}
 use Rattle.recovery_world.specs.World.{Setting, World}
@@ -37,7 +37,7 @@ pub none_part : ThreadPart
 none_part = record { counts = record { taken = 0; entries = 0; outputs = 0 }; hand = None; stamp = [] }
 
 -- a place in hand is that of a packet in hand
-some_hand : (h : Option Hand) (place : Local) → place_of h ≡ Some place → (k : Hand) × (h ≡ Some k)
+some_hand : (h : Option Hand) (place : Local) → local_in h ≡ Some place → (k : Hand) × (h ≡ Some k)
 some_hand None place e = absurd (cc)
 some_hand (Some h) place e = (h, refl)
 
@@ -215,4 +215,3 @@ tells_none {V} s w t given clock draw = go (thread_after w.past t).hand clock dr
         → TellsHand s w t given None w.drawn o × ((a : ℕ) → told_in s.meaning o a ≡ None)
     go None c d = ((refl, refl), (λ a. refl))
     go (Some h) c d = at (s.meaning.next h.place) c d
-

@@ -21,11 +21,11 @@ use Rattle.plain_machine.specs.Machine.{Hand, Thread, Effect, Takes, Touches, Lo
 use Rattle.plain_machine.specs.History.{Act, Did, Emitted, Step, log_of, sent_of, moves_of, act_of, emission_of, thread_after, value_after, IsHistory}
 use Rattle.plain_machine.proofs.Histories.{moves_step, did_entry, did_emission}
 use Rattle.plain_machine.proofs.LoggedEffects.{entry_thread}
-use Rattle.box_program.specs.Hands.{place_of, input_for, hand_of, has_hand, IsInputAfter}
+use Rattle.box_program.specs.Hands.{local_in, input_for, hand_of, has_hand, IsInputAfter}
 use Rattle.line_order.proofs.Hands.{hand_input}
 use Rattle.master_core.specs.declared.parts.ThreadPart.{ThreadPart}
 use Rattle.master_core.specs.Mastered.{Mastered, place_in_hand, HasRoom}
-use Rattle.master_core.specs.Standing.{Stands}
+use Rattle.master_core.specs.MasterStanding.{Stands}
 use Rattle.master_core.specs.Stepping.{plain_entry, emission_of_output}
 use Rattle.recovery_world.specs.Files.{answer_of}
 use Rattle.recovery_laws.proofs.LedMoves.{EntryFor, Made, made_step, move_entry}
@@ -58,12 +58,12 @@ hand_is m threads steps p t is below =
     ap (λ (o : Option ThreadPart). is_some (hand_of (λ (part : ThreadPart). part.hand) o)) (slice_get-get_or p.threads t none_part (omega (arith, is.threads_are)))
     ∙ (ap is_some (is.thread t none_part below).hand ∙ same (thread_after steps t).hand)
   where
-    same : (h : Option Hand) → is_some (place_of h) ≡ is_some h
+    same : (h : Option Hand) → is_some (local_in h) ≡ is_some h
     same None = refl
     same (Some h) = refl
 
 -- and where the program is with it
-pub place_is : {V : Type 0} (m : Meaning V) (threads : ℕ) (steps : List (Step V)) (p : Mastered V) (t : ℕ) → Stands m threads steps p → t < threads → place_in_hand p t ≡ place_of (thread_after steps t).hand
+pub place_is : {V : Type 0} (m : Meaning V) (threads : ℕ) (steps : List (Step V)) (p : Mastered V) (t : ℕ) → Stands m threads steps p → t < threads → place_in_hand p t ≡ local_in (thread_after steps t).hand
 place_is m threads steps p t is below =
     ap (λ (o : Option ThreadPart). hand_of (λ (part : ThreadPart). part.hand) o) (slice_get-get_or p.threads t none_part (omega (arith, is.threads_are))) ∙ (is.thread t none_part below).hand
 

@@ -18,9 +18,9 @@ use Rattle.plain_machine.specs.Program.{Meaning, IsLawful}
 use Rattle.plain_machine.specs.Machine.{Hand}
 use Rattle.plain_machine.specs.History.{Act, Took, Did, Emitted, Ended, Step, log_more, log_of, sent_of, outputs, thread_after, plain_move, IsHistory}
 use Rattle.plain_machine.proofs.Histories.{history_log, earlier_refl, earlier_log, did_emission}
-use Rattle.box_program.specs.Hands.{place_of, input_for, has_hand, IsInputAfter}
+use Rattle.box_program.specs.Hands.{local_in, input_for, has_hand, IsInputAfter}
 use Rattle.master_core.specs.Mastered.{Mastered, place_in_hand, HasRoom, IsOnVariable, WantsVariable}
-use Rattle.master_core.specs.Standing.{Stands}
+use Rattle.master_core.specs.MasterStanding.{Stands}
 use Rattle.master_core.specs.Stepping.{told_in, move_of, Follows, MadeNone, MadeOne, plain_entry, emission_of_output}
 use Rattle.master_core.specs.declared.step.Stepped.{Stepped}
 use Rattle.master_core.specs.declared.step.Stepped.TheVariants as stepped
@@ -40,7 +40,7 @@ use Rattle.event_replies.specs.declared.reply.Stop.{Stop}
 use Rattle.event_replies.specs.declared.reply.Stop.TheVariants as stop
 use Rattle.sent_frames.specs.Sending.{Sending, length_at, output_size}
 use Rattle.system_parts.specs.Parts.{Parts, IsShort}
-use Rattle.system_parts.specs.Standing.{AreOutputs, HasSnapshots, HasGuide, NotesNames, StandsFor}
+use Rattle.system_parts.specs.SystemStanding.{AreOutputs, HasSnapshots, HasGuide, NotesNames, StandsFor}
 use Rattle.thread_steps.specs.Following.{HasTurnBy}
 use Rattle.system_parts.proofs.LineLemmas.{holds_later_line}
 use Rattle.system_parts.proofs.SnapshotLemmas.{snapshots_on}
@@ -482,7 +482,7 @@ module _ {P V : Type 0} (m : Meaning V) (y old : Parts P V) (same : y ≡ old) (
   waits_here : (s : Setting V) (w : World V) (u n : ℕ) → StandsFor m s w y → WaitsFor s w t (outcome.Waits u n) → WantsVariable m (place_in_hand y.master t)
   waits_here s w u n st for =
       let wants = awaits_wants w.followed (log_of w.past) t (s.meaning.next for.hand.place) for.entry for.awaits in
-      let at : place_in_hand y.master t ≡ Some for.hand.place = place_is s.meaning s.threads w.past y.master t st.master.stands (low_now m s w y t st calls.low) ∙ ap place_of for.hand_is in
+      let at : place_in_hand y.master t ≡ Some for.hand.place = place_is s.meaning s.threads w.past y.master t st.master.stands (low_now m s w y t st calls.low) ∙ ap local_in for.hand_is in
       subst (λ (o : Option Local). WantsVariable m o) (sym at) (subst (λ (n : Meaning V). WantsVariable n (Some for.hand.place)) st.inputs.meaning wants)
 
   -- a thread that made a move had its turn

@@ -23,10 +23,10 @@ use Rattle.replay_guide.specs.Turns.{WaitsFor as GuideWaits}
 use Rattle.replay_guide.proofs.WorldTurns.{waits_are_awaited, awaited_waits, line_log, line_good, past_good, past_kept, followed_kept}
 use Rattle.thread_steps.specs.Following.{HasTurnBy}
 use Rattle.system_parts.specs.Parts.{Parts}
-use Rattle.system_parts.specs.Standing.{StandsFor}
+use Rattle.system_parts.specs.SystemStanding.{StandsFor}
 use Rattle.box_program.specs.Hands.{FitsProgram}
 use Rattle.master_core.specs.Mastered.{value_of}
-use Rattle.master_core.specs.Standing.{Stands}
+use Rattle.master_core.specs.MasterStanding.{Stands}
 use Rattle.master_core.specs.declared.parts.VarPart.{VarPart}
 
 -- the variable that a thread wants, the number of its entry, and the places of the variable

@@ -13,7 +13,7 @@ use Rattle.box_program.specs.Hands.{FitsProgram}
 use Rattle.master_core.specs.declared.parts.VarPart.{VarPart}
 use Rattle.master_core.specs.declared.parts.ThreadPart.{ThreadPart}
 use Rattle.master_core.specs.Mastered.{Mastered, IsBounded, value_of}
-use Rattle.master_core.specs.Standing.{Stands}
+use Rattle.master_core.specs.MasterStanding.{Stands}
 use Rattle.atomic_table.specs.Table.{opening}
 use Rattle.atomic_table.proofs.Lists.{at_map, at_index}
 use Rattle.round_order.proofs.OpenedRounds.{home_opens, seat_opens, round_begins}

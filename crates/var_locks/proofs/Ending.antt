@@ -16,7 +16,7 @@ use Rattle.plain_machine.proofs.Histories.{is_eq, not_eq}
 use Rattle.master_core.specs.declared.parts.VarPart.{VarPart}
 use Rattle.master_core.specs.declared.parts.ThreadPart.{ThreadPart}
 use Rattle.master_core.specs.Mastered.{Mastered, IsBounded, in_hand_count, moves_made}
-use Rattle.master_core.specs.Standing.{Stands}
+use Rattle.master_core.specs.MasterStanding.{Stands}
 use Rattle.replay_guide.specs.Orders.{IsNamed}
 use base.Stored.{Gv}
 use Rattle.std.specs.Coded.{Coded}

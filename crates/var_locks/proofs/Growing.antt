@@ -14,7 +14,7 @@ use Rattle.plain_machine.specs.History.{Step, thread_after}
 use Rattle.master_core.specs.declared.parts.VarPart.{VarPart}
 use Rattle.master_core.specs.declared.parts.ThreadPart.{ThreadPart}
 use Rattle.master_core.specs.Mastered.{Mastered, in_hand_count, moves_made}
-use Rattle.master_core.specs.Standing.{Stands}
+use Rattle.master_core.specs.MasterStanding.{Stands}
 use Rattle.replay_guide.specs.Following.{Follows}
 use Rattle.replay_guide.specs.Orders.{IsNamed}
 use Rattle.round_order.specs.Receipts.{Receipt, Receipts, after, IsLogged}

@@ -10,7 +10,7 @@ use Rattle.plain_machine.specs.declared.local.Move.TheVariants as move
 use Rattle.plain_machine.specs.Program.{Meaning}
 use Rattle.plain_machine.specs.Machine.{Hand}
 use Rattle.plain_machine.specs.History.{Step, thread_after}
-use Rattle.box_program.specs.Hands.{place_of}
+use Rattle.box_program.specs.Hands.{local_in}
 use Rattle.master_core.specs.declared.parts.VarPart.{VarPart}
 use Rattle.master_core.specs.declared.step.Trace.{Trace}
 use Rattle.master_core.specs.declared.step.Trace.TheVariants as trace
@@ -23,11 +23,11 @@ use Rattle.var_locks.specs.declared.view.Note.{Note}
 use Rattle.var_locks.specs.Notes.{IsOwn, IsOwnBy, IsOwnEntry, IsOnVariable, packet_in, packet_or, place_or, found_or, entry_receipt, receipt_by, read_note, input_number}
 
 -- with no place in hand there is no packet; with one there is a packet
-none_in : (h : Option Hand) → None ≡ place_of h → h ≡ None
+none_in : (h : Option Hand) → None ≡ local_in h → h ≡ None
 none_in None is = refl
 none_in (Some h) is = let k : None ≡ Some h.place = is in cc
 
-some_in : (h : Option Hand) (place : Local) → Some place ≡ place_of h → h ≡ Some (record { packet = packet_in h; place = place })
+some_in : (h : Option Hand) (place : Local) → Some place ≡ local_in h → h ≡ Some (record { packet = packet_in h; place = place })
 some_in None place is = let k : Some place ≡ None = is in cc
 some_in (Some h) place is = let k : place ≡ h.place = cc in ap (λ (z : Local). Some (record { packet = h.packet; place = z })) (sym k)
 

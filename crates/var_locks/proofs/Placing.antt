@@ -12,7 +12,7 @@ use Rattle.atomic_table.proofs.Lists.{at_set, set_else}
 use Rattle.var_locks.specs.declared.view.Share.{Share}
 use Rattle.var_locks.specs.declared.view.Held.{Held}
 use Rattle.var_locks.specs.declared.view.View.{View}
-use Rattle.var_locks.specs.Told.{Now, IsPlaced, IsShare, IsView, IsAt}
+use Rattle.var_locks.specs.Told.{Now, IsPlaced, IsShare, IsView, IsTableOf}
 
 pub at_word : (l : List ℕ) (i : ℕ) → i < length l → get_elem? l i ≡ logic.some (slice_index l i)
 at_word [] i h = absurd (omega arith)
@@ -56,7 +56,7 @@ module _ {V : Type 0} (vars threads id : ℕ) (d e : Now V) (later : IsLater var
       hand : (h : Held V) → (h.var < vars) × (d.holder h.var ≡ Some i) × (h.found ≡ d.vars h.var) → (h.var < vars) × (e.holder h.var ≡ Some i) × (h.found ≡ e.vars h.var)
       hand h (low, holds, found) = let k = later.held h.var i low apart holds in (low, k.0, found ∙ sym k.1)
 
-  module _ (s : State (VarPart V) (View V)) (at : IsAt vars threads d s) (w new : View V) (here : get_elem? s.views id ≡ logic.some w) (words : List ℕ) (homes : List (logic.Option (VarPart V))) where
+  module _ (s : State (VarPart V) (View V)) (at : IsTableOf vars threads d s) (w new : View V) (here : get_elem? s.views id ≡ logic.some w) (words : List ℕ) (homes : List (logic.Option (VarPart V))) where
     abbrev pub next : State (VarPart V) (View V)
     next = record { words = words; homes = homes; views = slice_set s.views id new }
 
@@ -79,7 +79,7 @@ module _ {V : Type 0} (vars threads id : ℕ) (d e : Now V) (later : IsLater var
 
     pub at_later : length words ≡ length s.words → length homes ≡ length s.homes → ((t : ℕ) → t < threads → slice_index words (vars + t) ≡ cond (e.ended t) 1 0)
         → ((v : ℕ) → v < vars → IsPlaced (record { words = words; homes = homes; views = slice_set s.views id new }) threads e v (e.vars v) (e.holder v)) → IsView vars threads e id new
-        → IsAt vars threads e (record { words = words; homes = homes; views = slice_set s.views id new })
+        → IsTableOf vars threads e (record { words = words; homes = homes; views = slice_set s.views id new })
     at_later same_words same_homes ended placed mine = record {
       words = same_words ∙ at.words;
       homes = same_homes ∙ at.homes;

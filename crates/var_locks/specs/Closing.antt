@@ -10,7 +10,7 @@ use Rattle.box_program.specs.Hands.{FitsProgram}
 use Rattle.master_core.specs.declared.parts.ThreadPart.{ThreadPart}
 use Rattle.master_core.specs.declared.step.WovenStep.{WovenStep}
 use Rattle.master_core.specs.Mastered.{Mastered, IsBounded, value_of}
-use Rattle.master_core.specs.Standing.{Stands}
+use Rattle.master_core.specs.MasterStanding.{Stands}
 use Rattle.replay_guide.specs.Following.{Follows}
 use Rattle.replay_guide.specs.Orders.{IsNamed}
 use Rattle.atomic_table.specs.Seated.{TableId}

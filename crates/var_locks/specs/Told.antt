@@ -13,7 +13,7 @@ use Rattle.plain_machine.specs.History.{Step}
 use Rattle.master_core.specs.declared.parts.VarPart.{VarPart}
 use Rattle.master_core.specs.declared.parts.ThreadPart.{ThreadPart}
 use Rattle.master_core.specs.Mastered.{Mastered, in_hand_count, moves_made}
-use Rattle.master_core.specs.Standing.{Stands}
+use Rattle.master_core.specs.MasterStanding.{Stands}
 use Rattle.replay_guide.specs.Following.{Follows}
 use Rattle.replay_guide.specs.Orders.{IsNamed}
 use Rattle.atomic_table.specs.Table.{State}
@@ -67,7 +67,7 @@ pub record IsView {V : Type 0} (vars threads : ℕ) (d : Now V) (id : ℕ) (w : 
   pub missing : (u k : ℕ) → IsNamed u k w.missing → IsNamed u k d.lost
 
 -- The table is as it is so: a word for each variable, with its value, and one for each thread, which is 1 where it ended.
-pub record IsAt {V : Type 0} (vars threads : ℕ) (d : Now V) (s : State (VarPart V) (View V)) : Type 0 where
+pub record IsTableOf {V : Type 0} (vars threads : ℕ) (d : Now V) (s : State (VarPart V) (View V)) : Type 0 where
   pub words : length s.words ≡ vars + threads
   pub homes : length s.homes ≡ vars
   pub ended : (t : ℕ) → t < threads → slice_index s.words (vars + t) ≡ cond (d.ended t) 1 0
@@ -105,7 +105,7 @@ pub record IsSound {V : Type 0} (m : Meaning V) (fits : ℕ → V → Type 0) (g
 -- The rule.
 pub record IsTold {V : Type 0} (m : Meaning V) (fits : ℕ → V → Type 0) (guide : List Lane) (p : Mastered V) (s : State (VarPart V) (View V)) : Type 0 where
   pub now : Now V
-  pub at : IsAt m.vars (length p.threads) now s
+  pub at : IsTableOf m.vars (length p.threads) now s
   pub sound : IsSound m fits guide p now
 
 -- The rule of the round whose program and opening master have these codes.

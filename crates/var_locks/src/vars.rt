@@ -45,7 +45,9 @@ impl<P: Program, J: Round> Model for Vars<P, J> {
 /// What a round came to: the master after it, and what each thread did.
 #[derive(Drop)]
 pub struct Closed<P: Program> {
+    /// The master after all moves of the round.
     pub master: Master<P>,
+    /// What each thread did, by its number.
     pub receipts: Receipts,
 }
 

@@ -13,7 +13,7 @@ use Rattle.plain_text.specs.declared.kind.Kind.{Kind}
 use Rattle.plain_text.specs.declared.kind.Kind.TheVariants.{Log, Out}
 use Rattle.wire_frames.specs.declared.version.Version.{Version}
 use Rattle.wire_frames.specs.declared.version.Version.TheVariants.{One, Two}
-use Rattle.wire_frames.specs.Layout.{Field, field, spelled, kind_code, version_code, head, code_of, subject_of, place_of, mask_of, nonzero, component_fields, packet_fields, entry_fields, output_fields, AreComponents, IsSent, IsDone}
+use Rattle.wire_frames.specs.Layout.{Field, field, spelled, kind_code, version_code, head, code_of, subject_of, place_field, mask_of, nonzero, component_fields, packet_fields, entry_fields, output_fields, AreComponents, IsSent, IsDone}
 use Rattle.wire_frames.specs.Places.{number_at, length_at, epoch_at, thread_at, code_at, count_at, subject_at, place_at, bits_set, components, components_place, threads_at, mask_at}
 use Rattle.wire_frames.proofs.Fields.{fields_at, fields_at-spelled, spelled-append, length-spelled, widths, Fit}
 use Rattle.wire_frames.proofs.Stamps.{fit_each, components-spelled, present-low, present-mask_of, unset-low, unset-mask_of, bits_set-low, bits_set-mask_of, mask_of-below}
@@ -107,7 +107,7 @@ pub read_front : (ws : List ℕ) (front : List Field) (bytes behind : List ℕ) 
 read_front ws front bytes behind are fit parts =
     ap (λ (l : List ℕ). fields_at 0 l bytes) (sym are) ∙ ap (fields_at 0 (widths front)) parts ∙ fields_at-spelled 0 [] front behind refl fit
 
-done_fits : (version : Version) (w : What) → IsDone version w → (code_of w < 256) × (subject_of w < 2 ^ 64) × (place_of w < 2 ^ 64)
+done_fits : (version : Version) (w : What) → IsDone version w → (code_of w < 256) × (subject_of w < 2 ^ 64) × (place_field w < 2 ^ 64)
 done_fits version (Access var place) done = (omega arith, omega (arith, done.0), done.2)
 done_fits version (Clock value) done = (omega arith, done, omega arith)
 done_fits version (Draw value) done = (omega arith, done, omega arith)
@@ -126,10 +126,10 @@ behind_stamp cs p rest =
 module _ (bytes : List ℕ) (size epoch threads : ℕ) (small : size < 2 ^ 32) where
   module _ (e : StampedEntry) (rest : List ℕ) (sent : IsSent epoch threads e.thread e.number e.stamp) where
     pub log_told : (version : Version) → IsDone version e.what → bytes ≡ spelled (entry_fields version size epoch threads e) ++ rest
-        → Told Log version bytes size epoch e.thread (code_of e.what) e.number (subject_of e.what) threads e.stamp rest × (place_at bytes ≡ place_of e.what)
+        → Told Log version bytes size epoch e.thread (code_of e.what) e.number (subject_of e.what) threads e.stamp rest × (place_at bytes ≡ place_field e.what)
     log_told One done parts =
         let fits = done_fits One e.what done in
-        let front = head Log One size epoch e.thread (code_of e.what) e.number (subject_of e.what) ++ field 8 (place_of e.what) ∷ field 1 threads ∷ [] in
+        let front = head Log One size epoch e.thread (code_of e.what) e.number (subject_of e.what) ++ field 8 (place_field e.what) ∷ field 1 threads ∷ [] in
         let back = component_fields (listed One threads e.stamp) in
         let apart = split front back rest bytes parts in
         let fit : Fit front = (omega arith, (omega arith, (small, (sent.epoch_to, (omega (arith, sent.of_these, sent.threads_to), (fits.0, (sent.number_to, (fits.1, (fits.2, (omega (arith, sent.threads_to), tt)))))))))) in
@@ -152,7 +152,7 @@ module _ (bytes : List ℕ) (size epoch threads : ℕ) (small : size < 2 ^ 32) w
         )
     log_told Two done parts =
         let fits = done_fits Two e.what done in
-        let front = head Log Two size epoch e.thread (code_of e.what) e.number (subject_of e.what) ++ field 8 (place_of e.what) ∷ field 1 threads ∷ field 2 (mask_of e.stamp) ∷ [] in
+        let front = head Log Two size epoch e.thread (code_of e.what) e.number (subject_of e.what) ++ field 8 (place_field e.what) ∷ field 1 threads ∷ field 2 (mask_of e.stamp) ∷ [] in
         let back = component_fields (listed Two threads e.stamp) in
         let apart = split front back rest bytes parts in
         let bits : mask_of e.stamp < 2 ^ 16 = mask_fits threads e.stamp sent.components in

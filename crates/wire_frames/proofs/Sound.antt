@@ -12,7 +12,7 @@ use Rattle.plain_text.specs.declared.kind.Kind.{Kind}
 use Rattle.plain_text.specs.declared.kind.Kind.TheVariants.{Log, Out}
 use Rattle.wire_frames.specs.declared.version.Version.{Version}
 use Rattle.wire_frames.specs.declared.version.Version.TheVariants.{One, Two}
-use Rattle.wire_frames.specs.Layout.{Field, field, spelled, head, code_of, subject_of, place_of, mask_of, component_fields, packet_fields, entry_fields, output_fields, IsSent, IsCaptured, BeginsWith}
+use Rattle.wire_frames.specs.Layout.{Field, field, spelled, head, code_of, subject_of, place_field, mask_of, component_fields, packet_fields, entry_fields, output_fields, IsSent, IsCaptured, BeginsWith}
 use Rattle.wire_frames.specs.Places.{number_at, length_at, epoch_at, thread_at, code_at, count_at, subject_at, place_at, components_place, threads_at, stamp_at, stamp_end, what_at, captured_at, packet_at, entry_at, output_at}
 use Rattle.wire_frames.proofs.Fields.{IsWidth, AreWidths, fields_at, spelled-fields_at, spelled-append}
 use Rattle.wire_frames.proofs.Facts.{Facts}
@@ -97,7 +97,7 @@ module _ (bytes : List ℕ) (are : AreBytes bytes) where
         let subject_is = tells.1 in
         let place_is = tells.2 in
         let ws = log_widths [] in
-        let front = head Log One (length_at bytes) (epoch_at bytes) (thread_at bytes) (code_of w) (count_at bytes) (subject_of w) ++ field 8 (place_of w) ∷ field 1 (threads_at Log bytes) ∷ [] in
+        let front = head Log One (length_at bytes) (epoch_at bytes) (thread_at bytes) (code_of w) (count_at bytes) (subject_of w) ++ field 8 (place_field w) ∷ field 1 (threads_at Log bytes) ∷ [] in
         let back = component_fields (listed One (threads_at Log bytes) (stamp_at Log One bytes)) in
         let same : fields_at 0 ws bytes ≡ front = cc in
         assemble front back (fields_at 0 ws bytes) 37 (stamp_end Log One bytes) bytes
@@ -112,7 +112,7 @@ module _ (bytes : List ℕ) (are : AreBytes bytes) where
         let subject_is = tells.1 in
         let place_is = tells.2 in
         let ws = log_widths (2 ∷ []) in
-        let front = head Log Two (length_at bytes) (epoch_at bytes) (thread_at bytes) (code_of w) (count_at bytes) (subject_of w) ++ field 8 (place_of w) ∷ field 1 (threads_at Log bytes) ∷ field 2 (mask_of (stamp_at Log Two bytes)) ∷ [] in
+        let front = head Log Two (length_at bytes) (epoch_at bytes) (thread_at bytes) (code_of w) (count_at bytes) (subject_of w) ++ field 8 (place_field w) ∷ field 1 (threads_at Log bytes) ∷ field 2 (mask_of (stamp_at Log Two bytes)) ∷ [] in
         let back = component_fields (listed Two (threads_at Log bytes) (stamp_at Log Two bytes)) in
         let same : fields_at 0 ws bytes ≡ front = cc in
         assemble front back (fields_at 0 ws bytes) 39 (stamp_end Log Two bytes) bytes

@@ -11,7 +11,7 @@ use Rattle.plain_text.specs.declared.kind.Kind.TheVariants.{Log, Out}
 use Rattle.wire_frames.specs.declared.version.Version.{Version}
 use Rattle.wire_frames.specs.declared.version.Version.TheVariants.{One, Two}
 use Rattle.wire_frames.specs.declared.frame.Frame.TheVariants as frame
-use Rattle.wire_frames.specs.Layout.{field, spelled, head, code_of, subject_of, place_of, mask_of, component_fields, packet_fields, entry_fields, output_fields, IsSent, IsDone, IsCaptured}
+use Rattle.wire_frames.specs.Layout.{field, spelled, head, code_of, subject_of, place_field, mask_of, component_fields, packet_fields, entry_fields, output_fields, IsSent, IsDone, IsCaptured}
 use Rattle.wire_frames.specs.Places.{number_at, length_at, place_at, bits_set, components, components_place, threads_at, mask_at, bits_at, stamp_at, stamp_end, what_at, captured_at, packet_from, entry_at, output_at}
 use Rattle.wire_frames.specs.Faults.{least, most, has_zero_component}
 use Rattle.wire_frames.proofs.Fields.{fields_at, spelled-append, length-spelled, Fit}
@@ -65,11 +65,11 @@ zero_is kind Two bytes threads stamp mask is = not_from_true _ (eq-eqb _ _ (ap m
 pub log_size : (version : Version) (n epoch threads : ℕ) (e : StampedEntry)
     → length (spelled (entry_fields version n epoch threads e)) ≡ components_place Log version + 8 * length (listed version threads e.stamp)
 log_size One n epoch threads e =
-    let front = head Log One n epoch e.thread (code_of e.what) e.number (subject_of e.what) ++ field 8 (place_of e.what) ∷ field 1 threads ∷ [] in
+    let front = head Log One n epoch e.thread (code_of e.what) e.number (subject_of e.what) ++ field 8 (place_field e.what) ∷ field 1 threads ∷ [] in
     let back = component_fields (listed One threads e.stamp) in
     ap length (spelled-append front back) ∙ omega (arith, length-append (spelled front) (spelled back), length-spelled front, length-component_fields (listed One threads e.stamp))
 log_size Two n epoch threads e =
-    let front = head Log Two n epoch e.thread (code_of e.what) e.number (subject_of e.what) ++ field 8 (place_of e.what) ∷ field 1 threads ∷ field 2 (mask_of e.stamp) ∷ [] in
+    let front = head Log Two n epoch e.thread (code_of e.what) e.number (subject_of e.what) ++ field 8 (place_field e.what) ∷ field 1 threads ∷ field 2 (mask_of e.stamp) ∷ [] in
     let back = component_fields (listed Two threads e.stamp) in
     ap length (spelled-append front back) ∙ omega (arith, length-append (spelled front) (spelled back), length-spelled front, length-component_fields (listed Two threads e.stamp))
 
@@ -163,7 +163,7 @@ module _ (version : Version) (bytes rest : List ℕ) (size epoch threads : ℕ) 
   log_small : size < 2 ^ 32
   log_small = let most_of = most_is version in let bounds = log_bounds in omega arith
 
-  log_is_told : Told Log version bytes size epoch e.thread (code_of e.what) e.number (subject_of e.what) threads e.stamp rest × (place_at bytes ≡ place_of e.what)
+  log_is_told : Told Log version bytes size epoch e.thread (code_of e.what) e.number (subject_of e.what) threads e.stamp rest × (place_at bytes ≡ place_field e.what)
   log_is_told = log_told bytes size epoch threads log_small e rest sent version done parts
 
   log_stamp : stamp_at Log version bytes ≡ e.stamp

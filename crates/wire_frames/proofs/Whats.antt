@@ -5,10 +5,10 @@ use Rattle.entry_order.specs.declared.what.What.{What}
 use Rattle.entry_order.specs.declared.what.What.TheVariants.{Access, Read, Clock, Draw}
 use Rattle.wire_frames.specs.declared.version.Version.{Version}
 use Rattle.wire_frames.specs.declared.version.Version.TheVariants.{One, Two}
-use Rattle.wire_frames.specs.Layout.{code_of, subject_of, place_of, IsDone}
+use Rattle.wire_frames.specs.Layout.{code_of, subject_of, place_field, IsDone}
 use Rattle.wire_frames.specs.Places.{read_at, what_from}
 
-pub what_from-numbers : (version : Version) (w : What) → IsDone version w → what_from version (code_of w) (subject_of w) (place_of w) ≡ Some w
+pub what_from-numbers : (version : Version) (w : What) → IsDone version w → what_from version (code_of w) (subject_of w) (place_field w) ≡ Some w
 what_from-numbers version (Access var place) done = rw (lt-ltb var 256 done.0, lt-ltb 0 place (omega (arith, done.1))) refl
 what_from-numbers version (Clock value) done = refl
 what_from-numbers version (Draw value) done = refl
@@ -16,7 +16,7 @@ what_from-numbers One (Read var after) done = absurd done
 what_from-numbers Two (Read var after) done = rw (lt-ltb var 256 done.0) refl
 
 abbrev pub Tells : Version → ℕ → ℕ → ℕ → What → Type 0
-Tells version code subject place w = (code ≡ code_of w) × (subject ≡ subject_of w) × (place ≡ place_of w) × IsDone version w
+Tells version code subject place w = (code ≡ code_of w) × (subject ≡ subject_of w) × (place ≡ place_field w) × IsDone version w
 
 access_from : (version : Version) (subject place : ℕ) (w : What) → place < 2 ^ 64 → (b : Bool) → (nat_lt subject 256 && nat_lt 0 place) ≡ b
     → (if b then Some (Access subject place) else None) ≡ Some w → Tells version 1 subject place w

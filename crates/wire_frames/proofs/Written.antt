@@ -5,7 +5,7 @@ use Rattle.access_log.specs.declared.entry.StampedEntry.{StampedEntry}
 use Rattle.access_log.specs.declared.entry.Output.{Output}
 use Rattle.wire_frames.specs.declared.version.Version.TheVariants.{Two}
 use Rattle.wire_frames.specs.declared.frame.Frame.TheVariants as frame
-use Rattle.wire_frames.specs.Layout.{Field, field, spelled, code_of, subject_of, place_of, mask_of, nonzero, component_fields, packet_fields, bytes_of, written, written_length}
+use Rattle.wire_frames.specs.Layout.{Field, field, spelled, code_of, subject_of, place_field, mask_of, nonzero, component_fields, packet_fields, bytes_of, written, written_length}
 use Rattle.wire_frames.specs.Parts.{entry_front, output_front}
 use Rattle.wire_frames.proofs.Fields.{spelled-append}
 
@@ -19,7 +19,7 @@ put_more old mid now fs gs so_far more =
 
 -- the parts in front of the components of an entry, and of an output
 module _ (size epoch threads : ℕ) (old masked subjected now : List ℕ) where
-  pub entry_begun : (e : StampedEntry) (code subject place : ℕ) (placed : List ℕ) → code ≡ code_of e.what → subject ≡ subject_of e.what → place ≡ place_of e.what
+  pub entry_begun : (e : StampedEntry) (code subject place : ℕ) (placed : List ℕ) → code ≡ code_of e.what → subject ≡ subject_of e.what → place ≡ place_field e.what
       → masked ≡ spelled (field 1 threads ∷ field 2 (mask_of e.stamp) ∷ []) ++ old
       → placed ≡ spelled (field 8 place ∷ []) ++ masked
       → subjected ≡ spelled (field 4 epoch ∷ field 1 e.thread ∷ field 1 code ∷ field 8 e.number ∷ field 8 subject ∷ []) ++ placed

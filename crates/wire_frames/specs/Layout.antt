@@ -48,11 +48,12 @@ subject_of (Clock value) = value
 subject_of (Draw value) = value
 subject_of (Read var after) = var
 
-abbrev pub place_of : What → ℕ
-place_of (Access var place) = place
-place_of (Clock value) = 0
-place_of (Draw value) = 0
-place_of (Read var after) = after
+-- the number of the place field: the place of a touch, how many touches were before a read, or 0
+abbrev pub place_field : What → ℕ
+place_field (Access var place) = place
+place_field (Clock value) = 0
+place_field (Draw value) = 0
+place_field (Read var after) = after
 
 -- The first 28 bytes. The length is that of the whole frame; the code of an output is 0, and its subject is its input.
 abbrev pub head : Kind → Version → ℕ → ℕ → ℕ → ℕ → ℕ → ℕ → List Field
@@ -89,7 +90,7 @@ packet_fields p = field 4 p.seconds ∷ field 4 p.fraction ∷ field 4 p.origina
 abbrev pub entry_fields : Version → ℕ → ℕ → ℕ → StampedEntry → List Field
 entry_fields version length epoch threads e =
     head Log version length epoch e.thread (code_of e.what) e.number (subject_of e.what)
-    ++ field 8 (place_of e.what)
+    ++ field 8 (place_field e.what)
     ∷ stamp_fields version threads e.stamp
 
 abbrev pub output_fields : Version → ℕ → ℕ → ℕ → Output → List Field
@@ -111,6 +112,7 @@ pub record AreComponents (threads : ℕ) (stamp : List ℕ) : Type 0 where
   pub fit : (u : ℕ) → slice_index stamp u < 2 ^ 64
   pub none : (u : ℕ) → threads ≤ u → slice_index stamp u ≡ 0
 
+-- the epoch, the thread and the number that a frame may carry, with its sender's number of threads and the stamp
 pub record IsSent (epoch threads thread number : ℕ) (stamp : List ℕ) : Type 0 where
   pub epoch_from : 1 ≤ epoch
   pub epoch_to : epoch < 2 ^ 32
@@ -129,6 +131,7 @@ IsDone version (Draw value) = value < 2 ^ 64
 IsDone One (Read var after) = ⊥
 IsDone Two (Read var after) = (var < 256) × (after < 2 ^ 64)
 
+-- the numbers of the packet fit their fields, and its bytes are no more than a capture holds
 pub record IsCaptured (p : Packet) : Type 0 where
   pub seconds : p.seconds < 2 ^ 32
   pub fraction : p.fraction < 2 ^ 32

@@ -13,7 +13,7 @@ use Rattle.wire_frames.specs.declared.values.Common.{Common}
 use Rattle.wire_frames.specs.declared.frame.Frame.{Frame}
 use Rattle.wire_frames.specs.declared.frame.FrameError.{FrameError}
 use Rattle.wire_frames.specs.declared.frame.FrameError.TheVariants as error
-use Rattle.wire_frames.specs.Layout.{Field, field, head, code_of, subject_of, place_of, mask_of}
+use Rattle.wire_frames.specs.Layout.{Field, field, head, code_of, subject_of, place_field, mask_of}
 use Rattle.wire_frames.specs.Places.{kind_at, version_at, length_at, threads_at, mask_at, stamp_end, epoch_at, thread_at, count_at, stamp_at, what_at, entry_at, output_at}
 use Rattle.wire_frames.specs.Faults.{first_failure, field_tests}
 
@@ -55,7 +55,7 @@ IsReadingCause Out version bytes e = IsFieldCause Out version bytes e
 abbrev pub entry_front : ℕ → ℕ → ℕ → StampedEntry → List Field
 entry_front size epoch threads e =
     head Log Two size epoch e.thread (code_of e.what) e.number (subject_of e.what)
-    ++ field 8 (place_of e.what)
+    ++ field 8 (place_field e.what)
     ∷ field 1 threads
     ∷ field 2 (mask_of e.stamp)
     ∷ []

@@ -5,11 +5,13 @@ use thiserror::Error;
 /// What a frame carries, with the epoch in which it was sent, counted from 1, and the number of threads of its sender, 1 to 16.
 #[derive(Debug, Drop)]
 pub enum Frame {
+    /// A log entry of a master of this epoch.
     Entry {
         epoch: u32,
         threads: u32,
         entry: StampedEntry,
     },
+    /// A packet that a master of this epoch sends out.
     Output {
         epoch: u32,
         threads: u32,

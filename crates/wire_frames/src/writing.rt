@@ -3,7 +3,7 @@ ghost use Rattle.plain_text.specs.declared.limit.TheConstants.{MOST_CAPTURED};
 ghost use Rattle.plain_text.specs.declared.kind.Kind.TheVariants.{Log, Out};
 ghost use Rattle.wire_frames.specs.declared.version.Version.TheVariants.{Two};
 ghost use Rattle.wire_frames.specs.declared.frame.Frame.TheVariants as frame;
-ghost use Rattle.wire_frames.specs.Layout.{code_of, component_fields, field, head, kind_code, mask_of, nonzero, packet_fields, place_of, spelled, subject_of, written, written_length, IsFrame};
+ghost use Rattle.wire_frames.specs.Layout.{code_of, component_fields, field, head, kind_code, mask_of, nonzero, packet_fields, place_field, spelled, subject_of, written, written_length, IsFrame};
 ghost use Rattle.wire_frames.specs.Parts.{entry_front, output_front, FitsWord};
 ghost use Rattle.wire_frames.specs.Writing.{CanPutEntry, CanPutOutput};
 
@@ -90,7 +90,7 @@ pub fn put_output(
 fn numbers_of(what: What) -> (u8, u64, u64)
     ensures code { result.0 ≡ code_of what }
     ensures subject { result.1 ≡ subject_of what }
-    ensures place { result.2 ≡ place_of what }
+    ensures place { result.2 ≡ place_field what }
     ensures fits { FitsWord what }
 {
     match what {

@@ -23,6 +23,7 @@ impl Model for Calls {
 }
 
 impl Calls {
+    /// No calls yet, and none that is to fail. It takes no memory.
     pub fn new(alloc: Global) -> Calls
         ensures { result ≡ no_calls }
     {
@@ -33,7 +34,7 @@ impl Calls {
         }
     }
 
-    /// Makes the nth call fail.
+    /// Makes the call of this number fail, counted from 1 over the life of the world.
     pub fn fail(&mut self, nth: u64) -> Result<(), NoMemory>
         ensures ok { OnOk result (self.new ≡ with_failing nth self.old) }
         ensures err { OnErr result (self.new ≡ self.old) }

@@ -26,6 +26,7 @@ impl Model for Files {
 }
 
 impl Files {
+    /// No files. It takes no memory.
     pub fn new(alloc: Global) -> Files
         ensures { result ≡ [] }
     {
@@ -34,6 +35,7 @@ impl Files {
         }
     }
 
+    /// How many files were opened and created, which is the number of the last one.
     pub fn len(&self) -> usize
         ensures { result ≡ length self.now }
     {

@@ -8,14 +8,18 @@ use std::marker::Model;
 /// A file of a world in memory, which has the number of its place, counted from 1.
 #[derive(Drop)]
 pub enum MemoryFile {
+    /// One to be read.
     Opened(OpenedFile),
+    /// One to be written.
     Created(CreatedFile),
 }
 
 /// A file that was created: its name, and what it was sent.
 #[derive(Drop)]
 pub struct CreatedFile {
+    /// The name under which it was created.
     pub name: Text,
+    /// The bytes that it was sent, in order.
     pub sent: Bytes,
 }
 
@@ -37,6 +41,7 @@ impl Model for OpenedFile {
 }
 
 impl OpenedFile {
+    /// A file of these bytes, of which all are left.
     pub fn of(bytes: Bytes) -> OpenedFile
         ensures { result ≡ bytes }
     {

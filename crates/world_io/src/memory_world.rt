@@ -98,6 +98,7 @@ impl MemoryWorld {
         self.names.bytes(name.as_str())
     }
 
+    /// The bytes that were put to the report, in order.
     pub fn report(&self) -> &[u8]
         ensures { result.now ≡ self.now.report }
     {

@@ -10,7 +10,9 @@ use std::marker::Model;
 /// A name and its bytes.
 #[derive(Drop)]
 pub struct NamedBytes {
+    /// The name, which no other of the world is.
     pub name: Text,
+    /// The bytes that it has now.
     pub bytes: Bytes,
 }
 
@@ -30,6 +32,7 @@ impl Model for Names {
 }
 
 impl Names {
+    /// No names. It takes no memory.
     pub fn new(alloc: Global) -> Names
         ensures { result ≡ [] }
     {
@@ -38,6 +41,7 @@ impl Names {
         }
     }
 
+    /// The bytes of a name; `None` exactly where the name is not there.
     pub fn bytes(&self, name: &str) -> Option<&[u8]>
         ensures { option_copied result ≡ bytes_under self.now name.now }
     {

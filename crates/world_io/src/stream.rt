@@ -3,19 +3,19 @@ ghost use Rattle.world_io.specs.Stream.{GoesOn, HasFailed, FillCount, filled_byt
 
 use std::marker::Model;
 
-/// What a fill did.
+/// How many bytes a fill took from a source, or why none.
 #[derive(Clone, Copy, PartialEq, Eq)]
 pub enum Filled {
     /// The number of bytes that were put into the piece, from its first byte on; at least one,
     /// unless the piece is empty.
     Got(usize),
-    /// Nothing was left.
+    /// Nothing was left to be read.
     End,
     /// Reading failed, and took nothing.
     Failed,
 }
 
-/// What a put did.
+/// How many bytes a put gave to a sink, or why none.
 #[derive(Clone, Copy, PartialEq, Eq)]
 pub enum Put {
     /// The number of the piece's first bytes that were appended; at least one, unless the piece is

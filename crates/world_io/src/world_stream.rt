@@ -10,7 +10,9 @@ use crate::{Filled, Put, Sink, Source, World};
 /// It holds the world for as long as it lives. What it read is known of the world afterwards.
 #[derive(Drop)]
 pub struct WorldSource<'a, W: World> {
+    /// The world that opened it.
     pub world: &'a mut W,
+    /// The number that the world gave it.
     pub file: u32,
     ghost opened: { IsTrue ((W.ledger world.now).opened file) },
 }

@@ -1,5 +1,5 @@
 use Rattle.std.proofs.Common.{◌≡◌, length, map, take, drop}
-use Rattle.script_text.specs.Table.{place_of}
+use Rattle.script_text.specs.Table.{grammar_place}
 use Rattle.script_text.specs.Values.{values_at}
 use Rattle.script_text.proofs.Values.{behind}
 use Rattle.script_text.proofs.script.read_values.Given as goal
@@ -8,5 +8,5 @@ use Rattle.script_text.proofs.script.read_values.Given as goal
 abbrev pub invariant-loop-index : goal.invariant-loop-index
 invariant-loop-index l = record {
   four : length l.values ≡ 4;
-  comes : behind (take l.index l.values) (values_at (map place_of (drop l.index l.parts)) l.words) ≡ values_at (map place_of l.parts) l.fn.words;
+  comes : behind (take l.index l.values) (values_at (map grammar_place (drop l.index l.parts)) l.words) ≡ values_at (map grammar_place l.parts) l.fn.words;
 }

@@ -1,6 +1,6 @@
 use Rattle.std.proofs.Common.{◌≡◌}
 use Rattle.recovery_world.specs.World.{Setting, World}
-use Rattle.system_parts.specs.Standing.{StandsFor}
+use Rattle.system_parts.specs.SystemStanding.{StandsFor}
 use Rattle.several_events.proofs.MessageLists.{GoesOnTo}
 use Rattle.several_events.proofs.messages.next_of_kind.Given as goal
 

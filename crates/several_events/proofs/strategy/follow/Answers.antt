@@ -1,7 +1,7 @@
 use Rattle.std.proofs.Common.{◌∙◌, ap, refl, sym, subst, Some, None}
 use Rattle.std.proofs.lemmas.Result.{err_from_is_err_and}
 use Rattle.event_replies.specs.declared.reply.Stop.TheVariants as stop
-use Rattle.system_parts.specs.Standing.{StandsFor}
+use Rattle.system_parts.specs.SystemStanding.{StandsFor}
 use Rattle.system_parts.specs.Performing.{MovesOn, Releasing, Replies, WouldPass}
 use Rattle.system_parts.proofs.EventChains.{moves_as, moves_none, moves_then, stops_then, stands_then, threads_stay, exits_as}
 use Rattle.output_releases.proofs.ReleasedLists.{appends_none, appends_then, releases_none, releases_then}

@@ -1,5 +1,5 @@
 use Rattle.std.proofs.Common.{◌<◌, sym, subst, arith, option_copied}
-use Rattle.system_parts.specs.Standing.{StandsFor}
+use Rattle.system_parts.specs.SystemStanding.{StandsFor}
 use Rattle.thread_steps.proofs.StepLemmas.{room_now, input_now, step_can, step_goes, step_stops, keeps, moved_on, stopped_at}
 use Rattle.thread_steps.proofs.stepping.step.Goals as goal
 

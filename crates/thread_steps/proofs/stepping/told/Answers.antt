@@ -4,7 +4,7 @@ use Rattle.entry_order.specs.Log.{entries}
 use Rattle.plain_machine.specs.History.{log_of}
 use Rattle.access_log.specs.Held.{lane, entry_at}
 use Rattle.master_core.specs.Stepping.{wanted}
-use Rattle.master_core.specs.Standing.{Stands}
+use Rattle.master_core.specs.MasterStanding.{Stands}
 use Rattle.replay_guide.specs.Following.{recorded}
 use Rattle.thread_steps.specs.Following.{or_given}
 use Rattle.thread_steps.proofs.HandLemmas.{asks_clock, asks_draw, asked_clock, asked_draw, clock_number, draw_number, tells_clock, tells_draw, tells_none}

@@ -1,7 +1,7 @@
 use Rattle.std.proofs.Common.{sym, ap, ◌∙◌, subst}
 use Rattle.master_core.specs.Stepping.{wanted}
-use Rattle.master_core.specs.Standing.{Stands}
-use Rattle.system_parts.specs.Standing.{StandsFor}
+use Rattle.master_core.specs.MasterStanding.{Stands}
+use Rattle.system_parts.specs.SystemStanding.{StandsFor}
 use Rattle.thread_steps.proofs.TurnLemmas.{wants_touch, wants_read, touch_turn, read_turn, other_turn, readers_now, touch_low, read_low}
 use Rattle.thread_steps.proofs.stepping.turn_of.Goals as goal
 

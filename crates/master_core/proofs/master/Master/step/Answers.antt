@@ -4,7 +4,7 @@ use Rattle.plain_text.specs.declared.packet.Packet.{Packet}
 use Rattle.master_core.specs.declared.parts.ThreadPart.{ThreadPart}
 use Rattle.master_core.specs.Mastered.{Mastered, IsBounded, place_in_hand}
 use Rattle.box_program.specs.Hands.{has_hand}
-use Rattle.master_core.specs.Standing.{IsThread}
+use Rattle.master_core.specs.MasterStanding.{IsThread}
 use Rattle.master_core.specs.Effects.{Played, DoneTake, fresh_var}
 use Rattle.master_core.proofs.FollowsLemmas.{take_follows}
 use Rattle.master_core.proofs.AnswerLemmas.{Answers, played_answers, played_follows, hand_is, no_hand, hand_there, turns_of, falls_of, take_begins, take_turns}

@@ -1,5 +1,5 @@
 use Rattle.std.proofs.Common.{sym, ap, ◌∙◌, subst}
-use Rattle.system_parts.specs.Standing.{StandsFor}
+use Rattle.system_parts.specs.SystemStanding.{StandsFor}
 use Rattle.recovery_core.proofs.FinishLemmas.{finishes}
 use Rattle.recovery_core.proofs.system.System.finish.Goals as goal
 

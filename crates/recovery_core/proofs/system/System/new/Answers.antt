@@ -1,5 +1,5 @@
 use Rattle.std.proofs.Common.{refl, sym, subst}
-use Rattle.system_parts.specs.Standing.{StandsForSome}
+use Rattle.system_parts.specs.SystemStanding.{StandsForSome}
 use Rattle.recovery_core.proofs.FinishLemmas.{system_opens}
 use Rattle.recovery_core.proofs.system.System.new.Goals as goal
 

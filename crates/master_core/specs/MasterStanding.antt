@@ -3,7 +3,7 @@ use Rattle.std.specs.Prelude.{◌≡◌, ℕ, ◌<◌, List, length, slice_index
 use Rattle.plain_text.specs.declared.packet.Packet.{Packet}
 use Rattle.entry_order.specs.Log.{entries, places, IsLog}
 use Rattle.entry_order.specs.Stamps.{IsOutputStamp}
-use Rattle.box_program.specs.Hands.{place_of}
+use Rattle.box_program.specs.Hands.{local_in}
 use Rattle.plain_machine.specs.declared.plain_move.PlainMove.{PlainMove}
 use Rattle.plain_machine.specs.Program.{Meaning}
 use Rattle.plain_machine.specs.History.{Step, log_of, sent_of, outputs, moves_of, value_after, thread_after, play}
@@ -25,7 +25,7 @@ pub record IsThread {V : Type 0} (steps : List (Step V)) (t : ℕ) (part : Threa
   pub taken : part.counts.taken ≡ (thread_after steps t).taken
   pub logged : part.counts.entries ≡ entries t (log_of steps)
   pub outputs : part.counts.outputs ≡ outputs t (sent_of steps)
-  pub hand : part.hand ≡ place_of (thread_after steps t).hand
+  pub hand : part.hand ≡ local_in (thread_after steps t).hand
   pub made : moves_made part ≡ moves_of t steps
   pub stamp : IsOutputStamp (log_of steps) t (entries t (log_of steps)) (λ u. slice_index part.stamp u)
 

@@ -14,7 +14,7 @@ use Rattle.plain_machine.specs.History.{Step, log_of, sent_of, outputs}
 use Rattle.plain_machine.specs.Agree.{SendsAfter}
 use Rattle.wire_frames.specs.Writing.{CanPutOutput}
 use Rattle.master_core.specs.declared.parts.Counts.{Counts}
-use Rattle.master_core.specs.Standing.{Stands}
+use Rattle.master_core.specs.MasterStanding.{Stands}
 use Rattle.snapshot_store.specs.Stored.{Snapshot, Snapshots}
 use Rattle.master_core.specs.Stepping.{plain_entry, emission_of_output}
 use Rattle.master_core.specs.Holding.{held_entries, HoldsOf}
