@@ -9,10 +9,9 @@ use Rattle.master_core.specs.declared.parts.VarPart.{VarPart}
 use Rattle.master_core.specs.declared.parts.ThreadPart.{ThreadPart}
 use Rattle.master_core.specs.declared.step.Trace.TheVariants as trace
 use Rattle.master_core.specs.Mastered.{moves_made}
-use Rattle.replay_guide.specs.Turns.{WaitsFor}
 use Rattle.var_locks.specs.declared.view.Note.{Note}
 use Rattle.var_locks.specs.declared.view.View.{View}
-use Rattle.var_locks.specs.Notes.{IsOnVariable, IsGuided, IsGuidedEntry}
+use Rattle.var_locks.specs.Notes.{IsOnVariable, LetsPass, IsGuided, IsGuidedEntry}
 use Rattle.var_locks.specs.Views.{with_hand, note_on}
 use Rattle.var_locks.specs.Rounds.{MayBring}
 use Rattle.var_locks.specs.Seats.{share_of}
@@ -27,10 +26,10 @@ module _ {V : Type 0} (m : Meaning V) (fits : ℕ → V → Type 0) (lawful : Is
   on true next works = record { hand = hand; found = refl; trace = refl; does = inr (next, works) }
   on false next works = record { hand = hand; found = refl; trace = refl; does = inl (next, works) }
 
-  in_turn : (read : Bool) (number : ℕ) → number ≡ before.counts.entries + 1 → MayGo guide t (before.counts.entries + 1) v read x → (z : VarPart V) → Some x ≡ Some z → (u k : ℕ) → WaitsFor guide t number v read z.places z.readers u k → ⊥
-  in_turn read number is go z same u k waits =
+  in_turn : (read : Bool) (number : ℕ) → number ≡ before.counts.entries + 1 → MayGo guide t (before.counts.entries + 1) v read x → (z : VarPart V) → Some x ≡ Some z → LetsPass guide t number v read z.places z.readers
+  in_turn read number is go z same =
       let one : x ≡ z = cc in
-      go u k (subst (λ (i : ℕ). WaitsFor guide t i v read x.places x.readers u k) is (subst (λ (q : VarPart V). WaitsFor guide t number v read q.places q.readers u k) (sym one) waits))
+      subst (λ (i : ℕ). LetsPass guide t i v read z.places z.readers) (sym is) (subst (λ (q : VarPart V). LetsPass guide t (before.counts.entries + 1) v read q.places q.readers) one go)
 
   guided : (read : Bool) → WorksBy m t v read place before after e x y → MayGo guide t (before.counts.entries + 1) v read x → IsGuided guide t (note_on before after (trace.Did e) (with_hand w v x))
   guided true works go = subst (λ (z : What). IsGuidedEntry guide t (note_on before after (trace.Did e) (with_hand w v x)) e.number z) (sym (ap (λ (f : StampedEntry). f.what) works.logs.entry))

@@ -161,6 +161,7 @@ module _ {V : Type 0} (m : Meaning V) (fits : ℕ → V → Type 0) (guide : Lis
         let k = woven_there (length p.threads) (receipts m past told.now) (λ t. all_own m inputs (length p.threads) past (receipts m past told.now) few linked t (receipts m past told.now t) (linked.alone t))
         (beyond m inputs (length p.threads) past (receipts m past told.now) few linked) (thread_rises m inputs (length p.threads) past (receipts m past told.now) few linked) in
         let is = woven_order (receipts m past told.now) k.0 k.1 in record {
+          linked = linked;
           order = k.0;
           woven = k.1;
           goes_on = weaves m inputs (length p.threads) moves past (receipts m past told.now) few played linked k.0 is;

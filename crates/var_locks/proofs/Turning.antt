@@ -1,11 +1,12 @@
 -- What the guide says at what a seat has in hand.
-use Rattle.std.proofs.Common.{◌≡◌, ℕ, ◌+◌, ◌/◌, Bool, List, refl, sym, subst, arith}
+use Rattle.std.proofs.Common.{◌≡◌, ℕ, ◌+◌, ◌/◌, Bool, List, refl, subst, inl, inr, arith}
 use Rattle.std.specs.Prelude.{◌↔◌, IfSome, IfNone}
 use Rattle.access_log.specs.declared.entry.Turn.{Turn}
 use Rattle.access_log.specs.declared.entry.Turn.TheVariants as turn
 use Rattle.access_log.specs.Held.{Lane}
 use Rattle.master_core.specs.declared.parts.VarPart.{VarPart}
-use Rattle.replay_guide.specs.Turns.{WaitsFor}
+use Rattle.replay_guide.specs.Turns.{WaitsFor, IsFollowed, IsFree}
+use Rattle.var_locks.specs.Notes.{LetsPass}
 use Rattle.var_locks.specs.TouchedParts.{entry_waited}
 
 pub half : (x word : ℕ) → x + x ≡ word → word / 2 ≡ x
@@ -15,8 +16,8 @@ module _ {V : Type 0} (guide followed : List Lane) (same : guide ≡ followed) (
   pub here : (u k : ℕ) → WaitsFor guide t n v read places readers u k → WaitsFor followed t n v read x.places x.readers u k
   here u k waits = subst (λ (l : List Lane). WaitsFor l t n v read x.places x.readers u k) same (subst (λ (i : ℕ). WaitsFor guide t n v read i x.readers u k) places_are (subst (λ (l : List ℕ). WaitsFor guide t n v read places l u k) readers_are waits))
 
-  pub back : (u k : ℕ) → WaitsFor followed t n v read x.places x.readers u k → WaitsFor guide t n v read places readers u k
-  back u k waits = subst (λ (l : List ℕ). WaitsFor guide t n v read places l u k) (sym readers_are) (subst (λ (i : ℕ). WaitsFor guide t n v read i x.readers u k) (sym places_are) (subst (λ (l : List Lane). WaitsFor l t n v read x.places x.readers u k) (sym same) waits))
+  pub passes : LetsPass guide t n v read places readers → LetsPass followed t n v read x.places x.readers
+  passes pass = subst (λ (l : List Lane). LetsPass l t n v read x.places x.readers) same (subst (λ (i : ℕ). LetsPass guide t n v read i x.readers) places_are (subst (λ (l : List ℕ). LetsPass guide t n v read places l) readers_are pass))
 
 -- the entry for which a turn says to wait is the one for which the guide does
 module _ (guide : List Lane) (t n v : ℕ) (read : Bool) (places : ℕ) (readers : List ℕ) where
@@ -25,7 +26,7 @@ module _ (guide : List Lane) (t n v : ℕ) (read : Bool) (places : ℕ) (readers
   entry_waits turn.Follow told = tt
   entry_waits turn.Free told = tt
 
-  pub none_waits : (r : Turn) → ((u k : ℕ) → (r ≡ turn.Wait u k) ↔ WaitsFor guide t n v read places readers u k) → IfNone (entry_waited r) ((u k : ℕ) → WaitsFor guide t n v read places readers u k → ⊥)
-  none_waits (turn.Wait u k) told = tt
-  none_waits turn.Follow told = λ u k waits. (let q : turn.Follow ≡ turn.Wait u k = (told u k).1 waits in cc)
-  none_waits turn.Free told = λ u k waits. (let q : turn.Free ≡ turn.Wait u k = (told u k).1 waits in cc)
+  pub none_waits : (r : Turn) → (r ≡ turn.Follow) ↔ IsFollowed guide t n v read places readers → (r ≡ turn.Free) ↔ IsFree guide t n v read places readers → IfNone (entry_waited r) (LetsPass guide t n v read places readers)
+  none_waits (turn.Wait u k) follow free = tt
+  none_waits turn.Follow follow free = inl (follow.0 refl)
+  none_waits turn.Free follow free = inr (free.0 refl)

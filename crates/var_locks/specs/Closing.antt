@@ -15,7 +15,7 @@ use Rattle.replay_guide.specs.Following.{Follows}
 use Rattle.replay_guide.specs.Orders.{IsNamed}
 use Rattle.atomic_table.specs.Seated.{TableId}
 use Rattle.round_order.specs.Receipts.{Receipt, Receipts, after}
-use Rattle.round_order.specs.Linked.{IsKnown}
+use Rattle.round_order.specs.Linked.{IsKnown, IsLinked}
 use Rattle.round_order.specs.Woven.{IsWoven, GoesOn}
 use Rattle.var_locks.specs.declared.view.Note.{Note}
 use Rattle.var_locks.specs.declared.view.View.{View}
@@ -65,6 +65,7 @@ FoundMissing (x ∷ others) u k = IsNamed u k x.missing ⊎ FoundMissing others 
 
 -- The receipts weave into a legal continuation, for which the master stands.
 pub record Weaves {V : Type 0} (m : Meaning V) (inputs : ℕ → List Packet) (threads : ℕ) (moves : List PlainMove) (past : List (Step V)) (rs : Receipts V) (q : Mastered V) : Type 0 where
+  pub linked : IsLinked m inputs threads past rs
   pub order : List (Receipt V)
   pub woven : IsWoven rs order
   pub goes_on : GoesOn m inputs threads moves past order

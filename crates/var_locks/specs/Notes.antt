@@ -18,7 +18,7 @@ use Rattle.master_core.specs.declared.step.Trace.TheVariants as trace
 use Rattle.master_core.specs.declared.step.WovenStep.{WovenStep}
 use Rattle.master_core.specs.Effects.{TouchesParts, ReadsParts, HearsPart, after_take, after_emit, after_end}
 use Rattle.replay_guide.specs.Following.{recorded}
-use Rattle.replay_guide.specs.Turns.{WaitsFor}
+use Rattle.replay_guide.specs.Turns.{IsFollowed, IsFree}
 use Rattle.round_order.specs.Receipts.{Receipt, after}
 use Rattle.round_order.specs.PartMoves.{take_receipt, emit_receipt, end_receipt, hear_receipt, touch_receipt, read_receipt}
 use Rattle.var_locks.specs.declared.view.Note.{Note}
@@ -133,9 +133,13 @@ AreFed packets (n ∷ notes) = ((packet : Packet) → n.packet ≡ Some packet �
 
 -- How it keeps to what is followed
 
+-- the guide lets a touch or a read pass, where the variable was touched so often and this is the join of its reads since
+abbrev pub LetsPass : List Lane → ℕ → ℕ → ℕ → Bool → ℕ → List ℕ → Type 0
+LetsPass guide t number v read places readers = IsFollowed guide t number v read places readers ⊎ IsFree guide t number v read places readers
+
 -- the move on a variable did not have to wait
 abbrev pub InTurn : {V : Type 0} → List Lane → ℕ → ℕ → ℕ → Bool → Option (VarPart V) → Type 0
-InTurn {V} guide t number v read found = (x : VarPart V) → found ≡ Some x → (u k : ℕ) → WaitsFor guide t number v read x.places x.readers u k → ⊥
+InTurn {V} guide t number v read found = (x : VarPart V) → found ≡ Some x → LetsPass guide t number v read x.places x.readers
 
 -- the answer is the recorded one, where one is
 abbrev pub IsRecorded : List Lane → ℕ → ℕ → ℕ → Type 0

@@ -5,10 +5,9 @@ use Rattle.std.specs.Coded.{Coded}
 use Rattle.access_log.specs.Held.{Lane}
 use Rattle.master_core.specs.declared.step.Trace.TheVariants as trace
 use Rattle.master_core.specs.declared.step.WovenStep.{WovenStep}
-use Rattle.replay_guide.specs.Turns.{WaitsFor}
 use Rattle.atomic_table.specs.Table.{Me}
 use Rattle.var_locks.specs.declared.view.View.{View}
-use Rattle.var_locks.specs.Notes.{IsOnVariable, IsGuided, answer_in}
+use Rattle.var_locks.specs.Notes.{IsOnVariable, LetsPass, IsGuided, answer_in}
 use Rattle.var_locks.specs.declared.touching.Touched.{Touched}
 use Rattle.var_locks.specs.declared.touching.Touched.TheVariants as touched
 use Rattle.var_locks.specs.Views.{with_hand, empty_hand, missed_view, note_on, noted_view, sees_what}
@@ -80,9 +79,9 @@ pub record HasTaken {P V : Type 0} (fits : P → ℕ → V → Type 0) (c : Code
 abbrev pub IsTaken : {P V : Type 0} → (P → ℕ → V → Type 0) → Coded P → Gv → Access → ℕ → ThreadPart → Me (VarPart V) (View V) → Type 0
 IsTaken {P} {V} fits c program a word part me = (x : VarPart V) × HasTaken fits c program a word part me x
 
--- the guide does not say to wait at what it found
+-- the guide lets it pass at what it found
 abbrev pub MayGo : {V : Type 0} → List Lane → ℕ → ℕ → ℕ → Bool → VarPart V → Type 0
-MayGo guide t n v read x = (u k : ℕ) → WaitsFor guide t n v read x.places x.readers u k → ⊥
+MayGo guide t n v read x = LetsPass guide t n v read x.places x.readers
 
 -- it has taken the variable, and need not wait
 abbrev pub MayWork : {P V : Type 0} → (P → ℕ → V → Type 0) → Coded P → Gv → List Lane → Access → ℕ → ThreadPart → Me (VarPart V) (View V) → Type 0

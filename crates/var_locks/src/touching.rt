@@ -3,6 +3,7 @@ ghost use Rattle.std.specs.Prelude.{◌≡◌, ℕ, ◌+◌, ◌<◌, ◌≤◌,
 ghost use Rattle.master_core.specs.Mastered.{moves_made};
 ghost use Rattle.master_core.specs.declared.parts.VarPart as var_of;
 ghost use Rattle.replay_guide.specs.Turns.{WaitsFor};
+ghost use Rattle.var_locks.specs.Notes.{LetsPass};
 ghost use Rattle.var_locks.specs.Rounds.{AreVarsOf, CanMiss};
 ghost use Rattle.var_locks.specs.Views.{empty_hand, missed_view};
 ghost use Rattle.var_locks.specs.TouchedParts.{IsWanted, HasSlot, Works, WorksBy, next_word, entry_waited, HasThread, IsTaken, MayWork, MustWait, MadeBy, MadeNone, Comes, ComesOf};
@@ -156,8 +157,8 @@ fn waits_for(
 ) -> Option<(u32, u64)>
     ensures waits { IfSome result (λ e. WaitsFor guide.now access.thread number
         access.var access.read places readers.now e.0 e.1) }
-    ensures goes { IfNone result ((u k : ℕ) → WaitsFor guide.now access.thread number
-        access.var access.read places readers.now u k → ⊥) }
+    ensures goes { IfNone result (LetsPass guide.now access.thread number
+        access.var access.read places readers.now) }
 {
     let Access {
         thread,

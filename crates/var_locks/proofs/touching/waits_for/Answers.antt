@@ -1,6 +1,7 @@
 use Rattle.std.proofs.Common.{ℕ, sym, subst, Option}
 use Rattle.std.specs.Prelude.{IfSome, IfNone}
 use Rattle.replay_guide.specs.Turns.{WaitsFor}
+use Rattle.var_locks.specs.Notes.{LetsPass}
 use Rattle.var_locks.proofs.Turning.{entry_waits, none_waits}
 use Rattle.var_locks.proofs.touching.waits_for.Goals as goal
 
@@ -10,6 +11,6 @@ returns c =
     let a = c.args.access in record {
       waits = subst (λ (o : Option (ℕ × ℕ)). IfSome o (λ e. WaitsFor g a.thread c.args.number a.var a.read c.args.places c.args.readers.now e.0 e.1)) (sym c.entry_of.ensures)
           (entry_waits g a.thread c.args.number a.var a.read c.args.places c.args.readers.now c.turn.result c.turn.ensures.wait);
-      goes = subst (λ (o : Option (ℕ × ℕ)). IfNone o ((u k : ℕ) → WaitsFor g a.thread c.args.number a.var a.read c.args.places c.args.readers.now u k → ⊥)) (sym c.entry_of.ensures)
-          (none_waits g a.thread c.args.number a.var a.read c.args.places c.args.readers.now c.turn.result c.turn.ensures.wait);
+      goes = subst (λ (o : Option (ℕ × ℕ)). IfNone o (LetsPass g a.thread c.args.number a.var a.read c.args.places c.args.readers.now)) (sym c.entry_of.ensures)
+          (none_waits g a.thread c.args.number a.var a.read c.args.places c.args.readers.now c.turn.result c.turn.ensures.follow c.turn.ensures.free);
     }

@@ -3,7 +3,7 @@ use Rattle.master_core.specs.declared.parts.VarPart.{VarPart}
 use Rattle.atomic_table.specs.Table.{Me}
 use Rattle.var_locks.specs.declared.view.View.{View}
 use Rattle.var_locks.specs.TouchedParts.{HasTaken}
-use Rattle.var_locks.proofs.Turning.{half, here, back}
+use Rattle.var_locks.proofs.Turning.{half, here, passes}
 use Rattle.var_locks.proofs.vars.Vars.try_on.Goals as goal
 
 pub readers_of-readers-requires-clause-slot : goal.readers_of-readers-requires-clause-slot
@@ -16,7 +16,7 @@ go_on-requires-clause-taken g c κs within =
     let slots = ap (λ (me : Me (VarPart g.row.P-Value.Denot) (View g.row.P-Value.Denot)). me.1) h.token in (
       x,
       subst (λ (me : Me (VarPart g.row.P-Value.Denot) (View g.row.P-Value.Denot)). HasTaken g.P.Program.fits g.row.P.coded g.J.Round.program c.args.access c.args.word c.args.part.now me x) (sym c.readers_of-readers.ensures.stays) h,
-      λ u k waits. c.in_default.ensures.goes u k (back c.args.setting.now.guide.now g.J.Round.guide c.requires.guide c.args.access.thread (c.args.part.now.counts.entries + 1) c.args.access.var c.args.access.read (c.args.word / 2) c.readers_of-readers.result x (half x.places c.args.word h.finds.word_is) (c.readers_of-readers.ensures.readers x slots) u k waits),
+      passes c.args.setting.now.guide.now g.J.Round.guide c.requires.guide c.args.access.thread (c.args.part.now.counts.entries + 1) c.args.access.var c.args.access.read (c.args.word / 2) c.readers_of-readers.result x (half x.places c.args.word h.finds.word_is) (c.readers_of-readers.ensures.readers x slots) c.in_default.ensures.goes,
     )
 
 pub wait_on-requires-clause-waits : goal.wait_on-requires-clause-waits
