@@ -1,0 +1,4 @@
+pub mod Guided
+pub mod Leading
+pub mod Done
+pub mod Shown
