@@ -114,9 +114,9 @@ module _ {V : Type 0} (s : Setting V) (w : World V) (guide : List Lane) (sound :
       same : (a : ℕ) → recorded (entry_at (lane guide t) (entries t (log_of w.past) + 1)) ≡ Some a → b ≡ a
       same = subst (λ (a : Act V). KeepsTo guide stamp a) (acts (HearsDraw b) is) keeps
 
-      go : (o : Option ℕ) → recorded (entry_at (lane guide t) (entries t (log_of w.past) + 1)) ≡ o → Rattle.recovery_world.specs.Turns.TellsDraw w.followed (log_of w.past) t answer (Rattle.traffic_gen.specs.Generated.word_of s.seed) w.drawn b w.drawn
-      go None none = tells_free_draw s w guide sound guides t b answer (Rattle.traffic_gen.specs.Generated.word_of s.seed) w.drawn w.drawn none (inl (told, refl))
-      go (Some a) found = subst (λ (c : ℕ). Rattle.recovery_world.specs.Turns.TellsDraw w.followed (log_of w.past) t answer (Rattle.traffic_gen.specs.Generated.word_of s.seed) w.drawn c w.drawn) (sym (same a found)) (tells_draw s w guide sound guides t a h answer (Rattle.traffic_gen.specs.Generated.word_of s.seed) w.drawn hand next found)
+      go : (o : Option ℕ) → recorded (entry_at (lane guide t) (entries t (log_of w.past) + 1)) ≡ o → Rattle.recovery_world.specs.Turns.TellsDraw w.followed (log_of w.past) t answer (Rattle.random_words.specs.Words.word_of s.seed) w.drawn b w.drawn
+      go None none = tells_free_draw s w guide sound guides t b answer (Rattle.random_words.specs.Words.word_of s.seed) w.drawn w.drawn none (inl (told, refl))
+      go (Some a) found = subst (λ (c : ℕ). Rattle.recovery_world.specs.Turns.TellsDraw w.followed (log_of w.past) t answer (Rattle.random_words.specs.Words.word_of s.seed) w.drawn c w.drawn) (sym (same a found)) (tells_draw s w guide sound guides t a h answer (Rattle.random_words.specs.Words.word_of s.seed) w.drawn hand next found)
 
   by_move : (h : Hand) → (thread_after w.past t).hand ≡ Some h → (n : Move) → s.meaning.next h.place ≡ n → hand_move s.meaning (value_after s.meaning w.past) (thread_after w.past t).taken h answer n ≡ Moves step.after made.effect → DoesNext n
   by_move h hand (move.Access v) next e =

@@ -1,3 +1,4 @@
 pub mod Parts
 pub mod SystemStanding
 pub mod Performing
+pub mod Resting

@@ -21,7 +21,7 @@ use Rattle.plain_machine.proofs.Histories.{history_log, earlier_refl, earlier_lo
 use Rattle.box_program.specs.Hands.{local_in, input_for, has_hand, IsInputAfter}
 use Rattle.master_core.specs.Mastered.{Mastered, place_in_hand, HasRoom, IsOnVariable, WantsVariable}
 use Rattle.master_core.specs.MasterStanding.{Stands}
-use Rattle.master_core.specs.Stepping.{told_in, move_of, Follows, MadeNone, MadeOne, plain_entry, emission_of_output}
+use Rattle.master_core.specs.Stepping.{told_in, move_of, Follows, MadeNone, MadeOne, Shows}
 use Rattle.master_core.specs.declared.step.Stepped.{Stepped}
 use Rattle.master_core.specs.declared.step.Stepped.TheVariants as stepped
 use Rattle.master_core.proofs.StampedLemmas.{other_output}
@@ -51,34 +51,13 @@ use Rattle.plain_machine.specs.Agree.{IsEarlier}
 use Rattle.recovery_laws.specs.Sound.{Sound}
 use Rattle.thread_steps.specs.Stepping.{with_move, AddsEntry, AddsOutput, NotesAs, Notes, CanNote}
 use Rattle.system_parts.specs.Performing.{MovesOn, StopsAt, ComesTo, WouldPass}
-use Rattle.system_parts.proofs.SentLemmas.{SentOf, length_stays, after_step, sent_took, sent_did, sent_emitted, sent_ended}
-use Rattle.thread_steps.proofs.MoveLemmas.{made_answer, has_room, hand_is, place_is, input_there, can_put_entry, can_put_output, input_short}
+use Rattle.system_parts.proofs.SentLemmas.{after_step}
+use Rattle.thread_steps.proofs.NotedMoves.{Answer, but_master, with_master, noted, passes}
+use Rattle.thread_steps.proofs.MoveLemmas.{has_room, hand_is, place_is, input_there, can_put_entry, can_put_output, input_short}
 
--- The waiting outputs stay as the log grows.
-
--- with one more entry, and after one more step
-outputs_more : (x : Entry) (log : List Entry) (stamped : List Output) (sent : List Sent) → IsLog (x ∷ log) → ((o : Sent) → IsAmong o sent → o.after ≤ entries o.emission.thread log) → AreOutputs log stamped sent → AreOutputs (x ∷ log) stamped sent
-outputs_more x log [] [] good low h = tt
-outputs_more x log [] (o ∷ sent) good low h = h
-outputs_more x log (p ∷ stamped) [] good low h = h
-outputs_more x log (p ∷ stamped) (o ∷ sent) good low h =
-    (h.0, other_output log x o.emission.thread o.after (λ u. slice_index p.stamp u) good (low o (inl refl)) h.1, outputs_more x log stamped sent good (λ q i. low q (inr i)) h.2)
-
-outputs_step : {V : Type 0} (a : Act V) (log : List Entry) (stamped : List Output) (sent : List Sent) → IsLog (log_more a log) → ((o : Sent) → IsAmong o sent → o.after ≤ entries o.emission.thread log) → AreOutputs log stamped sent → AreOutputs (log_more a log) stamped sent
-outputs_step (Took k) log stamped sent good low h = h
-outputs_step (Did e left) log stamped sent good low h = outputs_more e log stamped sent good low h
-outputs_step (Emitted o) log stamped sent good low h = h
-outputs_step (Ended k) log stamped sent good low h = h
-
-abbrev Answer : Type 0
-Answer = Result Outcome Stop
-
--- an answer has one outcome, or one limit
+-- an answer has one outcome
 ok_is : (a b : Outcome) → let x : Answer = Ok a in let y : Answer = Ok b in x ≡ y → a ≡ b
 ok_is a b e = cc
-
-limit_is : (a b : Limit) → let x : Answer = Err (stop.Limit a) in let y : Answer = Err (stop.Limit b) in x ≡ y → a ≡ b
-limit_is a b e = cc
 
 -- what the world needs to come to, and where it stops
 abbrev pub GoesTo : {P V : Type 0} → Meaning V → Setting V → World V → ℕ → Option ℕ → Outcome → Parts P V → Type 0
@@ -91,126 +70,6 @@ module _ {P V : Type 0} (m : Meaning V) (s : Setting V) (w : World V) (y : Parts
     (answer : Option ℕ) (drawn : ℕ) (tells : TellsHand s w t given answer drawn (thread_after w.past t).hand) (gen : g ≡ generator_after s.seed drawn) (up : w.up ≡ true) where
   abbrev pub mid : Parts P V
   mid = record y { generator = g; master = q }
-
-  -- A move was made.
-  module _ (turn : HandHasTurn s.meaning w.followed (log_of w.past) t (thread_after w.past t).hand) (step : Step V) (moves : plain_move s.meaning (inputs_fed s w.fed) s.threads w.past (record { thread = t; answer = answer }) ≡ Ok (step ∷ w.past)) (stands : Stands s.meaning s.threads (step ∷ w.past) q) where
-    abbrev new : World V
-    new = after_step w step drawn
-
-    -- the event is that of the definitions
-    on : (o : Outcome) → o ≡ move_outcome step.act → OnStep s w t given o new
-    on o is = inr (inr (inr (inr (
-      low,
-      up,
-      record {
-        turn = turn;
-        answer = answer;
-        drawn = drawn;
-        tells = tells;
-        step = step;
-        moves = moves;
-        to_is = is;
-        new_is = refl;
-      },
-    ))))
-
-    -- it is a legal step after the past
-    made : Made s.meaning (inputs_fed s w.fed) s.threads w.past t answer step
-    made = made_move s.meaning (inputs_fed s w.fed) s.threads w.past (record { thread = t; answer = answer }) step moves
-
-    history : IsHistory s.meaning (inputs_fed s w.fed) s.threads (step ∷ w.past)
-    history = (made_step s.meaning (inputs_fed s w.fed) s.threads w.past t answer step made, st.sound.firm.legal)
-
-    -- the parts count as the world does
-    counted : (bytes : ℕ) (l : Option Limit) → bytes ≡ bytes_sent step.act → limit_passed (y.moves + 1) (y.bytes + bytes) ≡ l → limit_passed (w.moves + 1) (w.bytes + bytes_sent step.act) ≡ l
-    counted bytes l size is =
-        subst (λ (n : ℕ). limit_passed (n + 1) (w.bytes + bytes_sent step.act) ≡ l) st.master.moves
-        (subst (λ (n : ℕ). limit_passed (y.moves + 1) (n + bytes_sent step.act) ≡ l) st.master.bytes
-        (subst (λ (n : ℕ). limit_passed (y.moves + 1) (y.bytes + n) ≡ l) size is))
-
-    -- within the limits the parts stand for the world after it
-    goes : (o : Outcome) (bytes : ℕ) (sent : Sending) → o ≡ move_outcome step.act → bytes ≡ bytes_sent step.act → limit_passed (y.moves + 1) (y.bytes + bytes) ≡ None
-        → SentOf new (record (with_move t answer bytes mid) { sent = sent }) → HasSnapshots s w.stored w.copy sent y.logger.released y.store → GoesTo m s w t given o (record (with_move t answer bytes mid) { sent = sent })
-    goes o bytes sent is size within has snaps = (
-      new,
-      ((on o is, refl), inside),
-      record {
-        sound = next_sound;
-        within = inside;
-        inputs = record {
-          meaning = st.inputs.meaning;
-          fractions = st.inputs.fractions;
-          inputs = st.inputs.inputs;
-          left = st.inputs.left;
-          clock = st.inputs.clock;
-          generator = gen;
-        };
-        snapshots = snaps;
-        ended = st.ended;
-        guide = record {
-          follows = λ e out. st.guide.follows e (λ i. out (earlier_log w.past (step ∷ w.past) e earlier i));
-          only = st.guide.only;
-          began = st.guide.began;
-          holds = holds_later_line s w new st.sound.firm next_sound.firm refl refl earlier st.guide.began y.guide st.guide.holds;
-        };
-        master = record {
-          up = st.master.up;
-          stands = stands;
-          schedule = schedule;
-          past = let k = st.master.past in omega (arith, k);
-          moves = ap (λ (n : ℕ). n + 1) st.master.moves;
-          bytes = ap (λ (n : ℕ). n + bytes) st.master.bytes ∙ ap (λ (n : ℕ). w.bytes + n) size;
-        };
-        sent = has;
-        logger = record {
-          epoch = st.logger.epoch;
-          holds = holds_later_line s w new st.sound.firm next_sound.firm refl refl earlier (log_of w.stored) y.logger.held st.logger.holds;
-          held = st.logger.held;
-          waiting = outputs_step step.act (log_of w.past) y.logger.waiting w.waiting (history_log s.meaning (inputs_fed s w.fed) s.threads (step ∷ w.past) history) (λ x i. sent_after w.past x.emission x.after (st.sound.firm.sent x i)) st.logger.waiting;
-          released = st.logger.released;
-        };
-        released = st.released;
-      },
-    )
-      where
-        inside : IsWithin new
-        inside = counted bytes None size within
-
-        earlier : IsEarlier w.past (step ∷ w.past)
-        earlier = inr (earlier_refl w.past)
-
-        next_sound : Sound s new
-        next_sound = within_sound s w (event.Step t given) o [] new st.sound ((on o is, refl), inside)
-
-        schedule : y.schedule ++ (record { thread = t; answer = answer }) ∷ [] ≡ moves_made w.past ++ (record { thread = step.thread; answer = answer_of step.act }) ∷ []
-        schedule =
-            ap (λ (l : List PlainMove). l ++ (record { thread = t; answer = answer }) ∷ []) st.master.schedule
-            ∙ ap (λ (n : ℕ). moves_made w.past ++ (record { thread = n; answer = answer }) ∷ []) (sym made.thread)
-            ∙ ap (λ (a : Option ℕ). moves_made w.past ++ (record { thread = step.thread; answer = a }) ∷ []) (sym (made_answer s.meaning (inputs_fed s w.fed) s.threads w.past t answer step made))
-
-    -- past a limit the world stays, and what it released is there
-    stops : (bytes : ℕ) (limit : Limit) (after : Parts P V) → bytes ≡ bytes_sent step.act → limit_passed (y.moves + 1) (y.bytes + bytes) ≡ Some limit → after ≡ mid → StopsBefore s w t given limit after
-    stops bytes limit after size is same = (
-      w,
-      (
-        record {
-          to = move_outcome step.act;
-          freed = [];
-          new = new;
-          on = (on (move_outcome step.act) refl, refl);
-          passed = counted bytes (Some limit) size is;
-        },
-        refl,
-      ),
-      subst (λ (z : Parts P V). NotesNames w z) (sym same) st.released,
-    )
-
-    -- the same, from what was noted
-    passes : (bytes : ℕ) → bytes ≡ bytes_sent step.act → (to : Outcome) (Adds : Sending → Sending → Type 0) (res : Answer) (after : Parts P V) → NotesAs t answer bytes to Adds mid res after
-        → (limit : Limit) → res ≡ Err (stop.Limit limit) → StopsBefore s w t given limit after
-    passes bytes size to Adds (Ok other) after n limit is = absurd (cc)
-    passes bytes size to Adds (Err stop.NoMemory) after n limit is = absurd (cc)
-    passes bytes size to Adds (Err (stop.Limit found)) after n limit is = stops bytes limit after size (n.0 ∙ ap Some (limit_is found limit is)) n.1
 
   -- No move was made, and the world stays.
   still : q ≡ y.master → drawn ≡ w.drawn → StandsFor m s w mid
@@ -264,54 +123,38 @@ module _ {P V : Type 0} (m : Meaning V) (s : Setting V) (w : World V) (y : Parts
     pub waits_for : (u n : ℕ) → r ≡ stepped.NotTurn u n → WaitsFor s w t (outcome.Waits u n) × (drawn ≡ w.drawn)
     pub unchanged : MadeNone r → q ≡ y.master
 
+  -- what was noted keeps the master
+  master_kept : (r : Stepped) → MadeOne r → (to : Outcome) (after : Parts P V) → Notes t answer r mid (Ok to) after → after.master ≡ q
+  master_kept (stepped.Took k) made to after n = ap (λ (z : Parts P V). z.master) n.1.new_is
+  master_kept (stepped.Did e) made to after n = ap (λ (z : Parts P V). z.master) n.1.new_is
+  master_kept (stepped.Emitted o) made to after n = ap (λ (z : Parts P V). z.master) n.1.new_is
+  master_kept (stepped.Ended k) made to after n = ap (λ (z : Parts P V). z.master) n.1.new_is
+  master_kept stepped.Idle made to after n = absurd made
+  master_kept (stepped.NotTurn u k) made to after n = absurd made
+  master_kept stepped.NoMemory made to after n = absurd made
+
+  -- A move was made: noted, it leads to the world after it, or it would pass a limit.
+  module _ (turn : HandHasTurn s.meaning w.followed (log_of w.past) t (thread_after w.past t).hand) (step : Step V) (moves : plain_move s.meaning (inputs_fed s w.fed) s.threads w.past (record { thread = t; answer = answer }) ≡ Ok (step ∷ w.past))
+      (stands : Stands s.meaning s.threads (step ∷ w.past) q) (r : Stepped) (made : MadeOne r) (shows : Shows w.past r step) where
+    made_on : (res : Answer) (after : Parts P V) → Notes t answer r mid res after → IfOk res (λ (to : Outcome). GoesTo m s w t given to after)
+    made_on (Err e) after n = tt
+    made_on (Ok to) after n =
+        let k = noted m s w y (but_master m s w y st) t given low g q answer drawn tells gen up turn step moves r shows (Ok to) after n in
+        let there : Stands s.meaning s.threads (step ∷ w.past) after.master = subst (λ (z : Mastered V). Stands s.meaning s.threads (step ∷ w.past) z) (sym (master_kept r made to after n)) stands in
+        (after_step w step drawn, k.1.0, with_master m s (after_step w step drawn) after k.1.1 there)
+
+    made_stops : (res : Answer) (after : Parts P V) → Notes t answer r mid res after → (limit : Limit) → res ≡ Err (stop.Limit limit) → StopsBefore s w t given limit after
+    made_stops res after n limit is =
+        let k = passes m s w y (but_master m s w y st) t given low g q answer drawn tells gen up turn step moves r shows res after n limit is in
+        (w, (k.0, refl), subst (λ (z : Parts P V). NotesNames w z) (sym k.1) st.released)
+
   -- The move was noted, and the world comes to the outcome.
   pub goes_on : (r : Stepped) → Follows s.meaning (inputs_fed s w.fed) s.threads w.past (record { thread = t; answer = answer }) r q → Rests r
       → (res : Answer) (after : Parts P V) → Notes t answer r mid res after → IfOk res (λ (to : Outcome). GoesTo m s w t given to after)
-  goes_on (stepped.Took k) f rest (Err e) after n = tt
-  goes_on (stepped.Took k) f rest (Ok to) after n =
-      let note = n.1 in
-      let has : SentOf (after_step w f.step drawn) (record (with_move t answer 0 mid) { sent = y.sent }) =
-      subst (λ (a : Act V). SentOf (after_step w (record f.step { act = a }) drawn) (record (with_move t answer 0 mid) { sent = y.sent })) (sym f.does)
-      (sent_took w y drawn g q y.schedule y.moves y.bytes f.step.thread f.step.after st.sent k) in
-      subst (λ (z : Parts P V). GoesTo m s w t given to z) (sym (note.new_is ∙ ap (λ (l : Sending). let z : Parts P V = record (with_move t answer 0 mid) { sent = l } in z) note.sends))
-      (goes (rest.turn tt) f.step f.plain_is f.stands to 0 y.sent (n.0 ∙ ap move_outcome (sym f.does)) (ap bytes_sent (sym f.does)) note.within has st.snapshots)
-  goes_on (stepped.Did e) f rest (Err x) after n = tt
-  goes_on (stepped.Did e) f rest (Ok to) after n =
-      let note = n.1 in
-      let act = f.does.0.1 in
-      let log : log_of (f.step ∷ w.past) ≡ plain_entry e ∷ log_of w.past = ap (λ (a : Act V). log_more a (log_of w.past)) act in
-      let hist = history (rest.turn tt) f.step f.plain_is f.stands in
-      let good : IsLog (plain_entry e ∷ log_of w.past) = subst IsLog log (history_log s.meaning (inputs_fed s w.fed) s.threads (f.step ∷ w.past) hist) in
-      let stamp = subst (λ (l : List Entry). IsStamp l (plain_entry e) (λ u. slice_index e.stamp u)) log f.does.1 in
-      let has : SentOf (after_step w f.step drawn) (record (with_move t answer 0 mid) { sent = after.sent }) =
-      subst (λ (a : Act V). SentOf (after_step w (record f.step { act = a }) drawn) (record (with_move t answer 0 mid) { sent = after.sent })) (sym act)
-      (sent_did w y drawn g q y.schedule y.moves y.bytes f.step.thread f.step.after st.sent e f.does.0.0 after.sent good note.sends.0 stamp note.sends.1) in
-      subst (λ (z : Parts P V). GoesTo m s w t given to z) (sym note.new_is)
-      (goes (rest.turn tt) f.step f.plain_is f.stands to 0 after.sent (n.0 ∙ ap move_outcome (sym act)) (ap bytes_sent (sym act)) note.within has
-      (snapshots_on y.sent after.sent y.logger.released y.logger.released note.sends.1.threads (λ u k size i. subst (λ (l : List (List ℕ)). length_at l u k ≡ Some size) (sym note.sends.1.outputs) i) (λ u k i. i) s w.stored w.copy y.store st.snapshots))
-  goes_on (stepped.Emitted o) f rest (Err x) after n = tt
-  goes_on (stepped.Emitted o) f rest (Ok to) after n =
-      let note = n.1 in
-      let act = f.does.0 in
-      let step = made (rest.turn tt) f.step f.plain_is f.stands in
-      let did = did_emission t f.step.after.taken w.past step.effect (emission_of_output o) (sym step.act ∙ act) in
-      let number : o.number ≡ outputs o.thread (sent_of w.past) + 1 = did.1 ∙ ap (λ (u : ℕ). outputs u (sent_of w.past) + 1) (sym did.0) in
-      let has : SentOf (after_step w f.step drawn) (record (with_move t answer (length o.packet.bytes) mid) { sent = after.sent }) =
-      subst (λ (a : Act V). SentOf (after_step w (record f.step { act = a }) drawn) (record (with_move t answer (length o.packet.bytes) mid) { sent = after.sent })) (sym act)
-      (sent_emitted w y drawn g q y.schedule y.moves y.bytes f.step.thread f.step.after st.sent s.meaning (inputs_fed s w.fed) s.threads o after.sent st.sound.firm.legal
-      (history_log s.meaning (inputs_fed s w.fed) s.threads w.past st.sound.firm.legal) number note.sends.0 f.does.1 note.sends.1) in
-      subst (λ (z : Parts P V). GoesTo m s w t given to z) (sym note.new_is)
-      (goes (rest.turn tt) f.step f.plain_is f.stands to (length o.packet.bytes) after.sent (n.0 ∙ ap move_outcome (sym act)) (ap bytes_sent (sym act)) note.within has
-      (snapshots_on y.sent after.sent y.logger.released y.logger.released note.sends.1.threads
-      (λ u k size i. subst (λ (l : List (List ℕ)). length_at l u k ≡ Some size) (sym note.sends.1.outputs) (length_stays y.sent.outputs o.thread (output_size o) u k size note.sends.0 i)) (λ u k i. i) s w.stored w.copy y.store st.snapshots))
-  goes_on (stepped.Ended k) f rest (Err e) after n = tt
-  goes_on (stepped.Ended k) f rest (Ok to) after n =
-      let note = n.1 in
-      let has : SentOf (after_step w f.step drawn) (record (with_move t answer 0 mid) { sent = y.sent }) =
-      subst (λ (a : Act V). SentOf (after_step w (record f.step { act = a }) drawn) (record (with_move t answer 0 mid) { sent = y.sent })) (sym f.does)
-      (sent_ended w y drawn g q y.schedule y.moves y.bytes f.step.thread f.step.after st.sent k) in
-      subst (λ (z : Parts P V). GoesTo m s w t given to z) (sym (note.new_is ∙ ap (λ (l : Sending). let z : Parts P V = record (with_move t answer 0 mid) { sent = l } in z) note.sends))
-      (goes (rest.turn tt) f.step f.plain_is f.stands to 0 y.sent (n.0 ∙ ap move_outcome (sym f.does)) (ap bytes_sent (sym f.does)) note.within has st.snapshots)
+  goes_on (stepped.Took k) f rest res after n = made_on (rest.turn tt) f.step f.plain_is f.stands (stepped.Took k) tt f.does res after n
+  goes_on (stepped.Did e) f rest res after n = made_on (rest.turn tt) f.step f.plain_is f.stands (stepped.Did e) tt f.does res after n
+  goes_on (stepped.Emitted o) f rest res after n = made_on (rest.turn tt) f.step f.plain_is f.stands (stepped.Emitted o) tt f.does res after n
+  goes_on (stepped.Ended k) f rest res after n = made_on (rest.turn tt) f.step f.plain_is f.stands (stepped.Ended k) tt f.does res after n
   goes_on stepped.Idle f rest (Err e) after n = tt
   goes_on stepped.Idle f rest (Ok to) after n =
       let idle = rest.idle refl in
@@ -328,10 +171,10 @@ module _ {P V : Type 0} (m : Meaning V) (s : Setting V) (w : World V) (y : Parts
   -- The move would pass a limit, and is not noted.
   pub stops_at : (r : Stepped) → (MadeOne r → HandHasTurn s.meaning w.followed (log_of w.past) t (thread_after w.past t).hand) → Follows s.meaning (inputs_fed s w.fed) s.threads w.past (record { thread = t; answer = answer }) r q
       → (res : Answer) (after : Parts P V) → Notes t answer r mid res after → (limit : Limit) → res ≡ Err (stop.Limit limit) → StopsBefore s w t given limit after
-  stops_at (stepped.Took k) turn f res after n limit is = passes (turn tt) f.step f.plain_is f.stands 0 (ap bytes_sent (sym f.does)) (outcome.Take k) (λ (a b : Sending). b ≡ a) res after n limit is
-  stops_at (stepped.Did e) turn f res after n limit is = passes (turn tt) f.step f.plain_is f.stands 0 (ap bytes_sent (sym f.does.0.1)) (entry_outcome e.number e.what) (AddsEntry e) res after n limit is
-  stops_at (stepped.Emitted o) turn f res after n limit is = passes (turn tt) f.step f.plain_is f.stands (length o.packet.bytes) (ap bytes_sent (sym f.does.0)) (outcome.Emitted o.number) (AddsOutput o) res after n limit is
-  stops_at (stepped.Ended k) turn f res after n limit is = passes (turn tt) f.step f.plain_is f.stands 0 (ap bytes_sent (sym f.does)) (outcome.Ended k) (λ (a b : Sending). b ≡ a) res after n limit is
+  stops_at (stepped.Took k) turn f res after n limit is = made_stops (turn tt) f.step f.plain_is f.stands (stepped.Took k) tt f.does res after n limit is
+  stops_at (stepped.Did e) turn f res after n limit is = made_stops (turn tt) f.step f.plain_is f.stands (stepped.Did e) tt f.does res after n limit is
+  stops_at (stepped.Emitted o) turn f res after n limit is = made_stops (turn tt) f.step f.plain_is f.stands (stepped.Emitted o) tt f.does res after n limit is
+  stops_at (stepped.Ended k) turn f res after n limit is = made_stops (turn tt) f.step f.plain_is f.stands (stepped.Ended k) tt f.does res after n limit is
   stops_at stepped.Idle turn f res after n limit is = let e : res ≡ Ok outcome.Idle = n.0 in absurd (cc)
   stops_at (stepped.NotTurn u k) turn f res after n limit is = let e : res ≡ Ok (outcome.Waits u k) = n.0 in absurd (cc)
   stops_at stepped.NoMemory turn f res after n limit is = let e : res ≡ Err stop.NoMemory = n in absurd (cc)

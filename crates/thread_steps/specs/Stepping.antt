@@ -1,18 +1,26 @@
 -- What taking note of a master's move does to the parts of a system.
-use Rattle.std.specs.Prelude.{◌≡◌, ℕ, ◌+◌, ◌<◌, [], ◌∷◌, ◌++◌, length, Option, Some, None, Result, Ok, Err}
+use Rattle.std.specs.Prelude.{◌≡◌, ℕ, ◌+◌, ◌<◌, true, [], ◌∷◌, ◌++◌, length, Option, Some, None, Result, Ok, Err}
 use Rattle.access_log.specs.declared.entry.StampedEntry.{StampedEntry}
 use Rattle.access_log.specs.declared.entry.Output.{Output}
+use Rattle.plain_text.specs.declared.limit.Limit.{Limit}
+use Rattle.plain_machine.specs.Program.{Meaning}
+use Rattle.plain_machine.specs.History.{Step}
+use Rattle.master_core.specs.Stepping.{Shows}
 use Rattle.master_core.specs.declared.step.Stepped.{Stepped}
 use Rattle.master_core.specs.declared.step.Stepped.TheVariants as stepped
 use Rattle.wire_frames.specs.Writing.{CanPutEntry, CanPutOutput}
 use Rattle.recovery_world.specs.declared.event.Outcome.{Outcome}
 use Rattle.recovery_world.specs.declared.event.Outcome.TheVariants as outcome
-use Rattle.recovery_world.specs.Events.{entry_outcome}
-use Rattle.recovery_world.specs.Limits.{limit_passed}
+use Rattle.recovery_world.specs.declared.event.Event.TheVariants as event
+use Rattle.recovery_world.specs.World.{Setting, World}
+use Rattle.recovery_world.specs.Events.{entry_outcome, move_outcome}
+use Rattle.recovery_world.specs.Limits.{limit_passed, OnWithin, Passes}
+use Rattle.recovery_laws.specs.Making.{CanMake, after_made}
 use Rattle.event_replies.specs.declared.reply.Stop.{Stop}
 use Rattle.event_replies.specs.declared.reply.Stop.TheVariants as stop
 use Rattle.sent_frames.specs.Sending.{Sending, SendsEntry, SendsOutput}
 use Rattle.system_parts.specs.Parts.{Parts}
+use Rattle.system_parts.specs.Resting.{RestsFor}
 
 -- with one more move of the master, by which it sent out this number of bytes
 abbrev pub with_move : {P V : Type 0} → ℕ → Option ℕ → ℕ → Parts P V → Parts P V
@@ -72,3 +80,19 @@ CanNote y (stepped.Ended k) = Unit {0}
 CanNote y stepped.Idle = Unit {0}
 CanNote y (stepped.NotTurn u n) = Unit {0}
 CanNote y stepped.NoMemory = Unit {0}
+
+-- The move that is noted is what the event of its thread and answer makes in the world, with this outcome, within the limits; and all
+-- parts but the master stand for the world after it.
+abbrev pub NotesFor : {P V : Type 0} → Meaning V → Setting V → World V → ℕ → Option ℕ → Stepped → Step V → Outcome
+    → Parts P V → Parts P V → Type 0
+NotesFor m s w t answer stepped step to old new =
+    RestsFor m s w old → w.up ≡ true → CanMake s w t answer step → Shows w.past stepped step
+    → (to ≡ move_outcome step.act)
+    × OnWithin s w (event.Step t answer) to [] (after_made w step)
+    × RestsFor m s (after_made w step) new
+
+-- The event would pass this limit.
+abbrev pub PassesFor : {P V : Type 0} → Meaning V → Setting V → World V → ℕ → Option ℕ → Stepped → Step V → Limit → Parts P V → Type 0
+PassesFor m s w t answer stepped step limit old =
+    RestsFor m s w old → w.up ≡ true → CanMake s w t answer step → Shows w.past stepped step
+    → Passes s w (event.Step t answer) limit

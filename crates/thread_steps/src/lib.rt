@@ -3,4 +3,4 @@
 
 mod stepping;
 
-pub use stepping::step;
+pub use stepping::{note, step};

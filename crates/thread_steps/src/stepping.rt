@@ -192,8 +192,9 @@ fn note_move<P: Program>(
     Ok(())
 }
 
-/// Takes note of what the master answered, and sends what it logged or sent out.
-fn note<P: Program>(
+/// Takes note of what the master answered of a move, with what the thread was told, and sends what it logged or sent out on the
+/// links. Of `Idle`, `NotTurn` and `NoMemory` nothing is noted.
+pub fn note<P: Program>(
     core: &mut Core<P>,
     thread: u32,
     answer: Option<u64>,
