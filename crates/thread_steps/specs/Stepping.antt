@@ -71,15 +71,18 @@ Notes t answer stepped.Idle old r new = NotesNone outcome.Idle old r new
 Notes t answer (stepped.NotTurn u n) old r new = NotesNone (outcome.Waits u n) old r new
 Notes t answer stepped.NoMemory old r new = r ≡ Err stop.NoMemory
 
--- what was logged or sent out has a frame
+-- what was logged or sent out has a frame, on links of this epoch and number of threads
+abbrev pub CanSend : ℕ → ℕ → Stepped → Type 0
+CanSend epoch threads (stepped.Took k) = Unit {0}
+CanSend epoch threads (stepped.Did e) = CanPutEntry epoch threads e
+CanSend epoch threads (stepped.Emitted o) = CanPutOutput epoch threads o
+CanSend epoch threads (stepped.Ended k) = Unit {0}
+CanSend epoch threads stepped.Idle = Unit {0}
+CanSend epoch threads (stepped.NotTurn u n) = Unit {0}
+CanSend epoch threads stepped.NoMemory = Unit {0}
+
 abbrev pub CanNote : {P V : Type 0} → Parts P V → Stepped → Type 0
-CanNote y (stepped.Took k) = Unit {0}
-CanNote y (stepped.Did e) = CanPutEntry y.sent.epoch y.sent.threads e
-CanNote y (stepped.Emitted o) = CanPutOutput y.sent.epoch y.sent.threads o
-CanNote y (stepped.Ended k) = Unit {0}
-CanNote y stepped.Idle = Unit {0}
-CanNote y (stepped.NotTurn u n) = Unit {0}
-CanNote y stepped.NoMemory = Unit {0}
+CanNote y r = CanSend y.sent.epoch y.sent.threads r
 
 -- The move that is noted is what the event of its thread and answer makes in the world, with this outcome, within the limits; and all
 -- parts but the master stand for the world after it.
