@@ -37,7 +37,7 @@ module _ {V : Type 0} (m : Meaning V) (guide : List Lane) (old new : Seated V) (
 
   pub touches_stay : (r : Touched) → Touches m guide old new r → Stays false old new
   touches_stay (touched.Did e) is = subst (λ (x : Seated V). Stays false old x) (sym is.seat) (record { thread = refl; round_is = refl; ended_is = going })
-  touches_stay (touched.Blocked u k) is = subst (λ (x : Seated V). Stays false old x) (sym is) (record { thread = refl; round_is = refl; ended_is = going })
+  touches_stay (touched.Blocked u k) is = subst (λ (x : Seated V). Stays false old x) (sym is.seat) (record { thread = refl; round_is = refl; ended_is = going })
   touches_stay touched.NoMemory is = same is
 
 pub still_going : {V : Type 0} (vars : Opened) (old new : Seated V) → IsGoing vars old → Stays false old new → IsGoing vars new

@@ -34,7 +34,7 @@ module _ {V : Type 0} (m : Meaning V) (guide : List Lane) (round : TableId) (t :
 
   pub touches_keep : (r : Touched) → Touches m guide old new r → IsSeatIn round t b new
   touches_keep (touched.Did e) is = subst (λ (x : Seated V). IsSeatIn round t b x) (sym is.seat) (record { thread = at.thread; round_is = at.round_is; ended_is = at.ended_is })
-  touches_keep (touched.Blocked u k) is = subst (λ (x : Seated V). IsSeatIn round t b x) (sym is) (record { thread = at.thread; round_is = at.round_is; ended_is = at.ended_is })
+  touches_keep (touched.Blocked u k) is = subst (λ (x : Seated V). IsSeatIn round t b x) (sym is.seat) (record { thread = at.thread; round_is = at.round_is; ended_is = at.ended_is })
   touches_keep touched.NoMemory is = same is
 
 last_two : {X : Type 0} (rest : List X) (x y a b : X) → (rest ++ x ∷ []) ++ y ∷ [] ≡ a ∷ b ∷ [] → (x ≡ a) × (y ≡ b)

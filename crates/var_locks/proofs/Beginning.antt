@@ -121,7 +121,7 @@ module _ {V : Type 0} (m : Meaning V) (fits : ℕ → V → Type 0) (guide : Lis
         });
         hand = λ h has. (let q : None ≡ Some h = has in absurd (cc));
         seen = λ v low. (let k = saw v (fresh_var m) (subst (λ n. v < n) (sym fit.count) low) in omega (arith, k));
-        missing = λ u k named. absurd named;
+        missing = λ e named. absurd named;
       }
 
       view : (id : ℕ) (w : View V) → get_elem? (first_view p.threads seen ∷ []) id ≡ logic.some w → IsView m.vars (length p.threads) at_first id w

@@ -17,7 +17,6 @@ use Rattle.master_core.specs.declared.parts.VarPart.{VarPart}
 use Rattle.master_core.specs.declared.parts.ThreadPart.{ThreadPart}
 use Rattle.master_core.specs.Mastered.{Mastered, IsBounded, in_hand_count, moves_made}
 use Rattle.master_core.specs.MasterStanding.{Stands}
-use Rattle.replay_guide.specs.Orders.{IsNamed}
 use base.Stored.{Gv}
 use Rattle.std.specs.Coded.{Coded}
 use Rattle.atomic_table.specs.Table.{State, Final, Seen}
@@ -31,10 +30,12 @@ use Rattle.round_order.proofs.RisingThreads.{thread_rises, all_own, beyond}
 use Rattle.round_order.proofs.WovenThere.{woven_there}
 use Rattle.round_order.proofs.ClosedRounds.{closes}
 use Rattle.var_locks.specs.declared.view.Note.{Note}
+use Rattle.var_locks.specs.declared.view.MissedEntry.{MissedEntry}
 use Rattle.var_locks.specs.declared.view.View.{View}
 use Rattle.var_locks.specs.Notes.{read_notes, AreFed}
+use Rattle.var_locks.specs.Views.{IsMissed}
 use Rattle.var_locks.specs.Seats.{Seated}
-use Rattle.var_locks.specs.Told.{Now, IsPlaced, IsShare, IsView, IsStory, IsTold, IsToldOf, receipts}
+use Rattle.var_locks.specs.Told.{Now, IsPlaced, IsShare, IsLost, IsView, IsStory, IsTold, IsToldOf, receipts}
 use Rattle.var_locks.specs.Codes.{master_code}
 use Rattle.var_locks.specs.Closing.{AreSeats, HasSeat, HasSeats, seat_part, notes_at, receipts_of, AreAllFed, FoundMissing, Weaves, Closes, IsClosed}
 use Rattle.var_locks.proofs.Placing.{one_view}
@@ -69,10 +70,10 @@ fed_at {V} inputs (x ∷ others) t fed = go (is_or x.thread t) (fed_at inputs ot
     go (inl same) rest = subst (λ b. AreFed (inputs t) (cond b x.notes (notes_at others t))) (sym (is_eq x.thread t same)) (subst (λ (z : ℕ). AreFed (inputs z) x.notes) same fed.0)
     go (inr apart) rest = subst (λ b. AreFed (inputs t) (cond b x.notes (notes_at others t))) (sym (not_eq x.thread t apart)) rest
 
-found_named : {V : Type 0} (w : View V) (seats : List (Seated V)) (u k : ℕ) → HasSeats w seats → FoundMissing seats u k → IsNamed u k w.missing
-found_named w [] u k has found = absurd found
-found_named w (x ∷ others) u k has (inl named) = has.0.missing u k named
-found_named w (x ∷ others) u k has (inr found) = found_named w others u k has.1 found
+found_missed : {V : Type 0} (w : View V) (seats : List (Seated V)) (e : MissedEntry) → HasSeats w seats → FoundMissing seats e → IsMissed e w.missing
+found_missed w [] e has found = absurd found
+found_missed w (x ∷ others) e has (inl missed) = has.0.missing e missed
+found_missed w (x ∷ others) e has (inr found) = found_missed w others e has.1 found
 
 map_length : {A B : Type 0} (f : A → B) (l : List A) → length (map f l) ≡ length l
 map_length f [] = refl
@@ -173,8 +174,8 @@ module _ {V : Type 0} (m : Meaning V) (fits : ℕ → V → Type 0) (guide : Lis
     ends : Closes m guide p seats (record { vars = slots; threads = map seat_part seats }) inputs moves past
     ends = record {
       weaves = subst (λ (f : Receipts V). Weaves m inputs (length p.threads) moves past f (record { vars = slots; threads = map seat_part seats })) all woven;
-      missing = λ u k what stamp found follows known. story.lost u k what stamp (mine.missing u k (found_named w seats u k has found)) follows
-          (subst (λ (f : Receipts V). IsKnown past f (record { thread = u; number = k; what = what }) stamp) (sym all) known);
+      missing = λ e what stamp found follows known. story.lost e.thread e.number what stamp (mine.missing e (found_missed w seats e has found)).0 follows
+          (subst (λ (f : Receipts V). IsKnown past f (record { thread = e.thread; number = e.number; what = what }) stamp) (sym all) known);
     }
 
   pub is_closed : IsClosed m fits guide p seats (record { vars = slots; threads = map seat_part seats })
@@ -182,8 +183,12 @@ module _ {V : Type 0} (m : Meaning V) (fits : ℕ → V → Type 0) (guide : Lis
     bounded = bounded;
     fit = record { count = slots_are; fit = λ v dd low. subst (λ (x : VarPart V). fits v x.value) (sym (var_at v dd low)) (told.sound.fit v low) };
     threads = refl;
+    touched = λ e dd found. touched e dd (mine.missing e (found_missed w seats e has found));
     closes = λ inputs moves past played stands fed. ends inputs moves past played stands fed;
   }
+    where
+      touched : (e : MissedEntry) (dd : VarPart V) → IsLost m.vars told.now e → (e.var < length slots) × (e.places ≤ (slice_index_or slots e.var dd).places)
+      touched e dd (named, low, placed) = (subst (λ n. e.var < n) (sym slots_are) low, subst (λ (x : VarPart V). e.places ≤ x.places) (sym (var_at e.var dd low)) placed)
 
 -- The last state of a table, with the view of the one seat that all came together in, is that of a closed round.
 pub final_closed : {P V : Type 0} (meaning : P → Meaning V) (fits : P → ℕ → V → Type 0) (c : Coded P) (dd : Coded V) (program opening : Gv) (guide : List Lane) (q : P) → c.code q ≡ program → (p : Mastered V) → (master_code dd).code p ≡ opening

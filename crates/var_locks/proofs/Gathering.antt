@@ -2,14 +2,14 @@
 use Rattle.std.proofs.Common.{◌≡◌, ℕ, ◌+◌, inl, inr, List, [], ◌∷◌, ◌++◌, refl, sym, ap, ◌∙◌, subst}
 use Rattle.master_core.specs.declared.parts.VarPart.{VarPart}
 use Rattle.master_core.specs.declared.step.WovenStep.{WovenStep}
-use Rattle.replay_guide.specs.Orders.{IsNamed}
 use Rattle.atomic_table.specs.Table.{Me}
 use Rattle.atomic_table.specs.Seated.{TableId}
 use Rattle.var_locks.specs.declared.view.Note.{Note}
 use Rattle.var_locks.specs.declared.view.Share.{Share}
+use Rattle.var_locks.specs.declared.view.MissedEntry.{MissedEntry}
 use Rattle.var_locks.specs.declared.view.View.{View}
 use Rattle.var_locks.specs.Notes.{steps_of}
-use Rattle.var_locks.specs.Views.{HasShare, joined_view}
+use Rattle.var_locks.specs.Views.{HasShare, IsMissed, joined_view}
 use Rattle.var_locks.specs.Seats.{Seated, IsKept, first_notes}
 use Rattle.var_locks.specs.Closing.{AreSeats, HasSeat, HasSeats, seat_steps}
 
@@ -22,19 +22,19 @@ share_right : {V : Type 0} (l k : List (Share V)) (x : Share V) → HasShare x k
 share_right [] k x h = h
 share_right (y ∷ l) k x h = inr (share_right l k x h)
 
-named_left : (l k : List (ℕ × ℕ)) (a b : ℕ) → IsNamed a b l → IsNamed a b (l ++ k)
-named_left [] k a b h = absurd h
-named_left (y ∷ l) k a b (inl e) = inl e
-named_left (y ∷ l) k a b (inr h) = inr (named_left l k a b h)
+missed_left : (l k : List MissedEntry) (e : MissedEntry) → IsMissed e l → IsMissed e (l ++ k)
+missed_left [] k e h = absurd h
+missed_left (y ∷ l) k e (inl same) = inl same
+missed_left (y ∷ l) k e (inr h) = inr (missed_left l k e h)
 
-named_right : (l k : List (ℕ × ℕ)) (a b : ℕ) → IsNamed a b k → IsNamed a b (l ++ k)
-named_right [] k a b h = h
-named_right (y ∷ l) k a b h = inr (named_right l k a b h)
+missed_right : (l k : List MissedEntry) (e : MissedEntry) → IsMissed e k → IsMissed e (l ++ k)
+missed_right [] k e h = h
+missed_right (y ∷ l) k e h = inr (missed_right l k e h)
 
 -- what was there stays
 pub seats_stay : {V : Type 0} (w u : View V) (seats : List (Seated V)) → HasSeats w seats → HasSeats (joined_view w u) seats
 seats_stay w u [] has = tt
-seats_stay w u (x ∷ others) (one, has) = (record { share = share_right u.shares w.shares _ one.share; missing = λ a b named. named_right u.missing w.missing a b (one.missing a b named) }, seats_stay w u others has)
+seats_stay w u (x ∷ others) (one, has) = (record { share = share_right u.shares w.shares _ one.share; missing = λ e named. missed_right u.missing w.missing e (one.missing e named) }, seats_stay w u others has)
 
 module _ {V : Type 0} (x : Seated V) (me : Me (VarPart V) (View V)) (receipts : List WovenStep) (kept : IsKept me x.thread x.part x.seen receipts x.ended) (notes : first_notes me.0.shares ≡ x.notes) (missing : me.0.missing ≡ x.missing) where
   -- a token has its seat
@@ -42,11 +42,11 @@ module _ {V : Type 0} (x : Seated V) (me : Me (VarPart V) (View V)) (receipts : 
   own_seat = record {
     share = subst (λ (l : List (Share V)). HasShare (record { thread = x.thread; notes = x.notes; part = x.part; ended = x.ended }) l) (sym kept.alone)
         (inl (ap (λ (l : List (Note V)). let y : Share V = record { thread = x.thread; notes = l; part = x.part; ended = x.ended } in y) notes));
-    missing = λ a b named. subst (λ (l : List (ℕ × ℕ)). IsNamed a b l) (sym missing) named;
+    missing = λ e named. subst (λ (l : List MissedEntry). IsMissed e l) (sym missing) named;
   }
 
   pub joined_seat : (w : View V) → HasSeat (joined_view w me.0) x
-  joined_seat w = let k = own_seat in record { share = share_left me.0.shares w.shares _ k.share; missing = λ a b named. named_left me.0.missing w.missing a b (k.missing a b named) }
+  joined_seat w = let k = own_seat in record { share = share_left me.0.shares w.shares _ k.share; missing = λ e named. missed_left me.0.missing w.missing e (k.missing e named) }
 
   pub own_steps : receipts ≡ seat_steps x
   own_steps = kept.receipts_are ∙ ap (steps_of x.thread) notes

@@ -25,10 +25,11 @@ use Rattle.round_order.specs.Linked.{IsKnown, IsLinked}
 use Rattle.round_order.specs.Home.{IsHome}
 use Rattle.round_order.proofs.LoggedMoves.{own_at}
 use Rattle.round_order.proofs.MoreReceipts.{touch_of}
+use Rattle.var_locks.specs.declared.view.MissedEntry.{MissedEntry}
 use Rattle.var_locks.specs.declared.view.View.{View}
-use Rattle.var_locks.specs.Views.{missed_view}
+use Rattle.var_locks.specs.Views.{IsMissed, missed_view}
 use Rattle.var_locks.specs.Plays.{Misses}
-use Rattle.var_locks.specs.Told.{Now, IsView, IsStory, IsSound, IsTold}
+use Rattle.var_locks.specs.Told.{Now, IsLost, IsView, IsStory, IsSound, IsTold}
 use Rattle.var_locks.proofs.Placing.{at_word, IsLater, stays_placed, at_later}
 use Rattle.var_locks.proofs.Stepping.{share_stays, same_state, in_hand}
 
@@ -106,20 +107,21 @@ module _ {V : Type 0} (m : Meaning V) (fits : ℕ → V → Type 0) (guide : Lis
               (subst (λ (z : ℕ). IsKnown past (Rattle.var_locks.specs.Told.receipts m past d) (record { thread = z; number = k; what = w }) stamp) (sym same) (subst (λ (z : ℕ). IsKnown past (Rattle.var_locks.specs.Told.receipts m past d) (record { thread = a; number = z; what = w }) stamp) (sym one) known))
           lost a b w stamp (inr named) follows known = is.lost a b w stamp named follows known
 
-  module _ (id v : ℕ) (w : View V) (x : VarPart V) (low : v < m.vars) (hand : w.hand ≡ Some (record { var = v; found = x })) (t n : ℕ) (read : Bool) (u k : ℕ) (under : u < length p.threads) (waits : WaitsFor guide t n v read x.places x.readers u k) where
-    miss_told : (s : State (VarPart V) (View V)) (r : IsTold m fits guide p s) (here : get_elem? s.views id ≡ logic.some w) → slice_index s.words (m.vars + u) ≡ 1 → IsTold m fits guide p (record { words = s.words; homes = s.homes; views = slice_set s.views id (missed_view w u k) })
+  module _ (id : ℕ) (w : View V) (e : MissedEntry) (x : VarPart V) (low : e.var < m.vars) (hand : w.hand ≡ Some (record { var = e.var; found = x })) (places_are : e.places ≡ x.places) (t n : ℕ) (read : Bool) (under : e.thread < length p.threads)
+      (waits : WaitsFor guide t n e.var read x.places x.readers e.thread e.number) where
+    miss_told : (s : State (VarPart V) (View V)) (r : IsTold m fits guide p s) (here : get_elem? s.views id ≡ logic.some w) → slice_index s.words (m.vars + e.thread) ≡ 1 → IsTold m fits guide p (record { words = s.words; homes = s.homes; views = slice_set s.views id (missed_view w e) })
     miss_told s r here one = record {
-      now = with_lost r.now u k;
-      at = at_later m.vars (length p.threads) id r.now (with_lost r.now u k) later s r.at w (missed_view w u k) here s.words s.homes refl refl r.at.ended
-          (λ i inside. stays_placed m.vars (length p.threads) id r.now (with_lost r.now u k) later s r.at w (missed_view w u k) here s.words s.homes i inside refl refl refl refl (λ h has q. has)) view;
-      sound = sound_lost r.now r.sound t n v read u k low under (gone (r.now.ended u) refl) (subst (λ (z : VarPart V). WaitsFor guide t n v read z.places z.readers u k) (in_hand m fits guide p id v low w x hand s r here).1 waits);
+      now = with_lost r.now e.thread e.number;
+      at = at_later m.vars (length p.threads) id r.now (with_lost r.now e.thread e.number) later s r.at w (missed_view w e) here s.words s.homes refl refl r.at.ended
+          (λ i inside. stays_placed m.vars (length p.threads) id r.now (with_lost r.now e.thread e.number) later s r.at w (missed_view w e) here s.words s.homes i inside refl refl refl refl (λ h has q. has)) view;
+      sound = sound_lost r.now r.sound t n e.var read e.thread e.number low under (gone (r.now.ended e.thread) refl) (subst (λ (z : VarPart V). WaitsFor guide t n e.var read z.places z.readers e.thread e.number) (in_hand m fits guide p id e.var low w x hand s r here).1 waits);
     }
       where
-        gone : (b : Bool) → r.now.ended u ≡ b → r.now.ended u ≡ true
+        gone : (b : Bool) → r.now.ended e.thread ≡ b → r.now.ended e.thread ≡ true
         gone true is = is
-        gone false is = let q : 1 ≡ 0 = sym one ∙ (r.at.ended u under ∙ ap (λ (c : Bool). cond c 1 0) is) in absurd (omega (arith, q))
+        gone false is = let q : 1 ≡ 0 = sym one ∙ (r.at.ended e.thread under ∙ ap (λ (c : Bool). cond c 1 0) is) in absurd (omega (arith, q))
 
-        later : IsLater m.vars (length p.threads) id r.now (with_lost r.now u k)
+        later : IsLater m.vars (length p.threads) id r.now (with_lost r.now e.thread e.number)
         later = record {
           owner = λ i. refl;
           others = λ i inside apart. (refl, refl, refl);
@@ -131,39 +133,42 @@ module _ {V : Type 0} (m : Meaning V) (fits : ℕ → V → Type 0) (guide : Lis
         old : IsView m.vars (length p.threads) r.now id w
         old = r.at.view id w here
 
-        missing : (a b : ℕ) → IsNamed a b ((u, k) ∷ w.missing) → IsNamed a b ((u, k) ∷ r.now.lost)
-        missing a b (inl same) = inl same
-        missing a b (inr named) = inr (old.missing a b named)
+        placed : e.places ≤ (r.now.vars e.var).places
+        placed = subst (λ (z : VarPart V). e.places ≤ z.places) (in_hand m fits guide p id e.var low w x hand s r here).1 (omega (arith, places_are))
 
-        view : IsView m.vars (length p.threads) (with_lost r.now u k) id (missed_view w u k)
+        missing : (f : MissedEntry) → IsMissed f (e ∷ w.missing) → IsLost m.vars (with_lost r.now e.thread e.number) f
+        missing f (inl same) = subst (λ (z : MissedEntry). IsLost m.vars (with_lost r.now e.thread e.number) z) same (inl (refl, refl), low, placed)
+        missing f (inr missed) = let k = old.missing f missed in (inr k.0, k.1, k.2)
+
+        view : IsView m.vars (length p.threads) (with_lost r.now e.thread e.number) id (missed_view w e)
         view = record {
           apart = old.apart;
-          share = λ y has. share_stays (length p.threads) r.now (with_lost r.now u k) id y refl refl refl refl (old.share y has);
+          share = λ y has. share_stays (length p.threads) r.now (with_lost r.now e.thread e.number) id y refl refl refl refl (old.share y has);
           hand = old.hand;
           seen = old.seen;
           missing = missing;
         }
 
-    pub miss_allows : (carried : List (ℕ × VarPart V)) (slots : ℕ) → Allows (IsTold m fits guide p) slots id (w, carried) (m.vars + u) (λ i. i) (Misses u k (step slots (m.vars + u) 0 0 logic.none) (w, carried))
-    miss_allows carried slots s r wide here small = go (is_or (slice_index s.words (m.vars + u)) 1)
+    pub miss_allows : (carried : List (ℕ × VarPart V)) (slots : ℕ) → Allows (IsTold m fits guide p) slots id (w, carried) (m.vars + e.thread) (λ i. i) (Misses e (step slots (m.vars + e.thread) 0 0 logic.none) (w, carried))
+    miss_allows carried slots s r wide here small = go (is_or (slice_index s.words (m.vars + e.thread)) 1)
       where
-        inside : m.vars + u < length s.words
+        inside : m.vars + e.thread < length s.words
         inside = let q = r.at.words in omega (arith, q, under)
 
-        go : (slice_index s.words (m.vars + u) ≡ 1) ⊎ (slice_index s.words (m.vars + u) ≢ 1)
-            → (z : View V) × (a : Rattle.atomic_table.specs.Table.Act (VarPart V)) × Rattle.atomic_table.specs.Table.Valid s.homes carried a × IsTold m fits guide p (stepped s (m.vars + u) (slice_index s.words (m.vars + u)) id carried z a)
-            × Misses u k (step slots (m.vars + u) 0 0 logic.none) (w, carried) (slice_index s.words (m.vars + u)) (z, Rattle.atomic_table.specs.Table.carried_after carried a)
+        go : (slice_index s.words (m.vars + e.thread) ≡ 1) ⊎ (slice_index s.words (m.vars + e.thread) ≢ 1)
+            → (z : View V) × (a : Rattle.atomic_table.specs.Table.Act (VarPart V)) × Rattle.atomic_table.specs.Table.Valid s.homes carried a × IsTold m fits guide p (stepped s (m.vars + e.thread) (slice_index s.words (m.vars + e.thread)) id carried z a)
+            × Misses e (step slots (m.vars + e.thread) 0 0 logic.none) (w, carried) (slice_index s.words (m.vars + e.thread)) (z, Rattle.atomic_table.specs.Table.carried_after carried a)
         go (inl one) = (
-          missed_view w u k,
+          missed_view w e,
           keeps,
           tt,
-          subst (λ (ws : List ℕ). IsTold m fits guide p (record { words = ws; homes = s.homes; views = slice_set s.views id (missed_view w u k) })) (sym (set_again s.words (m.vars + u) (slice_index s.words (m.vars + u)) (at_word s.words (m.vars + u) inside))) (miss_told s r here one),
+          subst (λ (ws : List ℕ). IsTold m fits guide p (record { words = ws; homes = s.homes; views = slice_set s.views id (missed_view w e) })) (sym (set_again s.words (m.vars + e.thread) (slice_index s.words (m.vars + e.thread)) (at_word s.words (m.vars + e.thread) inside))) (miss_told s r here one),
           ((λ _. refl), λ not. absurd (not one)),
         )
         go (inr not) = (
           w,
           keeps,
           tt,
-          subst (λ (q : State (VarPart V) (View V)). IsTold m fits guide p q) (sym (same_state m fits guide p id s w carried (m.vars + u) inside here)) r,
+          subst (λ (q : State (VarPart V) (View V)). IsTold m fits guide p q) (sym (same_state m fits guide p id s w carried (m.vars + e.thread) inside here)) r,
           ((λ one. absurd (not one)), λ _. refl),
         )

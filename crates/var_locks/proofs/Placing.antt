@@ -11,8 +11,9 @@ use Rattle.atomic_table.specs.Table.{State}
 use Rattle.atomic_table.proofs.Lists.{at_set, set_else}
 use Rattle.var_locks.specs.declared.view.Share.{Share}
 use Rattle.var_locks.specs.declared.view.Held.{Held}
+use Rattle.var_locks.specs.declared.view.MissedEntry.{MissedEntry}
 use Rattle.var_locks.specs.declared.view.View.{View}
-use Rattle.var_locks.specs.Told.{Now, IsPlaced, IsShare, IsView, IsTableOf}
+use Rattle.var_locks.specs.Told.{Now, IsPlaced, IsShare, IsLost, IsView, IsTableOf}
 
 pub at_word : (l : List ℕ) (i : ℕ) → i < length l → get_elem? l i ≡ logic.some (slice_index l i)
 at_word [] i h = absurd (omega arith)
@@ -39,13 +40,17 @@ pub record IsLater {V : Type 0} (vars threads id : ℕ) (d e : Now V) : Type 0 w
   pub lost : (u k : ℕ) → IsNamed u k d.lost → IsNamed u k e.lost
 
 module _ {V : Type 0} (vars threads id : ℕ) (d e : Now V) (later : IsLater vars threads id d e) where
+  -- what was missing is missing still, and its variable was touched no less often
+  pub lost_later : (f : MissedEntry) → IsLost vars d f → IsLost vars e f
+  lost_later f (named, low, placed) = (later.lost f.thread f.number named, low, (let rise = later.rise f.var low in omega (arith, placed, rise)))
+
   other_view : (i : ℕ) (w : View V) → i ≢ id → IsView vars threads d i w → IsView vars threads e i w
   other_view i w apart is = record {
     apart = is.apart;
     share = λ x here. share x (is.share x here);
     hand = λ h has. hand h (is.hand h has);
     seen = λ v low. let a = is.seen v low in let b = later.rise v low in omega (arith, a, b);
-    missing = λ u k named. later.lost u k (is.missing u k named);
+    missing = λ f named. lost_later f (is.missing f named);
   }
     where
       share : (x : Share V) → IsShare threads d i x → IsShare threads e i x

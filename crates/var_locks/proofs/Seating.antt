@@ -9,13 +9,13 @@ use Rattle.access_log.specs.Held.{Lane}
 use Rattle.plain_machine.specs.Program.{Meaning}
 use Rattle.master_core.specs.declared.parts.VarPart.{VarPart}
 use Rattle.master_core.specs.Mastered.{Mastered}
-use Rattle.replay_guide.specs.Orders.{IsNamed}
 use Rattle.atomic_table.specs.Table.{State, Splits, Joins}
 use Rattle.atomic_table.proofs.Lists.{at_set, set_else, at_longer}
 use Rattle.var_locks.specs.declared.view.Share.{Share}
+use Rattle.var_locks.specs.declared.view.MissedEntry.{MissedEntry}
 use Rattle.var_locks.specs.declared.view.View.{View}
-use Rattle.var_locks.specs.Views.{HasShare, AreApart, first_share, other_shares, joined_view, spent_view, rest_of, first_of}
-use Rattle.var_locks.specs.Told.{Now, IsPlaced, IsShare, IsView, IsTold}
+use Rattle.var_locks.specs.Views.{HasShare, AreApart, IsMissed, first_share, other_shares, joined_view, spent_view, rest_of, first_of}
+use Rattle.var_locks.specs.Told.{Now, IsPlaced, IsShare, IsLost, IsView, IsTold}
 use Rattle.var_locks.proofs.Puts.{put, put_here, put_else}
 use Rattle.var_locks.proofs.Placing.{one_view}
 use Rattle.var_locks.proofs.Stepping.{with_seats, sound_seats, share_stays, no_hand}
@@ -44,12 +44,12 @@ in_append {V} (y ∷ l) k x (inr h) = go (in_append l k x h)
     go (inl a) = inl (inr a)
     go (inr a) = inr a
 
-named_append : (l k : List (ℕ × ℕ)) (a b : ℕ) → IsNamed a b (l ++ k) → IsNamed a b l ⊎ IsNamed a b k
-named_append [] k a b h = inr h
-named_append (y ∷ l) k a b (inl e) = inl (inl e)
-named_append (y ∷ l) k a b (inr h) = go (named_append l k a b h)
+missed_append : (l k : List MissedEntry) (e : MissedEntry) → IsMissed e (l ++ k) → IsMissed e l ⊎ IsMissed e k
+missed_append [] k e h = inr h
+missed_append (y ∷ l) k e (inl same) = inl (inl same)
+missed_append (y ∷ l) k e (inr h) = go (missed_append l k e h)
   where
-    go : IsNamed a b l ⊎ IsNamed a b k → IsNamed a b (y ∷ l) ⊎ IsNamed a b k
+    go : IsMissed e l ⊎ IsMissed e k → IsMissed e (y ∷ l) ⊎ IsMissed e k
     go (inl n) = inl (inr n)
     go (inr n) = inr n
 
@@ -204,21 +204,21 @@ module _ {V : Type 0} (m : Meaning V) (fits : ℕ → V → Type 0) (guide : Lis
           share = λ y has. share y (in_append u.shares w.shares y has);
           hand = mine.hand;
           seen = mine.seen;
-          missing = λ a b named. missing a b (named_append u.missing w.missing a b named);
+          missing = λ e named. missing e (missed_append u.missing w.missing e named);
         }
           where
             share : (y : Share V) → HasShare y u.shares ⊎ HasShare y w.shares → IsShare (length p.threads) (with_seats r.now (λ t. cond (nat_eq (r.now.owner t) other) id (r.now.owner t)) r.now.holder) id y
             share y (inl h) = let k = its.share y h in record { mine = came y.thread k.mine; low = k.low; notes = k.notes; part = k.part; ended = k.ended }
             share y (inr h) = let k = mine.share y h in record { mine = stayed y.thread id k.mine (λ e. apart (sym e)); low = k.low; notes = k.notes; part = k.part; ended = k.ended }
 
-            missing : (a b : ℕ) → IsNamed a b u.missing ⊎ IsNamed a b w.missing → IsNamed a b r.now.lost
-            missing a b (inl k) = its.missing a b k
-            missing a b (inr k) = mine.missing a b k
+            missing : (e : MissedEntry) → IsMissed e u.missing ⊎ IsMissed e w.missing → IsLost m.vars r.now e
+            missing e (inl k) = its.missing e k
+            missing e (inr k) = mine.missing e k
 
         view : (i : ℕ) (z : View V) → ((i ≡ other) × (spent_view ≡ z)) ⊎ ((i ≢ other) × (get_elem? (slice_set s.views id (joined_view w u)) i ≡ logic.some z))
             → IsView m.vars (length p.threads) (with_seats r.now (λ t. cond (nat_eq (r.now.owner t) other) id (r.now.owner t)) r.now.holder) i z
         view i z (inl (same, is)) = subst (λ (q : View V). IsView m.vars (length p.threads) (with_seats r.now (λ t. cond (nat_eq (r.now.owner t) other) id (r.now.owner t)) r.now.holder) i q) is
-            (record { apart = tt; share = λ y no. absurd no; hand = λ h has. (let q : None ≡ Some h = has in absurd (cc)); seen = λ v low. omega arith; missing = λ a b no. absurd no })
+            (record { apart = tt; share = λ y no. absurd no; hand = λ h has. (let q : None ≡ Some h = has in absurd (cc)); seen = λ v low. omega arith; missing = λ e no. absurd no })
         view i z (inr (not_other, at)) = go (at_set s.views id i (joined_view w u) z at)
           where
             go : ((i ≡ id) × (joined_view w u ≡ z)) ⊎ ((i ≢ id) × (get_elem? s.views i ≡ logic.some z)) → IsView m.vars (length p.threads) (with_seats r.now (λ t. cond (nat_eq (r.now.owner t) other) id (r.now.owner t)) r.now.holder) i z

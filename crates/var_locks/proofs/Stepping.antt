@@ -28,7 +28,7 @@ use Rattle.var_locks.specs.Views.{HasShare, AreApart, note_shares, end_shares, w
 use Rattle.var_locks.specs.Plays.{Takes, Notes, Brings, Gives, Ends}
 use Rattle.var_locks.specs.Told.{Now, IsPlaced, IsShare, IsView, IsSound, IsTold}
 use Rattle.var_locks.proofs.Puts.{put, put_here, put_else}
-use Rattle.var_locks.proofs.Placing.{at_word, set_at, held_is, IsLater, stays_placed, at_later}
+use Rattle.var_locks.proofs.Placing.{at_word, set_at, held_is, IsLater, lost_later, stays_placed, at_later}
 use Rattle.var_locks.proofs.Bounding.{own_bounds, on_bounds, sum_few}
 use Rattle.var_locks.proofs.Growing.{with_note, sound_own, sound_on}
 
@@ -367,7 +367,7 @@ module _ {V : Type 0} (m : Meaning V) (fits : ℕ → V → Type 0) (guide : Lis
           share = λ z has. noted_share s r here (put v y r.now.vars) (put v None r.now.holder) z has;
           hand = λ h has. let q : None ≡ Some h = has in absurd (cc);
           seen = λ u under. subst (λ (l : List ℕ). slice_index l u ≤ (put v y r.now.vars u).places) (sym seen) (seen_in u under (is_or u v));
-          missing = (r.at.view id w here).missing;
+          missing = λ f named. lost_later m.vars (length p.threads) id r.now (with_note r.now x.thread n (put v y r.now.vars) (put v None r.now.holder)) later f ((r.at.view id w here).missing f named);
         }
 
         bring_told : (carried : List (ℕ × VarPart V)) (word : ℕ) → word ≡ y.places + y.places → IsTold m fits guide p (stepped s v word id ((v, y) ∷ carried) (noted_view w n) gives)

@@ -5,6 +5,7 @@ use base.Stored.{Gv}
 use Rattle.atomic_table.specs.Table.{Me, Step, rest}
 use Rattle.master_core.specs.declared.parts.VarPart.{VarPart}
 use Rattle.var_locks.specs.declared.view.Note.{Note}
+use Rattle.var_locks.specs.declared.view.MissedEntry.{MissedEntry}
 use Rattle.var_locks.specs.declared.view.View.{View}
 use Rattle.var_locks.specs.Views.{with_hand, empty_hand, noted_view, missed_view, ended_view}
 
@@ -33,9 +34,9 @@ Brings {V} c note st me found now = (n : Note V) × (c.code n ≡ note) × (now 
 abbrev pub Gives : {V : Type 0} → Step (VarPart V) → Me (VarPart V) (View V) → ℕ → Me (VarPart V) (View V) → Type 0
 Gives st me found now = now ≡ (empty_hand me.0, rest me.1)
 
--- where the word was 1, entry (u, k) is missing
-abbrev pub Misses : {V : Type 0} → ℕ → ℕ → Step (VarPart V) → Me (VarPart V) (View V) → ℕ → Me (VarPart V) (View V) → Type 0
-Misses u k st me found now = (found ≡ 1 → now ≡ (missed_view me.0 u k, me.1)) × (found ≢ 1 → now ≡ me)
+-- where the word was 1, the entry is missing
+abbrev pub Misses : {V : Type 0} → MissedEntry → Step (VarPart V) → Me (VarPart V) (View V) → ℕ → Me (VarPart V) (View V) → Type 0
+Misses e st me found now = (found ≡ 1 → now ≡ (missed_view me.0 e, me.1)) × (found ≢ 1 → now ≡ me)
 
 abbrev pub Ends : {V : Type 0} → Step (VarPart V) → Me (VarPart V) (View V) → ℕ → Me (VarPart V) (View V) → Type 0
 Ends st me found now = now ≡ (ended_view me.0, me.1)

@@ -15,6 +15,7 @@ use Rattle.atomic_table.specs.Table.{Me}
 use Rattle.atomic_table.specs.Seated.{TableId}
 use Rattle.var_locks.specs.declared.view.Note.{Note}
 use Rattle.var_locks.specs.declared.view.Share.{Share}
+use Rattle.var_locks.specs.declared.view.MissedEntry.{MissedEntry}
 use Rattle.var_locks.specs.declared.view.View.{View}
 use Rattle.var_locks.specs.Codes.{master_code}
 use Rattle.var_locks.specs.Notes.{IsOwn, IsOnVariable, IsGuided}
@@ -64,10 +65,11 @@ pub record MayBring {V : Type 0} (m : Meaning V) (fits : ℕ → V → Type 0) (
 abbrev pub HasInHand : {V : Type 0} → View V → ℕ → VarPart V → Type 0
 HasInHand w v x = w.hand ≡ Some (record { var = v; found = x })
 
--- The seat has variable v in hand, and the guide says to wait for entry (u, k) there.
-pub record MayMiss {V : Type 0} (guide : List Lane) (w : View V) (v u k : ℕ) (x : VarPart V) (t n : ℕ) (read : Bool) : Type 0 where
-  pub hand : HasInHand w v x
-  pub waits : WaitsFor guide t n v read x.places x.readers u k
+-- The seat has the entry's variable in hand, touched as often as the entry says, and the guide says to wait for the entry there.
+pub record MayMiss {V : Type 0} (guide : List Lane) (w : View V) (e : MissedEntry) (x : VarPart V) (t n : ℕ) (read : Bool) : Type 0 where
+  pub hand : HasInHand w e.var x
+  pub places_are : e.places ≡ x.places
+  pub waits : WaitsFor guide t n e.var read x.places x.readers e.thread e.number
 
 -- The seat has this one thread, and nothing in hand.
 pub record IsIdle {V : Type 0} (w : View V) (x : Share V) : Type 0 where
@@ -89,9 +91,9 @@ CanBring {V} m fits guide me v word n = (x : Share V) × (y : VarPart V) × (fou
 abbrev pub CanGive : {V : Type 0} → Me (VarPart V) (View V) → ℕ → ℕ → Type 0
 CanGive {V} me v word = (x : VarPart V) × HasInHand me.0 v x × (me.1 ≡ (v, x) ∷ []) × (word ≡ x.places + x.places)
 
--- it may find entry (u, k) missing
-abbrev pub CanMiss : {V : Type 0} → Meaning V → List Lane → View V → ℕ → ℕ → Type 0
-CanMiss {V} m guide w u k = (v : ℕ) × (x : VarPart V) × (t : ℕ) × (n : ℕ) × (read : Bool) × (v < m.vars) × MayMiss guide w v u k x t n read
+-- it may find the entry missing
+abbrev pub CanMiss : {V : Type 0} → Meaning V → List Lane → View V → MissedEntry → Type 0
+CanMiss {V} m guide w e = (x : VarPart V) × (t : ℕ) × (n : ℕ) × (read : Bool) × (e.var < m.vars) × MayMiss guide w e x t n read
 
 -- it may take a variable
 abbrev pub CanTake : {V : Type 0} → View V → Type 0

@@ -12,6 +12,7 @@ use Rattle.atomic_table.specs.Table.{Me}
 use Rattle.atomic_table.specs.Seated.{TableId}
 use Rattle.var_locks.specs.declared.view.Note.{Note}
 use Rattle.var_locks.specs.declared.view.Share.{Share}
+use Rattle.var_locks.specs.declared.view.MissedEntry.{MissedEntry}
 use Rattle.var_locks.specs.declared.view.View.{View}
 use Rattle.var_locks.specs.Notes.{IsOwn, IsGuided, own_note, steps_of}
 use Rattle.var_locks.specs.Rounds.{Opened}
@@ -23,7 +24,7 @@ pub record Seated (V : Type 0) : Type 0 where
   pub part : ThreadPart
   pub notes : List (Note V)
   pub seen : List ℕ
-  pub missing : List (ℕ × ℕ)
+  pub missing : List MissedEntry
   pub ended : Bool
   pub round : TableId
 

@@ -24,10 +24,11 @@ use Rattle.round_order.specs.Growth.{IsRound}
 use Rattle.var_locks.specs.declared.view.Note.{Note}
 use Rattle.var_locks.specs.declared.view.Share.{Share}
 use Rattle.var_locks.specs.declared.view.Held.{Held}
+use Rattle.var_locks.specs.declared.view.MissedEntry.{MissedEntry}
 use Rattle.var_locks.specs.declared.view.View.{View}
 use Rattle.var_locks.specs.Codes.{master_code}
 use Rattle.var_locks.specs.Notes.{read_notes, AreFed, AreGuided}
-use Rattle.var_locks.specs.Views.{HasShare, AreApart}
+use Rattle.var_locks.specs.Views.{HasShare, AreApart, IsMissed}
 
 -- What is so at one moment of a round: of each thread its notes, its part, whether it ended, and the seat that has it; of each
 -- variable what is at home, or was found there by the seat that has it; and the followed entries that are known to be missing.
@@ -58,13 +59,17 @@ pub record IsShare {V : Type 0} (threads : ℕ) (d : Now V) (id : ℕ) (x : Shar
   pub part : x.part ≡ d.parts x.thread
   pub ended : x.ended ≡ d.ended x.thread
 
+-- An entry that a seat found missing is known to be, and its variable was touched no less often than it says.
+abbrev pub IsLost : {V : Type 0} → ℕ → Now V → MissedEntry → Type 0
+IsLost vars d e = IsNamed e.thread e.number d.lost × (e.var < vars) × (e.places ≤ (d.vars e.var).places)
+
 -- The view of a seat is right.
 pub record IsView {V : Type 0} (vars threads : ℕ) (d : Now V) (id : ℕ) (w : View V) : Type 0 where
   pub apart : AreApart w.shares
   pub share : (x : Share V) → HasShare x w.shares → IsShare threads d id x
   pub hand : (h : Held V) → w.hand ≡ Some h → (h.var < vars) × (d.holder h.var ≡ Some id) × (h.found ≡ d.vars h.var)
   pub seen : (v : ℕ) → v < vars → slice_index w.seen v ≤ (d.vars v).places
-  pub missing : (u k : ℕ) → IsNamed u k w.missing → IsNamed u k d.lost
+  pub missing : (e : MissedEntry) → IsMissed e w.missing → IsLost vars d e
 
 -- The table is as it is so: a word for each variable, with its value, and one for each thread, which is 1 where it ended.
 pub record IsTableOf {V : Type 0} (vars threads : ℕ) (d : Now V) (s : State (VarPart V) (View V)) : Type 0 where

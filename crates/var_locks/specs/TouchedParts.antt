@@ -6,6 +6,7 @@ use Rattle.access_log.specs.Held.{Lane}
 use Rattle.master_core.specs.declared.step.Trace.TheVariants as trace
 use Rattle.master_core.specs.declared.step.WovenStep.{WovenStep}
 use Rattle.atomic_table.specs.Table.{Me}
+use Rattle.var_locks.specs.declared.view.MissedEntry.{MissedEntry}
 use Rattle.var_locks.specs.declared.view.View.{View}
 use Rattle.var_locks.specs.Notes.{IsOnVariable, LetsPass, IsGuided, answer_in}
 use Rattle.var_locks.specs.declared.touching.Touched.{Touched}
@@ -14,6 +15,7 @@ use Rattle.var_locks.specs.Views.{with_hand, empty_hand, missed_view, note_on, n
 use Rattle.var_locks.specs.Plays.{Finds}
 use Rattle.var_locks.specs.Seats.{Seated, share_of}
 use Rattle.var_locks.specs.Rounds.{MayMiss}
+use Rattle.replay_guide.specs.Turns.{WaitsFor}
 use Rattle.var_locks.specs.declared.touching.Access.{Access}
 use Rattle.access_log.specs.declared.entry.StampedEntry.{StampedEntry}
 use Rattle.access_log.specs.declared.entry.Turn.{Turn}
@@ -87,9 +89,13 @@ MayGo guide t n v read x = LetsPass guide t n v read x.places x.readers
 abbrev pub MayWork : {P V : Type 0} → (P → ℕ → V → Type 0) → Coded P → Gv → List Lane → Access → ℕ → ThreadPart → Me (VarPart V) (View V) → Type 0
 MayWork {P} {V} fits c program guide a word part me = (x : VarPart V) × HasTaken fits c program a word part me x × MayGo guide a.thread (part.counts.entries + 1) a.var a.read x
 
--- it has variable v in hand as it found it, and the guide says to wait for entry (u, k) there
-abbrev pub MustWait : {V : Type 0} → List Lane → ℕ → ℕ → ℕ → ℕ → Me (VarPart V) (View V) → Type 0
-MustWait {V} guide v word u k me = (x : VarPart V) × (t : ℕ) × (n : ℕ) × (read : Bool) × MayMiss guide me.0 v u k x t n read × (me.1 ≡ (v, x) ∷ []) × (word ≡ x.places + x.places)
+-- it has the entry's variable in hand as it found it, and the guide says to wait for the entry there
+abbrev pub MustWait : {V : Type 0} → List Lane → ℕ → MissedEntry → Me (VarPart V) (View V) → Type 0
+MustWait {V} guide word e me = (x : VarPart V) × (t : ℕ) × (n : ℕ) × (read : Bool) × MayMiss guide me.0 e x t n read × (me.1 ≡ (e.var, x) ∷ []) × (word ≡ x.places + x.places)
+
+-- the entry (u, k), found missing at variable v, which was touched so often
+abbrev pub missed_at : ℕ → ℕ → ℕ → ℕ → MissedEntry
+missed_at u k v places = record { thread = u; number = k; var = v; places = places }
 
 -- It touched or read what it had in hand, which is at home again, and noted the move.
 pub record MadeOn {V : Type 0} (m : Meaning V) (guide : List Lane) (a : Access) (before after : ThreadPart) (old new : Me (VarPart V) (View V)) (e : StampedEntry) (x : VarPart V) : Type 0 where
@@ -109,15 +115,19 @@ pub record MadeNone {V : Type 0} (old new : Me (VarPart V) (View V)) (before aft
   pub token : new ≡ (empty_hand old.0, [])
   pub part : after ≡ before
 
--- and it found an entry missing
-pub record MadeMissed {V : Type 0} (u k : ℕ) (old new : Me (VarPart V) (View V)) (before after : ThreadPart) : Type 0 where
-  pub token : new ≡ (empty_hand (missed_view old.0 u k), [])
+-- and it found the entry missing for which the guide says to wait at what it had in hand
+pub record MadeMissed {V : Type 0} (m : Meaning V) (guide : List Lane) (a : Access) (u k : ℕ) (old new : Me (VarPart V) (View V)) (before after : ThreadPart) : Type 0 where
+  pub found : VarPart V
+  pub slots : old.1 ≡ (a.var, found) ∷ []
+  pub wanted : IsWanted m before a
+  pub waits : WaitsFor guide a.thread (before.counts.entries + 1) a.var a.read found.places found.readers u k
+  pub token : new ≡ (empty_hand (missed_view old.0 (missed_at u k a.var found.places)), [])
   pub part : after ≡ before
 
 -- of a seat that had taken the variable
 abbrev pub Comes : {V : Type 0} → Meaning V → List Lane → Access → ThreadPart → ThreadPart → Me (VarPart V) (View V) → Me (VarPart V) (View V) → Touched → Type 0
 Comes m guide a before after old new (touched.Did e) = MadeBy m guide a before after old new e
-Comes m guide a before after old new (touched.Blocked u k) = MadeMissed u k old new before after
+Comes m guide a before after old new (touched.Blocked u k) = MadeMissed m guide a u k old new before after
 Comes m guide a before after old new touched.NoMemory = MadeNone old new before after
 
 -- of a seat that found no fewer touches of it than it had seen, and took it
@@ -138,9 +148,23 @@ pub record HasTouched {V : Type 0} (m : Meaning V) (guide : List Lane) (old : Se
   pub above : slice_index old.seen var ≤ found.places
   pub seat : new ≡ record { thread = old.thread; part = new.part; notes = record { before = old.part; after = new.part; trace = trace.Did e; packet = None; found = Some found } ∷ old.notes; seen = sees_what old.seen e.what; missing = old.missing; ended = old.ended; round = old.round }
 
+-- The seat wanted variable v, and found x: at this the guide says to wait for entry (u, k), which is missing. It made no move.
+pub record IsBlocked {V : Type 0} (m : Meaning V) (guide : List Lane) (old : Seated V) (u k : ℕ) (new : Seated V) : Type 0 where
+  pub var : ℕ
+  pub read : Bool
+  pub place : Local
+  pub found : VarPart V
+  pub inside : var < m.vars
+  pub hand : old.part.hand ≡ Some place
+  pub next : m.next place ≡ wanted_move var read
+  pub waits : WaitsFor guide old.thread (old.part.counts.entries + 1) var read found.places found.readers u k
+  -- touched no less often than the seat had seen
+  pub above : slice_index old.seen var ≤ found.places
+  pub seat : new ≡ record { thread = old.thread; part = old.part; notes = old.notes; seen = old.seen; missing = missed_at u k var found.places ∷ old.missing; ended = old.ended; round = old.round }
+
 abbrev pub Touches : {V : Type 0} → Meaning V → List Lane → Seated V → Seated V → Touched → Type 0
 Touches m guide old new (touched.Did e) = HasTouched m guide old e new
-Touches m guide old new (touched.Blocked u k) = new ≡ record { thread = old.thread; part = old.part; notes = old.notes; seen = old.seen; missing = (u, k) ∷ old.missing; ended = old.ended; round = old.round }
+Touches m guide old new (touched.Blocked u k) = IsBlocked m guide old u k new
 Touches m guide old new touched.NoMemory = new ≡ old
 
 -- what the seat saw after it

@@ -9,6 +9,7 @@ use Rattle.master_core.specs.declared.step.Trace.TheVariants as trace
 use Rattle.var_locks.specs.declared.view.Note.{Note}
 use Rattle.var_locks.specs.declared.view.Share.{Share}
 use Rattle.var_locks.specs.declared.view.Held.{Held}
+use Rattle.var_locks.specs.declared.view.MissedEntry.{MissedEntry}
 use Rattle.var_locks.specs.declared.view.View.{View}
 
 abbrev pub HasShare : {V : Type 0} → Share V → List (Share V) → Type 0
@@ -97,8 +98,13 @@ abbrev pub noted_view : {V : Type 0} → View V → Note V → View V
 noted_view w n = record { shares = note_shares w.shares n; hand = None; seen = seen_after w.seen n.trace; missing = w.missing }
 
 -- one more entry was found missing
-abbrev pub missed_view : {V : Type 0} → View V → ℕ → ℕ → View V
-missed_view w u k = record { shares = w.shares; hand = w.hand; seen = w.seen; missing = (u, k) ∷ w.missing }
+abbrev pub missed_view : {V : Type 0} → View V → MissedEntry → View V
+missed_view w e = record { shares = w.shares; hand = w.hand; seen = w.seen; missing = e ∷ w.missing }
+
+-- the entry is among those that were found missing
+abbrev pub IsMissed : MissedEntry → List MissedEntry → Type 0
+IsMissed e [] = ⊥
+IsMissed e (f ∷ others) = (f ≡ e) ⊎ IsMissed e others
 
 abbrev pub end_shares : {V : Type 0} → List (Share V) → List (Share V)
 end_shares [] = []

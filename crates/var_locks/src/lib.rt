@@ -17,6 +17,6 @@ pub use seats::VarSeat;
 pub use touching::{Gate, OpenGate, Touched};
 pub use vars::{Closed, Receipts, Vars};
 pub use view::{
-    Brought, Ended, Given, Held, Law, Missed, Named, News, Note, Noted, Parted, Round, Share,
-    Taken, View,
+    Brought, Ended, Given, Held, Law, Missed, MissedEntry, Named, News, Note, Noted, Parted, Round,
+    Share, Taken, View,
 };

@@ -11,7 +11,7 @@ ghost use Rattle.var_locks.specs.Plays.{Finds};
 ghost use Rattle.var_locks.specs.Rounds.{IsRoundOf, Opens, CanTake, CanNote, CanBring, CanGive, CanMiss, CanEnd, CanSplit};
 
 use crate::view::{
-    Brought, Ended, Given, Law, Missed, Named, News, Noted, Parted, Round, Taken, View,
+    Brought, Ended, Given, Law, Missed, MissedEntry, Named, News, Noted, Parted, Round, Taken, View,
 };
 use atomic_table::{Refused, Seat, Shared, Table};
 use box_program::Program;
@@ -233,24 +233,22 @@ fn misses_as<P: Program, J: Round, N: Named>(
     shared: &Lock<P, J>,
     token: &mut Token<P::Value>,
     word: usize,
-    thread: u32,
-    number: u64,
+    missed: MissedEntry,
 ) -> bool
     requires of { IsRoundOf P.meaning P.row.coded P.Value.row.coded
         J.program J.opening J.threads program.now shared.now.table_id.words }
     requires table { token.old.table_id ≡ shared.now.table_id }
-    requires named { (thread ≡ N.thread) × (number ≡ N.number) }
-    requires thread_in { thread < length J.threads }
-    requires word_is { word ≡ (P.meaning program.now).vars + thread }
-    requires waits { CanMiss (P.meaning program.now) J.guide token.old.me.0 thread number }
+    requires named { missed ≡ N.entry }
+    requires thread_in { missed.thread < length J.threads }
+    requires word_is { word ≡ (P.meaning program.now).vars + missed.thread }
+    requires waits { CanMiss (P.meaning program.now) J.guide token.old.me.0 missed }
     ensures same { (token.new.table_id ≡ token.old.table_id) × (token.new.id ≡ token.old.id) }
     ensures missing { result ≡ true
-        → token.new.me ≡ (missed_view token.old.me.0 N.thread N.number, token.old.me.1) }
+        → token.new.me ≡ (missed_view token.old.me.0 N.entry, token.old.me.1) }
     ensures going { result ≡ false → token.new.me ≡ token.old.me }
 {
     let _ = program;
-    let _ = thread;
-    let _ = number;
+    let _ = missed;
     shared.load::<Missed<N>>(token, word) == 1
 }
 
@@ -260,21 +258,20 @@ pub(crate) fn misses<P: Program, J: Round>(
     shared: &Lock<P, J>,
     token: &mut Token<P::Value>,
     word: usize,
-    thread: u32,
-    number: u64,
+    missed: MissedEntry,
 ) -> bool
     requires of { IsRoundOf P.meaning P.row.coded P.Value.row.coded
         J.program J.opening J.threads program.now shared.now.table_id.words }
     requires table { token.old.table_id ≡ shared.now.table_id }
-    requires thread_in { thread < length J.threads }
-    requires word_is { word ≡ (P.meaning program.now).vars + thread }
-    requires waits { CanMiss (P.meaning program.now) J.guide token.old.me.0 thread number }
+    requires thread_in { missed.thread < length J.threads }
+    requires word_is { word ≡ (P.meaning program.now).vars + missed.thread }
+    requires waits { CanMiss (P.meaning program.now) J.guide token.old.me.0 missed }
     ensures same { (token.new.table_id ≡ token.old.table_id) × (token.new.id ≡ token.old.id) }
     ensures missing { result ≡ true
-        → token.new.me ≡ (missed_view token.old.me.0 thread number, token.old.me.1) }
+        → token.new.me ≡ (missed_view token.old.me.0 missed, token.old.me.1) }
     ensures going { result ≡ false → token.new.me ≡ token.old.me }
 {
-    misses_as::<P, J, Brand>(program, shared, token, word, thread, number)
+    misses_as::<P, J, Brand>(program, shared, token, word, missed)
 }
 
 /// Ends the round for the seat's thread.

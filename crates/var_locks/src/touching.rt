@@ -11,7 +11,7 @@ ghost use Rattle.var_locks.specs.TouchedParts.{IsWanted, HasSlot, Works, WorksBy
 use crate::keeping::copied;
 use crate::steps::{Lock, Made, Token, bring_home, give_back, misses, take_up};
 use crate::vars::Vars;
-use crate::view::Round;
+use crate::view::{MissedEntry, Round};
 use access_log::{StampedEntry, Turn};
 use box_program::Program;
 use master_core::{ThreadPart, Trace, VarPart, moves};
@@ -223,27 +223,21 @@ impl<P: Program, J: Round> Vars<P, J> {
     }
 
     /// Whether the thread of an entry ended, for which the guide says to wait at the variable in hand. If so, the entry is missing.
-    fn looks_missing(
-        &self,
-        program: &P,
-        token: &mut Token<P::Value>,
-        other: u32,
-        number: u64,
-    ) -> bool
+    fn looks_missing(&self, program: &P, token: &mut Token<P::Value>, missed: MissedEntry) -> bool
         requires of { AreVarsOf P.meaning P.row.coded P.Value.row.coded program.now self.now }
         requires table { token.old.table_id ≡ self.now.round }
-        requires waits { CanMiss (P.meaning program.now) J.guide token.old.me.0 other number }
+        requires waits { CanMiss (P.meaning program.now) J.guide token.old.me.0 missed }
         ensures same { (token.new.table_id ≡ token.old.table_id)
             × (token.new.id ≡ token.old.id) }
         ensures missing { result ≡ true
-            → token.new.me ≡ (missed_view token.old.me.0 other number, token.old.me.1) }
+            → token.new.me ≡ (missed_view token.old.me.0 missed, token.old.me.1) }
         ensures going { result ≡ false → token.new.me ≡ token.old.me }
     {
-        if other as usize >= self.threads {
+        if missed.thread as usize >= self.threads {
             return false;
         }
-        let word = self.vars + other as usize;
-        misses::<P, J>(program, &self.table.shared, token, word, other, number)
+        let word = self.vars + missed.thread as usize;
+        misses::<P, J>(program, &self.table.shared, token, word, missed)
     }
 
     /// Gives the variable in hand back, at which the guide says to wait for an entry. Whether its thread ended the round without it.
@@ -251,23 +245,27 @@ impl<P: Program, J: Round> Vars<P, J> {
         &self,
         program: &P,
         token: &mut Token<P::Value>,
-        var: u32,
         word: u64,
-        other: u32,
-        number: u64,
+        missed: MissedEntry,
     ) -> bool
         requires of { AreVarsOf P.meaning P.row.coded P.Value.row.coded program.now self.now }
         requires table { token.old.table_id ≡ self.now.round }
-        requires var_in { var < (P.meaning program.now).vars }
-        requires waits { MustWait J.guide var word other number token.old.me }
+        requires var_in { missed.var < (P.meaning program.now).vars }
+        requires waits { MustWait J.guide word missed token.old.me }
         ensures same { (token.new.table_id ≡ token.old.table_id)
             × (token.new.id ≡ token.old.id) }
         ensures missing { result ≡ true
-            → token.new.me ≡ (empty_hand (missed_view token.old.me.0 other number), []) }
+            → token.new.me ≡ (empty_hand (missed_view token.old.me.0 missed), []) }
         ensures going { result ≡ false → token.new.me ≡ (empty_hand token.old.me.0, []) }
     {
-        let missing = self.looks_missing(program, token, other, number);
-        give_back::<P, J>(program, &self.table.shared, token, var as usize, word);
+        let missing = self.looks_missing(program, token, missed);
+        give_back::<P, J>(
+            program,
+            &self.table.shared,
+            token,
+            missed.var as usize,
+            word,
+        );
         missing
     }
 
@@ -327,7 +325,13 @@ impl<P: Program, J: Round> Vars<P, J> {
         else {
             return Some(self.go_on(setting, token, part, access, word));
         };
-        if self.wait_on(setting.program, token, access.var, word, thread, number) {
+        let missed = MissedEntry {
+            thread,
+            number,
+            var: access.var,
+            places: word / 2,
+        };
+        if self.wait_on(setting.program, token, word, missed) {
             return Some(Touched::Blocked { thread, number });
         }
         None

@@ -1,4 +1,4 @@
-//! What a seat of a round knows, the rule, and what the steps tell. No value of these types is made.
+//! What a seat of a round knows, the rule, and what the steps tell. Values are made of none of these types but `MissedEntry`.
 use atomic_table::{Join, Play, Split, TableRule};
 use box_program::Program;
 use master_core::{ThreadPart, Trace, VarPart};
@@ -33,14 +33,23 @@ pub struct Held<V> {
     pub found: VarPart<V>,
 }
 
+/// A followed entry that was found missing: at which variable its thread's end was seen, and how often this was touched then.
+#[derive(Clone, Copy)]
+pub struct MissedEntry {
+    pub thread: u32,
+    pub number: u64,
+    pub var: u32,
+    pub places: u64,
+}
+
 /// What a seat knows.
 pub struct View<V> {
     pub shares: LinkedList<Share<V>>,
     pub hand: Option<Held<V>>,
     /// For each variable, the greatest number of its touches that was seen.
     pub seen: LinkedList<u64>,
-    /// The followed entries that were found missing, by thread and number.
-    pub missing: LinkedList<(u32, u64)>,
+    /// The followed entries that were found missing.
+    pub missing: LinkedList<MissedEntry>,
 }
 
 /// Which round it is: the codes of its program and of its opening master, the parts of the threads and the places of the variables in
@@ -149,19 +158,15 @@ impl<V> Play<VarPart<V>, View<V>> for Given {
     ghost then = { Gives };
 }
 
-/// Which followed entry is looked for.
+/// Which followed entry is looked for, and at which variable.
 pub trait Named {
-    ghost use Rattle.std.specs.Prelude.{ℕ};
+    ghost use Rattle.var_locks.specs.declared.view.MissedEntry.{MissedEntry};
 
-    ghost thread: { ℕ };
-
-    ghost number: { ℕ };
+    ghost entry: { MissedEntry };
 }
 
 impl Named for Brand {
-    ghost thread = { 0 };
-
-    ghost number = { 0 };
+    ghost entry = { record { thread = 0; number = 0; var = 0; places = 0 } };
 }
 
 /// A seat looks whether the thread of an entry ended, and if so finds the entry missing.
@@ -172,7 +177,7 @@ pub struct Missed<N> {
 impl<V, N: Named> Play<VarPart<V>, View<V>> for Missed<N> {
     ghost use Rattle.var_locks.specs.Plays.{Misses};
 
-    ghost then = { Misses N.thread N.number };
+    ghost then = { Misses N.entry };
 }
 
 /// A seat ends the round for its thread.

@@ -7,7 +7,7 @@ use Rattle.var_locks.proofs.SlotLists.{either_way}
 use Rattle.var_locks.proofs.vars.Vars.wait_on.Goals as goal
 
 pub looks_missing-missing-requires-clause-waits : goal.looks_missing-missing-requires-clause-waits
-looks_missing-missing-requires-clause-waits g c κs within = let h = c.requires.waits in (c.args.var, h.0, h.1, h.2, h.3, c.requires.var_in, h.4)
+looks_missing-missing-requires-clause-waits g c κs within = let h = c.requires.waits in (h.0, h.1, h.2, h.3, c.requires.var_in, h.4)
 
 pub give_back-requires-clause-found : goal.give_back-requires-clause-found
 give_back-requires-clause-found g c κs within =
