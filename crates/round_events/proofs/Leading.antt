@@ -69,7 +69,7 @@ module _ {V : Type 0} (s : Setting V) (w : World V) (guide : List Lane) (rs : Re
   grown [] = earlier_refl w.past
   grown (r ∷ earlier) = inr (grown earlier)
 
-  still_guides : (tail : List (Receipt V)) → Guides w.followed (log_of (after tail w.past)) guide
+  pub still_guides : (tail : List (Receipt V)) → Guides w.followed (log_of (after tail w.past)) guide
   still_guides tail e out = guides e (λ i. out (earlier_log w.past (after tail w.past) e (grown tail) i))
 
   one_more : (r : Receipt V) (earlier : List (Receipt V)) → after_made (world_after w earlier) r.step ≡ world_after w (r ∷ earlier)
