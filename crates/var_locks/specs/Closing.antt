@@ -1,5 +1,6 @@
 -- What a round comes to: whatever the seats did is one legal run.
-use Rattle.std.specs.Prelude.{◌≡◌, ℕ, ◌+◌, ◌<◌, ◌≤◌, ◌⊎◌, true, cond, nat_eq, List, [], ◌∷◌, map, length, slice_index_or, Ok}
+use Rattle.std.specs.Prelude.{◌≡◌, ℕ, ◌+◌, ◌<◌, ◌≤◌, ◌⊎◌, true, cond, nat_eq, Ok}
+use Rattle.std.specs.Prelude.{List, [], ◌∷◌, map, length, slice_index_or}
 use Rattle.plain_text.specs.declared.packet.Packet.{Packet}
 use Rattle.entry_order.specs.declared.what.What.{What}
 use Rattle.access_log.specs.Held.{Lane}
@@ -76,14 +77,16 @@ pub record Weaves {V : Type 0} (m : Meaning V) (inputs : ℕ → List Packet) (t
 -- seats did weaves into a continuation of it for which q stands; and no entry that a seat found missing is in either.
 pub record Closes {V : Type 0} (m : Meaning V) (guide : List Lane) (p : Mastered V) (seats : List (Seated V)) (q : Mastered V) (inputs : ℕ → List Packet) (moves : List PlainMove) (past : List (Step V)) : Type 0 where
   pub weaves : Weaves m inputs (length p.threads) moves past (receipts_of m past seats) q
-  pub missing : (e : MissedEntry) (what : What) (stamp : ℕ → ℕ) → FoundMissing seats e → Follows guide e.thread e.number what
+  pub missing : (e : MissedEntry) (what : What) (stamp : ℕ → ℕ) → FoundMissing seats e
+      → Follows guide e.thread e.number what
       → IsKnown past (receipts_of m past seats) (record { thread = e.thread; number = e.number; what = what }) stamp → ⊥
 
--- However the threads ran. Where an entry was found missing, its variable was touched in the end no less often than it was then.
+-- However the threads ran. Where an entry was found missing, its variable was touched no less often in the end than then.
 pub record IsClosed {V : Type 0} (m : Meaning V) (fits : ℕ → V → Type 0) (guide : List Lane) (p : Mastered V) (seats : List (Seated V)) (q : Mastered V) : Type 0 where
   pub bounded : IsBounded q.vars q.threads
   pub fit : FitsProgram m fits value_of q.vars
   pub threads : q.threads ≡ map seat_part seats
-  pub touched : (e : MissedEntry) (d : VarPart V) → FoundMissing seats e → (e.var < length q.vars) × (e.places ≤ (slice_index_or q.vars e.var d).places)
+  pub touched : (e : MissedEntry) (d : VarPart V) → FoundMissing seats e
+      → (e.var < length q.vars) × (e.places ≤ (slice_index_or q.vars e.var d).places)
   pub closes : (inputs : ℕ → List Packet) (moves : List PlainMove) (past : List (Step V)) → play m inputs (length p.threads) moves ≡ Ok past → Stands m (length p.threads) past p → AreAllFed inputs seats
       → Closes m guide p seats q inputs moves past

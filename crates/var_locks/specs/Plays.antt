@@ -35,7 +35,8 @@ abbrev pub Gives : {V : Type 0} → Step (VarPart V) → Me (VarPart V) (View V)
 Gives st me found now = now ≡ (empty_hand me.0, rest me.1)
 
 -- where the word was 1, the entry is missing
-abbrev pub Misses : {V : Type 0} → MissedEntry → Step (VarPart V) → Me (VarPart V) (View V) → ℕ → Me (VarPart V) (View V) → Type 0
+abbrev pub Misses : {V : Type 0} → MissedEntry → Step (VarPart V) → Me (VarPart V) (View V) → ℕ
+    → Me (VarPart V) (View V) → Type 0
 Misses e st me found now = (found ≡ 1 → now ≡ (missed_view me.0 e, me.1)) × (found ≢ 1 → now ≡ me)
 
 abbrev pub Ends : {V : Type 0} → Step (VarPart V) → Me (VarPart V) (View V) → ℕ → Me (VarPart V) (View V) → Type 0

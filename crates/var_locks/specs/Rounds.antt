@@ -65,8 +65,9 @@ pub record MayBring {V : Type 0} (m : Meaning V) (fits : ℕ → V → Type 0) (
 abbrev pub HasInHand : {V : Type 0} → View V → ℕ → VarPart V → Type 0
 HasInHand w v x = w.hand ≡ Some (record { var = v; found = x })
 
--- The seat has the entry's variable in hand, touched as often as the entry says, and the guide says to wait for the entry there.
-pub record MayMiss {V : Type 0} (guide : List Lane) (w : View V) (e : MissedEntry) (x : VarPart V) (t n : ℕ) (read : Bool) : Type 0 where
+-- The seat has the entry's variable in hand, touched as often as it says, and the guide says to wait for the entry there.
+pub record MayMiss {V : Type 0} (guide : List Lane) (w : View V) (e : MissedEntry) (x : VarPart V) (t n : ℕ)
+    (read : Bool) : Type 0 where
   pub hand : HasInHand w e.var x
   pub places_are : e.places ≡ x.places
   pub waits : WaitsFor guide t n e.var read x.places x.readers e.thread e.number
@@ -93,7 +94,8 @@ CanGive {V} me v word = (x : VarPart V) × HasInHand me.0 v x × (me.1 ≡ (v, x
 
 -- it may find the entry missing
 abbrev pub CanMiss : {V : Type 0} → Meaning V → List Lane → View V → MissedEntry → Type 0
-CanMiss {V} m guide w e = (x : VarPart V) × (t : ℕ) × (n : ℕ) × (read : Bool) × (e.var < m.vars) × MayMiss guide w e x t n read
+CanMiss {V} m guide w e = (x : VarPart V) × (t : ℕ) × (n : ℕ) × (read : Bool) × (e.var < m.vars)
+    × MayMiss guide w e x t n read
 
 -- it may take a variable
 abbrev pub CanTake : {V : Type 0} → View V → Type 0

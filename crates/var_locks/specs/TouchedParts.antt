@@ -91,7 +91,8 @@ MayWork {P} {V} fits c program guide a word part me = (x : VarPart V) × HasTake
 
 -- it has the entry's variable in hand as it found it, and the guide says to wait for the entry there
 abbrev pub MustWait : {V : Type 0} → List Lane → ℕ → MissedEntry → Me (VarPart V) (View V) → Type 0
-MustWait {V} guide word e me = (x : VarPart V) × (t : ℕ) × (n : ℕ) × (read : Bool) × MayMiss guide me.0 e x t n read × (me.1 ≡ (e.var, x) ∷ []) × (word ≡ x.places + x.places)
+MustWait {V} guide word e me = (x : VarPart V) × (t : ℕ) × (n : ℕ) × (read : Bool) × MayMiss guide me.0 e x t n read
+    × (me.1 ≡ (e.var, x) ∷ []) × (word ≡ x.places + x.places)
 
 -- the entry (u, k), found missing at variable v, which was touched so often
 abbrev pub missed_at : ℕ → ℕ → ℕ → ℕ → MissedEntry
@@ -116,7 +117,8 @@ pub record MadeNone {V : Type 0} (old new : Me (VarPart V) (View V)) (before aft
   pub part : after ≡ before
 
 -- and it found the entry missing for which the guide says to wait at what it had in hand
-pub record MadeMissed {V : Type 0} (m : Meaning V) (guide : List Lane) (a : Access) (u k : ℕ) (old new : Me (VarPart V) (View V)) (before after : ThreadPart) : Type 0 where
+pub record MadeMissed {V : Type 0} (m : Meaning V) (guide : List Lane) (a : Access) (u k : ℕ)
+    (old new : Me (VarPart V) (View V)) (before after : ThreadPart) : Type 0 where
   pub found : VarPart V
   pub slots : old.1 ≡ (a.var, found) ∷ []
   pub wanted : IsWanted m before a
@@ -148,8 +150,9 @@ pub record HasTouched {V : Type 0} (m : Meaning V) (guide : List Lane) (old : Se
   pub above : slice_index old.seen var ≤ found.places
   pub seat : new ≡ record { thread = old.thread; part = new.part; notes = record { before = old.part; after = new.part; trace = trace.Did e; packet = None; found = Some found } ∷ old.notes; seen = sees_what old.seen e.what; missing = old.missing; ended = old.ended; round = old.round }
 
--- The seat wanted variable v, and found x: at this the guide says to wait for entry (u, k), which is missing. It made no move.
-pub record IsBlocked {V : Type 0} (m : Meaning V) (guide : List Lane) (old : Seated V) (u k : ℕ) (new : Seated V) : Type 0 where
+-- The seat wanted a variable. At what it found of it the guide says to wait for entry (u, k), which is missing. It made no move.
+pub record IsBlocked {V : Type 0} (m : Meaning V) (guide : List Lane) (old : Seated V) (u k : ℕ)
+    (new : Seated V) : Type 0 where
   pub var : ℕ
   pub read : Bool
   pub place : Local
@@ -160,7 +163,15 @@ pub record IsBlocked {V : Type 0} (m : Meaning V) (guide : List Lane) (old : Sea
   pub waits : WaitsFor guide old.thread (old.part.counts.entries + 1) var read found.places found.readers u k
   -- touched no less often than the seat had seen
   pub above : slice_index old.seen var ≤ found.places
-  pub seat : new ≡ record { thread = old.thread; part = old.part; notes = old.notes; seen = old.seen; missing = missed_at u k var found.places ∷ old.missing; ended = old.ended; round = old.round }
+  pub seat : new ≡ record {
+    thread = old.thread;
+    part = old.part;
+    notes = old.notes;
+    seen = old.seen;
+    missing = missed_at u k var found.places ∷ old.missing;
+    ended = old.ended;
+    round = old.round;
+  }
 
 abbrev pub Touches : {V : Type 0} → Meaning V → List Lane → Seated V → Seated V → Touched → Type 0
 Touches m guide old new (touched.Did e) = HasTouched m guide old e new

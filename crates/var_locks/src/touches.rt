@@ -81,9 +81,9 @@ impl<P: Program, J: Round> Vars<P, J> {
     /// Makes the touch or the read that the seat's thread wants. It waits while another seat has the variable, or the guide says to
     /// wait.
     ///
-    /// `Did` has the entry: of a touch its place is above all that this seat had seen of the variable, of a read no lower. `Blocked`
-    /// names the entry for which the guide says to wait at what was found of the variable, and comes only where its thread had ended
-    /// the round without it. After `Blocked` and `NoMemory` the seat made no move and has no variable.
+    /// `Did` has the entry: of a touch its place is above all that this seat had seen of the variable, of a read no lower.
+    /// `Blocked` names the entry for which the guide says to wait at what was found of the variable, and comes only where its
+    /// thread had ended the round without it. After `Blocked` and `NoMemory` the seat made no move and has no variable.
     pub fn touch<R: Wait, G: Gate>(
         &self,
         rt: &R,

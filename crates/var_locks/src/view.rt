@@ -1,4 +1,4 @@
-//! What a seat of a round knows, the rule, and what the steps tell. Values are made of none of these types but `MissedEntry`.
+//! What a seat of a round knows, the rule, and what the steps tell. Only of `MissedEntry` a value is made.
 use atomic_table::{Join, Play, Split, TableRule};
 use box_program::Program;
 use master_core::{ThreadPart, Trace, VarPart};
@@ -33,7 +33,7 @@ pub struct Held<V> {
     pub found: VarPart<V>,
 }
 
-/// A followed entry that was found missing: at which variable its thread's end was seen, and how often this was touched then.
+/// A followed entry that was found missing, at which variable, and how often this was touched then.
 #[derive(Clone, Copy)]
 pub struct MissedEntry {
     pub thread: u32,
