@@ -21,8 +21,6 @@ pub trait LineFile {
     /// As how many a thing counts.
     fn weight(thing: &Self::Thing) -> u64
         ensures { result ≡ form.weight thing.now };
-
-    ghost decisive: { IsDecisive form };
 }
 
 /// Reads a file of lines. Its time and memory grow with the length of the text, and no faster.
@@ -34,6 +32,7 @@ pub fn read_lines<F: LineFile>(
     text: &[u8],
     most: u64,
 ) -> Result<Sequence<F::Thing>, ReadError>
+    requires decisive { IsDecisive F.form }
     ensures file { IfOk result (IsFile F.form text.now) }
     ensures few { IfOk result (λ things. count_of F.form things ≤ most) }
     ensures refused { IfErr result (IsRefused F.form most text.now) }

@@ -4,7 +4,7 @@ use Rattle.plain_text.proofs.line_file.read_lines.Goals as goal
 
 pub returns-in-Err-clause-refused : goal.returns-in-Err-clause-refused
 returns-in-Err-clause-refused g c =
-    faulty g.F.LineFile.form g.met.F.LineFile.decisive c.args.most c.args.text.now c.loop-line.things c.loop-line.room
+    faulty g.F.LineFile.form c.requires.decisive c.args.most c.args.text.now c.loop-line.things c.loop-line.room
     c.in-Some.line.number c.in-Some.line.bytes.now c.loop-line.line-iterator c.next.new.self c.in-Err.cause
     c.loop-line.invariant.begins c.loop-line.invariant.room (search rules) c.in-Err.ensures.fault
 
