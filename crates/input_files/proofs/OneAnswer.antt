@@ -128,50 +128,59 @@ one_box bytes (Err error.NoMemory) b d e x y = absurd d
 -- Files of lines
 
 module _ {A : Type 0} (form : LineForm A) (decisive : IsDecisive form) where
-  file_limit : (bytes : List ℕ) (passed : Limit) → LinesPass form bytes passed
-      → ((passed ≡ limit.Events) × HasTooMany form MOST_EVENTS (judged_text bytes)) ⊎ ((passed ≡ limit.File) × (67108864 < length bytes) × SaysNoFault form (judged_text bytes))
+  -- the two ways to pass a limit
+  abbrev Passes : List ℕ → Limit → Type 0
+  Passes bytes passed =
+      ((passed ≡ limit.Events) × HasTooMany form MOST_EVENTS (judged_text bytes))
+      ⊎ ((passed ≡ limit.File) × (67108864 < length bytes) × SaysNoFault form (judged_text bytes))
+
+  file_limit : (bytes : List ℕ) (passed : Limit) → LinesPass form bytes passed → Passes bytes passed
   file_limit bytes limit.File h = inr (refl, h.0, h.1)
   file_limit bytes limit.Packets h = absurd h
   file_limit bytes limit.Events h = inl (refl, h)
   file_limit bytes limit.Moves h = absurd h
   file_limit bytes limit.OutputBytes h = absurd h
 
-  file_both : (bytes : List ℕ) (things : List A) (fault : LineFault) → SaysFile form bytes (Ok things) → SaysFile form bytes (Err (error.Fault fault)) → ⊥
+  file_both : (bytes : List ℕ) (things : List A) (fault : LineFault) → SaysFile form bytes (Ok things)
+      → SaysFile form bytes (Err (error.Fault fault)) → ⊥
   file_both bytes things fault a b =
       let Is : List ℕ → Type 0 = λ text. IsFile form text things in
-      files.not_both form decisive (judged_text bytes) things fault.line fault.cause (subst Is (sym (within bytes a.0)) a.1) b.0
+      files.not_both form decisive (judged_text bytes) things fault.line fault.cause
+      (subst Is (sym (within bytes a.0)) a.1) b.0
 
-  file_fits : (bytes : List ℕ) (things : List A) (passed : Limit) → SaysFile form bytes (Ok things) → LinesPass form bytes passed → ⊥
+  file_fits : (bytes : List ℕ) (things : List A) (passed : Limit) → SaysFile form bytes (Ok things)
+      → LinesPass form bytes passed → ⊥
   file_fits bytes things passed a b = by_limit (file_limit bytes passed b)
     where
       few : HasTooMany form MOST_EVENTS bytes → ⊥
-      few many = over (files.too_many form decisive MOST_EVENTS bytes things a.1).0 many a.2
+      few many = over ((files.too_many form decisive MOST_EVENTS bytes things a.1).0 many) a.2
         where
-          over : (HasTooMany form MOST_EVENTS bytes → 4000000 < count_of form things) → HasTooMany form MOST_EVENTS bytes → count_of form things ≤ 4000000 → ⊥
-          over f h low = let high = f h in omega arith
+          over : 4000000 < count_of form things → count_of form things ≤ 4000000 → ⊥
+          over high low = omega arith
 
-      by_limit : ((passed ≡ limit.Events) × HasTooMany form MOST_EVENTS (judged_text bytes)) ⊎ ((passed ≡ limit.File) × (67108864 < length bytes) × SaysNoFault form (judged_text bytes)) → ⊥
+      by_limit : Passes bytes passed → ⊥
       by_limit (inl h) = few (subst (HasTooMany form MOST_EVENTS) (within bytes a.0) h.1)
       by_limit (inr h) = no_room (length bytes) a.0 h.1
 
-  file_faulty : (bytes : List ℕ) (fault : LineFault) (passed : Limit) → SaysFile form bytes (Err (error.Fault fault)) → LinesPass form bytes passed → ⊥
+  file_faulty : (bytes : List ℕ) (fault : LineFault) (passed : Limit) → SaysFile form bytes (Err (error.Fault fault))
+      → LinesPass form bytes passed → ⊥
   file_faulty bytes fault passed a b = by_limit (file_limit bytes passed b)
     where
-      by_limit : ((passed ≡ limit.Events) × HasTooMany form MOST_EVENTS (judged_text bytes)) ⊎ ((passed ≡ limit.File) × (67108864 < length bytes) × SaysNoFault form (judged_text bytes)) → ⊥
+      by_limit : Passes bytes passed → ⊥
       by_limit (inl h) = a.1 h.1
       by_limit (inr h) = h.2.0 fault.line fault.cause a.0
 
   one_limit : (bytes : List ℕ) (l m : Limit) → LinesPass form bytes l → LinesPass form bytes m → l ≡ m
   one_limit bytes l m x y = by_limits (file_limit bytes l x) (file_limit bytes m y)
     where
-      by_limits : ((l ≡ limit.Events) × HasTooMany form MOST_EVENTS (judged_text bytes)) ⊎ ((l ≡ limit.File) × (67108864 < length bytes) × SaysNoFault form (judged_text bytes))
-          → ((m ≡ limit.Events) × HasTooMany form MOST_EVENTS (judged_text bytes)) ⊎ ((m ≡ limit.File) × (67108864 < length bytes) × SaysNoFault form (judged_text bytes)) → l ≡ m
+      by_limits : Passes bytes l → Passes bytes m → l ≡ m
       by_limits (inl a) (inl b) = a.0 ∙ sym b.0
       by_limits (inl a) (inr b) = absurd (b.2.1 a.1)
       by_limits (inr a) (inl b) = absurd (a.2.1 b.1)
       by_limits (inr a) (inr b) = a.0 ∙ sym b.0
 
-  pub one_file : (bytes : List ℕ) (a b : Result (List A) (InputError LineFault)) → OfBytes a → OfBytes b → SaysFile form bytes a → SaysFile form bytes b → a ≡ b
+  pub one_file : (bytes : List ℕ) (a b : Result (List A) (InputError LineFault)) → OfBytes a → OfBytes b
+      → SaysFile form bytes a → SaysFile form bytes b → a ≡ b
   one_file bytes (Ok a) (Ok b) d e x y = ap (λ (c : List A). Ok c) (files.one_file form decisive bytes a b x.1 y.1)
   one_file bytes (Ok a) (Err (error.Fault f)) d e x y = absurd (file_both bytes a f x y)
   one_file bytes (Ok a) (Err (error.TooLarge l)) d e x y = absurd (file_fits bytes a l x y)
@@ -179,13 +188,15 @@ module _ {A : Type 0} (form : LineForm A) (decisive : IsDecisive form) where
   one_file bytes (Ok a) (Err error.NoMemory) d e x y = absurd e
   one_file bytes (Err (error.Fault f)) (Ok b) d e x y = absurd (file_both bytes b f y x)
   one_file bytes (Err (error.Fault f)) (Err (error.Fault g)) d e x y =
-      ap (λ (h : LineFault). Err (error.Fault h)) (same_fault f g (files.one_fault form decisive (judged_text bytes) f.line g.line f.cause g.cause x.0 y.0))
+      ap (λ (h : LineFault). Err (error.Fault h))
+      (same_fault f g (files.one_fault form decisive (judged_text bytes) f.line g.line f.cause g.cause x.0 y.0))
   one_file bytes (Err (error.Fault f)) (Err (error.TooLarge l)) d e x y = absurd (file_faulty bytes f l x y)
   one_file bytes (Err (error.Fault f)) (Err error.ReadFault) d e x y = absurd e
   one_file bytes (Err (error.Fault f)) (Err error.NoMemory) d e x y = absurd e
   one_file bytes (Err (error.TooLarge l)) (Ok b) d e x y = absurd (file_fits bytes b l y x)
   one_file bytes (Err (error.TooLarge l)) (Err (error.Fault f)) d e x y = absurd (file_faulty bytes f l y x)
-  one_file bytes (Err (error.TooLarge l)) (Err (error.TooLarge m)) d e x y = ap (λ (n : Limit). Err (error.TooLarge n)) (one_limit bytes l m x y)
+  one_file bytes (Err (error.TooLarge l)) (Err (error.TooLarge m)) d e x y =
+      ap (λ (n : Limit). Err (error.TooLarge n)) (one_limit bytes l m x y)
   one_file bytes (Err (error.TooLarge l)) (Err error.ReadFault) d e x y = absurd e
   one_file bytes (Err (error.TooLarge l)) (Err error.NoMemory) d e x y = absurd e
   one_file bytes (Err error.ReadFault) b d e x y = absurd d

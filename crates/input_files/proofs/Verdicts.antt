@@ -59,7 +59,8 @@ cut_box_missing front bytes line is cut =
 -- Files of lines
 
 module _ {A : Type 0} (form : LineForm A) where
-  refused : (bytes : List ℕ) (e : InputError LineFault) → SaysLines form (judged_text bytes) (Err e) → SaysFile form bytes (Err e)
+  refused : (bytes : List ℕ) (e : InputError LineFault) → SaysLines form (judged_text bytes) (Err e)
+      → SaysFile form bytes (Err e)
   refused bytes (error.Fault fault) says = says
   refused bytes (error.TooLarge passed) says =
       subst (λ (l : Limit). SaysFile form bytes (Err (error.TooLarge l))) (sym says.0) says.1
@@ -76,7 +77,8 @@ module _ {A : Type 0} (form : LineForm A) where
       refused bytes e (all_judged (λ text. SaysLines form text (Err e)) front bytes says all)
 
   -- the front of a larger file was read
-  pub cut_file : IsDecisive form → (front bytes : List ℕ) (things : List A) → SaysLines form (whole_lines front) (Ok things)
+  pub cut_file : IsDecisive form → (front bytes : List ℕ) (things : List A)
+      → SaysLines form (whole_lines front) (Ok things)
       → IsFrontOf (More front) bytes → SaysFile form bytes (Err (error.TooLarge limit.File))
   cut_file decisive front bytes things says cut =
       let judged = cut_judged (λ text. SaysLines form text (Ok things)) front bytes says cut in (

@@ -14,8 +14,8 @@ use world_io::{Front, World};
 
 /// Reads and judges a file of lines.
 ///
-/// Of a file that is larger than `MOST_FILE_BYTES` the lines that end within these bytes are judged: their first fault comes
-/// first, or that they say too many things, which passes the limit of events; otherwise the file is too large.
+/// Of a file that is larger than `MOST_FILE_BYTES` the lines that end within these bytes are judged: their first fault
+/// comes first, or that they say too many things, which passes the limit of events; otherwise the file is too large.
 pub(crate) fn read_lines_file<W: World, F: LineFile>(
     alloc: Global,
     world: &mut W,

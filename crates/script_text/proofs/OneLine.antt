@@ -356,4 +356,5 @@ one_event words a b x y =
 
 -- each line says one event or has a fault
 pub events_are_decisive : IsDecisive script_form
-events_are_decisive = record { thing_or_fault = no_fault_says_event; not_both = says_no_event_fault; one_thing = one_event }
+events_are_decisive =
+    record { thing_or_fault = no_fault_says_event; not_both = says_no_event_fault; one_thing = one_event }

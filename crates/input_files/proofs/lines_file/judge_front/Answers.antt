@@ -8,7 +8,8 @@ use Rattle.input_files.proofs.lines_file.judge_front.Goals as goal
 pub returns-in-All-clause-says : goal.returns-in-All-clause-says
 returns-in-All-clause-says g c = λ bytes is.
     whole_file g.F.LineFile.form c.in-All.bytes bytes c.judge_lines.result
-    (subst (λ (text : List ℕ). SaysLines g.F.LineFile.form text c.judge_lines.result) c.as_slice.ensures c.judge_lines.ensures.says)
+    (subst (λ (text : List ℕ). SaysLines g.F.LineFile.form text c.judge_lines.result)
+    c.as_slice.ensures c.judge_lines.ensures.says)
     (subst (λ (front : Front). IsFrontOf front bytes) c.in-All.is is)
 
 pub returns-in-Ok-clause-says : goal.returns-in-Ok-clause-says

@@ -11,7 +11,8 @@ use Rattle.plain_player.proofs.laws.a_text_is_one_schedule_or_has_a_fault.Goals 
 by_length : (text : List ℕ) (moves : List PlainMove) → HasTooMany text ↔ (MOST_EVENTS < count_of schedule_form moves)
     → HasTooMany text ↔ (MOST_EVENTS < length moves)
 by_length text moves by_count =
-    subst (λ (n : ℕ). HasTooMany text ↔ (MOST_EVENTS < n)) (count_is_length schedule_form (λ plain. refl) moves) by_count
+    subst (λ (n : ℕ). HasTooMany text ↔ (MOST_EVENTS < n))
+    (count_is_length schedule_form (λ plain. refl) moves) by_count
 
 pub returns-clause-either : goal.returns-clause-either
 returns-clause-either c = either schedule_form moves_are_decisive
