@@ -1,5 +1,5 @@
 -- What was written is read back: a text of the lines of events is their script.
-use Rattle.std.proofs.Common.{◌≡◌, ℕ, zero, suc, ◌+◌, ◌^◌, ◌<◌, arith, List, [], ◌∷◌, ◌++◌, length, refl, sym, ap, ◌∙◌, subst, Some, None, true, append_assoc}
+use Rattle.std.proofs.Common.{◌≡◌, ℕ, zero, suc, ◌^◌, ◌<◌, arith, List, [], ◌∷◌, ◌++◌, length, refl, sym, ap, ◌∙◌, subst, Some, None, true, append_assoc}
 use Rattle.std.specs.Prelude.{codes, decimal, map, nat_lt}
 use Rattle.std.proofs.lemmas.List.{append-nil}
 use Rattle.plain_text.specs.Grammar.{PlacesSay}

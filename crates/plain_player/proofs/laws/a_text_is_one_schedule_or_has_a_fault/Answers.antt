@@ -1,4 +1,4 @@
-use Rattle.std.proofs.Common.{◌≡◌, ◌<◌, ◌↔◌, ℕ, List, length, refl, subst}
+use Rattle.std.proofs.Common.{◌<◌, ◌↔◌, ℕ, List, length, refl, subst}
 use Rattle.plain_text.specs.declared.limit.TheConstants.{MOST_EVENTS}
 use Rattle.plain_text.specs.LineFiles.{count_of}
 use Rattle.plain_text.proofs.WholeFiles.{count_is_length, either, not_both, one_file, one_fault, too_many, too_many_before}
