@@ -1,4 +1,5 @@
 pub mod Fields
 pub mod Grammar
+pub mod LineFiles
 pub mod Lines
 pub mod Octets
