@@ -2,3 +2,4 @@ pub mod Fields
 pub mod Grammar
 pub mod Lines
 pub mod Octets
+pub mod Packets

@@ -1,4 +1,5 @@
 ghost use Rattle.std.specs.Prelude.{◌≡◌, ◌<◌, ◌≤◌, ℕ, All, List, [], IfOk, OnOk, OnErr, Err, true, false, drop, length};
+ghost use Rattle.plain_text.specs.Packets.{IsShort};
 ghost use Rattle.plain_text.specs.declared.limit.Limit.{Limit as LimitKind};
 ghost use Rattle.plain_text.specs.declared.packet.Packet as packet_of;
 ghost use Rattle.entry_order.specs.Log.{entries};
@@ -6,7 +7,6 @@ ghost use Rattle.plain_machine.specs.History.{log_of, sent_of, outputs, thread_a
 ghost use Rattle.recovery_world.specs.World.{Setting, World, opening};
 ghost use Rattle.recovery_world.specs.Files.{packets_of};
 ghost use Rattle.run_end.specs.Ending.{EndsIn};
-ghost use Rattle.system_parts.specs.Parts.{IsShort};
 ghost use Rattle.system_parts.specs.Standing.{StandsFor, StandsForSome};
 ghost use Rattle.system_parts.specs.Performing.{Appends, MovesOn, StopsAt, Releasing, packets_in};
 ghost use Rattle.recovery_core.specs.Systems.{HasReleased, SystemStands, SystemMoves, SystemStops, RepliesAny, FinishesAs};

@@ -2,6 +2,7 @@
 use Rattle.std.proofs.Common.{◌≡◌, ℕ, List, [], ◌∷◌, length, refl, sym, ap, ◌∙◌, subst, arith, Option, Some, None, zero, suc, inl, inr}
 use Rattle.std.specs.Prelude.{All, slice_get, take, drop}
 use Rattle.std.proofs.lemmas.List.Elements.{All-filter, All-take, All-drop, All-head, All-tail, All-cons}
+use Rattle.plain_text.specs.Packets.{IsShort}
 use Rattle.plain_text.specs.declared.packet.Packet.{Packet}
 use Rattle.plain_machine.specs.declared.emission.Emission.{Emission}
 use Rattle.plain_machine.specs.declared.local.Move.{Move}
@@ -17,7 +18,6 @@ use Rattle.recovery_world.specs.World.{Setting, Sent, World, inputs_fed}
 use Rattle.recovery_world.specs.Events.{IsAmong}
 use Rattle.recovery_world.specs.Files.{packets_of}
 use Rattle.recovery_laws.specs.Sound.{Sound}
-use Rattle.run_writes.specs.Run.{IsShort}
 
 -- an emission is that of a packet sent out
 sends_packet : {V : Type 0} (t taken : ℕ) (A : List (Step V)) (d : Effect V) (o : Emission) → act_of t A taken d ≡ Emitted o → (p : Packet) × (d ≡ Sends p) × (p ≡ o.packet)

@@ -4,6 +4,7 @@ use Rattle.std.specs.Prelude.{slice_get, slice_index, slice_index_or, is_some, I
 use Rattle.std.specs.Option.{option_map}
 use Rattle.std.proofs.lemmas.List.Elements.{All-filter, All-get_or}
 use Rattle.std.proofs.lemmas.Option.{slice_get-get_or}
+use Rattle.plain_text.specs.Packets.{IsShort}
 use Rattle.plain_text.specs.declared.limit.TheConstants.{MOST_CAPTURED, MOST_MOVES}
 use Rattle.plain_text.specs.declared.packet.Packet.{Packet}
 use Rattle.input_logger.specs.Inputs.{Fed, inputs_of, thread_of}
@@ -29,7 +30,6 @@ use Rattle.master_core.specs.Standing.{Stands}
 use Rattle.master_core.specs.Stepping.{plain_entry, emission_of_output}
 use Rattle.recovery_world.specs.Files.{answer_of}
 use Rattle.recovery_laws.proofs.LedMoves.{EntryFor, Made, made_step, move_entry}
-use Rattle.system_parts.specs.Parts.{IsShort}
 use Rattle.thread_steps.proofs.HandLemmas.{none_part}
 
 -- A thread has room for another move

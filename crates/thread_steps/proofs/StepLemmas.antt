@@ -4,6 +4,7 @@ use Rattle.std.specs.Prelude.{◌↔◌, slice_get, slice_index, is_some, IsTrue
 use Rattle.std.specs.Option.{unwrap_or, option_map}
 use Rattle.rand_pcg.specs.Lcg.{Lcg}
 use Rattle.random_words.specs.Words.{generator_after}
+use Rattle.plain_text.specs.Packets.{IsShort}
 use Rattle.plain_text.specs.declared.limit.Limit.{Limit}
 use Rattle.plain_text.specs.declared.limit.TheConstants.{MOST_MOVES}
 use Rattle.plain_text.specs.declared.packet.Packet.{Packet}
@@ -39,7 +40,7 @@ use Rattle.recovery_laws.proofs.LedMoves.{Made, made_move, made_step}
 use Rattle.event_replies.specs.declared.reply.Stop.{Stop}
 use Rattle.event_replies.specs.declared.reply.Stop.TheVariants as stop
 use Rattle.sent_frames.specs.Sending.{Sending, length_at, output_size}
-use Rattle.system_parts.specs.Parts.{Parts, IsShort}
+use Rattle.system_parts.specs.Parts.{Parts}
 use Rattle.system_parts.specs.Standing.{AreOutputs, HasSnapshots, HasGuide, NotesNames, StandsFor}
 use Rattle.thread_steps.specs.Following.{HasTurnBy}
 use Rattle.system_parts.proofs.LineLemmas.{holds_later_line}
