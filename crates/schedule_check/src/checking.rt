@@ -3,9 +3,9 @@ ghost use Rattle.input_logger.specs.Inputs.{inputs_of};
 ghost use Rattle.plain_machine.specs.History.{play as outcome_of};
 ghost use Rattle.schedule_check.specs.Checking.{IsChecked};
 
+use crate::first_unmatched;
 use box_program::Program;
 use input_logger::InputLog;
-use schedule_check::first_unmatched;
 use plain_machine::{PlayFault, Schedule};
 use plain_player::{PlayError, play};
 use plain_text::{NoMemory, Packet, Unit};
