@@ -19,7 +19,7 @@ use world_io::{BufferedSource, OpenFault, Source, World, WorldSource};
 const BUFFER: usize = 65_536;
 
 /// The packets of a capture, and what their fractions count.
-#[derive(Debug, Drop)]
+#[derive(Drop)]
 pub struct Capture {
     pub unit: Unit,
     pub packets: Packets,

@@ -12,7 +12,7 @@ use schedule_check::Refutation;
 use schedule_commands::ScheduleError;
 
 /// An input file that leaves its grammar: which, where and why.
-#[derive(Clone, Copy, Debug, PartialEq, Eq)]
+#[derive(Clone, Copy, PartialEq, Eq)]
 pub enum InputFault {
     BoxFile(LineFault),
     Capture(CaptureFault),
@@ -27,7 +27,7 @@ pub enum InputFault {
 }
 
 /// What a command came to.
-#[derive(Clone, Copy, Debug, PartialEq, Eq)]
+#[derive(Clone, Copy, PartialEq, Eq)]
 pub enum Status {
     Done,
     /// What `check` refutes: the first illegal move of the schedule, or where it is legal the first packet that was not sent out.
