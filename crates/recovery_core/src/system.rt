@@ -47,16 +47,12 @@ pub struct System<P: Program> {
 impl<P: Program> Model for System<P> {
     ghost use Rattle.std.specs.Prelude.{◌≡◌, false};
     ghost use Rattle.recovery_core.specs.Systems.{Systemed};
+    ghost use Rattle.recovery_core.specs.Views.{system_in};
     ghost use Rattle.system_parts.specs.Standing.{StandsForSome};
 
     ghost Value = { Systemed P P.Value };
 
-    ghost view = { λ y. record {
-      parts = y.core;
-      stopped = y.stopped;
-      handed = y.handed;
-      fresh = y.fresh;
-    } };
+    ghost view = { λ y. system_in y };
 
     ghost invariant = { λ y. y.stopped ≡ false → StandsForSome (P.meaning y.core.program) y.core };
 }
