@@ -14,7 +14,6 @@ use Rattle.system_parts.specs.Parts.{Parts}
 use Rattle.system_parts.specs.Standing.{StandsFor}
 use Rattle.single_events.specs.Single.{IsSingle}
 use Rattle.several_events.specs.Choosing.{Counted}
-use Rattle.thread_steps.proofs.HandLemmas.{draws_word}
 use Rattle.system_parts.proofs.ReadLemmas.{counts_stand}
 use Rattle.system_parts.proofs.EventChains.{threads_of_setting}
 use Rattle.master_core.specs.declared.parts.Counts.{Counts}
