@@ -10,8 +10,7 @@ use Rattle.plain_text.specs.declared.fault.LineCause.TheVariants.{MissingLine}
 use Rattle.plain_text.specs.declared.fault.LineFault.{LineFault}
 use Rattle.plain_text.specs.declared.limit.Limit.{Limit}
 use Rattle.plain_text.specs.declared.limit.Limit.TheVariants as limit
-use Rattle.plain_text.specs.declared.limit.TheConstants.{MOST_FILE_BYTES, MOST_EVENTS, MOST_CAPTURED}
-use Rattle.plain_text.specs.declared.packet.Packet.{Packet}
+use Rattle.plain_text.specs.declared.limit.TheConstants.{MOST_FILE_BYTES, MOST_EVENTS}
 use Rattle.pcapng_io.specs.declared.capture.AnyCaptured.TheVariants as captured
 use Rattle.pcapng_io.specs.declared.fault.AnyFault.{AnyFault}
 use Rattle.pcapng_io.specs.Captured.{SaysAny}
@@ -26,10 +25,6 @@ use Rattle.input_files.specs.declared.capture_file.Capture.{Capture}
 use Rattle.input_files.specs.declared.errors.InputError.{InputError}
 use Rattle.input_files.specs.declared.errors.InputError.TheVariants as error
 use Rattle.input_files.specs.Texts.{judged_text}
-
--- a packet that a record can have
-abbrev pub IsShort : Packet → Type 0
-IsShort p = length p.bytes ≤ MOST_CAPTURED
 
 -- the lines of a box file that are judged have no fault but that a line is missing
 abbrev pub MayGoOn : List ℕ → Type 0

@@ -3,3 +3,4 @@ pub mod Grammar
 pub mod LineFiles
 pub mod Lines
 pub mod Octets
+pub mod Packets

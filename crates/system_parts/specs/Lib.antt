@@ -1,3 +1,4 @@
 pub mod Parts
+pub mod Views
 pub mod SystemStanding
 pub mod Performing
