@@ -1,5 +1,6 @@
 -- What a seat that was blocked tells of its thread at the end of the round.
-use Rattle.std.proofs.Common.{◌≡◌, ℕ, suc, ◌+◌, ◌<◌, ◌≤◌, List, [], ◌∷◌, map, length, Option, Some, None, refl, sym, ap, ◌∙◌, subst, inl, inr, arith}
+use Rattle.std.proofs.Common.{◌≡◌, ℕ, suc, ◌+◌, ◌<◌, ◌≤◌, List, [], ◌∷◌, map, length, Option, Some, None}
+use Rattle.std.proofs.Common.{refl, sym, ap, ◌∙◌, subst, inl, inr, arith}
 use Rattle.std.specs.Prelude.{slice_index_or}
 use Rattle.plain_text.specs.declared.packet.Packet.{Packet}
 use Rattle.entry_order.specs.Log.{places}
@@ -26,25 +27,28 @@ use Rattle.round_events.specs.Waiting.{IsNotMade, IsHeldUp}
 use Rattle.round_events.specs.Blocked.{IsStuck, IsSeatAmong}
 
 -- a seat that a touch blocked
-pub blocked_stuck : {V : Type 0} (m : Meaning V) (guide : List Lane) (old new : Seated V) (u k : ℕ) (b : IsBlocked m guide old u k new)
-    → IsStuck m guide new (missed_at u k b.var b.found.places)
-blocked_stuck {V} m guide old new u k b = subst (λ (x : Seated V). IsStuck m guide x (missed_at u k b.var b.found.places)) (sym b.seat) (record {
-  read = b.read;
-  place = b.place;
-  readers = b.found.readers;
-  hand = b.hand;
-  next = b.next;
-  waits = b.waits;
-  missed = inl refl;
-})
+pub blocked_stuck : {V : Type 0} (m : Meaning V) (guide : List Lane) (old new : Seated V) (u k : ℕ)
+    (b : IsBlocked m guide old u k new) → IsStuck m guide new (missed_at u k b.var b.found.places)
+blocked_stuck {V} m guide old new u k b =
+    subst (λ (x : Seated V). IsStuck m guide x (missed_at u k b.var b.found.places)) (sym b.seat) (record {
+      read = b.read;
+      place = b.place;
+      readers = b.found.readers;
+      hand = b.hand;
+      next = b.next;
+      waits = b.waits;
+      missed = inl refl;
+    })
 
 map_length : {A B : Type 0} (f : A → B) (l : List A) → length (map f l) ≡ length l
 map_length f [] = refl
 map_length f (x ∷ xs) = ap suc (map_length f xs)
 
 -- the part of a seat's thread is among those of all
-part_at : {V : Type 0} (round : TableId) (from : ℕ) (seats : List (Seated V)) (x : Seated V) → AreSeats round from seats → IsSeatAmong x seats
-    → (i : ℕ) × (x.thread ≡ from + i) × (i < length seats) × ((d : ThreadPart) → slice_index_or (map seat_part seats) i d ≡ x.part)
+part_at : {V : Type 0} (round : TableId) (from : ℕ) (seats : List (Seated V)) (x : Seated V)
+    → AreSeats round from seats → IsSeatAmong x seats
+    → (i : ℕ) × (x.thread ≡ from + i) × (i < length seats)
+    × ((d : ThreadPart) → slice_index_or (map seat_part seats) i d ≡ x.part)
 part_at round from [] x are among = absurd among
 part_at {V} round from (y ∷ others) x are (inl same) =
     let first : y.thread ≡ from = are.0 in
@@ -56,9 +60,11 @@ part_at round from (y ∷ others) x are (inr there) =
     let low = k.2 in
     (suc k.0, omega (arith, e), omega (arith, low), k.3)
 
-found_by : {V : Type 0} (seats : List (Seated V)) (x : Seated V) (e : MissedEntry) → IsSeatAmong x seats → IsMissed e x.missing → FoundMissing seats e
+found_by : {V : Type 0} (seats : List (Seated V)) (x : Seated V) (e : MissedEntry)
+    → IsSeatAmong x seats → IsMissed e x.missing → FoundMissing seats e
 found_by [] x e among missed = absurd among
-found_by {V} (y ∷ others) x e (inl same) missed = inl (subst (λ (z : Seated V). IsMissed e z.missing) (sym same) missed)
+found_by {V} (y ∷ others) x e (inl same) missed =
+    inl (subst (λ (z : Seated V). IsMissed e z.missing) (sym same) missed)
 found_by (y ∷ others) x e (inr there) missed = inr (found_by others x e there missed)
 
 -- a packet in hand by its place
@@ -66,8 +72,10 @@ hand_there : (o : Option Hand) (place : Local) → local_in o ≡ Some place →
 hand_there None place is = absurd (cc)
 hand_there (Some h) place is = (h, refl, (let q : Some h.place ≡ Some place = is in cc))
 
-module _ {V : Type 0} (m : Meaning V) (fits : ℕ → V → Type 0) (guide : List Lane) (p q : Mastered V) (round : TableId) (seats : List (Seated V)) (inputs : ℕ → List Packet) (moves : List PlainMove) (past : List (Step V)) (x : Seated V) (e : MissedEntry)
-    (closed : IsClosed m fits guide p seats q) (are : AreSeats round 0 seats) (c : Closes m guide p seats q inputs moves past) (among : IsSeatAmong x seats) (stuck : IsStuck m guide x e) where
+module _ {V : Type 0} (m : Meaning V) (fits : ℕ → V → Type 0) (guide : List Lane) (p q : Mastered V) (round : TableId)
+    (seats : List (Seated V)) (inputs : ℕ → List Packet) (moves : List PlainMove) (past : List (Step V)) (x : Seated V)
+    (e : MissedEntry) (closed : IsClosed m fits guide p seats q) (are : AreSeats round 0 seats)
+    (c : Closes m guide p seats q inputs moves past) (among : IsSeatAmong x seats) (stuck : IsStuck m guide x e) where
   abbrev steps : List (Step V)
   steps = after c.weaves.order past
 
@@ -80,18 +88,22 @@ module _ {V : Type 0} (m : Meaning V) (fits : ℕ → V → Type 0) (guide : Lis
       let is = k.1 in
       let low = k.2 in
       let all : length (map seat_part seats) ≡ length seats = map_length seat_part seats in
-      let of : length (map seat_part seats) ≡ length p.threads = ap (λ (l : List ThreadPart). length l) (sym closed.threads) ∙ c.weaves.stands.threads_are in
+      let parts : length (map seat_part seats) ≡ length q.threads =
+      ap (λ (l : List ThreadPart). length l) (sym closed.threads) in
+      let of : length (map seat_part seats) ≡ length p.threads = parts ∙ c.weaves.stands.threads_are in
       omega (arith, is, low, all, of)
 
-  thread : IsThread (after c.weaves.order past) x.thread x.part
+  thread : IsThread steps x.thread x.part
   thread =
       let k = part_at round 0 seats x are among in
       let is = k.1 in
       let same : k.0 ≡ x.thread = omega (arith, is) in
-      subst (λ (z : ThreadPart). IsThread (after c.weaves.order past) x.thread z) (ap (λ (l : List ThreadPart). slice_index_or l x.thread x.part) closed.threads ∙ (ap (λ (i : ℕ). slice_index_or (map seat_part seats) i x.part) (sym same) ∙ k.3 x.part))
-      (c.weaves.stands.thread x.thread x.part below)
+      let part : slice_index_or q.threads x.thread x.part ≡ x.part =
+      ap (λ (l : List ThreadPart). slice_index_or l x.thread x.part) closed.threads
+      ∙ (ap (λ (i : ℕ). slice_index_or (map seat_part seats) i x.part) (sym same) ∙ k.3 x.part) in
+      subst (λ (z : ThreadPart). IsThread steps x.thread z) part (c.weaves.stands.thread x.thread x.part below)
 
-  touched : e.places ≤ places e.var (log_of (after c.weaves.order past))
+  touched : e.places ≤ places e.var (log_of steps)
   touched =
       let k = closed.touched e (fresh_var m) found in
       let v = c.weaves.stands.var e.var (fresh_var m) (subst (λ (n : ℕ). e.var < n) closed.fit.count k.0) in
@@ -102,7 +114,7 @@ module _ {V : Type 0} (m : Meaning V) (fits : ℕ → V → Type 0) (guide : Lis
 
   pub held_up : IsHeldUp m guide (after c.weaves.order past) x.thread e.thread e.number
   held_up =
-      let h = hand_there (thread_after (after c.weaves.order past) x.thread).hand stuck.place (sym thread.hand ∙ stuck.hand) in record {
+      let h = hand_there (thread_after steps x.thread).hand stuck.place (sym thread.hand ∙ stuck.hand) in record {
         var = e.var;
         read = stuck.read;
         found = e.places;
@@ -110,6 +122,8 @@ module _ {V : Type 0} (m : Meaning V) (fits : ℕ → V → Type 0) (guide : Lis
         hand = h.0;
         hand_is = h.1;
         next = ap m.next h.2 ∙ stuck.next;
-        waits = subst (λ (n : ℕ). WaitsFor guide x.thread (n + 1) e.var stuck.read e.places stuck.readers e.thread e.number) thread.logged stuck.waits;
+        waits = subst
+            (λ (n : ℕ). WaitsFor guide x.thread (n + 1) e.var stuck.read e.places stuck.readers e.thread e.number)
+            thread.logged stuck.waits;
         touched = touched;
       }

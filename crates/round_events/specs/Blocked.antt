@@ -17,8 +17,8 @@ use Rattle.var_locks.specs.TouchedParts.{wanted_move, missed_at, IsBlocked}
 use Rattle.var_locks.specs.Closing.{AreSeats, Closes, IsClosed, receipts_of}
 use Rattle.round_events.specs.Waiting.{IsNotMade, IsHeldUp}
 
--- The seat's thread wants to touch the entry's variable, or to read it. As the seat found it, the guide said to wait for the entry,
--- which it found missing.
+-- The seat's thread wants to touch the entry's variable, or to read it. As the seat found it, the guide said to wait
+-- for the entry, which it found missing.
 pub record IsStuck {V : Type 0} (m : Meaning V) (guide : List Lane) (x : Seated V) (e : MissedEntry) : Type 0 where
   pub read : Bool
   pub place : Local
@@ -34,8 +34,8 @@ IsSeatAmong x (y ∷ others) = (y ≡ x) ⊎ IsSeatAmong x others
 
 -- A seat that a touch blocked is stuck.
 abbrev pub BlockedAreStuck : Type 0 → Type 0
-BlockedAreStuck X = (m : Meaning X) (guide : List Lane) (old new : Seated X) (u k : ℕ) (b : IsBlocked m guide old u k new)
-    → IsStuck m guide new (missed_at u k b.var b.found.places)
+BlockedAreStuck X = (m : Meaning X) (guide : List Lane) (old new : Seated X) (u k : ℕ)
+    (b : IsBlocked m guide old u k new) → IsStuck m guide new (missed_at u k b.var b.found.places)
 
 -- It is so still when it has ended the round.
 abbrev pub StuckEnd : Type 0 → Type 0
@@ -44,8 +44,8 @@ StuckEnd X = (m : Meaning X) (guide : List Lane) (x : Seated X) (e : MissedEntry
 
 -- In a closed round the thread of a stuck seat is held up in the end, and the entry was not made.
 abbrev pub StuckAreHeldUp : {V : Type 0} → Meaning V → (ℕ → V → Type 0) → Type 0
-StuckAreHeldUp {V} m fits = (guide : List Lane) (p q : Mastered V) (round : TableId)
-    (seats : List (Seated V)) (inputs : ℕ → List Packet) (moves : List PlainMove) (past : List (Step V)) (x : Seated V) (e : MissedEntry)
+StuckAreHeldUp {V} m fits = (guide : List Lane) (p q : Mastered V) (round : TableId) (seats : List (Seated V))
+    (inputs : ℕ → List Packet) (moves : List PlainMove) (past : List (Step V)) (x : Seated V) (e : MissedEntry)
     → IsClosed m fits guide p seats q → AreSeats round 0 seats → (c : Closes m guide p seats q inputs moves past)
     → IsSeatAmong x seats → IsStuck m guide x e
     → (x.thread < length p.threads) × IsNotMade guide past (receipts_of m past seats) e.thread e.number

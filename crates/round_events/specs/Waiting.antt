@@ -1,4 +1,4 @@
--- A thread that the guide lets wait for an entry which no thread of a round made: it waits still in the world after the round.
+-- A thread that the guide lets wait for an entry which no thread of a round made waits still after the round.
 use Rattle.std.specs.Prelude.{◌≡◌, ℕ, ◌+◌, ◌<◌, ◌≤◌, Bool, true, List, [], Option, Some}
 use Rattle.entry_order.specs.declared.what.What.{What}
 use Rattle.entry_order.specs.Log.{entries, places}
@@ -26,8 +26,8 @@ IsNotMade guide past rs u k =
     (what : What) (stamp : ℕ → ℕ) → Follows guide u k what
     → IsKnown past rs (record { thread = u; number = k; what = what }) stamp → ⊥
 
--- After this history thread t wants to touch a variable, or to read it. Where it found it, which was no later, the guide said to
--- wait for entry (u, k).
+-- After this history thread t wants to touch a variable, or to read it. As it found it, now or earlier, the guide said
+-- to wait for entry (u, k).
 pub record IsHeldUp {V : Type 0} (m : Meaning V) (guide : List Lane) (steps : List (Step V)) (t u k : ℕ) : Type 0 where
   pub var : ℕ
   pub read : Bool
@@ -43,10 +43,10 @@ pub record IsHeldUp {V : Type 0} (m : Meaning V) (guide : List Lane) (steps : Li
 abbrev pub StepWaits : {V : Type 0} → Setting V → World V → ℕ → Option ℕ → Type 0
 StepWaits s w t given = (a : ℕ) × (b : ℕ) × On s w (event.Step t given) (outcome.Waits a b) [] w
 
--- After linked receipts that keep to what is followed, a thread that was held up waits still, if the entry was not made.
+-- After linked receipts that keep to what is followed, a thread that was held up waits still if the entry was not made.
 abbrev pub MissedStillWait : Type 0 → Type 0
-MissedStillWait X = (s : Setting X) (w : World X) (guide : List Lane) (rs : Receipts X) (order : List (Receipt X)) (t u k : ℕ)
-    (given : Option ℕ) → s.threads ≤ 16 → Sound s w → Guides w.followed (log_of w.past) guide
+MissedStillWait X = (s : Setting X) (w : World X) (guide : List Lane) (rs : Receipts X) (order : List (Receipt X))
+    (t u k : ℕ) (given : Option ℕ) → s.threads ≤ 16 → Sound s w → Guides w.followed (log_of w.past) guide
     → IsLinked s.meaning (inputs_fed s w.fed) s.threads w.past rs → IsOrder rs order → AllKeep guide order
     → t < s.threads → w.up ≡ true → IsNotMade guide w.past rs u k → IsHeldUp s.meaning guide (after order w.past) t u k
     → StepWaits s (world_after w order) t given

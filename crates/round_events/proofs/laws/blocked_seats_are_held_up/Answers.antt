@@ -6,7 +6,15 @@ returns g c =
     let m = g.P.Program.meaning c.args.program.now in
     let fits = g.P.Program.fits c.args.program.now in record {
       blocked = λ m guide old new u k b. blocked_stuck m guide old new u k b;
-      ended = λ m guide x e stuck. record { read = stuck.read; place = stuck.place; readers = stuck.readers; hand = stuck.hand; next = stuck.next; waits = stuck.waits; missed = stuck.missed };
+      ended = λ m guide x e stuck. record {
+        read = stuck.read;
+        place = stuck.place;
+        readers = stuck.readers;
+        hand = stuck.hand;
+        next = stuck.next;
+        waits = stuck.waits;
+        missed = stuck.missed;
+      };
       closed = λ guide p q round seats inputs moves past x e closed are c among stuck. (
         below m fits guide p q round seats inputs moves past x e closed are c among stuck,
         not_made m fits guide p q round seats inputs moves past x e closed are c among stuck,
