@@ -66,27 +66,33 @@ FoundMissing [] e = ⊥
 FoundMissing (x ∷ others) e = IsMissed e x.missing ⊎ FoundMissing others e
 
 -- The receipts weave into a legal continuation, for which the master stands.
-pub record Weaves {V : Type 0} (m : Meaning V) (inputs : ℕ → List Packet) (threads : ℕ) (moves : List PlainMove) (past : List (Step V)) (rs : Receipts V) (q : Mastered V) : Type 0 where
+pub record Weaves {V : Type 0} (m : Meaning V) (inputs : ℕ → List Packet) (threads : ℕ) (moves : List PlainMove)
+    (past : List (Step V)) (rs : Receipts V) (q : Mastered V) : Type 0 where
   pub linked : IsLinked m inputs threads past rs
   pub order : List (Receipt V)
   pub woven : IsWoven rs order
   pub goes_on : GoesOn m inputs threads moves past order
   pub stands : Stands m threads (after order past) q
 
--- Of each legal list of moves that the opening master p stands for, with inputs that have the packets that were passed: what the
--- seats did weaves into a continuation of it for which q stands; and no entry that a seat found missing is in either.
-pub record Closes {V : Type 0} (m : Meaning V) (guide : List Lane) (p : Mastered V) (seats : List (Seated V)) (q : Mastered V) (inputs : ℕ → List Packet) (moves : List PlainMove) (past : List (Step V)) : Type 0 where
+-- Of each legal list of moves that the opening master p stands for, with inputs that have the packets that were passed:
+-- what the seats did weaves into a continuation of it for which q stands; and no entry that a seat found missing is in
+-- either.
+pub record Closes {V : Type 0} (m : Meaning V) (guide : List Lane) (p : Mastered V) (seats : List (Seated V))
+    (q : Mastered V) (inputs : ℕ → List Packet) (moves : List PlainMove) (past : List (Step V)) : Type 0 where
   pub weaves : Weaves m inputs (length p.threads) moves past (receipts_of m past seats) q
   pub missing : (e : MissedEntry) (what : What) (stamp : ℕ → ℕ) → FoundMissing seats e
       → Follows guide e.thread e.number what
       → IsKnown past (receipts_of m past seats) (record { thread = e.thread; number = e.number; what = what }) stamp → ⊥
 
--- However the threads ran. Where an entry was found missing, its variable was touched no less often in the end than then.
-pub record IsClosed {V : Type 0} (m : Meaning V) (fits : ℕ → V → Type 0) (guide : List Lane) (p : Mastered V) (seats : List (Seated V)) (q : Mastered V) : Type 0 where
+-- However the threads ran. Where an entry was found missing, its variable was touched no less often in the end than
+-- then.
+pub record IsClosed {V : Type 0} (m : Meaning V) (fits : ℕ → V → Type 0) (guide : List Lane) (p : Mastered V)
+    (seats : List (Seated V)) (q : Mastered V) : Type 0 where
   pub bounded : IsBounded q.vars q.threads
   pub fit : FitsProgram m fits value_of q.vars
   pub threads : q.threads ≡ map seat_part seats
   pub touched : (e : MissedEntry) (d : VarPart V) → FoundMissing seats e
       → (e.var < length q.vars) × (e.places ≤ (slice_index_or q.vars e.var d).places)
-  pub closes : (inputs : ℕ → List Packet) (moves : List PlainMove) (past : List (Step V)) → play m inputs (length p.threads) moves ≡ Ok past → Stands m (length p.threads) past p → AreAllFed inputs seats
+  pub closes : (inputs : ℕ → List Packet) (moves : List PlainMove) (past : List (Step V))
+      → play m inputs (length p.threads) moves ≡ Ok past → Stands m (length p.threads) past p → AreAllFed inputs seats
       → Closes m guide p seats q inputs moves past

@@ -18,10 +18,22 @@ load-requires g c =
     let slots : ℕ = c.args.shared.now.table_id.slots in (
       search rules,
       search rules,
-      subst (λ (i : ℕ). Allows (Rattle.var_locks.specs.Told.IsToldOf g.P.Program.meaning g.P.Program.fits g.row.P.coded g.row.P-Value.coded g.J.Round.program g.J.Round.opening g.J.Round.guide) slots c.args.token.now.id c.args.token.now.me i (λ z. z) (Misses g.N.Named.entry (step slots i 0 0 none) c.args.token.now.me)) (sym c.requires.word_is)
-          (allows_of g.P.Program.meaning g.P.Program.fits g.row.P.coded g.row.P-Value.coded g.J.Round.program g.J.Round.opening g.J.Round.guide q of.master of.is of.opens slots c.args.token.now.id c.args.token.now.me ((g.P.Program.meaning q).vars + c.args.missed.thread)
-          (λ z. z) (Misses g.N.Named.entry (step slots ((g.P.Program.meaning q).vars + c.args.missed.thread) 0 0 none) c.args.token.now.me)
-          (subst (λ (f : MissedEntry). Allows (IsTold (g.P.Program.meaning q) (g.P.Program.fits q) g.J.Round.guide of.master) slots c.args.token.now.id c.args.token.now.me ((g.P.Program.meaning q).vars + c.args.missed.thread) (λ z. z) (Misses f (step slots ((g.P.Program.meaning q).vars + c.args.missed.thread) 0 0 none) c.args.token.now.me)) c.requires.named
-          (miss_allows (g.P.Program.meaning q) (g.P.Program.fits q) g.J.Round.guide of.master c.args.token.now.id c.args.token.now.me.0 c.args.missed h.0 h.4 may.hand may.places_are h.1 h.2 h.3
-          (subst (λ (l : List ThreadPart). c.args.missed.thread < length l) (sym of.threads) c.requires.thread_in) may.waits c.args.token.now.me.1 slots))),
+      subst (λ (i : ℕ). Allows (Rattle.var_locks.specs.Told.IsToldOf g.P.Program.meaning g.P.Program.fits g.row.P.coded
+          g.row.P-Value.coded g.J.Round.program g.J.Round.opening g.J.Round.guide) slots c.args.token.now.id
+          c.args.token.now.me i (λ z. z) (Misses g.N.Named.entry (step slots i 0 0 none) c.args.token.now.me))
+          (sym c.requires.word_is)
+          (allows_of g.P.Program.meaning g.P.Program.fits g.row.P.coded g.row.P-Value.coded g.J.Round.program
+          g.J.Round.opening g.J.Round.guide q of.master of.is of.opens slots c.args.token.now.id c.args.token.now.me
+          ((g.P.Program.meaning q).vars + c.args.missed.thread) (λ z. z)
+          (Misses g.N.Named.entry (step slots ((g.P.Program.meaning q).vars + c.args.missed.thread) 0 0 none)
+          c.args.token.now.me)
+          (subst (λ (f : MissedEntry).
+          Allows (IsTold (g.P.Program.meaning q) (g.P.Program.fits q) g.J.Round.guide of.master) slots
+          c.args.token.now.id c.args.token.now.me ((g.P.Program.meaning q).vars + c.args.missed.thread) (λ z. z)
+          (Misses f (step slots ((g.P.Program.meaning q).vars + c.args.missed.thread) 0 0 none) c.args.token.now.me))
+          c.requires.named
+          (miss_allows (g.P.Program.meaning q) (g.P.Program.fits q) g.J.Round.guide of.master c.args.token.now.id
+          c.args.token.now.me.0 c.args.missed h.0 h.4 may.hand may.places_are h.1 h.2 h.3
+          (subst (λ (l : List ThreadPart). c.args.missed.thread < length l) (sym of.threads) c.requires.thread_in)
+          may.waits c.args.token.now.me.1 slots))),
     )
