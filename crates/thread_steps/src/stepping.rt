@@ -112,8 +112,8 @@ fn recorded_or(guide: &Guide, thread: u32, number: u64, given: Option<u64>) -> O
     }
 }
 
-/// What the thread's next move is told, if it asks: what is recorded, else the given answer, else the time or the next word of the
-/// generator.
+/// What the thread's next move is told, if it asks: what is recorded, else the given answer, else the time or the next
+/// word of the generator.
 fn told<P: Program>(
     program: &P,
     master: &Master<P>,
