@@ -1,5 +1,8 @@
+ghost use Rattle.std.specs.Prelude.{◌≡◌, IfOk};
+
 use entry_order::What;
-use plain_text::{Packet, Sequence};
+use plain_text::{Bytes, HEADER_ROOM, NoMemory, Packet, Sequence};
+use std::alloc::Global;
 use thread_clock::Stamp;
 
 /// One log entry: the `number`-th logged move of `thread`, counted from 1, what it did, and its stamp.
@@ -32,6 +35,25 @@ pub struct Output {
 
 /// Outputs, in the order in which they were made or released.
 pub type Outputs = Sequence<Output>;
+
+/// A copy of one output, with the bytes of its packet. There is room in front of them for the header of its frame.
+pub fn copy_output(alloc: Global, output: &Output) -> Result<Output, NoMemory>
+    ensures { IfOk result (λ copy. copy ≡ output.now) }
+{
+    let packet = &output.packet;
+    Ok(Output {
+        thread: output.thread,
+        number: output.number,
+        input: output.input,
+        stamp: output.stamp,
+        packet: Packet {
+            seconds: packet.seconds,
+            fraction: packet.fraction,
+            original: packet.original,
+            bytes: Bytes::with_room(alloc, HEADER_ROOM, packet.bytes.as_slice())?,
+        },
+    })
+}
 
 /// Whether a thread may make the touch that it wants.
 #[derive(Clone, Copy, Debug, PartialEq, Eq)]

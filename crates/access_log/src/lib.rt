@@ -7,7 +7,7 @@ mod lane;
 mod laws;
 mod slots;
 
-pub use entry::{Added, Output, Outputs, StampedEntry, Turn};
+pub use entry::{Added, Output, Outputs, StampedEntry, Turn, copy_output};
 pub use entry_order::What;
 pub use held::{Held, Kept};
 pub use laws::held_sets_are_counted;

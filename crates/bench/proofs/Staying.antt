@@ -1,6 +1,6 @@
 -- A move leaves a seat in its round, as that of its thread.
 use Rattle.std.proofs.Common.{◌≡◌, ℕ, zero, suc, ◌+◌, ◌<◌, false, true, List, [], ◌∷◌, length, refl, sym, subst, ◌∙◌, Option, arith}
-use Rattle.std.specs.Prelude.{slice_index_or, All, map}
+use Rattle.std.specs.Prelude.{slice_index_or, All}
 use Rattle.plain_text.specs.declared.packet.Packet.{Packet}
 use Rattle.access_log.specs.Held.{Lane}
 use Rattle.plain_machine.specs.Program.{Meaning}
@@ -68,7 +68,3 @@ ended_are round places t (part ∷ parts) [] count each = absurd (omega (arith, 
 ended_are round places t (part ∷ parts) (x ∷ others) count each =
     let first = each 0 x (omega arith) in
     (first.thread, first.round_is, first.ended_is, ended_are round places (t + 1) parts others (omega (arith, count)) (λ i d low. each (suc i) d (omega (arith, low))))
-
-pub mapped : {X Y : Type 0} (f : X → Y) (xs : List X) → length (map f xs) ≡ length xs
-mapped f [] = refl
-mapped f (x ∷ xs) = let others = mapped f xs in omega (arith, others)

@@ -1,6 +1,6 @@
+ghost use Rattle.plain_text.specs.Packets.{IsShort};
 ghost use Rattle.plain_text.specs.declared.limit.TheConstants.{MOST_PACKETS};
 ghost use Rattle.std.specs.Prelude.{◌≤◌, All, IfOk, length};
-ghost use Rattle.recovery_core.specs.Parts.{IsShort};
 
 use anyhow::ensure;
 use plain_text::{MOST_PACKETS, Packets};

@@ -3,7 +3,7 @@
 //! `settle` is one event. `single` feeds one packet after another, and lets each entry and each output arrive as soon as it is made:
 //! an event for each.
 ghost use Rattle.std.specs.Prelude.{◌≡◌, All, IfOk, false};
-ghost use Rattle.recovery_core.specs.Parts.{IsShort};
+ghost use Rattle.plain_text.specs.Packets.{IsShort};
 
 use crate::one_packet::MOST_MOVES_OF_ONE;
 use crate::packets::make_packets;

@@ -4,7 +4,7 @@ ghost use Rattle.command_line.specs.Request.{request_of};
 use plain_text::Text;
 
 /// What the words of the command line ask for.
-#[derive(Clone, Copy, Debug, PartialEq, Eq)]
+#[derive(Clone, Copy, PartialEq, Eq)]
 pub enum Request {
     Help,
     Version,

@@ -15,6 +15,7 @@ use Rattle.master_core.specs.declared.parts.Counts.{Counts}
 use Rattle.master_core.specs.declared.parts.ThreadPart.{ThreadPart}
 use Rattle.master_core.specs.Mastered.{Mastered}
 use Rattle.output_logger.specs.Logger.{IsAmong}
+use Rattle.output_logger.proofs.OutputLists.{among_left, among_last, among_either}
 use Rattle.sent_frames.specs.Sending.{Sending, lengths_of, output_address, HasOutputFrame, SendsAgain, BeginsEpoch, TurnsBack}
 use Rattle.crash_recovery.specs.Recovering.{TurnsLinks, SendsRest}
 use Rattle.system_parts.proofs.SentLemmas.{output_frame_stays}
@@ -82,25 +83,6 @@ turned_more {V} master t counts old mid new is h b = record {
     one_outputs u (inr apart) low = λ d. ap (λ (l : List (List ℕ)). lengths_of l u) b.outputs ∙ (turned_other mid.outputs t u counts.outputs apart ∙ h.outputs u (omega (arith, low, apart)) d)
 
 -- Outputs that are sent again
-
-among_left : (x : Output) (xs ys : List Output) → IsAmong x xs → IsAmong x (xs ++ ys)
-among_left x [] ys i = absurd i
-among_left x (y ∷ xs) ys (inl is) = inl is
-among_left x (y ∷ xs) ys (inr i) = inr (among_left x xs ys i)
-
-among_last : (x : Output) (xs : List Output) → IsAmong x (xs ++ x ∷ [])
-among_last x [] = inl refl
-among_last x (y ∷ xs) = inr (among_last x xs)
-
-among_either : (x z : Output) (xs : List Output) → IsAmong x (xs ++ z ∷ []) → IsAmong x xs ⊎ (z ≡ x)
-among_either x z [] (inl is) = inr is
-among_either x z [] (inr i) = absurd i
-among_either x z (y ∷ xs) (inl is) = inl (inl is)
-among_either x z (y ∷ xs) (inr i) = go (among_either x z xs i)
-  where
-    go : IsAmong x xs ⊎ (z ≡ x) → IsAmong x (y ∷ xs) ⊎ (z ≡ x)
-    go (inl k) = inl (inr k)
-    go (inr k) = inr k
 
 pub rest_none : (released : List Numbers) (sent : Sending) → SendsRest released [] sent sent
 rest_none released sent = record { there = λ x i. absurd i; others = λ a. inl refl; entries = refl; outputs = refl; epoch = refl; threads = refl }

@@ -24,7 +24,7 @@ use Rattle.plain_machine.specs.Agree.{IsEarlier, SendsAfter}
 use Rattle.plain_machine.proofs.Histories.{history_log, earlier_history, earlier_log, earlier_outputs}
 use Rattle.plain_machine.proofs.LoggedEffects.{entry_thread}
 use Rattle.master_core.specs.declared.parts.ThreadPart.{ThreadPart}
-use Rattle.master_core.proofs.Moments.{moment_closed}
+use Rattle.master_core.proofs.Moments.{moment_closed, none_past_threads}
 use Rattle.output_logger.specs.Logger.{IsAmong}
 use Rattle.snapshot_store.specs.Stored.{Snapshot}
 use Rattle.recovery_world.specs.World.{Setting, Sent, World, inputs_fed}
@@ -50,18 +50,7 @@ length_cut : (old new : List (List ℕ)) (t n k size : ℕ) → lengths_of new t
 length_cut old new t zero k size cut low is = absurd (cc)
 length_cut old new t (suc n) k size cut low is = subst (λ (l : List ℕ). slice_get l n ≡ Some size) (sym cut) (get_taken (lengths_of old t) k n size (omega (arith, low)) is)
 
--- A thread that there is none of logs and sends nothing.
-no_entries : {V : Type 0} (m : Meaning V) (inputs : ℕ → List Packet) (threads : ℕ) (steps : List (Step V)) (t : ℕ) → IsHistory m inputs threads steps → threads ≤ t → entries t (log_of steps) ≡ 0
-no_entries m inputs threads steps t h high = go (cases_lt 0 (entries t (log_of steps)))
-  where
-    go : (0 < entries t (log_of steps)) ⊎ (entries t (log_of steps) ≤ 0) → entries t (log_of steps) ≡ 0
-    go (inr none) = omega (arith, none)
-    go (inl some) =
-        let g = entry_there (log_of steps) t 1 (history_log m inputs threads steps h) (omega arith) (omega (arith, some)) in
-        let low = entry_thread m inputs threads steps g.0 h g.1 in
-        let own : g.0.thread ≡ t = g.2 in
-        absurd (omega (arith, low, own, high))
-
+-- A thread that there is none of sends nothing.
 no_outputs : {V : Type 0} (m : Meaning V) (inputs : ℕ → List Packet) (threads : ℕ) (steps : List (Step V)) (t : ℕ) → IsHistory m inputs threads steps → threads ≤ t → outputs t (sent_of steps) ≡ 0
 no_outputs m inputs threads steps t h high = go (cases_lt 0 (outputs t (sent_of steps)))
   where
@@ -225,7 +214,7 @@ module _ {V : Type 0} (s : Setting V) (w : World V) (sound : Sound s w) (held no
       counted_entries t (inr high) =
           ap (λ (l : List (List ℕ)). length (lengths_of l t)) rest.entries
           ∙ (ap (λ (l : List ℕ). length l) (turns.others t high).0
-          ∙ (h.entry_counts t ∙ (no_entries s.meaning (inputs_fed s w.fed) s.threads w.past t legal high ∙ sym (no_entries s.meaning (inputs_fed s w.fed) s.threads w.stored t first_legal high))))
+          ∙ (h.entry_counts t ∙ (none_past_threads s.meaning (inputs_fed s w.fed) s.threads w.past t legal high ∙ sym (none_past_threads s.meaning (inputs_fed s w.fed) s.threads w.stored t first_legal high))))
 
       counted_outputs : (t : ℕ) → (t < s.threads) ⊎ (s.threads ≤ t) → length (lengths_of new.outputs t) ≡ outputs t (sent_of w.stored)
       counted_outputs t (inl low) =

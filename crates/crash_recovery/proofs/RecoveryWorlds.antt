@@ -30,6 +30,7 @@ use Rattle.recovery_world.specs.Files.{moves_made}
 use Rattle.recovery_laws.specs.Sound.{Sound}
 use Rattle.recovery_laws.proofs.KeptWorlds.{recovers_sound}
 use Rattle.recovery_laws.proofs.Finishes.{recovers_there}
+use Rattle.recovery_laws.proofs.AcceptedRuns.{made_length}
 use Rattle.sent_frames.specs.Sending.{Sending}
 use Rattle.system_parts.specs.Parts.{Parts}
 use Rattle.system_parts.specs.SystemStanding.{AreCounts, AreOutputs, HasEnded, HasLogger, StandsFor, StandsForSome}
@@ -37,32 +38,21 @@ use Rattle.recovery_world.specs.declared.event.Event.TheVariants as event
 use Rattle.recovery_world.specs.declared.event.Outcome.TheVariants as outcome
 use Rattle.system_parts.specs.Performing.{MovesOn, ComesTo}
 use Rattle.system_parts.proofs.EventChains.{moves_as}
+use Rattle.line_order.proofs.OneLine.{earlier_length}
 use Rattle.crash_recovery.specs.Recovering.{RecoversTo, TurnsLinks, SendsRest, WakesUp}
 use Rattle.crash_recovery.proofs.RecoverySent.{sent_again, snapshot_again, can_again}
 use Rattle.crash_recovery.proofs.RecoveryHeld.{can_follow, part_held, followed_holds, guide_begins, keeps, drops}
 
 -- The moves of an earlier moment
 
-long_moves : {V : Type 0} (steps : List (Step V)) → length (moves_made steps) ≡ length steps
-long_moves [] = refl
-long_moves (x ∷ steps) =
-    let rest = long_moves steps in
-    let both = length-append (moves_made steps) ((record { thread = x.thread; answer = _ }) ∷ []) in
-    both ∙ (ap (λ (n : ℕ). n + 1) rest ∙ omega arith)
-
-earlier_long : {V : Type 0} (xs ys : List (Step V)) → IsEarlier xs ys → length xs ≤ length ys
-earlier_long xs [] h = let k : length xs ≡ 0 = ap (λ l. length l) h in omega (arith, k)
-earlier_long xs (y ∷ ys) (inl h) = let k : length xs ≡ length (y ∷ ys) = ap (λ l. length l) h in omega (arith, k)
-earlier_long xs (y ∷ ys) (inr h) = let k = earlier_long xs ys h in omega (arith, k)
-
 earlier_moves : {V : Type 0} (xs ys : List (Step V)) → IsEarlier xs ys → take (length xs) (moves_made ys) ≡ moves_made xs
 earlier_moves {V} xs [] h = subst (λ (l : List (Step V)). take (length l) (moves_made {V = V} []) ≡ moves_made l) (sym h) refl
 earlier_moves {V} xs (y ∷ ys) (inl h) =
     subst (λ (l : List (Step V)). take (length l) (moves_made (y ∷ ys)) ≡ moves_made l) (sym h)
-    (take_all (length (y ∷ ys)) (moves_made (y ∷ ys)) (let k = long_moves (y ∷ ys) in omega (arith, k)))
+    (take_all (length (y ∷ ys)) (moves_made (y ∷ ys)) (let k = made_length (y ∷ ys) in omega (arith, k)))
 earlier_moves xs (y ∷ ys) (inr h) =
-    let low = earlier_long xs ys h in
-    let all = long_moves ys in
+    let low = earlier_length xs ys h in
+    let all = made_length ys in
     take-append-le (length xs) (moves_made ys) _ (omega (arith, low, all)) ∙ earlier_moves xs ys h
 
 -- The counts of the epoch that ends
@@ -223,7 +213,7 @@ module _ {P V : Type 0} (m : Meaning V) (s : Setting V) (w : World V) (y : Parts
         schedule =
             ap (λ (n : ℕ). take n y.schedule) st.snapshots.first.moves_are
             ∙ (ap (λ (l : List PlainMove). take (length w.stored) l) st.master.schedule ∙ earlier_moves w.stored w.past st.sound.firm.stored);
-        past = let a = earlier_long w.stored w.past st.sound.firm.stored in let b = st.master.past in omega (arith, a, b);
+        past = let a = earlier_length w.stored w.past st.sound.firm.stored in let b = st.master.past in omega (arith, a, b);
         moves = st.master.moves;
         bytes = st.master.bytes;
       };

@@ -5,6 +5,9 @@ use Rattle.plain_text.specs.declared.fault.LineCause.{LineCause}
 use Rattle.plain_text.specs.declared.fault.LineFault.{LineFault}
 use Rattle.plain_text.specs.declared.limit.Limit.{Limit}
 use Rattle.plain_text.specs.declared.limit.Limit.TheVariants as limit
+use Rattle.plain_text.specs.declared.limit.TheConstants.{MOST_EVENTS}
+use Rattle.plain_text.specs.LineFiles.{LineForm, IsDecisive, IsFile, HasTooMany, count_of}
+use Rattle.plain_text.proofs.WholeFiles as files
 use Rattle.pcapng_io.specs.declared.capture.AnyCaptured.{AnyCaptured}
 use Rattle.pcapng_io.specs.declared.capture.AnyCaptured.TheVariants as captured
 use Rattle.pcapng_io.specs.declared.fault.AnyFault.{AnyFault}
@@ -14,13 +17,16 @@ use Rattle.box_conf.specs.declared.kind.BoxConf.{BoxConf}
 use Rattle.box_conf.specs.BoxFile as box
 use Rattle.box_conf.proofs.OneFile as box_file
 use Rattle.recovery_world.specs.declared.event.Event.{Event}
-use Rattle.script_text.specs.Scripts.{IsScript, HasTooMany, count_of}
-use Rattle.script_text.proofs.WholeText as script_file
+use Rattle.script_text.specs.Scripts.{script_form}
+use Rattle.script_text.proofs.OneLine.{events_are_decisive}
+use Rattle.plain_machine.specs.declared.plain_move.PlainMove.{PlainMove}
+use Rattle.plain_player.specs.Schedules.{schedule_form}
+use Rattle.plain_player.proofs.OneMove.{moves_are_decisive}
 use Rattle.world_io.specs.World.{Shown}
 use Rattle.input_files.specs.declared.capture_file.Capture.{Capture}
 use Rattle.input_files.specs.declared.errors.InputError.{InputError}
 use Rattle.input_files.specs.declared.errors.InputError.TheVariants as error
-use Rattle.input_files.specs.Answers.{SaysBox, SaysScript, SaysCapture, BoxPasses, ScriptPasses, MayGoOn, SaysNoFault}
+use Rattle.input_files.specs.Answers.{SaysBox, SaysFile, SaysScript, SaysSchedule, SaysCapture, BoxPasses, LinesPass, MayGoOn, SaysNoFault}
 use Rattle.input_files.specs.Files.{IsMissing}
 use Rattle.input_files.specs.Judging.{Judges, IsDecided}
 use Rattle.input_files.specs.Texts.{judged_text}
@@ -72,14 +78,14 @@ module _ {A F : Type 0} (says : List ℕ → Result A (InputError F) → Type 0)
   pub one_answer : (r q : Result A (InputError F)) → IsDecided healthy r → IsDecided healthy q → Judges says healthy name r shown → Judges says healthy name q shown → r ≡ q
   one_answer r q dr dq hr hq = one_read r q (reads r dr hr) (reads q dq hq)
 
-pub same_fault : (f g : LineFault) → (f.line ≡ g.line) × (f.cause ≡ g.cause) → f ≡ g
+same_fault : (f g : LineFault) → (f.line ≡ g.line) × (f.cause ≡ g.cause) → f ≡ g
 same_fault f g same =
     let line : f.line ≡ g.line = same.0 in
     let cause : f.cause ≡ g.cause = same.1 in
     let first : f ≡ record { line = g.line; cause = f.cause } = ap (λ (n : ℕ). record f { line = n }) line in
     first ∙ ap (λ (c : LineCause). record g { cause = c }) cause
 
-pub no_room : {P : Type 0} (n : ℕ) → n ≤ 67108864 → 67108864 < n → P
+no_room : {P : Type 0} (n : ℕ) → n ≤ 67108864 → 67108864 < n → P
 no_room n low high = absurd (omega arith)
 
 -- Box files
@@ -119,70 +125,90 @@ one_box bytes (Err (error.TooLarge l)) (Err error.NoMemory) d e x y = absurd e
 one_box bytes (Err error.ReadFault) b d e x y = absurd d
 one_box bytes (Err error.NoMemory) b d e x y = absurd d
 
--- Scripts
+-- Files of lines
 
-script_limit : (bytes : List ℕ) (passed : Limit) → ScriptPasses bytes passed
-    → ((passed ≡ limit.Events) × HasTooMany (judged_text bytes)) ⊎ ((passed ≡ limit.File) × (67108864 < length bytes) × SaysNoFault (judged_text bytes))
-script_limit bytes limit.File h = inr (refl, h.0, h.1)
-script_limit bytes limit.Packets h = absurd h
-script_limit bytes limit.Events h = inl (refl, h)
-script_limit bytes limit.Moves h = absurd h
-script_limit bytes limit.OutputBytes h = absurd h
+module _ {A : Type 0} (form : LineForm A) (decisive : IsDecisive form) where
+  -- the two ways to pass a limit
+  abbrev Passes : List ℕ → Limit → Type 0
+  Passes bytes passed =
+      ((passed ≡ limit.Events) × HasTooMany form MOST_EVENTS (judged_text bytes))
+      ⊎ ((passed ≡ limit.File) × (67108864 < length bytes) × SaysNoFault form (judged_text bytes))
 
-script_both : (bytes : List ℕ) (events : List Event) (fault : LineFault) → SaysScript bytes (Ok events) → SaysScript bytes (Err (error.Fault fault)) → ⊥
-script_both bytes events fault a b =
-    let Is : List ℕ → Type 0 = λ text. IsScript text events in
-    script_file.not_both (judged_text bytes) events fault.line fault.cause (subst Is (sym (within bytes a.0)) a.1) b.0
+  file_limit : (bytes : List ℕ) (passed : Limit) → LinesPass form bytes passed → Passes bytes passed
+  file_limit bytes limit.File h = inr (refl, h.0, h.1)
+  file_limit bytes limit.Packets h = absurd h
+  file_limit bytes limit.Events h = inl (refl, h)
+  file_limit bytes limit.Moves h = absurd h
+  file_limit bytes limit.OutputBytes h = absurd h
 
-script_fits : (bytes : List ℕ) (events : List Event) (passed : Limit) → SaysScript bytes (Ok events) → ScriptPasses bytes passed → ⊥
-script_fits bytes events passed a b = by_limit (script_limit bytes passed b)
-  where
-    few : HasTooMany bytes → ⊥
-    few many = over (script_file.too_many bytes events a.1).0 many a.2
-      where
-        over : (HasTooMany bytes → 4000000 < count_of events) → HasTooMany bytes → count_of events ≤ 4000000 → ⊥
-        over f h low = let high = f h in omega arith
+  file_both : (bytes : List ℕ) (things : List A) (fault : LineFault) → SaysFile form bytes (Ok things)
+      → SaysFile form bytes (Err (error.Fault fault)) → ⊥
+  file_both bytes things fault a b =
+      let Is : List ℕ → Type 0 = λ text. IsFile form text things in
+      files.not_both form decisive (judged_text bytes) things fault.line fault.cause
+      (subst Is (sym (within bytes a.0)) a.1) b.0
 
-    by_limit : ((passed ≡ limit.Events) × HasTooMany (judged_text bytes)) ⊎ ((passed ≡ limit.File) × (67108864 < length bytes) × SaysNoFault (judged_text bytes)) → ⊥
-    by_limit (inl h) = few (subst HasTooMany (within bytes a.0) h.1)
-    by_limit (inr h) = no_room (length bytes) a.0 h.1
+  file_fits : (bytes : List ℕ) (things : List A) (passed : Limit) → SaysFile form bytes (Ok things)
+      → LinesPass form bytes passed → ⊥
+  file_fits bytes things passed a b = by_limit (file_limit bytes passed b)
+    where
+      few : HasTooMany form MOST_EVENTS bytes → ⊥
+      few many = over ((files.too_many form decisive MOST_EVENTS bytes things a.1).0 many) a.2
+        where
+          over : 4000000 < count_of form things → count_of form things ≤ 4000000 → ⊥
+          over high low = omega arith
 
-script_faulty : (bytes : List ℕ) (fault : LineFault) (passed : Limit) → SaysScript bytes (Err (error.Fault fault)) → ScriptPasses bytes passed → ⊥
-script_faulty bytes fault passed a b = by_limit (script_limit bytes passed b)
-  where
-    by_limit : ((passed ≡ limit.Events) × HasTooMany (judged_text bytes)) ⊎ ((passed ≡ limit.File) × (67108864 < length bytes) × SaysNoFault (judged_text bytes)) → ⊥
-    by_limit (inl h) = a.1 h.1
-    by_limit (inr h) = h.2.0 fault.line fault.cause a.0
+      by_limit : Passes bytes passed → ⊥
+      by_limit (inl h) = few (subst (HasTooMany form MOST_EVENTS) (within bytes a.0) h.1)
+      by_limit (inr h) = no_room (length bytes) a.0 h.1
 
-one_limit : (bytes : List ℕ) (l m : Limit) → ScriptPasses bytes l → ScriptPasses bytes m → l ≡ m
-one_limit bytes l m x y = by_limits (script_limit bytes l x) (script_limit bytes m y)
-  where
-    by_limits : ((l ≡ limit.Events) × HasTooMany (judged_text bytes)) ⊎ ((l ≡ limit.File) × (67108864 < length bytes) × SaysNoFault (judged_text bytes))
-        → ((m ≡ limit.Events) × HasTooMany (judged_text bytes)) ⊎ ((m ≡ limit.File) × (67108864 < length bytes) × SaysNoFault (judged_text bytes)) → l ≡ m
-    by_limits (inl a) (inl b) = a.0 ∙ sym b.0
-    by_limits (inl a) (inr b) = absurd (b.2.1 a.1)
-    by_limits (inr a) (inl b) = absurd (a.2.1 b.1)
-    by_limits (inr a) (inr b) = a.0 ∙ sym b.0
+  file_faulty : (bytes : List ℕ) (fault : LineFault) (passed : Limit) → SaysFile form bytes (Err (error.Fault fault))
+      → LinesPass form bytes passed → ⊥
+  file_faulty bytes fault passed a b = by_limit (file_limit bytes passed b)
+    where
+      by_limit : Passes bytes passed → ⊥
+      by_limit (inl h) = a.1 h.1
+      by_limit (inr h) = h.2.0 fault.line fault.cause a.0
 
-pub one_script : (bytes : List ℕ) (a b : Result (List Event) (InputError LineFault)) → OfBytes a → OfBytes b → SaysScript bytes a → SaysScript bytes b → a ≡ b
-one_script bytes (Ok a) (Ok b) d e x y = ap (λ (c : List Event). Ok c) (script_file.one_script bytes a b x.1 y.1)
-one_script bytes (Ok a) (Err (error.Fault f)) d e x y = absurd (script_both bytes a f x y)
-one_script bytes (Ok a) (Err (error.TooLarge l)) d e x y = absurd (script_fits bytes a l x y)
-one_script bytes (Ok a) (Err error.ReadFault) d e x y = absurd e
-one_script bytes (Ok a) (Err error.NoMemory) d e x y = absurd e
-one_script bytes (Err (error.Fault f)) (Ok b) d e x y = absurd (script_both bytes b f y x)
-one_script bytes (Err (error.Fault f)) (Err (error.Fault g)) d e x y =
-    ap (λ (h : LineFault). Err (error.Fault h)) (same_fault f g (script_file.one_fault (judged_text bytes) f.line g.line f.cause g.cause x.0 y.0))
-one_script bytes (Err (error.Fault f)) (Err (error.TooLarge l)) d e x y = absurd (script_faulty bytes f l x y)
-one_script bytes (Err (error.Fault f)) (Err error.ReadFault) d e x y = absurd e
-one_script bytes (Err (error.Fault f)) (Err error.NoMemory) d e x y = absurd e
-one_script bytes (Err (error.TooLarge l)) (Ok b) d e x y = absurd (script_fits bytes b l y x)
-one_script bytes (Err (error.TooLarge l)) (Err (error.Fault f)) d e x y = absurd (script_faulty bytes f l y x)
-one_script bytes (Err (error.TooLarge l)) (Err (error.TooLarge m)) d e x y = ap (λ (n : Limit). Err (error.TooLarge n)) (one_limit bytes l m x y)
-one_script bytes (Err (error.TooLarge l)) (Err error.ReadFault) d e x y = absurd e
-one_script bytes (Err (error.TooLarge l)) (Err error.NoMemory) d e x y = absurd e
-one_script bytes (Err error.ReadFault) b d e x y = absurd d
-one_script bytes (Err error.NoMemory) b d e x y = absurd d
+  one_limit : (bytes : List ℕ) (l m : Limit) → LinesPass form bytes l → LinesPass form bytes m → l ≡ m
+  one_limit bytes l m x y = by_limits (file_limit bytes l x) (file_limit bytes m y)
+    where
+      by_limits : Passes bytes l → Passes bytes m → l ≡ m
+      by_limits (inl a) (inl b) = a.0 ∙ sym b.0
+      by_limits (inl a) (inr b) = absurd (b.2.1 a.1)
+      by_limits (inr a) (inl b) = absurd (a.2.1 b.1)
+      by_limits (inr a) (inr b) = a.0 ∙ sym b.0
+
+  pub one_file : (bytes : List ℕ) (a b : Result (List A) (InputError LineFault)) → OfBytes a → OfBytes b
+      → SaysFile form bytes a → SaysFile form bytes b → a ≡ b
+  one_file bytes (Ok a) (Ok b) d e x y = ap (λ (c : List A). Ok c) (files.one_file form decisive bytes a b x.1 y.1)
+  one_file bytes (Ok a) (Err (error.Fault f)) d e x y = absurd (file_both bytes a f x y)
+  one_file bytes (Ok a) (Err (error.TooLarge l)) d e x y = absurd (file_fits bytes a l x y)
+  one_file bytes (Ok a) (Err error.ReadFault) d e x y = absurd e
+  one_file bytes (Ok a) (Err error.NoMemory) d e x y = absurd e
+  one_file bytes (Err (error.Fault f)) (Ok b) d e x y = absurd (file_both bytes b f y x)
+  one_file bytes (Err (error.Fault f)) (Err (error.Fault g)) d e x y =
+      ap (λ (h : LineFault). Err (error.Fault h))
+      (same_fault f g (files.one_fault form decisive (judged_text bytes) f.line g.line f.cause g.cause x.0 y.0))
+  one_file bytes (Err (error.Fault f)) (Err (error.TooLarge l)) d e x y = absurd (file_faulty bytes f l x y)
+  one_file bytes (Err (error.Fault f)) (Err error.ReadFault) d e x y = absurd e
+  one_file bytes (Err (error.Fault f)) (Err error.NoMemory) d e x y = absurd e
+  one_file bytes (Err (error.TooLarge l)) (Ok b) d e x y = absurd (file_fits bytes b l y x)
+  one_file bytes (Err (error.TooLarge l)) (Err (error.Fault f)) d e x y = absurd (file_faulty bytes f l y x)
+  one_file bytes (Err (error.TooLarge l)) (Err (error.TooLarge m)) d e x y =
+      ap (λ (n : Limit). Err (error.TooLarge n)) (one_limit bytes l m x y)
+  one_file bytes (Err (error.TooLarge l)) (Err error.ReadFault) d e x y = absurd e
+  one_file bytes (Err (error.TooLarge l)) (Err error.NoMemory) d e x y = absurd e
+  one_file bytes (Err error.ReadFault) b d e x y = absurd d
+  one_file bytes (Err error.NoMemory) b d e x y = absurd d
+
+pub one_script : (bytes : List ℕ) (a b : Result (List Event) (InputError LineFault)) → OfBytes a → OfBytes b
+    → SaysScript bytes a → SaysScript bytes b → a ≡ b
+one_script = one_file script_form events_are_decisive
+
+pub one_schedule : (bytes : List ℕ) (a b : Result (List PlainMove) (InputError LineFault)) → OfBytes a → OfBytes b
+    → SaysSchedule bytes a → SaysSchedule bytes b → a ≡ b
+one_schedule = one_file schedule_form moves_are_decisive
 
 -- Captures
 

@@ -1,6 +1,7 @@
 -- What was read of a capture: its packets are ones that records can have, and what is said of its bytes is said of its file.
 use Rattle.std.proofs.Common.{◌≡◌, ℕ, zero, suc, List, [], ◌∷◌, refl, arith, Result, Ok, Err}
 use Rattle.std.specs.Prelude.{All}
+use Rattle.plain_text.specs.Packets.{IsShort}
 use Rattle.plain_text.specs.declared.limit.Limit.{Limit}
 use Rattle.plain_text.specs.declared.packet.Packet.{Packet}
 use Rattle.pcap_io.specs.Capture.{AreRecorded}
@@ -9,7 +10,7 @@ use Rattle.world_io.specs.World.{Shown}
 use Rattle.input_files.specs.declared.capture_file.Capture.{Capture}
 use Rattle.input_files.specs.declared.errors.InputError.{InputError}
 use Rattle.input_files.specs.declared.errors.InputError.TheVariants as error
-use Rattle.input_files.specs.Answers.{IsShort, SaysCapture}
+use Rattle.input_files.specs.Answers.{SaysCapture}
 use Rattle.input_files.specs.Judging.{IsToldOf, JudgesCapture}
 
 pub are_short : (packets : List Packet) → AreRecorded packets → All IsShort packets

@@ -4,19 +4,19 @@ use Rattle.plain_text.specs.declared.fault.LineCause.TheVariants.{MissingLine}
 use Rattle.plain_text.specs.declared.fault.LineFault.{LineFault}
 use Rattle.plain_text.specs.declared.limit.Limit.{Limit}
 use Rattle.plain_text.specs.declared.limit.Limit.TheVariants as limit
+use Rattle.plain_text.specs.declared.limit.TheConstants.{MOST_EVENTS}
+use Rattle.plain_text.specs.LineFiles.{LineForm, IsDecisive, IsFile, count_of}
+use Rattle.plain_text.proofs.WholeFiles as files
 use Rattle.world_io.specs.declared.beginning.Front.TheVariants.{All, More}
 use Rattle.world_io.specs.World.{Shown}
 use Rattle.box_conf.specs.declared.kind.BoxConf.{BoxConf}
 use Rattle.box_conf.specs.BoxFile.{IsBoxFile}
 use Rattle.box_conf.specs.BoxFile as box
 use Rattle.box_conf.proofs.OneFile.{box_or_fault, one_fault}
-use Rattle.recovery_world.specs.declared.event.Event.{Event}
-use Rattle.script_text.specs.Scripts.{IsScript, HasTooMany, count_of}
-use Rattle.script_text.proofs.WholeText.{not_both, too_many}
 use Rattle.input_files.specs.declared.errors.InputError.{InputError}
 use Rattle.input_files.specs.declared.errors.InputError.TheVariants as error
-use Rattle.input_files.specs.Answers.{SaysBox, SaysScript, SaysLines}
-use Rattle.input_files.specs.Judging.{IsToldOf, JudgesScript}
+use Rattle.input_files.specs.Answers.{SaysBox, SaysFile, SaysLines}
+use Rattle.input_files.specs.Judging.{IsToldOf, Judges}
 use Rattle.input_files.specs.Texts.{IsFrontOf, judged_text, whole_lines}
 use Rattle.input_files.proofs.JudgedTexts.{within, beyond}
 
@@ -56,47 +56,53 @@ cut_box_missing front bytes line is cut =
     let judged = cut_judged (λ text. box.FirstFault text line MissingLine) front bytes is cut in
     (cut.1, λ number cause first. (one_fault (judged_text bytes) number line cause MissingLine first judged).1)
 
--- Scripts
+-- Files of lines
 
-script_many : (bytes : List ℕ) (passed : Limit) → passed ≡ limit.Events → HasTooMany (judged_text bytes) → SaysScript bytes (Err (error.TooLarge passed))
-script_many bytes passed is many = subst (λ (l : Limit). SaysScript bytes (Err (error.TooLarge l))) (sym is) many
+module _ {A : Type 0} (form : LineForm A) where
+  refused : (bytes : List ℕ) (e : InputError LineFault) → SaysLines form (judged_text bytes) (Err e)
+      → SaysFile form bytes (Err e)
+  refused bytes (error.Fault fault) says = says
+  refused bytes (error.TooLarge passed) says =
+      subst (λ (l : Limit). SaysFile form bytes (Err (error.TooLarge l))) (sym says.0) says.1
+  refused bytes error.ReadFault says = absurd says
+  refused bytes error.NoMemory says = tt
 
-script_refused : (bytes : List ℕ) (e : InputError LineFault) → SaysLines (judged_text bytes) (Err e) → SaysScript bytes (Err e)
-script_refused bytes (error.Fault fault) says = says
-script_refused bytes (error.TooLarge passed) says = script_many bytes passed says.0 says.1
-script_refused bytes error.ReadFault says = absurd says
-script_refused bytes error.NoMemory says = tt
+  -- all of the file was read
+  pub whole_file : (front bytes : List ℕ) (r : Result (List A) (InputError LineFault)) → SaysLines form front r
+      → IsFrontOf (All front) bytes → SaysFile form bytes r
+  whole_file front bytes (Ok things) says all =
+      let Is : List ℕ → Type 0 = λ text. IsFile form text things in
+      (all.1, subst Is (sym all.0) says.0, says.1)
+  whole_file front bytes (Err e) says all =
+      refused bytes e (all_judged (λ text. SaysLines form text (Err e)) front bytes says all)
 
--- all of a script was read
-pub whole_script : (front : List ℕ) (bytes : List ℕ) (r : Result (List Event) (InputError LineFault)) → SaysLines front r → IsFrontOf (All front) bytes → SaysScript bytes r
-whole_script front bytes (Ok events) says all =
-    let Is : List ℕ → Type 0 = λ text. IsScript text events in
-    (all.1, subst Is (sym all.0) says.0, says.1)
-whole_script front bytes (Err e) says all = script_refused bytes e (all_judged (λ text. SaysLines text (Err e)) front bytes says all)
+  -- the front of a larger file was read
+  pub cut_file : IsDecisive form → (front bytes : List ℕ) (things : List A)
+      → SaysLines form (whole_lines front) (Ok things)
+      → IsFrontOf (More front) bytes → SaysFile form bytes (Err (error.TooLarge limit.File))
+  cut_file decisive front bytes things says cut =
+      let judged = cut_judged (λ text. SaysLines form text (Ok things)) front bytes says cut in (
+        cut.1,
+        (
+          (λ number cause first. files.not_both form decisive (judged_text bytes) things number cause judged.0 first),
+          λ many. passes (count_of form things) judged.1
+              ((files.too_many form decisive MOST_EVENTS (judged_text bytes) things judged.0).0 many),
+        ),
+      )
+    where
+      passes : (n : ℕ) → n ≤ 4000000 → 4000000 < n → ⊥
+      passes n low high = omega arith
 
--- the front of a larger script was read
-pub cut_script : (front bytes : List ℕ) (events : List Event) → SaysLines (whole_lines front) (Ok events) → IsFrontOf (More front) bytes
-    → SaysScript bytes (Err (error.TooLarge limit.File))
-cut_script front bytes events says cut =
-    let judged = cut_judged (λ text. SaysLines text (Ok events)) front bytes says cut in (
-      cut.1,
-      (
-        (λ number cause first. not_both (judged_text bytes) events number cause judged.0 first),
-        λ many. passes (count_of events) judged.1 ((too_many (judged_text bytes) events judged.0).0 many),
-      ),
-    )
-  where
-    passes : (n : ℕ) → n ≤ 4000000 → 4000000 < n → ⊥
-    passes n low high = omega arith
+  pub cut_file_refused : (front bytes : List ℕ) (e : InputError LineFault) → SaysLines form (whole_lines front) (Err e)
+      → IsFrontOf (More front) bytes → SaysFile form bytes (Err e)
+  cut_file_refused front bytes e says cut =
+      refused bytes e (cut_judged (λ text. SaysLines form text (Err e)) front bytes says cut)
 
-pub cut_script_refused : (front bytes : List ℕ) (e : InputError LineFault) → SaysLines (whole_lines front) (Err e) → IsFrontOf (More front) bytes → SaysScript bytes (Err e)
-cut_script_refused front bytes e says cut = script_refused bytes e (cut_judged (λ text. SaysLines text (Err e)) front bytes says cut)
-
--- what is said of the bytes of a script is said of the file of its name
-pub script_judged : (healthy : Type 0) (name : List ℕ) (shown : Shown) (r : Result (List Event) (InputError LineFault))
-    → IsToldOf name (λ bytes. SaysScript bytes r) shown → JudgesScript healthy name r shown
-script_judged healthy name shown (Ok events) told = told
-script_judged healthy name shown (Err (error.Fault fault)) told = told
-script_judged healthy name shown (Err (error.TooLarge passed)) told = told
-script_judged healthy name shown (Err error.ReadFault) told = absurd told.2
-script_judged healthy name shown (Err error.NoMemory) told = tt
+  -- what is said of the bytes of a file is said of the file of its name
+  pub file_judged : (healthy : Type 0) (name : List ℕ) (shown : Shown) (r : Result (List A) (InputError LineFault))
+      → IsToldOf name (λ bytes. SaysFile form bytes r) shown → Judges (SaysFile form) healthy name r shown
+  file_judged healthy name shown (Ok things) told = told
+  file_judged healthy name shown (Err (error.Fault fault)) told = told
+  file_judged healthy name shown (Err (error.TooLarge passed)) told = told
+  file_judged healthy name shown (Err error.ReadFault) told = absurd told.2
+  file_judged healthy name shown (Err error.NoMemory) told = tt

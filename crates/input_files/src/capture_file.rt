@@ -1,10 +1,11 @@
 ghost use Rattle.std.specs.Prelude.{◌≡◌, ◌<◌, ◌≤◌, ◌-◌, ◌^◌, All, length, vec_len, IsTrue, IfOk, IsErrOf, List, ℕ};
 ghost use Rattle.plain_text.specs.declared.limit.TheConstants.{MOST_PACKETS};
 ghost use Rattle.plain_text.specs.Octets.{IsOfBytes};
+ghost use Rattle.plain_text.specs.Packets.{IsShort};
 ghost use Rattle.pcapng_io.specs.Captured.{SaysAny, CapturesPackets};
 ghost use Rattle.world_io.specs.Stream.{Rose, GoesOn, HasFailed};
 ghost use Rattle.world_io.specs.Taking.{TakesSome};
-ghost use Rattle.input_files.specs.Answers.{IsShort, SaysCapture};
+ghost use Rattle.input_files.specs.Answers.{SaysCapture};
 ghost use Rattle.input_files.specs.Files.{OnlyReads};
 ghost use Rattle.input_files.specs.Judging.{JudgesCapture};
 
@@ -18,7 +19,7 @@ use world_io::{BufferedSource, OpenFault, Source, World, WorldSource};
 const BUFFER: usize = 65_536;
 
 /// The packets of a capture, and what their fractions count.
-#[derive(Debug, Drop)]
+#[derive(Drop)]
 pub struct Capture {
     /// What the fractions of the packets count: nanoseconds where the file is a pcapng capture.
     pub unit: Unit,

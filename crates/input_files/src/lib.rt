@@ -5,6 +5,7 @@ mod box_file;
 mod capture_file;
 mod errors;
 mod laws;
+mod lines_file;
 mod schedule_file;
 mod script_file;
 mod texts;

@@ -1,8 +1,9 @@
 -- Lists of places, as packets are fed.
 use Rattle.std.proofs.Common.{◌≡◌, ◌≢◌, ◌⊎◌, ℕ, zero, suc, ◌-◌, ◌<◌, ◌≤◌, ◌==◌, Bool, true, false, cond, List, [], ◌∷◌, ◌++◌, map, filter, length, get_or, set, slice_get, option_map, Option, Some, None, Result, Ok, Err, ◌∙◌, sym, ap, inl, inr, subst, arith, refl}
+use Rattle.std.specs.Prelude.{All}
 use Rattle.std.proofs.lemmas.List.{length-map, length-set, map-append, append-nil}
-use Rattle.std.proofs.lemmas.List.Elements.{filter-append}
-use Rattle.std.proofs.lemmas.Option.{slice_get-map, slice_get-get_or}
+use Rattle.std.proofs.lemmas.List.Elements.{filter-append, All-filter}
+use Rattle.std.proofs.lemmas.Option.{slice_get-map, slice_get-get_or, slice_get_within, get_or_from_slice_get}
 use Rattle.std.proofs.lemmas.Bool.{cases_eq}
 use Rattle.std.proofs.lemmas.Bool.Decides.{nat_tests}
 use Rattle.std.proofs.lemmas.Nat.{mod_below}
@@ -125,7 +126,7 @@ none_from_map None same = refl
 none_from_map (Some x) same = cc
 
 -- a thread that there is not has no inputs
-thread_of_view-lt : (seen : Result Flow NotFlow) (threads : ℕ) → 1 ≤ threads → thread_of_view seen threads < threads
+pub thread_of_view-lt : (seen : Result Flow NotFlow) (threads : ℕ) → 1 ≤ threads → thread_of_view seen threads < threads
 thread_of_view-lt (Ok flow) threads some = mod_below (steering_sum flow) threads some
 thread_of_view-lt (Err answer) threads some = some
 
@@ -193,3 +194,13 @@ new_is_indexed threads lists some few one_each empty = record {
   one_each = one_each;
   places = λ thread list found. ap (λ (l : List ℕ). map (slice_get []) l) (empty thread list found);
 }
+
+-- what is true of each item of a list is true of one that is found in it
+pub found_has : {X : Type 0} (P : X → Type 0) (xs : List X) (k : ℕ) (x : X) → All P xs → slice_get xs k ≡ Some x → P x
+found_has P xs k x all at = subst P (get_or_from_slice_get xs k x x at) (all k x (slice_get_within xs k x at))
+
+-- what is true of each packet that was fed is true of each input
+pub input_has : (P : Packet → Type 0) (fed : Fed) (t k : ℕ) (p : Packet) → All P fed.packets
+    → slice_get (inputs_of fed t) k ≡ Some p → P p
+input_has P fed t k p all =
+    found_has P (inputs_of fed t) k p (All-filter (λ packet. thread_of packet fed.threads == t) P fed.packets all)

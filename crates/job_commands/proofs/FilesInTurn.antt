@@ -9,8 +9,7 @@ use Rattle.input_files.specs.declared.capture_file.Capture.{Capture}
 use Rattle.input_files.specs.declared.errors.InputError.{InputError}
 use Rattle.input_files.specs.Answers.{SaysBox, SaysCapture, SaysSchedule}
 use Rattle.input_files.specs.Judging.{JudgesBox, JudgesCapture, JudgesSchedule}
-use Rattle.input_files.proofs.OneAnswer.{one_answer, one_box, one_capture}
-use Rattle.input_files.proofs.ScheduleVerdicts.{one_schedule}
+use Rattle.input_files.proofs.OneAnswer.{one_answer, one_box, one_capture, one_schedule}
 use Rattle.job_commands.specs.declared.schedule_inputs.ScheduleInputs.{ScheduleInputs}
 use Rattle.job_commands.specs.declared.schedule_inputs.CheckInputs.{CheckInputs}
 use Rattle.job_commands.specs.declared.status.Status.{Status}

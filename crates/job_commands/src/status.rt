@@ -12,7 +12,7 @@ use schedule_check::Refutation;
 use schedule_commands::ScheduleError;
 
 /// An input file that leaves its grammar: which, where and why.
-#[derive(Clone, Copy, Debug, PartialEq, Eq)]
+#[derive(Clone, Copy, PartialEq, Eq)]
 pub enum InputFault {
     /// The text that chooses the box.
     BoxFile(LineFault),
@@ -33,7 +33,7 @@ pub enum InputFault {
 }
 
 /// What a command came to.
-#[derive(Clone, Copy, Debug, PartialEq, Eq)]
+#[derive(Clone, Copy, PartialEq, Eq)]
 pub enum Status {
     /// All was done.
     Done,

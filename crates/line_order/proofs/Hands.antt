@@ -8,7 +8,7 @@ use Rattle.plain_machine.specs.declared.local.Local.{Local}
 use Rattle.plain_machine.specs.declared.local.Move.{Move}
 use Rattle.plain_machine.specs.declared.local.Move.TheVariants.{Access, Read, Clock, Draw, Emit, End}
 use Rattle.plain_machine.specs.Program.{Meaning}
-use Rattle.plain_machine.specs.Machine.{Hand, Thread, Effect, Moves, holding, take_move, hand_move, held_move}
+use Rattle.plain_machine.specs.Machine.{Hand, Thread, Effect, Sends, Moves, holding, sent_packet, take_move, hand_move, held_move}
 use Rattle.plain_machine.specs.History.{Step, thread_after, value_after, IsHistory}
 use Rattle.plain_machine.proofs.Histories.{is_eq, not_eq}
 use Rattle.line_order.specs.Line.{LastTaken}
@@ -104,3 +104,29 @@ pub all_taken : (xs : List Packet) (k : ℕ) → slice_get xs k ≡ None → len
 all_taken [] k e = omega arith
 all_taken (x ∷ xs) zero e = absurd (cc)
 all_taken (x ∷ xs) (suc k) e = let r = all_taken xs k e in omega (arith, r)
+
+-- a move that sends out is that of a packet in hand
+hand_sends : {V : Type 0} (m : Meaning V) (value : ℕ → V) (taken : ℕ) (h : Hand) (a : Option ℕ) (w : Move) (after : Thread) (p : Packet) → hand_move m value taken h a w ≡ Moves after (Sends p)
+    → (w ≡ Emit) × (p ≡ sent_packet m h)
+hand_sends m value taken h None (Access v) after p e = absurd (cc)
+hand_sends m value taken h None (Read v) after p e = absurd (cc)
+hand_sends m value taken h (Some a) Clock after p e = absurd (cc)
+hand_sends m value taken h (Some a) Draw after p e = absurd (cc)
+hand_sends m value taken h None Emit after p e = let r : sent_packet m h ≡ p = cc in (refl, sym r)
+hand_sends m value taken h None End after p e = absurd (cc)
+hand_sends m value taken h (Some a) (Access v) after p e = absurd (cc)
+hand_sends m value taken h (Some a) (Read v) after p e = absurd (cc)
+hand_sends m value taken h (Some a) Emit after p e = absurd (cc)
+hand_sends m value taken h (Some a) End after p e = absurd (cc)
+hand_sends m value taken h None Clock after p e = absurd (cc)
+hand_sends m value taken h None Draw after p e = absurd (cc)
+
+pub held_sends : {V : Type 0} (m : Meaning V) (packets : List Packet) (value : ℕ → V) (taken : ℕ) (a : Option ℕ) (hand : Option Hand) (after : Thread) (p : Packet) → held_move m packets value taken a hand ≡ Moves after (Sends p)
+    → (h : Hand) × (hand ≡ Some h) × (m.next h.place ≡ Emit) × (p ≡ sent_packet m h)
+held_sends m packets value taken a (Some h) after p e = let r = hand_sends m value taken h a (m.next h.place) after p e in (h, refl, r.0, r.1)
+held_sends {V} m packets value taken a None after p e = absurd (none a (slice_get packets taken) e)
+  where
+    none : (a : Option ℕ) (i : Option Packet) → take_move m taken a i ≡ Moves after (Sends p) → ⊥
+    none (Some a) i e = cc
+    none None None e = cc
+    none None (Some q) e = cc

@@ -62,6 +62,12 @@ quiet_or t taken A Ends q = refl
 seat_refl : {V : Type 0} (t : ℕ) (A : List (Step V)) → SameSeat t A A
 seat_refl t A = record { thread = refl; entries = refl; outputs = refl }
 
+-- an earlier moment is no longer
+pub earlier_length : {V : Type 0} (xs ys : List (Step V)) → IsEarlier xs ys → length xs ≤ length ys
+earlier_length xs [] e = let n = ap length e in omega (arith, n)
+earlier_length xs (y ∷ ys) (inl same) = let n = ap length same in omega (arith, n)
+earlier_length xs (y ∷ ys) (inr e) = let n = earlier_length xs ys e in omega (arith, n)
+
 module _ {X : Type 0} (m : Meaning X) (inputs : ℕ → List Packet) (threads : ℕ) where
   step_kind : (A : List (Step X)) (x : Step X) (t : ℕ) → (h : IsStep m inputs threads A x) → x.thread ≡ t → is_logged h.2 ≡ hand_logs m (thread_after A t).hand
   step_kind A x t h th = held_kind m (inputs x.thread) (value_after m A) (thread_after A x.thread).taken h.1 (thread_after A x.thread).hand x.after h.2 h.3 ∙ ap (λ (u : ℕ). hand_logs m (thread_after A u).hand) th
@@ -82,13 +88,8 @@ module _ {X : Type 0} (m : Meaning X) (inputs : ℕ → List Packet) (threads : 
   next_quiet t from A (y ∷ B) q (inl a) f = inl a
   next_quiet t from A (y ∷ B) (inl q) (inr a) f = absurd (too_long A B (y ∷ B) a (subst (λ (l : List (Step X)). IsEarlier l A) q f))
     where
-      shorter : (xs ys : List (Step X)) → IsEarlier xs ys → length xs ≤ length ys
-      shorter xs [] e = let k : length xs ≡ 0 = ap (λ (l : List (Step X)). length l) e in omega arith
-      shorter xs (z ∷ ys) (inl e) = let k : length xs ≡ length (z ∷ ys) = ap (λ (l : List (Step X)). length l) e in omega arith
-      shorter xs (z ∷ ys) (inr e) = let k = shorter xs ys e in omega (arith, k)
-
       too_long : (A B C : List (Step X)) → IsEarlier A B → IsEarlier (y ∷ B) A → ⊥
-      too_long A B C a b = let k = shorter A B a in let l = shorter (y ∷ B) A b in omega (arith, k, l)
+      too_long A B C a b = let k = earlier_length A B a in let l = earlier_length (y ∷ B) A b in omega (arith, k, l)
   next_quiet t from A (y ∷ B) (inr q) (inr a) f = go (next_quiet t from A B q.2 a f)
     where
       go : (A ≡ B) ⊎ ((z : Step X) × IsEarlier (z ∷ A) B × (z.thread ≡ t) × IsQuiet z.act) → (A ≡ y ∷ B) ⊎ ((z : Step X) × IsEarlier (z ∷ A) (y ∷ B) × (z.thread ≡ t) × IsQuiet z.act)

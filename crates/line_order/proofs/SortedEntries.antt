@@ -11,7 +11,7 @@ use Rattle.line_order.specs.Line.{GoesBefore, IsByWeight}
 use Rattle.line_order.proofs.WeightOrder.{weight_there, not_itself}
 
 -- one weight each
-weight_one : (log : List Entry) (e : Entry) (n k : ℕ) → IsWeight log e n → IsWeight log e k → n ≡ k
+pub weight_one : (log : List Entry) (e : Entry) (n k : ℕ) → IsWeight log e n → IsWeight log e k → n ≡ k
 weight_one log e n k a b = count_unique (λ f. PrecedesOrIs log f e) log n k a b
 
 -- what precedes goes by the members alone

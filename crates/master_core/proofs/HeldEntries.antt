@@ -19,11 +19,11 @@ and_found_in None rest e h = inr h
 and_found_in (Some s) rest e (inl p) = inl (s, refl, p)
 and_found_in (Some s) rest e (inr h) = inr h
 
-and_found_old : (o : Option StampedEntry) (rest : List Entry) (e : Entry) → IsIn e rest → IsIn e (and_found o rest)
+pub and_found_old : (o : Option StampedEntry) (rest : List Entry) (e : Entry) → IsIn e rest → IsIn e (and_found o rest)
 and_found_old None rest e h = h
 and_found_old (Some s) rest e h = inr h
 
-and_found_new : (o : Option StampedEntry) (rest : List Entry) (e : Entry) (s : StampedEntry) → o ≡ Some s → plain_entry s ≡ e → IsIn e (and_found o rest)
+pub and_found_new : (o : Option StampedEntry) (rest : List Entry) (e : Entry) (s : StampedEntry) → o ≡ Some s → plain_entry s ≡ e → IsIn e (and_found o rest)
 and_found_new None rest e s q p = absurd (cc)
 and_found_new (Some x) rest e s q p = inl (let same : x ≡ s = cc in ap plain_entry same ∙ p)
 

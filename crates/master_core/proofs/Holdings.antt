@@ -42,7 +42,7 @@ stamp_in_is : (log : List Entry) (good : IsLog log) (e : Entry) → IsIn e log �
 unfolding stamp_in
 stamp_in_is log good e here = chosen_is log good e (in_or e log) here
 
-covered_within : (l : Lane) (f : ℕ) → IsFrontier l f → l.covered ≤ f
+pub covered_within : (l : Lane) (f : ℕ) → IsFrontier l f → l.covered ≤ f
 covered_within l f is = go (cases_lt f l.covered)
   where
     go : (f < l.covered) ⊎ (l.covered ≤ f) → l.covered ≤ f

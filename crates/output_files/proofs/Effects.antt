@@ -37,7 +37,7 @@ nothing_written a b names sent = record {
 pub unwritten : (a : Shown) → HasWritten [] a a
 unwritten a = nothing_written a a (λ name. refl) refl
 
-after_more : (name : List ℕ) (first more : List Write) (had : Option (List ℕ)) → after_writes name (first ++ more) had ≡ after_writes name more (after_writes name first had)
+pub after_more : (name : List ℕ) (first more : List Write) (had : Option (List ℕ)) → after_writes name (first ++ more) had ≡ after_writes name more (after_writes name first had)
 after_more name [] more had = refl
 after_more name (w ∷ first) more had = after_more name first more (after_write name w had)
 

@@ -2,7 +2,7 @@ use plain_text::NoMemory;
 use world_io::OpenFault;
 
 /// Why the outputs were not written whole.
-#[derive(Clone, Copy, Debug, PartialEq, Eq)]
+#[derive(Clone, Copy, PartialEq, Eq)]
 pub enum OutputError {
     /// One could not be created, or writing failed.
     WriteFault,

@@ -1,3 +1,4 @@
+pub mod OutputLists
 pub mod KeyLemmas
 pub mod NameLemmas
 pub mod ArrivalLemmas

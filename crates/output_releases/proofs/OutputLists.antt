@@ -14,6 +14,7 @@ use Rattle.recovery_world.specs.World.{Sent, World}
 use Rattle.recovery_world.specs.Events.{HasNumber, IsAmong, Parts as WorldParts}
 use Rattle.recovery_world.specs.Files.{sent_names, packets_of}
 use Rattle.recovery_laws.proofs.Sets.{among_either}
+use Rattle.recovery_laws.proofs.Settlings.{among_left, among_right}
 use Rattle.output_releases.specs.Released.{names_of, NotesReleased}
 use Rattle.system_parts.specs.Parts.{Parts}
 use Rattle.system_parts.specs.SystemStanding.{AreOutputs, NotesNames}
@@ -79,16 +80,6 @@ pub sent_names_both : (xs ys : List Sent) → sent_names (xs ++ ys) ≡ sent_nam
 sent_names_both [] ys = refl
 sent_names_both (x ∷ xs) ys = ap (λ (l : List (ℕ × ℕ)). (x.emission.thread, x.emission.number) ∷ l) (sent_names_both xs ys)
 
--- members of two lists
-pub among_first : (o : Sent) (xs ys : List Sent) → IsAmong o xs → IsAmong o (xs ++ ys)
-among_first o [] ys i = absurd i
-among_first o (x ∷ xs) ys (inl same) = inl same
-among_first o (x ∷ xs) ys (inr i) = inr (among_first o xs ys i)
-
-pub among_last : (o : Sent) (xs ys : List Sent) → IsAmong o ys → IsAmong o (xs ++ ys)
-among_last o [] ys i = i
-among_last o (x ∷ xs) ys i = inr (among_last o xs ys i)
-
 -- what was noted before, and what is released now
 pub noted_more : (log : List Entry) (old new : List Numbers) (go : List Output) (before freed : List Sent) → ReleasesOnce old new go → AreOutputs log go freed
     → ((t n : ℕ) → WasMarked old t n ↔ ((o : Sent) × HasNumber t n o × IsAmong o before))
@@ -96,8 +87,8 @@ pub noted_more : (log : List Entry) (old new : List Numbers) (go : List Output) 
 noted_more log old new go before freed once are noted t n = (λ k. to ((once.marked t n).0 k), λ h. (once.marked t n).1 (from h.0 h.1 (among_either h.0 before freed h.2)))
   where
     to : IsNamed t n go ⊎ WasMarked old t n → (o : Sent) × HasNumber t n o × IsAmong o (before ++ freed)
-    to (inl k) = let h = (named_as log go freed are t n).0 k in (h.0, h.1, among_last h.0 before freed h.2)
-    to (inr k) = let h = (noted t n).0 k in (h.0, h.1, among_first h.0 before freed h.2)
+    to (inl k) = let h = (named_as log go freed are t n).0 k in (h.0, h.1, among_right h.0 before freed h.2)
+    to (inr k) = let h = (noted t n).0 k in (h.0, h.1, among_left h.0 before freed h.2)
 
     from : (o : Sent) → HasNumber t n o → IsAmong o before ⊎ IsAmong o freed → IsNamed t n go ⊎ WasMarked old t n
     from o is (inl i) = inr ((noted t n).1 (o, is, i))

@@ -3,6 +3,7 @@ use Rattle.std.proofs.Common.{◌≡◌, ℕ, suc, ◌+◌, ◌-◌, ◌≤◌, 
 use Rattle.std.proofs.lemmas.List.{reverse-append, append-nil, drop-drop, length-append}
 use Rattle.std.proofs.lemmas.List.Elements.{All-append, All-take, All-drop}
 use Rattle.std.proofs.Math.Seq.{take-add}
+use Rattle.plain_text.specs.Packets.{IsShort}
 use Rattle.plain_text.specs.declared.packet.Packet.{Packet}
 use Rattle.plain_text.specs.declared.packet.Unit.{Unit as FractionUnit}
 use Rattle.input_logger.specs.Inputs.{Fed, with_packet}
@@ -14,7 +15,7 @@ use Rattle.recovery_world.specs.Events.{fed_after, after_feed}
 use Rattle.recovery_world.specs.Limits.{OnWithin}
 use Rattle.recovery_laws.specs.Sound.{Sound}
 use Rattle.recovery_laws.proofs.KeptWorlds.{within_sound}
-use Rattle.system_parts.specs.Parts.{Parts, IsShort, AreParts}
+use Rattle.system_parts.specs.Parts.{Parts, AreParts}
 use Rattle.system_parts.specs.SystemStanding.{HasInputs, StandsFor}
 use Rattle.system_parts.specs.Performing.{MovesOn, ComesTo}
 

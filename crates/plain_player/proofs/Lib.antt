@@ -2,5 +2,4 @@ pub mod HandMoves
 pub mod NextInputs
 pub mod PlayedOn
 pub mod OneMove
-pub mod WholeSchedules
 pub mod WrittenSchedules

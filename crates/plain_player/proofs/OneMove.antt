@@ -9,13 +9,14 @@ use Rattle.std.proofs.lemmas.Bool.Decides.{nat_tests}
 use Rattle.plain_text.specs.declared.fault.LineCause.{LineCause}
 use Rattle.plain_text.specs.declared.fault.LineCause.TheVariants.{UnknownWord, MissingWord, ExtraWord, BadNumber, OutOfRange}
 use Rattle.plain_text.specs.Grammar.{Place, Number, OneOf, index_in, is_within, PlacesSay, form_at, form_fault, range_at, range_fault, or_else}
+use Rattle.plain_text.specs.LineFiles.{IsDecisive}
 use Rattle.plain_text.specs.Lines.{is_number, number_of}
 use Rattle.plain_text.proofs.Rows.{says_no_fault_at, places_say, one_values, or_none}
 use Rattle.plain_machine.specs.declared.plain_move.PlainMove.{PlainMove}
 use Rattle.plain_player.specs.Reading.{then_ends, told_by, answer_in}
-use Rattle.plain_player.specs.Schedules.{quiet_places, told_places, places_for, values_with, SaysMove, move_fault}
+use Rattle.plain_player.specs.Schedules.{quiet_places, told_places, places_for, values_with, SaysMove, move_fault, schedule_form}
 
-pub says_no_move_fault : (words : List (List ℕ)) (plain : PlainMove) → SaysMove words plain → move_fault words ≡ None
+says_no_move_fault : (words : List (List ℕ)) (plain : PlainMove) → SaysMove words plain → move_fault words ≡ None
 says_no_move_fault words plain says = says_no_fault_at (places_for words) words (values_with plain.thread plain.answer) says
 
 -- One move, from its values
@@ -32,7 +33,7 @@ move_back t u (Some a) (Some b) e =
 move_back t u None (Some b) e = absurd (cc)
 move_back t u (Some a) None e = absurd (cc)
 
-pub one_move : (words : List (List ℕ)) (a b : PlainMove) → SaysMove words a → SaysMove words b → a ≡ b
+one_move : (words : List (List ℕ)) (a b : PlainMove) → SaysMove words a → SaysMove words b → a ≡ b
 one_move words a b x y =
     move_back a.thread b.thread a.answer b.answer
     (one_values (places_for words) words (values_with a.thread a.answer) (values_with b.thread b.answer) x y)
@@ -76,11 +77,15 @@ from_values (word ∷ sign ∷ told ∷ extra ∷ words) (n ∷ m ∷ a ∷ valu
     extra_word [] e = e
     extra_word (b ∷ more) e = e
 
-pub no_fault_says_move : (words : List (List ℕ)) → move_fault words ≡ None → Says words
+no_fault_says_move : (words : List (List ℕ)) → move_fault words ≡ None → Says words
 no_fault_says_move words e =
     let both = or_none (form_fault (places_for words) words) (range_fault (places_for words) words) e in
     let said = places_say (places_for words) words both.0 both.1 in
     from_values words said.0 said.1
+
+-- each line says one move or has a fault
+pub moves_are_decisive : IsDecisive schedule_form
+moves_are_decisive = record { thing_or_fault = no_fault_says_move; not_both = says_no_move_fault; one_thing = one_move }
 
 -- As the reader finds it
 

@@ -1,11 +1,11 @@
 -- Schedules read. Each line that counts says one move, in order; where a line says none, the first such line is the fault.
-use Rattle.std.specs.Prelude.{◌≡◌, ℕ, ◌-◌, ◌<◌, ◌^◌, All, List, [], ◌∷◌, length, codes, Option, Some, None}
+use Rattle.std.specs.Prelude.{ℕ, ◌-◌, ◌<◌, ◌^◌, All, List, [], ◌∷◌, codes, Option, Some, None}
 use Rattle.plain_text.specs.declared.fault.LineCause.{LineCause}
 use Rattle.plain_text.specs.declared.fault.ReadError.{ReadError}
-use Rattle.plain_text.specs.declared.fault.ReadError.TheVariants.{Fault, TooMany, NoMemory}
 use Rattle.plain_text.specs.declared.limit.TheConstants.{MOST_EVENTS}
 use Rattle.plain_text.specs.Grammar.{Place, Number, OneOf, PlacesSay, form_fault, range_fault, or_else}
-use Rattle.plain_text.specs.Lines.{counted_lines, words_of}
+use Rattle.plain_text.specs.LineFiles.{LineForm, IsFile}
+use Rattle.plain_text.specs.LineFiles as files
 use Rattle.plain_machine.specs.declared.plain_move.PlainMove.{PlainMove}
 
 -- Of one line
@@ -38,36 +38,24 @@ move_fault words = or_else (form_fault (places_for words) words) (range_fault (p
 
 -- Of a text
 
--- the lines, each with its number, say these moves, one each, in order, and then the rest follows
-abbrev pub Begins : List (ℕ × List ℕ) → List PlainMove → List (ℕ × List ℕ) → Type 0
-Begins lines [] rest = lines ≡ rest
-Begins [] (plain ∷ moves) rest = ⊥
-Begins (line ∷ lines) (plain ∷ moves) rest = SaysMove (words_of line.1) plain × Begins lines moves rest
+abbrev pub schedule_form : LineForm PlainMove
+schedule_form = record { says = SaysMove; fault = move_fault; weight = λ plain. 1 }
 
 -- a text is the schedule of these moves
 abbrev pub IsSchedule : List ℕ → List PlainMove → Type 0
-IsSchedule text moves = Begins (counted_lines text) moves []
+IsSchedule text moves = IsFile schedule_form text moves
 
 -- the line with this number has this fault, and each line before it says a move
-pub record FirstFault (text : List ℕ) (number : ℕ) (cause : LineCause) : Type 0 where
-  pub moves : List PlainMove
-  pub line : List ℕ
-  pub rest : List (ℕ × List ℕ)
-  pub begins : Begins (counted_lines text) moves ((number, line) ∷ rest)
-  pub fault : move_fault (words_of line) ≡ Some cause
+abbrev pub FirstFault : List ℕ → ℕ → LineCause → Type 0
+FirstFault text number cause = files.FirstFault schedule_form text number cause
 
 -- the moves of the first lines pass the limit, before any line with a fault
-pub record HasTooMany (text : List ℕ) : Type 0 where
-  pub moves : List PlainMove
-  pub rest : List (ℕ × List ℕ)
-  pub begins : Begins (counted_lines text) moves rest
-  pub many : MOST_EVENTS < length moves
+abbrev pub HasTooMany : List ℕ → Type 0
+HasTooMany text = files.HasTooMany schedule_form MOST_EVENTS text
 
 -- what an error says of a text
 abbrev pub IsRefused : List ℕ → ReadError → Type 0
-IsRefused text (Fault fault) = FirstFault text fault.line fault.cause × (HasTooMany text → ⊥)
-IsRefused text TooMany = HasTooMany text
-IsRefused text NoMemory = Unit {0}
+IsRefused text error = files.IsRefused schedule_form MOST_EVENTS text error
 
 -- Written schedules
 

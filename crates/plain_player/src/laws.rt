@@ -22,7 +22,7 @@ pub fn a_text_is_one_schedule_or_has_a_fault()
         → IsSchedule text moves → HasTooMany text ↔ (MOST_EVENTS < length moves) }
     ensures too_many_before { (text : List ℕ) (number : ℕ) (cause : LineCause)
         → (first : FirstFault text number cause)
-        → HasTooMany text ↔ (MOST_EVENTS < length first.moves) }
+        → HasTooMany text ↔ (MOST_EVENTS < length first.things) }
 {}
 
 /// The text that `put_schedule` writes is the schedule of the moves that it wrote, and of no others; the threads are below 2^32 and the

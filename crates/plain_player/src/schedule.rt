@@ -7,7 +7,7 @@ ghost use Rattle.plain_player.specs.Schedules.{FitLines, FitsLine, IsAnswer, IsS
 
 use plain_machine::{PlainMove, Schedule};
 use plain_text::{
-    Bytes, LineCause, LineFault, MOST_EVENTS, NoMemory, ReadError, WordIter, lines, put_u64,
+    Bytes, LineCause, LineFile, MOST_EVENTS, NoMemory, ReadError, WordIter, put_u64, read_lines,
     read_u64, words,
 };
 use std::alloc::Global;
@@ -23,21 +23,26 @@ pub fn read_schedule(alloc: Global, text: &[u8]) -> Result<Schedule, ReadError>
     ensures few { IfOk result (λ moves. length moves ≤ most_lines) }
     ensures refused { IfErr result (IsRefused text.now) }
 {
-    let mut moves = Schedule::new(alloc);
-    for line in lines(text) {
-        let plain = match read_move(line.bytes) {
-            Ok(plain) => plain,
-            Err(cause) => {
-                let line = line.number;
-                return Err(ReadError::Fault(LineFault { line, cause }));
-            }
-        };
-        if moves.len() >= MOST_EVENTS as usize {
-            return Err(ReadError::TooMany);
-        }
-        moves.push(plain)?;
+    read_lines::<Schedules>(alloc, text, u64::from(MOST_EVENTS))
+}
+
+/// Schedules as files of lines.
+pub struct Schedules;
+
+impl LineFile for Schedules {
+    ghost use Rattle.plain_player.specs.Schedules.{schedule_form};
+
+    type Thing = PlainMove;
+
+    ghost form = { schedule_form };
+
+    fn read_line(line: &[u8]) -> Result<PlainMove, LineCause> {
+        read_move(line)
     }
-    Ok(moves)
+
+    fn weight(_plain: &PlainMove) -> u64 {
+        1
+    }
 }
 
 /// The move that a line says, or its fault.
@@ -90,18 +95,18 @@ pub fn put_schedule(alloc: Global, schedule: &Schedule) -> Result<Bytes, NoMemor
     let mut text = Bytes::new(alloc);
     for plain in schedule.as_slice() {
         put_move(&mut text, *plain)?;
+        text.push(b'\n')?;
     }
     Ok(text)
 }
 
-/// Appends the line of a move.
+/// Appends the line of a move, without a line feed.
 fn put_move(text: &mut Bytes, plain: PlainMove) -> Result<(), NoMemory>
     ensures text { OnOk result (text.new ≡ text.old ++ move_line plain) }
     ensures fits { OnOk result (FitsLine plain) }
 {
     put_u64(text, u64::from(plain.thread))?;
-    put_answer(text, plain.answer)?;
-    text.push(b'\n')
+    put_answer(text, plain.answer)
 }
 
 /// Appends what a move is told, where it is told something.

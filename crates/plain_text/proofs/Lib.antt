@@ -5,3 +5,6 @@ pub mod Numbers
 pub mod Octets
 pub mod Rows
 pub mod Room
+pub mod WholeFiles
+pub mod WrittenFiles
+pub mod WrittenWords

@@ -1,4 +1,6 @@
 pub mod Fields
 pub mod Grammar
+pub mod LineFiles
 pub mod Lines
 pub mod Octets
+pub mod Packets

@@ -10,7 +10,6 @@ use Rattle.plain_machine.specs.declared.plain_move.PlainMove.{PlainMove}
 use Rattle.recovery_world.specs.World.{Setting, Sent, World, opening}
 use Rattle.recovery_world.specs.Files.{packets_of}
 use Rattle.run_end.specs.Ending.{EndsIn}
-use Rattle.recovery_core.specs.declared.system.System.TheInside.{Inside}
 use Rattle.system_parts.specs.Parts.{Parts}
 use Rattle.system_parts.specs.SystemStanding.{NotesNames, StandsFor}
 use Rattle.event_replies.specs.declared.reply.Finished.{Finished}
@@ -47,10 +46,6 @@ ends_then {P} {V} meaning old new moves woken ends s w st =
     ends_woken s w k.0 moves k.1 (ends s k.0 (subst (λ (p : P). StandsFor (meaning p) s k.0 new) (sym woken.0) k.2))
 
 -- Taking what was released
-
--- a system that is opened
-abbrev pub system_in : {P V : Type 0} → Inside P V → Systemed P V
-system_in y = record { parts = y.core; stopped = y.stopped; handed = y.handed; fresh = y.fresh }
 
 abbrev pub with_taken : {P V : Type 0} → Systemed P V → Systemed P V
 with_taken y = record y { fresh = []; handed = length y.parts.released }

@@ -2,3 +2,4 @@ pub use Rattle.system_parts.specs.Parts
 pub use Rattle.system_parts.specs.SystemStanding
 pub use Rattle.system_parts.specs.Performing
 pub mod Systems
+pub mod Views

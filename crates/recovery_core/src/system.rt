@@ -1,4 +1,5 @@
 ghost use Rattle.std.specs.Prelude.{◌≡◌, ◌<◌, ◌≤◌, ℕ, All, List, [], IfOk, OnOk, OnErr, Err, true, false, drop, length};
+ghost use Rattle.plain_text.specs.Packets.{IsShort};
 ghost use Rattle.plain_text.specs.declared.limit.Limit.{Limit as LimitKind};
 ghost use Rattle.plain_text.specs.declared.packet.Packet as packet_of;
 ghost use Rattle.entry_order.specs.Log.{entries};
@@ -6,7 +7,6 @@ ghost use Rattle.plain_machine.specs.History.{log_of, sent_of, outputs, thread_a
 ghost use Rattle.recovery_world.specs.World.{Setting, World, opening};
 ghost use Rattle.recovery_world.specs.Files.{packets_of};
 ghost use Rattle.run_end.specs.Ending.{EndsIn};
-ghost use Rattle.system_parts.specs.Parts.{IsShort};
 ghost use Rattle.system_parts.specs.SystemStanding.{StandsFor, StandsForSome};
 ghost use Rattle.system_parts.specs.Performing.{Appends, MovesOn, StopsAt, Releasing, packets_in};
 ghost use Rattle.recovery_core.specs.Systems.{HasReleased, SystemStands, SystemMoves, SystemStops, RepliesAny, FinishesAs};
@@ -47,16 +47,12 @@ pub struct System<P: Program> {
 impl<P: Program> Model for System<P> {
     ghost use Rattle.std.specs.Prelude.{◌≡◌, false};
     ghost use Rattle.recovery_core.specs.Systems.{Systemed};
+    ghost use Rattle.recovery_core.specs.Views.{system_in};
     ghost use Rattle.system_parts.specs.SystemStanding.{StandsForSome};
 
     ghost Value = { Systemed P P.Value };
 
-    ghost view = { λ y. record {
-      parts = y.core;
-      stopped = y.stopped;
-      handed = y.handed;
-      fresh = y.fresh;
-    } };
+    ghost view = { λ y. system_in y };
 
     ghost invariant = { λ y. y.stopped ≡ false → StandsForSome (P.meaning y.core.program) y.core };
 }

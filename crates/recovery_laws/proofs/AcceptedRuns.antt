@@ -1,6 +1,7 @@
 -- What a run leaves is accepted: its schedule plays, and each released packet has an emission of its own.
-use Rattle.std.proofs.Common.{◌≡◌, ℕ, ◌+◌, ◌≤◌, Bool, true, false, cond, List, [], ◌∷◌, ◌++◌, refl, sym, ap, ◌∙◌, subst, inl, inr, ◌⊎◌, arith, Option, Some, None, Result, Ok}
+use Rattle.std.proofs.Common.{◌≡◌, ℕ, ◌+◌, ◌≤◌, Bool, true, false, cond, List, [], ◌∷◌, ◌++◌, length, refl, sym, ap, ◌∙◌, subst, inl, inr, ◌⊎◌, arith, Option, Some, None, Result, Ok}
 use Rattle.std.specs.Prelude.{nat_eq, ◌&&◌, reverse, slice_get}
+use Rattle.std.proofs.lemmas.List.{length-append}
 use Rattle.std.proofs.lemmas.Bool.Decides.{nat_tests}
 use Rattle.std.proofs.lemmas.Grind.{reverse_onto}
 use Rattle.plain_text.specs.declared.packet.Packet.{Packet}
@@ -33,7 +34,7 @@ effect_answer (HearsDraw a) = Some a
 effect_answer (Sends packet) = None
 effect_answer Ends = None
 
-act_answer : {V : Type 0} (t taken : ℕ) (A : List (Step V)) (d : Effect V) → answer_of (act_of t A taken d) ≡ effect_answer d
+pub act_answer : {V : Type 0} (t taken : ℕ) (A : List (Step V)) (d : Effect V) → answer_of (act_of t A taken d) ≡ effect_answer d
 act_answer t taken A Takes = refl
 act_answer t taken A (Touches v left) = refl
 act_answer t taken A (Looks v) = refl
@@ -59,7 +60,7 @@ hand_answer m value taken h (Some a) End after d e = absurd (cc)
 hand_answer m value taken h None Clock after d e = absurd (cc)
 hand_answer m value taken h None Draw after d e = absurd (cc)
 
-held_answer : {V : Type 0} (m : Meaning V) (packets : List Packet) (value : ℕ → V) (taken : ℕ) (a : Option ℕ) (hand : Option Hand) (after : Thread) (d : Effect V) → held_move m packets value taken a hand ≡ Moves after d → a ≡ effect_answer d
+pub held_answer : {V : Type 0} (m : Meaning V) (packets : List Packet) (value : ℕ → V) (taken : ℕ) (a : Option ℕ) (hand : Option Hand) (after : Thread) (d : Effect V) → held_move m packets value taken a hand ≡ Moves after d → a ≡ effect_answer d
 held_answer m packets value taken a (Some h) after d e = hand_answer m value taken h a (m.next h.place) after d e
 held_answer {V} m packets value taken a None after d e = go a (slice_get packets taken) e
   where
@@ -72,6 +73,14 @@ step_answer : {V : Type 0} (m : Meaning V) (inputs : ℕ → List Packet) (threa
 step_answer {V} m inputs threads A x h =
     let th = thread_after A x.thread in
     held_answer m (inputs x.thread) (value_after m A) th.taken h.1 th.hand x.after h.2 h.3 ∙ (sym (act_answer x.thread x.after.taken A h.2) ∙ ap (λ (a : Act V). answer_of a) (sym h.4))
+
+-- each step is one move
+pub made_length : {V : Type 0} (steps : List (Step V)) → length (moves_made steps) ≡ length steps
+made_length [] = refl
+made_length (x ∷ earlier) =
+    let rest = made_length earlier in
+    let more = length-append (moves_made earlier) ((record { thread = x.thread; answer = answer_of x.act }) ∷ []) in
+    omega (arith, rest, more)
 
 -- The moves of a history are a legal list, whose history it is.
 pub moves_play : {V : Type 0} (m : Meaning V) (inputs : ℕ → List Packet) (threads : ℕ) (steps : List (Step V)) → IsHistory m inputs threads steps → play m inputs threads (moves_made steps) ≡ Ok steps

@@ -5,7 +5,6 @@ use Rattle.random_words.specs.Words.{word_of}
 use Rattle.entry_order.specs.Log.{entries}
 use Rattle.plain_machine.specs.History.{log_of, sent_of, outputs}
 use Rattle.std.proofs.lemmas.Bool.Decides.{nat_tests}
-use Rattle.std.proofs.lemmas.Bool.{cases_lt}
 use Rattle.plain_text.specs.declared.limit.Limit.{Limit}
 use Rattle.plain_text.specs.declared.limit.TheConstants.{MOST_MOVES}
 use Rattle.plain_text.specs.declared.kind.Kind.{Kind}
@@ -14,21 +13,14 @@ use Rattle.recovery_world.specs.declared.event.Event.{Event}
 use Rattle.recovery_world.specs.declared.event.Event.TheVariants as event
 use Rattle.recovery_world.specs.declared.event.Outcome.{Outcome}
 use Rattle.recovery_world.specs.World.{Setting, Sent, World}
-use Rattle.recovery_world.specs.Events.{OnStep, OnRecover, On}
+use Rattle.recovery_world.specs.Events.{OnRecover, On}
 use Rattle.recovery_world.specs.Limits.{limit_passed, IsWithin, OnWithin}
 use Rattle.recovery_world.specs.Strategies.{Choice, Follows, Ends, Halts, Goes}
 use Rattle.recovery_world.specs.Many.{Message, arrival, arrival_of, Phase, Wakes, Steps, Arrives, Chooses, rests, turn_at, after_step, all_messages, auto_event, chosen, goes_on, begins, summary_of, OnAny, Single, Several, Stops, SingleStops, SeveralStops}
 use Rattle.recovery_laws.specs.Sound.{Sound}
 use Rattle.recovery_laws.proofs.KeptWorlds.{within_sound}
 use Rattle.recovery_laws.proofs.EventOutcomes.{on_there}
-use Rattle.recovery_laws.proofs.Rounds.{lt_or_last, lt_true, turn_low, turn_still, turn_again, move_moves, steps_next, rests_next}
-
-within_moves : (moves bytes : ℕ) → limit_passed moves bytes ≡ None → moves ≤ MOST_MOVES
-within_moves moves bytes low = go (cases_lt MOST_MOVES moves)
-  where
-    go : (MOST_MOVES < moves) ⊎ (moves ≤ MOST_MOVES) → moves ≤ MOST_MOVES
-    go (inr few) = few
-    go (inl many) = let b : nat_lt MOST_MOVES moves ≡ true = grind (arith, nat_tests, many) in let e = rw b at low in absurd (cc)
+use Rattle.recovery_laws.proofs.Rounds.{lt_or_last, lt_true, turn_low, turn_still, turn_again, steps_next, rests_next, step_kind, few_moves}
 
 module _ {V : Type 0} (s : Setting V) where
   -- the strategy comes to an end, or stops
@@ -72,18 +64,6 @@ module _ {V : Type 0} (s : Setting V) where
 
   -- Threads go on
 
-  abbrev Moved : World V → World V → Type 0
-  Moved w mid = (mid.moves ≡ w.moves + 1) × (mid.up ≡ true)
-
-  step_kind : (w mid : World V) (t : ℕ) (to : Outcome) → t < s.threads → w.up ≡ true → OnStep s w t None to mid
-      → ((rests to ≡ true) × (mid ≡ w)) ⊎ ((rests to ≡ false) × Moved w mid)
-  step_kind w mid t to low up (inl a) = absurd (omega (arith, low, a.0))
-  step_kind w mid t to low up (inr (inl a)) = let p : w.up ≡ false = a.1 in absurd (cc)
-  step_kind w mid t to low up (inr (inr (inl a))) = inl (ap rests a.3, a.4)
-  step_kind w mid t to low up (inr (inr (inr (inl a)))) = inl (ap rests a.2.to_is, a.3)
-  step_kind w mid t to low up (inr (inr (inr (inr a)))) =
-      inr (subst (λ (o : Outcome). rests o ≡ false) (sym a.2.to_is) (move_moves a.2.step.act), (ap (λ (z : World V). z.moves) a.2.new_is, ap (λ (z : World V). z.up) a.2.new_is ∙ up))
-
   -- one step of a thread
   step_end : (left t : ℕ) (moved : Bool) (w : World V) → t < s.threads → Ready w
       → HasEnd (turn_at s.threads left (t + 1) moved) w
@@ -91,17 +71,17 @@ module _ {V : Type 0} (s : Setting V) where
       → HasEnd (Steps left t moved) w
   step_end left t moved w low r rest move =
       by_event (Steps left t moved) w (record { event = event.Step t None; leads_to = after_step s.threads left t moved }) r.sound (steps_next s left t moved w low) refl
-      (λ mid to freed on. go mid to freed on (step_kind w mid t to low r.up on.0.0))
+      (λ mid to freed on. go mid to freed on (step_kind s w mid t to low r.up on.0.0))
     where
       go : (mid : World V) (to : Outcome) (freed : List Sent) → OnWithin s w (event.Step t None) to freed mid
-          → ((rests to ≡ true) × (mid ≡ w)) ⊎ ((rests to ≡ false) × Moved w mid) → HasEnd (after_step s.threads left t moved to) mid
+          → ((rests to ≡ true) × (mid ≡ w)) ⊎ ((rests to ≡ false) × (mid.moves ≡ w.moves + 1) × (mid.up ≡ true)) → HasEnd (after_step s.threads left t moved to) mid
       go mid to freed on (inl (r, same)) =
           let e : after_step s.threads left t moved to ≡ turn_at s.threads left (t + 1) moved = rw r refl in
           subst (λ (q : Phase). HasEnd q mid) (sym e) (subst (λ (z : World V). HasEnd (turn_at s.threads left (t + 1) moved) z) (sym same) rest)
-      go mid to freed on (inr (m, has_moved)) =
+      go mid to freed on (inr (m, more, up)) =
           let e : after_step s.threads left t moved to ≡ Steps left t true = rw m refl in
           subst (λ (q : Phase). HasEnd q mid) (sym e)
-          (move mid (record { sound = within_sound s w (event.Step t None) to freed mid r.sound on; within = on.1; up = has_moved.1 }) has_moved.0)
+          (move mid (record { sound = within_sound s w (event.Step t None) to freed mid r.sound on; within = on.1; up = up }) more)
 
   -- how many turns may still come before a thread has moved or all rest
   abbrev turns_left : ℕ → Bool → ℕ
@@ -126,10 +106,10 @@ module _ {V : Type 0} (s : Setting V) where
   moves_end : (left : ℕ) → ((w : World V) → Ready w → (moved : Bool) → HasEnd (Steps left s.threads moved) w)
       → (m : ℕ) (w : World V) → Ready w → MOST_MOVES - w.moves ≤ m → (t : ℕ) (moved : Bool) → t ≤ s.threads → HasEnd (Steps left t moved) w
   moves_end left rest zero w r fuel t moved few =
-      turns_end left w r (rest w r) (λ u mid low ready more. let k = within_moves mid.moves mid.bytes ready.within in absurd (omega (arith, k, more, fuel)))
+      turns_end left w r (rest w r) (λ u mid low ready more. let k = few_moves mid.moves mid.bytes ready.within in absurd (omega (arith, k, more, fuel)))
       (turns_left t moved) t moved few (omega arith)
   moves_end left rest (suc m) w r fuel t moved few =
-      turns_end left w r (rest w r) (λ u mid low ready more. moves_end left rest m mid ready (let k = within_moves mid.moves mid.bytes ready.within in omega (arith, k, more, fuel)) u true (omega (arith, low)))
+      turns_end left w r (rest w r) (λ u mid low ready more. moves_end left rest m mid ready (let k = few_moves mid.moves mid.bytes ready.within in omega (arith, k, more, fuel)) u true (omega (arith, low)))
       (turns_left t moved) t moved few (omega arith)
 
   feeds_end : (left : ℕ) (w : World V) → Ready w → (t : ℕ) (moved : Bool) → t ≤ s.threads → HasEnd (Steps left t moved) w

@@ -44,7 +44,7 @@ sends_thread m inputs threads steps o n h sends =
     (subst (λ (t : ℕ). t < threads) (sym k.0) made.0, omega (arith, k.1))
 
 -- the greatest released number
-among_greatest : (t : ℕ) (rel : List Sent) (o : Sent) → IsAmong o rel → o.emission.thread ≡ t → o.emission.number ≤ greatest t rel
+pub among_greatest : (t : ℕ) (rel : List Sent) (o : Sent) → IsAmong o rel → o.emission.thread ≡ t → o.emission.number ≤ greatest t rel
 among_greatest t [] o h th = absurd h
 among_greatest t (x ∷ rel) o (inl same) th =
     let k : nat_eq x.emission.thread t ≡ true = let q : x.emission.thread ≡ t = ap (λ (y : Sent). y.emission.thread) same ∙ th in grind (arith, nat_tests) in

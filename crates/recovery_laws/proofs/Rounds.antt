@@ -2,7 +2,9 @@
 use Rattle.std.proofs.Common.{◌≡◌, ℕ, zero, suc, ◌+◌, ◌≤◌, ◌<◌, ◌≢◌, Bool, true, false, List, [], length, refl, sym, ap, ◌∙◌, subst, inl, inr, ◌⊎◌, arith, Option, Some, None}
 use Rattle.std.specs.Prelude.{◌||◌, nat_lt, min}
 use Rattle.std.proofs.lemmas.Bool.Decides.{nat_tests}
+use Rattle.std.proofs.lemmas.Grind.{common_steps}
 use Rattle.plain_text.specs.declared.limit.Limit.{Limit}
+use Rattle.plain_text.specs.declared.limit.TheConstants.{MOST_MOVES}
 use Rattle.entry_order.specs.declared.what.What.{What}
 use Rattle.entry_order.specs.declared.what.What.TheVariants as what
 use Rattle.entry_order.specs.Log.{Entry, entries, places, IsLog, IsNext}
@@ -18,7 +20,7 @@ use Rattle.recovery_world.specs.World.{Setting, Sent, World, inputs_fed}
 use Rattle.recovery_world.specs.Turns.{IsReadToCome, IsTouchToCome, IsAwaited, Awaits}
 use Rattle.recovery_world.specs.Events.{move_outcome, entry_outcome, MakesMove, WantsMore, OnStep, On}
 use Rattle.recovery_world.specs.Finish.{IsToCome}
-use Rattle.recovery_world.specs.Limits.{OnWithin}
+use Rattle.recovery_world.specs.Limits.{limit_passed, OnWithin}
 use Rattle.recovery_world.specs.Strategies.{Choice, Follows, Ends, Halts, Goes}
 use Rattle.recovery_world.specs.Many.{Phase, Wakes, Steps, Arrives, Chooses, rests, turn_at, after_step, all_messages, at_rest, goes_on}
 use Rattle.recovery_laws.specs.Sound.{Sound}
@@ -61,11 +63,25 @@ entry_moves n (what.Read v after) = refl
 entry_moves n (what.Clock a) = refl
 entry_moves n (what.Draw a) = refl
 
-pub move_moves : {V : Type 0} (a : Act V) → rests (move_outcome a) ≡ false
+move_moves : {V : Type 0} (a : Act V) → rests (move_outcome a) ≡ false
 move_moves (Took k) = refl
 move_moves (Did e left) = entry_moves e.number e.what
 move_moves (Emitted o) = refl
 move_moves (Ended k) = refl
+
+-- a step that is a rest leaves the world, and another is one move
+pub step_kind : {V : Type 0} (s : Setting V) (w mid : World V) (t : ℕ) (to : Outcome) → t < s.threads → w.up ≡ true → OnStep s w t None to mid
+    → ((rests to ≡ true) × (mid ≡ w)) ⊎ ((rests to ≡ false) × (mid.moves ≡ w.moves + 1) × (mid.up ≡ true))
+step_kind s w mid t to low up (inl a) = absurd (omega (arith, low, a.0))
+step_kind s w mid t to low up (inr (inl a)) = let p : w.up ≡ false = a.1 in absurd (cc)
+step_kind s w mid t to low up (inr (inr (inl a))) = inl (ap rests a.3, a.4)
+step_kind s w mid t to low up (inr (inr (inr (inl a)))) = inl (ap rests a.2.to_is, a.3)
+step_kind {V} s w mid t to low up (inr (inr (inr (inr a)))) =
+    inr (subst (λ (o : Outcome). rests o ≡ false) (sym a.2.to_is) (move_moves a.2.step.act), ap (λ (z : World V). z.moves) a.2.new_is, ap (λ (z : World V). z.up) a.2.new_is ∙ up)
+
+-- a world within the limits has no more moves than there may be
+pub few_moves : (moves bytes : ℕ) → limit_passed moves bytes ≡ None → moves ≤ MOST_MOVES
+few_moves moves bytes is = grind (arith, common_steps)
 
 module _ {V : Type 0} (s : Setting V) where
   pub steps_next : (left t : ℕ) (moved : Bool) (w : World V) → t < s.threads

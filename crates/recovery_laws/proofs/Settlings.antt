@@ -71,16 +71,16 @@ kept_on w mid new a b = record {
   released = λ o k. b.released o (a.released o k);
 }
 
-among_left : (o : Sent) (xs ys : List Sent) → IsAmong o xs → IsAmong o (xs ++ ys)
+pub among_left : (o : Sent) (xs ys : List Sent) → IsAmong o xs → IsAmong o (xs ++ ys)
 among_left o [] ys h = absurd h
 among_left o (x ∷ xs) ys (inl h) = inl h
 among_left o (x ∷ xs) ys (inr h) = inr (among_left o xs ys h)
 
-among_right : (o : Sent) (xs ys : List Sent) → IsAmong o ys → IsAmong o (xs ++ ys)
+pub among_right : (o : Sent) (xs ys : List Sent) → IsAmong o ys → IsAmong o (xs ++ ys)
 among_right o [] ys h = h
 among_right o (x ∷ xs) ys h = inr (among_right o xs ys h)
 
-log_keeps : {V : Type 0} (s : Setting V) (w new : World V) (t n : ℕ) (to : Outcome) (freed : List Sent) → On s w (event.Log t n) to freed new → Kept w new
+pub log_keeps : {V : Type 0} (s : Setting V) (w new : World V) (t n : ℕ) (to : Outcome) (freed : List Sent) → On s w (event.Log t n) to freed new → Kept w new
 log_keeps s w new t n to freed (inl a) = kept_same w new a.3
 log_keeps s w new t n to freed (inr (low, inl a)) = kept_same w new a.3
 log_keeps s w new t n to freed (inr (low, inr (inl a))) = kept_same w new a.5
@@ -96,7 +96,7 @@ log_known s w new t n to freed h (inr (l, inl a)) low e of = absurd (a.0 e of)
 log_known {V} s w new t n to freed h (inr (l, inr (inl a))) low e of = subst (λ (z : World V). IsKnown z e) (sym a.5) (subst (λ (g : Entry). IsKnown w g) (entry_one s w h t n a.0 e a.1 of) a.2)
 log_known {V} s w new t n to freed h (inr (l, inr (inr a))) low e of = subst (λ (z : World V). IsKnown z e) (sym a.4.new_is) (inl (inl (entry_one s w h t n a.0 e a.1 of)))
 
-out_keeps : {V : Type 0} (s : Setting V) (w new : World V) (t j : ℕ) (to : Outcome) (freed : List Sent) → On s w (event.Out t j) to freed new → Kept w new
+pub out_keeps : {V : Type 0} (s : Setting V) (w new : World V) (t j : ℕ) (to : Outcome) (freed : List Sent) → On s w (event.Out t j) to freed new → Kept w new
 out_keeps s w new t j to freed (inl a) = kept_same w new a.3
 out_keeps s w new t j to freed (inr (low, (inl a, f))) = kept_same w new a.2
 out_keeps s w new t j to freed (inr (low, (inr (inl a), f))) = kept_same w new a.4

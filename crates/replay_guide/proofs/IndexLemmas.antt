@@ -28,11 +28,11 @@ cond_is_some : {X : Type 0} (b : Bool) (x : X) (o : Option X) → IsSome o → I
 cond_is_some true x o h = refl
 cond_is_some false x o h = h
 
-cond_true : (b a : Bool) → cond b true a ≡ true → (a ≡ true) ⊎ (b ≡ true)
+pub cond_true : (b a : Bool) → cond b true a ≡ true → (a ≡ true) ⊎ (b ≡ true)
 cond_true true a h = inr refl
 cond_true false a h = inl h
 
-true_cond : (b a : Bool) → a ≡ true → cond b true a ≡ true
+pub true_cond : (b a : Bool) → a ≡ true → cond b true a ≡ true
 true_cond true a h = refl
 true_cond false a h = h
 

@@ -1,18 +1,13 @@
--- The entries of a lane with their numbers: what is found, what is left above a number, and that lanes with equal look-ups are one.
-use Rattle.std.proofs.Common.{◌≡◌, ◌≢◌, ℕ, zero, suc, ◌+◌, ◌-◌, ◌<◌, ◌≤◌, ◌↔◌, Bool, true, false, cond, ltb, leb, List, [], ◌∷◌, Option, Some, None, IsSome, length, slice_get, slice_index, drop, get_or, option_copied, IfSome, Bor, refl, sym, ap, ◌∙◌, subst, inl, inr, ⊎_elim, arith}
+-- The entries of a lane with their numbers: what is found, and that lanes with equal look-ups are one.
+use Rattle.std.proofs.Common.{◌≡◌, ◌≢◌, ℕ, zero, suc, ◌+◌, ◌-◌, ◌<◌, ◌≤◌, ◌↔◌, cond, List, [], ◌∷◌, Option, Some, None, IsSome, length, slice_get, get_or, option_copied, IfSome, Bor, refl, sym, ap, ◌∙◌, subst, inl, inr, ⊎_elim, arith}
 use Rattle.std.proofs.lemmas.Option.{slice_get_past, slice_get_read}
 use Rattle.std.proofs.lemmas.Bool.{cases_lt}
-use Rattle.std.proofs.lemmas.Bool.Decides.{nat_tests}
-use Rattle.std.proofs.lemmas.List.Sums.{sum_by-cons}
 use Rattle.entry_order.proofs.Order.{is_or}
 use Rattle.access_log.specs.declared.entry.StampedEntry.{StampedEntry}
-use Rattle.access_log.specs.Held.{Lane, lane, entry_at, IsKnown, IsFrontier, IsRising, held_count}
-use Rattle.access_log.specs.Lanes.{CoversUpTo, IsHeldSet}
-use Rattle.access_log.specs.Members.{IsMemberAbove, IsNumberOf}
+use Rattle.access_log.specs.Held.{Lane, lane, entry_at, IsKnown, IsFrontier, IsRising}
 use Rattle.access_log.proofs.SlotLemmas.{at, is_at-same, is_at-apart}
-use Rattle.access_log.proofs.MemberLemmas.{number_above}
 use Rattle.replay_guide.specs.Following.{CanBeFollowed}
-use Rattle.replay_guide.specs.Walks.{numbered, above}
+use Rattle.replay_guide.specs.Walks.{numbered}
 
 abbrev pub Entries : Type 0
 Entries = List (ℕ × StampedEntry)
@@ -44,16 +39,6 @@ at-numbered_cons from e es n h = at_later (from + 1, e) (numbered (from + 1) es)
 
 pub at-numbered_first : (from : ℕ) (e : StampedEntry) (es : List StampedEntry) → at (numbered from (e ∷ es)) (from + 1) ≡ Some e
 at-numbered_first from e es = at_here (from + 1, e) (numbered (from + 1) es) (from + 1) refl
-
--- how many are above a number
-pub length-above : (number from : ℕ) (es : List StampedEntry) → length (above number (numbered from es)) ≡ length es - (number - from)
-length-above number from [] = omega arith
-length-above number from (e ∷ es) =
-    let rest = length-above number (from + 1) es in
-    ⊎_elim
-    (λ (h : number < from + 1). let is : ltb number (from + 1) ≡ true = grind (arith, nat_tests) in ap (λ b. length (cond b ((from + 1, e) ∷ above number (numbered (from + 1) es)) (above number (numbered (from + 1) es)))) is ∙ omega arith)
-    (λ h. let is : ltb number (from + 1) ≡ false = grind (arith, nat_tests) in ap (λ b. length (cond b ((from + 1, e) ∷ above number (numbered (from + 1) es)) (above number (numbered (from + 1) es)))) is ∙ omega arith)
-    (cases_lt number (from + 1))
 
 -- Rising numbers
 
@@ -114,9 +99,6 @@ no_entry_past held t f n can is h = let place : f + 1 + (n - f - 1) ≡ n = omeg
 
 -- The walk down from the frontier
 
-pub covered_low : (l : Lane) (f : ℕ) → IsFrontier l f → l.covered ≤ f
-covered_low l f is = ⊎_elim (λ (h : f < l.covered). absurd (is.ends (inl (omega arith)))) (λ h. h) (cases_lt f l.covered)
-
 same_down : (l : Lane) (m : ℕ) (es : List StampedEntry) (e : StampedEntry) → entry_at l (m + 1) ≡ Some e → ((k : ℕ) → m + 1 < k → at (numbered (m + 1) es) k ≡ entry_at l k) → (k : ℕ) → m < k → at (numbered m (e ∷ es)) k ≡ entry_at l k
 same_down l m es e here same k up =
     ⊎_elim
@@ -141,93 +123,3 @@ walked_lane l number es rising covered same =
 pub copied_get : (es : List StampedEntry) (n i : ℕ) (o : Option (Bor StampedEntry)) → n ≡ length es → IsSome o ↔ (i < n) → IfSome o (λ x. x.now ≡ get_or es i x.now) → option_copied o ≡ slice_get es i
 copied_get es n i None len some is = sym (slice_get_past es i (⊎_elim (λ (h : i < n). let no = some.1 h in absurd cc) (λ h. omega arith) (cases_lt i n)))
 copied_get es n i (Some x) len some is = sym (slice_get_read es n i x.now len (some.0 refl) is)
-
--- Above a number
-
-above_all : (least number : ℕ) (es : Entries) → IsRising least es → number ≤ least → above number es ≡ es
-above_all least number [] rising h = refl
-above_all least number (x ∷ es) rising h =
-    let first = rising.0 in
-    let is : ltb number x.0 ≡ true = grind (arith, nat_tests) in
-    ap (λ b. cond b (x ∷ above number es) (above number es)) is ∙ ap (λ rest. x ∷ rest) (above_all x.0 number es rising.1 (omega arith))
-
-pub rising_above : (least number : ℕ) (es : Entries) → IsRising least es → IsRising number (above number es)
-rising_above least number [] rising = tt
-rising_above least number (x ∷ es) rising =
-    ⊎_elim
-    (λ (h : number < x.0). let is : ltb number x.0 ≡ true = grind (arith, nat_tests) in let all : above number es ≡ es = above_all x.0 number es rising.1 (omega arith) in rw (is, all) (h, rising.1))
-    (λ h. let is : ltb number x.0 ≡ false = grind (arith, nat_tests) in rw is (rising_above x.0 number es rising.1))
-    (cases_lt number x.0)
-
-pub at-above : (number : ℕ) (es : Entries) (n : ℕ) → at (above number es) n ≡ cond (leb n number) None (at es n)
-at-above number [] n = either (leb n number)
-  where
-    either : (b : Bool) → at [] n ≡ cond b None (at [] n)
-    either true = refl
-    either false = refl
-at-above number (x ∷ es) n =
-    let rest = at-above number es n in
-    ⊎_elim
-    (λ (h : number < x.0). let is : ltb number x.0 ≡ true = grind (arith, nat_tests) in rw is (
-    ⊎_elim
-    (λ (q : n ≡ x.0). let up : number < n = omega arith in let past : leb n number ≡ false = grind (arith, nat_tests) in at_here x (above number es) n q ∙ sym (at_here x es n q) ∙ sym (ap (λ b. cond b None (at (x ∷ es) n)) past))
-    (λ (q : n ≢ x.0). at_later x (above number es) n q ∙ rest ∙ ap (λ o. cond (leb n number) None o) (sym (at_later x es n q)))
-    (is_or n x.0)))
-    (λ (h : x.0 ≤ number). let is : ltb number x.0 ≡ false = grind (arith, nat_tests) in rw is (
-    ⊎_elim
-    (λ (q : n ≡ x.0). let down : n ≤ number = omega arith in let low : leb n number ≡ true = grind (arith, nat_tests) in rest ∙ ap (λ b. cond b None (at es n)) low ∙ sym (ap (λ b. cond b None (at (x ∷ es) n)) low))
-    (λ (q : n ≢ x.0). rest ∙ ap (λ o. cond (leb n number) None o) (sym (at_later x es n q)))
-    (is_or n x.0)))
-    (cases_lt number x.0)
-
--- the lanes with what is above the counts, from this thread on
-abbrev pub lanes_above : ℕ → List ℕ → List Lane → List Lane
-lanes_above from done [] = []
-lanes_above from done (l ∷ lanes) = record { covered = slice_index done from; entries = above (slice_index done from) l.entries } ∷ lanes_above (from + 1) done lanes
-
-length-lanes_above : (from : ℕ) (done : List ℕ) (lanes : List Lane) → length (lanes_above from done lanes) ≡ length lanes
-length-lanes_above from done [] = refl
-length-lanes_above from done (l ∷ lanes) = let rest = length-lanes_above (from + 1) done lanes in omega arith
-
-lane_above : (from : ℕ) (done : List ℕ) (lanes : List Lane) (t : ℕ) → t < length lanes → lane (lanes_above from done lanes) t ≡ record { covered = slice_index done (from + t); entries = above (slice_index done (from + t)) (lane lanes t).entries }
-lane_above from done [] t h = absurd (omega arith)
-lane_above from done (l ∷ lanes) zero h = let place : from ≡ from + 0 = omega arith in ap (λ (u : ℕ). let made : Lane = record { covered = slice_index done u; entries = above (slice_index done u) l.entries } in made) place
-lane_above from done (l ∷ lanes) (suc t) h =
-    let place : from + 1 + t ≡ from + suc t = omega arith in
-    lane_above (from + 1) done lanes t (omega arith) ∙ ap (λ (u : ℕ). let made : Lane = record { covered = slice_index done u; entries = above (slice_index done u) (lane lanes t).entries } in made) place
-
--- the number of members above the counts, lane by lane
-pub number_left : (lanes : List Lane) (done : List ℕ) → IsHeldSet lanes → IsNumberOf (IsMemberAbove lanes done) (held_count (lanes_above 0 done lanes))
-number_left lanes done is =
-    number_above lanes (lanes_above 0 done lanes) done is (length-lanes_above 0 done lanes) covers rising
-  where
-    covers : (t : ℕ) → t < length lanes → CoversUpTo (lane lanes t) (lane (lanes_above 0 done lanes) t) (slice_index done t)
-    covers t h =
-        let same = lane_above 0 done lanes t h in
-        let place : 0 + t ≡ t = omega arith in
-        rw (same, place) (record { covered = refl; held = λ n. at-above (slice_index done t) (lane lanes t).entries n })
-
-    rising : (t : ℕ) → t < length lanes → IsRising (lane (lanes_above 0 done lanes) t).covered (lane (lanes_above 0 done lanes) t).entries
-    rising t h =
-        let same = lane_above 0 done lanes t h in
-        let place : 0 + t ≡ t = omega arith in
-        rw (same, place) (rising_above (lane lanes t).covered (slice_index done t) (lane lanes t).entries (is.rising t))
-
--- the lanes from this one on
-pub count_step : (done : List ℕ) (lanes : List Lane) (i left : ℕ) → left + held_count (lanes_above i done (drop i lanes)) ≡ held_count (lanes_above 0 done lanes) → length lanes ≤ i → left ≡ held_count (lanes_above 0 done lanes)
-count_step done lanes i left same all =
-    let none : drop i lanes ≡ [] = drop_past lanes i all in
-    let count : left + held_count (lanes_above i done []) ≡ held_count (lanes_above 0 done lanes) = subst (λ (ls : List Lane). left + held_count (lanes_above i done ls) ≡ held_count (lanes_above 0 done lanes)) none same in
-    omega arith
-  where
-    drop_past : (ls : List Lane) (n : ℕ) → length ls ≤ n → drop n ls ≡ []
-    drop_past ls zero h = go ls h
-      where
-        go : (xs : List Lane) → length xs ≤ 0 → drop 0 xs ≡ []
-        go [] h = refl
-        go (x ∷ xs) h = absurd (omega arith)
-    drop_past [] (suc n) h = refl
-    drop_past (x ∷ ls) (suc n) h = drop_past ls n (omega arith)
-
-pub held_count-cons : (l : Lane) (lanes : List Lane) → held_count (l ∷ lanes) ≡ length l.entries + held_count lanes
-held_count-cons l lanes = sum_by-cons (λ (x : Lane). length x.entries) l lanes

@@ -1,5 +1,5 @@
 -- Weighed entries in order.
-use Rattle.std.proofs.Common.{◌≡◌, ◌≢◌, ℕ, ◌+◌, ◌-◌, ◌<◌, ◌≤◌, ◌⊎◌, ◌↔◌, ◌||◌, Bool, true, false, cond, List, [], ◌∷◌, Option, Some, None, IsSome, Less, length, map, sum, slice_get, slice_index, refl, sym, ap, ◌∙◌, subst, inl, inr, ⊎_elim, arith}
+use Rattle.std.proofs.Common.{◌≡◌, ◌≢◌, ℕ, ◌+◌, ◌-◌, ◌<◌, ◌≤◌, ◌⊎◌, ◌↔◌, ◌||◌, true, false, cond, List, [], ◌∷◌, Option, Some, None, IsSome, Less, length, map, sum, slice_get, slice_index, refl, sym, ap, ◌∙◌, subst, inl, inr, ⊎_elim, arith}
 use Rattle.std.specs.List.{list_any, AllByRecursion}
 use Rattle.std.specs.List.Sorted.{IsStrictlySortedBy}
 use Rattle.std.specs.BTreeMap.{is_at}
@@ -17,6 +17,7 @@ use Rattle.replay_guide.specs.Orders.{weight_of, IsNamed, ComesBefore, IsInOrder
 use Rattle.replay_guide.specs.Walks.{numbered, weighed_cmp, WeighsBelow, IsWeighed}
 use Rattle.replay_guide.proofs.Keys.{weighed_same, weighed_equal, weighed_less}
 use Rattle.replay_guide.proofs.LaneLists.{lane_of, at-numbered, at-numbered_before}
+use Rattle.replay_guide.proofs.IndexLemmas.{cond_true, true_cond}
 
 pub weight_is_sum : (e : StampedEntry) → length e.stamp ≡ 16 → weight_of e ≡ sum e.stamp
 unfolding weight_of
@@ -119,14 +120,6 @@ module _ (guide : List Lane) (keys : List Weighed) (is : IsHeldSet guide) (all :
   all_in_order sorted = in_order guide keys sorted of_lanes
 
 -- One more entry is weighed
-
-cond_true : (b a : Bool) → cond b true a ≡ true → (a ≡ true) ⊎ (b ≡ true)
-cond_true true a h = inr refl
-cond_true false a h = inl h
-
-true_cond : (b a : Bool) → a ≡ true → cond b true a ≡ true
-true_cond true a h = refl
-true_cond false a h = h
 
 abbrev pub Inserts : List Weighed → List Weighed → Weighed → Type 0
 Inserts old new k = (q : Weighed) → list_any (is_at (weighed_cmp q)) new ≡ cond (is_at (weighed_cmp k) q) true (list_any (is_at (weighed_cmp q)) old)

@@ -1,20 +1,18 @@
 -- Names in order are entries by weight, then thread.
-use Rattle.std.proofs.Common.{◌≡◌, ℕ, ◌<◌, ◌⊎◌, ◌↔◌, List, [], ◌∷◌, Option, Some, None, IsSome, slice_index, refl, sym, ap, ◌∙◌, subst, inl, inr, ⊎_elim, arith}
-use Rattle.entry_order.specs.Log.{Entry, IsLog, IsIn, PrecedesOrIs}
+use Rattle.std.proofs.Common.{◌≡◌, ℕ, ◌<◌, ◌⊎◌, ◌↔◌, List, [], ◌∷◌, Option, Some, None, IsSome, slice_index, refl, sym, subst, inl, inr, ⊎_elim, arith}
+use Rattle.entry_order.specs.Log.{Entry, IsLog, IsIn}
 use Rattle.entry_order.specs.Stamps.{IsWeight}
 use Rattle.entry_order.proofs.Order.{thread_by_number}
-use Rattle.entry_order.proofs.Weights.{weight_is_sum, weight_falls, count_unique}
+use Rattle.entry_order.proofs.Weights.{weight_is_sum, weight_falls}
 use Rattle.line_order.specs.Line.{GoesBefore, IsByWeight}
+use Rattle.line_order.proofs.SortedEntries.{weight_one}
 use Rattle.access_log.specs.declared.entry.StampedEntry.{StampedEntry}
 use Rattle.access_log.specs.Held.{Lane, lane, entry_at}
 use Rattle.master_core.specs.Holding.{and_found, held_entries, HoldsOf}
 use Rattle.master_core.specs.Stepping.{plain_entry}
-use Rattle.master_core.proofs.HeldEntries.{held_at, at_held}
+use Rattle.master_core.proofs.HeldEntries.{held_at, at_held, and_found_old, and_found_new}
 use Rattle.replay_guide.specs.Orders.{weight_of, IsNamed, ComesBefore, IsInOrder}
 use Rattle.replay_guide.specs.Worlds.{put_before, entries_named}
-
-weight_one : (log : List Entry) (e : Entry) (n k : ℕ) → IsWeight log e n → IsWeight log e k → n ≡ k
-weight_one log e n k a b = count_unique (λ f. PrecedesOrIs log f e) log n k a b
 
 module _ (log stored : List Entry) (guide : List Lane) (good : IsLog log) (low : (e : Entry) → IsIn e log → e.thread < 16) (holds : HoldsOf log stored guide) where
   has_weight : (t n : ℕ) (s : StampedEntry) → entry_at (lane guide t) n ≡ Some s → IsWeight log (plain_entry s) (weight_of s)
@@ -67,14 +65,6 @@ found_one None older e h = inl h
 found_one (Some s) older e (inl same) = inr (s, refl, same)
 found_one (Some s) older e (inr h) = inl h
 
-found_old : (o : Option StampedEntry) (older : List Entry) (e : Entry) → IsIn e older → IsIn e (and_found o older)
-found_old None older e h = h
-found_old (Some s) older e h = inr h
-
-found_new : (o : Option StampedEntry) (older : List Entry) (e : Entry) (s : StampedEntry) → o ≡ Some s → plain_entry s ≡ e → IsIn e (and_found o older)
-found_new None older e s is same = absurd cc
-found_new (Some x) older e s is same = let q : x ≡ s = cc in inl (ap plain_entry q ∙ same)
-
 put_from : (guide : List Lane) (names : List (ℕ × ℕ)) (older : List Entry) (e : Entry) → IsIn e (put_before guide names older) → IsIn e older ⊎ IsEntryOf guide names e
 put_from guide [] older e h = inl h
 put_from guide (x ∷ names) older e h = go (put_from guide names (and_found (entry_at (lane guide x.0) x.1) older) e h)
@@ -90,10 +80,10 @@ put_from guide (x ∷ names) older e h = go (put_from guide names (and_found (en
 put_to : (guide : List Lane) (names : List (ℕ × ℕ)) (older : List Entry) (e : Entry) → IsIn e older ⊎ IsEntryOf guide names e → IsIn e (put_before guide names older)
 put_to guide [] older e (inl h) = h
 put_to guide [] older e (inr (t, n, s, named, at, same)) = absurd named
-put_to guide (x ∷ names) older e (inl h) = put_to guide names (and_found (entry_at (lane guide x.0) x.1) older) e (inl (found_old (entry_at (lane guide x.0) x.1) older e h))
+put_to guide (x ∷ names) older e (inl h) = put_to guide names (and_found (entry_at (lane guide x.0) x.1) older) e (inl (and_found_old (entry_at (lane guide x.0) x.1) older e h))
 put_to guide (x ∷ names) older e (inr (t, n, s, inl (thread, number), at, same)) =
     let there : entry_at (lane guide x.0) x.1 ≡ Some s = subst (λ (u : ℕ). entry_at (lane guide u) x.1 ≡ Some s) (sym thread) (subst (λ (m : ℕ). entry_at (lane guide t) m ≡ Some s) (sym number) at) in
-    put_to guide names (and_found (entry_at (lane guide x.0) x.1) older) e (inl (found_new (entry_at (lane guide x.0) x.1) older e s there same))
+    put_to guide names (and_found (entry_at (lane guide x.0) x.1) older) e (inl (and_found_new (entry_at (lane guide x.0) x.1) older e s there same))
 put_to guide (x ∷ names) older e (inr (t, n, s, inr named, at, same)) = put_to guide names (and_found (entry_at (lane guide x.0) x.1) older) e (inr (t, n, s, named, at, same))
 
 pub all_named : (guide : List Lane) (names : List (ℕ × ℕ)) (e : Entry) → ((t n : ℕ) → IsNamed t n names ↔ IsSome (entry_at (lane guide t) n)) → IsIn e (entries_named guide names) ↔ IsIn e (held_entries guide)

@@ -1,5 +1,5 @@
 -- The guide's own lists, and how far they are made.
-use Rattle.std.specs.Prelude.{◌≡◌, ℕ, ◌+◌, ◌<◌, ◌⊎◌, true, cond, nat_lt, Bool, List, [], ◌∷◌, Some}
+use Rattle.std.specs.Prelude.{◌≡◌, ℕ, ◌+◌, ◌<◌, ◌⊎◌, true, Bool, List, [], ◌∷◌, Some}
 use Rattle.std.specs.declared.cmp.Ordering.{Ordering}
 use Rattle.std.specs.Ordering.{nat_cmp, ordering_then}
 use Rattle.std.specs.List.{list_any}
@@ -20,11 +20,6 @@ use Rattle.replay_guide.specs.Indexes.{IsIndexOf}
 abbrev pub numbered : ℕ → List StampedEntry → List (ℕ × StampedEntry)
 numbered from [] = []
 numbered from (e ∷ rest) = (from + 1, e) ∷ numbered (from + 1) rest
-
--- the entries with numbers above this one
-abbrev pub above : ℕ → List (ℕ × StampedEntry) → List (ℕ × StampedEntry)
-above number [] = []
-above number (x ∷ rest) = cond (nat_lt number x.0) (x ∷ above number rest) (above number rest)
 
 -- entry (t, n) of a thread below this one is followed, and did this
 abbrev pub FollowsBelow : List Lane → ℕ → ℕ → ℕ → What → Type 0

@@ -1,10 +1,9 @@
-ghost use Rattle.std.specs.Prelude.{◌≡◌, ℕ, ◌+◌, ◌↔◌, [], IfOk, IfSome, IfNone, IsSome, IsTrue, false, length, map, option_copied};
+ghost use Rattle.std.specs.Prelude.{◌≡◌, ℕ, ◌+◌, ◌↔◌, [], IfOk, IfSome, IfNone, IsSome, IsTrue, false, map, option_copied};
 ghost use Rattle.std.specs.List.Sorted.{IsStrictlySortedBy};
 ghost use Rattle.entry_order.specs.declared.what.What.TheVariants as what_of;
 ghost use Rattle.access_log.specs.declared.entry.Turn.TheVariants as turn_of;
 ghost use Rattle.access_log.specs.Held.{lane, entry_at};
 ghost use Rattle.access_log.specs.Lanes.{IsHeldSet};
-ghost use Rattle.access_log.specs.Members.{IsMemberAbove, IsNumberOf};
 ghost use Rattle.replay_guide.specs.Following.{Follows, CanBeFollowed, recorded};
 ghost use Rattle.replay_guide.specs.Turns.{WaitsFor, IsFollowed, IsFree, IsFirstPending, NoneIsPending};
 ghost use Rattle.replay_guide.specs.Walks.{IsTurn, weighed_cmp};
@@ -200,17 +199,6 @@ impl Guide {
             What::Clock(answer) | What::Draw(answer) => Some(answer),
             What::Access { .. } | What::Read { .. } => None,
         }
-    }
-
-    /// How many followed entries have a number above the component of their thread. Its time grows with the number of threads.
-    pub fn left(&self, done: &Stamp) -> u64
-        ensures { IsNumberOf (IsMemberAbove self.now done.now) result }
-    {
-        let mut left = 0;
-        for i in 0..self.lanes.len() {
-            left += self.lanes[i].count_above(done.get(i as u32));
-        }
-        left
     }
 
     /// The followed entries in an order in which they can all be made: by weight, which is the sum of the stamp, then by thread,

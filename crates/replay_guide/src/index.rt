@@ -15,7 +15,7 @@ use thread_clock::Stamp;
 /// The place of a touch is here the number of touches before it.
 #[derive(Debug, Drop)]
 pub struct Index {
-    /// By variable and place: the thread and number of the touch.
+    /// By variable and the number of touches before it: the thread and number of a touch.
     pub touches: BTreeMap<(u32, u64), (u32, u64)>,
     /// Variable, place, thread and number of each read; the place is the number of touches before it.
     pub reads: BTreeSet<(u32, u64, u32, u64)>,

@@ -4,7 +4,7 @@ ghost use Rattle.access_log.specs.Held.{lane, entry_at};
 ghost use Rattle.replay_guide.specs.Following.{CanBeFollowed};
 ghost use Rattle.replay_guide.specs.Orders.{weight_of};
 ghost use Rattle.replay_guide.specs.Indexes.{IsIndexOf};
-ghost use Rattle.replay_guide.specs.Walks.{FollowsBelow, IsWeighed, above};
+ghost use Rattle.replay_guide.specs.Walks.{FollowsBelow, IsWeighed};
 
 use crate::index::Index;
 use access_log::{Held, StampedEntry};
@@ -79,15 +79,6 @@ impl FollowedLane {
             return None;
         }
         self.entries.get((number - self.covered - 1) as usize)
-    }
-
-    /// How many followed entries have a number above this one.
-    pub fn count_above(&self, number: u64) -> u64
-        ensures count { result ≡ length (above number self.now.entries) }
-        ensures small { result ≤ 2 ^ 56 }
-    {
-        let all = self.entries.len() as u64;
-        all - all.min(number.saturating_sub(self.covered))
     }
 
     /// Puts the followed entries into the set, with their weights.

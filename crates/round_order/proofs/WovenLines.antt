@@ -20,6 +20,7 @@ use Rattle.round_order.proofs.OwnReceipts.{among_own}
 use Rattle.round_order.proofs.LoggedMoves.{log_step, in_entries}
 use Rattle.round_order.proofs.OrderFronts.{Goes, owned}
 use Rattle.round_order.proofs.WovenSteps.{all_go, front_all}
+use Rattle.round_order.proofs.WovenThere.{rest_by_weight, among_right}
 
 -- The woven list is an order in which the logged receipts rise in weight.
 rises : {V : Type 0} (order : List (Receipt V)) → IsByWeight order → IsRising order
@@ -55,14 +56,6 @@ rest_entries (r ∷ rest) led h = unlogged_more r (entries_in (rest ++ led)) h.0
 rest_log : {V : Type 0} (left led : List (Receipt V)) (past : List (Step V)) → IsByThread left → log_of (after (left ++ led) past) ≡ log_of (after led past)
 rest_log [] led past h = refl
 rest_log (r ∷ rest) led past h = unlogged_more r (log_of (after (rest ++ led) past)) h.0 ∙ rest_log rest led past h.2
-
-rest_by_weight : {V : Type 0} (left led : List (Receipt V)) → IsByWeight (left ++ led) → IsByWeight led
-rest_by_weight [] led h = h
-rest_by_weight (r ∷ rest) led h = rest_by_weight rest led h.1
-
-rest_among : {V : Type 0} (left led : List (Receipt V)) (x : Receipt V) → Among x led → Among x (left ++ led)
-rest_among [] led x h = h
-rest_among (r ∷ rest) led x h = inr (rest_among rest led x h)
 
 -- Each entry is led up to
 
@@ -142,7 +135,7 @@ woven_line {V} m inputs threads moves past rs few played linked order w = record
     g = all_go m inputs threads moves past rs few played linked order (front_all m inputs threads moves past rs few played linked order (woven_order rs order w))
 
     in_order : (x : Receipt V) → Among x w.led → Among x order
-    in_order x a = subst (λ (l : List (Receipt V)). Among x l) (sym w.parts) (rest_among w.left w.led x a)
+    in_order x a = subst (λ (l : List (Receipt V)). Among x l) (sym w.parts) (among_right w.left w.led x a)
 
     owns : Owns w.led
     owns x d a l = owned m inputs threads moves past rs few played linked x d (subst (λ (z : List (Receipt V)). Among x z) (w.each x.step.thread) (among_own order x (in_order x a))) l

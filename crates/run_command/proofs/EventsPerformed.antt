@@ -1,6 +1,7 @@
 -- What performing an event comes to, from what the system promises.
 use Rattle.std.proofs.Common.{◌≡◌, ℕ, List, [], drop, length, refl, sym, ap, ◌∙◌, subst, Result, Ok, Err, arith}
 use Rattle.std.specs.Prelude.{All, IfOk}
+use Rattle.plain_text.specs.Packets.{IsShort}
 use Rattle.plain_text.specs.declared.limit.Limit.{Limit}
 use Rattle.access_log.specs.declared.entry.Output.{Output}
 use Rattle.plain_machine.specs.Program.{Meaning, IsLawful}
@@ -14,7 +15,6 @@ use Rattle.event_replies.specs.declared.reply.Stop.TheVariants as stop
 use Rattle.system_parts.specs.Performing.{IsStopped}
 use Rattle.recovery_core.specs.Systems.{Systemed}
 use Rattle.recovery_core.specs.Systems.{HasReleased, SystemStands, SystemMoves, SystemStops, RepliesAny}
-use Rattle.run_writes.specs.Run.{IsShort}
 use Rattle.run_writes.specs.Replies.{packets_in}
 use Rattle.run_command.specs.Running.{IsSystemAt, ComesTo}
 use Rattle.run_writes.proofs.ShortPackets.{released_short}

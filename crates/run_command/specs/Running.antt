@@ -7,6 +7,7 @@ use Rattle.recovery_world.specs.declared.event.Event.{Event}
 use Rattle.recovery_world.specs.World.{Setting, Sent, World as SystemWorld}
 use Rattle.recovery_world.specs.Many.{OnAny, Stops}
 use Rattle.recovery_world.specs.Files.{reply_line, sent_names}
+use Rattle.plain_text.specs.Packets.{IsShort}
 use Rattle.plain_text.specs.declared.limit.Limit.{Limit}
 use Rattle.event_replies.specs.declared.reply.Reply.{Reply as SystemReply}
 use Rattle.event_replies.specs.declared.reply.Stop.{Stop}
@@ -18,7 +19,7 @@ use Rattle.output_files.specs.declared.error.OutputError.{OutputError}
 use Rattle.output_files.specs.Writes.{Write, HasWritten, HasBegun, HasGathered}
 use Rattle.output_files.specs.Written.{Writes, WritesGathered}
 use Rattle.run_writes.specs.Replies.{Reply, Answers, newly_released, packets_in, released_in}
-use Rattle.run_writes.specs.Run.{OutputNames, FitsRecord, IsShort, release_writes, reply_writes, writes_of, WritesSome, WritesUntil}
+use Rattle.run_writes.specs.Run.{OutputNames, FitsRecord, release_writes, reply_writes, writes_of, WritesSome, WritesUntil}
 use Rattle.run_writes.specs.Errors.{run_result_of, stopped_result}
 use Rattle.run_writes.specs.declared.error.RunError.{RunError}
 use Rattle.run_writes.specs.declared.error.RunError.TheVariants as run

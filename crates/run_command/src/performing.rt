@@ -1,7 +1,7 @@
 ghost use Rattle.std.specs.Prelude.{◌≡◌, All, OnOk, false};
+ghost use Rattle.plain_text.specs.Packets.{IsShort};
 ghost use Rattle.recovery_world.specs.World.{Setting, World as SystemWorld};
 ghost use Rattle.run_writes.specs.Replies.{packets_in};
-ghost use Rattle.run_writes.specs.Run.{IsShort};
 ghost use Rattle.run_command.specs.Running.{ComesTo, IsSystemAt};
 
 use access_log::Outputs;

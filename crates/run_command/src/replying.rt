@@ -1,12 +1,13 @@
 ghost use Rattle.std.specs.Prelude.{◌≡◌, ◌++◌, ℕ, All, List, OnOk, IsTrue, IsErrOf};
 ghost use Rattle.std.specs.Result.{IsOk};
+ghost use Rattle.plain_text.specs.Packets.{IsShort};
 ghost use Rattle.recovery_world.specs.World.{Sent};
 ghost use Rattle.recovery_world.specs.Files.{reply_line, sent_names};
 ghost use Rattle.world_io.specs.World.{Shown, is_writable, WritingFailed};
 ghost use Rattle.output_files.specs.Writes.{Write, HasGathered, IsOutput};
 ghost use Rattle.output_files.specs.Written.{WritesGathered, OnlyWrites};
 ghost use Rattle.run_writes.specs.Replies.{packets_in};
-ghost use Rattle.run_writes.specs.Run.{FitsRecord, IsShort, reply_writes};
+ghost use Rattle.run_writes.specs.Run.{FitsRecord, reply_writes};
 ghost use Rattle.run_command.specs.Running.{WritesPerformed};
 
 use crate::Performed;

@@ -2,9 +2,8 @@
 use Rattle.std.proofs.Common.{◌≡◌, ℕ, ◌+◌, ◌<◌, List, [], ◌∷◌, ◌++◌, length, length-append, refl, sym, ap, ◌∙◌, append-nil, append_assoc, subst, inl, inr, ◌⊎◌, arith, true, Some, None}
 use Rattle.std.specs.Prelude.{cond}
 use Rattle.std.specs.Str.{bytes_eq}
-use Rattle.plain_text.specs.declared.packet.Packet.{Packet}
 use Rattle.plain_text.specs.declared.packet.Unit.{Unit as FractionUnit}
-use Rattle.pcap_io.specs.Capture.{written, written_header, record_of, records_of}
+use Rattle.pcap_io.specs.Capture.{written, written_header, records_of}
 use Rattle.pcap_io.specs.declared.order.Order.TheVariants as order
 use Rattle.recovery_world.specs.declared.event.Event.{Event}
 use Rattle.recovery_world.specs.World.{Setting, World as SystemWorld}
@@ -14,7 +13,7 @@ use Rattle.output_files.proofs.Effects.{Compared, IsSame, Differs, compared, rep
 use Rattle.run_writes.specs.Replies.{Reply, Answers, Opens, Goes, newly_released, released_in, lines_in}
 use Rattle.run_writes.specs.Run.{OutputNames, reply_writes, replies_writes, writes_of}
 use Rattle.run_writes.specs.Steps.{KeepStep, HaveLines}
-use Rattle.run_writes.proofs.RunWrites.{same_name, other_name}
+use Rattle.run_writes.proofs.RunWrites.{same_name, other_name, records_more, lines_after}
 
 -- Cuts
 
@@ -146,10 +145,6 @@ stands_behind name (Reports bytes ∷ writes) had made = stands_behind name writ
 
 -- Replies
 
-records_more : (first more : List Packet) → records_of order.Little (first ++ more) ≡ records_of order.Little first ++ records_of order.Little more
-records_more [] more = refl
-records_more (p ∷ first) more = ap (λ l. record_of order.Little p ++ l) (records_more first more) ∙ sym (append_assoc (record_of order.Little p) (records_of order.Little first) (records_of order.Little more))
-
 replies_append : (name : List ℕ) (first more : List Reply) → replies_writes name (first ++ more) ≡ replies_writes name first ++ replies_writes name more
 replies_append name [] more = refl
 replies_append name (r ∷ first) more = ap (λ l. reply_writes name r ++ l) (replies_append name first more)
@@ -157,10 +152,6 @@ replies_append name (r ∷ first) more = ap (λ l. reply_writes name r ++ l) (re
 appended_replies : (name : List ℕ) (replies : List Reply) → appended name (replies_writes name replies) ≡ records_of order.Little (released_in replies)
 appended_replies name [] = refl
 appended_replies name (r ∷ replies) = rw (same_name name) (ap (λ l. records_of order.Little r.released ++ l) (appended_replies name replies) ∙ sym (records_more r.released (released_in replies)))
-
-reported_replies : (name : List ℕ) (replies : List Reply) → reported (replies_writes name replies) ≡ lines_in replies
-reported_replies name [] = refl
-reported_replies name (r ∷ replies) = ap (λ l. r.line ++ l) (reported_replies name replies)
 
 longer_prefix : (a b c : List ℕ) → IsPrefix (a ++ b) c → IsPrefix c a → length b ≡ 0
 longer_prefix a b c p q =
@@ -196,7 +187,7 @@ module _ (names : OutputNames) (u : FractionUnit) (apart : names.released ≡ na
           ∙ sym (append_assoc (replies_writes names.released first) (Appends names.released (records_of order.Little r.released) ∷ []) (Reports r.line ∷ (replies_writes names.released rest ++ more))))
 
       reported_A : reported A ≡ lines_in first
-      reported_A = reported_more (replies_writes names.released first) (Appends names.released (records_of order.Little r.released) ∷ []) ∙ append-nil (reported (replies_writes names.released first)) ∙ reported_replies names.released first
+      reported_A = reported_more (replies_writes names.released first) (Appends names.released (records_of order.Little r.released) ∷ []) ∙ append-nil (reported (replies_writes names.released first)) ∙ lines_after names.released first
 
       appended_A : appended names.released A ≡ written u (released_in first ++ r.released)
       appended_A = rw (same_name names.released)
@@ -228,7 +219,7 @@ module _ (names : OutputNames) (u : FractionUnit) (apart : names.released ≡ na
           let p = appended_cut names.released A d c in
           let all : length (written u (released_in first)) ≡ length (appended names.released d) + length p.0 = ap length (sym (appended_first first) ∙ p.1) ∙ length-append (appended names.released d) p.0 in
           absurd (omega arith)
-      go (inr (e, is, c)) = (reported e, ap reported is ∙ reported_more A e ∙ ap (λ l. l ++ reported e) (reported_replies names.released first))
+      go (inr (e, is, c)) = (reported e, ap reported is ∙ reported_more A e ∙ ap (λ l. l ++ reported e) (lines_after names.released first))
 
   have_line : (first rest : List Reply) (r : Reply) → HaveLines (first ++ r ∷ rest) → ¬ (r.line ≡ [])
   have_line [] rest r have = have.0

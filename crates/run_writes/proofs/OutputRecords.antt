@@ -2,10 +2,11 @@
 use Rattle.std.proofs.Common.{◌≡◌, ℕ, zero, suc, ◌+◌, ◌<◌, List, [], ◌∷◌, ◌++◌, take, length, sym, ap, ◌∙◌, append-nil, append_assoc, subst, arith, add-one, get_or}
 use Rattle.std.specs.Prelude.{All}
 use Rattle.std.proofs.lemmas.List.Elements.{All-cons, All-head, All-nil, All-tail}
+use Rattle.plain_text.specs.Packets.{IsShort}
 use Rattle.pcap_io.specs.Capture.{record_of, records_of}
 use Rattle.pcap_io.specs.declared.order.Order.TheVariants as order
 use Rattle.access_log.specs.declared.entry.Output.{Output}
-use Rattle.run_writes.specs.Run.{FitsRecord, IsShort}
+use Rattle.run_writes.specs.Run.{FitsRecord}
 use Rattle.run_writes.specs.Replies.{packets_in}
 
 pub short_one : (outputs : List Output) (i : ℕ) (x : Output) → All IsShort (packets_in outputs) → i < length outputs → x ≡ get_or outputs i x → IsShort x.packet

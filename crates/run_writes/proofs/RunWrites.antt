@@ -14,15 +14,11 @@ use Rattle.recovery_world.specs.declared.event.Event.{Event}
 use Rattle.recovery_world.specs.World.{Setting, opening}
 use Rattle.recovery_world.specs.Files.{done_line, moves_made, packets_of}
 use Rattle.recovery_laws.proofs.ReleasedOutputs.{stops_grow}
-use Rattle.output_files.specs.Writes.{report_file, Write, after_write, after_writes, reported, HasWritten, HasBegun}
-use Rattle.output_files.proofs.Effects.{Compared, IsSame, Differs, compared, reported_more, begun_before}
+use Rattle.output_files.specs.Writes.{report_file, Write, after_writes, reported, HasWritten, HasBegun}
+use Rattle.output_files.proofs.Effects.{Compared, IsSame, Differs, compared, reported_more, begun_before, after_more}
 use Rattle.run_writes.specs.Replies.{Reply, Opens, newly_released, released_in, lines_in}
 use Rattle.run_writes.specs.Run.{OutputNames, FitsRecord, opening_writes, release_writes, replies_writes, writes_of, closing_writes, WritesUntil, WritesAll, HasFiles, HasRun, HasStopped, HasBegunRun}
 use Rattle.run_writes.proofs.ScriptAnswers.{answers_perform, answers_release, released_then}
-
-after_more : (name : List ℕ) (first more : List Write) (had : Option (List ℕ)) → after_writes name (first ++ more) had ≡ after_writes name more (after_writes name first had)
-after_more name [] more had = refl
-after_more name (w ∷ first) more had = after_more name first more (after_write name w had)
 
 pub same_name : (name : List ℕ) → bytes_eq name name ≡ true
 same_name name = go (compared name name)
@@ -38,7 +34,7 @@ other_name name other unlike = go (compared name other)
     go (IsSame e same) = absurd (unlike same)
     go (Differs e apart) = e
 
-records_more : (first more : List Packet) → records_of order.Little (first ++ more) ≡ records_of order.Little first ++ records_of order.Little more
+pub records_more : (first more : List Packet) → records_of order.Little (first ++ more) ≡ records_of order.Little first ++ records_of order.Little more
 records_more [] more = refl
 records_more (p ∷ first) more = ap (λ l. record_of order.Little p ++ l) (records_more first more) ∙ sym (append_assoc (record_of order.Little p) (records_of order.Little first) (records_of order.Little more))
 
@@ -55,7 +51,7 @@ others_after : (name other : List ℕ) (replies : List Reply) (had : Option (Lis
 others_after name other [] had unlike = refl
 others_after name other (r ∷ replies) had unlike = rw (other_name name other unlike) (others_after name other replies had unlike)
 
-lines_after : (name : List ℕ) (replies : List Reply) → reported (replies_writes name replies) ≡ lines_in replies
+pub lines_after : (name : List ℕ) (replies : List Reply) → reported (replies_writes name replies) ≡ lines_in replies
 lines_after name [] = refl
 lines_after name (r ∷ replies) = ap (λ l. r.line ++ l) (lines_after name replies)
 

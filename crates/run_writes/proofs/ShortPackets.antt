@@ -1,23 +1,22 @@
 -- A packet goes out with as many bytes as its input has, so what is released is short enough for a record.
-use Rattle.std.proofs.Common.{◌≡◌, ℕ, List, [], ◌∷◌, length, refl, sym, ap, ◌∙◌, subst, arith, Option, Some, None, zero, suc, inl, inr}
-use Rattle.std.specs.Prelude.{All, slice_get, take, drop}
-use Rattle.std.proofs.lemmas.List.Elements.{All-filter, All-take, All-drop, All-head, All-tail, All-cons}
+use Rattle.std.proofs.Common.{◌≡◌, ℕ, List, [], ◌∷◌, length, refl, sym, ap, ◌∙◌, subst, arith, zero, suc, inl, inr}
+use Rattle.std.specs.Prelude.{All, take, drop}
+use Rattle.std.proofs.lemmas.List.Elements.{All-filter, All-take, All-drop, All-cons}
+use Rattle.plain_text.specs.Packets.{IsShort}
 use Rattle.plain_text.specs.declared.packet.Packet.{Packet}
 use Rattle.plain_machine.specs.declared.emission.Emission.{Emission}
-use Rattle.plain_machine.specs.declared.local.Move.{Move}
-use Rattle.plain_machine.specs.declared.local.Move.TheVariants.{Access, Read, Clock, Draw, Emit, End}
 use Rattle.plain_machine.specs.Program.{Meaning, IsLawful}
-use Rattle.plain_machine.specs.Machine.{Hand, Thread, Effect, Takes, Touches, Looks, HearsClock, HearsDraw, Sends, Ends, Moves, sent_packet, take_move, hand_move, held_move}
+use Rattle.plain_machine.specs.Machine.{Effect, Takes, Touches, Looks, HearsClock, HearsDraw, Sends, Ends, Moves}
 use Rattle.plain_machine.specs.History.{Emitted, Step, act_of, emission_of, sent_of, thread_after, value_after, IsHistory}
 use Rattle.plain_machine.specs.Agree.{SendsAfter}
 use Rattle.plain_machine.proofs.Histories.{earlier_history}
 use Rattle.plain_machine.proofs.Agreement.{sends_at}
-use Rattle.line_order.proofs.Hands.{hand_input}
+use Rattle.line_order.proofs.Hands.{hand_input, held_sends}
 use Rattle.recovery_world.specs.World.{Setting, Sent, World as SystemWorld, inputs_fed}
 use Rattle.recovery_world.specs.Events.{IsAmong}
 use Rattle.recovery_world.specs.Files.{packets_of}
 use Rattle.recovery_laws.specs.Sound.{Sound}
-use Rattle.run_writes.specs.Run.{IsShort}
+use Rattle.input_logger.proofs.PlaceLists.{found_has}
 
 -- an emission is that of a packet sent out
 sends_packet : {V : Type 0} (t taken : ℕ) (A : List (Step V)) (d : Effect V) (o : Emission) → act_of t A taken d ≡ Emitted o → (p : Packet) × (d ≡ Sends p) × (p ≡ o.packet)
@@ -29,37 +28,6 @@ sends_packet t taken A (HearsDraw a) o e = absurd (cc)
 sends_packet t taken A (Sends p) o e = let q : emission_of t (sent_of A) taken p ≡ o = cc in (p, refl, ap (λ (x : Emission). x.packet) q)
 sends_packet t taken A Ends o e = absurd (cc)
 
--- with a packet in hand it is that one which is sent out, where that is next
-hand_sends : {V : Type 0} (m : Meaning V) (value : ℕ → V) (taken : ℕ) (h : Hand) (a : Option ℕ) (w : Move) (after : Thread) (p : Packet) → hand_move m value taken h a w ≡ Moves after (Sends p)
-    → (w ≡ Emit) × (p ≡ sent_packet m h)
-hand_sends m value taken h None (Access v) after p e = absurd (cc)
-hand_sends m value taken h None (Read v) after p e = absurd (cc)
-hand_sends m value taken h (Some a) Clock after p e = absurd (cc)
-hand_sends m value taken h (Some a) Draw after p e = absurd (cc)
-hand_sends m value taken h None Emit after p e = let r : sent_packet m h ≡ p = cc in (refl, sym r)
-hand_sends m value taken h None End after p e = absurd (cc)
-hand_sends m value taken h (Some a) (Access v) after p e = absurd (cc)
-hand_sends m value taken h (Some a) (Read v) after p e = absurd (cc)
-hand_sends m value taken h (Some a) Emit after p e = absurd (cc)
-hand_sends m value taken h (Some a) End after p e = absurd (cc)
-hand_sends m value taken h None Clock after p e = absurd (cc)
-hand_sends m value taken h None Draw after p e = absurd (cc)
-
-held_sends : {V : Type 0} (m : Meaning V) (packets : List Packet) (value : ℕ → V) (taken : ℕ) (a : Option ℕ) (hand : Option Hand) (after : Thread) (p : Packet) → held_move m packets value taken a hand ≡ Moves after (Sends p)
-    → (h : Hand) × (hand ≡ Some h) × (m.next h.place ≡ Emit) × (p ≡ sent_packet m h)
-held_sends m packets value taken a (Some h) after p e = let r = hand_sends m value taken h a (m.next h.place) after p e in (h, refl, r.0, r.1)
-held_sends {V} m packets value taken a None after p e = absurd (none a (slice_get packets taken) e)
-  where
-    none : (a : Option ℕ) (i : Option Packet) → take_move m taken a i ≡ Moves after (Sends p) → ⊥
-    none (Some a) i e = cc
-    none None None e = cc
-    none None (Some q) e = cc
-
-short_at : (packets : List Packet) (k : ℕ) (p : Packet) → All IsShort packets → slice_get packets k ≡ Some p → IsShort p
-short_at [] k p short at = absurd (cc)
-short_at (q ∷ packets) zero p short at = let e : q ≡ p = cc in subst IsShort e (All-head IsShort q packets short)
-short_at (q ∷ packets) (suc k) p short at = short_at packets k p (All-tail IsShort q packets short) at
-
 -- what a run on short inputs sends out is short
 sent_short : {V : Type 0} (m : Meaning V) (fits : ℕ → V → Type 0) (inputs : ℕ → List Packet) (threads : ℕ) (steps : List (Step V)) (o : Emission) (n : ℕ)
     → IsLawful m fits → ((t : ℕ) → All IsShort (inputs t)) → IsHistory m inputs threads steps → SendsAfter steps o n → IsShort o.packet
@@ -69,7 +37,8 @@ sent_short m fits inputs threads steps o n lawful short history sends =
     let sent = sends_packet at.0.thread at.0.after.taken at.1 here.0.2 o (sym here.0.4 ∙ at.3) in
     let hand = held_sends m (inputs at.0.thread) (value_after m at.1) (thread_after at.1 at.0.thread).taken here.0.1 (thread_after at.1 at.0.thread).hand at.0.after sent.0 (here.0.3 ∙ ap (Moves at.0.after) sent.1) in
     let input = hand_input m inputs threads at.1 here.1 at.0.thread hand.0 hand.1 in
-    let long : IsShort hand.0.packet = short_at (inputs at.0.thread) input.0 hand.0.packet (short at.0.thread) input.2 in
+    let long : IsShort hand.0.packet =
+    found_has IsShort (inputs at.0.thread) input.0 hand.0.packet (short at.0.thread) input.2 in
     let same : length sent.0.bytes ≡ length hand.0.packet.bytes = ap (λ (p : Packet). length p.bytes) hand.3 ∙ lawful.as_long hand.0.packet hand.0.place hand.2 in
     subst IsShort sent.2 (omega (arith, same, long))
 

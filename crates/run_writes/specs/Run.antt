@@ -1,9 +1,9 @@
 -- What the command `run` writes, and in which order: the released capture gets its header, and the schedule is created; then, event
 -- by event, the records of what it released, and its line of the report; and then the schedule, and the last line.
-use Rattle.std.specs.Prelude.{◌≡◌, ◌⊎◌, ℕ, ◌≤◌, All, List, [], ◌∷◌, ◌++◌, codes, length, Some, Result, Ok, Err, ⊤}
+use Rattle.std.specs.Prelude.{◌≡◌, ◌⊎◌, ℕ, ◌≤◌, All, List, [], ◌∷◌, ◌++◌, codes, Some, Result, Ok, Err, ⊤}
 use Rattle.plain_text.specs.Octets.{IsOfBytes}
+use Rattle.plain_text.specs.Packets.{IsShort}
 use Rattle.plain_text.specs.declared.limit.Limit.{Limit}
-use Rattle.plain_text.specs.declared.limit.TheConstants.{MOST_CAPTURED}
 use Rattle.plain_text.specs.declared.packet.Packet.{Packet}
 use Rattle.plain_text.specs.declared.packet.Unit.{Unit as FractionUnit}
 use Rattle.pcap_io.specs.Capture.{IsRecorded, written, written_header, records_of}
@@ -35,10 +35,6 @@ setting_of m run = record {
   packets = run.packets;
   seed = run.seed;
 }
-
--- a packet that a record can have
-abbrev pub IsShort : Packet → Type 0
-IsShort p = length p.bytes ≤ MOST_CAPTURED
 
 -- inputs that a box can run on: 1 to 16 threads, and packets that a record can have
 pub record CanRun (run : ScriptRun) : Type 0 where

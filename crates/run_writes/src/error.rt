@@ -5,7 +5,7 @@ use output_files::OutputError;
 use plain_text::{Limit, NoMemory};
 
 /// Why a run did not come to its end.
-#[derive(Clone, Copy, Debug, PartialEq, Eq)]
+#[derive(Clone, Copy, PartialEq, Eq)]
 pub enum RunError {
     /// The next move of a master would pass this limit, of moves or of bytes sent out.
     Limit(Limit),

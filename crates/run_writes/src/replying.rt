@@ -1,12 +1,13 @@
 ghost use Rattle.std.specs.Prelude.{◌≡◌, ◌<◌, ◌^◌, ◌∷◌, ◌++◌, [], ℕ, All, List, IfOk, OnOk, OnErr, IsTrue, IsErrOf};
 ghost use Rattle.plain_text.specs.Octets.{AreBytes};
+ghost use Rattle.plain_text.specs.Packets.{IsShort};
 ghost use Rattle.pcap_io.specs.Capture.{record_of, records_of};
 ghost use Rattle.pcap_io.specs.declared.order.Order.TheVariants as order;
 ghost use Rattle.world_io.specs.World.{Shown, is_writable, WritingFailed};
 ghost use Rattle.output_files.specs.Writes.{Write, Appends, Reports, HasGathered, IsOutput};
 ghost use Rattle.output_files.specs.Written.{Writes, WritesGathered, OnlyWrites};
 ghost use Rattle.run_writes.specs.Replies.{packets_in};
-ghost use Rattle.run_writes.specs.Run.{FitsRecord, IsShort, release_writes, reply_writes};
+ghost use Rattle.run_writes.specs.Run.{FitsRecord, release_writes, reply_writes};
 
 use access_log::Output;
 use output_files::{OutputError, write_lines, write_records};

@@ -1,50 +1,22 @@
 -- What a schedule sends out is as long as the inputs.
-use Rattle.std.proofs.Common.{◌≡◌, ℕ, ◌≤◌, List, [], ◌∷◌, ◌++◌, length, refl, sym, ap, ◌∙◌, subst, arith, Option, Some, None, Result, Ok, Err}
-use Rattle.std.specs.Prelude.{All, reverse, slice_get, ◌==◌}
+use Rattle.std.proofs.Common.{◌≡◌, ℕ, ◌≤◌, List, [], ◌∷◌, ◌++◌, length, ap, ◌∙◌, arith, Result, Ok, Err}
+use Rattle.std.specs.Prelude.{All, reverse}
 use Rattle.std.proofs.lemmas.List.{reverse-append}
-use Rattle.std.proofs.lemmas.List.Elements.{All-nil, All-cons, All-head, All-tail, All-same, All-push, All-map, All-filter}
-use Rattle.std.proofs.lemmas.Option.{slice_get_within, get_or_from_slice_get}
+use Rattle.std.proofs.lemmas.List.Elements.{All-nil, All-cons, All-head, All-tail, All-same, All-push, All-map}
 use Rattle.plain_text.specs.declared.packet.Packet.{Packet}
-use Rattle.input_logger.specs.Inputs.{Fed, inputs_of, thread_of}
+use Rattle.input_logger.specs.Inputs.{Fed, inputs_of}
+use Rattle.input_logger.proofs.PlaceLists.{input_has}
 use Rattle.plain_machine.specs.declared.emission.Emission.{Emission}
-use Rattle.plain_machine.specs.declared.local.Move.{Move}
-use Rattle.plain_machine.specs.declared.local.Move.TheVariants.{Access, Read, Clock, Draw, Emit, End}
 use Rattle.plain_machine.specs.declared.plain_move.PlainMove.{PlainMove}
 use Rattle.plain_machine.specs.declared.plain_move.PlayFault.{PlayFault}
 use Rattle.plain_machine.specs.Program.{Meaning, IsLawful}
-use Rattle.plain_machine.specs.Machine.{Hand, Thread, Effect, Takes, Touches, Looks, HearsClock, HearsDraw, Sends, Ends, Moves, sent_packet, take_move, hand_move, held_move}
+use Rattle.plain_machine.specs.Machine.{Effect, Takes, Touches, Looks, HearsClock, HearsDraw, Sends, Ends, Moves, held_move}
 use Rattle.plain_machine.specs.History.{Step, sent_more, sent_of, emissions, thread_after, value_after, act_of, play, IsHistory}
 use Rattle.plain_machine.proofs.PlayedLists.{play_history}
-use Rattle.line_order.proofs.Hands.{hand_input}
+use Rattle.line_order.proofs.Hands.{hand_input, held_sends}
 use Rattle.plain_player.specs.declared.whole.Played.{Played}
 use Rattle.plain_player.specs.Played.{IsPlayed}
 use Rattle.schedule_check.specs.Checking.{packets_of}
-
--- a move that sends out is that of a packet in hand
-hand_sends : {V : Type 0} (m : Meaning V) (value : ℕ → V) (taken : ℕ) (h : Hand) (a : Option ℕ) (w : Move) (after : Thread) (p : Packet) → hand_move m value taken h a w ≡ Moves after (Sends p)
-    → (w ≡ Emit) × (p ≡ sent_packet m h)
-hand_sends m value taken h None (Access v) after p e = absurd (cc)
-hand_sends m value taken h None (Read v) after p e = absurd (cc)
-hand_sends m value taken h (Some a) Clock after p e = absurd (cc)
-hand_sends m value taken h (Some a) Draw after p e = absurd (cc)
-hand_sends m value taken h None Emit after p e = let r : sent_packet m h ≡ p = cc in (refl, sym r)
-hand_sends m value taken h None End after p e = absurd (cc)
-hand_sends m value taken h (Some a) (Access v) after p e = absurd (cc)
-hand_sends m value taken h (Some a) (Read v) after p e = absurd (cc)
-hand_sends m value taken h (Some a) Emit after p e = absurd (cc)
-hand_sends m value taken h (Some a) End after p e = absurd (cc)
-hand_sends m value taken h None Clock after p e = absurd (cc)
-hand_sends m value taken h None Draw after p e = absurd (cc)
-
-held_sends : {V : Type 0} (m : Meaning V) (packets : List Packet) (value : ℕ → V) (taken : ℕ) (a : Option ℕ) (hand : Option Hand) (after : Thread) (p : Packet) → held_move m packets value taken a hand ≡ Moves after (Sends p)
-    → (h : Hand) × (hand ≡ Some h) × (m.next h.place ≡ Emit) × (p ≡ sent_packet m h)
-held_sends m packets value taken a (Some h) after p e = let r = hand_sends m value taken h a (m.next h.place) after p e in (h, refl, r.0, r.1)
-held_sends {V} m packets value taken a None after p e = absurd (none a (slice_get packets taken) e)
-  where
-    none : (a : Option ℕ) (i : Option Packet) → take_move m taken a i ≡ Moves after (Sends p) → ⊥
-    none (Some a) i e = cc
-    none None None e = cc
-    none None (Some q) e = cc
 
 all_reversed : {X : Type 0} (P : X → Type 0) (xs : List X) → All P xs → All P (reverse xs)
 all_reversed P [] all = all
@@ -52,11 +24,6 @@ all_reversed P (x ∷ xs) all =
     All-same P (reverse (x ∷ xs)) (reverse xs ++ x ∷ []) (reverse-append (x ∷ []) xs) (All-push P (reverse xs) x (all_reversed P xs (All-tail P x xs all)) (All-head P x xs all))
 
 module _ {V : Type 0} (m : Meaning V) (fits : ℕ → V → Type 0) (lawful : IsLawful m fits) (fed : Fed) (most : ℕ) (few : All (λ packet. length packet.bytes ≤ most) fed.packets) where
-  input_short : (t k : ℕ) (p : Packet) → slice_get (inputs_of fed t) k ≡ Some p → length p.bytes ≤ most
-  input_short t k p at =
-      let all = All-filter (λ (q : Packet). thread_of q fed.threads == t) (λ (q : Packet). length q.bytes ≤ most) fed.packets few in
-      subst (λ (q : Packet). length q.bytes ≤ most) (get_or_from_slice_get (inputs_of fed t) k p p at) (all k p (slice_get_within (inputs_of fed t) k p at))
-
   sent_short : (steps : List (Step V)) → IsHistory m (inputs_of fed) fed.threads steps → All (λ (o : Emission). length o.packet.bytes ≤ most) (sent_of steps)
   sent_short [] h = All-nil (λ (o : Emission). length o.packet.bytes ≤ most)
   sent_short (x ∷ earlier) h = rw h.0.4 (by h.0.2 h.0.3 (sent_short earlier h.1))
@@ -65,7 +32,7 @@ module _ {V : Type 0} (m : Meaning V) (fits : ℕ → V → Type 0) (lawful : Is
       out_short p e =
           let s = held_sends m (inputs_of fed x.thread) (value_after m earlier) (thread_after earlier x.thread).taken h.0.1 (thread_after earlier x.thread).hand x.after p e in
           let last = hand_input m (inputs_of fed) fed.threads earlier h.1 x.thread s.0 s.1 in
-          let short = input_short x.thread last.0 s.0.packet last.2 in
+          let short = input_has (λ (q : Packet). length q.bytes ≤ most) fed x.thread last.0 s.0.packet few last.2 in
           let long : length p.bytes ≡ length s.0.packet.bytes = ap (λ (q : Packet). length q.bytes) s.3 ∙ lawful.as_long s.0.packet s.0.place s.2 in
           omega arith
 

@@ -1,16 +1,11 @@
 -- A schedule that is played on a whole capture, and what it comes to.
-use Rattle.std.specs.Prelude.{◌≤◌, All, List, length, Result}
-use Rattle.plain_text.specs.declared.limit.TheConstants.{MOST_CAPTURED}
-use Rattle.plain_text.specs.declared.packet.Packet.{Packet}
+use Rattle.std.specs.Prelude.{◌≤◌, All, List, Result}
+use Rattle.plain_text.specs.Packets.{IsShort}
 use Rattle.input_logger.specs.Inputs.{inputs_of}
 use Rattle.plain_machine.specs.declared.plain_move.PlayFault.{PlayFault}
 use Rattle.plain_machine.specs.Program.{Meaning}
 use Rattle.plain_machine.specs.History.{Step, play}
 use Rattle.schedule_commands.specs.declared.run.ScheduleRun.{ScheduleRun}
-
--- a packet that a record can have
-abbrev pub IsShort : Packet → Type 0
-IsShort p = length p.bytes ≤ MOST_CAPTURED
 
 -- inputs that a box can run on: 1 to 16 threads, and packets that a record can have
 pub record CanPlay (run : ScheduleRun) : Type 0 where

@@ -4,7 +4,7 @@ use plain_player::PlayError;
 use plain_text::NoMemory;
 
 /// Why a command over a schedule is not done, where what it refuses is of this type.
-#[derive(Clone, Copy, Debug, PartialEq, Eq)]
+#[derive(Clone, Copy, PartialEq, Eq)]
 pub enum ScheduleError<F> {
     /// What the inputs say is refused.
     Refused(F),

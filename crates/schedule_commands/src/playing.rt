@@ -1,9 +1,10 @@
 ghost use Rattle.std.specs.Prelude.{◌≡◌, ◌⊎◌, ◌<◌, ◌-◌, ◌^◌, All, Err, IfOk, IsTrue, OnOk, IsErrOf};
+ghost use Rattle.plain_text.specs.Packets.{IsShort};
 ghost use Rattle.plain_machine.specs.declared.plain_move.PlayFault as move_fault;
 ghost use Rattle.output_files.specs.Written.{Writes, WritesFiles};
 ghost use Rattle.schedule_check.specs.Checking.{IsEmitted};
 ghost use Rattle.schedule_commands.specs.Playing.{HasBegunPlay, HasPlayed, SaysPlay, packet_writes};
-ghost use Rattle.schedule_commands.specs.Runs.{CanPlay, IsShort, outcome_of};
+ghost use Rattle.schedule_commands.specs.Runs.{CanPlay, outcome_of};
 ghost use Rattle.world_io.specs.World.{WritingFailed};
 
 use crate::{ScheduleError, ScheduleRun, put_count, put_records};

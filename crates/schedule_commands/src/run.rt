@@ -2,7 +2,7 @@ use plain_machine::Schedule;
 use plain_text::{Packets, Unit};
 
 /// What is played: a schedule, on the packets of a capture, by 1 to 16 threads.
-#[derive(Debug, Drop)]
+#[derive(Drop)]
 pub struct ScheduleRun {
     /// The number of threads, 1 to 16.
     pub threads: u32,

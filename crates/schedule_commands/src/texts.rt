@@ -1,7 +1,7 @@
 ghost use Rattle.std.specs.Prelude.{◌≡◌, ◌++◌, [], All, IfOk, codes, decimal};
+ghost use Rattle.plain_text.specs.Packets.{IsShort};
 ghost use Rattle.pcap_io.specs.Capture.{records_of};
 ghost use Rattle.pcap_io.specs.declared.order.Order.TheVariants as order;
-ghost use Rattle.schedule_commands.specs.Runs.{IsShort};
 
 use pcap_io::{put_packet, record_len};
 use plain_text::{Bytes, NoMemory, Packet, put_u64};

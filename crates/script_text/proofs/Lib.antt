@@ -1,5 +1,4 @@
 pub mod OneLine
 pub mod ReadBack
 pub mod Values
-pub mod WholeText
 pub mod ReleasedWords

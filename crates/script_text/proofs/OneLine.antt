@@ -9,6 +9,7 @@ use Rattle.std.proofs.lemmas.Bool.Decides.{nat_tests}
 use Rattle.plain_text.specs.declared.fault.LineCause.{LineCause}
 use Rattle.plain_text.specs.declared.fault.LineCause.TheVariants.{UnknownWord}
 use Rattle.plain_text.specs.Grammar.{Place, Row, value_at, index_in, misfit, is_within, row_named, PlacesSay, form_at, form_fault, numbers_fault, row_fault, or_else}
+use Rattle.plain_text.specs.LineFiles.{IsDecisive}
 use Rattle.plain_text.specs.Lines.{is_number, number_of}
 use Rattle.plain_text.proofs.Rows.{says_no_fault, one_reading}
 use Rattle.recovery_world.specs.declared.event.Event.{Event}
@@ -20,7 +21,7 @@ use Rattle.script_text.specs.declared.form.Form.TheVariants.{Feed, Time, Step, A
 use Rattle.script_text.specs.declared.part.Part.{Part}
 use Rattle.script_text.specs.declared.part.Part.TheVariants.{Number, Equals, Kind}
 use Rattle.script_text.specs.Table.{form_named, forms, has_third, kind_words, parts_of, grammar_place, row_of, rows_for, word_of}
-use Rattle.script_text.specs.Scripts.{form_of, values_of, kind_value, SaysEvent, event_fault}
+use Rattle.script_text.specs.Scripts.{form_of, values_of, kind_value, SaysEvent, event_fault, script_form}
 use Rattle.script_text.specs.Values.{and_values, value_or_misfit, values_at, kind_from, event_from}
 
 -- A value that has the form of its place is in its range
@@ -280,14 +281,14 @@ says_read words third word left form values is front some four good =
 
 -- A line says an event, or has a fault; and one event
 
-pub says_no_event_fault : (words : List (List ℕ)) (ev : Event) → SaysEvent words ev → event_fault words ≡ None
+says_no_event_fault : (words : List (List ℕ)) (ev : Event) → SaysEvent words ev → event_fault words ≡ None
 says_no_event_fault words ev says = says_no_fault (rows_for words) words (row_of (form_of ev)) (values_of ev) says
 
 or_none : (a b : Option LineCause) → or_else a b ≡ None → a ≡ None
 or_none None b e = refl
 or_none (Some cause) b e = absurd (cc)
 
-pub no_fault_says_event : (words : List (List ℕ)) → event_fault words ≡ None → (ev : Event) × SaysEvent words ev
+no_fault_says_event : (words : List (List ℕ)) → event_fault words ≡ None → (ev : Event) × SaysEvent words ev
 no_fault_says_event [] e = absurd (cc)
 no_fault_says_event (word ∷ left) e = by_form (form_named (has_third (word ∷ left)) word) refl
   where
@@ -348,8 +349,13 @@ event_back event.Settle = refl
 event_back (event.Flow n) = refl
 event_back (event.Auto seed n) = refl
 
-pub one_event : (words : List (List ℕ)) (a b : Event) → SaysEvent words a → SaysEvent words b → a ≡ b
+one_event : (words : List (List ℕ)) (a b : Event) → SaysEvent words a → SaysEvent words b → a ≡ b
 one_event words a b x y =
     let same = one_reading (rows_for words) words (row_of (form_of a)) (row_of (form_of b)) (values_of a) (values_of b) x y in
     let form : form_of a ≡ form_of b = sym (row_back (form_of a)) ∙ ap form_of_row same.0 ∙ row_back (form_of b) in
     sym (event_back a) ∙ ap (λ (f : Form). event_from f (values_of a)) form ∙ ap (λ (vs : List ℕ). event_from (form_of b) vs) same.1 ∙ event_back b
+
+-- each line says one event or has a fault
+pub events_are_decisive : IsDecisive script_form
+events_are_decisive =
+    record { thing_or_fault = no_fault_says_event; not_both = says_no_event_fault; one_thing = one_event }

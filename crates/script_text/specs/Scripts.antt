@@ -1,11 +1,11 @@
 -- Scripts. Each line that counts says one event, in order; where a line says none, the first such line is the fault.
-use Rattle.std.specs.Prelude.{◌≡◌, ℕ, ◌+◌, ◌<◌, ◌^◌, List, [], ◌∷◌, ◌++◌, codes, Option, Some, None}
+use Rattle.std.specs.Prelude.{ℕ, ◌<◌, ◌^◌, All, List, [], ◌∷◌, Option, Some, None}
 use Rattle.plain_text.specs.declared.fault.LineCause.{LineCause}
 use Rattle.plain_text.specs.declared.fault.ReadError.{ReadError}
-use Rattle.plain_text.specs.declared.fault.ReadError.TheVariants.{Fault, TooMany, NoMemory}
 use Rattle.plain_text.specs.declared.limit.TheConstants.{MOST_EVENTS}
 use Rattle.plain_text.specs.Grammar.{LineSays, line_fault}
-use Rattle.plain_text.specs.Lines.{counted_lines, words_of}
+use Rattle.plain_text.specs.LineFiles.{LineForm, IsFile, text_of}
+use Rattle.plain_text.specs.LineFiles as files
 use Rattle.recovery_world.specs.declared.event.Event.{Event}
 use Rattle.recovery_world.specs.declared.event.Event.TheVariants as event
 use Rattle.plain_text.specs.declared.kind.Kind.{Kind}
@@ -68,28 +68,6 @@ SaysEvent words ev = LineSays (rows_for words) words (row_of (form_of ev)) (valu
 abbrev pub event_fault : List (List ℕ) → Option LineCause
 event_fault words = line_fault (rows_for words) words
 
--- Of a text
-
--- the lines, each with its number, say these events, one each, in order, and then the rest follows
-abbrev pub Begins : List (ℕ × List ℕ) → List Event → List (ℕ × List ℕ) → Type 0
-Begins lines [] rest = lines ≡ rest
-Begins [] (ev ∷ events) rest = ⊥
-Begins (line ∷ lines) (ev ∷ events) rest = SaysEvent (words_of line.1) ev × Begins lines events rest
-
--- a text is the script of these events
-abbrev pub IsScript : List ℕ → List Event → Type 0
-IsScript text events = Begins (counted_lines text) events []
-
--- the line with this number has this fault, and each line before it says an event
-pub record FirstFault (text : List ℕ) (number : ℕ) (cause : LineCause) : Type 0 where
-  pub events : List Event
-  pub line : List ℕ
-  pub rest : List (ℕ × List ℕ)
-  pub begins : Begins (counted_lines text) events ((number, line) ∷ rest)
-  pub fault : event_fault (words_of line) ≡ Some cause
-
--- How many
-
 -- `auto S N` counts as N events, and any other as one
 abbrev pub weight : Event → ℕ
 weight (event.Feed n) = 1
@@ -108,22 +86,29 @@ weight event.Settle = 1
 weight (event.Flow n) = 1
 weight (event.Auto seed n) = n
 
+-- Of a text
+
+abbrev pub script_form : LineForm Event
+script_form = record { says = SaysEvent; fault = event_fault; weight = weight }
+
+-- a text is the script of these events
+abbrev pub IsScript : List ℕ → List Event → Type 0
+IsScript text events = IsFile script_form text events
+
+-- the line with this number has this fault, and each line before it says an event
+abbrev pub FirstFault : List ℕ → ℕ → LineCause → Type 0
+FirstFault text number cause = files.FirstFault script_form text number cause
+
 abbrev pub count_of : List Event → ℕ
-count_of [] = 0
-count_of (ev ∷ events) = weight ev + count_of events
+count_of events = files.count_of script_form events
 
 -- the events of the first lines pass the limit, before any line with a fault
-pub record HasTooMany (text : List ℕ) : Type 0 where
-  pub events : List Event
-  pub rest : List (ℕ × List ℕ)
-  pub begins : Begins (counted_lines text) events rest
-  pub many : MOST_EVENTS < count_of events
+abbrev pub HasTooMany : List ℕ → Type 0
+HasTooMany text = files.HasTooMany script_form MOST_EVENTS text
 
 -- what an error says of a text
 abbrev pub IsRefused : List ℕ → ReadError → Type 0
-IsRefused text (Fault fault) = FirstFault text fault.line fault.cause × (HasTooMany text → ⊥)
-IsRefused text TooMany = HasTooMany text
-IsRefused text NoMemory = Unit {0}
+IsRefused text error = files.IsRefused script_form MOST_EVENTS text error
 
 -- Written scripts
 
@@ -132,12 +117,13 @@ abbrev pub AreNumbers : List ℕ → Type 0
 AreNumbers [] = Unit {0}
 AreNumbers (n ∷ values) = (n < 2 ^ 64) × AreNumbers values
 
--- all numbers of these events may
+-- all numbers of this event may
+abbrev pub FitsWords : Event → Type 0
+FitsWords ev = AreNumbers (values_of ev)
+
 abbrev pub FitWords : List Event → Type 0
-FitWords [] = Unit {0}
-FitWords (ev ∷ events) = AreNumbers (values_of ev) × FitWords events
+FitWords events = All FitsWords events
 
 -- the lines of these events, each with a line feed
 abbrev pub script_text : List Event → List ℕ
-script_text [] = []
-script_text (ev ∷ events) = event_words ev ++ codes "\n" ++ script_text events
+script_text events = text_of event_words events

@@ -21,7 +21,7 @@ pub fn a_text_is_one_script_or_has_a_fault()
         → IsScript text events → HasTooMany text ↔ (MOST_EVENTS < count_of events) }
     ensures too_many_before { (text : List ℕ) (number : ℕ) (cause : LineCause)
         → (first : FirstFault text number cause)
-        → HasTooMany text ↔ (MOST_EVENTS < count_of first.events) }
+        → HasTooMany text ↔ (MOST_EVENTS < count_of first.things) }
 {}
 
 /// A text of the lines of events, each with a line feed, is the script of these events and of no others; the numbers of the

@@ -7,7 +7,9 @@ ghost use Rattle.script_text.specs.Values.{values_at};
 
 use crate::form::{Form, MOST_VALUES};
 use crate::part::Part;
-use plain_text::{LineCause, LineFault, MOST_EVENTS, ReadError, Sequence, WordIter, lines, words};
+use plain_text::{
+    LineCause, LineFile, MOST_EVENTS, ReadError, Sequence, WordIter, read_lines, words,
+};
 use recovery_world::Event;
 use std::alloc::Global;
 use std::mem::size_of;
@@ -27,24 +29,26 @@ pub fn read_script(alloc: Global, text: &[u8]) -> Result<Events, ReadError>
     ensures few { IfOk result (λ events. count_of events ≤ most_events) }
     ensures refused { IfErr result (IsRefused text.now) }
 {
-    let mut events = Sequence::new(alloc);
-    let mut room = u64::from(MOST_EVENTS);
-    for line in lines(text) {
-        let event = match read_event(line.bytes) {
-            Ok(event) => event,
-            Err(cause) => {
-                let line = line.number;
-                return Err(ReadError::Fault(LineFault { line, cause }));
-            }
-        };
-        let weight = weight_of(&event);
-        if weight > room {
-            return Err(ReadError::TooMany);
-        }
-        room -= weight;
-        events.push(event)?;
+    read_lines::<Scripts>(alloc, text, u64::from(MOST_EVENTS))
+}
+
+/// Scripts as files of lines.
+pub struct Scripts;
+
+impl LineFile for Scripts {
+    ghost use Rattle.script_text.specs.Scripts.{script_form};
+
+    type Thing = Event;
+
+    ghost form = { script_form };
+
+    fn read_line(line: &[u8]) -> Result<Event, LineCause> {
+        read_event(line)
     }
-    Ok(events)
+
+    fn weight(event: &Event) -> u64 {
+        weight_of(event)
+    }
 }
 
 /// As how many events an event counts.

@@ -1,7 +1,7 @@
 -- Frames as they are sent, and what comes back.
 use Rattle.std.proofs.Common.{◌≡◌, ℕ, ◌<◌, List, [], ◌∷◌, ◌++◌, length, refl, sym, ap, ◌∙◌, subst, Option, Some, Result, Err, arith}
 use Rattle.std.specs.Prelude.{slice_set, slice_index_or}
-use Rattle.std.proofs.lemmas.List.{append-nil, get_or_default}
+use Rattle.std.proofs.lemmas.List.{get_or_default}
 use Rattle.plain_text.specs.declared.kind.Kind.TheVariants.{Log, Out}
 use Rattle.access_log.specs.declared.entry.StampedEntry.{StampedEntry}
 use Rattle.access_log.specs.declared.entry.Output.{Output}
@@ -12,14 +12,10 @@ use Rattle.wire_frames.specs.declared.frame.Frame.TheVariants as frame
 use Rattle.wire_frames.specs.declared.frame.FrameError.{FrameError}
 use Rattle.wire_frames.specs.declared.frame.FrameError.TheVariants as error
 use Rattle.wire_frames.specs.declared.frame.FrameFault.{FrameFault}
-use Rattle.wire_frames.specs.Layout.{IsFrame, BeginsWith}
+use Rattle.wire_frames.specs.Layout.{IsFrame}
 use Rattle.wire_frames.specs.Writing.{CanPutEntry, CanPutOutput}
 use Rattle.wire_frames.specs.Faults.{Gives}
 use Rattle.sent_frames.specs.Sending.{Sending, HasEntryFrame, HasOutputFrame, SendsEntry, SendsOutput, SendsAgain, entry_address, output_address, entry_size, output_size, lengths_of}
-
--- a frame is one with nothing behind it
-pub whole_begins : (bytes : List ℕ) (f : Frame) → IsFrame bytes f → BeginsWith bytes f (length bytes)
-whole_begins bytes f is = record { first = bytes; rest = []; parts = sym (append-nil bytes); sized = refl; is = is }
 
 -- a frame is not at fault
 pub gives_no_fault : (r : Result (Frame × ℕ) FrameError) (fault : FrameFault) (f : Frame) (size : ℕ) → r ≡ Err (error.Fault fault) → Gives r f size → ⊥

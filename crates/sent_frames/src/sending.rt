@@ -9,10 +9,9 @@ ghost use Rattle.wire_frames.specs.declared.frame.Frame.TheVariants as frame_is;
 ghost use Rattle.wire_frames.specs.Layout.{IsFrame};
 ghost use Rattle.sent_frames.specs.Sending.{IsUnsent, SendsEntry, SendsOutput, SendsAgain, ForgetsEntries, ForgetsOutputs, BeginsEpoch, TurnsBack, HasEntryFrame, HasOutputFrame, entry_address, output_address, length_at};
 
-use access_log::{Output, StampedEntry};
+use access_log::{Output, StampedEntry, copy_output};
 use link_store::Links;
 use plain_text::{Kind, NoMemory, Sequence};
-use snapshot_store::copy_output;
 use std::alloc::Global;
 use std::marker::Model;
 use wire_frames::{Frame, FrameError, put_entry, put_output, take_frame};

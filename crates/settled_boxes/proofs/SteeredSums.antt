@@ -1,27 +1,19 @@
 -- A number summed over the inputs of all threads is its sum over the packets of the capture.
 use Rattle.std.proofs.Common.{◌≡◌, ◌≢◌, ℕ, ◌+◌, ◌<◌, ◌≤◌, true, false, List, [], ◌∷◌, refl, sym, ◌∙◌, subst, arith}
-use Rattle.std.specs.Prelude.{All, filter, ◌==◌, Result, Ok, Err}
-use Rattle.std.proofs.lemmas.Nat.{mod_below}
+use Rattle.std.specs.Prelude.{All, filter, ◌==◌}
 use Rattle.std.proofs.lemmas.Bool.Decides.{nat_tests}
 use Rattle.std.proofs.lemmas.List.Elements.{All-filter}
 use Rattle.std.proofs.lemmas.Option.{slice_get_within, get_or_from_slice_get}
 use Rattle.plain_text.specs.Octets.{IsOfBytes}
 use Rattle.plain_text.specs.declared.packet.Packet.{Packet}
 use Rattle.entry_order.specs.Stamps.{sum_below}
-use Rattle.packet_headers.specs.declared.flow.Flow.{Flow}
-use Rattle.packet_headers.specs.declared.flow.NotFlow.{NotFlow}
-use Rattle.packet_headers.specs.Steering.{steering_sum}
 use Rattle.packet_headers.specs.View.{viewed}
-use Rattle.input_logger.specs.Inputs.{thread_of, thread_of_view}
+use Rattle.input_logger.specs.Inputs.{thread_of}
+use Rattle.input_logger.proofs.PlaceLists.{thread_of_view-lt}
 use Rattle.recovery_world.specs.World.{Setting, all_inputs}
 use Rattle.monitor_box.specs.FlowStanding.{HaveBytes}
 use Rattle.monitor_box.specs.Arrivals.{shares}
 use Rattle.monitor_box.proofs.ChangedSums.{one_changes, sum_of_none}
-
--- a packet is steered to one of the threads
-thread_below : (seen : Result Flow NotFlow) (threads : ℕ) → 1 ≤ threads → thread_of_view seen threads < threads
-thread_below (Ok flow) threads some = mod_below (steering_sum flow) threads (omega arith)
-thread_below (Err answer) threads some = omega arith
 
 -- the packets that are steered to one thread
 abbrev of_thread : ℕ → List Packet → ℕ → List Packet
@@ -36,7 +28,7 @@ share_of_other number threads t p ps other = let k : (thread_of p threads == t) 
 
 pub steered_sum : (number : Packet → ℕ) (threads : ℕ) (packets : List Packet) → 1 ≤ threads → sum_below threads (λ t. shares number (of_thread threads packets t)) ≡ shares number packets
 steered_sum number threads [] some = sum_of_none threads _ (λ t low. refl)
-steered_sum number threads (p ∷ ps) some = more (thread_of p threads) refl (thread_below (viewed p.bytes p.original) threads some) (steered_sum number threads ps some)
+steered_sum number threads (p ∷ ps) some = more (thread_of p threads) refl (thread_of_view-lt (viewed p.bytes p.original) threads some) (steered_sum number threads ps some)
   where
     more : (u : ℕ) → thread_of p threads ≡ u → u < threads → sum_below threads (λ t. shares number (of_thread threads ps t)) ≡ shares number ps
         → sum_below threads (λ t. shares number (of_thread threads (p ∷ ps) t)) ≡ number p + shares number ps

@@ -10,9 +10,10 @@ use Rattle.recovery_world.specs.declared.event.Event.{Event}
 use Rattle.recovery_world.specs.declared.event.Event.TheVariants as event
 use Rattle.recovery_world.specs.declared.event.Outcome.{Outcome}
 use Rattle.recovery_world.specs.World.{Setting, Sent, World}
-use Rattle.recovery_world.specs.Events.{On, OnLog, OnOut, OfThread, OnStep, OnRecover}
+use Rattle.recovery_world.specs.Events.{On, OnRecover}
 use Rattle.recovery_world.specs.Many.{arrival_of, Phase, Steps, Arrives, Chooses, rests, after_step, first_of, at_rest, chosen, goes_on}
-use Rattle.recovery_laws.proofs.Rounds.{lt_true, lt_false, move_moves}
+use Rattle.recovery_laws.proofs.Rounds.{lt_true, lt_false, step_kind, few_moves}
+use Rattle.recovery_laws.proofs.Settlings.{log_keeps, out_keeps}
 use Rattle.system_parts.specs.Parts.{Parts}
 use Rattle.system_parts.specs.SystemStanding.{StandsFor}
 use Rattle.system_parts.proofs.EventChains.{threads_of_setting}
@@ -20,28 +21,13 @@ use Rattle.several_events.specs.declared.progress.Progress.{Progress}
 use Rattle.several_events.specs.declared.progress.Progress.TheVariants as progress
 use Rattle.single_events.specs.Single.{IsSingle}
 use Rattle.several_events.specs.Progressing.{messages_from, to_arrive, to_do, after_turn, after_of, IsInPhase, IsOver, IsNext, IsMessage, NoMessage}
-use Rattle.several_events.proofs.MessageLists.{messages_whole, few_moves}
+use Rattle.several_events.proofs.MessageLists.{messages_whole}
 
 -- What arrives leaves the past and the moves
 
-log_past : {V : Type 0} (w : World V) (t n : ℕ) (to : Outcome) (freed : List Sent) (new : World V) → OnLog w t n to freed new → new.past ≡ w.past
-log_past {V} w t n to freed new (inl h) = ap (λ (z : World V). z.past) h.3
-log_past {V} w t n to freed new (inr (inl h)) = ap (λ (z : World V). z.past) h.5
-log_past {V} w t n to freed new (inr (inr h)) = ap (λ (z : World V). z.past) h.4.new_is
-
-out_past : {V : Type 0} (w : World V) (t j : ℕ) (to : Outcome) (new : World V) → OnOut w t j to new → new.past ≡ w.past
-out_past {V} w t j to new (inl h) = ap (λ (z : World V). z.past) h.2
-out_past {V} w t j to new (inr (inl h)) = ap (λ (z : World V). z.past) h.4
-out_past {V} w t j to new (inr (inr (inl h))) = ap (λ (z : World V). z.past) h.5
-out_past {V} w t j to new (inr (inr (inr h))) = ap (λ (z : World V). z.past) h.6
-
-of_thread_past : {V : Type 0} (s : Setting V) (w : World V) (t : ℕ) (to : Outcome) (freed : List Sent) (new : World V) (A : Type 0) → OfThread s w t to freed new A → (A → new.past ≡ w.past) → new.past ≡ w.past
-of_thread_past {V} s w t to freed new A (inl h) f = ap (λ (z : World V). z.past) h.3
-of_thread_past s w t to freed new A (inr h) f = f h.1
-
 arrival_past : {V : Type 0} (s : Setting V) (w : World V) (k : Kind) (t n : ℕ) (to : Outcome) (freed : List Sent) (new : World V) → On s w (arrival_of k t n) to freed new → new.past ≡ w.past
-arrival_past s w kind.Log t n to freed new h = of_thread_past s w t to freed new _ h (log_past w t n to freed new)
-arrival_past s w kind.Out t n to freed new h = of_thread_past s w t to freed new _ h (λ k. out_past w t n to new k.0)
+arrival_past s w kind.Log t n to freed new h = (log_keeps s w new t n to freed h).past
+arrival_past s w kind.Out t n to freed new h = (out_keeps s w new t n to freed h).past
 
 -- what is to come depends on the past alone
 messages_same : {V : Type 0} (s : Setting V) (w new : World V) (k : Kind) (t arrived : ℕ) → new.past ≡ w.past → messages_from s new k t arrived ≡ messages_from s w k t arrived
@@ -79,16 +65,6 @@ pub over_arrivals : {P V : Type 0} (m : Meaning V) (y : Parts P V) (k : Kind) (t
 over_arrivals {P} {V} m y k t arrived none = λ s w q st at. ap (λ (p : Phase). goes_on s p w) at ∙ ap first_of (none s w st)
 
 -- Threads step
-
--- a step that is a rest leaves the world, and another is one move
-step_kind : {V : Type 0} (s : Setting V) (w mid : World V) (t : ℕ) (to : Outcome) → t < s.threads → w.up ≡ true → OnStep s w t None to mid
-    → ((rests to ≡ true) × (mid ≡ w)) ⊎ ((rests to ≡ false) × (mid.moves ≡ w.moves + 1) × (mid.up ≡ true))
-step_kind s w mid t to low up (inl a) = absurd (omega (arith, low, a.0))
-step_kind s w mid t to low up (inr (inl a)) = let p : w.up ≡ false = a.1 in absurd (cc)
-step_kind s w mid t to low up (inr (inr (inl a))) = inl (ap rests a.3, a.4)
-step_kind s w mid t to low up (inr (inr (inr (inl a)))) = inl (ap rests a.2.to_is, a.3)
-step_kind {V} s w mid t to low up (inr (inr (inr (inr a)))) =
-    inr (subst (λ (o : Outcome). rests o ≡ false) (sym a.2.to_is) (move_moves a.2.step.act), ap (λ (z : World V). z.moves) a.2.new_is, ap (λ (z : World V). z.up) a.2.new_is ∙ up)
 
 pub next_step : {P V : Type 0} (m : Meaning V) (y : Parts P V) (left t u : ℕ) (moved : Bool) → u ≡ t → t < y.inputs.threads → y.inputs.threads ≤ 16
     → IsNext m y (progress.Steps left t moved) (event.Step u None) (progress.Steps left t moved)

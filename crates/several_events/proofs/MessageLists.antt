@@ -1,7 +1,6 @@
 -- Messages that are still to arrive: those of one thread after another, and first the entries.
-use Rattle.std.proofs.Common.{◌≡◌, ℕ, zero, suc, ◌+◌, ◌-◌, ◌<◌, ◌≤◌, nat_eq, cond, Bool, true, false, List, [], ◌∷◌, ◌++◌, length, refl, sym, ap, ◌∙◌, subst, None, arith}
+use Rattle.std.proofs.Common.{◌≡◌, ℕ, zero, suc, ◌+◌, ◌-◌, ◌<◌, ◌≤◌, nat_eq, cond, Bool, true, false, List, [], ◌∷◌, ◌++◌, length, refl, sym, ap, ◌∙◌, subst, arith}
 use Rattle.std.specs.Prelude.{HoldsAt}
-use Rattle.std.proofs.lemmas.Grind.{common_steps}
 use Rattle.plain_text.specs.declared.kind.Kind.{Kind}
 use Rattle.plain_text.specs.declared.kind.Kind.TheVariants as kind
 use Rattle.plain_text.specs.declared.limit.TheConstants.{MOST_MOVES}
@@ -11,11 +10,11 @@ use Rattle.plain_machine.specs.History.{Act, Took, Did, Emitted, Ended, Step, lo
 use Rattle.master_core.specs.declared.parts.Counts.{Counts}
 use Rattle.master_core.specs.declared.parts.ThreadPart.{ThreadPart}
 use Rattle.recovery_world.specs.World.{Setting, World}
-use Rattle.recovery_world.specs.Limits.{limit_passed}
 use Rattle.recovery_world.specs.Many.{Message, numbered, of_threads, all_messages}
 use Rattle.system_parts.specs.Parts.{Parts}
 use Rattle.system_parts.specs.SystemStanding.{StandsFor}
 use Rattle.system_parts.proofs.ReadLemmas.{counts_stand}
+use Rattle.recovery_laws.proofs.Rounds.{few_moves}
 use Rattle.several_events.specs.Progressing.{count_in, of_rest, messages_from, to_arrive_of, IsOfKind, IsMessage, NoMessage}
 
 -- No thread has more of a kind in the past than there are moves
@@ -47,10 +46,6 @@ outputs_few {V} t (x ∷ earlier) = go x.act (outputs_few t earlier)
 count_few : {V : Type 0} (k : Kind) (past : List (Step V)) (t : ℕ) → count_in k past t ≤ length past
 count_few kind.Log past t = entries_few t past
 count_few kind.Out past t = outputs_few t past
-
--- a world within the limits has no more moves than there may be
-pub few_moves : (moves bytes : ℕ) → limit_passed moves bytes ≡ None → moves ≤ MOST_MOVES
-few_moves moves bytes is = grind (arith, common_steps)
 
 few_of_kind : {P V : Type 0} (m : Meaning V) (s : Setting V) (w : World V) (y : Parts P V) (k : Kind) (t : ℕ) → StandsFor m s w y → count_in k w.past t ≤ MOST_MOVES
 few_of_kind m s w y k t st =

@@ -1,11 +1,10 @@
 -- A snapshot is stored: what it covers is held no more, and what is due then is released.
-use Rattle.std.proofs.Common.{◌≡◌, ◌≢◌, ℕ, zero, suc, ◌+◌, lit≤, ◌<◌, ◌≤◌, List, [], ◌∷◌, ◌++◌, length, refl, sym, ap, ◌∙◌, subst, inl, inr, ◌⊎◌, Option, Some, None, arith, false}
+use Rattle.std.proofs.Common.{◌≡◌, ℕ, suc, ◌+◌, lit≤, ◌<◌, ◌≤◌, List, [], ◌∷◌, ◌++◌, length, refl, sym, ap, ◌∙◌, subst, inl, inr, ◌⊎◌, Option, Some, None, arith, false}
 use Rattle.std.specs.Prelude.{slice_index, ◌↔◌, IsSome, nat_le, sum, ◌^◌}
 use Rattle.plain_text.specs.declared.limit.TheConstants.{MOST_MOVES}
 use Rattle.plain_text.specs.declared.packet.Packet.{Packet}
 use Rattle.entry_order.specs.Stamps.{sum_below}
-use Rattle.entry_order.proofs.Weights.{sum_below_more, sum_below_same, sum_below_list}
-use Rattle.entry_order.proofs.Order.{entries_same, entries_step}
+use Rattle.entry_order.proofs.Weights.{sum_below_same, sum_below_list}
 use Rattle.plain_machine.proofs.LoggedEffects.{entry_thread}
 use Rattle.box_program.specs.Hands.{FitsProgram}
 use Rattle.master_core.specs.Mastered.{value_of}
@@ -36,6 +35,7 @@ use Rattle.master_core.specs.Deltas.{HasCounts}
 use Rattle.master_core.proofs.Frontiers.{frontier_of, within_frontiers, frontiers_within, frontiers_are_defined}
 use Rattle.master_core.proofs.Holdings.{covering_holds, covers_each, covering_keeps}
 use Rattle.master_core.proofs.Moments.{moment_log, moment_entries, none_past_threads}
+use Rattle.master_core.proofs.CountedEntries.{entries_sum}
 use Rattle.output_logger.specs.Logger.{Logger, IsDue, ReleasesOnce, Parts as LoggerParts}
 use Rattle.recovery_world.specs.World.{Setting, Sent, World, inputs_fed}
 use Rattle.recovery_world.specs.Events.{On, MayGo, Parts as WorldParts, entries_of_line}
@@ -54,25 +54,9 @@ use Rattle.system_parts.proofs.SnapshotLemmas.{marks_stay, snapshot_on}
 use Rattle.output_releases.proofs.OutputLists.{parts_world, names_as, names_more, noted_more, releases_as}
 use Rattle.output_releases.proofs.Answering.{AnswersTo}
 use Rattle.snapshot_store.specs.Stored.{Snapshot, Snapshots}
+use Rattle.line_order.proofs.OneLine.{earlier_length}
 
 -- How many entries there are in all
-
-zeros : (n : ℕ) → sum_below n (λ t. 0) ≡ 0
-zeros zero = refl
-zeros (suc n) = let k = zeros n in omega (arith, k)
-
-pub entry_total : (n : ℕ) (log : List Entry) → ((e : Entry) → IsIn e log → e.thread < n) → sum_below n (λ t. entries t log) ≡ length log
-entry_total n [] low = zeros n
-entry_total n (e ∷ log) low =
-    let rest = entry_total n log (λ f i. low f (inr i)) in
-    sum_below_more n e.thread (λ t. entries t (e ∷ log)) (λ t. entries t log) (low e (inl refl)) (entries_same e.thread e log refl) (λ u other. others u other (entries_step u e log)) ∙ ap (λ (k : ℕ). k + 1) rest ∙ sym (one_more (length log))
-  where
-    one_more : (k : ℕ) → suc k ≡ k + 1
-    one_more k = omega arith
-
-    others : (u : ℕ) → u ≢ e.thread → ((entries u (e ∷ log) ≡ entries u log) × (e.thread ≢ u)) ⊎ ((e.thread ≡ u) × (entries u (e ∷ log) ≡ entries u log + 1)) → entries u (e ∷ log) ≡ entries u log
-    others u other (inl k) = k.0
-    others u other (inr k) = absurd (other (sym k.0))
 
 -- no more than moves
 pub log_short : {V : Type 0} (steps : List (Step V)) → length (log_of steps) ≤ length steps
@@ -89,13 +73,7 @@ pub total_is : {V : Type 0} (m : Meaning V) (inputs : ℕ → List Packet) (thre
     → ((t : ℕ) → slice_index counts t ≡ entries t (log_of steps)) → sum counts ≡ length (log_of steps)
 total_is m inputs threads steps counts hist few long are =
     sym (sum_below_list counts) ∙ ap (λ (k : ℕ). sum_below k (λ u. slice_index counts u)) long ∙ sum_below_same 16 (λ u. slice_index counts u) (λ t. entries t (log_of steps)) (λ u low. are u)
-    ∙ entry_total 16 (log_of steps) (λ e i. let k = entry_thread m inputs threads steps e hist i in omega (arith, k, few))
-
--- an earlier moment is no longer
-earlier_length : {V : Type 0} (xs ys : List (Step V)) → IsEarlier xs ys → length xs ≤ length ys
-earlier_length xs [] e = let n = ap length e in omega (arith, n)
-earlier_length xs (y ∷ ys) (inl same) = let n = ap length same in omega (arith, n)
-earlier_length xs (y ∷ ys) (inr e) = let n = earlier_length xs ys e in omega (arith, n)
+    ∙ entries_sum 16 (log_of steps) (λ e i. let k = entry_thread m inputs threads steps e hist i in omega (arith, k, few))
 
 module _ {P V : Type 0} (m : Meaning V) (s : Setting V) (w : World V) (y : Parts P V) (st : StandsFor m s w y) (copy : List (Step V)) (copy_is : w.copy ≡ Some copy) where
   legal : IsHistory s.meaning (inputs_fed s w.fed) s.threads w.past

@@ -1,9 +1,8 @@
 -- A snapshot of the master is made.
-use Rattle.std.proofs.Common.{◌≡◌, ℕ, ◌<◌, ◌≤◌, lit≤, List, [], ◌∷◌, length, refl, sym, ap, ◌∙◌, subst, inl, inr, ◌⊎◌, Option, Some, None, arith, true, false}
+use Rattle.std.proofs.Common.{◌≡◌, ℕ, ◌<◌, ◌≤◌, lit≤, List, [], length, refl, sym, ap, ◌∙◌, subst, inl, inr, ◌⊎◌, Option, Some, None, arith, true, false}
 use Rattle.std.specs.Prelude.{slice_index, sum, ◌^◌}
 use Rattle.std.specs.Option.{ForSome}
 use Rattle.std.proofs.lemmas.Bool.{cases_lt}
-use Rattle.std.proofs.lemmas.List.{length-append}
 use Rattle.plain_text.specs.declared.limit.TheConstants.{MOST_MOVES}
 use Rattle.input_logger.specs.Inputs.{Fed}
 use Rattle.entry_order.specs.Log.{entries}
@@ -21,22 +20,15 @@ use Rattle.snapshot_store.specs.Stored.{Snapshot, Snapshots, HasTaken}
 use Rattle.recovery_world.specs.declared.event.Event.TheVariants as event
 use Rattle.recovery_world.specs.declared.event.Outcome.TheVariants as outcome
 use Rattle.recovery_world.specs.World.{Setting, Sent, World, inputs_fed}
-use Rattle.recovery_world.specs.Files.{answer_of, moves_made}
 use Rattle.recovery_world.specs.Limits.{OnWithin}
 use Rattle.recovery_laws.proofs.KeptWorlds.{within_sound}
+use Rattle.recovery_laws.proofs.AcceptedRuns.{made_length}
 use Rattle.system_parts.specs.Parts.{Parts, AreParts}
 use Rattle.system_parts.specs.SystemStanding.{IsKeptOutput, IsSnapshot, StandsFor}
 use Rattle.snapshot_steps.specs.Unreleased.{AreUnreleased}
 use Rattle.system_parts.specs.Performing.{MovesOn, ComesTo}
 use Rattle.snapshot_steps.proofs.StoreLemmas.{log_short, total_is}
 use Rattle.snapshot_steps.proofs.UnreleasedLemmas.{keeps_each, keeps_all}
-
-made_length : {V : Type 0} (steps : List (Step V)) → length (moves_made steps) ≡ length steps
-made_length [] = refl
-made_length (x ∷ earlier) =
-    let rest = made_length earlier in
-    let more = length-append (moves_made earlier) ((record { thread = x.thread; answer = answer_of x.act }) ∷ []) in
-    omega (arith, rest, more)
 
 module _ {P V : Type 0} (m : Meaning V) (s : Setting V) (w : World V) (y : Parts P V) (st : StandsFor m s w y) where
   legal : IsHistory s.meaning (inputs_fed s w.fed) s.threads w.past

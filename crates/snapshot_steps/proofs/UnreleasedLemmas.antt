@@ -5,6 +5,7 @@ use Rattle.entry_order.proofs.Order.{is_or}
 use Rattle.access_log.specs.declared.entry.Output.{Output}
 use Rattle.dup_filter.specs.Numbers.{Numbers, numbers, WasMarked}
 use Rattle.output_logger.specs.Logger.{IsAmong}
+use Rattle.output_logger.proofs.OutputLists.{among_left, among_last, among_either}
 use Rattle.plain_machine.specs.declared.emission.Emission.{Emission}
 use Rattle.plain_machine.specs.Program.{Meaning}
 use Rattle.plain_machine.specs.History.{log_of, sent_of, outputs, IsHistory}
@@ -32,27 +33,8 @@ pub record AddedSoFar (sent : Sending) (released : List Numbers) (t most up_to :
   pub each : (x : Output) → IsAmong x now → IsAmong x old ⊎ IsUnreleased sent released t most x
   pub has : (n : ℕ) → 1 ≤ n → n ≤ up_to → WasMarked released t n ⊎ Lists now t n
 
-among_push : (x y : Output) (xs : List Output) → IsAmong x (xs ++ y ∷ []) → IsAmong x xs ⊎ (y ≡ x)
-among_push x y [] (inl same) = inr same
-among_push x y [] (inr h) = absurd h
-among_push x y (z ∷ xs) (inl same) = inl (inl same)
-among_push x y (z ∷ xs) (inr h) = go (among_push x y xs h)
-  where
-    go : IsAmong x xs ⊎ (y ≡ x) → IsAmong x (z ∷ xs) ⊎ (y ≡ x)
-    go (inl k) = inl (inr k)
-    go (inr k) = inr k
-
-among_old : (x y : Output) (xs : List Output) → IsAmong x xs → IsAmong x (xs ++ y ∷ [])
-among_old x y [] h = absurd h
-among_old x y (z ∷ xs) (inl same) = inl same
-among_old x y (z ∷ xs) (inr h) = inr (among_old x y xs h)
-
-among_new : (y : Output) (xs : List Output) → IsAmong y (xs ++ y ∷ [])
-among_new y [] = inl refl
-among_new y (z ∷ xs) = inr (among_new y xs)
-
 lists_on : (t n : ℕ) (y : Output) (xs : List Output) → Lists xs t n → Lists (xs ++ y ∷ []) t n
-lists_on t n y xs h = (h.0, among_old h.0 y xs h.1, h.2, h.3)
+lists_on t n y xs h = (h.0, among_left h.0 xs (y ∷ []) h.1, h.2, h.3)
 
 module _ (sent : Sending) (released : List Numbers) (t most : ℕ) where
   -- those up to the floor were released
@@ -81,8 +63,8 @@ module _ (sent : Sending) (released : List Numbers) (t most : ℕ) where
       → ((o : Output) → HasOutputFrame sent o → o.thread ≡ t → o.number ≡ n + 1 → found ≡ Some o) → found ≡ Some y → new ≡ now ++ y ∷ []
       → AddedSoFar sent released t most n old now → AddedSoFar sent released t most (n + 1) old new
   added_more n found y old now new rest fresh low gives some pushed h = subst (λ (l : List Output). AddedSoFar sent released t most (n + 1) old l) (sym pushed) (record {
-    keeps = λ x i. among_old x y now (h.keeps x i);
-    each = λ x i. which x (among_push x y now i);
+    keeps = λ x i. among_left x now (y ∷ []) (h.keeps x i);
+    each = λ x i. which x (among_either x y now i);
     has = λ k from few. go k from few (is_or k (n + 1));
   })
     where
@@ -109,7 +91,7 @@ module _ (sent : Sending) (released : List Numbers) (t most : ℕ) where
       which x (inr same) = inr (subst (λ (o : Output). IsUnreleased sent released t most o) same is)
 
       go : (k : ℕ) → 1 ≤ k → k ≤ n + 1 → (k ≡ n + 1) ⊎ (k ≢ n + 1) → WasMarked released t k ⊎ Lists (now ++ y ∷ []) t k
-      go k from few (inl same) = inr (y, among_new y now, of.0, of.1 ∙ sym same)
+      go k from few (inl same) = inr (y, among_last y now, of.0, of.1 ∙ sym same)
       go k from few (inr other) = on (h.has k from (omega (arith, few, other)))
         where
           on : WasMarked released t k ⊎ Lists now t k → WasMarked released t k ⊎ Lists (now ++ y ∷ []) t k

@@ -5,5 +5,4 @@
 mod outbox;
 mod store;
 
-pub use outbox::copy_output;
 pub use store::{Restored, Store};

@@ -1,5 +1,5 @@
 -- The run in which a world ends: what it begins with.
-use Rattle.std.proofs.Common.{◌≡◌, ℕ, ◌+◌, ◌<◌, ◌≤◌, ◌≢◌, max, true, false, cond, Bool, nat_eq, List, [], ◌∷◌, ◌++◌, length, take, get_or, refl, sym, ap, ◌∙◌, subst, inl, inr, ◌⊎◌, Option, Some, None, arith}
+use Rattle.std.proofs.Common.{◌≡◌, ℕ, ◌+◌, ◌<◌, ◌≤◌, ◌≢◌, max, true, false, nat_eq, List, [], ◌∷◌, ◌++◌, length, take, get_or, refl, sym, ap, ◌∙◌, subst, inl, inr, ◌⊎◌, Option, Some, None, arith}
 use Rattle.std.specs.Prelude.{slice_index, ◌↔◌, IsSome}
 use Rattle.std.proofs.lemmas.Bool.{cases_lt}
 use Rattle.std.proofs.lemmas.List.{take_more, take_all, get_or_push, get_or_append_left, length-append}
@@ -30,6 +30,7 @@ use Rattle.recovery_world.specs.Events.{IsAmong, HasNumber, Wakes, entries_of_li
 use Rattle.recovery_world.specs.Finish.{IsLine, greatest, AllGoOn, IsFinish}
 use Rattle.recovery_laws.proofs.KeptWorlds.{line_entries}
 use Rattle.recovery_laws.proofs.LedMoves.{led_log}
+use Rattle.recovery_laws.proofs.Finishes.{among_greatest}
 use Rattle.run_end.specs.Ending.{AreInOrder, IsOrder, IsEndOf, IsEndOfSome, EndsIn}
 use Rattle.system_parts.specs.Parts.{Parts}
 use Rattle.system_parts.specs.SystemStanding.{StandsFor, StandsForSome}
@@ -99,18 +100,6 @@ order_of guide names order each in_order is = subst (λ (l : List Entry). IsOrde
 })
 
 -- The greatest released outputs
-
-among_greatest : (t : ℕ) (rel : List Sent) (o : Sent) → IsAmong o rel → o.emission.thread ≡ t → o.emission.number ≤ greatest t rel
-among_greatest t [] o h th = absurd h
-among_greatest t (x ∷ rel) o (inl same) th =
-    let own : o.emission.thread ≡ x.emission.thread = ap (λ (z : Sent). z.emission.thread) (sym same) in
-    let number : o.emission.number ≡ x.emission.number = ap (λ (z : Sent). z.emission.number) (sym same) in
-    let k : nat_eq x.emission.thread t ≡ true = grind (arith, nat_tests) in rw k (omega (arith, number))
-among_greatest t (x ∷ rel) o (inr h) th = go (nat_eq x.emission.thread t) (among_greatest t rel o h th)
-  where
-    go : (b : Bool) → o.emission.number ≤ greatest t rel → o.emission.number ≤ cond b (max x.emission.number (greatest t rel)) (greatest t rel)
-    go true low = omega (arith, low)
-    go false low = low
 
 -- it is 0, or that of one of them
 HasGreatest : ℕ → List Sent → ℕ → Type 0

@@ -1,5 +1,6 @@
 -- Before the first event a system stands for the opening.
 use Rattle.std.proofs.Common.{◌≡◌, ℕ, zero, suc, ◌≤◌, All, List, [], length, replicate, slice_index_or, refl, sym, ap, ◌∙◌, subst, inl, inr, arith, true, None, ◌<◌, ◌^◌}
+use Rattle.plain_text.specs.Packets.{IsShort}
 use Rattle.plain_text.specs.declared.packet.Packet.{Packet}
 use Rattle.plain_text.specs.declared.packet.Unit.{Unit as FractionUnit}
 use Rattle.random_words.specs.Words.{generator_after}
@@ -23,7 +24,7 @@ use Rattle.std.proofs.lemmas.List.{length-replicate}
 use Rattle.std.proofs.lemmas.List.Elements.{All-nil}
 use Rattle.recovery_laws.proofs.KeptWorlds.{opening_sound}
 use Rattle.sent_frames.specs.Sending.{Sending, lengths_of, IsUnsent}
-use Rattle.system_parts.specs.Parts.{Parts, IsShort, AreParts}
+use Rattle.system_parts.specs.Parts.{Parts, AreParts}
 use Rattle.system_parts.specs.SystemStanding.{HasLogger, HasSent, HasSnapshots, HasEnded, HasGuide, StandsFor}
 
 -- a store with a fresh master, which made no move and sent nothing

@@ -1,8 +1,8 @@
 ghost use Rattle.std.specs.Prelude.{◌≡◌, ◌≤◌, ℕ, All, IfOk, length};
+ghost use Rattle.plain_text.specs.Packets.{IsShort};
 ghost use Rattle.plain_text.specs.declared.packet.Packet as packet_of;
 ghost use Rattle.plain_text.specs.declared.packet.Unit as unit_of;
 ghost use Rattle.recovery_world.specs.World.{Setting, World, opening};
-ghost use Rattle.system_parts.specs.Parts.{IsShort};
 ghost use Rattle.system_parts.specs.SystemStanding.{StandsFor};
 
 use box_program::Program;

@@ -1,4 +1,3 @@
-pub mod CoreParts
 pub mod LineLemmas
 pub mod SnapshotLemmas
 pub mod OutputNumbers

@@ -2,7 +2,8 @@
 use Rattle.std.specs.Prelude.{◌≡◌, ℕ, ◌+◌, ◌^◌, ◌≤◌, ◌<◌, All, Bool, List, length}
 use Rattle.std.specs.Option.{ForSome}
 use Rattle.rand_pcg.specs.Lcg.{Lcg}
-use Rattle.plain_text.specs.declared.limit.TheConstants.{MOST_CAPTURED, MOST_MOVES, MOST_OUTPUT_BYTES}
+use Rattle.plain_text.specs.Packets.{IsShort}
+use Rattle.plain_text.specs.declared.limit.TheConstants.{MOST_MOVES, MOST_OUTPUT_BYTES}
 use Rattle.plain_text.specs.declared.packet.Packet.{Packet}
 use Rattle.plain_text.specs.declared.packet.Unit.{Unit as FractionUnit}
 use Rattle.input_logger.specs.Inputs.{Fed}
@@ -40,10 +41,6 @@ pub record Parts (P V : Type 0) : Type 0 where
   pub logger : Logger
   -- the thread and number of each released output, in order of release
   pub released : List (ℕ × ℕ)
-
--- a packet that a frame and a record can have
-abbrev pub IsShort : Packet → Type 0
-IsShort p = length p.bytes ≤ MOST_CAPTURED
 
 -- What is true of the parts of every system.
 pub record AreParts {P V : Type 0} (m : Meaning V) (may_have : ℕ → V → Type 0) (y : Parts P V) : Type 0 where

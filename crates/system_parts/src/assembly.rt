@@ -53,48 +53,12 @@ pub struct Core<P: Program> {
 }
 
 impl<P: Program> Model for Core<P> {
-    ghost use Rattle.std.specs.Prelude.{reverse};
     ghost use Rattle.system_parts.specs.Parts.{Parts, AreParts};
+    ghost use Rattle.system_parts.specs.Views.{parts_in};
 
     ghost Value = { Parts P P.Value };
 
-    ghost view = { λ y. record {
-      program = y.program;
-      fractions = y.unit;
-      clock = y.clock;
-      generator = y.generator;
-      left = reverse y.left.items;
-      inputs = y.inputs;
-      up = y.up;
-      master = y.master;
-      schedule = y.schedule;
-      guide = y.guide;
-      store = y.store;
-      ended = y.ended.items;
-      moves = y.moves;
-      bytes = y.bytes;
-      sent = y.sent;
-      logger = y.logger;
-      released = y.released;
-    } };
+    ghost view = { λ y. parts_in y };
 
-    ghost invariant = { λ y. AreParts (P.meaning y.program) (P.fits y.program) (record {
-      program = y.program;
-      fractions = y.unit;
-      clock = y.clock;
-      generator = y.generator;
-      left = reverse y.left.items;
-      inputs = y.inputs;
-      up = y.up;
-      master = y.master;
-      schedule = y.schedule;
-      guide = y.guide;
-      store = y.store;
-      ended = y.ended.items;
-      moves = y.moves;
-      bytes = y.bytes;
-      sent = y.sent;
-      logger = y.logger;
-      released = y.released;
-    }) };
+    ghost invariant = { λ y. AreParts (P.meaning y.program) (P.fits y.program) (parts_in y) };
 }

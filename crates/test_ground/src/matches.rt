@@ -1,6 +1,6 @@
-use schedule_check::first_unmatched;
 use plain_machine::Emission;
 use plain_text::{Bytes, NoMemory, Packet, Unit};
+use schedule_check::first_unmatched;
 use std::alloc::Global;
 use std::test::Fail;
 

@@ -4,8 +4,8 @@ ghost use Rattle.world_io.specs.World.{is_writable};
 use plain_text::{Bytes, NoMemory, Text};
 use std::alloc::Global;
 use world_io::{
-    BufferedSource, Filled, Front, FrontError, MemoryWorld, OpenFault, ReadError, SliceSource,
-    Source, World, WorldSink, WorldSource, WriteError, read_all, read_front, write_all,
+    BufferedSource, Filled, Front, FrontError, MemoryWorld, OpenFault, SliceSource, Source, World,
+    WorldSink, WorldSource, WriteError, read_front, write_all,
 };
 
 /// The bytes of a slice, and how often they were asked for.
@@ -48,30 +48,14 @@ fn read_through<S: Source>(
     alloc: Global,
     source: &mut S,
     buffer: Vec<u8>,
-) -> Result<Bytes, ReadError>
+) -> Result<Front, FrontError>
     requires { 0 < vec_len buffer }
     ensures { (taken : List ℕ) × S.reads source.old taken source.new }
 {
     let mut buffered = BufferedSource::of(source, buffer);
-    let all = read_all(alloc, &mut buffered, 1_000);
+    let front = read_front(alloc, &mut buffered, 1_000);
     let _below = buffered.into_inner();
-    all
-}
-
-/// The bytes of a name, up to a limit.
-fn read_name<W: World>(
-    alloc: Global,
-    world: &mut W,
-    name: &Text,
-    limit: u64,
-) -> Result<Bytes, ReadError>
-    requires { (W.ledger world.old).given < 1000 }
-{
-    match world.open_file(name) {
-        Ok(file) => read_all(alloc, &mut WorldSource::of(world, file), limit),
-        Err(OpenFault::Failed) => Err(ReadError::Failed),
-        Err(OpenFault::NoMemory) => Err(ReadError::NoMemory),
-    }
+    front
 }
 
 /// The first bytes of a name, up to a limit.
@@ -110,54 +94,11 @@ fn add_hello(alloc: Global, world: &mut MemoryWorld) -> Result<Text, NoMemory>
     Ok(name)
 }
 
-/// A call of reading that is told to fail, a limit, and how many bytes of "in" are read up to it. The tenth call is never made.
-const READS: [(u64, u64, Result<usize, ReadError>); 8] = [
-    (10, 5, Ok(5)),
-    (10, 6, Ok(5)),
-    (10, 4, Err(ReadError::TooLarge)),
-    (10, 0, Err(ReadError::TooLarge)),
-    (1, 10, Err(ReadError::Failed)),
-    (2, 10, Err(ReadError::Failed)),
-    (3, 10, Err(ReadError::Failed)),
-    (4, 10, Ok(5)),
-];
-
-/// How many bytes of "in" are read in a world.
-fn read_in(
-    alloc: Global,
-    world: &mut MemoryWorld,
-    nth: u64,
-    limit: u64,
-) -> Result<Result<usize, ReadError>, NoMemory>
-    requires { length world.old.files ≡ 0 }
-{
-    let name = add_hello(alloc, world)?;
-    world.fail_read(nth)?;
-    match read_name(alloc, world, &name, limit) {
-        Ok(bytes) => Ok(Ok(bytes.len())),
-        Err(error) => Ok(Err(error)),
-    }
-}
-
-/// How many are read in a world of its own.
-fn read(alloc: Global, nth: u64, limit: u64) -> Result<Result<usize, ReadError>, NoMemory> {
-    let mut world = MemoryWorld::new(alloc)?;
-    read_in(alloc, &mut world, nth, limit)
-}
-
-#[test]
-fn reads_up_to_a_limit_or_fails(rt: HostRuntime) {
-    for (nth, limit, wanted) in &READS {
-        let is_read = matches!(read(rt.alloc(), *nth, *limit), Ok(read) if read == *wanted);
-        assert!(rt; is_read, "call {nth} and limit {limit}");
-    }
-}
-
 /// What is read of "hello": its first bytes, and whether they are all, or nothing where reading fails.
 type Beginning = Option<(&'static str, bool)>;
 
-/// A call of reading that is told to fail, a limit, and what is read up to it. Where the file is longer than the limit, its end is not
-/// looked for.
+/// A call of reading that is told to fail, a limit, and what is read up to it. The tenth call is never made. Where the file is
+/// longer than the limit, its end is not looked for.
 const FRONTS: [(u64, u64, Beginning); 9] = [
     (10, 6, Some(("hello", true))),
     (10, 5, Some(("hello", true))),
@@ -297,7 +238,7 @@ fn asks_for_large_pieces(rt: HostRuntime) {
 fn reads_all(alloc: Global) -> Result<bool, NoMemory> {
     let buffer = vec![in alloc; 0u8; 64]?;
     let read = read_through(alloc, &mut SliceSource::of(&[7u8; 1_000]), buffer);
-    Ok(matches!(read, Ok(_)))
+    Ok(matches!(read, Ok(Front::All(_))))
 }
 
 #[test]

@@ -1,5 +1,5 @@
 ghost use Rattle.std.specs.Prelude.{◌≡◌, ◌≤◌, All, IsTrue, IfOk, false};
-ghost use Rattle.recovery_core.specs.Parts.{IsShort};
+ghost use Rattle.plain_text.specs.Packets.{IsShort};
 
 use box_program::Program;
 use plain_text::{Bytes, MOST_CAPTURED, NoMemory, Packet, Packets, Text, Unit, put_decimal};

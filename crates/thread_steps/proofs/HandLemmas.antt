@@ -1,23 +1,13 @@
--- The packet that a thread's next move is made with, and what the move is told.
-use Rattle.std.proofs.Common.{◌≡◌, ℕ, suc, ◌+◌, ◌<◌, List, [], refl, sym, ap, ◌∙◌, subst, inl, inr, ◌⊎◌, arith, Option, Some, None, add-one}
-use Rattle.std.specs.Prelude.{◌^◌, slice_get, slice_index_or}
+-- What the next move of a thread is told.
+use Rattle.std.proofs.Common.{◌≡◌, ℕ, ◌+◌, List, refl, sym, ap, ◌∙◌, subst, inl, inr, ◌⊎◌, Option, Some, None}
 use Rattle.std.specs.Option.{unwrap_or}
-use Rattle.input_logger.specs.Inputs.{Fed, inputs_of, input_at}
 use Rattle.entry_order.specs.Log.{entries}
-use Rattle.plain_machine.specs.declared.local.Local.{Local}
 use Rattle.plain_machine.specs.declared.local.Move.{Move}
 use Rattle.plain_machine.specs.declared.local.Move.TheVariants as move
 use Rattle.plain_machine.specs.Program.{Meaning}
 use Rattle.plain_machine.specs.Machine.{Hand}
-use Rattle.plain_machine.specs.History.{Step, log_of, thread_after, IsHistory}
-use Rattle.box_program.specs.Hands.{local_in, input_for, IsInputAfter}
-use Rattle.box_program.proofs.HandLemmas.{no_hand}
-use Rattle.line_order.proofs.Hands.{hand_input}
-use Rattle.master_core.specs.declared.parts.ThreadPart.{ThreadPart}
-use Rattle.master_core.specs.declared.parts.Counts.{Counts}
+use Rattle.plain_machine.specs.History.{Step, log_of, thread_after}
 use Rattle.master_core.specs.declared.wants.Wants.TheVariants as wants
-use Rattle.master_core.specs.Mastered.{Mastered, input_in_hand, HasRoom}
-use Rattle.master_core.specs.MasterStanding.{Stands}
 use Rattle.master_core.specs.Stepping.{wanted, wanted_in, wanted_by, told_in, told_for}
 use Rattle.random_words.specs.Words.{word_of}
 use Rattle.recovery_world.specs.World.{Setting, World}
@@ -29,58 +19,6 @@ use Rattle.replay_guide.specs.Following.{recorded}
 use Rattle.replay_guide.specs.Worlds.{Guides}
 use Rattle.replay_guide.proofs.WorldAnswers.{tells_clock as recorded_clock, tells_draw as recorded_draw, tells_free_clock as free_clock, tells_free_draw as free_draw}
 use Rattle.thread_steps.specs.Following.{or_given}
-
--- The input that a master in memory asks for is the one that its next move is made with.
-
--- a part for a thread that is not there
-pub none_part : ThreadPart
-none_part = record { counts = record { taken = 0; entries = 0; outputs = 0 }; hand = None; stamp = [] }
-
--- a place in hand is that of a packet in hand
-some_hand : (h : Option Hand) (place : Local) → local_in h ≡ Some place → (k : Hand) × (h ≡ Some k)
-some_hand None place e = absurd (cc)
-some_hand (Some h) place e = (h, refl)
-
--- the packet in hand is the input that was taken last
-pub input_some : {V : Type 0} (m : Meaning V) (fed : Fed) (threads : ℕ) (steps : List (Step V)) (p : Mastered V) (t k : ℕ) (r : Option ℕ)
-    → IsHistory m (inputs_of fed) threads steps → Stands m threads steps p → t < threads
-    → r ≡ Some k → ((d : ThreadPart) → r ≡ input_in_hand (slice_index_or p.threads t d)) → IsInputAfter (inputs_of fed) t steps (input_at fed t k)
-input_some {V} m fed threads steps p t k r h stands low is says = go (slice_index_or p.threads t none_part).hand refl
-  where
-    found : (place : Local) → (slice_index_or p.threads t none_part).hand ≡ Some place → Some (slice_index_or p.threads t none_part).counts.taken ≡ Some k → IsInputAfter (inputs_of fed) t steps (input_at fed t k)
-    found place at q =
-        let th = stands.thread t none_part low in
-        let hand = some_hand (thread_after steps t).hand place (sym th.hand ∙ at) in
-        let l = hand_input m (inputs_of fed) threads steps h t hand.0 hand.1 in
-        let same : (slice_index_or p.threads t none_part).counts.taken ≡ k = cc in
-        let kk : k ≡ suc l.0 = sym same ∙ (th.taken ∙ (l.1 ∙ add-one l.0)) in
-        ap (λ (n : ℕ). input_at fed t n) kk ∙ (l.2 ∙ ap (λ (o : Option Hand). input_for (inputs_of fed t) (thread_after steps t).taken o) (sym hand.1))
-
-    go : (o : Option Local) → (slice_index_or p.threads t none_part).hand ≡ o → IsInputAfter (inputs_of fed) t steps (input_at fed t k)
-    go None at = absurd (let q : None ≡ Some k = sym (says none_part ∙ rw at refl) ∙ is in cc)
-    go (Some place) at = found place at (sym (says none_part ∙ rw at refl) ∙ is)
-
--- where none is in hand it is the next one
-pub input_none : {V : Type 0} (m : Meaning V) (fed : Fed) (threads : ℕ) (steps : List (Step V)) (p : Mastered V) (t : ℕ) (r : Option ℕ) (counts : Counts)
-    → Stands m threads steps p → t < threads
-    → r ≡ None → ((d : ThreadPart) → r ≡ input_in_hand (slice_index_or p.threads t d)) → ((d : ThreadPart) → counts ≡ (slice_index_or p.threads t d).counts)
-    → IsInputAfter (inputs_of fed) t steps (input_at fed t (counts.taken + 1))
-input_none {V} m fed threads steps p t r counts stands low is says counted = go (slice_index_or p.threads t none_part).hand refl
-  where
-    go : (o : Option Local) → (slice_index_or p.threads t none_part).hand ≡ o → IsInputAfter (inputs_of fed) t steps (input_at fed t (counts.taken + 1))
-    go (Some place) at = absurd (let q : Some (slice_index_or p.threads t none_part).counts.taken ≡ None = sym (says none_part ∙ rw at refl) ∙ is in cc)
-    go None at =
-        let th = stands.thread t none_part low in
-        let hand : (thread_after steps t).hand ≡ None = no_hand (thread_after steps t).hand (sym th.hand ∙ at) in
-        let taken : counts.taken ≡ (thread_after steps t).taken = ap (λ (c : Counts). c.taken) (counted none_part) ∙ th.taken in
-        ap (λ (n : ℕ). input_at fed t n) (add-one counts.taken) ∙ (ap (λ (n : ℕ). slice_get (inputs_of fed t) n) taken ∙ ap (λ (o : Option Hand). input_for (inputs_of fed t) (thread_after steps t).taken o) (sym hand))
-
--- a thread that may make another move took few inputs
-pub few_taken : {V : Type 0} (p : Mastered V) (t : ℕ) (counts : Counts) → HasRoom p t → ((d : ThreadPart) → counts ≡ (slice_index_or p.threads t d).counts) → counts.taken < 2 ^ 56
-few_taken p t counts room counted =
-    let k = room none_part in
-    let c : counts.taken ≡ (slice_index_or p.threads t none_part).counts.taken = ap (λ (c : Counts). c.taken) (counted none_part) in
-    omega (arith, k, c)
 
 -- What a thread asks for, from what a master wants.
 

@@ -1,12 +1,10 @@
 -- What a move of the master needs, and what it logs and sends out has a frame.
-use Rattle.std.proofs.Common.{◌≡◌, ℕ, zero, suc, ◌+◌, ◌<◌, ◌≤◌, ◌≢◌, List, [], ◌∷◌, length, refl, sym, ap, ◌∙◌, subst, inl, inr, ◌⊎◌, arith, Option, Some, None, true, lit≤}
-use Rattle.std.specs.Prelude.{slice_get, slice_index, slice_index_or, is_some, IsTrue, IsSome, All, ◌==◌}
-use Rattle.std.specs.Option.{option_map}
-use Rattle.std.proofs.lemmas.List.Elements.{All-filter, All-get_or}
+use Rattle.std.proofs.Common.{◌≡◌, ℕ, ◌+◌, ◌<◌, ◌≤◌, List, ◌∷◌, length, refl, sym, ap, ◌∙◌, subst, inl, inr, ◌⊎◌, arith, Option, Some, None, lit≤}
+use Rattle.std.specs.Prelude.{slice_get, slice_index}
 use Rattle.std.proofs.lemmas.Option.{slice_get-get_or}
+use Rattle.plain_text.specs.Packets.{IsShort}
 use Rattle.plain_text.specs.declared.limit.TheConstants.{MOST_CAPTURED, MOST_MOVES}
 use Rattle.plain_text.specs.declared.packet.Packet.{Packet}
-use Rattle.input_logger.specs.Inputs.{Fed, inputs_of, thread_of}
 use Rattle.entry_order.specs.Log.{Entry, entries, places, IsIn, PrecedesOrIs, PrecedesOutput}
 use Rattle.entry_order.specs.Stamps.{IsStamp, IsOutputStamp}
 use Rattle.access_log.specs.declared.entry.StampedEntry.{StampedEntry}
@@ -17,112 +15,39 @@ use Rattle.plain_machine.specs.declared.local.Move.{Move}
 use Rattle.plain_machine.specs.declared.local.Move.TheVariants as move
 use Rattle.plain_machine.specs.declared.emission.Emission.{Emission}
 use Rattle.plain_machine.specs.Program.{Meaning, IsLawful}
-use Rattle.plain_machine.specs.Machine.{Hand, Thread, Effect, Takes, Touches, Looks, HearsClock, HearsDraw, Sends, Ends, Moves, holding, sent_packet, take_move, hand_move, held_move, thread_move}
-use Rattle.plain_machine.specs.History.{Act, Did, Emitted, Step, log_of, sent_of, moves_of, act_of, emission_of, thread_after, value_after, IsHistory}
-use Rattle.plain_machine.proofs.Histories.{moves_step, did_entry, did_emission}
+use Rattle.plain_machine.specs.Machine.{Hand, Thread, Effect, Takes, Touches, Looks, HearsClock, HearsDraw, Sends, Ends, Moves, holding, take_move, hand_move, held_move, thread_move}
+use Rattle.plain_machine.specs.History.{Act, Did, Emitted, Step, log_of, sent_of, act_of, emission_of, thread_after, value_after, IsHistory}
+use Rattle.plain_machine.proofs.Histories.{did_entry, did_emission}
 use Rattle.plain_machine.proofs.LoggedEffects.{entry_thread}
-use Rattle.box_program.specs.Hands.{local_in, input_for, hand_of, has_hand, IsInputAfter}
+use Rattle.box_program.specs.Hands.{local_in, input_for, hand_of, IsInputAfter}
 use Rattle.line_order.proofs.Hands.{hand_input}
 use Rattle.master_core.specs.declared.parts.ThreadPart.{ThreadPart}
 use Rattle.master_core.specs.Mastered.{Mastered, place_in_hand, HasRoom}
 use Rattle.master_core.specs.MasterStanding.{Stands}
 use Rattle.master_core.specs.Stepping.{plain_entry, emission_of_output}
+use Rattle.master_core.proofs.ListsLemmas.{moves_within}
 use Rattle.recovery_world.specs.Files.{answer_of}
 use Rattle.recovery_laws.proofs.LedMoves.{EntryFor, Made, made_step, move_entry}
-use Rattle.system_parts.specs.Parts.{IsShort}
-use Rattle.thread_steps.proofs.HandLemmas.{none_part}
+use Rattle.recovery_laws.proofs.AcceptedRuns.{act_answer, held_answer}
+use Rattle.run_end.proofs.InputLemmas.{none_part}
 
 -- A thread has room for another move
-
--- a thread made no more moves than all
-moves_low : {V : Type 0} (t : ℕ) (xs : List (Step V)) → moves_of t xs ≤ length xs
-moves_low t [] = omega arith
-moves_low {V} t (x ∷ xs) = go (moves_step t x xs) (moves_low t xs)
-  where
-    go : ((x.thread ≢ t) × (moves_of t (x ∷ xs) ≡ moves_of t xs)) ⊎ ((x.thread ≡ t) × (moves_of t (x ∷ xs) ≡ moves_of t xs + 1)) → moves_of t xs ≤ length xs → moves_of t (x ∷ xs) ≤ length (x ∷ xs)
-    go (inl k) older = let a = k.1 in omega (arith, a, older)
-    go (inr k) older = let a = k.1 in omega (arith, a, older)
 
 pub has_room : {V : Type 0} (m : Meaning V) (threads : ℕ) (steps : List (Step V)) (p : Mastered V) (t moves : ℕ) → Stands m threads steps p → t < threads → length steps ≤ moves → moves ≤ MOST_MOVES → HasRoom p t
 has_room m threads steps p t moves stands low within few = λ d.
     let made = (stands.thread t d low).made in
-    let k = moves_low t steps in
+    let k = moves_within t steps in
     let most : MOST_MOVES ≤ 2000000 = lit≤ tt in
     omega (arith, made, k, within, few, most)
 
 -- Whether a packet is in hand
-
--- whether a thread has a packet in hand is what its history tells
-pub hand_is : {V : Type 0} (m : Meaning V) (threads : ℕ) (steps : List (Step V)) (p : Mastered V) (t : ℕ) → Stands m threads steps p → t < threads → has_hand (place_in_hand p t) ≡ is_some (thread_after steps t).hand
-hand_is m threads steps p t is below =
-    ap (λ (o : Option ThreadPart). is_some (hand_of (λ (part : ThreadPart). part.hand) o)) (slice_get-get_or p.threads t none_part (omega (arith, is.threads_are)))
-    ∙ (ap is_some (is.thread t none_part below).hand ∙ same (thread_after steps t).hand)
-  where
-    same : (h : Option Hand) → is_some (local_in h) ≡ is_some h
-    same None = refl
-    same (Some h) = refl
 
 -- and where the program is with it
 pub place_is : {V : Type 0} (m : Meaning V) (threads : ℕ) (steps : List (Step V)) (p : Mastered V) (t : ℕ) → Stands m threads steps p → t < threads → place_in_hand p t ≡ local_in (thread_after steps t).hand
 place_is m threads steps p t is below =
     ap (λ (o : Option ThreadPart). hand_of (λ (part : ThreadPart). part.hand) o) (slice_get-get_or p.threads t none_part (omega (arith, is.threads_are))) ∙ (is.thread t none_part below).hand
 
--- then there is a packet for the next move
-pub input_there : {V A : Type 0} (m : Meaning V) (inputs : ℕ → List Packet) (threads : ℕ) (steps : List (Step V)) (p : Mastered V) (t : ℕ) (f : A → Packet) (o : Option A) → Stands m threads steps p → t < threads
-    → IsInputAfter inputs t steps (option_map f o) → IsTrue (has_hand (place_in_hand p t)) → IsSome o
-input_there {V} {A} m inputs threads steps p t f o is below input has = go (thread_after steps t).hand o input (sym (hand_is m threads steps p t is below) ∙ has)
-  where
-    go : (h : Option Hand) (o : Option A) → option_map f o ≡ input_for (inputs t) (thread_after steps t).taken h → is_some h ≡ true → IsSome o
-    go None o e k = absurd (cc)
-    go (Some h) None e k = absurd (cc)
-    go (Some h) (Some a) e k = refl
-
 -- The answer of a move
-
--- what an effect says that its move was told
-abbrev effect_answer : {V : Type 0} → Effect V → Option ℕ
-effect_answer Takes = None
-effect_answer (Touches v left) = None
-effect_answer (Looks v) = None
-effect_answer (HearsClock a) = Some a
-effect_answer (HearsDraw a) = Some a
-effect_answer (Sends packet) = None
-effect_answer Ends = None
-
-act_answer : {V : Type 0} (t taken : ℕ) (A : List (Step V)) (d : Effect V) → answer_of (act_of t A taken d) ≡ effect_answer d
-act_answer t taken A Takes = refl
-act_answer t taken A (Touches v left) = refl
-act_answer t taken A (Looks v) = refl
-act_answer t taken A (HearsClock a) = refl
-act_answer t taken A (HearsDraw a) = refl
-act_answer t taken A (Sends packet) = refl
-act_answer t taken A Ends = refl
-
-of_effect : {V : Type 0} (d e : Effect V) (a : Option ℕ) → d ≡ e → effect_answer d ≡ a → a ≡ effect_answer e
-of_effect {V} d e a same is = sym is ∙ ap (λ (x : Effect V). effect_answer x) same
-
-hand_answer : {V : Type 0} (m : Meaning V) (value : ℕ → V) (taken : ℕ) (h : Hand) (a : Option ℕ) (w : Move) (after : Thread) (d : Effect V) → hand_move m value taken h a w ≡ Moves after d → a ≡ effect_answer d
-hand_answer m value taken h None (move.Access v) after d e = of_effect (Touches v (m.touch v (value v) h.place).0) d None (cc) refl
-hand_answer m value taken h None (move.Read v) after d e = of_effect (Looks v) d None (cc) refl
-hand_answer m value taken h (Some a) move.Clock after d e = of_effect (HearsClock a) d (Some a) (cc) refl
-hand_answer m value taken h (Some a) move.Draw after d e = of_effect (HearsDraw a) d (Some a) (cc) refl
-hand_answer m value taken h None move.Emit after d e = of_effect (Sends (sent_packet m h)) d None (cc) refl
-hand_answer m value taken h None move.End after d e = of_effect Ends d None (cc) refl
-hand_answer m value taken h (Some a) (move.Access v) after d e = absurd (cc)
-hand_answer m value taken h (Some a) (move.Read v) after d e = absurd (cc)
-hand_answer m value taken h (Some a) move.Emit after d e = absurd (cc)
-hand_answer m value taken h (Some a) move.End after d e = absurd (cc)
-hand_answer m value taken h None move.Clock after d e = absurd (cc)
-hand_answer m value taken h None move.Draw after d e = absurd (cc)
-
-held_answer : {V : Type 0} (m : Meaning V) (packets : List Packet) (value : ℕ → V) (taken : ℕ) (a : Option ℕ) (hand : Option Hand) (after : Thread) (d : Effect V) → held_move m packets value taken a hand ≡ Moves after d → a ≡ effect_answer d
-held_answer m packets value taken a (Some h) after d e = hand_answer m value taken h a (m.next h.place) after d e
-held_answer {V} m packets value taken a None after d e = go a (slice_get packets taken) e
-  where
-    go : (a : Option ℕ) (i : Option Packet) → take_move m taken a i ≡ Moves after d → a ≡ effect_answer d
-    go (Some a) i e = absurd (cc)
-    go None None e = absurd (cc)
-    go None (Some p) e = of_effect Takes d None (cc) refl
 
 -- the answer that a step was told is the one that its act tells
 pub made_answer : {V : Type 0} (m : Meaning V) (inputs : ℕ → List Packet) (threads : ℕ) (A : List (Step V)) (t : ℕ) (a : Option ℕ) (x : Step V) → Made m inputs threads A t a x → answer_of x.act ≡ a
@@ -183,22 +108,6 @@ sends_input {V} m inputs threads A t a x o hist made act =
     let held = held_sends m (inputs t) (value_after m A) (thread_after A t).taken a (thread_after A t).hand x.after sent.0 moved in
     let last = hand_input m inputs threads A hist t held.0 held.1 in
     record { packet = held.0; hand_is = held.1; number = last.0; there = last.2; input = sent.2 ∙ held.2 ∙ last.1 }
-
--- an item that was found is one of the list
-got_within : (xs : List Packet) (k : ℕ) (p : Packet) → slice_get xs k ≡ Some p → k < length xs
-got_within [] k p e = absurd (cc)
-got_within (x ∷ xs) zero p e = omega arith
-got_within (x ∷ xs) (suc k) p e = let l = got_within xs k p e in omega (arith, l)
-
-all_got : (xs : List Packet) (k : ℕ) (p : Packet) → All IsShort xs → slice_get xs k ≡ Some p → IsShort p
-all_got xs k p all e =
-    let q : Some p ≡ Some (slice_index_or xs k p) = sym e ∙ slice_get-get_or xs k p (got_within xs k p e) in
-    let same : slice_index_or xs k p ≡ p = cc in
-    subst IsShort same (All-get_or IsShort xs k p (got_within xs k p e) all)
-
--- an input is as short as every packet that was fed
-pub input_short : (fed : Fed) (t k : ℕ) (p : Packet) → All IsShort fed.packets → slice_get (inputs_of fed t) k ≡ Some p → IsShort p
-input_short fed t k p all e = all_got (inputs_of fed t) k p (All-filter (λ packet. thread_of packet fed.threads == t) IsShort fed.packets all) e
 
 -- What was logged or sent out has a frame
 

@@ -4,10 +4,12 @@ use Rattle.std.specs.Prelude.{◌↔◌, slice_get, slice_index, is_some, IsTrue
 use Rattle.std.specs.Option.{unwrap_or, option_map}
 use Rattle.rand_pcg.specs.Lcg.{Lcg}
 use Rattle.random_words.specs.Words.{generator_after}
+use Rattle.plain_text.specs.Packets.{IsShort}
 use Rattle.plain_text.specs.declared.limit.Limit.{Limit}
 use Rattle.plain_text.specs.declared.limit.TheConstants.{MOST_MOVES}
 use Rattle.plain_text.specs.declared.packet.Packet.{Packet}
 use Rattle.input_logger.specs.Inputs.{Fed, inputs_of}
+use Rattle.input_logger.proofs.PlaceLists.{input_has}
 use Rattle.entry_order.specs.Log.{Entry, entries, IsLog}
 use Rattle.entry_order.specs.Stamps.{IsStamp}
 use Rattle.access_log.specs.declared.entry.Output.{Output}
@@ -39,8 +41,9 @@ use Rattle.recovery_laws.proofs.LedMoves.{Made, made_move, made_step}
 use Rattle.event_replies.specs.declared.reply.Stop.{Stop}
 use Rattle.event_replies.specs.declared.reply.Stop.TheVariants as stop
 use Rattle.sent_frames.specs.Sending.{Sending, length_at, output_size}
-use Rattle.system_parts.specs.Parts.{Parts, IsShort}
+use Rattle.system_parts.specs.Parts.{Parts}
 use Rattle.system_parts.specs.SystemStanding.{AreOutputs, HasSnapshots, HasGuide, NotesNames, StandsFor}
+use Rattle.run_end.proofs.InputLemmas.{hand_is, input_there}
 use Rattle.thread_steps.specs.Following.{HasTurnBy}
 use Rattle.system_parts.proofs.LineLemmas.{holds_later_line}
 use Rattle.system_parts.proofs.SnapshotLemmas.{snapshots_on}
@@ -53,7 +56,7 @@ use Rattle.thread_steps.specs.Stepping.{with_move, AddsEntry, AddsOutput, NotesA
 use Rattle.system_parts.specs.Performing.{MovesOn, StopsAt, ComesTo, WouldPass}
 use Rattle.system_parts.proofs.SentLemmas.{after_step}
 use Rattle.thread_steps.proofs.NotedMoves.{Answer, but_master, with_master, noted, passes}
-use Rattle.thread_steps.proofs.MoveLemmas.{has_room, hand_is, place_is, input_there, can_put_entry, can_put_output, input_short}
+use Rattle.thread_steps.proofs.MoveLemmas.{has_room, place_is, can_put_entry, can_put_output}
 
 -- an answer has one outcome
 ok_is : (a b : Outcome) → let x : Answer = Ok a in let y : Answer = Ok b in x ≡ y → a ≡ b
@@ -217,7 +220,9 @@ can_note {P} {V} m fits s w y t answer g i r q lawful st threads some few short 
     law = subst (λ (z : Meaning V). IsLawful z fits) (sym st.inputs.meaning) lawful
 
     each : (k : ℕ) (p : Packet) → slice_get (inputs_fed s w.fed t) k ≡ Some p → IsShort p
-    each k p e = input_short y.inputs t k p short (subst (λ (f : Fed). slice_get (inputs_of f t) k ≡ Some p) (sym st.inputs.inputs) e)
+    each k p e =
+        input_has IsShort y.inputs t k p short
+        (subst (λ (f : Fed). slice_get (inputs_of f t) k ≡ Some p) (sym st.inputs.inputs) e)
 
     go : (r : Stepped) → Follows s.meaning (inputs_fed s w.fed) s.threads w.past (record { thread = t; answer = answer }) r q
         → ((o : Output) (p : Packet) → r ≡ stepped.Emitted o → i ≡ Some p → length o.packet.bytes ≡ length p.bytes) → CanNote (record y { generator = g; master = q }) r

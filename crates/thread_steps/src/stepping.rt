@@ -1,14 +1,11 @@
-ghost use Rattle.std.specs.Prelude.{◌≡◌, ◌<◌, ◌≤◌, ◌+◌, ℕ, [], List, IfOk, OnOk, OnErr, Some, Err, length, option_copied};
+ghost use Rattle.std.specs.Prelude.{◌≡◌, ◌<◌, ◌≤◌, ◌+◌, ℕ, IfOk, OnOk, OnErr, Some, Err, length};
 ghost use Rattle.std.specs.Option.{unwrap_or};
 ghost use Rattle.random_words.specs.Words.{generator_after};
 ghost use Rattle.plain_text.specs.declared.limit.Limit.{Limit as LimitKind};
 ghost use Rattle.plain_text.specs.declared.limit.TheConstants.{MOST_CAPTURED};
-ghost use Rattle.input_logger.specs.Inputs.{inputs_of};
-ghost use Rattle.entry_order.specs.Log.{Entry};
-ghost use Rattle.plain_machine.specs.Program.{Meaning};
-ghost use Rattle.plain_machine.specs.History.{Step, thread_after, IsHistory};
-ghost use Rattle.box_program.specs.Hands.{FitsProgram, IsInputAfter};
-ghost use Rattle.master_core.specs.Mastered.{HasRoom, value_of};
+ghost use Rattle.plain_machine.specs.History.{Step, thread_after};
+ghost use Rattle.box_program.specs.Hands.{FitsProgram};
+ghost use Rattle.master_core.specs.Mastered.{value_of};
 ghost use Rattle.master_core.specs.MasterStanding.{Stands};
 ghost use Rattle.master_core.specs.Stepping.{told_in};
 ghost use Rattle.recovery_world.specs.declared.event.Event.TheVariants as event_is;
@@ -23,17 +20,17 @@ ghost use Rattle.access_log.specs.Held.{lane, entry_at};
 ghost use Rattle.system_parts.specs.Performing.{MovesOn, StopsAt, ComesTo, WouldPass};
 ghost use Rattle.thread_steps.specs.Stepping.{CanNote, Notes, NotesMove};
 
-use access_log::{Output, StampedEntry, Turn, What};
+use access_log::{StampedEntry, Turn, What};
 use box_program::Program;
 use event_replies::Stop;
-use input_logger::InputLog;
 use master_core::{Master, Stepped, Wants};
 use plain_machine::PlainMove;
-use plain_text::{Limit, MOST_MOVES, MOST_OUTPUT_BYTES, Packet};
+use plain_text::{Limit, MOST_MOVES, MOST_OUTPUT_BYTES};
 use rand_pcg::Pcg32;
 use random_words::next_word;
 use recovery_world::Outcome;
 use replay_guide::Guide;
+use run_end::input_of;
 use system_parts::Core;
 
 /// The outcome of a logged move.
@@ -74,25 +71,6 @@ fn limit_passed(moves: u64, bytes: u64) -> Option<Limit>
         return Some(Limit::OutputBytes);
     }
     None
-}
-
-/// The packet that the thread's next move is made with: the one in hand, else its next input, if there is one.
-fn input_of<'a, P: Program>(
-    inputs: &'a InputLog,
-    master: &Master<P>,
-    thread: u32,
-) -> Option<&'a Packet>
-    requires thread_in { thread < length master.now.threads }
-    requires room { HasRoom master.now thread }
-    ensures { (m : Meaning P.Value) (threads : ℕ) (steps : List (Step P.Value))
-        → IsHistory m (inputs_of inputs.now) threads steps → Stands m threads steps master.now
-        → thread < threads
-        → IsInputAfter (inputs_of inputs.now) thread steps (option_copied result) }
-{
-    match master.in_hand(thread) {
-        Some(k) => inputs.input(thread, k),
-        None => inputs.input(thread, master.counts(thread).taken + 1),
-    }
 }
 
 /// Whether the thread may make its next move now, where it wants a variable.

@@ -1,7 +1,8 @@
 -- The rule holds when a round begins.
-use Rattle.std.proofs.Common.{◌≡◌, ℕ, zero, suc, ◌+◌, ◌<◌, ◌≤◌, inl, inr, false, List, [], ◌∷◌, length, map, refl, sym, ap, ◌∙◌, subst, Some, None, arith}
+use Rattle.std.proofs.Common.{◌≡◌, ℕ, zero, suc, ◌+◌, ◌<◌, ◌≤◌, inl, inr, false, List, [], ◌∷◌, length, refl, sym, ap, ◌∙◌, subst, Some, None, arith}
 use Rattle.std.specs.Prelude.{slice_index, slice_index_or, sum_by}
 use Rattle.std.proofs.lemmas.List.Sums.{sum_by-cons}
+use Rattle.std.proofs.lemmas.List.{length-map}
 use mathlib.Core.Option as logic
 use mathlib.Core.Option.{some-injective, some-ne-none}
 use lib.ListN.{get_elem?}
@@ -28,10 +29,6 @@ fresh_part = record { counts = record { taken = 0; entries = 0; outputs = 0 }; h
 
 pub fresh_var : {V : Type 0} → Meaning V → VarPart V
 fresh_var m = record { value = m.fresh 0; places = 0; stamp = []; readers = [] }
-
-map_length : {A B : Type 0} (f : A → B) (l : List A) → length (map f l) ≡ length l
-map_length f [] = refl
-map_length f (x ∷ xs) = ap suc (map_length f xs)
 
 sum_front : (n : ℕ) (f : ℕ → ℕ) → sum_below (suc n) f ≡ f 0 + sum_below n (λ u. f (suc u))
 sum_front zero f = omega arith
@@ -79,7 +76,7 @@ module _ {V : Type 0} (m : Meaning V) (fits : ℕ → V → Type 0) (guide : Lis
     now = at_first;
     at = record {
       words = first.count ∙ ap (λ n. n + length p.threads) fit.count;
-      homes = map_length (λ (x : VarPart V). logic.some x) p.vars ∙ fit.count;
+      homes = length-map p.vars (λ (x : VarPart V). logic.some x) ∙ fit.count;
       ended = λ t low. ap (λ n. slice_index words (n + t)) (sym fit.count) ∙ first.thread t low;
       placed = λ v low. (
         first.var v (fresh_var m) (subst (λ n. v < n) (sym fit.count) low),

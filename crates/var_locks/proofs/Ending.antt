@@ -20,6 +20,7 @@ use Rattle.master_core.specs.MasterStanding.{Stands}
 use Rattle.replay_guide.specs.Orders.{IsNamed}
 use base.Stored.{Gv}
 use Rattle.std.specs.Coded.{Coded}
+use Rattle.std.proofs.lemmas.List.{length-map}
 use Rattle.atomic_table.specs.Table.{State, Final, Seen}
 use Rattle.atomic_table.specs.Seated.{TableId}
 use Rattle.round_order.specs.Receipts.{Receipts}
@@ -74,10 +75,6 @@ found_named w [] u k has found = absurd found
 found_named w (x ∷ others) u k has (inl named) = has.0.missing u k named
 found_named w (x ∷ others) u k has (inr found) = found_named w others u k has.1 found
 
-map_length : {A B : Type 0} (f : A → B) (l : List A) → length (map f l) ≡ length l
-map_length f [] = refl
-map_length f (x ∷ xs) = ap suc (map_length f xs)
-
 at_or : {A : Type 0} (l : List A) (i : ℕ) (a d : A) → get_elem? l i ≡ logic.some a → slice_index_or l i d ≡ a
 at_or [] i a d e = absurd (mathlib.Core.Option.some-ne-none a (sym e))
 at_or (x ∷ xs) zero a d e = mathlib.Core.Option.some-injective x a e
@@ -129,7 +126,7 @@ module _ {V : Type 0} (m : Meaning V) (fits : ℕ → V → Type 0) (guide : Lis
   slots_are = sym as_many ∙ told.at.homes
 
   threads_are : length (map seat_part seats) ≡ length p.threads
-  threads_are = map_length seat_part seats ∙ count
+  threads_are = length-map seats seat_part ∙ count
 
   abbrev q : Mastered V
   q = record { vars = slots; threads = map seat_part seats }

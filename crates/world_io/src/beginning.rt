@@ -6,7 +6,6 @@ ghost use Rattle.world_io.specs.Stream.{GoesOn, HasFailed};
 use crate::{Filled, Source};
 use plain_text::{Bytes, NoMemory};
 use std::alloc::Global;
-use thiserror::Error;
 
 /// The bytes that are asked of a source at once.
 const PIECE: usize = 8_192;
@@ -21,12 +20,10 @@ pub enum Front {
 }
 
 /// Why the first bytes of a source were not read.
-#[derive(Clone, Copy, Debug, PartialEq, Eq, Error)]
+#[derive(Clone, Copy, PartialEq, Eq)]
 pub enum FrontError {
     /// Reading failed, and the source's count of faults rose.
-    #[error("read fault")]
     Failed,
-    #[error("no memory")]
     NoMemory,
 }
 

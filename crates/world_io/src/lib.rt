@@ -14,7 +14,7 @@ mod stream;
 mod world;
 mod world_stream;
 
-pub use all::{ReadError, WriteError, read_all, write_all};
+pub use all::{WriteError, write_all};
 pub use beginning::{Front, FrontError, read_front};
 pub use buffered::BufferedSource;
 pub use memory_world::MemoryWorld;

@@ -1,7 +1,6 @@
 use Rattle.std.specs.Prelude.{IsTrue}
 use Rattle.input_files.specs.Answers.{SaysBox, SaysCapture, SaysSchedule, SaysScript}
-use Rattle.input_files.proofs.OneAnswer.{one_answer, one_box, one_capture, one_script}
-use Rattle.input_files.proofs.ScheduleVerdicts.{one_schedule}
+use Rattle.input_files.proofs.OneAnswer.{one_answer, one_box, one_capture, one_schedule, one_script}
 use Rattle.input_files.proofs.laws.each_file_has_one_answer.Goals as goal
 
 pub returns-clause-box_file : goal.returns-clause-box_file

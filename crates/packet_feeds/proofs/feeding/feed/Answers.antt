@@ -1,6 +1,6 @@
 use Rattle.std.proofs.Common.{◌≡◌, ℕ, ◌-◌, [], refl, sym, ap, ◌∙◌, subst, arith, max, take}
 use Rattle.system_parts.specs.Parts.{AreParts}
-use Rattle.system_parts.proofs.CoreParts.{parts_in}
+use Rattle.system_parts.specs.Views.{parts_in}
 use Rattle.packet_feeds.proofs.FeedLemmas.{feeds_next, more_left, fed_none, fed_are_parts, popped_are_parts, FedAll, fed_whole, fed_until, all_fed}
 use Rattle.packet_feeds.proofs.feeding.feed.Goals.{else-packets-test, then-packets-test+in_default}
 use Rattle.packet_feeds.proofs.feeding.feed.Goals as goal

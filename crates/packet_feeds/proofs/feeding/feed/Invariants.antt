@@ -1,5 +1,5 @@
 use Rattle.std.proofs.Common.{◌≡◌, ◌≤◌, length}
-use Rattle.system_parts.proofs.CoreParts.{parts_in}
+use Rattle.system_parts.specs.Views.{parts_in}
 use Rattle.packet_feeds.proofs.FeedLemmas.{with_fed}
 use Rattle.packet_feeds.proofs.feeding.feed.Given as goal
 

@@ -1,24 +1,23 @@
-use Rattle.std.proofs.Common.{rules, ◌≡◌, ◌+◌, ◌∷◌, ◌++◌, [], length, arith}
-use Rattle.plain_player.proofs.WholeSchedules.{faulty, more, passes}
+use Rattle.std.proofs.Common.{rules, ◌≤◌, ℕ, List, length, refl, subst, IfOk, Result, Ok, Err}
+use Rattle.plain_text.specs.declared.fault.ReadError.{ReadError}
+use Rattle.plain_text.specs.declared.limit.TheConstants.{MOST_EVENTS}
+use Rattle.plain_text.specs.LineFiles.{count_of}
+use Rattle.plain_text.proofs.WholeFiles.{count_is_length}
+use Rattle.plain_machine.specs.declared.plain_move.PlainMove.{PlainMove}
+use Rattle.plain_player.specs.Schedules.{schedule_form}
+use Rattle.plain_player.proofs.OneMove.{moves_are_decisive}
 use Rattle.plain_player.proofs.schedule.read_schedule.Goals as goal
 
-pub returns-in-Err-clause-refused : goal.returns-in-Err-clause-refused
-returns-in-Err-clause-refused c =
-    faulty c.args.text.now c.loop-line.moves c.in-Some.line.number c.in-Some.line.bytes.now c.loop-line.line-iterator c.next.new.self c.in-Err.cause
-    c.loop-line.invariant.begins c.loop-line.invariant.few (search rules) c.in-Err.ensures.fault
+-- each move counts as one
+by_length : (r : Result (List PlainMove) ReadError) → IfOk r (λ moves. count_of schedule_form moves ≤ MOST_EVENTS)
+    → IfOk r (λ moves. length moves ≤ MOST_EVENTS)
+by_length (Ok moves) few = subst (λ (n : ℕ). n ≤ MOST_EVENTS) (count_is_length schedule_form (λ plain. refl) moves) few
+by_length (Err error) few = tt
 
-pub returns-then-len-clause-refused : goal.returns-then-len-clause-refused
-returns-then-len-clause-refused c =
-    passes c.args.text.now c.loop-line.moves c.in-Some.line.number c.in-Some.line.bytes.now c.loop-line.line-iterator c.next.new.self c.in-Ok.plain
-    c.loop-line.invariant.begins (search rules) c.in-Ok.ensures.says (omega (arith, c.len.ensures, c.if-len.true))
+pub read_lines-requires : goal.read_lines-requires
+read_lines-requires c = record { decisive = moves_are_decisive }
 
-pub loop-line-preserved : goal.loop-line-preserved
-loop-line-preserved c =
-    let pushed : c.push.new.self ≡ c.loop-line.moves ++ c.in-Ok.plain ∷ [] = search rules in
-    let longer = more c.args.text.now c.loop-line.moves c.push.new.self c.in-Some.line.number c.in-Some.line.bytes.now c.loop-line.line-iterator c.next.new.self c.in-Ok.plain
-    c.loop-line.invariant.begins (search rules) c.in-Ok.ensures.says pushed in
-    let count : length c.push.new.self ≡ length c.loop-line.moves + 1 = longer.1 in
-    record {
-      begins = longer.0;
-      few = omega (arith, count, c.len.ensures, c.if-len.false);
-    }
+pub returns-clause-few : goal.returns-clause-few
+returns-clause-few c =
+    let few : IfOk c.read_lines.result (λ moves. count_of schedule_form moves ≤ MOST_EVENTS) = search rules in
+    by_length c.read_lines.result few

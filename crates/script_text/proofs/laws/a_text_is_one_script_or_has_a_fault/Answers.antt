@@ -1,20 +1,23 @@
-use Rattle.script_text.proofs.WholeText.{either, not_both, one_script, one_fault, too_many, too_many_before}
+use Rattle.plain_text.specs.declared.limit.TheConstants.{MOST_EVENTS}
+use Rattle.plain_text.proofs.WholeFiles.{either, not_both, one_file, one_fault, too_many, too_many_before}
+use Rattle.script_text.specs.Scripts.{script_form}
+use Rattle.script_text.proofs.OneLine.{events_are_decisive}
 use Rattle.script_text.proofs.laws.a_text_is_one_script_or_has_a_fault.Goals as goal
 
 pub returns-clause-either : goal.returns-clause-either
-returns-clause-either c = either
+returns-clause-either c = either script_form events_are_decisive
 
 pub returns-clause-not_both : goal.returns-clause-not_both
-returns-clause-not_both c = not_both
+returns-clause-not_both c = not_both script_form events_are_decisive
 
 pub returns-clause-one_script : goal.returns-clause-one_script
-returns-clause-one_script c = one_script
+returns-clause-one_script c = one_file script_form events_are_decisive
 
 pub returns-clause-one_fault : goal.returns-clause-one_fault
-returns-clause-one_fault c = one_fault
+returns-clause-one_fault c = one_fault script_form events_are_decisive
 
 pub returns-clause-too_many : goal.returns-clause-too_many
-returns-clause-too_many c = too_many
+returns-clause-too_many c = too_many script_form events_are_decisive MOST_EVENTS
 
 pub returns-clause-too_many_before : goal.returns-clause-too_many_before
-returns-clause-too_many_before c = too_many_before
+returns-clause-too_many_before c = too_many_before script_form events_are_decisive MOST_EVENTS

@@ -34,4 +34,4 @@ returns-clause-stands g c =
       outbox = c.in_ok-store.ensures.outbox;
       none = c.in_ok-store.ensures.no_copy;
     })
-    c.new-7.ensures.items refl refl c.in_ok-sent.ensures c.in_ok-logger.ensures c.new-8.ensures
+    c.new-6.ensures.items refl refl c.in_ok-sent.ensures c.in_ok-logger.ensures c.new-7.ensures

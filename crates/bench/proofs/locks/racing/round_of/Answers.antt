@@ -1,9 +1,10 @@
 use Rattle.std.proofs.Common.{ℕ, ◌<◌, true, List, length, slice_index_or, All, sym, ap, subst, ◌∙◌, arith}
 use Rattle.std.proofs.lemmas.Result.{IfOk-weaker}
+use Rattle.std.proofs.lemmas.List.{length-map}
 use Rattle.var_locks.specs.Seats.{Seated}
 use Rattle.var_locks.specs.Closing.{seat_part}
 use Rattle.bench.specs.Racing.{IsGoing, Stays}
-use Rattle.bench.proofs.Staying.{fresh_count, fresh_go, ended_are, mapped}
+use Rattle.bench.proofs.Staying.{fresh_count, fresh_go, ended_are}
 use Rattle.bench.proofs.locks.racing.round_of.Goals as goal
 
 pub run_all-requires-clause-seats : goal.run_all-requires-clause-seats
@@ -33,6 +34,6 @@ returns g c =
     let round = c.in_ok-vars.vars.round in
     let count = c.in_ok-seats.ensures.count ∙ ap length c.in_ok-vars.ensures.seats ∙ fresh_count g.row.P-Value.Denot round g.J.Round.places 0 g.J.Round.threads in
     record {
-      threads = IfOk-weaker c.close.result _ _ (λ q closed. ap length closed.threads ∙ mapped seat_part c.in_ok-seats.seats.items ∙ count ∙ sym (ap length c.requires.threads))
+      threads = IfOk-weaker c.close.result _ _ (λ q closed. ap length closed.threads ∙ length-map c.in_ok-seats.seats.items seat_part ∙ count ∙ sym (ap length c.requires.threads))
           (c.close.ensures.closed c.args.master c.requires.master c.requires.threads);
     }

@@ -1,6 +1,7 @@
 use Rattle.std.proofs.Common.{◌≡◌, false, refl, sym, ap, ◌∙◌, subst}
 use Rattle.system_parts.specs.SystemStanding.{StandsForSome}
-use Rattle.recovery_core.proofs.FinishLemmas.{system_in, taken_is, taken_from, released_from}
+use Rattle.recovery_core.specs.Views.{system_in}
+use Rattle.recovery_core.proofs.FinishLemmas.{taken_is, taken_from, released_from}
 use Rattle.recovery_core.proofs.system.System.take_released.Goals as goal
 
 pub invariant_of-self : goal.invariant_of-self

@@ -1,6 +1,7 @@
 use Rattle.std.proofs.Common.{◌≡◌, ◌+◌, ◌-◌, Some, None, refl, sym, arith}
 use Rattle.access_log.specs.Held.{lane, entry_at}
-use Rattle.replay_guide.proofs.LaneLists.{no_entry_past, covered_low, one_down, all_covered, walked_lane, at_low}
+use Rattle.master_core.proofs.Holdings.{covered_within}
+use Rattle.replay_guide.proofs.LaneLists.{no_entry_past, one_down, all_covered, walked_lane, at_low}
 use Rattle.replay_guide.proofs.IndexLemmas.{index_before, index_down_from, index_after}
 use Rattle.replay_guide.proofs.lane.FollowedLane.of.Goals as goal
 
@@ -12,7 +13,7 @@ loop-entry-init c =
     let none = no_entry_past held t f in
     rw c.new-entries.ensures.items (record {
       known = λ k h. c.frontier-number.ensures.reached k h;
-      covered = covered_low (lane held t) f c.frontier-number.ensures;
+      covered = covered_within (lane held t) f c.frontier-number.ensures;
       same = λ k above. sym (none k c.requires.can c.frontier-number.ensures above);
       few = omega arith;
       indexed = index_before held t f _ _ (λ n above. none n c.requires.can c.frontier-number.ensures above) c.requires.indexed;

@@ -1,8 +1,9 @@
--- The parts of a system that is opened.
-use Rattle.std.proofs.Common.{reverse}
+-- What the parts of a system show.
+use Rattle.std.specs.Prelude.{reverse}
 use Rattle.system_parts.specs.declared.assembly.Core.TheInside.{Inside}
 use Rattle.system_parts.specs.Parts.{Parts}
 
+-- the packets that are not fed yet in the order in which they come; the rest as it is
 abbrev pub parts_in : {P V : Type 0} → Inside P V → Parts P V
 parts_in y = record {
   program = y.program;
