@@ -1,5 +1,6 @@
 -- What a map has left, after each entry was kept or dropped by a test of its value.
-use Rattle.std.proofs.Common.{◌≡◌, ℕ, zero, suc, ◌≤◌, ◌↔◌, Bool, true, false, cond, leb, ◌&&◌, List, [], ◌∷◌, Option, Some, None, IsTrue, refl, sym, ap, ◌∙◌, arith}
+use Rattle.std.proofs.Common.{◌≡◌, ℕ, zero, suc, ◌≤◌, ◌↔◌, Bool, true, false, cond, leb, ◌&&◌, List, [], ◌∷◌, Option}
+use Rattle.std.proofs.Common.{Some, None, IsTrue, refl, sym, ap, ◌∙◌, arith}
 use Rattle.std.specs.Map.{lookup, keys_of}
 use Rattle.std.specs.Map.Calls.{RetainsPairs}
 use Rattle.std.specs.BTreeMap.{is_at}
@@ -58,10 +59,11 @@ at_most-true (x ∷ s) (y ∷ r) h =
 -- an answer that is true exactly then is that test
 pub at_most-answer : (b : Bool) (s r : List ℕ) → IsTrue b ↔ AtMost s r → b ≡ at_most s r
 at_most-answer true s r h = sym (at_most-true s r (h.0 refl))
-at_most-answer false s r h =
-    elim (at_most s r) as (λ v. at_most s r ≡ v → false ≡ v) [ true ↦ λ e. h.1 (AtMost-true s r e) | false ↦ λ e. refl ] refl
+at_most-answer false s r h = elim (at_most s r) as (λ v. at_most s r ≡ v → false ≡ v)
+    [ true ↦ λ e. h.1 (AtMost-true s r e) | false ↦ λ e. refl ] refl
 
-option_filter-Some : {X : Type 0} (p : X → Bool) (o : Option X) (x : X) → (option_filter p o ≡ Some x) ↔ ((o ≡ Some x) × (p x ≡ true))
+option_filter-Some : {X : Type 0} (p : X → Bool) (o : Option X) (x : X)
+    → (option_filter p o ≡ Some x) ↔ ((o ≡ Some x) × (p x ≡ true))
 option_filter-Some p None x = (λ e. cc, λ e. cc)
 option_filter-Some p (Some y) x =
     elim (p y) as (λ b. p y ≡ b → (cond b (Some y) None ≡ Some x) ↔ ((Some y ≡ Some x) × (p x ≡ true))) [
@@ -70,16 +72,28 @@ option_filter-Some p (Some y) x =
     ] refl
 
 -- of a map whose entries were kept exactly where the test says so
-pub lookup-retained : {F X : Type 0} (T : F → ℕ → X → Bool → X → F → Type 0) (p : X → Bool) (f : F) → ((k : ℕ) (v : X) (b : Bool) (w : X) (f' : F) → T f k v b w f' → (b ≡ p v) × (w ≡ v) × (f' ≡ f)) → (es kept : List (ℕ × X)) → IsStrictlySortedBy nat_cmp (keys_of es) → RetainsPairs T f es kept → (n : ℕ) (x : X) → (lookup (is_at (nat_cmp n)) kept ≡ Some x) ↔ ((lookup (is_at (nat_cmp n)) es ≡ Some x) × (p x ≡ true))
+pub lookup-retained : {F X : Type 0} (T : F → ℕ → X → Bool → X → F → Type 0) (p : X → Bool) (f : F)
+    → ((k : ℕ) (v : X) (b : Bool) (w : X) (f' : F) → T f k v b w f' → (b ≡ p v) × (w ≡ v) × (f' ≡ f))
+    → (es kept : List (ℕ × X)) → IsStrictlySortedBy nat_cmp (keys_of es) → RetainsPairs T f es kept → (n : ℕ) (x : X)
+    → (lookup (is_at (nat_cmp n)) kept ≡ Some x) ↔ ((lookup (is_at (nat_cmp n)) es ≡ Some x) × (p x ≡ true))
 lookup-retained T p f answers es kept sorted ran n x =
     let e = filter_same_pairs T (λ q. p q.1) f answers es kept ran in
-    let looked = lookup-filter-values (eq_by_cmp_equiv nat_cmp_total) p n es (IsDistinct-from_sorted nat_cmp (keys_of es) sorted) in
-    let same : lookup (is_at (nat_cmp n)) kept ≡ option_filter p (lookup (is_at (nat_cmp n)) es) = ap (lookup (is_at (nat_cmp n))) e ∙ looked in
+    let looked =
+    lookup-filter-values (eq_by_cmp_equiv nat_cmp_total) p n es (IsDistinct-from_sorted nat_cmp (keys_of es) sorted) in
+    let same : lookup (is_at (nat_cmp n)) kept ≡ option_filter p (lookup (is_at (nat_cmp n)) es) =
+    ap (lookup (is_at (nat_cmp n))) e ∙ looked in
     let cases = option_filter-Some p (lookup (is_at (nat_cmp n)) es) x in
     (λ h. cases.0 (sym same ∙ h), λ h. same ∙ cases.1 h)
 
 -- of a map whose entries were kept exactly where their stamps are at most this one
-pub retained : {F X : Type 0} (T : F → ℕ → X → Bool → X → F → Type 0) (stamp : X → List ℕ) (frontiers : List ℕ) (f : F) → ((k : ℕ) (v : X) (b : Bool) (w : X) (f' : F) → T f k v b w f' → (IsTrue b ↔ AtMost (stamp v) frontiers) × (w ≡ v) × (f' ≡ f)) → (es kept : List (ℕ × X)) → IsStrictlySortedBy nat_cmp (keys_of es) → RetainsPairs T f es kept → (n : ℕ) (x : X) → (lookup (is_at (nat_cmp n)) kept ≡ Some x) ↔ ((lookup (is_at (nat_cmp n)) es ≡ Some x) × AtMost (stamp x) frontiers)
+pub retained : {F X : Type 0} (T : F → ℕ → X → Bool → X → F → Type 0) (stamp : X → List ℕ) (frontiers : List ℕ) (f : F)
+    → ((k : ℕ) (v : X) (b : Bool) (w : X) (f' : F) → T f k v b w f'
+    → (IsTrue b ↔ AtMost (stamp v) frontiers) × (w ≡ v) × (f' ≡ f)) → (es kept : List (ℕ × X))
+    → IsStrictlySortedBy nat_cmp (keys_of es) → RetainsPairs T f es kept → (n : ℕ) (x : X)
+    → (lookup (is_at (nat_cmp n)) kept ≡ Some x)
+    ↔ ((lookup (is_at (nat_cmp n)) es ≡ Some x) × AtMost (stamp x) frontiers)
 retained T stamp frontiers f answers es kept sorted ran n x =
-    let cases = lookup-retained T (λ v. at_most (stamp v) frontiers) f (λ k v b w f' t. let a = answers k v b w f' t in (at_most-answer b (stamp v) frontiers a.0, a.1, a.2)) es kept sorted ran n x in
+    let cases = lookup-retained T (λ v. at_most (stamp v) frontiers) f
+    (λ k v b w f' t. let a = answers k v b w f' t in (at_most-answer b (stamp v) frontiers a.0, a.1, a.2)) es kept
+    sorted ran n x in
     (λ h. let p = cases.0 h in (p.0, AtMost-true _ _ p.1), λ h. cases.1 (h.0, at_most-true _ _ h.1))

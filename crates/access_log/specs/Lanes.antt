@@ -19,10 +19,11 @@ pub record CoversUpTo (old new : Lane) (count : ℕ) : Type 0 where
 -- the new lane holds exactly those entries of the old one whose stamps have no component above these
 pub record RetainsAtMost (old new : Lane) (frontiers : List ℕ) : Type 0 where
   pub covered : new.covered ≡ old.covered
-  pub held : (n : ℕ) (e : StampedEntry) → (entry_at new n ≡ Some e) ↔ ((entry_at old n ≡ Some e) × AtMost e.stamp frontiers)
+  pub held : (n : ℕ) (e : StampedEntry)
+      → (entry_at new n ≡ Some e) ↔ ((entry_at old n ≡ Some e) × AtMost e.stamp frontiers)
 
--- What every held set keeps: a lane for each of at most 16 threads, and each entry in the lane of its thread, by its number.
--- The numbers in a lane rise strictly, from above those covered: no entry stands twice.
+-- What every held set keeps: a lane for each of at most 16 threads, and each entry in the lane of its thread, by its
+-- number. The numbers in a lane rise strictly, from above those covered: no entry stands twice.
 pub record IsHeldSet (held : List Lane) : Type 0 where
   pub few : length held ≤ 16
   pub named : (t n : ℕ) (e : StampedEntry) → entry_at (lane held t) n ≡ Some e → (e.thread ≡ t) × (e.number ≡ n)

@@ -1,5 +1,8 @@
-ghost use Rattle.std.specs.Prelude.{◌≡◌, ℕ, ◌+◌, ◌-◌, ◌^◌, ◌<◌, ◌≤◌, ◌↔◌, ◌≢◌, List, Option, Some, None, Ok, IsSome, IfOk, IfSome, MatchOption, length, option_copied, replicate, slice_index};
-ghost use Rattle.access_log.specs.Held.{lane, entry_at, fresh_lane, IsKnown, IsFrontier, IsWithin, IsFirstMissing, IsRising, held_count};
+ghost use Rattle.std.specs.Prelude.{◌≡◌, ℕ, ◌+◌, ◌-◌, ◌^◌, ◌<◌, ◌≤◌, ◌↔◌, ◌≢◌, List, Option, Some};
+ghost use Rattle.std.specs.Prelude.{None, Ok, IsSome, IfOk, IfSome, MatchOption, length};
+ghost use Rattle.std.specs.Prelude.{option_copied, replicate, slice_index};
+ghost use Rattle.access_log.specs.Held.{lane, entry_at, fresh_lane, IsKnown, IsFrontier, IsWithin};
+ghost use Rattle.access_log.specs.Held.{IsFirstMissing, IsRising, held_count};
 ghost use Rattle.access_log.specs.Lanes.{PutsEntry, CoversUpTo, RetainsAtMost, IsHeldSet};
 ghost use Rattle.access_log.specs.Members.{IsMember, IsDropped, IsMemberAbove, IsNumberOf};
 
@@ -133,8 +136,8 @@ impl Held {
         self.lanes.get(thread as usize)?.get(number)
     }
 
-    /// Marks each thread's entries up to its count as covered, and drops those held of them: the held entries with numbers
-    /// above the counts are left. It takes no memory.
+    /// Marks each thread's entries up to its count as covered, and drops those held of them: the held entries with
+    /// numbers above the counts are left. It takes no memory.
     pub fn cover(&mut self, counts: &Stamp)
         requires { (t : ℕ) → t < length self.old
             → (lane self.old t).covered ≤ slice_index counts.now t }
@@ -168,8 +171,8 @@ impl Held {
         Stamp::new(components)
     }
 
-    /// The first entry that is missing for this stamp: of the least thread whose component is above its frontier, the next
-    /// number after that. None exactly where no component is above. It takes no memory.
+    /// The first entry that is missing for this stamp: of the least thread whose component is above its frontier, the
+    /// next number after that. None exactly where no component is above. It takes no memory.
     pub fn missing(&self, stamp: &Stamp) -> Option<(u32, u64)>
         ensures { MatchOption result (IsWithin self.now stamp.now)
             (λ first. IsFirstMissing self.now stamp.now first.0 first.1) }

@@ -1,4 +1,6 @@
-ghost use Rattle.std.specs.Prelude.{◌≡◌, ℕ, ◌+◌, ◌-◌, ◌^◌, ◌<◌, ◌≤◌, ◌↔◌, ◌≢◌, List, Option, Some, None, Ok, IsSome, length, option_copied, nat_le, if◌then◌else◌, slice_index};
+ghost use Rattle.std.specs.Prelude.{◌≡◌, ℕ, ◌+◌, ◌-◌, ◌^◌, ◌<◌, ◌≤◌, ◌↔◌, ◌≢◌, List, Option, Some};
+ghost use Rattle.std.specs.Prelude.{None, Ok, IsSome, length, option_copied, nat_le, if◌then◌else◌};
+ghost use Rattle.std.specs.Prelude.{slice_index};
 ghost use Rattle.thread_clock.specs.Clock.{AtMost};
 ghost use Rattle.access_log.specs.Held.{entry_at, fresh_lane, IsKnown, IsFrontier, IsRising};
 ghost use Rattle.access_log.specs.Lanes.{PutsEntry, CoversUpTo, RetainsAtMost};

@@ -1,4 +1,6 @@
-ghost use Rattle.std.specs.Prelude.{◌≡◌, ℕ, ◌+◌, ◌-◌, ◌^◌, ◌<◌, ◌≤◌, ◌↔◌, ◌++◌, List, Option, Some, None, IsSome, OnOk, OnErr, length, option_copied, option_to_list, drop, slice_index_or, nat_le, if◌then◌else◌};
+ghost use Rattle.std.specs.Prelude.{◌≡◌, ℕ, ◌+◌, ◌-◌, ◌^◌, ◌<◌, ◌≤◌, ◌↔◌, ◌++◌, List, Option, Some};
+ghost use Rattle.std.specs.Prelude.{None, IsSome, OnOk, OnErr, length, option_copied};
+ghost use Rattle.std.specs.Prelude.{option_to_list, drop, slice_index_or, nat_le, if◌then◌else◌};
 ghost use Rattle.std.specs.BTreeMap.{get, btree_map_len};
 ghost use Rattle.std.specs.VecDeque.{deque_len};
 ghost use Rattle.std.specs.Ordering.{nat_cmp};
@@ -21,8 +23,8 @@ const LIMIT: usize = 0x100_0000_0000_0000;
 // An entry takes at most 200 bytes.
 const _: () = prove!(size_of::<Option<StampedEntry>>() <= 200);
 
-/// The entries of one thread by number, after those covered: at once in slots that follow one another, and in a map where
-/// they come before those in between.
+/// The entries of one thread by number, after those covered: at once in slots that follow one another, and in a map
+/// where they come before those in between.
 #[derive(Debug, Drop)]
 pub struct Slots {
     covered: u64,

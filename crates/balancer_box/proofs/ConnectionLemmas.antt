@@ -8,20 +8,25 @@ use Rattle.nat_tables.specs.Keys.{same_endpoint}
 use Rattle.nat_tables.specs.Forwards.{Forwards, slot_of, refreshed, refresh, without, is_idle, lives_at, Misses}
 use Rattle.nat_tables.proofs.Counting.{same_is}
 
-pub slot_refreshed : (key : Endpoint) (now : ℕ) (slot : Slot) (es : Forwards) → slot_of key es ≡ Some slot → slot_of key (refresh key now es) ≡ Some (refreshed now slot)
+pub slot_refreshed : (key : Endpoint) (now : ℕ) (slot : Slot) (es : Forwards) → slot_of key es ≡ Some slot
+    → slot_of key (refresh key now es) ≡ Some (refreshed now slot)
 slot_refreshed key now slot [] is = absurd (cc)
 slot_refreshed key now slot (e ∷ es) is = by (same_endpoint key e.0) refl is (slot_refreshed key now slot es)
   where
-    by : (b : Bool) → same_endpoint key e.0 ≡ b → (if b then Some e.1 else slot_of key es) ≡ Some slot → (slot_of key es ≡ Some slot → slot_of key (refresh key now es) ≡ Some (refreshed now slot))
+    by : (b : Bool) → same_endpoint key e.0 ≡ b → (if b then Some e.1 else slot_of key es) ≡ Some slot
+        → (slot_of key es ≡ Some slot → slot_of key (refresh key now es) ≡ Some (refreshed now slot))
         → slot_of key (refresh key now (e ∷ es)) ≡ Some (refreshed now slot)
     by true q is rest = let s : e.1 ≡ slot = cc in rw (q, q) (ap (λ (t : Slot). Some (refreshed now t)) s)
     by false q is rest = rw (q, q) (rest is)
 
-pub slot_appended : (key : Endpoint) (slot : Slot) (es : Forwards) → slot_of key es ≡ None → same_endpoint key key ≡ true → slot_of key (es ++ (key, slot) ∷ []) ≡ Some slot
+pub slot_appended : (key : Endpoint) (slot : Slot) (es : Forwards) → slot_of key es ≡ None
+    → same_endpoint key key ≡ true → slot_of key (es ++ (key, slot) ∷ []) ≡ Some slot
 slot_appended key slot [] is self = rw self refl
 slot_appended key slot (e ∷ es) is self = by (same_endpoint key e.0) refl is (λ h. slot_appended key slot es h self)
   where
-    by : (b : Bool) → same_endpoint key e.0 ≡ b → (if b then Some e.1 else slot_of key es) ≡ None → (slot_of key es ≡ None → slot_of key (es ++ (key, slot) ∷ []) ≡ Some slot) → slot_of key ((e ∷ es) ++ (key, slot) ∷ []) ≡ Some slot
+    by : (b : Bool) → same_endpoint key e.0 ≡ b → (if b then Some e.1 else slot_of key es) ≡ None
+        → (slot_of key es ≡ None → slot_of key (es ++ (key, slot) ∷ []) ≡ Some slot)
+        → slot_of key ((e ∷ es) ++ (key, slot) ∷ []) ≡ Some slot
     by true q is rest = absurd (cc)
     by false q is rest = rw q (rest is)
 
@@ -29,7 +34,8 @@ pub without_refreshed : (key : Endpoint) (now : ℕ) (es : Forwards) → without
 without_refreshed key now [] = refl
 without_refreshed key now (e ∷ es) = by (same_endpoint key e.0) refl (without_refreshed key now es)
   where
-    by : (b : Bool) → same_endpoint key e.0 ≡ b → without key (refresh key now es) ≡ without key es → without key (refresh key now (e ∷ es)) ≡ without key (e ∷ es)
+    by : (b : Bool) → same_endpoint key e.0 ≡ b → without key (refresh key now es) ≡ without key es
+        → without key (refresh key now (e ∷ es)) ≡ without key (e ∷ es)
     by true q rest = rw (q, q) refl
     by false q rest = rw (q, q) (ap (λ (r : Forwards). e ∷ r) rest)
 
@@ -50,6 +56,8 @@ and_left true b e = refl
 and_left false b e = absurd (cc)
 
 -- a connection that lives is of this backend
-pub lives_there : (key : Endpoint) (backend now : ℕ) (es : Forwards) (o : Option Slot) → slot_of key es ≡ o → lives_at key backend now o ≡ true → (slot : Slot) × (slot_of key es ≡ Some slot) × (slot.port ≡ backend)
+pub lives_there : (key : Endpoint) (backend now : ℕ) (es : Forwards) (o : Option Slot) → slot_of key es ≡ o
+    → lives_at key backend now o ≡ true → (slot : Slot) × (slot_of key es ≡ Some slot) × (slot.port ≡ backend)
 lives_there key backend now es None at is = absurd (cc)
-lives_there key backend now es (Some slot) at is = (slot, at, eqb-true _ _ (and_left (slot.port == backend) (not (is_idle now (key, slot))) is))
+lives_there key backend now es (Some slot) at is =
+    (slot, at, eqb-true _ _ (and_left (slot.port == backend) (not (is_idle now (key, slot))) is))

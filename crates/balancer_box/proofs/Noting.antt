@@ -1,42 +1,53 @@
 -- What a move leaves noted fits its fields.
 use Rattle.std.proofs.Common.{◌≡◌, ℕ, ◌<◌, ◌≤◌, Bool, true, false, length, refl, arith, Option, Some, None}
-use Rattle.nat_tables.specs.Forwards.{Forwards, is_idle, slot_of, first_idle, found_there, found, bound, lives, port_of, AreMappings}
+use Rattle.nat_tables.specs.Forwards.{Forwards, is_idle, slot_of, first_idle, found_there, found, bound, lives, port_of}
+use Rattle.nat_tables.specs.Forwards.{AreMappings}
 use Rattle.nat_tables.proofs.Keeping.{may_slot, may_idle}
 use Rattle.nat_tables.specs.declared.entries.Endpoint.{Endpoint}
 use Rattle.nat_tables.specs.declared.slot.Slot.{Slot}
 use Rattle.balancer_box.specs.declared.place.Place.{Place}
-use Rattle.balancer_box.specs.declared.place.Place.TheVariants.{HearsTime, FindsConnection, LowersIdle, RaisesLeast, Connects, LowersSpare, ChecksConnection, CountsDrop, SendsOut, Ends}
+use Rattle.balancer_box.specs.declared.place.Place.TheVariants.{HearsTime, FindsConnection, LowersIdle, RaisesLeast}
+use Rattle.balancer_box.specs.declared.place.Place.TheVariants.{Connects, LowersSpare, ChecksConnection, CountsDrop}
+use Rattle.balancer_box.specs.declared.place.Place.TheVariants.{SendsOut, Ends}
 use Rattle.balancer_box.specs.declared.place.Class.{Class}
 use Rattle.balancer_box.specs.declared.place.Class.TheVariants.{Client, Answer}
 use Rattle.balancer_box.specs.declared.place.Noted.{Noted}
 use Rattle.balancer_box.specs.declared.value.BalancerValue.{BalancerValue}
 use Rattle.balancer_box.specs.declared.value.BalancerValue.TheVariants.{Dropped, Loaded, Connected}
 use Rattle.balancer_box.specs.Loads.{least_loaded}
-use Rattle.balancer_box.specs.Balancer.{Settings, begins, goes_to, after_find, after_bind, after_check, touched, after_time, told, MayConnect, Fits}
+use Rattle.balancer_box.specs.Balancer.{Settings, begins, goes_to, after_find, after_bind, after_check, touched}
+use Rattle.balancer_box.specs.Balancer.{after_time, told, MayConnect, Fits}
 use Rattle.balancer_box.specs.Noting.{IsNoted}
 use Rattle.balancer_box.proofs.LoadLemmas.{least_below}
 
 module _ (backends : ℕ) where
   with_backend : (n : Noted) (b : ℕ) → b < backends → IsNoted backends n → IsNoted backends (record n { backend = b })
-  with_backend n b low is = record { protocol = is.protocol; address = is.address; port = is.port; backend = low; spare = is.spare }
+  with_backend n b low is =
+      record { protocol = is.protocol; address = is.address; port = is.port; backend = low; spare = is.spare }
 
   with_spare : (n : Noted) (b : ℕ) → b < backends → IsNoted backends n → IsNoted backends (record n { spare = b })
-  with_spare n b low is = record { protocol = is.protocol; address = is.address; port = is.port; backend = is.backend; spare = low }
+  with_spare n b low is =
+      record { protocol = is.protocol; address = is.address; port = is.port; backend = is.backend; spare = low }
 
-  with_both : (n : Noted) (b c : ℕ) → b < backends → c < backends → IsNoted backends n → IsNoted backends (record n { backend = b; spare = c })
-  with_both n b c low less is = record { protocol = is.protocol; address = is.address; port = is.port; backend = low; spare = less }
+  with_both : (n : Noted) (b c : ℕ) → b < backends → c < backends → IsNoted backends n
+      → IsNoted backends (record n { backend = b; spare = c })
+  with_both n b c low less is =
+      record { protocol = is.protocol; address = is.address; port = is.port; backend = low; spare = less }
 
   with_reason : (n : Noted) (x : ℕ) → IsNoted backends n → IsNoted backends (record n { reason = x })
-  with_reason n x is = record { protocol = is.protocol; address = is.address; port = is.port; backend = is.backend; spare = is.spare }
+  with_reason n x is =
+      record { protocol = is.protocol; address = is.address; port = is.port; backend = is.backend; spare = is.spare }
 
   with_time : (n : Noted) (x : ℕ) → IsNoted backends n → IsNoted backends (record n { time = x })
-  with_time n x is = record { protocol = is.protocol; address = is.address; port = is.port; backend = is.backend; spare = is.spare }
+  with_time n x is =
+      record { protocol = is.protocol; address = is.address; port = is.port; backend = is.backend; spare = is.spare }
 
   begins_noted : (n : Noted) (b : Bool) → IsNoted backends n → IsNoted backends (begins n b).noted
   begins_noted n true is = with_reason n 7 is
   begins_noted n false is = is
 
-  goes_noted : (n : Noted) (r : Bool) (b : ℕ) → b < backends → IsNoted backends n → IsNoted backends (goes_to n r b).noted
+  goes_noted : (n : Noted) (r : Bool) (b : ℕ) → b < backends → IsNoted backends n
+      → IsNoted backends (goes_to n r b).noted
   goes_noted n true b low is = with_both n b b low low is
   goes_noted n false b low is = with_backend n b low is
 
@@ -44,30 +55,45 @@ module _ (backends : ℕ) where
   check_noted n true is = goes_noted n n.resets n.backend is.backend is
   check_noted n false is = with_reason n 7 is
 
-module _ (s : Settings) (v : ℕ) (n : Noted) (is : IsNoted (length s.backends) n) (es : Forwards) (all : AreMappings (MayConnect s v) es) where
-  there_noted : (slot : Slot) (idle : Bool) → slot_of n.client es ≡ Some slot → IsNoted (length s.backends) (after_find n (found_there n.client n.time es slot idle).0).noted
-  there_noted slot true at = let m = may_slot (MayConnect s v) n.client slot es at all in with_spare (length s.backends) n slot.port m.2 is
-  there_noted slot false at = let m = may_slot (MayConnect s v) n.client slot es at all in goes_noted (length s.backends) n n.resets slot.port m.2 is
+module _ (s : Settings) (v : ℕ) (n : Noted) (is : IsNoted (length s.backends) n) (es : Forwards)
+    (all : AreMappings (MayConnect s v) es) where
+  there_noted : (slot : Slot) (idle : Bool) → slot_of n.client es ≡ Some slot
+      → IsNoted (length s.backends) (after_find n (found_there n.client n.time es slot idle).0).noted
+  there_noted slot true at =
+      let m = may_slot (MayConnect s v) n.client slot es at all in with_spare (length s.backends) n slot.port m.2 is
+  there_noted slot false at =
+      let m = may_slot (MayConnect s v) n.client slot es at all in
+      goes_noted (length s.backends) n n.resets slot.port m.2 is
 
-  found_noted : (a : Option Slot) (b : Option (Endpoint × Slot)) → slot_of n.client es ≡ a → first_idle n.time es ≡ b → IsNoted (length s.backends) (after_find n (found n.client n.time es a b).0).noted
+  found_noted : (a : Option Slot) (b : Option (Endpoint × Slot)) → slot_of n.client es ≡ a → first_idle n.time es ≡ b
+      → IsNoted (length s.backends) (after_find n (found n.client n.time es a b).0).noted
   found_noted (Some slot) b at first = there_noted slot (is_idle n.time (n.client, slot)) at
-  found_noted None (Some gone) at first = let m = may_idle (MayConnect s v) n.time gone es first all in with_spare (length s.backends) n (port_of gone).port m.2 is
+  found_noted None (Some gone) at first =
+      let m = may_idle (MayConnect s v) n.time gone es first all in
+      with_spare (length s.backends) n (port_of gone).port m.2 is
   found_noted None None at first = begins_noted (length s.backends) n n.resets is
 
-  bound_noted : (a : Option Slot) → slot_of n.client es ≡ a → IsNoted (length s.backends) (after_bind n (bound n.client n.backend n.time es a).0).noted
-  bound_noted (Some slot) at = let m = may_slot (MayConnect s v) n.client slot es at all in with_both (length s.backends) n slot.port n.backend m.2 is.backend is
+  bound_noted : (a : Option Slot) → slot_of n.client es ≡ a
+      → IsNoted (length s.backends) (after_bind n (bound n.client n.backend n.time es a).0).noted
+  bound_noted (Some slot) at =
+      let m = may_slot (MayConnect s v) n.client slot es at all in
+      with_both (length s.backends) n slot.port n.backend m.2 is.backend is
   bound_noted None at = is
 
-pub touched_noted : (s : Settings) (p : Place) (x : BalancerValue) (n : Noted) (v : ℕ) → 1 ≤ length s.backends → IsNoted (length s.backends) n → Fits s v x → IsNoted (length s.backends) (touched p x n).1.noted
+pub touched_noted : (s : Settings) (p : Place) (x : BalancerValue) (n : Noted) (v : ℕ) → 1 ≤ length s.backends
+    → IsNoted (length s.backends) n → Fits s v x → IsNoted (length s.backends) (touched p x n).1.noted
 touched_noted s HearsTime x n v some is fits = is
 touched_noted s FindsConnection (Dropped d) n v some is fits = is
 touched_noted s FindsConnection (Loaded loads) n v some is fits = is
-touched_noted s FindsConnection (Connected es) n v some is fits = found_noted s v n is es fits.2 (slot_of n.client es) (first_idle n.time es) refl refl
+touched_noted s FindsConnection (Connected es) n v some is fits =
+    found_noted s v n is es fits.2 (slot_of n.client es) (first_idle n.time es) refl refl
 touched_noted s LowersIdle (Dropped d) n v some is fits = is
 touched_noted s LowersIdle (Loaded loads) n v some is fits = begins_noted (length s.backends) n n.resets is
 touched_noted s LowersIdle (Connected es) n v some is fits = is
 touched_noted s RaisesLeast (Dropped d) n v some is fits = is
-touched_noted s RaisesLeast (Loaded loads) n v some is fits = let low = least_below loads (omega (arith, fits.1)) in with_backend (length s.backends) n (least_loaded loads) (omega (arith, low, fits.1)) is
+touched_noted s RaisesLeast (Loaded loads) n v some is fits =
+    let low = least_below loads (omega (arith, fits.1)) in
+    with_backend (length s.backends) n (least_loaded loads) (omega (arith, low, fits.1)) is
 touched_noted s RaisesLeast (Connected es) n v some is fits = is
 touched_noted s Connects (Dropped d) n v some is fits = is
 touched_noted s Connects (Loaded loads) n v some is fits = is
@@ -77,7 +103,8 @@ touched_noted s LowersSpare (Loaded loads) n v some is fits = is
 touched_noted s LowersSpare (Connected es) n v some is fits = is
 touched_noted s ChecksConnection (Dropped d) n v some is fits = is
 touched_noted s ChecksConnection (Loaded loads) n v some is fits = is
-touched_noted s ChecksConnection (Connected es) n v some is fits = check_noted (length s.backends) n (lives n.client n.backend n.time es) is
+touched_noted s ChecksConnection (Connected es) n v some is fits =
+    check_noted (length s.backends) n (lives n.client n.backend n.time es) is
 touched_noted s CountsDrop (Dropped d) n v some is fits = is
 touched_noted s CountsDrop (Loaded loads) n v some is fits = is
 touched_noted s CountsDrop (Connected es) n v some is fits = is
@@ -88,7 +115,8 @@ time_noted : (backends : ℕ) (n : Noted) (c : Class) → IsNoted backends n →
 time_noted backends n Client is = is
 time_noted backends n Answer is = is
 
-pub told_noted : (backends : ℕ) (p : Place) (a : ℕ) (n : Noted) → IsNoted backends n → IsNoted backends (told p a n).noted
+pub told_noted : (backends : ℕ) (p : Place) (a : ℕ) (n : Noted) → IsNoted backends n
+    → IsNoted backends (told p a n).noted
 told_noted backends HearsTime a n is = time_noted backends (record n { time = a }) n.class (with_time backends n a is)
 told_noted backends FindsConnection a n is = is
 told_noted backends LowersIdle a n is = is

@@ -1,6 +1,7 @@
--- The box that spreads the clients of one virtual address and port over backends. Variable 0 counts drops by reason, variable 1
--- is the load of each backend, and the next S variables are the connection tables.
-use Rattle.std.specs.Prelude.{◌≡◌, ℕ, ◌+◌, ◌%◌, ◌^◌, ◌<◌, ◌≤◌, Bool, true, false, not, ◌==◌, ◌&&◌, if◌then◌else◌, List, [], length, slice_get, position, Option, Some, None, Result, Ok, Err, bit_and}
+-- The box that spreads the clients of one virtual address and port over backends. Variable 0 counts drops by reason,
+-- variable 1 is the load of each backend, and the next S variables are the connection tables.
+use Rattle.std.specs.Prelude.{◌≡◌, ℕ, ◌+◌, ◌%◌, ◌^◌, ◌<◌, ◌≤◌, Bool, true, false, not, ◌==◌, ◌&&◌, if◌then◌else◌, List}
+use Rattle.std.specs.Prelude.{[], length, slice_get, position, Option, Some, None, Result, Ok, Err, bit_and}
 use Rattle.packet_headers.specs.declared.flow.Flow.{Flow}
 use Rattle.packet_headers.specs.declared.flow.NotFlow.{NotFlow}
 use Rattle.packet_headers.specs.View.{viewed}
@@ -18,7 +19,9 @@ use Rattle.nat_tables.specs.Forwards.{find_or_bind, AreMappings}
 use Rattle.nat_box.specs.Nat.{reason_of, with_drop, no_drops}
 use Rattle.balancer_box.specs.declared.backends.Backend.{Backend}
 use Rattle.balancer_box.specs.declared.place.Place.{Place}
-use Rattle.balancer_box.specs.declared.place.Place.TheVariants.{HearsTime, FindsConnection, LowersIdle, RaisesLeast, Connects, LowersSpare, ChecksConnection, CountsDrop, SendsOut, Ends}
+use Rattle.balancer_box.specs.declared.place.Place.TheVariants.{HearsTime, FindsConnection, LowersIdle, RaisesLeast}
+use Rattle.balancer_box.specs.declared.place.Place.TheVariants.{Connects, LowersSpare, ChecksConnection, CountsDrop}
+use Rattle.balancer_box.specs.declared.place.Place.TheVariants.{SendsOut, Ends}
 use Rattle.balancer_box.specs.declared.place.Class.{Class}
 use Rattle.balancer_box.specs.declared.place.Class.TheVariants.{Client, Answer}
 use Rattle.balancer_box.specs.declared.place.Noted.{Noted}
@@ -233,8 +236,8 @@ balancer_meaning s = record {
   rank = λ l. moves_left (place_numbered l.at);
 }
 
--- Each variable has a value of its kind: a load of each backend, and in a connection table connections that stand by their clients,
--- each of a backend that is there, and no client's twice.
+-- Each variable has a value of its kind: a load of each backend, and in a connection table connections that stand by
+-- their clients, each of a backend that is there, and no client's twice.
 
 abbrev pub MayConnect : Settings → ℕ → Endpoint → ℕ → Type 0
 MayConnect s v client backend = (v ≡ table_of s client) × (client.protocol < 2 ^ 8) × (backend < length s.backends)

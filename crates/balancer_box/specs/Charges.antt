@@ -1,6 +1,6 @@
--- The charge of each backend: the connections that name it, and the packets in hand that have added to its load and neither
--- connected nor lowered it again, or that have removed a connection of it and not lowered the load yet. After each move of each run,
--- whatever the threads and their order, this is its load. Sums are modulo 2^64.
+-- The charge of each backend: the connections that name it, and the packets in hand that have added to its load and
+-- neither connected nor lowered it again, or that have removed a connection of it and not lowered the load yet. After
+-- each move of each run, whatever the threads and their order, this is its load. Sums are modulo 2^64.
 use Rattle.std.specs.Prelude.{◌≡◌, ℕ, ◌+◌, ◌%◌, ◌^◌, ◌<◌, ◌==◌, List, length, slice_index, Option, Some, None}
 use Rattle.plain_text.specs.declared.packet.Packet.{Packet}
 use Rattle.entry_order.specs.Stamps.{sum_below}
@@ -33,7 +33,8 @@ connections_of backend (Dropped d) = 0
 connections_of backend (Loaded loads) = 0
 connections_of backend (Connected es) = total (of_backend backend) es
 
--- Of a packet in hand: 1 where the backend's load is to be lowered for it, or was raised for it before it connects its client
+-- Of a packet in hand: 1 where the backend's load is to be lowered for it, or was raised for it before it connects its
+-- client
 
 abbrev pub owed : ℕ → Place → Noted → ℕ
 owed backend LowersIdle n = one_if (n.spare == backend)
@@ -54,7 +55,8 @@ abbrev pub in_hands : Settings → (Place → Noted → ℕ) → ℕ → (ℕ �
 in_hands s number threads thread = sum_below threads (λ t. in_hand s number (thread t).hand)
 
 abbrev pub charge : Settings → ℕ → ℕ → (ℕ → BalancerValue) → (ℕ → Thread) → ℕ
-charge s threads backend value thread = in_values s (connections_of backend) value + in_hands s (owed backend) threads thread
+charge s threads backend value thread =
+    in_values s (connections_of backend) value + in_hands s (owed backend) threads thread
 
 abbrev pub IsCharged : Settings → ℕ → ℕ → (ℕ → BalancerValue) → (ℕ → Thread) → Type 0
 IsCharged s threads backend value thread = load_in backend (value 1) ≡ charge s threads backend value thread % 2 ^ 64

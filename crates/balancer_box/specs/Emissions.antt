@@ -1,6 +1,7 @@
--- What goes out: frames with another destination, or another source (RFC 3022), by the connection tables as the packet's own moves
--- found them.
-use Rattle.std.specs.Prelude.{◌≡◌, ℕ, ◌-◌, ◌≤◌, ◌⊎◌, Bool, true, false, List, [], ◌∷◌, Option, Some, None, Ok, nat_eq, cond, slice_get}
+-- What goes out: frames with another destination, or another source (RFC 3022), by the connection tables as the
+-- packet's own moves found them.
+use Rattle.std.specs.Prelude.{◌≡◌, ℕ, ◌-◌, ◌≤◌, ◌⊎◌, Bool, true, false, List, [], ◌∷◌, Option, Some, None, Ok, nat_eq}
+use Rattle.std.specs.Prelude.{cond, slice_get}
 use Rattle.plain_text.specs.declared.packet.Packet.{Packet}
 use Rattle.packet_headers.specs.declared.flow.Flow.{Flow}
 use Rattle.packet_headers.specs.View.{viewed}
@@ -20,7 +21,8 @@ use Rattle.balancer_box.specs.Places.{endpoint}
 use Rattle.balancer_box.specs.Balancer.{Settings, is_virtual, backend_at, resets, balancer_meaning}
 use Rattle.balancer_box.specs.Lawful.{AreSettings}
 
--- What the moves of a packet in hand met: the connection table as its newest touch of one found it and left it, and the time that it was told.
+-- What the moves of a packet in hand met: the connection table as its newest touch of one found it and left it, and the
+-- time that it was told.
 pub record Trail : Type 0 where
   pub found : Option Forwards
   pub left : Option Forwards
@@ -54,9 +56,11 @@ trail_by earlier s (Ended k) old = old
 
 abbrev pub trail_of : Settings → ℕ → List (Step BalancerValue) → Trail
 trail_of s t [] = no_trail
-trail_of s t (x ∷ earlier) = cond (nat_eq x.thread t) (trail_by earlier s x.act (trail_of s t earlier)) (trail_of s t earlier)
+trail_of s t (x ∷ earlier) =
+    cond (nat_eq x.thread t) (trail_by earlier s x.act (trail_of s t earlier)) (trail_of s t earlier)
 
--- the table that names a client's backend: as it was left, or as it was found where the packet closed its connection in that touch
+-- the table that names a client's backend: as it was left, or as it was found where the packet closed its connection in
+-- that touch
 abbrev pub naming : Trail → Bool → Option Forwards
 naming r true = r.found
 naming r false = r.left
@@ -69,11 +73,14 @@ dest_of flow = endpoint flow.protocol flow.dest flow.dest_port
 
 -- the client was connected to the backend of this number at the packet's last touch of its table
 abbrev pub WasConnected : Option Forwards → Endpoint → ℕ → Type 0
-WasConnected table client number = (es : Forwards) × (slot : Slot) × (table ≡ Some es) × (slot_of client es ≡ Some slot) × (slot.port ≡ number)
+WasConnected table client number =
+    (es : Forwards) × (slot : Slot) × (table ≡ Some es) × (slot_of client es ≡ Some slot) × (slot.port ≡ number)
 
--- the client's connection to the backend of this number was there, and not idle, at the packet's last touch of its table
+-- the client's connection to the backend of this number was there, and not idle, at the packet's last touch of its
+-- table
 abbrev pub Lived : Trail → Endpoint → ℕ → Type 0
-Lived r client number = (es : Forwards) × (now : ℕ) × (r.found ≡ Some es) × (r.clock ≡ Some now) × (lives client number now es ≡ true)
+Lived r client number =
+    (es : Forwards) × (now : ℕ) × (r.found ≡ Some es) × (r.clock ≡ Some now) × (lives client number now es ≡ true)
 
 -- a client's packet goes to the backend that its connection named
 abbrev pub ReachesBackend : Settings → List ℕ → Flow → Trail → List ℕ → Type 0
@@ -97,6 +104,8 @@ IsSentOnOf s r sent (Some p) =
 -- what a thread sends out is its input of the emission's number, sent on so
 abbrev pub EmissionsFollowConnections : Type 0
 EmissionsFollowConnections =
-    (s : Settings) (threads : ℕ) (inputs : ℕ → List Packet) (x : Step BalancerValue) (earlier : List (Step BalancerValue)) (o : Emission)
-    → AreSettings s → HaveBytes inputs → IsHistory (balancer_meaning s) inputs threads (x ∷ earlier) → x.act ≡ Emitted o
-    → (1 ≤ o.input) × IsSentOnOf s (trail_of s x.thread earlier) o.packet.bytes (slice_get (inputs x.thread) (o.input - 1))
+    (s : Settings) (threads : ℕ) (inputs : ℕ → List Packet) (x : Step BalancerValue)
+    (earlier : List (Step BalancerValue)) (o : Emission) → AreSettings s → HaveBytes inputs
+    → IsHistory (balancer_meaning s) inputs threads (x ∷ earlier) → x.act ≡ Emitted o
+    → (1 ≤ o.input)
+    × IsSentOnOf s (trail_of s x.thread earlier) o.packet.bytes (slice_get (inputs x.thread) (o.input - 1))

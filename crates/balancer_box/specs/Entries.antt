@@ -1,4 +1,5 @@
--- A connection never changes its backend: after each move of each run it is there with the backend that it had before, or gone.
+-- A connection never changes its backend: after each move of each run it is there with the backend that it had before,
+-- or gone.
 use Rattle.std.specs.Prelude.{◌≡◌, ℕ, ◌+◌, ◌<◌, List, [], ◌∷◌, Option, Some, None}
 use Rattle.plain_text.specs.declared.packet.Packet.{Packet}
 use Rattle.plain_machine.specs.History.{Step, value_after, IsHistory}
@@ -25,7 +26,8 @@ AreKept old new = (client : Endpoint) (slot : Slot) → slot_of client old ≡ S
 
 abbrev pub ConnectionsKeepBackends : Type 0
 ConnectionsKeepBackends =
-    (s : Settings) (threads : ℕ) (inputs : ℕ → List Packet) (x : Step BalancerValue) (earlier : List (Step BalancerValue))
-    → AreSettings s → IsHistory (balancer_meaning s) inputs threads (x ∷ earlier)
+    (s : Settings) (threads : ℕ) (inputs : ℕ → List Packet) (x : Step BalancerValue)
+    (earlier : List (Step BalancerValue)) → AreSettings s → IsHistory (balancer_meaning s) inputs threads (x ∷ earlier)
     → (v : ℕ) → v < 2 + s.shards
-    → AreKept (connections_in (value_after (balancer_meaning s) earlier v)) (connections_in (value_after (balancer_meaning s) (x ∷ earlier) v))
+    → AreKept (connections_in (value_after (balancer_meaning s) earlier v))
+    (connections_in (value_after (balancer_meaning s) (x ∷ earlier) v))

@@ -1,5 +1,6 @@
 -- The laws of programs, of the box with 1 to 64 tables and 1 to 64 backends.
-use Rattle.std.specs.Prelude.{◌≡◌, ℕ, ◌+◌, ◌<◌, ◌≤◌, Bool, true, false, List, length, Option, Some, None, Result, Ok, Err, ◌==◌, ◌&&◌, nat_lt, slice_get, refl}
+use Rattle.std.specs.Prelude.{◌≡◌, ℕ, ◌+◌, ◌<◌, ◌≤◌, Bool, true, false, List, length, Option, Some, None, Result, Ok}
+use Rattle.std.specs.Prelude.{Err, ◌==◌, ◌&&◌, nat_lt, slice_get, refl}
 use Rattle.std.proofs.Common.{arith, ap, sym, subst, ◌∙◌}
 use Rattle.std.proofs.lemmas.Grind.{common_steps}
 use Rattle.std.proofs.lemmas.Bool.Decides.{nat_tests}
@@ -16,11 +17,14 @@ use Rattle.nat_tables.specs.declared.entries.Find.{Find}
 use Rattle.nat_tables.specs.declared.entries.Find.TheVariants.{Live, Absent}
 use Rattle.nat_tables.specs.declared.entries.Bind.{Bind}
 use Rattle.nat_tables.specs.declared.entries.Bind.TheVariants.{Bound, Other}
-use Rattle.nat_tables.specs.Forwards.{Forwards, is_idle, slot_of, first_idle, found, find, bound, find_or_bind, lives, AreMappings}
+use Rattle.nat_tables.specs.Forwards.{Forwards, is_idle, slot_of, first_idle, found, find, bound, find_or_bind, lives}
+use Rattle.nat_tables.specs.Forwards.{AreMappings}
 use Rattle.nat_tables.proofs.Keeping.{keeps_refreshed, keeps_without, keeps_without_idle, keeps_bound}
 use Rattle.balancer_box.specs.declared.backends.Backend.{Backend}
 use Rattle.balancer_box.specs.declared.place.Place.{Place}
-use Rattle.balancer_box.specs.declared.place.Place.TheVariants.{HearsTime, FindsConnection, LowersIdle, RaisesLeast, Connects, LowersSpare, ChecksConnection, CountsDrop, SendsOut, Ends}
+use Rattle.balancer_box.specs.declared.place.Place.TheVariants.{HearsTime, FindsConnection, LowersIdle, RaisesLeast}
+use Rattle.balancer_box.specs.declared.place.Place.TheVariants.{Connects, LowersSpare, ChecksConnection, CountsDrop}
+use Rattle.balancer_box.specs.declared.place.Place.TheVariants.{SendsOut, Ends}
 use Rattle.balancer_box.specs.declared.place.Class.{Class}
 use Rattle.balancer_box.specs.declared.place.Class.TheVariants.{Client, Answer}
 use Rattle.balancer_box.specs.declared.place.Noted.{Noted}
@@ -30,7 +34,10 @@ use Rattle.balancer_box.specs.declared.place.Goes.{Goes}
 use Rattle.balancer_box.specs.Loads.{raised, lowered, least_loaded, no_loads}
 use Rattle.balancer_box.specs.Connections.{closed, find_connection, without_if, check_connection}
 use Rattle.balancer_box.specs.Places.{place_numbered}
-use Rattle.balancer_box.specs.Balancer.{Settings, table_of, next_move, moves_left, is_virtual, backend_at, begun_answer, begun, begins, goes_to, after_find, after_bind, after_check, touched, after_time, told, frame_to, frame_out, bytes_out, local_at, fresh_value, noted_by, balancer_meaning, MayConnect, Fits}
+use Rattle.balancer_box.specs.Balancer.{Settings, table_of, next_move, moves_left, is_virtual, backend_at, begun_answer}
+use Rattle.balancer_box.specs.Balancer.{begun, begins, goes_to, after_find, after_bind, after_check, touched}
+use Rattle.balancer_box.specs.Balancer.{after_time, told, frame_to, frame_out, bytes_out, local_at, fresh_value}
+use Rattle.balancer_box.specs.Balancer.{noted_by, balancer_meaning, MayConnect, Fits}
 use Rattle.balancer_box.specs.Noting.{place_again, IsNoted, is_noted}
 
 -- what may be configured
@@ -129,7 +136,8 @@ check_falls : (n : Noted) (b : Bool) → moves_left (after_check n b).place < 3
 check_falls n true = let a = goes_falls n n.resets n.backend in omega arith
 check_falls n false = omega arith
 
-touch_falls_at : (s : Settings) (p : Place) (x : BalancerValue) (n : Noted) (v : ℕ) → next_move s p n ≡ Access v → moves_left (touched p x n).1.place < moves_left p
+touch_falls_at : (s : Settings) (p : Place) (x : BalancerValue) (n : Noted) (v : ℕ) → next_move s p n ≡ Access v
+    → moves_left (touched p x n).1.place < moves_left p
 touch_falls_at s HearsTime x n v e = absurd (cc)
 touch_falls_at s FindsConnection (Dropped d) n v e = omega arith
 touch_falls_at s FindsConnection (Loaded loads) n v e = omega arith
@@ -148,7 +156,8 @@ touch_falls_at s LowersSpare (Loaded loads) n v e = omega arith
 touch_falls_at s LowersSpare (Connected es) n v e = omega arith
 touch_falls_at s ChecksConnection (Dropped d) n v e = omega arith
 touch_falls_at s ChecksConnection (Loaded loads) n v e = omega arith
-touch_falls_at s ChecksConnection (Connected es) n v e = check_falls n (check_connection n.resets n.client n.backend n.time es).0
+touch_falls_at s ChecksConnection (Connected es) n v e =
+    check_falls n (check_connection n.resets n.client n.backend n.time es).0
 touch_falls_at s CountsDrop (Dropped d) n v e = omega arith
 touch_falls_at s CountsDrop (Loaded loads) n v e = omega arith
 touch_falls_at s CountsDrop (Connected es) n v e = omega arith
@@ -159,7 +168,8 @@ time_falls : (n : Noted) (c : Class) → moves_left (after_time n c).place < 7
 time_falls n Client = omega arith
 time_falls n Answer = omega arith
 
-clock_falls_at : (s : Settings) (p : Place) (a : ℕ) (n : Noted) → next_move s p n ≡ Clock → moves_left (told p a n).place < moves_left p
+clock_falls_at : (s : Settings) (p : Place) (a : ℕ) (n : Noted) → next_move s p n ≡ Clock
+    → moves_left (told p a n).place < moves_left p
 clock_falls_at s HearsTime a n e = time_falls (record n { time = a }) n.class
 clock_falls_at s FindsConnection a n e = absurd (cc)
 clock_falls_at s LowersIdle a n e = absurd (cc)
@@ -224,7 +234,8 @@ long_lowered number loads = by (nat_lt number (length loads)) refl
     by false q = rw q refl
 
 module _ (May : Endpoint → ℕ → Type 0) where
-  fits_found : (key : Endpoint) (now : ℕ) (es : Forwards) (a : Option Slot) (b : Option (Endpoint × Slot)) → AreMappings May es → AreMappings May (found key now es a b).1
+  fits_found : (key : Endpoint) (now : ℕ) (es : Forwards) (a : Option Slot) (b : Option (Endpoint × Slot))
+      → AreMappings May es → AreMappings May (found key now es a b).1
   fits_found key now es (Some slot) b all = by (is_idle now (key, slot)) refl
     where
       by : (t : Bool) → is_idle now (key, slot) ≡ t → AreMappings May (found key now es (Some slot) b).1
@@ -233,28 +244,35 @@ module _ (May : Endpoint → ℕ → Type 0) where
   fits_found key now es None (Some e) all = keeps_without_idle May now es all
   fits_found key now es None None all = all
 
-  fits_without_if : (b : Bool) (key : Endpoint) (es : Forwards) → AreMappings May es → AreMappings May (without_if b key es)
+  fits_without_if : (b : Bool) (key : Endpoint) (es : Forwards) → AreMappings May es
+      → AreMappings May (without_if b key es)
   fits_without_if true key es all = keeps_without May key es all
   fits_without_if false key es all = all
 
-  fits_closed : (f : Find) (resets : Bool) (key : Endpoint) (es : Forwards) → AreMappings May es → AreMappings May (closed f resets key es)
+  fits_closed : (f : Find) (resets : Bool) (key : Endpoint) (es : Forwards) → AreMappings May es
+      → AreMappings May (closed f resets key es)
   fits_closed (Live backend) resets key es all = fits_without_if resets key es all
   fits_closed (Absent idle) resets key es all = all
 
-  pub fits_find : (resets : Bool) (key : Endpoint) (now : ℕ) (es : Forwards) → AreMappings May es → AreMappings May (find_connection resets key now es).1
+  pub fits_find : (resets : Bool) (key : Endpoint) (now : ℕ) (es : Forwards) → AreMappings May es
+      → AreMappings May (find_connection resets key now es).1
   fits_find resets key now es all =
       let r = find key now es in
       fits_closed r.0 resets key r.1 (fits_found key now es (slot_of key es) (first_idle now es) all)
 
-  fits_bound : (key : Endpoint) (backend now : ℕ) (es : Forwards) (a : Option Slot) → slot_of key es ≡ a → May key backend → AreMappings May es → AreMappings May (bound key backend now es a).1
+  fits_bound : (key : Endpoint) (backend now : ℕ) (es : Forwards) (a : Option Slot) → slot_of key es ≡ a
+      → May key backend → AreMappings May es → AreMappings May (bound key backend now es a).1
   fits_bound key backend now es (Some slot) is may all = keeps_refreshed May key now es all
-  fits_bound key backend now es None is may all = keeps_bound May key (record { port = backend; last = now }) es is may all
+  fits_bound key backend now es None is may all =
+      keeps_bound May key (record { port = backend; last = now }) es is may all
 
-touched_fits : (s : Settings) (p : Place) (x : BalancerValue) (n : Noted) (v : ℕ) → IsNoted (length s.backends) n → var_of s p n ≡ v → Fits s v x → Fits s v (touched p x n).0
+touched_fits : (s : Settings) (p : Place) (x : BalancerValue) (n : Noted) (v : ℕ) → IsNoted (length s.backends) n
+    → var_of s p n ≡ v → Fits s v x → Fits s v (touched p x n).0
 touched_fits s HearsTime x n v is e fits = fits
 touched_fits s FindsConnection (Dropped d) n v is e fits = fits
 touched_fits s FindsConnection (Loaded loads) n v is e fits = fits
-touched_fits s FindsConnection (Connected es) n v is e fits = (fits.0, fits.1, fits_find (MayConnect s v) n.resets n.client n.time es fits.2)
+touched_fits s FindsConnection (Connected es) n v is e fits =
+    (fits.0, fits.1, fits_find (MayConnect s v) n.resets n.client n.time es fits.2)
 touched_fits s LowersIdle (Dropped d) n v is e fits = fits
 touched_fits s LowersIdle (Loaded loads) n v is e fits = (fits.0, long_lowered n.spare loads ∙ fits.1)
 touched_fits s LowersIdle (Connected es) n v is e fits = fits
@@ -263,13 +281,22 @@ touched_fits s RaisesLeast (Loaded loads) n v is e fits = (fits.0, long_raised (
 touched_fits s RaisesLeast (Connected es) n v is e fits = fits
 touched_fits s Connects (Dropped d) n v is e fits = fits
 touched_fits s Connects (Loaded loads) n v is e fits = fits
-touched_fits s Connects (Connected es) n v is e fits = (fits.0, fits.1, fits_bound (MayConnect s v) n.client n.backend n.time es (slot_of n.client es) refl (sym e, is.protocol, is.backend) fits.2)
+touched_fits s Connects (Connected es) n v is e fits = (
+  fits.0,
+  fits.1,
+  fits_bound (MayConnect s v) n.client n.backend n.time es (slot_of n.client es) refl
+      (sym e, is.protocol, is.backend) fits.2,
+)
 touched_fits s LowersSpare (Dropped d) n v is e fits = fits
 touched_fits s LowersSpare (Loaded loads) n v is e fits = (fits.0, long_lowered n.spare loads ∙ fits.1)
 touched_fits s LowersSpare (Connected es) n v is e fits = fits
 touched_fits s ChecksConnection (Dropped d) n v is e fits = fits
 touched_fits s ChecksConnection (Loaded loads) n v is e fits = fits
-touched_fits s ChecksConnection (Connected es) n v is e fits = (fits.0, fits.1, fits_without_if (MayConnect s v) (lives n.client n.backend n.time es && n.resets) n.client es fits.2)
+touched_fits s ChecksConnection (Connected es) n v is e fits = (
+  fits.0,
+  fits.1,
+  fits_without_if (MayConnect s v) (lives n.client n.backend n.time es && n.resets) n.client es fits.2,
+)
 touched_fits s CountsDrop (Dropped d) n v is e fits = fits
 touched_fits s CountsDrop (Loaded loads) n v is e fits = fits
 touched_fits s CountsDrop (Connected es) n v is e fits = fits
@@ -295,14 +322,17 @@ long_word frame place word = grind (arith, common_steps)
 long_long : (frame : List ℕ) (place number : ℕ) → length (put_long frame place number) ≡ length frame
 long_long frame place number = long_word _ _ _ ∙ long_word _ _ _
 
-long_rewritten : (frame : List ℕ) (flow : Flow) (address_place port_place address port : ℕ) → length (rewritten frame flow address_place port_place address port) ≡ length frame
-long_rewritten frame flow address_place port_place address port = long_word _ _ _ ∙ long_long _ _ _ ∙ long_word _ _ _ ∙ long_word _ _ _
+long_rewritten : (frame : List ℕ) (flow : Flow) (address_place port_place address port : ℕ)
+    → length (rewritten frame flow address_place port_place address port) ≡ length frame
+long_rewritten frame flow address_place port_place address port =
+    long_word _ _ _ ∙ long_long _ _ _ ∙ long_word _ _ _ ∙ long_word _ _ _
 
 long_to : (bytes : List ℕ) (flow : Flow) (o : Option Backend) → length (frame_to bytes flow o) ≡ length bytes
 long_to bytes flow (Some b) = long_rewritten bytes flow 30 (flow.transport_at + 2) b.address b.port
 long_to bytes flow None = refl
 
-long_out : (s : Settings) (bytes : List ℕ) (n : Noted) (seen : Result Flow NotFlow) → length (bytes_out s bytes n seen) ≡ length bytes
+long_out : (s : Settings) (bytes : List ℕ) (n : Noted) (seen : Result Flow NotFlow)
+    → length (bytes_out s bytes n seen) ≡ length bytes
 long_out s bytes n (Err answer) = refl
 long_out s bytes n (Ok flow) = by n.class
   where
@@ -314,16 +344,20 @@ pub balancer_lawful : (s : Settings) → AreSettings s → IsLawful (balancer_me
 balancer_lawful s is = record {
   some_vars = omega arith;
   few_vars = omega (arith, is.few);
-  touches_var = λ l v e. subst (λ (u : ℕ). u < 2 + s.shards) (touches_it s (place_numbered l.at) (noted_by s l) v e) (below_all s (place_numbered l.at) (noted_by s l) is.some);
+  touches_var = λ l v e. subst (λ (u : ℕ). u < 2 + s.shards) (touches_it s (place_numbered l.at) (noted_by s l) v e)
+      (below_all s (place_numbered l.at) (noted_by s l) is.some);
   reads_var = λ l v e. absurd (reads_none s (place_numbered l.at) (noted_by s l) v e);
   begins = λ p. rw (rank_at (begun s (viewed p.bytes p.original))) (few_to_make s (viewed p.bytes p.original));
-  touch_falls = λ v x l e f. rw (rank_at (touched (place_numbered l.at) x (noted_by s l)).1) (touch_falls_at s (place_numbered l.at) x (noted_by s l) v e);
+  touch_falls = λ v x l e f. rw (rank_at (touched (place_numbered l.at) x (noted_by s l)).1)
+      (touch_falls_at s (place_numbered l.at) x (noted_by s l) v e);
   look_falls = λ v x l e f. absurd (reads_none s (place_numbered l.at) (noted_by s l) v e);
-  clock_falls = λ a l e. rw (rank_at (told (place_numbered l.at) a (noted_by s l))) (clock_falls_at s (place_numbered l.at) a (noted_by s l) e);
+  clock_falls = λ a l e. rw (rank_at (told (place_numbered l.at) a (noted_by s l)))
+      (clock_falls_at s (place_numbered l.at) a (noted_by s l) e);
   draw_falls = λ a l e. absurd (draws_none s (place_numbered l.at) (noted_by s l) e);
   emit_falls = λ l e. emit_falls_at s (place_numbered l.at) (noted_by s l) e;
   ends = λ l e. ends_at s (place_numbered l.at) (noted_by s l) e;
   fresh_fits = λ v low. fresh_fits_at s v low;
-  touch_fits = λ v x l e f. touched_fits s (place_numbered l.at) x (noted_by s l) v (is_noted (length s.backends) l is.some_backends) (touches_it s (place_numbered l.at) (noted_by s l) v e) f;
+  touch_fits = λ v x l e f. touched_fits s (place_numbered l.at) x (noted_by s l) v
+      (is_noted (length s.backends) l is.some_backends) (touches_it s (place_numbered l.at) (noted_by s l) v e) f;
   as_long = λ p l e. long_out s p.bytes (noted_by s l) (viewed p.bytes p.original);
 }

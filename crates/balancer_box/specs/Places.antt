@@ -3,7 +3,9 @@ use Rattle.std.specs.Prelude.{ℕ, ◌%◌, ◌^◌, Bool, true, false, ◌==◌
 use Rattle.plain_machine.specs.declared.local.Local.{Local}
 use Rattle.nat_tables.specs.declared.entries.Endpoint.{Endpoint}
 use Rattle.balancer_box.specs.declared.place.Place.{Place}
-use Rattle.balancer_box.specs.declared.place.Place.TheVariants.{HearsTime, FindsConnection, LowersIdle, RaisesLeast, Connects, LowersSpare, ChecksConnection, CountsDrop, SendsOut, Ends}
+use Rattle.balancer_box.specs.declared.place.Place.TheVariants.{HearsTime, FindsConnection, LowersIdle, RaisesLeast}
+use Rattle.balancer_box.specs.declared.place.Place.TheVariants.{Connects, LowersSpare, ChecksConnection, CountsDrop}
+use Rattle.balancer_box.specs.declared.place.Place.TheVariants.{SendsOut, Ends}
 use Rattle.balancer_box.specs.declared.place.Class.{Class}
 use Rattle.balancer_box.specs.declared.place.Class.TheVariants.{Client, Answer}
 use Rattle.balancer_box.specs.declared.place.Noted.{Noted}
@@ -23,9 +25,9 @@ number_of Ends = 9
 
 abbrev pub place_numbered : ℕ → Place
 place_numbered at =
-    if at == 0 then HearsTime else if at == 1 then FindsConnection else if at == 2 then LowersIdle else if at == 3 then RaisesLeast
-    else if at == 4 then Connects else if at == 5 then LowersSpare else if at == 6 then ChecksConnection else if at == 7 then CountsDrop
-    else if at == 8 then SendsOut else Ends
+    if at == 0 then HearsTime else if at == 1 then FindsConnection else if at == 2 then LowersIdle else if at == 3
+    then RaisesLeast else if at == 4 then Connects else if at == 5 then LowersSpare else if at == 6
+    then ChecksConnection else if at == 7 then CountsDrop else if at == 8 then SendsOut else Ends
 
 abbrev pub number_of_class : Class → ℕ
 number_of_class Client = 0
@@ -57,6 +59,7 @@ noted backends l = record {
 abbrev pub local_of : Place → Noted → Local
 local_of place n = record {
   at = number_of place;
-  regs = number_of_class n.class ∷ n.client.protocol ∷ n.client.address ∷ n.client.port ∷ number_of_flag n.resets ∷ n.time ∷ n.backend ∷ n.spare
-      ∷ n.reason ∷ 0 ∷ 0 ∷ 0 ∷ [];
+  regs =
+      number_of_class n.class ∷ n.client.protocol ∷ n.client.address ∷ n.client.port ∷ number_of_flag n.resets ∷ n.time
+      ∷ n.backend ∷ n.spare ∷ n.reason ∷ 0 ∷ 0 ∷ 0 ∷ [];
 }

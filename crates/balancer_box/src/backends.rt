@@ -14,8 +14,8 @@ pub struct Backend {
 /// The most backends that a box may have.
 pub const MOST_BACKENDS: usize = 64;
 
-/// Backends in the order in which they were named, at most 64. The first has number 0. They take no memory beside the value itself.
-/// Contracts see their list.
+/// Backends in the order in which they were named, at most 64. The first has number 0. They take no memory beside the
+/// value itself. Contracts see their list.
 #[derive(Debug, Drop)]
 pub struct Backends {
     members: [Backend; MOST_BACKENDS],

@@ -3,15 +3,15 @@ ghost use Rattle.std.specs.Prelude.{◌≤◌, length};
 use crate::Backends;
 use nat_tables::Endpoint;
 
-/// The box `balancer`: it spreads the clients of one virtual address and port over backends, as a load balancer does that
-/// translates addresses (RFC 3022).
+/// The box `balancer`: it spreads the clients of one virtual address and port over backends, as a load balancer does
+/// that translates addresses (RFC 3022).
 ///
-/// A new client is connected to the backend of least load, the first of equals, and stays there while its connection is not idle. A
-/// client's packets go to its backend, and the backend's answers come from the virtual address and port. A TCP packet with RST
-/// closes its connection.
+/// A new client is connected to the backend of least load, the first of equals, and stays there while its connection is
+/// not idle. A client's packets go to its backend, and the backend's answers come from the virtual address and port. A
+/// TCP packet with RST closes its connection.
 ///
-/// Variable 0 counts drops by reason, variable 1 is the load of each backend, and the next `shards` variables are the connection
-/// tables.
+/// Variable 0 counts drops by reason, variable 1 is the load of each backend, and the next `shards` variables are the
+/// connection tables.
 #[derive(Debug, Drop)]
 pub struct BalancerBox {
     /// The number of connection tables, 1 to 64.

@@ -1,5 +1,8 @@
-ghost use Rattle.std.specs.Prelude.{◌≡◌, ◌+◌, ◌≤◌, [], ◌∷◌, ◌++◌, Some, None, IfOk, OnOk, OnErr, MatchOption, length};
-ghost use Rattle.nat_tables.specs.Forwards.{timer, is_idle, refreshed, slot_of, find, idle_removed, find_or_bind, refresh, without, lives, mapping_at, first_idle, FindsIdle, AreBusyBefore};
+ghost use Rattle.std.specs.Prelude.{◌≡◌, ◌+◌, ◌≤◌, [], ◌∷◌, ◌++◌, Some, None, IfOk, OnOk, OnErr};
+ghost use Rattle.std.specs.Prelude.{MatchOption, length};
+ghost use Rattle.nat_tables.specs.Forwards.{timer, is_idle, refreshed, slot_of, find, idle_removed};
+ghost use Rattle.nat_tables.specs.Forwards.{find_or_bind, refresh, without, lives, mapping_at};
+ghost use Rattle.nat_tables.specs.Forwards.{first_idle, FindsIdle, AreBusyBefore};
 ghost use Rattle.nat_tables.specs.Shown.{mapping_text, mappings_text};
 ghost use Rattle.balancer_box.specs.Connections.{find_connection, check_connection};
 
@@ -23,7 +26,8 @@ fn timer(protocol: u8) -> u64
     if protocol == 6 { TCP_TIMER } else { UDP_TIMER }
 }
 
-/// Whether a client's connection is idle: it was not used for the timer of its protocol. It is not idle before its last use.
+/// Whether a client's connection is idle: it was not used for the timer of its protocol. It is not idle before its last
+/// use.
 fn is_idle(client: &Endpoint, slot: &Slot, now: u64) -> bool
     ensures { result ≡ is_idle now (client.now, slot.now) }
 {
@@ -80,9 +84,9 @@ fn text_of_connection(alloc: Global, client: &Endpoint, slot: &Slot) -> Result<T
     Text::of(alloc, text.as_str())
 }
 
-/// The connections of clients, in the order in which they were made. They are kept as a table of `nat_tables` keeps mappings: a
-/// client's endpoint stands there with the number of its backend in place of an outside port. Contracts see the list of the
-/// clients with their slots.
+/// The connections of clients, in the order in which they were made. They are kept as a table of `nat_tables` keeps
+/// mappings: a client's endpoint stands there with the number of its backend in place of an outside port. Contracts see
+/// the list of the clients with their slots.
 #[derive(Debug, Drop)]
 pub struct Connections {
     slots: IndexMap<Endpoint, Slot>,
@@ -151,8 +155,8 @@ impl Connections {
         Ok(())
     }
 
-    /// Removes the first connection that is idle, if there is one, and answers its backend. It looks at no connection while none can
-    /// be idle.
+    /// Removes the first connection that is idle, if there is one, and answers its backend. It looks at no connection
+    /// while none can be idle.
     fn remove_first_idle(&mut self, now: u64) -> Option<Freed>
         ensures { (result, self.new) ≡ idle_removed now self.old (first_idle now self.old) }
     {
@@ -188,9 +192,9 @@ impl Connections {
         Find::Live(slot.port)
     }
 
-    /// What a client's packet finds. A connection that is there and not idle is refreshed, and closed where the packet resets it. One
-    /// that is idle is removed. Where there is none, the first idle connection of the table is removed, in first-seen order, if there
-    /// is one. The answer has the number of the backend in place of a port.
+    /// What a client's packet finds. A connection that is there and not idle is refreshed, and closed where the packet
+    /// resets it. One that is idle is removed. Where there is none, the first idle connection of the table is removed,
+    /// in first-seen order, if there is one. The answer has the number of the backend in place of a port.
     pub fn find(&mut self, client: &Endpoint, now: u64, resets: bool) -> Find
         ensures { (result, self.new) ≡ find_connection resets client.now now self.old }
     {
@@ -203,8 +207,8 @@ impl Connections {
         found
     }
 
-    /// Connects the client to this backend, unless it has a connection by now: that one, idle or not, is refreshed and stays. A new
-    /// connection stands last.
+    /// Connects the client to this backend, unless it has a connection by now: that one, idle or not, is refreshed and
+    /// stays. A new connection stands last.
     pub fn find_or_bind(
         &mut self,
         client: &Endpoint,
@@ -239,8 +243,8 @@ impl Connections {
         }
     }
 
-    /// Whether an answer from this backend finds the client connected to it. It refreshes nothing, and closes the connection where it
-    /// resets it.
+    /// Whether an answer from this backend finds the client connected to it. It refreshes nothing, and closes the
+    /// connection where it resets it.
     pub fn check(&mut self, client: &Endpoint, backend: u16, now: u64, resets: bool) -> bool
         ensures { (result, self.new) ≡ check_connection resets client.now backend now self.old }
     {

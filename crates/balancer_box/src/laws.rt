@@ -5,9 +5,10 @@ ghost use Rattle.balancer_box.specs.Charges.{LoadsAreCharges};
 ghost use Rattle.balancer_box.specs.Entries.{ConnectionsKeepBackends};
 ghost use Rattle.balancer_box.specs.Emissions.{EmissionsFollowConnections};
 
-/// After each move of each run, whatever its threads, its inputs and the order of its moves, the load of each backend is its charge: the
-/// connections of all tables that name it, and the packets in hand that have added to its load and neither connected nor lowered it
-/// again, or that have removed a connection of it and not lowered the load yet. All is modulo 2^64.
+/// After each move of each run, whatever its threads, its inputs and the order of its moves, the load of each backend
+/// is its charge: the connections of all tables that name it, and the packets in hand that have added to its load and
+/// neither connected nor lowered it again, or that have removed a connection of it and not lowered the load yet. All is
+/// modulo 2^64.
 pub fn loads_are_charges()
     ensures { LoadsAreCharges }
 {}
@@ -22,10 +23,10 @@ pub fn connections_keep_their_backends()
     ensures { ConnectionsKeepBackends }
 {}
 
-/// What goes out of a run on packets of bytes is the translation (RFC 3022, section 4.1) of the thread's input of that number. A client's
-/// packet goes to the backend that its connection named at the packet's last touch of the table. An answer comes from the virtual
-/// address and port, and goes to a client whose connection to the answer's backend was there, and not idle, at that touch, at the time
-/// that the packet was told.
+/// What goes out of a run on packets of bytes is the translation (RFC 3022, section 4.1) of the thread's input of that
+/// number. A client's packet goes to the backend that its connection named at the packet's last touch of the table. An
+/// answer comes from the virtual address and port, and goes to a client whose connection to the answer's backend was
+/// there, and not idle, at that touch, at the time that the packet was told.
 pub fn emissions_follow_connections()
     ensures { EmissionsFollowConnections }
 {}

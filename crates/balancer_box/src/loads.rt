@@ -7,7 +7,8 @@ use plain_text::{NoMemory, Text, put_decimal};
 use std::alloc::Global;
 use std::marker::Model;
 
-/// The load of each backend, by its number: how many connections it is counted for, modulo 2^64. Contracts see the list of the loads.
+/// The load of each backend, by its number: how many connections it is counted for, modulo 2^64. Contracts see the list
+/// of the loads.
 #[derive(Debug, Drop)]
 pub struct Loads {
     counts: Vec<u64>,

@@ -1,5 +1,6 @@
 ghost use Rattle.std.specs.Prelude.{◌≡◌, ◌≤◌, IsTrue};
-ghost use Rattle.balancer_box.specs.Places.{number_of, place_numbered, number_of_class, class_of, number_of_flag, noted, local_of};
+ghost use Rattle.balancer_box.specs.Places.{number_of, place_numbered, number_of_class, class_of};
+ghost use Rattle.balancer_box.specs.Places.{number_of_flag, noted, local_of};
 
 use box_program::Local;
 use nat_tables::Endpoint;

@@ -1,7 +1,8 @@
 ghost use Rattle.std.specs.Prelude.{◌≡◌, IfOk, slice_get};
 ghost use Rattle.packet_headers.specs.Rewriting.{CanRewrite};
 ghost use Rattle.nat_box.specs.Nat.{reason_of};
-ghost use Rattle.balancer_box.specs.Balancer.{begun, begun_flow, frame_to, frame_out, bytes_out, of_client, of_answer, resets, nothing_noted};
+ghost use Rattle.balancer_box.specs.Balancer.{begun, begun_flow, frame_to, frame_out, bytes_out};
+ghost use Rattle.balancer_box.specs.Balancer.{of_client, of_answer, resets, nothing_noted};
 ghost use Rattle.balancer_box.specs.Boxes.{settings_of};
 
 use crate::{Backend, BalancerBox, Class, Goes, Noted, Place};
@@ -126,8 +127,8 @@ impl BalancerBox {
         self.backends.as_slice().get(usize::from(number)).copied()
     }
 
-    /// Translates a flow's frame (RFC 3022, section 4.1): a client's frame goes to its backend, and an answer comes from the virtual
-    /// address and port. The checksums are brought up to date (RFC 1071, RFC 1624).
+    /// Translates a flow's frame (RFC 3022, section 4.1): a client's frame goes to its backend, and an answer comes
+    /// from the virtual address and port. The checksums are brought up to date (RFC 1071, RFC 1624).
     fn translate(&self, frame: &mut [u8], flow: &Flow, noted: &Noted)
         requires { CanRewrite frame.old flow.now }
         ensures { frame.new

@@ -1,6 +1,8 @@
 ghost use Rattle.std.specs.Prelude.{◌≡◌, ◌≤◌, ◌<◌, ◌^◌, IfOk, OnErr, length};
-ghost use Rattle.balancer_box.specs.Balancer.{goes, dropped, begins, goes_to, after_find, after_bind, after_check, touched, told};
-ghost use Rattle.balancer_box.specs.declared.value.BalancerValue.TheVariants.{Dropped, Loaded, Connected};
+ghost use Rattle.balancer_box.specs.Balancer.{goes, dropped, begins, goes_to, after_find};
+ghost use Rattle.balancer_box.specs.Balancer.{after_bind, after_check, touched, told};
+ghost use Rattle.balancer_box.specs.declared.value.BalancerValue.TheVariants.{Dropped, Loaded};
+ghost use Rattle.balancer_box.specs.declared.value.BalancerValue.TheVariants.{Connected};
 
 use crate::{Class, Connections, Goes, Loads, Noted, Place};
 use nat_box::Drops;
@@ -37,8 +39,8 @@ impl Noted {
         }
     }
 
-    /// The packet goes to the backend of its connection, or comes from there. Where it resets the connection, the load of the backend
-    /// is lowered first.
+    /// The packet goes to the backend of its connection, or comes from there. Where it resets the connection, the load
+    /// of the backend is lowered first.
     fn goes_to(self, backend: u16) -> Goes
         ensures { result ≡ goes_to self self.resets backend }
     {

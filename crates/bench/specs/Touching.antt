@@ -1,5 +1,6 @@
 -- The box that touches one variable many times.
-use Rattle.std.specs.Prelude.{◌≡◌, ℕ, ◌+◌, ◌-◌, ◌%◌, ◌<◌, slice_set, slice_index, replicate, ◌==◌, nat_lt, if◌then◌else◌, decimal}
+use Rattle.std.specs.Prelude.{◌≡◌, ℕ, ◌+◌, ◌-◌, ◌%◌, ◌<◌, slice_set, slice_index, replicate, ◌==◌, nat_lt}
+use Rattle.std.specs.Prelude.{if◌then◌else◌, decimal}
 use Rattle.plain_machine.specs.declared.local.Move.{Move}
 use Rattle.plain_machine.specs.declared.local.Move.TheVariants.{Access, Read, Emit, End}
 use Rattle.plain_machine.specs.Program.{Meaning, IsLawful}

@@ -79,7 +79,8 @@ fn pass_frames(alloc: Global, count: u64, times: u64) -> Result<Passed, FrameErr
     Ok(all)
 }
 
-/// Tells how many bytes were written and read, where the words say how many entries there are, and how often each is read.
+/// Tells how many bytes were written and read, where the words say how many entries there are, and how often each is
+/// read.
 pub fn run<R: AllocGlobal + Print>(rt: &R, words: &mut Args) -> anyhow::Result<()> {
     let count = next_number(words, "how many entries?")?;
     let times = next_number(words, "how often is each read?")?;

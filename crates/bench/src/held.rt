@@ -8,7 +8,8 @@ use std::alloc::Global;
 use std::env::Args;
 use thread_clock::Stamp;
 
-/// The entry of this number of thread 0 or 1, where the two take turns and each entry comes after all earlier ones of both.
+/// The entry of this number of thread 0 or 1, where the two take turns and each entry comes after all earlier ones of
+/// both.
 fn entry_of(thread: u32, number: u64) -> StampedEntry
     requires { 1 ≤ number }
     ensures thread { result.thread ≡ thread }

@@ -57,8 +57,8 @@ fn perform<R: AllocGlobal + Threads + Wait + Sync>(
     }
 }
 
-/// Tells how many moves and touches were made, where the words say who makes them, how many threads there are, whether each
-/// touches a variable of its own, and how many packets each takes.
+/// Tells how many moves and touches were made, where the words say who makes them, how many threads there are, whether
+/// each touches a variable of its own, and how many packets each takes.
 pub fn run<R: AllocGlobal + Print + Threads + Wait + Sync>(
     rt: &R,
     words: &mut Args,

@@ -1,5 +1,5 @@
-//! Log entries and the outputs that depend on them, through an output logger. First each output comes after its entry. Then
-//! all outputs come first, and all entries after them, both the last one first.
+//! Log entries and the outputs that depend on them, through an output logger. First each output comes after its entry.
+//! Then all outputs come first, and all entries after them, both the last one first.
 ghost use Rattle.std.specs.Prelude.{◌≡◌, ◌≤◌, length};
 
 use crate::words::next_number;

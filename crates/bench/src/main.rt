@@ -3,9 +3,10 @@
 //! - `frames COUNT TIMES`: COUNT frames of log entries, each read TIMES times
 //! - `headers CHECKSUMS REWRITINGS`: the checksums of CHECKSUMS payloads, and REWRITINGS rewritings of a frame
 //! - `held COUNT`: COUNT log entries of each of two threads, into a held set
-//! - `locks step|locks THREADS own|one COUNT`: touches by a master alone or by threads that race, on variables of their own or
-//!   on one, with COUNT packets for each thread
-//! - `logger FORWARD REVERSE`: FORWARD outputs through an output logger in order, and REVERSE outputs with the last one first
+//! - `locks step|locks THREADS own|one COUNT`: touches by a master alone or by threads that race, on variables of their
+//!   own or on one, with COUNT packets for each thread
+//! - `logger FORWARD REVERSE`: FORWARD outputs through an output logger in order, and REVERSE outputs with the last one
+//!   first
 //! - `moves player|master COUNT TIMES`: COUNT packets, all of them TIMES times
 //! - `scripts COUNT`: a script of COUNT lines, which is read
 //! - `system count|monitor settle|single COUNT`: COUNT packets through the recovering system

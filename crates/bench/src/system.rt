@@ -1,7 +1,7 @@
 //! Generated packets through the recovering system.
 //!
-//! `settle` is one event. `single` feeds one packet after another, and lets each entry and each output arrive as soon as it is made:
-//! an event for each.
+//! `settle` is one event. `single` feeds one packet after another, and lets each entry and each output arrive as soon
+//! as it is made: an event for each.
 ghost use Rattle.std.specs.Prelude.{◌≡◌, All, IfOk, false};
 ghost use Rattle.plain_text.specs.Packets.{IsShort};
 
@@ -133,7 +133,8 @@ fn perform_by(
     done.map_err(|stop| anyhow!("{stop:?}"))
 }
 
-/// Tells how many events were performed and how many outputs released, where the words say the box, how, and how many packets.
+/// Tells how many events were performed and how many outputs released, where the words say the box, how, and how many
+/// packets.
 pub fn run<R: AllocGlobal + Print>(rt: &R, words: &mut Args) -> anyhow::Result<()> {
     let which = words.next().context("count or monitor?")?;
     let how = words.next().context("settle or single?")?;

@@ -1,5 +1,6 @@
 -- A balancer's file names a backend.
-use Rattle.std.proofs.Common.{◌≡◌, ℕ, ◌≤◌, inl, inr, List, [], ◌∷◌, ◌++◌, length, length-append, refl, sym, ap, ◌∙◌, subst, arith, Option, Some, None, true, false, Bool, cond, Ok}
+use Rattle.std.proofs.Common.{◌≡◌, ℕ, ◌≤◌, inl, inr, List, [], ◌∷◌, ◌++◌, length, length-append, refl, sym, ap, ◌∙◌}
+use Rattle.std.proofs.Common.{subst, arith, Option, Some, None, true, false, Bool, cond, Ok}
 use Rattle.std.specs.Prelude.{Result}
 use Rattle.std.specs.Str.{bytes_eq}
 use Rattle.std.specs.Str.Lines.{lines as lines_of}
@@ -26,41 +27,52 @@ use Rattle.box_conf.specs.Table.{row_of, values_from, word_of}
 use Rattle.box_conf.proofs.WholeFile.{Reads, reads_text}
 
 -- a line begins with its row's word
-begins_so : (word : List ℕ) (rows : List Row) (row : Row) → row_named word rows ≡ Some row → bytes_eq word row.word ≡ true
+begins_so : (word : List ℕ) (rows : List Row) (row : Row) → row_named word rows ≡ Some row
+    → bytes_eq word row.word ≡ true
 begins_so word [] row e = absurd (cc)
 begins_so word (first ∷ rows) row e = by (bytes_eq word first.word) refl e (begins_so word rows row)
   where
-    by : (b : Bool) → bytes_eq word first.word ≡ b → cond b (Some first) (row_named word rows) ≡ Some row → (row_named word rows ≡ Some row → bytes_eq word row.word ≡ true) → bytes_eq word row.word ≡ true
+    by : (b : Bool) → bytes_eq word first.word ≡ b → cond b (Some first) (row_named word rows) ≡ Some row
+        → (row_named word rows ≡ Some row → bytes_eq word row.word ≡ true) → bytes_eq word row.word ≡ true
     by true q e rest = let same : first ≡ row = cc in ap (λ (r : Row). bytes_eq word r.word) (sym same) ∙ q
     by false q e rest = rest e
 
 -- a line of the row names a backend
-names_one : (rows : List Row) (words : List (List ℕ)) (values : List ℕ) → LineSays rows words (row_of Backend) values → (b : Named) × (backend_of words ≡ Some b)
+names_one : (rows : List Row) (words : List (List ℕ)) (values : List ℕ) → LineSays rows words (row_of Backend) values
+    → (b : Named) × (backend_of words ≡ Some b)
 names_one rows [] values says = absurd says
 names_one rows (word ∷ words) values says =
     let word_is : bytes_eq word (word_of Backend) ≡ true = begins_so word rows (row_of Backend) says.0 in
-    let fault : row_fault (row_named word rows) words ≡ None = says_no_fault rows (word ∷ words) (row_of Backend) values says in
-    let none : row_fault (Some (row_of Backend)) words ≡ None = subst (λ (o : Option Row). row_fault o words ≡ None) says.0 fault in
+    let fault : row_fault (row_named word rows) words ≡ None =
+    says_no_fault rows (word ∷ words) (row_of Backend) values says in
+    let none : row_fault (Some (row_of Backend)) words ≡ None =
+    subst (λ (o : Option Row). row_fault o words ≡ None) says.0 fault in
     let set : Values = values_from (values_in (row_of Backend).places words) in
-    let read : once (row_fault (Some (row_of Backend)) words) false set ≡ Ok set = ap (λ (o : Option LineCause). once o false set) none in
+    let read : once (row_fault (Some (row_of Backend)) words) false set ≡ Ok set =
+    ap (λ (o : Option LineCause). once o false set) none in
     (record { address = set.first; port = set.second }, rw word_is (ap backend_from read))
 
 longer : (backends : List Named) (lines : List (ℕ × List ℕ)) → length backends ≤ length (backends_after backends lines)
 longer backends [] = omega arith
 longer backends (line ∷ lines) = by (backend_of (words_of line.1)) (λ bs. longer bs lines)
   where
-    by : (o : Option Named) → ((bs : List Named) → length bs ≤ length (backends_after bs lines)) → length backends ≤ length (backends_after (and_backend backends o) lines)
+    by : (o : Option Named) → ((bs : List Named) → length bs ≤ length (backends_after bs lines))
+        → length backends ≤ length (backends_after (and_backend backends o) lines)
     by None rest = rest backends
     by (Some b) rest = let a = rest (backends ++ b ∷ []) in omega (arith, length-append backends (b ∷ []))
 
-named_there : (rows : List Row) (backends : List Named) (lines : List (ℕ × List ℕ)) (x : ℕ × List ℕ) (values : List ℕ) → HasLine lines x → Says rows x (row_of Backend) values → 1 ≤ length (backends_after backends lines)
+named_there : (rows : List Row) (backends : List Named) (lines : List (ℕ × List ℕ)) (x : ℕ × List ℕ) (values : List ℕ)
+    → HasLine lines x → Says rows x (row_of Backend) values → 1 ≤ length (backends_after backends lines)
 named_there rows backends [] x values there says = absurd there
-named_there rows backends (line ∷ lines) x values (inr there) says = named_there rows (and_backend backends (backend_of (words_of line.1))) lines x values there says
+named_there rows backends (line ∷ lines) x values (inr there) says =
+    named_there rows (and_backend backends (backend_of (words_of line.1))) lines x values there says
 named_there rows backends (line ∷ lines) x values (inl e) says =
     let one = names_one rows (words_of x.1) values says in
-    let here : backend_of (words_of line.1) ≡ Some one.0 = ap (λ (l : ℕ × List ℕ). backend_of (words_of l.1)) (sym e) ∙ one.1 in
+    let here : backend_of (words_of line.1) ≡ Some one.0 =
+    ap (λ (l : ℕ × List ℕ). backend_of (words_of l.1)) (sym e) ∙ one.1 in
     let more = longer (backends ++ one.0 ∷ []) lines in
-    let long : 1 ≤ length (backends_after (backends ++ one.0 ∷ []) lines) = omega (arith, more, length-append backends (one.0 ∷ [])) in
+    let long : 1 ≤ length (backends_after (backends ++ one.0 ∷ []) lines) =
+    omega (arith, more, length-append backends (one.0 ∷ [])) in
     subst (λ (o : Option Named). 1 ≤ length (backends_after (and_backend backends o) lines)) (sym here) long
 
 -- the kind of box that a file's box is
@@ -70,7 +82,8 @@ IsOneOf (box.Monitor b) = ⊥
 IsOneOf (box.Nat b) = ⊥
 IsOneOf (box.Balancer b) = Unit {0}
 
-balancer_names : (lines : List (ℕ × List ℕ)) (k : KindWord) (conf : BoxConf) → AreOfKind k lines conf → IsOneOf conf.kind → 1 ≤ length (backends_after [] lines)
+balancer_names : (lines : List (ℕ × List ℕ)) (k : KindWord) (conf : BoxConf) → AreOfKind k lines conf
+    → IsOneOf conf.kind → 1 ≤ length (backends_after [] lines)
 balancer_names lines kind.Count conf x is = absurd (subst (λ (c : BoxConf). IsOneOf c.kind) x.says is)
 balancer_names lines kind.Monitor conf x is = absurd (subst (λ (c : BoxConf). IsOneOf c.kind) x.says is)
 balancer_names lines kind.Nat conf x is = absurd (subst (λ (c : BoxConf). IsOneOf c.kind) x.says is)
@@ -78,11 +91,14 @@ balancer_names lines kind.Balancer conf x is =
     let line = x.whole (row_of Backend) (inr (inr (inr (inr (inr (inl refl)))))) refl in
     named_there (rows_of kind.Balancer) [] lines line.0 line.1 line.2 line.3
 
-pub some_named : (text : List ℕ) (k : KindWord) (s : Settings) → described_box text ≡ Ok (conf_from k (values_set s) (backends_after [] (counted_lines text))) → IsBalancer k → 1 ≤ length (backends_after [] (counted_lines text))
+pub some_named : (text : List ℕ) (k : KindWord) (s : Settings)
+    → described_box text ≡ Ok (conf_from k (values_set s) (backends_after [] (counted_lines text))) → IsBalancer k
+    → 1 ≤ length (backends_after [] (counted_lines text))
 some_named text kind.Count s e is = absurd is
 some_named text kind.Monitor s e is = absurd is
 some_named text kind.Nat s e is = absurd is
 some_named text kind.Balancer s e is =
     let conf : BoxConf = conf_from kind.Balancer (values_set s) (backends_after [] (counted_lines text)) in
-    let x = subst (λ (r : Result BoxConf LineFault). Reads (counted_lines text) (length (lines_of text)) r) e (reads_text text) in
+    let x = subst (λ (r : Result BoxConf LineFault). Reads (counted_lines text) (length (lines_of text)) r) e
+    (reads_text text) in
     balancer_names (counted_lines text) x.0 conf x.1 tt

@@ -1,5 +1,6 @@
 -- A text is the file of one box at most, or has one first fault.
-use Rattle.std.proofs.Common.{◌≡◌, ℕ, ◌<◌, ◌≤◌, Bool, true, false, Option, arith, inl, inr, List, [], ◌∷◌, length, refl, sym, ap, ◌∙◌, subst, Some, None, Ok, Err}
+use Rattle.std.proofs.Common.{◌≡◌, ℕ, ◌<◌, ◌≤◌, Bool, true, false, Option, arith, inl, inr, List, [], ◌∷◌, length, refl}
+use Rattle.std.proofs.Common.{sym, ap, ◌∙◌, subst, Some, None, Ok, Err}
 use Rattle.std.specs.Prelude.{Result, IfOk, IfErr, slice_get, nat_lt, if◌then◌else◌}
 use Rattle.std.proofs.lemmas.Bool.Decides.{nat_tests}
 use Rattle.std.specs.Str.Lines.{lines as lines_of}
@@ -13,10 +14,12 @@ use Rattle.box_conf.specs.declared.kind.BoxConf.{BoxConf}
 use Rattle.box_conf.specs.declared.kind.KindWord.{KindWord}
 use Rattle.box_conf.specs.declared.kind.KindWord.TheVariants as kind
 use Rattle.balancer_box.specs.declared.backends.Backend.{Backend as Named}
-use Rattle.box_conf.specs.declared.table.BoxLine.TheVariants.{Threads, Seed, Shards, Inside, Outside, Ports, Virtual, Backend}
+use Rattle.box_conf.specs.declared.table.BoxLine.TheVariants.{Threads, Seed, Shards, Inside, Outside, Ports, Virtual}
+use Rattle.box_conf.specs.declared.table.BoxLine.TheVariants.{Backend}
 use Rattle.box_conf.specs.declared.table.BoxLine.{BoxLine}
 use Rattle.box_conf.specs.Backends.{backend_fault, backends_after}
-use Rattle.box_conf.specs.BoxFile.{AreOfKind, IsDescribed, IsBoxFile, Names, NamesNone, LeavesTable, NamesInVain, FirstFault, Has as HasValues}
+use Rattle.box_conf.specs.BoxFile.{AreOfKind, IsDescribed, IsBoxFile, Names, NamesNone, LeavesTable, NamesInVain}
+use Rattle.box_conf.specs.BoxFile.{FirstFault, Has as HasValues}
 use Rattle.box_conf.specs.Reading.{box_of, described_box, or_backends, fault_at}
 use Rattle.box_conf.specs.Settings.{usual_or_none}
 use Rattle.box_conf.specs.Kinds.{box_row, conf_from, kinds, rows_of}
@@ -33,7 +36,8 @@ rising text = counted_rise 1 (λ line. words_count (words_of line.1)) (lines_of 
 one_kind : (lines : List Line) (a b : KindWord) → Names lines a → Names lines b → a ≡ b
 one_kind [] a b x y = absurd x
 one_kind (first ∷ lines) a b x y =
-    let values : x.0 ∷ [] ≡ y.0 ∷ [] = (one_reading (box_row ∷ []) (words_of first.1) box_row box_row (x.0 ∷ []) (y.0 ∷ []) x.1 y.1).1 in
+    let values : x.0 ∷ [] ≡ y.0 ∷ [] =
+    (one_reading (box_row ∷ []) (words_of first.1) box_row box_row (x.0 ∷ []) (y.0 ∷ []) x.1 y.1).1 in
     let index : x.0 ≡ y.0 = cc in
     let same : Some a ≡ Some b = sym x.2 ∙ ap (slice_get kinds) index ∙ y.2 in
     cc
@@ -43,16 +47,19 @@ no_empty : (lines : List Line) (kind : KindWord) → Names lines kind → lines 
 no_empty [] kind x e = x
 no_empty (first ∷ lines) kind x e = absurd (cc)
 
-no_fault : (lines : List Line) (kind : KindWord) (number : ℕ) (cause : LineCause) → Names lines kind → NamesNone lines number cause → ⊥
+no_fault : (lines : List Line) (kind : KindWord) (number : ℕ) (cause : LineCause) → Names lines kind
+    → NamesNone lines number cause → ⊥
 no_fault [] kind number cause x y = x
 no_fault (first ∷ lines) kind number cause x y =
     let none = says_no_fault (box_row ∷ []) (words_of first.1) box_row (x.0 ∷ []) x.1 in
     let bad : None ≡ Some cause = sym none ∙ y.1 in
     absurd (cc)
 
-one_list : (text : List ℕ) (kind : KindWord) → AreLines (rows_of kind) (counted_lines text) → (line : BoxLine) (ns ms : List ℕ) → again_of line ≡ false → HasValues kind (counted_lines text) line ns
+one_list : (text : List ℕ) (kind : KindWord) → AreLines (rows_of kind) (counted_lines text) → (line : BoxLine)
+    (ns ms : List ℕ) → again_of line ≡ false → HasValues kind (counted_lines text) line ns
     → HasValues kind (counted_lines text) line ms → ns ≡ ms
-one_list text kind rows line ns ms once x y = one_setting (rows_of kind) (counted_lines text) 1 (rising text) rows (row_of line) (usual_or_none line) ns ms once x y
+one_list text kind rows line ns ms once x y = one_setting (rows_of kind) (counted_lines text) 1 (rising text) rows
+    (row_of line) (usual_or_none line) ns ms once x y
 
 -- the values of the lines that may stand once; those of the others do not matter
 abbrev of_once : (BoxLine → List ℕ) → (BoxLine → List ℕ) → BoxLine → List ℕ
@@ -68,17 +75,20 @@ of_once values others Backend = others Backend
 abbrev conf_by : KindWord → (BoxLine → List ℕ) → List Named → BoxConf
 conf_by kind values backends = conf_from kind (λ line. values_from (values line)) backends
 
-conf_of_once : (kind : KindWord) (values others : BoxLine → List ℕ) (backends : List Named) → conf_by kind values backends ≡ conf_by kind (of_once values others) backends
+conf_of_once : (kind : KindWord) (values others : BoxLine → List ℕ) (backends : List Named)
+    → conf_by kind values backends ≡ conf_by kind (of_once values others) backends
 conf_of_once kind.Count values others backends = refl
 conf_of_once kind.Monitor values others backends = refl
 conf_of_once kind.Nat values others backends = refl
 conf_of_once kind.Balancer values others backends = refl
 
-of_one_kind : (text : List ℕ) (kind : KindWord) (a b : BoxConf) → AreOfKind kind (counted_lines text) a → AreOfKind kind (counted_lines text) b → a ≡ b
+of_one_kind : (text : List ℕ) (kind : KindWord) (a b : BoxConf) → AreOfKind kind (counted_lines text) a
+    → AreOfKind kind (counted_lines text) b → a ≡ b
 of_one_kind text kind a b x y =
     let values : of_once x.values y.values ≡ y.values = λ i line. same line i in
     let backends : List Named = backends_after [] (counted_lines text) in
-    x.says ∙ conf_of_once kind x.values y.values backends ∙ ap (λ (values : BoxLine → List ℕ). conf_by kind values backends) values ∙ sym y.says
+    x.says ∙ conf_of_once kind x.values y.values backends
+    ∙ ap (λ (values : BoxLine → List ℕ). conf_by kind values backends) values ∙ sym y.says
   where
     one : (line : BoxLine) → again_of line ≡ false → x.values line ≡ y.values line
     one line once = one_list text kind x.rows line (x.values line) (y.values line) once (x.set line) (y.set line)
@@ -98,16 +108,21 @@ one_described text a b x y =
     let kind = one_kind (counted_lines text) x.0 y.0 x.1.names y.1.names in
     of_one_kind text y.0 a b (subst (λ (k : KindWord). AreOfKind k (counted_lines text) a) kind x.1) y.1
 
-described_or_leaves : (text : List ℕ) (conf : BoxConf) (number : ℕ) (cause : LineCause) → IsDescribed text conf → LeavesTable text number cause → ⊥
+described_or_leaves : (text : List ℕ) (conf : BoxConf) (number : ℕ) (cause : LineCause) → IsDescribed text conf
+    → LeavesTable text number cause → ⊥
 described_or_leaves text conf number cause x (inl none) = no_empty (counted_lines text) x.0 x.1.names none.0
-described_or_leaves text conf number cause x (inr (inl first)) = no_fault (counted_lines text) x.0 number cause x.1.names first
+described_or_leaves text conf number cause x (inr (inl first)) =
+    no_fault (counted_lines text) x.0 number cause x.1.names first
 described_or_leaves text conf number cause x (inr (inr later)) =
     let kind = one_kind (counted_lines text) x.0 later.0 x.1.names later.1 in
-    let rows : AreLines (rows_of later.0) (counted_lines text) = subst (λ (k : KindWord). AreLines (rows_of k) (counted_lines text)) kind x.1.rows in
-    let whole : AllStand (rows_of later.0) (counted_lines text) = subst (λ (k : KindWord). AllStand (rows_of k) (counted_lines text)) kind x.1.whole in
+    let rows : AreLines (rows_of later.0) (counted_lines text) =
+    subst (λ (k : KindWord). AreLines (rows_of k) (counted_lines text)) kind x.1.rows in
+    let whole : AllStand (rows_of later.0) (counted_lines text) =
+    subst (λ (k : KindWord). AllStand (rows_of k) (counted_lines text)) kind x.1.whole in
     not_in_whole (rows_of later.0) (counted_lines text) (length (lines_of text)) number cause rows whole later.2
 
-one_naming : (lines : List Line) (x y : ℕ) (a b : LineCause) → NamesNone lines x a → NamesNone lines y b → (x ≡ y) × (a ≡ b)
+one_naming : (lines : List Line) (x y : ℕ) (a b : LineCause) → NamesNone lines x a → NamesNone lines y b
+    → (x ≡ y) × (a ≡ b)
 one_naming [] x y a b f g = absurd f
 one_naming (first ∷ lines) x y a b f g = let same : Some a ≡ Some b = sym f.1 ∙ g.1 in (f.0 ∙ sym g.0, cc)
 
@@ -115,7 +130,8 @@ none_named : (lines : List Line) (number : ℕ) (cause : LineCause) → lines �
 none_named [] number cause e f = f
 none_named (first ∷ lines) number cause e f = absurd (cc)
 
-one_leaving : (text : List ℕ) (x y : ℕ) (a b : LineCause) → LeavesTable text x a → LeavesTable text y b → (x ≡ y) × (a ≡ b)
+one_leaving : (text : List ℕ) (x y : ℕ) (a b : LineCause) → LeavesTable text x a → LeavesTable text y b
+    → (x ≡ y) × (a ≡ b)
 one_leaving text x y a b (inl f) (inl g) = (f.1 ∙ sym g.1, f.2 ∙ sym g.2)
 one_leaving text x y a b (inl f) (inr (inl g)) = absurd (none_named (counted_lines text) y b f.0 g)
 one_leaving text x y a b (inl f) (inr (inr g)) = absurd (no_empty (counted_lines text) g.0 g.1 f.0)
@@ -132,7 +148,8 @@ one_leaving text x y a b (inr (inr f)) (inr (inr g)) =
 
 -- Backends come in beside the table
 
-one_in_vain : (text : List ℕ) (x y : ℕ) (a b : LineCause) → NamesInVain text x a → NamesInVain text y b → (x ≡ y) × (a ≡ b)
+one_in_vain : (text : List ℕ) (x y : ℕ) (a b : LineCause) → NamesInVain text x a → NamesInVain text y b
+    → (x ≡ y) × (a ≡ b)
 one_in_vain text x y a b f g =
     let same : Some (fault_at x a) ≡ Some (fault_at y b) = sym f ∙ g in
     let fault : fault_at x a ≡ fault_at y b = cc in
@@ -141,11 +158,14 @@ one_in_vain text x y a b f g =
 pub one_box : (text : List ℕ) (a b : BoxConf) → IsBoxFile text a → IsBoxFile text b → a ≡ b
 one_box text a b x y = one_described text a b x.0 y.0
 
-pub box_or_fault : (text : List ℕ) (conf : BoxConf) (number : ℕ) (cause : LineCause) → IsBoxFile text conf → FirstFault text number cause → ⊥
+pub box_or_fault : (text : List ℕ) (conf : BoxConf) (number : ℕ) (cause : LineCause) → IsBoxFile text conf
+    → FirstFault text number cause → ⊥
 box_or_fault text conf number cause x (inl of_table) = described_or_leaves text conf number cause x.0 of_table.0
-box_or_fault text conf number cause x (inr of_backends) = let bad : None ≡ Some (fault_at number cause) = sym x.1 ∙ of_backends.0 in absurd (cc)
+box_or_fault text conf number cause x (inr of_backends) =
+    let bad : None ≡ Some (fault_at number cause) = sym x.1 ∙ of_backends.0 in absurd (cc)
 
-pub one_fault : (text : List ℕ) (x y : ℕ) (a b : LineCause) → FirstFault text x a → FirstFault text y b → (x ≡ y) × (a ≡ b)
+pub one_fault : (text : List ℕ) (x y : ℕ) (a b : LineCause) → FirstFault text x a → FirstFault text y b
+    → (x ≡ y) × (a ≡ b)
 one_fault text x y a b (inl f) (inl g) = one_leaving text x y a b f.0 g.0
 one_fault text x y a b (inr f) (inr g) = one_in_vain text x y a b f.0 g.0
 one_fault text x y a b (inl f) (inr g) = let low = f.1 y b g.0 in let high = g.1 x a f.0 in absurd (omega arith)
@@ -160,16 +180,29 @@ Answers text (Err fault) = FirstFault text fault.line fault.cause
 answers : (text : List ℕ) → Answers text (box_of text)
 answers text = by (described_box text) (backend_fault [] (counted_lines text)) refl (reads_text text)
   where
-    by_both : (a b : LineFault) (t : Bool) → nat_lt b.line a.line ≡ t → backend_fault [] (counted_lines text) ≡ Some b → LeavesTable text a.line a.cause → Answers text (Err (if t then b else a))
+    by_both : (a b : LineFault) (t : Bool) → nat_lt b.line a.line ≡ t → backend_fault [] (counted_lines text) ≡ Some b
+        → LeavesTable text a.line a.cause → Answers text (Err (if t then b else a))
     by_both a b true q e f =
-        inr (e, λ other why g. let same = one_leaving text a.line other a.cause why f g in let low : b.line < a.line = grind (arith, nat_tests) in omega (arith, same.0))
+        inr (
+          e,
+          λ other why g.
+              let same = one_leaving text a.line other a.cause why f g in
+              let low : b.line < a.line = grind (arith, nat_tests) in omega (arith, same.0),
+        )
     by_both a b false q e f =
-        inl (f, λ other why g. let same = one_in_vain text b.line other b.cause why e g in let low : a.line ≤ b.line = grind (arith, nat_tests) in omega (arith, same.0))
+        inl (
+          f,
+          λ other why g.
+              let same = one_in_vain text b.line other b.cause why e g in
+              let low : a.line ≤ b.line = grind (arith, nat_tests) in omega (arith, same.0),
+        )
 
-    by : (r : Result BoxConf LineFault) (o : Option LineFault) → backend_fault [] (counted_lines text) ≡ o → Reads (counted_lines text) (length (lines_of text)) r → Answers text (or_backends r o)
+    by : (r : Result BoxConf LineFault) (o : Option LineFault) → backend_fault [] (counted_lines text) ≡ o
+        → Reads (counted_lines text) (length (lines_of text)) r → Answers text (or_backends r o)
     by (Ok conf) None e x = (x, e)
     by (Ok conf) (Some fault) e x = inr (e, λ other why f. absurd (described_or_leaves text conf other why x f))
-    by (Err fault) None e x = inl (x, λ other why f. let bad : None ≡ Some (fault_at other why) = sym e ∙ f in absurd (cc))
+    by (Err fault) None e x =
+        inl (x, λ other why f. let bad : None ≡ Some (fault_at other why) = sym e ∙ f in absurd (cc))
     by (Err a) (Some b) e x = by_both a b (nat_lt b.line a.line) refl e x
 
 pub box_is_read : (text : List ℕ) (conf : BoxConf) → IsBoxFile text conf → box_of text ≡ Ok conf
@@ -179,7 +212,8 @@ box_is_read text conf x = by_answer (box_of text) (answers text)
     by_answer (Ok other) y = ap Ok (one_box text other conf y x)
     by_answer (Err fault) y = absurd (box_or_fault text conf fault.line fault.cause x y)
 
-pub fault_is_read : (text : List ℕ) (fault : LineFault) → FirstFault text fault.line fault.cause → box_of text ≡ Err fault
+pub fault_is_read : (text : List ℕ) (fault : LineFault) → FirstFault text fault.line fault.cause
+    → box_of text ≡ Err fault
 fault_is_read text fault x = by_answer (box_of text) (answers text)
   where
     of_parts : (a b : LineFault) → (a.line ≡ b.line) × (a.cause ≡ b.cause) → a ≡ b
@@ -187,18 +221,21 @@ fault_is_read text fault x = by_answer (box_of text) (answers text)
 
     by_answer : (r : Result BoxConf LineFault) → Answers text r → r ≡ Err fault
     by_answer (Ok conf) y = absurd (box_or_fault text conf fault.line fault.cause y x)
-    by_answer (Err other) y = ap Err (of_parts other fault (one_fault text other.line fault.line other.cause fault.cause y x))
+    by_answer (Err other) y =
+        ap Err (of_parts other fault (one_fault text other.line fault.line other.cause fault.cause y x))
 
 pub read_is_box : (text : List ℕ) (conf : BoxConf) → box_of text ≡ Ok conf → IsBoxFile text conf
 read_is_box text conf e = subst (λ (r : Result BoxConf LineFault). Answers text r) e (answers text)
 
-pub read_is_fault : (text : List ℕ) (fault : LineFault) → box_of text ≡ Err fault → FirstFault text fault.line fault.cause
+pub read_is_fault : (text : List ℕ) (fault : LineFault) → box_of text ≡ Err fault
+    → FirstFault text fault.line fault.cause
 read_is_fault text fault e = subst (λ (r : Result BoxConf LineFault). Answers text r) e (answers text)
 
 pub says_box : (text : List ℕ) (r : Result BoxConf LineFault) → r ≡ box_of text → IfOk r (IsBoxFile text)
 says_box text (Ok conf) e = read_is_box text conf (sym e)
 says_box text (Err fault) e = tt
 
-pub says_fault : (text : List ℕ) (r : Result BoxConf LineFault) → r ≡ box_of text → IfErr r (λ fault. FirstFault text fault.line fault.cause)
+pub says_fault : (text : List ℕ) (r : Result BoxConf LineFault) → r ≡ box_of text
+    → IfErr r (λ fault. FirstFault text fault.line fault.cause)
 says_fault text (Ok conf) e = tt
 says_fault text (Err fault) e = read_is_fault text fault (sym e)

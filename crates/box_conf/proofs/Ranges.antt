@@ -1,5 +1,6 @@
 -- What a line sets is in the range of the line.
-use Rattle.std.proofs.Common.{◌≡◌, ◌≢◌, ℕ, ◌^◌, ◌<◌, ◌≤◌, ◌⊎◌, inl, inr, arith, List, [], ◌∷◌, refl, sym, subst, Option, Some, None, true, false, Bool, cond, Ok, Err}
+use Rattle.std.proofs.Common.{◌≡◌, ◌≢◌, ℕ, ◌^◌, ◌<◌, ◌≤◌, ◌⊎◌, inl, inr, arith, List, [], ◌∷◌, refl, sym, subst, Option}
+use Rattle.std.proofs.Common.{Some, None, true, false, Bool, cond, Ok, Err}
 use Rattle.std.specs.Prelude.{Result, IfOk, IfSome, ◌&&◌, nat_le, is_none, is_some}
 use Rattle.std.proofs.lemmas.Bool.Decides.{nat_tests}
 use Rattle.plain_text.specs.declared.fault.LineCause.{LineCause}
@@ -9,7 +10,8 @@ use Rattle.box_conf.specs.declared.kind.KindWord.{KindWord}
 use Rattle.box_conf.specs.declared.kind.KindWord.TheVariants as kind
 use Rattle.box_conf.specs.declared.settings.Settings.{Settings}
 use Rattle.box_conf.specs.declared.table.BoxLine.{BoxLine}
-use Rattle.box_conf.specs.declared.table.BoxLine.TheVariants.{Threads, Seed, Shards, Inside, Outside, Ports, Virtual, Backend}
+use Rattle.box_conf.specs.declared.table.BoxLine.TheVariants.{Threads, Seed, Shards, Inside, Outside, Ports, Virtual}
+use Rattle.box_conf.specs.declared.table.BoxLine.TheVariants.{Backend}
 use Rattle.box_conf.specs.declared.table.Values.{Values}
 use Rattle.box_conf.specs.Kinds.{missing_line, rows_of}
 use Rattle.box_conf.specs.Reading.{set_line}
@@ -35,7 +37,8 @@ one_within low high [] values s = absurd s
 one_within low high (word ∷ words) [] s = absurd s
 one_within low high (word ∷ words) (n ∷ values) s = within low high n s.1
 
-two_within : (low high : ℕ) (words : List (List ℕ)) (values : List ℕ) → PlacesSay (Number low high ∷ Number low high ∷ []) words values
+two_within : (low high : ℕ) (words : List (List ℕ)) (values : List ℕ)
+    → PlacesSay (Number low high ∷ Number low high ∷ []) words values
     → (low ≤ (values_from values).first) × ((values_from values).second ≤ high)
 two_within low high [] values s = absurd s
 two_within low high (word ∷ words) [] s = absurd s
@@ -43,12 +46,14 @@ two_within low high (word ∷ []) (n ∷ values) s = absurd s.2
 two_within low high (word ∷ next ∷ words) (n ∷ []) s = absurd s.2
 two_within low high (word ∷ next ∷ words) (n ∷ m ∷ values) s = ((within low high n s.1).0, (within low high m s.2.1).1)
 
-address_within : (places : List Place) (words : List (List ℕ)) (values : List ℕ) → PlacesSay (Address ∷ places) words values → (values_from values).first < 2 ^ 32
+address_within : (places : List Place) (words : List (List ℕ)) (values : List ℕ)
+    → PlacesSay (Address ∷ places) words values → (values_from values).first < 2 ^ 32
 address_within places [] values s = absurd s
 address_within places (word ∷ words) [] s = absurd s
 address_within places (word ∷ words) (n ∷ values) s = address_small word n s.0
 
-length_within : (low high : ℕ) (words : List (List ℕ)) (values : List ℕ) → PlacesSay (Address ∷ Number low high ∷ []) words values
+length_within : (low high : ℕ) (words : List (List ℕ)) (values : List ℕ)
+    → PlacesSay (Address ∷ Number low high ∷ []) words values
     → (low ≤ (values_from values).second) × ((values_from values).second ≤ high)
 length_within low high [] values s = absurd s
 length_within low high (word ∷ words) [] s = absurd s
@@ -57,11 +62,13 @@ length_within low high (word ∷ next ∷ words) (n ∷ []) s = absurd s.2
 length_within low high (word ∷ next ∷ words) (n ∷ m ∷ values) s = within low high m s.2.1
 
 -- an address and a port
-end_within : (words : List (List ℕ)) (values : List ℕ) → PlacesSay (Address ∷ Number 0 65535 ∷ []) words values → ((values_from values).first < 2 ^ 32) × ((values_from values).second ≤ 65535)
-end_within words values s = (address_within (Number 0 65535 ∷ []) words values s, (length_within 0 65535 words values s).1)
+end_within : (words : List (List ℕ)) (values : List ℕ) → PlacesSay (Address ∷ Number 0 65535 ∷ []) words values
+    → ((values_from values).first < 2 ^ 32) × ((values_from values).second ≤ 65535)
+end_within words values s =
+    (address_within (Number 0 65535 ∷ []) words values s, (length_within 0 65535 words values s).1)
 
-says_within : (line : BoxLine) (words : List (List ℕ)) (values : List ℕ) → PlacesSay (row_of line).places words values → (row_of line).fits values ≡ true
-    → IsWithin line (values_from values)
+says_within : (line : BoxLine) (words : List (List ℕ)) (values : List ℕ) → PlacesSay (row_of line).places words values
+    → (row_of line).fits values ≡ true → IsWithin line (values_from values)
 says_within Threads words values s f = one_within 1 16 words values s
 says_within Seed words values s f = tt
 says_within Shards words values s f = one_within 1 64 words values s
@@ -76,21 +83,26 @@ says_within Virtual words values s f = end_within words values s
 says_within Backend words values s f = end_within words values s
 
 -- so are the values that a line's words give
-pub read_within : (line : BoxLine) (had : Bool) (words : List (List ℕ)) (r : Result Values LineCause) → r ≡ line_read line had words → IfOk r (IsWithin line)
-read_within line had words r e = subst (λ (r : Result Values LineCause). IfOk r (IsWithin line)) (sym e) (by (line_read line had words) (values_say line had words))
+pub read_within : (line : BoxLine) (had : Bool) (words : List (List ℕ)) (r : Result Values LineCause)
+    → r ≡ line_read line had words → IfOk r (IsWithin line)
+read_within line had words r e = subst (λ (r : Result Values LineCause). IfOk r (IsWithin line)) (sym e)
+    (by (line_read line had words) (values_say line had words))
   where
     by : (r : Result Values LineCause) → ValuesSay line had words r → IfOk r (IsWithin line)
     by (Err cause) says = tt
     by (Ok set) says = subst (IsWithin line) (sym says.3) (says_within line words says.0 says.1 says.2)
 
-line_within : (rows : KindWord) (line : BoxLine) (words : List (List ℕ)) (values : List ℕ) → LineSays (rows_of rows) words (row_of line) values → IsWithin line (values_from values)
+line_within : (rows : KindWord) (line : BoxLine) (words : List (List ℕ)) (values : List ℕ)
+    → LineSays (rows_of rows) words (row_of line) values → IsWithin line (values_from values)
 line_within kind line [] values s = absurd s
 line_within kind line (word ∷ words) values s = says_within line words values s.1 s.2
 
 -- so a step of the reader leaves all settings in their ranges
-pub stays_in_range : (kind : KindWord) (s : Settings) (words : List (List ℕ)) (r : Result Settings LineCause) → AreInRange s → r ≡ set_line kind s words → IfOk r AreInRange
+pub stays_in_range : (kind : KindWord) (s : Settings) (words : List (List ℕ)) (r : Result Settings LineCause)
+    → AreInRange s → r ≡ set_line kind s words → IfOk r AreInRange
 stays_in_range kind s words r are e =
-    subst (λ (r : Result Settings LineCause). IfOk r AreInRange) (sym e) (by (set_line kind s words) (step_says kind s words))
+    subst (λ (r : Result Settings LineCause). IfOk r AreInRange) (sym e)
+    (by (set_line kind s words) (step_says kind s words))
   where
     by : (r : Result Settings LineCause) → StepSays kind s words r → IfOk r AreInRange
     by (Err cause) says = tt
@@ -99,8 +111,10 @@ stays_in_range kind s words r are e =
         set : Values
         set = values_from says.1
 
-        here : (other : BoxLine) → (says.0 ≢ other × (setting (with_setting s says.0 set) other ≡ setting s other))
-            ⊎ ((says.0 ≡ other) × (setting (with_setting s says.0 set) other ≡ Some set)) → IfSome (setting (with_setting s says.0 set) other) (IsWithin other)
+        here : (other : BoxLine)
+            → (says.0 ≢ other × (setting (with_setting s says.0 set) other ≡ setting s other))
+            ⊎ ((says.0 ≡ other) × (setting (with_setting s says.0 set) other ≡ Some set))
+            → IfSome (setting (with_setting s says.0 set) other) (IsWithin other)
         here other (inl differs) = subst (λ (o : Option Values). IfSome o (IsWithin other)) (sym differs.1) (are other)
         here other (inr same) =
             subst (λ (o : Option Values). IfSome o (IsWithin other)) (sym same.1)
@@ -110,10 +124,12 @@ stays_in_range kind s words r are e =
         in_range other = here other (set_or s says.0 other set)
 
 -- a NAT has its two addresses
-pub nat_stands : (s : Settings) → missing_line kind.Nat s ≡ None → (is_some (setting s Inside) ≡ true) × (is_some (setting s Outside) ≡ true)
+pub nat_stands : (s : Settings) → missing_line kind.Nat s ≡ None
+    → (is_some (setting s Inside) ≡ true) × (is_some (setting s Outside) ≡ true)
 nat_stands s e = by s.inside s.outside e
   where
-    by : (inside outside : Option Values) → cond (is_none inside) (Some Inside) (cond (is_none outside) (Some Outside) None) ≡ None
+    by : (inside outside : Option Values)
+        → cond (is_none inside) (Some Inside) (cond (is_none outside) (Some Outside) None) ≡ None
         → (is_some inside ≡ true) × (is_some outside ≡ true)
     by (Some a) (Some b) e = (refl, refl)
     by (Some a) None e = absurd (cc)

@@ -1,13 +1,15 @@
--- What the reader does with all lines is what the relation of box files says: it goes along the lines, and its settings are what
--- the lines so far set.
-use Rattle.std.proofs.Common.{◌≡◌, ◌≢◌, ℕ, ◌+◌, ◌<◌, ◌≤◌, ◌⊎◌, inl, inr, List, [], ◌∷◌, length, refl, sym, ap, ◌∙◌, subst, arith, Option, Some, None, true, false, Bool, Ok, Err}
+-- What the reader does with all lines is what the relation of box files says: it goes along the lines, and its settings
+-- are what the lines so far set.
+use Rattle.std.proofs.Common.{◌≡◌, ◌≢◌, ℕ, ◌+◌, ◌<◌, ◌≤◌, ◌⊎◌, inl, inr, List, [], ◌∷◌, length, refl, sym, ap, ◌∙◌}
+use Rattle.std.proofs.Common.{subst, arith, Option, Some, None, true, false, Bool, Ok, Err}
 use Rattle.std.specs.Prelude.{Result, unwrap_or, find, is_none, map, cond, ◌&&◌}
 use Rattle.std.specs.Str.{bytes_eq}
 use Rattle.std.specs.Str.Lines.{lines as lines_of}
 use Rattle.plain_text.specs.declared.fault.LineCause.{LineCause}
 use Rattle.plain_text.specs.declared.fault.LineCause.TheVariants.{MissingLine}
 use Rattle.plain_text.specs.declared.fault.LineFault.{LineFault}
-use Rattle.plain_text.specs.Grammar.{Row, LineSays, Has as HasLine, Says, Leaves, AreLines, FirstToLeave, FirstOfFile, IsRow, AllStand, Lacks}
+use Rattle.plain_text.specs.Grammar.{Row, LineSays, Has as HasLine, Says, Leaves, AreLines, FirstToLeave, FirstOfFile}
+use Rattle.plain_text.specs.Grammar.{IsRow, AllStand, Lacks}
 use Rattle.plain_text.specs.Lines.{words_of, words_count, counted_lines}
 use Rattle.plain_text.proofs.Rows.{one_row}
 use Rattle.plain_text.proofs.Faults.{Rising, counted_rise, from_rising, only_repeats, all_of_table}
@@ -15,11 +17,13 @@ use Rattle.box_conf.specs.declared.kind.BoxConf.{BoxConf}
 use Rattle.box_conf.specs.declared.settings.Settings.{Settings}
 use Rattle.box_conf.specs.declared.kind.KindWord.{KindWord}
 use Rattle.box_conf.specs.declared.table.BoxLine.{BoxLine}
-use Rattle.box_conf.specs.declared.table.BoxLine.TheVariants.{Threads, Seed, Shards, Inside, Outside, Ports, Virtual, Backend}
+use Rattle.box_conf.specs.declared.table.BoxLine.TheVariants.{Threads, Seed, Shards, Inside, Outside, Ports, Virtual}
+use Rattle.box_conf.specs.declared.table.BoxLine.TheVariants.{Backend}
 use Rattle.box_conf.specs.declared.table.Values.{Values}
 use Rattle.box_conf.specs.Backends.{backends_after}
 use Rattle.box_conf.specs.BoxFile.{AreOfKind, Names, NamesNone, Has as HasValues}
-use Rattle.box_conf.specs.Reading.{and_kind, and_lines, described_box, box_of_lines, conf_of, whole_box, first_line, no_settings, set_line, set_lines}
+use Rattle.box_conf.specs.Reading.{and_kind, and_lines, described_box, box_of_lines, conf_of, whole_box, first_line}
+use Rattle.box_conf.specs.Reading.{no_settings, set_line, set_lines}
 use Rattle.box_conf.specs.Settings.{setting, with_setting, usual_or_none, values_set}
 use Rattle.box_conf.specs.Kinds.{box_row, conf_from, lines_of as lines_in, missing_line, rows_of}
 use Rattle.box_conf.specs.Table.{again_of, row_of, usual_of, values_from, word_of}
@@ -31,7 +35,8 @@ Line = ℕ × List ℕ
 -- A row's word says which line it is
 
 abbrev line_in : List ℕ → Option BoxLine
-line_in word = find (λ line. bytes_eq word (word_of line)) (Threads ∷ Seed ∷ Shards ∷ Inside ∷ Outside ∷ Ports ∷ Virtual ∷ Backend ∷ [])
+line_in word = find (λ line. bytes_eq word (word_of line))
+    (Threads ∷ Seed ∷ Shards ∷ Inside ∷ Outside ∷ Ports ∷ Virtual ∷ Backend ∷ [])
 
 line_back : (line : BoxLine) → line_in (word_of line) ≡ Some line
 line_back Threads = refl
@@ -54,7 +59,8 @@ same_line a b e =
     cc
 
 -- a line is another, or the values that were set are its own
-pub set_or : (s : Settings) (a b : BoxLine) (v : Values) → (a ≢ b × (setting (with_setting s a v) b ≡ setting s b)) ⊎ ((a ≡ b) × (setting (with_setting s a v) b ≡ Some v))
+pub set_or : (s : Settings) (a b : BoxLine) (v : Values)
+    → (a ≢ b × (setting (with_setting s a v) b ≡ setting s b)) ⊎ ((a ≡ b) × (setting (with_setting s a v) b ≡ Some v))
 set_or s Threads Threads v = inr (refl, refl)
 set_or s Seed Seed v = inr (refl, refl)
 set_or s Shards Shards v = inr (refl, refl)
@@ -75,41 +81,50 @@ set_or s Backend other v = inl ((λ e. cc), refl)
 -- What the lines so far have set
 
 abbrev IsSet : KindWord → List Line → BoxLine → Option Values → Type 0
-IsSet kind lines line None = (x : Line) (values : List ℕ) → HasLine lines x → Says (rows_of kind) x (row_of line) values → ⊥
-IsSet kind lines line (Some v) = (x : Line) × (values : List ℕ) × HasLine lines x × Says (rows_of kind) x (row_of line) values × (v ≡ values_from values)
+IsSet kind lines line None =
+    (x : Line) (values : List ℕ) → HasLine lines x → Says (rows_of kind) x (row_of line) values → ⊥
+IsSet kind lines line (Some v) =
+    (x : Line) × (values : List ℕ) × HasLine lines x × Says (rows_of kind) x (row_of line) values
+    × (v ≡ values_from values)
 
 record Stands (kind : KindWord) (s : Settings) (lines : List Line) : Type 0 where
   pub named : (x : Line) × (values : List ℕ) × HasLine lines x × Says (rows_of kind) x box_row values
   pub set : (line : BoxLine) → IsSet kind lines line (setting s line)
 
 -- one more line
-stands_more : (kind : KindWord) (s : Settings) (before : List Line) (x : Line) (line : BoxLine) (values : List ℕ) → Stands kind s before → Says (rows_of kind) x (row_of line) values
+stands_more : (kind : KindWord) (s : Settings) (before : List Line) (x : Line) (line : BoxLine) (values : List ℕ)
+    → Stands kind s before → Says (rows_of kind) x (row_of line) values
     → Stands kind (with_setting s line (values_from values)) (x ∷ before)
 stands_more kind s before x line values stands says = record {
   named = (stands.named.0, stands.named.1, inr stands.named.2, stands.named.3);
   set = set_of;
 }
   where
-    older : (other : BoxLine) (o : Option Values) → line ≢ other → IsSet kind before other o → IsSet kind (x ∷ before) other o
+    older : (other : BoxLine) (o : Option Values) → line ≢ other → IsSet kind before other o
+        → IsSet kind (x ∷ before) other o
     older other None differs none = λ y ns there other_says. by_place y ns other_says there
       where
         by_place : (y : Line) (ns : List ℕ) → Says (rows_of kind) y (row_of other) ns → HasLine (x ∷ before) y → ⊥
         by_place y ns other_says (inl e) =
-            let here : Says (rows_of kind) x (row_of other) ns = subst (λ (l : Line). Says (rows_of kind) l (row_of other) ns) e other_says in
+            let here : Says (rows_of kind) x (row_of other) ns =
+            subst (λ (l : Line). Says (rows_of kind) l (row_of other) ns) e other_says in
             let row = one_row (rows_of kind) (words_of x.1) (row_of line) (row_of other) values ns says here in
             differs (same_line line other row)
         by_place y ns other_says (inr there) = none y ns there other_says
     older other (Some v) differs some = (some.0, some.1, inr some.2, some.3, some.4)
 
-    set_of : (other : BoxLine) → IsSet kind (x ∷ before) other (setting (with_setting s line (values_from values)) other)
+    set_of : (other : BoxLine)
+        → IsSet kind (x ∷ before) other (setting (with_setting s line (values_from values)) other)
     set_of other = by_set (set_or s line other (values_from values))
       where
         by_set : (line ≢ other × (setting (with_setting s line (values_from values)) other ≡ setting s other))
             ⊎ ((line ≡ other) × (setting (with_setting s line (values_from values)) other ≡ Some (values_from values)))
             → IsSet kind (x ∷ before) other (setting (with_setting s line (values_from values)) other)
-        by_set (inl differs) = subst (IsSet kind (x ∷ before) other) (sym differs.1) (older other (setting s other) differs.0 (stands.set other))
+        by_set (inl differs) = subst (IsSet kind (x ∷ before) other) (sym differs.1)
+            (older other (setting s other) differs.0 (stands.set other))
         by_set (inr same) =
-            let here : Says (rows_of kind) x (row_of other) values = subst (λ (l : BoxLine). Says (rows_of kind) x (row_of l) values) same.0 says in
+            let here : Says (rows_of kind) x (row_of other) values =
+            subst (λ (l : BoxLine). Says (rows_of kind) x (row_of l) values) same.0 says in
             subst (IsSet kind (x ∷ before) other) (sym same.1) (x, values, inl refl, here, refl)
 
 -- Along the lines
@@ -128,7 +143,8 @@ abbrev Comes : KindWord → List Line → Result Settings LineFault → Type 0
 Comes kind all (Ok s) = Stands kind s all × AreLines (rows_of kind) all
 Comes kind all (Err fault) = FirstToLeave (rows_of kind) all fault.line fault.cause
 
-stands_all : (kind : KindWord) (all : List Line) (s : Settings) (n : ℕ) (before : List Line) → Progress kind all s n before [] → Comes kind all (Ok s)
+stands_all : (kind : KindWord) (all : List Line) (s : Settings) (n : ℕ) (before : List Line)
+    → Progress kind all s n before [] → Comes kind all (Ok s)
 stands_all kind all s n before a = (
   record {
     named = (a.stands.named.0, a.stands.named.1, a.from_before a.stands.named.0 a.stands.named.2, a.stands.named.3);
@@ -145,9 +161,11 @@ stands_all kind all s n before a = (
     set_of line None none = λ x values there says. none x values (only_before x (a.split x there)) says
     set_of line (Some v) some = (some.0, some.1, a.from_before some.0 some.2, some.3, some.4)
 
-along : (kind : KindWord) (all rest before : List Line) (s : Settings) (n : ℕ) → Progress kind all s n before rest → Comes kind all (set_lines kind s rest)
+along : (kind : KindWord) (all rest before : List Line) (s : Settings) (n : ℕ) → Progress kind all s n before rest
+    → Comes kind all (set_lines kind s rest)
 along kind all [] before s n a = stands_all kind all s n before a
-along kind all (line ∷ rest) before s n a = by_step (set_line kind s (words_of line.1)) (step_says kind s (words_of line.1)) (along kind all rest (line ∷ before))
+along kind all (line ∷ rest) before s n a = by_step (set_line kind s (words_of line.1))
+    (step_says kind s (words_of line.1)) (along kind all rest (line ∷ before))
   where
     High : ℕ → Type 0
     High m = line.0 ≤ m
@@ -162,14 +180,16 @@ along kind all (line ∷ rest) before s n a = by_step (set_line kind s (words_of
         by_split (inl there) = there
         by_split (inr later) = let high = from_here x later in absurd (omega arith)
 
-    goes_on : (next : Settings) → StepSays kind s (words_of line.1) (Ok next) → Progress kind all next (line.0 + 1) (line ∷ before) rest
+    goes_on : (next : Settings) → StepSays kind s (words_of line.1) (Ok next)
+        → Progress kind all next (line.0 + 1) (line ∷ before) rest
     goes_on next says = record {
       split = λ x there. by_split x (a.split x there);
       from_before = λ x there. by_place x there;
       from_rest = λ x there. a.from_rest x (inr there);
       rising = a.rising.1;
       below = λ x there. by_number x there;
-      stands = subst (λ (t : Settings). Stands kind t (line ∷ before)) (sym says.4) (stands_more kind s before line says.0 says.1 a.stands says.2);
+      stands = subst (λ (t : Settings). Stands kind t (line ∷ before)) (sym says.4)
+          (stands_more kind s before line says.0 says.1 a.stands says.2);
       stays = λ x cause there leaves. by_leaving x cause there leaves;
     }
       where
@@ -190,20 +210,25 @@ along kind all (line ∷ rest) before s n a = by_step (set_line kind s (words_of
         here_stays cause leaves =
             let again = (only_repeats (rows_of kind) all line (row_of says.0) says.1 cause says.2 leaves).0 in
             let stood = again.stood in
-            let row = one_row (rows_of kind) (words_of line.1) again.row (row_of says.0) again.values says.1 again.says says.2 in
+            let row =
+            one_row (rows_of kind) (words_of line.1) again.row (row_of says.0) again.values says.1 again.says says.2 in
             let there = earlier stood.earlier stood.stands stood.before in
-            let said : Says (rows_of kind) stood.earlier (row_of says.0) stood.values = subst (λ (r : Row). Says (rows_of kind) stood.earlier r stood.values) row stood.says in
+            let said : Says (rows_of kind) stood.earlier (row_of says.0) stood.values =
+            subst (λ (r : Row). Says (rows_of kind) stood.earlier r stood.values) row stood.says in
             by_once says.3 (ap (λ (r : Row). r.again) (sym row) ∙ again.once) stood.earlier stood.values there said
           where
-            by_once : (setting s says.0 ≡ None) ⊎ (again_of says.0 ≡ true) → again_of says.0 ≡ false → (x : Line) (values : List ℕ) → HasLine before x → Says (rows_of kind) x (row_of says.0) values → ⊥
+            by_once : (setting s says.0 ≡ None) ⊎ (again_of says.0 ≡ true) → again_of says.0 ≡ false → (x : Line)
+                (values : List ℕ) → HasLine before x → Says (rows_of kind) x (row_of says.0) values → ⊥
             by_once (inl unset) once = subst (IsSet kind before says.0) unset (a.stands.set says.0)
             by_once (inr free) once = absurd (cc)
 
         by_leaving : (x : Line) (cause : LineCause) → HasLine (line ∷ before) x → Leaves (rows_of kind) all x cause → ⊥
-        by_leaving x cause (inl e) leaves = here_stays cause (subst (λ (l : Line). Leaves (rows_of kind) all l cause) e leaves)
+        by_leaving x cause (inl e) leaves =
+            here_stays cause (subst (λ (l : Line). Leaves (rows_of kind) all l cause) e leaves)
         by_leaving x cause (inr there) leaves = a.stays x cause there leaves
 
-    stood_before : (row : Row) → Stood s row → (x : Line) × (values : List ℕ) × HasLine before x × Says (rows_of kind) x row values
+    stood_before : (row : Row) → Stood s row
+        → (x : Line) × (values : List ℕ) × HasLine before x × Says (rows_of kind) x row values
     stood_before row (inl e) =
         let named = a.stands.named in
         (named.0, named.1, named.2, subst (λ (r : Row). Says (rows_of kind) named.0 r named.1) (sym e) named.3)
@@ -211,7 +236,8 @@ along kind all (line ∷ rest) before s n a = by_step (set_line kind s (words_of
         let some : IsSet kind before set.0 (Some set.1) = subst (IsSet kind before set.0) set.3 (a.stands.set set.0) in
         (some.0, some.1, some.2, subst (λ (r : Row). Says (rows_of kind) some.0 r some.1) (sym set.2) some.3)
 
-    leaves_here : (cause : LineCause) → StepSays kind s (words_of line.1) (Err cause) → Leaves (rows_of kind) all line cause
+    leaves_here : (cause : LineCause) → StepSays kind s (words_of line.1) (Err cause)
+        → Leaves (rows_of kind) all line cause
     leaves_here cause (inl fault) = inl fault
     leaves_here cause (inr again) =
         let stood = stood_before again.0 again.4 in
@@ -234,7 +260,8 @@ along kind all (line ∷ rest) before s n a = by_step (set_line kind s (words_of
           again.5,
         )
 
-    least : (other : Line) (why : LineCause) → HasLine all other → Leaves (rows_of kind) all other why → line.0 ≤ other.0
+    least : (other : Line) (why : LineCause) → HasLine all other → Leaves (rows_of kind) all other why
+        → line.0 ≤ other.0
     least other why there leaves = by_split (a.split other there)
       where
         by_split : HasLine before other ⊎ HasLine (line ∷ rest) other → line.0 ≤ other.0
@@ -256,7 +283,8 @@ along kind all (line ∷ rest) before s n a = by_step (set_line kind s (words_of
 -- The whole text
 
 -- behind the first line
-begins : (kind : KindWord) (first : Line) (rest : List Line) (n index : ℕ) → Rising n (first ∷ rest) → LineSays (box_row ∷ []) (words_of first.1) box_row (index ∷ [])
+begins : (kind : KindWord) (first : Line) (rest : List Line) (n index : ℕ) → Rising n (first ∷ rest)
+    → LineSays (box_row ∷ []) (words_of first.1) box_row (index ∷ [])
     → Progress kind (first ∷ rest) no_settings (first.0 + 1) (first ∷ []) rest
 begins kind first rest n index rising names = record {
   split = λ x there. by_split x there;
@@ -283,9 +311,11 @@ begins kind first rest n index rising names = record {
     by_number x (inl e) = let k : x.0 ≡ first.0 = ap (λ (l : Line). l.0) e in omega arith
     by_number x (inr none) = absurd none
 
-    none_of : (line : BoxLine) (x : Line) (values : List ℕ) → HasLine (first ∷ []) x → Says (rows_of kind) x (row_of line) values → ⊥
+    none_of : (line : BoxLine) (x : Line) (values : List ℕ) → HasLine (first ∷ []) x
+        → Says (rows_of kind) x (row_of line) values → ⊥
     none_of line x values (inl e) other =
-        let here : Says (rows_of kind) first (row_of line) values = subst (λ (l : Line). Says (rows_of kind) l (row_of line) values) e other in
+        let here : Says (rows_of kind) first (row_of line) values =
+        subst (λ (l : Line). Says (rows_of kind) l (row_of line) values) e other in
         not_box line (one_row (rows_of kind) (words_of first.1) box_row (row_of line) (index ∷ []) values says here)
     none_of line x values (inr none) other = absurd none
 
@@ -307,8 +337,10 @@ begins kind first rest n index rising names = record {
         let low = stood.before in
         absurd (omega arith)
 
-    by_leaving : (x : Line) (cause : LineCause) → HasLine (first ∷ []) x → Leaves (rows_of kind) (first ∷ rest) x cause → ⊥
-    by_leaving x cause (inl e) leaves = here_stays cause (subst (λ (l : Line). Leaves (rows_of kind) (first ∷ rest) l cause) e leaves)
+    by_leaving : (x : Line) (cause : LineCause) → HasLine (first ∷ []) x
+        → Leaves (rows_of kind) (first ∷ rest) x cause → ⊥
+    by_leaving x cause (inl e) leaves =
+        here_stays cause (subst (λ (l : Line). Leaves (rows_of kind) (first ∷ rest) l cause) e leaves)
     by_leaving x cause (inr none) leaves = absurd none
 
 -- What the settings come to
@@ -317,7 +349,10 @@ values_of_line : (kind : KindWord) (lines : List Line) (s : Settings) (line : Bo
     → (values : List ℕ) × HasValues kind lines line values × (values_from values ≡ values_set s line)
 values_of_line kind lines s line stands = by_set (setting s line) (stands.set line)
   where
-    by_set : (o : Option Values) → IsSet kind lines line o → (values : List ℕ) × HasValues kind lines line values × (values_from values ≡ unwrap_or o (values_from (usual_or_none line)))
+    by_set : (o : Option Values) → IsSet kind lines line o
+        → (values : List ℕ)
+        × HasValues kind lines line values
+        × (values_from values ≡ unwrap_or o (values_from (usual_or_none line)))
     by_set None none = (usual_or_none line, inr (refl, none), refl)
     by_set (Some v) some = (some.1, inl (some.0, some.2, some.3), sym some.4)
 
@@ -325,7 +360,8 @@ values_of_line kind lines s line stands = by_set (setting s line) (stands.set li
 abbrev is_missing : Settings → BoxLine → Bool
 is_missing s line = is_none (usual_of line) && is_none (setting s line)
 
-was_set : (required : Bool) (o : Option Values) → required ≡ true → (required && is_none o) ≡ false → (v : Values) × (o ≡ Some v)
+was_set : (required : Bool) (o : Option Values) → required ≡ true → (required && is_none o) ≡ false
+    → (v : Values) × (o ≡ Some v)
 was_set true None e f = absurd (cc)
 was_set false None e f = absurd (cc)
 was_set required (Some v) e f = (v, refl)
@@ -340,23 +376,27 @@ none_set None e = refl
 none_set (Some v) e = absurd (cc)
 
 -- where no line is missing, those that have to stand are set
-all_set : (s : Settings) (lines : List BoxLine) → find (is_missing s) lines ≡ None → (row : Row) → IsRow (map row_of lines) row → row.required ≡ true
+all_set : (s : Settings) (lines : List BoxLine) → find (is_missing s) lines ≡ None → (row : Row)
+    → IsRow (map row_of lines) row → row.required ≡ true
     → (line : BoxLine) × (v : Values) × (row ≡ row_of line) × (setting s line ≡ Some v)
 all_set s [] none row there required = absurd there
 all_set s (line ∷ lines) none row there required = by (is_missing s line) refl none there (all_set s lines)
   where
-    by : (b : Bool) → is_missing s line ≡ b → cond b (Some line) (find (is_missing s) lines) ≡ None → (row ≡ row_of line) ⊎ IsRow (map row_of lines) row
+    by : (b : Bool) → is_missing s line ≡ b → cond b (Some line) (find (is_missing s) lines) ≡ None
+        → (row ≡ row_of line) ⊎ IsRow (map row_of lines) row
         → (find (is_missing s) lines ≡ None → (row : Row) → IsRow (map row_of lines) row → row.required ≡ true
         → (line : BoxLine) × (v : Values) × (row ≡ row_of line) × (setting s line ≡ Some v))
         → (line : BoxLine) × (v : Values) × (row ≡ row_of line) × (setting s line ≡ Some v)
     by true m none there more = absurd (cc)
     by false m none (inl e) more =
-        let set = was_set (is_none (usual_of line)) (setting s line) (sym (ap (λ (r : Row). r.required) e) ∙ required) m in
+        let set =
+        was_set (is_none (usual_of line)) (setting s line) (sym (ap (λ (r : Row). r.required) e) ∙ required) m in
         (line, set.0, e, set.1)
     by false m none (inr there) more = more none row there required
 
 -- a line that is missing is one of these, and has to stand
-one_missing : (s : Settings) (lines : List BoxLine) (line : BoxLine) → find (is_missing s) lines ≡ Some line → IsRow (map row_of lines) (row_of line) × (is_missing s line ≡ true)
+one_missing : (s : Settings) (lines : List BoxLine) (line : BoxLine) → find (is_missing s) lines ≡ Some line
+    → IsRow (map row_of lines) (row_of line) × (is_missing s line ≡ true)
 one_missing s [] line e = absurd (cc)
 one_missing s (first ∷ lines) line e = by (is_missing s first) refl e (one_missing s lines line)
   where
@@ -367,7 +407,8 @@ one_missing s (first ∷ lines) line e = by (is_missing s first) refl e (one_mis
     by false m e more = let rest = more e in (inr rest.0, rest.1)
 
 -- so no row lacks a line, or one does
-all_stand : (kind : KindWord) (lines : List Line) (s : Settings) → Stands kind s lines → missing_line kind s ≡ None → AllStand (rows_of kind) lines
+all_stand : (kind : KindWord) (lines : List Line) (s : Settings) → Stands kind s lines → missing_line kind s ≡ None
+    → AllStand (rows_of kind) lines
 all_stand kind lines s stands none row (inl e) required =
     let named = stands.named in
     (named.0, named.1, named.2, subst (λ (r : Row). Says (rows_of kind) named.0 r named.1) (sym e) named.3)
@@ -376,11 +417,13 @@ all_stand kind lines s stands none row (inr there) required =
     let some : IsSet kind lines set.0 (Some set.1) = subst (IsSet kind lines set.0) set.3 (stands.set set.0) in
     (some.0, some.1, some.2, subst (λ (r : Row). Says (rows_of kind) some.0 r some.1) (sym set.2) some.3)
 
-one_lacks : (kind : KindWord) (lines : List Line) (s : Settings) (line : BoxLine) → Stands kind s lines → missing_line kind s ≡ Some line → Lacks (rows_of kind) lines
+one_lacks : (kind : KindWord) (lines : List Line) (s : Settings) (line : BoxLine) → Stands kind s lines
+    → missing_line kind s ≡ Some line → Lacks (rows_of kind) lines
 one_lacks kind lines s line stands e =
     let missing = one_missing s (lines_in kind) line e in
     let both = both_true (is_none (usual_of line)) (is_none (setting s line)) missing.1 in
-    let unset : IsSet kind lines line None = subst (IsSet kind lines line) (none_set (setting s line) both.1) (stands.set line) in
+    let unset : IsSet kind lines line None =
+    subst (IsSet kind lines line) (none_set (setting s line) both.1) (stands.set line) in
     record { row = row_of line; listed = inr missing.0; required = both.0; absent = unset }
 
 -- what the reader comes to
@@ -398,10 +441,12 @@ reads_lines (first ∷ rest) count n rising = by_first (first_line (words_of fir
     all : List Line
     all = first ∷ rest
 
-    by_missing : (kind : KindWord) (s : Settings) (o : Option BoxLine) → Names all kind → Stands kind s all → AreLines (rows_of kind) all → missing_line kind s ≡ o
+    by_missing : (kind : KindWord) (s : Settings) (o : Option BoxLine) → Names all kind → Stands kind s all
+        → AreLines (rows_of kind) all → missing_line kind s ≡ o
         → Reads all count (whole_box count kind (backends_after [] all) s o)
     by_missing kind s None names stands rows none =
-        let of_line : (line : BoxLine) → (values : List ℕ) × HasValues kind all line values × (values_from values ≡ values_set s line) =
+        let of_line : (line : BoxLine)
+        → (values : List ℕ) × HasValues kind all line values × (values_from values ≡ values_set s line) =
         λ line. values_of_line kind all s line stands in
         let same : (λ line. values_from (of_line line).0) ≡ values_set s = λ i line. (of_line line).2 i in (
           kind,
@@ -414,15 +459,20 @@ reads_lines (first ∷ rest) count n rising = by_first (first_line (words_of fir
             says = ap (λ (values : BoxLine → Values). conf_from kind values (backends_after [] all)) (sym same);
           },
         )
-    by_missing kind s (Some line) names stands rows e = inr (inr (kind, names, inr (rows, one_lacks kind all s line stands e, refl, refl)))
+    by_missing kind s (Some line) names stands rows e =
+        inr (inr (kind, names, inr (rows, one_lacks kind all s line stands e, refl, refl)))
 
-    by_lines : (kind : KindWord) (r : Result Settings LineFault) → Names all kind → Comes kind all r → Reads all count (conf_of count kind (backends_after [] all) r)
+    by_lines : (kind : KindWord) (r : Result Settings LineFault) → Names all kind → Comes kind all r
+        → Reads all count (conf_of count kind (backends_after [] all) r)
     by_lines kind (Ok s) names comes = by_missing kind s (missing_line kind s) names comes.0 comes.1 refl
     by_lines kind (Err fault) names comes = inr (inr (kind, names, inl comes))
 
-    by_first : (r : Result KindWord LineCause) → FirstSays (words_of first.1) r → Reads all count (and_kind count first.0 (backends_after [] all) r rest)
-    by_first (Ok kind) names = by_lines kind (set_lines kind no_settings rest) names (along kind all rest (first ∷ []) no_settings (first.0 + 1) (begins kind first rest n names.0 rising names.1))
+    by_first : (r : Result KindWord LineCause) → FirstSays (words_of first.1) r
+        → Reads all count (and_kind count first.0 (backends_after [] all) r rest)
+    by_first (Ok kind) names = by_lines kind (set_lines kind no_settings rest) names
+        (along kind all rest (first ∷ []) no_settings (first.0 + 1) (begins kind first rest n names.0 rising names.1))
     by_first (Err cause) fault = inr (inl (refl, fault))
 
 pub reads_text : (text : List ℕ) → Reads (counted_lines text) (length (lines_of text)) (described_box text)
-reads_text text = reads_lines (counted_lines text) (length (lines_of text)) 1 (counted_rise 1 (λ line. words_count (words_of line.1)) (lines_of text))
+reads_text text = reads_lines (counted_lines text) (length (lines_of text)) 1
+    (counted_rise 1 (λ line. words_count (words_of line.1)) (lines_of text))

@@ -1,5 +1,7 @@
--- The backends that a box file names: the row `backend` may stand again, but at most 64 times, and each time with another backend.
-use Rattle.std.specs.Prelude.{ℕ, ◌&&◌, ◌==◌, Bool, false, List, [], ◌∷◌, ◌++◌, length, nat_lt, if◌then◌else◌, Option, Some, None, Result, Ok, Err}
+-- The backends that a box file names: the row `backend` may stand again, but at most 64 times, and each time with
+-- another backend.
+use Rattle.std.specs.Prelude.{ℕ, ◌&&◌, ◌==◌, Bool, false, List, [], ◌∷◌, ◌++◌, length, nat_lt, if◌then◌else◌, Option}
+use Rattle.std.specs.Prelude.{Some, None, Result, Ok, Err}
 use Rattle.std.specs.List.{list_any}
 use Rattle.std.specs.Str.{bytes_eq}
 use Rattle.plain_text.specs.declared.fault.LineCause.{LineCause}
@@ -19,7 +21,8 @@ backend_from (Err cause) = None
 -- the backend that a line with these words names, if it is one of the row
 abbrev pub backend_of : List (List ℕ) → Option Backend
 backend_of [] = None
-backend_of (word ∷ words) = if bytes_eq word (word_of line.Backend) then backend_from (line_read line.Backend false words) else None
+backend_of (word ∷ words) =
+    if bytes_eq word (word_of line.Backend) then backend_from (line_read line.Backend false words) else None
 
 abbrev pub and_backend : List Backend → Option Backend → List Backend
 and_backend backends None = backends

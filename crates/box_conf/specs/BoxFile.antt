@@ -1,5 +1,5 @@
--- Box files. The first line that counts names the kind of the box, and the others, in any order, are lines of that kind's
--- table.
+-- Box files. The first line that counts names the kind of the box, and the others, in any order, are lines of that
+-- kind's table.
 use Rattle.std.specs.Prelude.{◌≡◌, ◌⊎◌, ℕ, ◌+◌, ◌<◌, ◌≤◌, List, [], ◌∷◌, length, slice_get, Some, None}
 use Rattle.std.specs.Str.Lines.{lines}
 use Rattle.plain_text.specs.declared.fault.LineCause.{LineCause}
@@ -17,7 +17,8 @@ use Rattle.box_conf.specs.Table.{row_of, values_from}
 -- the first line is `box KIND` with this kind
 abbrev pub Names : List (ℕ × List ℕ) → KindWord → Type 0
 Names [] kind = ⊥
-Names (first ∷ lines) kind = (n : ℕ) × LineSays (box_row ∷ []) (words_of first.1) box_row (n ∷ []) × (slice_get kinds n ≡ Some kind)
+Names (first ∷ lines) kind =
+    (n : ℕ) × LineSays (box_row ∷ []) (words_of first.1) box_row (n ∷ []) × (slice_get kinds n ≡ Some kind)
 
 -- the values of a line of a kind's file, or the usual ones where the line is not there
 abbrev pub Has : KindWord → List (ℕ × List ℕ) → BoxLine → List ℕ → Type 0
@@ -43,15 +44,18 @@ IsBoxFile text conf = IsDescribed text conf × (backend_fault [] (counted_lines 
 -- the first line has this number and does not name a kind, for this cause
 abbrev pub NamesNone : List (ℕ × List ℕ) → ℕ → LineCause → Type 0
 NamesNone [] number cause = ⊥
-NamesNone (first ∷ lines) number cause = (number ≡ first.0) × (line_fault (box_row ∷ []) (words_of first.1) ≡ Some cause)
+NamesNone (first ∷ lines) number cause =
+    (number ≡ first.0) × (line_fault (box_row ∷ []) (words_of first.1) ≡ Some cause)
 
--- there is no line that counts, and it is missed behind the last line; or the first names no kind; or a later one is the first
--- that leaves the table of the kind, or one that has to stand is missed behind the last
+-- there is no line that counts, and it is missed behind the last line; or the first names no kind; or a later one is
+-- the first that leaves the table of the kind, or one that has to stand is missed behind the last
 abbrev pub LeavesTable : List ℕ → ℕ → LineCause → Type 0
 LeavesTable text number cause =
     ((counted_lines text ≡ []) × (number ≡ length (lines text) + 1) × (cause ≡ MissingLine))
     ⊎ NamesNone (counted_lines text) number cause
-    ⊎ (kind : KindWord) × Names (counted_lines text) kind × FirstOfFile (rows_of kind) (counted_lines text) (length (lines text)) number cause
+    ⊎ (kind : KindWord)
+    × Names (counted_lines text) kind
+    × FirstOfFile (rows_of kind) (counted_lines text) (length (lines text)) number cause
 
 -- a line is the first that names a backend too many, or one again
 abbrev pub NamesInVain : List ℕ → ℕ → LineCause → Type 0
@@ -62,7 +66,9 @@ abbrev pub FirstFault : List ℕ → ℕ → LineCause → Type 0
 FirstFault text number cause = OfTable ⊎ OfBackends
   where
     OfTable : Type 0
-    OfTable = LeavesTable text number cause × ((other : ℕ) (why : LineCause) → NamesInVain text other why → number ≤ other)
+    OfTable =
+        LeavesTable text number cause × ((other : ℕ) (why : LineCause) → NamesInVain text other why → number ≤ other)
 
     OfBackends : Type 0
-    OfBackends = NamesInVain text number cause × ((other : ℕ) (why : LineCause) → LeavesTable text other why → number < other)
+    OfBackends =
+        NamesInVain text number cause × ((other : ℕ) (why : LineCause) → LeavesTable text other why → number < other)

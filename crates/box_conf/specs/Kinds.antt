@@ -1,6 +1,7 @@
--- The kinds of boxes: the word of each, the lines that its file may have, the box that they make, and what that box means.
--- It is the one place that ties a kind to a program: contracts of the commands speak of the meaning of the kind, and of no box
--- by name.
+-- The kinds of boxes: the word of each, the lines that its file may have, the box that they make, and what that box
+-- means.
+-- It is the one place that ties a kind to a program: contracts of the commands speak of the meaning of the kind, and of
+-- no box by name.
 use Rattle.std.specs.Prelude.{ℕ, ◌&&◌, true, false, List, [], ◌∷◌, map, find, codes, is_none, Option}
 use Rattle.std.specs.Str.{bytes_eq}
 use Rattle.plain_text.specs.Grammar.{Row, OneOf}
@@ -45,7 +46,8 @@ lines_of kind.Nat = Threads ∷ Seed ∷ Shards ∷ Inside ∷ Outside ∷ Ports
 lines_of kind.Balancer = Threads ∷ Seed ∷ Shards ∷ Virtual ∷ line.Backend ∷ []
 
 abbrev pub nat_from : (BoxLine → Values) → NatBox
-nat_from values = nat.box_with (values Shards).first (values Inside).first (values Inside).second (values Outside).first (values Ports).first (values Ports).second
+nat_from values = nat.box_with (values Shards).first (values Inside).first (values Inside).second (values Outside).first
+    (values Ports).first (values Ports).second
 
 -- the box, where the lines have these values and name these backends
 abbrev pub box_from : KindWord → (BoxLine → Values) → List Backend → BoxKind
@@ -76,7 +78,13 @@ line_named kind word = find (λ line. bytes_eq word (word_of line)) (lines_of ki
 
 -- the line `box KIND`, whose value is the kind's index
 abbrev pub box_row : Row
-box_row = record { word = codes "box"; places = OneOf (map kind_word kinds) ∷ []; fits = λ values. true; again = false; required = true }
+box_row = record {
+  word = codes "box";
+  places = OneOf (map kind_word kinds) ∷ [];
+  fits = λ values. true;
+  again = false;
+  required = true;
+}
 
 -- the table of a kind
 abbrev pub rows_of : KindWord → List Row
@@ -87,7 +95,8 @@ abbrev pub missing_line : KindWord → Settings → Option BoxLine
 missing_line kind settings = find (λ line. is_none (usual_of line) && is_none (setting settings line)) (lines_of kind)
 
 abbrev pub conf_from : KindWord → (BoxLine → Values) → List Backend → BoxConf
-conf_from kind values backends = record { threads = (values Threads).first; seed = (values Seed).first; kind = box_from kind values backends }
+conf_from kind values backends =
+    record { threads = (values Threads).first; seed = (values Seed).first; kind = box_from kind values backends }
 
 -- a kind whose file names backends
 abbrev pub IsBalancer : KindWord → Type 0

@@ -1,6 +1,7 @@
--- What the reader of box files does with each line. The law `a_text_is_one_box_file_or_has_a_fault` says that it comes to what
--- the relation of box files says.
-use Rattle.std.specs.Prelude.{ℕ, ◌+◌, List, [], ◌∷◌, length, codes, nat_lt, if◌then◌else◌, Option, Some, None, Result, Ok, Err}
+-- What the reader of box files does with each line. The law `a_text_is_one_box_file_or_has_a_fault` says that it comes
+-- to what the relation of box files says.
+use Rattle.std.specs.Prelude.{ℕ, ◌+◌, List, [], ◌∷◌, length, codes, nat_lt, if◌then◌else◌, Option, Some, None, Result}
+use Rattle.std.specs.Prelude.{Ok, Err}
 use Rattle.std.specs.Str.{bytes_eq}
 use Rattle.std.specs.Str.Lines.{lines}
 use Rattle.plain_text.specs.declared.fault.LineCause.{LineCause}
@@ -45,12 +46,14 @@ set_by k s (Some line) words = set_values s line (line_read line (has_stood s li
 -- the settings after a later line with these words
 abbrev pub set_line : KindWord → Settings → List (List ℕ) → Result Settings LineCause
 set_line k s [] = Err UnknownWord
-set_line k s (word ∷ words) = if bytes_eq word (codes "box") then second_box (box_line words) else set_by k s (line_named k word) words
+set_line k s (word ∷ words) =
+    if bytes_eq word (codes "box") then second_box (box_line words) else set_by k s (line_named k word) words
 
 abbrev pub fault_at : ℕ → LineCause → LineFault
 fault_at line cause = record { line = line; cause = cause }
 
-abbrev pub and_lines : ℕ → Result Settings LineCause → (Settings → Result Settings LineFault) → Result Settings LineFault
+abbrev pub and_lines : ℕ → Result Settings LineCause → (Settings → Result Settings LineFault)
+    → Result Settings LineFault
 and_lines number (Ok next) more = more next
 and_lines number (Err cause) more = Err (fault_at number cause)
 
@@ -60,7 +63,16 @@ set_lines k s [] = Ok s
 set_lines k s (line ∷ lines) = and_lines line.0 (set_line k s (words_of line.1)) (λ next. set_lines k next lines)
 
 abbrev pub no_settings : Settings
-no_settings = record { threads = None; seed = None; shards = None; inside = None; outside = None; ports = None; virtual_end = None; backend = None }
+no_settings = record {
+  threads = None;
+  seed = None;
+  shards = None;
+  inside = None;
+  outside = None;
+  ports = None;
+  virtual_end = None;
+  backend = None;
+}
 
 -- the box of these settings, if no line is missing, where the file has this count of lines
 abbrev pub whole_box : ℕ → KindWord → List Backend → Settings → Option BoxLine → Result BoxConf LineFault
@@ -78,7 +90,8 @@ and_kind count line backends (Err cause) lines = Err (fault_at line cause)
 -- the lines that count, of a file with this count of lines
 abbrev pub box_of_lines : ℕ → List (ℕ × List ℕ) → Result BoxConf LineFault
 box_of_lines count [] = Err (fault_at (count + 1) MissingLine)
-box_of_lines count (line ∷ lines) = and_kind count line.0 (backends_after [] (line ∷ lines)) (first_line (words_of line.1)) lines
+box_of_lines count (line ∷ lines) =
+    and_kind count line.0 (backends_after [] (line ∷ lines)) (first_line (words_of line.1)) lines
 
 -- the box that a file describes by the table of its kind, or the first fault by it
 abbrev pub described_box : List ℕ → Result BoxConf LineFault

@@ -1,11 +1,13 @@
 -- What the lines of a box file have set, as the reader keeps it.
-use Rattle.std.specs.Prelude.{◌≡◌, ℕ, ◌^◌, ◌<◌, ◌≤◌, Option, Some, None, ◌||◌, ◌&&◌, List, [], not, is_some, unwrap_or, if◌then◌else◌, Bool, true, false, Result, Ok, Err, IfSome}
+use Rattle.std.specs.Prelude.{◌≡◌, ℕ, ◌^◌, ◌<◌, ◌≤◌, Option, Some, None, ◌||◌, ◌&&◌, List, [], not, is_some, unwrap_or}
+use Rattle.std.specs.Prelude.{if◌then◌else◌, Bool, true, false, Result, Ok, Err, IfSome}
 use Rattle.plain_text.specs.declared.fault.LineCause.{LineCause}
 use Rattle.plain_text.specs.declared.fault.LineCause.TheVariants.{OutOfRange, Twice}
 use Rattle.plain_text.specs.Grammar.{form_fault, range_fault, row_fault, values_in}
 use Rattle.box_conf.specs.declared.settings.Settings.{Settings}
 use Rattle.box_conf.specs.declared.table.BoxLine.{BoxLine}
-use Rattle.box_conf.specs.declared.table.BoxLine.TheVariants.{Threads, Seed, Shards, Inside, Outside, Ports, Virtual, Backend}
+use Rattle.box_conf.specs.declared.table.BoxLine.TheVariants.{Threads, Seed, Shards, Inside, Outside, Ports, Virtual}
+use Rattle.box_conf.specs.declared.table.BoxLine.TheVariants.{Backend}
 use Rattle.box_conf.specs.declared.table.Places.{Places}
 use Rattle.box_conf.specs.declared.table.Values.{Values}
 use Rattle.box_conf.specs.Table.{again_of, all_places, are_within, fits_of, places_of, row_of, usual_of, values_from}
@@ -63,7 +65,8 @@ once None false values = Ok values
 
 -- the values of a line's words after its first, or the first fault
 abbrev pub line_read : BoxLine → Bool → List (List ℕ) → Result Values LineCause
-line_read line had words = once (row_fault (Some (row_of line)) words) had (values_from (values_in (row_of line).places words))
+line_read line had words =
+    once (row_fault (Some (row_of line)) words) had (values_from (values_in (row_of line).places words))
 
 -- the settings with what a line gave
 abbrev pub set_values : Settings → BoxLine → Result Values LineCause → Result Settings LineCause

@@ -1,12 +1,14 @@
--- The lines of box files that set values, as a table: the word of each, what stands after it, how its values fit one another, and
--- the usual values. Each may stand once, but for `backend`, and has to stand where it has no usual values.
-use Rattle.std.specs.Prelude.{ℕ, ◌-◌, ◌^◌, ◌&&◌, Bool, true, false, List, [], ◌∷◌, codes, is_none, nat_le, slice_index, Option, Some, None}
+-- The lines of box files that set values, as a table: the word of each, what stands after it, how its values fit one
+-- another, and the usual values. Each may stand once, but for `backend`, and has to stand where it has no usual values.
+use Rattle.std.specs.Prelude.{ℕ, ◌-◌, ◌^◌, ◌&&◌, Bool, true, false, List, [], ◌∷◌, codes, is_none, nat_le, slice_index}
+use Rattle.std.specs.Prelude.{Option, Some, None}
 use Rattle.plain_text.specs.declared.field.Field.{Field}
 use Rattle.plain_text.specs.declared.field.Field.TheVariants as field
 use Rattle.plain_text.specs.Grammar.{Place, Row, is_within}
 use Rattle.plain_text.specs.Grammar as place
 use Rattle.box_conf.specs.declared.table.BoxLine.{BoxLine}
-use Rattle.box_conf.specs.declared.table.BoxLine.TheVariants.{Threads, Seed, Shards, Inside, Outside, Ports, Virtual, Backend}
+use Rattle.box_conf.specs.declared.table.BoxLine.TheVariants.{Threads, Seed, Shards, Inside, Outside, Ports, Virtual}
+use Rattle.box_conf.specs.declared.table.BoxLine.TheVariants.{Backend}
 use Rattle.box_conf.specs.declared.table.LinePlace.{LinePlace}
 use Rattle.box_conf.specs.declared.table.LinePlace.TheVariants.{Number, Address}
 use Rattle.box_conf.specs.declared.table.Places.{Places}
@@ -83,7 +85,8 @@ all_places (Two first second) = grammar_place first ∷ grammar_place second ∷
 
 abbrev pub are_within : Places → Values → Bool
 are_within (One place) values = is_within (grammar_place place) values.first
-are_within (Two first second) values = is_within (grammar_place first) values.first && is_within (grammar_place second) values.second
+are_within (Two first second) values =
+    is_within (grammar_place first) values.first && is_within (grammar_place second) values.second
 
 -- the values of a line as a pair, where those that are not there are 0
 abbrev pub values_from : List ℕ → Values

@@ -1,6 +1,7 @@
 ghost use Rattle.std.specs.Prelude.{◌≡◌, ◌<◌, ◌≤◌, [], Some, None, IfOk, IfErr, length};
 ghost use Rattle.plain_text.specs.Lines.{counted_lines};
-ghost use Rattle.box_conf.specs.Backends.{backend_of, backend_cause, backend_fault, backends_after, has_backend};
+ghost use Rattle.box_conf.specs.Backends.{backend_of, backend_cause, backend_fault, backends_after};
+ghost use Rattle.box_conf.specs.Backends.{has_backend};
 
 use crate::conf::fault_at;
 use crate::settings::read_line;

@@ -3,7 +3,8 @@ ghost use Rattle.plain_text.specs.Lines.{counted_lines};
 ghost use Rattle.box_conf.specs.Backends.{backends_after};
 ghost use Rattle.box_conf.specs.Kinds.{conf_from, missing_line, IsBalancer};
 ghost use Rattle.box_conf.specs.BoxFile.{IsBoxFile, FirstFault};
-ghost use Rattle.box_conf.specs.Reading.{box_of, described_box, earlier, box_line, first_line, set_line};
+ghost use Rattle.box_conf.specs.Reading.{box_of, described_box, earlier, box_line, first_line};
+ghost use Rattle.box_conf.specs.Reading.{set_line};
 ghost use Rattle.box_conf.specs.Settings.{AreInRange, values_set};
 
 use crate::backends::read_backends;
@@ -18,8 +19,8 @@ const BOX: &[u8] = b"box";
 
 /// Reads a box file, or names its first fault. It takes no memory.
 ///
-/// Its first line that counts is `box KIND`, where the kind is `count`, `monitor`, `nat` or `balancer`; the others come in any order, each
-/// at most once, but for `backend`.
+/// Its first line that counts is `box KIND`, where the kind is `count`, `monitor`, `nat` or `balancer`; the others come
+/// in any order, each at most once, but for `backend`.
 ///
 /// | Line | Kinds | Range | Where it is not there |
 /// |---|---|---|---|
@@ -39,7 +40,8 @@ pub fn read_box(text: &[u8]) -> Result<BoxConf, LineFault>
     read_both(text)
 }
 
-/// The same, by the steps of the reader: what the lines set, and the backends that they name; of two faults the earlier one.
+/// The same, by the steps of the reader: what the lines set, and the backends that they name; of two faults the earlier
+/// one.
 fn read_both(text: &[u8]) -> Result<BoxConf, LineFault>
     ensures value { result ≡ box_of text.now }
     ensures threads { IfOk result (λ conf. (1 ≤ conf.threads) × (conf.threads ≤ 16)) }

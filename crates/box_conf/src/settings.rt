@@ -1,6 +1,8 @@
 ghost use Rattle.std.specs.Prelude.{◌≡◌, IfOk, IfErr, IsTrue, Some};
 ghost use Rattle.plain_text.specs.Grammar.{form_fault};
-ghost use Rattle.box_conf.specs.Settings.{setting, with_setting, has_stood, values_set, values_fault, line_read, once, AreRead, AreInRange, IsWithin, has_values};
+ghost use Rattle.box_conf.specs.Settings.{setting, with_setting, has_stood, values_set};
+ghost use Rattle.box_conf.specs.Settings.{values_fault, line_read, once, AreRead, AreInRange};
+ghost use Rattle.box_conf.specs.Settings.{IsWithin, has_values};
 ghost use Rattle.box_conf.specs.Table.{all_places};
 ghost use Rattle.box_conf.specs.declared.table.Places.TheVariants.{One, Two};
 

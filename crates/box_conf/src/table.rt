@@ -1,6 +1,7 @@
 ghost use Rattle.std.specs.Prelude.{◌≡◌, option_map};
 ghost use Rattle.plain_text.specs.Grammar.{is_within};
-ghost use Rattle.box_conf.specs.Table.{word_of, grammar_place, places_of, again_of, field_of, are_within, usual_of, fits_of, values_from};
+ghost use Rattle.box_conf.specs.Table.{word_of, grammar_place, places_of, again_of, field_of};
+ghost use Rattle.box_conf.specs.Table.{are_within, usual_of, fits_of, values_from};
 
 use plain_text::Field;
 

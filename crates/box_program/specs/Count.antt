@@ -1,5 +1,6 @@
 -- The box that counts: one number, which grows by one at each packet and is written into it.
-use Rattle.std.specs.Prelude.{◌≡◌, ℕ, zero, suc, ◌+◌, ◌-◌, ◌%◌, ◌^◌, ◌<◌, List, ◌++◌, length, take, drop, slice_set, slice_index, replicate, nat_lt, ◌==◌, if◌then◌else◌, decimal}
+use Rattle.std.specs.Prelude.{◌≡◌, ℕ, zero, suc, ◌+◌, ◌-◌, ◌%◌, ◌^◌, ◌<◌, List, ◌++◌, length, take, drop, slice_set}
+use Rattle.std.specs.Prelude.{slice_index, replicate, nat_lt, ◌==◌, if◌then◌else◌, decimal}
 use Rattle.std.specs.Int.{to_be_bytes, w32}
 use Rattle.plain_machine.specs.declared.local.Move.{Move}
 use Rattle.plain_machine.specs.declared.local.Move.TheVariants.{Access, Read, Emit, End}
@@ -17,7 +18,8 @@ one_more n = (n + 1) % 2 ^ 64
 
 -- bytes 2 to 5 are the low 32 bits of the number, big-endian; fewer than 6 bytes stay as they are
 abbrev pub numbered : List ℕ → ℕ → List ℕ
-numbered bytes n = if nat_lt (length bytes) 6 then bytes else take 2 bytes ++ to_be_bytes w32 (n % 2 ^ 32) ++ drop 6 bytes
+numbered bytes n =
+    if nat_lt (length bytes) 6 then bytes else take 2 bytes ++ to_be_bytes w32 (n % 2 ^ 32) ++ drop 6 bytes
 
 abbrev pub count_meaning : Meaning ℕ
 count_meaning = record {

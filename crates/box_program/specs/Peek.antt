@@ -1,5 +1,6 @@
 -- The box for tests that counts packets of an even number of bytes, and shows the number to the others.
-use Rattle.std.specs.Prelude.{◌≡◌, ℕ, zero, suc, ◌-◌, ◌%◌, ◌<◌, length, slice_set, slice_index, replicate, ◌==◌, if◌then◌else◌, decimal}
+use Rattle.std.specs.Prelude.{◌≡◌, ℕ, zero, suc, ◌-◌, ◌%◌, ◌<◌, length, slice_set, slice_index, replicate, ◌==◌}
+use Rattle.std.specs.Prelude.{if◌then◌else◌, decimal}
 use Rattle.plain_machine.specs.declared.local.Move.{Move}
 use Rattle.plain_machine.specs.declared.local.Move.TheVariants.{Access, Read, Emit, End}
 use Rattle.plain_machine.specs.Program.{Meaning, IsLawful}

@@ -16,8 +16,8 @@ const ENDS: u32 = 2;
 
 /// The box `count`: it counts packets in one variable, and writes each packet's number into the packet.
 ///
-/// A packet touches variable 0, which grows by 1 modulo 2^64, and goes out with the low 32 bits of the new number in its
-/// bytes 2 to 5, big-endian; a packet of fewer than 6 bytes goes out unchanged.
+/// A packet touches variable 0, which grows by 1 modulo 2^64, and goes out with the low 32 bits of the new number in
+/// its bytes 2 to 5, big-endian; a packet of fewer than 6 bytes goes out unchanged.
 #[derive(Debug, Drop)]
 pub struct CountBox {}
 

@@ -17,8 +17,8 @@ const EMITS: u32 = 2;
 
 const ENDS: u32 = 3;
 
-/// A program for tests: as the box `count`, but a packet with an odd number of bytes reads variable 0 in place of touching
-/// it, and goes out with the number that it found.
+/// A program for tests: as the box `count`, but a packet with an odd number of bytes reads variable 0 in place of
+/// touching it, and goes out with the number that it found.
 #[derive(Debug, Drop)]
 pub struct PeekBox {}
 

@@ -6,7 +6,8 @@ use plain_machine::{Local, Move};
 use plain_text::{Bytes, NoMemory, Packet, Text};
 use std::alloc::Global;
 
-/// A box program: the shared variables that live on between packets, and what is done with a packet, one move at a time.
+/// A box program: the shared variables that live on between packets, and what is done with a packet, one move at a
+/// time.
 ///
 /// What its calls mean is a ghost member on plain data, so that code for any program is proved once. A program has 1 to
 /// 256 variables, and ends a packet after at most 62 moves between its take and its end.
@@ -57,7 +58,8 @@ pub trait Program: Drop {
         requires fits { fits self.now var value.now }
         ensures { local.new ≡ (meaning self.now).look var value.now local.old };
 
-    /// Tells the time, in microseconds, or the random word that was asked for. A program that never asks is told nothing.
+    /// Tells the time, in microseconds, or the random word that was asked for. A program that never asks is told
+    /// nothing.
     fn told(&self, answer: u64, local: &mut Local)
         ensures { local.new ≡ (meaning self.now).told answer local.old };
 

@@ -9,8 +9,11 @@ use Rattle.job_commands.specs.Words.{asked}
 use Rattle.command_line.specs.Printing.{asked_text}
 use Rattle.command_line.specs.Words.{words_of}
 
-pub no_command : {Y Z E : Type 0} (arguments : Result (IntoIter (String Y) Z) E) (texts words : List (List ℕ)) (s : Status) → IfOk arguments (λ all. texts ≡ words_of all) → words ≡ texts
+pub no_command : {Y Z E : Type 0} (arguments : Result (IntoIter (String Y) Z) E) (texts words : List (List ℕ))
+    (s : Status) → IfOk arguments (λ all. texts ≡ words_of all) → words ≡ texts
     → (asked words ≡ None → asked_text words ≡ None → s ≡ BadWords)
-    → IfOk arguments (λ all. asked (words_of all) ≡ None → asked_text (words_of all) ≡ None → (s ≡ BadWords) ⊎ (s ≡ NoMemory))
-no_command (Ok all) texts words s same copied none = λ command text. inl (none (ap asked (copied ∙ same) ∙ command) (ap asked_text (copied ∙ same) ∙ text))
+    → IfOk arguments
+    (λ all. asked (words_of all) ≡ None → asked_text (words_of all) ≡ None → (s ≡ BadWords) ⊎ (s ≡ NoMemory))
+no_command (Ok all) texts words s same copied none =
+    λ command text. inl (none (ap asked (copied ∙ same) ∙ command) (ap asked_text (copied ∙ same) ∙ text))
 no_command (Err error) texts words s same copied none = tt

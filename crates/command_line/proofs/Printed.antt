@@ -6,7 +6,8 @@ use Rattle.job_commands.specs.declared.status.Status.{Status}
 use Rattle.job_commands.specs.declared.status.Status.TheVariants.{Done}
 use Rattle.command_line.specs.Printing.{Prints}
 
-pub prints_whole : (text : List ℕ) (status : Status) (old new : Shown) → HasWritten (Reports text ∷ []) old new → Prints text status old new
+pub prints_whole : (text : List ℕ) (status : Status) (old new : Shown) → HasWritten (Reports text ∷ []) old new
+    → Prints text status old new
 prints_whole text status old new written = record {
   part = text;
   more = [];
@@ -16,7 +17,8 @@ prints_whole text status old new written = record {
   names = written.names;
 }
 
-pub prints_prefix : (text : List ℕ) (status : Status) (old new : Shown) → ¬ (status ≡ Done) → HasBegun (Reports text ∷ []) old new → Prints text status old new
+pub prints_prefix : (text : List ℕ) (status : Status) (old new : Shown) → ¬ (status ≡ Done)
+    → HasBegun (Reports text ∷ []) old new → Prints text status old new
 prints_prefix text status old new fails begun = go begun.done begun.cut begun.written
   where
     go : (done : List Write) → IsCut done (Reports text ∷ []) → HasWritten done old new → Prints text status old new
@@ -29,11 +31,13 @@ prints_prefix text status old new fails begun = go begun.done begun.cut begun.wr
       names = written.names;
     }
     go (first ∷ write ∷ more) (inl (same, cut)) written = absurd cut
-    go (first ∷ []) (inl (same, cut)) written = prints_whole text status old new (subst (λ (w : Write). HasWritten (w ∷ []) old new) same written)
+    go (first ∷ []) (inl (same, cut)) written =
+        prints_whole text status old new (subst (λ (w : Write). HasWritten (w ∷ []) old new) same written)
     go (Creates name ∷ more) (inr (part, none)) written = absurd part
     go (Appends name bytes ∷ more) (inr (part, none)) written = absurd part
     go (Reports bytes ∷ more) (inr (part, none)) written =
-        let is : HasWritten (Reports bytes ∷ []) old new = subst (λ (l : List Write). HasWritten (Reports bytes ∷ l) old new) none written in
+        let is : HasWritten (Reports bytes ∷ []) old new =
+        subst (λ (l : List Write). HasWritten (Reports bytes ∷ l) old new) none written in
         record {
           part = bytes;
           more = part.0;

@@ -4,7 +4,8 @@ use Rattle.world_io.specs.World.{Shown}
 use Rattle.job_commands.specs.declared.status.Status.{Status}
 use Rattle.job_commands.specs.declared.status.Status.TheVariants.{Done, TooLarge}
 use Rattle.plain_text.specs.declared.limit.Limit.{Limit}
-use Rattle.job_top.specs.Commands.{Leaves, LeavesInOrder, StopsAtLimit, JudgesInputsOf, AcceptsInputsOf, CompletesAs, KeepsNames}
+use Rattle.job_top.specs.Commands.{Leaves, LeavesInOrder, StopsAtLimit, JudgesInputsOf, AcceptsInputsOf, CompletesAs}
+use Rattle.job_top.specs.Commands.{KeepsNames}
 use Rattle.run_writes.specs.Run.{KeepsShown}
 use Rattle.job_top.specs.Headline.{KeepsPromiseOf}
 use Rattle.job_commands.specs.Status.{stage_of, stage_of_limit, AtInputs, AtOutputs}

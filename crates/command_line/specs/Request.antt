@@ -7,5 +7,6 @@ use Rattle.command_line.specs.declared.request.Request.TheVariants.{Help, Versio
 -- help or the version where the one and only word asks for it, and else a command
 abbrev pub request_of : List (List ℕ) → Request
 request_of [] = Command
-request_of (word ∷ []) = if bytes_eq word (codes "--help") then Help else if bytes_eq word (codes "--version") then Version else Command
+request_of (word ∷ []) =
+    if bytes_eq word (codes "--help") then Help else if bytes_eq word (codes "--version") then Version else Command
 request_of (first ∷ second ∷ more) = Command

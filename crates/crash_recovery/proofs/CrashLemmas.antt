@@ -17,24 +17,46 @@ module _ {P V : Type 0} (m : Meaning V) (s : Setting V) (w : World V) (y : Parts
   down_stays down = (w, ((inl (sym st.master.up ∙ down, refl, refl), refl), st.within), st)
 
   -- one that is up crashes, and the snapshot under way is lost
-  pub crashes : (store : Snapshots V) → y.up ≡ true → store.stored ≡ y.store.stored → store.copy ≡ None → (next : World V) × ComesTo event.Crash outcome.Crashed s w next × StandsFor m s next (record y { up = false; store = store })
+  pub crashes : (store : Snapshots V) → y.up ≡ true → store.stored ≡ y.store.stored → store.copy ≡ None → (next : World
+      V) × ComesTo event.Crash outcome.Crashed s w next × StandsFor m s next (record y { up = false; store = store })
   crashes store up same none = (
     next,
     on,
     record {
       sound = within_sound s w event.Crash outcome.Crashed [] next st.sound on;
       within = st.within;
-      inputs = record { meaning = st.inputs.meaning; fractions = st.inputs.fractions; inputs = st.inputs.inputs; left = st.inputs.left; clock = st.inputs.clock; generator = st.inputs.generator };
-      master = record { up = refl; stands = st.master.stands; schedule = st.master.schedule; past = st.master.past; moves = st.master.moves; bytes = st.master.bytes };
+      inputs = record {
+        meaning = st.inputs.meaning;
+        fractions = st.inputs.fractions;
+        inputs = st.inputs.inputs;
+        left = st.inputs.left;
+        clock = st.inputs.clock;
+        generator = st.inputs.generator;
+      };
+      master = record {
+        up = refl;
+        stands = st.master.stands;
+        schedule = st.master.schedule;
+        past = st.master.past;
+        moves = st.master.moves;
+        bytes = st.master.bytes;
+      };
       snapshots = record {
-        first = subst (λ (x : Snapshot V). IsSnapshot s y.sent y.logger.released w.stored x) (sym same) st.snapshots.first;
+        first =
+            subst (λ (x : Snapshot V). IsSnapshot s y.sent y.logger.released w.stored x) (sym same) st.snapshots.first;
         copied = λ moment is. absurd (cc);
         none = λ is. none;
       };
       ended = st.ended;
       guide = st.guide;
       sent = st.sent;
-      logger = record { epoch = st.logger.epoch; holds = st.logger.holds; held = st.logger.held; waiting = st.logger.waiting; released = st.logger.released };
+      logger = record {
+        epoch = st.logger.epoch;
+        holds = st.logger.holds;
+        held = st.logger.held;
+        waiting = st.logger.waiting;
+        released = st.logger.released;
+      };
       released = st.released;
     },
   )
@@ -46,7 +68,10 @@ module _ {P V : Type 0} (m : Meaning V) (s : Setting V) (w : World V) (y : Parts
       on = ((inr (sym st.master.up ∙ up, refl, refl), refl), st.within)
 
 -- the same, for the parts as they were
-pub crash_moves : {P V : Type 0} (meaning : P → Meaning V) (y old : Parts P V) (store : Snapshots V) → y ≡ old → y.up ≡ true → store.stored ≡ y.store.stored → store.copy ≡ None
+pub crash_moves : {P V : Type 0} (meaning : P → Meaning V) (y old : Parts P V) (store : Snapshots V) → y ≡ old
+    → y.up ≡ true → store.stored ≡ y.store.stored → store.copy ≡ None
     → MovesOn (meaning old.program) (ComesTo event.Crash outcome.Crashed) old (record y { up = false; store = store })
 crash_moves {P} {V} meaning y old store same up kept none =
-    subst (λ (z : Parts P V). MovesOn (meaning z.program) (ComesTo event.Crash outcome.Crashed) z (record y { up = false; store = store })) same (refl, λ s w st. crashes (meaning y.program) s w y st store up kept none)
+    subst (λ (z : Parts P V).
+    MovesOn (meaning z.program) (ComesTo event.Crash outcome.Crashed) z (record y { up = false; store = store })) same
+    (refl, λ s w st. crashes (meaning y.program) s w y st store up kept none)

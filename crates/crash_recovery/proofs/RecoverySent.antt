@@ -1,5 +1,6 @@
 -- What was sent, as it is after a recovery: the lengths of what the stored snapshot made, and its outputs sent again.
-use Rattle.std.proofs.Common.{◌≡◌, ℕ, zero, suc, ◌+◌, ◌<◌, ◌≤◌, List, [], ◌∷◌, length, take, refl, sym, ap, ◌∙◌, subst, inl, inr, ◌⊎◌, arith, Some, None}
+use Rattle.std.proofs.Common.{◌≡◌, ℕ, zero, suc, ◌+◌, ◌<◌, ◌≤◌, List, [], ◌∷◌, length, take, refl, sym, ap, ◌∙◌, subst}
+use Rattle.std.proofs.Common.{inl, inr, ◌⊎◌, arith, Some, None}
 use Rattle.std.specs.Prelude.{slice_get, slice_index}
 use Rattle.std.proofs.lemmas.Bool.{cases_lt}
 use Rattle.std.proofs.lemmas.List.{length-take-le}
@@ -33,7 +34,8 @@ use Rattle.recovery_laws.proofs.SoundParts.{sent_after}
 use Rattle.recovery_laws.proofs.Settlings.{number_high}
 use Rattle.recovery_laws.proofs.Finishes.{sends_thread}
 use Rattle.recovery_laws.proofs.OneOutcome.{output_one}
-use Rattle.sent_frames.specs.Sending.{Sending, lengths_of, length_at, entry_size, output_size, entry_address, output_address, HasOutputFrame}
+use Rattle.sent_frames.specs.Sending.{Sending, lengths_of, length_at, entry_size, output_size, entry_address}
+use Rattle.sent_frames.specs.Sending.{output_address, HasOutputFrame}
 use Rattle.system_parts.specs.SystemStanding.{IsSentEntry, IsSentOutput, HasSent, IsKeptOutput, IsSnapshot}
 use Rattle.crash_recovery.specs.Recovering.{TurnsLinks, SendsRest}
 use Rattle.system_parts.proofs.OutputNumbers.{output_there}
@@ -46,12 +48,15 @@ get_taken (x ∷ xs) zero n size low is = absurd (omega (arith, low))
 get_taken (x ∷ xs) (suc k) zero size low is = is
 get_taken (x ∷ xs) (suc k) (suc n) size low is = get_taken xs k n size (omega (arith, low)) is
 
-length_cut : (old new : List (List ℕ)) (t n k size : ℕ) → lengths_of new t ≡ take k (lengths_of old t) → n ≤ k → length_at old t n ≡ Some size → length_at new t n ≡ Some size
+length_cut : (old new : List (List ℕ)) (t n k size : ℕ) → lengths_of new t ≡ take k (lengths_of old t) → n ≤ k
+    → length_at old t n ≡ Some size → length_at new t n ≡ Some size
 length_cut old new t zero k size cut low is = absurd (cc)
-length_cut old new t (suc n) k size cut low is = subst (λ (l : List ℕ). slice_get l n ≡ Some size) (sym cut) (get_taken (lengths_of old t) k n size (omega (arith, low)) is)
+length_cut old new t (suc n) k size cut low is = subst (λ (l : List ℕ). slice_get l n ≡ Some size) (sym cut)
+    (get_taken (lengths_of old t) k n size (omega (arith, low)) is)
 
 -- A thread that there is none of sends nothing.
-no_outputs : {V : Type 0} (m : Meaning V) (inputs : ℕ → List Packet) (threads : ℕ) (steps : List (Step V)) (t : ℕ) → IsHistory m inputs threads steps → threads ≤ t → outputs t (sent_of steps) ≡ 0
+no_outputs : {V : Type 0} (m : Meaning V) (inputs : ℕ → List Packet) (threads : ℕ) (steps : List (Step V)) (t : ℕ)
+    → IsHistory m inputs threads steps → threads ≤ t → outputs t (sent_of steps) ≡ 0
 no_outputs m inputs threads steps t h high = go (cases_lt 0 (outputs t (sent_of steps)))
   where
     go : (0 < outputs t (sent_of steps)) ⊎ (outputs t (sent_of steps) ≤ 0) → outputs t (sent_of steps) ≡ 0
@@ -63,7 +68,8 @@ no_outputs m inputs threads steps t h high = go (cases_lt 0 (outputs t (sent_of 
         absurd (omega (arith, low, own, high))
 
 -- Stamps of an earlier moment
-module _ {V : Type 0} (m : Meaning V) (inputs : ℕ → List Packet) (threads : ℕ) (past stored : List (Step V)) (legal : IsHistory m inputs threads past) (early : IsEarlier stored past) where
+module _ {V : Type 0} (m : Meaning V) (inputs : ℕ → List Packet) (threads : ℕ) (past stored : List (Step V))
+    (legal : IsHistory m inputs threads past) (early : IsEarlier stored past) where
   stored_legal : IsHistory m inputs threads stored
   stored_legal = earlier_history m inputs threads stored past early legal
 
@@ -73,33 +79,44 @@ module _ {V : Type 0} (m : Meaning V) (inputs : ℕ → List Packet) (threads : 
   past_log : IsLog (log_of past)
   past_log = history_log m inputs threads past legal
 
-  stamp_back : (e : Entry) (r : ℕ → ℕ) → IsIn e (log_of stored) → IsStamp (log_of past) e r → IsStamp (log_of stored) e r
+  stamp_back : (e : Entry) (r : ℕ → ℕ) → IsIn e (log_of stored) → IsStamp (log_of past) e r
+      → IsStamp (log_of stored) e r
   stamp_back e r i st =
-      closed_stamp (log_of past) (log_of stored) (log_of stored) e r (moment_closed m inputs threads past stored legal early) (λ x k. earlier_log stored past x early k) (λ x y a b n. a) (λ x k. k) i st
+      closed_stamp (log_of past) (log_of stored) (log_of stored) e r
+      (moment_closed m inputs threads past stored legal early) (λ x k. earlier_log stored past x early k)
+      (λ x y a b n. a) (λ x k. k) i st
 
-  output_back : (t n : ℕ) (r : ℕ → ℕ) → n ≤ entries t (log_of stored) → IsOutputStamp (log_of past) t n r → IsOutputStamp (log_of stored) t n r
+  output_back : (t n : ℕ) (r : ℕ → ℕ) → n ≤ entries t (log_of stored) → IsOutputStamp (log_of past) t n r
+      → IsOutputStamp (log_of stored) t n r
   output_back t zero r low st = first_is_zero (log_of stored) t r stored_log (zero_first (log_of past) t r past_log st)
   output_back t (suc n) r low st =
       let k = entry_there (log_of stored) t (suc n) stored_log (omega arith) low in
-      output_stamp_is (log_of stored) t (suc n) k.0 r stored_log k.1 k.2 k.3
-      (stamp_back k.0 r k.1 (output_stamp_of (log_of past) t (suc n) k.0 r past_log (earlier_log stored past k.0 early k.1) k.2 k.3 st))
+      output_stamp_is (log_of stored) t (suc n) k.0 r stored_log k.1 k.2 k.3 (stamp_back k.0 r k.1
+      (output_stamp_of (log_of past) t (suc n) k.0 r past_log (earlier_log stored past k.0 early k.1) k.2 k.3 st))
 
   few_entries : (t : ℕ) → entries t (log_of stored) ≤ entries t (log_of past)
   few_entries t = go (cases_lt (entries t (log_of past)) (entries t (log_of stored)))
     where
-      go : (entries t (log_of past) < entries t (log_of stored)) ⊎ (entries t (log_of stored) ≤ entries t (log_of past)) → entries t (log_of stored) ≤ entries t (log_of past)
+      go : (entries t (log_of past) < entries t (log_of stored)) ⊎ (entries t (log_of stored) ≤ entries t (log_of past))
+          → entries t (log_of stored) ≤ entries t (log_of past)
       go (inr low) = low
       go (inl high) =
-          let g = entry_there (log_of stored) t (entries t (log_of stored)) stored_log (omega (arith, high)) (omega arith) in
+          let g =
+          entry_there (log_of stored) t (entries t (log_of stored)) stored_log (omega (arith, high)) (omega arith) in
           let k = (number_within (log_of past) g.0 past_log (earlier_log stored past g.0 early g.1)).1 in
-          let most : g.0.number ≤ entries t (log_of past) = subst (λ (u : ℕ). g.0.number ≤ entries u (log_of past)) g.2 k in
+          let most : g.0.number ≤ entries t (log_of past) =
+          subst (λ (u : ℕ). g.0.number ≤ entries u (log_of past)) g.2 k in
           let is : g.0.number ≡ entries t (log_of stored) = g.3 in
           absurd (omega (arith, most, is, high))
 
 -- What was sent
-module _ {V : Type 0} (s : Setting V) (w : World V) (sound : Sound s w) (held now_held : List Lane) (released now_released : List Numbers) (old mid new : Sending) (snap : Snapshot V)
-    (kept : IsSnapshot s old released w.stored snap) (turns : TurnsLinks snap.master s.threads old mid) (rest : SendsRest now_released snap.outbox mid new)
-    (marks : (t n : ℕ) → WasMarked released t n → WasMarked now_released t n) (covered : (t : ℕ) → (lane now_held t).covered ≡ entries t (log_of w.stored)) (h : HasSent w.epoch w.past held released old) where
+module _ {V : Type 0} (s : Setting V) (w : World V) (sound : Sound s w) (held now_held : List Lane)
+    (released now_released : List Numbers) (old mid new : Sending) (snap : Snapshot V)
+    (kept : IsSnapshot s old released w.stored snap) (turns : TurnsLinks snap.master s.threads old mid)
+    (rest : SendsRest now_released snap.outbox mid new)
+    (marks : (t n : ℕ) → WasMarked released t n → WasMarked now_released t n)
+    (covered : (t : ℕ) → (lane now_held t).covered ≡ entries t (log_of w.stored))
+    (h : HasSent w.epoch w.past held released old) where
   legal : IsHistory s.meaning (inputs_fed s w.fed) s.threads w.past
   legal = sound.firm.legal
 
@@ -112,37 +129,55 @@ module _ {V : Type 0} (s : Setting V) (w : World V) (sound : Sound s w) (held no
   blank : ThreadPart
   blank = record { counts = record { taken = 0; entries = 0; outputs = 0 }; hand = None; stamp = [] }
 
-  cut_entries : (t : ℕ) → t < s.threads → lengths_of new.entries t ≡ take (entries t (log_of w.stored)) (lengths_of old.entries t)
+  cut_entries : (t : ℕ) → t < s.threads
+      → lengths_of new.entries t ≡ take (entries t (log_of w.stored)) (lengths_of old.entries t)
   cut_entries t low =
       ap (λ (l : List (List ℕ)). lengths_of l t) rest.entries
-      ∙ (turns.entries t low blank ∙ ap (λ (k : ℕ). take k (lengths_of old.entries t)) (kept.stands.thread t blank low).logged)
+      ∙ (turns.entries t low blank
+      ∙ ap (λ (k : ℕ). take k (lengths_of old.entries t)) (kept.stands.thread t blank low).logged)
 
-  cut_outputs : (t : ℕ) → t < s.threads → lengths_of new.outputs t ≡ take (outputs t (sent_of w.stored)) (lengths_of old.outputs t)
+  cut_outputs : (t : ℕ) → t < s.threads
+      → lengths_of new.outputs t ≡ take (outputs t (sent_of w.stored)) (lengths_of old.outputs t)
   cut_outputs t low =
       ap (λ (l : List (List ℕ)). lengths_of l t) rest.outputs
-      ∙ (turns.outputs t low blank ∙ ap (λ (k : ℕ). take k (lengths_of old.outputs t)) (kept.stands.thread t blank low).outputs)
+      ∙ (turns.outputs t low blank
+      ∙ ap (λ (k : ℕ). take k (lengths_of old.outputs t)) (kept.stands.thread t blank low).outputs)
 
   -- no frame is left of the epochs before, and none is there of the new one but those sent again
-  gone : (d : Address) → w.epoch < d.epoch → frame_at new.frames d ≡ frame_at mid.frames d → frame_at new.frames d ≡ None
-  gone d later same = same ∙ (turns.forgets.others d (λ is. let here = h.epoch in absurd (omega (arith, is, here, later))) ∙ h.none_later d later)
+  gone : (d : Address) → w.epoch < d.epoch → frame_at new.frames d ≡ frame_at mid.frames d
+      → frame_at new.frames d ≡ None
+  gone d later same =
+      same
+      ∙ (turns.forgets.others d (λ is. let here = h.epoch in absurd (omega (arith, is, here, later)))
+      ∙ h.none_later d later)
 
   entry_again : (e : Entry) → IsIn e (log_of w.stored) → IsSentEntry (log_of w.stored) now_held new e
   entry_again e i = record {
     stamped = was.stamped;
     plain = was.plain;
-    stamp = stamp_back s.meaning (inputs_fed s w.fed) s.threads w.past w.stored legal sound.firm.stored e (λ u. slice_index was.stamped.stamp u) i was.stamp;
-    size = length_cut old.entries new.entries e.thread e.number (entries e.thread (log_of w.stored)) (entry_size was.stamped) (cut_entries e.thread (entry_thread s.meaning (inputs_fed s w.fed) s.threads w.stored e first_legal i)) low was.size;
-    there = inr (go (rest.others (entry_address new e.thread e.number)), inl (let c = covered e.thread in omega (arith, c, low)));
+    stamp = stamp_back s.meaning (inputs_fed s w.fed) s.threads w.past w.stored legal sound.firm.stored e
+        (λ u. slice_index was.stamped.stamp u) i was.stamp;
+    size = length_cut old.entries new.entries e.thread e.number (entries e.thread (log_of w.stored))
+        (entry_size was.stamped)
+        (cut_entries e.thread (entry_thread s.meaning (inputs_fed s w.fed) s.threads w.stored e first_legal i))
+        low was.size;
+    there = inr (
+      go (rest.others (entry_address new e.thread e.number)),
+      inl (let c = covered e.thread in omega (arith, c, low)),
+    );
   }
     where
       was : IsSentEntry (log_of w.past) held old e
       was = h.entry_sent e (earlier_log w.stored w.past e sound.firm.stored i)
 
       low : e.number ≤ entries e.thread (log_of w.stored)
-      low = (number_within (log_of w.stored) e (history_log s.meaning (inputs_fed s w.fed) s.threads w.stored first_legal) i).1
+      low = (number_within (log_of w.stored) e
+          (history_log s.meaning (inputs_fed s w.fed) s.threads w.stored first_legal) i).1
 
-      go : (frame_at new.frames (entry_address new e.thread e.number) ≡ frame_at mid.frames (entry_address new e.thread e.number))
-          ⊎ ((new.epoch ≡ mid.epoch) × (Log ≡ Out) × (WasMarked now_released e.thread e.number → ⊥)) → frame_at new.frames (entry_address new e.thread e.number) ≡ None
+      go : (frame_at new.frames (entry_address new e.thread e.number)
+          ≡ frame_at mid.frames (entry_address new e.thread e.number))
+          ⊎ ((new.epoch ≡ mid.epoch) × (Log ≡ Out) × (WasMarked now_released e.thread e.number → ⊥))
+          → frame_at new.frames (entry_address new e.thread e.number) ≡ None
       go (inl same) = gone (entry_address new e.thread e.number) (let k = epoch_is in omega (arith, k)) same
       go (inr k) = absurd (let no = k.1 in cc)
 
@@ -158,41 +193,64 @@ module _ {V : Type 0} (s : Setting V) (w : World V) (sound : Sound s w) (held no
       thread : o.emission.thread < s.threads
       thread = (sends_thread s.meaning (inputs_fed s w.fed) s.threads w.stored o.emission o.after first_legal sends).0
 
-      sized : (size : ℕ) → length_at old.outputs o.emission.thread o.emission.number ≡ Some size → length_at new.outputs o.emission.thread o.emission.number ≡ Some size
-      sized size is = length_cut old.outputs new.outputs o.emission.thread o.emission.number (outputs o.emission.thread (sent_of w.stored)) size (cut_outputs o.emission.thread thread) low is
+      sized : (size : ℕ) → length_at old.outputs o.emission.thread o.emission.number ≡ Some size
+          → length_at new.outputs o.emission.thread o.emission.number ≡ Some size
+      sized size is = length_cut old.outputs new.outputs o.emission.thread o.emission.number
+          (outputs o.emission.thread (sent_of w.stored)) size (cut_outputs o.emission.thread thread) low is
 
       none : WasMarked now_released o.emission.thread o.emission.number
-          → (frame_at new.frames (output_address new o.emission.thread o.emission.number) ≡ frame_at mid.frames (output_address new o.emission.thread o.emission.number))
-          ⊎ ((new.epoch ≡ mid.epoch) × (Out ≡ Out) × (WasMarked now_released o.emission.thread o.emission.number → ⊥)) → frame_at new.frames (output_address new o.emission.thread o.emission.number) ≡ None
-      none marked (inl same) = gone (output_address new o.emission.thread o.emission.number) (let k = epoch_is in omega (arith, k)) same
+          → (frame_at new.frames (output_address new o.emission.thread o.emission.number)
+          ≡ frame_at mid.frames (output_address new o.emission.thread o.emission.number))
+          ⊎ ((new.epoch ≡ mid.epoch) × (Out ≡ Out) × (WasMarked now_released o.emission.thread o.emission.number → ⊥))
+          → frame_at new.frames (output_address new o.emission.thread o.emission.number) ≡ None
+      none marked (inl same) =
+          gone (output_address new o.emission.thread o.emission.number) (let k = epoch_is in omega (arith, k)) same
       none marked (inr k) = absurd (k.2 marked)
 
-      let_go : WasMarked now_released o.emission.thread o.emission.number → IsSentOutput (log_of w.stored) now_released new o
+      let_go : WasMarked now_released o.emission.thread o.emission.number
+          → IsSentOutput (log_of w.stored) now_released new o
       let_go marked = record {
         stamped = was.stamped;
         plain = was.plain;
-        stamp = output_back s.meaning (inputs_fed s w.fed) s.threads w.past w.stored legal sound.firm.stored o.emission.thread o.after (λ u. slice_index was.stamped.stamp u) (sent_after w.stored o.emission o.after sends) was.stamp;
+        stamp = output_back s.meaning (inputs_fed s w.fed) s.threads w.past w.stored legal sound.firm.stored
+            o.emission.thread o.after (λ u. slice_index was.stamped.stamp u)
+            (sent_after w.stored o.emission o.after sends) was.stamp;
         size = sized (output_size was.stamped) was.size;
         there = inr (none marked (rest.others (output_address new o.emission.thread o.emission.number)), marked);
       }
 
-      sent_again : (v : Output) (p : Sent) → p ≡ o → IsKeptOutput (log_of w.stored) old v p → HasOutputFrame new v → IsSentOutput (log_of w.stored) now_released new o
+      sent_again : (v : Output) (p : Sent) → p ≡ o → IsKeptOutput (log_of w.stored) old v p → HasOutputFrame new v
+          → IsSentOutput (log_of w.stored) now_released new o
       sent_again v p same k frame =
-          let there : IsKeptOutput (log_of w.stored) old v o = subst (λ (q : Sent). IsKeptOutput (log_of w.stored) old v q) same k in
-          record { stamped = v; plain = there.plain; stamp = there.stamp; size = sized (output_size v) there.size; there = inl frame }
+          let there : IsKeptOutput (log_of w.stored) old v o =
+          subst (λ (q : Sent). IsKeptOutput (log_of w.stored) old v q) same k in
+          record {
+            stamped = v;
+            plain = there.plain;
+            stamp = there.stamp;
+            size = sized (output_size v) there.size;
+            there = inl frame;
+          }
 
       pick : (x : Output) → IsKeptOutput (log_of w.stored) old x o
-          → WasMarked now_released x.thread x.number ⊎ ((v : Output) × IsAmong v snap.outbox × (v.thread ≡ x.thread) × (v.number ≡ x.number) × HasOutputFrame new v) → IsSentOutput (log_of w.stored) now_released new o
+          → WasMarked now_released x.thread x.number
+          ⊎ ((v : Output) × IsAmong v snap.outbox × (v.thread ≡ x.thread) × (v.number ≡ x.number)
+          × HasOutputFrame new v) → IsSentOutput (log_of w.stored) now_released new o
       pick x k (inl marked) = let_go (subst (λ (q : Emission). WasMarked now_released q.thread q.number) k.plain marked)
       pick x k (inr (v, i, t, n, frame)) =
           let own = kept.each v i in
-          let t_is : own.0.emission.thread ≡ o.emission.thread = ap (λ (q : Emission). q.thread) (sym own.2.plain) ∙ (t ∙ ap (λ (q : Emission). q.thread) k.plain) in
-          let n_is : own.0.emission.number ≡ o.emission.number = ap (λ (q : Emission). q.number) (sym own.2.plain) ∙ (n ∙ ap (λ (q : Emission). q.number) k.plain) in
+          let t_is : own.0.emission.thread ≡ o.emission.thread =
+          ap (λ (q : Emission). q.thread) (sym own.2.plain) ∙ (t ∙ ap (λ (q : Emission). q.thread) k.plain) in
+          let n_is : own.0.emission.number ≡ o.emission.number =
+          ap (λ (q : Emission). q.number) (sym own.2.plain) ∙ (n ∙ ap (λ (q : Emission). q.number) k.plain) in
           let same = output_one s w sound o.emission.thread o.emission.number own.0 o
-          (sends_later w.stored w.past own.0.emission own.0.after sound.firm.stored own.1, (t_is, n_is)) (sends_later w.stored w.past o.emission o.after sound.firm.stored sends, (refl, refl)) in
+          (sends_later w.stored w.past own.0.emission own.0.after sound.firm.stored own.1, (t_is, n_is))
+          (sends_later w.stored w.past o.emission o.after sound.firm.stored sends, (refl, refl)) in
           sent_again v own.0 same own.2 frame
 
-      go : WasMarked released o.emission.thread o.emission.number ⊎ ((x : Output) × IsAmong x snap.outbox × IsKeptOutput (log_of w.stored) old x o) → IsSentOutput (log_of w.stored) now_released new o
+      go : WasMarked released o.emission.thread o.emission.number
+          ⊎ ((x : Output) × IsAmong x snap.outbox × IsKeptOutput (log_of w.stored) old x o)
+          → IsSentOutput (log_of w.stored) now_released new o
       go (inl was_marked) = let_go (marks o.emission.thread o.emission.number was_marked)
       go (inr (x, i, k)) = pick x k (rest.there x i)
 
@@ -206,29 +264,41 @@ module _ {V : Type 0} (s : Setting V) (w : World V) (sound : Sound s w) (held no
     none_later = λ a later. last a later (rest.others a);
   }
     where
-      counted_entries : (t : ℕ) → (t < s.threads) ⊎ (s.threads ≤ t) → length (lengths_of new.entries t) ≡ entries t (log_of w.stored)
+      counted_entries : (t : ℕ) → (t < s.threads) ⊎ (s.threads ≤ t)
+          → length (lengths_of new.entries t) ≡ entries t (log_of w.stored)
       counted_entries t (inl low) =
           let few = few_entries s.meaning (inputs_fed s w.fed) s.threads w.past w.stored legal sound.firm.stored t in
           let all = h.entry_counts t in
-          ap (λ (l : List ℕ). length l) (cut_entries t low) ∙ length-take-le (entries t (log_of w.stored)) (lengths_of old.entries t) (omega (arith, few, all))
+          ap (λ (l : List ℕ). length l) (cut_entries t low)
+          ∙ length-take-le (entries t (log_of w.stored)) (lengths_of old.entries t) (omega (arith, few, all))
       counted_entries t (inr high) =
           ap (λ (l : List (List ℕ)). length (lengths_of l t)) rest.entries
           ∙ (ap (λ (l : List ℕ). length l) (turns.others t high).0
-          ∙ (h.entry_counts t ∙ (none_past_threads s.meaning (inputs_fed s w.fed) s.threads w.past t legal high ∙ sym (none_past_threads s.meaning (inputs_fed s w.fed) s.threads w.stored t first_legal high))))
+          ∙ (h.entry_counts t
+          ∙ (none_past_threads s.meaning (inputs_fed s w.fed) s.threads w.past t legal high
+          ∙ sym (none_past_threads s.meaning (inputs_fed s w.fed) s.threads w.stored t first_legal high))))
 
-      counted_outputs : (t : ℕ) → (t < s.threads) ⊎ (s.threads ≤ t) → length (lengths_of new.outputs t) ≡ outputs t (sent_of w.stored)
+      counted_outputs : (t : ℕ) → (t < s.threads) ⊎ (s.threads ≤ t)
+          → length (lengths_of new.outputs t) ≡ outputs t (sent_of w.stored)
       counted_outputs t (inl low) =
           let few = earlier_outputs t w.stored w.past sound.firm.stored in
           let all = h.output_counts t in
-          ap (λ (l : List ℕ). length l) (cut_outputs t low) ∙ length-take-le (outputs t (sent_of w.stored)) (lengths_of old.outputs t) (omega (arith, few, all))
+          ap (λ (l : List ℕ). length l) (cut_outputs t low)
+          ∙ length-take-le (outputs t (sent_of w.stored)) (lengths_of old.outputs t) (omega (arith, few, all))
       counted_outputs t (inr high) =
           ap (λ (l : List (List ℕ)). length (lengths_of l t)) rest.outputs
           ∙ (ap (λ (l : List ℕ). length l) (turns.others t high).1
-          ∙ (h.output_counts t ∙ (no_outputs s.meaning (inputs_fed s w.fed) s.threads w.past t legal high ∙ sym (no_outputs s.meaning (inputs_fed s w.fed) s.threads w.stored t first_legal high))))
+          ∙ (h.output_counts t
+          ∙ (no_outputs s.meaning (inputs_fed s w.fed) s.threads w.past t legal high
+          ∙ sym (no_outputs s.meaning (inputs_fed s w.fed) s.threads w.stored t first_legal high))))
 
-      last : (a : Address) → w.epoch + 1 < a.epoch → (frame_at new.frames a ≡ frame_at mid.frames a) ⊎ ((a.epoch ≡ mid.epoch) × (a.kind ≡ Out) × (WasMarked now_released a.thread a.number → ⊥)) → frame_at new.frames a ≡ None
+      last : (a : Address) → w.epoch + 1 < a.epoch
+          → (frame_at new.frames a ≡ frame_at mid.frames a)
+          ⊎ ((a.epoch ≡ mid.epoch) × (a.kind ≡ Out) × (WasMarked now_released a.thread a.number → ⊥))
+          → frame_at new.frames a ≡ None
       last a later (inl same) = gone a (omega (arith, later)) same
-      last a later (inr k) = let e = k.0 in let is = epoch_is in let r = rest.epoch in absurd (omega (arith, later, e, is, r))
+      last a later (inr k) =
+          let e = k.0 in let is = epoch_is in let r = rest.epoch in absurd (omega (arith, later, e, is, r))
 
   -- the stored snapshot is one of the new epoch
   pub snapshot_again : IsSnapshot s new now_released w.stored snap
@@ -239,23 +309,30 @@ module _ {V : Type 0} (s : Setting V) (w : World V) (sound : Sound s w) (held no
     has = λ o sends. go o sends (kept.has o sends);
   }
     where
-      still : (o : Sent) (x : Output) → SendsAfter w.stored o.emission o.after → IsKeptOutput (log_of w.stored) old x o → IsKeptOutput (log_of w.stored) new x o
+      still : (o : Sent) (x : Output) → SendsAfter w.stored o.emission o.after → IsKeptOutput (log_of w.stored) old x o
+          → IsKeptOutput (log_of w.stored) new x o
       still o x sends k = record {
         plain = k.plain;
         stamp = k.stamp;
-        size = length_cut old.outputs new.outputs o.emission.thread o.emission.number (outputs o.emission.thread (sent_of w.stored)) (output_size x)
-            (cut_outputs o.emission.thread (sends_thread s.meaning (inputs_fed s w.fed) s.threads w.stored o.emission o.after first_legal sends).0)
+        size = length_cut old.outputs new.outputs o.emission.thread o.emission.number
+            (outputs o.emission.thread (sent_of w.stored)) (output_size x)
+            (cut_outputs o.emission.thread
+            (sends_thread s.meaning (inputs_fed s w.fed) s.threads w.stored o.emission o.after first_legal sends).0)
             (number_high s.meaning (inputs_fed s w.fed) s.threads w.stored o.emission o.after first_legal sends) k.size;
         can = subst (λ (n : ℕ). CanPutOutput 1 n x) (sym (rest.threads ∙ turns.threads)) k.can;
       }
 
-      go : (o : Sent) → SendsAfter w.stored o.emission o.after → WasMarked released o.emission.thread o.emission.number ⊎ ((x : Output) × IsAmong x snap.outbox × IsKeptOutput (log_of w.stored) old x o)
-          → WasMarked now_released o.emission.thread o.emission.number ⊎ ((x : Output) × IsAmong x snap.outbox × IsKeptOutput (log_of w.stored) new x o)
+      go : (o : Sent) → SendsAfter w.stored o.emission o.after
+          → WasMarked released o.emission.thread o.emission.number
+          ⊎ ((x : Output) × IsAmong x snap.outbox × IsKeptOutput (log_of w.stored) old x o)
+          → WasMarked now_released o.emission.thread o.emission.number
+          ⊎ ((x : Output) × IsAmong x snap.outbox × IsKeptOutput (log_of w.stored) new x o)
       go o sends (inl marked) = inl (marks o.emission.thread o.emission.number marked)
       go o sends (inr (x, i, k)) = inr (x, i, still o x sends k)
 
 -- what the snapshot keeps can be sent in each epoch
-pub can_again : {V : Type 0} (s : Setting V) (moment : List (Step V)) (old mid : Sending) (released : List Numbers) (snap : Snapshot V) (count : ℕ) → IsSnapshot s old released moment snap → TurnsLinks snap.master count old mid
+pub can_again : {V : Type 0} (s : Setting V) (moment : List (Step V)) (old mid : Sending) (released : List Numbers)
+    (snap : Snapshot V) (count : ℕ) → IsSnapshot s old released moment snap → TurnsLinks snap.master count old mid
     → (x : Output) → IsAmong x snap.outbox → CanPutOutput mid.epoch mid.threads x
 can_again s moment old mid released snap count kept turns x i = record {
   sent = record {

@@ -1,5 +1,6 @@
 -- The world after a recovery, and the parts that stand for it.
-use Rattle.std.proofs.Common.{◌≡◌, ◌≢◌, ℕ, zero, suc, ◌+◌, ◌-◌, ◌<◌, ◌≤◌, true, false, List, [], ◌∷◌, ◌++◌, length, length-append, map, take, refl, sym, ap, ◌∙◌, subst, inl, inr, ◌⊎◌, arith, Some, None}
+use Rattle.std.proofs.Common.{◌≡◌, ◌≢◌, ℕ, zero, suc, ◌+◌, ◌-◌, ◌<◌, ◌≤◌, true, false, List, [], ◌∷◌, ◌++◌, length}
+use Rattle.std.proofs.Common.{length-append, map, take, refl, sym, ap, ◌∙◌, subst, inl, inr, ◌⊎◌, arith, Some, None}
 use Rattle.std.specs.Prelude.{◌↔◌, slice_get, slice_index_or}
 use Rattle.std.specs.Option.{option_map}
 use Rattle.replay_guide.specs.Following.{CanBeFollowed}
@@ -45,8 +46,10 @@ use Rattle.crash_recovery.proofs.RecoveryHeld.{can_follow, part_held, followed_h
 
 -- The moves of an earlier moment
 
-earlier_moves : {V : Type 0} (xs ys : List (Step V)) → IsEarlier xs ys → take (length xs) (moves_made ys) ≡ moves_made xs
-earlier_moves {V} xs [] h = subst (λ (l : List (Step V)). take (length l) (moves_made {V = V} []) ≡ moves_made l) (sym h) refl
+earlier_moves : {V : Type 0} (xs ys : List (Step V)) → IsEarlier xs ys
+    → take (length xs) (moves_made ys) ≡ moves_made xs
+earlier_moves {V} xs [] h =
+    subst (λ (l : List (Step V)). take (length l) (moves_made {V = V} []) ≡ moves_made l) (sym h) refl
 earlier_moves {V} xs (y ∷ ys) (inl h) =
     subst (λ (l : List (Step V)). take (length l) (moves_made (y ∷ ys)) ≡ moves_made l) (sym h)
     (take_all (length (y ∷ ys)) (moves_made (y ∷ ys)) (let k = made_length (y ∷ ys) in omega (arith, k)))
@@ -57,13 +60,19 @@ earlier_moves xs (y ∷ ys) (inr h) =
 
 -- The counts of the epoch that ends
 
-counts_are : {V : Type 0} (m : Meaning V) (threads : ℕ) (w : World V) (p : Mastered V) (counts : List Counts) → Stands m threads w.past p → counts ≡ map (λ (part : ThreadPart). part.counts) (take threads p.threads) → AreCounts threads (ended_now w) counts
-counts_are {V} m threads w p counts st is = record { long = long; each = λ t c there. at t c there (subst (λ (n : ℕ). t < n) long (slice_get_within counts t c there)) }
+counts_are : {V : Type 0} (m : Meaning V) (threads : ℕ) (w : World V) (p : Mastered V) (counts : List Counts)
+    → Stands m threads w.past p → counts ≡ map (λ (part : ThreadPart). part.counts) (take threads p.threads)
+    → AreCounts threads (ended_now w) counts
+counts_are {V} m threads w p counts st is = record {
+  long = long;
+  each = λ t c there. at t c there (subst (λ (n : ℕ). t < n) long (slice_get_within counts t c there));
+}
   where
     long : length counts ≡ threads
     long =
         ap (λ (l : List Counts). length l) is
-        ∙ (length-map (take threads p.threads) (λ (part : ThreadPart). part.counts) ∙ length-take-le threads p.threads (let k = st.threads_are in omega (arith, k)))
+        ∙ (length-map (take threads p.threads) (λ (part : ThreadPart). part.counts)
+        ∙ length-take-le threads p.threads (let k = st.threads_are in omega (arith, k)))
 
     blank : Counts → ThreadPart
     blank c = record { counts = c; hand = None; stamp = [] }
@@ -71,15 +80,21 @@ counts_are {V} m threads w p counts st is = record { long = long; each = λ t c 
     same : (a b : Counts) → Some a ≡ Some b → a ≡ b
     same a b e = cc
 
-    at : (t : ℕ) (c : Counts) → slice_get counts t ≡ Some c → t < threads → (c.entries ≡ entries t (log_of w.past)) × (c.outputs ≡ outputs t (sent_of w.past))
+    at : (t : ℕ) (c : Counts) → slice_get counts t ≡ Some c → t < threads
+        → (c.entries ≡ entries t (log_of w.past)) × (c.outputs ≡ outputs t (sent_of w.past))
     at t c there low =
         let k = st.threads_are in
         let long_taken = length-take-le threads p.threads (omega (arith, k)) in
-        let got : slice_get (take threads p.threads) t ≡ Some (slice_index_or (take threads p.threads) t (blank c)) = slice_get-get_or (take threads p.threads) t (blank c) (omega (arith, long_taken, low)) in
-        let part : slice_index_or (take threads p.threads) t (blank c) ≡ slice_index_or p.threads t (blank c) = get_or-take threads p.threads t (blank c) low in
+        let got : slice_get (take threads p.threads) t ≡ Some (slice_index_or (take threads p.threads) t (blank c)) =
+        slice_get-get_or (take threads p.threads) t (blank c) (omega (arith, long_taken, low)) in
+        let part : slice_index_or (take threads p.threads) t (blank c) ≡ slice_index_or p.threads t (blank c) =
+        get_or-take threads p.threads t (blank c) low in
         let read : slice_get counts t ≡ Some (slice_index_or p.threads t (blank c)).counts =
-        ap (λ (l : List Counts). slice_get l t) is ∙ (slice_get-map (λ (q : ThreadPart). q.counts) (take threads p.threads) t ∙ (ap (λ o. option_map (λ (q : ThreadPart). q.counts) o) got ∙ ap (λ (q : ThreadPart). Some q.counts) part)) in
-        let one : c ≡ (slice_index_or p.threads t (blank c)).counts = same c (slice_index_or p.threads t (blank c)).counts (sym there ∙ read) in
+        ap (λ (l : List Counts). slice_get l t) is
+        ∙ (slice_get-map (λ (q : ThreadPart). q.counts) (take threads p.threads) t
+        ∙ (ap (λ o. option_map (λ (q : ThreadPart). q.counts) o) got ∙ ap (λ (q : ThreadPart). Some q.counts) part)) in
+        let one : c ≡ (slice_index_or p.threads t (blank c)).counts =
+        same c (slice_index_or p.threads t (blank c)).counts (sym there ∙ read) in
         let thread = st.thread t (blank c) low in
         (ap (λ (q : Counts). q.entries) one ∙ thread.logged, ap (λ (q : Counts). q.outputs) one ∙ thread.outputs)
 
@@ -89,12 +104,15 @@ get_last [] c (suc i) is = absurd (omega (arith, is))
 get_last (x ∷ xs) c zero is = absurd (omega (arith, is))
 get_last (x ∷ xs) c (suc i) is = get_last xs c i (omega (arith, is))
 
-get_before : (xs : List (List Counts)) (c : List Counts) (i : ℕ) → i < length xs → slice_index_or (xs ++ c ∷ []) i [] ≡ slice_index_or xs i []
+get_before : (xs : List (List Counts)) (c : List Counts) (i : ℕ) → i < length xs
+    → slice_index_or (xs ++ c ∷ []) i [] ≡ slice_index_or xs i []
 get_before [] c i low = absurd (omega (arith, low))
 get_before (x ∷ xs) c zero low = refl
 get_before (x ∷ xs) c (suc i) low = get_before xs c i (omega (arith, low))
 
-ends_epoch : {V : Type 0} (threads now : ℕ) (w : World V) (ended : List (List Counts)) (counts : List Counts) → HasEnded threads now w.ended ended → AreCounts threads (ended_now w) counts → HasEnded threads (now + 1) (ended_now w ∷ w.ended) (ended ++ counts ∷ [])
+ends_epoch : {V : Type 0} (threads now : ℕ) (w : World V) (ended : List (List Counts)) (counts : List Counts)
+    → HasEnded threads now w.ended ended → AreCounts threads (ended_now w) counts
+    → HasEnded threads (now + 1) (ended_now w ∷ w.ended) (ended ++ counts ∷ [])
 ends_epoch threads now w ended counts h are = record {
   all = let k = h.all in omega (arith, k);
   there = let k = h.there in let l = length-append ended (counts ∷ []) in omega (arith, k, l);
@@ -104,30 +122,40 @@ ends_epoch threads now w ended counts h are = record {
     same : (a b : EndedEpoch) → Some a ≡ Some b → a ≡ b
     same a b e = cc
 
-    go : (epoch : ℕ) (x : EndedEpoch) → 1 ≤ epoch → epoch < now + 1 → (epoch ≡ now) ⊎ (epoch ≢ now) → slice_get (ended_now w ∷ w.ended) (now + 1 - epoch - 1) ≡ Some x → AreCounts threads x (slice_index_or (ended ++ counts ∷ []) (epoch - 1) [])
+    go : (epoch : ℕ) (x : EndedEpoch) → 1 ≤ epoch → epoch < now + 1 → (epoch ≡ now) ⊎ (epoch ≢ now)
+        → slice_get (ended_now w ∷ w.ended) (now + 1 - epoch - 1) ≡ Some x
+        → AreCounts threads x (slice_index_or (ended ++ counts ∷ []) (epoch - 1) [])
     go epoch x from to (inl is) at =
         let first : now + 1 - epoch - 1 ≡ zero = omega (arith, is) in
-        let one : ended_now w ≡ x = same (ended_now w) x (subst (λ (k : ℕ). slice_get (ended_now w ∷ w.ended) k ≡ Some x) first at) in
+        let one : ended_now w ≡ x =
+        same (ended_now w) x (subst (λ (k : ℕ). slice_get (ended_now w ∷ w.ended) k ≡ Some x) first at) in
         let all = h.all in
         let there = h.there in
-        let last : slice_index_or (ended ++ counts ∷ []) (epoch - 1) [] ≡ counts = get_last ended counts (epoch - 1) (omega (arith, is, all, there)) in
-        subst (λ (l : List Counts). AreCounts threads x l) (sym last) (subst (λ (q : EndedEpoch). AreCounts threads q counts) one are)
+        let last : slice_index_or (ended ++ counts ∷ []) (epoch - 1) [] ≡ counts =
+        get_last ended counts (epoch - 1) (omega (arith, is, all, there)) in
+        subst (λ (l : List Counts). AreCounts threads x l) (sym last)
+        (subst (λ (q : EndedEpoch). AreCounts threads q counts) one are)
     go epoch x from to (inr apart) at =
         let low : epoch < now = omega (arith, to, apart) in
         let later : now + 1 - epoch - 1 ≡ suc (now - epoch - 1) = omega (arith, low) in
-        let there : slice_get w.ended (now - epoch - 1) ≡ Some x = subst (λ (k : ℕ). slice_get (ended_now w ∷ w.ended) k ≡ Some x) later at in
+        let there : slice_get w.ended (now - epoch - 1) ≡ Some x =
+        subst (λ (k : ℕ). slice_get (ended_now w ∷ w.ended) k ≡ Some x) later at in
         let all = h.all in
         let long = h.there in
-        let before : slice_index_or (ended ++ counts ∷ []) (epoch - 1) [] ≡ slice_index_or ended (epoch - 1) [] = get_before ended counts (epoch - 1) (omega (arith, low, from, all, long)) in
+        let before : slice_index_or (ended ++ counts ∷ []) (epoch - 1) [] ≡ slice_index_or ended (epoch - 1) [] =
+        get_before ended counts (epoch - 1) (omega (arith, low, from, all, long)) in
         subst (λ (l : List Counts). AreCounts threads x l) (sym before) (h.each epoch x from low there)
 
 -- What the parts of a recovery do.
-pub record StartsOver {P V : Type 0} (y : Parts P V) (kept : Kept) (counts : List Counts) (now : Logger) (guide : List Lane) (mid sent : Sending) : Type 0 where
+pub record StartsOver {P V : Type 0} (y : Parts P V) (kept : Kept) (counts : List Counts) (now : Logger)
+    (guide : List Lane) (mid sent : Sending) : Type 0 where
   pub counts_are : counts ≡ map (λ (part : ThreadPart). part.counts) (take y.inputs.threads y.master.threads)
   pub epoch : now.epoch ≡ y.logger.epoch + 1
   pub waiting : now.waiting ≡ []
   pub once : ReleasesOnce y.logger.released now.released []
-  pub closed : (t n : ℕ) (e : StampedEntry) → (entry_at (lane now.held t) n ≡ Some e) ↔ ((entry_at (lane y.logger.held t) n ≡ Some e) × IsWithinHeld y.logger.held e.stamp)
+  pub closed : (t n : ℕ) (e : StampedEntry)
+      → (entry_at (lane now.held t) n ≡ Some e)
+      ↔ ((entry_at (lane y.logger.held t) n ≡ Some e) × IsWithinHeld y.logger.held e.stamp)
   pub covered : (t : ℕ) → (lane now.held t).covered ≡ (lane y.logger.held t).covered
   pub keeps : IsNumberOf (IsMember now.held) kept.kept
   pub drops : IsNumberOf (IsDropped y.logger.held now.held) kept.dropped
@@ -147,8 +175,10 @@ started y counts now guide sent = record y {
   logger = now;
 }
 
-module _ {P V : Type 0} (m : Meaning V) (s : Setting V) (w : World V) (y : Parts P V) (st : StandsFor m s w y) (down : y.up ≡ false) (kept : Kept) (counts : List Counts) (now : Logger) (guide : List Lane) (mid sent : Sending)
-    (d : StartsOver y kept counts now guide mid sent) (part : List Entry) (part_of : IsPartOf w.held part) (closed : IsClosedPart (entries_of_line w) (log_of w.stored) w.held part) where
+module _ {P V : Type 0} (m : Meaning V) (s : Setting V) (w : World V) (y : Parts P V) (st : StandsFor m s w y)
+    (down : y.up ≡ false) (kept : Kept) (counts : List Counts) (now : Logger) (guide : List Lane) (mid sent : Sending)
+    (d : StartsOver y kept counts now guide mid sent) (part : List Entry) (part_of : IsPartOf w.held part)
+    (closed : IsClosedPart (entries_of_line w) (log_of w.stored) w.held part) where
   is_down : w.up ≡ false
   is_down = sym st.master.up ∙ down
 
@@ -156,7 +186,15 @@ module _ {P V : Type 0} (m : Meaning V) (s : Setting V) (w : World V) (y : Parts
   threads_is = ap (λ i. i.threads) st.inputs.inputs
 
   abbrev recovered : World V
-  recovered = record w { held = part; followed = part; waiting = []; epoch = w.epoch + 1; past = w.stored; up = true; ended = ended_now w ∷ w.ended }
+  recovered = record w {
+    held = part;
+    followed = part;
+    waiting = [];
+    epoch = w.epoch + 1;
+    past = w.stored;
+    up = true;
+    ended = ended_now w ∷ w.ended;
+  }
 
   recovers : Recovers w recovered
   recovers = record { part = part; part_of = part_of; closed = closed; new_is = refl }
@@ -186,10 +224,13 @@ module _ {P V : Type 0} (m : Meaning V) (s : Setting V) (w : World V) (y : Parts
   logs : HasLogger recovered now
   logs = record {
     epoch = d.epoch ∙ ap (λ (n : ℕ). n + 1) st.logger.epoch;
-    holds = followed_holds s w st.sound.firm y.logger.held now.held st.logger.holds d.closed d.covered st.logger.held part closed now.held (λ t. refl);
-    held = part_held s w st.sound.firm y.logger.held now.held st.logger.holds d.closed d.covered st.logger.held part closed;
+    holds = followed_holds s w st.sound.firm y.logger.held now.held st.logger.holds d.closed d.covered st.logger.held
+        part closed now.held (λ t. refl);
+    held = part_held s w st.sound.firm y.logger.held now.held st.logger.holds d.closed d.covered st.logger.held
+        part closed;
     waiting = none_waits;
-    released = λ t n. (λ was. (st.logger.released t n).0 (unmarks t n was), λ k. marks t n ((st.logger.released t n).1 k));
+    released =
+        λ t n. (λ was. (st.logger.released t n).0 (unmarks t n was), λ k. marks t n ((st.logger.released t n).1 k));
   }
 
   no_copy : w.copy ≡ None
@@ -200,93 +241,155 @@ module _ {P V : Type 0} (m : Meaning V) (s : Setting V) (w : World V) (y : Parts
     recovered,
     record {
       recovers = recovers;
-      keeps = keeps s w st.sound.firm y.logger.held now.held st.logger.holds d.closed d.covered st.logger.held part closed sound.firm.held_once kept.kept d.keeps;
-      drops = drops s w st.sound.firm y.logger.held now.held st.logger.holds d.closed d.covered st.logger.held part closed sound.firm.held_once kept.dropped d.drops;
+      keeps = keeps s w st.sound.firm y.logger.held now.held st.logger.holds d.closed d.covered st.logger.held part
+          closed sound.firm.held_once kept.kept d.keeps;
+      drops = drops s w st.sound.firm y.logger.held now.held st.logger.holds d.closed d.covered st.logger.held part
+          closed sound.firm.held_once kept.dropped d.drops;
     },
     record {
       sound = sound;
       within = st.within;
-      inputs = record { meaning = st.inputs.meaning; fractions = st.inputs.fractions; inputs = st.inputs.inputs; left = st.inputs.left; clock = st.inputs.clock; generator = st.inputs.generator };
+      inputs = record {
+        meaning = st.inputs.meaning;
+        fractions = st.inputs.fractions;
+        inputs = st.inputs.inputs;
+        left = st.inputs.left;
+        clock = st.inputs.clock;
+        generator = st.inputs.generator;
+      };
       master = record {
         up = refl;
         stands = st.snapshots.first.stands;
         schedule =
             ap (λ (n : ℕ). take n y.schedule) st.snapshots.first.moves_are
-            ∙ (ap (λ (l : List PlainMove). take (length w.stored) l) st.master.schedule ∙ earlier_moves w.stored w.past st.sound.firm.stored);
-        past = let a = earlier_length w.stored w.past st.sound.firm.stored in let b = st.master.past in omega (arith, a, b);
+            ∙ (ap (λ (l : List PlainMove). take (length w.stored) l) st.master.schedule
+            ∙ earlier_moves w.stored w.past st.sound.firm.stored);
+        past =
+            let a = earlier_length w.stored w.past st.sound.firm.stored in
+            let b = st.master.past in omega (arith, a, b);
         moves = st.master.moves;
         bytes = st.master.bytes;
       };
       snapshots = record {
-        first = snapshot_again s w st.sound y.logger.held now.held y.logger.released now.released y.sent mid sent y.store.stored st.snapshots.first turns d.rest marks covers st.sent;
+        first = snapshot_again s w st.sound y.logger.held now.held y.logger.released now.released y.sent mid sent
+            y.store.stored st.snapshots.first turns d.rest marks covers st.sent;
         copied = λ moment is. absurd (let none = no_copy in cc);
         none = st.snapshots.none;
       };
-      ended = ends_epoch s.threads w.epoch w y.ended counts st.ended (counts_are s.meaning s.threads w y.master counts st.master.stands (d.counts_are ∙ ap (λ (n : ℕ). map (λ (q : ThreadPart). q.counts) (take n y.master.threads)) threads_is));
-      guide = guide_begins s w st.sound.firm y.logger.held now.held st.logger.holds d.closed d.covered st.logger.held part closed guide d.lanes;
-      sent = sent_again s w st.sound y.logger.held now.held y.logger.released now.released y.sent mid sent y.store.stored st.snapshots.first turns d.rest marks covers st.sent;
+      ended = ends_epoch s.threads w.epoch w y.ended counts st.ended
+          (counts_are s.meaning s.threads w y.master counts st.master.stands
+          (d.counts_are ∙ ap (λ (n : ℕ). map (λ (q : ThreadPart). q.counts) (take n y.master.threads)) threads_is));
+      guide = guide_begins s w st.sound.firm y.logger.held now.held st.logger.holds d.closed d.covered st.logger.held
+          part closed guide d.lanes;
+      sent = sent_again s w st.sound y.logger.held now.held y.logger.released now.released y.sent mid sent
+          y.store.stored st.snapshots.first turns d.rest marks covers st.sent;
       logger = logs;
       released = st.released;
     },
   )
 
 -- the same, for the parts as they were
-pub start_moves : {P V : Type 0} (meaning : P → Meaning V) (y old : Parts P V) (kept : Kept) (counts : List Counts) (now : Logger) (guide : List Lane) (mid sent : Sending) → y ≡ old → old.up ≡ false → StartsOver y kept counts now guide mid sent
+pub start_moves : {P V : Type 0} (meaning : P → Meaning V) (y old : Parts P V) (kept : Kept) (counts : List Counts)
+    (now : Logger) (guide : List Lane) (mid sent : Sending) → y ≡ old → old.up ≡ false
+    → StartsOver y kept counts now guide mid sent
     → MovesOn (meaning old.program) (RecoversTo kept) old (started y counts now guide sent)
 start_moves {P} {V} meaning y old kept counts now guide mid sent same down d =
     subst (λ (z : Parts P V). MovesOn (meaning z.program) (RecoversTo kept) z (started y counts now guide sent)) same (
       refl,
       λ s w st.
           let r = (recovers_there s w st.sound.firm).1 in
-          starts_over (meaning y.program) s w y st (ap (λ (z : Parts P V). z.up) same ∙ down) kept counts now guide mid sent d r.part r.part_of r.closed,
+          starts_over (meaning y.program) s w y st (ap (λ (z : Parts P V). z.up) same ∙ down) kept counts now guide mid
+          sent d r.part r.part_of r.closed,
     )
 
 -- what is held then can be followed
-pub follows_then : {P V : Type 0} (meaning : P → Meaning V) (y old : Parts P V) (now : Logger) → y ≡ old → StandsForSome (meaning old.program) old
-    → ((t n : ℕ) (e : StampedEntry) → (entry_at (lane now.held t) n ≡ Some e) ↔ ((entry_at (lane y.logger.held t) n ≡ Some e) × IsWithinHeld y.logger.held e.stamp))
+pub follows_then : {P V : Type 0} (meaning : P → Meaning V) (y old : Parts P V) (now : Logger) → y ≡ old
+    → StandsForSome (meaning old.program) old
+    → ((t n : ℕ) (e : StampedEntry)
+    → (entry_at (lane now.held t) n ≡ Some e)
+    ↔ ((entry_at (lane y.logger.held t) n ≡ Some e) × IsWithinHeld y.logger.held e.stamp))
     → ((t : ℕ) → (lane now.held t).covered ≡ (lane y.logger.held t).covered) → CanBeFollowed now.held
 follows_then {P} {V} meaning y old now same some closed covered =
     let here = subst (λ (z : Parts P V). StandsForSome (meaning z.program) z) (sym same) some in
     can_follow here.0 here.1 here.2.sound.firm y.logger.held now.held here.2.logger.holds closed covered
 
 -- and what the snapshot keeps can be sent
-pub sends_then : {P V : Type 0} (meaning : P → Meaning V) (y old : Parts P V) (master : Mastered V) (outbox : List Output) (count : ℕ) (mid : Sending) → y ≡ old → StandsForSome (meaning old.program) old
-    → master ≡ y.store.stored.master → outbox ≡ y.store.stored.outbox → TurnsLinks master count y.sent mid → (x : Output) → IsAmong x outbox → CanPutOutput mid.epoch mid.threads x
+pub sends_then : {P V : Type 0} (meaning : P → Meaning V) (y old : Parts P V) (master : Mastered V)
+    (outbox : List Output) (count : ℕ) (mid : Sending) → y ≡ old → StandsForSome (meaning old.program) old
+    → master ≡ y.store.stored.master → outbox ≡ y.store.stored.outbox → TurnsLinks master count y.sent mid
+    → (x : Output) → IsAmong x outbox → CanPutOutput mid.epoch mid.threads x
 sends_then {P} {V} meaning y old master outbox count mid same some master_is outbox_is turns x i =
     let here = subst (λ (z : Parts P V). StandsForSome (meaning z.program) z) (sym same) some in
     can_again here.0 here.1.stored y.sent mid y.logger.released y.store.stored count here.2.snapshots.first
-    (subst (λ (p : Mastered V). TurnsLinks p count y.sent mid) master_is turns) x (subst (λ (l : List Output). IsAmong x l) outbox_is i)
+    (subst (λ (p : Mastered V). TurnsLinks p count y.sent mid) master_is turns) x
+    (subst (λ (l : List Output). IsAmong x l) outbox_is i)
 
 -- what the calls of a recovery ensure, together
-pub starts_then : {P V : Type 0} (y : Parts P V) (kept : Kept) (counts : List Counts) (now : Logger) (guide held : List Lane) (released : List Numbers) (mid sent : Sending) (threads : ℕ) (master : Mastered V) (outbox : List Output)
-    → threads ≡ y.inputs.threads → held ≡ now.held → released ≡ now.released → master ≡ y.store.stored.master → outbox ≡ y.store.stored.outbox
-    → counts ≡ map (λ (part : ThreadPart). part.counts) (take threads y.master.threads) → now.epoch ≡ y.logger.epoch + 1 → now.waiting ≡ [] → ReleasesOnce y.logger.released now.released []
-    → ((t n : ℕ) (e : StampedEntry) → (entry_at (lane now.held t) n ≡ Some e) ↔ ((entry_at (lane y.logger.held t) n ≡ Some e) × IsWithinHeld y.logger.held e.stamp))
-    → ((t : ℕ) → (lane now.held t).covered ≡ (lane y.logger.held t).covered) → IsNumberOf (IsMember now.held) kept.kept → IsNumberOf (IsDropped y.logger.held now.held) kept.dropped
-    → ((t : ℕ) → lane guide t ≡ lane held t) → TurnsLinks master threads y.sent mid → SendsRest released outbox mid sent → StartsOver y kept counts now guide mid sent
-starts_then {P} {V} y kept counts now guide held released mid sent threads master outbox threads_is held_is released_is master_is outbox_is counts_is epoch waiting once closed covered keeps drops lanes turns rest = record {
-  counts_are = counts_is ∙ ap (λ (n : ℕ). map (λ (q : ThreadPart). q.counts) (take n y.master.threads)) threads_is;
-  epoch = epoch;
-  waiting = waiting;
-  once = once;
-  closed = closed;
-  covered = covered;
-  keeps = keeps;
-  drops = drops;
-  lanes = λ t. lanes t ∙ ap (λ (l : List Lane). lane l t) held_is;
-  turns = subst (λ (n : ℕ). TurnsLinks y.store.stored.master n y.sent mid) threads_is (subst (λ (p : Mastered V). TurnsLinks p threads y.sent mid) master_is turns);
-  rest = subst (λ (l : List Output). SendsRest now.released l mid sent) outbox_is (subst (λ (n : List Numbers). SendsRest n outbox mid sent) released_is rest);
-}
+pub starts_then : {P V : Type 0} (y : Parts P V) (kept : Kept) (counts : List Counts) (now : Logger)
+    (guide held : List Lane) (released : List Numbers) (mid sent : Sending) (threads : ℕ) (master : Mastered V)
+    (outbox : List Output) → threads ≡ y.inputs.threads → held ≡ now.held → released ≡ now.released
+    → master ≡ y.store.stored.master → outbox ≡ y.store.stored.outbox
+    → counts ≡ map (λ (part : ThreadPart). part.counts) (take threads y.master.threads) → now.epoch ≡ y.logger.epoch + 1
+    → now.waiting ≡ [] → ReleasesOnce y.logger.released now.released []
+    → ((t n : ℕ) (e : StampedEntry)
+    → (entry_at (lane now.held t) n ≡ Some e)
+    ↔ ((entry_at (lane y.logger.held t) n ≡ Some e) × IsWithinHeld y.logger.held e.stamp))
+    → ((t : ℕ) → (lane now.held t).covered ≡ (lane y.logger.held t).covered) → IsNumberOf (IsMember now.held) kept.kept
+    → IsNumberOf (IsDropped y.logger.held now.held) kept.dropped → ((t : ℕ) → lane guide t ≡ lane held t)
+    → TurnsLinks master threads y.sent mid → SendsRest released outbox mid sent
+    → StartsOver y kept counts now guide mid sent
+starts_then {P} {V} y kept counts now guide held released mid sent threads master outbox threads_is held_is released_is
+    master_is outbox_is counts_is epoch waiting once closed covered keeps drops lanes turns rest = record {
+      counts_are = counts_is ∙ ap (λ (n : ℕ). map (λ (q : ThreadPart). q.counts) (take n y.master.threads)) threads_is;
+      epoch = epoch;
+      waiting = waiting;
+      once = once;
+      closed = closed;
+      covered = covered;
+      keeps = keeps;
+      drops = drops;
+      lanes = λ t. lanes t ∙ ap (λ (l : List Lane). lane l t) held_is;
+      turns = subst (λ (n : ℕ). TurnsLinks y.store.stored.master n y.sent mid) threads_is
+          (subst (λ (p : Mastered V). TurnsLinks p threads y.sent mid) master_is turns);
+      rest = subst (λ (l : List Output). SendsRest now.released l mid sent) outbox_is
+          (subst (λ (n : List Numbers). SendsRest n outbox mid sent) released_is rest);
+    }
 
 -- the parts as the calls leave them
-pub start_moves_as : {P V : Type 0} (meaning : P → Meaning V) (y old : Parts P V) (kept : Kept) (counts : List Counts) (now : Logger) (guide : List Lane) (mid sent : Sending) (ended : List (List Counts)) (schedule : List PlainMove) (master : Mastered V)
-    → y ≡ old → old.up ≡ false → StartsOver y kept counts now guide mid sent → ended ≡ y.ended ++ counts ∷ [] → schedule ≡ take y.store.stored.moves y.schedule → master ≡ y.store.stored.master
-    → MovesOn (meaning old.program) (RecoversTo kept) old (record y { up = true; master = master; schedule = schedule; guide = guide; ended = ended; sent = sent; logger = now })
-start_moves_as {P} {V} meaning y old kept counts now guide mid sent ended schedule master same down d ended_is schedule_is master_is =
-    subst (λ (e : List (List Counts)). MovesOn (meaning old.program) (RecoversTo kept) old (record y { up = true; master = master; schedule = schedule; guide = guide; ended = e; sent = sent; logger = now })) (sym ended_is)
-    (subst (λ (l : List PlainMove). MovesOn (meaning old.program) (RecoversTo kept) old (record y { up = true; master = master; schedule = l; guide = guide; ended = y.ended ++ counts ∷ []; sent = sent; logger = now })) (sym schedule_is)
-    (subst (λ (p : Mastered V). MovesOn (meaning old.program) (RecoversTo kept) old (record y { up = true; master = p; schedule = take y.store.stored.moves y.schedule; guide = guide; ended = y.ended ++ counts ∷ []; sent = sent; logger = now })) (sym master_is)
-    (start_moves meaning y old kept counts now guide mid sent same down d)))
+pub start_moves_as : {P V : Type 0} (meaning : P → Meaning V) (y old : Parts P V) (kept : Kept) (counts : List Counts)
+    (now : Logger) (guide : List Lane) (mid sent : Sending) (ended : List (List Counts)) (schedule : List PlainMove)
+    (master : Mastered V) → y ≡ old → old.up ≡ false → StartsOver y kept counts now guide mid sent
+    → ended ≡ y.ended ++ counts ∷ [] → schedule ≡ take y.store.stored.moves y.schedule → master ≡ y.store.stored.master
+    → MovesOn (meaning old.program) (RecoversTo kept) old (record y {
+      up = true;
+      master = master;
+      schedule = schedule;
+      guide = guide;
+      ended = ended;
+      sent = sent;
+      logger = now;
+    })
+start_moves_as {P} {V} meaning y old kept counts now guide mid sent ended schedule master same down d ended_is
+    schedule_is master_is =
+    subst (λ (e : List (List Counts)). MovesOn (meaning old.program) (RecoversTo kept) old
+    (record y { up = true; master = master; schedule = schedule; guide = guide; ended = e; sent = sent; logger = now }))
+    (sym ended_is) (subst (λ (l : List PlainMove). MovesOn (meaning old.program) (RecoversTo kept) old (record y {
+      up = true;
+      master = master;
+      schedule = l;
+      guide = guide;
+      ended = y.ended ++ counts ∷ [];
+      sent = sent;
+      logger = now;
+    })) (sym schedule_is) (subst (λ (p : Mastered V). MovesOn (meaning old.program) (RecoversTo kept) old (record y {
+      up = true;
+      master = p;
+      schedule = take y.store.stored.moves y.schedule;
+      guide = guide;
+      ended = y.ended ++ counts ∷ [];
+      sent = sent;
+      logger = now;
+    })) (sym master_is) (start_moves meaning y old kept counts now guide mid sent same down d)))
 
 -- A master that is up stays so, where it is told to recover and where a settling begins.
 module _ {P V : Type 0} (m : Meaning V) (old : Parts P V) (up : old.up ≡ true) where
@@ -297,13 +400,23 @@ module _ {P V : Type 0} (m : Meaning V) (old : Parts P V) (up : old.up ≡ true)
   awake_stays = (refl, λ s w st. (w, inl (sym st.master.up ∙ up, refl), st))
 
 -- One that is down recovers.
-module _ {P V : Type 0} (m : Meaning V) (kept : Kept) (old new : Parts P V) (down : old.up ≡ false) (moves : MovesOn m (RecoversTo kept) old new) where
-  pub recovers_as : (epoch : ℕ) → epoch ≡ new.logger.epoch → MovesOn m (ComesTo event.Recover (outcome.Recovered epoch kept.kept kept.dropped)) old new
+module _ {P V : Type 0} (m : Meaning V) (kept : Kept) (old new : Parts P V) (down : old.up ≡ false)
+    (moves : MovesOn m (RecoversTo kept) old new) where
+  pub recovers_as : (epoch : ℕ) → epoch ≡ new.logger.epoch
+      → MovesOn m (ComesTo event.Recover (outcome.Recovered epoch kept.kept kept.dropped)) old new
   recovers_as epoch is =
       moves_as m (RecoversTo kept) (ComesTo event.Recover (outcome.Recovered epoch kept.kept kept.dropped)) old new
       (λ s w next st sn r. (
         (
-          inr (sym st.master.up ∙ down, r.recovers, kept.kept, kept.dropped, ap (λ (e : ℕ). outcome.Recovered e kept.kept kept.dropped) (is ∙ sn.logger.epoch), r.keeps, r.drops),
+          inr (
+            sym st.master.up ∙ down,
+            r.recovers,
+            kept.kept,
+            kept.dropped,
+            ap (λ (e : ℕ). outcome.Recovered e kept.kept kept.dropped) (is ∙ sn.logger.epoch),
+            r.keeps,
+            r.drops,
+          ),
           refl,
         ),
         sn.within,
@@ -311,4 +424,5 @@ module _ {P V : Type 0} (m : Meaning V) (kept : Kept) (old new : Parts P V) (dow
       moves
 
   pub wakes_as : MovesOn m WakesUp old new
-  wakes_as = moves_as m (RecoversTo kept) WakesUp old new (λ s w next st sn r. inr (sym st.master.up ∙ down, r.recovers)) moves
+  wakes_as =
+      moves_as m (RecoversTo kept) WakesUp old new (λ s w next st sn r. inr (sym st.master.up ∙ down, r.recovers)) moves

@@ -25,15 +25,18 @@ pub record RecoversTo {V : Type 0} (kept : Kept) (s : Setting V) (w next : World
 abbrev pub WakesUp : {V : Type 0} → Setting V → World V → World V → Type 0
 WakesUp s w next = Wakes w next
 
--- The next epoch begins, and the frames of the one before are forgotten. Of each of the first threads, only what this master made
--- counts as sent; of the others all that was sent.
+-- The next epoch begins, and the frames of the one before are forgotten. Of each of the first threads, only what this
+-- master made counts as sent; of the others all that was sent.
 pub record TurnsLinks {V : Type 0} (master : Mastered V) (count : ℕ) (old new : Sending) : Type 0 where
   pub forgets : Forgets (IsOfEpoch old.epoch) old.frames new.frames
   pub entries : (t : ℕ) → t < count
-      → HoldsAt (λ part. lengths_of new.entries t ≡ take part.counts.entries (lengths_of old.entries t)) master.threads t
+      → HoldsAt (λ part. lengths_of new.entries t ≡ take part.counts.entries (lengths_of old.entries t))
+      master.threads t
   pub outputs : (t : ℕ) → t < count
-      → HoldsAt (λ part. lengths_of new.outputs t ≡ take part.counts.outputs (lengths_of old.outputs t)) master.threads t
-  pub others : (t : ℕ) → count ≤ t → (lengths_of new.entries t ≡ lengths_of old.entries t) × (lengths_of new.outputs t ≡ lengths_of old.outputs t)
+      → HoldsAt (λ part. lengths_of new.outputs t ≡ take part.counts.outputs (lengths_of old.outputs t))
+      master.threads t
+  pub others : (t : ℕ) → count ≤ t
+      → (lengths_of new.entries t ≡ lengths_of old.entries t) × (lengths_of new.outputs t ≡ lengths_of old.outputs t)
   pub epoch : new.epoch ≡ old.epoch + 1
   pub threads : new.threads ≡ old.threads
 

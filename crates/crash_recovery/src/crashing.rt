@@ -1,4 +1,5 @@
-ghost use Rattle.std.specs.Prelude.{◌≡◌, ◌-◌, ◌^◌, ◌<◌, ◌≤◌, false, true, IfOk, OnOk, length, map, take};
+ghost use Rattle.std.specs.Prelude.{◌≡◌, ◌-◌, ◌^◌, ◌<◌, ◌≤◌, false, true, IfOk, OnOk, length, map};
+ghost use Rattle.std.specs.Prelude.{take};
 ghost use Rattle.access_log.specs.declared.entry.Output as output_of;
 ghost use Rattle.output_logger.specs.Logger.{IsAmong};
 ghost use Rattle.wire_frames.specs.Writing.{CanPutOutput};
@@ -77,8 +78,9 @@ fn send_rest(sent: &mut SentFrames, released: &Released, outbox: &Outputs) -> Re
     Ok(())
 }
 
-/// A new master starts from the stored snapshot, and follows what is held of that all of whose predecessors are held or stored. How
-/// many entries it follows, and how many were dropped. After 2^32 - 2 recoveries no memory is taken to be left.
+/// A new master starts from the stored snapshot, and follows what is held of that all of whose predecessors are held or
+/// stored. How many entries it follows, and how many were dropped. After 2^32 - 2 recoveries no memory is taken to be
+/// left.
 pub fn start_over<P: Program>(core: &mut Core<P>) -> Result<Kept, NoMemory>
     requires stands { StandsForSome (P.meaning core.old.program) core.old }
     requires down { core.old.up ≡ false }

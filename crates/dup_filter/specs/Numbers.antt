@@ -1,11 +1,12 @@
 -- The numbers that were marked, thread by thread, and those that room is kept for.
-use Rattle.std.specs.Prelude.{◌≡◌, ◌≢◌, ℕ, ◌≤◌, ◌<◌, ◌⊎◌, ◌↔◌, Bool, true, false, List, [], Option, Some, IsSome, slice_index_or}
+use Rattle.std.specs.Prelude.{◌≡◌, ◌≢◌, ℕ, ◌≤◌, ◌<◌, ◌⊎◌, ◌↔◌, Bool, true, false, List, [], Option, Some, IsSome}
+use Rattle.std.specs.Prelude.{slice_index_or}
 use Rattle.std.specs.Map.{lookup}
 use Rattle.std.specs.BTreeMap.{is_at}
 use Rattle.std.specs.Ordering.{nat_cmp}
 
--- What is kept of one thread. The numbers from 1 to the floor are marked. Of those above, `true` stands at a marked one, and
--- `false` at one that room is kept for.
+-- What is kept of one thread. The numbers from 1 to the floor are marked. Of those above, `true` stands at a marked
+-- one, and `false` at one that room is kept for.
 pub record Numbers : Type 0 where
   pub floor : ℕ
   pub above : List (ℕ × Bool)
@@ -62,7 +63,8 @@ pub record GivesUpRooms (old new : Numbers) : Type 0 where
   pub marked : (n : ℕ) → IsMarked new n ↔ IsMarked old n
   pub room : (n : ℕ) → HasRoom new n → ⊥
 
--- What is true of the numbers of every thread: those kept above the floor are above it, and this is the greatest marked one.
+-- What is true of the numbers of every thread: those kept above the floor are above it, and this is the greatest marked
+-- one.
 pub record AreNumbers (s : Numbers) (top : ℕ) : Type 0 where
   pub past : (n : ℕ) → IsSome (above_at s n) → s.floor < n
   pub greatest : IsGreatest s top

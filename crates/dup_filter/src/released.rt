@@ -1,12 +1,15 @@
-ghost use Rattle.std.specs.Prelude.{◌≡◌, ℕ, ◌<◌, ◌≤◌, ◌↔◌, ◌≢◌, IsTrue, IfOk, OnOk, OnErr, length, replicate};
-ghost use Rattle.dup_filter.specs.Numbers.{no_numbers, numbers, WasMarked, IsAwaited, AreApart, IsGreatest, Marks, KeepsRoom, GivesUpRooms};
+ghost use Rattle.std.specs.Prelude.{◌≡◌, ℕ, ◌<◌, ◌≤◌, ◌↔◌, ◌≢◌, IsTrue, IfOk, OnOk, OnErr, length};
+ghost use Rattle.std.specs.Prelude.{replicate};
+ghost use Rattle.dup_filter.specs.Numbers.{no_numbers, numbers, WasMarked, IsAwaited, AreApart};
+ghost use Rattle.dup_filter.specs.Numbers.{IsGreatest, Marks, KeepsRoom, GivesUpRooms};
 
 use crate::numbers::Numbers;
 use plain_text::NoMemory;
 use std::alloc::Global;
 use std::marker::Model;
 
-/// The numbers that were marked, of each thread. They are kept as the number up to which all are marked, and the few above it.
+/// The numbers that were marked, of each thread. They are kept as the number up to which all are marked, and the few
+/// above it.
 ///
 /// Room may be kept for a number, so that it can be marked without taking memory. It is not marked by that.
 #[derive(Debug, Drop)]
@@ -68,7 +71,8 @@ impl Released {
         }
     }
 
-    /// The number up to which all numbers of the thread were marked, as far as they are kept as one. It takes no memory.
+    /// The number up to which all numbers of the thread were marked, as far as they are kept as one. It takes no
+    /// memory.
     pub fn floor(&self, thread: u32) -> u64
         ensures { result ≡ (numbers self.now thread).floor }
     {

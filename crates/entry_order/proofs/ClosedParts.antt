@@ -1,5 +1,6 @@
 -- Each set of held entries has a closed part: what is left where entries that lack a predecessor are dropped.
-use Rattle.std.proofs.Common.{◌≡◌, ℕ, zero, suc, ◌+◌, ◌<◌, ◌≢◌, List, [], ◌∷◌, refl, sym, ap, ◌∙◌, subst, inl, inr, ◌⊎◌, arith, length, Some}
+use Rattle.std.proofs.Common.{◌≡◌, ℕ, zero, suc, ◌+◌, ◌<◌, ◌≢◌, List, [], ◌∷◌, refl, sym, ap, ◌∙◌, subst, inl, inr, ◌⊎◌}
+use Rattle.std.proofs.Common.{arith, length, Some}
 use Rattle.std.specs.Prelude.{slice_get, remove}
 use Rattle.entry_order.specs.declared.what.What.{What}
 use Rattle.entry_order.specs.declared.what.What.TheVariants.{Access, Read, Clock, Draw}
@@ -54,11 +55,13 @@ make t n w = record { thread = t; number = n; what = w }
 pub entry_or : (e f : Entry) → Or (e ≡ f)
 entry_or e f = go (is_or e.thread f.thread) (is_or e.number f.number) (what_or e.what f.what)
   where
-    go : (e.thread ≡ f.thread) ⊎ (e.thread ≢ f.thread) → (e.number ≡ f.number) ⊎ (e.number ≢ f.number) → Or (e.what ≡ f.what) → Or (e ≡ f)
+    go : (e.thread ≡ f.thread) ⊎ (e.thread ≢ f.thread) → (e.number ≡ f.number) ⊎ (e.number ≢ f.number)
+        → Or (e.what ≡ f.what) → Or (e ≡ f)
     go (inr a) b c = inr (λ same. a (ap (λ (g : Entry). g.thread) same))
     go (inl a) (inr b) c = inr (λ same. b (ap (λ (g : Entry). g.number) same))
     go (inl a) (inl b) (inr c) = inr (λ same. c (ap (λ (g : Entry). g.what) same))
-    go (inl a) (inl b) (inl c) = inl (ap (λ (t : ℕ). make t e.number e.what) a ∙ (ap (λ (n : ℕ). make f.thread n e.what) b ∙ ap (λ (w : What). make f.thread f.number w) c))
+    go (inl a) (inl b) (inl c) = inl (ap (λ (t : ℕ). make t e.number e.what) a
+        ∙ (ap (λ (n : ℕ). make f.thread n e.what) b ∙ ap (λ (w : What). make f.thread f.number w) c))
 
 pub in_or : (e : Entry) (xs : List Entry) → Or (IsIn e xs)
 in_or e [] = inr (λ h. h)
@@ -176,7 +179,8 @@ next_on_or (Read v s) (Draw c) = inr (λ h. out h)
 next_or : (e f : Entry) → Or (IsNext e f)
 next_or e f = go (is_or e.thread f.thread) (is_or f.number (e.number + 1)) (next_on_or e.what f.what)
   where
-    go : (e.thread ≡ f.thread) ⊎ (e.thread ≢ f.thread) → (f.number ≡ e.number + 1) ⊎ (f.number ≢ e.number + 1) → Or (IsNextOn e.what f.what) → Or (IsNext e f)
+    go : (e.thread ≡ f.thread) ⊎ (e.thread ≢ f.thread) → (f.number ≡ e.number + 1) ⊎ (f.number ≢ e.number + 1)
+        → Or (IsNextOn e.what f.what) → Or (IsNext e f)
     go (inl a) (inl b) c = inl (inl (a, b))
     go a b (inl c) = inl (inr c)
     go (inr a) b (inr c) = inr (λ h. out h)
@@ -198,7 +202,8 @@ lacks_or : (some stored part : List Entry) (f : Entry) → Lacks some stored par
 lacks_or [] stored part f = inr (λ e here n. absurd here)
 lacks_or (x ∷ some) stored part f = go (lacks_or some stored part f) (next_or x f) (in_or x part) (in_or x stored)
   where
-    go : Lacks some stored part f ⊎ Has some stored part f → Or (IsNext x f) → Or (IsIn x part) → Or (IsIn x stored) → Lacks (x ∷ some) stored part f ⊎ Has (x ∷ some) stored part f
+    go : Lacks some stored part f ⊎ Has some stored part f → Or (IsNext x f) → Or (IsIn x part) → Or (IsIn x stored)
+        → Lacks (x ∷ some) stored part f ⊎ Has (x ∷ some) stored part f
     go (inl (e, he, n, p, q)) a b c = inl (e, inr he, n, p, q)
     go (inr all) (inl n) (inr p) (inr q) = inl (x, inl refl, n, p, q)
     go (inr all) (inr out) b c = inr (λ e here n. pick e here n)
@@ -221,11 +226,14 @@ lacks_or (x ∷ some) stored part f = go (lacks_or some stored part f) (next_or 
 abbrev IsLackingAt : List Entry → List Entry → List Entry → List Entry → Type 0
 IsLackingAt log stored part some = (i : ℕ) × (f : Entry) × (slice_get some i ≡ Some f) × Lacks log stored part f
 
-any_or : (log stored part some : List Entry) → IsLackingAt log stored part some ⊎ ((f : Entry) → IsIn f some → Has log stored part f)
+any_or : (log stored part some : List Entry)
+    → IsLackingAt log stored part some ⊎ ((f : Entry) → IsIn f some → Has log stored part f)
 any_or log stored part [] = inr (λ f here. absurd here)
 any_or log stored part (x ∷ some) = go (lacks_or log stored part x) (any_or log stored part some)
   where
-    go : Lacks log stored part x ⊎ Has log stored part x → IsLackingAt log stored part some ⊎ ((f : Entry) → IsIn f some → Has log stored part f) → IsLackingAt log stored part (x ∷ some) ⊎ ((f : Entry) → IsIn f (x ∷ some) → Has log stored part f)
+    go : Lacks log stored part x ⊎ Has log stored part x
+        → IsLackingAt log stored part some ⊎ ((f : Entry) → IsIn f some → Has log stored part f)
+        → IsLackingAt log stored part (x ∷ some) ⊎ ((f : Entry) → IsIn f (x ∷ some) → Has log stored part f)
     go (inl h) b = inl (0, x, refl, h)
     go (inr h) (inl (i, f, at, l)) = inl (suc i, f, at, l)
     go (inr h) (inr all) = inr (λ f here. pick f here)
@@ -237,19 +245,27 @@ any_or log stored part (x ∷ some) = go (lacks_or log stored part x) (any_or lo
 removed_shorter : (xs : List Entry) (i : ℕ) (x : Entry) → slice_get xs i ≡ Some x → length (remove xs i) < length xs
 removed_shorter [] i x at = absurd (cc)
 removed_shorter (y ∷ xs) zero x at = omega arith
-removed_shorter (y ∷ xs) (suc i) x at = let k : length (remove xs i) < length xs = removed_shorter xs i x at in omega arith
+removed_shorter (y ∷ xs) (suc i) x at =
+    let k : length (remove xs i) < length xs = removed_shorter xs i x at in omega arith
 
-drop_all : (log stored held : List Entry) (fuel : ℕ) (part : List Entry) → length part < fuel → IsDropping log stored held part → (part : List Entry) × IsClosedPart log stored held part
+drop_all : (log stored held : List Entry) (fuel : ℕ) (part : List Entry) → length part < fuel
+    → IsDropping log stored held part → (part : List Entry) × IsClosedPart log stored held part
 drop_all log stored held zero part low d = absurd (omega arith)
-drop_all log stored held (suc fuel) part low d = go (any_or log stored part part) (λ next. drop_all log stored held fuel next)
+drop_all log stored held (suc fuel) part low d =
+    go (any_or log stored part part) (λ next. drop_all log stored held fuel next)
   where
-    go : IsLackingAt log stored part part ⊎ ((f : Entry) → IsIn f part → Has log stored part f) → ((next : List Entry) → length next < fuel → IsDropping log stored held next → (part : List Entry) × IsClosedPart log stored held part) → (part : List Entry) × IsClosedPart log stored held part
+    go : IsLackingAt log stored part part ⊎ ((f : Entry) → IsIn f part → Has log stored part f)
+        → ((next : List Entry) → length next < fuel → IsDropping log stored held next
+        → (part : List Entry) × IsClosedPart log stored held part)
+        → (part : List Entry) × IsClosedPart log stored held part
     go (inl (i, f, at, l)) rest =
         let k : length (remove part i) < length part = removed_shorter part i f at in
         rest (remove part i) (omega arith) (dropping_step log stored held part i d (f, at, l))
-    go (inr all) rest = (part, record { within = d.within; closed = λ e f he hf n. all f hf e he n; greatest = d.greatest })
+    go (inr all) rest =
+        (part, record { within = d.within; closed = λ e f he hf n. all f hf e he n; greatest = d.greatest })
 
 -- The held entries have a closed part.
 pub closed_part_there : (log stored held : List Entry) → (part : List Entry) × IsClosedPart log stored held part
 closed_part_there log stored held =
-    drop_all log stored held (length held + 1) held (omega arith) (record { within = λ e h. h; greatest = λ other sub closed e h. sub e h })
+    drop_all log stored held (length held + 1) held (omega arith)
+    (record { within = λ e h. h; greatest = λ other sub closed e h. sub e h })

@@ -1,5 +1,6 @@
 -- Membership in a list of entries, place by place.
-use Rattle.std.proofs.Common.{◌≡◌, ℕ, zero, suc, ◌+◌, ◌≤◌, ◌<◌, List, [], ◌∷◌, ◌++◌, refl, sym, ◌∙◌, subst, inl, inr, ◌⊎◌, arith, length, get_or, drop, drop-cons, add-one, Some}
+use Rattle.std.proofs.Common.{◌≡◌, ℕ, zero, suc, ◌+◌, ◌≤◌, ◌<◌, List, [], ◌∷◌, ◌++◌, refl, sym, ◌∙◌, subst, inl, inr}
+use Rattle.std.proofs.Common.{◌⊎◌, arith, length, get_or, drop, drop-cons, add-one, Some}
 use Rattle.std.proofs.Math.Seq.{drop-nil}
 use Rattle.std.specs.Prelude.{slice_get, remove}
 use Rattle.entry_order.specs.Log.{Entry, IsIn}
@@ -28,7 +29,8 @@ get_is (z ∷ xs) zero x y h is = let k : z ≡ x = cc in sym k ∙ sym is
 get_is (z ∷ xs) (suc i) x y h is = get_is xs i x y h is
 
 -- removing one entry leaves the others
-pub removed_or : (xs : List Entry) (i : ℕ) (x e : Entry) → slice_get xs i ≡ Some x → IsIn e xs → (x ≡ e) ⊎ IsIn e (remove xs i)
+pub removed_or : (xs : List Entry) (i : ℕ) (x e : Entry) → slice_get xs i ≡ Some x → IsIn e xs
+    → (x ≡ e) ⊎ IsIn e (remove xs i)
 removed_or [] i x e h here = absurd here
 removed_or (y ∷ xs) zero x e h (inl same) = let k : y ≡ x = cc in inl (sym k ∙ same)
 removed_or (y ∷ xs) zero x e h (inr here) = inr here
@@ -74,7 +76,8 @@ SoFar Q xs i = (e : Entry) → IsIn e xs → IsIn e (drop i xs) ⊎ Q e
 pub so_far_start : (Q : Entry → Type 0) (xs : List Entry) → SoFar Q xs 0
 so_far_start Q xs e here = inl here
 
-pub so_far_step : (Q : Entry → Type 0) (xs : List Entry) (i : ℕ) (x : Entry) → i < length xs → x ≡ get_or xs i x → SoFar Q xs i → Q x → SoFar Q xs (i + 1)
+pub so_far_step : (Q : Entry → Type 0) (xs : List Entry) (i : ℕ) (x : Entry) → i < length xs → x ≡ get_or xs i x
+    → SoFar Q xs i → Q x → SoFar Q xs (i + 1)
 so_far_step Q xs i x low is done new e here = go (done e here)
   where
     more : drop i xs ≡ get_or xs i x ∷ drop (suc i) xs
@@ -93,7 +96,8 @@ none_past [] i e low here = subst (λ (l : List Entry). IsIn e l) (drop-nil i) h
 none_past (x ∷ xs) zero e low here = absurd (omega arith)
 none_past (x ∷ xs) (suc i) e low here = none_past xs i e (omega arith) here
 
-pub so_far_end : (Q : Entry → Type 0) (xs : List Entry) (i : ℕ) → length xs ≤ i → SoFar Q xs i → (e : Entry) → IsIn e xs → Q e
+pub so_far_end : (Q : Entry → Type 0) (xs : List Entry) (i : ℕ) → length xs ≤ i → SoFar Q xs i → (e : Entry)
+    → IsIn e xs → Q e
 so_far_end Q xs i low done e here = go (done e here)
   where
     go : IsIn e (drop i xs) ⊎ Q e → Q e

@@ -1,5 +1,6 @@
 -- Where entries stand in a log, and which of them precede which.
-use Rattle.std.proofs.Common.{◌≡◌, Bool, true, false, IsTrue, List, [], ◌∷◌, refl, sym, ◌∙◌, subst, inl, inr, ◌⊎◌, arith}
+use Rattle.std.proofs.Common.{◌≡◌, Bool, true, false, IsTrue, List, [], ◌∷◌, refl, sym, ◌∙◌, subst, inl, inr, ◌⊎◌}
+use Rattle.std.proofs.Common.{arith}
 use Rattle.std.specs.Prelude.{nat_eq, ◌||◌}
 use Rattle.std.proofs.lemmas.Bool.Decides.{nat_tests}
 use Rattle.entry_order.specs.declared.what.What.{What}
@@ -10,14 +11,16 @@ use Rattle.entry_order.proofs.Order.{newest, stands_after, closed_down}
 use Rattle.entry_order.proofs.StampLemmas.{precedes_more, binds_precedes}
 
 -- of two entries of a log, one stands before the other, or they are one
-pub stands_or : (log : List Entry) (e f : Entry) → IsIn e log → IsIn f log → (e ≡ f) ⊎ (StandsBefore log e f ⊎ StandsBefore log f e)
+pub stands_or : (log : List Entry) (e f : Entry) → IsIn e log → IsIn f log
+    → (e ≡ f) ⊎ (StandsBefore log e f ⊎ StandsBefore log f e)
 stands_or [] e f he hf = absurd he
 stands_or (x ∷ log) e f (inl a) (inl b) = inl (sym a ∙ b)
 stands_or (x ∷ log) e f (inl a) (inr b) = inr (inr (inl (a, b)))
 stands_or (x ∷ log) e f (inr a) (inl b) = inr (inl (inl (b, a)))
 stands_or (x ∷ log) e f (inr a) (inr b) = go (stands_or log e f a b)
   where
-    go : (e ≡ f) ⊎ (StandsBefore log e f ⊎ StandsBefore log f e) → (e ≡ f) ⊎ (StandsBefore (x ∷ log) e f ⊎ StandsBefore (x ∷ log) f e)
+    go : (e ≡ f) ⊎ (StandsBefore log e f ⊎ StandsBefore log f e)
+        → (e ≡ f) ⊎ (StandsBefore (x ∷ log) e f ⊎ StandsBefore (x ∷ log) f e)
     go (inl h) = inl h
     go (inr (inl h)) = inr (inl (inr h))
     go (inr (inr h)) = inr (inr (inr h))
@@ -33,10 +36,12 @@ pub not_precedes_itself : (log : List Entry) (e : Entry) → IsLog log → Prece
 not_precedes_itself log e good p = not_before_itself log e good (stands_after log e e good p)
 
 -- An entry that stands before another of its thread, or of its variable where one of them is a touch, precedes it.
-pub earlier_precedes : (log : List Entry) (e f : Entry) → IsLog log → StandsBefore log e f → IsTrue (binds f e) → Precedes log e f
+pub earlier_precedes : (log : List Entry) (e f : Entry) → IsLog log → StandsBefore log e f → IsTrue (binds f e)
+    → Precedes log e f
 earlier_precedes [] e f good h b = absurd h
 earlier_precedes (x ∷ log) e f good (inl h) b =
-    subst (λ (y : Entry). Precedes (x ∷ log) e y) h.0 (binds_precedes x log e good h.1 (subst (λ (y : Entry). binds y e ≡ true) (sym h.0) b))
+    subst (λ (y : Entry). Precedes (x ∷ log) e y) h.0
+    (binds_precedes x log e good h.1 (subst (λ (y : Entry). binds y e ≡ true) (sym h.0) b))
 earlier_precedes (x ∷ log) e f good (inr h) b = precedes_more x log e f (earlier_precedes log e f good.2 h b)
 
 -- entries of one thread bind each other
@@ -71,7 +76,8 @@ shares_sym (Draw a) (Clock b) = refl
 shares_sym (Draw a) (Draw b) = refl
 
 -- where each of two entries binds the other, one precedes the other, or they are one
-bound_in_order : (log : List Entry) (e f : Entry) → IsLog log → IsIn e log → IsIn f log → IsTrue (binds f e) → IsTrue (binds e f) → (e ≡ f) ⊎ (Precedes log e f ⊎ Precedes log f e)
+bound_in_order : (log : List Entry) (e f : Entry) → IsLog log → IsIn e log → IsIn f log → IsTrue (binds f e)
+    → IsTrue (binds e f) → (e ≡ f) ⊎ (Precedes log e f ⊎ Precedes log f e)
 bound_in_order log e f good he hf a b = go (stands_or log e f he hf)
   where
     go : (e ≡ f) ⊎ (StandsBefore log e f ⊎ StandsBefore log f e) → (e ≡ f) ⊎ (Precedes log e f ⊎ Precedes log f e)
@@ -80,14 +86,18 @@ bound_in_order log e f good he hf a b = go (stands_or log e f he hf)
     go (inr (inr h)) = inr (inr (earlier_precedes log f e good h b))
 
 -- Of two entries of one thread, one precedes the other.
-pub thread_in_order : (log : List Entry) (e f : Entry) → IsLog log → IsIn e log → IsIn f log → e.thread ≡ f.thread → (e ≡ f) ⊎ (Precedes log e f ⊎ Precedes log f e)
+pub thread_in_order : (log : List Entry) (e f : Entry) → IsLog log → IsIn e log → IsIn f log → e.thread ≡ f.thread
+    → (e ≡ f) ⊎ (Precedes log e f ⊎ Precedes log f e)
 thread_in_order log e f good he hf h = bound_in_order log e f good he hf (binds_thread e f h) (binds_thread f e (sym h))
 
 -- Of two entries on one variable, of which one is a touch, one precedes the other.
-pub variable_in_order : (log : List Entry) (e f : Entry) → IsLog log → IsIn e log → IsIn f log → IsTrue (shares e.what f.what) → (e ≡ f) ⊎ (Precedes log e f ⊎ Precedes log f e)
-variable_in_order log e f good he hf h = bound_in_order log e f good he hf (binds_variable e f (shares_sym f.what e.what ∙ h)) (binds_variable f e h)
+pub variable_in_order : (log : List Entry) (e f : Entry) → IsLog log → IsIn e log → IsIn f log
+    → IsTrue (shares e.what f.what) → (e ≡ f) ⊎ (Precedes log e f ⊎ Precedes log f e)
+variable_in_order log e f good he hf h =
+    bound_in_order log e f good he hf (binds_variable e f (shares_sym f.what e.what ∙ h)) (binds_variable f e h)
 
--- A closed set that has an entry has every earlier one of its thread, and every earlier one on its variable, where one of the
--- two is a touch.
-pub closed_earlier : (log set : List Entry) (e f : Entry) → IsLog log → IsClosed log set → IsIn f set → StandsBefore log e f → IsTrue (binds f e) → IsIn e set
+-- A closed set that has an entry has every earlier one of its thread, and every earlier one on its variable, where one
+-- of the two is a touch.
+pub closed_earlier : (log set : List Entry) (e f : Entry) → IsLog log → IsClosed log set → IsIn f set
+    → StandsBefore log e f → IsTrue (binds f e) → IsIn e set
 closed_earlier log set e f good closed hf h b = closed_down log set e f closed (earlier_precedes log e f good h b) hf

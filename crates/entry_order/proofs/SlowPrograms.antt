@@ -1,5 +1,7 @@
 -- What the slow programs keep as they go: a search back along chains, a part that lacks less and less, and a count.
-use Rattle.std.proofs.Common.{◌≡◌, ℕ, zero, suc, ◌+◌, ◌≤◌, ◌<◌, List, [], ◌∷◌, ◌++◌, refl, sym, ◌∙◌, subst, inl, inr, ◌⊎◌, arith, length, get_or, drop, drop-cons, add-one, Option, Some, None, MatchOption, ◌↔◌}
+use Rattle.std.proofs.Common.{◌≡◌, ℕ, zero, suc, ◌+◌, ◌≤◌, ◌<◌, List, [], ◌∷◌, ◌++◌, refl, sym, ◌∙◌, subst, inl, inr}
+use Rattle.std.proofs.Common.{◌⊎◌, arith, length, get_or, drop, drop-cons, add-one, Option, Some, None, MatchOption}
+use Rattle.std.proofs.Common.{◌↔◌}
 use Rattle.std.specs.Prelude.{slice_get, remove}
 use Rattle.std.proofs.Math.Seq.{drop-nil}
 use Rattle.std.proofs.lemmas.Bool.{cases_lt}
@@ -7,7 +9,8 @@ use Rattle.entry_order.specs.Log.{Entry, IsIn, IsNext, Precedes, AtOnce, Through
 use Rattle.entry_order.specs.Stamps.{IsCount}
 use Rattle.entry_order.specs.Closed.{IsClosedOver, Lacks, IsMissing, IsFirstMissing, IsDue, IsNoLater}
 use Rattle.entry_order.proofs.Order.{precedes_in}
-use Rattle.entry_order.proofs.Members.{SoFar, so_far_start, so_far_step, so_far_end, at_in, get_in, get_is, removed_or, removed_in, pushed_old, pushed_new, pushed_or}
+use Rattle.entry_order.proofs.Members.{SoFar, so_far_start, so_far_step, so_far_end, at_in, get_in, get_is, removed_or}
+use Rattle.entry_order.proofs.Members.{removed_in, pushed_old, pushed_new, pushed_or}
 
 -- A search back from an entry of the log: each entry found precedes it or is it, and the rest are the others.
 pub record IsSearch (log : List Entry) (last : Entry) (found rest : List Entry) : Type 0 where
@@ -29,7 +32,10 @@ search_start log last here = record {
     sound e (inr h) = absurd h
 
 -- one more entry found
-pub search_step : (log : List Entry) (last : Entry) (found rest : List Entry) (i : ℕ) (y : Entry) → IsSearch log last found rest → ((x : Entry) × (slice_get rest i ≡ Some x) × ((g : Entry) × IsIn g found × IsNext x g)) → y ≡ get_or rest i y → IsSearch log last (found ++ y ∷ []) (remove rest i)
+pub search_step : (log : List Entry) (last : Entry) (found rest : List Entry) (i : ℕ) (y : Entry)
+    → IsSearch log last found rest
+    → ((x : Entry) × (slice_get rest i ≡ Some x) × ((g : Entry) × IsIn g found × IsNext x g)) → y ≡ get_or rest i y
+    → IsSearch log last (found ++ y ∷ []) (remove rest i)
 search_step log last found rest i y s (x, at, (g, hg, n)) is = record {
   start = pushed_old found y last s.start;
   sound = λ e h. sound e (pushed_or found y e h);
@@ -52,7 +58,8 @@ search_step log last found rest i y s (x, at, (g, hg, n)) is = record {
 
     sound : (e : Entry) → IsIn e found ⊎ (y ≡ e) → IsIn e log × PrecedesOrIs log e last
     sound e (inl h) = s.sound e h
-    sound e (inr same) = subst (λ (z : Entry). IsIn z log × PrecedesOrIs log z last) same (in_log, further (s.sound g hg))
+    sound e (inr same) =
+        subst (λ (z : Entry). IsIn z log × PrecedesOrIs log z last) same (in_log, further (s.sound g hg))
 
     split : (e : Entry) → IsIn e rest ⊎ IsIn e found → IsIn e (remove rest i) ⊎ IsIn e (found ++ y ∷ [])
     split e (inr h) = inr (pushed_old found y e h)
@@ -63,7 +70,9 @@ search_step log last found rest i y s (x, at, (g, hg, n)) is = record {
         go (inr k) = inl k
 
 -- with none of the rest next to one found, all are found
-pub search_end : (log : List Entry) (last : Entry) (found rest : List Entry) → IsSearch log last found rest → ((e g : Entry) → IsIn e rest → IsIn g found → IsNext e g → ⊥) → (e : Entry) → IsIn e log → PrecedesOrIs log e last → IsIn e found
+pub search_end : (log : List Entry) (last : Entry) (found rest : List Entry) → IsSearch log last found rest
+    → ((e g : Entry) → IsIn e rest → IsIn g found → IsNext e g → ⊥) → (e : Entry) → IsIn e log → PrecedesOrIs log e last
+    → IsIn e found
 search_end log last found rest s none e here (inl same) = subst (λ (z : Entry). IsIn z found) (sym same) s.start
 search_end log last found rest s none e here (inr p) = chain e p
   where
@@ -79,7 +88,8 @@ search_end log last found rest s none e here (inr p) = chain e p
     chain e p = chain_from e last s.start p
 
 -- where the log lacks the entry, nothing precedes it
-pub search_none : (log : List Entry) (last : Entry) → (IsIn last log → ⊥) → (e : Entry) → IsIn e log × PrecedesOrIs log e last → ⊥
+pub search_none : (log : List Entry) (last : Entry) → (IsIn last log → ⊥) → (e : Entry)
+    → IsIn e log × PrecedesOrIs log e last → ⊥
 search_none log last out e (h, inl same) = out (subst (λ (z : Entry). IsIn z log) same h)
 search_none log last out e (h, inr p) = out (ends e p)
   where
@@ -88,11 +98,14 @@ search_none log last out e (h, inr p) = out (ends e p)
     ends e (Through {g = g} i n q) = ends g q
 
 -- what precedes is next to one found, and the other way
-pub next_found : (log : List Entry) (found : List Entry) (e last : Entry) → ((g : Entry) → IsIn g log × PrecedesOrIs log g last → IsIn g found) → Precedes log e last → (g : Entry) × IsIn g found × IsNext e g
+pub next_found : (log : List Entry) (found : List Entry) (e last : Entry)
+    → ((g : Entry) → IsIn g log × PrecedesOrIs log g last → IsIn g found) → Precedes log e last
+    → (g : Entry) × IsIn g found × IsNext e g
 next_found log found e last all (AtOnce i j n) = (last, all last (j, inl refl), n)
 next_found log found e last all (Through {g = g} i n p) = (g, all g (precedes_in log g last p, inr p), n)
 
-pub found_next : (log : List Entry) (e g last : Entry) → IsIn e log → IsIn g log → IsNext e g → PrecedesOrIs log g last → Precedes log e last
+pub found_next : (log : List Entry) (e g last : Entry) → IsIn e log → IsIn g log → IsNext e g → PrecedesOrIs log g last
+    → Precedes log e last
 found_next log e g last he hg n (inl same) = subst (λ (z : Entry). Precedes log e z) same (AtOnce he hg n)
 found_next log e g last he hg n (inr p) = Through he n p
 
@@ -103,24 +116,30 @@ up_to_in log e last here (inr p) = precedes_in log e last p
 -- A part of the held entries that still has all that any closed part has.
 pub record IsDropping (log stored held part : List Entry) : Type 0 where
   pub within : (e : Entry) → IsIn e part → IsIn e held
-  pub greatest : (other : List Entry) → ((e : Entry) → IsIn e other → IsIn e held) → IsClosedOver log stored other → (e : Entry) → IsIn e other → IsIn e part
+  pub greatest : (other : List Entry) → ((e : Entry) → IsIn e other → IsIn e held) → IsClosedOver log stored other
+      → (e : Entry) → IsIn e other → IsIn e part
 
 -- dropping one that lacks a predecessor
-pub dropping_step : (log stored held part : List Entry) (i : ℕ) → IsDropping log stored held part → ((f : Entry) × (slice_get part i ≡ Some f) × Lacks log stored part f) → IsDropping log stored held (remove part i)
+pub dropping_step : (log stored held part : List Entry) (i : ℕ) → IsDropping log stored held part
+    → ((f : Entry) × (slice_get part i ≡ Some f) × Lacks log stored part f) → IsDropping log stored held (remove part i)
 dropping_step log stored held part i d (f, at, (e, he, n, not_in, not_stored)) = record {
   within = λ g h. d.within g (removed_in part i g h);
-  greatest = λ other sub closed g h. pick other sub closed g h (removed_or part i f g at (d.greatest other sub closed g h));
+  greatest =
+      λ other sub closed g h. pick other sub closed g h (removed_or part i f g at (d.greatest other sub closed g h));
 }
   where
-    none : (other : List Entry) → ((g : Entry) → IsIn g other → IsIn g held) → IsClosedOver log stored other → IsIn f other → ⊥
+    none : (other : List Entry) → ((g : Entry) → IsIn g other → IsIn g held) → IsClosedOver log stored other
+        → IsIn f other → ⊥
     none other sub closed h = go (closed e f he h n)
       where
         go : IsIn e other ⊎ IsIn e stored → ⊥
         go (inl k) = not_in (d.greatest other sub closed e k)
         go (inr k) = not_stored k
 
-    pick : (other : List Entry) → ((g : Entry) → IsIn g other → IsIn g held) → IsClosedOver log stored other → (g : Entry) → IsIn g other → (f ≡ g) ⊎ IsIn g (remove part i) → IsIn g (remove part i)
-    pick other sub closed g h (inl same) = absurd (none other sub closed (subst (λ (z : Entry). IsIn z other) (sym same) h))
+    pick : (other : List Entry) → ((g : Entry) → IsIn g other → IsIn g held) → IsClosedOver log stored other
+        → (g : Entry) → IsIn g other → (f ≡ g) ⊎ IsIn g (remove part i) → IsIn g (remove part i)
+    pick other sub closed g h (inl same) =
+        absurd (none other sub closed (subst (λ (z : Entry). IsIn z other) (sym same) h))
     pick other sub closed g h (inr k) = k
 
 -- A count of the members up to a place.
@@ -130,14 +149,16 @@ CountsFrom P xs i n = (k : ℕ) → IsCount P (drop i xs) k → IsCount P xs (n 
 pub counts_start : (P : Entry → Type 0) (xs : List Entry) → CountsFrom P xs 0 0
 counts_start P xs k h = subst (λ (n : ℕ). IsCount P xs n) (let e : k ≡ 0 + k = omega arith in e) h
 
-pub counts_in : (P : Entry → Type 0) (xs : List Entry) (i n : ℕ) (x : Entry) → i < length xs → x ≡ get_or xs i x → P x → CountsFrom P xs i n → CountsFrom P xs (i + 1) (n + 1)
+pub counts_in : (P : Entry → Type 0) (xs : List Entry) (i n : ℕ) (x : Entry) → i < length xs → x ≡ get_or xs i x → P x
+    → CountsFrom P xs i n → CountsFrom P xs (i + 1) (n + 1)
 counts_in P xs i n x low is yes_x old k h =
     let more : drop i xs ≡ get_or xs i x ∷ drop (suc i) xs = drop-cons xs i x low in
     let one : IsCount P (drop (suc i) xs) k = rw add-one at h in
     let new : IsCount P (drop i xs) (k + 1) = rw more (inl (subst P is yes_x, k, refl, one)) in
     subst (λ (m : ℕ). IsCount P xs m) (let e : n + (k + 1) ≡ n + 1 + k = omega arith in e) (old (k + 1) new)
 
-pub counts_out : (P : Entry → Type 0) (xs : List Entry) (i n : ℕ) (x : Entry) → i < length xs → x ≡ get_or xs i x → (P x → ⊥) → CountsFrom P xs i n → CountsFrom P xs (i + 1) n
+pub counts_out : (P : Entry → Type 0) (xs : List Entry) (i n : ℕ) (x : Entry) → i < length xs → x ≡ get_or xs i x
+    → (P x → ⊥) → CountsFrom P xs i n → CountsFrom P xs (i + 1) n
 counts_out P xs i n x low is not_x old k h =
     let more : drop i xs ≡ get_or xs i x ∷ drop (suc i) xs = drop-cons xs i x low in
     let one : IsCount P (drop (suc i) xs) k = rw add-one at h in
@@ -150,7 +171,8 @@ drop_past (x ∷ xs) zero low = absurd (omega arith)
 drop_past (x ∷ xs) (suc i) low = drop_past xs i (omega arith)
 
 pub counts_end : (P : Entry → Type 0) (xs : List Entry) (i n : ℕ) → length xs ≤ i → CountsFrom P xs i n → IsCount P xs n
-counts_end P xs i n low old = subst (λ (m : ℕ). IsCount P xs m) (let e : n + 0 ≡ n = omega arith in e) (old 0 (rw (drop_past xs i low) refl))
+counts_end P xs i n low old =
+    subst (λ (m : ℕ). IsCount P xs m) (let e : n + 0 ≡ n = omega arith in e) (old 0 (rw (drop_past xs i low) refl))
 
 -- The least so far
 
@@ -167,7 +189,8 @@ no_later_trans e f g (inr a) (inr b) = inr (a.0 ∙ b.0, omega (arith, a.1, b.1)
 pub later_or : (e f : Entry) → IsNoLater e f ⊎ IsNoLater f e
 later_or e f = go (cases_lt e.thread f.thread) (cases_lt f.thread e.thread) (cases_lt f.number e.number)
   where
-    go : (e.thread < f.thread) ⊎ (f.thread ≤ e.thread) → (f.thread < e.thread) ⊎ (e.thread ≤ f.thread) → (f.number < e.number) ⊎ (e.number ≤ f.number) → IsNoLater e f ⊎ IsNoLater f e
+    go : (e.thread < f.thread) ⊎ (f.thread ≤ e.thread) → (f.thread < e.thread) ⊎ (e.thread ≤ f.thread)
+        → (f.number < e.number) ⊎ (e.number ≤ f.number) → IsNoLater e f ⊎ IsNoLater f e
     go (inl a) b c = inl (inl a)
     go (inr a) (inl b) c = inr (inl b)
     go (inr a) (inr b) (inl c) = inr (inr (omega arith, omega arith))
@@ -181,28 +204,45 @@ IsFirstSoFar xs i (Some first) = IsIn first xs × SoFar (λ e. IsNoLater first e
 pub first_start : (xs : List Entry) → IsFirstSoFar xs 0 None
 first_start xs = so_far_start (λ e. ⊥) xs
 
-pub first_step : (xs : List Entry) (i : ℕ) (x r : Entry) (first : Option Entry) → i < length xs → x ≡ get_or xs i x → IsFirstSoFar xs i first → MatchOption first (r ≡ x) (λ e. (IsNoLater e x × (r ≡ e)) ⊎ (IsNoLater x e × (r ≡ x))) → IsFirstSoFar xs (i + 1) (Some r)
-first_step xs i x r None low is old is_x =
-    (subst (λ (z : Entry). IsIn z xs) (sym is_x) (at_in xs i x low is), so_far_step (λ e. IsNoLater r e) xs i x low is (λ e here. go e (old e here)) (subst (λ (z : Entry). IsNoLater z x) (sym is_x) (no_later_refl x)))
+pub first_step : (xs : List Entry) (i : ℕ) (x r : Entry) (first : Option Entry) → i < length xs → x ≡ get_or xs i x
+    → IsFirstSoFar xs i first → MatchOption first (r ≡ x) (λ e. (IsNoLater e x × (r ≡ e)) ⊎ (IsNoLater x e × (r ≡ x)))
+    → IsFirstSoFar xs (i + 1) (Some r)
+first_step xs i x r None low is old is_x = (
+  subst (λ (z : Entry). IsIn z xs) (sym is_x) (at_in xs i x low is),
+  so_far_step (λ e. IsNoLater r e) xs i x low is (λ e here. go e (old e here))
+      (subst (λ (z : Entry). IsNoLater z x) (sym is_x) (no_later_refl x)),
+)
   where
     go : (e : Entry) → IsIn e (drop i xs) ⊎ ⊥ → IsIn e (drop i xs) ⊎ IsNoLater r e
     go e (inl h) = inl h
     go e (inr h) = absurd h
-first_step xs i x r (Some f) low is old (inl (no_later, is_f)) =
-    (subst (λ (z : Entry). IsIn z xs) (sym is_f) old.0, so_far_step (λ e. IsNoLater r e) xs i x low is (subst (λ (z : Entry). SoFar (λ e. IsNoLater z e) xs i) (sym is_f) old.1) (subst (λ (z : Entry). IsNoLater z x) (sym is_f) no_later))
-first_step xs i x r (Some f) low is old (inr (no_later, is_x)) =
-    (subst (λ (z : Entry). IsIn z xs) (sym is_x) (at_in xs i x low is), so_far_step (λ e. IsNoLater r e) xs i x low is (λ e here. go e (old.1 e here)) (subst (λ (z : Entry). IsNoLater z x) (sym is_x) (no_later_refl x)))
+first_step xs i x r (Some f) low is old (inl (no_later, is_f)) = (
+  subst (λ (z : Entry). IsIn z xs) (sym is_f) old.0,
+  so_far_step (λ e. IsNoLater r e) xs i x low is
+      (subst (λ (z : Entry). SoFar (λ e. IsNoLater z e) xs i) (sym is_f) old.1)
+      (subst (λ (z : Entry). IsNoLater z x) (sym is_f) no_later),
+)
+first_step xs i x r (Some f) low is old (inr (no_later, is_x)) = (
+  subst (λ (z : Entry). IsIn z xs) (sym is_x) (at_in xs i x low is),
+  so_far_step (λ e. IsNoLater r e) xs i x low is (λ e here. go e (old.1 e here))
+      (subst (λ (z : Entry). IsNoLater z x) (sym is_x) (no_later_refl x)),
+)
   where
     go : (e : Entry) → IsIn e (drop i xs) ⊎ IsNoLater f e → IsIn e (drop i xs) ⊎ IsNoLater r e
     go e (inl h) = inl h
     go e (inr h) = inr (subst (λ (z : Entry). IsNoLater z e) (sym is_x) (no_later_trans x f e no_later h))
 
-pub first_end : (xs : List Entry) (i : ℕ) (first : Option Entry) → length xs ≤ i → IsFirstSoFar xs i first → MatchOption first ((e : Entry) → IsIn e xs → ⊥) (λ f. IsIn f xs × ((e : Entry) → IsIn e xs → IsNoLater f e))
+pub first_end : (xs : List Entry) (i : ℕ) (first : Option Entry) → length xs ≤ i → IsFirstSoFar xs i first
+    → MatchOption first ((e : Entry) → IsIn e xs → ⊥) (λ f. IsIn f xs × ((e : Entry) → IsIn e xs → IsNoLater f e))
 first_end xs i None low old = so_far_end (λ e. ⊥) xs i low old
 first_end xs i (Some f) low old = (old.0, so_far_end (λ e. IsNoLater f e) xs i low old.1)
 
 -- the first of the missing entries is the named one
-pub first_is_named : (log stored held missing : List Entry) (t n : ℕ) (first : Option Entry) → ((e : Entry) → IsIn e missing ↔ IsMissing log stored held t n e) → MatchOption first ((e : Entry) → IsIn e missing → ⊥) (λ f. IsIn f missing × ((e : Entry) → IsIn e missing → IsNoLater f e)) → MatchOption first (IsDue log stored held t n) (λ f. IsFirstMissing log stored held t n f)
+pub first_is_named : (log stored held missing : List Entry) (t n : ℕ) (first : Option Entry)
+    → ((e : Entry) → IsIn e missing ↔ IsMissing log stored held t n e)
+    → MatchOption first ((e : Entry) → IsIn e missing → ⊥)
+    (λ f. IsIn f missing × ((e : Entry) → IsIn e missing → IsNoLater f e))
+    → MatchOption first (IsDue log stored held t n) (λ f. IsFirstMissing log stored held t n f)
 first_is_named log stored held missing t n None all none = λ e gone. none e ((all e).1 gone)
 first_is_named log stored held missing t n (Some f) all (here, least) =
     record { missing = (all f).0 here; first = λ e gone. least e ((all e).1 gone) }

@@ -1,5 +1,5 @@
--- Held and stored entries of a log: the closed part of the held ones, and what is missing for what a thread sends out. They
--- follow Sherry and others, Rollback-Recovery for Middleboxes (SIGCOMM 2015), sections 4 and 5.
+-- Held and stored entries of a log: the closed part of the held ones, and what is missing for what a thread sends out.
+-- They follow Sherry and others, Rollback-Recovery for Middleboxes (SIGCOMM 2015), sections 4 and 5.
 use Rattle.std.specs.Prelude.{◌≡◌, ℕ, ◌+◌, ◌≤◌, ◌<◌, List, ◌⊎◌}
 use Rattle.entry_order.specs.Log.{Entry, IsIn, IsNext, PrecedesOutput}
 
@@ -15,7 +15,8 @@ Lacks log stored set f = (e : Entry) × IsIn e log × IsNext e f × (IsIn e set 
 pub record IsClosedPart (log stored held part : List Entry) : Type 0 where
   pub within : (e : Entry) → IsIn e part → IsIn e held
   pub closed : IsClosedOver log stored part
-  pub greatest : (other : List Entry) → ((e : Entry) → IsIn e other → IsIn e held) → IsClosedOver log stored other → (e : Entry) → IsIn e other → IsIn e part
+  pub greatest : (other : List Entry) → ((e : Entry) → IsIn e other → IsIn e held) → IsClosedOver log stored other
+      → (e : Entry) → IsIn e other → IsIn e part
 
 -- e is missing for what thread t sends out after its first n entries: a predecessor of it, and neither held nor stored
 pub record IsMissing (log stored held : List Entry) (t n : ℕ) (e : Entry) : Type 0 where

@@ -1,7 +1,7 @@
 -- A log: the logged moves of a run, NEWEST FIRST, and which of them precede which. It follows the packet access logs of
 -- Sherry and others, Rollback-Recovery for Middleboxes (SIGCOMM 2015), sections 4 and 5, with shared reads added.
--- What precedes what is an order of events as Lamport has it (Time, Clocks, and the Ordering of Events, 1978), where threads
--- meet at variables in place of messages.
+-- What precedes what is an order of events as Lamport has it (Time, Clocks, and the Ordering of Events, 1978), where
+-- threads meet at variables in place of messages.
 use Rattle.std.specs.Prelude.{◌≡◌, ℕ, ◌+◌, Bool, false, List, [], ◌∷◌, nat_eq, ◌⊎◌, cond}
 use Rattle.entry_order.specs.declared.what.What.{What}
 use Rattle.entry_order.specs.declared.what.What.TheVariants.{Access, Read, Clock, Draw}
@@ -31,7 +31,8 @@ places v (e ∷ earlier) = cond (touches v e.what) (places v earlier + 1) (place
 -- a touch has the next place of its variable, and a read stands after the touches so far
 abbrev pub HasPlace : List Entry → What → Type 0
 HasPlace earlier what =
-    ((v place : ℕ) → what ≡ Access v place → place ≡ places v earlier + 1) × ((v after : ℕ) → what ≡ Read v after → after ≡ places v earlier)
+    ((v place : ℕ) → what ≡ Access v place → place ≡ places v earlier + 1)
+    × ((v after : ℕ) → what ≡ Read v after → after ≡ places v earlier)
 
 -- The entries of each thread are numbered from 1, the touches of each variable have the places from 1, and each read
 -- stands after the touches before it.
@@ -44,7 +45,8 @@ abbrev pub IsIn : Entry → List Entry → Type 0
 IsIn e [] = ⊥
 IsIn e (x ∷ xs) = (x ≡ e) ⊎ IsIn e xs
 
--- every member of the second is one of the first: the log keeps each entry of the set, with its thread, number and content
+-- every member of the second is one of the first: the log keeps each entry of the set, with its thread, number and
+-- content
 abbrev pub Keeps : List Entry → List Entry → Type 0
 Keeps log set = (e : Entry) → IsIn e set → IsIn e log
 
@@ -68,7 +70,8 @@ IsTouchPast what next = (v place : ℕ) × (what ≡ Read v place) × (next ≡ 
 -- e is an immediate predecessor of f: the entry before it of its thread, or before it on its variable
 abbrev pub IsNext : Entry → Entry → Type 0
 IsNext e f =
-    ((e.thread ≡ f.thread) × (f.number ≡ e.number + 1)) ⊎ (IsNextTouch e.what f.what ⊎ (IsReadOf e.what f.what ⊎ IsTouchPast e.what f.what))
+    ((e.thread ≡ f.thread) × (f.number ≡ e.number + 1))
+    ⊎ (IsNextTouch e.what f.what ⊎ (IsReadOf e.what f.what ⊎ IsTouchPast e.what f.what))
 
 -- a chain of immediate predecessors, all of the log, leads from e to f
 pub data Precedes (log : List Entry) : Entry → Entry → Type 0 where
@@ -80,7 +83,8 @@ PrecedesOrIs log e f = (e ≡ f) ⊎ Precedes log e f
 
 -- e is a predecessor of what the thread sends out after its first n entries: entry (t, n), or one that precedes it
 abbrev pub PrecedesOutput : List Entry → ℕ → ℕ → Entry → Type 0
-PrecedesOutput log t n e = (last : Entry) × IsIn last log × (last.thread ≡ t) × (last.number ≡ n) × PrecedesOrIs log e last
+PrecedesOutput log t n e =
+    (last : Entry) × IsIn last log × (last.thread ≡ t) × (last.number ≡ n) × PrecedesOrIs log e last
 
 -- each immediate predecessor of a member is a member
 abbrev pub IsClosed : List Entry → List Entry → Type 0

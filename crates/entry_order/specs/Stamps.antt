@@ -8,9 +8,11 @@ use Rattle.entry_order.specs.Log.{Entry, touches, IsIn, IsNext, PrecedesOrIs, Pr
 -- For each thread, the greatest number of an entry of it that is the entry itself or precedes it, or 0.
 pub record IsStamp (log : List Entry) (e : Entry) (stamp : ℕ → ℕ) : Type 0 where
   pub above : (f : Entry) → IsIn f log → PrecedesOrIs log f e → f.number ≤ stamp f.thread
-  pub reached : (u : ℕ) → (stamp u ≡ 0) ⊎ ((f : Entry) × IsIn f log × (f.thread ≡ u) × (f.number ≡ stamp u) × PrecedesOrIs log f e)
+  pub reached : (u : ℕ)
+      → (stamp u ≡ 0) ⊎ ((f : Entry) × IsIn f log × (f.thread ≡ u) × (f.number ≡ stamp u) × PrecedesOrIs log f e)
 
--- One component of the stamp: n is the greatest number of an entry of thread u that is the entry itself or precedes it, or 0.
+-- One component of the stamp: n is the greatest number of an entry of thread u that is the entry itself or precedes it,
+-- or 0.
 pub record IsComponent (log : List Entry) (e : Entry) (u n : ℕ) : Type 0 where
   pub above : (f : Entry) → IsIn f log → f.thread ≡ u → PrecedesOrIs log f e → f.number ≤ n
   pub reached : (n ≡ 0) ⊎ ((f : Entry) × IsIn f log × (f.thread ≡ u) × (f.number ≡ n) × PrecedesOrIs log f e)
@@ -18,7 +20,8 @@ pub record IsComponent (log : List Entry) (e : Entry) (u n : ℕ) : Type 0 where
 -- The same for what a thread sends out after its first n entries, by its predecessors.
 pub record IsOutputStamp (log : List Entry) (t n : ℕ) (stamp : ℕ → ℕ) : Type 0 where
   pub above : (f : Entry) → IsIn f log → PrecedesOutput log t n f → f.number ≤ stamp f.thread
-  pub reached : (u : ℕ) → (stamp u ≡ 0) ⊎ ((f : Entry) × IsIn f log × (f.thread ≡ u) × (f.number ≡ stamp u) × PrecedesOutput log t n f)
+  pub reached : (u : ℕ)
+      → (stamp u ≡ 0) ⊎ ((f : Entry) × IsIn f log × (f.thread ≡ u) × (f.number ≡ stamp u) × PrecedesOutput log t n f)
 
 -- n members of the list have the property
 abbrev pub IsCount : (Entry → Type 0) → List Entry → ℕ → Type 0
@@ -39,7 +42,9 @@ sum_below (suc n) term = sum_below n term + term n
 -- The join of the stamps of the immediate predecessors: for each thread, the greatest of their components, or 0.
 pub record IsJoinBefore (log : List Entry) (e : Entry) (join : ℕ → ℕ) : Type 0 where
   pub above : (f : Entry) (stamp : ℕ → ℕ) → IsIn f log → IsNext f e → IsStamp log f stamp → (u : ℕ) → stamp u ≤ join u
-  pub reached : (u : ℕ) → (join u ≡ 0) ⊎ ((f : Entry) × (stamp : ℕ → ℕ) × IsIn f log × IsNext f e × IsStamp log f stamp × (stamp u ≡ join u))
+  pub reached : (u : ℕ)
+      → (join u ≡ 0)
+      ⊎ ((f : Entry) × (stamp : ℕ → ℕ) × IsIn f log × IsNext f e × IsStamp log f stamp × (stamp u ≡ join u))
 
 -- with the number of the entry in the place of its thread
 abbrev pub bumped : Entry → (ℕ → ℕ) → ℕ → ℕ
@@ -67,7 +72,8 @@ binds e earlier = nat_eq earlier.thread e.thread || shares e.what earlier.what
 abbrev pub joined : (Entry → Bool) → List Entry → ℕ → ℕ
 joined passes [] u = 0
 joined passes (e ∷ earlier) u =
-    cond (passes e) (max (cond (nat_eq u e.thread) e.number (joined (binds e) earlier u)) (joined passes earlier u)) (joined passes earlier u)
+    cond (passes e) (max (cond (nat_eq u e.thread) e.number (joined (binds e) earlier u)) (joined passes earlier u))
+    (joined passes earlier u)
 
 abbrev pub stamp : Entry → List Entry → ℕ → ℕ
 stamp e earlier = bumped e (joined (binds e) earlier)

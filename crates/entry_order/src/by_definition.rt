@@ -1,8 +1,11 @@
 //! What the definitions say, computed slowly: for tests of all that computes it faster. A log is given newest first.
-ghost use Rattle.std.specs.Prelude.{◌≡◌, ℕ, ◌+◌, ◌≤◌, ◌↔◌, ◌⊎◌, List, Option, Some, IsTrue, IfOk, IfSome, IfNone, MatchBool, MatchOption, slice_get};
-ghost use Rattle.entry_order.specs.Log.{Entry, IsIn, IsNextTouch, IsReadOf, IsTouchPast, IsNext, Precedes, PrecedesOrIs, PrecedesOutput};
+ghost use Rattle.std.specs.Prelude.{◌≡◌, ℕ, ◌+◌, ◌≤◌, ◌↔◌, ◌⊎◌, List, Option, Some, IsTrue, IfOk};
+ghost use Rattle.std.specs.Prelude.{IfSome, IfNone, MatchBool, MatchOption, slice_get};
+ghost use Rattle.entry_order.specs.Log.{Entry, IsIn, IsNextTouch, IsReadOf, IsTouchPast, IsNext};
+ghost use Rattle.entry_order.specs.Log.{Precedes, PrecedesOrIs, PrecedesOutput};
 ghost use Rattle.entry_order.specs.Stamps.{IsComponent, IsWeight};
-ghost use Rattle.entry_order.specs.Closed.{IsClosedOver, IsClosedPart, Lacks, IsMissing, IsNoLater, IsFirstMissing, IsDue};
+ghost use Rattle.entry_order.specs.Closed.{IsClosedOver, IsClosedPart, Lacks, IsMissing, IsNoLater};
+ghost use Rattle.entry_order.specs.Closed.{IsFirstMissing, IsDue};
 
 use crate::{LogEntry, What};
 use std::alloc::{AllocError, Global};
@@ -126,7 +129,8 @@ pub fn precedes(
     Ok(is_next_to_any(first, &found))
 }
 
-/// One component of the stamp of an entry: the greatest number of an entry of this thread that precedes it or is it, or 0.
+/// One component of the stamp of an entry: the greatest number of an entry of this thread that precedes it or is it, or
+/// 0.
 pub fn stamp_component(
     alloc: Global,
     log: &[LogEntry],
@@ -335,8 +339,8 @@ fn first_of(entries: &[LogEntry]) -> Option<LogEntry>
     first
 }
 
-/// The missing entry of the least thread, and of that thread the one with the least number, for what the thread sends out
-/// after this number of entries; none where that is due.
+/// The missing entry of the least thread, and of that thread the one with the least number, for what the thread sends
+/// out after this number of entries; none where that is due.
 pub fn first_missing(
     alloc: Global,
     log: &[LogEntry],

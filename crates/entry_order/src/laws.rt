@@ -1,9 +1,14 @@
-//! The laws of entries and their order, over every log. Each is proved, and does nothing: a caller has them by the call.
-ghost use Rattle.std.specs.Prelude.{◌≡◌, ℕ, ◌+◌, ◌≤◌, ◌<◌, ◌⊎◌, ◌↔◌, List, ◌∷◌, ◌++◌, length, sum, slice_index, IsTrue};
+//! The laws of entries and their order, over every log. Each is proved, and does nothing: a caller has them by the
+//! call.
+ghost use Rattle.std.specs.Prelude.{◌≡◌, ℕ, ◌+◌, ◌≤◌, ◌<◌, ◌⊎◌, ◌↔◌, List, ◌∷◌, ◌++◌, length, sum};
+ghost use Rattle.std.specs.Prelude.{slice_index, IsTrue};
 ghost use Rattle.entry_order.specs.declared.what.What.TheVariants.{Access, Read};
-ghost use Rattle.entry_order.specs.Log.{Entry, entries, places, IsLog, IsIn, StandsBefore, IsNext, Precedes, PrecedesOrIs, PrecedesOutput, IsClosed};
-ghost use Rattle.entry_order.specs.Stamps.{IsStamp, IsComponent, IsOutputStamp, IsWeight, sum_below, shares, IsJoinBefore, bumped, stamp};
-ghost use Rattle.entry_order.specs.Closed.{IsClosedOver, IsClosedPart, IsMissing, IsFirstMissing, IsDue, IsFrontier};
+ghost use Rattle.entry_order.specs.Log.{Entry, entries, places, IsLog, IsIn, StandsBefore, IsNext};
+ghost use Rattle.entry_order.specs.Log.{Precedes, PrecedesOrIs, PrecedesOutput, IsClosed};
+ghost use Rattle.entry_order.specs.Stamps.{IsStamp, IsComponent, IsOutputStamp, IsWeight};
+ghost use Rattle.entry_order.specs.Stamps.{sum_below, shares, IsJoinBefore, bumped, stamp};
+ghost use Rattle.entry_order.specs.Closed.{IsClosedOver, IsClosedPart, IsMissing, IsFirstMissing};
+ghost use Rattle.entry_order.specs.Closed.{IsDue, IsFrontier};
 
 /// The entries of each thread have the numbers from 1 to their count, each once, and the touches of each variable the
 /// places from 1 to theirs; a read stands after at most all touches of its variable.
@@ -66,8 +71,8 @@ pub fn closed_sets_go_back()
 {}
 
 /// Each entry has one stamp, which stays its stamp as the log grows, and which covers exactly what precedes it. It is
-/// made by joins: the join of the stamps of its immediate predecessors, or of all earlier entries of its thread or on its
-/// variable, with its own number in the place of its thread.
+/// made by joins: the join of the stamps of its immediate predecessors, or of all earlier entries of its thread or on
+/// its variable, with its own number in the place of its thread.
 pub fn stamps_are_joins()
     ensures there { (log : List Entry) (e : Entry) → IsLog log → IsIn e log
         → (s : ℕ → ℕ) × IsStamp log e s }
@@ -124,8 +129,8 @@ pub fn missing_is_past_frontiers()
         → IsFirstMissing log stored held t n e → IsFirstMissing log stored held t n f → e ≡ f }
 {}
 
-/// The closed part of the held entries, by stamps and frontiers: those that are stored, or of whose stamp no component is
-/// above the frontier. There is one, and it is one set.
+/// The closed part of the held entries, by stamps and frontiers: those that are stored, or of whose stamp no component
+/// is above the frontier. There is one, and it is one set.
 pub fn closed_part_is_within_frontiers()
     ensures part { (log stored held part : List Entry) (stamps : Entry → ℕ → ℕ) (frontier : ℕ → ℕ)
         → IsLog log → ((e : Entry) → IsIn e held → IsIn e log)
@@ -144,7 +149,8 @@ pub fn closed_part_is_within_frontiers()
         → (e : Entry) → IsIn e part ↔ IsIn e other }
 {}
 
-/// The later entries of a log that are in a set which is closed over the past are, in some order, a log after that past.
+/// The later entries of a log that are in a set which is closed over the past are, in some order, a log after that
+/// past.
 pub fn closed_sets_go_on()
     ensures { (later past set : List Entry) → IsLog (later ++ past)
         → IsClosedOver (later ++ past) past set

@@ -1,4 +1,5 @@
-//! What performing an event answers: its outcome with the outputs that it released, why it did not end, and how a run ended.
+//! What performing an event answers: its outcome with the outputs that it released, why it did not end, and how a run
+//! ended.
 #![tactic(auto)]
 
 mod lines;

@@ -8,8 +8,8 @@ use recovery_world::Event;
 use script_text::{write_event, write_outcome, write_released};
 use std::alloc::Global;
 
-/// The line of the report for an event: its words, its outcome, and each output that it released as THREAD:NUMBER, with a line
-/// feed behind them.
+/// The line of the report for an event: its words, its outcome, and each output that it released as THREAD:NUMBER, with
+/// a line feed behind them.
 pub fn put_line(alloc: Global, event: &Event, reply: &Reply) -> Result<Text, NoMemory>
     ensures { IfOk result (λ text. (freed : List Sent) → reply.now.released ≡ sent_names freed
         → text ≡ reply_line event.now reply.now.outcome freed) }

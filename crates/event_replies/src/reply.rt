@@ -46,8 +46,8 @@ impl From<NoMemory> for Stop {
     }
 }
 
-/// How a run ended: the schedule of the plain run that it amounts to, the packets that were fed, the epoch, and how many outputs
-/// were released.
+/// How a run ended: the schedule of the plain run that it amounts to, the packets that were fed, the epoch, and how
+/// many outputs were released.
 #[derive(Debug, Drop)]
 pub struct Finished {
     /// The moves of the plain run, from the first.

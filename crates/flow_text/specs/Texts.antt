@@ -1,4 +1,5 @@
--- How protocols (RFC 790), IPv4 addresses (four decimal numbers, as in RFC 1123, section 2.1) and endpoints are written.
+-- How protocols (RFC 790), IPv4 addresses (four decimal numbers, as in RFC 1123, section 2.1) and endpoints are
+-- written.
 use Rattle.std.specs.Prelude.{ℕ, ◌/◌, ◌%◌, ◌^◌, ◌==◌, if◌then◌else◌, List, ◌++◌, codes, decimal}
 
 -- the two protocols that have ports by name, TCP (6) and UDP (17), and any other by its number

@@ -1,4 +1,5 @@
-//! The program once more, for its stored runs: sessions of commands, over the files of `data` and those that earlier lines left.
+//! The program once more, for its stored runs: sessions of commands, over the files of `data` and those that earlier
+//! lines left.
 //!
 //! The arguments name the sessions. A session is a text. Each of its lines is printed, and below it what it leads to:
 //! - `$ ftmb WORDS`: the command, performed as the program performs it; its report, and how the program ends.

@@ -31,7 +31,8 @@ pub ones_value_small : (total : ℕ) → total ≤ 65535 → ones_value total �
 ones_value_small total small = grind (arith, nat_tests)
 
 -- a word of 64 bits counts as its four words of 16
-pub ones_value-wide : (a b c d rest : ℕ) → ones_value (a * 2 ^ 48 + b * 2 ^ 32 + c * 2 ^ 16 + d + rest) ≡ ones_value (a + b + c + d + rest)
+pub ones_value-wide : (a b c d rest : ℕ)
+    → ones_value (a * 2 ^ 48 + b * 2 ^ 32 + c * 2 ^ 16 + d + rest) ≡ ones_value (a + b + c + d + rest)
 ones_value-wide a b c d rest = same_value _ _ (λ z. omega arith) (λ z. omega arith) (omega arith)
 
 -- a value is at most 65,535, is 0 for 0 alone, and has the total's remainder

@@ -1,5 +1,6 @@
 -- One's complement arithmetic on 16-bit words: RFC 1071, and RFC 1624 for a checksum that is brought up to date.
-use Rattle.std.specs.Prelude.{◌≡◌, ◌≢◌, ◌↔◌, ℕ, ◌+◌, ◌-◌, ◌*◌, ◌/◌, ◌%◌, ◌<◌, ◌==◌, if◌then◌else◌, List, [], ◌∷◌, length, sum, slice_index, slice_set}
+use Rattle.std.specs.Prelude.{◌≡◌, ◌≢◌, ◌↔◌, ℕ, ◌+◌, ◌-◌, ◌*◌, ◌/◌, ◌%◌, ◌<◌, ◌==◌, if◌then◌else◌, List, [], ◌∷◌}
+use Rattle.std.specs.Prelude.{length, sum, slice_index, slice_set}
 
 -- the 16-bit words of bytes, the high byte first; a last odd byte is the high byte of its word
 abbrev pub words : List ℕ → List ℕ

@@ -4,7 +4,9 @@
 #![tactic(auto)]
 
 ghost use Rattle.std.specs.Prelude.{◌≡◌, ◌+◌, ◌%◌};
-ghost use Rattle.inet_checksum.specs.OnesComplement.{words, ones_value, ones_sum, checksum_of, adjusted_16, adjusted_32, EqualsRecomputing_16, EqualsRecomputing_32};
+ghost use Rattle.inet_checksum.specs.OnesComplement.{words, ones_value, ones_sum, checksum_of};
+ghost use Rattle.inet_checksum.specs.OnesComplement.{adjusted_16, adjusted_32};
+ghost use Rattle.inet_checksum.specs.OnesComplement.{EqualsRecomputing_16, EqualsRecomputing_32};
 
 /// The one's complement sum of the bytes' 16-bit big-endian words, a last odd byte being the high byte of its word
 /// (RFC 1071, section 1). No bytes give 0.
@@ -57,8 +59,8 @@ pub fn adjust32(checksum: u16, old: u32, new: u32) -> u16
     adjust16(high, (old & 0xffff) as u16, (new & 0xffff) as u16)
 }
 
-/// Adds with the carry out of the 64 bits added at the low end. Since 16 divides 64, the sum of words is the same as with
-/// carries out of 16 bits (RFC 1071, section 2, "parallel summation").
+/// Adds with the carry out of the 64 bits added at the low end. Since 16 divides 64, the sum of words is the same as
+/// with carries out of 16 bits (RFC 1071, section 2, "parallel summation").
 fn add_around(total: u64, word: u64) -> u64
     ensures { ones_value result ≡ ones_value (total + word) }
 {

@@ -1,5 +1,6 @@
 -- A file decides the answer to it.
-use Rattle.std.proofs.Common.{◌≡◌, ℕ, ◌<◌, ◌≤◌, ◌⊎◌, inl, inr, List, length, refl, sym, ap, ◌∙◌, subst, arith, Result, Ok, Err}
+use Rattle.std.proofs.Common.{◌≡◌, ℕ, ◌<◌, ◌≤◌, ◌⊎◌, inl, inr, List, length, refl, sym, ap, ◌∙◌, subst, arith, Result}
+use Rattle.std.proofs.Common.{Ok, Err}
 use Rattle.std.specs.Prelude.{Some, None}
 use Rattle.plain_text.specs.declared.fault.LineCause.{LineCause}
 use Rattle.plain_text.specs.declared.fault.LineFault.{LineFault}
@@ -26,7 +27,8 @@ use Rattle.world_io.specs.World.{Shown}
 use Rattle.input_files.specs.declared.capture_file.Capture.{Capture}
 use Rattle.input_files.specs.declared.errors.InputError.{InputError}
 use Rattle.input_files.specs.declared.errors.InputError.TheVariants as error
-use Rattle.input_files.specs.Answers.{SaysBox, SaysFile, SaysScript, SaysSchedule, SaysCapture, BoxPasses, LinesPass, MayGoOn, SaysNoFault}
+use Rattle.input_files.specs.Answers.{SaysBox, SaysFile, SaysScript, SaysSchedule, SaysCapture, BoxPasses, LinesPass}
+use Rattle.input_files.specs.Answers.{MayGoOn, SaysNoFault}
 use Rattle.input_files.specs.Files.{IsMissing}
 use Rattle.input_files.specs.Judging.{Judges, IsDecided}
 use Rattle.input_files.specs.Texts.{judged_text}
@@ -42,8 +44,8 @@ OfBytes (Err error.NoMemory) = ⊥
 
 -- Where bytes have one answer, a file has one.
 module _ {A F : Type 0} (says : List ℕ → Result A (InputError F) → Type 0)
-    (one_says : (bytes : List ℕ) (a b : Result A (InputError F)) → OfBytes a → OfBytes b → says bytes a → says bytes b → a ≡ b)
-    (healthy : Type 0) (name : List ℕ) (shown : Shown) where
+    (one_says : (bytes : List ℕ) (a b : Result A (InputError F)) → OfBytes a → OfBytes b → says bytes a
+    → says bytes b → a ≡ b) (healthy : Type 0) (name : List ℕ) (shown : Shown) where
   -- the file is not there, or its bytes have this answer
   abbrev Reads : Result A (InputError F) → Type 0
   Reads r = ((r ≡ Err error.ReadFault) × IsMissing name shown)
@@ -75,7 +77,8 @@ module _ {A F : Type 0} (says : List ℕ → Result A (InputError F) → Type 0)
       let same : a.0 ≡ b.0 = same_bytes a.0 b.0 a.1 b.1 in
       one_says b.0 r q a.2 b.2 (subst (λ (bytes : List ℕ). says bytes r) same a.3) b.3
 
-  pub one_answer : (r q : Result A (InputError F)) → IsDecided healthy r → IsDecided healthy q → Judges says healthy name r shown → Judges says healthy name q shown → r ≡ q
+  pub one_answer : (r q : Result A (InputError F)) → IsDecided healthy r → IsDecided healthy q
+      → Judges says healthy name r shown → Judges says healthy name q shown → r ≡ q
   one_answer r q dr dq hr hq = one_read r q (reads r dr hr) (reads q dq hq)
 
 same_fault : (f g : LineFault) → (f.line ≡ g.line) × (f.cause ≡ g.cause) → f ≡ g
@@ -90,19 +93,22 @@ no_room n low high = absurd (omega arith)
 
 -- Box files
 
-box_limit : (bytes : List ℕ) (passed : Limit) → BoxPasses bytes passed → (passed ≡ limit.File) × (67108864 < length bytes) × MayGoOn (judged_text bytes)
+box_limit : (bytes : List ℕ) (passed : Limit) → BoxPasses bytes passed
+    → (passed ≡ limit.File) × (67108864 < length bytes) × MayGoOn (judged_text bytes)
 box_limit bytes limit.File h = (refl, h.0, h.1)
 box_limit bytes limit.Packets h = absurd h
 box_limit bytes limit.Events h = absurd h
 box_limit bytes limit.Moves h = absurd h
 box_limit bytes limit.OutputBytes h = absurd h
 
-box_both : (bytes : List ℕ) (conf : BoxConf) (fault : LineFault) → SaysBox bytes (Ok conf) → SaysBox bytes (Err (error.Fault fault)) → ⊥
+box_both : (bytes : List ℕ) (conf : BoxConf) (fault : LineFault) → SaysBox bytes (Ok conf)
+    → SaysBox bytes (Err (error.Fault fault)) → ⊥
 box_both bytes conf fault a b =
     let First : List ℕ → Type 0 = λ text. box.FirstFault text fault.line fault.cause in
     box_file.box_or_fault bytes conf fault.line fault.cause a.1 (subst First (within bytes a.0) b.0)
 
-pub one_box : (bytes : List ℕ) (a b : Result BoxConf (InputError LineFault)) → OfBytes a → OfBytes b → SaysBox bytes a → SaysBox bytes b → a ≡ b
+pub one_box : (bytes : List ℕ) (a b : Result BoxConf (InputError LineFault)) → OfBytes a → OfBytes b → SaysBox bytes a
+    → SaysBox bytes b → a ≡ b
 one_box bytes (Ok a) (Ok b) d e x y = ap (λ (c : BoxConf). Ok c) (box_file.one_box bytes a b x.1 y.1)
 one_box bytes (Ok a) (Err (error.Fault f)) d e x y = absurd (box_both bytes a f x y)
 one_box bytes (Ok a) (Err (error.TooLarge l)) d e x y = no_room (length bytes) x.0 (box_limit bytes l y).1
@@ -110,7 +116,8 @@ one_box bytes (Ok a) (Err error.ReadFault) d e x y = absurd e
 one_box bytes (Ok a) (Err error.NoMemory) d e x y = absurd e
 one_box bytes (Err (error.Fault f)) (Ok b) d e x y = absurd (box_both bytes b f y x)
 one_box bytes (Err (error.Fault f)) (Err (error.Fault g)) d e x y =
-    ap (λ (h : LineFault). Err (error.Fault h)) (same_fault f g (box_file.one_fault (judged_text bytes) f.line g.line f.cause g.cause x.0 y.0))
+    ap (λ (h : LineFault). Err (error.Fault h))
+    (same_fault f g (box_file.one_fault (judged_text bytes) f.line g.line f.cause g.cause x.0 y.0))
 one_box bytes (Err (error.Fault f)) (Err (error.TooLarge l)) d e x y =
     let large = box_limit bytes l y in absurd (x.1 large.1 (large.2 f.line f.cause x.0))
 one_box bytes (Err (error.Fault f)) (Err error.ReadFault) d e x y = absurd e
@@ -222,14 +229,16 @@ capture_said captured.NoMemory = Err error.NoMemory
 abbrev Answered : List ℕ → Result Capture (InputError AnyFault) → Type 0
 Answered bytes r = (answer : AnyCaptured) × IsDecidedAny answer × SaysAny bytes answer × (r ≡ capture_said answer)
 
-answered : (bytes : List ℕ) (r : Result Capture (InputError AnyFault)) → OfBytes r → SaysCapture bytes r → Answered bytes r
+answered : (bytes : List ℕ) (r : Result Capture (InputError AnyFault)) → OfBytes r → SaysCapture bytes r
+    → Answered bytes r
 answered bytes (Ok capture) d h = (captured.Capture capture.unit capture.packets, tt, h.0, refl)
 answered bytes (Err (error.Fault fault)) d h = (captured.Refused fault, tt, h, refl)
 answered bytes (Err (error.TooLarge passed)) d h = (captured.TooLarge passed, tt, h, refl)
 answered bytes (Err error.ReadFault) d h = absurd d
 answered bytes (Err error.NoMemory) d h = absurd d
 
-pub one_capture : (bytes : List ℕ) (a b : Result Capture (InputError AnyFault)) → OfBytes a → OfBytes b → SaysCapture bytes a → SaysCapture bytes b → a ≡ b
+pub one_capture : (bytes : List ℕ) (a b : Result Capture (InputError AnyFault)) → OfBytes a → OfBytes b
+    → SaysCapture bytes a → SaysCapture bytes b → a ≡ b
 one_capture bytes a b d e x y =
     let r = answered bytes a d x in
     let q = answered bytes b e y in

@@ -1,4 +1,5 @@
--- Where only reading goes on from each state of a world to the next, only reading has gone on from the first to the last.
+-- Where only reading goes on from each state of a world to the next, only reading has gone on from the first to the
+-- last.
 use Rattle.std.proofs.Common.{ℕ, ◌+◌, ◌≤◌, Bool, refl, ◌∙◌, arith}
 use Rattle.world_io.specs.World.{Shown, Ledger}
 use Rattle.input_files.specs.Files.{KeepsOutputs, AfterInputs, OnlyReads}

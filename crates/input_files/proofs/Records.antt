@@ -1,4 +1,5 @@
--- What was read of a capture: its packets are ones that records can have, and what is said of its bytes is said of its file.
+-- What was read of a capture: its packets are ones that records can have, and what is said of its bytes is said of its
+-- file.
 use Rattle.std.proofs.Common.{◌≡◌, ℕ, zero, suc, List, [], ◌∷◌, refl, arith, Result, Ok, Err}
 use Rattle.std.specs.Prelude.{All}
 use Rattle.plain_text.specs.Packets.{IsShort}
@@ -31,9 +32,11 @@ refused fault e = cc
 too_large : (passed : Limit) → IsRead (Err (error.TooLarge passed))
 too_large passed e = cc
 
--- what is said of the bytes of a capture is said of the file of its name, unless reading fails, as in a healthy world it does not
+-- what is said of the bytes of a capture is said of the file of its name, unless reading fails, as in a healthy world
+-- it does not
 pub capture_judged : (healthy : Type 0) (name : List ℕ) (shown : Shown) (r : Result Capture (InputError AnyFault))
-    → (IsRead r → IsToldOf name (λ bytes. SaysCapture bytes r) shown) → (healthy → IsRead r) → JudgesCapture healthy name r shown
+    → (IsRead r → IsToldOf name (λ bytes. SaysCapture bytes r) shown) → (healthy → IsRead r)
+    → JudgesCapture healthy name r shown
 capture_judged healthy name shown (Ok capture) told never = told (accepted capture)
 capture_judged healthy name shown (Err (error.Fault fault)) told never = told (refused fault)
 capture_judged healthy name shown (Err (error.TooLarge passed)) told never = told (too_large passed)

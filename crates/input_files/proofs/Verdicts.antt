@@ -21,37 +21,43 @@ use Rattle.input_files.specs.Texts.{IsFrontOf, judged_text, whole_lines}
 use Rattle.input_files.proofs.JudgedTexts.{within, beyond}
 
 -- a fact of what was read of a file is one of the text that is judged of it
-pub all_judged : (P : List ℕ → Type 0) (front bytes : List ℕ) → P front → IsFrontOf (All front) bytes → P (judged_text bytes)
+pub all_judged : (P : List ℕ → Type 0) (front bytes : List ℕ) → P front → IsFrontOf (All front) bytes
+    → P (judged_text bytes)
 all_judged P front bytes p is = subst P (sym is.0 ∙ sym (within bytes is.1)) p
 
-pub cut_judged : (P : List ℕ → Type 0) (front bytes : List ℕ) → P (whole_lines front) → IsFrontOf (More front) bytes → P (judged_text bytes)
+pub cut_judged : (P : List ℕ → Type 0) (front bytes : List ℕ) → P (whole_lines front) → IsFrontOf (More front) bytes
+    → P (judged_text bytes)
 cut_judged P front bytes p is = subst P (ap whole_lines is.0 ∙ sym (beyond bytes is.1)) p
 
 -- Box files
 
-pub box_accepted : (front bytes : List ℕ) (conf : BoxConf) → IsBoxFile front conf → IsFrontOf (All front) bytes → SaysBox bytes (Ok conf)
+pub box_accepted : (front bytes : List ℕ) (conf : BoxConf) → IsBoxFile front conf → IsFrontOf (All front) bytes
+    → SaysBox bytes (Ok conf)
 box_accepted front bytes conf is all =
     let Is : List ℕ → Type 0 = λ text. IsBoxFile text conf in
     (all.1, subst Is (sym all.0) is)
 
-pub box_faulty : (front bytes : List ℕ) (fault : LineFault) → box.FirstFault front fault.line fault.cause → IsFrontOf (All front) bytes
-    → SaysBox bytes (Err (error.Fault fault))
-box_faulty front bytes fault is all =
-    (all_judged (λ text. box.FirstFault text fault.line fault.cause) front bytes is all, λ large. absurd (omega (arith, large, all.1)))
+pub box_faulty : (front bytes : List ℕ) (fault : LineFault) → box.FirstFault front fault.line fault.cause
+    → IsFrontOf (All front) bytes → SaysBox bytes (Err (error.Fault fault))
+box_faulty front bytes fault is all = (
+  all_judged (λ text. box.FirstFault text fault.line fault.cause) front bytes is all,
+  λ large. absurd (omega (arith, large, all.1)),
+)
 
-pub cut_box_faulty : (front bytes : List ℕ) (fault : LineFault) → box.FirstFault (whole_lines front) fault.line fault.cause → ¬ (fault.cause ≡ MissingLine)
+pub cut_box_faulty : (front bytes : List ℕ) (fault : LineFault)
+    → box.FirstFault (whole_lines front) fault.line fault.cause → ¬ (fault.cause ≡ MissingLine)
     → IsFrontOf (More front) bytes → SaysBox bytes (Err (error.Fault fault))
 cut_box_faulty front bytes fault is other cut =
     (cut_judged (λ text. box.FirstFault text fault.line fault.cause) front bytes is cut, λ large. other)
 
-pub cut_box_whole : (front bytes : List ℕ) (conf : BoxConf) → IsBoxFile (whole_lines front) conf → IsFrontOf (More front) bytes
-    → SaysBox bytes (Err (error.TooLarge limit.File))
+pub cut_box_whole : (front bytes : List ℕ) (conf : BoxConf) → IsBoxFile (whole_lines front) conf
+    → IsFrontOf (More front) bytes → SaysBox bytes (Err (error.TooLarge limit.File))
 cut_box_whole front bytes conf is cut =
     let judged = cut_judged (λ text. IsBoxFile text conf) front bytes is cut in
     (cut.1, λ number cause first. absurd (box_or_fault (judged_text bytes) conf number cause judged first))
 
-pub cut_box_missing : (front bytes : List ℕ) (line : ℕ) → box.FirstFault (whole_lines front) line MissingLine → IsFrontOf (More front) bytes
-    → SaysBox bytes (Err (error.TooLarge limit.File))
+pub cut_box_missing : (front bytes : List ℕ) (line : ℕ) → box.FirstFault (whole_lines front) line MissingLine
+    → IsFrontOf (More front) bytes → SaysBox bytes (Err (error.TooLarge limit.File))
 cut_box_missing front bytes line is cut =
     let judged = cut_judged (λ text. box.FirstFault text line MissingLine) front bytes is cut in
     (cut.1, λ number cause first. (one_fault (judged_text bytes) number line cause MissingLine first judged).1)

@@ -1,5 +1,6 @@
 -- The lines that end in a text, by its last byte.
-use Rattle.std.proofs.Common.{◌≡◌, ℕ, suc, ◌-◌, ◌≤◌, true, false, List, [], ◌∷◌, ◌++◌, length, take, get_or, refl, sym, ap, ◌∙◌, subst, arith}
+use Rattle.std.proofs.Common.{◌≡◌, ℕ, suc, ◌-◌, ◌≤◌, true, false, List, [], ◌∷◌, ◌++◌, length, take, get_or, refl, sym}
+use Rattle.std.proofs.Common.{ap, ◌∙◌, subst, arith}
 use Rattle.std.proofs.Math.Seq.{take-length, take-suc}
 use Rattle.std.proofs.lemmas.Bool.Decides.{nat_tests}
 use Rattle.std.specs.Prelude.{◌==◌}
@@ -29,8 +30,11 @@ by_last text some =
 pub feed_is_last : (text : List ℕ) → 1 ≤ length text → get_or text (length text - 1) 0 ≡ 10 → whole_lines text ≡ text
 feed_is_last text some feed =
     let Whole : List ℕ → Type 0 = λ bytes. whole_lines bytes ≡ bytes in
-    subst Whole (sym (by_last text some)) (ends_in_feed (take (length text - 1) text) (get_or text (length text - 1) 0) (grind (arith, nat_tests)))
+    subst Whole (sym (by_last text some))
+    (ends_in_feed (take (length text - 1) text) (get_or text (length text - 1) 0) (grind (arith, nat_tests)))
 
-pub other_is_last : (text : List ℕ) → 1 ≤ length text → (get_or text (length text - 1) 0 ≡ 10 → ⊥) → whole_lines text ≡ whole_lines (take (length text - 1) text)
+pub other_is_last : (text : List ℕ) → 1 ≤ length text → (get_or text (length text - 1) 0 ≡ 10 → ⊥)
+    → whole_lines text ≡ whole_lines (take (length text - 1) text)
 other_is_last text some other =
-    ap whole_lines (by_last text some) ∙ drops_last (take (length text - 1) text) (get_or text (length text - 1) 0) (grind (arith, nat_tests))
+    ap whole_lines (by_last text some)
+    ∙ drops_last (take (length text - 1) text) (get_or text (length text - 1) 0) (grind (arith, nat_tests))

@@ -1,7 +1,7 @@
 -- What each answer says of the bytes of a file.
 --
--- Of a text file that is larger than the limit the lines that end within it are judged. Their faults come first, but not that
--- a line is missing, which may stand behind; otherwise the file is too large.
+-- Of a text file that is larger than the limit the lines that end within it are judged. Their faults come first, but
+-- not that a line is missing, which may stand behind; otherwise the file is too large.
 use Rattle.std.specs.Prelude.{◌≡◌, ℕ, ◌<◌, ◌≤◌, List, length, All, Result, Ok, Err}
 use Rattle.plain_text.specs.LineFiles.{LineForm, IsFile, FirstFault, HasTooMany, count_of}
 use Rattle.plain_text.specs.Octets.{IsOfBytes}
@@ -40,7 +40,8 @@ BoxPasses bytes limit.OutputBytes = ⊥
 abbrev pub SaysBox : List ℕ → Result BoxConf (InputError LineFault) → Type 0
 SaysBox bytes (Ok conf) = (length bytes ≤ MOST_FILE_BYTES) × IsBoxFile bytes conf
 SaysBox bytes (Err (error.Fault fault)) =
-    box.FirstFault (judged_text bytes) fault.line fault.cause × (MOST_FILE_BYTES < length bytes → ¬ (fault.cause ≡ MissingLine))
+    box.FirstFault (judged_text bytes) fault.line fault.cause
+    × (MOST_FILE_BYTES < length bytes → ¬ (fault.cause ≡ MissingLine))
 SaysBox bytes (Err (error.TooLarge passed)) = BoxPasses bytes passed
 SaysBox bytes (Err error.ReadFault) = ⊥
 SaysBox bytes (Err error.NoMemory) = Unit {0}
@@ -85,7 +86,8 @@ SaysSchedule bytes answer = SaysFile schedule_form bytes answer
 
 -- no limit of the whole file goes before: the records or blocks are judged one by one
 abbrev pub SaysCapture : List ℕ → Result Capture (InputError AnyFault) → Type 0
-SaysCapture bytes (Ok capture) = SaysAny bytes (captured.Capture capture.unit capture.packets) × All IsOfBytes capture.packets
+SaysCapture bytes (Ok capture) =
+    SaysAny bytes (captured.Capture capture.unit capture.packets) × All IsOfBytes capture.packets
 SaysCapture bytes (Err (error.Fault fault)) = SaysAny bytes (captured.Refused fault)
 SaysCapture bytes (Err (error.TooLarge passed)) = SaysAny bytes (captured.TooLarge passed)
 SaysCapture bytes (Err error.ReadFault) = ⊥

@@ -9,7 +9,8 @@ use Rattle.input_files.specs.Texts.{IsFrontOf}
 abbrev pub IsMissing : List ℕ → Shown → Type 0
 IsMissing name shown = shown.names name ≡ None
 
--- What reading the front of the file of a name says of it. In a healthy world reading fails only where the name is not there.
+-- What reading the front of the file of a name says of it. In a healthy world reading fails only where the name is not
+-- there.
 abbrev pub ReadsFrontOf : Type 0 → List ℕ → Result Front FrontError → Shown → Type 0
 ReadsFrontOf healthy name (Ok front) shown = (bytes : List ℕ) × (shown.names name ≡ Some bytes) × IsFrontOf front bytes
 ReadsFrontOf healthy name (Err Failed) shown = healthy → IsMissing name shown
@@ -28,10 +29,10 @@ pub record AfterInputs (files : ℕ) (old new : Ledger) : Type 0 where
   pub read_faults : old.read_faults ≤ new.read_faults
   pub write_faults : new.write_faults ≡ old.write_faults
 
--- From the one state of a world to the other only reading has gone on: at most this number of files were opened, the names
--- and what was sent stay, where told, and what was healthy is healthy.
-pub record OnlyReads {W : Type 0} (tells : Bool) (shown_of : W → Shown) (ledger_of : W → Ledger) (healthy_of : W → Type 0)
-    (files : ℕ) (old new : W) : Type 0 where
+-- From the one state of a world to the other only reading has gone on: at most this number of files were opened, the
+-- names and what was sent stay, where told, and what was healthy is healthy.
+pub record OnlyReads {W : Type 0} (tells : Bool) (shown_of : W → Shown) (ledger_of : W → Ledger)
+    (healthy_of : W → Type 0) (files : ℕ) (old new : W) : Type 0 where
   pub outputs : IsTrue tells → KeepsOutputs (shown_of old) (shown_of new)
   pub ledger : AfterInputs files (ledger_of old) (ledger_of new)
   pub stays_healthy : healthy_of old → healthy_of new

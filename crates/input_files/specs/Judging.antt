@@ -48,10 +48,13 @@ abbrev pub CaptureTooLarge : List ℕ → Limit → Shown → Type 0
 CaptureTooLarge name limit shown = IsToldOf name (λ bytes. SaysCapture bytes (Err (error.TooLarge limit))) shown
 
 -- what reading a file answers, where this is what an answer says of bytes
-abbrev pub Judges : {A F : Type 0} → (List ℕ → Result A (InputError F) → Type 0) → Type 0 → List ℕ → Result A (InputError F) → Shown → Type 0
+abbrev pub Judges : {A F : Type 0} → (List ℕ → Result A (InputError F) → Type 0) → Type 0 → List ℕ
+    → Result A (InputError F) → Shown → Type 0
 Judges says healthy name (Ok value) shown = IsToldOf name (λ bytes. says bytes (Ok value)) shown
-Judges says healthy name (Err (error.Fault fault)) shown = IsToldOf name (λ bytes. says bytes (Err (error.Fault fault))) shown
-Judges says healthy name (Err (error.TooLarge limit)) shown = IsToldOf name (λ bytes. says bytes (Err (error.TooLarge limit))) shown
+Judges says healthy name (Err (error.Fault fault)) shown =
+    IsToldOf name (λ bytes. says bytes (Err (error.Fault fault))) shown
+Judges says healthy name (Err (error.TooLarge limit)) shown =
+    IsToldOf name (λ bytes. says bytes (Err (error.TooLarge limit))) shown
 Judges says healthy name (Err error.ReadFault) shown = healthy → IsMissing name shown
 Judges says healthy name (Err error.NoMemory) shown = Unit {0}
 

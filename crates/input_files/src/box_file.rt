@@ -14,8 +14,8 @@ use world_io::{Front, World};
 
 /// Reads and judges the box file.
 ///
-/// Of a file that is larger than `MOST_FILE_BYTES` the lines that end within these bytes are judged. Their faults come first,
-/// but not that a line is missing; otherwise the file is too large.
+/// Of a file that is larger than `MOST_FILE_BYTES` the lines that end within these bytes are judged. Their faults come
+/// first, but not that a line is missing; otherwise the file is too large.
 pub fn read_box_file<W: World>(
     alloc: Global,
     world: &mut W,

@@ -8,10 +8,11 @@ ghost use Rattle.plain_machine.specs.declared.plain_move.PlainMove.{PlainMove};
 ghost use Rattle.world_io.specs.World.{Shown};
 ghost use Rattle.input_files.specs.declared.capture_file.Capture.{Capture};
 ghost use Rattle.input_files.specs.declared.errors.InputError.{InputError};
-ghost use Rattle.input_files.specs.Judging.{JudgesBox, JudgesCapture, JudgesSchedule, JudgesScript, IsDecided};
+ghost use Rattle.input_files.specs.Judging.{JudgesBox, JudgesCapture, JudgesSchedule, JudgesScript};
+ghost use Rattle.input_files.specs.Judging.{IsDecided};
 
-/// A file decides the answer to it: the answers exclude each other, so each comes exactly where what it says is true, unless
-/// memory runs out or, in a world that is not healthy, reading fails.
+/// A file decides the answer to it: the answers exclude each other, so each comes exactly where what it says is true,
+/// unless memory runs out or, in a world that is not healthy, reading fails.
 pub fn each_file_has_one_answer()
     ensures box_file { (healthy : Bool) (name : List ℕ) (shown : Shown)
         (a b : Result BoxConf (InputError LineFault)) → IsDecided (IsTrue healthy) a

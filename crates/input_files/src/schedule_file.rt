@@ -13,8 +13,8 @@ use world_io::World;
 
 /// Reads and judges a schedule as text; whether its moves are legal is not judged here.
 ///
-/// Of a file that is larger than `MOST_FILE_BYTES` the lines that end within these bytes are judged: their first fault comes
-/// first, or that they have too many moves, which passes the limit of events; otherwise the file is too large.
+/// Of a file that is larger than `MOST_FILE_BYTES` the lines that end within these bytes are judged: their first fault
+/// comes first, or that they have too many moves, which passes the limit of events; otherwise the file is too large.
 pub fn read_schedule_file<W: World>(
     alloc: Global,
     world: &mut W,

@@ -12,8 +12,8 @@ use world_io::World;
 
 /// Reads and judges the script.
 ///
-/// Of a file that is larger than `MOST_FILE_BYTES` the lines that end within these bytes are judged: their first fault comes
-/// first, or that they have too many events; otherwise the file is too large.
+/// Of a file that is larger than `MOST_FILE_BYTES` the lines that end within these bytes are judged: their first fault
+/// comes first, or that they have too many events; otherwise the file is too large.
 pub fn read_script_file<W: World>(
     alloc: Global,
     world: &mut W,

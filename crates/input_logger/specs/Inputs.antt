@@ -1,5 +1,6 @@
 -- The inputs of each thread: of the fed packets, those that are steered to it.
-use Rattle.std.specs.Prelude.{ℕ, suc, zero, ◌%◌, ◌==◌, List, [], ◌∷◌, ◌++◌, filter, slice_get, Option, None, Result, Ok, Err}
+use Rattle.std.specs.Prelude.{ℕ, suc, zero, ◌%◌, ◌==◌, List, [], ◌∷◌, ◌++◌, filter, slice_get, Option, None, Result, Ok}
+use Rattle.std.specs.Prelude.{Err}
 use Rattle.plain_text.specs.declared.packet.Packet.{Packet}
 use Rattle.packet_headers.specs.declared.flow.Flow.{Flow}
 use Rattle.packet_headers.specs.declared.flow.NotFlow.{NotFlow}

@@ -4,8 +4,8 @@ ghost use Rattle.input_logger.specs.Inputs.{thread_of};
 use packet_headers::{steering_sum, view};
 use plain_text::Packet;
 
-/// The thread that a packet is steered to: its flow's steering sum modulo the number of threads. What is not a flow goes to
-/// thread 0.
+/// The thread that a packet is steered to: its flow's steering sum modulo the number of threads. What is not a flow
+/// goes to thread 0.
 ///
 /// Both directions of a flow have one thread, as `both_directions_have_one_thread` says. It takes no memory.
 pub fn steer(packet: &Packet, threads: u32) -> u32

@@ -4,8 +4,8 @@ use Rattle.world_io.specs.World.{Shown, Ledger, WritingFailed}
 use Rattle.input_files.specs.Files.{OnlyReads}
 
 module _ {W : Type 0} (tells : Bool) (shown : W → Shown) (ledger : W → Ledger) (healthy : W → Type 0) where
-  pub failed_since : (files : ℕ) (a b c : W) → OnlyReads tells shown ledger healthy files a b → WritingFailed ledger healthy b c
-      → WritingFailed ledger healthy a c
+  pub failed_since : (files : ℕ) (a b c : W) → OnlyReads tells shown ledger healthy files a b
+      → WritingFailed ledger healthy b c → WritingFailed ledger healthy a c
   failed_since files a b c reads failed = record {
     rose = omega (arith, reads.ledger.write_faults, failed.rose);
     not_healthy = λ well. failed.not_healthy (reads.stays_healthy well);

@@ -48,11 +48,14 @@ module _ (name : List ℕ) where
   cut_spares : (done writes : List Write) → IsCut done writes → Spares writes → Spares done
   cut_spares [] writes cut s = tt
   cut_spares (first ∷ done) [] cut s = absurd cut
-  cut_spares (first ∷ done) (write ∷ writes) (inl (same, cut)) s = (subst SparesOne (sym same) s.0, cut_spares done writes cut s.1)
-  cut_spares (first ∷ done) (write ∷ writes) (inr (part, none)) s = (part_spares first write part s.0, subst Spares (sym none) tt)
+  cut_spares (first ∷ done) (write ∷ writes) (inl (same, cut)) s =
+      (subst SparesOne (sym same) s.0, cut_spares done writes cut s.1)
+  cut_spares (first ∷ done) (write ∷ writes) (inr (part, none)) s =
+      (part_spares first write part s.0, subst Spares (sym none) tt)
 
   begun_spares : (writes : List Write) (a b : Shown) → HasBegun writes a b → Spares writes → b.names name ≡ a.names name
-  begun_spares writes a b begun s = begun.written.names name ∙ spared begun.done (a.names name) (cut_spares begun.done writes begun.cut s)
+  begun_spares writes a b begun s =
+      begun.written.names name ∙ spared begun.done (a.names name) (cut_spares begun.done writes begun.cut s)
 
   module _ (names : OutputNames) (one : ¬ (name ≡ names.released)) (two : ¬ (name ≡ names.schedule)) where
     replies_spare : (replies : List Reply) → Spares (replies_writes names.released replies)
@@ -62,26 +65,36 @@ module _ (name : List ℕ) where
     some_spare : (u : FractionUnit) (replies : List Reply) → Spares (writes_of names u replies)
     some_spare u replies = (one, (one, (two, replies_spare replies)))
 
-    run_spares : {V : Type 0} (s : Setting V) (events : List Event) (writes : List Write) → IsWritten s names events writes → Spares writes
+    run_spares : {V : Type 0} (s : Setting V) (events : List Event) (writes : List Write)
+        → IsWritten s names events writes → Spares writes
     run_spares s events writes (inl some) = subst Spares (sym some.writes_are) (some_spare s.fractions some.replies)
     run_spares s events writes (inr (inl (limit, until))) =
-        subst Spares (sym until.writes_are) (spares_both (writes_of names s.fractions until.replies) _ (some_spare s.fractions until.replies) (one, tt))
+        subst Spares (sym until.writes_are)
+        (spares_both (writes_of names s.fractions until.replies) _ (some_spare s.fractions until.replies) (one, tt))
     run_spares s events writes (inr (inr all)) =
-        subst Spares (sym all.writes_are) (spares_both (writes_of names s.fractions all.replies) _ (some_spare s.fractions all.replies) (two, (tt, tt)))
+        subst Spares (sym all.writes_are)
+        (spares_both (writes_of names s.fractions all.replies) _ (some_spare s.fractions all.replies) (two, (tt, tt)))
 
 pub run_others : (names : RunNames) (a b : Shown) → RunsInOrder names a b → KeepsOthers (outputs_of names) a b
 run_others names a b (inl kept) name one two = ap (λ f. f name) kept.names
 run_others names a b (inr (inputs, asked, (writes, is, begun))) name one two =
-    begun_spares name writes a b begun (run_spares name (outputs_of names) one two (setting_for inputs) inputs.events writes is)
+    begun_spares name writes a b begun
+    (run_spares name (outputs_of names) one two (setting_for inputs) inputs.events writes is)
 
-pub made_others : (names : MakeNames) (r : Result ⊤ OutputError) (a b : Shown) → Writes r (made_writes names) a b → (name : List ℕ) → ¬ (name ≡ names.capture) → b.names name ≡ a.names name
-made_others names (Ok done) a b written name one = begun_spares name (made_writes names) a b (begun_all (made_writes names) a b written) (one, (one, (one, (tt, tt))))
-made_others names (Err error) a b begun name one = begun_spares name (made_writes names) a b begun (one, (one, (one, (tt, tt))))
+pub made_others : (names : MakeNames) (r : Result ⊤ OutputError) (a b : Shown) → Writes r (made_writes names) a b
+    → (name : List ℕ) → ¬ (name ≡ names.capture) → b.names name ≡ a.names name
+made_others names (Ok done) a b written name one =
+    begun_spares name (made_writes names) a b (begun_all (made_writes names) a b written) (one, (one, (one, (tt, tt))))
+made_others names (Err error) a b begun name one =
+    begun_spares name (made_writes names) a b begun (one, (one, (one, (tt, tt))))
 
-pub play_others : (names : PlayNames) (a b : Shown) → PlaysInOrder names a b → (name : List ℕ) → ¬ (name ≡ names.out) → b.names name ≡ a.names name
+pub play_others : (names : PlayNames) (a b : Shown) → PlaysInOrder names a b → (name : List ℕ) → ¬ (name ≡ names.out)
+    → b.names name ≡ a.names name
 play_others names a b (inl kept) name one = ap (λ f. f name) kept.names
-play_others names a b (inr (inputs, accepts, begun)) name one = begun_spares name _ a b begun.begun (one, (one, (one, (tt, tt))))
+play_others names a b (inr (inputs, accepts, begun)) name one =
+    begun_spares name _ a b begun.begun (one, (one, (one, (tt, tt))))
 
-pub check_others : (names : CheckNames) (a b : Shown) → FindsInOrder names a b → (name : List ℕ) → b.names name ≡ a.names name
+pub check_others : (names : CheckNames) (a b : Shown) → FindsInOrder names a b → (name : List ℕ)
+    → b.names name ≡ a.names name
 check_others names a b (inl kept) name = ap (λ f. f name) kept.names
 check_others names a b (inr (inputs, accepts, found, begun)) name = begun_spares name _ a b begun (tt, tt)

@@ -19,7 +19,8 @@ use Rattle.job_commands.specs.declared.status.Status.{Status}
 use Rattle.job_commands.specs.declared.status.Status.TheVariants as status
 use Rattle.job_commands.specs.Judging.{Judges}
 use Rattle.job_commands.specs.Run.{AcceptsInputs, RunsWhole, RunsToLimit, outputs_of, setting_for}
-use Rattle.job_commands.specs.Status.{AtInputs, AtOutputs, ComesAt, Completes, stage_of, stage_of_limit, outcome_of, run_outcome}
+use Rattle.job_commands.specs.Status.{AtInputs, AtOutputs, ComesAt, Completes, stage_of, stage_of_limit, outcome_of}
+use Rattle.job_commands.specs.Status.{run_outcome}
 use Rattle.job_commands.specs.Words.{RunNames}
 use Rattle.job_commands.proofs.RunLimits.{stops_are}
 
@@ -38,9 +39,11 @@ module _ (a b c : Shown) (keeps : KeepsOutputs a b) where
   }
 
   pub begun_writes_since : (writes : List Write) → HasBegun writes b c → HasBegun writes a c
-  begun_writes_since writes begun = record { done = begun.done; cut = begun.cut; written = written_since begun.done begun.written }
+  begun_writes_since writes begun =
+      record { done = begun.done; cut = begun.cut; written = written_since begun.done begun.written }
 
-  files_since : (names : OutputNames) (u : FractionUnit) (released : List Packet) (schedule report : List ℕ) → HasFiles names u released schedule report b c → HasFiles names u released schedule report a c
+  files_since : (names : OutputNames) (u : FractionUnit) (released : List Packet) (schedule report : List ℕ)
+      → HasFiles names u released schedule report b c → HasFiles names u released schedule report a c
   files_since names u released schedule report f = record {
     released_is = f.released_is;
     schedule_is = f.schedule_is;
@@ -48,7 +51,8 @@ module _ (a b c : Shown) (keeps : KeepsOutputs a b) where
     others = λ name one two. f.others name one two ∙ same_names name;
   }
 
-  pub run_since : {V : Type 0} (s : Setting V) (names : OutputNames) (events : List Event) → HasRun s names events b c → HasRun s names events a c
+  pub run_since : {V : Type 0} (s : Setting V) (names : OutputNames) (events : List Event) → HasRun s names events b c
+      → HasRun s names events a c
   run_since s names events r = record {
     report = r.report;
     released = r.released;
@@ -59,11 +63,13 @@ module _ (a b c : Shown) (keeps : KeepsOutputs a b) where
     files = files_since names s.fractions r.released _ r.report r.files;
   }
 
-  pub whole_since : {V : Type 0} (s : Setting V) (names : OutputNames) (events : List Event) (r : Result ⊤ RunError) → OnOk r (HasRun s names events b c) → OnOk r (HasRun s names events a c)
+  pub whole_since : {V : Type 0} (s : Setting V) (names : OutputNames) (events : List Event) (r : Result ⊤ RunError)
+      → OnOk r (HasRun s names events b c) → OnOk r (HasRun s names events a c)
   whole_since s names events (Ok done) r = run_since s names events r
   whole_since s names events (Err e) r = tt
 
-  pub stopped_since : {V : Type 0} (s : Setting V) (names : OutputNames) (events : List Event) (limit : Limit) → HasStopped s names events limit b c → HasStopped s names events limit a c
+  pub stopped_since : {V : Type 0} (s : Setting V) (names : OutputNames) (events : List Event) (limit : Limit)
+      → HasStopped s names events limit b c → HasStopped s names events limit a c
   stopped_since s names events limit r = record {
     report = r.report;
     released = r.released;
@@ -71,7 +77,8 @@ module _ (a b c : Shown) (keeps : KeepsOutputs a b) where
     files = files_since names s.fractions r.released [] r.report r.files;
   }
 
-  pub begun_since : {V : Type 0} (s : Setting V) (names : OutputNames) (events : List Event) → HasBegunRun s names events b c → HasBegunRun s names events a c
+  pub begun_since : {V : Type 0} (s : Setting V) (names : OutputNames) (events : List Event)
+      → HasBegunRun s names events b c → HasBegunRun s names events a c
   begun_since s names events (writes, is, begun) = (writes, is, begun_writes_since writes begun)
 
   pub kept_shown : b ≡ c → KeepsShown a c
@@ -82,37 +89,50 @@ kept a b keeps = record { names = keeps.names; sent = keeps.sent }
 
 -- The status of the run, where its inputs are accepted.
 
-module _ (healthy : Type 0) (names : RunNames) (inputs : Inputs) (a c : Shown) (accepted : AcceptsInputs names inputs a) where
-  pub run_judged : (r : Result ⊤ RunError) → (healthy → ¬ IsErrOf r run_error.WriteFault) → OnOk r (HasRun (setting_for inputs) (outputs_of names) inputs.events a c)
-      → ((limit : Limit) → r ≡ Err (run_error.Limit limit) → HasStopped (setting_for inputs) (outputs_of names) inputs.events limit a c)
+module _ (healthy : Type 0) (names : RunNames) (inputs : Inputs) (a c : Shown)
+    (accepted : AcceptsInputs names inputs a) where
+  pub run_judged : (r : Result ⊤ RunError) → (healthy → ¬ IsErrOf r run_error.WriteFault)
+      → OnOk r (HasRun (setting_for inputs) (outputs_of names) inputs.events a c)
+      → ((limit : Limit) → r ≡ Err (run_error.Limit limit)
+      → HasStopped (setting_for inputs) (outputs_of names) inputs.events limit a c)
       → Judges healthy names (run_outcome r) a
-  run_judged (Ok done) never whole limit = (inputs, accepted, (whole.report, whole.released, whole.schedule, whole.leaves))
-  run_judged (Err (run_error.Limit l)) never whole limit = let h = limit l refl in inr (inputs, accepted, (h.report, h.released, h.leaves))
+  run_judged (Ok done) never whole limit =
+      (inputs, accepted, (whole.report, whole.released, whole.schedule, whole.leaves))
+  run_judged (Err (run_error.Limit l)) never whole limit =
+      let h = limit l refl in inr (inputs, accepted, (h.report, h.released, h.leaves))
   run_judged (Err run_error.WriteFault) never whole limit = (λ ok. never ok refl, inputs, accepted)
   run_judged (Err run_error.NoMemory) never whole limit = tt
 
-  pub run_done : (r : Result ⊤ RunError) → run_outcome r ≡ status.Done → OnOk r (HasRun (setting_for inputs) (outputs_of names) inputs.events a c) → RunsWhole names a c
+  pub run_done : (r : Result ⊤ RunError) → run_outcome r ≡ status.Done
+      → OnOk r (HasRun (setting_for inputs) (outputs_of names) inputs.events a c) → RunsWhole names a c
   run_done (Ok done) e whole = (inputs, accepted, whole)
   run_done (Err (run_error.Limit l)) e whole = absurd (cc)
   run_done (Err run_error.WriteFault) e whole = absurd (cc)
   run_done (Err run_error.NoMemory) e whole = absurd (cc)
 
   pub run_limit : (r : Result ⊤ RunError) (l : Limit) → run_outcome r ≡ status.TooLarge l
-      → ((limit : Limit) → r ≡ Err (run_error.Limit limit) → HasStopped (setting_for inputs) (outputs_of names) inputs.events limit a c) → RunsToLimit names l a c
+      → ((limit : Limit) → r ≡ Err (run_error.Limit limit)
+      → HasStopped (setting_for inputs) (outputs_of names) inputs.events limit a c) → RunsToLimit names l a c
   run_limit (Ok done) l e limit = absurd (cc)
   run_limit (Err (run_error.Limit k)) l e limit =
-      let same : k ≡ l = cc in
-      (inputs, accepted, subst (λ (m : Limit). HasStopped (setting_for inputs) (outputs_of names) inputs.events m a c) same (limit k refl))
+      let same : k ≡ l = cc in (
+        inputs,
+        accepted,
+        subst (λ (m : Limit). HasStopped (setting_for inputs) (outputs_of names) inputs.events m a c) same
+            (limit k refl),
+      )
   run_limit (Err run_error.WriteFault) l e limit = absurd (cc)
   run_limit (Err run_error.NoMemory) l e limit = absurd (cc)
 
   -- a run never ends at its inputs
   pub not_at_inputs : (r : Result ⊤ RunError) → stage_of (run_outcome r) ≡ AtInputs
-      → ((limit : Limit) → r ≡ Err (run_error.Limit limit) → HasStopped (setting_for inputs) (outputs_of names) inputs.events limit a c) → ⊥
+      → ((limit : Limit) → r ≡ Err (run_error.Limit limit)
+      → HasStopped (setting_for inputs) (outputs_of names) inputs.events limit a c) → ⊥
   not_at_inputs (Ok done) e limit = cc
   not_at_inputs (Err (run_error.Limit l)) e limit =
       let h = limit l refl in
-      let stage : stage_of_limit l ≡ AtOutputs = stops_are (setting_for inputs) h.leaves.there h.leaves.event l h.leaves.world h.leaves.stops in
+      let stage : stage_of_limit l ≡ AtOutputs =
+      stops_are (setting_for inputs) h.leaves.there h.leaves.event l h.leaves.world h.leaves.stops in
       cc
   not_at_inputs (Err run_error.WriteFault) e limit = cc
   not_at_inputs (Err run_error.NoMemory) e limit = cc
@@ -135,7 +155,8 @@ run_fault (Err (run_error.Limit l)) e = absurd (cc)
 run_fault (Err run_error.WriteFault) e = refl
 run_fault (Err run_error.NoMemory) e = absurd (cc)
 
-pub not_of_run : (s : Status) (limit : Limit) → s ≡ status.TooLarge limit → stage_of_limit limit ≡ AtOutputs → ComesAt AtInputs s → ⊥
+pub not_of_run : (s : Status) (limit : Limit) → s ≡ status.TooLarge limit → stage_of_limit limit ≡ AtOutputs
+    → ComesAt AtInputs s → ⊥
 not_of_run s limit e stage h = go (subst (λ (s : Status). ComesAt AtInputs s) e h)
   where
     go : ComesAt AtInputs (status.TooLarge limit) → ⊥

@@ -15,7 +15,8 @@ use Rattle.job_commands.specs.declared.status.Status.{Status}
 use Rattle.job_commands.specs.declared.status.Status.TheVariants as status
 use Rattle.job_commands.specs.declared.status.InputFault.TheVariants as input
 use Rattle.job_commands.specs.Judging.{IsDecided}
-use Rattle.job_commands.specs.Schedules.{AcceptsScheduleInputs, EndsPlay, JudgesPlay, PlaysWhole, PlaysInOrder, outcome_for}
+use Rattle.job_commands.specs.Schedules.{AcceptsScheduleInputs, EndsPlay, JudgesPlay, PlaysWhole, PlaysInOrder}
+use Rattle.job_commands.specs.Schedules.{outcome_for}
 use Rattle.job_commands.specs.Status.{AtInputs, Completes, play_outcome, stage_of}
 use Rattle.job_commands.specs.Words.{PlayNames}
 use Rattle.job_commands.proofs.Outcomes.{written_since, begun_writes_since, kept_shown}
@@ -23,23 +24,44 @@ use Rattle.job_commands.proofs.FilesInTurn.{three_accepted, three_one, three_pas
 
 -- The status, where the inputs are accepted.
 
-module _ (healthy : Type 0) (names : PlayNames) (inputs : ScheduleInputs) (a b c : Shown) (keeps : KeepsOutputs a b) (accepts : AcceptsScheduleInputs names.files inputs a) where
-  pub play_judged : (r : Result ⊤ (ScheduleError PlayFault)) → SaysPlay (outcome_for inputs) r → (healthy → ¬ IsErrOf r error.WriteFault) → JudgesPlay healthy names (play_outcome r) a
-  play_judged r says never = three_accepted healthy names.files a (EndsPlay healthy) inputs (play_outcome r) accepts (r, says, never, refl)
+module _ (healthy : Type 0) (names : PlayNames) (inputs : ScheduleInputs) (a b c : Shown) (keeps : KeepsOutputs a b)
+    (accepts : AcceptsScheduleInputs names.files inputs a) where
+  pub play_judged : (r : Result ⊤ (ScheduleError PlayFault)) → SaysPlay (outcome_for inputs) r
+      → (healthy → ¬ IsErrOf r error.WriteFault) → JudgesPlay healthy names (play_outcome r) a
+  play_judged r says never =
+      three_accepted healthy names.files a (EndsPlay healthy) inputs (play_outcome r) accepts (r, says, never, refl)
 
-  pub play_done : (r : Result ⊤ (ScheduleError PlayFault)) → play_outcome r ≡ status.Done → OnOk r (HasPlayed (outcome_for inputs) names.out inputs.capture.unit b c) → PlaysWhole names a c
-  play_done (Ok done) e played =
-      (inputs, accepts, record { steps = played.steps; legal = played.legal; written = written_since a b c keeps (emitted_writes names.out inputs.capture.unit played.steps) played.written })
+  pub play_done : (r : Result ⊤ (ScheduleError PlayFault)) → play_outcome r ≡ status.Done
+      → OnOk r (HasPlayed (outcome_for inputs) names.out inputs.capture.unit b c) → PlaysWhole names a c
+  play_done (Ok done) e played = (
+    inputs,
+    accepts,
+    record {
+      steps = played.steps;
+      legal = played.legal;
+      written = written_since a b c keeps (emitted_writes names.out inputs.capture.unit played.steps) played.written;
+    },
+  )
   play_done (Err (error.Refused fault)) e played = absurd (cc)
   play_done (Err error.WriteFault) e played = absurd (cc)
   play_done (Err error.NoMemory) e played = absurd (cc)
 
-  pub play_in_order : (b ≡ c) ⊎ HasBegunPlay (outcome_for inputs) names.out inputs.capture.unit b c → PlaysInOrder names a c
+  pub play_in_order : (b ≡ c) ⊎ HasBegunPlay (outcome_for inputs) names.out inputs.capture.unit b c
+      → PlaysInOrder names a c
   play_in_order (inl same) = inl (kept_shown a b c keeps same)
   play_in_order (inr begun) =
-      inr (inputs, accepts, record { steps = begun.steps; legal = begun.legal; begun = begun_writes_since a b c keeps (emitted_writes names.out inputs.capture.unit begun.steps) begun.begun })
+      inr (
+        inputs,
+        accepts,
+        record {
+          steps = begun.steps;
+          legal = begun.legal;
+          begun = begun_writes_since a b c keeps (emitted_writes names.out inputs.capture.unit begun.steps) begun.begun;
+        },
+      )
 
-  pub play_refused : (r : Result ⊤ (ScheduleError PlayFault)) → stage_of (play_outcome r) ≡ AtInputs → ((fault : PlayFault) → r ≡ Err (error.Refused fault) → b ≡ c) → KeepsShown a c
+  pub play_refused : (r : Result ⊤ (ScheduleError PlayFault)) → stage_of (play_outcome r) ≡ AtInputs
+      → ((fault : PlayFault) → r ≡ Err (error.Refused fault) → b ≡ c) → KeepsShown a c
   play_refused (Ok done) e same = absurd (cc)
   play_refused (Err (error.Refused fault)) e same = kept_shown a b c keeps (same fault refl)
   play_refused (Err error.WriteFault) e same = absurd (cc)
@@ -63,7 +85,8 @@ play_reads (Err (error.Refused fault)) e = cc
 play_reads (Err error.WriteFault) e = cc
 play_reads (Err error.NoMemory) e = cc
 
-pub play_fault : (r : Result ⊤ (ScheduleError PlayFault)) → play_outcome r ≡ status.WriteFault → IsErrOf r error.WriteFault
+pub play_fault : (r : Result ⊤ (ScheduleError PlayFault)) → play_outcome r ≡ status.WriteFault
+    → IsErrOf r error.WriteFault
 play_fault (Ok done) e = absurd (cc)
 play_fault (Err (error.Refused fault)) e = absurd (cc)
 play_fault (Err error.WriteFault) e = refl
@@ -72,11 +95,14 @@ play_fault (Err error.NoMemory) e = absurd (cc)
 -- The inputs decide the status.
 
 module _ (healthy : Type 0) where
-  decided : (r : Result ⊤ (ScheduleError PlayFault)) → IsDecided healthy (play_outcome r) → (healthy → ¬ IsErrOf r error.WriteFault) → ¬ (r ≡ Err error.NoMemory) × ¬ (r ≡ Err error.WriteFault)
+  decided : (r : Result ⊤ (ScheduleError PlayFault)) → IsDecided healthy (play_outcome r)
+      → (healthy → ¬ IsErrOf r error.WriteFault) → ¬ (r ≡ Err error.NoMemory) × ¬ (r ≡ Err error.WriteFault)
   decided r d never = (λ e. d.0 (ap play_outcome e), λ e. never (d.1.1 (ap play_outcome e)) e)
 
-  same_end : {V : Type 0} (outcome : Result (List (Step V)) PlayFault) (r q : Result ⊤ (ScheduleError PlayFault)) → ¬ (r ≡ Err error.NoMemory) × ¬ (r ≡ Err error.WriteFault)
-      → ¬ (q ≡ Err error.NoMemory) × ¬ (q ≡ Err error.WriteFault) → SaysPlay outcome r → SaysPlay outcome q → play_outcome r ≡ play_outcome q
+  same_end : {V : Type 0} (outcome : Result (List (Step V)) PlayFault) (r q : Result ⊤ (ScheduleError PlayFault))
+      → ¬ (r ≡ Err error.NoMemory) × ¬ (r ≡ Err error.WriteFault)
+      → ¬ (q ≡ Err error.NoMemory) × ¬ (q ≡ Err error.WriteFault) → SaysPlay outcome r → SaysPlay outcome q
+      → play_outcome r ≡ play_outcome q
   same_end outcome (Err error.WriteFault) q d g x y = absurd (d.1 refl)
   same_end outcome (Err error.NoMemory) q d g x y = absurd (d.0 refl)
   same_end outcome (Ok done) (Ok other) d g x y = refl
@@ -87,28 +113,40 @@ module _ (healthy : Type 0) where
   same_end (Ok steps) (Err (error.Refused fault)) (Ok done) d g x y = absurd x
   same_end (Err first) (Err (error.Refused fault)) (Ok done) d g x y = absurd y
   same_end (Ok steps) (Err (error.Refused fault)) (Err (error.Refused other)) d g x y = absurd x
-  same_end (Err first) (Err (error.Refused fault)) (Err (error.Refused other)) d g x y = ap (λ (f : PlayFault). status.BadInput (input.Moves f)) (x ∙ sym y)
+  same_end (Err first) (Err (error.Refused fault)) (Err (error.Refused other)) d g x y =
+      ap (λ (f : PlayFault). status.BadInput (input.Moves f)) (x ∙ sym y)
   same_end outcome (Err (error.Refused fault)) (Err error.WriteFault) d g x y = absurd (g.1 refl)
   same_end outcome (Err (error.Refused fault)) (Err error.NoMemory) d g x y = absurd (g.0 refl)
 
-  ends_one : (inputs : ScheduleInputs) (s r : Status) → IsDecided healthy s → IsDecided healthy r → EndsPlay healthy inputs s → EndsPlay healthy inputs r → s ≡ r
+  ends_one : (inputs : ScheduleInputs) (s r : Status) → IsDecided healthy s → IsDecided healthy r
+      → EndsPlay healthy inputs s → EndsPlay healthy inputs r → s ≡ r
   ends_one inputs s r d g (x, says, never, q) (y, tells, keeps, p) =
-      q ∙ same_end (outcome_for inputs) x y (decided x (subst (IsDecided healthy) q d) never) (decided y (subst (IsDecided healthy) p g) keeps) says tells ∙ sym p
+      q
+      ∙ same_end (outcome_for inputs) x y (decided x (subst (IsDecided healthy) q d) never)
+      (decided y (subst (IsDecided healthy) p g) keeps) says tells
+      ∙ sym p
 
-  pub one_play : (names : PlayNames) (shown : Shown) (s r : Status) → IsDecided healthy s → IsDecided healthy r → JudgesPlay healthy names s shown → JudgesPlay healthy names r shown → s ≡ r
+  pub one_play : (names : PlayNames) (shown : Shown) (s r : Status) → IsDecided healthy s → IsDecided healthy r
+      → JudgesPlay healthy names s shown → JudgesPlay healthy names r shown → s ≡ r
   one_play names shown = three_one healthy names.files shown (EndsPlay healthy) ends_one
 
-  -- In a healthy world a schedule whose files are accepted is played, or its first illegal move named, or memory ran out.
-  pub play_completes : (names : PlayNames) (shown : Shown) → healthy → (inputs : ScheduleInputs) × AcceptsScheduleInputs names.files inputs shown → (s : Status) → JudgesPlay healthy names s shown
+  -- In a healthy world a schedule whose files are accepted is played, or its first illegal move named, or memory ran
+  -- out.
+  pub play_completes : (names : PlayNames) (shown : Shown) → healthy
+      → (inputs : ScheduleInputs) × AcceptsScheduleInputs names.files inputs shown → (s : Status)
+      → JudgesPlay healthy names s shown
       → Completes s ⊎ ((fault : PlayFault) × (s ≡ status.BadInput (input.Moves fault)))
-  play_completes names shown ok (inputs, accepts) s h = go (three_pass healthy names.files shown (EndsPlay healthy) ok inputs accepts s h)
+  play_completes names shown ok (inputs, accepts) s h =
+      go (three_pass healthy names.files shown (EndsPlay healthy) ok inputs accepts s h)
     where
-      by : (r : Result ⊤ (ScheduleError PlayFault)) → (healthy → ¬ IsErrOf r error.WriteFault) → s ≡ play_outcome r → Completes s ⊎ ((fault : PlayFault) × (s ≡ status.BadInput (input.Moves fault)))
+      by : (r : Result ⊤ (ScheduleError PlayFault)) → (healthy → ¬ IsErrOf r error.WriteFault) → s ≡ play_outcome r
+          → Completes s ⊎ ((fault : PlayFault) × (s ≡ status.BadInput (input.Moves fault)))
       by (Ok done) never q = inl (inl q)
       by (Err (error.Refused fault)) never q = inr (fault, q)
       by (Err error.WriteFault) never q = absurd (never ok refl)
       by (Err error.NoMemory) never q = inl (inr q)
 
-      go : (s ≡ status.NoMemory) ⊎ EndsPlay healthy inputs s → Completes s ⊎ ((fault : PlayFault) × (s ≡ status.BadInput (input.Moves fault)))
+      go : (s ≡ status.NoMemory) ⊎ EndsPlay healthy inputs s
+          → Completes s ⊎ ((fault : PlayFault) × (s ≡ status.BadInput (input.Moves fault)))
       go (inl q) = inl (inr q)
       go (inr (r, says, never, q)) = by r never q

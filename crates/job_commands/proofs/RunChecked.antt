@@ -42,21 +42,29 @@ is_savefile Nano packets = and_false (not (nat_lt (length (written Nano packets)
 
 are_recorded : (packets : List Packet) → All FitsRecord packets → AreRecorded packets
 are_recorded [] each = tt
-are_recorded (p ∷ packets) each = ((All-head FitsRecord p packets each).recorded, are_recorded packets (All-tail FitsRecord p packets each))
+are_recorded (p ∷ packets) each =
+    ((All-head FitsRecord p packets each).recorded, are_recorded packets (All-tail FitsRecord p packets each))
 
-reads_back : (u : FractionUnit) (packets : List Packet) → AreRecorded packets → length packets ≤ 65536 → length (written u packets) ≤ 67108864 → SaysAny (written u packets) (captured.Capture u packets)
+reads_back : (u : FractionUnit) (packets : List Packet) → AreRecorded packets → length packets ≤ 65536
+    → length (written u packets) ≤ 67108864 → SaysAny (written u packets) (captured.Capture u packets)
 reads_back u packets recorded few size = record {
   ng = λ begins. let no : true ≡ false = sym begins ∙ is_savefile u packets in cc;
-  savefile = λ begins. (savefile.Capture u packets, refl, record { capture = written_is_capture u packets recorded; count = few; size = size });
+  savefile = λ begins. (
+    savefile.Capture u packets,
+    refl,
+    record { capture = written_is_capture u packets recorded; count = few; size = size },
+  );
 }
 
 -- what was said of a file is said of it while it stands
-still_told : (name : List ℕ) (said : List ℕ → Type 0) (a b : Shown) → b.names name ≡ a.names name → IsToldOf name said a → IsToldOf name said b
+still_told : (name : List ℕ) (said : List ℕ → Type 0) (a b : Shown) → b.names name ≡ a.names name → IsToldOf name said a
+    → IsToldOf name said b
 still_told name said a b same h = (h.0, same ∙ h.1, h.2)
 
 module _ (names : RunNames) (inputs : Inputs) (old new later : Shown) (accepted : AcceptsInputs names inputs old)
     (ran : HasRun (setting_for inputs) (outputs_of names) inputs.events old new)
-    (fits : AreWithinLimits inputs.capture.unit ran.released ran.schedule) (stand : StillStand names old new later) where
+    (fits : AreWithinLimits inputs.capture.unit ran.released ran.schedule)
+    (stand : StillStand names old new later) where
   abbrev Read : CheckInputs
   Read = record {
     played = record { conf = inputs.conf; capture = inputs.capture; schedule = ran.schedule };
@@ -68,23 +76,35 @@ module _ (names : RunNames) (inputs : Inputs) (old new later : Shown) (accepted 
     played_accepted = record {
       box_accepted = still_told names.box_file _ old later stand.box_file accepted.box_accepted;
       capture_accepted = still_told names.capture _ old later stand.capture accepted.capture_accepted;
-      schedule_accepted = (schedule_text ran.schedule, stand.schedule ∙ ran.files.schedule_is, (fits.schedule_size, read_back ran.schedule ran.fit_lines, fits.few_moves));
+      schedule_accepted = (
+        schedule_text ran.schedule,
+        stand.schedule ∙ ran.files.schedule_is,
+        (fits.schedule_size, read_back ran.schedule ran.fit_lines, fits.few_moves),
+      );
     };
     released_accepted = (
       written inputs.capture.unit ran.released,
       stand.released ∙ ran.files.released_is,
-      (reads_back inputs.capture.unit ran.released (are_recorded ran.released ran.fit_records) fits.few_packets fits.released_size, All-weaker FitsRecord IsOfBytes (λ p fit. fit.of_bytes) ran.released ran.fit_records),
+      (
+        reads_back inputs.capture.unit ran.released (are_recorded ran.released ran.fit_records) fits.few_packets
+            fits.released_size,
+        All-weaker FitsRecord IsOfBytes (λ p fit. fit.of_bytes) ran.released ran.fit_records,
+      ),
     );
   }
 
   found : AreFound Read
   found =
       let is = leaves_accepted (setting_for inputs) inputs.events ran.report ran.released ran.schedule ran.leaves in
-      let Finds : Result (List (Step _)) PlayFault → Type 0 = λ outcome. IsChecked outcome inputs.capture.unit ran.released inputs.capture.unit (Found (length ran.released)) in
+      let Finds : Result (List (Step _)) PlayFault → Type 0 =
+      λ outcome. IsChecked outcome inputs.capture.unit ran.released inputs.capture.unit (Found (length ran.released)) in
       subst Finds (sym is.plays) (is.matched, refl)
 
   pub run_is_checked : (healthy : Type 0) → JudgesCheck healthy (checked names) status.Done later
-  run_is_checked healthy = four_accepted healthy (checked names) later (EndsCheck healthy) Read status.Done accepts (Ok tt, found, (λ ok e. cc), refl)
+  run_is_checked healthy = four_accepted healthy (checked names) later (EndsCheck healthy) Read status.Done accepts
+      (Ok tt, found, (λ ok e. cc), refl)
 
-  pub run_is_checked_only : (healthy : Type 0) (s : Status) → IsDecided healthy s → JudgesCheck healthy (checked names) s later → s ≡ status.Done
-  run_is_checked_only healthy s decided judged = one_check healthy (checked names) later s status.Done decided (λ e. cc, (λ e. cc, λ e. cc)) judged (run_is_checked healthy)
+  pub run_is_checked_only : (healthy : Type 0) (s : Status) → IsDecided healthy s
+      → JudgesCheck healthy (checked names) s later → s ≡ status.Done
+  run_is_checked_only healthy s decided judged = one_check healthy (checked names) later s status.Done decided
+      (λ e. cc, (λ e. cc, λ e. cc)) judged (run_is_checked healthy)

@@ -21,11 +21,13 @@ passed_is moves bytes limit e = first (nat_lt MOST_MOVES moves) (nat_lt MOST_OUT
     second true e = let q : limit_of.OutputBytes ≡ limit = cc in ap stage_of_limit (sym q)
     second false e = absurd (cc)
 
-    first : (a b : Bool) → cond a (Some limit_of.Moves) (cond b (Some limit_of.OutputBytes) None) ≡ Some limit → IsOfRun limit
+    first : (a b : Bool) → cond a (Some limit_of.Moves) (cond b (Some limit_of.OutputBytes) None) ≡ Some limit
+        → IsOfRun limit
     first true b e = let q : limit_of.Moves ≡ limit = cc in ap stage_of_limit (sym q)
     first false b e = second b e
 
-passes_is : {V : Type 0} (s : Setting V) (w : SystemWorld V) (ev : Event) (limit : Limit) → Passes s w ev limit → IsOfRun limit
+passes_is : {V : Type 0} (s : Setting V) (w : SystemWorld V) (ev : Event) (limit : Limit) → Passes s w ev limit
+    → IsOfRun limit
 passes_is s w ev limit p = passed_is p.new.moves p.new.bytes limit p.passed
 
 follows_is : {Q V : Type 0} (s : Setting V) (next : Strategy Q V) (q : Q) (w new : SystemWorld V) (end : Option Limit)

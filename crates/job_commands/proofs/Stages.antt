@@ -19,7 +19,8 @@ use Rattle.input_files.specs.declared.errors.InputError.TheVariants as error
 use Rattle.input_files.specs.Judging.{JudgesCapture}
 use Rattle.job_commands.specs.declared.status.Status.{Status}
 use Rattle.job_commands.specs.declared.status.Status.TheVariants as status
-use Rattle.job_commands.specs.Status.{AtInputs, ComesAt, EndsReading, stage_of_limit, of_capture_error, of_released_error}
+use Rattle.job_commands.specs.Status.{AtInputs, ComesAt, EndsReading, stage_of_limit, of_capture_error}
+use Rattle.job_commands.specs.Status.{of_released_error}
 
 abbrev IsOfFile : Limit → Type 0
 IsOfFile limit = stage_of_limit limit ≡ AtInputs
@@ -31,7 +32,8 @@ file_limit false = refl
 savefile_limit : (bytes : List ℕ) (limit : Limit) → PassesLimit bytes limit → IsOfFile limit
 savefile_limit bytes limit p = subst IsOfFile (sym p.passed) (file_limit (length p.before == MOST_PACKETS))
 
-ng_limit : (a b : Bool) (limit : Limit) → cond a (Some limit_of.Packets) (cond b (Some limit_of.File) None) ≡ Some limit → IsOfFile limit
+ng_limit : (a b : Bool) (limit : Limit) → cond a (Some limit_of.Packets) (cond b (Some limit_of.File) None) ≡ Some limit
+    → IsOfFile limit
 ng_limit true b limit e = let q : limit_of.Packets ≡ limit = cc in subst IsOfFile q refl
 ng_limit false true limit e = let q : limit_of.File ≡ limit = cc in subst IsOfFile q refl
 ng_limit false false limit e = absurd (cc)
@@ -39,10 +41,12 @@ ng_limit false false limit e = absurd (cc)
 passed_ng : (bytes : List ℕ) (limit : Limit) → PassesNgLimit bytes limit → IsOfFile limit
 passed_ng bytes limit p = ng_limit _ (is_cut p.section.order (MOST_FILE_BYTES - length p.passed) p.rest) limit p.limited
 
-told_limit : (bytes : List ℕ) (limit : Limit) (told : Captured) → captured.TooLarge limit ≡ any_captured told → Says bytes told → IsOfFile limit
+told_limit : (bytes : List ℕ) (limit : Limit) (told : Captured) → captured.TooLarge limit ≡ any_captured told
+    → Says bytes told → IsOfFile limit
 told_limit bytes limit (savefile.Capture u packets) e h = absurd (cc)
 told_limit bytes limit (savefile.Refused fault) e h = absurd (cc)
-told_limit bytes limit (savefile.TooLarge other) e h = let q : other ≡ limit = cc in subst IsOfFile q (savefile_limit bytes other h)
+told_limit bytes limit (savefile.TooLarge other) e h =
+    let q : other ≡ limit = cc in subst IsOfFile q (savefile_limit bytes other h)
 told_limit bytes limit savefile.ReadFault e h = absurd (cc)
 told_limit bytes limit savefile.NoMemory e h = absurd (cc)
 
@@ -54,13 +58,15 @@ capture_limit bytes limit h = go (begins_ng bytes) refl
     go false e = let s = h.savefile e in told_limit bytes limit s.0 s.1 s.2
 
 -- each error of a capture comes at the stage of the inputs
-pub capture_stage : (healthy : Type 0) (name : List ℕ) (shown : Shown) (e : InputError AnyFault) → JudgesCapture healthy name (Err e) shown → ComesAt AtInputs (of_capture_error e)
+pub capture_stage : (healthy : Type 0) (name : List ℕ) (shown : Shown) (e : InputError AnyFault)
+    → JudgesCapture healthy name (Err e) shown → ComesAt AtInputs (of_capture_error e)
 capture_stage healthy name shown (error.Fault fault) h = inl refl
 capture_stage healthy name shown (error.TooLarge limit) h = inl (capture_limit h.0 limit h.2)
 capture_stage healthy name shown error.ReadFault h = inl refl
 capture_stage healthy name shown error.NoMemory h = inr refl
 
-pub released_stage : (healthy : Type 0) (name : List ℕ) (shown : Shown) (e : InputError AnyFault) → JudgesCapture healthy name (Err e) shown → ComesAt AtInputs (of_released_error e)
+pub released_stage : (healthy : Type 0) (name : List ℕ) (shown : Shown) (e : InputError AnyFault)
+    → JudgesCapture healthy name (Err e) shown → ComesAt AtInputs (of_released_error e)
 released_stage healthy name shown (error.Fault fault) h = inl refl
 released_stage healthy name shown (error.TooLarge limit) h = inl (capture_limit h.0 limit h.2)
 released_stage healthy name shown error.ReadFault h = inl refl

@@ -11,14 +11,16 @@ use Rattle.job_commands.specs.Status.{of_box_error, of_capture_error, of_schedul
 
 -- the two answers to one file are the same
 abbrev pub OneAnswer : {A F : Type 0} → Type 0 → (Result A (InputError F) → Type 0) → Type 0
-OneAnswer {A} {F} healthy judged = (a b : Result A (InputError F)) → FileDecides healthy a → FileDecides healthy b → judged a → judged b → a ≡ b
+OneAnswer {A} {F} healthy judged =
+    (a b : Result A (InputError F)) → FileDecides healthy a → FileDecides healthy b → judged a → judged b → a ≡ b
 
 -- a status that the files decide comes of an answer that its file decides
 abbrev pub Decides : {F : Type 0} → Type 0 → (InputError F → Status) → Type 0
-Decides {F} healthy status_of = (e : InputError F) → IsDecided healthy (status_of e) → FileDecides {A = ℕ} healthy (Err e)
+Decides {F} healthy status_of =
+    (e : InputError F) → IsDecided healthy (status_of e) → FileDecides {A = ℕ} healthy (Err e)
 
-module _ {A F : Type 0} (healthy : Type 0) (judged : Result A (InputError F) → Type 0) (status_of : InputError F → Status) (behind : A → Status → Type 0)
-    (one : OneAnswer healthy judged) where
+module _ {A F : Type 0} (healthy : Type 0) (judged : Result A (InputError F) → Type 0)
+    (status_of : InputError F → Status) (behind : A → Status → Type 0) (one : OneAnswer healthy judged) where
   for_value : (e : InputError F) → FileDecides {A = ℕ} healthy (Err e) → FileDecides {A = A} healthy (Err e)
   for_value (error.Fault fault) d = d
   for_value (error.TooLarge limit) d = d
@@ -31,18 +33,25 @@ module _ {A F : Type 0} (healthy : Type 0) (judged : Result A (InputError F) →
   same_value : (v w : A) → judged (Ok v) → judged (Ok w) → v ≡ w
   same_value v w h k = let same : Ok v ≡ Ok w = one (Ok v) (Ok w) tt tt h k in cc
 
-  pub one_in_turn : Decides healthy status_of → ((v : A) (s r : Status) → IsDecided healthy s → IsDecided healthy r → behind v s → behind v r → s ≡ r)
-      → (s r : Status) → IsDecided healthy s → IsDecided healthy r → InTurn judged status_of behind s → InTurn judged status_of behind r → s ≡ r
+  pub one_in_turn : Decides healthy status_of
+      → ((v : A) (s r : Status) → IsDecided healthy s → IsDecided healthy r → behind v s → behind v r → s ≡ r)
+      → (s r : Status) → IsDecided healthy s → IsDecided healthy r → InTurn judged status_of behind s
+      → InTurn judged status_of behind r → s ≡ r
   one_in_turn decides next s r d g (inl (e, h, q)) (inl (f, k, p)) =
-      let same : Err e ≡ Err f = one (Err e) (Err f) (for_value e (decides e (subst (IsDecided healthy) q d))) (for_value f (decides f (subst (IsDecided healthy) p g))) h k in
+      let same : Err e ≡ Err f = one (Err e) (Err f) (for_value e (decides e (subst (IsDecided healthy) q d)))
+      (for_value f (decides f (subst (IsDecided healthy) p g))) h k in
       let e_is : e ≡ f = cc in
       q ∙ ap status_of e_is ∙ sym p
-  one_in_turn decides next s r d g (inl (e, h, q)) (inr (w, k, y)) = absurd (not_both w e (for_value e (decides e (subst (IsDecided healthy) q d))) k h)
-  one_in_turn decides next s r d g (inr (v, h, x)) (inl (f, k, p)) = absurd (not_both v f (for_value f (decides f (subst (IsDecided healthy) p g))) h k)
-  one_in_turn decides next s r d g (inr (v, h, x)) (inr (w, k, y)) = next w s r d g (subst (λ (u : A). behind u s) (same_value v w h k) x) y
+  one_in_turn decides next s r d g (inl (e, h, q)) (inr (w, k, y)) =
+      absurd (not_both w e (for_value e (decides e (subst (IsDecided healthy) q d))) k h)
+  one_in_turn decides next s r d g (inr (v, h, x)) (inl (f, k, p)) =
+      absurd (not_both v f (for_value f (decides f (subst (IsDecided healthy) p g))) h k)
+  one_in_turn decides next s r d g (inr (v, h, x)) (inr (w, k, y)) =
+      next w s r d g (subst (λ (u : A). behind u s) (same_value v w h k) x) y
 
   -- in a healthy world, where the file is accepted, what stands behind it decides, unless memory ran out
-  pub passes : healthy → (v : A) → judged (Ok v) → (s : Status) → InTurn judged status_of behind s → (s ≡ status_of error.NoMemory) ⊎ behind v s
+  pub passes : healthy → (v : A) → judged (Ok v) → (s : Status) → InTurn judged status_of behind s
+      → (s ≡ status_of error.NoMemory) ⊎ behind v s
   passes ok v h s (inl (error.Fault fault, k, q)) = absurd (not_both v (error.Fault fault) tt h k)
   passes ok v h s (inl (error.TooLarge limit, k, q)) = absurd (not_both v (error.TooLarge limit) tt h k)
   passes ok v h s (inl (error.ReadFault, k, q)) = absurd (not_both v error.ReadFault ok h k)
@@ -76,10 +85,14 @@ released_decides healthy error.ReadFault d = d.1.0 refl
 released_decides healthy error.NoMemory d = absurd (d.0 refl)
 
 -- What is said of a file in one moment is so in another, where the names are as they were.
-pub judged_since : {A F : Type 0} (says : List ℕ → Result A (InputError F) → Type 0) (healthy later : Type 0) → (healthy → later) → (a b : Shown) → b.names ≡ a.names
-    → (name : List ℕ) (r : Result A (InputError F)) → JudgesFile says later name r b → JudgesFile says healthy name r a
+pub judged_since : {A F : Type 0} (says : List ℕ → Result A (InputError F) → Type 0) (healthy later : Type 0)
+    → (healthy → later) → (a b : Shown) → b.names ≡ a.names → (name : List ℕ) (r : Result A (InputError F))
+    → JudgesFile says later name r b → JudgesFile says healthy name r a
 judged_since says healthy later stays a b same name (Ok value) h = (h.0, ap (λ f. f name) (sym same) ∙ h.1, h.2)
-judged_since says healthy later stays a b same name (Err (error.Fault fault)) h = (h.0, ap (λ f. f name) (sym same) ∙ h.1, h.2)
-judged_since says healthy later stays a b same name (Err (error.TooLarge limit)) h = (h.0, ap (λ f. f name) (sym same) ∙ h.1, h.2)
-judged_since says healthy later stays a b same name (Err error.ReadFault) h = λ ok. ap (λ f. f name) (sym same) ∙ h (stays ok)
+judged_since says healthy later stays a b same name (Err (error.Fault fault)) h =
+    (h.0, ap (λ f. f name) (sym same) ∙ h.1, h.2)
+judged_since says healthy later stays a b same name (Err (error.TooLarge limit)) h =
+    (h.0, ap (λ f. f name) (sym same) ∙ h.1, h.2)
+judged_since says healthy later stays a b same name (Err error.ReadFault) h =
+    λ ok. ap (λ f. f name) (sym same) ∙ h (stays ok)
 judged_since says healthy later stays a b same name (Err error.NoMemory) h = tt

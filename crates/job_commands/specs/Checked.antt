@@ -1,4 +1,5 @@
--- The check of what a run left: with the same box and the same capture, of the schedule and the released capture that it wrote.
+-- The check of what a run left: with the same box and the same capture, of the schedule and the released capture that
+-- it wrote.
 use Rattle.std.specs.Prelude.{◌≡◌, ◌≤◌, List, length}
 use Rattle.plain_text.specs.declared.limit.TheConstants.{MOST_EVENTS, MOST_FILE_BYTES, MOST_PACKETS}
 use Rattle.plain_text.specs.declared.packet.Packet.{Packet}

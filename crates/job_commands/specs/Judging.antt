@@ -1,5 +1,5 @@
--- What each status of `run` says of its input files and of the run. The files are judged in the order box, capture, script; the first that is
--- not accepted decides.
+-- What each status of `run` says of its input files and of the run. The files are judged in the order box, capture,
+-- script; the first that is not accepted decides.
 --
 -- In a healthy world reading fails only where a name is not there, and writing never does.
 use Rattle.std.specs.Prelude.{◌≡◌, ◌⊎◌, Result, Ok, Err}
@@ -9,7 +9,8 @@ use Rattle.box_conf.specs.declared.kind.BoxConf.{BoxConf}
 use Rattle.world_io.specs.World.{Shown}
 use Rattle.input_files.specs.declared.capture_file.Capture.{Capture}
 use Rattle.input_files.specs.Files.{IsMissing}
-use Rattle.input_files.specs.Judging.{AcceptsBox, FaultsBox, BoxTooLarge, AcceptsCapture, FaultsCapture, CaptureTooLarge, FaultsScript, ScriptTooLarge}
+use Rattle.input_files.specs.Judging.{AcceptsBox, FaultsBox, BoxTooLarge, AcceptsCapture, FaultsCapture}
+use Rattle.input_files.specs.Judging.{CaptureTooLarge, FaultsScript, ScriptTooLarge}
 use Rattle.job_commands.specs.declared.inputs.Inputs.{Inputs}
 use Rattle.job_commands.specs.declared.status.Status.{Status}
 use Rattle.job_commands.specs.declared.status.Status.TheVariants as status
@@ -23,7 +24,8 @@ BehindBox names shown P = (conf : BoxConf) × AcceptsBox names.box_file conf sho
 
 -- the box file and the capture are accepted, and this stands behind them
 abbrev pub BehindCapture : RunNames → Shown → Type 0 → Type 0
-BehindCapture names shown P = BehindBox names shown ((capture : Capture) × AcceptsCapture names.capture capture shown × P)
+BehindCapture names shown P =
+    BehindBox names shown ((capture : Capture) × AcceptsCapture names.capture capture shown × P)
 
 -- the first file that is not accepted is not there
 abbrev pub FirstIsMissing : RunNames → Shown → Type 0
@@ -46,9 +48,12 @@ Judges healthy names status.ReadFault shown = healthy → FirstIsMissing names s
 Judges healthy names status.WriteFault shown = (healthy → ⊥) × (inputs : Inputs) × AcceptsInputs names inputs shown
 Judges healthy names status.NoMemory shown = Unit {0}
 Judges healthy names (status.BadInput (input.BoxFile fault)) shown = FaultsBox names.box_file fault shown
-Judges healthy names (status.BadInput (input.Capture fault)) shown = BehindBox names shown (FaultsCapture names.capture (any.Capture fault) shown)
-Judges healthy names (status.BadInput (input.NgCapture fault)) shown = BehindBox names shown (FaultsCapture names.capture (any.Ng fault) shown)
-Judges healthy names (status.BadInput (input.Script fault)) shown = BehindCapture names shown (FaultsScript names.script fault shown)
+Judges healthy names (status.BadInput (input.Capture fault)) shown =
+    BehindBox names shown (FaultsCapture names.capture (any.Capture fault) shown)
+Judges healthy names (status.BadInput (input.NgCapture fault)) shown =
+    BehindBox names shown (FaultsCapture names.capture (any.Ng fault) shown)
+Judges healthy names (status.BadInput (input.Script fault)) shown =
+    BehindCapture names shown (FaultsScript names.script fault shown)
 Judges healthy names (status.BadInput (input.Schedule fault)) shown = ⊥
 Judges healthy names (status.BadInput (input.Moves fault)) shown = ⊥
 Judges healthy names (status.BadInput (input.Released fault)) shown = ⊥
@@ -67,4 +72,5 @@ IsDecided healthy s = ¬ (s ≡ status.NoMemory) × ((s ≡ status.ReadFault →
 
 -- The inputs are accepted, and the run passes no limit.
 abbrev pub AreAccepted : RunNames → Shown → Type 0
-AreAccepted names shown = (inputs : Inputs) × AcceptsInputs names inputs shown × ((limit : Limit) → StopsRun inputs limit → ⊥)
+AreAccepted names shown =
+    (inputs : Inputs) × AcceptsInputs names inputs shown × ((limit : Limit) → StopsRun inputs limit → ⊥)

@@ -14,4 +14,5 @@ made_text count = codes "made " ++ decimal count ++ codes "\n"
 
 -- the capture of the generated packets, in microseconds, and then the report
 abbrev pub made_writes : MakeNames → List Write
-made_writes names = single_writes names.capture (written_header Micro) (records_of order.Little (generated names.seed names.count)) (made_text names.count)
+made_writes names = single_writes names.capture (written_header Micro)
+    (records_of order.Little (generated names.seed names.count)) (made_text names.count)

@@ -41,24 +41,34 @@ outputs_of names = record { released = names.released; schedule = names.schedule
 -- its events come to their end within the limits, and leave files
 abbrev pub EndsRun : Inputs → Type 0
 EndsRun inputs =
-    (report : List ℕ) × (released : List Packet) × (schedule : List PlainMove) × Leaves (setting_for inputs) inputs.events report released schedule
+    (report : List ℕ) × (released : List Packet) × (schedule : List PlainMove)
+    × Leaves (setting_for inputs) inputs.events report released schedule
 
 -- one of them stops at this limit
 abbrev pub StopsRun : Inputs → Limit → Type 0
-StopsRun inputs limit = (report : List ℕ) × (released : List Packet) × LeavesAt (setting_for inputs) inputs.events limit report released
+StopsRun inputs limit =
+    (report : List ℕ) × (released : List Packet) × LeavesAt (setting_for inputs) inputs.events limit report released
 
 -- What the command leaves
 
 -- the outputs are the files that the run leaves
 abbrev pub RunsWhole : RunNames → Shown → Shown → Type 0
-RunsWhole names old new = (inputs : Inputs) × AcceptsInputs names inputs old × HasRun (setting_for inputs) (outputs_of names) inputs.events old new
+RunsWhole names old new =
+    (inputs : Inputs)
+    × AcceptsInputs names inputs old
+    × HasRun (setting_for inputs) (outputs_of names) inputs.events old new
 
 -- the run stopped at this limit
 abbrev pub RunsToLimit : RunNames → Limit → Shown → Shown → Type 0
 RunsToLimit names limit old new =
-    (inputs : Inputs) × AcceptsInputs names inputs old × HasStopped (setting_for inputs) (outputs_of names) inputs.events limit old new
+    (inputs : Inputs)
+    × AcceptsInputs names inputs old
+    × HasStopped (setting_for inputs) (outputs_of names) inputs.events limit old new
 
 -- nothing was written, or some first part of what the run writes, in its order, and nothing else
 abbrev pub RunsInOrder : RunNames → Shown → Shown → Type 0
 RunsInOrder names old new =
-    KeepsShown old new ⊎ ((inputs : Inputs) × AcceptsInputs names inputs old × HasBegunRun (setting_for inputs) (outputs_of names) inputs.events old new)
+    KeepsShown old new
+    ⊎ ((inputs : Inputs)
+    × AcceptsInputs names inputs old
+    × HasBegunRun (setting_for inputs) (outputs_of names) inputs.events old new)

@@ -1,7 +1,7 @@
 -- What `play` and `check` do, and what each status says of their inputs.
 --
--- The input files are judged one after another: the first that is not accepted decides the status. Where all are accepted, the
--- schedule decides it, and then the released packets.
+-- The input files are judged one after another: the first that is not accepted decides the status. Where all are
+-- accepted, the schedule decides it, and then the released packets.
 use Rattle.std.specs.Prelude.{◌≡◌, ◌⊎◌, List, length, Result, Ok, Err, ⊤, IsErrOf}
 use Rattle.plain_machine.specs.declared.plain_move.PlayFault.{PlayFault}
 use Rattle.plain_machine.specs.History.{Step}
@@ -17,11 +17,13 @@ use Rattle.schedule_commands.specs.Playing.{SaysPlay, HasPlayed, HasBegunPlay}
 use Rattle.schedule_commands.specs.Checking.{IsFound, SaysCheck, found_writes}
 use Rattle.run_writes.specs.Run.{KeepsShown}
 use Rattle.input_files.specs.declared.errors.InputError.{InputError}
-use Rattle.input_files.specs.Judging.{JudgesBox, JudgesCapture, JudgesSchedule, AcceptsBox, AcceptsCapture, AcceptsSchedule}
+use Rattle.input_files.specs.Judging.{JudgesBox, JudgesCapture, JudgesSchedule, AcceptsBox, AcceptsCapture}
+use Rattle.input_files.specs.Judging.{AcceptsSchedule}
 use Rattle.job_commands.specs.declared.schedule_inputs.ScheduleInputs.{ScheduleInputs}
 use Rattle.job_commands.specs.declared.schedule_inputs.CheckInputs.{CheckInputs}
 use Rattle.job_commands.specs.declared.status.Status.{Status}
-use Rattle.job_commands.specs.Status.{of_box_error, of_capture_error, of_schedule_error, of_released_error, play_outcome, check_outcome}
+use Rattle.job_commands.specs.Status.{of_box_error, of_capture_error, of_schedule_error, of_released_error}
+use Rattle.job_commands.specs.Status.{play_outcome, check_outcome}
 use Rattle.job_commands.specs.Words.{ScheduleNames, PlayNames, CheckNames}
 
 -- Accepted inputs
@@ -52,9 +54,11 @@ outcome_for inputs = outcome_of (meaning_of inputs.conf.kind).meaning (schedule_
 -- What each status says
 
 -- A file in its turn: its answer decides the status where it is not accepted, and what stands behind it where it is.
-abbrev pub InTurn : {A F : Type 0} → (Result A (InputError F) → Type 0) → (InputError F → Status) → (A → Status → Type 0) → Status → Type 0
+abbrev pub InTurn : {A F : Type 0} → (Result A (InputError F) → Type 0) → (InputError F → Status)
+    → (A → Status → Type 0) → Status → Type 0
 InTurn {A} {F} judged status_of behind status =
-    ((refused : InputError F) × judged (Err refused) × (status ≡ status_of refused)) ⊎ ((value : A) × judged (Ok value) × behind value status)
+    ((refused : InputError F) × judged (Err refused) × (status ≡ status_of refused))
+    ⊎ ((value : A) × judged (Ok value) × behind value status)
 
 -- box, capture and schedule, in their turn, and this behind them
 abbrev pub JudgesThree : Type 0 → ScheduleNames → (ScheduleInputs → Status → Type 0) → Status → Shown → Type 0
@@ -81,8 +85,8 @@ EndsPlay healthy inputs status =
 abbrev pub EndsCheck : Type 0 → CheckInputs → Status → Type 0
 EndsCheck healthy inputs status =
     (answer : Result ⊤ (ScheduleError Refutation))
-    × SaysCheck (outcome_for inputs.played) inputs.played.capture.unit inputs.released.packets inputs.released.unit answer
-    × (healthy → ¬ IsErrOf answer error.WriteFault) × (status ≡ check_outcome answer)
+    × SaysCheck (outcome_for inputs.played) inputs.played.capture.unit inputs.released.packets
+    inputs.released.unit answer × (healthy → ¬ IsErrOf answer error.WriteFault) × (status ≡ check_outcome answer)
 
 abbrev pub JudgesPlay : Type 0 → PlayNames → Status → Shown → Type 0
 JudgesPlay healthy names status shown = JudgesThree healthy names.files (EndsPlay healthy) status shown
@@ -104,23 +108,32 @@ JudgesCheckFiles healthy names (Err status) shown = JudgesFour healthy names (λ
 -- OUT is the capture of what the schedule sends out
 abbrev pub PlaysWhole : PlayNames → Shown → Shown → Type 0
 PlaysWhole names old new =
-    (inputs : ScheduleInputs) × AcceptsScheduleInputs names.files inputs old × HasPlayed (outcome_for inputs) names.out inputs.capture.unit old new
+    (inputs : ScheduleInputs)
+    × AcceptsScheduleInputs names.files inputs old
+    × HasPlayed (outcome_for inputs) names.out inputs.capture.unit old new
 
 -- nothing was written, or some first part of that, in its order, and nothing else
 abbrev pub PlaysInOrder : PlayNames → Shown → Shown → Type 0
 PlaysInOrder names old new =
-    KeepsShown old new ⊎ ((inputs : ScheduleInputs) × AcceptsScheduleInputs names.files inputs old × HasBegunPlay (outcome_for inputs) names.out inputs.capture.unit old new)
+    KeepsShown old new
+    ⊎ ((inputs : ScheduleInputs)
+    × AcceptsScheduleInputs names.files inputs old
+    × HasBegunPlay (outcome_for inputs) names.out inputs.capture.unit old new)
 
 -- the released packets are among what the schedule sends out, each with an emission of its own
 abbrev pub AreFound : CheckInputs → Type 0
-AreFound inputs = IsFound (outcome_for inputs.played) inputs.played.capture.unit inputs.released.packets inputs.released.unit
+AreFound inputs =
+    IsFound (outcome_for inputs.played) inputs.played.capture.unit inputs.released.packets inputs.released.unit
 
 -- the report says how many they are
 abbrev pub FindsAll : CheckNames → Shown → Shown → Type 0
 FindsAll names old new =
-    (inputs : CheckInputs) × AcceptsCheckInputs names inputs old × AreFound inputs × HasWritten (found_writes (length inputs.released.packets)) old new
+    (inputs : CheckInputs) × AcceptsCheckInputs names inputs old × AreFound inputs
+    × HasWritten (found_writes (length inputs.released.packets)) old new
 
 -- nothing was reported, or some first part of that
 abbrev pub FindsInOrder : CheckNames → Shown → Shown → Type 0
 FindsInOrder names old new =
-    KeepsShown old new ⊎ ((inputs : CheckInputs) × AcceptsCheckInputs names inputs old × AreFound inputs × HasBegun (found_writes (length inputs.released.packets)) old new)
+    KeepsShown old new
+    ⊎ ((inputs : CheckInputs) × AcceptsCheckInputs names inputs old × AreFound inputs
+    × HasBegun (found_writes (length inputs.released.packets)) old new)

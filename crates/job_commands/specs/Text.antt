@@ -13,9 +13,11 @@ use Rattle.plain_machine.specs.declared.plain_move.PlayCause.TheVariants as move
 use Rattle.schedule_check.specs.declared.checking.Refutation.{Refutation}
 use Rattle.schedule_check.specs.declared.checking.Refutation.TheVariants as refuted
 use Rattle.job_commands.specs.declared.status.InputFault.{InputFault}
-use Rattle.job_commands.specs.declared.status.InputFault.TheVariants.{BoxFile, Capture, NgCapture, Script, Schedule, Moves, Released, NgReleased}
+use Rattle.job_commands.specs.declared.status.InputFault.TheVariants.{BoxFile, Capture, NgCapture, Script, Schedule}
+use Rattle.job_commands.specs.declared.status.InputFault.TheVariants.{Moves, Released, NgReleased}
 use Rattle.job_commands.specs.declared.status.Status.{Status}
-use Rattle.job_commands.specs.declared.status.Status.TheVariants.{Done, Refuted, BadWords, ReadFault, WriteFault, NoMemory, BadInput, TooLarge}
+use Rattle.job_commands.specs.declared.status.Status.TheVariants.{Done, Refuted, BadWords, ReadFault, WriteFault}
+use Rattle.job_commands.specs.declared.status.Status.TheVariants.{NoMemory, BadInput, TooLarge}
 
 abbrev pub cause_text : LineCause → List ℕ
 cause_text line.UnknownWord = codes "unknown word"
@@ -61,17 +63,25 @@ limit_text OutputBytes = codes "output bytes"
 -- the line, the offset or the move at which an input leaves its grammar, and why
 abbrev pub fault_text : InputFault → List ℕ
 fault_text (BoxFile fault) = codes "bad input: box: line " ++ decimal fault.line ++ codes ": " ++ cause_text fault.cause
-fault_text (Capture fault) = codes "bad input: capture: offset " ++ decimal fault.offset ++ codes ": " ++ capture_cause_text fault.cause
-fault_text (Script fault) = codes "bad input: script: line " ++ decimal fault.line ++ codes ": " ++ cause_text fault.cause
-fault_text (NgCapture fault) = codes "bad input: capture: offset " ++ decimal fault.offset ++ codes ": " ++ ng_cause_text fault.cause
-fault_text (Schedule fault) = codes "bad input: schedule: line " ++ decimal fault.line ++ codes ": " ++ cause_text fault.cause
-fault_text (Moves fault) = codes "bad input: schedule: move " ++ decimal fault.number ++ codes ": " ++ move_cause_text fault.cause
-fault_text (Released fault) = codes "bad input: released: offset " ++ decimal fault.offset ++ codes ": " ++ capture_cause_text fault.cause
-fault_text (NgReleased fault) = codes "bad input: released: offset " ++ decimal fault.offset ++ codes ": " ++ ng_cause_text fault.cause
+fault_text (Capture fault) =
+    codes "bad input: capture: offset " ++ decimal fault.offset ++ codes ": " ++ capture_cause_text fault.cause
+fault_text (Script fault) =
+    codes "bad input: script: line " ++ decimal fault.line ++ codes ": " ++ cause_text fault.cause
+fault_text (NgCapture fault) =
+    codes "bad input: capture: offset " ++ decimal fault.offset ++ codes ": " ++ ng_cause_text fault.cause
+fault_text (Schedule fault) =
+    codes "bad input: schedule: line " ++ decimal fault.line ++ codes ": " ++ cause_text fault.cause
+fault_text (Moves fault) =
+    codes "bad input: schedule: move " ++ decimal fault.number ++ codes ": " ++ move_cause_text fault.cause
+fault_text (Released fault) =
+    codes "bad input: released: offset " ++ decimal fault.offset ++ codes ": " ++ capture_cause_text fault.cause
+fault_text (NgReleased fault) =
+    codes "bad input: released: offset " ++ decimal fault.offset ++ codes ": " ++ ng_cause_text fault.cause
 
 -- the first illegal move, and why, or the number of the packet
 abbrev pub refutation_text : Refutation → List ℕ
-refutation_text (refuted.Moves fault) = codes "refuted: schedule: move " ++ decimal fault.number ++ codes ": " ++ move_cause_text fault.cause
+refutation_text (refuted.Moves fault) =
+    codes "refuted: schedule: move " ++ decimal fault.number ++ codes ": " ++ move_cause_text fault.cause
 refutation_text (refuted.Packet number) = codes "refuted: released: packet " ++ decimal number
 
 abbrev pub status_text : Status → List ℕ

@@ -20,7 +20,13 @@ pub record RunNames : Type 0 where
   pub schedule : List ℕ
 
 abbrev pub names_of : RunWords → RunNames
-names_of w = record { box_file = w.box_file.now; capture = w.capture.now; script = w.script.now; released = w.released.now; schedule = w.schedule.now }
+names_of w = record {
+  box_file = w.box_file.now;
+  capture = w.capture.now;
+  script = w.script.now;
+  released = w.released.now;
+  schedule = w.schedule.now;
+}
 
 -- `run` with five names, of which the two outputs differ
 abbrev pub run_names : List (List ℕ) → Option RunNames
@@ -32,7 +38,8 @@ run_names (a ∷ b ∷ c ∷ d ∷ []) = None
 run_names (a ∷ b ∷ c ∷ d ∷ e ∷ []) = None
 run_names (command ∷ box_file ∷ capture ∷ script ∷ released ∷ schedule ∷ []) =
     if bytes_eq command (codes "run") && not (bytes_eq released schedule)
-    then Some (record { box_file = box_file; capture = capture; script = script; released = released; schedule = schedule })
+    then Some
+    (record { box_file = box_file; capture = capture; script = script; released = released; schedule = schedule })
     else None
 run_names (a ∷ b ∷ c ∷ d ∷ e ∷ f ∷ g ∷ more) = None
 
@@ -49,7 +56,8 @@ made_of w = record { seed = w.seed; count = w.count; capture = w.capture.now }
 abbrev pub of_numbers : Option ℕ → Option ℕ → List ℕ → Option MakeNames
 of_numbers None count capture = None
 of_numbers (Some seed) None capture = None
-of_numbers (Some seed) (Some count) capture = if nat_le count MOST_PACKETS then Some (record { seed = seed; count = count; capture = capture }) else None
+of_numbers (Some seed) (Some count) capture =
+    if nat_le count MOST_PACKETS then Some (record { seed = seed; count = count; capture = capture }) else None
 
 -- `make` with two numbers and a name
 abbrev pub make_names : List (List ℕ) → Option MakeNames
@@ -57,7 +65,8 @@ make_names [] = None
 make_names (a ∷ []) = None
 make_names (a ∷ b ∷ []) = None
 make_names (a ∷ b ∷ c ∷ []) = None
-make_names (command ∷ seed ∷ count ∷ capture ∷ []) = if bytes_eq command (codes "make") then of_numbers (number_of seed) (number_of count) capture else None
+make_names (command ∷ seed ∷ count ∷ capture ∷ []) =
+    if bytes_eq command (codes "make") then of_numbers (number_of seed) (number_of count) capture else None
 make_names (a ∷ b ∷ c ∷ d ∷ e ∷ more) = None
 
 -- the names of the inputs of a command that plays a schedule
@@ -107,7 +116,8 @@ check_names (a ∷ b ∷ c ∷ []) = None
 check_names (a ∷ b ∷ c ∷ d ∷ []) = None
 check_names (command ∷ box_file ∷ capture ∷ schedule ∷ released ∷ []) =
     if bytes_eq command (codes "check")
-    then Some (record { files = record { box_file = box_file; capture = capture; schedule = schedule }; released = released })
+    then Some
+    (record { files = record { box_file = box_file; capture = capture; schedule = schedule }; released = released })
     else None
 check_names (a ∷ b ∷ c ∷ d ∷ e ∷ f ∷ more) = None
 

@@ -1,4 +1,5 @@
-ghost use Rattle.std.specs.Prelude.{◌≡◌, ◌⊎◌, ◌+◌, ◌<◌, ◌≤◌, ◌^◌, Err, IsTrue, OnOk, IsErrOf, length};
+ghost use Rattle.std.specs.Prelude.{◌≡◌, ◌⊎◌, ◌+◌, ◌<◌, ◌≤◌, ◌^◌, Err, IsTrue, OnOk, IsErrOf};
+ghost use Rattle.std.specs.Prelude.{length};
 ghost use Rattle.plain_text.specs.declared.limit.Limit.{Limit as LimitKind};
 ghost use Rattle.schedule_check.specs.declared.checking.Refutation as refuted;
 ghost use Rattle.world_io.specs.Stream.{Rose};
@@ -7,7 +8,8 @@ ghost use Rattle.output_files.specs.Writes.{HasBegun, HasWritten};
 ghost use Rattle.schedule_commands.specs.Checking.{SaysCheck, found_writes};
 ghost use Rattle.schedule_commands.specs.Runs.{CanPlay};
 ghost use Rattle.run_writes.specs.Run.{KeepsShown};
-ghost use Rattle.job_commands.specs.Schedules.{AreFound, FindsAll, FindsInOrder, JudgesCheck, outcome_for, schedule_of};
+ghost use Rattle.job_commands.specs.Schedules.{AreFound, FindsAll, FindsInOrder, JudgesCheck};
+ghost use Rattle.job_commands.specs.Schedules.{outcome_for, schedule_of};
 ghost use Rattle.job_commands.specs.Status.{AtInputs, AtOutputs, stage_of, stage_of_limit};
 ghost use Rattle.job_commands.specs.Words.{check_names_of};
 ghost use Rattle.output_files.specs.Written.{OnlyWrites};

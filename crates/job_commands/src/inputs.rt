@@ -23,7 +23,8 @@ pub struct Inputs {
     pub events: Events,
 }
 
-/// Reads and judges the input files, in their order: box, capture, script. The first that is not accepted ends the command.
+/// Reads and judges the input files, in their order: box, capture, script. The first that is not accepted ends the
+/// command.
 pub fn read_inputs<W: World>(
     alloc: Global,
     world: &mut W,

@@ -20,8 +20,8 @@ ghost use Rattle.job_commands.specs.Checked.{AreWithinLimits, StillStand, checke
 ghost use Rattle.job_commands.specs.Run.{AcceptsInputs, outputs_of, setting_for};
 ghost use Rattle.job_commands.specs.Words.{CheckNames, PlayNames, RunNames};
 
-/// The input files decide the status: of those that they decide at most one is true of them. So each comes exactly where it is
-/// true, unless memory runs out or, in a world that is not healthy, reading or writing fails.
+/// The input files decide the status: of those that they decide at most one is true of them. So each comes exactly
+/// where it is true, unless memory runs out or, in a world that is not healthy, reading or writing fails.
 pub fn one_verdict()
     ensures run { (healthy : Bool) (names : RunNames) (s r : Status) (shown : Shown)
         → IsDecided (IsTrue healthy) s → IsDecided (IsTrue healthy) r
@@ -36,10 +36,11 @@ pub fn one_verdict()
         → JudgesCheck (IsTrue healthy) names r shown → s ≡ r }
 {}
 
-/// What `run` leaves is accepted by `check`, with the same box and the same capture: the check of the schedule and the released capture is
-/// done, and no other status that the files decide is true of it. This is so for each script that leaves something by the definitions,
-/// whatever crashes and is lost in it. The files stand as the run found and left them. The schedule and the released capture are within the
-/// limits of files that are read, 67,108,864 bytes each, 4,000,000 lines and 65,536 packets: a run may leave larger ones.
+/// What `run` leaves is accepted by `check`, with the same box and the same capture: the check of the schedule and the
+/// released capture is done, and no other status that the files decide is true of it. This is so for each script that
+/// leaves something by the definitions, whatever crashes and is lost in it. The files stand as the run found and left
+/// them. The schedule and the released capture are within the limits of files that are read, 67,108,864 bytes each,
+/// 4,000,000 lines and 65,536 packets: a run may leave larger ones.
 pub fn what_run_leaves_is_accepted()
     ensures done { (healthy : Bool) (names : RunNames) (inputs : Inputs) (old new later : Shown)
         → AcceptsInputs names inputs old
@@ -55,8 +56,9 @@ pub fn what_run_leaves_is_accepted()
         → JudgesCheck (IsTrue healthy) (checked names) s later → s ≡ Status.Done }
 {}
 
-/// A pcapng capture is accepted as the savefile of its packets in nanoseconds is, where neither passes a limit: as one and the same
-/// capture. The clauses of the top call speak of an accepted capture by this alone, so its answers and files are the same for both.
+/// A pcapng capture is accepted as the savefile of its packets in nanoseconds is, where neither passes a limit: as one
+/// and the same capture. The clauses of the top call speak of an accepted capture by this alone, so its answers and
+/// files are the same for both.
 pub fn pcapng_captures_are_savefiles()
     ensures { (name bytes : List ℕ) (packets : List Packet) (shown other : Shown)
         (capture : Capture) → IsNg bytes packets → length packets ≤ MOST_PACKETS
@@ -65,8 +67,8 @@ pub fn pcapng_captures_are_savefiles()
         → AcceptsCapture name capture shown ↔ AcceptsCapture name capture other }
 {}
 
-/// Where each packet of a capture is of bytes, as of one that was accepted, so is each input of each thread: what the laws of the
-/// monitor's runs ask for.
+/// Where each packet of a capture is of bytes, as of one that was accepted, so is each input of each thread: what the
+/// laws of the monitor's runs ask for.
 pub fn inputs_are_of_bytes<X>()
     ensures { (s : Setting X) → All IsOfBytes s.packets → HaveBytes (all_inputs s) }
 {}

@@ -1,4 +1,5 @@
-//! The commands of FTMB beside the top call: their words and statuses, `make`, `play` and `check`, the inputs of `run`, and the laws.
+//! The commands of FTMB beside the top call: their words and statuses, `make`, `play` and `check`, the inputs of `run`,
+//! and the laws.
 #![tactic(auto)]
 
 mod checking;

@@ -15,8 +15,8 @@ pub struct MakeWords<'a> {
     pub capture: &'a Text,
 }
 
-/// The numbers and the name of `make SEED N CAPTURE`. None where the words are anything else, SEED or N is no number, or N is above
-/// 65,536.
+/// The numbers and the name of `make SEED N CAPTURE`. None where the words are anything else, SEED or N is no number,
+/// or N is above 65,536.
 pub fn read_make_words(words: &[Text]) -> Option<MakeWords<'_>>
     ensures names { MatchOption result (make_names words.now ≡ None)
         (λ names. make_names words.now ≡ Some (made_of names)) }

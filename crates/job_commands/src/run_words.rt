@@ -18,8 +18,8 @@ pub struct RunWords<'a> {
     pub schedule: &'a Text,
 }
 
-/// The files of `run BOX CAPTURE SCRIPT RELEASED SCHEDULE`. None where the words are anything else, or the two outputs are one
-/// word.
+/// The files of `run BOX CAPTURE SCRIPT RELEASED SCHEDULE`. None where the words are anything else, or the two outputs
+/// are one word.
 pub fn read_run_words(words: &[Text]) -> Option<RunWords<'_>>
     ensures names { MatchOption result (run_names words.now ≡ None)
         (λ names. run_names words.now ≡ Some (names_of names)) }

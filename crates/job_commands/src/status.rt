@@ -1,5 +1,9 @@
 ghost use Rattle.std.specs.Prelude.{◌≡◌};
-ghost use Rattle.job_commands.specs.Status.{exit_code_of, of_box_error, of_capture_error, of_released_error, of_schedule_error, of_script_error, check_outcome as check_outcome_of, outcome_of, play_outcome as play_outcome_of, run_outcome as run_outcome_of};
+ghost use Rattle.job_commands.specs.Status.{exit_code_of, of_box_error, of_capture_error};
+ghost use Rattle.job_commands.specs.Status.{of_released_error, of_schedule_error, of_script_error};
+ghost use Rattle.job_commands.specs.Status.{check_outcome as check_outcome_of, outcome_of};
+ghost use Rattle.job_commands.specs.Status.{play_outcome as play_outcome_of};
+ghost use Rattle.job_commands.specs.Status.{run_outcome as run_outcome_of};
 
 use input_files::InputError;
 use output_files::OutputError;
@@ -37,7 +41,8 @@ pub enum InputFault {
 pub enum Status {
     /// All was done.
     Done,
-    /// What `check` refutes: the first illegal move of the schedule, or where it is legal the first packet that was not sent out.
+    /// What `check` refutes: the first illegal move of the schedule, or where it is legal the first packet that was not
+    /// sent out.
     Refuted(Refutation),
     /// The words are no command's. Nothing was opened.
     BadWords,

@@ -1,5 +1,6 @@
 ghost use Rattle.std.specs.Prelude.{◌≡◌, Some};
-ghost use Rattle.job_commands.specs.Text.{cause_text, capture_cause_text, move_cause_text, ng_cause_text, limit_text};
+ghost use Rattle.job_commands.specs.Text.{cause_text, capture_cause_text, move_cause_text};
+ghost use Rattle.job_commands.specs.Text.{ng_cause_text, limit_text};
 
 use crate::{InputFault, Status};
 use pcap_io::{CaptureCause, CaptureFault};

@@ -20,7 +20,8 @@ promise names a c (inputs, accepted, r) =
       performs = r.leaves.performs;
       schedule = r.schedule;
       schedule_written = r.files.schedule_is;
-      released_written = r.files.released_is ∙ ap (λ (l : List Packet). Some (written inputs.capture.unit l)) r.leaves.released_is;
+      released_written =
+          r.files.released_is ∙ ap (λ (l : List Packet). Some (written inputs.capture.unit l)) r.leaves.released_is;
       steps = r.leaves.steps;
       plays = ends.0;
       ends = ends.1;

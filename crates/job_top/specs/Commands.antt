@@ -14,7 +14,8 @@ use Rattle.job_commands.specs.declared.status.InputFault.TheVariants.{Moves}
 use Rattle.job_commands.specs.Judging.{AreAccepted, Judges}
 use Rattle.job_commands.specs.Making.{made_writes}
 use Rattle.job_commands.specs.Run.{RunsWhole, RunsToLimit, RunsInOrder, outputs_of}
-use Rattle.job_commands.specs.Schedules.{AcceptsScheduleInputs, AcceptsCheckInputs, JudgesPlay, JudgesCheck, PlaysWhole, PlaysInOrder, FindsAll, FindsInOrder}
+use Rattle.job_commands.specs.Schedules.{AcceptsScheduleInputs, AcceptsCheckInputs, JudgesPlay, JudgesCheck, PlaysWhole}
+use Rattle.job_commands.specs.Schedules.{PlaysInOrder, FindsAll, FindsInOrder}
 use Rattle.job_commands.specs.Status.{AtOutputs, ComesAt, Completes}
 use Rattle.job_commands.specs.Words.{Asked, Runs, Makes, Plays, Checks}
 
@@ -39,7 +40,8 @@ LeavesInOrder (Makes names) old new = HasBegun (made_writes names) old new
 LeavesInOrder (Plays names) old new = PlaysInOrder names old new
 LeavesInOrder (Checks names) old new = FindsInOrder names old new
 
--- what the status says of the input files, and of the run or of what is played, where the world may be healthy; `make` has no inputs
+-- what the status says of the input files, and of the run or of what is played, where the world may be healthy; `make`
+-- has no inputs
 abbrev pub JudgesInputsOf : Type 0 → Asked → Status → Shown → Type 0
 JudgesInputsOf healthy (Runs names) status shown = Judges healthy names status shown
 JudgesInputsOf healthy (Makes names) status shown = ComesAt AtOutputs status
@@ -53,8 +55,8 @@ AcceptsInputsOf (Makes names) shown = Unit {0}
 AcceptsInputsOf (Plays names) shown = (inputs : ScheduleInputs) × AcceptsScheduleInputs names.files inputs shown
 AcceptsInputsOf (Checks names) shown = (inputs : CheckInputs) × AcceptsCheckInputs names inputs shown
 
--- What a command comes to whose inputs are accepted: it is done, or memory ran out; or `play` names the first illegal move of the
--- schedule, or `check` what it refutes.
+-- What a command comes to whose inputs are accepted: it is done, or memory ran out; or `play` names the first illegal
+-- move of the schedule, or `check` what it refutes.
 abbrev pub CompletesAs : Asked → Status → Type 0
 CompletesAs (Runs names) status = Completes status
 CompletesAs (Makes names) status = Completes status

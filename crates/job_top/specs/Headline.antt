@@ -13,9 +13,10 @@ use Rattle.job_commands.specs.declared.inputs.Inputs.{Inputs}
 use Rattle.job_commands.specs.Run.{AcceptsInputs, setting_for}
 use Rattle.job_commands.specs.Words.{RunNames, Asked, Runs, Makes, Plays, Checks}
 
--- The written schedule, played by the plain machine on the captured packets, is a legal crash-free run. It performs every log entry that
--- is held with all its predecessors, in its recorded place and with its recorded value; it sends out every packet that was released, and
--- each was released once; and an output that arrived waits only while a named log entry is missing.
+-- The written schedule, played by the plain machine on the captured packets, is a legal crash-free run. It performs
+-- every log entry that is held with all its predecessors, in its recorded place and with its recorded value; it sends
+-- out every packet that was released, and each was released once; and an output that arrived waits only while a named
+-- log entry is missing.
 pub record KeepsPromise (names : RunNames) (old new : Shown) : Type 0 where
   pub inputs : Inputs
   pub accepted : AcceptsInputs names inputs old
@@ -29,7 +30,8 @@ pub record KeepsPromise (names : RunNames) (old new : Shown) : Type 0 where
   pub released_written : new.names names.released ≡ Some (written inputs.capture.unit (packets_of world.released))
   -- the run that the schedule is
   pub steps : List (Step (meaning_of inputs.conf.kind).value)
-  pub plays : play (meaning_of inputs.conf.kind).meaning (all_inputs (setting_for inputs)) inputs.conf.threads schedule ≡ Ok steps
+  pub plays : play (meaning_of inputs.conf.kind).meaning (all_inputs (setting_for inputs)) inputs.conf.threads schedule
+      ≡ Ok steps
   pub ends : Ends (setting_for inputs) world steps
 
 abbrev pub KeepsPromiseOf : Asked → Shown → Shown → Type 0

@@ -1,12 +1,15 @@
-ghost use Rattle.std.specs.Prelude.{◌≡◌, ◌+◌, ◌<◌, ◌≤◌, ◌-◌, ◌^◌, ◌↔◌, None, Err, IsTrue, OnOk, IsErrOf};
+ghost use Rattle.std.specs.Prelude.{◌≡◌, ◌+◌, ◌<◌, ◌≤◌, ◌-◌, ◌^◌, ◌↔◌, None, Err, IsTrue, OnOk};
+ghost use Rattle.std.specs.Prelude.{IsErrOf};
 ghost use Rattle.plain_text.specs.declared.limit.Limit.{Limit as LimitKind};
 ghost use Rattle.world_io.specs.Stream.{Rose};
 ghost use Rattle.output_files.specs.Written.{WritesFiles};
 ghost use Rattle.run_writes.specs.Run.{CanRun, HasBegunRun, HasRun, HasStopped, KeepsShown};
-ghost use Rattle.job_top.specs.Commands.{AcceptsInputsOf, CompletesAs, Leaves, LeavesInOrder, JudgesInputsOf, KeepsNames, StopsAtLimit};
+ghost use Rattle.job_top.specs.Commands.{AcceptsInputsOf, CompletesAs, Leaves, LeavesInOrder};
+ghost use Rattle.job_top.specs.Commands.{JudgesInputsOf, KeepsNames, StopsAtLimit};
 ghost use Rattle.job_top.specs.Headline.{KeepsPromise, KeepsPromiseOf};
 ghost use Rattle.job_commands.specs.Judging.{Judges};
-ghost use Rattle.job_commands.specs.Run.{RunsInOrder, RunsToLimit, RunsWhole, outputs_of, script_of, setting_for};
+ghost use Rattle.job_commands.specs.Run.{RunsInOrder, RunsToLimit, RunsWhole, outputs_of};
+ghost use Rattle.job_commands.specs.Run.{script_of, setting_for};
 ghost use Rattle.job_commands.specs.Status.{AtInputs, AtOutputs, stage_of, stage_of_limit};
 ghost use Rattle.job_commands.specs.Words.{asked, IfAsks, names_of};
 ghost use Rattle.world_io.specs.World.{WritingFailed};
@@ -94,10 +97,11 @@ fn run<W: World>(alloc: Global, world: &mut W, names: RunWords<'_>) -> Status
 
 /// The top call: does what the words ask of the world, and answers what it came to.
 ///
-/// `run BOX CAPTURE SCRIPT RELEASED SCHEDULE`, five names of files of which the two outputs differ: the box is run on the
-/// packets of the capture by the events of the script. RELEASED is the capture of the packets that were released, SCHEDULE
-/// the moves of the run in which it ends, and the report has a line for each event and a last one. An output is created
-/// only when all input files are accepted; the first that is refused, in the order of the words, decides the status.
+/// `run BOX CAPTURE SCRIPT RELEASED SCHEDULE`, five names of files of which the two outputs differ: the box is run on
+/// the packets of the capture by the events of the script. RELEASED is the capture of the packets that were released,
+/// SCHEDULE the moves of the run in which it ends, and the report has a line for each event and a last one. An output
+/// is created only when all input files are accepted; the first that is refused, in the order of the words, decides the
+/// status.
 /// After each event the records of what it released are written, and then its line, so the report never tells of a
 /// packet that RELEASED lacks; SCHEDULE comes at the end, before the last line. Where the run would pass a limit it
 /// stops, and what was released before stays.
@@ -105,17 +109,17 @@ fn run<W: World>(alloc: Global, world: &mut W, names: RunWords<'_>) -> Status
 /// `make SEED N CAPTURE`, two numbers of which N is at most 65,536, and the name of a file: N packets are made from the
 /// seed and written to CAPTURE, and then the report says how many.
 ///
-/// `play BOX CAPTURE SCHEDULE OUT`, four names: the schedule is played by the box without logs and crashes, on the whole
-/// capture. OUT is the capture of what it sends out, in its order, and the report says how many packets that are. Where
-/// the schedule is not legal, its first illegal move is told as bad input, and nothing is created.
+/// `play BOX CAPTURE SCHEDULE OUT`, four names: the schedule is played by the box without logs and crashes, on the
+/// whole capture. OUT is the capture of what it sends out, in its order, and the report says how many packets that are.
+/// Where the schedule is not legal, its first illegal move is told as bad input, and nothing is created.
 ///
-/// `check BOX CAPTURE SCHEDULE RELEASED`, four names of inputs: is the schedule legal, and has each packet of the capture
-/// RELEASED an emission of its own in it? Then the report says how many packets were found. Else it is refuted: by the
-/// first illegal move, or else by the first such packet.
+/// `check BOX CAPTURE SCHEDULE RELEASED`, four names of inputs: is the schedule legal, and has each packet of the
+/// capture RELEASED an emission of its own in it? Then the report says how many packets were found. Else it is refuted:
+/// by the first illegal move, or else by the first such packet.
 ///
-/// In a healthy world that tells its bytes, a command whose words are right, whose inputs are there and are accepted, and
-/// that passes no limit, is done, unless memory runs out or the schedule or the released packets are refused. There a
-/// read fault says that the first input that is not accepted is not there.
+/// In a healthy world that tells its bytes, a command whose words are right, whose inputs are there and are accepted,
+/// and that passes no limit, is done, unless memory runs out or the schedule or the released packets are refused. There
+/// a read fault says that the first input that is not accepted is not there.
 ///
 /// A world that has given fewer than 2^31 numbers has room for the files of any command, which are five at most.
 pub fn ftmb<W: World>(alloc: Global, words: &[Text], world: &mut W) -> Status

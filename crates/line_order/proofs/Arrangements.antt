@@ -1,11 +1,15 @@
--- The later entries of a log, in any order in which each stands after its immediate predecessors, are a log after that past.
-use Rattle.std.proofs.Common.{◌≡◌, ℕ, ◌+◌, ◌-◌, ◌≤◌, ◌<◌, ◌≢◌, List, [], ◌∷◌, ◌++◌, refl, sym, ap, ◌∙◌, subst, inl, inr, ◌⊎◌, arith}
+-- The later entries of a log, in any order in which each stands after its immediate predecessors, are a log after that
+-- past.
+use Rattle.std.proofs.Common.{◌≡◌, ℕ, ◌+◌, ◌-◌, ◌≤◌, ◌<◌, ◌≢◌, List, [], ◌∷◌, ◌++◌, refl, sym, ap, ◌∙◌, subst, inl, inr}
+use Rattle.std.proofs.Common.{◌⊎◌, arith}
 use Rattle.std.proofs.lemmas.Bool.{cases_lt}
 use Rattle.entry_order.specs.declared.what.What.TheVariants.{Access, Read}
 use Rattle.entry_order.specs.Log.{Entry, entries, places, HasPlace, IsLog, IsIn, IsNext}
 use Rattle.entry_order.specs.Closed.{IsClosedOver}
-use Rattle.entry_order.proofs.Order.{is_or, next_stands, number_within, place_within, read_within, entry_there, touch_there, same_number, same_place}
-use Rattle.entry_order.proofs.KeptEntries.{in_left, in_right, in_either, before_past, apart, kept, kept_in, in_kept, kept_log}
+use Rattle.entry_order.proofs.Order.{is_or, next_stands, number_within, place_within, read_within, entry_there}
+use Rattle.entry_order.proofs.Order.{touch_there, same_number, same_place}
+use Rattle.entry_order.proofs.KeptEntries.{in_left, in_right, in_either, before_past, apart, kept, kept_in, in_kept}
+use Rattle.entry_order.proofs.KeptEntries.{kept_log}
 use Rattle.line_order.specs.Line.{IsArranged}
 
 -- what stands behind is a log
@@ -14,8 +18,10 @@ tail_log [] past good = good
 tail_log (x ∷ later) past good = tail_log later past good.2
 
 -- an immediate predecessor of an entry of the past is of the past
-pub next_past : (later past : List Entry) (e f : Entry) → IsLog (later ++ past) → IsIn e (later ++ past) → IsIn f past → IsNext e f → IsIn e past
-next_past later past e f good he hf n = before_past later past e f good (next_stands (later ++ past) e f good he (in_right f later past hf) n) hf
+pub next_past : (later past : List Entry) (e f : Entry) → IsLog (later ++ past) → IsIn e (later ++ past) → IsIn f past
+    → IsNext e f → IsIn e past
+next_past later past e f good he hf n =
+    before_past later past e f good (next_stands (later ++ past) e f good he (in_right f later past hf) n) hf
 
 -- entries that follow a log are one more where its number and place are the next
 module _ (x : Entry) (rest later past : List Entry) (good : IsLog (later ++ past)) (before : IsLog (rest ++ past))
@@ -62,16 +68,21 @@ module _ (x : Entry) (rest later past : List Entry) (good : IsLog (later ++ past
       w : (1 ≤ x.number) × (x.number ≤ entries x.thread (later ++ past))
       w = number_within (later ++ past) x good x_full
 
-      go : (entries x.thread (rest ++ past) < x.number) ⊎ (x.number ≤ entries x.thread (rest ++ past)) → (x.number ≡ 1) ⊎ (x.number ≢ 1) → x.number ≡ entries x.thread (rest ++ past) + 1
+      go : (entries x.thread (rest ++ past) < x.number) ⊎ (x.number ≤ entries x.thread (rest ++ past))
+          → (x.number ≡ 1) ⊎ (x.number ≢ 1) → x.number ≡ entries x.thread (rest ++ past) + 1
       go (inr k) b =
           let g = entry_there (rest ++ past) x.thread x.number before w.0 k in
-          absurd (not_less (subst (λ (z : Entry). IsIn z (rest ++ past)) (same_number (later ++ past) g.0 x good (to_full g.0 g.1) x_full g.2 g.3) g.1))
+          absurd (not_less (subst (λ (z : Entry). IsIn z (rest ++ past))
+          (same_number (later ++ past) g.0 x good (to_full g.0 g.1) x_full g.2 g.3) g.1))
       go (inl k) (inl b) = omega arith
       go (inl k) (inr b) =
           let g = entry_there (later ++ past) x.thread (x.number - 1) good (omega (arith, w)) (omega (arith, w)) in
-          let h : IsIn g.0 (rest ++ past) = to_less g.0 g.1 (λ s. let q : x.number ≡ g.0.number = ap (λ (z : Entry). z.number) s in absurd (omega (arith, q, g.3, w, b))) in
-          let n : (1 ≤ g.0.number) × (g.0.number ≤ entries g.0.thread (rest ++ past)) = number_within (rest ++ past) g.0 before h in
-          let t : entries g.0.thread (rest ++ past) ≡ entries x.thread (rest ++ past) = ap (λ (u : ℕ). entries u (rest ++ past)) g.2 in
+          let h : IsIn g.0 (rest ++ past) = to_less g.0 g.1 (λ s.
+          let q : x.number ≡ g.0.number = ap (λ (z : Entry). z.number) s in absurd (omega (arith, q, g.3, w, b))) in
+          let n : (1 ≤ g.0.number) × (g.0.number ≤ entries g.0.thread (rest ++ past)) =
+          number_within (rest ++ past) g.0 before h in
+          let t : entries g.0.thread (rest ++ past) ≡ entries x.thread (rest ++ past) =
+          ap (λ (u : ℕ). entries u (rest ++ past)) g.2 in
           omega (arith, n, t, g.3, w, k)
 
   placed : HasPlace (rest ++ past) x.what
@@ -83,15 +94,20 @@ module _ (x : Entry) (rest later past : List Entry) (good : IsLog (later ++ past
           p : (1 ≤ s) × (s ≤ places v (later ++ past))
           p = place_within (later ++ past) x v s good x_full w
 
-          go : (places v (rest ++ past) < s) ⊎ (s ≤ places v (rest ++ past)) → (s ≡ 1) ⊎ (s ≢ 1) → s ≡ places v (rest ++ past) + 1
+          go : (places v (rest ++ past) < s) ⊎ (s ≤ places v (rest ++ past)) → (s ≡ 1) ⊎ (s ≢ 1)
+              → s ≡ places v (rest ++ past) + 1
           go (inr k) b =
               let g = touch_there (rest ++ past) v s before p.0 k in
-              absurd (not_less (subst (λ (z : Entry). IsIn z (rest ++ past)) (same_place (later ++ past) g.0 x v s good (to_full g.0 g.1) x_full g.2 w) g.1))
+              absurd (not_less (subst (λ (z : Entry). IsIn z (rest ++ past))
+              (same_place (later ++ past) g.0 x v s good (to_full g.0 g.1) x_full g.2 w) g.1))
           go (inl k) (inl b) = omega arith
           go (inl k) (inr b) =
               let g = touch_there (later ++ past) v (s - 1) good (omega (arith, p)) (omega (arith, p)) in
-              let h : IsIn g.0 (rest ++ past) = to_less g.0 g.1 (λ e. let q : Access v s ≡ Access v (s - 1) = sym w ∙ (ap (λ (z : Entry). z.what) e ∙ g.2) in let r : s ≡ s - 1 = cc in absurd (omega (arith, r, p))) in
-              let n : (1 ≤ s - 1) × (s - 1 ≤ places v (rest ++ past)) = place_within (rest ++ past) g.0 v (s - 1) before h g.2 in
+              let h : IsIn g.0 (rest ++ past) = to_less g.0 g.1 (λ e.
+              let q : Access v s ≡ Access v (s - 1) = sym w ∙ (ap (λ (z : Entry). z.what) e ∙ g.2) in
+              let r : s ≡ s - 1 = cc in absurd (omega (arith, r, p))) in
+              let n : (1 ≤ s - 1) × (s - 1 ≤ places v (rest ++ past)) =
+              place_within (rest ++ past) g.0 v (s - 1) before h g.2 in
               omega (arith, n, p, k)
 
       look : (v s : ℕ) → x.what ≡ Read v s → s ≡ places v (rest ++ past)
@@ -100,14 +116,16 @@ module _ (x : Entry) (rest later past : List Entry) (good : IsLog (later ++ past
           p : s ≤ places v (later ++ past)
           p = read_within (later ++ past) x v s good x_full w
 
-          go : (s < places v (rest ++ past)) ⊎ (places v (rest ++ past) ≤ s) → (s ≡ 0) ⊎ (s ≢ 0) → s ≡ places v (rest ++ past)
+          go : (s < places v (rest ++ past)) ⊎ (places v (rest ++ past) ≤ s) → (s ≡ 0) ⊎ (s ≢ 0)
+              → s ≡ places v (rest ++ past)
           go (inl k) b =
               let g = touch_there (rest ++ past) v (s + 1) before (omega arith) (omega (arith, k)) in
               absurd (not_before g.0 g.1 (inr (inr (inr (v, s, w, g.2)))))
           go (inr k) (inl b) = omega arith
           go (inr k) (inr b) =
               let g = touch_there (later ++ past) v s good (omega (arith, b)) p in
-              let h : IsIn g.0 (rest ++ past) = to_less g.0 g.1 (λ e. let q : Read v s ≡ Access v s = sym w ∙ (ap (λ (z : Entry). z.what) e ∙ g.2) in absurd (cc)) in
+              let h : IsIn g.0 (rest ++ past) = to_less g.0 g.1
+              (λ e. let q : Read v s ≡ Access v s = sym w ∙ (ap (λ (z : Entry). z.what) e ∙ g.2) in absurd (cc)) in
               let n : (1 ≤ s) × (s ≤ places v (rest ++ past)) = place_within (rest ++ past) g.0 v s before h g.2 in
               omega (arith, n, k)
 
@@ -115,7 +133,8 @@ module _ (x : Entry) (rest later past : List Entry) (good : IsLog (later ++ past
   one_more = (numbered, placed, before)
 
 -- the rest of an arrangement is closed over the past
-arranged_closed : (x : Entry) (rest later past : List Entry) → ((f : Entry) → IsIn f rest → IsNext x f → ⊥) → ((e : Entry) → IsIn e later → (x ≡ e) ⊎ IsIn e rest) → IsClosedOver (later ++ past) past rest
+arranged_closed : (x : Entry) (rest later past : List Entry) → ((f : Entry) → IsIn f rest → IsNext x f → ⊥)
+    → ((e : Entry) → IsIn e later → (x ≡ e) ⊎ IsIn e rest) → IsClosedOver (later ++ past) past rest
 arranged_closed x rest later past last sup e f he hf n = go (in_either e later past he)
   where
     pick : (x ≡ e) ⊎ IsIn e rest → IsIn e rest ⊎ IsIn e past
@@ -127,9 +146,12 @@ arranged_closed x rest later past last sup e f he hf n = go (in_either e later p
     go (inr h) = inr h
 
 -- An arrangement of the later entries of a log is a log after the past.
-pub arranged_log : (more later past : List Entry) → IsLog (later ++ past) → ((e : Entry) → IsIn e more → IsIn e later) → ((e : Entry) → IsIn e later → IsIn e more) → IsArranged more → IsLog (more ++ past)
+pub arranged_log : (more later past : List Entry) → IsLog (later ++ past) → ((e : Entry) → IsIn e more → IsIn e later)
+    → ((e : Entry) → IsIn e later → IsIn e more) → IsArranged more → IsLog (more ++ past)
 arranged_log [] later past good sub sup arr = tail_log later past good
 arranged_log (x ∷ rest) later past good sub sup arr =
     one_more x rest later past good
-    (arranged_log rest (kept rest later) past (kept_log rest later past good (arranged_closed x rest later past arr.1 sup)) (λ e h. in_kept rest later e (sub e (inr h)) h) (λ e h. (kept_in rest later e h).1) arr.2)
-    (sub x (inl refl)) arr.0 arr.1 (λ e h. sub e (inr h)) sup
+    (arranged_log rest (kept rest later) past
+    (kept_log rest later past good (arranged_closed x rest later past arr.1 sup))
+    (λ e h. in_kept rest later e (sub e (inr h)) h) (λ e h. (kept_in rest later e h).1) arr.2) (sub x (inl refl)) arr.0
+    arr.1 (λ e h. sub e (inr h)) sup

@@ -7,6 +7,9 @@ use Rattle.plain_machine.specs.History.{Step, IsHistory}
 use Rattle.line_order.proofs.QuietMoves.{more_inputs}
 
 -- a history stays one where the threads have more inputs
-pub history_more : {V : Type 0} (m : Meaning V) (inputs more : ℕ → List Packet) (threads : ℕ) → ((t k : ℕ) (p : Packet) → slice_get (inputs t) k ≡ Some p → slice_get (more t) k ≡ Some p) → (xs : List (Step V)) → IsHistory m inputs threads xs → IsHistory m more threads xs
+pub history_more : {V : Type 0} (m : Meaning V) (inputs more : ℕ → List Packet) (threads : ℕ)
+    → ((t k : ℕ) (p : Packet) → slice_get (inputs t) k ≡ Some p → slice_get (more t) k ≡ Some p) → (xs : List (Step V))
+    → IsHistory m inputs threads xs → IsHistory m more threads xs
 history_more m inputs more threads grow [] h = tt
-history_more m inputs more threads grow (x ∷ xs) h = (more_inputs m inputs threads more grow x xs h.0, history_more m inputs more threads grow xs h.1)
+history_more m inputs more threads grow (x ∷ xs) h =
+    (more_inputs m inputs threads more grow x xs h.0, history_more m inputs more threads grow xs h.1)

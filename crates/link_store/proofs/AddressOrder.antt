@@ -19,7 +19,8 @@ record Ties (P : Type 0) (r s : Ordering) : Type 0 where
   down : is_gt s ≡ false
 
 -- where neither comparison is greater, their first parts tie
-same_number : (x y : ℕ) (r s : Ordering) → is_gt (ordering_then (nat_cmp x y) r) ≡ false → is_gt (ordering_then (nat_cmp y x) s) ≡ false → Ties (y ≡ x) r s
+same_number : (x y : ℕ) (r s : Ordering) → is_gt (ordering_then (nat_cmp x y) r) ≡ false
+    → is_gt (ordering_then (nat_cmp y x) s) ≡ false → Ties (y ≡ x) r s
 same_number x y r s up down =
     ⊎_elim (λ below. let greater = nat_cmp_is x y Greater below in let no = rw (← greater) at up in cc)
     (λ up_to. ⊎_elim (λ above. let greater = nat_cmp_is y x Greater above in let no = rw (← greater) at down in cc)
@@ -28,14 +29,17 @@ same_number x y r s up down =
     let equal' = nat_cmp_is y x Equal same in
     record { same = same; up = rw (← equal) at up; down = rw (← equal') at down }) (cases_lt x y)) (cases_lt y x)
 
-same_kind : (k l : Kind) (r s : Ordering) → is_gt (ordering_then ((kind_order.ghosts).cmp k l) r) ≡ false → is_gt (ordering_then ((kind_order.ghosts).cmp l k) s) ≡ false → Ties (l ≡ k) r s
+same_kind : (k l : Kind) (r s : Ordering) → is_gt (ordering_then ((kind_order.ghosts).cmp k l) r) ≡ false
+    → is_gt (ordering_then ((kind_order.ghosts).cmp l k) s) ≡ false → Ties (l ≡ k) r s
 same_kind Log Log r s up down = record { same = refl; up = up; down = down }
 same_kind Log Out r s up down = cc
 same_kind Out Log r s up down = cc
 same_kind Out Out r s up down = record { same = refl; up = up; down = down }
 
 -- what lies from number 0 to the last number is of one epoch, kind and thread
-pub up_to_from_between : (last a : Address) → IsLeBy (address_order.ghosts).cmp (address last.epoch last.kind last.thread 0) a → IsLeBy (address_order.ghosts).cmp a last → IsUpTo last a
+pub up_to_from_between : (last a : Address)
+    → IsLeBy (address_order.ghosts).cmp (address last.epoch last.kind last.thread 0) a
+    → IsLeBy (address_order.ghosts).cmp a last → IsUpTo last a
 up_to_from_between last a from to =
     let e = same_number last.epoch a.epoch _ _ from to in
     let k = same_kind last.kind a.kind _ _ e.up e.down in

@@ -1,5 +1,7 @@
 -- Looking up a frame in a run.
-use Rattle.std.proofs.Common.{◌≡◌, ℕ, zero, suc, ◌+◌, ◌-◌, ◌≤◌, ◌<◌, ◌≢◌, ◌^◌, ◌↔◌, Bool, true, false, cond, List, [], ◌∷◌, ◌++◌, Option, Some, None, Ordering, Less, Equal, Greater, Bor, IsSome, IfSome, drop, length, slice_index_or, slice_set, min, refl, sym, ap, ◌∙◌, subst, ⊎_elim, arith, add-one}
+use Rattle.std.proofs.Common.{◌≡◌, ℕ, zero, suc, ◌+◌, ◌-◌, ◌≤◌, ◌<◌, ◌≢◌, ◌^◌, ◌↔◌, Bool, true, false, cond, List, []}
+use Rattle.std.proofs.Common.{◌∷◌, ◌++◌, Option, Some, None, Ordering, Less, Equal, Greater, Bor, IsSome, IfSome, drop}
+use Rattle.std.proofs.Common.{length, slice_index_or, slice_set, min, refl, sym, ap, ◌∙◌, subst, ⊎_elim, arith, add-one}
 use Rattle.std.specs.List.{slice_get}
 use Rattle.std.specs.Option.{option_copied}
 use Rattle.std.proofs.lemmas.Bool.{cases_lt}
@@ -44,7 +46,8 @@ equal_kind Log Out r e = cc
 equal_kind Out Log r e = cc
 equal_kind Out Out r e = record { same = refl; rest = e }
 
-pub same_address : (a b : Address) → a.epoch ≡ b.epoch → a.kind ≡ b.kind → a.thread ≡ b.thread → a.number ≡ b.number → a ≡ b
+pub same_address : (a b : Address) → a.epoch ≡ b.epoch → a.kind ≡ b.kind → a.thread ≡ b.thread
+    → a.number ≡ b.number → a ≡ b
 same_address a b e k t n =
     ap (λ (x : ℕ). address x a.kind a.thread a.number) e ∙ ap (λ (x : Kind). address b.epoch x a.thread a.number) k
     ∙ ap (λ (x : ℕ). address b.epoch b.kind x a.number) t ∙ ap (λ (x : ℕ). address b.epoch b.kind b.thread x) n
@@ -67,8 +70,8 @@ kind_itself Out = refl
 
 is_at-itself : (a : Address) → is_at ((address_order.ghosts).cmp a) a ≡ true
 is_at-itself a =
-    then_equal _ _ (sym (nat_cmp_is a.epoch a.epoch Equal refl)) (then_equal _ _ (kind_itself a.kind)
-    (then_equal _ _ (sym (nat_cmp_is a.thread a.thread Equal refl)) (ap is_eq (sym (nat_cmp_is a.number a.number Equal refl)))))
+    then_equal _ _ (sym (nat_cmp_is a.epoch a.epoch Equal refl)) (then_equal _ _ (kind_itself a.kind) (then_equal _ _
+    (sym (nat_cmp_is a.thread a.thread Equal refl)) (ap is_eq (sym (nat_cmp_is a.number a.number Equal refl)))))
 
 not_true : (b : Bool) → (b ≡ true → ⊥) → b ≡ false
 not_true true h = absurd (h refl)
@@ -79,10 +82,13 @@ is_at-apart a b apart = not_true _ (λ e. apart (from_is_at a b e))
 
 -- The first frame and the others
 
-pub at_head : (first : Address) (f : List ℕ) (rest : List (Address × List ℕ)) (b : Address) → b ≡ first → frame_at ((first, f) ∷ rest) b ≡ Some f
-at_head first f rest b e = subst (λ (q : Address). frame_at ((first, f) ∷ rest) q ≡ Some f) (sym e) (ap (λ t. cond t (Some f) (frame_at rest first)) (is_at-itself first))
+pub at_head : (first : Address) (f : List ℕ) (rest : List (Address × List ℕ)) (b : Address) → b ≡ first
+    → frame_at ((first, f) ∷ rest) b ≡ Some f
+at_head first f rest b e = subst (λ (q : Address). frame_at ((first, f) ∷ rest) q ≡ Some f) (sym e)
+    (ap (λ t. cond t (Some f) (frame_at rest first)) (is_at-itself first))
 
-pub past_head : (first : Address) (f : List ℕ) (rest : List (Address × List ℕ)) (b : Address) → b ≢ first → frame_at ((first, f) ∷ rest) b ≡ frame_at rest b
+pub past_head : (first : Address) (f : List ℕ) (rest : List (Address × List ℕ)) (b : Address) → b ≢ first
+    → frame_at ((first, f) ∷ rest) b ≡ frame_at rest b
 past_head first f rest b apart = ap (λ t. cond t (Some f) (frame_at rest b)) (is_at-apart b first apart)
 
 later_none : (a : Address) → later a 0 ≡ a
@@ -96,7 +102,8 @@ later_apart a i e = let n = ap (λ (q : Address). q.number) e in omega arith
 
 -- Where a run has its frames
 
-pub run_in : (frames : List (List ℕ)) (first : Address) (i : ℕ) → frame_at (in_turn first frames) (later first i) ≡ slice_get frames i
+pub run_in : (frames : List (List ℕ)) (first : Address) (i : ℕ)
+    → frame_at (in_turn first frames) (later first i) ≡ slice_get frames i
 run_in [] first i = refl
 run_in (f ∷ frames) first zero = at_head first f _ (later first 0) (later_none first)
 run_in (f ∷ frames) first (suc i) =
@@ -104,30 +111,39 @@ run_in (f ∷ frames) first (suc i) =
     ∙ ap (λ (b : Address). frame_at (in_turn (later first 1) frames) b) (later_more first i)
     ∙ run_in frames (later first 1) i
 
-pub run_out : (frames : List (List ℕ)) (first b : Address) → ((i : ℕ) → i < length frames → b ≡ later first i → ⊥) → frame_at (in_turn first frames) b ≡ None
+pub run_out : (frames : List (List ℕ)) (first b : Address) → ((i : ℕ) → i < length frames → b ≡ later first i → ⊥)
+    → frame_at (in_turn first frames) b ≡ None
 run_out [] first b out = refl
 run_out (f ∷ frames) first b out =
     past_head first f _ b (λ e. out 0 (omega arith) (e ∙ sym (later_none first)))
     ∙ run_out frames (later first 1) b (λ i low e. out (suc i) (omega arith) (e ∙ sym (later_more first i)))
 
 pub not_taken : (run : Run) (a : Address) → (Takes run a → ⊥) → frame_at (frames_of run) a ≡ None
-not_taken run a none = run_out run.frames run.first a (λ i low e. none (record { place = i; within = omega arith; is = e }))
+not_taken run a none =
+    run_out run.frames run.first a (λ i low e. none (record { place = i; within = omega arith; is = e }))
 
 -- the frame that a run is asked for
-pub copied : {X : Type 0} (xs : List X) (i n : ℕ) (r : Option (Bor X)) → n ≡ length xs → IsSome r ↔ (i < n) → IfSome r (λ x. x.now ≡ slice_index_or xs i x.now) → option_copied r ≡ slice_get xs i
-copied xs i n None len there value = sym (slice_get_past xs i (⊎_elim (λ low. absurd (let some = there.1 low in cc)) (λ high. omega arith) (cases_lt i n)))
+pub copied : {X : Type 0} (xs : List X) (i n : ℕ) (r : Option (Bor X)) → n ≡ length xs → IsSome r ↔ (i < n)
+    → IfSome r (λ x. x.now ≡ slice_index_or xs i x.now) → option_copied r ≡ slice_get xs i
+copied xs i n None len there value = sym (slice_get_past xs i
+    (⊎_elim (λ low. absurd (let some = there.1 low in cc)) (λ high. omega arith) (cases_lt i n)))
 copied xs i n (Some x) len there value = sym (slice_get_read xs n i x.now len (there.0 refl) value)
 
 -- Putting a frame into a run
 
-sends_behind : (first : Address) (f : List ℕ) (old new : List (Address × List ℕ)) (i : ℕ) (g : List ℕ) → Sends old new (later (later first 1) i) g
-    → Sends ((first, f) ∷ old) ((first, f) ∷ new) (later first (suc i)) g
+sends_behind : (first : Address) (f : List ℕ) (old new : List (Address × List ℕ)) (i : ℕ) (g : List ℕ)
+    → Sends old new (later (later first 1) i) g → Sends ((first, f) ∷ old) ((first, f) ∷ new) (later first (suc i)) g
 sends_behind first f old new i g s = record {
-  sent = past_head first f new (later first (suc i)) (later_apart first i) ∙ ap (λ (b : Address). frame_at new b) (later_more first i) ∙ s.sent;
-  others = λ b apart. ap (λ o. cond (is_at ((address_order.ghosts).cmp b) first) (Some f) o) (s.others b (λ e. apart (e ∙ sym (later_more first i))));
+  sent =
+      past_head first f new (later first (suc i)) (later_apart first i)
+      ∙ ap (λ (b : Address). frame_at new b) (later_more first i)
+      ∙ s.sent;
+  others = λ b apart. ap (λ o. cond (is_at ((address_order.ghosts).cmp b) first) (Some f) o)
+      (s.others b (λ e. apart (e ∙ sym (later_more first i))));
 }
 
-set_in : (frames : List (List ℕ)) (first : Address) (i : ℕ) (g : List ℕ) → i < length frames → Sends (in_turn first frames) (in_turn first (slice_set frames i g)) (later first i) g
+set_in : (frames : List (List ℕ)) (first : Address) (i : ℕ) (g : List ℕ) → i < length frames
+    → Sends (in_turn first frames) (in_turn first (slice_set frames i g)) (later first i) g
 set_in [] first i g low = absurd (omega arith)
 set_in (f ∷ frames) first zero g low = record {
   sent = at_head first g _ (later first 0) (later_none first);
@@ -137,7 +153,8 @@ set_in (f ∷ frames) first zero g low = record {
 }
 set_in (f ∷ frames) first (suc i) g low = sends_behind first f _ _ i g (set_in frames (later first 1) i g (omega arith))
 
-push_in : (frames : List (List ℕ)) (first : Address) (i : ℕ) (g : List ℕ) → i ≡ length frames → Sends (in_turn first frames) (in_turn first (frames ++ g ∷ [])) (later first i) g
+push_in : (frames : List (List ℕ)) (first : Address) (i : ℕ) (g : List ℕ) → i ≡ length frames
+    → Sends (in_turn first frames) (in_turn first (frames ++ g ∷ [])) (later first i) g
 push_in [] first zero g e = record {
   sent = at_head first g [] (later first 0) (later_none first);
   others = λ b apart. past_head first g [] b (λ e. apart (e ∙ sym (later_none first)));
@@ -147,29 +164,37 @@ push_in (f ∷ frames) first zero g e = absurd (omega arith)
 push_in (f ∷ frames) first (suc i) g e = sends_behind first f _ _ i g (push_in frames (later first 1) i g (omega arith))
 
 -- a run of one frame, instead of nothing or of a run without frames
-pub sends_alone : (run : Run) (a : Address) (g : List ℕ) → run ≡ record { first = a; frames = g ∷ [] } → Sends [] (frames_of run) a g
-sends_alone run a g is = subst (λ (r : Run). Sends [] (frames_of r) a g) (sym is) (record { sent = at_head a g [] a refl; others = λ b apart. past_head a g [] b apart })
+pub sends_alone : (run : Run) (a : Address) (g : List ℕ) → run ≡ record { first = a; frames = g ∷ [] }
+    → Sends [] (frames_of run) a g
+sends_alone run a g is = subst (λ (r : Run). Sends [] (frames_of r) a g) (sym is)
+    (record { sent = at_head a g [] a refl; others = λ b apart. past_head a g [] b apart })
 
-pub sends_into_empty : (old run : Run) (a : Address) (g : List ℕ) → old.frames ≡ [] → run ≡ record { first = a; frames = g ∷ [] } → Sends (frames_of old) (frames_of run) a g
-sends_into_empty old run a g none is = subst (λ (l : List (List ℕ)). Sends (in_turn old.first l) (frames_of run) a g) (sym none) (sends_alone run a g is)
+pub sends_into_empty : (old run : Run) (a : Address) (g : List ℕ) → old.frames ≡ []
+    → run ≡ record { first = a; frames = g ∷ [] } → Sends (frames_of old) (frames_of run) a g
+sends_into_empty old run a g none is =
+    subst (λ (l : List (List ℕ)). Sends (in_turn old.first l) (frames_of run) a g) (sym none) (sends_alone run a g is)
 
 -- how far the address is behind the first
 pub place_behind : (first a : Address) (i : ℕ) → a ≡ later first i → a.number - first.number ≡ i
 place_behind first a i e = let n = ap (λ (q : Address). q.number) e in omega arith
 
-pub puts_set : (first : Address) (frames : List (List ℕ)) (a : Address) (g : List ℕ) → Takes (record { first = first; frames = frames }) a → a.number - first.number < length frames
+pub puts_set : (first : Address) (frames : List (List ℕ)) (a : Address) (g : List ℕ)
+    → Takes (record { first = first; frames = frames }) a → a.number - first.number < length frames
     → Sends (in_turn first frames) (in_turn first (slice_set frames (a.number - first.number) g)) a g
 puts_set first frames a g t low =
     let i = place_behind first a t.place t.is in
     subst (λ (k : ℕ). Sends (in_turn first frames) (in_turn first (slice_set frames k g)) a g) (sym i)
-    (subst (λ (b : Address). Sends (in_turn first frames) (in_turn first (slice_set frames t.place g)) b g) (sym t.is) (set_in frames first t.place g (omega arith)))
+    (subst (λ (b : Address). Sends (in_turn first frames) (in_turn first (slice_set frames t.place g)) b g) (sym t.is)
+    (set_in frames first t.place g (omega arith)))
 
-pub puts_next : (first : Address) (frames : List (List ℕ)) (a : Address) (g : List ℕ) → Takes (record { first = first; frames = frames }) a → length frames ≤ a.number - first.number
+pub puts_next : (first : Address) (frames : List (List ℕ)) (a : Address) (g : List ℕ)
+    → Takes (record { first = first; frames = frames }) a → length frames ≤ a.number - first.number
     → Sends (in_turn first frames) (in_turn first (frames ++ g ∷ [])) a g
 puts_next first frames a g t high =
     let i = place_behind first a t.place t.is in
     let within = t.within in
-    subst (λ (b : Address). Sends (in_turn first frames) (in_turn first (frames ++ g ∷ [])) b g) (sym t.is) (push_in frames first t.place g (omega arith))
+    subst (λ (b : Address). Sends (in_turn first frames) (in_turn first (frames ++ g ∷ [])) b g) (sym t.is)
+    (push_in frames first t.place g (omega arith))
 
 -- Forgetting frames of a run
 
@@ -180,7 +205,8 @@ below_min x m r e = let low = min-le_left x m in omega arith
 pub is_min : (x m r : ℕ) → r ≡ min x m → x ≤ m → r ≡ x
 is_min x m r e low = e ∙ min-eq_left low
 
-pub none_beside : (frames : List (List ℕ)) (first last : Address) → (IsBeside first last → ⊥) → Forgets (IsUpTo last) (in_turn first frames) (in_turn first frames)
+pub none_beside : (frames : List (List ℕ)) (first last : Address) → (IsBeside first last → ⊥)
+    → Forgets (IsUpTo last) (in_turn first frames) (in_turn first frames)
 none_beside frames first last far = record {
   forgotten = λ a up. run_out frames first a (λ i low e. far (record {
     epoch = sym (ap (λ (q : Address). q.epoch) e) ∙ up.epoch;
@@ -191,7 +217,8 @@ none_beside frames first last far = record {
 }
 
 -- none is up to the last any more
-pub none_up_to : (frames : List (List ℕ)) (first last a : Address) → (0 < length frames → last.number < first.number) → IsUpTo last a → frame_at (in_turn first frames) a ≡ None
+pub none_up_to : (frames : List (List ℕ)) (first last a : Address) → (0 < length frames → last.number < first.number)
+    → IsUpTo last a → frame_at (in_turn first frames) a ≡ None
 none_up_to frames first last a past up = run_out frames first a (λ i low e.
     let n = ap (λ (q : Address). q.number) e in
     let high = past (omega arith) in
@@ -199,10 +226,13 @@ none_up_to frames first last a past up = run_out frames first a (λ i low e.
     omega arith)
 
 -- the first frame is forgotten, and the run begins with the next
-pub drops_first : (frames : List (List ℕ)) (first last : Address) (next : ℕ) → IsBeside first last → first.number ≤ last.number → (1 < length frames → next ≡ first.number + 1)
-    → (a : Address) → (IsUpTo last a → ⊥) → frame_at (in_turn (address first.epoch first.kind first.thread next) (drop 1 frames)) a ≡ frame_at (in_turn first frames) a
+pub drops_first : (frames : List (List ℕ)) (first last : Address) (next : ℕ) → IsBeside first last
+    → first.number ≤ last.number → (1 < length frames → next ≡ first.number + 1) → (a : Address) → (IsUpTo last a → ⊥)
+    → frame_at (in_turn (address first.epoch first.kind first.thread next) (drop 1 frames)) a
+    ≡ frame_at (in_turn first frames) a
 drops_first [] first last next beside low follows a apart = refl
-drops_first (f ∷ frames) first last next beside low follows a apart = rest frames (λ more. follows (omega arith)) ∙ sym (past_head first f (in_turn (later first 1) frames) a far)
+drops_first (f ∷ frames) first last next beside low follows a apart =
+    rest frames (λ more. follows (omega arith)) ∙ sym (past_head first f (in_turn (later first 1) frames) a far)
   where
     far : a ≢ first
     far e = apart (record {
@@ -213,17 +243,22 @@ drops_first (f ∷ frames) first last next beside low follows a apart = rest fra
     })
 
     rest : (frames : List (List ℕ)) → (0 < length frames → next ≡ first.number + 1)
-        → frame_at (in_turn (address first.epoch first.kind first.thread next) frames) a ≡ frame_at (in_turn (later first 1) frames) a
+        → frame_at (in_turn (address first.epoch first.kind first.thread next) frames) a
+        ≡ frame_at (in_turn (later first 1) frames) a
     rest [] follows = refl
-    rest (g ∷ frames) follows = ap (λ (n : ℕ). frame_at (in_turn (address first.epoch first.kind first.thread n) (g ∷ frames)) a) (follows (omega arith))
+    rest (g ∷ frames) follows =
+        ap (λ (n : ℕ). frame_at (in_turn (address first.epoch first.kind first.thread n) (g ∷ frames)) a)
+        (follows (omega arith))
 
-pub drops_epoch : (frames : List (List ℕ)) (first : Address) (epoch : ℕ) → first.epoch ≡ epoch → Forgets (IsOfEpoch epoch) (in_turn first frames) []
+pub drops_epoch : (frames : List (List ℕ)) (first : Address) (epoch : ℕ) → first.epoch ≡ epoch
+    → Forgets (IsOfEpoch epoch) (in_turn first frames) []
 drops_epoch frames first epoch is = record {
   forgotten = λ a of. refl;
   others = λ a apart. sym (run_out frames first a (λ i low e. apart (ap (λ (q : Address). q.epoch) e ∙ is)));
 }
 
-pub keeps_epoch : (frames : List (List ℕ)) (first : Address) (epoch : ℕ) → (first.epoch ≡ epoch → ⊥) → Forgets (IsOfEpoch epoch) (in_turn first frames) (in_turn first frames)
+pub keeps_epoch : (frames : List (List ℕ)) (first : Address) (epoch : ℕ) → (first.epoch ≡ epoch → ⊥)
+    → Forgets (IsOfEpoch epoch) (in_turn first frames) (in_turn first frames)
 keeps_epoch frames first epoch far = record {
   forgotten = λ a of. run_out frames first a (λ i low e. far (sym (ap (λ (q : Address). q.epoch) e) ∙ of));
   others = λ a apart. refl;

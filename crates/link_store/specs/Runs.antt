@@ -43,4 +43,5 @@ NoneTakes runs a = (j : ℕ) (d : Run) → j < length runs → Takes (slice_inde
 -- each of the new runs has no frame at the addresses with this property, and at each other one what the old run has
 pub record ForgetsEach (P : Address → Type 0) (old new : List Run) : Type 0 where
   pub as_many : length new ≡ length old
-  pub each : (j : ℕ) (d : Run) → j < length old → Forgets P (frames_of (slice_index_or old j d)) (frames_of (slice_index_or new j d))
+  pub each : (j : ℕ) (d : Run) → j < length old
+      → Forgets P (frames_of (slice_index_or old j d)) (frames_of (slice_index_or new j d))

@@ -1,7 +1,9 @@
-ghost use Rattle.std.specs.Prelude.{◌≡◌, ◌<◌, ℕ, List, [], Some, None, IsSome, OnOk, OnErr, IfOk, IfSome, IfNone, length, option_copied, slice_index_or};
+ghost use Rattle.std.specs.Prelude.{◌≡◌, ◌<◌, ℕ, List, [], Some, None, IsSome, OnOk, OnErr, IfOk};
+ghost use Rattle.std.specs.Prelude.{IfSome, IfNone, length, option_copied, slice_index_or};
 ghost use Rattle.link_store.specs.declared.address.Address.{Address};
 ghost use Rattle.link_store.specs.Links.{address, frame_at, Sends, Forgets, IsUpTo, IsOfEpoch};
-ghost use Rattle.link_store.specs.Runs.{Run as RunValue, all_of, IsFirstTaker, NoneTakes, ForgetsEach};
+ghost use Rattle.link_store.specs.Runs.{Run as RunValue, all_of, IsFirstTaker, NoneTakes};
+ghost use Rattle.link_store.specs.Runs.{ForgetsEach};
 
 use crate::Address;
 use crate::run::Run;
@@ -13,13 +15,14 @@ use std::marker::Model;
 /// The most runs of frames: as many as a master of 16 threads needs in one epoch, and some more.
 const MOST_RUNS: usize = 64;
 
-/// The frames that were sent on the links between the nodes and are not forgotten, each under its epoch, kind, thread and
-/// number. A frame sent again takes the place of the one before. Contracts see the frames with their addresses, and read
-/// them by `frame_at`.
+/// The frames that were sent on the links between the nodes and are not forgotten, each under its epoch, kind, thread
+/// and number. A frame sent again takes the place of the one before. Contracts see the frames with their addresses, and
+/// read them by `frame_at`.
 ///
-/// Frames whose numbers follow one another stand in a run, of which there are at most 64: one is found by its number, sent
-/// behind the others, and forgotten before them, in a time that does not grow. What has no place in a run stands in a map,
-/// and there a call takes the time of its look-ups. Forgetting takes no memory, and gives back that of the frames alone.
+/// Frames whose numbers follow one another stand in a run, of which there are at most 64: one is found by its number,
+/// sent behind the others, and forgotten before them, in a time that does not grow. What has no place in a run stands
+/// in a map, and there a call takes the time of its look-ups. Forgetting takes no memory, and gives back that of the
+/// frames alone.
 #[derive(Debug, Drop)]
 pub struct Links {
     alloc: Global,
@@ -185,8 +188,8 @@ impl Links {
         })
     }
 
-    /// Keeps this frame as the one last sent under these numbers. After `NoMemory` the links are as before, and the frame
-    /// is dropped.
+    /// Keeps this frame as the one last sent under these numbers. After `NoMemory` the links are as before, and the
+    /// frame is dropped.
     pub fn send(
         &mut self,
         epoch: u32,

@@ -1,4 +1,5 @@
-ghost use Rattle.std.specs.Prelude.{◌≡◌, ◌↔◌, ℕ, ◌+◌, ◌≤◌, [], ◌∷◌, IsTrue, IfSome, IfNone, IfOk, OnOk, OnErr, length, option_copied};
+ghost use Rattle.std.specs.Prelude.{◌≡◌, ◌↔◌, ℕ, ◌+◌, ◌≤◌, [], ◌∷◌, IsTrue, IfSome, IfNone, IfOk};
+ghost use Rattle.std.specs.Prelude.{OnOk, OnErr, length, option_copied};
 ghost use Rattle.link_store.specs.Links.{frame_at, Sends, Forgets, IsUpTo, IsOfEpoch};
 ghost use Rattle.link_store.specs.Runs.{frames_of, later, Takes};
 

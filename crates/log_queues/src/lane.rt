@@ -1,4 +1,5 @@
-ghost use Rattle.std.specs.Prelude.{◌≡◌, ◌++◌, ◌∷◌, [], true, false, IfOk, IfErr, OnOk, MatchOption, MatchResult};
+ghost use Rattle.std.specs.Prelude.{◌≡◌, ◌++◌, ◌∷◌, [], true, false, IfOk, IfErr, OnOk};
+ghost use Rattle.std.specs.Prelude.{MatchOption, MatchResult};
 ghost use Rattle.crossbeam_queue.specs.Passes.{view, IsPassOf};
 ghost use Rattle.log_queues.specs.Lanes.{end, WasFull};
 
@@ -78,8 +79,8 @@ impl<T> Lane<T> {
         ))
     }
 
-    /// Puts an item behind the others. It comes back only where the lane was full at one moment of the call; the call never
-    /// waits for room.
+    /// Puts an item behind the others. It comes back only where the lane was full at one moment of the call; the call
+    /// never waits for room.
     pub fn put<R: Wait>(&self, rt: &R, sender: &mut LaneSender<T>, item: T) -> Result<(), T>
         requires of { sender.old.lane ≡ self.now }
         ensures lane { sender.new.lane ≡ sender.old.lane }
@@ -102,7 +103,8 @@ impl<T> Lane<T> {
 }
 
 impl<T: Drop> Lane<T> {
-    /// What is left in the lane, oldest first, when both ends are given back: what was taken, followed by this, is what was put.
+    /// What is left in the lane, oldest first, when both ends are given back: what was taken, followed by this, is what
+    /// was put.
     pub fn finish<R: Wait>(
         self,
         rt: &R,

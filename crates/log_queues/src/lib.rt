@@ -1,5 +1,5 @@
-//! Lanes: a lane hands frames, or other items, from one thread to another, in order and with no lock. What was taken from it,
-//! followed by what is left in the end, is what was put.
+//! Lanes: a lane hands frames, or other items, from one thread to another, in order and with no lock. What was taken
+//! from it, followed by what is left in the end, is what was put.
 #![tactic(auto)]
 
 mod lane;

@@ -23,12 +23,23 @@ fresh_variable m v = record {
 }
 
 fresh_thread : {V : Type 0} (t : ℕ) → (let none : List (Step V) = [] in IsThread none t fresh_part)
-fresh_thread t = record { taken = refl; logged = refl; outputs = refl; hand = refl; made = refl; stamp = first_is_zero [] t (λ u. slice_index (replicate 16 0) u) tt zero_stamp }
+fresh_thread t = record {
+  taken = refl;
+  logged = refl;
+  outputs = refl;
+  hand = refl;
+  made = refl;
+  stamp = first_is_zero [] t (λ u. slice_index (replicate 16 0) u) tt zero_stamp;
+}
 
-pub fresh_stands : {V : Type 0} (m : Meaning V) (count : ℕ) (vars : List (VarPart V)) (threads : List ThreadPart) → HasFresh m vars → threads ≡ replicate count fresh_part → Stands m count [] (record { vars = vars; threads = threads })
+pub fresh_stands : {V : Type 0} (m : Meaning V) (count : ℕ) (vars : List (VarPart V)) (threads : List ThreadPart)
+    → HasFresh m vars → threads ≡ replicate count fresh_part
+    → Stands m count [] (record { vars = vars; threads = threads })
 fresh_stands {V} m count vars threads has are = record {
   log = tt;
   var = λ v d low. subst (λ (x : VarPart V). IsVariable m [] v x) (sym (has.each v d low)) (fresh_variable m v);
   threads_are = ap (λ (l : List ThreadPart). length l) are ∙ length-replicate count fresh_part;
-  thread = λ t d low. subst (λ (x : ThreadPart). let none : List (Step V) = [] in IsThread none t x) (sym (ap (λ (l : List ThreadPart). slice_index_or l t d) are ∙ get_or-replicate count t fresh_part d low)) (fresh_thread t);
+  thread = λ t d low. subst (λ (x : ThreadPart). let none : List (Step V) = [] in IsThread none t x)
+      (sym (ap (λ (l : List ThreadPart). slice_index_or l t d) are ∙ get_or-replicate count t fresh_part d low))
+      (fresh_thread t);
 }

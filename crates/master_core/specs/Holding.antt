@@ -23,9 +23,10 @@ abbrev pub held_entries : List Lane → List Entry
 held_entries [] = []
 held_entries (l ∷ lanes) = found l l.entries ++ held_entries lanes
 
--- The held set is one of the log. Of each thread it covers as many entries as are stored, and each entry that it holds is
--- the one of its thread and number in the log, with its stamp there.
+-- The held set is one of the log. Of each thread it covers as many entries as are stored, and each entry that it holds
+-- is the one of its thread and number in the log, with its stamp there.
 pub record HoldsOf (log stored : List Entry) (held : List Lane) : Type 0 where
   pub covered : (t : ℕ) → (lane held t).covered ≡ entries t stored
   pub of_log : (t n : ℕ) (e : StampedEntry) → entry_at (lane held t) n ≡ Some e
-      → (e.thread ≡ t) × (e.number ≡ n) × IsIn (plain_entry e) log × IsStamp log (plain_entry e) (λ u. slice_index e.stamp u)
+      → (e.thread ≡ t) × (e.number ≡ n) × IsIn (plain_entry e) log
+      × IsStamp log (plain_entry e) (λ u. slice_index e.stamp u)

@@ -12,19 +12,24 @@ use Rattle.master_core.specs.Stepping.{Follows, MadeOne}
 
 -- a master that stands for no move stands for the empty list
 abbrev pub StartsList : Type 0 → Type 0
-StartsList X = (m : Meaning X) (inputs : ℕ → List Packet) (threads : ℕ) (p : Mastered X) → Stands m threads [] p → StandsFor m inputs threads [] p
+StartsList X =
+    (m : Meaning X) (inputs : ℕ → List Packet) (threads : ℕ) (p : Mastered X) → Stands m threads [] p
+    → StandsFor m inputs threads [] p
 
 -- where a master stood for a list, and stands for its history with one more move, it stands for the list with this move
 abbrev pub GrowsList : Type 0 → Type 0
-GrowsList X = (m : Meaning X) (inputs : ℕ → List Packet) (threads : ℕ) (moves : List PlainMove) (steps next : List (Step X)) (plain : PlainMove) (p : Mastered X)
-    → play m inputs threads moves ≡ Ok steps → plain_move m inputs threads steps plain ≡ Ok next → Stands m threads next p
+GrowsList X =
+    (m : Meaning X) (inputs : ℕ → List Packet) (threads : ℕ) (moves : List PlainMove) (steps next : List (Step X))
+    (plain : PlainMove) (p : Mastered X) → play m inputs threads moves ≡ Ok steps
+    → plain_move m inputs threads steps plain ≡ Ok next → Stands m threads next p
     → StandsFor m inputs threads (moves ++ plain ∷ []) p
 
 -- so it is after a call that made a move
 abbrev pub FollowsList : Type 0 → Type 0
-FollowsList X = (m : Meaning X) (inputs : ℕ → List Packet) (threads : ℕ) (moves : List PlainMove) (steps : List (Step X)) (plain : PlainMove) (did : Stepped) (p : Mastered X)
-    → play m inputs threads moves ≡ Ok steps → Follows m inputs threads steps plain did p → MadeOne did
-    → StandsFor m inputs threads (moves ++ plain ∷ []) p
+FollowsList X =
+    (m : Meaning X) (inputs : ℕ → List Packet) (threads : ℕ) (moves : List PlainMove) (steps : List (Step X))
+    (plain : PlainMove) (did : Stepped) (p : Mastered X) → play m inputs threads moves ≡ Ok steps
+    → Follows m inputs threads steps plain did p → MadeOne did → StandsFor m inputs threads (moves ++ plain ∷ []) p
 
 -- the steps of such a list are a history, and its logged moves a log
 abbrev pub HasHistory : Type 0 → Type 0

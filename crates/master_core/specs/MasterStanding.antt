@@ -12,8 +12,8 @@ use Rattle.master_core.specs.declared.parts.ThreadPart.{ThreadPart}
 use Rattle.master_core.specs.Mastered.{Mastered, moves_made}
 use Rattle.master_core.specs.Stamped.{IsTouchStamp, IsReadersStamp}
 
--- what the history tells of a variable: its value, how often it was touched, the stamp of its last touch, and the join of
--- those of the reads since
+-- what the history tells of a variable: its value, how often it was touched, the stamp of its last touch, and the join
+-- of those of the reads since
 pub record IsVariable {V : Type 0} (m : Meaning V) (steps : List (Step V)) (v : ℕ) (part : VarPart V) : Type 0 where
   pub value : part.value ≡ value_after m steps v
   pub places : part.places ≡ places v (log_of steps)
@@ -37,7 +37,8 @@ pub record Stands {V : Type 0} (m : Meaning V) (threads : ℕ) (steps : List (St
   pub thread : (t : ℕ) (d : ThreadPart) → t < threads → IsThread steps t (slice_index_or p.threads t d)
 
 -- The master stands for a list of moves: it is where the machine is after them.
-pub record StandsFor {V : Type 0} (m : Meaning V) (inputs : ℕ → List Packet) (threads : ℕ) (moves : List PlainMove) (p : Mastered V) : Type 0 where
+pub record StandsFor {V : Type 0} (m : Meaning V) (inputs : ℕ → List Packet) (threads : ℕ) (moves : List PlainMove)
+    (p : Mastered V) : Type 0 where
   pub steps : List (Step V)
   pub legal : play m inputs threads moves ≡ Ok steps
   pub stands : Stands m threads steps p

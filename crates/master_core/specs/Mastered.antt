@@ -1,5 +1,6 @@
 -- What a master has: its variables and its threads.
-use Rattle.std.specs.Prelude.{◌≡◌, ◌⊎◌, ℕ, ◌+◌, ◌-◌, ◌^◌, ◌<◌, ◌≤◌, List, length, sum_by, slice_get, slice_index_or, Option, Some, None}
+use Rattle.std.specs.Prelude.{◌≡◌, ◌⊎◌, ℕ, ◌+◌, ◌-◌, ◌^◌, ◌<◌, ◌≤◌, List, length, sum_by, slice_get, slice_index_or}
+use Rattle.std.specs.Prelude.{Option, Some, None}
 use Rattle.std.specs.Prelude.{HoldsAt}
 use Rattle.box_program.specs.Hands.{hand_of}
 use Rattle.plain_machine.specs.declared.local.Local.{Local}
@@ -28,7 +29,8 @@ in_hand_count (Some place) = 1
 
 -- how many moves a thread made: it took, ended, logged and sent out
 abbrev pub moves_made : ThreadPart → ℕ
-moves_made part = part.counts.taken + (part.counts.taken - in_hand_count part.hand) + part.counts.entries + part.counts.outputs
+moves_made part =
+    part.counts.taken + (part.counts.taken - in_hand_count part.hand) + part.counts.entries + part.counts.outputs
 
 -- where the thread is with its packet in hand, if there is one
 abbrev pub place_in_hand : {V : Type 0} → Mastered V → ℕ → Option Local
@@ -61,10 +63,12 @@ abbrev pub WantsVariable : {V : Type 0} → Meaning V → Option Local → Type 
 WantsVariable m None = ⊥
 WantsVariable m (Some place) = (v : ℕ) × IsOnVariable (m.next place) v
 
--- Counts stay within 64 bits: there are at most 16 threads, none made more than 2^56 moves, and a variable has at most as
--- many touches as there are entries. A packet in hand was taken.
+-- Counts stay within 64 bits: there are at most 16 threads, none made more than 2^56 moves, and a variable has at most
+-- as many touches as there are entries. A packet in hand was taken.
 pub record IsBounded {V : Type 0} (vars : List (VarPart V)) (threads : List ThreadPart) : Type 0 where
   pub few : length threads ≤ 16
   pub made : (t : ℕ) (d : ThreadPart) → t < length threads → moves_made (slice_index_or threads t d) ≤ 2 ^ 56
-  pub taken : (t : ℕ) (d : ThreadPart) → t < length threads → in_hand_count (slice_index_or threads t d).hand ≤ (slice_index_or threads t d).counts.taken
-  pub places : (v : ℕ) (d : VarPart V) → v < length vars → (slice_index_or vars v d).places ≤ sum_by (λ part. part.counts.entries) threads
+  pub taken : (t : ℕ) (d : ThreadPart) → t < length threads
+      → in_hand_count (slice_index_or threads t d).hand ≤ (slice_index_or threads t d).counts.taken
+  pub places : (v : ℕ) (d : VarPart V) → v < length vars
+      → (slice_index_or vars v d).places ≤ sum_by (λ part. part.counts.entries) threads

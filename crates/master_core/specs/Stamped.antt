@@ -12,5 +12,9 @@ pub record IsTouchStamp (log : List Entry) (v : ℕ) (stamp : ℕ → ℕ) : Typ
 -- the join of the stamps of the reads of a variable after its last touch: for each thread, the greatest of their
 -- components, or 0
 pub record IsReadersStamp (log : List Entry) (v : ℕ) (join : ℕ → ℕ) : Type 0 where
-  pub above : (e : Entry) (stamp : ℕ → ℕ) → IsIn e log → e.what ≡ Read v (places v log) → IsStamp log e stamp → (u : ℕ) → stamp u ≤ join u
-  pub reached : (u : ℕ) → (join u ≡ 0) ⊎ ((e : Entry) × (stamp : ℕ → ℕ) × IsIn e log × (e.what ≡ Read v (places v log)) × IsStamp log e stamp × (stamp u ≡ join u))
+  pub above : (e : Entry) (stamp : ℕ → ℕ) → IsIn e log → e.what ≡ Read v (places v log) → IsStamp log e stamp → (u : ℕ)
+      → stamp u ≤ join u
+  pub reached : (u : ℕ)
+      → (join u ≡ 0)
+      ⊎ ((e : Entry) × (stamp : ℕ → ℕ) × IsIn e log × (e.what ≡ Read v (places v log)) × IsStamp log e stamp
+      × (stamp u ≡ join u))

@@ -62,7 +62,8 @@ abbrev pub emission_of_output : Output → Emission
 emission_of_output o = record { thread = o.thread; number = o.number; input = o.input; packet = o.packet }
 
 -- A call made this plain move, which did so, and the master stands for the history with it.
-pub record Makes {V : Type 0} (m : Meaning V) (inputs : ℕ → List Packet) (threads : ℕ) (steps : List (Step V)) (plain : PlainMove) (p : Mastered V) (Does : Step V → Type 0) : Type 0 where
+pub record Makes {V : Type 0} (m : Meaning V) (inputs : ℕ → List Packet) (threads : ℕ) (steps : List (Step V))
+    (plain : PlainMove) (p : Mastered V) (Does : Step V → Type 0) : Type 0 where
   pub step : Step V
   pub plain_is : plain_move m inputs threads steps plain ≡ Ok (step ∷ steps)
   pub stands : Stands m threads (step ∷ steps) p
@@ -71,12 +72,14 @@ pub record Makes {V : Type 0} (m : Meaning V) (inputs : ℕ → List Packet) (th
 -- the entry is the step's, and has its stamp in the log with it
 abbrev pub DidEntry : {V : Type 0} → List (Step V) → StampedEntry → Step V → Type 0
 DidEntry {V} steps e step =
-    ((left : Option V) × (step.act ≡ Did (plain_entry e) left)) × IsStamp (log_of (step ∷ steps)) (plain_entry e) (λ u. slice_index e.stamp u)
+    ((left : Option V) × (step.act ≡ Did (plain_entry e) left))
+    × IsStamp (log_of (step ∷ steps)) (plain_entry e) (λ u. slice_index e.stamp u)
 
 -- the output is what the step sent out, and has the stamp of its predecessors
 abbrev pub EmittedOutput : {V : Type 0} → List (Step V) → Output → Step V → Type 0
 EmittedOutput steps o step =
-    (step.act ≡ Emitted (emission_of_output o)) × IsOutputStamp (log_of steps) o.thread (entries o.thread (log_of steps)) (λ u. slice_index o.stamp u)
+    (step.act ≡ Emitted (emission_of_output o))
+    × IsOutputStamp (log_of steps) o.thread (entries o.thread (log_of steps)) (λ u. slice_index o.stamp u)
 
 -- What an answer shows of the step that was made after a history: what it logged or sent out, with its stamp.
 abbrev pub Shows : {V : Type 0} → List (Step V) → Stepped → Step V → Type 0
@@ -89,11 +92,15 @@ Shows steps (stepped.NotTurn u n) step = ⊥
 Shows steps stepped.NoMemory step = ⊥
 
 -- What a call answers of the move of a thread after a history: the move that it made, or that it made none.
-abbrev pub Follows : {V : Type 0} → Meaning V → (ℕ → List Packet) → ℕ → List (Step V) → PlainMove → Stepped → Mastered V → Type 0
-Follows m inputs threads steps plain (stepped.Took k) p = Makes m inputs threads steps plain p (λ step. step.act ≡ Took k)
+abbrev pub Follows : {V : Type 0} → Meaning V → (ℕ → List Packet) → ℕ → List (Step V) → PlainMove → Stepped
+    → Mastered V → Type 0
+Follows m inputs threads steps plain (stepped.Took k) p =
+    Makes m inputs threads steps plain p (λ step. step.act ≡ Took k)
 Follows m inputs threads steps plain (stepped.Did e) p = Makes m inputs threads steps plain p (DidEntry steps e)
-Follows m inputs threads steps plain (stepped.Emitted o) p = Makes m inputs threads steps plain p (EmittedOutput steps o)
-Follows m inputs threads steps plain (stepped.Ended k) p = Makes m inputs threads steps plain p (λ step. step.act ≡ Ended k)
+Follows m inputs threads steps plain (stepped.Emitted o) p =
+    Makes m inputs threads steps plain p (EmittedOutput steps o)
+Follows m inputs threads steps plain (stepped.Ended k) p =
+    Makes m inputs threads steps plain p (λ step. step.act ≡ Ended k)
 Follows m inputs threads steps plain stepped.Idle p = Unit {0}
 Follows m inputs threads steps plain (stepped.NotTurn u n) p = Unit {0}
 Follows m inputs threads steps plain stepped.NoMemory p = Unit {0}

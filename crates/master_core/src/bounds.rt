@@ -8,8 +8,9 @@ ghost use Rattle.master_core.specs.declared.parts.ThreadPart.{ThreadPart};
 ghost use Rattle.master_core.specs.Mastered.{Mastered, IsBounded, moves_made};
 ghost use Rattle.master_core.specs.MasterStanding.{Stands};
 
-/// What stands for a legal list of moves is within the bounds of a master, where it has a part for each variable and at most
-/// 16 threads, and none of these made more than 2^56 moves. So its parts can be put together by `Master::of_parts`.
+/// What stands for a legal list of moves is within the bounds of a master, where it has a part for each variable and at
+/// most 16 threads, and none of these made more than 2^56 moves. So its parts can be put together by
+/// `Master::of_parts`.
 pub fn standing_masters_are_bounded<X>()
     ensures { (m : Meaning X) (inputs : ℕ → List Packet) (threads : ℕ) (moves : List PlainMove)
         (steps : List (Step X)) (q : Mastered X)

@@ -1,6 +1,7 @@
-//! The laws of a held set in a run, for every program and every legal list of moves. Each is proved, and does nothing: a
-//! caller has them by the call.
-ghost use Rattle.std.specs.Prelude.{◌≡◌, ◌≢◌, ℕ, ◌≤◌, ◌<◌, ◌↔◌, ◌⊎◌, List, [], ◌∷◌, Some, length, replicate, slice_index};
+//! The laws of a held set in a run, for every program and every legal list of moves. Each is proved, and does nothing:
+//! a caller has them by the call.
+ghost use Rattle.std.specs.Prelude.{◌≡◌, ◌≢◌, ℕ, ◌≤◌, ◌<◌, ◌↔◌, ◌⊎◌, List, [], ◌∷◌, Some, length};
+ghost use Rattle.std.specs.Prelude.{replicate, slice_index};
 ghost use Rattle.plain_text.specs.declared.packet.Packet.{Packet};
 ghost use Rattle.entry_order.specs.Log.{Entry, entries, IsIn};
 ghost use Rattle.entry_order.specs.Stamps.{IsStamp, IsOutputStamp};
@@ -9,7 +10,8 @@ ghost use Rattle.plain_machine.specs.Program.{Meaning};
 ghost use Rattle.plain_machine.specs.History.{Step, log_of, IsHistory};
 ghost use Rattle.plain_machine.specs.Agree.{IsEarlier};
 ghost use Rattle.access_log.specs.declared.entry.StampedEntry.{StampedEntry};
-ghost use Rattle.access_log.specs.Held.{Lane, lane, entry_at, fresh_lane, IsKnown, IsWithin, IsFirstMissing};
+ghost use Rattle.access_log.specs.Held.{Lane, lane, entry_at, fresh_lane, IsKnown, IsWithin};
+ghost use Rattle.access_log.specs.Held.{IsFirstMissing};
 ghost use Rattle.access_log.specs.Lanes.{PutsEntry, CoversUpTo};
 ghost use Rattle.master_core.specs.Holding.{held_entries, HoldsOf};
 ghost use Rattle.master_core.specs.Stepping.{plain_entry};
@@ -46,9 +48,9 @@ pub fn known_is_held_or_stored<X>()
         ⊎ IsIn e (log_of earlier)) }
 {}
 
-/// Nothing is missing, by the order of the log, for what a thread sends out after its first n entries, exactly where its
-/// stamp is within the held set: no component is above the frontier of its thread. Where one is, the thread and number
-/// that the held set names are those of the first missing entry.
+/// Nothing is missing, by the order of the log, for what a thread sends out after its first n entries, exactly where
+/// its stamp is within the held set: no component is above the frontier of its thread. Where one is, the thread and
+/// number that the held set names are those of the first missing entry.
 pub fn missing_is_defined<X>()
     ensures due { (m : Meaning X) (inputs : ℕ
         → List Packet) (threads : ℕ) (steps earlier : List (Step X))
@@ -86,9 +88,9 @@ pub fn closed_part_is_defined<X>()
         → HoldsOf log stored new }
 {}
 
-/// Once each lane covers as many entries as its thread has at a later stored moment, the held set is one over that moment,
-/// and holds what it held except what is stored then. It is enough to cover the lanes that there are, where each thread
-/// has one; the counts never fall.
+/// Once each lane covers as many entries as its thread has at a later stored moment, the held set is one over that
+/// moment, and holds what it held except what is stored then. It is enough to cover the lanes that there are, where
+/// each thread has one; the counts never fall.
 pub fn covering_a_later_moment<X>()
     ensures holds { (log stored later : List Entry) (held new : List Lane) → HoldsOf log stored held
         → ((t : ℕ) → CoversUpTo (lane held t) (lane new t) (entries t later))
@@ -112,8 +114,8 @@ pub fn covering_a_later_moment<X>()
         → IsIn e (held_entries new) ↔ (IsIn e (held_entries held) × (IsIn e (log_of later) → ⊥)) }
 {}
 
-/// With one more entry of the log, put into the lane of its thread with its stamp, the held set is one of the same log, and
-/// holds that entry and what it held. A held set of a log is one of the log as it grows, by a step or by many.
+/// With one more entry of the log, put into the lane of its thread with its stamp, the held set is one of the same log,
+/// and holds that entry and what it held. A held set of a log is one of the log as it grows, by a step or by many.
 pub fn holding_one_more<X>()
     ensures holds { (log stored : List Entry) (held new : List Lane) (e : StampedEntry)
         → HoldsOf log stored held

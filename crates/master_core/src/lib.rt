@@ -1,6 +1,6 @@
-//! One master: it runs a box program one move at a time, and logs every access with its place and its stamp. Copies of it, and what
-//! changed between two moments. And the laws of what is held of its log: what is missing, and the closed part, are those that the
-//! order of entries defines.
+//! One master: it runs a box program one move at a time, and logs every access with its place and its stamp. Copies of
+//! it, and what changed between two moments. And the laws of what is held of its log: what is missing, and the closed
+//! part, are those that the order of entries defines.
 #![tactic(auto)]
 
 mod bounds;

@@ -1,5 +1,6 @@
 //! The law of the lists of moves that masters stand for. It is proved, and does nothing: a caller has it by the call.
-ghost use Rattle.master_core.specs.Lists.{StartsList, GrowsList, FollowsList, HasHistory, MovesWithin};
+ghost use Rattle.master_core.specs.Lists.{StartsList, GrowsList, FollowsList, HasHistory};
+ghost use Rattle.master_core.specs.Lists.{MovesWithin};
 
 /// A master stands for the list of the moves that it made since it was fresh: one more with each call that made a move.
 /// Such a list is legal, its steps are a history, and a thread made at most as many moves as it has.

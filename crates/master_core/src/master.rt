@@ -1,4 +1,5 @@
-ghost use Rattle.std.specs.Prelude.{◌≡◌, ℕ, ◌+◌, ◌<◌, ◌≤◌, ◌↔◌, List, [], length, false, IsTrue, IsSome, IfOk, Some, None, option_copied};
+ghost use Rattle.std.specs.Prelude.{◌≡◌, ℕ, ◌+◌, ◌<◌, ◌≤◌, ◌↔◌, List, [], length, false, IsTrue};
+ghost use Rattle.std.specs.Prelude.{IsSome, IfOk, Some, None, option_copied};
 ghost use Rattle.std.specs.Prelude.{HoldsAt};
 ghost use Rattle.plain_text.specs.declared.packet.Packet as packet_of;
 ghost use Rattle.box_program.specs.Hands.{FitsProgram, IsInputAfter, has_hand, moves_left};
@@ -6,10 +7,12 @@ ghost use Rattle.plain_machine.specs.History.{Step};
 ghost use Rattle.plain_machine.specs.declared.local.Move.TheVariants as move_is;
 ghost use Rattle.access_log.specs.declared.entry.Output as output_of;
 ghost use Rattle.access_log.specs.declared.entry.Turn.TheVariants as turn_of;
-ghost use Rattle.master_core.specs.Mastered.{value_of, place_in_hand, input_in_hand, HasRoom, HasHand, HasNoHand, WantsVariable};
+ghost use Rattle.master_core.specs.Mastered.{value_of, place_in_hand, input_in_hand, HasRoom};
+ghost use Rattle.master_core.specs.Mastered.{HasHand, HasNoHand, WantsVariable};
 ghost use Rattle.master_core.specs.MasterStanding.{Stands};
 ghost use Rattle.master_core.specs.Stepping.{wanted, move_of, Follows, MadeNone, MadeOne};
-ghost use Rattle.master_core.specs.Effects.{HasFresh, DoneTake, DoneTouch, DoneLook, DoneHear, DoneEmit, DoneEnd, HasPlayed};
+ghost use Rattle.master_core.specs.Effects.{HasFresh, DoneTake, DoneTouch, DoneLook, DoneHear};
+ghost use Rattle.master_core.specs.Effects.{DoneEmit, DoneEnd, HasPlayed};
 
 mod copies;
 mod split;
@@ -25,11 +28,11 @@ use std::alloc::Global;
 use std::marker::Model;
 use thread_clock::Stamp;
 
-/// A box program that runs: the values of the shared variables and where each thread is, with the places and the stamps by
-/// which its log entries are ordered.
+/// A box program that runs: the values of the shared variables and where each thread is, with the places and the stamps
+/// by which its log entries are ordered.
 ///
-/// A master stands for a list of moves, that of the plain machine which it made since it was fresh. It keeps no such list:
-/// contracts say which lists it stands for, and each step costs the same however long they are.
+/// A master stands for a list of moves, that of the plain machine which it made since it was fresh. It keeps no such
+/// list: contracts say which lists it stands for, and each step costs the same however long they are.
 #[derive(Drop)]
 pub struct Master<P: Program> {
     vars: Vec<VarPart<P::Value>>,
@@ -147,9 +150,10 @@ impl<P: Program> Master<P> {
 
     /// Makes one move of the thread: the one that it wants, with this answer where it is told one.
     ///
-    /// `input` is the packet in hand, else the next input of the thread, else `None`. `turn` says whether a touch or a read
-    /// may be made now. `Idle` comes exactly where the thread wants an input and gets none, and `NotTurn` exactly where it
-    /// wants a touch or a read and the turn is to wait; after these, and after `NoMemory`, the master is unchanged.
+    /// `input` is the packet in hand, else the next input of the thread, else `None`. `turn` says whether a touch or a
+    /// read may be made now. `Idle` comes exactly where the thread wants an input and gets none, and `NotTurn` exactly
+    /// where it wants a touch or a read and the turn is to wait; after these, and after `NoMemory`, the master is
+    /// unchanged.
     pub fn step(
         &mut self,
         alloc: Global,

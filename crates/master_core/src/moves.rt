@@ -1,10 +1,11 @@
-//! The moves of one thread, each made with the thread's part and, where it is of a variable, that variable's part, and with
-//! nothing else of a master: so a master makes them, and so do threads that race. A call may be made where its move is the
-//! thread's next one; where it runs out of memory, both parts are unchanged.
+//! The moves of one thread, each made with the thread's part and, where it is of a variable, that variable's part, and
+//! with nothing else of a master: so a master makes them, and so do threads that race. A call may be made where its
+//! move is the thread's next one; where it runs out of memory, both parts are unchanged.
 ghost use Rattle.std.specs.Prelude.{◌≡◌, ℕ, ◌+◌, ◌<◌, ◌^◌, IfOk, OnErr};
 ghost use Rattle.plain_machine.specs.declared.local.Move.TheVariants as move_is;
 ghost use Rattle.master_core.specs.Mastered.{moves_made};
-ghost use Rattle.master_core.specs.Effects.{after_take, after_emit, after_end, next_output, TouchesParts, ReadsParts, HearsPart};
+ghost use Rattle.master_core.specs.Effects.{after_take, after_emit, after_end, next_output};
+ghost use Rattle.master_core.specs.Effects.{TouchesParts, ReadsParts, HearsPart};
 
 use crate::effects::log_entry;
 use crate::{ThreadPart, VarPart};
@@ -26,8 +27,8 @@ pub fn take<P: Program>(program: &P, part: &mut ThreadPart, packet: &Packet) -> 
     part.counts.taken
 }
 
-/// Touches this variable, with the packet in hand at this place. The answer is the entry, with its place and its stamp. On
-/// `NoMemory` both parts are unchanged.
+/// Touches this variable, with the packet in hand at this place. The answer is the entry, with its place and its stamp.
+/// On `NoMemory` both parts are unchanged.
 pub fn touch<P: Program>(
     alloc: Global,
     program: &P,
@@ -62,7 +63,8 @@ pub fn touch<P: Program>(
     Ok(entry)
 }
 
-/// Reads this variable, with the packet in hand at this place: its value stays. The answer is the entry, with its stamp.
+/// Reads this variable, with the packet in hand at this place: its value stays. The answer is the entry, with its
+/// stamp.
 pub fn look<P: Program>(
     program: &P,
     thread: u32,
@@ -89,7 +91,8 @@ pub fn look<P: Program>(
     entry
 }
 
-/// Is told this answer, with the packet in hand at this place. The answer is the entry, of this content, with its stamp.
+/// Is told this answer, with the packet in hand at this place. The answer is the entry, of this content, with its
+/// stamp.
 pub fn hear<P: Program>(
     program: &P,
     thread: u32,

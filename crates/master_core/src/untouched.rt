@@ -7,8 +7,8 @@ ghost use Rattle.plain_machine.specs.History.{Step, log_of, value_after, IsHisto
 ghost use Rattle.plain_machine.specs.Agree.{IsEarlier};
 ghost use Rattle.master_core.specs.Stamped.{IsTouchStamp};
 
-/// Only a touch changes a value: a variable that was touched no more often at a later moment has the same value, and the same stamp
-/// of its last touch.
+/// Only a touch changes a value: a variable that was touched no more often at a later moment has the same value, and
+/// the same stamp of its last touch.
 pub fn untouched_variables_stay<X>()
     ensures value { (m : Meaning X) (v : ℕ) (earlier later : List (Step X))
         → IsEarlier earlier later → places v (log_of earlier) ≡ places v (log_of later)

@@ -1,4 +1,5 @@
-/// What a thread does next. `number` is that of the entry that it will be, and `places` how often the variable was touched.
+/// What a thread does next. `number` is that of the entry that it will be, and `places` how often the variable was
+/// touched.
 #[derive(Clone, Copy, Debug, PartialEq, Eq)]
 pub enum Wants {
     /// Takes its input of this number, from 1.

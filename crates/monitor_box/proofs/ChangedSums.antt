@@ -4,13 +4,16 @@ use Rattle.entry_order.specs.Stamps.{sum_below}
 use Rattle.entry_order.proofs.Order.{is_or}
 use Rattle.entry_order.proofs.Weights.{sum_below_same}
 
-pub one_changes : (n u : ℕ) (f g : ℕ → ℕ) → u < n → ((k : ℕ) → k ≢ u → f k ≡ g k) → sum_below n f + g u ≡ sum_below n g + f u
+pub one_changes : (n u : ℕ) (f g : ℕ → ℕ) → u < n → ((k : ℕ) → k ≢ u → f k ≡ g k)
+    → sum_below n f + g u ≡ sum_below n g + f u
 one_changes zero u f g low same = absurd (omega arith)
 one_changes (suc n) u f g low same = go (is_or u n) (λ k. one_changes n u f g k same)
   where
-    go : (u ≡ n) ⊎ (u ≢ n) → (u < n → sum_below n f + g u ≡ sum_below n g + f u) → sum_below n f + f n + g u ≡ sum_below n g + g n + f u
+    go : (u ≡ n) ⊎ (u ≢ n) → (u < n → sum_below n f + g u ≡ sum_below n g + f u)
+        → sum_below n f + f n + g u ≡ sum_below n g + g n + f u
     go (inl e) rest =
-        let a : sum_below n f ≡ sum_below n g = sum_below_same n f g (λ k l. same k (λ q. let j : k ≡ n = q ∙ e in absurd (omega arith))) in
+        let a : sum_below n f ≡ sum_below n g =
+        sum_below_same n f g (λ k l. same k (λ q. let j : k ≡ n = q ∙ e in absurd (omega arith))) in
         let b : f n ≡ f u = subst (λ (k : ℕ). f n ≡ f k) (sym e) refl in
         let c : g n ≡ g u = subst (λ (k : ℕ). g n ≡ g k) (sym e) refl in
         omega arith

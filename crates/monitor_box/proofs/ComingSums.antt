@@ -22,14 +22,18 @@ module _ (place : ℕ) (number : Packet → ℕ) where
   comes_none p l h = rw (not_there l.at h) refl
 
   pub coming_step : (threads t : ℕ) (after : Thread) (thread : ℕ → Thread) → t < threads
-      → coming_sum place number threads (λ u. cond (nat_eq t u) after (thread u)) + coming_by place number (thread t).hand ≡ coming_sum place number threads thread + coming_by place number after.hand
+      → coming_sum place number threads (λ u. cond (nat_eq t u) after (thread u))
+      + coming_by place number (thread t).hand
+      ≡ coming_sum place number threads thread + coming_by place number after.hand
   coming_step threads t after thread low =
       let f : ℕ → ℕ = λ u. coming_by place number (cond (nat_eq t u) after (thread u)).hand in
       let g : ℕ → ℕ = λ u. coming_by place number (thread u).hand in
-      let one : sum_below threads f + g t ≡ sum_below threads g + f t = one_changes threads t f g low (λ u h. rw (not_eq t u (λ k. h (sym k))) refl) in
+      let one : sum_below threads f + g t ≡ sum_below threads g + f t =
+      one_changes threads t f g low (λ u h. rw (not_eq t u (λ k. h (sym k))) refl) in
       let new : f t ≡ coming_by place number after.hand = rw (is_eq t t refl) refl in
       omega arith
 
   -- where no packet is in hand, nothing comes
-  pub comes_nothing : (threads : ℕ) (steps : List (Step MonitorValue)) → IsAtRest threads steps → coming_sum place number threads (thread_after steps) ≡ 0
+  pub comes_nothing : (threads : ℕ) (steps : List (Step MonitorValue)) → IsAtRest threads steps
+      → coming_sum place number threads (thread_after steps) ≡ 0
   comes_nothing threads steps rest = sum_of_none threads _ (λ t low. ap (coming_by place number) (rest t low))

@@ -14,7 +14,8 @@ Flows = List (FlowKey × FlowCount)
 -- two flows are one where all five fields are equal
 abbrev pub same_flow : FlowKey → FlowKey → Bool
 same_flow a b =
-    (a.protocol == b.protocol) && (a.source == b.source) && (a.source_port == b.source_port) && (a.dest == b.dest) && (a.dest_port == b.dest_port)
+    (a.protocol == b.protocol) && (a.source == b.source) && (a.source_port == b.source_port) && (a.dest == b.dest)
+    && (a.dest_port == b.dest_port)
 
 abbrev pub no_packets : FlowCount
 no_packets = record { packets = 0; bytes = 0 }

@@ -1,5 +1,6 @@
 -- The laws of programs, of the box with 1 to 64 tables.
-use Rattle.std.specs.Prelude.{◌≡◌, ℕ, zero, suc, ◌+◌, ◌<◌, ◌≤◌, Bool, true, false, [], ◌∷◌, slice_index, Result, Ok, Err, ◌==◌, if◌then◌else◌, refl}
+use Rattle.std.specs.Prelude.{◌≡◌, ℕ, zero, suc, ◌+◌, ◌<◌, ◌≤◌, Bool, true, false, [], ◌∷◌, slice_index, Result, Ok}
+use Rattle.std.specs.Prelude.{Err, ◌==◌, if◌then◌else◌, refl}
 use Rattle.packet_headers.specs.declared.flow.Flow.{Flow}
 use Rattle.packet_headers.specs.declared.flow.NotFlow.{NotFlow}
 use Rattle.packet_headers.specs.View.{viewed}
@@ -10,15 +11,19 @@ use Rattle.monitor_box.specs.declared.counts.FlowKey.{FlowKey}
 use Rattle.monitor_box.specs.declared.value.MonitorValue.{MonitorValue}
 use Rattle.monitor_box.specs.declared.value.MonitorValue.TheVariants.{Totals, Table}
 use Rattle.monitor_box.specs.declared.counts.Totals.{Totals as TotalCounts}
-use Rattle.monitor_box.specs.Flows.{Flows, same_flow, with_packet, with_flow_packet, with_other_packet, AreTotals, Lacks, AreFlows}
-use Rattle.monitor_box.specs.Monitor.{next_move, moves_left, begun, noted_length, touched, fresh_value, monitor_meaning, Fits}
+use Rattle.monitor_box.specs.Flows.{Flows, same_flow, with_packet, with_flow_packet, with_other_packet, AreTotals}
+use Rattle.monitor_box.specs.Flows.{Lacks, AreFlows}
+use Rattle.monitor_box.specs.Monitor.{next_move, moves_left, begun, noted_length, touched, fresh_value, monitor_meaning}
+use Rattle.monitor_box.specs.Monitor.{Fits}
 use Rattle.std.proofs.Common.{arith}
 
-lacks_more : (flow other : FlowKey) (n : ℕ) (es : Flows) → same_flow flow other ≡ false → Lacks es other → Lacks (with_packet flow n es) other
+lacks_more : (flow other : FlowKey) (n : ℕ) (es : Flows) → same_flow flow other ≡ false → Lacks es other
+    → Lacks (with_packet flow n es) other
 lacks_more flow other n [] new old = (new, tt)
 lacks_more flow other n (e ∷ es) new old = by (same_flow flow e.0) refl (lacks_more flow other n es new old.1)
   where
-    by : (b : Bool) → same_flow flow e.0 ≡ b → Lacks (with_packet flow n es) other → Lacks (with_packet flow n (e ∷ es)) other
+    by : (b : Bool) → same_flow flow e.0 ≡ b → Lacks (with_packet flow n es) other
+        → Lacks (with_packet flow n (e ∷ es)) other
     by true q behind = rw q old
     by false q behind = rw q (old.0, behind)
 
@@ -65,7 +70,8 @@ no_table_there zero es e fits = fits
 no_table_there (suc v) es e fits = absurd (omega arith)
 
 -- a table is touched first
-first_of_table : (tables at sum v : ℕ) (es : Flows) → next_move tables at sum ≡ Access v → Fits v (Table es) → moves_left at ≡ 3
+first_of_table : (tables at sum v : ℕ) (es : Flows) → next_move tables at sum ≡ Access v → Fits v (Table es)
+    → moves_left at ≡ 3
 first_of_table tables zero sum v es e fits = refl
 first_of_table tables (suc zero) sum v es e fits = absurd (no_table_there v es (grind arith) fits)
 first_of_table tables (suc (suc zero)) sum v es e fits = absurd (no_table_there v es (grind arith) fits)
@@ -79,7 +85,8 @@ any_touch tables (suc (suc zero)) sum v e = omega arith
 any_touch tables (suc (suc (suc zero))) sum v e = absurd (grind arith)
 any_touch tables (suc (suc (suc (suc at)))) sum v e = absurd (grind arith)
 
-touch_lowers : (tables at sum v : ℕ) (x : MonitorValue) (l : Local) → next_move tables at sum ≡ Access v → Fits v x → moves_left (touched x l).1.at < moves_left at
+touch_lowers : (tables at sum v : ℕ) (x : MonitorValue) (l : Local) → next_move tables at sum ≡ Access v → Fits v x
+    → moves_left (touched x l).1.at < moves_left at
 touch_lowers tables at sum v (Table es) l e fits = omega (arith, first_of_table tables at sum v es e fits)
 touch_lowers tables at sum v (Totals t) l e fits = omega (arith, any_touch tables at sum v e)
 
@@ -105,7 +112,8 @@ fresh_fits_all : (v : ℕ) → Fits v (fresh_value v)
 fresh_fits_all zero = (omega arith, omega arith, omega arith)
 fresh_fits_all (suc v) = tt
 
-totals_fit : (b : Bool) (n : ℕ) (t : TotalCounts) → AreTotals t → AreTotals (if b then with_flow_packet n t else with_other_packet t)
+totals_fit : (b : Bool) (n : ℕ) (t : TotalCounts) → AreTotals t
+    → AreTotals (if b then with_flow_packet n t else with_other_packet t)
 totals_fit true n t fits = (omega arith, omega arith, fits.2)
 totals_fit false n t fits = (fits.0, fits.1, omega arith)
 

@@ -1,7 +1,8 @@
--- The box that counts packets and bytes by flow. Variable 0 has the totals; each further variable has a table of flows, and a
--- flow's table is told by its steering sum. A packet of a flow touches the flow's table, and then the totals; any other packet
--- touches the totals alone. Bytes are counted by the length on the wire.
-use Rattle.std.specs.Prelude.{ℕ, zero, suc, ◌+◌, ◌%◌, ◌^◌, List, [], ◌∷◌, slice_index, replicate, ◌==◌, if◌then◌else◌, Result, Ok, Err}
+-- The box that counts packets and bytes by flow. Variable 0 has the totals; each further variable has a table of flows,
+-- and a flow's table is told by its steering sum. A packet of a flow touches the flow's table, and then the totals; any
+-- other packet touches the totals alone. Bytes are counted by the length on the wire.
+use Rattle.std.specs.Prelude.{ℕ, zero, suc, ◌+◌, ◌%◌, ◌^◌, List, [], ◌∷◌, slice_index, replicate, ◌==◌, if◌then◌else◌}
+use Rattle.std.specs.Prelude.{Result, Ok, Err}
 use Rattle.packet_headers.specs.declared.flow.Flow.{Flow}
 use Rattle.packet_headers.specs.declared.flow.NotFlow.{NotFlow}
 use Rattle.packet_headers.specs.Steering.{steering_sum}
@@ -16,8 +17,8 @@ use Rattle.monitor_box.specs.declared.value.MonitorValue.TheVariants.{Totals, Ta
 use Rattle.monitor_box.specs.Flows.{no_totals, with_packet, with_flow_packet, with_other_packet, AreTotals, AreFlows}
 use Rattle.monitor_box.specs.Shown.{totals_text, flows_text}
 
--- The places of the program: the flow's table is next; the totals are next, for a flow's packet or for another; the packet goes
--- out; the end.
+-- The places of the program: the flow's table is next; the totals are next, for a flow's packet or for another; the
+-- packet goes out; the end.
 
 abbrev pub counts_flow_at : ℕ
 counts_flow_at = 0
@@ -61,7 +62,9 @@ moves_left at =
 abbrev pub begun : Result Flow NotFlow → ℕ → Local
 begun (Ok flow) length = record {
   at = counts_flow_at;
-  regs = steering_sum flow ∷ flow.protocol ∷ flow.source ∷ flow.source_port ∷ flow.dest ∷ flow.dest_port ∷ length ∷ 0 ∷ 0 ∷ 0 ∷ 0 ∷ 0 ∷ [];
+  regs =
+      steering_sum flow ∷ flow.protocol ∷ flow.source ∷ flow.source_port ∷ flow.dest ∷ flow.dest_port ∷ length ∷ 0 ∷ 0
+      ∷ 0 ∷ 0 ∷ 0 ∷ [];
 }
 begun (Err answer) length = record { at = adds_other_at; regs = replicate 12 0 }
 
@@ -80,8 +83,10 @@ noted_length l = slice_index l.regs 6
 
 abbrev pub touched : MonitorValue → Local → MonitorValue × Local
 touched (Table flows) l = (Table (with_packet (noted_flow l) (noted_length l) flows), record l { at = adds_flow_at })
-touched (Totals totals) l =
-    (Totals (if l.at == adds_flow_at then with_flow_packet (noted_length l) totals else with_other_packet totals), record l { at = emits_at })
+touched (Totals totals) l = (
+  Totals (if l.at == adds_flow_at then with_flow_packet (noted_length l) totals else with_other_packet totals),
+  record l { at = emits_at },
+)
 
 abbrev pub fresh_value : ℕ → MonitorValue
 fresh_value zero = Totals no_totals

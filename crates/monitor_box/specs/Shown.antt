@@ -7,13 +7,15 @@ use Rattle.monitor_box.specs.declared.counts.FlowCount.{FlowCount}
 use Rattle.monitor_box.specs.Flows.{Flows}
 
 abbrev pub totals_text : Totals → List ℕ
-totals_text t = codes "packets " ++ decimal t.packets ++ codes " bytes " ++ decimal t.bytes ++ codes " other " ++ decimal t.other
+totals_text t =
+    codes "packets " ++ decimal t.packets ++ codes " bytes " ++ decimal t.bytes ++ codes " other " ++ decimal t.other
 
 -- one flow with its counts
 abbrev pub flow_text : FlowKey × FlowCount → List ℕ
 flow_text (flow, count) =
-    protocol_text flow.protocol ++ codes " " ++ endpoint_text flow.source flow.source_port ++ codes " " ++ endpoint_text flow.dest flow.dest_port
-    ++ codes " packets " ++ decimal count.packets ++ codes " bytes " ++ decimal count.bytes
+    protocol_text flow.protocol ++ codes " " ++ endpoint_text flow.source flow.source_port ++ codes " "
+    ++ endpoint_text flow.dest flow.dest_port ++ codes " packets " ++ decimal count.packets ++ codes " bytes "
+    ++ decimal count.bytes
 
 -- flows that stand behind others
 abbrev pub further_text : Flows → List ℕ

@@ -1,5 +1,5 @@
--- What the totals and the tables have in common after each move of each run: the totals, with what is still owed to them, are
--- the sum over all flows of all tables.
+-- What the totals and the tables have in common after each move of each run: the totals, with what is still owed to
+-- them, are the sum over all flows of all tables.
 use Rattle.std.specs.Prelude.{◌≡◌, ℕ, ◌+◌, ◌%◌, ◌^◌, ◌<◌, ◌≤◌, ◌==◌, if◌then◌else◌, List, [], ◌∷◌, Option, Some, None}
 use Rattle.plain_text.specs.declared.packet.Packet.{Packet}
 use Rattle.entry_order.specs.Stamps.{sum_below}
@@ -30,8 +30,8 @@ abbrev pub totals_of : MonitorValue → TotalCounts
 totals_of (Totals totals) = totals
 totals_of (Table flows) = no_totals
 
--- a number of the totals and what is owed to it, by packets in hand that have touched their flow's table and not yet the
--- totals, are, modulo 2 ^ 64, the sum of the number over all flows
+-- a number of the totals and what is owed to it, by packets in hand that have touched their flow's table and not yet
+-- the totals, are, modulo 2 ^ 64, the sum of the number over all flows
 abbrev pub Matches : (TotalCounts → ℕ) → (Packet → ℕ) → (FlowCount → ℕ) → ℕ → ℕ → List (Step MonitorValue) → Type 0
 Matches of_totals of_packet of_flow tables threads steps =
     let value = value_after (monitor_meaning tables) steps in

@@ -1,5 +1,6 @@
 ghost use Rattle.std.specs.Prelude.{◌≡◌};
-ghost use Rattle.monitor_box.specs.Flows.{no_packets, one_more, no_totals, with_flow_packet, with_other_packet};
+ghost use Rattle.monitor_box.specs.Flows.{no_packets, one_more, no_totals, with_flow_packet};
+ghost use Rattle.monitor_box.specs.Flows.{with_other_packet};
 
 /// How many packets there were, modulo 2^64.
 #[derive(Clone, Copy, Debug, PartialEq, Eq)]

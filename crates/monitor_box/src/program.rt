@@ -8,8 +8,8 @@ use packet_headers::{steering_sum, view};
 use plain_text::{Bytes, HEADER_ROOM, NoMemory, Packet, Text};
 use std::alloc::Global;
 
-/// The places of the program: the flow's table is next; the totals are next, for a flow's packet or for another; the packet
-/// goes out; the end.
+/// The places of the program: the flow's table is next; the totals are next, for a flow's packet or for another; the
+/// packet goes out; the end.
 const COUNTS_FLOW: u32 = 0;
 
 const ADDS_FLOW: u32 = 1;

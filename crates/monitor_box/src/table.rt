@@ -9,7 +9,8 @@ use plain_text::{NoMemory, Text};
 use std::alloc::Global;
 use std::marker::Model;
 
-/// The counts of flows, in the order in which the flows were first seen. Contracts see the list of the flows with their counts.
+/// The counts of flows, in the order in which the flows were first seen. Contracts see the list of the flows with their
+/// counts.
 #[derive(Debug, Drop)]
 pub struct FlowTable {
     counts: IndexMap<FlowKey, FlowCount>,

@@ -1,5 +1,6 @@
 -- What goes out is the translation of the packet in hand.
-use Rattle.std.proofs.Common.{◌≡◌, ◌≢◌, ℕ, ◌+◌, ◌-◌, ◌≤◌, ◌*◌, ◌^◌, ◌<◌, Bool, true, false, List, [], ◌∷◌, ◌++◌, refl, sym, ap, ◌∙◌, subst, ◌⊎◌, inl, inr, arith, Option, Some, None}
+use Rattle.std.proofs.Common.{◌≡◌, ◌≢◌, ℕ, ◌+◌, ◌-◌, ◌≤◌, ◌*◌, ◌^◌, ◌<◌, Bool, true, false, List, [], ◌∷◌, ◌++◌, refl}
+use Rattle.std.proofs.Common.{sym, ap, ◌∙◌, subst, ◌⊎◌, inl, inr, arith, Option, Some, None}
 use Rattle.std.specs.Prelude.{◌==◌, slice_get, if◌then◌else◌, Result, Ok, Err}
 use Rattle.plain_text.specs.declared.packet.Packet.{Packet}
 use Rattle.entry_order.proofs.Order.{is_or}
@@ -9,21 +10,27 @@ use Rattle.packet_headers.specs.Fields.{AreBytes, word_at, long_at, header_end}
 use Rattle.packet_headers.specs.View.{viewed, flow_of, failures}
 use Rattle.packet_headers.proofs.FirstFailure.{pass_from_ok}
 use Rattle.plain_machine.specs.declared.local.Move.TheVariants.{Access, Read, Clock, Draw, Emit}
-use Rattle.plain_machine.specs.Machine.{Hand, Effect, Takes, Touches, Looks, HearsClock, HearsDraw, Sends, Ends as EndsIt}
-use Rattle.plain_machine.specs.History.{Emitted, Step, act_of, emission_of, sent_of, thread_after, value_after, IsHistory}
+use Rattle.plain_machine.specs.Machine.{Hand, Effect, Takes, Touches, Looks, HearsClock, HearsDraw, Sends}
+use Rattle.plain_machine.specs.Machine.{Ends as EndsIt}
+use Rattle.plain_machine.specs.History.{Emitted, Step, act_of, emission_of, sent_of, thread_after, value_after}
+use Rattle.plain_machine.specs.History.{IsHistory}
 use Rattle.plain_machine.specs.declared.emission.Emission.{Emission}
 use Rattle.plain_machine.proofs.Histories.{not_eq, is_eq}
 use Rattle.plain_machine.proofs.Bounds.{values_fit}
 use Rattle.nat_tables.specs.Ports.{reserve}
 use Rattle.nat_tables.specs.Keys.{same_endpoint}
-use Rattle.nat_tables.specs.Forwards.{Forwards, slot_of, refresh, refreshed, is_idle, first_idle, found_there, found, bound, lives, port_of}
+use Rattle.nat_tables.specs.Forwards.{Forwards, slot_of, refresh, refreshed, is_idle, first_idle, found_there, found}
+use Rattle.nat_tables.specs.Forwards.{bound, lives, port_of}
 use Rattle.nat_tables.specs.Reverses.{Reverses, endpoint_of, AreBound}
 use Rattle.nat_tables.specs.Keys.{same_port}
 use Rattle.nat_tables.specs.declared.entries.Endpoint.{Endpoint}
 use Rattle.nat_tables.specs.declared.entries.PortKey.{PortKey}
 use Rattle.nat_tables.specs.declared.slot.Slot.{Slot}
 use Rattle.nat_box.specs.declared.place.Place.{Place}
-use Rattle.nat_box.specs.declared.place.Place.TheVariants.{HearsTime, FindsMapping, UnbindsFreed, GivesBackFreed, DrawsWord, ReservesPort, BindsPort, FindsOrBinds, UnbindsLost, GivesBackLost, FindsEndpoint, AsksIfLives, CountsDrop, SendsOut, Ends}
+use Rattle.nat_box.specs.declared.place.Place.TheVariants.{HearsTime, FindsMapping, UnbindsFreed, GivesBackFreed}
+use Rattle.nat_box.specs.declared.place.Place.TheVariants.{DrawsWord, ReservesPort, BindsPort, FindsOrBinds}
+use Rattle.nat_box.specs.declared.place.Place.TheVariants.{UnbindsLost, GivesBackLost, FindsEndpoint, AsksIfLives}
+use Rattle.nat_box.specs.declared.place.Place.TheVariants.{CountsDrop, SendsOut, Ends}
 use Rattle.nat_box.specs.declared.place.Class.{Class}
 use Rattle.nat_box.specs.declared.place.Class.TheVariants.{Outbound, Hairpin, Inbound}
 use Rattle.nat_box.specs.declared.place.Noted.{Noted}
@@ -31,30 +38,38 @@ use Rattle.nat_box.specs.declared.value.NatValue.{NatValue}
 use Rattle.nat_box.specs.declared.value.NatValue.TheVariants.{Dropped, Free, Mapped, Taken}
 use Rattle.nat_box.specs.Places.{place_numbered, noted, source_key, dest_key, endpoint}
 use Rattle.nat_box.specs.declared.place.Goes.{Goes}
-use Rattle.nat_box.specs.Nat.{Settings, goes, next_move, class_of_flow, noted_flow, nothing_noted, reason_of, begun_as, begun, mapped, after_find, after_reserve, after_bind, touched, after_endpoint, looked_by, looked, after_time, told, frame_out, local_at, nat_meaning, MayBind, Fits}
+use Rattle.nat_box.specs.Nat.{Settings, goes, next_move, class_of_flow, noted_flow, nothing_noted, reason_of, begun_as}
+use Rattle.nat_box.specs.Nat.{begun, mapped, after_find, after_reserve, after_bind, touched, after_endpoint, looked_by}
+use Rattle.nat_box.specs.Nat.{looked, after_time, told, frame_out, local_at, nat_meaning, MayBind, Fits}
 use Rattle.nat_box.specs.Noting.{place_again, IsNoted, is_noted, noted_again}
 use Rattle.nat_box.specs.Lawful.{AreSettings, var_of, touches_it, reads_it, below_all, nat_lawful}
-use Rattle.nat_box.specs.Emissions.{Trail, no_trail, left_forward, trail_by, trail_of, WasMapped, Lived, source_of, IsTranslated, IsTranslationOf, HaveBytes, EmissionsTranslate}
+use Rattle.nat_box.specs.Emissions.{Trail, no_trail, left_forward, trail_by, trail_of, WasMapped, Lived, source_of}
+use Rattle.nat_box.specs.Emissions.{IsTranslated, IsTranslationOf, HaveBytes, EmissionsTranslate}
 use Rattle.nat_box.proofs.Noting.{touched_noted}
 use Rattle.nat_box.proofs.HeldInputs.{IsHeld, move_holds, run_holds}
 use Rattle.nat_box.proofs.Making.{goes_on, comes_to, Made, made}
 
 -- Tables after a refresh and after a bind
 
-slot_refreshed : (key : Endpoint) (now : ℕ) (slot : Slot) (es : Forwards) → slot_of key es ≡ Some slot → slot_of key (refresh key now es) ≡ Some (refreshed now slot)
+slot_refreshed : (key : Endpoint) (now : ℕ) (slot : Slot) (es : Forwards) → slot_of key es ≡ Some slot
+    → slot_of key (refresh key now es) ≡ Some (refreshed now slot)
 slot_refreshed key now slot [] is = absurd (cc)
 slot_refreshed key now slot (e ∷ es) is = by (same_endpoint key e.0) refl is (slot_refreshed key now slot es)
   where
-    by : (b : Bool) → same_endpoint key e.0 ≡ b → (if b then Some e.1 else slot_of key es) ≡ Some slot → (slot_of key es ≡ Some slot → slot_of key (refresh key now es) ≡ Some (refreshed now slot))
+    by : (b : Bool) → same_endpoint key e.0 ≡ b → (if b then Some e.1 else slot_of key es) ≡ Some slot
+        → (slot_of key es ≡ Some slot → slot_of key (refresh key now es) ≡ Some (refreshed now slot))
         → slot_of key (refresh key now (e ∷ es)) ≡ Some (refreshed now slot)
     by true q is rest = let s : e.1 ≡ slot = cc in rw (q, q) (ap (λ (t : Slot). Some (refreshed now t)) s)
     by false q is rest = rw (q, q) (rest is)
 
-slot_bound : (key : Endpoint) (slot : Slot) (es : Forwards) → slot_of key es ≡ None → same_endpoint key key ≡ true → slot_of key (es ++ (key, slot) ∷ []) ≡ Some slot
+slot_bound : (key : Endpoint) (slot : Slot) (es : Forwards) → slot_of key es ≡ None → same_endpoint key key ≡ true
+    → slot_of key (es ++ (key, slot) ∷ []) ≡ Some slot
 slot_bound key slot [] is self = rw self refl
 slot_bound key slot (e ∷ es) is self = by (same_endpoint key e.0) refl is (λ h. slot_bound key slot es h self)
   where
-    by : (b : Bool) → same_endpoint key e.0 ≡ b → (if b then Some e.1 else slot_of key es) ≡ None → (slot_of key es ≡ None → slot_of key (es ++ (key, slot) ∷ []) ≡ Some slot) → slot_of key ((e ∷ es) ++ (key, slot) ∷ []) ≡ Some slot
+    by : (b : Bool) → same_endpoint key e.0 ≡ b → (if b then Some e.1 else slot_of key es) ≡ None
+        → (slot_of key es ≡ None → slot_of key (es ++ (key, slot) ∷ []) ≡ Some slot)
+        → slot_of key ((e ∷ es) ++ (key, slot) ∷ []) ≡ Some slot
     by true q is rest = absurd (cc)
     by false q is rest = rw q (rest is)
 
@@ -96,11 +111,18 @@ KnownAt s r p DrawsWord n = IsBase s p n × (r.clock ≡ Some n.time) × IsOutwa
 KnownAt s r p ReservesPort n = IsBase s p n × (r.clock ≡ Some n.time) × IsOutward n.class
 KnownAt s r p BindsPort n = IsBase s p n × (r.clock ≡ Some n.time) × IsOutward n.class
 KnownAt s r p FindsOrBinds n = IsBase s p n × (r.clock ≡ Some n.time) × IsOutward n.class
-KnownAt s r p UnbindsLost n = IsBase s p n × (r.clock ≡ Some n.time) × IsOutward n.class × WasMapped r.forward n.source n.port
-KnownAt s r p GivesBackLost n = IsBase s p n × (r.clock ≡ Some n.time) × IsOutward n.class × WasMapped r.forward n.source n.port
-KnownAt s r p FindsEndpoint n = IsBase s p n × (r.clock ≡ Some n.time) × IsInward n.class × IfOutward n.class (WasMapped r.forward n.source n.port)
-KnownAt s r p AsksIfLives n = IsBase s p n × (r.clock ≡ Some n.time) × IsInward n.class × IfOutward n.class (WasMapped r.forward n.source n.port)
-KnownAt s r p SendsOut n = IsBase s p n × IfOutward n.class (WasMapped r.forward n.source n.port) × IfInward n.class (Lived r n.target n.dest_port)
+KnownAt s r p UnbindsLost n =
+    IsBase s p n × (r.clock ≡ Some n.time) × IsOutward n.class × WasMapped r.forward n.source n.port
+KnownAt s r p GivesBackLost n =
+    IsBase s p n × (r.clock ≡ Some n.time) × IsOutward n.class × WasMapped r.forward n.source n.port
+KnownAt s r p FindsEndpoint n =
+    IsBase s p n × (r.clock ≡ Some n.time) × IsInward n.class × IfOutward n.class (WasMapped r.forward n.source n.port)
+KnownAt s r p AsksIfLives n =
+    IsBase s p n × (r.clock ≡ Some n.time) × IsInward n.class × IfOutward n.class (WasMapped r.forward n.source n.port)
+KnownAt s r p SendsOut n =
+    IsBase s p n
+    × IfOutward n.class (WasMapped r.forward n.source n.port)
+    × IfInward n.class (Lived r n.target n.dest_port)
 KnownAt s r p CountsDrop n = Unit {0}
 KnownAt s r p Ends n = Unit {0}
 
@@ -108,7 +130,8 @@ abbrev Known : Settings → Trail → Option Hand → Type 0
 Known s r None = Unit {0}
 Known s r (Some h) = KnownAt s r h.packet (place_numbered h.place.at) (noted h.place)
 
-known_on : (s : Settings) (r : Trail) (h : Hand) (g : Goes) → IsNoted g.noted → KnownAt s r h.packet g.place g.noted → Known s r (goes_on h g)
+known_on : (s : Settings) (r : Trail) (h : Hand) (g : Goes) → IsNoted g.noted → KnownAt s r h.packet g.place g.noted
+    → Known s r (goes_on h g)
 known_on s r h g is k =
     let a : place_numbered (local_at g).at ≡ g.place = place_again g.place in
     let b : noted (local_at g) ≡ g.noted = noted_again g.place g.noted is in
@@ -120,50 +143,81 @@ after_touch left r = record { forward = left_forward (Some left) r.forward; read
 
 module _ (s : Settings) (p : Packet) where
   -- what was noted is of the same flow
-  base_on : (n m : Noted) → m.class ≡ n.class → m.source ≡ n.source → m.dest_port ≡ n.dest_port → IsBase s p n → IsBase s p m
-  base_on n m c f d b = record { flow = b.flow; seen = b.seen; class = b.class ∙ ap Some (sym c); source = f ∙ b.source; dest_port = d ∙ b.dest_port }
+  base_on : (n m : Noted) → m.class ≡ n.class → m.source ≡ n.source → m.dest_port ≡ n.dest_port → IsBase s p n
+      → IsBase s p m
+  base_on n m c f d b = record {
+    flow = b.flow;
+    seen = b.seen;
+    class = b.class ∙ ap Some (sym c);
+    source = f ∙ b.source;
+    dest_port = d ∙ b.dest_port;
+  }
 
-  mapped_known : (r : Trail) (n : Noted) (c : Class) → n.class ≡ c → IsBase s p n → r.clock ≡ Some n.time → IsOutward n.class → WasMapped r.forward n.source n.port → KnownAt s r p (mapped n c).place (mapped n c).noted
-  mapped_known r n Outbound is base clock out m = (base, subst (λ (c : Class). IfOutward c (WasMapped r.forward n.source n.port)) (sym is) m, subst (λ (c : Class). IfInward c (Lived r n.target n.dest_port)) (sym is) tt)
-  mapped_known r n Hairpin is base clock out m = (base, clock, subst IsInward (sym is) tt, subst (λ (c : Class). IfOutward c (WasMapped r.forward n.source n.port)) (sym is) m)
+  mapped_known : (r : Trail) (n : Noted) (c : Class) → n.class ≡ c → IsBase s p n → r.clock ≡ Some n.time
+      → IsOutward n.class → WasMapped r.forward n.source n.port → KnownAt s r p (mapped n c).place (mapped n c).noted
+  mapped_known r n Outbound is base clock out m = (
+    base,
+    subst (λ (c : Class). IfOutward c (WasMapped r.forward n.source n.port)) (sym is) m,
+    subst (λ (c : Class). IfInward c (Lived r n.target n.dest_port)) (sym is) tt,
+  )
+  mapped_known r n Hairpin is base clock out m = (
+    base,
+    clock,
+    subst IsInward (sym is) tt,
+    subst (λ (c : Class). IfOutward c (WasMapped r.forward n.source n.port)) (sym is) m,
+  )
   mapped_known r n Inbound is base clock out m = absurd (subst IsOutward is out)
 
-  module _ (r : Trail) (n : Noted) (es : Forwards) (base : IsBase s p n) (clock : r.clock ≡ Some n.time) (out : IsOutward n.class) (self : same_endpoint n.source n.source ≡ true) where
+  module _ (r : Trail) (n : Noted) (es : Forwards) (base : IsBase s p n) (clock : r.clock ≡ Some n.time)
+      (out : IsOutward n.class) (self : same_endpoint n.source n.source ≡ true) where
     there_known : (slot : Slot) (idle : Bool) → slot_of n.source es ≡ Some slot
-        → (let f = found_there n.source n.time es slot idle in KnownAt s (after_touch (Mapped f.1) r) p (after_find n f.0).place (after_find n f.0).noted)
-    there_known slot true is = (base_on n (record n { freed = port_of (n.source, slot) }) refl refl refl base, clock, out)
+        → (let f = found_there n.source n.time es slot idle in
+        KnownAt s (after_touch (Mapped f.1) r) p (after_find n f.0).place (after_find n f.0).noted)
+    there_known slot true is =
+        (base_on n (record n { freed = port_of (n.source, slot) }) refl refl refl base, clock, out)
     there_known slot false is =
         let m : Noted = record n { port = slot.port } in
         let left : Forwards = refresh n.source n.time es in
-        mapped_known (after_touch (Mapped left) r) m m.class refl (base_on n m refl refl refl base) clock out (left, refreshed n.time slot, refl, slot_refreshed n.source n.time slot es is, refl)
+        mapped_known (after_touch (Mapped left) r) m m.class refl (base_on n m refl refl refl base) clock out
+        (left, refreshed n.time slot, refl, slot_refreshed n.source n.time slot es is, refl)
 
     found_known : (a : Option Slot) (b : Option (Endpoint × Slot)) → slot_of n.source es ≡ a
-        → (let f = found n.source n.time es a b in KnownAt s (after_touch (Mapped f.1) r) p (after_find n f.0).place (after_find n f.0).noted)
+        → (let f = found n.source n.time es a b in
+        KnownAt s (after_touch (Mapped f.1) r) p (after_find n f.0).place (after_find n f.0).noted)
     found_known (Some slot) b is = there_known slot (is_idle n.time (n.source, slot)) is
     found_known None (Some gone) is = (base_on n (record n { freed = port_of gone }) refl refl refl base, clock, out)
     found_known None None is = (base, clock, out)
 
     bound_known : (a : Option Slot) → slot_of n.source es ≡ a
-        → (let f = bound n.source n.port n.time es a in KnownAt s (after_touch (Mapped f.1) r) p (after_bind n f.0).place (after_bind n f.0).noted)
+        → (let f = bound n.source n.port n.time es a in
+        KnownAt s (after_touch (Mapped f.1) r) p (after_bind n f.0).place (after_bind n f.0).noted)
     bound_known (Some slot) is =
         let m : Noted = record n { port = slot.port; freed = source_key n } in
-        let left : Forwards = refresh n.source n.time es in
-        (base_on n m refl refl refl base, clock, out, (left, refreshed n.time slot, refl, slot_refreshed n.source n.time slot es is, refl))
+        let left : Forwards = refresh n.source n.time es in (
+          base_on n m refl refl refl base,
+          clock,
+          out,
+          (left, refreshed n.time slot, refl, slot_refreshed n.source n.time slot es is, refl),
+        )
     bound_known None is =
         let slot : Slot = record { port = n.port; last = n.time } in
         let left : Forwards = es ++ (n.source, slot) ∷ [] in
-        mapped_known (after_touch (Mapped left) r) n n.class refl base clock out (left, slot, refl, slot_bound n.source slot es is self, refl)
+        mapped_known (after_touch (Mapped left) r) n n.class refl base clock out
+        (left, slot, refl, slot_bound n.source slot es is self, refl)
 
-  reserved_known : (r : Trail) (n : Noted) (o : Option ℕ) → IsBase s p n → r.clock ≡ Some n.time → IsOutward n.class → KnownAt s r p (after_reserve n o).place (after_reserve n o).noted
+  reserved_known : (r : Trail) (n : Noted) (o : Option ℕ) → IsBase s p n → r.clock ≡ Some n.time → IsOutward n.class
+      → KnownAt s r p (after_reserve n o).place (after_reserve n o).noted
   reserved_known r n (Some port) base clock out = (base_on n (record n { port = port }) refl refl refl base, clock, out)
   reserved_known r n None base clock out = tt
 
-  touch_known : (r : Trail) (place : Place) (x : NatValue) (n : Noted) (v : ℕ) → next_move s place n ≡ Access v → same_endpoint n.source n.source ≡ true → KnownAt s r p place n
+  touch_known : (r : Trail) (place : Place) (x : NatValue) (n : Noted) (v : ℕ) → next_move s place n ≡ Access v
+      → same_endpoint n.source n.source ≡ true → KnownAt s r p place n
       → KnownAt s (after_touch (touched place x n).0 r) p (touched place x n).1.place (touched place x n).1.noted
   touch_known r HearsTime x n v e self k = absurd (cc)
   touch_known r FindsMapping (Dropped d) n v e self k = tt
   touch_known r FindsMapping (Free pool) n v e self k = tt
-  touch_known r FindsMapping (Mapped es) n v e self k = found_known r n es k.0 k.1 k.2 self (slot_of n.source es) (first_idle n.time es) refl
+  touch_known r FindsMapping (Mapped es) n v e self k =
+      found_known r n es k.0 k.1 k.2 self (slot_of n.source es) (first_idle n.time es) refl
   touch_known r FindsMapping (Taken bs) n v e self k = tt
   touch_known r UnbindsFreed (Dropped d) n v e self k = tt
   touch_known r UnbindsFreed (Free pool) n v e self k = tt
@@ -175,7 +229,8 @@ module _ (s : Settings) (p : Packet) where
   touch_known r GivesBackFreed (Taken bs) n v e self k = tt
   touch_known r DrawsWord x n v e self k = absurd (cc)
   touch_known r ReservesPort (Dropped d) n v e self k = tt
-  touch_known r ReservesPort (Free pool) n v e self k = reserved_known r n (reserve n.source.protocol n.source.port n.word pool).0 k.0 k.1 k.2
+  touch_known r ReservesPort (Free pool) n v e self k =
+      reserved_known r n (reserve n.source.protocol n.source.port n.word pool).0 k.0 k.1 k.2
   touch_known r ReservesPort (Mapped es) n v e self k = tt
   touch_known r ReservesPort (Taken bs) n v e self k = tt
   touch_known r BindsPort (Dropped d) n v e self k = tt
@@ -207,8 +262,14 @@ module _ (s : Settings) (p : Packet) where
   abbrev after_look : NatValue → Trail → Trail
   after_look x r = record { forward = r.forward; read = Some x; clock = r.clock }
 
-  endpoint_known : (r : Trail) (x : NatValue) (n : Noted) (o : Option Endpoint) → KnownAt s r p FindsEndpoint n → KnownAt s (after_look x r) p (after_endpoint n o).place (after_endpoint n o).noted
-  endpoint_known r x n (Some key) k = (base_on n (record n { target = endpoint n.source.protocol key.address key.port }) refl refl refl k.0, k.1, k.2, k.3)
+  endpoint_known : (r : Trail) (x : NatValue) (n : Noted) (o : Option Endpoint) → KnownAt s r p FindsEndpoint n
+      → KnownAt s (after_look x r) p (after_endpoint n o).place (after_endpoint n o).noted
+  endpoint_known r x n (Some key) k = (
+    base_on n (record n { target = endpoint n.source.protocol key.address key.port }) refl refl refl k.0,
+    k.1,
+    k.2,
+    k.3,
+  )
   endpoint_known r x n None k = tt
 
   given_inward : (c : Class) (X : Type 0) → X → IfInward c X
@@ -216,12 +277,18 @@ module _ (s : Settings) (p : Packet) where
   given_inward Hairpin X x = x
   given_inward Inbound X x = x
 
-  lives_known : (r : Trail) (es : Forwards) (n : Noted) (b : Bool) → lives n.target n.dest_port n.time es ≡ b → KnownAt s r p AsksIfLives n
+  lives_known : (r : Trail) (es : Forwards) (n : Noted) (b : Bool) → lives n.target n.dest_port n.time es ≡ b
+      → KnownAt s r p AsksIfLives n
       → (let g = (looked_by n b) in KnownAt s (after_look (Mapped es) r) p g.place g.noted)
-  lives_known r es n true is k = (k.0, k.3, given_inward n.class (Lived (after_look (Mapped es) r) n.target n.dest_port) (es, n.time, refl, k.1, is))
+  lives_known r es n true is k = (
+    k.0,
+    k.3,
+    given_inward n.class (Lived (after_look (Mapped es) r) n.target n.dest_port) (es, n.time, refl, k.1, is),
+  )
   lives_known r es n false is k = tt
 
-  look_known : (r : Trail) (place : Place) (x : NatValue) (n : Noted) (v : ℕ) → next_move s place n ≡ Read v → KnownAt s r p place n → KnownAt s (after_look x r) p (looked place x n).place (looked place x n).noted
+  look_known : (r : Trail) (place : Place) (x : NatValue) (n : Noted) (v : ℕ) → next_move s place n ≡ Read v
+      → KnownAt s r p place n → KnownAt s (after_look x r) p (looked place x n).place (looked place x n).noted
   look_known r HearsTime x n v e k = absurd (cc)
   look_known r FindsMapping x n v e k = absurd (cc)
   look_known r UnbindsFreed x n v e k = absurd (cc)
@@ -247,13 +314,21 @@ module _ (s : Settings) (p : Packet) where
   abbrev after_clock : ℕ → Trail → Trail
   after_clock a r = record { forward = r.forward; read = r.read; clock = Some a }
 
-  time_known : (r : Trail) (a : ℕ) (n : Noted) (c : Class) → n.class ≡ c → IsBase s p n → n.time ≡ a → KnownAt s (after_clock a r) p (after_time n c).place (after_time n c).noted
+  time_known : (r : Trail) (a : ℕ) (n : Noted) (c : Class) → n.class ≡ c → IsBase s p n → n.time ≡ a
+      → KnownAt s (after_clock a r) p (after_time n c).place (after_time n c).noted
   time_known r a n Outbound is base now = (base, ap Some (sym now), subst IsOutward (sym is) tt)
   time_known r a n Hairpin is base now = (base, ap Some (sym now), subst IsOutward (sym is) tt)
-  time_known r a n Inbound is base now = (base, ap Some (sym now), subst IsInward (sym is) tt, subst (λ (c : Class). IfOutward c (WasMapped r.forward n.source n.port)) (sym is) tt)
+  time_known r a n Inbound is base now = (
+    base,
+    ap Some (sym now),
+    subst IsInward (sym is) tt,
+    subst (λ (c : Class). IfOutward c (WasMapped r.forward n.source n.port)) (sym is) tt,
+  )
 
-  clock_known : (r : Trail) (place : Place) (a : ℕ) (n : Noted) → next_move s place n ≡ Clock → KnownAt s r p place n → KnownAt s (after_clock a r) p (told place a n).place (told place a n).noted
-  clock_known r HearsTime a n e k = time_known r a (record n { time = a }) n.class refl (base_on n (record n { time = a }) refl refl refl k) refl
+  clock_known : (r : Trail) (place : Place) (a : ℕ) (n : Noted) → next_move s place n ≡ Clock → KnownAt s r p place n
+      → KnownAt s (after_clock a r) p (told place a n).place (told place a n).noted
+  clock_known r HearsTime a n e k =
+      time_known r a (record n { time = a }) n.class refl (base_on n (record n { time = a }) refl refl refl k) refl
   clock_known r FindsMapping a n e k = absurd (cc)
   clock_known r UnbindsFreed a n e k = absurd (cc)
   clock_known r GivesBackFreed a n e k = absurd (cc)
@@ -269,7 +344,8 @@ module _ (s : Settings) (p : Packet) where
   clock_known r SendsOut a n e k = absurd (cc)
   clock_known r Ends a n e k = absurd (cc)
 
-  draw_known : (r : Trail) (place : Place) (a : ℕ) (n : Noted) → next_move s place n ≡ Draw → KnownAt s r p place n → KnownAt s r p (told place a n).place (told place a n).noted
+  draw_known : (r : Trail) (place : Place) (a : ℕ) (n : Noted) → next_move s place n ≡ Draw → KnownAt s r p place n
+      → KnownAt s r p (told place a n).place (told place a n).noted
   draw_known r HearsTime a n e k = absurd (cc)
   draw_known r FindsMapping a n e k = absurd (cc)
   draw_known r UnbindsFreed a n e k = absurd (cc)
@@ -289,7 +365,18 @@ module _ (s : Settings) (p : Packet) where
 -- Numbers fit
 
 told_noted : (place : Place) (a : ℕ) (n : Noted) → IsNoted n → IsNoted (told place a n).noted
-told_noted HearsTime a n is = timed (record n { time = a }) n.class (record { protocol = is.protocol; address = is.address; source_port = is.source_port; dest_port = is.dest_port; port = is.port; freed_protocol = is.freed_protocol; freed_port = is.freed_port; target_protocol = is.target_protocol; target_address = is.target_address; target_port = is.target_port })
+told_noted HearsTime a n is = timed (record n { time = a }) n.class (record {
+  protocol = is.protocol;
+  address = is.address;
+  source_port = is.source_port;
+  dest_port = is.dest_port;
+  port = is.port;
+  freed_protocol = is.freed_protocol;
+  freed_port = is.freed_port;
+  target_protocol = is.target_protocol;
+  target_address = is.target_address;
+  target_port = is.target_port;
+})
   where
     timed : (m : Noted) (c : Class) → IsNoted m → IsNoted (after_time m c).noted
     timed m Outbound is = is
@@ -298,7 +385,18 @@ told_noted HearsTime a n is = timed (record n { time = a }) n.class (record { pr
 told_noted FindsMapping a n is = is
 told_noted UnbindsFreed a n is = is
 told_noted GivesBackFreed a n is = is
-told_noted DrawsWord a n is = record { protocol = is.protocol; address = is.address; source_port = is.source_port; dest_port = is.dest_port; port = is.port; freed_protocol = is.freed_protocol; freed_port = is.freed_port; target_protocol = is.target_protocol; target_address = is.target_address; target_port = is.target_port }
+told_noted DrawsWord a n is = record {
+  protocol = is.protocol;
+  address = is.address;
+  source_port = is.source_port;
+  dest_port = is.dest_port;
+  port = is.port;
+  freed_protocol = is.freed_protocol;
+  freed_port = is.freed_port;
+  target_protocol = is.target_protocol;
+  target_address = is.target_address;
+  target_port = is.target_port;
+}
 told_noted ReservesPort a n is = is
 told_noted BindsPort a n is = is
 told_noted FindsOrBinds a n is = is
@@ -311,21 +409,51 @@ told_noted SendsOut a n is = is
 told_noted Ends a n is = is
 
 worded : (n : Noted) (x : ℕ) → IsNoted n → IsNoted (record n { word = x })
-worded n x is = record { protocol = is.protocol; address = is.address; source_port = is.source_port; dest_port = is.dest_port; port = is.port; freed_protocol = is.freed_protocol; freed_port = is.freed_port; target_protocol = is.target_protocol; target_address = is.target_address; target_port = is.target_port }
+worded n x is = record {
+  protocol = is.protocol;
+  address = is.address;
+  source_port = is.source_port;
+  dest_port = is.dest_port;
+  port = is.port;
+  freed_protocol = is.freed_protocol;
+  freed_port = is.freed_port;
+  target_protocol = is.target_protocol;
+  target_address = is.target_address;
+  target_port = is.target_port;
+}
 
-targeted : (n : Noted) (key : Endpoint) → key.address < 2 ^ 32 → key.port < 2 ^ 16 → IsNoted n → IsNoted (record n { target = endpoint n.source.protocol key.address key.port })
-targeted n key address port is = record { protocol = is.protocol; address = is.address; source_port = is.source_port; dest_port = is.dest_port; port = is.port; freed_protocol = is.freed_protocol; freed_port = is.freed_port; target_protocol = refl; target_address = address; target_port = port }
+targeted : (n : Noted) (key : Endpoint) → key.address < 2 ^ 32 → key.port < 2 ^ 16 → IsNoted n
+    → IsNoted (record n { target = endpoint n.source.protocol key.address key.port })
+targeted n key address port is = record {
+  protocol = is.protocol;
+  address = is.address;
+  source_port = is.source_port;
+  dest_port = is.dest_port;
+  port = is.port;
+  freed_protocol = is.freed_protocol;
+  freed_port = is.freed_port;
+  target_protocol = refl;
+  target_address = address;
+  target_port = port;
+}
 
 -- an endpoint that a reverse table has
-small_endpoint : (s : Settings) (v : ℕ) (port : PortKey) (bs : Reverses) (key : Endpoint) → endpoint_of port bs ≡ Some key → AreBound (MayBind s v) bs → (key.address < 2 ^ 32) × (key.port < 2 ^ 16)
+small_endpoint : (s : Settings) (v : ℕ) (port : PortKey) (bs : Reverses) (key : Endpoint)
+    → endpoint_of port bs ≡ Some key → AreBound (MayBind s v) bs → (key.address < 2 ^ 32) × (key.port < 2 ^ 16)
 small_endpoint s v port [] key is all = absurd (cc)
 small_endpoint s v port (b ∷ bs) key is all = by (same_port port b.0) is (λ h. small_endpoint s v port bs key h all.2)
   where
-    by : (t : Bool) → (if t then Some b.1 else endpoint_of port bs) ≡ Some key → (endpoint_of port bs ≡ Some key → (key.address < 2 ^ 32) × (key.port < 2 ^ 16)) → (key.address < 2 ^ 32) × (key.port < 2 ^ 16)
-    by true is rest = let q : b.1 ≡ key = cc in subst (λ (k : Endpoint). (k.address < 2 ^ 32) × (k.port < 2 ^ 16)) q (all.0.1, all.0.2)
+    by : (t : Bool) → (if t then Some b.1 else endpoint_of port bs) ≡ Some key
+        → (endpoint_of port bs ≡ Some key → (key.address < 2 ^ 32) × (key.port < 2 ^ 16))
+        → (key.address < 2 ^ 32) × (key.port < 2 ^ 16)
+    by true is rest =
+        let q : b.1 ≡ key = cc in
+        subst (λ (k : Endpoint). (k.address < 2 ^ 32) × (k.port < 2 ^ 16)) q (all.0.1, all.0.2)
     by false is rest = rest is
 
-endpoint_noted : (n : Noted) (o : Option Endpoint) → IsNoted n → ((key : Endpoint) → o ≡ Some key → (key.address < 2 ^ 32) × (key.port < 2 ^ 16)) → IsNoted (after_endpoint n o).noted
+endpoint_noted : (n : Noted) (o : Option Endpoint) → IsNoted n
+    → ((key : Endpoint) → o ≡ Some key → (key.address < 2 ^ 32) × (key.port < 2 ^ 16))
+    → IsNoted (after_endpoint n o).noted
 endpoint_noted n (Some key) is small = let a = small key refl in targeted n key a.0 a.1 is
 endpoint_noted n None is small = worded n 7 is
 
@@ -333,7 +461,8 @@ lives_noted : (n : Noted) (b : Bool) → IsNoted n → IsNoted (looked_by n b).n
 lives_noted n true is = is
 lives_noted n false is = worded n 7 is
 
-looked_noted : (s : Settings) (place : Place) (x : NatValue) (n : Noted) (v : ℕ) → IsNoted n → Fits s v x → IsNoted (looked place x n).noted
+looked_noted : (s : Settings) (place : Place) (x : NatValue) (n : Noted) (v : ℕ) → IsNoted n → Fits s v x
+    → IsNoted (looked place x n).noted
 looked_noted s HearsTime x n v is fits = is
 looked_noted s FindsMapping x n v is fits = is
 looked_noted s UnbindsFreed x n v is fits = is
@@ -347,7 +476,8 @@ looked_noted s GivesBackLost x n v is fits = is
 looked_noted s FindsEndpoint (Dropped d) n v is fits = is
 looked_noted s FindsEndpoint (Free pool) n v is fits = is
 looked_noted s FindsEndpoint (Mapped es) n v is fits = is
-looked_noted s FindsEndpoint (Taken bs) n v is fits = endpoint_noted n (endpoint_of (dest_key n) bs) is (λ key h. small_endpoint s v (dest_key n) bs key h fits.1)
+looked_noted s FindsEndpoint (Taken bs) n v is fits =
+    endpoint_noted n (endpoint_of (dest_key n) bs) is (λ key h. small_endpoint s v (dest_key n) bs key h fits.1)
 looked_noted s AsksIfLives (Dropped d) n v is fits = is
 looked_noted s AsksIfLives (Free pool) n v is fits = is
 looked_noted s AsksIfLives (Mapped es) n v is fits = lives_noted n (lives n.target n.dest_port n.time es) is
@@ -368,7 +498,8 @@ word_fits : (frame : List ℕ) (place : ℕ) → AreBytes frame → word_at fram
 word_fits frame place bytes = let a = bytes place in let b = bytes (place + 1) in omega arith
 
 long_fits : (frame : List ℕ) (place : ℕ) → AreBytes frame → long_at frame place < 2 ^ 32
-long_fits frame place bytes = let a = word_fits frame place bytes in let b = word_fits frame (place + 2) bytes in omega arith
+long_fits frame place bytes =
+    let a = word_fits frame place bytes in let b = word_fits frame (place + 2) bytes in omega arith
 
 whole : (frame : List ℕ) → AreBytes frame → IsWhole (flow_of frame)
 whole frame bytes = record {
@@ -406,18 +537,24 @@ nothing_is_noted reason = record {
   target_port = omega arith;
 }
 
-begun_known : (s : Settings) (p : Packet) (seen : Result Flow NotFlow) → AreBytes p.bytes → viewed p.bytes p.original ≡ seen → Known s no_trail (Some (record { packet = p; place = local_at (begun s seen) }))
+begun_known : (s : Settings) (p : Packet) (seen : Result Flow NotFlow) → AreBytes p.bytes
+    → viewed p.bytes p.original ≡ seen
+    → Known s no_trail (Some (record { packet = p; place = local_at (begun s seen) }))
 begun_known s p (Err answer) bytes is =
-    known_on s no_trail (record { packet = p; place = local_at (begun s (Err answer)) }) (begun s (Err answer)) (nothing_is_noted (reason_of answer)) tt
+    known_on s no_trail (record { packet = p; place = local_at (begun s (Err answer)) }) (begun s (Err answer))
+    (nothing_is_noted (reason_of answer)) tt
 begun_known s p (Ok flow) bytes is =
     let same : flow_of p.bytes ≡ flow = (pass_from_ok (failures p.bytes p.original) (flow_of p.bytes) flow is).1 in
     let w : IsWhole flow = subst IsWhole same (whole p.bytes bytes) in
     by (class_of_flow s flow.source flow.dest) refl w
   where
-    by : (o : Option Class) → class_of_flow s flow.source flow.dest ≡ o → IsWhole flow → Known s no_trail (Some (record { packet = p; place = local_at (begun_as flow o) }))
-    by None q w = known_on s no_trail (record { packet = p; place = local_at (begun_as flow None) }) (begun_as flow None) (nothing_is_noted 9) tt
+    by : (o : Option Class) → class_of_flow s flow.source flow.dest ≡ o → IsWhole flow
+        → Known s no_trail (Some (record { packet = p; place = local_at (begun_as flow o) }))
+    by None q w = known_on s no_trail (record { packet = p; place = local_at (begun_as flow None) })
+        (begun_as flow None) (nothing_is_noted 9) tt
     by (Some class) q w =
-        known_on s no_trail (record { packet = p; place = local_at (begun_as flow (Some class)) }) (begun_as flow (Some class)) (begun_noted flow class w)
+        known_on s no_trail (record { packet = p; place = local_at (begun_as flow (Some class)) })
+        (begun_as flow (Some class)) (begun_noted flow class w)
         (record { flow = flow; seen = is; class = q; source = refl; dest_port = refl })
 
 same_self : (e : Endpoint) → same_endpoint e e ≡ true
@@ -428,9 +565,12 @@ same_self e =
 
 -- Each move
 
-made_known : (s : Settings) (is : AreSettings s) (packets : List Packet) (t : ℕ) (earlier : List (Step NatValue)) (taken taken_then : ℕ) (before after : Option Hand) (d : Effect NatValue)
-    → ((k : ℕ) (p : Packet) → slice_get packets k ≡ Some p → AreBytes p.bytes) → ((v : ℕ) → v < 2 + 2 * s.shards → Fits s v (value_after (nat_meaning s) earlier v)) → (r : Trail) → Known s r before
-    → Made s packets taken (value_after (nat_meaning s) earlier) before after d → Known s (trail_by earlier s (act_of t earlier taken_then d) r) after
+made_known : (s : Settings) (is : AreSettings s) (packets : List Packet) (t : ℕ) (earlier : List (Step NatValue))
+    (taken taken_then : ℕ) (before after : Option Hand) (d : Effect NatValue)
+    → ((k : ℕ) (p : Packet) → slice_get packets k ≡ Some p → AreBytes p.bytes)
+    → ((v : ℕ) → v < 2 + 2 * s.shards → Fits s v (value_after (nat_meaning s) earlier v)) → (r : Trail)
+    → Known s r before → Made s packets taken (value_after (nat_meaning s) earlier) before after d
+    → Known s (trail_by earlier s (act_of t earlier taken_then d) r) after
 made_known s is packets t earlier taken tn before after Takes bytes fits r k m =
     subst (Known s no_trail) (sym m.2) (begun_known s m.0 (viewed m.0.bytes m.0.original) (bytes taken m.0 m.1) refl)
 made_known s is packets t earlier taken tn before after (Touches v left) bytes fits r k m =
@@ -442,8 +582,11 @@ made_known s is packets t earlier taken tn before after (Touches v left) bytes f
     let below : v < 2 + 2 * s.shards = subst (λ (u : ℕ). u < 2 + 2 * s.shards) at (below_all s place n is.some) in
     let known : KnownAt s r h.packet place n = subst (Known s r) m.1 k in
     let next = touch_known s h.packet r place x n v m.2 (same_self n.source) known in
-    let on : Known s (after_touch (touched place x n).0 r) (goes_on h (touched place x n).1) = known_on s (after_touch (touched place x n).0 r) h (touched place x n).1 (touched_noted s place x n v (is_noted h.place) (fits v below)) next in
-    subst (λ (y : NatValue). Known s (after_touch y r) after) (sym m.3) (subst (Known s (after_touch (touched place x n).0 r)) (sym m.4) on)
+    let on : Known s (after_touch (touched place x n).0 r) (goes_on h (touched place x n).1) =
+    known_on s (after_touch (touched place x n).0 r) h (touched place x n).1
+    (touched_noted s place x n v (is_noted h.place) (fits v below)) next in
+    subst (λ (y : NatValue). Known s (after_touch y r) after) (sym m.3)
+    (subst (Known s (after_touch (touched place x n).0 r)) (sym m.4) on)
 made_known s is packets t earlier taken tn before after (Looks v) bytes fits r k m =
     let h : Hand = m.0 in
     let place : Place = place_numbered h.place.at in
@@ -453,37 +596,46 @@ made_known s is packets t earlier taken tn before after (Looks v) bytes fits r k
     let below : v < 2 + 2 * s.shards = subst (λ (u : ℕ). u < 2 + 2 * s.shards) at (below_all s place n is.some) in
     let known : KnownAt s r h.packet place n = subst (Known s r) m.1 k in
     let next = look_known s h.packet r place x n v m.2 known in
-    subst (Known s (after_look s h.packet x r)) (sym m.3) (known_on s (after_look s h.packet x r) h (looked place x n) (looked_noted s place x n v (is_noted h.place) (fits v below)) next)
+    subst (Known s (after_look s h.packet x r)) (sym m.3) (known_on s (after_look s h.packet x r) h (looked place x n)
+    (looked_noted s place x n v (is_noted h.place) (fits v below)) next)
 made_known s is packets t earlier taken tn before after (HearsClock a) bytes fits r k m =
     let h : Hand = m.0 in
     let place : Place = place_numbered h.place.at in
     let n : Noted = noted h.place in
     let known : KnownAt s r h.packet place n = subst (Known s r) m.1 k in
-    subst (Known s (after_clock s h.packet a r)) (sym m.3) (known_on s (after_clock s h.packet a r) h (told place a n) (told_noted place a n (is_noted h.place)) (clock_known s h.packet r place a n m.2 known))
+    subst (Known s (after_clock s h.packet a r)) (sym m.3) (known_on s (after_clock s h.packet a r) h (told place a n)
+    (told_noted place a n (is_noted h.place)) (clock_known s h.packet r place a n m.2 known))
 made_known s is packets t earlier taken tn before after (HearsDraw a) bytes fits r k m =
     let h : Hand = m.0 in
     let place : Place = place_numbered h.place.at in
     let n : Noted = noted h.place in
     let known : KnownAt s r h.packet place n = subst (Known s r) m.1 k in
-    subst (Known s r) (sym m.3) (known_on s r h (told place a n) (told_noted place a n (is_noted h.place)) (draw_known s h.packet r place a n m.2 known))
+    subst (Known s r) (sym m.3) (known_on s r h (told place a n) (told_noted place a n (is_noted h.place))
+    (draw_known s h.packet r place a n m.2 known))
 made_known s is packets t earlier taken tn before after (Sends q) bytes fits r k m =
     subst (Known s r) (sym m.4) (known_on s r m.0 (goes Ends (noted m.0.place)) (is_noted m.0.place) tt)
 made_known s is packets t earlier taken tn before after EndsIt bytes fits r k m = subst (Known s r) (sym m) tt
 
-run_known : (s : Settings) (threads : ℕ) (inputs : ℕ → List Packet) (steps : List (Step NatValue)) → AreSettings s → HaveBytes inputs → IsHistory (nat_meaning s) inputs threads steps
-    → (t : ℕ) → Known s (trail_of s t steps) (thread_after steps t).hand
+run_known : (s : Settings) (threads : ℕ) (inputs : ℕ → List Packet) (steps : List (Step NatValue)) → AreSettings s
+    → HaveBytes inputs → IsHistory (nat_meaning s) inputs threads steps → (t : ℕ)
+    → Known s (trail_of s t steps) (thread_after steps t).hand
 run_known s threads inputs [] is bytes h t = tt
 run_known s threads inputs (x ∷ earlier) is bytes h t =
-    let m = made s (inputs x.thread) (value_after (nat_meaning s) earlier) (thread_after earlier x.thread).taken x.after h.0.2 (thread_after earlier x.thread).hand h.0.1 h.0.3 in
+    let m = made s (inputs x.thread) (value_after (nat_meaning s) earlier) (thread_after earlier x.thread).taken x.after
+    h.0.2 (thread_after earlier x.thread).hand h.0.1 h.0.3 in
     let fits = values_fit (nat_meaning s) (Fits s) (nat_lawful s is) inputs threads earlier h.1 in
-    let new = made_known s is (inputs x.thread) x.thread earlier (thread_after earlier x.thread).taken x.after.taken (thread_after earlier x.thread).hand x.after.hand h.0.2 (bytes x.thread) fits
-    (trail_of s x.thread earlier) (run_known s threads inputs earlier is bytes h.1 x.thread) m in
+    let new = made_known s is (inputs x.thread) x.thread earlier (thread_after earlier x.thread).taken x.after.taken
+    (thread_after earlier x.thread).hand x.after.hand h.0.2 (bytes x.thread) fits (trail_of s x.thread earlier)
+    (run_known s threads inputs earlier is bytes h.1 x.thread) m in
     by (is_or x.thread t) new (run_known s threads inputs earlier is bytes h.1 t)
   where
-    by : (x.thread ≡ t) ⊎ (x.thread ≢ t) → Known s (trail_by earlier s (act_of x.thread earlier x.after.taken h.0.2) (trail_of s x.thread earlier)) x.after.hand
-        → Known s (trail_of s t earlier) (thread_after earlier t).hand → Known s (trail_of s t (x ∷ earlier)) (thread_after (x ∷ earlier) t).hand
+    by : (x.thread ≡ t) ⊎ (x.thread ≢ t)
+        → Known s (trail_by earlier s (act_of x.thread earlier x.after.taken h.0.2) (trail_of s x.thread earlier))
+        x.after.hand → Known s (trail_of s t earlier) (thread_after earlier t).hand
+        → Known s (trail_of s t (x ∷ earlier)) (thread_after (x ∷ earlier) t).hand
     by (inl e) new old =
-        subst (λ (u : ℕ). Known s (trail_of s u (x ∷ earlier)) (thread_after (x ∷ earlier) u).hand) e (rw (is_eq x.thread x.thread refl, h.0.4) new)
+        subst (λ (u : ℕ). Known s (trail_of s u (x ∷ earlier)) (thread_after (x ∷ earlier) u).hand) e
+        (rw (is_eq x.thread x.thread refl, h.0.4) new)
     by (inr e) new old = rw (not_eq x.thread t e) old
 
 -- What goes out
@@ -505,18 +657,29 @@ at_send s CountsDrop n e = absurd (cc)
 at_send s SendsOut n e = refl
 at_send s Ends n e = absurd (cc)
 
-translated : (s : Settings) (r : Trail) (bytes : List ℕ) (flow : Flow) (n : Noted) (c : Class) → n.source ≡ source_of flow → n.dest_port ≡ flow.dest_port → n.target.protocol ≡ n.source.protocol
-    → IfOutward c (WasMapped r.forward n.source n.port) → IfInward c (Lived r n.target n.dest_port) → IsTranslated s bytes flow r (frame_out s c bytes flow n) c
-translated s r bytes flow n Outbound source dest tp m l = (n.port, subst (λ (k : Endpoint). WasMapped r.forward k n.port) source m, refl)
+translated : (s : Settings) (r : Trail) (bytes : List ℕ) (flow : Flow) (n : Noted) (c : Class)
+    → n.source ≡ source_of flow → n.dest_port ≡ flow.dest_port → n.target.protocol ≡ n.source.protocol
+    → IfOutward c (WasMapped r.forward n.source n.port) → IfInward c (Lived r n.target n.dest_port)
+    → IsTranslated s bytes flow r (frame_out s c bytes flow n) c
+translated s r bytes flow n Outbound source dest tp m l =
+    (n.port, subst (λ (k : Endpoint). WasMapped r.forward k n.port) source m, refl)
 translated s r bytes flow n Inbound source dest tp m l =
     (n.target, tp ∙ ap (λ (k : Endpoint). k.protocol) source, subst (λ (d : ℕ). Lived r n.target d) dest l, refl)
-translated s r bytes flow n Hairpin source dest tp m l =
-    (n.port, n.target, subst (λ (k : Endpoint). WasMapped r.forward k n.port) source m, tp ∙ ap (λ (k : Endpoint). k.protocol) source, subst (λ (d : ℕ). Lived r n.target d) dest l, refl)
+translated s r bytes flow n Hairpin source dest tp m l = (
+  n.port,
+  n.target,
+  subst (λ (k : Endpoint). WasMapped r.forward k n.port) source m,
+  tp ∙ ap (λ (k : Endpoint). k.protocol) source,
+  subst (λ (d : ℕ). Lived r n.target d) dest l,
+  refl,
+)
 
-send_translates : (s : Settings) (r : Trail) (h : Hand) → comes_to s h Emit → Known s r (Some h) → IsTranslationOf s r ((nat_meaning s).out h.packet h.place) (Some h.packet)
+send_translates : (s : Settings) (r : Trail) (h : Hand) → comes_to s h Emit → Known s r (Some h)
+    → IsTranslationOf s r ((nat_meaning s).out h.packet h.place) (Some h.packet)
 send_translates s r h at k =
     let n : Noted = noted h.place in
-    let known : KnownAt s r h.packet SendsOut n = subst (λ (q : Place). KnownAt s r h.packet q n) (at_send s (place_numbered h.place.at) n at) k in
+    let known : KnownAt s r h.packet SendsOut n =
+    subst (λ (q : Place). KnownAt s r h.packet q n) (at_send s (place_numbered h.place.at) n at) k in
     let base : IsBase s h.packet n = known.0 in
     let t : IsTranslated s h.packet.bytes base.flow r (frame_out s n.class h.packet.bytes base.flow n) n.class =
     translated s r h.packet.bytes base.flow n n.class base.source base.dest_port refl known.1 known.2 in
@@ -525,20 +688,25 @@ send_translates s r h at k =
 pub emissions_translate : EmissionsTranslate
 emissions_translate s threads inputs x earlier o is bytes h sent =
     let old = thread_after earlier x.thread in
-    let m = made s (inputs x.thread) (value_after (nat_meaning s) earlier) old.taken x.after h.0.2 old.hand h.0.1 h.0.3 in
-    let held = move_holds (nat_meaning s) (inputs x.thread) (value_after (nat_meaning s) earlier) old.taken x.after h.0.2 old.hand h.0.1 (run_holds (nat_meaning s) threads inputs earlier h.1 x.thread) h.0.3 in
+    let m =
+    made s (inputs x.thread) (value_after (nat_meaning s) earlier) old.taken x.after h.0.2 old.hand h.0.1 h.0.3 in
+    let held = move_holds (nat_meaning s) (inputs x.thread) (value_after (nat_meaning s) earlier) old.taken x.after
+    h.0.2 old.hand h.0.1 (run_holds (nat_meaning s) threads inputs earlier h.1 x.thread) h.0.3 in
     by h.0.2 (sym h.0.4 ∙ sent) m (run_known s threads inputs earlier is bytes h.1 x.thread) held
   where
     r : Trail
     r = trail_of s x.thread earlier
 
-    of_parts : (q : Packet) → act_of x.thread earlier x.after.taken (Sends q) ≡ Emitted o → (x.after.taken ≡ o.input) × (q ≡ o.packet)
+    of_parts : (q : Packet) → act_of x.thread earlier x.after.taken (Sends q) ≡ Emitted o
+        → (x.after.taken ≡ o.input) × (q ≡ o.packet)
     of_parts q e =
         let same : emission_of x.thread (sent_of earlier) x.after.taken q ≡ o = cc in
         (ap (λ (y : Emission). y.input) same, ap (λ (y : Emission). y.packet) same)
 
-    by : (d : Effect NatValue) → act_of x.thread earlier x.after.taken d ≡ Emitted o → Made s (inputs x.thread) (thread_after earlier x.thread).taken (value_after (nat_meaning s) earlier) (thread_after earlier x.thread).hand x.after.hand d
-        → Known s r (thread_after earlier x.thread).hand → IsHeld (inputs x.thread) x.after.taken x.after.hand
+    by : (d : Effect NatValue) → act_of x.thread earlier x.after.taken d ≡ Emitted o
+        → Made s (inputs x.thread) (thread_after earlier x.thread).taken (value_after (nat_meaning s) earlier)
+        (thread_after earlier x.thread).hand x.after.hand d → Known s r (thread_after earlier x.thread).hand
+        → IsHeld (inputs x.thread) x.after.taken x.after.hand
         → (1 ≤ o.input) × IsTranslationOf s r o.packet.bytes (slice_get (inputs x.thread) (o.input - 1))
     by Takes e m k held = absurd (cc)
     by (Touches v left) e m k held = absurd (cc)
@@ -549,9 +717,15 @@ emissions_translate s threads inputs x earlier o is bytes h sent =
     by (Sends q) e m k held =
         let parts = of_parts q e in
         let known : Known s r (Some m.0) = subst (Known s r) m.1 k in
-        let a : IsTranslationOf s r ((nat_meaning s).out m.0.packet m.0.place) (Some m.0.packet) = send_translates s r m.0 m.2 known in
-        let c : (nat_meaning s).out m.0.packet m.0.place ≡ o.packet.bytes = ap (λ (y : Packet). y.bytes) (sym m.3 ∙ parts.1) in
-        let b : IsTranslationOf s r o.packet.bytes (Some m.0.packet) = subst (λ (y : List ℕ). IsTranslationOf s r y (Some m.0.packet)) c a in
-        let taken : IsHeld (inputs x.thread) x.after.taken (Some (record { packet = m.0.packet; place = local_at (goes Ends (noted m.0.place)) })) = subst (IsHeld (inputs x.thread) x.after.taken) m.4 held in
-        let input : slice_get (inputs x.thread) (o.input - 1) ≡ Some m.0.packet = subst (λ (n : ℕ). slice_get (inputs x.thread) (n - 1) ≡ Some m.0.packet) parts.0 taken.1 in
+        let a : IsTranslationOf s r ((nat_meaning s).out m.0.packet m.0.place) (Some m.0.packet) =
+        send_translates s r m.0 m.2 known in
+        let c : (nat_meaning s).out m.0.packet m.0.place ≡ o.packet.bytes =
+        ap (λ (y : Packet). y.bytes) (sym m.3 ∙ parts.1) in
+        let b : IsTranslationOf s r o.packet.bytes (Some m.0.packet) =
+        subst (λ (y : List ℕ). IsTranslationOf s r y (Some m.0.packet)) c a in
+        let taken : IsHeld (inputs x.thread) x.after.taken
+        (Some (record { packet = m.0.packet; place = local_at (goes Ends (noted m.0.place)) })) =
+        subst (IsHeld (inputs x.thread) x.after.taken) m.4 held in
+        let input : slice_get (inputs x.thread) (o.input - 1) ≡ Some m.0.packet =
+        subst (λ (n : ℕ). slice_get (inputs x.thread) (n - 1) ≡ Some m.0.packet) parts.0 taken.1 in
         (subst (λ (n : ℕ). 1 ≤ n) parts.0 taken.0, subst (IsTranslationOf s r o.packet.bytes) (sym input) b)

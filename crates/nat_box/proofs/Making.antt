@@ -5,7 +5,8 @@ use Rattle.plain_text.specs.declared.packet.Packet.{Packet}
 use Rattle.packet_headers.specs.View.{viewed}
 use Rattle.plain_machine.specs.declared.local.Move.{Move}
 use Rattle.plain_machine.specs.declared.local.Move.TheVariants.{Access, Read, Clock, Draw, Emit, End}
-use Rattle.plain_machine.specs.Machine.{Hand, Thread, Effect, Takes, Touches, Looks, HearsClock, HearsDraw, Sends, Ends as EndsIt, Moves, holding, sent_packet, take_move, hand_move, held_move}
+use Rattle.plain_machine.specs.Machine.{Hand, Thread, Effect, Takes, Touches, Looks, HearsClock, HearsDraw, Sends}
+use Rattle.plain_machine.specs.Machine.{Ends as EndsIt, Moves, holding, sent_packet, take_move, hand_move, held_move}
 use Rattle.nat_box.specs.Places.{place_numbered, noted}
 use Rattle.nat_box.specs.declared.place.Goes.{Goes}
 use Rattle.nat_box.specs.Nat.{Settings, goes, next_move, begun, touched, looked, told, local_at, nat_meaning}
@@ -20,32 +21,48 @@ comes_to s h move = next_move s (place_numbered h.place.at) (noted h.place) ≡ 
 
 abbrev pub Made : Settings → List Packet → ℕ → (ℕ → NatValue) → Option Hand → Option Hand → Effect NatValue → Type 0
 Made s packets taken value before after Takes =
-    (p : Packet) × (slice_get packets taken ≡ Some p) × (after ≡ Some (record { packet = p; place = local_at (begun s (viewed p.bytes p.original)) }))
+    (p : Packet)
+    × (slice_get packets taken ≡ Some p)
+    × (after ≡ Some (record { packet = p; place = local_at (begun s (viewed p.bytes p.original)) }))
 Made s packets taken value before after (Touches v left) =
     (h : Hand) × (before ≡ Some h) × comes_to s h (Access v)
-    × (left ≡ (touched (place_numbered h.place.at) (value v) (noted h.place)).0) × (after ≡ goes_on h (touched (place_numbered h.place.at) (value v) (noted h.place)).1)
+    × (left ≡ (touched (place_numbered h.place.at) (value v) (noted h.place)).0)
+    × (after ≡ goes_on h (touched (place_numbered h.place.at) (value v) (noted h.place)).1)
 Made s packets taken value before after (Looks v) =
-    (h : Hand) × (before ≡ Some h) × comes_to s h (Read v) × (after ≡ goes_on h (looked (place_numbered h.place.at) (value v) (noted h.place)))
+    (h : Hand) × (before ≡ Some h) × comes_to s h (Read v)
+    × (after ≡ goes_on h (looked (place_numbered h.place.at) (value v) (noted h.place)))
 Made s packets taken value before after (HearsClock a) =
-    (h : Hand) × (before ≡ Some h) × comes_to s h Clock × (after ≡ goes_on h (told (place_numbered h.place.at) a (noted h.place)))
+    (h : Hand) × (before ≡ Some h) × comes_to s h Clock
+    × (after ≡ goes_on h (told (place_numbered h.place.at) a (noted h.place)))
 Made s packets taken value before after (HearsDraw a) =
-    (h : Hand) × (before ≡ Some h) × comes_to s h Draw × (after ≡ goes_on h (told (place_numbered h.place.at) a (noted h.place)))
+    (h : Hand) × (before ≡ Some h) × comes_to s h Draw
+    × (after ≡ goes_on h (told (place_numbered h.place.at) a (noted h.place)))
 Made s packets taken value before after (Sends p) =
-    (h : Hand) × (before ≡ Some h) × comes_to s h Emit × (p ≡ sent_packet (nat_meaning s) h) × (after ≡ goes_on h (goes Ends (noted h.place)))
+    (h : Hand) × (before ≡ Some h) × comes_to s h Emit × (p ≡ sent_packet (nat_meaning s) h)
+    × (after ≡ goes_on h (goes Ends (noted h.place)))
 Made s packets taken value before after EndsIt = after ≡ None
 
-module _ (s : Settings) (packets : List Packet) (value : ℕ → NatValue) (taken : ℕ) (after : Thread) (d : Effect NatValue) where
-  along : (before : Option Hand) (th : Thread) (u : Effect NatValue) → th ≡ after → u ≡ d → Made s packets taken value before th.hand u → Made s packets taken value before after.hand d
-  along before th u q r h = subst (λ (x : Effect NatValue). Made s packets taken value before after.hand x) r (subst (λ (x : Thread). Made s packets taken value before x.hand u) q h)
+module _ (s : Settings) (packets : List Packet) (value : ℕ → NatValue) (taken : ℕ) (after : Thread)
+    (d : Effect NatValue) where
+  along : (before : Option Hand) (th : Thread) (u : Effect NatValue) → th ≡ after → u ≡ d
+      → Made s packets taken value before th.hand u → Made s packets taken value before after.hand d
+  along before th u q r h = subst (λ (x : Effect NatValue). Made s packets taken value before after.hand x) r
+      (subst (λ (x : Thread). Made s packets taken value before x.hand u) q h)
 
-  of_hand : (h : Hand) (a : Option ℕ) (w : Move) → next_move s (place_numbered h.place.at) (noted h.place) ≡ w → hand_move (nat_meaning s) value taken h a w ≡ Moves after d → Made s packets taken value (Some h) after.hand d
+  of_hand : (h : Hand) (a : Option ℕ) (w : Move) → next_move s (place_numbered h.place.at) (noted h.place) ≡ w
+      → hand_move (nat_meaning s) value taken h a w ≡ Moves after d → Made s packets taken value (Some h) after.hand d
   of_hand h None (Access v) w e =
-      along (Some h) (holding taken h.packet ((nat_meaning s).touch v (value v) h.place).1) (Touches v ((nat_meaning s).touch v (value v) h.place).0) (cc) (cc) (h, refl, w, refl, refl)
-  of_hand h None (Read v) w e = along (Some h) (holding taken h.packet ((nat_meaning s).look v (value v) h.place)) (Looks v) (cc) (cc) (h, refl, w, refl)
-  of_hand h (Some x) Clock w e = along (Some h) (holding taken h.packet ((nat_meaning s).told x h.place)) (HearsClock x) (cc) (cc) (h, refl, w, refl)
-  of_hand h (Some x) Draw w e = along (Some h) (holding taken h.packet ((nat_meaning s).told x h.place)) (HearsDraw x) (cc) (cc) (h, refl, w, refl)
+      along (Some h) (holding taken h.packet ((nat_meaning s).touch v (value v) h.place).1)
+      (Touches v ((nat_meaning s).touch v (value v) h.place).0) (cc) (cc) (h, refl, w, refl, refl)
+  of_hand h None (Read v) w e = along (Some h) (holding taken h.packet ((nat_meaning s).look v (value v) h.place))
+      (Looks v) (cc) (cc) (h, refl, w, refl)
+  of_hand h (Some x) Clock w e = along (Some h) (holding taken h.packet ((nat_meaning s).told x h.place)) (HearsClock x)
+      (cc) (cc) (h, refl, w, refl)
+  of_hand h (Some x) Draw w e = along (Some h) (holding taken h.packet ((nat_meaning s).told x h.place)) (HearsDraw x)
+      (cc) (cc) (h, refl, w, refl)
   of_hand h None Emit w e =
-      along (Some h) (holding taken h.packet ((nat_meaning s).emitted h.place)) (Sends (sent_packet (nat_meaning s) h)) (cc) (cc) (h, refl, w, refl, refl)
+      along (Some h) (holding taken h.packet ((nat_meaning s).emitted h.place)) (Sends (sent_packet (nat_meaning s) h))
+      (cc) (cc) (h, refl, w, refl, refl)
   of_hand h None End w e = along (Some h) (record { taken = taken; hand = None }) EndsIt (cc) (cc) refl
   of_hand h (Some x) (Access v) w e = absurd (cc)
   of_hand h (Some x) (Read v) w e = absurd (cc)
@@ -54,11 +71,14 @@ module _ (s : Settings) (packets : List Packet) (value : ℕ → NatValue) (take
   of_hand h None Clock w e = absurd (cc)
   of_hand h None Draw w e = absurd (cc)
 
-  of_none : (a : Option ℕ) (i : Option Packet) → slice_get packets taken ≡ i → take_move (nat_meaning s) taken a i ≡ Moves after d → Made s packets taken value None after.hand d
+  of_none : (a : Option ℕ) (i : Option Packet) → slice_get packets taken ≡ i
+      → take_move (nat_meaning s) taken a i ≡ Moves after d → Made s packets taken value None after.hand d
   of_none (Some a) i is e = absurd (cc)
   of_none None None is e = absurd (cc)
-  of_none None (Some p) is e = along None (holding (taken + 1) p ((nat_meaning s).begin p)) Takes (cc) (cc) (p, is, refl)
+  of_none None (Some p) is e =
+      along None (holding (taken + 1) p ((nat_meaning s).begin p)) Takes (cc) (cc) (p, is, refl)
 
-  pub made : (hand : Option Hand) (a : Option ℕ) → held_move (nat_meaning s) packets value taken a hand ≡ Moves after d → Made s packets taken value hand after.hand d
+  pub made : (hand : Option Hand) (a : Option ℕ) → held_move (nat_meaning s) packets value taken a hand ≡ Moves after d
+      → Made s packets taken value hand after.hand d
   made None a e = of_none a (slice_get packets taken) refl e
   made (Some h) a e = of_hand h a (next_move s (place_numbered h.place.at) (noted h.place)) refl e

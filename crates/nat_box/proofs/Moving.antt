@@ -8,17 +8,22 @@ use Rattle.packet_headers.specs.View.{viewed}
 use Rattle.std.specs.Prelude.{Result, Ok, Err}
 use Rattle.plain_machine.specs.declared.local.Move.{Move}
 use Rattle.plain_machine.specs.declared.local.Move.TheVariants.{Access, Read, Clock, Draw, Emit, End}
-use Rattle.plain_machine.specs.Machine.{Hand, Thread, Effect, Takes, Touches, Looks, HearsClock, HearsDraw, Sends, Ends as EndsIt, Moves, holding, sent_packet, take_move, hand_move, held_move}
+use Rattle.plain_machine.specs.Machine.{Hand, Thread, Effect, Takes, Touches, Looks, HearsClock, HearsDraw, Sends}
+use Rattle.plain_machine.specs.Machine.{Ends as EndsIt, Moves, holding, sent_packet, take_move, hand_move, held_move}
 use Rattle.nat_tables.specs.Forwards.{lives}
 use Rattle.nat_tables.specs.Reverses.{endpoint_of}
 use Rattle.nat_box.specs.Places.{place_numbered, noted, dest_key}
 use Rattle.nat_box.specs.declared.place.Goes.{Goes}
-use Rattle.nat_box.specs.Nat.{Settings, goes, next_move, class_of_flow, begun_as, begun, touched, after_endpoint, looked_by, looked, after_time, told, local_at, nat_meaning}
+use Rattle.nat_box.specs.Nat.{Settings, goes, next_move, class_of_flow, begun_as, begun, touched, after_endpoint}
+use Rattle.nat_box.specs.Nat.{looked_by, looked, after_time, told, local_at, nat_meaning}
 use Rattle.nat_box.specs.Noting.{place_again}
 use Rattle.nat_box.proofs.Effects.{HoldsNone, Touches as IsTouching}
 use Rattle.nat_tables.specs.declared.entries.Endpoint.{Endpoint}
 use Rattle.nat_box.specs.declared.place.Place.{Place}
-use Rattle.nat_box.specs.declared.place.Place.TheVariants.{HearsTime, FindsMapping, UnbindsFreed, GivesBackFreed, DrawsWord, ReservesPort, BindsPort, FindsOrBinds, UnbindsLost, GivesBackLost, FindsEndpoint, AsksIfLives, CountsDrop, SendsOut, Ends}
+use Rattle.nat_box.specs.declared.place.Place.TheVariants.{HearsTime, FindsMapping, UnbindsFreed, GivesBackFreed}
+use Rattle.nat_box.specs.declared.place.Place.TheVariants.{DrawsWord, ReservesPort, BindsPort, FindsOrBinds}
+use Rattle.nat_box.specs.declared.place.Place.TheVariants.{UnbindsLost, GivesBackLost, FindsEndpoint, AsksIfLives}
+use Rattle.nat_box.specs.declared.place.Place.TheVariants.{CountsDrop, SendsOut, Ends}
 use Rattle.nat_box.specs.declared.place.Class.{Class}
 use Rattle.nat_box.specs.declared.place.Class.TheVariants.{Outbound, Hairpin, Inbound}
 use Rattle.nat_box.specs.declared.place.Noted.{Noted}
@@ -46,7 +51,8 @@ time_none n Outbound = tt
 time_none n Hairpin = tt
 time_none n Inbound = tt
 
-clock_none : (s : Settings) (p : Place) (n : Noted) (a : ℕ) → next_move s p n ≡ Clock → HoldsNone p × HoldsNone (told p a n).place
+clock_none : (s : Settings) (p : Place) (n : Noted) (a : ℕ) → next_move s p n ≡ Clock
+    → HoldsNone p × HoldsNone (told p a n).place
 clock_none s HearsTime n a e = (tt, time_none (record n { time = a }) n.class)
 clock_none s FindsMapping n a e = absurd (cc)
 clock_none s UnbindsFreed n a e = absurd (cc)
@@ -63,7 +69,8 @@ clock_none s CountsDrop n a e = absurd (cc)
 clock_none s SendsOut n a e = absurd (cc)
 clock_none s Ends n a e = absurd (cc)
 
-draw_none : (s : Settings) (p : Place) (n : Noted) (a : ℕ) → next_move s p n ≡ Draw → HoldsNone p × HoldsNone (told p a n).place
+draw_none : (s : Settings) (p : Place) (n : Noted) (a : ℕ) → next_move s p n ≡ Draw
+    → HoldsNone p × HoldsNone (told p a n).place
 draw_none s HearsTime n a e = absurd (cc)
 draw_none s FindsMapping n a e = absurd (cc)
 draw_none s UnbindsFreed n a e = absurd (cc)
@@ -139,7 +146,8 @@ lives_none : (n : Noted) (b : Bool) → HoldsNone (looked_by n b).place
 lives_none n true = tt
 lives_none n false = tt
 
-look_none : (s : Settings) (p : Place) (x : NatValue) (n : Noted) (v : ℕ) → next_move s p n ≡ Read v → HoldsNone p × HoldsNone (looked p x n).place
+look_none : (s : Settings) (p : Place) (x : NatValue) (n : Noted) (v : ℕ) → next_move s p n ≡ Read v
+    → HoldsNone p × HoldsNone (looked p x n).place
 look_none s HearsTime x n v e = absurd (cc)
 look_none s FindsMapping x n v e = absurd (cc)
 look_none s UnbindsFreed x n v e = absurd (cc)
@@ -167,7 +175,9 @@ abbrev pub Outcome : Settings → (ℕ → NatValue) → Option Hand → Option 
 Outcome s value before after (Touches v left) =
     (h : Hand) × (before ≡ Some h) × (next_move s (place_numbered h.place.at) (noted h.place) ≡ Access v)
     × (left ≡ (touched (place_numbered h.place.at) (value v) (noted h.place)).0)
-    × (after ≡ Some (record { packet = h.packet; place = local_at (touched (place_numbered h.place.at) (value v) (noted h.place)).1 }))
+    × (after
+    ≡ Some
+    (record { packet = h.packet; place = local_at (touched (place_numbered h.place.at) (value v) (noted h.place)).1 }))
 Outcome s value before after Takes = HandNone before × HandNone after
 Outcome s value before after (Looks v) = HandNone before × HandNone after
 Outcome s value before after (HearsClock a) = HandNone before × HandNone after
@@ -175,26 +185,37 @@ Outcome s value before after (HearsDraw a) = HandNone before × HandNone after
 Outcome s value before after (Sends p) = HandNone before × HandNone after
 Outcome s value before after EndsIt = HandNone before × HandNone after
 
-module _ (s : Settings) (packets : List Packet) (value : ℕ → NatValue) (taken : ℕ) (after : Thread) (d : Effect NatValue) where
-  along : (before : Option Hand) (th : Thread) (u : Effect NatValue) → th ≡ after → u ≡ d → Outcome s value before th.hand u → Outcome s value before after.hand d
-  along before th u q r h = subst (λ (x : Effect NatValue). Outcome s value before after.hand x) r (subst (λ (x : Thread). Outcome s value before x.hand u) q h)
+module _ (s : Settings) (packets : List Packet) (value : ℕ → NatValue) (taken : ℕ) (after : Thread)
+    (d : Effect NatValue) where
+  along : (before : Option Hand) (th : Thread) (u : Effect NatValue) → th ≡ after → u ≡ d
+      → Outcome s value before th.hand u → Outcome s value before after.hand d
+  along before th u q r h = subst (λ (x : Effect NatValue). Outcome s value before after.hand x) r
+      (subst (λ (x : Thread). Outcome s value before x.hand u) q h)
 
-  of_hand : (h : Hand) (a : Option ℕ) (w : Move) → next_move s (place_numbered h.place.at) (noted h.place) ≡ w → hand_move (nat_meaning s) value taken h a w ≡ Moves after d → Outcome s value (Some h) after.hand d
+  of_hand : (h : Hand) (a : Option ℕ) (w : Move) → next_move s (place_numbered h.place.at) (noted h.place) ≡ w
+      → hand_move (nat_meaning s) value taken h a w ≡ Moves after d → Outcome s value (Some h) after.hand d
   of_hand h None (Access v) w e =
-      along (Some h) (holding taken h.packet ((nat_meaning s).touch v (value v) h.place).1) (Touches v ((nat_meaning s).touch v (value v) h.place).0) (cc) (cc) (h, refl, w, refl, refl)
+      along (Some h) (holding taken h.packet ((nat_meaning s).touch v (value v) h.place).1)
+      (Touches v ((nat_meaning s).touch v (value v) h.place).0) (cc) (cc) (h, refl, w, refl, refl)
   of_hand h None (Read v) w e =
       let g : Goes = looked (place_numbered h.place.at) (value v) (noted h.place) in
       let n = look_none s (place_numbered h.place.at) (value v) (noted h.place) v w in
-      along (Some h) (holding taken h.packet ((nat_meaning s).look v (value v) h.place)) (Looks v) (cc) (cc) (n.0, none_at h.packet g n.1)
+      along (Some h) (holding taken h.packet ((nat_meaning s).look v (value v) h.place)) (Looks v) (cc) (cc)
+      (n.0, none_at h.packet g n.1)
   of_hand h (Some x) Clock w e =
       let n = clock_none s (place_numbered h.place.at) (noted h.place) x w in
-      along (Some h) (holding taken h.packet ((nat_meaning s).told x h.place)) (HearsClock x) (cc) (cc) (n.0, none_at h.packet (told (place_numbered h.place.at) x (noted h.place)) n.1)
+      along (Some h) (holding taken h.packet ((nat_meaning s).told x h.place)) (HearsClock x) (cc) (cc)
+      (n.0, none_at h.packet (told (place_numbered h.place.at) x (noted h.place)) n.1)
   of_hand h (Some x) Draw w e =
       let n = draw_none s (place_numbered h.place.at) (noted h.place) x w in
-      along (Some h) (holding taken h.packet ((nat_meaning s).told x h.place)) (HearsDraw x) (cc) (cc) (n.0, none_at h.packet (told (place_numbered h.place.at) x (noted h.place)) n.1)
+      along (Some h) (holding taken h.packet ((nat_meaning s).told x h.place)) (HearsDraw x) (cc) (cc)
+      (n.0, none_at h.packet (told (place_numbered h.place.at) x (noted h.place)) n.1)
   of_hand h None Emit w e =
-      along (Some h) (holding taken h.packet ((nat_meaning s).emitted h.place)) (Sends (sent_packet (nat_meaning s) h)) (cc) (cc) (emit_none s (place_numbered h.place.at) (noted h.place) w, none_at h.packet (goes Ends (noted h.place)) tt)
-  of_hand h None End w e = along (Some h) (record { taken = taken; hand = None }) EndsIt (cc) (cc) (end_none s (place_numbered h.place.at) (noted h.place) w, tt)
+      along (Some h) (holding taken h.packet ((nat_meaning s).emitted h.place)) (Sends (sent_packet (nat_meaning s) h))
+      (cc) (cc)
+      (emit_none s (place_numbered h.place.at) (noted h.place) w, none_at h.packet (goes Ends (noted h.place)) tt)
+  of_hand h None End w e = along (Some h) (record { taken = taken; hand = None }) EndsIt (cc) (cc)
+      (end_none s (place_numbered h.place.at) (noted h.place) w, tt)
   of_hand h (Some x) (Access v) w e = absurd (cc)
   of_hand h (Some x) (Read v) w e = absurd (cc)
   of_hand h (Some x) Emit w e = absurd (cc)
@@ -202,12 +223,15 @@ module _ (s : Settings) (packets : List Packet) (value : ℕ → NatValue) (take
   of_hand h None Clock w e = absurd (cc)
   of_hand h None Draw w e = absurd (cc)
 
-  of_none : (a : Option ℕ) (i : Option Packet) → take_move (nat_meaning s) taken a i ≡ Moves after d → Outcome s value None after.hand d
+  of_none : (a : Option ℕ) (i : Option Packet) → take_move (nat_meaning s) taken a i ≡ Moves after d
+      → Outcome s value None after.hand d
   of_none (Some a) i e = absurd (cc)
   of_none None None e = absurd (cc)
   of_none None (Some p) e =
-      along None (holding (taken + 1) p ((nat_meaning s).begin p)) Takes (cc) (cc) (tt, none_at p (begun s (viewed p.bytes p.original)) (begun_none s (viewed p.bytes p.original)))
+      along None (holding (taken + 1) p ((nat_meaning s).begin p)) Takes (cc) (cc)
+      (tt, none_at p (begun s (viewed p.bytes p.original)) (begun_none s (viewed p.bytes p.original)))
 
-  pub outcome : (hand : Option Hand) (a : Option ℕ) → held_move (nat_meaning s) packets value taken a hand ≡ Moves after d → Outcome s value hand after.hand d
+  pub outcome : (hand : Option Hand) (a : Option ℕ)
+      → held_move (nat_meaning s) packets value taken a hand ≡ Moves after d → Outcome s value hand after.hand d
   outcome None a e = of_none a (slice_get packets taken) e
   outcome (Some h) a e = of_hand h a (next_move s (place_numbered h.place.at) (noted h.place)) refl e

@@ -1,5 +1,6 @@
 -- Each port stands in its one place after each move of each run.
-use Rattle.std.proofs.Common.{◌≡◌, ◌≢◌, ℕ, ◌+◌, ◌*◌, ◌<◌, ◌≤◌, Bool, true, false, List, [], ◌∷◌, refl, sym, ap, ◌∙◌, subst, arith, Option, Some, None}
+use Rattle.std.proofs.Common.{◌≡◌, ◌≢◌, ℕ, ◌+◌, ◌*◌, ◌<◌, ◌≤◌, Bool, true, false, List, [], ◌∷◌, refl, sym, ap, ◌∙◌}
+use Rattle.std.proofs.Common.{subst, arith, Option, Some, None}
 use Rattle.std.specs.Prelude.{nat_eq, nat_lt, cond, ◌==◌, ◌&&◌}
 use Rattle.std.proofs.lemmas.Bool.{eqb-true}
 use Rattle.std.proofs.lemmas.Bool.Decides.{nat_tests}
@@ -16,7 +17,10 @@ use Rattle.nat_tables.specs.Keys.{same_endpoint, same_port, port_key}
 use Rattle.nat_tables.proofs.Counting.{total_below}
 use Rattle.nat_tables.proofs.Pooling.{free_full}
 use Rattle.nat_box.specs.declared.place.Place.{Place}
-use Rattle.nat_box.specs.declared.place.Place.TheVariants.{HearsTime, FindsMapping, UnbindsFreed, GivesBackFreed, DrawsWord, ReservesPort, BindsPort, FindsOrBinds, UnbindsLost, GivesBackLost, FindsEndpoint, AsksIfLives, CountsDrop, SendsOut, Ends as AtEnd}
+use Rattle.nat_box.specs.declared.place.Place.TheVariants.{HearsTime, FindsMapping, UnbindsFreed, GivesBackFreed}
+use Rattle.nat_box.specs.declared.place.Place.TheVariants.{DrawsWord, ReservesPort, BindsPort, FindsOrBinds}
+use Rattle.nat_box.specs.declared.place.Place.TheVariants.{UnbindsLost, GivesBackLost, FindsEndpoint, AsksIfLives}
+use Rattle.nat_box.specs.declared.place.Place.TheVariants.{CountsDrop, SendsOut, Ends as AtEnd}
 use Rattle.nat_box.specs.declared.place.Noted.{Noted}
 use Rattle.nat_box.specs.declared.value.NatValue.{NatValue}
 use Rattle.nat_box.specs.declared.value.NatValue.TheVariants.{Dropped, Free, Mapped, Taken}
@@ -25,14 +29,17 @@ use Rattle.nat_box.specs.declared.place.Goes.{Goes}
 use Rattle.nat_box.specs.Nat.{Settings, touched, reverse_table, local_at, fresh_value, nat_meaning, Fits}
 use Rattle.nat_box.specs.Noting.{place_again, IsNoted, is_noted, noted_again}
 use Rattle.nat_box.specs.Lawful.{AreSettings, var_of, touches_it, below_all, nat_lawful}
-use Rattle.nat_box.specs.PortStanding.{free_at, maps, maps_for, mapped_at, binds, binds_for, taken_at, bare, queued, queued_for, loose, in_values, in_hand, in_hands, Tally, tally_of, IsSound, PortsStand}
+use Rattle.nat_box.specs.PortStanding.{free_at, maps, maps_for, mapped_at, binds, binds_for, taken_at, bare, queued}
+use Rattle.nat_box.specs.PortStanding.{queued_for, loose, in_values, in_hand, in_hands, Tally, tally_of, IsSound}
+use Rattle.nat_box.specs.PortStanding.{PortsStand}
 use Rattle.nat_box.proofs.Summing.{one_changes, sum_of_none, term_of_sum, sums_below, one_term}
 use Rattle.nat_box.proofs.Effects.{holds_none, seen, Shifts, IsPart, IsUnder, Own, of_range_one, touch_sound}
 use Rattle.nat_box.proofs.Noting.{touched_noted}
 use Rattle.nat_box.proofs.Moving.{HandNone, touching, Outcome, outcome}
 
 -- a hand that goes on as this: its numbers are those of where it goes
-hand_number : (number : Place → Noted → ℕ) (p : Packet) (g : Goes) → IsNoted g.noted → in_hand number (Some (record { packet = p; place = local_at g })) ≡ number g.place g.noted
+hand_number : (number : Place → Noted → ℕ) (p : Packet) (g : Goes) → IsNoted g.noted
+    → in_hand number (Some (record { packet = p; place = local_at g })) ≡ number g.place g.noted
 hand_number number p g is =
     let a : place_numbered (local_at g).at ≡ g.place = place_again g.place in
     let b : noted (local_at g) ≡ g.noted = noted_again g.place g.noted is in
@@ -63,22 +70,28 @@ queued_below k e AtEnd n = omega arith
 mapped_below : (k : PortKey) (e : Endpoint) (x : NatValue) → mapped_at (maps_for k e) x ≤ mapped_at (maps k) x
 mapped_below k e (Dropped d) = omega arith
 mapped_below k e (Free pool) = omega arith
-mapped_below k e (Mapped es) = total_below (maps_for k e) (maps k) es (λ key port. for_below (same_port k (port_key key.protocol port)) (same_endpoint e key))
+mapped_below k e (Mapped es) = total_below (maps_for k e) (maps k) es
+    (λ key port. for_below (same_port k (port_key key.protocol port)) (same_endpoint e key))
 mapped_below k e (Taken bs) = omega arith
 
 hand_below : (k : PortKey) (e : Endpoint) (h : Option Hand) → in_hand (queued_for k e) h ≤ in_hand (queued k) h
 hand_below k e None = omega arith
 hand_below k e (Some h) = queued_below k e (place_numbered h.place.at) (noted h.place)
 
-free_numbers : (k : PortKey) (e : Endpoint) (h : Option Hand) → HandNone h → (in_hand (bare k) h ≡ 0) × (in_hand (queued k) h ≡ 0) × (in_hand (queued_for k e) h ≡ 0) × (in_hand (loose k) h ≡ 0)
+free_numbers : (k : PortKey) (e : Endpoint) (h : Option Hand) → HandNone h
+    → (in_hand (bare k) h ≡ 0) × (in_hand (queued k) h ≡ 0) × (in_hand (queued_for k e) h ≡ 0)
+    × (in_hand (loose k) h ≡ 0)
 free_numbers k e None h = (refl, refl, refl, refl)
 free_numbers k e (Some x) h = holds_none k e (place_numbered x.place.at) (noted x.place) h
 
-module _ (s : Settings) (is : AreSettings s) (threads : ℕ) (k : PortKey) (e : Endpoint) (value : ℕ → NatValue) (thread : ℕ → Thread) where
+module _ (s : Settings) (is : AreSettings s) (threads : ℕ) (k : PortKey) (e : Endpoint) (value : ℕ → NatValue)
+    (thread : ℕ → Thread) where
   under : IsUnder (tally_of s threads k e value thread)
   under = record {
-    mapped = sums_below (2 + 2 * s.shards) (λ v. mapped_at (maps_for k e) (value v)) (λ v. mapped_at (maps k) (value v)) (λ v. mapped_below k e (value v));
-    queued = sums_below threads (λ t. in_hand (queued_for k e) (thread t).hand) (λ t. in_hand (queued k) (thread t).hand) (λ t. hand_below k e (thread t).hand);
+    mapped = sums_below (2 + 2 * s.shards) (λ v. mapped_at (maps_for k e) (value v)) (λ v. mapped_at (maps k) (value v))
+        (λ v. mapped_below k e (value v));
+    queued = sums_below threads (λ t. in_hand (queued_for k e) (thread t).hand)
+        (λ t. in_hand (queued k) (thread t).hand) (λ t. hand_below k e (thread t).hand);
   }
 
   -- a move of one thread
@@ -86,41 +99,59 @@ module _ (s : Settings) (is : AreSettings s) (threads : ℕ) (k : PortKey) (e : 
     abbrev next_thread : ℕ → Thread
     next_thread u = cond (nat_eq t u) after (thread u)
 
-    hands_step : (number : Place → Noted → ℕ) → in_hands number threads next_thread + in_hand number (thread t).hand ≡ in_hands number threads thread + in_hand number after.hand
+    hands_step : (number : Place → Noted → ℕ)
+        → in_hands number threads next_thread + in_hand number (thread t).hand
+        ≡ in_hands number threads thread + in_hand number after.hand
     hands_step number =
         let f : ℕ → ℕ = λ u. in_hand number (next_thread u).hand in
         let g : ℕ → ℕ = λ u. in_hand number (thread u).hand in
-        let one : sum_below threads f + g t ≡ sum_below threads g + f t = one_changes threads t f g low (λ u h. rw (not_eq t u (λ q. h (sym q))) refl) in
+        let one : sum_below threads f + g t ≡ sum_below threads g + f t =
+        one_changes threads t f g low (λ u h. rw (not_eq t u (λ q. h (sym q))) refl) in
         let new : f t ≡ in_hand number after.hand = rw (is_eq t t refl) refl in
         omega arith
 
     -- that touches nothing
-    still_sound : HandNone (thread t).hand → HandNone after.hand → IsSound (of_range s.low s.high k) (tally_of s threads k e value thread) → IsSound (of_range s.low s.high k) (tally_of s threads k e value next_thread)
+    still_sound : HandNone (thread t).hand → HandNone after.hand
+        → IsSound (of_range s.low s.high k) (tally_of s threads k e value thread)
+        → IsSound (of_range s.low s.high k) (tally_of s threads k e value next_thread)
     still_sound before later sound =
         let x = free_numbers k e (thread t).hand before in
         let y = free_numbers k e after.hand later in
-        let b : in_hands (bare k) threads next_thread ≡ in_hands (bare k) threads thread = omega (arith, hands_step (bare k), x.0, y.0) in
-        let q : in_hands (queued k) threads next_thread ≡ in_hands (queued k) threads thread = omega (arith, hands_step (queued k), x.1, y.1) in
-        let qf : in_hands (queued_for k e) threads next_thread ≡ in_hands (queued_for k e) threads thread = omega (arith, hands_step (queued_for k e), x.2, y.2) in
-        let l : in_hands (loose k) threads next_thread ≡ in_hands (loose k) threads thread = omega (arith, hands_step (loose k), x.3, y.3) in
-        record { one = omega (arith, sound.one, b, q, l); bound = omega (arith, sound.bound, q, l); same = omega (arith, sound.same, qf) }
+        let b : in_hands (bare k) threads next_thread ≡ in_hands (bare k) threads thread =
+        omega (arith, hands_step (bare k), x.0, y.0) in
+        let q : in_hands (queued k) threads next_thread ≡ in_hands (queued k) threads thread =
+        omega (arith, hands_step (queued k), x.1, y.1) in
+        let qf : in_hands (queued_for k e) threads next_thread ≡ in_hands (queued_for k e) threads thread =
+        omega (arith, hands_step (queued_for k e), x.2, y.2) in
+        let l : in_hands (loose k) threads next_thread ≡ in_hands (loose k) threads thread =
+        omega (arith, hands_step (loose k), x.3, y.3) in
+        record {
+          one = omega (arith, sound.one, b, q, l);
+          bound = omega (arith, sound.bound, q, l);
+          same = omega (arith, sound.same, qf);
+        }
 
     -- that touches a variable
     module _ (w : ℕ) (left : NatValue) (below : w < 2 + 2 * s.shards) where
       abbrev next_value : ℕ → NatValue
       next_value v = cond (nat_eq w v) left (value v)
 
-      values_step : (number : NatValue → ℕ) → in_values s number next_value + number (value w) ≡ in_values s number value + number left
+      values_step : (number : NatValue → ℕ)
+          → in_values s number next_value + number (value w) ≡ in_values s number value + number left
       values_step number =
           let f : ℕ → ℕ = λ v. number (next_value v) in
           let g : ℕ → ℕ = λ v. number (value v) in
-          let one : sum_below (2 + 2 * s.shards) f + g w ≡ sum_below (2 + 2 * s.shards) g + f w = one_changes (2 + 2 * s.shards) w f g below (λ v h. rw (not_eq w v (λ q. h (sym q))) refl) in
+          let one : sum_below (2 + 2 * s.shards) f + g w ≡ sum_below (2 + 2 * s.shards) g + f w =
+          one_changes (2 + 2 * s.shards) w f g below (λ v h. rw (not_eq w v (λ q. h (sym q))) refl) in
           let new : f w ≡ number left = rw (is_eq w w refl) refl in
           omega arith
 
       -- the values and the hands of a touch
-      module _ (p : Place) (n : Noted) (g : Goes) (was : (number : Place → Noted → ℕ) → in_hand number (thread t).hand ≡ number p n) (goes_on : (number : Place → Noted → ℕ) → in_hand number after.hand ≡ number g.place g.noted) where
-        shifts : Shifts (tally_of s threads k e value thread) (tally_of s threads k e next_value next_thread) (seen k e (value w) p n) (seen k e left g.place g.noted)
+      module _ (p : Place) (n : Noted) (g : Goes)
+          (was : (number : Place → Noted → ℕ) → in_hand number (thread t).hand ≡ number p n)
+          (goes_on : (number : Place → Noted → ℕ) → in_hand number after.hand ≡ number g.place g.noted) where
+        shifts : Shifts (tally_of s threads k e value thread) (tally_of s threads k e next_value next_thread)
+            (seen k e (value w) p n) (seen k e left g.place g.noted)
         shifts = record {
           free = values_step (free_at k);
           mapped = values_step (mapped_at (maps k));
@@ -132,7 +163,8 @@ module _ (s : Settings) (is : AreSettings s) (threads : ℕ) (k : PortKey) (e : 
         }
 
         hand_part : (number : Place → Noted → ℕ) → number p n ≤ in_hands number threads thread
-        hand_part number = let a = term_of_sum threads t (λ u. in_hand number (thread u).hand) low in omega (arith, was number)
+        hand_part number =
+            let a = term_of_sum threads t (λ u. in_hand number (thread u).hand) low in omega (arith, was number)
 
         part : IsPart (seen k e (value w) p n) (tally_of s threads k e value thread)
         part = record {
@@ -143,22 +175,31 @@ module _ (s : Settings) (is : AreSettings s) (threads : ℕ) (k : PortKey) (e : 
           loose = hand_part (loose k);
         }
 
-        own : (b : Bool) → (w == reverse_table s k) ≡ b → Own b (tally_of s threads k e value thread) (tally_of s threads k e next_value next_thread) (seen k e (value w) p n) (seen k e left g.place g.noted)
+        own : (b : Bool) → (w == reverse_table s k) ≡ b
+            → Own b (tally_of s threads k e value thread) (tally_of s threads k e next_value next_thread)
+            (seen k e (value w) p n) (seen k e left g.place g.noted)
         own true is =
             let at : w ≡ reverse_table s k = eqb-true _ _ is in
             let same : value (reverse_table s k) ≡ value w = ap value (sym at) in
-            let new : next_value (reverse_table s k) ≡ left = rw (is_eq w (reverse_table s k) at) refl in
-            (ap (taken_at (binds k)) same, ap (taken_at (binds k)) new, ap (taken_at (binds_for k e)) same, ap (taken_at (binds_for k e)) new)
+            let new : next_value (reverse_table s k) ≡ left = rw (is_eq w (reverse_table s k) at) refl in (
+              ap (taken_at (binds k)) same,
+              ap (taken_at (binds k)) new,
+              ap (taken_at (binds_for k e)) same,
+              ap (taken_at (binds_for k e)) new,
+            )
         own false is =
-            let same : next_value (reverse_table s k) ≡ value (reverse_table s k) = rw (not_eq w (reverse_table s k) (λ q. differ q)) refl in
+            let same : next_value (reverse_table s k) ≡ value (reverse_table s k) =
+            rw (not_eq w (reverse_table s k) (λ q. differ q)) refl in
             (ap (taken_at (binds k)) same, ap (taken_at (binds_for k e)) same)
           where
             differ : w ≢ reverse_table s k
             differ q = absurd (grind (arith, nat_tests))
 
-    deed_sound : (earlier : List (Step NatValue)) (d : Effect NatValue) → ((v : ℕ) → v < 2 + 2 * s.shards → Fits s v (value v)) → Outcome s value (thread t).hand after.hand d
+    deed_sound : (earlier : List (Step NatValue)) (d : Effect NatValue)
+        → ((v : ℕ) → v < 2 + 2 * s.shards → Fits s v (value v)) → Outcome s value (thread t).hand after.hand d
         → IsSound (of_range s.low s.high k) (tally_of s threads k e value thread)
-        → IsSound (of_range s.low s.high k) (tally_of s threads k e (λ v. left_by v (act_of t earlier after.taken d) (value v)) next_thread)
+        → IsSound (of_range s.low s.high k)
+        (tally_of s threads k e (λ v. left_by v (act_of t earlier after.taken d) (value v)) next_thread)
     deed_sound earlier Takes fits o sound = still_sound o.0 o.1 sound
     deed_sound earlier (Looks v) fits o sound = still_sound o.0 o.1 sound
     deed_sound earlier (HearsClock a) fits o sound = still_sound o.0 o.1 sound
@@ -172,16 +213,22 @@ module _ (s : Settings) (is : AreSettings s) (threads : ℕ) (k : PortKey) (e : 
         let r : NatValue × Goes = touched p (value w) n in
         let at : var_of s p n ≡ w = touches_it s p n w o.2 in
         let below : w < 2 + 2 * s.shards = subst (λ (u : ℕ). u < 2 + 2 * s.shards) at (below_all s p n is.some) in
-        let was : (number : Place → Noted → ℕ) → in_hand number (thread t).hand ≡ number p n = λ number. ap (in_hand number) o.1 in
+        let was : (number : Place → Noted → ℕ) → in_hand number (thread t).hand ≡ number p n =
+        λ number. ap (in_hand number) o.1 in
         let fit : IsNoted r.1.noted = touched_noted s p (value w) n w (is_noted h.place) (fits w below) in
-        let goes_on : (number : Place → Noted → ℕ) → in_hand number after.hand ≡ number r.1.place r.1.noted = λ number. ap (in_hand number) o.4 ∙ hand_number number h.packet r.1 fit in
+        let goes_on : (number : Place → Noted → ℕ) → in_hand number after.hand ≡ number r.1.place r.1.noted =
+        λ number. ap (in_hand number) o.4 ∙ hand_number number h.packet r.1 fit in
         let own_is : Bool = w == reverse_table s k in
         let y : Tally = tally_of s threads k e value thread in
         let z : Tally = tally_of s threads k e (λ v. cond (nat_eq w v) r.0 (value v)) next_thread in
         let done : IsSound (of_range s.low s.high k) z =
-        touch_sound s is.some k e (of_range s.low s.high k) (of_range_one s.low s.high k) own_is y z sound under p (value w) n w at refl (fits w below) refl
-        (part w r.0 below p n r.1 was goes_on) (shifts w r.0 below p n r.1 was goes_on) (own w r.0 below p n r.1 was goes_on own_is refl) (touching s p n w o.2) in
-        subst (λ (x : NatValue). IsSound (of_range s.low s.high k) (tally_of s threads k e (λ v. cond (nat_eq w v) x (value v)) next_thread)) (sym o.3) done
+        touch_sound s is.some k e (of_range s.low s.high k) (of_range_one s.low s.high k) own_is y z sound under p
+        (value w) n w at refl (fits w below) refl (part w r.0 below p n r.1 was goes_on)
+        (shifts w r.0 below p n r.1 was goes_on) (own w r.0 below p n r.1 was goes_on own_is refl)
+        (touching s p n w o.2) in
+        subst (λ (x : NatValue).
+        IsSound (of_range s.low s.high k) (tally_of s threads k e (λ v. cond (nat_eq w v) x (value v)) next_thread))
+        (sym o.3) done
 
 -- at the start all ports are free
 
@@ -197,7 +244,8 @@ fresh_other s k v not_one = by (v == 0) (v == 1) (nat_lt v (2 + s.shards)) refl 
 fresh_mapped : (s : Settings) (number : Endpoint → ℕ → ℕ) (v : ℕ) → mapped_at number (fresh_value s v) ≡ 0
 fresh_mapped s number v = by (v == 0) (v == 1) (nat_lt v (2 + s.shards)) refl refl refl
   where
-    by : (a b c : Bool) → (v == 0) ≡ a → (v == 1) ≡ b → nat_lt v (2 + s.shards) ≡ c → mapped_at number (fresh_value s v) ≡ 0
+    by : (a b c : Bool) → (v == 0) ≡ a → (v == 1) ≡ b → nat_lt v (2 + s.shards) ≡ c
+        → mapped_at number (fresh_value s v) ≡ 0
     by true b c x y z = rw x refl
     by false true c x y z = rw (x, y) refl
     by false false true x y z = rw (x, y, z) refl
@@ -206,7 +254,8 @@ fresh_mapped s number v = by (v == 0) (v == 1) (nat_lt v (2 + s.shards)) refl re
 fresh_taken : (s : Settings) (number : PortKey → Endpoint → ℕ) (v : ℕ) → taken_at number (fresh_value s v) ≡ 0
 fresh_taken s number v = by (v == 0) (v == 1) (nat_lt v (2 + s.shards)) refl refl refl
   where
-    by : (a b c : Bool) → (v == 0) ≡ a → (v == 1) ≡ b → nat_lt v (2 + s.shards) ≡ c → taken_at number (fresh_value s v) ≡ 0
+    by : (a b c : Bool) → (v == 0) ≡ a → (v == 1) ≡ b → nat_lt v (2 + s.shards) ≡ c
+        → taken_at number (fresh_value s v) ≡ 0
     by true b c x y z = rw x refl
     by false true c x y z = rw (x, y) refl
     by false false true x y z = rw (x, y, z) refl
@@ -214,12 +263,17 @@ fresh_taken s number v = by (v == 0) (v == 1) (nat_lt v (2 + s.shards)) refl ref
 
 pub ports_stand : PortsStand
 ports_stand s threads inputs [] is h k e =
-    let hands : (number : Place → Noted → ℕ) → in_hands number threads (thread_after {V = NatValue} []) ≡ 0 = λ number. sum_of_none threads _ (λ t. refl) in
+    let hands : (number : Place → Noted → ℕ) → in_hands number threads (thread_after {V = NatValue} []) ≡ 0 =
+    λ number. sum_of_none threads _ (λ t. refl) in
     let free : in_values s (free_at k) (fresh_value s) ≡ of_range s.low s.high k =
-    one_term (2 + 2 * s.shards) 1 (λ v. free_at k (fresh_value s v)) (omega (arith, is.some)) (fresh_other s k) ∙ free_full k s.low s.high is.order in
-    let mapped : in_values s (mapped_at (maps k)) (fresh_value s) ≡ 0 = sum_of_none (2 + 2 * s.shards) _ (fresh_mapped s (maps k)) in
-    let mapped_for : in_values s (mapped_at (maps_for k e)) (fresh_value s) ≡ 0 = sum_of_none (2 + 2 * s.shards) _ (fresh_mapped s (maps_for k e)) in
-    let taken : taken_at (binds k) (fresh_value s (reverse_table s k)) ≡ 0 = fresh_taken s (binds k) (reverse_table s k) in
+    one_term (2 + 2 * s.shards) 1 (λ v. free_at k (fresh_value s v)) (omega (arith, is.some)) (fresh_other s k)
+    ∙ free_full k s.low s.high is.order in
+    let mapped : in_values s (mapped_at (maps k)) (fresh_value s) ≡ 0 =
+    sum_of_none (2 + 2 * s.shards) _ (fresh_mapped s (maps k)) in
+    let mapped_for : in_values s (mapped_at (maps_for k e)) (fresh_value s) ≡ 0 =
+    sum_of_none (2 + 2 * s.shards) _ (fresh_mapped s (maps_for k e)) in
+    let taken : taken_at (binds k) (fresh_value s (reverse_table s k)) ≡ 0 =
+    fresh_taken s (binds k) (reverse_table s k) in
     record {
       one = omega (arith, hands (bare k), hands (queued k), hands (loose k), free, mapped);
       bound = omega (arith, hands (queued k), hands (loose k), mapped, taken);
@@ -228,7 +282,9 @@ ports_stand s threads inputs [] is h k e =
 ports_stand s threads inputs (x ∷ earlier) is h k e =
     let value : ℕ → NatValue = value_after (nat_meaning s) earlier in
     let thread : ℕ → Thread = thread_after earlier in
-    let old : IsSound (of_range s.low s.high k) (tally_of s threads k e value thread) = ports_stand s threads inputs earlier is h.1 k e in
-    let o = outcome s (inputs x.thread) value (thread x.thread).taken x.after h.0.2 (thread x.thread).hand h.0.1 h.0.3 in
+    let old : IsSound (of_range s.low s.high k) (tally_of s threads k e value thread) =
+    ports_stand s threads inputs earlier is h.1 k e in
+    let o =
+    outcome s (inputs x.thread) value (thread x.thread).taken x.after h.0.2 (thread x.thread).hand h.0.1 h.0.3 in
     let fits = values_fit (nat_meaning s) (Fits s) (nat_lawful s is) inputs threads earlier h.1 in
     rw h.0.4 (deed_sound s is threads k e value thread x.thread x.after h.0.0 earlier h.0.2 fits o old)

@@ -8,7 +8,8 @@ use Rattle.nat_box.specs.Nat.{Settings, nat_meaning, Fits}
 use Rattle.nat_box.specs.Lawful.{AreSettings, nat_lawful}
 
 abbrev pub settings_of : NatBox → Settings
-settings_of b = record { shards = b.shards; inside = b.inside; length = b.length; outside = b.outside; low = b.low; high = b.high }
+settings_of b =
+    record { shards = b.shards; inside = b.inside; length = b.length; outside = b.outside; low = b.low; high = b.high }
 
 pub at_least : (least n most : ℕ) → least ≤ max least (min n most)
 at_least least n most = omega arith
@@ -47,7 +48,15 @@ abbrev pub box_meaning : NatBox → Meaning NatValue
 box_meaning b = nat_meaning (settings_of b)
 
 pub are_settings : (b : NatBox) → AreSettings (settings_of b)
-are_settings b = record { some = b.some; few = b.few; long = b.long; short = b.short; low = b.above; order = b.order; high = b.below }
+are_settings b = record {
+  some = b.some;
+  few = b.few;
+  long = b.long;
+  short = b.short;
+  low = b.above;
+  order = b.order;
+  high = b.below;
+}
 
 pub box_lawful : (b : NatBox) → IsLawful (box_meaning b) (Fits (settings_of b))
 box_lawful b = nat_lawful (settings_of b) (are_settings b)

@@ -20,8 +20,8 @@ use Rattle.nat_box.specs.Places.{endpoint}
 use Rattle.nat_box.specs.Nat.{Settings, class_of_flow, nat_meaning}
 use Rattle.nat_box.specs.Lawful.{AreSettings}
 
--- What the moves of a packet in hand met: the forward table as its newest touch of one left it, the value that its newest read
--- found, and the time that it was told.
+-- What the moves of a packet in hand met: the forward table as its newest touch of one left it, the value that its
+-- newest read found, and the time that it was told.
 pub record Trail : Type 0 where
   pub forward : Option Forwards
   pub read : Option NatValue
@@ -38,8 +38,10 @@ left_forward (Some (Mapped es)) old = Some es
 left_forward (Some (Taken bs)) old = old
 
 abbrev pub trail_by_what : List (Step NatValue) → Settings → Option NatValue → Trail → What → Trail
-trail_by_what earlier s left old (Access v place) = record { forward = left_forward left old.forward; read = old.read; clock = old.clock }
-trail_by_what earlier s left old (Read v after) = record { forward = old.forward; read = Some (value_after (nat_meaning s) earlier v); clock = old.clock }
+trail_by_what earlier s left old (Access v place) =
+    record { forward = left_forward left old.forward; read = old.read; clock = old.clock }
+trail_by_what earlier s left old (Read v after) =
+    record { forward = old.forward; read = Some (value_after (nat_meaning s) earlier v); clock = old.clock }
 trail_by_what earlier s left old (Clock a) = record { forward = old.forward; read = old.read; clock = Some a }
 trail_by_what earlier s left old (Draw a) = old
 
@@ -52,33 +54,38 @@ trail_by earlier s (Ended k) old = old
 
 abbrev pub trail_of : Settings → ℕ → List (Step NatValue) → Trail
 trail_of s t [] = no_trail
-trail_of s t (x ∷ earlier) = cond (nat_eq x.thread t) (trail_by earlier s x.act (trail_of s t earlier)) (trail_of s t earlier)
+trail_of s t (x ∷ earlier) =
+    cond (nat_eq x.thread t) (trail_by earlier s x.act (trail_of s t earlier)) (trail_of s t earlier)
 
 -- the endpoint had this port at the packet's last find or find-or-bind
 abbrev pub WasMapped : Option Forwards → Endpoint → ℕ → Type 0
-WasMapped forward key port = (es : Forwards) × (slot : Slot) × (forward ≡ Some es) × (slot_of key es ≡ Some slot) × (slot.port ≡ port)
+WasMapped forward key port =
+    (es : Forwards) × (slot : Slot) × (forward ≡ Some es) × (slot_of key es ≡ Some slot) × (slot.port ≡ port)
 
 -- the endpoint's mapping to the port lived at the packet's last read
 abbrev pub Lived : Trail → Endpoint → ℕ → Type 0
-Lived r key port = (es : Forwards) × (now : ℕ) × (r.read ≡ Some (Mapped es)) × (r.clock ≡ Some now) × (lives key port now es ≡ true)
+Lived r key port =
+    (es : Forwards) × (now : ℕ) × (r.read ≡ Some (Mapped es)) × (r.clock ≡ Some now) × (lives key port now es ≡ true)
 
 abbrev pub source_of : Flow → Endpoint
 source_of flow = endpoint flow.protocol flow.source flow.source_port
 
 abbrev pub IsTranslated : Settings → List ℕ → Flow → Trail → List ℕ → Class → Type 0
-IsTranslated s bytes flow r sent Outbound = (port : ℕ) × WasMapped r.forward (source_of flow) port × (sent ≡ with_source bytes flow s.outside port)
+IsTranslated s bytes flow r sent Outbound =
+    (port : ℕ) × WasMapped r.forward (source_of flow) port × (sent ≡ with_source bytes flow s.outside port)
 IsTranslated s bytes flow r sent Inbound =
-    (key : Endpoint) × (key.protocol ≡ flow.protocol) × Lived r key flow.dest_port × (sent ≡ with_dest bytes flow key.address key.port)
+    (key : Endpoint) × (key.protocol ≡ flow.protocol) × Lived r key flow.dest_port
+    × (sent ≡ with_dest bytes flow key.address key.port)
 IsTranslated s bytes flow r sent Hairpin =
-    (port : ℕ) × (key : Endpoint) × WasMapped r.forward (source_of flow) port × (key.protocol ≡ flow.protocol) × Lived r key flow.dest_port
-    × (sent ≡ with_dest (with_source bytes flow s.outside port) flow key.address key.port)
+    (port : ℕ) × (key : Endpoint) × WasMapped r.forward (source_of flow) port × (key.protocol ≡ flow.protocol)
+    × Lived r key flow.dest_port × (sent ≡ with_dest (with_source bytes flow s.outside port) flow key.address key.port)
 
 -- the packet is a flow of a class, and these bytes are its translation
 abbrev pub IsTranslationOf : Settings → Trail → List ℕ → Option Packet → Type 0
 IsTranslationOf s r sent None = ⊥
 IsTranslationOf s r sent (Some p) =
-    (flow : Flow) × (class : Class) × (viewed p.bytes p.original ≡ Ok flow) × (class_of_flow s flow.source flow.dest ≡ Some class)
-    × IsTranslated s p.bytes flow r sent class
+    (flow : Flow) × (class : Class) × (viewed p.bytes p.original ≡ Ok flow)
+    × (class_of_flow s flow.source flow.dest ≡ Some class) × IsTranslated s p.bytes flow r sent class
 
 -- each input is of bytes
 abbrev pub HaveBytes : (ℕ → List Packet) → Type 0
@@ -87,6 +94,8 @@ HaveBytes inputs = (t k : ℕ) (p : Packet) → slice_get (inputs t) k ≡ Some 
 -- what a thread sends out is the translation of its input of the emission's number
 abbrev pub EmissionsTranslate : Type 0
 EmissionsTranslate =
-    (s : Settings) (threads : ℕ) (inputs : ℕ → List Packet) (x : Step NatValue) (earlier : List (Step NatValue)) (o : Emission)
-    → AreSettings s → HaveBytes inputs → IsHistory (nat_meaning s) inputs threads (x ∷ earlier) → x.act ≡ Emitted o
-    → (1 ≤ o.input) × IsTranslationOf s (trail_of s x.thread earlier) o.packet.bytes (slice_get (inputs x.thread) (o.input - 1))
+    (s : Settings) (threads : ℕ) (inputs : ℕ → List Packet) (x : Step NatValue) (earlier : List (Step NatValue))
+    (o : Emission) → AreSettings s → HaveBytes inputs → IsHistory (nat_meaning s) inputs threads (x ∷ earlier)
+    → x.act ≡ Emitted o
+    → (1 ≤ o.input)
+    × IsTranslationOf s (trail_of s x.thread earlier) o.packet.bytes (slice_get (inputs x.thread) (o.input - 1))

@@ -1,5 +1,7 @@
 -- The laws of programs, of the box with 1 to 64 tables of each kind.
-use Rattle.std.specs.Prelude.{◌≡◌, ℕ, zero, suc, ◌+◌, ◌-◌, ◌*◌, ◌%◌, ◌^◌, ◌<◌, ◌≤◌, Bool, true, false, List, [], ◌∷◌, ◌++◌, length, take, drop, slice_index, Option, Some, None, Result, Ok, Err, ◌==◌, nat_lt, refl}
+use Rattle.std.specs.Prelude.{◌≡◌, ℕ, zero, suc, ◌+◌, ◌-◌, ◌*◌, ◌%◌, ◌^◌, ◌<◌, ◌≤◌, Bool, true, false, List, [], ◌∷◌}
+use Rattle.std.specs.Prelude.{◌++◌, length, take, drop, slice_index, Option, Some, None, Result, Ok, Err, ◌==◌, nat_lt}
+use Rattle.std.specs.Prelude.{refl}
 use Rattle.std.specs.List.{remove}
 use Rattle.std.proofs.Common.{arith, ap, sym, subst, ◌∙◌}
 use Rattle.std.proofs.lemmas.Grind.{common_steps}
@@ -17,12 +19,19 @@ use Rattle.nat_tables.specs.declared.entries.Find.{Find}
 use Rattle.nat_tables.specs.declared.entries.Find.TheVariants.{Live, Absent}
 use Rattle.nat_tables.specs.declared.entries.Bind.{Bind}
 use Rattle.nat_tables.specs.declared.entries.Bind.TheVariants.{Bound, Other}
-use Rattle.nat_tables.specs.Ports.{Ports, PoolPorts, chosen, of_even, of_odd, is_even, reserved_of, with_port, given_back_to, reserve, is_in_range, give_back, ports_from, IsBelow, AreOfParity, ArePorts, no_ports}
-use Rattle.nat_tables.specs.Forwards.{Forwards, is_idle, slot_of, first_idle, found, find, bound, find_or_bind, lives, AreMappings}
+use Rattle.nat_tables.specs.Ports.{Ports, PoolPorts, chosen, of_even, of_odd, is_even, reserved_of, with_port}
+use Rattle.nat_tables.specs.Ports.{given_back_to, reserve, is_in_range, give_back, ports_from, IsBelow, AreOfParity}
+use Rattle.nat_tables.specs.Ports.{ArePorts, no_ports}
+use Rattle.nat_tables.specs.Forwards.{Forwards, is_idle, slot_of, first_idle, found, find, bound, find_or_bind, lives}
+use Rattle.nat_tables.specs.Forwards.{AreMappings}
 use Rattle.nat_tables.specs.Reverses.{endpoint_of}
-use Rattle.nat_tables.proofs.Keeping.{keeps_refreshed, keeps_without, keeps_without_idle, keeps_bound, keeps_bind, keeps_unbind}
+use Rattle.nat_tables.proofs.Keeping.{keeps_refreshed, keeps_without, keeps_without_idle, keeps_bound, keeps_bind}
+use Rattle.nat_tables.proofs.Keeping.{keeps_unbind}
 use Rattle.nat_box.specs.declared.place.Place.{Place}
-use Rattle.nat_box.specs.declared.place.Place.TheVariants.{HearsTime, FindsMapping, UnbindsFreed, GivesBackFreed, DrawsWord, ReservesPort, BindsPort, FindsOrBinds, UnbindsLost, GivesBackLost, FindsEndpoint, AsksIfLives, CountsDrop, SendsOut, Ends}
+use Rattle.nat_box.specs.declared.place.Place.TheVariants.{HearsTime, FindsMapping, UnbindsFreed, GivesBackFreed}
+use Rattle.nat_box.specs.declared.place.Place.TheVariants.{DrawsWord, ReservesPort, BindsPort, FindsOrBinds}
+use Rattle.nat_box.specs.declared.place.Place.TheVariants.{UnbindsLost, GivesBackLost, FindsEndpoint, AsksIfLives}
+use Rattle.nat_box.specs.declared.place.Place.TheVariants.{CountsDrop, SendsOut, Ends}
 use Rattle.nat_box.specs.declared.place.Class.{Class}
 use Rattle.nat_box.specs.declared.place.Class.TheVariants.{Outbound, Hairpin, Inbound}
 use Rattle.nat_box.specs.declared.place.Noted.{Noted}
@@ -30,7 +39,10 @@ use Rattle.nat_box.specs.declared.value.NatValue.{NatValue}
 use Rattle.nat_box.specs.declared.value.NatValue.TheVariants.{Dropped, Free, Mapped, Taken}
 use Rattle.nat_box.specs.Places.{place_numbered, noted, source_key, dest_key}
 use Rattle.nat_box.specs.declared.place.Goes.{Goes}
-use Rattle.nat_box.specs.Nat.{Settings, forward_table, reverse_table, next_move, moves_left, class_of_flow, begun_as, begun, mapped, after_find, after_reserve, after_bind, touched, after_endpoint, looked_by, looked, after_time, told, frame_out, bytes_out, local_at, fresh_value, nat_meaning, MayMap, MayBind, Fits}
+use Rattle.nat_box.specs.Nat.{Settings, forward_table, reverse_table, next_move, moves_left, class_of_flow, begun_as}
+use Rattle.nat_box.specs.Nat.{begun, mapped, after_find, after_reserve, after_bind, touched, after_endpoint, looked_by}
+use Rattle.nat_box.specs.Nat.{looked, after_time, told, frame_out, bytes_out, local_at, fresh_value, nat_meaning}
+use Rattle.nat_box.specs.Nat.{MayMap, MayBind, Fits}
 use Rattle.nat_box.specs.Noting.{place_again, IsNoted, is_noted}
 
 -- what may be configured
@@ -136,7 +148,8 @@ bind_falls : (n : Noted) (b : Bind) → moves_left (after_bind n b).place < 6
 bind_falls n Bound = let a = mapped_falls n n.class in omega arith
 bind_falls n (Other port) = omega arith
 
-touch_falls_at : (s : Settings) (p : Place) (x : NatValue) (n : Noted) (v : ℕ) → next_move s p n ≡ Access v → moves_left (touched p x n).1.place < moves_left p
+touch_falls_at : (s : Settings) (p : Place) (x : NatValue) (n : Noted) (v : ℕ) → next_move s p n ≡ Access v
+    → moves_left (touched p x n).1.place < moves_left p
 touch_falls_at s HearsTime x n v e = absurd (cc)
 touch_falls_at s FindsMapping (Dropped d) n v e = omega arith
 touch_falls_at s FindsMapping (Free pool) n v e = omega arith
@@ -152,7 +165,8 @@ touch_falls_at s GivesBackFreed (Mapped es) n v e = omega arith
 touch_falls_at s GivesBackFreed (Taken bs) n v e = omega arith
 touch_falls_at s DrawsWord x n v e = absurd (cc)
 touch_falls_at s ReservesPort (Dropped d) n v e = omega arith
-touch_falls_at s ReservesPort (Free pool) n v e = reserve_falls n (reserve n.source.protocol n.source.port n.word pool).0
+touch_falls_at s ReservesPort (Free pool) n v e =
+    reserve_falls n (reserve n.source.protocol n.source.port n.word pool).0
 touch_falls_at s ReservesPort (Mapped es) n v e = omega arith
 touch_falls_at s ReservesPort (Taken bs) n v e = omega arith
 touch_falls_at s BindsPort (Dropped d) n v e = omega arith
@@ -188,7 +202,8 @@ lives_falls : (n : Noted) (b : Bool) → moves_left (looked_by n b).place < 2
 lives_falls n true = omega arith
 lives_falls n false = omega arith
 
-look_falls_at : (s : Settings) (p : Place) (x : NatValue) (n : Noted) (v : ℕ) → next_move s p n ≡ Read v → moves_left (looked p x n).place < moves_left p
+look_falls_at : (s : Settings) (p : Place) (x : NatValue) (n : Noted) (v : ℕ) → next_move s p n ≡ Read v
+    → moves_left (looked p x n).place < moves_left p
 look_falls_at s HearsTime x n v e = absurd (cc)
 look_falls_at s FindsMapping x n v e = absurd (cc)
 look_falls_at s UnbindsFreed x n v e = absurd (cc)
@@ -216,7 +231,8 @@ time_falls n Outbound = omega arith
 time_falls n Hairpin = omega arith
 time_falls n Inbound = omega arith
 
-clock_falls_at : (s : Settings) (p : Place) (a : ℕ) (n : Noted) → next_move s p n ≡ Clock → moves_left (told p a n).place < moves_left p
+clock_falls_at : (s : Settings) (p : Place) (a : ℕ) (n : Noted) → next_move s p n ≡ Clock
+    → moves_left (told p a n).place < moves_left p
 clock_falls_at s HearsTime a n e = time_falls (record n { time = a }) n.class
 clock_falls_at s FindsMapping a n e = absurd (cc)
 clock_falls_at s UnbindsFreed a n e = absurd (cc)
@@ -233,7 +249,8 @@ clock_falls_at s CountsDrop a n e = absurd (cc)
 clock_falls_at s SendsOut a n e = absurd (cc)
 clock_falls_at s Ends a n e = absurd (cc)
 
-draw_falls_at : (s : Settings) (p : Place) (a : ℕ) (n : Noted) → next_move s p n ≡ Draw → moves_left (told p a n).place < moves_left p
+draw_falls_at : (s : Settings) (p : Place) (a : ℕ) (n : Noted) → next_move s p n ≡ Draw
+    → moves_left (told p a n).place < moves_left p
 draw_falls_at s HearsTime a n e = absurd (cc)
 draw_falls_at s FindsMapping a n e = absurd (cc)
 draw_falls_at s UnbindsFreed a n e = absurd (cc)
@@ -306,7 +323,8 @@ small_removed r (suc i) [] small = tt
 small_removed r zero (p ∷ ps) small = small.3
 small_removed r (suc i) (p ∷ ps) small = (small.0, small.1, below_removed p i ps small.2, small_removed r i ps small.3)
 
-small_chosen : (r draw : ℕ) (ps : List ℕ) (c : ℕ × List ℕ) → chosen draw ps ≡ Some c → AreOfParity r ps → AreOfParity r c.1
+small_chosen : (r draw : ℕ) (ps : List ℕ) (c : ℕ × List ℕ) → chosen draw ps ≡ Some c → AreOfParity r ps
+    → AreOfParity r c.1
 small_chosen r draw [] c is small = absurd (cc)
 small_chosen r draw (p ∷ ps) c is small =
     let at : ℕ = draw % length (p ∷ ps) in
@@ -316,12 +334,14 @@ small_chosen r draw (p ∷ ps) c is small =
 abbrev SmallPorts : Ports → Type 0
 SmallPorts ports = AreOfParity 0 ports.even × AreOfParity 1 ports.odd
 
-small_of_even : (draw : ℕ) (ports : Ports) (a b : Option (ℕ × List ℕ)) → chosen draw ports.even ≡ a → chosen draw ports.odd ≡ b → SmallPorts ports → SmallPorts (of_even ports a b).1
+small_of_even : (draw : ℕ) (ports : Ports) (a b : Option (ℕ × List ℕ)) → chosen draw ports.even ≡ a
+    → chosen draw ports.odd ≡ b → SmallPorts ports → SmallPorts (of_even ports a b).1
 small_of_even draw ports (Some c) b p q small = (small_chosen 0 draw ports.even c p small.0, small.1)
 small_of_even draw ports None (Some c) p q small = (small.0, small_chosen 1 draw ports.odd c q small.1)
 small_of_even draw ports None None p q small = small
 
-small_of_odd : (draw : ℕ) (ports : Ports) (a b : Option (ℕ × List ℕ)) → chosen draw ports.even ≡ a → chosen draw ports.odd ≡ b → SmallPorts ports → SmallPorts (of_odd ports a b).1
+small_of_odd : (draw : ℕ) (ports : Ports) (a b : Option (ℕ × List ℕ)) → chosen draw ports.even ≡ a
+    → chosen draw ports.odd ≡ b → SmallPorts ports → SmallPorts (of_odd ports a b).1
 small_of_odd draw ports None (Some c) p q small = (small.0, small_chosen 1 draw ports.odd c q small.1)
 small_of_odd draw ports (Some d) (Some c) p q small = (small.0, small_chosen 1 draw ports.odd c q small.1)
 small_of_odd draw ports (Some c) None p q small = (small_chosen 0 draw ports.even c p small.0, small.1)
@@ -351,7 +371,8 @@ small_with : (r p : ℕ) (qs : List ℕ) → p < 2 ^ 16 → p % 2 ≡ r → AreO
 small_with r p [] low parity small = (low, parity, tt, tt)
 small_with r p (q ∷ qs) low parity small = by (nat_lt p q) (p == q) refl refl (small_with r p qs low parity small.3)
   where
-    by : (b c : Bool) → nat_lt p q ≡ b → (p == q) ≡ c → AreOfParity r (with_port p qs) → AreOfParity r (with_port p (q ∷ qs))
+    by : (b c : Bool) → nat_lt p q ≡ b → (p == q) ≡ c → AreOfParity r (with_port p qs)
+        → AreOfParity r (with_port p (q ∷ qs))
     by true c e f behind =
         let lower : p < q = grind (arith, nat_tests) in
         rw e (low, parity, (lower, below_lower p q qs lower small.2), small)
@@ -369,31 +390,44 @@ small_given p ports low small = by (is_even p) refl
 
 small_from : (low n : ℕ) (ports : Ports) → low + n ≤ 2 ^ 16 → SmallPorts ports → SmallPorts (ports_from low n ports)
 small_from low zero ports fit small = small
-small_from low (suc n) ports fit small = small_given (low + n) (ports_from low n ports) (omega arith) (small_from low n ports (omega arith) small)
+small_from low (suc n) ports fit small =
+    small_given (low + n) (ports_from low n ports) (omega arith) (small_from low n ports (omega arith) small)
 
 -- the pool stays one of this range
 abbrev FitsPool : Settings → PoolPorts → Type 0
 FitsPool s pool = (pool.low ≡ s.low) × (pool.high ≡ s.high) × ArePorts pool
 
-fits_reserved : (s : Settings) (protocol port draw : ℕ) (pool : PoolPorts) → FitsPool s pool → FitsPool s (reserve protocol port draw pool).1
+fits_reserved : (s : Settings) (protocol port draw : ℕ) (pool : PoolPorts) → FitsPool s pool
+    → FitsPool s (reserve protocol port draw pool).1
 fits_reserved s protocol port draw pool fits = by (protocol == 6) (protocol == 17) refl refl
   where
     by : (b c : Bool) → (protocol == 6) ≡ b → (protocol == 17) ≡ c → FitsPool s (reserve protocol port draw pool).1
-    by true c e f = let a = small_reserved port draw pool.tcp (fits.2.0, fits.2.1) in rw e (fits.0, fits.1, (a.0, a.1, fits.2.2, fits.2.3))
-    by false true e f = let a = small_reserved port draw pool.udp (fits.2.2, fits.2.3) in rw (e, f) (fits.0, fits.1, (fits.2.0, fits.2.1, a.0, a.1))
+    by true c e f =
+        let a = small_reserved port draw pool.tcp (fits.2.0, fits.2.1) in
+        rw e (fits.0, fits.1, (a.0, a.1, fits.2.2, fits.2.3))
+    by false true e f =
+        let a = small_reserved port draw pool.udp (fits.2.2, fits.2.3) in
+        rw (e, f) (fits.0, fits.1, (fits.2.0, fits.2.1, a.0, a.1))
     by false false e f = rw (e, f) fits
 
-fits_given : (s : Settings) (protocol p : ℕ) (pool : PoolPorts) → p < 2 ^ 16 → FitsPool s pool → FitsPool s (give_back protocol p pool)
+fits_given : (s : Settings) (protocol p : ℕ) (pool : PoolPorts) → p < 2 ^ 16 → FitsPool s pool
+    → FitsPool s (give_back protocol p pool)
 fits_given s protocol p pool low fits = by (is_in_range p pool) (protocol == 6) (protocol == 17) refl refl refl
   where
-    by : (r b c : Bool) → is_in_range p pool ≡ r → (protocol == 6) ≡ b → (protocol == 17) ≡ c → FitsPool s (give_back protocol p pool)
+    by : (r b c : Bool) → is_in_range p pool ≡ r → (protocol == 6) ≡ b → (protocol == 17) ≡ c
+        → FitsPool s (give_back protocol p pool)
     by false b c d e f = rw d fits
-    by true true c d e f = let a = small_given p pool.tcp low (fits.2.0, fits.2.1) in rw (d, e) (fits.0, fits.1, (a.0, a.1, fits.2.2, fits.2.3))
-    by true false true d e f = let a = small_given p pool.udp low (fits.2.2, fits.2.3) in rw (d, e, f) (fits.0, fits.1, (fits.2.0, fits.2.1, a.0, a.1))
+    by true true c d e f =
+        let a = small_given p pool.tcp low (fits.2.0, fits.2.1) in
+        rw (d, e) (fits.0, fits.1, (a.0, a.1, fits.2.2, fits.2.3))
+    by true false true d e f =
+        let a = small_given p pool.udp low (fits.2.2, fits.2.3) in
+        rw (d, e, f) (fits.0, fits.1, (fits.2.0, fits.2.1, a.0, a.1))
     by true false false d e f = rw (d, e, f) fits
 
 module _ (May : Endpoint → ℕ → Type 0) where
-  fits_found : (key : Endpoint) (now : ℕ) (es : Forwards) (a : Option Slot) (b : Option (Endpoint × Slot)) → AreMappings May es → AreMappings May (found key now es a b).1
+  fits_found : (key : Endpoint) (now : ℕ) (es : Forwards) (a : Option Slot) (b : Option (Endpoint × Slot))
+      → AreMappings May es → AreMappings May (found key now es a b).1
   fits_found key now es (Some slot) b all = by (is_idle now (key, slot)) refl
     where
       by : (t : Bool) → is_idle now (key, slot) ≡ t → AreMappings May (found key now es (Some slot) b).1
@@ -402,43 +436,57 @@ module _ (May : Endpoint → ℕ → Type 0) where
   fits_found key now es None (Some e) all = keeps_without_idle May now es all
   fits_found key now es None None all = all
 
-  fits_bound : (key : Endpoint) (port now : ℕ) (es : Forwards) (a : Option Slot) → slot_of key es ≡ a → May key port → AreMappings May es → AreMappings May (bound key port now es a).1
+  fits_bound : (key : Endpoint) (port now : ℕ) (es : Forwards) (a : Option Slot) → slot_of key es ≡ a → May key port
+      → AreMappings May es → AreMappings May (bound key port now es a).1
   fits_bound key port now es (Some slot) is may all = keeps_refreshed May key now es all
   fits_bound key port now es None is may all = keeps_bound May key (record { port = port; last = now }) es is may all
 
-touched_fits : (s : Settings) (p : Place) (x : NatValue) (n : Noted) (v : ℕ) → IsNoted n → var_of s p n ≡ v → Fits s v x → Fits s v (touched p x n).0
+touched_fits : (s : Settings) (p : Place) (x : NatValue) (n : Noted) (v : ℕ) → IsNoted n → var_of s p n ≡ v → Fits s v x
+    → Fits s v (touched p x n).0
 touched_fits s HearsTime x n v is e fits = fits
 touched_fits s FindsMapping (Dropped d) n v is e fits = fits
 touched_fits s FindsMapping (Free pool) n v is e fits = fits
-touched_fits s FindsMapping (Mapped es) n v is e fits = (fits.0, fits.1, fits_found (MayMap s v) n.source n.time es (slot_of n.source es) (first_idle n.time es) fits.2)
+touched_fits s FindsMapping (Mapped es) n v is e fits =
+    (fits.0, fits.1, fits_found (MayMap s v) n.source n.time es (slot_of n.source es) (first_idle n.time es) fits.2)
 touched_fits s FindsMapping (Taken bs) n v is e fits = fits
 touched_fits s UnbindsFreed (Dropped d) n v is e fits = fits
 touched_fits s UnbindsFreed (Free pool) n v is e fits = fits
 touched_fits s UnbindsFreed (Mapped es) n v is e fits = fits
 touched_fits s UnbindsFreed (Taken bs) n v is e fits = (fits.0, keeps_unbind (MayBind s v) n.freed bs fits.1)
 touched_fits s GivesBackFreed (Dropped d) n v is e fits = fits
-touched_fits s GivesBackFreed (Free pool) n v is e fits = let a = fits_given s n.freed.protocol n.freed.port pool is.freed_port (fits.1, fits.2, fits.3) in (fits.0, a.0, a.1, a.2)
+touched_fits s GivesBackFreed (Free pool) n v is e fits =
+    let a = fits_given s n.freed.protocol n.freed.port pool is.freed_port (fits.1, fits.2, fits.3) in
+    (fits.0, a.0, a.1, a.2)
 touched_fits s GivesBackFreed (Mapped es) n v is e fits = fits
 touched_fits s GivesBackFreed (Taken bs) n v is e fits = fits
 touched_fits s DrawsWord x n v is e fits = fits
 touched_fits s ReservesPort (Dropped d) n v is e fits = fits
-touched_fits s ReservesPort (Free pool) n v is e fits = let a = fits_reserved s n.source.protocol n.source.port n.word pool (fits.1, fits.2, fits.3) in (fits.0, a.0, a.1, a.2)
+touched_fits s ReservesPort (Free pool) n v is e fits =
+    let a = fits_reserved s n.source.protocol n.source.port n.word pool (fits.1, fits.2, fits.3) in
+    (fits.0, a.0, a.1, a.2)
 touched_fits s ReservesPort (Mapped es) n v is e fits = fits
 touched_fits s ReservesPort (Taken bs) n v is e fits = fits
 touched_fits s BindsPort (Dropped d) n v is e fits = fits
 touched_fits s BindsPort (Free pool) n v is e fits = fits
 touched_fits s BindsPort (Mapped es) n v is e fits = fits
-touched_fits s BindsPort (Taken bs) n v is e fits = (fits.0, keeps_bind (MayBind s v) (source_key n) n.source bs (sym e, is.address, is.source_port) fits.1)
+touched_fits s BindsPort (Taken bs) n v is e fits =
+    (fits.0, keeps_bind (MayBind s v) (source_key n) n.source bs (sym e, is.address, is.source_port) fits.1)
 touched_fits s FindsOrBinds (Dropped d) n v is e fits = fits
 touched_fits s FindsOrBinds (Free pool) n v is e fits = fits
-touched_fits s FindsOrBinds (Mapped es) n v is e fits = (fits.0, fits.1, fits_bound (MayMap s v) n.source n.port n.time es (slot_of n.source es) refl (sym e, is.protocol, is.port) fits.2)
+touched_fits s FindsOrBinds (Mapped es) n v is e fits = (
+  fits.0,
+  fits.1,
+  fits_bound (MayMap s v) n.source n.port n.time es (slot_of n.source es) refl (sym e, is.protocol, is.port) fits.2,
+)
 touched_fits s FindsOrBinds (Taken bs) n v is e fits = fits
 touched_fits s UnbindsLost (Dropped d) n v is e fits = fits
 touched_fits s UnbindsLost (Free pool) n v is e fits = fits
 touched_fits s UnbindsLost (Mapped es) n v is e fits = fits
 touched_fits s UnbindsLost (Taken bs) n v is e fits = (fits.0, keeps_unbind (MayBind s v) n.freed bs fits.1)
 touched_fits s GivesBackLost (Dropped d) n v is e fits = fits
-touched_fits s GivesBackLost (Free pool) n v is e fits = let a = fits_given s n.freed.protocol n.freed.port pool is.freed_port (fits.1, fits.2, fits.3) in (fits.0, a.0, a.1, a.2)
+touched_fits s GivesBackLost (Free pool) n v is e fits =
+    let a = fits_given s n.freed.protocol n.freed.port pool is.freed_port (fits.1, fits.2, fits.3) in
+    (fits.0, a.0, a.1, a.2)
 touched_fits s GivesBackLost (Mapped es) n v is e fits = fits
 touched_fits s GivesBackLost (Taken bs) n v is e fits = fits
 touched_fits s FindsEndpoint x n v is e fits = fits
@@ -472,17 +520,21 @@ long_word frame place word = grind (arith, common_steps)
 long_long : (frame : List ℕ) (place number : ℕ) → length (put_long frame place number) ≡ length frame
 long_long frame place number = long_word _ _ _ ∙ long_word _ _ _
 
-long_rewritten : (frame : List ℕ) (flow : Flow) (address_place port_place address port : ℕ) → length (rewritten frame flow address_place port_place address port) ≡ length frame
-long_rewritten frame flow address_place port_place address port = long_word _ _ _ ∙ long_long _ _ _ ∙ long_word _ _ _ ∙ long_word _ _ _
+long_rewritten : (frame : List ℕ) (flow : Flow) (address_place port_place address port : ℕ)
+    → length (rewritten frame flow address_place port_place address port) ≡ length frame
+long_rewritten frame flow address_place port_place address port =
+    long_word _ _ _ ∙ long_long _ _ _ ∙ long_word _ _ _ ∙ long_word _ _ _
 
-long_out : (s : Settings) (bytes : List ℕ) (n : Noted) (seen : Result Flow NotFlow) → length (bytes_out s bytes n seen) ≡ length bytes
+long_out : (s : Settings) (bytes : List ℕ) (n : Noted) (seen : Result Flow NotFlow)
+    → length (bytes_out s bytes n seen) ≡ length bytes
 long_out s bytes n (Err answer) = refl
 long_out s bytes n (Ok flow) = by n.class
   where
     by : (c : Class) → length (frame_out s c bytes flow n) ≡ length bytes
     by Outbound = long_rewritten bytes flow 26 flow.transport_at s.outside n.port
     by Hairpin =
-        long_rewritten (with_source bytes flow s.outside n.port) flow 30 (flow.transport_at + 2) n.target.address n.target.port
+        long_rewritten (with_source bytes flow s.outside n.port) flow 30 (flow.transport_at + 2) n.target.address
+        n.target.port
         ∙ long_rewritten bytes flow 26 flow.transport_at s.outside n.port
     by Inbound = long_rewritten bytes flow 30 (flow.transport_at + 2) n.target.address n.target.port
 
@@ -490,17 +542,23 @@ pub nat_lawful : (s : Settings) → AreSettings s → IsLawful (nat_meaning s) (
 nat_lawful s is = record {
   some_vars = omega arith;
   few_vars = omega (arith, is.few);
-  touches_var = λ l v e. subst (λ (u : ℕ). u < 2 + 2 * s.shards) (touches_it s (place_numbered l.at) (noted l) v e) (below_all s (place_numbered l.at) (noted l) is.some);
-  reads_var = λ l v e. subst (λ (u : ℕ). u < 2 + 2 * s.shards) (reads_it s (place_numbered l.at) (noted l) v e) (below_all s (place_numbered l.at) (noted l) is.some);
+  touches_var = λ l v e. subst (λ (u : ℕ). u < 2 + 2 * s.shards) (touches_it s (place_numbered l.at) (noted l) v e)
+      (below_all s (place_numbered l.at) (noted l) is.some);
+  reads_var = λ l v e. subst (λ (u : ℕ). u < 2 + 2 * s.shards) (reads_it s (place_numbered l.at) (noted l) v e)
+      (below_all s (place_numbered l.at) (noted l) is.some);
   begins = λ p. rw (rank_at (begun s (viewed p.bytes p.original))) (few_to_make s (viewed p.bytes p.original));
-  touch_falls = λ v x l e f. rw (rank_at (touched (place_numbered l.at) x (noted l)).1) (touch_falls_at s (place_numbered l.at) x (noted l) v e);
-  look_falls = λ v x l e f. rw (rank_at (looked (place_numbered l.at) x (noted l))) (look_falls_at s (place_numbered l.at) x (noted l) v e);
-  clock_falls = λ a l e. rw (rank_at (told (place_numbered l.at) a (noted l))) (clock_falls_at s (place_numbered l.at) a (noted l) e);
+  touch_falls = λ v x l e f. rw (rank_at (touched (place_numbered l.at) x (noted l)).1)
+      (touch_falls_at s (place_numbered l.at) x (noted l) v e);
+  look_falls = λ v x l e f.
+      rw (rank_at (looked (place_numbered l.at) x (noted l))) (look_falls_at s (place_numbered l.at) x (noted l) v e);
+  clock_falls = λ a l e.
+      rw (rank_at (told (place_numbered l.at) a (noted l))) (clock_falls_at s (place_numbered l.at) a (noted l) e);
   draw_falls = λ a l e. rw (rank_at (told (place_numbered l.at) a (noted l)))
       (draw_falls_at s (place_numbered l.at) a (noted l) e);
   emit_falls = λ l e. emit_falls_at s (place_numbered l.at) (noted l) e;
   ends = λ l e. ends_at s (place_numbered l.at) (noted l) e;
   fresh_fits = λ v _. fresh_fits_at s is v;
-  touch_fits = λ v x l e f. touched_fits s (place_numbered l.at) x (noted l) v (is_noted l) (touches_it s (place_numbered l.at) (noted l) v e) f;
+  touch_fits = λ v x l e f. touched_fits s (place_numbered l.at) x (noted l) v (is_noted l)
+      (touches_it s (place_numbered l.at) (noted l) v e) f;
   as_long = λ p l e. long_out s p.bytes (noted l) (viewed p.bytes p.original);
 }

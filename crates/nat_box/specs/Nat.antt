@@ -1,9 +1,12 @@
--- The box that gives inside endpoints ports of one outside address (RFC 3022). Variable 0 counts drops by reason, variable 1 is
--- the pool of free ports, the next S variables are the forward tables, and the next S the reverse tables.
-use Rattle.std.specs.Prelude.{◌≡◌, ℕ, ◌+◌, ◌-◌, ◌*◌, ◌/◌, ◌%◌, ◌^◌, ◌<◌, ◌≤◌, Bool, true, false, ◌==◌, ◌&&◌, nat_lt, if◌then◌else◌, List, [], slice_index, slice_set, replicate, Option, Some, None, Result, Ok, Err}
+-- The box that gives inside endpoints ports of one outside address (RFC 3022). Variable 0 counts drops by reason,
+-- variable 1 is the pool of free ports, the next S variables are the forward tables, and the next S the reverse tables.
+use Rattle.std.specs.Prelude.{◌≡◌, ℕ, ◌+◌, ◌-◌, ◌*◌, ◌/◌, ◌%◌, ◌^◌, ◌<◌, ◌≤◌, Bool, true, false, ◌==◌, ◌&&◌, nat_lt}
+use Rattle.std.specs.Prelude.{if◌then◌else◌, List, [], slice_index, slice_set, replicate, Option, Some, None, Result}
+use Rattle.std.specs.Prelude.{Ok, Err}
 use Rattle.packet_headers.specs.declared.flow.Flow.{Flow}
 use Rattle.packet_headers.specs.declared.flow.NotFlow.{NotFlow}
-use Rattle.packet_headers.specs.declared.flow.NotFlow.TheVariants.{Short, NotIpv4, BadHeaderLength, Fragment, OtherProtocol, BadTotalLength}
+use Rattle.packet_headers.specs.declared.flow.NotFlow.TheVariants.{Short, NotIpv4, BadHeaderLength, Fragment}
+use Rattle.packet_headers.specs.declared.flow.NotFlow.TheVariants.{OtherProtocol, BadTotalLength}
 use Rattle.packet_headers.specs.View.{viewed}
 use Rattle.packet_headers.specs.Rewriting.{with_source, with_dest}
 use Rattle.plain_machine.specs.declared.local.Local.{Local}
@@ -21,7 +24,10 @@ use Rattle.nat_tables.specs.Keys.{port_key}
 use Rattle.nat_tables.specs.Forwards.{find, find_or_bind, lives, AreMappings}
 use Rattle.nat_tables.specs.Reverses.{endpoint_of, bind, unbind, AreBound}
 use Rattle.nat_box.specs.declared.place.Place.{Place}
-use Rattle.nat_box.specs.declared.place.Place.TheVariants.{HearsTime, FindsMapping, UnbindsFreed, GivesBackFreed, DrawsWord, ReservesPort, BindsPort, FindsOrBinds, UnbindsLost, GivesBackLost, FindsEndpoint, AsksIfLives, CountsDrop, SendsOut, Ends}
+use Rattle.nat_box.specs.declared.place.Place.TheVariants.{HearsTime, FindsMapping, UnbindsFreed, GivesBackFreed}
+use Rattle.nat_box.specs.declared.place.Place.TheVariants.{DrawsWord, ReservesPort, BindsPort, FindsOrBinds}
+use Rattle.nat_box.specs.declared.place.Place.TheVariants.{UnbindsLost, GivesBackLost, FindsEndpoint, AsksIfLives}
+use Rattle.nat_box.specs.declared.place.Place.TheVariants.{CountsDrop, SendsOut, Ends}
 use Rattle.nat_box.specs.declared.place.Class.{Class}
 use Rattle.nat_box.specs.declared.place.Class.TheVariants.{Outbound, Hairpin, Inbound}
 use Rattle.nat_box.specs.declared.place.Noted.{Noted}
@@ -176,7 +182,9 @@ after_bind n (Other port) = goes UnbindsLost (record n { port = port; freed = so
 
 abbrev pub with_drop : ℕ → Drops → Drops
 with_drop reason d =
-    if nat_lt 0 reason && nat_lt reason 10 then record { counts = slice_set d.counts (reason - 1) ((slice_index d.counts (reason - 1) + 1) % 2 ^ 64) } else d
+    if nat_lt 0 reason && nat_lt reason 10
+    then record { counts = slice_set d.counts (reason - 1) ((slice_index d.counts (reason - 1) + 1) % 2 ^ 64) }
+    else d
 
 -- at each place the value of its variable, and where the packet goes; the other cases do not come
 abbrev pub touched : Place → NatValue → Noted → NatValue × Goes
@@ -226,7 +234,8 @@ told _ answer n = goes Ends n
 abbrev pub frame_out : Settings → Class → List ℕ → Flow → Noted → List ℕ
 frame_out s Outbound bytes flow n = with_source bytes flow s.outside n.port
 frame_out s Inbound bytes flow n = with_dest bytes flow n.target.address n.target.port
-frame_out s Hairpin bytes flow n = with_dest (with_source bytes flow s.outside n.port) flow n.target.address n.target.port
+frame_out s Hairpin bytes flow n =
+    with_dest (with_source bytes flow s.outside n.port) flow n.target.address n.target.port
 
 abbrev pub bytes_out : Settings → List ℕ → Noted → Result Flow NotFlow → List ℕ
 bytes_out s bytes n (Ok flow) = frame_out s n.class bytes flow n
@@ -260,8 +269,8 @@ nat_meaning s = record {
   rank = λ l. moves_left (place_numbered l.at);
 }
 
--- Each variable has a value of its kind. In a forward table, mappings stand by their endpoints, and no endpoint has two; in a
--- reverse table, bound ports stand by their numbers, and none twice.
+-- Each variable has a value of its kind. In a forward table, mappings stand by their endpoints, and no endpoint has
+-- two; in a reverse table, bound ports stand by their numbers, and none twice.
 
 abbrev pub MayMap : Settings → ℕ → Endpoint → ℕ → Type 0
 MayMap s v key port = (v ≡ forward_table s key) × (key.protocol < 2 ^ 8) × (port < 2 ^ 16)

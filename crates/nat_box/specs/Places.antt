@@ -5,7 +5,10 @@ use Rattle.nat_tables.specs.declared.entries.Endpoint.{Endpoint}
 use Rattle.nat_tables.specs.declared.entries.PortKey.{PortKey}
 use Rattle.nat_tables.specs.Keys.{port_key}
 use Rattle.nat_box.specs.declared.place.Place.{Place}
-use Rattle.nat_box.specs.declared.place.Place.TheVariants.{HearsTime, FindsMapping, UnbindsFreed, GivesBackFreed, DrawsWord, ReservesPort, BindsPort, FindsOrBinds, UnbindsLost, GivesBackLost, FindsEndpoint, AsksIfLives, CountsDrop, SendsOut, Ends}
+use Rattle.nat_box.specs.declared.place.Place.TheVariants.{HearsTime, FindsMapping, UnbindsFreed, GivesBackFreed}
+use Rattle.nat_box.specs.declared.place.Place.TheVariants.{DrawsWord, ReservesPort, BindsPort, FindsOrBinds}
+use Rattle.nat_box.specs.declared.place.Place.TheVariants.{UnbindsLost, GivesBackLost, FindsEndpoint, AsksIfLives}
+use Rattle.nat_box.specs.declared.place.Place.TheVariants.{CountsDrop, SendsOut, Ends}
 use Rattle.nat_box.specs.declared.place.Class.{Class}
 use Rattle.nat_box.specs.declared.place.Class.TheVariants.{Outbound, Hairpin, Inbound}
 use Rattle.nat_box.specs.declared.place.Noted.{Noted}
@@ -30,10 +33,11 @@ number_of Ends = 14
 
 abbrev pub place_numbered : ℕ → Place
 place_numbered at =
-    if at == 0 then HearsTime else if at == 1 then FindsMapping else if at == 2 then UnbindsFreed else if at == 3 then GivesBackFreed
-    else if at == 4 then DrawsWord else if at == 5 then ReservesPort else if at == 6 then BindsPort else if at == 7 then FindsOrBinds
-    else if at == 8 then UnbindsLost else if at == 9 then GivesBackLost else if at == 10 then FindsEndpoint else if at == 11 then AsksIfLives
-    else if at == 12 then CountsDrop else if at == 13 then SendsOut else Ends
+    if at == 0 then HearsTime else if at == 1 then FindsMapping else if at == 2 then UnbindsFreed else if at == 3
+    then GivesBackFreed else if at == 4 then DrawsWord else if at == 5 then ReservesPort else if at == 6 then BindsPort
+    else if at == 7 then FindsOrBinds else if at == 8 then UnbindsLost else if at == 9 then GivesBackLost
+    else if at == 10 then FindsEndpoint else if at == 11 then AsksIfLives else if at == 12 then CountsDrop
+    else if at == 13 then SendsOut else Ends
 
 abbrev pub number_of_class : Class → ℕ
 number_of_class Outbound = 0
@@ -63,8 +67,9 @@ noted l = record {
 abbrev pub local_of : Place → Noted → Local
 local_of place n = record {
   at = number_of place;
-  regs = number_of_class n.class ∷ n.source.protocol ∷ n.source.address ∷ n.source.port ∷ n.dest_port ∷ n.time ∷ n.word ∷ n.port
-      ∷ n.freed.protocol ∷ n.freed.port ∷ n.target.address ∷ n.target.port ∷ [];
+  regs =
+      number_of_class n.class ∷ n.source.protocol ∷ n.source.address ∷ n.source.port ∷ n.dest_port ∷ n.time ∷ n.word
+      ∷ n.port ∷ n.freed.protocol ∷ n.freed.port ∷ n.target.address ∷ n.target.port ∷ [];
 }
 
 -- the outside port of its source, and the one that it goes to

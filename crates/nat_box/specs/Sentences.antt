@@ -1,6 +1,6 @@
--- What follows for single entries, after each move of each run: each forward entry has its reverse entry, so no port stands for
--- two inside endpoints; an endpoint has at most one mapping; and each reverse entry belongs to a forward entry or to a packet in
--- hand that stands between.
+-- What follows for single entries, after each move of each run: each forward entry has its reverse entry, so no port
+-- stands for two inside endpoints; an endpoint has at most one mapping; and each reverse entry belongs to a forward
+-- entry or to a packet in hand that stands between.
 use Rattle.std.specs.Prelude.{◌≡◌, ℕ, ◌+◌, ◌*◌, ◌<◌, ◌⊎◌, List, [], ◌∷◌, Option, Some, None}
 use Rattle.plain_text.specs.declared.packet.Packet.{Packet}
 use Rattle.plain_machine.specs.Machine.{Hand, Thread}
@@ -39,16 +39,21 @@ IsMapping s value v e = (v < 2 + 2 * s.shards) × Has (mappings_in (value v)) e
 
 -- its reverse entry is there
 abbrev pub HaveReverse : Settings → (ℕ → NatValue) → Type 0
-HaveReverse s value = (v : ℕ) (e : Endpoint × Slot) → IsMapping s value v e → endpoint_of (port_of e) (bound_in (value (reverse_table s (port_of e)))) ≡ Some e.0
+HaveReverse s value =
+    (v : ℕ) (e : Endpoint × Slot) → IsMapping s value v e
+    → endpoint_of (port_of e) (bound_in (value (reverse_table s (port_of e)))) ≡ Some e.0
 
 abbrev pub HaveOneEndpoint : Settings → (ℕ → NatValue) → Type 0
-HaveOneEndpoint s value = (v w : ℕ) (e f : Endpoint × Slot) → IsMapping s value v e → IsMapping s value w f → port_of e ≡ port_of f → e.0 ≡ f.0
+HaveOneEndpoint s value =
+    (v w : ℕ) (e f : Endpoint × Slot) → IsMapping s value v e → IsMapping s value w f → port_of e ≡ port_of f
+    → e.0 ≡ f.0
 
 abbrev pub HaveOneMapping : Settings → (ℕ → NatValue) → Type 0
-HaveOneMapping s value = (v w : ℕ) (e f : Endpoint × Slot) → IsMapping s value v e → IsMapping s value w f → e.0 ≡ f.0 → (v ≡ w) × (e ≡ f)
+HaveOneMapping s value =
+    (v w : ℕ) (e f : Endpoint × Slot) → IsMapping s value v e → IsMapping s value w f → e.0 ≡ f.0 → (v ≡ w) × (e ≡ f)
 
--- A packet in hand has bound the port to its source, and looks next whether its source has a mapping by now; or it is about to
--- unbind the port.
+-- A packet in hand has bound the port to its source, and looks next whether its source has a mapping by now; or it is
+-- about to unbind the port.
 abbrev pub IsBetween : PortKey → Endpoint → Option Hand → Type 0
 IsBetween port key None = ⊥
 IsBetween port key (Some h) =
@@ -59,11 +64,14 @@ IsBetween port key (Some h) =
 abbrev pub Belong : Settings → ℕ → (ℕ → NatValue) → (ℕ → Thread) → Type 0
 Belong s threads value thread =
     (v : ℕ) (port : PortKey) (key : Endpoint) → v < 2 + 2 * s.shards → Has (bound_in (value v)) (port, key)
-    → ((w : ℕ) × (slot : Slot) × IsMapping s value w (key, slot) × (port_of (key, slot) ≡ port)) ⊎ ((t : ℕ) × (t < threads) × IsBetween port key (thread t).hand)
+    → ((w : ℕ) × (slot : Slot) × IsMapping s value w (key, slot) × (port_of (key, slot) ≡ port))
+    ⊎ ((t : ℕ) × (t < threads) × IsBetween port key (thread t).hand)
 
 abbrev pub EntriesStand : Type 0
 EntriesStand =
-    (s : Settings) (threads : ℕ) (inputs : ℕ → List Packet) (steps : List (Step NatValue))
-    → AreSettings s → IsHistory (nat_meaning s) inputs threads steps
-    → HaveReverse s (value_after (nat_meaning s) steps) × HaveOneEndpoint s (value_after (nat_meaning s) steps) × HaveOneMapping s (value_after (nat_meaning s) steps)
+    (s : Settings) (threads : ℕ) (inputs : ℕ → List Packet) (steps : List (Step NatValue)) → AreSettings s
+    → IsHistory (nat_meaning s) inputs threads steps
+    → HaveReverse s (value_after (nat_meaning s) steps)
+    × HaveOneEndpoint s (value_after (nat_meaning s) steps)
+    × HaveOneMapping s (value_after (nat_meaning s) steps)
     × Belong s threads (value_after (nat_meaning s) steps) (thread_after steps)

@@ -8,7 +8,8 @@ use Rattle.nat_box.specs.declared.value.NatValue.TheVariants.{Dropped, Free, Map
 -- one reason with its count behind what was written before; nothing where the count is 0
 abbrev pub with_reason : ℕ → ℕ → List ℕ → List ℕ
 with_reason reason count [] = if count == 0 then [] else decimal reason ++ codes ":" ++ decimal count
-with_reason reason count (b ∷ bs) = if count == 0 then b ∷ bs else (b ∷ bs) ++ codes " " ++ decimal reason ++ codes ":" ++ decimal count
+with_reason reason count (b ∷ bs) =
+    if count == 0 then b ∷ bs else (b ∷ bs) ++ codes " " ++ decimal reason ++ codes ":" ++ decimal count
 
 -- these counts, of the reasons from this one on, behind what was written before
 abbrev pub with_reasons : ℕ → List ℕ → List ℕ → List ℕ

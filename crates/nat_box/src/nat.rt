@@ -5,14 +5,14 @@ use nat_tables::{Endpoint, PortKey};
 
 /// The box `nat`: it gives endpoints of an inside network ports of one outside address (RFC 3022).
 ///
-/// A mapping is of an inside endpoint, whatever remote it speaks with (RFC 4787, REQ-1). An outside port stands for one inside
-/// endpoint (REQ-3), and is of the parity of the inside port while one of this parity is free (REQ-4). Outbound packets
-/// refresh a mapping, inbound packets do not (REQ-6). A packet from inside to a mapped outside port goes back inside, with the
-/// outside address and port of its source (REQ-9). What comes to a mapped port from any remote is let in (REQ-8, endpoint-independent
-/// filtering).
+/// A mapping is of an inside endpoint, whatever remote it speaks with (RFC 4787, REQ-1). An outside port stands for one
+/// inside endpoint (REQ-3), and is of the parity of the inside port while one of this parity is free (REQ-4). Outbound
+/// packets refresh a mapping, inbound packets do not (REQ-6). A packet from inside to a mapped outside port goes back
+/// inside, with the outside address and port of its source (REQ-9). What comes to a mapped port from any remote is let
+/// in (REQ-8, endpoint-independent filtering).
 ///
-/// Variable 0 counts drops by reason, variable 1 is the pool of free ports, the next `shards` variables are the forward tables, and
-/// the next `shards` the reverse tables.
+/// Variable 0 counts drops by reason, variable 1 is the pool of free ports, the next `shards` variables are the forward
+/// tables, and the next `shards` the reverse tables.
 #[derive(Debug, Drop)]
 pub struct NatBox {
     /// The number of forward tables, and of reverse tables, 1 to 64.
@@ -41,7 +41,8 @@ impl NatBox {
     ghost use Rattle.nat_box.specs.Nat.{is_inside, class_of_flow, forward_table, reverse_table};
     ghost use Rattle.nat_box.specs.Boxes.{settings_of, box_with};
 
-    /// The box with this number of tables of each kind, this inside network, outside address and range of outside ports.
+    /// The box with this number of tables of each kind, this inside network, outside address and range of outside
+    /// ports.
     pub fn new(shards: u32, inside: u32, length: u32, outside: u32, low: u16, high: u16) -> Self
         requires some { 1 ≤ shards }
         requires few { shards ≤ 64 }

@@ -1,5 +1,6 @@
 ghost use Rattle.std.specs.Prelude.{◌≡◌};
-ghost use Rattle.nat_box.specs.Places.{number_of, place_numbered, number_of_class, class_of, noted, local_of, source_key, dest_key};
+ghost use Rattle.nat_box.specs.Places.{number_of, place_numbered, number_of_class, class_of, noted};
+ghost use Rattle.nat_box.specs.Places.{local_of, source_key, dest_key};
 
 use box_program::Local;
 use nat_tables::{Endpoint, PortKey};

@@ -1,5 +1,6 @@
 ghost use Rattle.std.specs.Prelude.{◌≡◌, IfOk, OnErr};
-ghost use Rattle.nat_box.specs.Nat.{goes, dropped, mapped, after_find, after_reserve, after_bind, touched, after_endpoint, looked, told};
+ghost use Rattle.nat_box.specs.Nat.{goes, dropped, mapped, after_find, after_reserve, after_bind};
+ghost use Rattle.nat_box.specs.Nat.{touched, after_endpoint, looked, told};
 ghost use Rattle.nat_box.specs.declared.value.NatValue.TheVariants.{Dropped, Free, Mapped, Taken};
 
 use crate::{Class, Drops, Goes, Noted, Place};

@@ -1,6 +1,7 @@
 ghost use Rattle.std.specs.Prelude.{◌≡◌, IfOk};
 ghost use Rattle.packet_headers.specs.Rewriting.{CanRewrite};
-ghost use Rattle.nat_box.specs.Nat.{begun, frame_out, bytes_out, noted_flow, nothing_noted, reason_of};
+ghost use Rattle.nat_box.specs.Nat.{begun, frame_out, bytes_out, noted_flow, nothing_noted};
+ghost use Rattle.nat_box.specs.Nat.{reason_of};
 ghost use Rattle.nat_box.specs.Boxes.{settings_of};
 
 use crate::{Class, Goes, NatBox, Noted, Place};
@@ -93,8 +94,8 @@ impl NatBox {
         }
     }
 
-    /// Translates a flow's frame (RFC 3022, section 4.1): an outbound frame comes from the outside address and its source's port,
-    /// an inbound one goes to the inside endpoint, and in a hairpin both are set, the source first.
+    /// Translates a flow's frame (RFC 3022, section 4.1): an outbound frame comes from the outside address and its
+    /// source's port, an inbound one goes to the inside endpoint, and in a hairpin both are set, the source first.
     pub(crate) fn translate(&self, frame: &mut [u8], flow: &Flow, noted: &Noted)
         requires { CanRewrite frame.old flow.now }
         ensures { frame.new

@@ -9,8 +9,8 @@ use std::alloc::Global;
 
 /// How many packets were dropped, by the reason less 1, modulo 2^64.
 ///
-/// Reasons 1 to 6 are those for which a frame is no flow. 7 is a packet to a port with no mapping, 8 one for which no port was free,
-/// 9 one that neither comes from inside nor goes to the outside address, or goes from inside to inside.
+/// Reasons 1 to 6 are those for which a frame is no flow. 7 is a packet to a port with no mapping, 8 one for which no
+/// port was free, 9 one that neither comes from inside nor goes to the outside address, or goes from inside to inside.
 #[derive(Clone, Copy, Debug, PartialEq, Eq)]
 pub struct Drops {
     /// The count of reason 1 first.

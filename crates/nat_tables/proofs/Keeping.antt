@@ -5,43 +5,53 @@ use Rattle.nat_tables.specs.declared.entries.Endpoint.{Endpoint}
 use Rattle.nat_tables.specs.declared.entries.PortKey.{PortKey}
 use Rattle.nat_tables.specs.declared.slot.Slot.{Slot}
 use Rattle.nat_tables.specs.Keys.{same_endpoint, same_port}
-use Rattle.nat_tables.specs.Forwards.{Forwards, is_idle, slot_of, refresh, without, first_idle, without_idle, Misses, AreMappings}
+use Rattle.nat_tables.specs.Forwards.{Forwards, is_idle, slot_of, refresh, without, first_idle, without_idle, Misses}
+use Rattle.nat_tables.specs.Forwards.{AreMappings}
 use Rattle.nat_tables.specs.Reverses.{Reverses, bind, unbind, IsUnbound, AreBound}
 use Rattle.nat_tables.proofs.Counting.{same_is, port_is}
 
 module _ (May : Endpoint → ℕ → Type 0) where
-  pub may_slot : (key : Endpoint) (slot : Slot) (es : Forwards) → slot_of key es ≡ Some slot → AreMappings May es → May key slot.port
+  pub may_slot : (key : Endpoint) (slot : Slot) (es : Forwards) → slot_of key es ≡ Some slot → AreMappings May es
+      → May key slot.port
   may_slot key slot [] is all = absurd (cc)
   may_slot key slot (e ∷ es) is all = by (same_endpoint key e.0) refl is (λ h. may_slot key slot es h all.2)
     where
-      by : (b : Bool) → same_endpoint key e.0 ≡ b → (if b then Some e.1 else slot_of key es) ≡ Some slot → (slot_of key es ≡ Some slot → May key slot.port) → May key slot.port
+      by : (b : Bool) → same_endpoint key e.0 ≡ b → (if b then Some e.1 else slot_of key es) ≡ Some slot
+          → (slot_of key es ≡ Some slot → May key slot.port) → May key slot.port
       by true q is behind =
           let k : key ≡ e.0 = same_is key e.0 q in
           let s : e.1 ≡ slot = cc in
           rw (k, sym s) all.0
       by false q is behind = behind is
 
-  pub may_idle : (now : ℕ) (idle : Endpoint × Slot) (es : Forwards) → first_idle now es ≡ Some idle → AreMappings May es → May idle.0 idle.1.port
+  pub may_idle : (now : ℕ) (idle : Endpoint × Slot) (es : Forwards) → first_idle now es ≡ Some idle → AreMappings May es
+      → May idle.0 idle.1.port
   may_idle now idle [] is all = absurd (cc)
   may_idle now idle (e ∷ es) is all = by (is_idle now e) is (λ h. may_idle now idle es h all.2)
     where
-      by : (b : Bool) → (if b then Some e else first_idle now es) ≡ Some idle → (first_idle now es ≡ Some idle → May idle.0 idle.1.port) → May idle.0 idle.1.port
+      by : (b : Bool) → (if b then Some e else first_idle now es) ≡ Some idle
+          → (first_idle now es ≡ Some idle → May idle.0 idle.1.port) → May idle.0 idle.1.port
       by true is behind = let s : e ≡ idle = cc in rw (sym s) all.0
       by false is behind = behind is
 
-  misses_refreshed : (key other : Endpoint) (now : ℕ) (es : Forwards) → Misses es other → Misses (refresh key now es) other
+  misses_refreshed : (key other : Endpoint) (now : ℕ) (es : Forwards) → Misses es other
+      → Misses (refresh key now es) other
   misses_refreshed key other now [] old = tt
-  misses_refreshed key other now (e ∷ es) old = by (same_endpoint key e.0) refl (misses_refreshed key other now es old.1)
+  misses_refreshed key other now (e ∷ es) old =
+      by (same_endpoint key e.0) refl (misses_refreshed key other now es old.1)
     where
-      by : (b : Bool) → same_endpoint key e.0 ≡ b → (Misses (refresh key now es) other) → Misses (refresh key now (e ∷ es)) other
+      by : (b : Bool) → same_endpoint key e.0 ≡ b → (Misses (refresh key now es) other)
+          → Misses (refresh key now (e ∷ es)) other
       by true q behind = rw q old
       by false q behind = rw q (old.0, behind)
 
-  pub keeps_refreshed : (key : Endpoint) (now : ℕ) (es : Forwards) → AreMappings May es → AreMappings May (refresh key now es)
+  pub keeps_refreshed : (key : Endpoint) (now : ℕ) (es : Forwards) → AreMappings May es
+      → AreMappings May (refresh key now es)
   keeps_refreshed key now [] all = tt
   keeps_refreshed key now (e ∷ es) all = by (same_endpoint key e.0) refl (keeps_refreshed key now es all.2)
     where
-      by : (b : Bool) → same_endpoint key e.0 ≡ b → (AreMappings May (refresh key now es)) → AreMappings May (refresh key now (e ∷ es))
+      by : (b : Bool) → same_endpoint key e.0 ≡ b → (AreMappings May (refresh key now es))
+          → AreMappings May (refresh key now (e ∷ es))
       by true q behind = rw q all
       by false q behind = rw q (all.0, misses_refreshed key e.0 now es all.1, behind)
 
@@ -49,7 +59,8 @@ module _ (May : Endpoint → ℕ → Type 0) where
   misses_without key other [] old = tt
   misses_without key other (e ∷ es) old = by (same_endpoint key e.0) refl (misses_without key other es old.1)
     where
-      by : (b : Bool) → same_endpoint key e.0 ≡ b → (Misses (without key es) other) → Misses (without key (e ∷ es)) other
+      by : (b : Bool) → same_endpoint key e.0 ≡ b → (Misses (without key es) other)
+          → Misses (without key (e ∷ es)) other
       by true q behind = rw q old.1
       by false q behind = rw q (old.0, behind)
 
@@ -57,15 +68,18 @@ module _ (May : Endpoint → ℕ → Type 0) where
   keeps_without key [] all = tt
   keeps_without key (e ∷ es) all = by (same_endpoint key e.0) refl (keeps_without key es all.2)
     where
-      by : (b : Bool) → same_endpoint key e.0 ≡ b → (AreMappings May (without key es)) → AreMappings May (without key (e ∷ es))
+      by : (b : Bool) → same_endpoint key e.0 ≡ b → (AreMappings May (without key es))
+          → AreMappings May (without key (e ∷ es))
       by true q behind = rw q all.2
       by false q behind = rw q (all.0, misses_without key e.0 es all.1, behind)
 
-  misses_without_idle : (now : ℕ) (other : Endpoint) (es : Forwards) → Misses es other → Misses (without_idle now es) other
+  misses_without_idle : (now : ℕ) (other : Endpoint) (es : Forwards) → Misses es other
+      → Misses (without_idle now es) other
   misses_without_idle now other [] old = tt
   misses_without_idle now other (e ∷ es) old = by (is_idle now e) refl (misses_without_idle now other es old.1)
     where
-      by : (b : Bool) → is_idle now e ≡ b → (Misses (without_idle now es) other) → Misses (without_idle now (e ∷ es)) other
+      by : (b : Bool) → is_idle now e ≡ b → (Misses (without_idle now es) other)
+          → Misses (without_idle now (e ∷ es)) other
       by true q behind = rw q old.1
       by false q behind = rw q (old.0, behind)
 
@@ -73,7 +87,8 @@ module _ (May : Endpoint → ℕ → Type 0) where
   keeps_without_idle now [] all = tt
   keeps_without_idle now (e ∷ es) all = by (is_idle now e) refl (keeps_without_idle now es all.2)
     where
-      by : (b : Bool) → is_idle now e ≡ b → (AreMappings May (without_idle now es)) → AreMappings May (without_idle now (e ∷ es))
+      by : (b : Bool) → is_idle now e ≡ b → (AreMappings May (without_idle now es))
+          → AreMappings May (without_idle now (e ∷ es))
       by true q behind = rw q all.2
       by false q behind = rw q (all.0, misses_without_idle now e.0 es all.1, behind)
 
@@ -85,32 +100,41 @@ module _ (May : Endpoint → ℕ → Type 0) where
       by true e = let k : b ≡ a = same_is b a e in let j : same_endpoint a b ≡ same_endpoint b a = rw k refl in cc
       by false e = e
 
-  misses_more : (key other : Endpoint) (slot : Slot) (es : Forwards) → Misses es other → same_endpoint key other ≡ false → Misses (es ++ (key, slot) ∷ []) other
+  misses_more : (key other : Endpoint) (slot : Slot) (es : Forwards) → Misses es other → same_endpoint key other ≡ false
+      → Misses (es ++ (key, slot) ∷ []) other
   misses_more key other slot [] old new = (new, tt)
   misses_more key other slot (e ∷ es) old new = (old.0, misses_more key other slot es old.1 new)
 
-  pub keeps_bound : (key : Endpoint) (slot : Slot) (es : Forwards) → slot_of key es ≡ None → May key slot.port → AreMappings May es → AreMappings May (es ++ (key, slot) ∷ [])
+  pub keeps_bound : (key : Endpoint) (slot : Slot) (es : Forwards) → slot_of key es ≡ None → May key slot.port
+      → AreMappings May es → AreMappings May (es ++ (key, slot) ∷ [])
   keeps_bound key slot [] is may all = (may, tt, tt)
-  keeps_bound key slot (e ∷ es) is may all = by (same_endpoint key e.0) refl is (λ h. keeps_bound key slot es h may all.2)
+  keeps_bound key slot (e ∷ es) is may all =
+      by (same_endpoint key e.0) refl is (λ h. keeps_bound key slot es h may all.2)
     where
-      by : (b : Bool) → same_endpoint key e.0 ≡ b → (if b then Some e.1 else slot_of key es) ≡ None → (slot_of key es ≡ None → AreMappings May (es ++ (key, slot) ∷ [])) → AreMappings May ((e ∷ es) ++ (key, slot) ∷ [])
+      by : (b : Bool) → same_endpoint key e.0 ≡ b → (if b then Some e.1 else slot_of key es) ≡ None
+          → (slot_of key es ≡ None → AreMappings May (es ++ (key, slot) ∷ []))
+          → AreMappings May ((e ∷ es) ++ (key, slot) ∷ [])
       by true q is behind = absurd (cc)
       by false q is behind = (all.0, misses_more key e.0 slot es all.1 q, behind is)
 
 module _ (May : PortKey → Endpoint → Type 0) where
-  unbound_bind : (port other : PortKey) (key : Endpoint) (bs : Reverses) → IsUnbound bs other → same_port port other ≡ false → IsUnbound (bind port key bs) other
+  unbound_bind : (port other : PortKey) (key : Endpoint) (bs : Reverses) → IsUnbound bs other
+      → same_port port other ≡ false → IsUnbound (bind port key bs) other
   unbound_bind port other key [] old new = (new, tt)
   unbound_bind port other key (b ∷ bs) old new = by (same_port port b.0) refl (unbound_bind port other key bs old.1 new)
     where
-      by : (t : Bool) → same_port port b.0 ≡ t → (IsUnbound (bind port key bs) other) → IsUnbound (bind port key (b ∷ bs)) other
+      by : (t : Bool) → same_port port b.0 ≡ t → (IsUnbound (bind port key bs) other)
+          → IsUnbound (bind port key (b ∷ bs)) other
       by true q behind = rw q old
       by false q behind = rw q (old.0, behind)
 
-  pub keeps_bind : (port : PortKey) (key : Endpoint) (bs : Reverses) → May port key → AreBound May bs → AreBound May (bind port key bs)
+  pub keeps_bind : (port : PortKey) (key : Endpoint) (bs : Reverses) → May port key → AreBound May bs
+      → AreBound May (bind port key bs)
   keeps_bind port key [] may all = (may, tt, tt)
   keeps_bind port key (b ∷ bs) may all = by (same_port port b.0) refl (keeps_bind port key bs may all.2)
     where
-      by : (t : Bool) → same_port port b.0 ≡ t → (AreBound May (bind port key bs)) → AreBound May (bind port key (b ∷ bs))
+      by : (t : Bool) → same_port port b.0 ≡ t → (AreBound May (bind port key bs))
+          → AreBound May (bind port key (b ∷ bs))
       by true q behind = rw q (subst (λ (k : PortKey). May k key) (port_is port b.0 q) may, all.1, all.2)
       by false q behind = rw q (all.0, unbound_bind port b.0 key bs all.1 q, behind)
 
@@ -118,7 +142,8 @@ module _ (May : PortKey → Endpoint → Type 0) where
   unbound_unbind port other [] old = tt
   unbound_unbind port other (b ∷ bs) old = by (same_port port b.0) refl (unbound_unbind port other bs old.1)
     where
-      by : (t : Bool) → same_port port b.0 ≡ t → (IsUnbound (unbind port bs) other) → IsUnbound (unbind port (b ∷ bs)) other
+      by : (t : Bool) → same_port port b.0 ≡ t → (IsUnbound (unbind port bs) other)
+          → IsUnbound (unbind port (b ∷ bs)) other
       by true q behind = rw q old.1
       by false q behind = rw q (old.0, behind)
 

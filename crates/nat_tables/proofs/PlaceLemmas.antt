@@ -1,5 +1,6 @@
 -- Ports in a row of parts: the one at an index stands in one part, and a port is put into the part that spans it.
-use Rattle.std.proofs.Common.{◌≡◌, ℕ, zero, suc, ◌+◌, ◌-◌, ◌*◌, ◌<◌, ◌≤◌, Bool, true, false, List, [], ◌∷◌, ◌++◌, length, get_or, set, take, refl, sym, ap, subst, ◌∙◌, arith}
+use Rattle.std.proofs.Common.{◌≡◌, ℕ, zero, suc, ◌+◌, ◌-◌, ◌*◌, ◌<◌, ◌≤◌, Bool, true, false, List, [], ◌∷◌, ◌++◌}
+use Rattle.std.proofs.Common.{length, get_or, set, take, refl, sym, ap, subst, ◌∙◌, arith}
 use Rattle.std.specs.Prelude.{◌==◌, nat_lt}
 use Rattle.std.specs.List.{remove, All, sum_by}
 use Rattle.std.proofs.lemmas.List.{length-append, get_or_append_left, get_or-append_right, get_or_default, take_all}
@@ -46,7 +47,8 @@ port_before : (p : ℕ) (qs rs : List ℕ) → AreFrom (suc p) rs → with_port 
 port_before p [] rs all = port_first p rs all
 port_before p (q ∷ qs) rs all = by (nat_lt p q) (p == q) refl refl (port_before p qs rs all)
   where
-    by : (b c : Bool) → nat_lt p q ≡ b → (p == q) ≡ c → with_port p (qs ++ rs) ≡ with_port p qs ++ rs → with_port p (q ∷ qs ++ rs) ≡ with_port p (q ∷ qs) ++ rs
+    by : (b c : Bool) → nat_lt p q ≡ b → (p == q) ≡ c → with_port p (qs ++ rs) ≡ with_port p qs ++ rs
+        → with_port p (q ∷ qs ++ rs) ≡ with_port p (q ∷ qs) ++ rs
     by true c e f behind = rw e refl
     by false true e f behind = rw (e, f) refl
     by false false e f behind = rw (e, f) (ap (λ rest. q ∷ rest) behind)
@@ -78,7 +80,8 @@ module _ {B : Type 0} (ports : ℕ → B → List ℕ) (count : B → ℕ) (span
       from_joined first (ports first b) (in_row ports span (first + span) bs) (low first b)
       (from_still (first + span) first (in_row ports span (first + span) bs) (omega arith) (row_from (first + span) bs))
 
-  pub row_below : (first end : ℕ) (bs : List B) → All Holds bs → first + length bs * span ≤ end → AreBelow end (in_row ports span first bs)
+  pub row_below : (first end : ℕ) (bs : List B) → All Holds bs → first + length bs * span ≤ end
+      → AreBelow end (in_row ports span first bs)
   row_below first end [] all fits = tt
   row_below first end (b ∷ bs) all fits =
       below_joined end (ports first b) (in_row ports span (first + span) bs)
@@ -86,8 +89,9 @@ module _ {B : Type 0} (ports : ℕ → B → List ℕ) (count : B → ℕ) (span
       (row_below (first + span) end bs (All-tail Holds b bs all) (omega arith))
 
   module _ (d : B) where
-    pub row_index : (first at i left base : ℕ) (bs : List B) → All Holds bs → i < length bs → at ≡ sum_by count (take i bs) + left → left < count (get_or bs i d)
-        → first + i * span ≡ base → get_or (in_row ports span first bs) at 0 ≡ get_or (ports base (get_or bs i d)) left 0
+    pub row_index : (first at i left base : ℕ) (bs : List B) → All Holds bs → i < length bs
+        → at ≡ sum_by count (take i bs) + left → left < count (get_or bs i d) → first + i * span ≡ base
+        → get_or (in_row ports span first bs) at 0 ≡ get_or (ports base (get_or bs i d)) left 0
     row_index first at i left base [] all inside before within is = absurd (omega arith)
     row_index first at zero left base (b ∷ bs) all inside before within is =
         let same : first ≡ base = omega arith in
@@ -96,16 +100,21 @@ module _ {B : Type 0} (ports : ℕ → B → List ℕ) (count : B → ℕ) (span
         rw (← e, ← same) (get_or_append_left (ports first b) (in_row ports span (first + span) bs) 0 left (omega arith))
     row_index first at (suc i) left base (b ∷ bs) all inside before within is =
         let sums = sum_by-cons count b (take i bs) in
-        get_or-append_right (ports first b) (in_row ports span (first + span) bs) (count b) at 0 (counted first b (All-head Holds b bs all)) (omega arith)
-        ∙ row_index (first + span) (at - count b) i left base bs (All-tail Holds b bs all) (omega arith) (omega arith) within (omega arith)
+        get_or-append_right (ports first b) (in_row ports span (first + span) bs) (count b) at 0
+        (counted first b (All-head Holds b bs all)) (omega arith)
+        ∙ row_index (first + span) (at - count b) i left base bs (All-tail Holds b bs all) (omega arith) (omega arith)
+        within (omega arith)
 
-    pub row_removed : (first at i left base : ℕ) (b' : B) (bs : List B) → All Holds bs → i < length bs → at ≡ sum_by count (take i bs) + left → left < count (get_or bs i d)
-        → first + i * span ≡ base → ports base b' ≡ remove (ports base (get_or bs i d)) left → in_row ports span first (set bs i b') ≡ remove (in_row ports span first bs) at
+    pub row_removed : (first at i left base : ℕ) (b' : B) (bs : List B) → All Holds bs → i < length bs
+        → at ≡ sum_by count (take i bs) + left → left < count (get_or bs i d) → first + i * span ≡ base
+        → ports base b' ≡ remove (ports base (get_or bs i d)) left
+        → in_row ports span first (set bs i b') ≡ remove (in_row ports span first bs) at
     row_removed first at i left base b' [] all inside before within is new = absurd (omega arith)
     row_removed first at zero left base b' (b ∷ bs) all inside before within is new =
         let same : base ≡ first = omega arith in
         let here = counted first b (All-head Holds b bs all) in
-        let new' : ports first b' ≡ remove (ports first b) left = subst (λ (x : ℕ). ports x b' ≡ remove (ports x b) left) same new in
+        let new' : ports first b' ≡ remove (ports first b) left =
+        subst (λ (x : ℕ). ports x b' ≡ remove (ports x b) left) same new in
         let rest = in_row ports span (first + span) bs in
         let e : left ≡ at = omega (arith, before) in
         subst (λ (x : ℕ). ports first b' ++ rest ≡ remove (ports first b ++ rest) x) e
@@ -113,39 +122,53 @@ module _ {B : Type 0} (ports : ℕ → B → List ℕ) (count : B → ℕ) (span
     row_removed first at (suc i) left base b' (b ∷ bs) all inside before within is new =
         let sums = sum_by-cons count b (take i bs) in
         let rest = in_row ports span (first + span) bs in
-        ap (λ back. ports first b ++ back)
-        (row_removed (first + span) (at - count b) i left base b' bs (All-tail Holds b bs all) (omega arith) (omega arith) within (omega arith) new)
-        ∙ sym (remove-append_right (ports first b) rest (count b) at (counted first b (All-head Holds b bs all)) (omega arith))
+        ap (λ back. ports first b ++ back) (row_removed (first + span) (at - count b) i left base b' bs
+        (All-tail Holds b bs all) (omega arith) (omega arith) within (omega arith) new)
+        ∙ sym (remove-append_right (ports first b) rest (count b) at (counted first b (All-head Holds b bs all))
+        (omega arith))
 
-    pub row_with : (p first i base : ℕ) (b' : B) (bs : List B) → All Holds bs → i < length bs → first + i * span ≡ base → base ≤ p → p < base + span
-        → ports base b' ≡ with_port p (ports base (get_or bs i d)) → in_row ports span first (set bs i b') ≡ with_port p (in_row ports span first bs)
+    pub row_with : (p first i base : ℕ) (b' : B) (bs : List B) → All Holds bs → i < length bs → first + i * span ≡ base
+        → base ≤ p → p < base + span → ports base b' ≡ with_port p (ports base (get_or bs i d))
+        → in_row ports span first (set bs i b') ≡ with_port p (in_row ports span first bs)
     row_with p first i base b' [] all inside is above below new = absurd (omega arith)
     row_with p first zero base b' (b ∷ bs) all inside is above below new =
         let same : base ≡ first = omega arith in
         let rest = in_row ports span (first + span) bs in
-        let new' : ports first b' ≡ with_port p (ports first b) = subst (λ (x : ℕ). ports x b' ≡ with_port p (ports x b)) same new in
-        ap (λ front. front ++ rest) new' ∙ sym (port_before p (ports first b) rest (from_still (first + span) (suc p) rest (omega arith) (row_from (first + span) bs)))
+        let new' : ports first b' ≡ with_port p (ports first b) =
+        subst (λ (x : ℕ). ports x b' ≡ with_port p (ports x b)) same new in
+        ap (λ front. front ++ rest) new'
+        ∙ sym (port_before p (ports first b) rest
+        (from_still (first + span) (suc p) rest (omega arith) (row_from (first + span) bs)))
     row_with p first (suc i) base b' (b ∷ bs) all inside is above below new =
         let rest = in_row ports span (first + span) bs in
-        ap (λ back. ports first b ++ back) (row_with p (first + span) i base b' bs (All-tail Holds b bs all) (omega arith) (omega arith) above below new)
-        ∙ sym (port_behind p (ports first b) rest (below_still (first + span) p (ports first b) (omega arith) (high first b (All-head Holds b bs all))))
+        ap (λ back. ports first b ++ back)
+        (row_with p (first + span) i base b' bs (All-tail Holds b bs all) (omega arith) (omega arith) above below new)
+        ∙ sym (port_behind p (ports first b) rest
+        (below_still (first + span) p (ports first b) (omega arith) (high first b (All-head Holds b bs all))))
 
 -- a walk over the counts: the index is behind the parts so far
 
-pub found : {B : Type 0} (count : B → ℕ) (bs : List B) (at i left : ℕ) (d : B) → i < length bs → at ≡ sum_by count (take i bs) + left → left < count (get_or bs i d) → FallsIn count bs at i left
-found count bs at i left d inside before within =
-    record { inside = inside; before = before; within = λ e. subst (λ b. left < count b) (get_or_default bs i d e inside) within }
+pub found : {B : Type 0} (count : B → ℕ) (bs : List B) (at i left : ℕ) (d : B) → i < length bs
+    → at ≡ sum_by count (take i bs) + left → left < count (get_or bs i d) → FallsIn count bs at i left
+found count bs at i left d inside before within = record {
+  inside = inside;
+  before = before;
+  within = λ e. subst (λ b. left < count b) (get_or_default bs i d e inside) within;
+}
 
-pub passed : {B : Type 0} (count : B → ℕ) (bs : List B) (at i left : ℕ) (d : B) → i < length bs → at ≡ sum_by count (take i bs) + left → count (get_or bs i d) ≤ left
+pub passed : {B : Type 0} (count : B → ℕ) (bs : List B) (at i left : ℕ) (d : B) → i < length bs
+    → at ≡ sum_by count (take i bs) + left → count (get_or bs i d) ≤ left
     → at ≡ sum_by count (take (i + 1) bs) + (left - count (get_or bs i d))
 passed count bs at i left d inside before behind = let more = sum_by_more count bs i d inside in omega arith
 
-pub walked : {B : Type 0} (count : B → ℕ) (bs : List B) (at i left : ℕ) → length bs ≤ i → at ≡ sum_by count (take i bs) + left → at < sum_by count bs → ⊥
+pub walked : {B : Type 0} (count : B → ℕ) (bs : List B) (at i left : ℕ) → length bs ≤ i
+    → at ≡ sum_by count (take i bs) + left → at < sum_by count bs → ⊥
 walked count bs at i left all before within =
     let whole : sum_by count (take i bs) ≡ sum_by count bs = ap (sum_by count) (take_all i bs all) in omega arith
 
 -- one more port of a range
-pub filled_next : (low next : ℕ) → low ≤ next → given_back_to next (ports_from low (next - low) no_ports) ≡ ports_from low (next + 1 - low) no_ports
+pub filled_next : (low next : ℕ) → low ≤ next
+    → given_back_to next (ports_from low (next - low) no_ports) ≡ ports_from low (next + 1 - low) no_ports
 filled_next low next past =
     let n : next + 1 - low ≡ suc (next - low) = omega arith in
     let p : low + (next - low) ≡ next = omega arith in

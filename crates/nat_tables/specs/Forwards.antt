@@ -1,6 +1,7 @@
--- Forward tables: the mappings of inside endpoints, in the order in which they were made. A mapping is of the inside endpoint
--- alone, whatever remote endpoint it speaks with (RFC 4787, REQ-1).
-use Rattle.std.specs.Prelude.{◌≡◌, ℕ, ◌+◌, ◌<◌, ◌≤◌, max, Bool, true, false, ◌&&◌, ◌==◌, not, nat_lt, if◌then◌else◌, List, [], ◌∷◌, ◌++◌, length, slice_get, Option, Some, None}
+-- Forward tables: the mappings of inside endpoints, in the order in which they were made. A mapping is of the inside
+-- endpoint alone, whatever remote endpoint it speaks with (RFC 4787, REQ-1).
+use Rattle.std.specs.Prelude.{◌≡◌, ℕ, ◌+◌, ◌<◌, ◌≤◌, max, Bool, true, false, ◌&&◌, ◌==◌, not, nat_lt, if◌then◌else◌}
+use Rattle.std.specs.Prelude.{List, [], ◌∷◌, ◌++◌, length, slice_get, Option, Some, None}
 use Rattle.std.specs.List.{remove}
 use Rattle.nat_tables.specs.declared.entries.Endpoint.{Endpoint}
 use Rattle.nat_tables.specs.declared.entries.PortKey.{PortKey}
@@ -15,7 +16,8 @@ use Rattle.nat_tables.specs.Keys.{same_endpoint, port_key}
 abbrev pub Forwards : Type 0
 Forwards = List (Endpoint × Slot)
 
--- after how many microseconds without use a mapping is idle: 7,440 s for TCP (RFC 5382, REQ-5), 300 s for UDP (RFC 4787, REQ-5)
+-- after how many microseconds without use a mapping is idle: 7,440 s for TCP (RFC 5382, REQ-5), 300 s for UDP (RFC
+-- 4787, REQ-5)
 abbrev pub timer : ℕ → ℕ
 timer protocol = if protocol == 6 then 7440000000 else 300000000
 
@@ -67,8 +69,8 @@ found key now es (Some slot) idle = found_there key now es slot (is_idle now (ke
 found key now es None (Some e) = (Absent (Some (port_of e)), without_idle now es)
 found key now es None None = (Absent None, es)
 
--- A mapping that is there and not idle is refreshed. One that is idle is removed; where there is none, the first idle mapping
--- of the table is removed.
+-- A mapping that is there and not idle is refreshed. One that is idle is removed; where there is none, the first idle
+-- mapping of the table is removed.
 abbrev pub find : Endpoint → ℕ → Forwards → Find × Forwards
 find key now es = found key now es (slot_of key es) (first_idle now es)
 

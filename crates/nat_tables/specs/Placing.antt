@@ -1,5 +1,7 @@
--- Where the free ports of one parity stand in memory: a bit for each port, 64 bits in a word, 8 words in a group, 64 groups.
-use Rattle.std.specs.Prelude.{◌≡◌, ℕ, zero, suc, ◌+◌, ◌/◌, ◌%◌, ◌<◌, Bool, ◌==◌, if◌then◌else◌, List, [], ◌∷◌, ◌++◌, length, take, get_or}
+-- Where the free ports of one parity stand in memory: a bit for each port, 64 bits in a word, 8 words in a group, 64
+-- groups.
+use Rattle.std.specs.Prelude.{◌≡◌, ℕ, zero, suc, ◌+◌, ◌/◌, ◌%◌, ◌<◌, Bool, ◌==◌, if◌then◌else◌, List, [], ◌∷◌, ◌++◌}
+use Rattle.std.specs.Prelude.{length, take, get_or}
 use Rattle.std.specs.List.{All, sum_by}
 use Rattle.nat_tables.specs.Ports.{one_if}
 use Rattle.nat_tables.specs.declared.port_group.Group.{Group}

@@ -1,6 +1,7 @@
--- The pool: the free ports of each protocol in a range, those of each parity in increasing order (RFC 3022, section 2.2, the
--- ports of one outside address; RFC 4787, REQ-3 and REQ-4).
-use Rattle.std.specs.Prelude.{◌≡◌, ℕ, zero, suc, ◌+◌, ◌-◌, ◌%◌, ◌^◌, ◌<◌, ◌≤◌, Bool, ◌&&◌, ◌==◌, nat_lt, not, true, if◌then◌else◌, List, [], ◌∷◌, length, slice_index, Option, Some, None}
+-- The pool: the free ports of each protocol in a range, those of each parity in increasing order (RFC 3022, section
+-- 2.2, the ports of one outside address; RFC 4787, REQ-3 and REQ-4).
+use Rattle.std.specs.Prelude.{◌≡◌, ℕ, zero, suc, ◌+◌, ◌-◌, ◌%◌, ◌^◌, ◌<◌, ◌≤◌, Bool, ◌&&◌, ◌==◌, nat_lt, not, true}
+use Rattle.std.specs.Prelude.{if◌then◌else◌, List, [], ◌∷◌, length, slice_index, Option, Some, None}
 use Rattle.std.specs.List.{remove}
 use Rattle.nat_tables.specs.declared.entries.PortKey.{PortKey}
 
@@ -72,11 +73,10 @@ is_in_range p pool = not (nat_lt p pool.low) && not (nat_lt pool.high p)
 -- a port is free again; nothing changes where it is out of range, free, or of another protocol
 abbrev pub give_back : ℕ → ℕ → PoolPorts → PoolPorts
 give_back protocol p pool =
-    if is_in_range p pool then
-    if protocol == 6 then record { low = pool.low; high = pool.high; tcp = given_back_to p pool.tcp; udp = pool.udp }
-    else if protocol == 17 then record { low = pool.low; high = pool.high; tcp = pool.tcp; udp = given_back_to p pool.udp }
-    else pool
-    else pool
+    if is_in_range p pool then if protocol == 6
+    then record { low = pool.low; high = pool.high; tcp = given_back_to p pool.tcp; udp = pool.udp }
+    else if protocol == 17
+    then record { low = pool.low; high = pool.high; tcp = pool.tcp; udp = given_back_to p pool.udp } else pool else pool
 
 abbrev pub no_ports : Ports
 no_ports = record { even = []; odd = [] }
@@ -120,7 +120,8 @@ has_protocol protocol = if protocol == 6 then true else protocol == 17
 
 -- 1 for a port of the range and of one of the two protocols
 abbrev pub of_range : ℕ → ℕ → PortKey → ℕ
-of_range low high k = if has_protocol k.protocol then one_if (not (nat_lt k.port low) && not (nat_lt high k.port)) else 0
+of_range low high k =
+    if has_protocol k.protocol then one_if (not (nat_lt k.port low) && not (nat_lt high k.port)) else 0
 
 -- the port is below each of these
 abbrev pub IsBelow : ℕ → List ℕ → Type 0
@@ -133,7 +134,8 @@ AreOfParity parity [] = Unit {0}
 AreOfParity parity (p ∷ ps) = (p < 2 ^ 16) × (p % 2 ≡ parity) × IsBelow p ps × AreOfParity parity ps
 
 abbrev pub ArePorts : PoolPorts → Type 0
-ArePorts pool = AreOfParity 0 pool.tcp.even × AreOfParity 1 pool.tcp.odd × AreOfParity 0 pool.udp.even × AreOfParity 1 pool.udp.odd
+ArePorts pool =
+    AreOfParity 0 pool.tcp.even × AreOfParity 1 pool.tcp.odd × AreOfParity 0 pool.udp.even × AreOfParity 1 pool.udp.odd
 
 -- While a port of this parity is free, one of this parity is reserved.
 abbrev pub KeepsParity : Type 0

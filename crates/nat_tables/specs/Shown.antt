@@ -14,7 +14,8 @@ pool_text pool = codes "tcp " ++ decimal (free_count 6 pool) ++ codes " udp " ++
 
 abbrev pub mapping_text : Endpoint × Slot → List ℕ
 mapping_text (key, slot) =
-    protocol_text key.protocol ++ codes " " ++ endpoint_text key.address key.port ++ codes " " ++ decimal slot.port ++ codes " " ++ decimal slot.last
+    protocol_text key.protocol ++ codes " " ++ endpoint_text key.address key.port ++ codes " " ++ decimal slot.port
+    ++ codes " " ++ decimal slot.last
 
 -- mappings that stand behind others
 abbrev pub further_mappings : Forwards → List ℕ
@@ -27,7 +28,8 @@ mappings_text [] = codes "-"
 mappings_text (e ∷ es) = mapping_text e ++ further_mappings es
 
 abbrev pub bound_text : PortKey × Endpoint → List ℕ
-bound_text (port, key) = protocol_text port.protocol ++ codes " " ++ decimal port.port ++ codes " " ++ endpoint_text key.address key.port
+bound_text (port, key) =
+    protocol_text port.protocol ++ codes " " ++ decimal port.port ++ codes " " ++ endpoint_text key.address key.port
 
 abbrev pub further_bound : Reverses → List ℕ
 further_bound [] = []

@@ -1,6 +1,7 @@
 /// One side of a flow: a port of a protocol at an address.
 ///
-/// A mapping is of an inside endpoint, whatever remote endpoint it speaks with (RFC 4787, REQ-1, endpoint-independent mapping).
+/// A mapping is of an inside endpoint, whatever remote endpoint it speaks with (RFC 4787, REQ-1, endpoint-independent
+/// mapping).
 #[derive(Clone, Copy, Debug, PartialEq, Eq, Hash)]
 pub struct Endpoint {
     /// 6 for TCP, 17 for UDP, as in the IPv4 header.

@@ -1,5 +1,8 @@
-ghost use Rattle.std.specs.Prelude.{◌≡◌, [], ◌∷◌, ◌++◌, Some, None, IfOk, OnOk, OnErr, MatchOption, length};
-ghost use Rattle.nat_tables.specs.Forwards.{slot_of, find, idle_removed, find_or_bind, refresh, without, lives, mapping_at, first_idle, FindsIdle, AreBusyBefore};
+ghost use Rattle.std.specs.Prelude.{◌≡◌, [], ◌∷◌, ◌++◌, Some, None, IfOk, OnOk, OnErr, MatchOption};
+ghost use Rattle.std.specs.Prelude.{length};
+ghost use Rattle.nat_tables.specs.Forwards.{slot_of, find, idle_removed, find_or_bind, refresh};
+ghost use Rattle.nat_tables.specs.Forwards.{without, lives, mapping_at, first_idle, FindsIdle};
+ghost use Rattle.nat_tables.specs.Forwards.{AreBusyBefore};
 ghost use Rattle.nat_tables.specs.Shown.{mappings_text};
 
 use crate::showing::text_of_mapping;
@@ -9,7 +12,8 @@ use plain_text::{NoMemory, Text};
 use std::alloc::Global;
 use std::marker::Model;
 
-/// Mappings of inside endpoints, in the order in which they were made. Contracts see the list of the endpoints with their slots.
+/// Mappings of inside endpoints, in the order in which they were made. Contracts see the list of the endpoints with
+/// their slots.
 #[derive(Debug, Drop)]
 pub struct Forward {
     slots: IndexMap<Endpoint, Slot>,
@@ -102,8 +106,8 @@ impl Forward {
         Ok(())
     }
 
-    /// Removes the first mapping that is idle, if there is one, and answers its outside port. It looks at no mapping while none can
-    /// be idle.
+    /// Removes the first mapping that is idle, if there is one, and answers its outside port. It looks at no mapping
+    /// while none can be idle.
     fn remove_first_idle(&mut self, now: u64) -> Option<Freed>
         ensures { (result, self.new) ≡ idle_removed now self.old (first_idle now self.old) }
     {
@@ -121,9 +125,9 @@ impl Forward {
         })
     }
 
-    /// What an outbound packet finds of its source. A mapping that is there and not idle is refreshed (RFC 4787, REQ-6). One that is
-    /// idle is removed. Where there is none, the first idle mapping of the table is removed, in first-seen order, if there is one;
-    /// it may be of the other protocol.
+    /// What an outbound packet finds of its source. A mapping that is there and not idle is refreshed (RFC 4787,
+    /// REQ-6). One that is idle is removed. Where there is none, the first idle mapping of the table is removed, in
+    /// first-seen order, if there is one; it may be of the other protocol.
     pub fn find(&mut self, key: &Endpoint, now: u64) -> Find
         ensures { (result, self.new) ≡ find key.now now self.old }
     {
@@ -141,8 +145,8 @@ impl Forward {
         Find::Live(slot.port)
     }
 
-    /// Maps the endpoint to this outside port, unless it has a mapping by now: that one, idle or not, is refreshed and stays. A new
-    /// mapping stands last.
+    /// Maps the endpoint to this outside port, unless it has a mapping by now: that one, idle or not, is refreshed and
+    /// stays. A new mapping stands last.
     pub fn find_or_bind(&mut self, key: &Endpoint, port: u16, now: u64) -> Result<Bind, NoMemory>
         ensures ok { IfOk result (λ bind. (bind, self.new)
             ≡ find_or_bind key.now port now self.old) }

@@ -1,4 +1,5 @@
-ghost use Rattle.std.specs.Prelude.{◌≡◌, ℕ, ◌+◌, ◌-◌, ◌<◌, ◌≤◌, Some, None, MatchOption, IfOk, length};
+ghost use Rattle.std.specs.Prelude.{◌≡◌, ℕ, ◌+◌, ◌-◌, ◌<◌, ◌≤◌, Some, None, MatchOption, IfOk};
+ghost use Rattle.std.specs.Prelude.{length};
 ghost use Rattle.nat_tables.specs.Ports.{chosen, reserved_of, given_back_to, ports_from, no_ports};
 ghost use Rattle.nat_tables.specs.Placing.{groups_ports};
 

@@ -8,8 +8,9 @@ use plain_text::NoMemory;
 use std::alloc::Global;
 use std::marker::Model;
 
-/// The free ports of one parity. A bit for each port and a count for each group make it short to copy, and a port is found, taken
-/// out and put in by a walk over the counts. There is a bit for each port from the start, so that no change takes memory.
+/// The free ports of one parity. A bit for each port and a count for each group make it short to copy, and a port is
+/// found, taken out and put in by a walk over the counts. There is a bit for each port from the start, so that no
+/// change takes memory.
 #[derive(Debug, Drop)]
 pub(crate) struct ParityPorts {
     count: usize,

@@ -8,8 +8,8 @@ use plain_text::{NoMemory, Text};
 use std::alloc::Global;
 use std::marker::Model;
 
-/// The free ports of a range, of TCP and of UDP. Contracts see the range, and per protocol the free ports of each parity in
-/// increasing order.
+/// The free ports of a range, of TCP and of UDP. Contracts see the range, and per protocol the free ports of each
+/// parity in increasing order.
 #[derive(Debug, Drop)]
 pub struct Pool {
     low: u16,
@@ -41,9 +41,9 @@ impl Pool {
         })
     }
 
-    /// Takes out a free port of the protocol, as the draw chooses: one of this port's parity while one is free (RFC 4787, REQ-4,
-    /// port parity). A port that is out is not free, so that it stands for one endpoint (RFC 4787, REQ-3, no port overloading). None
-    /// exactly where no port of the protocol is free.
+    /// Takes out a free port of the protocol, as the draw chooses: one of this port's parity while one is free (RFC
+    /// 4787, REQ-4, port parity). A port that is out is not free, so that it stands for one endpoint (RFC 4787, REQ-3,
+    /// no port overloading). None exactly where no port of the protocol is free.
     pub fn reserve(&mut self, protocol: u8, port: u16, draw: u64) -> Option<u16>
         ensures { (result, self.new) ≡ reserve protocol port draw self.old }
     {
@@ -54,8 +54,8 @@ impl Pool {
         }
     }
 
-    /// Makes a port free. It changes nothing where the port is out of range or free, or the protocol is neither 6 nor 17. It takes
-    /// no memory.
+    /// Makes a port free. It changes nothing where the port is out of range or free, or the protocol is neither 6 nor
+    /// 17. It takes no memory.
     pub fn give_back(&mut self, protocol: u8, port: u16)
         ensures { self.new ≡ give_back protocol port self.old }
     {

@@ -1,4 +1,5 @@
-ghost use Rattle.std.specs.Prelude.{◌≡◌, ℕ, ◌+◌, ◌-◌, ◌*◌, ◌%◌, ◌^◌, ◌<◌, ◌≤◌, set, get_or, slice_index, true, false};
+ghost use Rattle.std.specs.Prelude.{◌≡◌, ℕ, ◌+◌, ◌-◌, ◌*◌, ◌%◌, ◌^◌, ◌<◌, ◌≤◌, set, get_or};
+ghost use Rattle.std.specs.Prelude.{slice_index, true, false};
 ghost use Rattle.std.specs.List.{remove};
 ghost use Rattle.nat_tables.specs.Ports.{one_if, with_port};
 ghost use Rattle.nat_tables.specs.Placing.{word_bits, word_ports, word_count, FallsIn};

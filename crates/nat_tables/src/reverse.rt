@@ -10,8 +10,8 @@ use plain_text::{NoMemory, Text};
 use std::alloc::Global;
 use std::marker::Model;
 
-/// Outside ports that are bound, each to one inside endpoint, in the order in which they were bound. Contracts see the list of the
-/// ports with their endpoints.
+/// Outside ports that are bound, each to one inside endpoint, in the order in which they were bound. Contracts see the
+/// list of the ports with their endpoints.
 #[derive(Debug, Drop)]
 pub struct Reverse {
     endpoints: IndexMap<PortKey, Endpoint>,

@@ -26,15 +26,16 @@ pub struct Slot {
 }
 
 impl Slot {
-    /// Whether this mapping of the endpoint is idle: it was not used for the timer of its protocol. It is not idle before its
-    /// last use.
+    /// Whether this mapping of the endpoint is idle: it was not used for the timer of its protocol. It is not idle
+    /// before its last use.
     pub(crate) fn is_idle(&self, key: &Endpoint, now: u64) -> bool
         ensures { result ≡ is_idle now (key.now, self.now) }
     {
         now >= self.last && now - self.last >= timer(key.protocol)
     }
 
-    /// A time before which this mapping of the endpoint is not idle; the last one of all, or the last time that there is.
+    /// A time before which this mapping of the endpoint is not idle; the last one of all, or the last time that there
+    /// is.
     pub(crate) fn idle_from(&self, key: &Endpoint) -> u64
         ensures { result ≤ self.now.last + timer key.now.protocol }
     {

@@ -1,4 +1,5 @@
--- Where only writing goes on from each state of a world to the next, only writing has gone on from the first to the last.
+-- Where only writing goes on from each state of a world to the next, only writing has gone on from the first to the
+-- last.
 use Rattle.std.proofs.Common.{ℕ, ◌+◌, Bool, List, Result, ◌∙◌, arith}
 use Rattle.std.specs.Prelude.{IsTrue}
 use Rattle.world_io.specs.World.{Shown, Ledger, WritesOn, WritingFailed}
@@ -22,8 +23,8 @@ module _ {W : Type 0} (tells : Bool) (shown : W → Shown) (ledger : W → Ledge
     stays_healthy = λ well. well;
   }
 
-  pub OnlyWrites-trans : (a b c : W) → OnlyWrites tells shown ledger healthy a b → OnlyWrites tells shown ledger healthy b c
-      → OnlyWrites tells shown ledger healthy a c
+  pub OnlyWrites-trans : (a b c : W) → OnlyWrites tells shown ledger healthy a b
+      → OnlyWrites tells shown ledger healthy b c → OnlyWrites tells shown ledger healthy a c
   OnlyWrites-trans a b c r s = record {
     outputs = λ told. keeps_both (shown a) (shown b) (shown c) (r.outputs told) (s.outputs told);
     ledger = KeepsLedgerWriting-more (ledger a) (ledger b) (ledger c) r.ledger s.ledger;
@@ -49,7 +50,8 @@ module _ {W : Type 0} (tells : Bool) (shown : W → Shown) (ledger : W → Ledge
   }
 
   -- no file is new
-  pub OnlyWrites-files : (n : ℕ) (a b : W) → OnlyWrites tells shown ledger healthy a b → WritesFiles ledger healthy n a b
+  pub OnlyWrites-files : (n : ℕ) (a b : W) → OnlyWrites tells shown ledger healthy a b
+      → WritesFiles ledger healthy n a b
   OnlyWrites-files n a b r = record {
     ledger = record {
       given = omega (arith, r.ledger.given);

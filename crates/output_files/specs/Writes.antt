@@ -1,5 +1,5 @@
--- Outputs as a list of writes, in order. What a command is to write is such a list; what stands after it, or after a part of it,
--- is read off the list.
+-- Outputs as a list of writes, in order. What a command is to write is such a list; what stands after it, or after a
+-- part of it, is read off the list.
 use Rattle.std.specs.Prelude.{◌≡◌, ◌⊎◌, ℕ, List, [], ◌∷◌, ◌++◌, Option, Some, None, if◌then◌else◌}
 use Rattle.std.specs.Str.{bytes_eq}
 use Rattle.world_io.specs.World.{Shown}
@@ -8,8 +8,8 @@ use Rattle.world_io.specs.World.{Shown}
 abbrev pub report_file : ℕ
 report_file = 0
 
--- One write: an output is created under a name, and has no bytes then; or bytes are appended to the output of a name, or to the
--- report.
+-- One write: an output is created under a name, and has no bytes then; or bytes are appended to the output of a name,
+-- or to the report.
 pub data Write : Type 0 where
   Creates : (name : List ℕ) → Write
   Appends : (name bytes : List ℕ) → Write
@@ -96,7 +96,8 @@ AreOnlyReports (Creates name ∷ writes) = ⊥
 AreOnlyReports (Appends name bytes ∷ writes) = (bytes ≡ []) × AreOnlyReports writes
 AreOnlyReports (Reports bytes ∷ writes) = AreOnlyReports writes
 
--- The writes were done but for the last ones, of which only the report would be longer: by these lines, which are gathered.
+-- The writes were done but for the last ones, of which only the report would be longer: by these lines, which are
+-- gathered.
 pub record HasGathered (writes : List Write) (lines : List ℕ) (old new : Shown) : Type 0 where
   pub done : List Write
   pub late : List Write

@@ -33,20 +33,22 @@ pub record AfterWriting (files : ℕ) (old new : Ledger) : Type 0 where
   pub read_faults : new.read_faults ≡ old.read_faults
   pub write_faults : old.write_faults ≤ new.write_faults
 
--- From the one state of a world to the other only writing has gone on, to outputs that are there: these stay outputs, where told, and
--- what was healthy is healthy.
-pub record OnlyWrites {W : Type 0} (tells : Bool) (shown_of : W → Shown) (ledger_of : W → Ledger) (healthy_of : W → Type 0)
-    (old new : W) : Type 0 where
+-- From the one state of a world to the other only writing has gone on, to outputs that are there: these stay outputs,
+-- where told, and what was healthy is healthy.
+pub record OnlyWrites {W : Type 0} (tells : Bool) (shown_of : W → Shown) (ledger_of : W → Ledger)
+    (healthy_of : W → Type 0) (old new : W) : Type 0 where
   pub outputs : IsTrue tells → KeepsOutputs (shown_of old) (shown_of new)
   pub ledger : KeepsLedgerWriting (ledger_of old) (ledger_of new)
   pub stays_healthy : healthy_of old → healthy_of new
 
--- From the one state of a world to the other only writing has gone on, to at most this number of new files, and what was healthy is
--- healthy.
-pub record WritesFiles {W : Type 0} (ledger_of : W → Ledger) (healthy_of : W → Type 0) (files : ℕ) (old new : W) : Type 0 where
+-- From the one state of a world to the other only writing has gone on, to at most this number of new files, and what
+-- was healthy is healthy.
+pub record WritesFiles {W : Type 0} (ledger_of : W → Ledger) (healthy_of : W → Type 0) (files : ℕ)
+    (old new : W) : Type 0 where
   pub ledger : AfterWriting files (ledger_of old) (ledger_of new)
   pub stays_healthy : healthy_of old → healthy_of new
 
--- the writes of a command with one output: it is created, its header and its body are appended, and then the report is written
+-- the writes of a command with one output: it is created, its header and its body are appended, and then the report is
+-- written
 abbrev pub single_writes : List ℕ → List ℕ → List ℕ → List ℕ → List Write
 single_writes name header body text = Creates name ∷ Appends name header ∷ Appends name body ∷ Reports text ∷ []

@@ -1,5 +1,5 @@
-//! Outputs: files that are created and written in a certain order, and the report. What a command is to write is a list of writes,
-//! and whenever a call ends, some first part of the list was done, and nothing else.
+//! Outputs: files that are created and written in a certain order, and the report. What a command is to write is a list
+//! of writes, and whenever a call ends, some first part of the list was done, and nothing else.
 #![tactic(auto)]
 
 mod error;

@@ -1,5 +1,7 @@
-ghost use Rattle.std.specs.Prelude.{◌≡◌, ◌<◌, ◌-◌, ◌^◌, ◌∷◌, [], ℕ, List, IsTrue, IfOk, OnErr, IsErrOf};
-ghost use Rattle.world_io.specs.World.{GivesCreated, KeepsLedgerWriting, is_writable, WritingFailed, WritesOn};
+ghost use Rattle.std.specs.Prelude.{◌≡◌, ◌<◌, ◌-◌, ◌^◌, ◌∷◌, [], ℕ, List, IsTrue, IfOk, OnErr};
+ghost use Rattle.std.specs.Prelude.{IsErrOf};
+ghost use Rattle.world_io.specs.World.{GivesCreated, KeepsLedgerWriting, is_writable};
+ghost use Rattle.world_io.specs.World.{WritingFailed, WritesOn};
 ghost use Rattle.output_files.specs.Writes.{Creates, Appends, Reports, IsOutput};
 ghost use Rattle.output_files.specs.Written.{AppendsTo, Writes, OnlyWrites};
 

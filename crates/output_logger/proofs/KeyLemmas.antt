@@ -1,5 +1,6 @@
 -- Keys of the index, and numbers of arrival in sets.
-use Rattle.std.proofs.Common.{◌≡◌, ◌≢◌, ℕ, ◌≤◌, ◌<◌, ◌⊎◌, Bool, true, false, cond, ◌||◌, List, [], ◌∷◌, ◌++◌, map, Bor, Less, refl, sym, ap, ◌∙◌, subst, inl, inr, ⊎_elim, arith}
+use Rattle.std.proofs.Common.{◌≡◌, ◌≢◌, ℕ, ◌≤◌, ◌<◌, ◌⊎◌, Bool, true, false, cond, ◌||◌, List, [], ◌∷◌, ◌++◌, map, Bor}
+use Rattle.std.proofs.Common.{Less, refl, sym, ap, ◌∙◌, subst, inl, inr, ⊎_elim, arith}
 use Rattle.std.specs.declared.cmp.Ordering.{Ordering}
 use Rattle.std.specs.declared.cmp.Ordering.TheVariants.{Equal, Greater}
 use Rattle.std.specs.declared.ops.Bound.TheVariants.{Included, Excluded}
@@ -60,11 +61,13 @@ key_equal k q h =
     (at_equal k.0 q.0 first.0, at_equal k.1 q.1 first.1, at_equal k.2 q.2 last.1)
 
 -- the key of an output under entry n is between those of its thread's entries that the frontier passes
-key_between : (t from to most n a : ℕ) → from < n → n ≤ to → a < most → range_contains key_cmp (Included (t, from, most)) (Excluded (t, to, most)) (t, n, a) ≡ true
+key_between : (t from to most n a : ℕ) → from < n → n ≤ to → a < most
+    → range_contains key_cmp (Included (t, from, most)) (Excluded (t, to, most)) (t, n, a) ≡ true
 key_between t from to most n a above below small =
-    ⊎_elim
-    (λ (under : n < to). rw (nat_same t, nat_less from n above, nat_greater to n under) refl)
-    (λ over. let same : n ≡ to = omega arith in rw same (rw (nat_same t, nat_less from to (omega arith), nat_same to, nat_greater most a small) refl))
+    ⊎_elim (λ (under : n < to). rw (nat_same t, nat_less from n above, nat_greater to n under) refl)
+    (λ over.
+    let same : n ≡ to = omega arith in
+    rw same (rw (nat_same t, nat_less from to (omega arith), nat_same to, nat_greater most a small) refl))
     (cases_lt n to)
 
 either : (b x : Bool) → x ≡ true → cond b true x ≡ true
@@ -77,41 +80,73 @@ unless false x h k = k
 
 -- The index has one more key, or one less.
 
-pub indexed_more : (old new : List Key) (k : Key) → ((q : Key) → list_any (is_at (key_cmp q)) new ≡ cond (is_at (key_cmp k) q) true (list_any (is_at (key_cmp q)) old)) → (u n a : ℕ) → IsIndexed old u n a → IsIndexed new u n a
+pub indexed_more : (old new : List Key) (k : Key)
+    → ((q : Key)
+    → list_any (is_at (key_cmp q)) new ≡ cond (is_at (key_cmp k) q) true (list_any (is_at (key_cmp q)) old))
+    → (u n a : ℕ) → IsIndexed old u n a → IsIndexed new u n a
 indexed_more old new k h u n a was = h (u, n, a) ∙ either (is_at (key_cmp k) (u, n, a)) _ was
 
-pub indexed_here : (old new : List Key) (k : Key) → ((q : Key) → list_any (is_at (key_cmp q)) new ≡ cond (is_at (key_cmp k) q) true (list_any (is_at (key_cmp q)) old)) → IsIndexed new k.0 k.1 k.2
+pub indexed_here : (old new : List Key) (k : Key)
+    → ((q : Key)
+    → list_any (is_at (key_cmp q)) new ≡ cond (is_at (key_cmp k) q) true (list_any (is_at (key_cmp q)) old))
+    → IsIndexed new k.0 k.1 k.2
 indexed_here old new k h = h k ∙ ap (λ b. cond b true (list_any (is_at (key_cmp k)) old)) (key_same k)
 
-pub indexed_less : (old new : List Key) (k : Key) → ((q : Key) → list_any (is_at (key_cmp q)) new ≡ cond (is_at (key_cmp k) q) false (list_any (is_at (key_cmp q)) old)) → (u n a : ℕ) → a ≢ k.2 → IsIndexed old u n a → IsIndexed new u n a
-indexed_less old new k h u n a apart was = h (u, n, a) ∙ unless (is_at (key_cmp k) (u, n, a)) _ (key_apart k (u, n, a) apart) was
+pub indexed_less : (old new : List Key) (k : Key)
+    → ((q : Key)
+    → list_any (is_at (key_cmp q)) new ≡ cond (is_at (key_cmp k) q) false (list_any (is_at (key_cmp q)) old))
+    → (u n a : ℕ) → a ≢ k.2 → IsIndexed old u n a → IsIndexed new u n a
+indexed_less old new k h u n a apart was =
+    h (u, n, a) ∙ unless (is_at (key_cmp k) (u, n, a)) _ (key_apart k (u, n, a) apart) was
 
 key_is : (t n a : ℕ) (k : Key) → t ≡ k.0 → n ≡ k.1 → a ≡ k.2 → (t, n, a) ≡ k
 key_is t n a k p q r = rw (p, q, r) refl
 
 -- the keys of a range
-pub indexed_between : (index : List Key) (t from to most n a : ℕ) → IsIndexed index t n a → from < n → n ≤ to → a < most → IsIndexed (filter (range_contains key_cmp (Included (t, from, most)) (Excluded (t, to, most))) index) t n a
+pub indexed_between : (index : List Key) (t from to most n a : ℕ) → IsIndexed index t n a → from < n → n ≤ to → a < most
+    → IsIndexed (filter (range_contains key_cmp (Included (t, from, most)) (Excluded (t, to, most))) index) t n a
 indexed_between index t from to most n a is above below small =
-    let inside : (k : Key) → is_at (key_cmp (t, n, a)) k ≡ true → range_contains key_cmp (Included (t, from, most)) (Excluded (t, to, most)) k ≡ true = λ k h. let same = key_equal (t, n, a) k h in let eq : (t, n, a) ≡ k = key_is t n a k same.0 same.1 same.2 in subst (λ (q : Key). range_contains key_cmp (Included (t, from, most)) (Excluded (t, to, most)) q ≡ true) eq (key_between t from to most n a above below small) in
-    any-filter_same (is_at (key_cmp (t, n, a))) (range_contains key_cmp (Included (t, from, most)) (Excluded (t, to, most))) true inside index ∙ is
+    let inside : (k : Key) → is_at (key_cmp (t, n, a)) k ≡ true
+    → range_contains key_cmp (Included (t, from, most)) (Excluded (t, to, most)) k ≡ true = λ k h.
+    let same = key_equal (t, n, a) k h in
+    let eq : (t, n, a) ≡ k = key_is t n a k same.0 same.1 same.2 in
+    subst (λ (q : Key). range_contains key_cmp (Included (t, from, most)) (Excluded (t, to, most)) q ≡ true) eq
+    (key_between t from to most n a above below small) in
+    any-filter_same (is_at (key_cmp (t, n, a)))
+    (range_contains key_cmp (Included (t, from, most)) (Excluded (t, to, most))) true inside index
+    ∙ is
 
 -- the keys so far, and one more
-pub indexed_turn : (xs : List (Bor Key)) (x : Bor Key) (u n a : ℕ) → IsIndexed (map deref (xs ++ x ∷ [])) u n a → IsIndexed (map deref xs) u n a ⊎ (x.now.2 ≡ a)
-indexed_turn [] x u n a h =
-    elim (is_at (key_cmp (u, n, a)) x.now) as (λ b. is_at (key_cmp (u, n, a)) x.now ≡ b → (b || false) ≡ true → (false ≡ true) ⊎ (x.now.2 ≡ a)) [ true ↦ λ e k. inr (sym (key_equal (u, n, a) x.now e).2) | false ↦ λ e k. absurd cc ] refl h
+pub indexed_turn : (xs : List (Bor Key)) (x : Bor Key) (u n a : ℕ) → IsIndexed (map deref (xs ++ x ∷ [])) u n a
+    → IsIndexed (map deref xs) u n a ⊎ (x.now.2 ≡ a)
+indexed_turn [] x u n a h = elim (is_at (key_cmp (u, n, a)) x.now) as
+    (λ b. is_at (key_cmp (u, n, a)) x.now ≡ b → (b || false) ≡ true → (false ≡ true) ⊎ (x.now.2 ≡ a))
+    [ true ↦ λ e k. inr (sym (key_equal (u, n, a) x.now e).2) | false ↦ λ e k. absurd cc ] refl h
 indexed_turn (y ∷ xs) x u n a h =
     let rest = indexed_turn xs x u n a in
-    elim (is_at (key_cmp (u, n, a)) y.now) as (λ b. (b || list_any (is_at (key_cmp (u, n, a))) (map deref (xs ++ x ∷ []))) ≡ true → ((b || list_any (is_at (key_cmp (u, n, a))) (map deref xs)) ≡ true) ⊎ (x.now.2 ≡ a)) [ true ↦ λ k. inl refl | false ↦ λ k. rest k ] h
+    elim (is_at (key_cmp (u, n, a)) y.now) as
+    (λ b.
+    (b || list_any (is_at (key_cmp (u, n, a))) (map deref (xs ++ x ∷ []))) ≡ true
+    → ((b || list_any (is_at (key_cmp (u, n, a))) (map deref xs)) ≡ true) ⊎ (x.now.2 ≡ a))
+    [ true ↦ λ k. inl refl | false ↦ λ k. rest k ] h
 
 -- A set of arrival numbers has one more.
 
-pub ready_more : (old new : List ℕ) (k : ℕ) → ((q : ℕ) → list_any (is_at (nat_cmp q)) new ≡ cond (is_at (nat_cmp k) q) true (list_any (is_at (nat_cmp q)) old)) → (a : ℕ) → IsReady old a → IsReady new a
+pub ready_more : (old new : List ℕ) (k : ℕ)
+    → ((q : ℕ) → list_any (is_at (nat_cmp q)) new ≡ cond (is_at (nat_cmp k) q) true (list_any (is_at (nat_cmp q)) old))
+    → (a : ℕ) → IsReady old a → IsReady new a
 ready_more old new k h a was = h a ∙ either (is_at (nat_cmp k) a) _ was
 
-pub ready_here : (old new : List ℕ) (k : ℕ) → ((q : ℕ) → list_any (is_at (nat_cmp q)) new ≡ cond (is_at (nat_cmp k) q) true (list_any (is_at (nat_cmp q)) old)) → IsReady new k
+pub ready_here : (old new : List ℕ) (k : ℕ)
+    → ((q : ℕ) → list_any (is_at (nat_cmp q)) new ≡ cond (is_at (nat_cmp k) q) true (list_any (is_at (nat_cmp q)) old))
+    → IsReady new k
 ready_here old new k h = h k ∙ ap (λ b. cond b true (list_any (is_at (nat_cmp k)) old)) (at_same k)
 
-pub ready_only : (old new : List ℕ) (k : ℕ) → ((q : ℕ) → list_any (is_at (nat_cmp q)) new ≡ cond (is_at (nat_cmp k) q) true (list_any (is_at (nat_cmp q)) old)) → (a : ℕ) → IsReady new a → IsReady old a ⊎ (k ≡ a)
+pub ready_only : (old new : List ℕ) (k : ℕ)
+    → ((q : ℕ) → list_any (is_at (nat_cmp q)) new ≡ cond (is_at (nat_cmp k) q) true (list_any (is_at (nat_cmp q)) old))
+    → (a : ℕ) → IsReady new a → IsReady old a ⊎ (k ≡ a)
 ready_only old new k h a is =
     let both : cond (is_at (nat_cmp k) a) true (list_any (is_at (nat_cmp a)) old) ≡ true = sym (h a) ∙ is in
-    elim (is_at (nat_cmp k) a) as (λ b. is_at (nat_cmp k) a ≡ b → cond b true (list_any (is_at (nat_cmp a)) old) ≡ true → IsReady old a ⊎ (k ≡ a)) [ true ↦ λ e q. inr (at_equal k a e) | false ↦ λ e q. inl q ] refl both
+    elim (is_at (nat_cmp k) a) as
+    (λ b. is_at (nat_cmp k) a ≡ b → cond b true (list_any (is_at (nat_cmp a)) old) ≡ true → IsReady old a ⊎ (k ≡ a))
+    [ true ↦ λ e q. inr (at_equal k a e) | false ↦ λ e q. inl q ] refl both

@@ -12,13 +12,19 @@ past_list : (s : List ℕ) (t : ℕ) → length s ≤ t → slice_index s t ≡ 
 past_list s t h = get_or-eq_default s 0 h
 
 -- threads past the last have frontier 0
-frontier_past : (held : List Lane) (s : List ℕ) (t : ℕ) → length held ≤ t → slice_index s t ≡ 0 → IsFrontier (lane held t) (slice_index s t)
+frontier_past : (held : List Lane) (s : List ℕ) (t : ℕ) → length held ≤ t → slice_index s t ≡ 0
+    → IsFrontier (lane held t) (slice_index s t)
 frontier_past held s t past zero = rw (lane_past held t past, zero) frontier_of_fresh
 
 pub not_covered : (old : Lane) (count k : ℕ) → count < k → cond (leb k count) None (entry_at old k) ≡ entry_at old k
-not_covered old count k past = let b : leb k count ≡ false = grind (arith, nat_tests) in ap (λ v. cond v None (entry_at old k)) b
+not_covered old count k past =
+    let b : leb k count ≡ false = grind (arith, nat_tests) in ap (λ v. cond v None (entry_at old k)) b
 
-pub frontiers_over_all : (old new : List Lane) (s counts : List ℕ) (threads : ℕ) → threads ≡ length old → ((t : ℕ) → t < threads → (l : Lane) → CoversUpTo (lane old t) l (slice_index counts t) → IsFrontier l (slice_index s t)) → ((t : ℕ) → threads ≤ t → slice_index s t ≡ 0) → WithCover old new counts → AreFrontiers new s
+pub frontiers_over_all : (old new : List Lane) (s counts : List ℕ) (threads : ℕ) → threads ≡ length old
+    → ((t : ℕ) → t < threads → (l : Lane) → CoversUpTo (lane old t) l (slice_index counts t)
+    → IsFrontier l (slice_index s t)) → ((t : ℕ) → threads ≤ t → slice_index s t ≡ 0) → WithCover old new counts
+    → AreFrontiers new s
 frontiers_over_all old new s counts threads all each rest w t =
     let same = w.threads in
-    ⊎_elim (λ h. each t h (lane new t) (w.covers t (omega arith))) (λ h. frontier_past new s t (omega arith) (rest t h)) (cases_lt t threads)
+    ⊎_elim (λ h. each t h (lane new t) (w.covers t (omega arith))) (λ h. frontier_past new s t (omega arith) (rest t h))
+    (cases_lt t threads)

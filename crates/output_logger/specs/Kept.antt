@@ -1,5 +1,6 @@
 -- How the waiting outputs are kept: by arrival, and in an index of the log entries that they wait for.
-use Rattle.std.specs.Prelude.{◌≡◌, ◌≢◌, ℕ, ◌-◌, ◌^◌, ◌<◌, ◌⊎◌, ◌↔◌, true, cond, List, [], ◌∷◌, ◌++◌, Option, Some, length, slice_index}
+use Rattle.std.specs.Prelude.{◌≡◌, ◌≢◌, ℕ, ◌-◌, ◌^◌, ◌<◌, ◌⊎◌, ◌↔◌, true, cond, List, [], ◌∷◌, ◌++◌, Option, Some}
+use Rattle.std.specs.Prelude.{length, slice_index}
 use Rattle.std.specs.declared.cmp.Ordering.{Ordering}
 use Rattle.std.specs.Ordering.{nat_cmp, ordering_then}
 use Rattle.std.specs.List.{list_any}
@@ -38,15 +39,19 @@ IsDueBy outputs frontiers a = (o : Output) × (arrived outputs a ≡ Some o) × 
 
 -- no two of the outputs have one thread and one number
 abbrev pub HaveNames : List (ℕ × Output) → Type 0
-HaveNames outputs = (a b : ℕ) (o p : Output) → arrived outputs a ≡ Some o → arrived outputs b ≡ Some p → o.thread ≡ p.thread → o.number ≡ p.number → a ≡ b
+HaveNames outputs =
+    (a b : ℕ) (o p : Output) → arrived outputs a ≡ Some o → arrived outputs b ≡ Some p → o.thread ≡ p.thread
+    → o.number ≡ p.number → a ≡ b
 
 -- What is true of the parts of an output logger: room is kept for the numbers of just the waiting outputs.
-pub record AreKept (count : ℕ) (held : List Lane) (released : List Numbers) (outputs : List (ℕ × Output)) (index : List (ℕ × ℕ × ℕ)) : Type 0 where
+pub record AreKept (count : ℕ) (held : List Lane) (released : List Numbers) (outputs : List (ℕ × Output))
+    (index : List (ℕ × ℕ × ℕ)) : Type 0 where
   pub counted : count ≡ length held
   pub threads : length released ≡ length held
   pub sorted : IsStrictlySortedBy nat_cmp (keys_of outputs)
   pub small : (a : ℕ) (o : Output) → arrived outputs a ≡ Some o → a < 2 ^ 64 - 1
-  pub indexed : (a : ℕ) (o : Output) (u f : ℕ) → arrived outputs a ≡ Some o → IsFrontier (lane held u) f → f < slice_index o.stamp u → IsIndexed index u (slice_index o.stamp u) a
+  pub indexed : (a : ℕ) (o : Output) (u f : ℕ) → arrived outputs a ≡ Some o → IsFrontier (lane held u) f
+      → f < slice_index o.stamp u → IsIndexed index u (slice_index o.stamp u) a
   pub awaited : (t n : ℕ) → IsAwaited released t n ↔ IsWaiting outputs t n
   pub apart : HaveNames outputs
   pub none_due : (a : ℕ) (o : Output) → arrived outputs a ≡ Some o → IsDue held o → ⊥
@@ -73,7 +78,8 @@ pub record IsNoted (before after : List Numbers) (o : Output) : Type 0 where
   pub others : (t : ℕ) → t ≢ o.thread → numbers after t ≡ numbers before t
 
 -- These went, by their arrival numbers, and the others stay.
-pub record Gone (old new : List (ℕ × Output)) (before after : List Numbers) (ready : List ℕ) (go : List Output) : Type 0 where
+pub record Gone (old new : List (ℕ × Output)) (before after : List Numbers) (ready : List ℕ)
+    (go : List Output) : Type 0 where
   pub parts : PartsBy (λ a. IsReady ready a) old go new
   pub stays : (a : ℕ) (o : Output) → arrived new a ≡ Some o → (arrived old a ≡ Some o) × (IsReady ready a → ⊥)
   pub kept : (a : ℕ) (o : Output) → arrived old a ≡ Some o → (IsReady ready a → ⊥) → arrived new a ≡ Some o

@@ -5,8 +5,8 @@ use Rattle.access_log.specs.Held.{Lane, IsWithin}
 use Rattle.access_log.specs.Lanes.{IsHeldSet}
 use Rattle.dup_filter.specs.Numbers.{Numbers, WasMarked}
 
--- The epoch, the log entries that are held or covered, the numbers of the outputs that were released, and the outputs that
--- wait, in the order in which they arrived.
+-- The epoch, the log entries that are held or covered, the numbers of the outputs that were released, and the outputs
+-- that wait, in the order in which they arrived.
 pub record Logger : Type 0 where
   pub epoch : ℕ
   pub held : List Lane
@@ -57,7 +57,8 @@ pub record ReleasesOnce (old new : List Numbers) (go : List Output) : Type 0 whe
   pub apart : AreApart go
   pub marked : (t n : ℕ) → WasMarked new t n ↔ (IsNamed t n go ⊎ WasMarked old t n)
 
--- The waiting outputs that are due by what is held then are released, in the order in which they arrived; the others wait on.
+-- The waiting outputs that are due by what is held then are released, in the order in which they arrived; the others
+-- wait on.
 pub record ReleasesDue (old new : Logger) (go : List Output) : Type 0 where
   pub epoch : new.epoch ≡ old.epoch
   pub parts : Parts (IsDue new.held) old.waiting go new.waiting
@@ -66,7 +67,8 @@ pub record ReleasesDue (old new : Logger) (go : List Output) : Type 0 where
 -- From one state to another, by any number of calls, these outputs were released, in order.
 pub data Lives : List Numbers → List Output → List Numbers → Type 0 where
   Begins : (old : List Numbers) → Lives old [] old
-  Goes : {old mid new : List Numbers} {earlier go : List Output} → Lives old earlier mid → ReleasesOnce mid new go → Lives old (earlier ++ go) new
+  Goes : {old mid new : List Numbers} {earlier go : List Output} → Lives old earlier mid → ReleasesOnce mid new go
+      → Lives old (earlier ++ go) new
 
 -- What is true of every output logger. No output waits that is due, none that was released, and none waits twice.
 pub record IsLogger (l : Logger) : Type 0 where

@@ -1,5 +1,5 @@
-//! The output logger: an output is released only when every log entry that it depends on is held or stored. This is the output
-//! commit of Strom and Yemini, Optimistic Recovery in Distributed Systems (1985).
+//! The output logger: an output is released only when every log entry that it depends on is held or stored. This is the
+//! output commit of Strom and Yemini, Optimistic Recovery in Distributed Systems (1985).
 #![tactic(auto)]
 
 mod laws;

@@ -1,11 +1,15 @@
-ghost use Rattle.std.specs.Prelude.{◌≡◌, ◌≢◌, ℕ, ◌+◌, ◌-◌, ◌^◌, ◌<◌, ◌≤◌, ◌↔◌, [], ◌∷◌, ◌++◌, Some, Ok, IsTrue, IsSome, IfOk, OnOk, OnErr, length, replicate, slice_index, vec_len, vec_capacity};
+ghost use Rattle.std.specs.Prelude.{◌≡◌, ◌≢◌, ℕ, ◌+◌, ◌-◌, ◌^◌, ◌<◌, ◌≤◌, ◌↔◌, [], ◌∷◌, ◌++◌, Some};
+ghost use Rattle.std.specs.Prelude.{Ok, IsTrue, IsSome, IfOk, OnOk, OnErr, length, replicate};
+ghost use Rattle.std.specs.Prelude.{slice_index, vec_len, vec_capacity};
 ghost use Rattle.access_log.specs.declared.entry.Output.{Output};
 ghost use Rattle.access_log.specs.declared.entry.StampedEntry.{StampedEntry};
-ghost use Rattle.access_log.specs.Held.{lane, entry_at, fresh_lane, IsKnown, IsWithin, IsFirstMissing, held_count};
+ghost use Rattle.access_log.specs.Held.{lane, entry_at, fresh_lane, IsKnown, IsWithin};
+ghost use Rattle.access_log.specs.Held.{IsFirstMissing, held_count};
 ghost use Rattle.access_log.specs.Lanes.{PutsEntry, CoversUpTo};
 ghost use Rattle.access_log.specs.Members.{IsMember, IsDropped, IsMemberAbove, IsNumberOf};
 ghost use Rattle.dup_filter.specs.Numbers.{no_numbers};
-ghost use Rattle.output_logger.specs.Logger.{IsDue, HasArrived, Parts, appended, ReleasesOnce, ReleasesDue, IsLogger};
+ghost use Rattle.output_logger.specs.Logger.{IsDue, HasArrived, Parts, appended, ReleasesOnce};
+ghost use Rattle.output_logger.specs.Logger.{ReleasesDue, IsLogger};
 ghost use Rattle.output_logger.specs.Kept.{arrived, IsIndexed, IsReady, IsDueBy};
 
 use crate::reach::{frontiers, frontiers_over, frontiers_with};
@@ -20,7 +24,8 @@ use std::marker::Model;
 use std::mem;
 use thread_clock::Stamp;
 
-/// Holds log entries, and releases each output once, as soon as no log entry that it depends on is missing. Until then it waits.
+/// Holds log entries, and releases each output once, as soon as no log entry that it depends on is missing. Until then
+/// it waits.
 ///
 /// It outlives the master. Each master has an epoch, from 1; what a master of an earlier epoch sent has no effect.
 #[derive(Drop)]
@@ -120,8 +125,8 @@ impl OutputLogger {
         self.released.is_apart();
     }
 
-    /// Takes a log entry that a master of this epoch sent. The waiting outputs that are due then are released, in the order in
-    /// which they arrived: they are appended to the list.
+    /// Takes a log entry that a master of this epoch sent. The waiting outputs that are due then are released, in the
+    /// order in which they arrived: they are appended to the list.
     pub fn entry(
         &mut self,
         epoch: u32,
@@ -210,8 +215,8 @@ impl OutputLogger {
         Ok(())
     }
 
-    /// Takes note that a snapshot is stored: each thread's entries up to its count are covered. The waiting outputs that are due
-    /// then are released, in the order in which they arrived.
+    /// Takes note that a snapshot is stored: each thread's entries up to its count are covered. The waiting outputs
+    /// that are due then are released, in the order in which they arrived.
     pub fn covered(&mut self, counts: &Stamp, out: &mut Outputs) -> Result<(), NoMemory>
         requires { (t : ℕ) → t < length self.old.held
             → (lane self.old.held t).covered ≤ slice_index counts.now t }
@@ -257,8 +262,8 @@ impl OutputLogger {
         Ok(())
     }
 
-    /// Takes an output that a master of this epoch sent. It is released, and appended to the list, if no log entry that it
-    /// depends on is missing; else it waits.
+    /// Takes an output that a master of this epoch sent. It is released, and appended to the list, if no log entry that
+    /// it depends on is missing; else it waits.
     pub fn output(
         &mut self,
         epoch: u32,
@@ -361,8 +366,9 @@ impl OutputLogger {
         kept
     }
 
-    /// Ends the epoch: keeps the closed part of what is held, discards the outputs that wait, and raises the epoch by 1. What was
-    /// released stays so. It answers how many held entries stay, and how many it dropped. It takes no memory.
+    /// Ends the epoch: keeps the closed part of what is held, discards the outputs that wait, and raises the epoch by
+    /// 1. What was released stays so. It answers how many held entries stay, and how many it dropped. It takes no
+    /// memory.
     pub fn fence(&mut self) -> Kept
         requires { self.old.epoch < 2 ^ 32 - 1 }
         ensures epoch { self.new.epoch ≡ self.old.epoch + 1 }

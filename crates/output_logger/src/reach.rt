@@ -1,5 +1,6 @@
 //! The frontiers of a held set, now and as they will be.
-ghost use Rattle.std.specs.Prelude.{◌≡◌, ◌≢◌, ℕ, ◌+◌, ◌-◌, ◌^◌, ◌<◌, ◌≤◌, List, None, IsSome, IfOk, length, slice_index};
+ghost use Rattle.std.specs.Prelude.{◌≡◌, ◌≢◌, ℕ, ◌+◌, ◌-◌, ◌^◌, ◌<◌, ◌≤◌, List, None, IsSome, IfOk};
+ghost use Rattle.std.specs.Prelude.{length, slice_index};
 ghost use Rattle.access_log.specs.declared.entry.StampedEntry.{StampedEntry};
 ghost use Rattle.access_log.specs.Held.{Lane, lane, entry_at, IsKnown, IsFrontier};
 ghost use Rattle.access_log.specs.Lanes.{CoversUpTo};
@@ -21,8 +22,8 @@ pub fn frontiers(held: &Held) -> Stamp
     Stamp::new(components)
 }
 
-/// The greatest number up to which each entry of the thread after this number is held. It answers that memory ran out where that
-/// is the greatest number that there is.
+/// The greatest number up to which each entry of the thread after this number is held. It answers that memory ran out
+/// where that is the greatest number that there is.
 fn reach(held: &Held, thread: u32, from: u64) -> Result<u64, NoMemory>
     ensures { IfOk result (λ reached. Reaches (lane held.now thread) from reached) }
 {

@@ -1,5 +1,7 @@
 //! The outputs that wait, and which of them a log entry releases.
-ghost use Rattle.std.specs.Prelude.{◌≡◌, ◌≢◌, ℕ, ◌+◌, ◌-◌, ◌^◌, ◌<◌, ◌≤◌, ◌↔◌, ◌⊎◌, List, [], ◌∷◌, ◌++◌, Some, None, IsSome, IfOk, OnOk, OnErr, cond, length, slice_index, vec_len, vec_capacity};
+ghost use Rattle.std.specs.Prelude.{◌≡◌, ◌≢◌, ℕ, ◌+◌, ◌-◌, ◌^◌, ◌<◌, ◌≤◌, ◌↔◌, ◌⊎◌, List, [], ◌∷◌};
+ghost use Rattle.std.specs.Prelude.{◌++◌, Some, None, IsSome, IfOk, OnOk, OnErr, cond, length};
+ghost use Rattle.std.specs.Prelude.{slice_index, vec_len, vec_capacity};
 ghost use Rattle.std.specs.Ordering.{nat_cmp};
 ghost use Rattle.std.specs.BTreeMap.{is_at};
 ghost use Rattle.std.specs.List.Sorted.{IsStrictlySortedBy};
@@ -7,7 +9,8 @@ ghost use Rattle.std.specs.Map.{remove_entry, keys_of};
 ghost use Rattle.access_log.specs.declared.entry.Output.{Output};
 ghost use Rattle.dup_filter.specs.Numbers.{IsAwaited};
 ghost use Rattle.output_logger.specs.Logger.{appended};
-ghost use Rattle.output_logger.specs.Kept.{arrived, IsWaiting, IsIndexed, IsReady, IsDueBy, HaveNames, Arrives, IsNoted, Gone};
+ghost use Rattle.output_logger.specs.Kept.{arrived, IsWaiting, IsIndexed, IsReady, IsDueBy};
+ghost use Rattle.output_logger.specs.Kept.{HaveNames, Arrives, IsNoted, Gone};
 
 use access_log::Output;
 use dup_filter::Released;
@@ -16,8 +19,8 @@ use std::alloc::Global;
 use std::collections::{BTreeMap, BTreeSet};
 use thread_clock::Stamp;
 
-/// The waiting outputs by the order in which they arrived. An index has each under every log entry that it waits for, by thread,
-/// number and arrival; and maybe under others.
+/// The waiting outputs by the order in which they arrived. An index has each under every log entry that it waits for,
+/// by thread, number and arrival; and maybe under others.
 #[derive(Debug, Drop)]
 pub struct Waiting {
     /// By the number of its arrival, from 0.
@@ -74,8 +77,8 @@ fn leave(index: &mut BTreeSet<(u32, u64, u64)>, stamp: &Stamp, arrival: u64)
     }
 }
 
-/// Adds to the ready ones those that wait for an entry of the thread after the first number, up to the second, and are due by
-/// these frontiers.
+/// Adds to the ready ones those that wait for an entry of the thread after the first number, up to the second, and are
+/// due by these frontiers.
 fn find_due(
     waiting: &Waiting,
     thread: u32,

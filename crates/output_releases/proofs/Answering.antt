@@ -18,8 +18,8 @@ use Rattle.system_parts.specs.SystemStanding.{StandsFor, StandsForSome}
 use Rattle.system_parts.specs.Performing.{MovesOn, Releasing, Replies}
 use Rattle.output_releases.proofs.ReleasedLists.{releases_none}
 
--- The event answers so in the world, what it releases is put behind the outputs of a list, and these parts stand for the
--- world after it.
+-- The event answers so in the world, what it releases is put behind the outputs of a list, and these parts stand for
+-- the world after it.
 abbrev pub AnswersTo : {P V : Type 0} → Meaning V → Setting V → World V → Event → Reply → List Output → List Output
     → Parts P V → Type 0
 AnswersTo {P} {V} m s w ev reply old new after =

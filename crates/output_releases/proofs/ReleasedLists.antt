@@ -42,9 +42,11 @@ releases_then old mid new w here next a b = record {
   freed = a.freed ++ b.freed;
   released = b.released ∙ ap (λ (l : List Sent). l ++ b.freed) a.released ∙ append_assoc w.released a.freed b.freed;
   packets =
-      b.packets ∙ ap (λ (l : List Packet). l ++ packets_of b.freed) a.packets
+      b.packets
+      ∙ ap (λ (l : List Packet). l ++ packets_of b.freed) a.packets
       ∙ append_assoc (packets_in old) (packets_of a.freed) (packets_of b.freed)
-      ∙ ap (λ (l : List Packet). packets_in old ++ l) (sym (map-append (λ (o : Sent). o.emission.packet) a.freed b.freed));
+      ∙ ap (λ (l : List Packet). packets_in old ++ l)
+      (sym (map-append (λ (o : Sent). o.emission.packet) a.freed b.freed));
 }
 
 -- what was released after a world from which nothing was

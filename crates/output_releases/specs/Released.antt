@@ -13,14 +13,17 @@ abbrev pub names_of : List Output → List (ℕ × ℕ)
 names_of outputs = map (λ (o : Output). (o.thread, o.number)) outputs
 
 -- These outputs are noted and listed.
-pub record NotesReleased {P V : Type 0} (outputs : List Output) (list : List (ℕ × ℕ)) (old new : Parts P V) : Type 0 where
+pub record NotesReleased {P V : Type 0} (outputs : List Output) (list : List (ℕ × ℕ))
+    (old new : Parts P V) : Type 0 where
   pub list_is : list ≡ names_of outputs
   pub new_is : new ≡ record old { released = old.released ++ list }
 
 -- Frames of outputs up to the number up to which all of the thread were released may be forgotten, and no others.
 pub record ForgetsReleased (old new : Sending) (released : List Numbers) : Type 0 where
-  pub each : (a : Address) → (frame_at new.frames a ≡ frame_at old.frames a)
-      ⊎ ((frame_at new.frames a ≡ None) × (a.epoch ≡ old.epoch) × (a.kind ≡ kind.Out) × (a.number ≤ (numbers released a.thread).floor))
+  pub each : (a : Address)
+      → (frame_at new.frames a ≡ frame_at old.frames a)
+      ⊎ ((frame_at new.frames a ≡ None) × (a.epoch ≡ old.epoch) × (a.kind ≡ kind.Out)
+      × (a.number ≤ (numbers released a.thread).floor))
   pub entries : new.entries ≡ old.entries
   pub outputs : new.outputs ≡ old.outputs
   pub epoch : new.epoch ≡ old.epoch

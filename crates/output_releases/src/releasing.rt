@@ -1,5 +1,6 @@
 ghost use Rattle.std.specs.Prelude.{◌≡◌, ◌≤◌, ◌++◌, IfOk, OnOk, length};
-ghost use Rattle.output_releases.specs.Released.{NotesReleased, ForgetsReleased, AreForgotten, names_of};
+ghost use Rattle.output_releases.specs.Released.{NotesReleased, ForgetsReleased, AreForgotten};
+ghost use Rattle.output_releases.specs.Released.{names_of};
 
 use access_log::Output;
 use box_program::Program;

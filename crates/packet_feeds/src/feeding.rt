@@ -19,8 +19,8 @@ fn microseconds(unit: Unit, packet: &Packet) -> u64
     }
 }
 
-/// The next packets of the capture are fed, this many or as many as are left. Each sets the clock to its own time, where that is
-/// later.
+/// The next packets of the capture are fed, this many or as many as are left. Each sets the clock to its own time,
+/// where that is later.
 pub fn feed<P: Program>(core: &mut Core<P>, n: u64) -> Result<Outcome, NoMemory>
     ensures { IfOk result (λ to.
         MovesOn (P.meaning core.old.program) (ComesTo (event_is.Feed n) to) core.old core.new) }

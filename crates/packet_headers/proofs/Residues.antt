@@ -1,5 +1,6 @@
 -- Five words that are put into a frame: what is read afterwards, and how the sums of words change.
-use Rattle.std.proofs.Common.{◌≡◌, ◌⊎◌, ℕ, ◌+◌, ◌*◌, ◌/◌, ◌%◌, ◌<◌, ◌≤◌, List, [], length, get_or, inl, inr, ◌∙◌, arith, refl}
+use Rattle.std.proofs.Common.{◌≡◌, ◌⊎◌, ℕ, ◌+◌, ◌*◌, ◌/◌, ◌%◌, ◌<◌, ◌≤◌, List, [], length, get_or, inl, inr, ◌∙◌, arith}
+use Rattle.std.proofs.Common.{refl}
 use Rattle.packet_headers.specs.Fields.{word_at, long_at, put_word}
 use Rattle.packet_headers.proofs.Places.{length-put_word, get_or-put_word_other, word_before, word_behind, word_there}
 use Rattle.packet_headers.proofs.Weights.{weight, weight_inside, weight_before, weight_behind}
@@ -49,41 +50,66 @@ length-written frame w = simp length-put_word refl
 
 -- the header's sum changes with its checksum and with the address
 pub header_weight : (frame : List ℕ) (at least : ℕ) (w : Write) → Layout frame at least w
-    → weight (written frame w) 14 at [] + (word_at frame 24 + word_at frame w.address_place + word_at frame (w.address_place + 2))
+    → weight (written frame w) 14 at []
+    + (word_at frame 24 + word_at frame w.address_place + word_at frame (w.address_place + 2))
     ≡ weight frame 14 at [] + (w.header + w.address / 65536 + w.address % 65536)
 header_weight frame at least w layout =
     let n = layout.address_words in
     let first = weight_inside frame [] 14 at 5 24 w.header refl (omega arith) (omega arith) in
-    let second = weight_behind (with_header frame w) [] 14 at w.checksum_place w.transport (omega arith) (omega arith) in
-    let third = weight_inside (with_transport frame w) [] 14 at n w.address_place (w.address / 65536) layout.address_is (omega arith) (simp length-put_word (omega arith)) in
-    let fourth = weight_inside (with_high frame w) [] 14 at (n + 1) (w.address_place + 2) (w.address % 65536) (omega arith) (omega arith) (simp length-put_word (omega arith)) in
+    let second =
+    weight_behind (with_header frame w) [] 14 at w.checksum_place w.transport (omega arith) (omega arith) in
+    let third = weight_inside (with_transport frame w) [] 14 at n w.address_place (w.address / 65536) layout.address_is
+    (omega arith) (simp length-put_word (omega arith)) in
+    let fourth = weight_inside (with_high frame w) [] 14 at (n + 1) (w.address_place + 2) (w.address % 65536)
+    (omega arith) (omega arith) (simp length-put_word (omega arith)) in
     let fifth = weight_behind (with_low frame w) [] 14 at w.port_place w.port (omega arith) (omega arith) in
-    let high = word_before (with_header frame w) w.checksum_place w.transport w.address_place (omega arith) ∙ word_behind frame 24 w.header w.address_place (omega arith) in
-    let low = word_behind (with_transport frame w) w.address_place (w.address / 65536) (w.address_place + 2) (omega arith) ∙ word_before (with_header frame w) w.checksum_place w.transport (w.address_place + 2) (omega arith) ∙ word_behind frame 24 w.header (w.address_place + 2) (omega arith) in
+    let high =
+    word_before (with_header frame w) w.checksum_place w.transport w.address_place (omega arith)
+    ∙ word_behind frame 24 w.header w.address_place (omega arith) in
+    let low =
+    word_behind (with_transport frame w) w.address_place (w.address / 65536) (w.address_place + 2) (omega arith)
+    ∙ word_before (with_header frame w) w.checksum_place w.transport (w.address_place + 2) (omega arith)
+    ∙ word_behind frame 24 w.header (w.address_place + 2) (omega arith) in
     omega arith
 
 -- the transport's sum changes with its checksum and with the port
 pub transport_weight : (frame more : List ℕ) (at least end : ℕ) (w : Write) → Layout frame at least w → at + least ≤ end
-    → weight (written frame w) at end more + (word_at frame w.checksum_place + word_at frame w.port_place) ≡ weight frame at end more + (w.transport + w.port)
+    → weight (written frame w) at end more + (word_at frame w.checksum_place + word_at frame w.port_place)
+    ≡ weight frame at end more + (w.transport + w.port)
 transport_weight frame more at least end w layout ends =
     let first = weight_before frame more at end 24 w.header (omega arith) in
-    let second = weight_inside (with_header frame w) more at end layout.checksum_words w.checksum_place w.transport layout.checksum_is (omega arith) (simp length-put_word (omega arith)) in
+    let second = weight_inside (with_header frame w) more at end layout.checksum_words w.checksum_place w.transport
+    layout.checksum_is (omega arith) (simp length-put_word (omega arith)) in
     let third = weight_before (with_transport frame w) more at end w.address_place (w.address / 65536) (omega arith) in
-    let fourth = weight_before (with_high frame w) more at end (w.address_place + 2) (w.address % 65536) (omega arith) in
-    let fifth = weight_inside (with_low frame w) more at end layout.port_words w.port_place w.port layout.port_is (omega arith) (simp length-put_word (omega arith)) in
+    let fourth =
+    weight_before (with_high frame w) more at end (w.address_place + 2) (w.address % 65536) (omega arith) in
+    let fifth = weight_inside (with_low frame w) more at end layout.port_words w.port_place w.port layout.port_is
+    (omega arith) (simp length-put_word (omega arith)) in
     let checksum = word_behind frame 24 w.header w.checksum_place (omega arith) in
-    let port = word_behind (with_high frame w) (w.address_place + 2) (w.address % 65536) w.port_place (omega arith) ∙ word_behind (with_transport frame w) w.address_place (w.address / 65536) w.port_place (omega arith) ∙ word_before (with_header frame w) w.checksum_place w.transport w.port_place (omega arith) ∙ word_behind frame 24 w.header w.port_place (omega arith) in
+    let port =
+    word_behind (with_high frame w) (w.address_place + 2) (w.address % 65536) w.port_place (omega arith)
+    ∙ word_behind (with_transport frame w) w.address_place (w.address / 65536) w.port_place (omega arith)
+    ∙ word_before (with_header frame w) w.checksum_place w.transport w.port_place (omega arith)
+    ∙ word_behind frame 24 w.header w.port_place (omega arith) in
     omega arith
 
 -- the address and the port are there
-pub address_there : (frame : List ℕ) (at least : ℕ) (w : Write) → Layout frame at least w → long_at (written frame w) w.address_place ≡ w.address
+pub address_there : (frame : List ℕ) (at least : ℕ) (w : Write) → Layout frame at least w
+    → long_at (written frame w) w.address_place ≡ w.address
 address_there frame at least w layout =
-    let high = word_before (with_low frame w) w.port_place w.port w.address_place (omega arith) ∙ word_before (with_high frame w) (w.address_place + 2) (w.address % 65536) w.address_place (omega arith) ∙ word_there (with_transport frame w) w.address_place (w.address / 65536) (simp length-put_word (omega arith)) in
-    let low = word_before (with_low frame w) w.port_place w.port (w.address_place + 2) (omega arith) ∙ word_there (with_high frame w) (w.address_place + 2) (w.address % 65536) (simp length-put_word (omega arith)) in
+    let high =
+    word_before (with_low frame w) w.port_place w.port w.address_place (omega arith)
+    ∙ word_before (with_high frame w) (w.address_place + 2) (w.address % 65536) w.address_place (omega arith)
+    ∙ word_there (with_transport frame w) w.address_place (w.address / 65536) (simp length-put_word (omega arith)) in
+    let low =
+    word_before (with_low frame w) w.port_place w.port (w.address_place + 2) (omega arith)
+    ∙ word_there (with_high frame w) (w.address_place + 2) (w.address % 65536) (simp length-put_word (omega arith)) in
     omega arith
 
-pub port_there : (frame : List ℕ) (at least : ℕ) (w : Write) → Layout frame at least w → word_at (written frame w) w.port_place ≡ w.port
-port_there frame at least w layout = word_there (with_low frame w) w.port_place w.port (simp length-put_word (omega arith))
+pub port_there : (frame : List ℕ) (at least : ℕ) (w : Write) → Layout frame at least w
+    → word_at (written frame w) w.port_place ≡ w.port
+port_there frame at least w layout =
+    word_there (with_low frame w) w.port_place w.port (simp length-put_word (omega arith))
 
 -- a byte in none of these places
 pub record Elsewhere (w : Write) (k : ℕ) : Type 0 where
@@ -93,28 +119,40 @@ pub record Elsewhere (w : Write) (k : ℕ) : Type 0 where
   pub port : (k < w.port_place) ⊎ (w.port_place + 2 ≤ k)
 
 -- is as it was
-pub byte_elsewhere : (frame : List ℕ) (w : Write) (k : ℕ) → Elsewhere w k → get_or (written frame w) k 0 ≡ get_or frame k 0
+pub byte_elsewhere : (frame : List ℕ) (w : Write) (k : ℕ) → Elsewhere w k
+    → get_or (written frame w) k 0 ≡ get_or frame k 0
 byte_elsewhere frame w k apart =
     get_or-put_word_other (with_low frame w) w.port_place w.port k (λ e. omega arith) (λ e. omega arith)
-    ∙ get_or-put_word_other (with_high frame w) (w.address_place + 2) (w.address % 65536) k (λ e. omega arith) (λ e. omega arith)
-    ∙ get_or-put_word_other (with_transport frame w) w.address_place (w.address / 65536) k (λ e. omega arith) (λ e. omega arith)
+    ∙ get_or-put_word_other (with_high frame w) (w.address_place + 2) (w.address % 65536) k (λ e. omega arith)
+    (λ e. omega arith)
+    ∙ get_or-put_word_other (with_transport frame w) w.address_place (w.address / 65536) k (λ e. omega arith)
+    (λ e. omega arith)
     ∙ get_or-put_word_other (with_header frame w) w.checksum_place w.transport k (λ e. omega arith) (λ e. omega arith)
     ∙ get_or-put_word_other frame 24 w.header k (λ e. omega arith) (λ e. omega arith)
 
--- as are those before the checksum of the header, of the other address, and of the transport but for its port and checksum
-pub early_byte : (frame : List ℕ) (at least : ℕ) (w : Write) (k : ℕ) → Layout frame at least w → k < 24 → get_or (written frame w) k 0 ≡ get_or frame k 0
+-- as are those before the checksum of the header, of the other address, and of the transport but for its port and
+-- checksum
+pub early_byte : (frame : List ℕ) (at least : ℕ) (w : Write) (k : ℕ) → Layout frame at least w → k < 24
+    → get_or (written frame w) k 0 ≡ get_or frame k 0
 early_byte frame at least w k layout early =
-    byte_elsewhere frame w k (record { header = inl early; checksum = inl (omega arith); address = inl (omega arith); port = inl (omega arith) })
+    byte_elsewhere frame w k
+    (record { header = inl early; checksum = inl (omega arith); address = inl (omega arith); port = inl (omega arith) })
 
 pub other_side : {A B C D : Type 0} → A ⊎ B → (A → C) → (B → D) → C ⊎ D
 other_side (inl a) f g = inl (f a)
 other_side (inr b) f g = inr (g b)
 
-pub other_address : (frame : List ℕ) (at least : ℕ) (w : Write) (place : ℕ) → Layout frame at least w → 26 ≤ place → place + 4 ≤ 34
-    → (place + 4 ≤ w.address_place) ⊎ (w.address_place + 4 ≤ place) → long_at (written frame w) place ≡ long_at frame place
+pub other_address : (frame : List ℕ) (at least : ℕ) (w : Write) (place : ℕ) → Layout frame at least w → 26 ≤ place
+    → place + 4 ≤ 34 → (place + 4 ≤ w.address_place) ⊎ (w.address_place + 4 ≤ place)
+    → long_at (written frame w) place ≡ long_at frame place
 other_address frame at least w place layout from to apart =
     let kept : (k : ℕ) → place ≤ k → k < place + 4 → get_or (written frame w) k 0 ≡ get_or frame k 0 =
-    λ k low high. byte_elsewhere frame w k (record { header = inr (omega arith); checksum = inl (omega arith); address = other_side apart (λ h. omega arith) (λ h. omega arith); port = inl (omega arith) }) in
+    λ k low high. byte_elsewhere frame w k (record {
+      header = inr (omega arith);
+      checksum = inl (omega arith);
+      address = other_side apart (λ h. omega arith) (λ h. omega arith);
+      port = inl (omega arith);
+    }) in
     let a = kept place (omega arith) (omega arith) in
     let b = kept (place + 1) (omega arith) (omega arith) in
     let c = kept (place + 2) (omega arith) (omega arith) in
@@ -122,6 +160,8 @@ other_address frame at least w place layout from to apart =
     omega arith
 
 pub transport_byte : (frame : List ℕ) (at least : ℕ) (w : Write) (k : ℕ) → Layout frame at least w → at ≤ k
-    → (k < w.checksum_place) ⊎ (w.checksum_place + 2 ≤ k) → (k < w.port_place) ⊎ (w.port_place + 2 ≤ k) → get_or (written frame w) k 0 ≡ get_or frame k 0
+    → (k < w.checksum_place) ⊎ (w.checksum_place + 2 ≤ k) → (k < w.port_place) ⊎ (w.port_place + 2 ≤ k)
+    → get_or (written frame w) k 0 ≡ get_or frame k 0
 transport_byte frame at least w k layout from checksum port =
-    byte_elsewhere frame w k (record { header = inr (omega arith); checksum = checksum; address = inr (omega arith); port = port })
+    byte_elsewhere frame w k
+    (record { header = inr (omega arith); checksum = checksum; address = inr (omega arith); port = port })

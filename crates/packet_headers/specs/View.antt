@@ -1,10 +1,15 @@
--- What a frame is seen as: a flow, or the first test that it fails. The tests are of the headers of IPv4 (RFC 791, section
+-- What a frame is seen as: a flow, or the first test that it fails. The tests are of the headers of IPv4 (RFC 791,
+-- section
 -- 3.1), UDP (RFC 768) and TCP (RFC 9293, section 3.1).
-use Rattle.std.specs.Prelude.{ℕ, ◌+◌, ◌-◌, ◌*◌, max, Bool, not, ◌&&◌, ◌||◌, ◌==◌, nat_lt, if◌then◌else◌, List, [], ◌∷◌, ◌++◌, length, Result, Ok, Err}
+use Rattle.std.specs.Prelude.{ℕ, ◌+◌, ◌-◌, ◌*◌, max, Bool, not, ◌&&◌, ◌||◌, ◌==◌, nat_lt, if◌then◌else◌, List, [], ◌∷◌}
+use Rattle.std.specs.Prelude.{◌++◌, length, Result, Ok, Err}
 use Rattle.packet_headers.specs.declared.flow.Flow.{Flow}
 use Rattle.packet_headers.specs.declared.flow.NotFlow.{NotFlow}
-use Rattle.packet_headers.specs.declared.flow.NotFlow.TheVariants.{Short, NotIpv4, BadHeaderLength, Fragment, OtherProtocol, BadTotalLength}
-use Rattle.packet_headers.specs.Fields.{ether_type, version, ihl, total_length, more_fragments, fragment_offset, protocol, source_address, destination_address, header_end, source_port, destination_port, data_offset, control_bits}
+use Rattle.packet_headers.specs.declared.flow.NotFlow.TheVariants.{Short, NotIpv4, BadHeaderLength, Fragment}
+use Rattle.packet_headers.specs.declared.flow.NotFlow.TheVariants.{OtherProtocol, BadTotalLength}
+use Rattle.packet_headers.specs.Fields.{ether_type, version, ihl, total_length, more_fragments, fragment_offset}
+use Rattle.packet_headers.specs.Fields.{protocol, source_address, destination_address, header_end, source_port}
+use Rattle.packet_headers.specs.Fields.{destination_port, data_offset, control_bits}
 
 abbrev pub is_tcp : ℕ → Bool
 is_tcp number = number == 6

@@ -42,8 +42,8 @@ pub enum NotFlow {
     BadTotalLength = 6,
 }
 
-/// The steering sum: the sum of a flow's addresses, ports and protocol, as whole numbers. Both directions of a flow have one
-/// sum, by which its packets are kept together.
+/// The steering sum: the sum of a flow's addresses, ports and protocol, as whole numbers. Both directions of a flow
+/// have one sum, by which its packets are kept together.
 pub fn steering_sum(flow: &Flow) -> u64
     ensures { result ≡ steering_sum flow.now }
 {

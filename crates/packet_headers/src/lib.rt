@@ -1,5 +1,5 @@
-//! Flows: the view of an Ethernet frame as UDP (RFC 768) or TCP (RFC 9293) over IPv4 (RFC 791), and the rewriting of its
-//! addresses and ports (RFC 3022).
+//! Flows: the view of an Ethernet frame as UDP (RFC 768) or TCP (RFC 9293) over IPv4 (RFC 791), and the rewriting of
+//! its addresses and ports (RFC 3022).
 //!
 //! No call takes memory.
 #![tactic(auto)]

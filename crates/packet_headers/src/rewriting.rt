@@ -1,7 +1,9 @@
 ghost use Rattle.std.specs.Prelude.{◌≡◌, ◌+◌, ◌≤◌, ◌<◌, length};
 ghost use Rattle.packet_headers.specs.Fields.{AreBytes};
-ghost use Rattle.packet_headers.specs.Rewriting.{CanRewrite, checksum_place, written_checksum, rewritten, with_source, with_dest};
-ghost use Rattle.packet_headers.specs.Rewriting.{KeepsHeader, KeepsTransport, SeenWithSource, SeenWithDest};
+ghost use Rattle.packet_headers.specs.Rewriting.{CanRewrite, checksum_place, written_checksum};
+ghost use Rattle.packet_headers.specs.Rewriting.{rewritten, with_source, with_dest};
+ghost use Rattle.packet_headers.specs.Rewriting.{KeepsHeader, KeepsTransport, SeenWithSource};
+ghost use Rattle.packet_headers.specs.Rewriting.{SeenWithDest};
 
 use crate::Flow;
 use crate::fields::{

@@ -1,7 +1,8 @@
 ghost use Rattle.std.specs.Prelude.{◌≡◌, ◌+◌, ◌≤◌, length, IfOk};
 ghost use Rattle.packet_headers.specs.Fields.{header_end, protocol};
 ghost use Rattle.packet_headers.specs.Rewriting.{CanRewrite};
-ghost use Rattle.packet_headers.specs.View.{first_failure, flow_of, header_failures, least_header, packet_failures, viewed};
+ghost use Rattle.packet_headers.specs.View.{first_failure, flow_of, header_failures, least_header};
+ghost use Rattle.packet_headers.specs.View.{packet_failures, viewed};
 
 use crate::fields::{
     DESTINATION_ADDRESS, ETHER_TYPE, FLAGS_AND_OFFSET, IP_HEADER, IP_OPTIONS, PROTOCOL,

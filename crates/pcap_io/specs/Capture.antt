@@ -30,7 +30,8 @@ header_of o u unused = spelled o 4 (magic u) ++ spelled o 2 2 ++ spelled o 2 4 +
 
 -- a record: seconds, fraction, captured length, original length, and the captured bytes
 abbrev pub record_of : Order → Packet → List ℕ
-record_of o p = spelled o 4 p.seconds ++ spelled o 4 p.fraction ++ spelled o 4 (length p.bytes) ++ spelled o 4 p.original ++ p.bytes
+record_of o p =
+    spelled o 4 p.seconds ++ spelled o 4 p.fraction ++ spelled o 4 (length p.bytes) ++ spelled o 4 p.original ++ p.bytes
 
 abbrev pub records_of : Order → List Packet → List ℕ
 records_of o packets = flat_map (record_of o) packets

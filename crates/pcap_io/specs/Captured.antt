@@ -35,7 +35,8 @@ IsDecided NoMemory = ⊥
 
 -- the bytes that an answer takes from a source, which has such a relation
 abbrev pub TakesCapture : {S : Type 0} → (S → List ℕ → S → Type 0) → Captured → S → S → Type 0
-TakesCapture reads (Capture u packets) old new = (bytes : List ℕ) × reads old bytes new × IsCaptureWithin bytes u packets
+TakesCapture reads (Capture u packets) old new =
+    (bytes : List ℕ) × reads old bytes new × IsCaptureWithin bytes u packets
 TakesCapture reads (Refused fault) old new = (taken : List ℕ) × reads old taken new
 TakesCapture reads (TooLarge limit) old new = (taken : List ℕ) × reads old taken new
 TakesCapture reads ReadFault old new = (taken : List ℕ) × reads old taken new

@@ -1,5 +1,6 @@
 -- Where bytes are no capture: the first place at which they leave the format, and why.
-use Rattle.std.specs.Prelude.{◌≡◌, ℕ, ◌+◌, ◌<◌, List, length, drop, ◌==◌, nat_lt, if◌then◌else◌, ◌&&◌, Option, Some, None, ◌⊎◌}
+use Rattle.std.specs.Prelude.{◌≡◌, ℕ, ◌+◌, ◌<◌, List, length, drop, ◌==◌, nat_lt, if◌then◌else◌, ◌&&◌, Option, Some}
+use Rattle.std.specs.Prelude.{None, ◌⊎◌}
 use Rattle.plain_text.specs.declared.limit.TheConstants.{MOST_CAPTURED}
 use Rattle.plain_text.specs.declared.packet.Packet.{Packet}
 use Rattle.plain_text.specs.declared.packet.Unit.{Unit as TimeUnit}
@@ -7,7 +8,8 @@ use Rattle.plain_text.specs.declared.packet.Unit.TheVariants.{Micro, Nano}
 use Rattle.pcap_io.specs.declared.order.Order.{Order}
 use Rattle.pcap_io.specs.declared.order.Order.TheVariants.{Little, Big}
 use Rattle.pcap_io.specs.declared.fault.CaptureCause.{CaptureCause}
-use Rattle.pcap_io.specs.declared.fault.CaptureCause.TheVariants.{BadMagic, BadVersion, BadLinkType, ShortHeader, ShortRecord, TooLong}
+use Rattle.pcap_io.specs.declared.fault.CaptureCause.TheVariants.{BadMagic, BadVersion, BadLinkType, ShortHeader}
+use Rattle.pcap_io.specs.declared.fault.CaptureCause.TheVariants.{ShortRecord, TooLong}
 use Rattle.pcap_io.specs.declared.fault.CaptureFault.{CaptureFault}
 use Rattle.pcap_io.specs.Capture.{number, magic, records_of, Begins}
 

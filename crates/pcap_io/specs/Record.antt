@@ -7,7 +7,8 @@ use Rattle.pcap_io.specs.Capture.{record_of}
 
 -- the bytes that an answer takes after this header
 abbrev pub TakesBody : {S : Type 0} → (S → List ℕ → S → Type 0) → Order → List ℕ → Next → S → S → Type 0
-TakesBody reads o head (next.Packet p) old new = (taken : List ℕ) × reads old taken new × (record_of o p ≡ head ++ taken)
+TakesBody reads o head (next.Packet p) old new =
+    (taken : List ℕ) × reads old taken new × (record_of o p ≡ head ++ taken)
 TakesBody reads o head next.End old new = ⊥
 TakesBody reads o head (next.Refused fault) old new = (taken : List ℕ) × reads old taken new
 TakesBody reads o head (next.TooLarge limit) old new = (taken : List ℕ) × reads old taken new

@@ -31,7 +31,8 @@ module _ {S : Type 0} (reads : S → List ℕ → S → Type 0) where
   some_of_savefile o capture.NoMemory old new takes = takes
   some_of_savefile o capture.Over old new takes = (_, takes)
 
-  some_of_ng : (answer : AnyNext) (old new : S) (from to : NgReading) → TakesNg reads answer old new from to → TakesSome reads old new
+  some_of_ng : (answer : AnyNext) (old new : S) (from to : NgReading) → TakesNg reads answer old new from to
+      → TakesSome reads old new
   some_of_ng (next.Packet p) old new from to takes = (takes.0.taken, takes.0.read)
   some_of_ng next.End old new from to takes = (takes.0.taken, takes.0.read)
   some_of_ng (next.Refused fault) old new from to takes = takes.0
@@ -40,13 +41,15 @@ module _ {S : Type 0} (reads : S → List ℕ → S → Type 0) where
   some_of_ng next.NoMemory old new from to takes = takes.0
   some_of_ng next.Over old new from to takes = (_, takes.0)
 
-  some_of_any : (answer : AnyNext) (old new : S) (from to : Format) → TakesAny reads answer old new from to → TakesSome reads old new
+  some_of_any : (answer : AnyNext) (old new : S) (from to : Format) → TakesAny reads answer old new from to
+      → TakesSome reads old new
   some_of_any answer old new (form.Capture r) to takes = some_of_savefile r.order takes.0 old new takes.2
   some_of_any answer old new (form.Ng r) to takes = some_of_ng answer old new r takes.0 takes.2
 
   -- some bytes more
-  pub some_more : (reads_more : (a b c : S) (first more : List ℕ) → reads a first b → reads b more c → reads a (first ++ more) c)
-      (answer : AnyNext) (a b c : S) (from to : Format) → TakesSome reads a b → TakesAny reads answer b c from to → TakesSome reads a c
+  pub some_more : (reads_more : (a b c : S) (first more : List ℕ) → reads a first b → reads b more c
+      → reads a (first ++ more) c) (answer : AnyNext) (a b c : S) (from to : Format) → TakesSome reads a b
+      → TakesAny reads answer b c from to → TakesSome reads a c
   some_more reads_more answer a b c from to some takes =
       let more = some_of_any answer b c from to takes in
       (some.0 ++ more.0, reads_more a b c some.0 more.0 some.1 more.1)

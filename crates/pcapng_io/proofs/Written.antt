@@ -24,7 +24,8 @@ decided (captured.TooLarge l) a is d = tt
 decided captured.ReadFault a is d = subst IsDecidedAny is d
 decided captured.NoMemory a is d = subst IsDecidedAny is d
 
-pub one_any_answer : (all : List ℕ) (a b : AnyCaptured) → IsDecidedAny a → IsDecidedAny b → SaysAny all a → SaysAny all b → a ≡ b
+pub one_any_answer : (all : List ℕ) (a b : AnyCaptured) → IsDecidedAny a → IsDecidedAny b → SaysAny all a
+    → SaysAny all b → a ≡ b
 one_any_answer all a b da db sa sb = by_format (begins_ng all) refl where
   by_format : (t : Bool) → begins_ng all ≡ t → a ≡ b
   by_format true is = one_ng_answer all a b da db (sa.ng is) (sb.ng is)
@@ -33,10 +34,13 @@ one_any_answer all a b da db sa sb = by_format (begins_ng all) refl where
       let y = sb.savefile is in
       x.1 ∙ ap any_captured (one_answer all x.0 y.0 (decided x.0 a x.1 da) (decided y.0 b y.1 db) x.2 y.2) ∙ sym y.1
 
-pub read_as_written : (all : List ℕ) (ps : List Packet) (a b : AnyCaptured) → IsNg all ps → length ps ≤ 65536 → length all ≤ 67108864 → length (written Nano ps) ≤ 67108864
-    → IsDecidedAny a → IsDecidedAny b → SaysAny all a → SaysAny (written Nano ps) b → a ≡ b
+pub read_as_written : (all : List ℕ) (ps : List Packet) (a b : AnyCaptured) → IsNg all ps → length ps ≤ 65536
+    → length all ≤ 67108864 → length (written Nano ps) ≤ 67108864 → IsDecidedAny a → IsDecidedAny b → SaysAny all a
+    → SaysAny (written Nano ps) b → a ≡ b
 read_as_written all ps a b capture count size written_size da db sa sb =
-    let here = one_ng_answer all a (any.Capture Nano ps) da tt (sa.ng capture.begins) (record { unit = refl; capture = capture; count = count; size = size }) in
+    let here = one_ng_answer all a (any.Capture Nano ps) da tt (sa.ng capture.begins)
+    (record { unit = refl; capture = capture; count = count; size = size }) in
     let there = sb.savefile (and_false (not (nat_lt (length (written Nano ps)) 4)) _ refl) in
-    let read = written_is_read Nano ps there.0 (ng_whole all ps capture).0 count written_size (decided there.0 b there.1 db) there.2 in
+    let read = written_is_read Nano ps there.0 (ng_whole all ps capture).0 count written_size
+    (decided there.0 b there.1 db) there.2 in
     here ∙ sym (there.1 ∙ ap any_captured read)

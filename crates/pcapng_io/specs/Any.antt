@@ -56,7 +56,8 @@ StartsAny left started.NoMemory = Unit {0}
 
 -- the bytes that an answer takes from a source, which has such a relation, and the reader that it gives
 abbrev pub TakesStart : {S : Type 0} → (S → List ℕ → S → Type 0) → AnyStarted → S → S → Type 0
-TakesStart reads (started.Reader (form.Capture r)) old new = TakesHeader reads (begun.Reader r) old new × IsFresh (begun.Reader r)
+TakesStart reads (started.Reader (form.Capture r)) old new =
+    TakesHeader reads (begun.Reader r) old new × IsFresh (begun.Reader r)
 TakesStart reads (started.Reader (form.Ng r)) old new = reads old (held_type true) new × (r ≡ first_reading)
 TakesStart reads (started.Refused f) old new = (taken : List ℕ) × reads old taken new
 TakesStart reads started.ReadFault old new = (taken : List ℕ) × reads old taken new
@@ -78,9 +79,11 @@ AnswersAny (form.Ng r) left answer = AnswersNg r (held_type r.typed ++ left) ans
 -- the bytes that an answer takes from a source, and the reader after it
 abbrev pub TakesAny : {S : Type 0} → (S → List ℕ → S → Type 0) → AnyNext → S → S → Format → Format → Type 0
 TakesAny reads answer old new (form.Capture r) to =
-    (next : Next) × (answer ≡ any_next next) × Takes reads r.order next old new × (to ≡ form.Capture (after r next)) × IsGiven (room_at r.count r.offset) next
+    (next : Next) × (answer ≡ any_next next) × Takes reads r.order next old new × (to ≡ form.Capture (after r next))
+    × IsGiven (room_at r.count r.offset) next
 TakesAny reads answer old new (form.Ng r) to =
-    (q : NgReading) × (to ≡ form.Ng q) × TakesNg reads answer old new r q × (q.count ≤ MOST_PACKETS) × (q.offset ≤ MOST_FILE_BYTES)
+    (q : NgReading) × (to ≡ form.Ng q) × TakesNg reads answer old new r q × (q.count ≤ MOST_PACKETS)
+    × (q.offset ≤ MOST_FILE_BYTES)
 
 -- where a savefile's header was read, these are its bytes
 abbrev pub IsHeader : Started → List ℕ → Type 0

@@ -1,5 +1,6 @@
 -- Blocks of pcapng files, by draft-ietf-opsawg-pcapng, "PCAP Now Generic (pcapng) Capture File Format", section 3.1.
-use Rattle.std.specs.Prelude.{ℕ, ◌+◌, ◌%◌, ◌==◌, ◌||◌, not, nat_lt, if◌then◌else◌, Bool, true, false, List, ◌++◌, length, Option, Some, None}
+use Rattle.std.specs.Prelude.{ℕ, ◌+◌, ◌%◌, ◌==◌, ◌||◌, not, nat_lt, if◌then◌else◌, Bool, true, false, List, ◌++◌}
+use Rattle.std.specs.Prelude.{length, Option, Some, None}
 use Rattle.pcap_io.specs.declared.order.Order.{Order}
 use Rattle.pcap_io.specs.declared.order.Order.TheVariants.{Little, Big}
 use Rattle.pcap_io.specs.Capture.{spelled, number}
@@ -10,7 +11,9 @@ use Rattle.pcapng_io.specs.declared.block.BlockKind.TheVariants.{Section, Interf
 
 -- a block's bytes: its type, its total length, its body, and the total length again
 abbrev pub block_bytes : Block → List ℕ
-block_bytes b = spelled b.order 4 b.number ++ (spelled b.order 4 (12 + length b.body) ++ (b.body ++ spelled b.order 4 (12 + length b.body)))
+block_bytes b =
+    spelled b.order 4 b.number
+    ++ (spelled b.order 4 (12 + length b.body) ++ (b.body ++ spelled b.order 4 (12 + length b.body)))
 
 abbrev pub kind_of : ℕ → BlockKind
 kind_of n =

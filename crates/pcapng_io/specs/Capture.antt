@@ -1,5 +1,6 @@
 -- pcapng captures as bytes: blocks in turn, by cases on their types.
-use Rattle.std.specs.Prelude.{◌≡◌, ℕ, ◌<◌, ◌&&◌, ◌==◌, nat_lt, not, Bool, true, List, [], ◌∷◌, ◌++◌, length, Option, Some, None, Result, Ok, Err, option_to_list}
+use Rattle.std.specs.Prelude.{◌≡◌, ℕ, ◌<◌, ◌&&◌, ◌==◌, nat_lt, not, Bool, true, List, [], ◌∷◌, ◌++◌, length, Option}
+use Rattle.std.specs.Prelude.{Some, None, Result, Ok, Err, option_to_list}
 use Rattle.std.specs.List.{flat_map}
 use Rattle.plain_text.specs.declared.packet.Packet.{Packet}
 use Rattle.pcap_io.specs.declared.order.Order.{Order}
@@ -36,7 +37,8 @@ pub record Follows (s : Section) (b : Block) (packet : Option Packet) (t : Secti
 abbrev pub Lead : Section → List Block → List Packet → Section → Type 0
 Lead s [] ps t = (ps ≡ []) × (t ≡ s)
 Lead s (b ∷ bs) ps t =
-    (packet : Option Packet) × (u : Section) × (others : List Packet) × Follows s b packet u × Lead u bs others t × (ps ≡ option_to_list packet ++ others)
+    (packet : Option Packet) × (u : Section) × (others : List Packet) × Follows s b packet u × Lead u bs others t
+    × (ps ≡ option_to_list packet ++ others)
 
 -- these bytes are whole blocks that lead from one section to another, and give these packets
 pub record Passes (s : Section) (bytes : List ℕ) (ps : List Packet) (t : Section) : Type 0 where
@@ -72,7 +74,8 @@ pub record Reaches (bytes : List ℕ) (ps : List Packet) (s : Section) (passed r
   pub passes : Passes no_section passed ps s
   pub parts : bytes ≡ passed ++ rest
 
--- this is the first place where the bytes are no pcapng capture: whole blocks, and then at least one byte of a faulty one
+-- this is the first place where the bytes are no pcapng capture: whole blocks, and then at least one byte of a faulty
+-- one
 pub record IsNgFault (bytes : List ℕ) (fault : NgFault) : Type 0 where
   pub before : List Packet
   pub section : Section

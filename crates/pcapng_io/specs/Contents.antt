@@ -1,5 +1,6 @@
 -- What each block's body is to be, what it makes of the interfaces of its section, and what packet it gives.
-use Rattle.std.specs.Prelude.{◌≡◌, ◌≤◌, Bool, ℕ, ◌+◌, ◌*◌, ◌^◌, min, ◌==◌, ◌||◌, nat_lt, if◌then◌else◌, List, [], ◌∷◌, ◌++◌, length, take, drop, slice_get, Option, Some, None, Result, Ok, Err}
+use Rattle.std.specs.Prelude.{◌≡◌, ◌≤◌, Bool, ℕ, ◌+◌, ◌*◌, ◌^◌, min, ◌==◌, ◌||◌, nat_lt, if◌then◌else◌, List, [], ◌∷◌}
+use Rattle.std.specs.Prelude.{◌++◌, length, take, drop, slice_get, Option, Some, None, Result, Ok, Err}
 use Rattle.plain_text.specs.declared.limit.TheConstants.{MOST_CAPTURED}
 use Rattle.plain_text.specs.declared.packet.Packet.{Packet}
 use Rattle.pcap_io.specs.declared.order.Order.{Order}
@@ -50,8 +51,12 @@ captured_of i original = if i.snaplen == 0 then original else min original i.sna
 abbrev pub simple_on : Order → List ℕ → Option Interface → Result Packet NgCause
 simple_on o body None = Err NoInterface
 simple_on o body (Some i) =
-    if passes_body (captured_of i (number o 4 body)) 4 body then Err BadPacket
-    else Ok (record { seconds = 0; fraction = 0; original = number o 4 body; bytes = take (captured_of i (number o 4 body)) (drop 4 body) })
+    if passes_body (captured_of i (number o 4 body)) 4 body then Err BadPacket else Ok (record {
+      seconds = 0;
+      fraction = 0;
+      original = number o 4 body;
+      bytes = take (captured_of i (number o 4 body)) (drop 4 body);
+    })
 
 -- a block that describes an interface, and one that gives a packet
 abbrev pub describes : List Interface → Result Interface NgCause → Result Content NgCause
@@ -62,8 +67,8 @@ abbrev pub gives : List Interface → Result Packet NgCause → Result Content N
 gives interfaces (Ok p) = Ok (record { interfaces = interfaces; packet = Some p })
 gives interfaces (Err cause) = Err cause
 
--- The table of blocks. A section header has its byte-order magic, the major version, which is to be 1, the minor version
--- and a length that are not used; it begins a section without interfaces.
+-- The table of blocks. A section header has its byte-order magic, the major version, which is to be 1, the minor
+-- version and a length that are not used; it begins a section without interfaces.
 abbrev pub content : Order → List Interface → BlockKind → List ℕ → Result Content NgCause
 content o interfaces kind.Section body =
     if number o 2 (drop 4 body) == 1 then Ok (record { interfaces = []; packet = None }) else Err BadVersion
@@ -79,7 +84,8 @@ Tells value (Err (Fault cause)) = value ≡ Err cause
 Tells value (Err NoMemory) = Unit {0}
 
 -- what reading a block's body answers, and the interfaces behind it; after an error they are as before
-abbrev pub TellsContent : Result Content NgCause → Result (Option Packet) BlockError → List Interface → List Interface → Type 0
+abbrev pub TellsContent : Result Content NgCause → Result (Option Packet) BlockError → List Interface
+    → List Interface → Type 0
 TellsContent value (Ok packet) old new = value ≡ Ok (record { interfaces = new; packet = packet })
 TellsContent value (Err (Fault cause)) old new = (value ≡ Err cause) × (new ≡ old)
 TellsContent value (Err NoMemory) old new = new ≡ old

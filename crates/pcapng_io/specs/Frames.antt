@@ -1,5 +1,6 @@
 -- The block that bytes begin with, or why there is none.
-use Rattle.std.specs.Prelude.{◌≡◌, ℕ, ◌+◌, ◌-◌, ◌^◌, ◌<◌, ◌==◌, ◌||◌, not, nat_lt, if◌then◌else◌, Bool, false, List, length, take, drop, Option, Some, None, Result, Ok, Err}
+use Rattle.std.specs.Prelude.{◌≡◌, ℕ, ◌+◌, ◌-◌, ◌^◌, ◌<◌, ◌==◌, ◌||◌, not, nat_lt, if◌then◌else◌, Bool, false, List}
+use Rattle.std.specs.Prelude.{length, take, drop, Option, Some, None, Result, Ok, Err}
 use Rattle.plain_text.specs.Octets.{AreBytes}
 use Rattle.pcap_io.specs.declared.order.Order.{Order}
 use Rattle.pcap_io.specs.Capture.{number}
@@ -15,7 +16,8 @@ total_at o bytes = number o 4 (drop 4 bytes)
 -- the total length is none that the kind can have, or another at the block's end
 abbrev pub has_bad_length : Order → ℕ → List ℕ → Bool
 has_bad_length o n bytes =
-    is_bad_total (kind_of n) (total_at o bytes) || not (number o 4 (drop (total_at o bytes - 4) bytes) == total_at o bytes)
+    is_bad_total (kind_of n) (total_at o bytes)
+    || not (number o 4 (drop (total_at o bytes - 4) bytes) == total_at o bytes)
 
 abbrev pub framed_in : Option Order → ℕ → List ℕ → Result Block NgCause
 framed_in None n bytes = Err BadMagic

@@ -1,5 +1,7 @@
 -- Interfaces, as a block of type 1 describes them.
-use Rattle.std.specs.Prelude.{ℕ, zero, suc, ◌+◌, ◌-◌, ◌*◌, ◌/◌, ◌^◌, pos, ◌==◌, nat_lt, if◌then◌else◌, List, [], ◌∷◌, length, take, drop, slice_index, Option, Some, None, Result, Err, option_and_then, option_map, ok_or}
+use Rattle.std.specs.Prelude.{ℕ, zero, suc, ◌+◌, ◌-◌, ◌*◌, ◌/◌, ◌^◌, pos, ◌==◌, nat_lt, if◌then◌else◌, List, [], ◌∷◌}
+use Rattle.std.specs.Prelude.{length, take, drop, slice_index, Option, Some, None, Result, Err, option_and_then}
+use Rattle.std.specs.Prelude.{option_map, ok_or}
 use Rattle.std.specs.Int.{w64, cast_signed}
 use Rattle.pcap_io.specs.declared.order.Order.{Order}
 use Rattle.pcap_io.specs.Capture.{number}
@@ -16,15 +18,15 @@ pub record Setting : Type 0 where
 abbrev pub padded : ℕ → ℕ
 padded n = (n + 3) / 4 * 4
 
--- The options in these bytes, up to code 0 or the end; none where one passes the end. Each takes at least four bytes, so
--- there are fewer than the first number, where that is at least the length.
+-- The options in these bytes, up to code 0 or the end; none where one passes the end. Each takes at least four bytes,
+-- so there are fewer than the first number, where that is at least the length.
 abbrev pub settings_in : ℕ → Order → List ℕ → Option (List Setting)
 settings_in zero o bytes = Some []
 settings_in (suc n) o bytes =
-    if nat_lt (length bytes) 4 then Some []
-    else if number o 2 bytes == 0 then Some []
+    if nat_lt (length bytes) 4 then Some [] else if number o 2 bytes == 0 then Some []
     else if nat_lt (length bytes) (4 + padded (number o 2 (drop 2 bytes))) then None
-    else option_map (λ others. record { code = number o 2 bytes; value = take (number o 2 (drop 2 bytes)) (drop 4 bytes) } ∷ others)
+    else option_map
+    (λ others. record { code = number o 2 bytes; value = take (number o 2 (drop 2 bytes)) (drop 4 bytes) } ∷ others)
     (settings_in n o (drop (4 + padded (number o 2 (drop 2 bytes))) bytes))
 
 -- the units in a second of a resolution: 10^r, or 2^r where the high bit of the byte is set
@@ -37,11 +39,10 @@ units_of resolution =
 -- an interface, once this option is read: code 9 is its resolution, and code 14 the seconds to add
 abbrev pub with_setting : Order → Interface → Setting → Option Interface
 with_setting o i s =
-    if s.code == 9
-    then if length s.value == 1 then option_map (λ units. record i { units = units }) (units_of (slice_index s.value 0)) else None
-    else if s.code == 14
-    then if length s.value == 8 then Some (record i { offset = cast_signed w64 (number o 8 s.value) }) else None
-    else Some i
+    if s.code == 9 then if length s.value == 1
+    then option_map (λ units. record i { units = units }) (units_of (slice_index s.value 0)) else None
+    else if s.code == 14 then if length s.value == 8
+    then Some (record i { offset = cast_signed w64 (number o 8 s.value) }) else None else Some i
 
 abbrev pub with_settings : Order → Interface → List Setting → Option Interface
 with_settings o i [] = Some i
@@ -56,5 +57,6 @@ with_options n o i bytes = option_and_then (with_settings o i) (settings_in n o 
 abbrev pub interface_in : Order → List ℕ → Result Interface NgCause
 interface_in o body =
     if number o 2 body == 1
-    then ok_or (with_options (length body) o (record { snaplen = number o 4 (drop 4 body); units = 10 ^ 6; offset = pos 0 }) (drop 8 body)) BadOption
+    then ok_or (with_options (length body) o
+    (record { snaplen = number o 4 (drop 4 body); units = 10 ^ 6; offset = pos 0 }) (drop 8 body)) BadOption
     else Err BadLinkType

@@ -1,5 +1,6 @@
 -- What a call of the reader of pcapng captures answers, takes and leaves.
-use Rattle.std.specs.Prelude.{◌≡◌, ℕ, ◌+◌, ◌<◌, ◌≤◌, Bool, true, false, List, [], ◌∷◌, ◌++◌, length, Option, Some, None, Result, Ok, Err, option_to_list}
+use Rattle.std.specs.Prelude.{◌≡◌, ℕ, ◌+◌, ◌<◌, ◌≤◌, Bool, true, false, List, [], ◌∷◌, ◌++◌, length, Option, Some, None}
+use Rattle.std.specs.Prelude.{Result, Ok, Err, option_to_list}
 use Rattle.plain_text.specs.declared.packet.Packet.{Packet}
 use Rattle.plain_text.specs.declared.limit.TheConstants.{MOST_FILE_BYTES}
 use Rattle.plain_text.specs.Octets.{IsOfBytes}
@@ -30,7 +31,8 @@ section_of r = record { order = r.order; interfaces = r.interfaces }
 
 -- From one reader to another whole blocks were passed, which gave these packets. Their bytes were taken, by a source's
 -- relation, or held before.
-pub record Moves {S : Type 0} (reads : S → List ℕ → S → Type 0) (old new : S) (from to : NgReading) (packets : List Packet) : Type 0 where
+pub record Moves {S : Type 0} (reads : S → List ℕ → S → Type 0) (old new : S) (from to : NgReading)
+    (packets : List Packet) : Type 0 where
   pub taken : List ℕ
   pub passed : List ℕ
   pub read : reads old taken new
@@ -40,14 +42,16 @@ pub record Moves {S : Type 0} (reads : S → List ℕ → S → Type 0) (old new
   pub count : to.count ≡ from.count + length packets
 
 -- a packet was given, or a block without one was passed; else the reader is as before
-abbrev pub MovesOn : {S : Type 0} → (S → List ℕ → S → Type 0) → Result (Option Packet) Stop → S → S → NgReading → NgReading → Type 0
+abbrev pub MovesOn : {S : Type 0} → (S → List ℕ → S → Type 0) → Result (Option Packet) Stop → S → S → NgReading
+    → NgReading → Type 0
 MovesOn reads (Ok packet) old new from to = Moves reads old new from to (option_to_list packet) × (to.over ≡ from.over)
 MovesOn reads (Err why) old new from to = ((taken : List ℕ) × reads old taken new) × (to ≡ from)
 
 -- what is said of the bytes where a reader passes no block
 abbrev pub StopsAt : Section → ℕ → ℕ → List ℕ → Stop → Type 0
 StopsAt s count offset bytes stop.End = bytes ≡ []
-StopsAt s count offset bytes (stop.Refused cause) = (0 < length bytes) × (block_fault s bytes ≡ Some cause) × (limit_behind s count offset bytes ≡ None)
+StopsAt s count offset bytes (stop.Refused cause) =
+    (0 < length bytes) × (block_fault s bytes ≡ Some cause) × (limit_behind s count offset bytes ≡ None)
 StopsAt s count offset bytes (stop.TooLarge limit) = limit_behind s count offset bytes ≡ Some limit
 StopsAt s count offset bytes stop.ReadFault = Unit {0}
 StopsAt s count offset bytes stop.NoMemory = Unit {0}
@@ -74,7 +78,8 @@ AnswersNg r bytes next.ReadFault = Unit {0}
 AnswersNg r bytes next.NoMemory = Unit {0}
 AnswersNg r bytes next.Over = Unit {0}
 
--- the bytes that an answer takes from a source, and the reader after it: a packet moves it on, and anything else ends it
+-- the bytes that an answer takes from a source, and the reader after it: a packet moves it on, and anything else ends
+-- it
 abbrev pub TakesNg : {S : Type 0} → (S → List ℕ → S → Type 0) → AnyNext → S → S → NgReading → NgReading → Type 0
 TakesNg reads (next.Packet p) old new from to = Moves reads old new from to (p ∷ []) × (to.over ≡ false)
 TakesNg reads next.End old new from to = Moves reads old new from to [] × (to.over ≡ true) × (to.typed ≡ false)

@@ -1,8 +1,10 @@
 -- What reading one block answers and takes.
-use Rattle.std.specs.Prelude.{◌≡◌, ℕ, ◌+◌, ◌<◌, ◌≤◌, ◌&&◌, Bool, true, false, List, [], ◌∷◌, ◌++◌, length, Some, None, Result, Ok, Err}
+use Rattle.std.specs.Prelude.{◌≡◌, ℕ, ◌+◌, ◌<◌, ◌≤◌, ◌&&◌, Bool, true, false, List, [], ◌∷◌, ◌++◌, length, Some, None}
+use Rattle.std.specs.Prelude.{Result, Ok, Err}
 use Rattle.pcapng_io.specs.declared.block.Block.{Block}
 use Rattle.plain_text.specs.declared.limit.Limit.TheVariants.{File, Packets, Events, Moves, OutputBytes}
-use Rattle.pcapng_io.specs.declared.fault.NgCause.TheVariants.{ShortBlock, BadLength, BadMagic, BadVersion, BadLinkType, BadOption, NoInterface, BadPacket, BadTime}
+use Rattle.pcapng_io.specs.declared.fault.NgCause.TheVariants.{ShortBlock, BadLength, BadMagic, BadVersion, BadLinkType}
+use Rattle.pcapng_io.specs.declared.fault.NgCause.TheVariants.{BadOption, NoInterface, BadPacket, BadTime}
 use Rattle.pcapng_io.specs.declared.place.Place.{Place}
 use Rattle.pcapng_io.specs.declared.place.Stop.{Stop}
 use Rattle.pcapng_io.specs.declared.place.Stop.TheVariants as stop
@@ -18,7 +20,8 @@ held_type false = []
 -- what is said of the bytes where no block is read
 abbrev pub StopsHere : Place → List ℕ → Stop → Type 0
 StopsHere p bytes stop.End = bytes ≡ []
-StopsHere p bytes (stop.Refused cause) = (0 < length bytes) × (framed p.order bytes ≡ Err cause) × (limit_here p.order p.full p.room bytes ≡ None)
+StopsHere p bytes (stop.Refused cause) =
+    (0 < length bytes) × (framed p.order bytes ≡ Err cause) × (limit_here p.order p.full p.room bytes ≡ None)
 StopsHere p bytes (stop.TooLarge limit) = limit_here p.order p.full p.room bytes ≡ Some limit
 StopsHere p bytes stop.ReadFault = Unit {0}
 StopsHere p bytes stop.NoMemory = Unit {0}

@@ -3,7 +3,8 @@ ghost use Rattle.world_io.specs.Stream.{GoesOn, HasFailed};
 ghost use Rattle.pcap_io.specs.Started.{Starts, IsFresh};
 ghost use Rattle.pcapng_io.specs.Capture.{begins_ng};
 ghost use Rattle.pcapng_io.specs.Reader.{GivesAny};
-ghost use Rattle.pcapng_io.specs.Any.{any_started, StartsAny, TakesStart, unit_of, is_over, AnswersAny, TakesAny, IsHeader};
+ghost use Rattle.pcapng_io.specs.Any.{any_started, StartsAny, TakesStart, unit_of, is_over};
+ghost use Rattle.pcapng_io.specs.Any.{AnswersAny, TakesAny, IsHeader};
 
 use crate::block::SECTION;
 use crate::number::read_u32;

@@ -1,5 +1,6 @@
 ghost use Rattle.std.specs.Prelude.{◌≡◌, ◌≤◌, ◌<◌, ℕ, length, IfOk, IfSome};
-ghost use Rattle.pcapng_io.specs.Interfaces.{interface_in, units_of, padded, with_setting, with_options};
+ghost use Rattle.pcapng_io.specs.Interfaces.{interface_in, units_of, padded, with_setting};
+ghost use Rattle.pcapng_io.specs.Interfaces.{with_options};
 ghost use Rattle.pcapng_io.specs.Contents.{HasUnits};
 
 use crate::NgCause;

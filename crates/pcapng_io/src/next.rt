@@ -14,9 +14,9 @@ pub enum AnyNext {
     End,
     /// The record or the block that begins here is faulty.
     Refused(AnyFault),
-    /// A limit is passed here: that of packets, `MOST_PACKETS`, or that of a file, `MOST_FILE_BYTES`. The packets' limit goes
-    /// before the file's. In a pcapng capture it is passed where the type of a further packet's block stands within the
-    /// first `MOST_FILE_BYTES` bytes.
+    /// A limit is passed here: that of packets, `MOST_PACKETS`, or that of a file, `MOST_FILE_BYTES`. The packets'
+    /// limit goes before the file's. In a pcapng capture it is passed where the type of a further packet's block stands
+    /// within the first `MOST_FILE_BYTES` bytes.
     TooLarge(Limit),
     /// Reading failed.
     ReadFault,

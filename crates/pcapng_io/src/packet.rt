@@ -1,6 +1,7 @@
 ghost use Rattle.std.specs.Prelude.{◌≡◌, ◌≤◌, ◌*◌, ◌+◌, length, Some};
 ghost use Rattle.pcap_io.specs.Capture.{number};
-ghost use Rattle.pcapng_io.specs.Contents.{Tells, passes_body, enhanced_time, enhanced_on, captured_of, simple_on};
+ghost use Rattle.pcapng_io.specs.Contents.{Tells, passes_body, enhanced_time, enhanced_on};
+ghost use Rattle.pcapng_io.specs.Contents.{captured_of, simple_on};
 
 use crate::number::read_u32;
 use crate::{Interface, NgCause};

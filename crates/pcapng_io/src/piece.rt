@@ -1,4 +1,5 @@
-ghost use Rattle.std.specs.Prelude.{◌≡◌, ◌≤◌, ◌<◌, [], IsTrue, IsNone, IfSome, MatchOption, List, ℕ, length};
+ghost use Rattle.std.specs.Prelude.{◌≡◌, ◌≤◌, ◌<◌, [], IsTrue, IsNone, IfSome, MatchOption, List};
+ghost use Rattle.std.specs.Prelude.{ℕ, length};
 ghost use Rattle.world_io.specs.Stream.{GoesOn, HasFailed};
 
 use world_io::{Filled, Source};

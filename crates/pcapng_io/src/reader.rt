@@ -1,8 +1,10 @@
-ghost use Rattle.std.specs.Prelude.{◌≡◌, ◌≤◌, ◌<◌, ◌-◌, ◌==◌, ◌↔◌, ◌++◌, true, false, [], IsTrue, OnOk, IfErr, IsErrOf};
+ghost use Rattle.std.specs.Prelude.{◌≡◌, ◌≤◌, ◌<◌, ◌-◌, ◌==◌, ◌↔◌, ◌++◌, true, false, [], IsTrue};
+ghost use Rattle.std.specs.Prelude.{OnOk, IfErr, IsErrOf};
 ghost use Rattle.plain_text.specs.declared.limit.TheConstants.{MOST_FILE_BYTES, MOST_PACKETS};
 ghost use Rattle.pcap_io.specs.declared.order.Order.TheVariants.{Little};
 ghost use Rattle.world_io.specs.Stream.{GoesOn, HasFailed};
-ghost use Rattle.pcapng_io.specs.Reader.{section_of, MovesOn, StopsAt, AnswersNg, TakesNg, GivesAny, answer_of};
+ghost use Rattle.pcapng_io.specs.Reader.{section_of, MovesOn, StopsAt, AnswersNg, TakesNg};
+ghost use Rattle.pcapng_io.specs.Reader.{GivesAny, answer_of};
 ghost use Rattle.pcapng_io.specs.Stops.{held_type};
 
 use crate::content::read_content;

@@ -1,4 +1,5 @@
--- A worked run, by computation: a box that counts in one variable, two threads with one packet each, the moves 1, 1, 0, 0.
+-- A worked run, by computation: a box that counts in one variable, two threads with one packet each, the moves 1, 1, 0,
+-- 0.
 use Rattle.std.proofs.Common.{◌≡◌, ℕ, ◌+◌, List, [], ◌∷◌, refl, None, Result, Ok, Err, cond}
 use Rattle.std.specs.Prelude.{nat_eq}
 use Rattle.plain_text.specs.declared.packet.Packet.{Packet}
@@ -45,7 +46,8 @@ second : Entry
 second = record { thread = 0; number = 1; what = what.Access 0 2 }
 
 -- the touch of thread 1 has place 1, and that of thread 0 place 2
-log_is : (p : Packet) → log_after (play counting (λ t. p ∷ []) 2 (move 1 ∷ move 1 ∷ move 0 ∷ move 0 ∷ [])) ≡ second ∷ first ∷ []
+log_is : (p : Packet)
+    → log_after (play counting (λ t. p ∷ []) 2 (move 1 ∷ move 1 ∷ move 0 ∷ move 0 ∷ [])) ≡ second ∷ first ∷ []
 unfolding place counting log_after move first second
 log_is p = refl
 

@@ -1,6 +1,7 @@
--- A run of the plain machine, as its history: what each move did, NEWEST FIRST. The state after a run, its log and what it
--- sent out are read off its history, in which what stands behind a step is what came before it.
-use Rattle.std.specs.Prelude.{◌≡◌, ℕ, ◌+◌, ◌<◌, List, [], ◌∷◌, length, cond, nat_eq, nat_lt, if◌then◌else◌, Option, Some, None, Result, Ok, Err, reverse}
+-- A run of the plain machine, as its history: what each move did, NEWEST FIRST. The state after a run, its log and what
+-- it sent out are read off its history, in which what stands behind a step is what came before it.
+use Rattle.std.specs.Prelude.{◌≡◌, ℕ, ◌+◌, ◌<◌, List, [], ◌∷◌, length, cond, nat_eq, nat_lt, if◌then◌else◌, Option}
+use Rattle.std.specs.Prelude.{Some, None, Result, Ok, Err, reverse}
 use Rattle.plain_text.specs.declared.packet.Packet.{Packet}
 use Rattle.entry_order.specs.declared.what.What.{What}
 use Rattle.entry_order.specs.declared.what.What.TheVariants.{Access, Read, Clock, Draw}
@@ -11,7 +12,8 @@ use Rattle.plain_machine.specs.declared.plain_move.PlayCause.{PlayCause}
 use Rattle.plain_machine.specs.declared.plain_move.PlayCause.TheVariants.{NoSuchThread}
 use Rattle.plain_machine.specs.declared.plain_move.PlayFault.{PlayFault}
 use Rattle.plain_machine.specs.Program.{Meaning}
-use Rattle.plain_machine.specs.Machine.{Thread, Effect, Takes, Touches, Looks, HearsClock, HearsDraw, Sends, Ends, Moved, Moves, Illegal, thread_move}
+use Rattle.plain_machine.specs.Machine.{Thread, Effect, Takes, Touches, Looks, HearsClock, HearsDraw, Sends, Ends}
+use Rattle.plain_machine.specs.Machine.{Moved, Moves, Illegal, thread_move}
 
 -- what a move did, with its numbers
 pub data Act (V : Type 0) : Type 0 where
@@ -100,10 +102,12 @@ entry_of t log what = record { thread = t; number = entries t log + 1; what = wh
 abbrev pub emission_of : ℕ → List Emission → ℕ → Packet → Emission
 emission_of t sent input packet = record { thread = t; number = outputs t sent + 1; input = input; packet = packet }
 
--- an effect of the thread, which has this number of inputs taken now, with the numbers that it gets after the earlier steps
+-- an effect of the thread, which has this number of inputs taken now, with the numbers that it gets after the earlier
+-- steps
 abbrev pub act_of : {V : Type 0} → ℕ → List (Step V) → ℕ → Effect V → Act V
 act_of t earlier taken Takes = Took taken
-act_of t earlier taken (Touches v left) = Did (entry_of t (log_of earlier) (Access v (places v (log_of earlier) + 1))) (Some left)
+act_of t earlier taken (Touches v left) =
+    Did (entry_of t (log_of earlier) (Access v (places v (log_of earlier) + 1))) (Some left)
 act_of t earlier taken (Looks v) = Did (entry_of t (log_of earlier) (Read v (places v (log_of earlier)))) None
 act_of t earlier taken (HearsClock a) = Did (entry_of t (log_of earlier) (Clock a)) None
 act_of t earlier taken (HearsDraw a) = Did (entry_of t (log_of earlier) (Draw a)) None
@@ -118,10 +122,12 @@ after_moved steps t (Illegal cause) = Err cause
 after_moved steps t (Moves after effect) = Ok (step_of t steps after effect ∷ steps)
 
 -- one move after a history, of a machine with this number of threads, where each thread has its inputs
-abbrev pub plain_move : {V : Type 0} → Meaning V → (ℕ → List Packet) → ℕ → List (Step V) → PlainMove → Result (List (Step V)) PlayCause
+abbrev pub plain_move : {V : Type 0} → Meaning V → (ℕ → List Packet) → ℕ → List (Step V) → PlainMove
+    → Result (List (Step V)) PlayCause
 plain_move m inputs threads steps move =
-    if nat_lt move.thread threads then
-    after_moved steps move.thread (thread_move m (inputs move.thread) (value_after m steps) (thread_after steps move.thread) move.answer)
+    if nat_lt move.thread threads
+    then after_moved steps move.thread
+    (thread_move m (inputs move.thread) (value_after m steps) (thread_after steps move.thread) move.answer)
     else Err NoSuchThread
 
 -- the number of a move is one more than the moves before it
@@ -129,16 +135,19 @@ abbrev pub numbered : {V : Type 0} → ℕ → Result (List (Step V)) PlayCause 
 numbered before (Ok steps) = Ok steps
 numbered before (Err cause) = Err (record { number = before + 1; cause = cause })
 
-abbrev pub and_move : {V : Type 0} → Meaning V → (ℕ → List Packet) → ℕ → Result (List (Step V)) PlayFault → PlainMove → Result (List (Step V)) PlayFault
+abbrev pub and_move : {V : Type 0} → Meaning V → (ℕ → List Packet) → ℕ → Result (List (Step V)) PlayFault → PlainMove
+    → Result (List (Step V)) PlayFault
 and_move m inputs threads (Ok steps) move = numbered (length steps) (plain_move m inputs threads steps move)
 and_move m inputs threads (Err fault) move = Err fault
 
-abbrev pub and_moves : {V : Type 0} → Meaning V → (ℕ → List Packet) → ℕ → Result (List (Step V)) PlayFault → List PlainMove → Result (List (Step V)) PlayFault
+abbrev pub and_moves : {V : Type 0} → Meaning V → (ℕ → List Packet) → ℕ → Result (List (Step V)) PlayFault
+    → List PlainMove → Result (List (Step V)) PlayFault
 and_moves m inputs threads so_far [] = so_far
-and_moves m inputs threads so_far (move ∷ moves) = and_moves m inputs threads (and_move m inputs threads so_far move) moves
+and_moves m inputs threads so_far (move ∷ moves) =
+    and_moves m inputs threads (and_move m inputs threads so_far move) moves
 
--- Playing a list of moves from the start gives its history, or the first move that is illegal. The list is legal where it
--- gives a history.
+-- Playing a list of moves from the start gives its history, or the first move that is illegal. The list is legal where
+-- it gives a history.
 abbrev pub play : {V : Type 0} → Meaning V → (ℕ → List Packet) → ℕ → List PlainMove → Result (List (Step V)) PlayFault
 play m inputs threads moves = and_moves m inputs threads (Ok []) moves
 
@@ -146,8 +155,8 @@ play m inputs threads moves = and_moves m inputs threads (Ok []) moves
 abbrev pub IsStep : {V : Type 0} → Meaning V → (ℕ → List Packet) → ℕ → List (Step V) → Step V → Type 0
 IsStep {V} m inputs threads earlier x =
     (x.thread < threads) × (answer : Option ℕ) × (effect : Effect V)
-    × (thread_move m (inputs x.thread) (value_after m earlier) (thread_after earlier x.thread) answer ≡ Moves x.after effect)
-    × (x.act ≡ act_of x.thread earlier x.after.taken effect)
+    × (thread_move m (inputs x.thread) (value_after m earlier) (thread_after earlier x.thread) answer
+    ≡ Moves x.after effect) × (x.act ≡ act_of x.thread earlier x.after.taken effect)
 
 -- Each step is a legal one after those behind it.
 abbrev pub IsHistory : {V : Type 0} → Meaning V → (ℕ → List Packet) → ℕ → List (Step V) → Type 0

@@ -6,12 +6,13 @@ ghost use Rattle.plain_machine.specs.declared.plain_move.PlainMove.{PlainMove};
 ghost use Rattle.plain_machine.specs.declared.plain_move.PlayFault.{PlayFault};
 ghost use Rattle.plain_machine.specs.Program.{Meaning};
 ghost use Rattle.plain_machine.specs.Machine.{Thread};
-ghost use Rattle.plain_machine.specs.History.{Step, log_of, plain_move, and_moves, play, IsStep, IsHistory};
+ghost use Rattle.plain_machine.specs.History.{Step, log_of, plain_move, and_moves, play, IsStep};
+ghost use Rattle.plain_machine.specs.History.{IsHistory};
 ghost use Rattle.plain_machine.specs.Agree.{IsEarlier, Makes, Agreement};
 ghost use Rattle.plain_machine.specs.Continue.{Continuation, Recovery};
 
-/// A legal list of moves gives a history, with one step for each move, and each history is that of a legal list. Where a
-/// list is not legal, the moves before the one that the fault names are, and that one is none that may follow them.
+/// A legal list of moves gives a history, with one step for each move, and each history is that of a legal list. Where
+/// a list is not legal, the moves before the one that the fault names are, and that one is none that may follow them.
 pub fn lists_are_histories<X>()
     ensures history { (m : Meaning X) (inputs : ℕ → List Packet) (threads : ℕ)
         (moves : List PlainMove) (steps : List (Step X))
@@ -33,8 +34,8 @@ pub fn lists_are_histories<X>()
         × (fault.number ≡ length before + 1) }
 {}
 
-/// A list is played by playing its first moves and going on with the rest, so the first moves of a legal list are a legal
-/// list, whose history is what the longer one was at an earlier moment.
+/// A list is played by playing its first moves and going on with the rest, so the first moves of a legal list are a
+/// legal list, whose history is what the longer one was at an earlier moment.
 pub fn lists_go_on<X>()
     ensures appended { (m : Meaning X) (inputs : ℕ → List Packet) (threads : ℕ)
         (moves more : List PlainMove)
@@ -71,16 +72,16 @@ pub fn runs_agree<X>()
         → Agreement m inputs threads }
 {}
 
-/// A run is continued by entries of another run on the same inputs: where they are numbered on after it, and where each of
-/// their immediate predecessors in it is in a closed set of entries that both keep, some moves after it have exactly
+/// A run is continued by entries of another run on the same inputs: where they are numbered on after it, and where each
+/// of their immediate predecessors in it is in a closed set of entries that both keep, some moves after it have exactly
 /// these entries.
 pub fn runs_continue<X>()
     ensures { (m : Meaning X) (inputs : ℕ → List Packet) (threads : ℕ)
         → Continuation m inputs threads }
 {}
 
-/// What was logged can be made again after a crash: where a set of entries of a run is closed over an earlier moment of it,
-/// some moves after that moment make exactly the entries of the set that it lacks.
+/// What was logged can be made again after a crash: where a set of entries of a run is closed over an earlier moment of
+/// it, some moves after that moment make exactly the entries of the set that it lacks.
 pub fn runs_recover<X>()
     ensures { (m : Meaning X) (inputs : ℕ → List Packet) (threads : ℕ) → Recovery m inputs threads }
 {}

@@ -1,5 +1,6 @@
 -- What was written is read back: a text of the lines of moves is their schedule.
-use Rattle.std.proofs.Common.{◌≡◌, ℕ, ◌-◌, ◌^◌, ◌<◌, ◌==◌, arith, List, [], ◌∷◌, ◌++◌, length, refl, Option, Some, None, false, ap, append-nil}
+use Rattle.std.proofs.Common.{◌≡◌, ℕ, ◌-◌, ◌^◌, ◌<◌, ◌==◌, arith, List, [], ◌∷◌, ◌++◌, length, refl, Option, Some, None}
+use Rattle.std.proofs.Common.{false, ap, append-nil}
 use Rattle.std.specs.Prelude.{codes, decimal, not, slice_index}
 use Rattle.std.specs.Str.Parse.{AllDigits}
 use Rattle.std.proofs.lemmas.Bool.Decides.{nat_tests}
@@ -27,14 +28,22 @@ thread_small thread small = omega arith
 
 are_words : (thread : ℕ) (answer : Option ℕ) → thread < 2 ^ 32 → IsAnswer answer → AreWords (line_words thread answer)
 are_words thread None small fits = (decimal_word thread (thread_small thread small), tt)
-are_words thread (Some answer) small fits = (decimal_word thread (thread_small thread small), ((refl, above_test 32 (codes "=") refl), (decimal_word answer fits, tt)))
+are_words thread (Some answer) small fits = (
+  decimal_word thread (thread_small thread small),
+  ((refl, above_test 32 (codes "=") refl), (decimal_word answer fits, tt)),
+)
 
 -- They say the move
 
-words_say : (thread : ℕ) (answer : Option ℕ) → thread < 2 ^ 32 → IsAnswer answer → SaysMove (line_words thread answer) (record { thread = thread; answer = answer })
-words_say thread None small fits = (decimal_number thread (thread_small thread small), within thread (2 ^ 32 - 1) (omega arith), tt)
-words_say thread (Some answer) small fits =
-    (decimal_number thread (thread_small thread small), within thread (2 ^ 32 - 1) (omega arith), (refl, refl, (decimal_number answer fits, within answer (2 ^ 64 - 1) (omega arith), tt)))
+words_say : (thread : ℕ) (answer : Option ℕ) → thread < 2 ^ 32 → IsAnswer answer
+    → SaysMove (line_words thread answer) (record { thread = thread; answer = answer })
+words_say thread None small fits =
+    (decimal_number thread (thread_small thread small), within thread (2 ^ 32 - 1) (omega arith), tt)
+words_say thread (Some answer) small fits = (
+  decimal_number thread (thread_small thread small),
+  within thread (2 ^ 32 - 1) (omega arith),
+  (refl, refl, (decimal_number answer fits, within answer (2 ^ 64 - 1) (omega arith), tt)),
+)
 
 -- And they are what is written
 

@@ -1,10 +1,12 @@
 -- What a player does with the packet in hand.
-use Rattle.std.specs.Prelude.{◌≡◌, ℕ, ◌+◌, ◌<◌, List, length, Option, Some, None, option_map, slice_index_or, slice_set, Result, Ok, Err}
+use Rattle.std.specs.Prelude.{◌≡◌, ℕ, ◌+◌, ◌<◌, List, length, Option, Some, None, option_map, slice_index_or, slice_set}
+use Rattle.std.specs.Prelude.{Result, Ok, Err}
 use Rattle.plain_text.specs.declared.packet.Packet.{Packet}
 use Rattle.box_program.specs.Hands.{local_in}
 use Rattle.plain_machine.specs.declared.local.Local.{Local}
 use Rattle.plain_machine.specs.Program.{Meaning}
-use Rattle.plain_machine.specs.Machine.{Hand, Thread, Effect, Takes, Touches, Looks, HearsClock, HearsDraw, Sends, Ends, Moved, Moves, Illegal}
+use Rattle.plain_machine.specs.Machine.{Hand, Thread, Effect, Takes, Touches, Looks, HearsClock, HearsDraw, Sends, Ends}
+use Rattle.plain_machine.specs.Machine.{Moved, Moves, Illegal}
 use Rattle.plain_machine.specs.declared.emission.Emission.{Emission}
 use Rattle.plain_player.specs.declared.seat.Seat.{Seat}
 use Rattle.plain_player.specs.declared.hand.HandMove.{HandMove}
@@ -38,7 +40,8 @@ abbrev pub with_bytes : Packet → List ℕ → Packet
 with_bytes packet bytes = record packet { bytes = bytes }
 
 -- What was done with the packet in hand is the move that leads to this thread by this effect.
-pub record IsHandMove {V : Type 0} (after : Thread) (effect : Effect V) (taken : ℕ) (packet : Packet) (made : HandMove) (old new : List V) : Type 0 where
+pub record IsHandMove {V : Type 0} (after : Thread) (effect : Effect V) (taken : ℕ) (packet : Packet) (made : HandMove)
+    (old new : List V) : Type 0 where
   pub taken_stays : after.taken ≡ taken
   pub place : made.place ≡ local_in after.hand
   pub sent : option_map (with_bytes packet) made.sent ≡ sent_by effect
@@ -61,12 +64,18 @@ seat_after thread seat packet made = sent_after made.sent
     sent_after None = (record seat { hand = made.place }, None)
     sent_after (Some bytes) = (
       record { taken = seat.taken; outputs = seat.outputs + 1; hand = made.place },
-      Some (record { thread = thread; number = seat.outputs + 1; input = seat.taken; packet = record packet { bytes = bytes } }),
+      Some (record {
+        thread = thread;
+        number = seat.outputs + 1;
+        input = seat.taken;
+        packet = record packet { bytes = bytes };
+      }),
     )
 
 -- a thread without a packet in hand takes its next input
 abbrev pub TakesInput : {V : Type 0} → Moved V → Seat → Result Seat MoveError → Type 0
-TakesInput (Moves after effect) seat (Ok s) = (s.taken ≡ after.taken) × (s.outputs ≡ seat.outputs) × (s.hand ≡ local_in after.hand)
+TakesInput (Moves after effect) seat (Ok s) =
+    (s.taken ≡ after.taken) × (s.outputs ≡ seat.outputs) × (s.hand ≡ local_in after.hand)
 TakesInput (Moves after effect) seat (Err e) = ⊥
 TakesInput (Illegal cause) seat (Ok s) = ⊥
 TakesInput (Illegal cause) seat (Err e) = e ≡ error.Illegal cause

@@ -1,5 +1,6 @@
 -- Which histories of the plain machine a player stands for, and what one call of it does.
-use Rattle.std.specs.Prelude.{◌≡◌, ℕ, ◌+◌, ◌<◌, ◌≤◌, ◌++◌, List, length, Option, Some, None, slice_get, slice_index_or, option_to_list, Result, Ok, Err, MatchResult}
+use Rattle.std.specs.Prelude.{◌≡◌, ℕ, ◌+◌, ◌<◌, ◌≤◌, ◌++◌, List, length, Option, Some, None, slice_get, slice_index_or}
+use Rattle.std.specs.Prelude.{option_to_list, Result, Ok, Err, MatchResult}
 use Rattle.std.specs.Option.{option_map_or}
 use Rattle.plain_text.specs.declared.packet.Packet.{Packet}
 use Rattle.plain_machine.specs.declared.local.Local.{Local}
@@ -23,7 +24,9 @@ pub record Playing (V : Type 0) : Type 0 where
 
 -- no thread took or sent more than there were moves
 abbrev pub SeatsWithin : List Seat → ℕ → Type 0
-SeatsWithin seats made = (t : ℕ) (d : Seat) → t < length seats → ((slice_index_or seats t d).taken ≤ made) × ((slice_index_or seats t d).outputs ≤ made)
+SeatsWithin seats made =
+    (t : ℕ) (d : Seat) → t < length seats
+    → ((slice_index_or seats t d).taken ≤ made) × ((slice_index_or seats t d).outputs ≤ made)
 
 -- a seat has what the history tells of its thread
 pub record IsSeat {V : Type 0} (steps : List (Step V)) (t : ℕ) (s : Seat) : Type 0 where
@@ -42,7 +45,8 @@ pub record Stands {V : Type 0} (m : Meaning V) (threads : ℕ) (steps : List (St
 abbrev pub place_in_hand : {V : Type 0} → Playing V → ℕ → Option Local
 place_in_hand p t = hand_of (λ seat. seat.hand) (slice_get p.seats t)
 
--- the number, from 1, of the input that the next move of a thread in this seat is made with: the one in hand, or else the next
+-- the number, from 1, of the input that the next move of a thread in this seat is made with: the one in hand, or else
+-- the next
 abbrev pub input_of_seat : ℕ → Option Local → ℕ
 input_of_seat taken None = taken + 1
 input_of_seat taken (Some place) = taken
@@ -52,8 +56,10 @@ abbrev pub next_input : {V : Type 0} → Playing V → ℕ → ℕ
 next_input p t = option_map_or (λ seat. input_of_seat seat.taken seat.hand) (slice_get p.seats t) 0
 
 -- A call made the move of the definition and sent what it sends, or named the cause by which it is none.
-abbrev pub Follows : {V : Type 0} → Meaning V → (ℕ → List Packet) → ℕ → List (Step V) → PlainMove → Result (Option Emission) MoveError → Playing V → Type 0
+abbrev pub Follows : {V : Type 0} → Meaning V → (ℕ → List Packet) → ℕ → List (Step V) → PlainMove
+    → Result (Option Emission) MoveError → Playing V → Type 0
 Follows m inputs threads steps plain (Ok sent) p =
-    MatchResult (plain_move m inputs threads steps plain) (λ next. Stands m threads next p × (sent_of next ≡ option_to_list sent ++ sent_of steps)) (λ _. ⊥)
+    MatchResult (plain_move m inputs threads steps plain)
+    (λ next. Stands m threads next p × (sent_of next ≡ option_to_list sent ++ sent_of steps)) (λ _. ⊥)
 Follows m inputs threads steps plain (Err (error.Illegal cause)) p = plain_move m inputs threads steps plain ≡ Err cause
 Follows m inputs threads steps plain (Err error.NoMemory) p = Unit {0}

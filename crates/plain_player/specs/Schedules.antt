@@ -1,4 +1,5 @@
--- Schedules read. Each line that counts says one move, in order; where a line says none, the first such line is the fault.
+-- Schedules read. Each line that counts says one move, in order; where a line says none, the first such line is the
+-- fault.
 use Rattle.std.specs.Prelude.{ℕ, ◌-◌, ◌<◌, ◌^◌, All, List, [], ◌∷◌, codes, Option, Some, None}
 use Rattle.plain_text.specs.declared.fault.LineCause.{LineCause}
 use Rattle.plain_text.specs.declared.fault.ReadError.{ReadError}

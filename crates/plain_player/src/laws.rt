@@ -6,8 +6,8 @@ ghost use Rattle.plain_machine.specs.declared.plain_move.PlainMove.{PlainMove};
 ghost use Rattle.plain_player.specs.Schedules.{IsSchedule, FirstFault, HasTooMany, FitLines};
 ghost use Rattle.plain_player.specs.ScheduleText.{schedule_text};
 
-/// A text is the schedule of one list of moves, or it has one first fault: exactly one of the two. It has too many moves exactly
-/// where those of all its lines, or those before the first fault, pass the limit.
+/// A text is the schedule of one list of moves, or it has one first fault: exactly one of the two. It has too many
+/// moves exactly where those of all its lines, or those before the first fault, pass the limit.
 pub fn a_text_is_one_schedule_or_has_a_fault()
     ensures either { (text : List ℕ)
         → ((moves : List PlainMove) × IsSchedule text moves)
@@ -25,8 +25,8 @@ pub fn a_text_is_one_schedule_or_has_a_fault()
         → HasTooMany text ↔ (MOST_EVENTS < length first.things) }
 {}
 
-/// The text that `put_schedule` writes is the schedule of the moves that it wrote, and of no others; the threads are below 2^32 and the
-/// answers below 2^64, as those of each `PlainMove` are.
+/// The text that `put_schedule` writes is the schedule of the moves that it wrote, and of no others; the threads are
+/// below 2^32 and the answers below 2^64, as those of each `PlainMove` are.
 pub fn written_schedules_are_read()
     ensures read { (moves : List PlainMove)
         → FitLines moves → IsSchedule (schedule_text moves) moves }

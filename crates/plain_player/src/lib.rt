@@ -1,5 +1,5 @@
-//! A player of the plain machine: one move at a time, or a whole schedule, exactly as the definition has it; and schedules as
-//! texts.
+//! A player of the plain machine: one move at a time, or a whole schedule, exactly as the definition has it; and
+//! schedules as texts.
 #![tactic(auto)]
 
 mod hand;

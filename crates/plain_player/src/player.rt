@@ -1,10 +1,13 @@
-ghost use Rattle.std.specs.Prelude.{◌≡◌, ◌<◌, ◌≤◌, false, ◌+◌, ◌^◌, ℕ, List, [], length, slice_index_or, Some, IfOk, IfSome, OnOk, OnErr, IsSome, IsTrue, option_copied};
+ghost use Rattle.std.specs.Prelude.{◌≡◌, ◌<◌, ◌≤◌, false, ◌+◌, ◌^◌, ℕ, List, [], length};
+ghost use Rattle.std.specs.Prelude.{slice_index_or, Some, IfOk, IfSome, OnOk, OnErr, IsSome};
+ghost use Rattle.std.specs.Prelude.{IsTrue, option_copied};
 ghost use Rattle.plain_text.specs.declared.packet.Packet as packet_of;
 ghost use Rattle.plain_machine.specs.History.{Step};
 ghost use Rattle.plain_player.specs.Hands.{HasValues, TakesInput, seat_after};
 ghost use Rattle.plain_machine.specs.Machine.{take_move};
 ghost use Rattle.box_program.specs.Hands.{FitsProgram, IsInputAfter, has_hand, moves_left};
-ghost use Rattle.plain_player.specs.Playing.{Stands, Follows, place_in_hand, next_input, input_of_seat as input_for_seat};
+ghost use Rattle.plain_player.specs.Playing.{Stands, Follows, place_in_hand, next_input};
+ghost use Rattle.plain_player.specs.Playing.{input_of_seat as input_for_seat};
 
 use crate::hand::{HandMove, MoveError, play_hand};
 use crate::seat::Seat;
@@ -69,8 +72,8 @@ impl<V: Drop> Player<V> {
         }
     }
 
-    /// The number, from 1, of the input that the thread's next move is made with: the one in hand, or else its next. For a thread
-    /// that is not there it is 0.
+    /// The number, from 1, of the input that the thread's next move is made with: the one in hand, or else its next.
+    /// For a thread that is not there it is 0.
     pub fn next_input(&self, thread: u32) -> u64
         requires { self.now.made + 1 < 2 ^ 64 }
         ensures { result ≡ next_input self.now thread }
@@ -83,8 +86,8 @@ impl<V: Drop> Player<V> {
 
     /// Makes one move: with the packet in hand, or else with the thread's next input, if there is one.
     ///
-    /// It gives the packet that the move sends out. What the plain machine may not make is `Illegal`, with its cause. After
-    /// an error nothing is changed.
+    /// It gives the packet that the move sends out. What the plain machine may not make is `Illegal`, with its cause.
+    /// After an error nothing is changed.
     pub fn step<P: Program<Value = V>>(
         &mut self,
         alloc: Global,

@@ -3,7 +3,8 @@ ghost use Rattle.plain_text.specs.declared.limit.TheConstants.{MOST_EVENTS as mo
 ghost use Rattle.plain_text.specs.Lines.{words_of};
 ghost use Rattle.plain_player.specs.Reading.{answer_in};
 ghost use Rattle.plain_player.specs.ScheduleText.{answer_text, move_line, schedule_text};
-ghost use Rattle.plain_player.specs.Schedules.{FitLines, FitsLine, IsAnswer, IsSchedule, IsRefused, SaysMove, move_fault};
+ghost use Rattle.plain_player.specs.Schedules.{FitLines, FitsLine, IsAnswer, IsSchedule, IsRefused};
+ghost use Rattle.plain_player.specs.Schedules.{SaysMove, move_fault};
 
 use plain_machine::{PlainMove, Schedule};
 use plain_text::{
@@ -12,12 +13,12 @@ use plain_text::{
 };
 use std::alloc::Global;
 
-/// Reads a schedule: one move on each line that counts, `T`, or `T = A` where the move is told the answer A. Its time and memory
-/// grow with the length of the text, and no faster.
+/// Reads a schedule: one move on each line that counts, `T`, or `T = A` where the move is told the answer A. Its time
+/// and memory grow with the length of the text, and no faster.
 ///
-/// It answers `TooMany` where more than `MOST_EVENTS` lines count before the first faulty one, or at all. Else it answers `Fault`
-/// with the first faulty line, if there is one. A first word that is no number is a bad number, and a thread above 2^32 - 1
-/// is out of range.
+/// It answers `TooMany` where more than `MOST_EVENTS` lines count before the first faulty one, or at all. Else it
+/// answers `Fault` with the first faulty line, if there is one. A first word that is no number is a bad number, and a
+/// thread above 2^32 - 1 is out of range.
 pub fn read_schedule(alloc: Global, text: &[u8]) -> Result<Schedule, ReadError>
     ensures schedule { IfOk result (IsSchedule text.now) }
     ensures few { IfOk result (λ moves. length moves ≤ most_lines) }
@@ -86,8 +87,8 @@ fn read_answer(mut words: WordIter<'_>) -> Result<Option<u64>, LineCause>
     }
 }
 
-/// The text of a schedule: a line for each move, `T`, or `T = A` where the move is told the answer A. Each move fits its line, so
-/// the text is read back.
+/// The text of a schedule: a line for each move, `T`, or `T = A` where the move is told the answer A. Each move fits
+/// its line, so the text is read back.
 pub fn put_schedule(alloc: Global, schedule: &Schedule) -> Result<Bytes, NoMemory>
     ensures text { IfOk result (λ text. text ≡ schedule_text schedule.now) }
     ensures fit_lines { OnOk result (FitLines schedule.now) }

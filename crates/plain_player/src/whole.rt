@@ -42,8 +42,8 @@ impl From<NoMemory> for PlayError {
 
 /// Plays a schedule from fresh values by the plain machine, on the inputs that were fed.
 ///
-/// It ends at the first move that is illegal, and names it by its number, from 1. A move that is illegal by several causes has
-/// the first of these: no such thread; unwanted answer; nothing to take. A missing answer stands alone.
+/// It ends at the first move that is illegal, and names it by its number, from 1. A move that is illegal by several
+/// causes has the first of these: no such thread; unwanted answer; nothing to take. A missing answer stands alone.
 pub fn play<P: Program>(
     alloc: Global,
     program: &P,

@@ -1,5 +1,6 @@
 -- Addresses, octet by octet.
-use Rattle.std.proofs.Common.{◌≡◌, ℕ, suc, ◌+◌, ◌*◌, ◌^◌, ◌<◌, ◌&&◌, Bool, true, false, List, [], ◌∷◌, length, take, drop, get_or, refl, sym, ap, arith, Option, Some, None, cond}
+use Rattle.std.proofs.Common.{◌≡◌, ℕ, suc, ◌+◌, ◌*◌, ◌^◌, ◌<◌, ◌&&◌, Bool, true, false, List, [], ◌∷◌, length, take}
+use Rattle.std.proofs.Common.{drop, get_or, refl, sym, ap, arith, Option, Some, None, cond}
 use Rattle.std.specs.Prelude.{position, nat_lt, nat_le}
 use Rattle.std.specs.List.{slice_split, list_all}
 use Rattle.std.specs.Char.{is_ascii_digit}
@@ -19,10 +20,12 @@ pub octet_more : (word : List ℕ) (i count value : ℕ) → position is_dot wor
     → octets (suc count) value word ≡ octets count (value * 256 + digits_value 10 (take i word)) (drop (i + 1) word)
 octet_more word i count value dot is = rw (split_at_some is_dot word i dot, is) refl
 
-pub no_octet : (word : List ℕ) (i count value : ℕ) → position is_dot word ≡ Some i → is_octet (take i word) ≡ false → octets (suc count) value word ≡ None
+pub no_octet : (word : List ℕ) (i count value : ℕ) → position is_dot word ≡ Some i → is_octet (take i word) ≡ false
+    → octets (suc count) value word ≡ None
 no_octet word i count value dot is = rw (split_at_some is_dot word i dot, is) refl
 
-pub no_dot : (word : List ℕ) (count value : ℕ) → position is_dot word ≡ None → octets (suc (suc count)) value word ≡ None
+pub no_dot : (word : List ℕ) (count value : ℕ) → position is_dot word ≡ None
+    → octets (suc (suc count)) value word ≡ None
 no_dot word count value none = rw (split_at_none is_dot word none) (by (is_octet word))
   where
     by : (b : Bool) → cond b (with_octets (suc count) (value * 256 + digits_value 10 word) []) None ≡ None
@@ -35,14 +38,17 @@ with_dot word i dot =
     let at = position-Some is_dot word i 0 dot in
     let place : i < length word = at.0 in
     let is : is_dot (get_or word i 0) ≡ true = at.1 in
-    let none : list_all is_ascii_digit word ≡ false = list_all_at is_ascii_digit word i 0 place (grind (arith, nat_tests)) in
+    let none : list_all is_ascii_digit word ≡ false =
+    list_all_at is_ascii_digit word i 0 place (grind (arith, nat_tests)) in
     rw (none, and_false (nat_lt 0 (length word) && nat_le (length word) 20)) refl
 
 -- and what stands behind the last dot is the last octet
-pub last_octet : (word : List ℕ) (value : ℕ) → octets 1 value word ≡ cond (is_octet word) (Some (value * 256 + digits_value 10 word)) None
+pub last_octet : (word : List ℕ) (value : ℕ)
+    → octets 1 value word ≡ cond (is_octet word) (Some (value * 256 + digits_value 10 word)) None
 last_octet word value = by (position is_dot word) refl
   where
-    by : (o : Option ℕ) → position is_dot word ≡ o → octets 1 value word ≡ cond (is_octet word) (Some (value * 256 + digits_value 10 word)) None
+    by : (o : Option ℕ) → position is_dot word ≡ o
+        → octets 1 value word ≡ cond (is_octet word) (Some (value * 256 + digits_value 10 word)) None
     by None none = rw (split_at_none is_dot word none) refl
     by (Some i) dot =
         let parts = some_parts is_dot (drop (i + 1) word) in
@@ -65,7 +71,8 @@ is_one false n octet e = absurd (cc)
 pub none_last : (b : Bool) (n value : ℕ) → None ≡ cond b (Some n) None → cond b (Some value) None ≡ None
 none_last b n value e = ap (λ (b : Bool). cond b (Some value) None) (is_none b n e)
 
-pub one_last : (b : Bool) (n octet value : ℕ) → Some octet ≡ cond b (Some n) None → cond b (Some (value + n)) None ≡ Some (value + octet)
+pub one_last : (b : Bool) (n octet value : ℕ) → Some octet ≡ cond b (Some n) None
+    → cond b (Some (value + n)) None ≡ Some (value + octet)
 one_last true n octet value e = let same : octet ≡ n = cc in ap (λ (m : ℕ). Some (value + m)) (sym same)
 one_last false n octet value e = absurd (cc)
 
@@ -82,10 +89,12 @@ next_octet count value n (part ∷ parts) e = by (is_octet part) refl e
   where
     small : is_octet part ≡ true → digits_value 10 part < 256
     small is =
-        let low : nat_lt (digits_value 10 part) 256 ≡ true = and_right (is_number part) (nat_lt (digits_value 10 part) 256) is in
+        let low : nat_lt (digits_value 10 part) 256 ≡ true =
+        and_right (is_number part) (nat_lt (digits_value 10 part) 256) is in
         grind (arith, nat_tests)
 
-    by : (b : Bool) → is_octet part ≡ b → cond b (with_octets count (value * 256 + digits_value 10 part) parts) None ≡ Some n
+    by : (b : Bool) → is_octet part ≡ b
+        → cond b (with_octets count (value * 256 + digits_value 10 part) parts) None ≡ Some n
         → (octet : ℕ) × (rest : List (List ℕ)) × (octet < 256) × (with_octets count (value * 256 + octet) rest ≡ Some n)
     by true is e = (digits_value 10 part, parts, small is, e)
     by false is e = absurd (cc)

@@ -1,5 +1,6 @@
 -- Numbers of text files.
-use Rattle.std.proofs.Common.{◌≡◌, ℕ, ◌+◌, ◌*◌, ◌^◌, ◌<◌, ◌≤◌, ◌&&◌, Bool, true, false, List, length, take, get_or, refl, sym, ap, ◌∙◌, arith, Some, None}
+use Rattle.std.proofs.Common.{◌≡◌, ℕ, ◌+◌, ◌*◌, ◌^◌, ◌<◌, ◌≤◌, ◌&&◌, Bool, true, false, List, length, take, get_or}
+use Rattle.std.proofs.Common.{refl, sym, ap, ◌∙◌, arith, Some, None}
 use Rattle.std.specs.Prelude.{nat_lt, nat_le}
 use Rattle.std.specs.List.{list_all}
 use Rattle.std.specs.Char.{is_ascii_digit}
@@ -35,9 +36,12 @@ digit_is : (b : ℕ) → is_ascii_digit b ≡ true → digit_value b ≡ b - 48
 digit_is b h = grind (arith, nat_tests)
 
 -- one more digit
-pub value_more : (word : List ℕ) (i b : ℕ) → i < length word → b ≡ get_or word i 0 → is_ascii_digit b ≡ true → digits_value 10 (take (i + 1) word) ≡ digits_value 10 (take i word) * 10 + (b - 48)
+pub value_more : (word : List ℕ) (i b : ℕ) → i < length word → b ≡ get_or word i 0 → is_ascii_digit b ≡ true
+    → digits_value 10 (take (i + 1) word) ≡ digits_value 10 (take i word) * 10 + (b - 48)
 value_more word i b in_word b_is digit =
-    digits_value_more 10 word i in_word ∙ ap (λ d. digits_value 10 (take i word) * 10 + digit_value d) (sym b_is) ∙ ap (λ d. digits_value 10 (take i word) * 10 + d) (digit_is b digit)
+    digits_value_more 10 word i in_word
+    ∙ ap (λ d. digits_value 10 (take i word) * 10 + digit_value d) (sym b_is)
+    ∙ ap (λ d. digits_value 10 (take i word) * 10 + d) (digit_is b digit)
 
 pub not_below : (a b : ℕ) → (a < b → ⊥) → b ≤ a
 not_below a b h = go (cases_lt a b)
@@ -46,11 +50,14 @@ not_below a b h = go (cases_lt a b)
     go (inl k) = absurd (h k)
     go (inr k) = k
 
-pub digits_more : (word : List ℕ) (i : ℕ) → i < length word → list_all is_ascii_digit (take i word) ≡ true → is_ascii_digit (get_or word i 0) ≡ true → list_all is_ascii_digit (take (i + 1) word) ≡ true
+pub digits_more : (word : List ℕ) (i : ℕ) → i < length word → list_all is_ascii_digit (take i word) ≡ true
+    → is_ascii_digit (get_or word i 0) ≡ true → list_all is_ascii_digit (take (i + 1) word) ≡ true
 digits_more word i in_word before here = grind (arith, common_steps, take_more, list_all-append)
 
 -- a word of digits that were all read
-pub is_whole : (word : List ℕ) (number i : ℕ) → 0 < length word → length word ≤ 20 → i ≡ length word → list_all is_ascii_digit (take i word) ≡ true → number ≡ digits_value 10 (take i word) → number < 2 ^ 64 → Some number ≡ number_of word
+pub is_whole : (word : List ℕ) (number i : ℕ) → 0 < length word → length word ≤ 20 → i ≡ length word
+    → list_all is_ascii_digit (take i word) ≡ true → number ≡ digits_value 10 (take i word) → number < 2 ^ 64
+    → Some number ≡ number_of word
 is_whole word number i some short all digits value fits =
     let whole : take i word ≡ word = ap (λ n. take n word) all ∙ take-length word in
     let digits2 : list_all is_ascii_digit word ≡ true = ap (list_all is_ascii_digit) (sym whole) ∙ digits in

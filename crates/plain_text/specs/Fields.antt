@@ -1,5 +1,5 @@
--- The words of a line after its first, by a table of what stands at each place. In this order the first fault is named: word
--- by word a missing word, a fixed word that is another, a number or an address that is none; then a word too many.
+-- The words of a line after its first, by a table of what stands at each place. In this order the first fault is named:
+-- word by word a missing word, a fixed word that is another, a number or an address that is none; then a word too many.
 use Rattle.std.specs.Prelude.{ℕ, List, [], ◌∷◌, if◌then◌else◌, Option, Some, None, Result, Ok, Err}
 use Rattle.std.specs.Str.{bytes_eq}
 use Rattle.plain_text.specs.declared.fault.LineCause.{LineCause}
@@ -31,7 +31,8 @@ abbrev pub before : ℕ → Result (List ℕ) LineCause → Result (List ℕ) Li
 before n (Ok ns) = Ok (n ∷ ns)
 before n (Err cause) = Err cause
 
-abbrev pub and_fields : Result (ℕ × List (List ℕ)) LineCause → (List (List ℕ) → Result (List ℕ) LineCause) → Result (List ℕ) LineCause
+abbrev pub and_fields : Result (ℕ × List (List ℕ)) LineCause → (List (List ℕ) → Result (List ℕ) LineCause)
+    → Result (List ℕ) LineCause
 and_fields (Ok taken) more = before taken.0 (more taken.1)
 and_fields (Err cause) more = Err cause
 

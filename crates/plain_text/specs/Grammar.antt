@@ -1,11 +1,13 @@
--- Grammars of text files as tables. A row of a table is a line that may stand: its first word, what stands at each place after
--- it, how its values fit one another, whether it may stand again, and whether it has to stand. A table says of each line which
--- row it is and which values it has, or its first fault; and of a file's lines whether all are lines of the table, or which is
--- the first that is not; and where all are, whether one is missing.
-use Rattle.std.specs.Prelude.{◌≡◌, ◌⊎◌, ℕ, ◌<◌, ◌≤◌, ◌&&◌, Bool, true, false, List, [], ◌∷◌, nat_le, if◌then◌else◌, Option, Some, None, unwrap_or, option_map, ◌+◌}
+-- Grammars of text files as tables. A row of a table is a line that may stand: its first word, what stands at each
+-- place after it, how its values fit one another, whether it may stand again, and whether it has to stand. A table says
+-- of each line which row it is and which values it has, or its first fault; and of a file's lines whether all are lines
+-- of the table, or which is the first that is not; and where all are, whether one is missing.
+use Rattle.std.specs.Prelude.{◌≡◌, ◌⊎◌, ℕ, ◌<◌, ◌≤◌, ◌&&◌, Bool, true, false, List, [], ◌∷◌, nat_le, if◌then◌else◌}
+use Rattle.std.specs.Prelude.{Option, Some, None, unwrap_or, option_map, ◌+◌}
 use Rattle.std.specs.Str.{bytes_eq}
 use Rattle.plain_text.specs.declared.fault.LineCause.{LineCause}
-use Rattle.plain_text.specs.declared.fault.LineCause.TheVariants.{UnknownWord, MissingWord, ExtraWord, BadNumber, OutOfRange, Twice, MissingLine}
+use Rattle.plain_text.specs.declared.fault.LineCause.TheVariants.{UnknownWord, MissingWord, ExtraWord, BadNumber}
+use Rattle.plain_text.specs.declared.fault.LineCause.TheVariants.{OutOfRange, Twice, MissingLine}
 use Rattle.plain_text.specs.Lines.{address_of, number_of, words_of}
 
 -- what may stand at a place of a line
@@ -73,10 +75,11 @@ PlacesSay (place ∷ places) (word ∷ words) (n ∷ values) =
 -- a line with these words is one of this row, and has these values
 abbrev pub LineSays : List Row → List (List ℕ) → Row → List ℕ → Type 0
 LineSays rows [] row values = ⊥
-LineSays rows (word ∷ words) row values = (row_named word rows ≡ Some row) × PlacesSay row.places words values × (row.fits values ≡ true)
+LineSays rows (word ∷ words) row values =
+    (row_named word rows ≡ Some row) × PlacesSay row.places words values × (row.fits values ≡ true)
 
--- The first fault, in this order: word by word, a missing one or one of another form; a word too many; a number out of its
--- range; numbers that do not fit one another, which are out of range too.
+-- The first fault, in this order: word by word, a missing one or one of another form; a word too many; a number out of
+-- its range; numbers that do not fit one another, which are out of range too.
 
 abbrev pub or_else : Option LineCause → Option LineCause → Option LineCause
 or_else (Some cause) next = Some cause
@@ -152,12 +155,14 @@ pub record Repeats (rows : List Row) (lines : List (ℕ × List ℕ)) (line : �
 
 -- the line leaves the table, by a fault of its own, or since it repeats another
 abbrev pub Leaves : List Row → List (ℕ × List ℕ) → ℕ × List ℕ → LineCause → Type 0
-Leaves rows lines line cause = (line_fault rows (words_of line.1) ≡ Some cause) ⊎ (Repeats rows lines line × (cause ≡ Twice))
+Leaves rows lines line cause =
+    (line_fault rows (words_of line.1) ≡ Some cause) ⊎ (Repeats rows lines line × (cause ≡ Twice))
 
 -- all lines are of the table, in any order, and each row stands at most once that may stand once
 pub record AreLines (rows : List Row) (lines : List (ℕ × List ℕ)) : Type 0 where
   pub described : (line : ℕ × List ℕ) → Has lines line → (row : Row) × (values : List ℕ) × Says rows line row values
-  pub once : (a b : ℕ × List ℕ) (row : Row) (ns ms : List ℕ) → Has lines a → Has lines b → row.again ≡ false → Says rows a row ns → Says rows b row ms → a.0 ≡ b.0
+  pub once : (a b : ℕ × List ℕ) (row : Row) (ns ms : List ℕ) → Has lines a → Has lines b → row.again ≡ false
+      → Says rows a row ns → Says rows b row ms → a.0 ≡ b.0
 
 -- the line with this number is the first that leaves the table, for this cause
 pub record FirstToLeave (rows : List Row) (lines : List (ℕ × List ℕ)) (number : ℕ) (cause : LineCause) : Type 0 where
@@ -176,7 +181,8 @@ IsRow (first ∷ rows) row = (row ≡ first) ⊎ IsRow rows row
 -- each row that has to stand has a line
 abbrev pub AllStand : List Row → List (ℕ × List ℕ) → Type 0
 AllStand rows lines =
-    (row : Row) → IsRow rows row → row.required ≡ true → (line : ℕ × List ℕ) × (values : List ℕ) × Has lines line × Says rows line row values
+    (row : Row) → IsRow rows row → row.required ≡ true
+    → (line : ℕ × List ℕ) × (values : List ℕ) × Has lines line × Says rows line row values
 
 -- a row has to stand, and no line is one of it
 pub record Lacks (rows : List Row) (lines : List (ℕ × List ℕ)) : Type 0 where
@@ -185,8 +191,8 @@ pub record Lacks (rows : List Row) (lines : List (ℕ × List ℕ)) : Type 0 whe
   pub required : row.required ≡ true
   pub absent : (line : ℕ × List ℕ) (values : List ℕ) → Has lines line → Says rows line row values → ⊥
 
--- The first fault of a file that has this count of lines in all: its first line that leaves the table; or, where none does, a
--- line that is missing, behind all lines.
+-- The first fault of a file that has this count of lines in all: its first line that leaves the table; or, where none
+-- does, a line that is missing, behind all lines.
 abbrev pub FirstOfFile : List Row → List (ℕ × List ℕ) → ℕ → ℕ → LineCause → Type 0
 FirstOfFile rows lines count number cause = FirstToLeave rows lines number cause ⊎ Ends
   where

@@ -1,9 +1,10 @@
 -- The lines, words and numbers of a text file: one rule for box files, scripts, plans and schedules.
 --
--- A line ends at a line feed, which the last line may lack; a carriage return just before the line feed is dropped. That
--- is std's `lines`, here over any bytes. Words are separated by spaces and tabs. Lines are numbered from 1, and a line
--- without words, or whose first word begins with `#`, does not count.
-use Rattle.std.specs.Prelude.{ℕ, zero, suc, ◌+◌, ◌*◌, ◌^◌, ◌||◌, ◌&&◌, ◌==◌, Bool, false, not, List, [], ◌∷◌, length, filter, slice_index, nat_lt, nat_le, if◌then◌else◌, Option, Some, None}
+-- A line ends at a line feed, which the last line may lack; a carriage return just before the line feed is dropped.
+-- That is std's `lines`, here over any bytes. Words are separated by spaces and tabs. Lines are numbered from 1, and a
+-- line without words, or whose first word begins with `#`, does not count.
+use Rattle.std.specs.Prelude.{ℕ, zero, suc, ◌+◌, ◌*◌, ◌^◌, ◌||◌, ◌&&◌, ◌==◌, Bool, false, not, List, [], ◌∷◌, length}
+use Rattle.std.specs.Prelude.{filter, slice_index, nat_lt, nat_le, if◌then◌else◌, Option, Some, None}
 use Rattle.std.specs.List.{slice_split, enumerate_from, list_all}
 use Rattle.std.specs.Str.Lines.{lines}
 use Rattle.std.specs.Str.Parse.{digits_value}
@@ -31,13 +32,15 @@ counted_lines text = counted_from 1 text
 
 -- a number is 1 to 20 decimal digits with a value below 2^64; leading zeros are accepted
 abbrev pub is_number : List ℕ → Bool
-is_number word = nat_lt 0 (length word) && nat_le (length word) 20 && list_all is_ascii_digit word && nat_lt (digits_value 10 word) (2 ^ 64)
+is_number word =
+    nat_lt 0 (length word) && nat_le (length word) 20 && list_all is_ascii_digit word
+    && nat_lt (digits_value 10 word) (2 ^ 64)
 
 abbrev pub number_of : List ℕ → Option ℕ
 number_of word = if is_number word then Some (digits_value 10 word) else None
 
--- An address is four octets, which are numbers of 0 to 255, joined by dots; the first octet is the highest of its 32 bits
--- (RFC 1123, section 2.1).
+-- An address is four octets, which are numbers of 0 to 255, joined by dots; the first octet is the highest of its 32
+-- bits (RFC 1123, section 2.1).
 
 abbrev pub is_dot : ℕ → Bool
 is_dot b = b == 46
@@ -50,7 +53,8 @@ abbrev pub with_octets : ℕ → ℕ → List (List ℕ) → Option ℕ
 with_octets zero value [] = Some value
 with_octets zero value (part ∷ parts) = None
 with_octets (suc count) value [] = None
-with_octets (suc count) value (part ∷ parts) = if is_octet part then with_octets count (value * 256 + digits_value 10 part) parts else None
+with_octets (suc count) value (part ∷ parts) =
+    if is_octet part then with_octets count (value * 256 + digits_value 10 part) parts else None
 
 abbrev pub address_of : List ℕ → Option ℕ
 address_of word = with_octets 4 0 (slice_split is_dot word)

@@ -1,4 +1,5 @@
-ghost use Rattle.std.specs.Prelude.{◌≡◌, ◌≤◌, ◌↔◌, ◌++◌, ◌∷◌, [], length, take, drop, replicate, IsTrue, IfOk, OnOk, OnErr};
+ghost use Rattle.std.specs.Prelude.{◌≡◌, ◌≤◌, ◌↔◌, ◌++◌, ◌∷◌, [], length, take, drop, replicate};
+ghost use Rattle.std.specs.Prelude.{IsTrue, IfOk, OnOk, OnErr};
 
 use crate::NoMemory;
 use std::alloc::Global;
@@ -6,8 +7,8 @@ use std::marker::Model;
 
 /// Bytes that can grow, with the allocator that they grow by. Contracts see them as their list.
 ///
-/// There may be room in front of them, into which other bytes are put without an allocation and without moving these: a packet
-/// that goes out becomes a frame in place.
+/// There may be room in front of them, into which other bytes are put without an allocation and without moving these: a
+/// packet that goes out becomes a frame in place.
 #[derive(Debug, Drop)]
 pub struct Bytes {
     buffer: Vec<u8>,

@@ -1,9 +1,10 @@
 use crate::NoMemory;
 use thiserror::Error;
 
-/// Why a line of a text file is refused. Within a line the first of these that is met is named, in this order: an unknown
-/// first word; then word by word a missing one, a fixed word that is another (unknown), a number or an address that is
-/// none; then a word too many; then a number out of its range; then a line that may stand once and stands again.
+/// Why a line of a text file is refused. Within a line the first of these that is met is named, in this order: an
+/// unknown first word; then word by word a missing one, a fixed word that is another (unknown), a number or an address
+/// that is none; then a word too many; then a number out of its range; then a line that may stand once and stands
+/// again.
 #[derive(Clone, Copy, Debug, PartialEq, Eq, Error)]
 pub enum LineCause {
     #[error("unknown word")]

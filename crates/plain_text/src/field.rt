@@ -16,8 +16,8 @@ pub enum Field<'a> {
 
 /// Takes the next word of a line, which has to be this field, and gives its number.
 ///
-/// It answers `MissingWord` where there is no word, `BadNumber` where a number or an address has to stand and does not, and `UnknownWord` where
-/// a fixed word has to stand and another does.
+/// It answers `MissingWord` where there is no word, `BadNumber` where a number or an address has to stand and does not,
+/// and `UnknownWord` where a fixed word has to stand and another does.
 pub fn read_field(words: &mut WordIter<'_>, field: Field<'_>) -> Result<u64, LineCause>
     ensures value { IfOk result (λ n. take_field field.entry words.old ≡ Ok (n, words.new)) }
     ensures fault { IfErr result (λ cause. take_field field.entry words.old ≡ Err cause) }

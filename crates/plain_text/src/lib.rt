@@ -1,5 +1,5 @@
-//! Bytes, texts, packets and numbers: the plain data that every other crate of FTMB speaks of, and the lines of its text
-//! files.
+//! Bytes, texts, packets and numbers: the plain data that every other crate of FTMB speaks of, and the lines of its
+//! text files.
 #![tactic(auto)]
 
 mod bytes;

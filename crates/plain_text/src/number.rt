@@ -1,8 +1,10 @@
-ghost use Rattle.std.specs.Prelude.{◌≡◌, ◌++◌, ◌+◌, ◌*◌, ℕ, suc, decimal, position, if◌then◌else◌, Some, None, IfSome, IsNone, OnOk, OnErr};
+ghost use Rattle.std.specs.Prelude.{◌≡◌, ◌++◌, ◌+◌, ◌*◌, ℕ, suc, decimal, position, if◌then◌else◌};
+ghost use Rattle.std.specs.Prelude.{Some, None, IfSome, IsNone, OnOk, OnErr};
 ghost use Rattle.std.specs.List.{slice_split};
 ghost use Rattle.std.specs.Str.Parse.{digits_value};
 ghost use Rattle.std.specs.String.{string_bytes};
-ghost use Rattle.plain_text.specs.Lines.{address_of, is_dot as is_dot_byte, is_octet, number_of, with_octets};
+ghost use Rattle.plain_text.specs.Lines.{address_of, is_dot as is_dot_byte, is_octet, number_of};
+ghost use Rattle.plain_text.specs.Lines.{with_octets};
 
 use crate::{Bytes, NoMemory};
 use itoa::Buffer;
@@ -27,8 +29,8 @@ pub fn put_decimal(text: &mut String, number: u64) -> Result<(), NoMemory>
 /// The most digits of a number in a text file.
 const MOST_DIGITS: usize = 20;
 
-/// The number that a word writes: 1 to 20 decimal digits with a value below 2^64, leading zeros accepted. None where the
-/// word is anything else.
+/// The number that a word writes: 1 to 20 decimal digits with a value below 2^64, leading zeros accepted. None where
+/// the word is anything else.
 pub fn read_u64(word: &[u8]) -> Option<u64>
     ensures { result ≡ number_of word.now }
 {
@@ -45,8 +47,8 @@ pub fn read_u64(word: &[u8]) -> Option<u64>
     Some(number)
 }
 
-/// The address that a word writes: four numbers of 0 to 255 joined by dots, of which the first is the highest octet. None where
-/// the word is anything else.
+/// The address that a word writes: four numbers of 0 to 255 joined by dots, of which the first is the highest octet.
+/// None where the word is anything else.
 pub fn read_address(word: &[u8]) -> Option<u32>
     ensures { result ≡ address_of word.now }
 {

@@ -15,8 +15,8 @@ pub struct Packet {
     pub bytes: Bytes,
 }
 
-/// The room that a packet which is to go out has in front of its bytes: the header of its frame is put there. It is as long as such a
-/// header can be, with a component of 8 bytes for each of 16 threads.
+/// The room that a packet which is to go out has in front of its bytes: the header of its frame is put there. It is as
+/// long as such a header can be, with a component of 8 bytes for each of 16 threads.
 pub const HEADER_ROOM: usize = 175;
 
 /// Packets in order.

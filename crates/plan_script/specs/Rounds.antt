@@ -1,4 +1,5 @@
--- What a round of racing threads may be, as events of a script: steps in the order in which they weave, and then arrivals.
+-- What a round of racing threads may be, as events of a script: steps in the order in which they weave, and then
+-- arrivals.
 use Rattle.std.specs.Prelude.{◌≡◌, ◌⊎◌, ℕ, ◌≤◌, ◌<◌, List, [], ◌∷◌, ◌++◌, map, Option, Some, None, cond, nat_eq}
 use Rattle.plain_text.specs.declared.kind.Kind.TheVariants as kind
 use Rattle.entry_order.specs.Log.{Entry}
@@ -48,8 +49,8 @@ AreByThread {V} (x ∷ earlier) = IsQuiet x.act × LaterThan x.thread earlier ×
     LaterThan t [] = Unit {0}
     LaterThan t (y ∷ rest) = (y.thread ≤ t) × LaterThan t rest
 
--- The steps after a past stand in the order in which rounds weave: the logged ones by weight, then thread, each after the moves of its
--- thread that lead to it; and then, thread by thread, the others.
+-- The steps after a past stand in the order in which rounds weave: the logged ones by weight, then thread, each after
+-- the moves of its thread that lead to it; and then, thread by thread, the others.
 pub record AreWoven {V : Type 0} (past steps : List (Step V)) : Type 0 where
   pub left : List (Step V)
   pub led : List (Step V)
@@ -68,7 +69,8 @@ pub record HasStopped {V : Type 0} (s : Setting V) (w : World V) (t : ℕ) (limi
       ⊎ ((u : ℕ) × (n : ℕ) × On s w (event.Step t None) (outcome.Waits u n) [] w))
 
 -- A round while the master is up.
-pub record IsRound {V : Type 0} (s : Setting V) (w : World V) (orders : Orders) (events : List Event) (new : World V) : Type 0 where
+pub record IsRound {V : Type 0} (s : Setting V) (w : World V) (orders : Orders) (events : List Event)
+    (new : World V) : Type 0 where
   pub steps : List (Step V)
   pub there : World V
   pub step_lines : List ℕ

@@ -16,14 +16,15 @@ Does s w events new = (lines : List ℕ) × Performs s w events lines new
 
 -- a round, which does nothing while the master is down
 abbrev pub OnRound : {V : Type 0} → Setting V → World V → Orders → List Event → World V → Type 0
-OnRound s w orders events new = ((w.up ≡ false) × (events ≡ []) × (new ≡ w)) ⊎ ((w.up ≡ true) × IsRound s w orders events new)
+OnRound s w orders events new =
+    ((w.up ≡ false) × (events ≡ []) × (new ≡ w)) ⊎ ((w.up ≡ true) × IsRound s w orders events new)
 
 -- the recovery of a master that is down
 abbrev pub Wakes : {V : Type 0} → World V → List Event → Type 0
 Wakes w events = ((w.up ≡ true) × (events ≡ [])) ⊎ ((w.up ≡ false) × (events ≡ event.Recover ∷ []))
 
--- A settling: a recovery if the master is down, the rest of the capture is fed, a round without orders, and then each entry and each
--- output of the past arrives, by thread, then number.
+-- A settling: a recovery if the master is down, the rest of the capture is fed, a round without orders, and then each
+-- entry and each output of the past arrives, by thread, then number.
 pub record OnSettle {V : Type 0} (s : Setting V) (w : World V) (events : List Event) (new : World V) : Type 0 where
   pub wake : List Event
   pub wakes : Wakes w wake
@@ -52,9 +53,12 @@ IsPart s w orders line.Settle events new = OnSettle s w events new
 -- A script of these lines: the parts of them, one after another.
 pub data IsScript {V : Type 0} (s : Setting V) : World V → Orders → List PlanLine → List Event → World V → Type 0 where
   Ends : (w : World V) (orders : Orders) → IsScript s w orders [] [] w
-  Goes : {w mid new : World V} {lines : List PlanLine} {rest : List Event} (orders : Orders) (ln : PlanLine) (events : List Event)
-      → IsPart s w orders ln events mid → IsScript s mid (orders_after ln orders) lines rest new → IsScript s w orders (ln ∷ lines) (events ++ rest) new
+  Goes : {w mid new : World V} {lines : List PlanLine} {rest : List Event} (orders : Orders) (ln : PlanLine)
+      (events : List Event) → IsPart s w orders ln events mid → IsScript s mid (orders_after ln orders) lines rest new
+      → IsScript s w orders (ln ∷ lines) (events ++ rest) new
 
 -- A script of a plan is performed, event by event.
 abbrev pub ScriptsPerform : Type 0 → Type 0
-ScriptsPerform X = (s : Setting X) (w : World X) (orders : Orders) (lines : List PlanLine) (events : List Event) (new : World X) → IsScript s w orders lines events new → Does s w events new
+ScriptsPerform X =
+    (s : Setting X) (w : World X) (orders : Orders) (lines : List PlanLine) (events : List Event) (new : World X)
+    → IsScript s w orders lines events new → Does s w events new

@@ -1,5 +1,5 @@
-//! Plans: what an operator asks of racing threads, line by line, and which scripts say what they did. A law says that a script of a
-//! plan is performed, event by event.
+//! Plans: what an operator asks of racing threads, line by line, and which scripts say what they did. A law says that a
+//! script of a plan is performed, event by event.
 #![tactic(auto)]
 
 mod laws;

@@ -1,15 +1,21 @@
 use plain_text::{Kind, Sequence};
 
-/// One line of a plan. Threads, moves, frames and numbers are below 2^64; threads are counted from 0, the entries and outputs of a
-/// thread from 1.
+/// One line of a plan. Threads, moves, frames and numbers are below 2^64; threads are counted from 0, the entries and
+/// outputs of a thread from 1.
 #[derive(Clone, Copy)]
 pub enum PlanLine {
     /// This many packets come in, or those that are left.
     Feed(u64),
     /// In the next round the thread makes at most this number of moves.
-    Limit { thread: u64, moves: u64 },
+    Limit {
+        thread: u64,
+        moves: u64,
+    },
     /// In the next round at most this number of the thread's frames are taken: the first ones that it sends.
-    Take { thread: u64, frames: u64 },
+    Take {
+        thread: u64,
+        frames: u64,
+    },
     /// In the next round this frame is lost after it was taken.
     Lose {
         kind: Kind,

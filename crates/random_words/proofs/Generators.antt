@@ -15,7 +15,8 @@ unfolding state_after
 state_after-suc w m p zero s = refl
 state_after-suc w m p (suc n) s = state_after-suc w m p n (next_state w m p s)
 
-generator_after-suc : (seed count : ℕ) → next 64 multiplier_64 (generator_after seed count) ≡ generator_after seed (count + 1)
+generator_after-suc : (seed count : ℕ)
+    → next 64 multiplier_64 (generator_after seed count) ≡ generator_after seed (count + 1)
 generator_after-suc seed count =
     let start = started 64 multiplier_64 seed (increment_of 64 54) in
     rw add-one (ap (λ (s : ℕ). let g : Lcg = record { state = s; increment = start.increment } in g)

@@ -1,5 +1,5 @@
-//! The random words of a seed: those of a Pcg32 (O'Neill, "PCG: A Family of Simple Fast Space-Efficient Statistically Good
-//! Algorithms for Random Number Generation") that starts at it, on one stream.
+//! The random words of a seed: those of a Pcg32 (O'Neill, "PCG: A Family of Simple Fast Space-Efficient Statistically
+//! Good Algorithms for Random Number Generation") that starts at it, on one stream.
 #![tactic(auto)]
 
 ghost use Rattle.std.specs.Prelude.{◌≡◌, ℕ, ◌+◌};

@@ -22,7 +22,9 @@ use Rattle.recovery_core.specs.Systems.{Systemed, HasReleased, SystemStands, Sys
 module _ {P V : Type 0} (m : Meaning V) (s : Setting V) (w : World V) (y : Parts P V) (st : StandsFor m s w y) where
   fed_count : length y.inputs.packets ≡ w.fed
   fed_count =
-      let f = st.sound.firm.fed in let n = ap (λ (l : Fed). length l.packets) st.inputs.inputs in let k = length-take w.fed s.packets in omega (arith, f, n, k)
+      let f = st.sound.firm.fed in
+      let n = ap (λ (l : Fed). length l.packets) st.inputs.inputs in
+      let k = length-take w.fed s.packets in omega (arith, f, n, k)
 
   -- The counts at the end are those of the world.
   pub finishes : (f : Finished) → EndsIn s w f.schedule → f.fed ≡ length y.inputs.packets → f.epoch ≡ y.logger.epoch
@@ -113,8 +115,11 @@ system_moves m R old new handed moves = (
   moves.0,
   handed,
   λ s w st.
-      let r = moves.1 s w st.parts in
-      (r.0, r.1.0, record { parts = r.2; released = released_then w r.0 old new handed r.1.1 r.2.released st.released }),
+      let r = moves.1 s w st.parts in (
+        r.0,
+        r.1.0,
+        record { parts = r.2; released = released_then w r.0 old new handed r.1.1 r.2.released st.released },
+      ),
 )
 
 pub system_stops : {P V : Type 0} (m : Meaning V) (R : Setting V → World V → World V → Type 0) (old new : Systemed P V)

@@ -36,8 +36,8 @@ pub record SystemStands {P V : Type 0} (m : Meaning V) (s : Setting V) (w : Worl
 abbrev pub SystemMoves : {P V : Type 0} → Meaning V → (Setting V → World V → World V → Type 0) → Systemed P V
     → Systemed P V → Type 0
 SystemMoves {P} {V} m R old new =
-    (new.parts.program ≡ old.parts.program) × (new.handed ≡ old.handed)
-    × ((s : Setting V) (w : World V) → SystemStands m s w old → (next : World V) × R s w next × SystemStands m s next new)
+    (new.parts.program ≡ old.parts.program) × (new.handed ≡ old.handed) × ((s : Setting V) (w : World V)
+    → SystemStands m s w old → (next : World V) × R s w next × SystemStands m s next new)
 
 -- The world stopped so, and what it released before is there.
 abbrev pub SystemStops : {P V : Type 0} → Meaning V → (Setting V → World V → World V → Type 0) → Systemed P V

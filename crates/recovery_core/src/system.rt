@@ -1,4 +1,5 @@
-ghost use Rattle.std.specs.Prelude.{◌≡◌, ◌<◌, ◌≤◌, ℕ, All, List, [], IfOk, OnOk, OnErr, Err, true, false, drop, length};
+ghost use Rattle.std.specs.Prelude.{◌≡◌, ◌<◌, ◌≤◌, ℕ, All, List, [], IfOk, OnOk, OnErr, Err, true};
+ghost use Rattle.std.specs.Prelude.{false, drop, length};
 ghost use Rattle.plain_text.specs.Packets.{IsShort};
 ghost use Rattle.plain_text.specs.declared.limit.Limit.{Limit as LimitKind};
 ghost use Rattle.plain_text.specs.declared.packet.Packet as packet_of;
@@ -9,7 +10,8 @@ ghost use Rattle.recovery_world.specs.Files.{packets_of};
 ghost use Rattle.run_end.specs.Ending.{EndsIn};
 ghost use Rattle.system_parts.specs.SystemStanding.{StandsFor, StandsForSome};
 ghost use Rattle.system_parts.specs.Performing.{Appends, MovesOn, StopsAt, Releasing, packets_in};
-ghost use Rattle.recovery_core.specs.Systems.{HasReleased, SystemStands, SystemMoves, SystemStops, RepliesAny, FinishesAs};
+ghost use Rattle.recovery_core.specs.Systems.{HasReleased, SystemStands, SystemMoves, SystemStops};
+ghost use Rattle.recovery_core.specs.Systems.{RepliesAny, FinishesAs};
 ghost use Rattle.system_parts.specs.Performing.{IsStopped};
 
 use access_log::Outputs;
@@ -29,11 +31,11 @@ use system_end::{discard, end_awake};
 use system_opening::open_parts;
 use system_parts::Core;
 
-/// A recovering system on the packets of a capture: an input logger, a master that runs a box, its snapshots, the links behind it, and
-/// an output logger.
+/// A recovering system on the packets of a capture: an input logger, a master that runs a box, its snapshots, the links
+/// behind it, and an output logger.
 ///
-/// It performs events one by one. An event that does not end, since memory ran out or a limit would be passed, stops it for good;
-/// what it released until then can still be taken.
+/// It performs events one by one. An event that does not end, since memory ran out or a limit would be passed, stops it
+/// for good; what it released until then can still be taken.
 #[derive(Drop)]
 pub struct System<P: Program> {
     core: Core<P>,
@@ -75,7 +77,8 @@ fn perform<P: Program>(core: &mut Core<P>, event: Event, out: &mut Outputs) -> R
     }
 }
 
-/// The schedule of the run in which the world ends. Where the master is down, it is that of the one that would start now.
+/// The schedule of the run in which the world ends. Where the master is down, it is that of the one that would start
+/// now.
 fn end<P: Program>(mut core: Core<P>) -> Result<Schedule, NoMemory>
     requires stands { StandsForSome (P.meaning core.program) core }
     ensures { IfOk result (λ moves. (s : Setting P.Value) (w : World P.Value)
@@ -91,7 +94,8 @@ fn end<P: Program>(mut core: Core<P>) -> Result<Schedule, NoMemory>
 }
 
 impl<P: Program> System<P> {
-    /// A system of 1 to 16 threads on these packets, before the first event. Random words come from the generator of the seed.
+    /// A system of 1 to 16 threads on these packets, before the first event. Random words come from the generator of
+    /// the seed.
     pub fn new(
         alloc: Global,
         program: P,
@@ -125,12 +129,13 @@ impl<P: Program> System<P> {
 
     /// Performs one event.
     ///
-    /// After an error the system is stopped. Of a limit, what the event released before the move that would pass it is there to be
-    /// taken; where memory ran out, nothing that the event released.
+    /// After an error the system is stopped. Of a limit, what the event released before the move that would pass it is
+    /// there to be taken; where memory ran out, nothing that the event released.
     pub fn on(&mut self, event: &Event) -> Result<Reply, Stop>
         requires runs { self.old.stopped ≡ false }
 
-        // For every world that the system stood for, it stands for that of the event, and the reply is that of the event.
+        // For every world that the system stood for, it stands for that of the event, and the reply is that of the
+        // event.
         ensures on { IfOk result (λ reply.
             SystemMoves (P.meaning self.old.parts.program) (RepliesAny event.now reply)
             self.old self.new) }
@@ -224,8 +229,9 @@ impl<P: Program> System<P> {
         discard(self.core);
     }
 
-    /// The run that the script amounts to, once its last event was performed: the schedule, and the counts of the last line of the
-    /// report. Where the master is down, the schedule is that after one more recovery, and the counts are those before it.
+    /// The run that the script amounts to, once its last event was performed: the schedule, and the counts of the last
+    /// line of the report. Where the master is down, the schedule is that after one more recovery, and the counts are
+    /// those before it.
     pub fn finish(self) -> Result<Finished, NoMemory>
         requires { self.stopped ≡ false }
         ensures { IfOk result (λ f. (s : Setting P.Value) (w : World P.Value)

@@ -1,5 +1,6 @@
 -- What was released stays, in its order: each event adds to it, or leaves it.
-use Rattle.std.proofs.Common.{◌≡◌, ℕ, List, [], ◌∷◌, ◌++◌, append_assoc, append-nil, refl, sym, ap, ◌∙◌, inl, inr, Option, Some, None}
+use Rattle.std.proofs.Common.{◌≡◌, ℕ, List, [], ◌∷◌, ◌++◌, append_assoc, append-nil, refl, sym, ap, ◌∙◌, inl, inr}
+use Rattle.std.proofs.Common.{Option, Some, None}
 use Rattle.plain_text.specs.declared.limit.Limit.{Limit}
 use Rattle.recovery_world.specs.declared.event.Event.{Event}
 use Rattle.recovery_world.specs.declared.event.Event.TheVariants as event
@@ -26,7 +27,8 @@ grows_on w mid new (a, p) (b, q) = (a ++ b, q ∙ (ap (λ (l : List Sent). l ++ 
 releases_grow : {V : Type 0} (w new : World V) (freed : List Sent) → Releases w freed new → Grows w new
 releases_grow {V} w new freed r = (freed, ap (λ (z : World V). z.released) r.new_is)
 
-log_grows : {V : Type 0} (w new : World V) (t n : ℕ) (to : Outcome) (freed : List Sent) → OnLog w t n to freed new → Grows w new
+log_grows : {V : Type 0} (w new : World V) (t n : ℕ) (to : Outcome) (freed : List Sent) → OnLog w t n to freed new
+    → Grows w new
 log_grows w new t n to freed (inl a) = is_grows w new a.3
 log_grows w new t n to freed (inr (inl a)) = is_grows w new a.5
 log_grows {V} w new t n to freed (inr (inr a)) = (freed, ap (λ (z : World V). z.released) a.4.new_is)
@@ -37,27 +39,32 @@ out_grows w new t j to (inr (inl a)) = is_grows w new a.4
 out_grows {V} w new t j to (inr (inr (inl a))) = (a.0 ∷ [], ap (λ (z : World V). z.released) a.5)
 out_grows {V} w new t j to (inr (inr (inr a))) = same_grows w new (ap (λ (z : World V). z.released) a.6)
 
-late_grows : {V : Type 0} (w new : World V) (epoch : ℕ) (k : Kind) (t n : ℕ) (to : Outcome) (freed : List Sent) → OnLate w epoch k t n to freed new → Grows w new
+late_grows : {V : Type 0} (w new : World V) (epoch : ℕ) (k : Kind) (t n : ℕ) (to : Outcome) (freed : List Sent)
+    → OnLate w epoch k t n to freed new → Grows w new
 late_grows w new epoch kind.Log t n to freed (inl a) = log_grows w new t n to freed a.1
 late_grows w new epoch kind.Out t n to freed (inl a) = out_grows w new t n to a.1.0
 late_grows w new epoch k t n to freed (inr (inl a)) = is_grows w new a.4
 late_grows w new epoch k t n to freed (inr (inr a)) = is_grows w new a.4
 
-cut_grows : {V : Type 0} (s : Setting V) (w new : World V) (k : Kind) (t n len : ℕ) (to : Outcome) (freed : List Sent) → OnCut s w k t n len to freed new → Grows w new
+cut_grows : {V : Type 0} (s : Setting V) (w new : World V) (k : Kind) (t n len : ℕ) (to : Outcome) (freed : List Sent)
+    → OnCut s w k t n len to freed new → Grows w new
 cut_grows s w new k t n len to freed (inl a) = is_grows w new a.3
 cut_grows s w new k t n len to freed (inr (inl a)) = is_grows w new a.5
 cut_grows s w new kind.Log t n len to freed (inr (inr a)) = log_grows w new t n to freed a.3
 cut_grows s w new kind.Out t n len to freed (inr (inr a)) = out_grows w new t n to a.3.0
 
-step_grows : {V : Type 0} (s : Setting V) (w new : World V) (t : ℕ) (given : Option ℕ) (to : Outcome) → OnStep s w t given to new → Grows w new
+step_grows : {V : Type 0} (s : Setting V) (w new : World V) (t : ℕ) (given : Option ℕ) (to : Outcome)
+    → OnStep s w t given to new → Grows w new
 step_grows s w new t given to (inl a) = is_grows w new a.2
 step_grows s w new t given to (inr (inl a)) = is_grows w new a.3
 step_grows s w new t given to (inr (inr (inl a))) = is_grows w new a.4
 step_grows s w new t given to (inr (inr (inr (inl a)))) = is_grows w new a.3
-step_grows {V} s w new t given to (inr (inr (inr (inr a)))) = same_grows w new (ap (λ (z : World V). z.released) a.2.new_is)
+step_grows {V} s w new t given to (inr (inr (inr (inr a)))) =
+    same_grows w new (ap (λ (z : World V). z.released) a.2.new_is)
 
 -- Each event
-pub on_grows : {V : Type 0} (s : Setting V) (w : World V) (ev : Event) (to : Outcome) (freed : List Sent) (new : World V) → On s w ev to freed new → Grows w new
+pub on_grows : {V : Type 0} (s : Setting V) (w : World V) (ev : Event) (to : Outcome) (freed : List Sent)
+    (new : World V) → On s w ev to freed new → Grows w new
 on_grows {V} s w (event.Feed n) to freed new a = same_grows w new (ap (λ (z : World V). z.released) a.2)
 on_grows {V} s w (event.Time n) to freed new a = same_grows w new (ap (λ (z : World V). z.released) a.2)
 on_grows s w (event.Step t given) to freed new a = step_grows s w new t given to a.0
@@ -84,16 +91,19 @@ on_grows s w (event.Auto seed n) to freed new a = absurd a
 
 -- Several events
 
-follows_grow : {Q V : Type 0} (s : Setting V) (next : Strategy Q V) (q : Q) (w new : World V) (end : Option Limit) → Follows s next q w end new → Grows w new
+follows_grow : {Q V : Type 0} (s : Setting V) (next : Strategy Q V) (q : Q) (w new : World V) (end : Option Limit)
+    → Follows s next q w end new → Grows w new
 follows_grow s next q w new end (Ends p same none) = is_grows w w refl
 follows_grow s next q w new end (Halts p same c limit some passes) = is_grows w w refl
 follows_grow s next q w new end (Goes {mid = mid} p same c to freed some on rest) =
     grows_on w mid new (on_grows s w c.event to freed mid on.0) (follows_grow s next (c.leads_to to) mid new end rest)
 
-pub any_grows : {V : Type 0} (s : Setting V) (w : World V) (ev : Event) (to : Outcome) (freed : List Sent) (new : World V) → OnAny s w ev to freed new → Grows w new
+pub any_grows : {V : Type 0} (s : Setting V) (w : World V) (ev : Event) (to : Outcome) (freed : List Sent)
+    (new : World V) → OnAny s w ev to freed new → Grows w new
 any_grows s w ev to freed new (Single e o f n on) = on_grows s w ev to freed new on.0
 any_grows s w ev to freed new (Several e q o n at f is) = follows_grow s (goes_on s) q w new None f
 
-pub stops_grow : {V : Type 0} (s : Setting V) (w : World V) (ev : Event) (limit : Limit) (new : World V) → Stops s w ev limit new → Grows w new
+pub stops_grow : {V : Type 0} (s : Setting V) (w : World V) (ev : Event) (limit : Limit) (new : World V)
+    → Stops s w ev limit new → Grows w new
 stops_grow s w ev limit new (SingleStops e l passes) = is_grows w w refl
 stops_grow s w ev limit new (SeveralStops e q l n at f) = follows_grow s (goes_on s) q w new (Some limit) f

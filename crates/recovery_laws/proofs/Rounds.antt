@@ -1,5 +1,6 @@
 -- The threads go on in rounds until none moves in one, packets coming in between: they are idle then.
-use Rattle.std.proofs.Common.{◌≡◌, ℕ, zero, suc, ◌+◌, ◌≤◌, ◌<◌, ◌≢◌, Bool, true, false, List, [], length, refl, sym, ap, ◌∙◌, subst, inl, inr, ◌⊎◌, arith, Option, Some, None}
+use Rattle.std.proofs.Common.{◌≡◌, ℕ, zero, suc, ◌+◌, ◌≤◌, ◌<◌, ◌≢◌, Bool, true, false, List, [], length, refl, sym, ap}
+use Rattle.std.proofs.Common.{◌∙◌, subst, inl, inr, ◌⊎◌, arith, Option, Some, None}
 use Rattle.std.specs.Prelude.{◌||◌, nat_lt, min}
 use Rattle.std.proofs.lemmas.Bool.Decides.{nat_tests}
 use Rattle.std.proofs.lemmas.Grind.{common_steps}
@@ -22,7 +23,8 @@ use Rattle.recovery_world.specs.Events.{move_outcome, entry_outcome, MakesMove, 
 use Rattle.recovery_world.specs.Finish.{IsToCome}
 use Rattle.recovery_world.specs.Limits.{limit_passed, OnWithin}
 use Rattle.recovery_world.specs.Strategies.{Choice, Follows, Ends, Halts, Goes}
-use Rattle.recovery_world.specs.Many.{Phase, Wakes, Steps, Arrives, Chooses, rests, turn_at, after_step, all_messages, at_rest, goes_on}
+use Rattle.recovery_world.specs.Many.{Phase, Wakes, Steps, Arrives, Chooses, rests, turn_at, after_step, all_messages}
+use Rattle.recovery_world.specs.Many.{at_rest, goes_on}
 use Rattle.recovery_laws.specs.Sound.{Sound}
 use Rattle.recovery_laws.proofs.KeptWorlds.{within_sound}
 use Rattle.recovery_laws.proofs.SoundParts.{to_come_first, to_come_thread, followed_moves}
@@ -70,14 +72,19 @@ move_moves (Emitted o) = refl
 move_moves (Ended k) = refl
 
 -- a step that is a rest leaves the world, and another is one move
-pub step_kind : {V : Type 0} (s : Setting V) (w mid : World V) (t : ℕ) (to : Outcome) → t < s.threads → w.up ≡ true → OnStep s w t None to mid
+pub step_kind : {V : Type 0} (s : Setting V) (w mid : World V) (t : ℕ) (to : Outcome) → t < s.threads → w.up ≡ true
+    → OnStep s w t None to mid
     → ((rests to ≡ true) × (mid ≡ w)) ⊎ ((rests to ≡ false) × (mid.moves ≡ w.moves + 1) × (mid.up ≡ true))
 step_kind s w mid t to low up (inl a) = absurd (omega (arith, low, a.0))
 step_kind s w mid t to low up (inr (inl a)) = let p : w.up ≡ false = a.1 in absurd (cc)
 step_kind s w mid t to low up (inr (inr (inl a))) = inl (ap rests a.3, a.4)
 step_kind s w mid t to low up (inr (inr (inr (inl a)))) = inl (ap rests a.2.to_is, a.3)
 step_kind {V} s w mid t to low up (inr (inr (inr (inr a)))) =
-    inr (subst (λ (o : Outcome). rests o ≡ false) (sym a.2.to_is) (move_moves a.2.step.act), ap (λ (z : World V). z.moves) a.2.new_is, ap (λ (z : World V). z.up) a.2.new_is ∙ up)
+    inr (
+      subst (λ (o : Outcome). rests o ≡ false) (sym a.2.to_is) (move_moves a.2.step.act),
+      ap (λ (z : World V). z.moves) a.2.new_is,
+      ap (λ (z : World V). z.up) a.2.new_is ∙ up,
+    )
 
 -- a world within the limits has no more moves than there may be
 pub few_moves : (moves bytes : ℕ) → limit_passed moves bytes ≡ None → moves ≤ MOST_MOVES
@@ -85,11 +92,14 @@ few_moves moves bytes is = grind (arith, common_steps)
 
 module _ {V : Type 0} (s : Setting V) where
   pub steps_next : (left t : ℕ) (moved : Bool) (w : World V) → t < s.threads
-      → goes_on s (Steps left t moved) w ≡ Some (record { event = event.Step t None; leads_to = after_step s.threads left t moved })
+      → goes_on s (Steps left t moved) w
+      ≡ Some (record { event = event.Step t None; leads_to = after_step s.threads left t moved })
   steps_next left t moved w low = let b : nat_lt t s.threads ≡ true = lt_true t s.threads low in rw b refl
 
-  pub rests_next : (left t : ℕ) (moved : Bool) (w : World V) → t ≡ s.threads → goes_on s (Steps left t moved) w ≡ at_rest s w left
-  rests_next left t moved w is = let b : nat_lt t s.threads ≡ false = lt_false t s.threads (omega (arith, is)) in rw b refl
+  pub rests_next : (left t : ℕ) (moved : Bool) (w : World V) → t ≡ s.threads
+      → goes_on s (Steps left t moved) w ≡ at_rest s w left
+  rests_next left t moved w is =
+      let b : nat_lt t s.threads ≡ false = lt_false t s.threads (omega (arith, is)) in rw b refl
 
   -- the thread makes no move in this world
   pub record StaysAt (w : World V) (t : ℕ) : Type 0 where
@@ -103,17 +113,22 @@ module _ {V : Type 0} (s : Setting V) where
   no_move w mid t to (inr (inl a)) r = a.3
   no_move w mid t to (inr (inr (inl a))) r = a.4
   no_move w mid t to (inr (inr (inr (inl a)))) r = a.3
-  no_move w mid t to (inr (inr (inr (inr a)))) r = let m : rests to ≡ false = subst (λ (o : Outcome). rests o ≡ false) (sym a.2.to_is) (move_moves a.2.step.act) in absurd (cc)
+  no_move w mid t to (inr (inr (inr (inr a)))) r =
+      let m : rests to ≡ false = subst (λ (o : Outcome). rests o ≡ false) (sym a.2.to_is) (move_moves a.2.step.act) in
+      absurd (cc)
 
   step_fed : (w new : World V) (t : ℕ) (to : Outcome) → OnStep s w t None to new → (new.fed ≡ w.fed) × (new.up ≡ w.up)
   step_fed w new t to (inl a) = (ap (λ (z : World V). z.fed) a.2, ap (λ (z : World V). z.up) a.2)
   step_fed w new t to (inr (inl a)) = (ap (λ (z : World V). z.fed) a.3, ap (λ (z : World V). z.up) a.3)
   step_fed w new t to (inr (inr (inl a))) = (ap (λ (z : World V). z.fed) a.4, ap (λ (z : World V). z.up) a.4)
   step_fed w new t to (inr (inr (inr (inl a)))) = (ap (λ (z : World V). z.fed) a.3, ap (λ (z : World V). z.up) a.3)
-  step_fed w new t to (inr (inr (inr (inr a)))) = (ap (λ (z : World V). z.fed) a.2.new_is, ap (λ (z : World V). z.up) a.2.new_is)
+  step_fed w new t to (inr (inr (inr (inr a)))) =
+      (ap (λ (z : World V). z.fed) a.2.new_is, ap (λ (z : World V). z.up) a.2.new_is)
 
-  one_fed : (w mid : World V) (to : Outcome) (freed : List Sent) → On s w (event.Feed 1) to freed mid → w.fed < length s.packets → mid.fed ≡ w.fed + 1
-  one_fed w mid to freed on some = let f : mid.fed ≡ min (w.fed + 1) (length s.packets) = ap (λ (z : World V). z.fed) on.2 in omega (arith, f, some)
+  one_fed : (w mid : World V) (to : Outcome) (freed : List Sent) → On s w (event.Feed 1) to freed mid
+      → w.fed < length s.packets → mid.fed ≡ w.fed + 1
+  one_fed w mid to freed on some =
+      let f : mid.fed ≡ min (w.fed + 1) (length s.packets) = ap (λ (z : World V). z.fed) on.2 in omega (arith, f, some)
 
   -- Where no thread moves, each is idle
 
@@ -122,7 +137,10 @@ module _ {V : Type 0} (s : Setting V) where
     none_to_come f come = go (to_come_first s w h f come)
       where
         go : (g : Entry) × IsToCome w g × ((e : Entry) → IsToCome w e → IsNext e g → ⊥) → ⊥
-        go (g, there, first) = let m : true ≡ false = sym k.at_rest ∙ subst (λ (o : Outcome). rests o ≡ false) (sym made.to_is) (move_moves made.step.act) in cc
+        go (g, there, first) =
+            let m : true ≡ false =
+            sym k.at_rest ∙ subst (λ (o : Outcome). rests o ≡ false) (sym made.to_is) (move_moves made.step.act) in
+            cc
           where
             k : StaysAt w g.thread
             k = stay g.thread (to_come_thread s w h g there)
@@ -133,14 +151,23 @@ module _ {V : Type 0} (s : Setting V) where
     past_log : IsLog (log_of w.past)
     past_log = history_log s.meaning (inputs_fed s w.fed) s.threads w.past h.firm.legal
 
-    awaited_to_come : (t v : ℕ) (reads : Bool) (e : Entry) → IsAwaited w.followed (log_of w.past) t v reads e → IsToCome w e
+    awaited_to_come : (t v : ℕ) (reads : Bool) (e : Entry) → IsAwaited w.followed (log_of w.past) t v reads e
+        → IsToCome w e
     awaited_to_come t v reads e a = pick a.which
       where
-        pick : ((reads ≡ false) × IsReadToCome w.followed (log_of w.past) v e × ((f : Entry) → IsReadToCome w.followed (log_of w.past) v f → IsNoLater e f))
-            ⊎ ((reads ≡ false → (f : Entry) → IsReadToCome w.followed (log_of w.past) v f → ⊥) × IsTouchToCome w.followed (log_of w.past) v e
+        pick : ((reads ≡ false)
+            × IsReadToCome w.followed (log_of w.past) v e
+            × ((f : Entry) → IsReadToCome w.followed (log_of w.past) v f → IsNoLater e f))
+            ⊎ ((reads ≡ false → (f : Entry) → IsReadToCome w.followed (log_of w.past) v f → ⊥)
+            × IsTouchToCome w.followed (log_of w.past) v e
             × ((e.thread ≡ t) × (e.number ≡ entries t (log_of w.past) + 1) → ⊥)) → IsToCome w e
         pick (inl r) = (r.1.0, r.1.2)
-        pick (inr r) = (r.1.0, λ i. let p = place_within (log_of w.past) e v (places v (log_of w.past) + 1) past_log i r.1.1 in absurd (omega (arith, p.1)))
+        pick (inr r) = (
+          r.1.0,
+          λ i.
+              let p = place_within (log_of w.past) e v (places v (log_of w.past) + 1) past_log i r.1.1 in
+              absurd (omega (arith, p.1)),
+        )
 
     to_come : (t : ℕ) (next : Move) (e : Entry) → Awaits w.followed (log_of w.past) t next e → IsToCome w e
     to_come t (move.Access v) e a = awaited_to_come t v false e a
@@ -160,8 +187,12 @@ module _ {V : Type 0} (s : Setting V) where
         pick (inl a) = absurd (omega (arith, low, a.0))
         pick (inr (inl a)) = let p : w.up ≡ false = a.1 in absurd (cc)
         pick (inr (inr (inl a))) = a.2
-        pick (inr (inr (inr (inl a)))) = absurd (none_to_come a.2.entry (to_come u (s.meaning.next a.2.hand.place) a.2.entry a.2.awaits))
-        pick (inr (inr (inr (inr a)))) = let m : rests k.to ≡ false = subst (λ (o : Outcome). rests o ≡ false) (sym a.2.to_is) (move_moves a.2.step.act) in let p : rests k.to ≡ true = k.at_rest in absurd (cc)
+        pick (inr (inr (inr (inl a)))) =
+            absurd (none_to_come a.2.entry (to_come u (s.meaning.next a.2.hand.place) a.2.entry a.2.awaits))
+        pick (inr (inr (inr (inr a)))) =
+            let m : rests k.to ≡ false =
+            subst (λ (o : Outcome). rests o ≡ false) (sym a.2.to_is) (move_moves a.2.step.act) in
+            let p : rests k.to ≡ true = k.at_rest in absurd (cc)
 
   -- A round that is under way, where so many packets are to have come in at the end.
   record Turn (total : ℕ) (w : World V) (left t : ℕ) (moved : Bool) : Type 0 where
@@ -181,8 +212,16 @@ module _ {V : Type 0} (s : Setting V) where
     pub stay : (u : ℕ) → u < s.threads → StaysAt ran u
     pub arrive : Follows s (goes_on s) (Arrives (all_messages s ran)) ran None new
 
-  first_turn : (total : ℕ) (w : World V) (left : ℕ) → w.up ≡ true → Sound s w → left + w.fed ≡ total → Turn total w left 0 false
-  first_turn total w left up h fed = record { few = omega arith; last = λ e. refl; still = λ e u low. absurd (omega (arith, low)); up = up; sound = h; fed = fed }
+  first_turn : (total : ℕ) (w : World V) (left : ℕ) → w.up ≡ true → Sound s w → left + w.fed ≡ total
+      → Turn total w left 0 false
+  first_turn total w left up h fed = record {
+    few = omega arith;
+    last = λ e. refl;
+    still = λ e u low. absurd (omega (arith, low));
+    up = up;
+    sound = h;
+    fed = fed;
+  }
 
   abbrev Shows : ℕ → Phase → World V → World V → Type 0
   Shows total Wakes w new = Unit {0}
@@ -192,15 +231,25 @@ module _ {V : Type 0} (s : Setting V) where
 
   resting : (total : ℕ) (w new : World V) (t : ℕ) (moved : Bool) → t ≡ s.threads → Turn total w 0 t moved
       → Follows s (goes_on s) (Arrives (all_messages s w)) w None new → Rested total new
-  resting total w new t moved is b f = record { ran = w; fed = let e = b.fed in omega (arith, e); up = b.up; sound = b.sound; stay = λ u low. b.still (b.last is) u (omega (arith, low, is)); arrive = f }
+  resting total w new t moved is b f = record {
+    ran = w;
+    fed = let e = b.fed in omega (arith, e);
+    up = b.up;
+    sound = b.sound;
+    stay = λ u low. b.still (b.last is) u (omega (arith, low, is));
+    arrive = f;
+  }
 
   -- a thread that made no move gives its turn to the next
-  next_turn : (total : ℕ) (w new : World V) (left t : ℕ) (moved : Bool) → t < s.threads → Turn total w left t moved → StaysAt w t
-      → Shows total (turn_at s.threads left (t + 1) moved) w new → Rested total new
-  next_turn total w new left t moved low b stays shown = go moved b.still (lt_or_last (t + 1) s.threads (omega (arith, low))) shown
+  next_turn : (total : ℕ) (w new : World V) (left t : ℕ) (moved : Bool) → t < s.threads → Turn total w left t moved
+      → StaysAt w t → Shows total (turn_at s.threads left (t + 1) moved) w new → Rested total new
+  next_turn total w new left t moved low b stays shown =
+      go moved b.still (lt_or_last (t + 1) s.threads (omega (arith, low))) shown
     where
-      next : (m : Bool) → (m ≡ false → (u : ℕ) → u < t → StaysAt w u) → (t + 1 ≡ s.threads → m ≡ false) → Turn total w left (t + 1) m
-      next m still last = record { few = omega (arith, low); last = last; still = stay; up = b.up; sound = b.sound; fed = b.fed }
+      next : (m : Bool) → (m ≡ false → (u : ℕ) → u < t → StaysAt w u) → (t + 1 ≡ s.threads → m ≡ false)
+          → Turn total w left (t + 1) m
+      next m still last =
+          record { few = omega (arith, low); last = last; still = stay; up = b.up; sound = b.sound; fed = b.fed }
         where
           stay : m ≡ false → (u : ℕ) → u < t + 1 → StaysAt w u
           stay e u less = pick (is_or u t)
@@ -211,10 +260,13 @@ module _ {V : Type 0} (s : Setting V) where
 
       go : (m : Bool) → (m ≡ false → (u : ℕ) → u < t → StaysAt w u) → (t + 1 < s.threads) ⊎ (t + 1 ≡ s.threads)
           → Shows total (turn_at s.threads left (t + 1) m) w new → Rested total new
-      go m still (inl less) k = (subst (λ (q : Phase). Shows total q w new) (turn_low s.threads left (t + 1) m less) k) (next m still (λ e. absurd (omega (arith, less, e))))
-      go false still (inr is) k = (subst (λ (q : Phase). Shows total q w new) (turn_still s.threads left (t + 1)) k) (next false still (λ e. refl))
+      go m still (inl less) k = (subst (λ (q : Phase). Shows total q w new) (turn_low s.threads left (t + 1) m less) k)
+          (next m still (λ e. absurd (omega (arith, less, e))))
+      go false still (inr is) k = (subst (λ (q : Phase). Shows total q w new) (turn_still s.threads left (t + 1)) k)
+          (next false still (λ e. refl))
       go true still (inr is) k =
-          (subst (λ (q : Phase). Shows total q w new) (ap (λ (i : ℕ). turn_at s.threads left i true) is ∙ turn_again s.threads left) k)
+          (subst (λ (q : Phase). Shows total q w new)
+          (ap (λ (i : ℕ). turn_at s.threads left i true) is ∙ turn_again s.threads left) k)
           (first_turn total w left b.up b.sound b.fed)
 
   ends : (total : ℕ) (q : Phase) (w : World V) → goes_on s q w ≡ None → Shows total q w w
@@ -223,22 +275,29 @@ module _ {V : Type 0} (s : Setting V) where
   ends total (Chooses seed k n) w none = tt
   ends total (Steps left t moved) w none = λ b. pick left none b (lt_or_last t s.threads b.few)
     where
-      pick : (left : ℕ) → goes_on s (Steps left t moved) w ≡ None → Turn total w left t moved → (t < s.threads) ⊎ (t ≡ s.threads) → Rested total w
+      pick : (left : ℕ) → goes_on s (Steps left t moved) w ≡ None → Turn total w left t moved
+          → (t < s.threads) ⊎ (t ≡ s.threads) → Rested total w
       pick left none b (inl low) = let e = sym (steps_next left t moved w low) ∙ none in absurd (cc)
-      pick zero none b (inr is) = resting total w w t moved is b (Ends (Arrives (all_messages s w)) w (sym (rests_next 0 t moved w is) ∙ none))
+      pick zero none b (inr is) =
+          resting total w w t moved is b (Ends (Arrives (all_messages s w)) w (sym (rests_next 0 t moved w is) ∙ none))
       pick (suc k) none b (inr is) = let e = sym (rests_next (suc k) t moved w is) ∙ none in absurd (cc)
 
-  goes : (total : ℕ) → total ≤ length s.packets → (q : Phase) (w mid new : World V) (c : Choice Phase) (to : Outcome) (freed : List Sent)
-      → goes_on s q w ≡ Some c → OnWithin s w c.event to freed mid → Follows s (goes_on s) (c.leads_to to) mid None new → Shows total (c.leads_to to) mid new → Shows total q w new
+  goes : (total : ℕ) → total ≤ length s.packets → (q : Phase) (w mid new : World V) (c : Choice Phase) (to : Outcome)
+      (freed : List Sent) → goes_on s q w ≡ Some c → OnWithin s w c.event to freed mid
+      → Follows s (goes_on s) (c.leads_to to) mid None new → Shows total (c.leads_to to) mid new → Shows total q w new
   goes total most Wakes w mid new c to freed some on rest shown = tt
   goes total most (Arrives messages) w mid new c to freed some on rest shown = tt
   goes total most (Chooses seed k n) w mid new c to freed some on rest shown = tt
-  goes total most (Steps left t moved) w mid new c to freed some on rest shown = λ b. pick left some b (lt_or_last t s.threads b.few)
+  goes total most (Steps left t moved) w mid new c to freed some on rest shown =
+      λ b. pick left some b (lt_or_last t s.threads b.few)
     where
-      pick : (left : ℕ) → goes_on s (Steps left t moved) w ≡ Some c → Turn total w left t moved → (t < s.threads) ⊎ (t ≡ s.threads) → Rested total new
-      pick zero some b (inr is) = resting total w new t moved is b (Goes (Arrives (all_messages s w)) w c to freed (sym (rests_next 0 t moved w is) ∙ some) on rest)
-      pick (suc k) some b (inr is) = (subst (λ (x : Choice Phase). Shows total (x.leads_to to) mid new) is_feed shown)
-          (first_turn total mid k (ap (λ (z : World V). z.up) on_feed.0.2 ∙ b.up) (within_sound s w (event.Feed 1) to freed mid b.sound on_feed)
+      pick : (left : ℕ) → goes_on s (Steps left t moved) w ≡ Some c → Turn total w left t moved
+          → (t < s.threads) ⊎ (t ≡ s.threads) → Rested total new
+      pick zero some b (inr is) = resting total w new t moved is b
+          (Goes (Arrives (all_messages s w)) w c to freed (sym (rests_next 0 t moved w is) ∙ some) on rest)
+      pick (suc k) some b (inr is) =
+          (subst (λ (x : Choice Phase). Shows total (x.leads_to to) mid new) is_feed shown) (first_turn total mid k
+          (ap (λ (z : World V). z.up) on_feed.0.2 ∙ b.up) (within_sound s w (event.Feed 1) to freed mid b.sound on_feed)
           (let f = one_fed w mid to freed on_feed.0 some_left in let e = b.fed in omega (arith, e, f)))
         where
           is_feed : c ≡ record { event = event.Feed 1; leads_to = λ to. Steps k 0 false }
@@ -261,28 +320,39 @@ module _ {V : Type 0} (s : Setting V) where
           after = subst (λ (x : Choice Phase). Shows total (x.leads_to to) mid new) is_step shown
 
           step : (r : Bool) → rests to ≡ r → Rested total new
-          step false r = (subst (λ (q : Phase). Shows total q mid new) (let e : after_step s.threads left t moved to ≡ Steps left t true = rw r refl in e) after) (record {
-            few = b.few;
-            last = λ e. absurd (omega (arith, low, e));
-            still = λ e. absurd (cc);
-            up = (step_fed w mid t to on_step.0.0).1 ∙ b.up;
-            sound = within_sound s w (event.Step t None) to freed mid b.sound on_step;
-            fed = let f = (step_fed w mid t to on_step.0.0).0 in let e = b.fed in omega (arith, e, f);
+          step false r = (subst (λ (q : Phase). Shows total q mid new)
+              (let e : after_step s.threads left t moved to ≡ Steps left t true = rw r refl in e) after) (record {
+                few = b.few;
+                last = λ e. absurd (omega (arith, low, e));
+                still = λ e. absurd (cc);
+                up = (step_fed w mid t to on_step.0.0).1 ∙ b.up;
+                sound = within_sound s w (event.Step t None) to freed mid b.sound on_step;
+                fed = let f = (step_fed w mid t to on_step.0.0).0 in let e = b.fed in omega (arith, e, f);
+              })
+          step true r = next_turn total w new left t moved low b (record {
+            to = to;
+            on = (subst (λ (z : World V). OnStep s w t None to z) same on_step.0.0, refl);
+            at_rest = r;
           })
-          step true r = next_turn total w new left t moved low b (record { to = to; on = (subst (λ (z : World V). OnStep s w t None to z) same on_step.0.0, refl); at_rest = r })
               (subst (λ (z : World V). Shows total (turn_at s.threads left (t + 1) moved) z new) same
-              (subst (λ (q : Phase). Shows total q mid new) (let e : after_step s.threads left t moved to ≡ turn_at s.threads left (t + 1) moved = rw r refl in e) after))
+              (subst (λ (q : Phase). Shows total q mid new)
+              (let e : after_step s.threads left t moved to ≡ turn_at s.threads left (t + 1) moved = rw r refl in e)
+              after))
             where
               same : mid ≡ w
               same = no_move w mid t to on_step.0.0 r
 
-  shown : (total : ℕ) → total ≤ length s.packets → (q : Phase) (w new : World V) (end : Option Limit) → Follows s (goes_on s) q w end new → end ≡ None → Shows total q w new
+  shown : (total : ℕ) → total ≤ length s.packets → (q : Phase) (w new : World V) (end : Option Limit)
+      → Follows s (goes_on s) q w end new → end ≡ None → Shows total q w new
   shown total most q w new end (Ends p same none) is = ends total q w none
   shown total most q w new end (Halts p same c limit some passes) is = absurd (cc)
   shown total most q w new end (Goes {mid = mid} p same c to freed some on rest) is =
-      goes total most q w mid new c to freed some on (subst (λ (e : Option Limit). Follows s (goes_on s) (c.leads_to to) mid e new) is rest) (shown total most (c.leads_to to) mid new end rest is)
+      goes total most q w mid new c to freed some on
+      (subst (λ (e : Option Limit). Follows s (goes_on s) (c.leads_to to) mid e new) is rest)
+      (shown total most (c.leads_to to) mid new end rest is)
 
   -- From the first turn, where the master is up.
-  pub comes_to_rest : (total : ℕ) (w new : World V) (left : ℕ) → total ≤ length s.packets → Sound s w → w.up ≡ true → left + w.fed ≡ total
-      → Follows s (goes_on s) (Steps left 0 false) w None new → Rested total new
-  comes_to_rest total w new left most h up fed f = (shown total most (Steps left 0 false) w new None f refl) (first_turn total w left up h fed)
+  pub comes_to_rest : (total : ℕ) (w new : World V) (left : ℕ) → total ≤ length s.packets → Sound s w → w.up ≡ true
+      → left + w.fed ≡ total → Follows s (goes_on s) (Steps left 0 false) w None new → Rested total new
+  comes_to_rest total w new left most h up fed f =
+      (shown total most (Steps left 0 false) w new None f refl) (first_turn total w left up h fed)

@@ -1,7 +1,9 @@
 -- What a sound world keeps, part by part.
-use Rattle.std.proofs.Common.{◌≡◌, ℕ, ◌+◌, ◌≤◌, ◌<◌, ◌≢◌, Bool, true, false, cond, List, [], ◌∷◌, ◌++◌, refl, sym, ap, ◌∙◌, subst, inl, inr, ◌⊎◌, arith, Option}
+use Rattle.std.proofs.Common.{◌≡◌, ℕ, ◌+◌, ◌≤◌, ◌<◌, ◌≢◌, Bool, true, false, cond, List, [], ◌∷◌, ◌++◌, refl, sym, ap}
+use Rattle.std.proofs.Common.{◌∙◌, subst, inl, inr, ◌⊎◌, arith, Option}
 use Rattle.std.specs.Prelude.{nat_eq}
-use Rattle.entry_order.specs.Log.{Entry, entries, IsLog, IsIn, IsNext, Precedes, AtOnce, Through, PrecedesOrIs, PrecedesOutput, IsClosed}
+use Rattle.entry_order.specs.Log.{Entry, entries, IsLog, IsIn, IsNext, Precedes, AtOnce, Through, PrecedesOrIs}
+use Rattle.entry_order.specs.Log.{PrecedesOutput, IsClosed}
 use Rattle.entry_order.proofs.Order.{is_or, number_within, entry_there, same_number}
 use Rattle.entry_order.proofs.Positions.{not_precedes_itself}
 use Rattle.entry_order.proofs.KeptEntries.{in_left, in_right, in_either, apart}
@@ -46,15 +48,18 @@ more_entries t (Did e left) log = go (nat_eq e.thread t)
 more_entries t (Emitted o) log = omega arith
 more_entries t (Ended k) log = omega arith
 
-pub sent_after : {V : Type 0} (steps : List (Step V)) (o : Emission) (n : ℕ) → SendsAfter steps o n → n ≤ entries o.thread (log_of steps)
+pub sent_after : {V : Type 0} (steps : List (Step V)) (o : Emission) (n : ℕ) → SendsAfter steps o n
+    → n ≤ entries o.thread (log_of steps)
 sent_after [] o n h = absurd h
 sent_after (x ∷ steps) o n (inl h) = let k = more_entries o.thread x.act (log_of steps) in omega (arith, k, h.1)
-sent_after (x ∷ steps) o n (inr h) = let k = more_entries o.thread x.act (log_of steps) in let r = sent_after steps o n h in omega (arith, k, r)
+sent_after (x ∷ steps) o n (inr h) =
+    let k = more_entries o.thread x.act (log_of steps) in let r = sent_after steps o n h in omega (arith, k, r)
 
 module _ {V : Type 0} (s : Setting V) (w : World V) (h : Firm s w) (line : List (Step V)) (l : IsLine s w line) where
   -- an entry of a line is one of the log that stands for it
   pub from_line : (e : Entry) → IsIn e (log_of line) → IsIn e (h.more ++ log_of w.past)
-  from_line e i = go (in_either e l.more (log_of w.past) (subst (λ (x : List Entry). IsIn e x) (led_log w.past l.more line l.led) i))
+  from_line e i = go (in_either e l.more (log_of w.past)
+      (subst (λ (x : List Entry). IsIn e x) (led_log w.past l.more line l.led) i))
     where
       go : IsIn e l.more ⊎ IsIn e (log_of w.past) → IsIn e (h.more ++ log_of w.past)
       go (inl k) = in_left e h.more (log_of w.past) ((h.to_come e).1 ((l.to_come e).0 k))
@@ -88,7 +93,8 @@ module _ {V : Type 0} (s : Setting V) (w : World V) (h : Firm s w) (line : List 
       -- the last entry before it
       last_there : o.after ≢ 0 → (g : Entry) × IsIn g k.before × (g.thread ≡ o.emission.thread) × (g.number ≡ o.after)
       last_there some =
-          let g = entry_there (log_of k.run) o.emission.thread o.after run_log (omega (arith, some)) (sent_after k.run o.emission o.after k.sends) in
+          let g = entry_there (log_of k.run) o.emission.thread o.after run_log (omega (arith, some))
+          (sent_after k.run o.emission o.after k.sends) in
           (g.0, k.precedes g.0 (g.0, g.1, g.2, g.3, inl refl), g.2, g.3)
 
       in_line : (g : Entry) → IsIn g k.before → IsIn g (log_of line)
@@ -102,7 +108,8 @@ module _ {V : Type 0} (s : Setting V) (w : World V) (h : Firm s w) (line : List 
           go (inr some) =
               let g = last_there some in
               let n = number_within (log_of line) g.0 good (in_line g.0 g.1) in
-              let u : entries g.0.thread (log_of line) ≡ entries o.emission.thread (log_of line) = ap (λ (t : ℕ). entries t (log_of line)) g.2 in
+              let u : entries g.0.thread (log_of line) ≡ entries o.emission.thread (log_of line) =
+              ap (λ (t : ℕ). entries t (log_of line)) g.2 in
               omega (arith, n, u, g.3)
 
       known : (e : Entry) → PrecedesOutput (log_of line) o.emission.thread o.after e → IsKnown w e
@@ -129,42 +136,53 @@ module _ {V : Type 0} (s : Setting V) (w : World V) (h : Firm s w) (line : List 
                   pick (inr p) = closed_back (log_of line) k.before closed e last p member
 
 -- The oldest of the entries to come has none of them as an immediate predecessor.
-first_there : (more past : List Entry) → IsLog (more ++ past) → (f : Entry) → IsIn f more → (g : Entry) × IsIn g more × ((e : Entry) → IsIn e more → IsNext e g → ⊥)
+first_there : (more past : List Entry) → IsLog (more ++ past) → (f : Entry) → IsIn f more
+    → (g : Entry) × IsIn g more × ((e : Entry) → IsIn e more → IsNext e g → ⊥)
 first_there [] past good f i = absurd i
 first_there (x ∷ []) past good f i = (x, inl refl, alone)
   where
     alone : (e : Entry) → IsIn e (x ∷ []) → IsNext e x → ⊥
-    alone e (inl same) n = not_precedes_itself (x ∷ past) x good (AtOnce (inl refl) (inl refl) (subst (λ (z : Entry). IsNext z x) (sym same) n))
+    alone e (inl same) n = not_precedes_itself (x ∷ past) x good
+        (AtOnce (inl refl) (inl refl) (subst (λ (z : Entry). IsNext z x) (sym same) n))
     alone e (inr i) n = i
 first_there (x ∷ y ∷ more) past good f i = go (first_there (y ∷ more) past good.2 y (inl refl))
   where
-    go : ((g : Entry) × IsIn g (y ∷ more) × ((e : Entry) → IsIn e (y ∷ more) → IsNext e g → ⊥)) → (g : Entry) × IsIn g (x ∷ y ∷ more) × ((e : Entry) → IsIn e (x ∷ y ∷ more) → IsNext e g → ⊥)
+    go : ((g : Entry) × IsIn g (y ∷ more) × ((e : Entry) → IsIn e (y ∷ more) → IsNext e g → ⊥))
+        → (g : Entry) × IsIn g (x ∷ y ∷ more) × ((e : Entry) → IsIn e (x ∷ y ∷ more) → IsNext e g → ⊥)
     go (g, here, first) = (g, inr here, never)
       where
         never : (e : Entry) → IsIn e (x ∷ y ∷ more) → IsNext e g → ⊥
         never e (inr j) n = first e j n
-        never e (inl same) n = apart (x ∷ []) (y ∷ more ++ past) e good (inl same) (next_past (x ∷ []) (y ∷ more ++ past) e g good (inl same) (in_left g (y ∷ more) past here) n)
+        never e (inl same) n = apart (x ∷ []) (y ∷ more ++ past) e good (inl same)
+            (next_past (x ∷ []) (y ∷ more ++ past) e g good (inl same) (in_left g (y ∷ more) past here) n)
 
 -- While a followed entry is to come, there is one that no other to come precedes at once; and its thread makes a move.
-pub to_come_first : {V : Type 0} (s : Setting V) (w : World V) → Sound s w → (f : Entry) → IsToCome w f → (g : Entry) × IsToCome w g × ((e : Entry) → IsToCome w e → IsNext e g → ⊥)
+pub to_come_first : {V : Type 0} (s : Setting V) (w : World V) → Sound s w → (f : Entry) → IsToCome w f
+    → (g : Entry) × IsToCome w g × ((e : Entry) → IsToCome w e → IsNext e g → ⊥)
 to_come_first s w h f come =
     let r = first_there h.firm.more (log_of w.past) h.firm.log f ((h.firm.to_come f).1 come) in
     (r.0, (h.firm.to_come r.0).0 r.1, λ e c n. r.2 e ((h.firm.to_come e).1 c) n)
 
 -- an entry to come is of a thread that there is
-pub to_come_thread : {V : Type 0} (s : Setting V) (w : World V) → Sound s w → (f : Entry) → IsToCome w f → f.thread < s.threads
+pub to_come_thread : {V : Type 0} (s : Setting V) (w : World V) → Sound s w → (f : Entry) → IsToCome w f
+    → f.thread < s.threads
 to_come_thread s w h f come =
     let l = line_of s w h.firm h.firm.more h.firm.log (λ e i. i) in
-    entry_thread s.meaning (inputs_fed s w.fed) s.threads l.line f l.history (subst (λ (x : List Entry). IsIn f x) (sym l.log_is) (in_left f h.firm.more (log_of w.past) ((h.firm.to_come f).1 come)))
+    entry_thread s.meaning (inputs_fed s w.fed) s.threads l.line f l.history (subst (λ (x : List Entry). IsIn f x)
+    (sym l.log_is) (in_left f h.firm.more (log_of w.past) ((h.firm.to_come f).1 come)))
 
-pub followed_moves : {V : Type 0} (s : Setting V) (w : World V) (f : Entry) → Sound s w → IsToCome w f → ((g : Entry) → IsToCome w g → IsNext g f → ⊥) → w.up ≡ true
-    → (given : Option ℕ) (to : Outcome) (new : World V) → OnStep s w f.thread given to new → MakesMove s w f.thread given to new
-followed_moves s w f h come first up given to new on = never_stuck s w h.firm f come first up (to_come_thread s w h f come) given to new on
+pub followed_moves : {V : Type 0} (s : Setting V) (w : World V) (f : Entry) → Sound s w → IsToCome w f
+    → ((g : Entry) → IsToCome w g → IsNext g f → ⊥) → w.up ≡ true → (given : Option ℕ) (to : Outcome) (new : World V)
+    → OnStep s w f.thread given to new → MakesMove s w f.thread given to new
+followed_moves s w f h come first up given to new on =
+    never_stuck s w h.firm f come first up (to_come_thread s w h f come) given to new on
 
--- The first entry to come by weight, then thread, has none to come as an immediate predecessor; so its thread makes a move.
-pub lightest_moves : {V : Type 0} (s : Setting V) (w : World V) (line : List (Step V)) (f : Entry) → Sound s w → IsLine s w line → IsToCome w f
-    → ((g : Entry) → IsToCome w g → (g ≡ f) ⊎ GoesBefore (log_of line) f g) → w.up ≡ true
-    → (given : Option ℕ) (to : Outcome) (new : World V) → OnStep s w f.thread given to new → MakesMove s w f.thread given to new
+-- The first entry to come by weight, then thread, has none to come as an immediate predecessor; so its thread makes a
+-- move.
+pub lightest_moves : {V : Type 0} (s : Setting V) (w : World V) (line : List (Step V)) (f : Entry) → Sound s w
+    → IsLine s w line → IsToCome w f → ((g : Entry) → IsToCome w g → (g ≡ f) ⊎ GoesBefore (log_of line) f g)
+    → w.up ≡ true → (given : Option ℕ) (to : Outcome) (new : World V) → OnStep s w f.thread given to new
+    → MakesMove s w f.thread given to new
 lightest_moves s w line f h l come lightest up given to new on = followed_moves s w f h come first up given to new on
   where
     good : IsLog (log_of line)
@@ -180,5 +198,6 @@ lightest_moves s w line f h l come lightest up given to new on = followed_moves 
     first g c n = go (lightest g c)
       where
         go : (g ≡ f) ⊎ GoesBefore (log_of line) f g → ⊥
-        go (inl same) = not_precedes_itself (log_of line) f good (AtOnce (in_line f come) (in_line f come) (subst (λ (z : Entry). IsNext z f) same n))
+        go (inl same) = not_precedes_itself (log_of line) f good
+            (AtOnce (in_line f come) (in_line f come) (subst (λ (z : Entry). IsNext z f) same n))
         go (inr before) = not_next s.threads (log_of line) good low g f (in_line g c) (in_line f come) before n

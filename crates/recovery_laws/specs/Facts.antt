@@ -12,15 +12,16 @@ use Rattle.recovery_world.specs.World.{Sent, World}
 use Rattle.recovery_world.specs.Events.{IsKnown, MayGo, IsAmong}
 use Rattle.recovery_laws.specs.Sound.{times, IsEachOnce}
 
--- The stored snapshot is an earlier moment of the past, and the one under way is a moment of the past that is not earlier than
--- the stored one. None is under way while the master is down.
+-- The stored snapshot is an earlier moment of the past, and the one under way is a moment of the past that is not
+-- earlier than the stored one. None is under way while the master is down.
 pub record SnapshotsStand {V : Type 0} (w : World V) : Type 0 where
   pub stored : IsEarlier w.stored w.past
   pub copied : (copy : List (Step V)) → w.copy ≡ Some copy → IsEarlier w.stored copy × IsEarlier copy w.past
   pub down : w.up ≡ false → w.copy ≡ None
 
--- A line of the world, which is a legal run on the capture, makes each entry that is held, as it was logged. No entry is held
--- twice. What the master follows is held, and is closed over what is stored; each held entry is followed, or the past made it.
+-- A line of the world, which is a legal run on the capture, makes each entry that is held, as it was logged. No entry
+-- is held twice. What the master follows is held, and is closed over what is stored; each held entry is followed, or
+-- the past made it.
 pub record LineStands {V : Type 0} (w : World V) (line : List (Step V)) : Type 0 where
   pub keeps : Keeps (log_of line) w.held
   pub once : IsEachOnce w.held
@@ -28,8 +29,8 @@ pub record LineStands {V : Type 0} (w : World V) (line : List (Step V)) : Type 0
   pub closed : IsClosedOver (log_of line) (log_of w.stored) w.followed
   pub made : (e : Entry) → IsIn e w.held → IsIn e w.followed ⊎ IsIn e (log_of w.past)
 
--- The thread of a released output makes in the line all entries after which it was sent out, and all of its predecessors, read
--- in the line, are held or stored.
+-- The thread of a released output makes in the line all entries after which it was sent out, and all of its
+-- predecessors, read in the line, are held or stored.
 pub record ReleasedStands {V : Type 0} (w : World V) (line : List (Step V)) (o : Sent) : Type 0 where
   pub reached : o.after ≤ entries o.emission.thread (log_of line)
   pub known : (e : Entry) → PrecedesOutput (log_of line) o.emission.thread o.after e → IsKnown w e

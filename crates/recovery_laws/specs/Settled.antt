@@ -16,8 +16,8 @@ pub record IsSettled {V : Type 0} (s : Setting V) (w : World V) (steps : List (S
   pub once : (t j : ℕ) → times t j w.released ≤ 1
   pub none_waits : (o : Sent) → IsAmong o w.waiting → ⊥
 
--- What a flow of packets leaves, where the master is up: they have come in, or as many as were left; each thread has taken all that came
--- in, and ended it; and all that was sent out is released.
+-- What a flow of packets leaves, where the master is up: they have come in, or as many as were left; each thread has
+-- taken all that came in, and ended it; and all that was sent out is released.
 pub record HasFlowed {V : Type 0} (s : Setting V) (w : World V) (n : ℕ) (new : World V) : Type 0 where
   pub fed : new.fed ≡ min (w.fed + n) (length s.packets)
   pub taken : (t : ℕ) → t < s.threads → (thread_after new.past t).taken ≡ length (inputs_fed s new.fed t)

@@ -10,7 +10,9 @@ use Rattle.recovery_world.specs.Events.{On}
 
 -- the limit that these numbers of moves and bytes pass, that of the moves where they pass both
 abbrev pub limit_passed : ℕ → ℕ → Option Limit
-limit_passed moves bytes = if nat_lt MOST_MOVES moves then Some limit.Moves else if nat_lt MOST_OUTPUT_BYTES bytes then Some limit.OutputBytes else None
+limit_passed moves bytes =
+    if nat_lt MOST_MOVES moves then Some limit.Moves else if nat_lt MOST_OUTPUT_BYTES bytes
+    then Some limit.OutputBytes else None
 
 abbrev pub IsWithin : {V : Type 0} → World V → Type 0
 IsWithin w = limit_passed w.moves w.bytes ≡ None

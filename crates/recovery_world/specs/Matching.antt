@@ -1,5 +1,5 @@
--- When a schedule and a released capture are accepted: the schedule is a legal run of the plain machine on the whole capture,
--- and each released packet has an emission of its own in it.
+-- When a schedule and a released capture are accepted: the schedule is a legal run of the plain machine on the whole
+-- capture, and each released packet has an emission of its own in it.
 use Rattle.std.specs.Prelude.{◌≡◌, ℕ, ◌+◌, ◌*◌, ◌≤◌, ◌⊎◌, List, [], ◌∷◌, Ok}
 use Rattle.plain_text.specs.declared.packet.Packet.{Packet}
 use Rattle.plain_text.specs.declared.packet.Unit.{Unit as FractionUnit}
@@ -25,12 +25,14 @@ pub record IsSame (u : FractionUnit) (p : Packet) (v : FractionUnit) (q : Packet
 abbrev pub IsPacketCount : FractionUnit → Packet → List Packet → ℕ → Type 0
 IsPacketCount u p [] n = n ≡ 0
 IsPacketCount u p (q ∷ packets) n =
-    (IsSame u p u q × (k : ℕ) × (n ≡ k + 1) × IsPacketCount u p packets k) ⊎ ((IsSame u p u q → ⊥) × IsPacketCount u p packets n)
+    (IsSame u p u q × (k : ℕ) × (n ≡ k + 1) × IsPacketCount u p packets k)
+    ⊎ ((IsSame u p u q → ⊥) × IsPacketCount u p packets n)
 
 abbrev pub IsEmissionCount : FractionUnit → Packet → FractionUnit → List Emission → ℕ → Type 0
 IsEmissionCount u p v [] n = n ≡ 0
 IsEmissionCount u p v (o ∷ sent) n =
-    (IsSame u p v o.packet × (k : ℕ) × (n ≡ k + 1) × IsEmissionCount u p v sent k) ⊎ ((IsSame u p v o.packet → ⊥) × IsEmissionCount u p v sent n)
+    (IsSame u p v o.packet × (k : ℕ) × (n ≡ k + 1) × IsEmissionCount u p v sent k)
+    ⊎ ((IsSame u p v o.packet → ⊥) × IsEmissionCount u p v sent n)
 
 -- no packet stands more often in the capture than among the emissions
 abbrev pub IsMatched : FractionUnit → List Packet → FractionUnit → List Emission → Type 0

@@ -1,5 +1,6 @@
 -- One more entry in the index.
-use Rattle.std.proofs.Common.{◌≡◌, ◌≢◌, ℕ, ◌+◌, ◌<◌, ◌≤◌, ◌⊎◌, ◌↔◌, Bool, true, false, cond, List, [], Option, Some, None, IsSome, refl, sym, ap, ◌∙◌, subst, inl, inr, ⊎_elim, arith}
+use Rattle.std.proofs.Common.{◌≡◌, ◌≢◌, ℕ, ◌+◌, ◌<◌, ◌≤◌, ◌⊎◌, ◌↔◌, Bool, true, false, cond, List, [], Option, Some}
+use Rattle.std.proofs.Common.{None, IsSome, refl, sym, ap, ◌∙◌, subst, inl, inr, ⊎_elim, arith}
 use Rattle.std.specs.List.{list_any}
 use Rattle.std.specs.Map.{lookup}
 use Rattle.std.specs.BTreeMap.{is_at}
@@ -20,7 +21,8 @@ Touches = List ((ℕ × ℕ) × (ℕ × ℕ))
 abbrev Reads : Type 0
 Reads = List (ℕ × ℕ × ℕ × ℕ)
 
-cond_some : {X : Type 0} (b : Bool) (x y : X) (o : Option X) → cond b (Some x) o ≡ Some y → (o ≡ Some y) ⊎ ((b ≡ true) × (y ≡ x))
+cond_some : {X : Type 0} (b : Bool) (x y : X) (o : Option X) → cond b (Some x) o ≡ Some y
+    → (o ≡ Some y) ⊎ ((b ≡ true) × (y ≡ x))
 cond_some true x y o h = inr (refl, cc)
 cond_some false x y o h = inl h
 
@@ -37,54 +39,102 @@ true_cond true a h = refl
 true_cond false a h = h
 
 -- a touch was inserted
-pub adds_touch : (old new : Touches) (reads : Reads) (v s : ℕ) (e : StampedEntry) → e.what ≡ Access v (s + 1) → ((q : ℕ × ℕ) → lookup (is_at (touch_cmp q)) new ≡ cond (is_at (touch_cmp (v, s)) q) (Some (e.thread, e.number)) (lookup (is_at (touch_cmp q)) old)) → AddsEntry old new reads reads e
+pub adds_touch : (old new : Touches) (reads : Reads) (v s : ℕ) (e : StampedEntry) → e.what ≡ Access v (s + 1)
+    → ((q : ℕ × ℕ)
+    → lookup (is_at (touch_cmp q)) new
+    ≡ cond (is_at (touch_cmp (v, s)) q) (Some (e.thread, e.number)) (lookup (is_at (touch_cmp q)) old))
+    → AddsEntry old new reads reads e
 adds_touch old new reads v s e what h = record {
-  touch = λ w p x q. go w p x (cond_some (is_at (touch_cmp (v, s)) (w, p)) (e.thread, e.number) x (touch_after old w p) (sym (h (w, p)) ∙ q));
-  keeps_touch = λ w p some. subst (λ (o : Option (ℕ × ℕ)). IsSome o) (sym (h (w, p))) (cond_is_some (is_at (touch_cmp (v, s)) (w, p)) (e.thread, e.number) (touch_after old w p) some);
-  has_touch = λ w p is. let same = touch_only v (s + 1) w (p + 1) (sym what ∙ is) in let here : touch_after new v s ≡ Some (e.thread, e.number) = h (v, s) ∙ ap (λ b. cond b (Some (e.thread, e.number)) (touch_after old v s)) (touch_same v s) in let place : s ≡ p = omega (arith, same.1) in there w p (sym same.0) (sym place) here;
-  read = λ w p t n. (λ q. inl q, λ q. ⊎_elim (λ k. k) (λ k. let both : Access v (s + 1) ≡ Read w p = sym what ∙ k.0 in absurd cc) q);
+  touch = λ w p x q. go w p x (cond_some (is_at (touch_cmp (v, s)) (w, p)) (e.thread, e.number) x (touch_after old w p)
+      (sym (h (w, p)) ∙ q));
+  keeps_touch = λ w p some. subst (λ (o : Option (ℕ × ℕ)). IsSome o) (sym (h (w, p)))
+      (cond_is_some (is_at (touch_cmp (v, s)) (w, p)) (e.thread, e.number) (touch_after old w p) some);
+  has_touch = λ w p is.
+      let same = touch_only v (s + 1) w (p + 1) (sym what ∙ is) in
+      let here : touch_after new v s ≡ Some (e.thread, e.number) =
+      h (v, s) ∙ ap (λ b. cond b (Some (e.thread, e.number)) (touch_after old v s)) (touch_same v s) in
+      let place : s ≡ p = omega (arith, same.1) in there w p (sym same.0) (sym place) here;
+  read = λ w p t n.
+      (λ q. inl q, λ q. ⊎_elim (λ k. k) (λ k. let both : Access v (s + 1) ≡ Read w p = sym what ∙ k.0 in absurd cc) q);
 }
   where
-    go : (w p : ℕ) (x : ℕ × ℕ) → (touch_after old w p ≡ Some x) ⊎ ((is_at (touch_cmp (v, s)) (w, p) ≡ true) × (x ≡ (e.thread, e.number))) → (touch_after old w p ≡ Some x) ⊎ ((e.what ≡ Access w (p + 1)) × (x ≡ (e.thread, e.number)))
+    go : (w p : ℕ) (x : ℕ × ℕ)
+        → (touch_after old w p ≡ Some x) ⊎ ((is_at (touch_cmp (v, s)) (w, p) ≡ true) × (x ≡ (e.thread, e.number)))
+        → (touch_after old w p ≡ Some x) ⊎ ((e.what ≡ Access w (p + 1)) × (x ≡ (e.thread, e.number)))
     go w p x (inl k) = inl k
-    go w p x (inr k) = let same = touch_equal (v, s) (w, p) k.0 in let v_is : v ≡ w = same.0 in let s_is : s ≡ p = same.1 in inr (what ∙ rw (v_is, s_is) refl, k.1)
+    go w p x (inr k) =
+        let same = touch_equal (v, s) (w, p) k.0 in
+        let v_is : v ≡ w = same.0 in let s_is : s ≡ p = same.1 in inr (what ∙ rw (v_is, s_is) refl, k.1)
 
     there : (w p : ℕ) → w ≡ v → p ≡ s → touch_after new v s ≡ Some (e.thread, e.number) → IsSome (touch_after new w p)
     there w p v_is s_is here = rw (v_is, s_is, here) refl
 
 -- a read was inserted
-pub adds_read : (touches : Touches) (old new : Reads) (v s : ℕ) (e : StampedEntry) → e.what ≡ Read v s → ((q : ℕ × ℕ × ℕ × ℕ) → list_any (is_at (read_cmp q)) new ≡ cond (is_at (read_cmp (v, s, e.thread, e.number)) q) true (list_any (is_at (read_cmp q)) old)) → AddsEntry touches touches old new e
+pub adds_read : (touches : Touches) (old new : Reads) (v s : ℕ) (e : StampedEntry) → e.what ≡ Read v s
+    → ((q : ℕ × ℕ × ℕ × ℕ)
+    → list_any (is_at (read_cmp q)) new
+    ≡ cond (is_at (read_cmp (v, s, e.thread, e.number)) q) true (list_any (is_at (read_cmp q)) old))
+    → AddsEntry touches touches old new e
 adds_read touches old new v s e what h = record {
   touch = λ w p x q. inl q;
   keeps_touch = λ w p some. some;
   has_touch = λ w p is. let both : Read v s ≡ Access w (p + 1) = sym what ∙ is in absurd cc;
-  read = λ w p t n. (λ q. go w p t n (cond_true (is_at (read_cmp (v, s, e.thread, e.number)) (w, p, t, n)) _ (sym (h (w, p, t, n)) ∙ q)), λ q. ⊎_elim (λ k. h (w, p, t, n) ∙ true_cond (is_at (read_cmp (v, s, e.thread, e.number)) (w, p, t, n)) _ k) (λ k. back w p t n (read_only v s w p (sym what ∙ k.0)) k.1 k.2) q);
+  read = λ w p t n. (
+    λ q. go w p t n (cond_true (is_at (read_cmp (v, s, e.thread, e.number)) (w, p, t, n)) _ (sym (h (w, p, t, n)) ∙ q)),
+    λ q. ⊎_elim (λ k. h (w, p, t, n) ∙ true_cond (is_at (read_cmp (v, s, e.thread, e.number)) (w, p, t, n)) _ k)
+        (λ k. back w p t n (read_only v s w p (sym what ∙ k.0)) k.1 k.2) q,
+  );
 }
   where
-    go : (w p t n : ℕ) → HasRead old w p t n ⊎ (is_at (read_cmp (v, s, e.thread, e.number)) (w, p, t, n) ≡ true) → HasRead old w p t n ⊎ ((e.what ≡ Read w p) × (e.thread ≡ t) × (e.number ≡ n))
+    go : (w p t n : ℕ) → HasRead old w p t n ⊎ (is_at (read_cmp (v, s, e.thread, e.number)) (w, p, t, n) ≡ true)
+        → HasRead old w p t n ⊎ ((e.what ≡ Read w p) × (e.thread ≡ t) × (e.number ≡ n))
     go w p t n (inl k) = inl k
-    go w p t n (inr k) = let same = read_equal (v, s, e.thread, e.number) (w, p, t, n) k in let v_is : v ≡ w = same.0 in let s_is : s ≡ p = same.1 in inr (what ∙ rw (v_is, s_is) refl, same.2, same.3)
+    go w p t n (inr k) =
+        let same = read_equal (v, s, e.thread, e.number) (w, p, t, n) k in
+        let v_is : v ≡ w = same.0 in let s_is : s ≡ p = same.1 in inr (what ∙ rw (v_is, s_is) refl, same.2, same.3)
 
     here : HasRead new v s e.thread e.number
-    here = h (v, s, e.thread, e.number) ∙ ap (λ b. cond b true (list_any (is_at (read_cmp (v, s, e.thread, e.number))) old)) (read_same (v, s, e.thread, e.number))
+    here =
+        h (v, s, e.thread, e.number)
+        ∙ ap (λ b. cond b true (list_any (is_at (read_cmp (v, s, e.thread, e.number))) old))
+        (read_same (v, s, e.thread, e.number))
 
     back : (w p t n : ℕ) → (v ≡ w) × (s ≡ p) → e.thread ≡ t → e.number ≡ n → HasRead new w p t n
-    back w p t n both thread number = let v_is : w ≡ v = sym both.0 in let s_is : p ≡ s = sym both.1 in let t_is : t ≡ e.thread = sym thread in let n_is : n ≡ e.number = sym number in rw (v_is, s_is, t_is, n_is) here
+    back w p t n both thread number =
+        let v_is : w ≡ v = sym both.0 in
+        let s_is : p ≡ s = sym both.1 in
+        let t_is : t ≡ e.thread = sym thread in let n_is : n ≡ e.number = sym number in rw (v_is, s_is, t_is, n_is) here
 
 -- the index of what it had and one more entry
-pub index_more : (P Q : ℕ → ℕ → What → Type 0) (old new : Touches) (before after : Reads) (e : StampedEntry) → IsIndexOf P old before → AddsEntry old new before after e → ((t n : ℕ) (w : What) → Q t n w ↔ (P t n w ⊎ ((e.thread ≡ t) × (e.number ≡ n) × (e.what ≡ w)))) → IsIndexOf Q new after
+pub index_more : (P Q : ℕ → ℕ → What → Type 0) (old new : Touches) (before after : Reads) (e : StampedEntry)
+    → IsIndexOf P old before → AddsEntry old new before after e
+    → ((t n : ℕ) (w : What) → Q t n w ↔ (P t n w ⊎ ((e.thread ≡ t) × (e.number ≡ n) × (e.what ≡ w))))
+    → IsIndexOf Q new after
 index_more P Q old new before after e is adds same = record {
-  touch = λ v p t n q. ⊎_elim (λ k. (same t n (Access v (p + 1))).1 (inl (is.touch v p t n k))) (λ k. let both = k.1 in let thread : e.thread ≡ t = sym (ap (λ (y : ℕ × ℕ). y.0) both) in let number : e.number ≡ n = sym (ap (λ (y : ℕ × ℕ). y.1) both) in (same t n (Access v (p + 1))).1 (inr (thread, number, k.0))) (adds.touch v p (t, n) q);
-  has_touch = λ v p t n q. ⊎_elim (λ k. adds.keeps_touch v p (is.has_touch v p t n k)) (λ k. adds.has_touch v p k.2) ((same t n (Access v (p + 1))).0 q);
-  read = λ v p t n. (λ q. ⊎_elim (λ k. (same t n (Read v p)).1 (inl ((is.read v p t n).0 k))) (λ k. (same t n (Read v p)).1 (inr (k.1, k.2, k.0))) ((adds.read v p t n).0 q), λ q. (adds.read v p t n).1 (⊎_elim (λ k. inl ((is.read v p t n).1 k)) (λ k. inr (k.2, k.0, k.1)) ((same t n (Read v p)).0 q)));
+  touch = λ v p t n q. ⊎_elim (λ k. (same t n (Access v (p + 1))).1 (inl (is.touch v p t n k)))
+      (λ k.
+      let both = k.1 in
+      let thread : e.thread ≡ t = sym (ap (λ (y : ℕ × ℕ). y.0) both) in
+      let number : e.number ≡ n = sym (ap (λ (y : ℕ × ℕ). y.1) both) in
+      (same t n (Access v (p + 1))).1 (inr (thread, number, k.0))) (adds.touch v p (t, n) q);
+  has_touch = λ v p t n q. ⊎_elim (λ k. adds.keeps_touch v p (is.has_touch v p t n k)) (λ k. adds.has_touch v p k.2)
+      ((same t n (Access v (p + 1))).0 q);
+  read = λ v p t n. (
+    λ q. ⊎_elim (λ k. (same t n (Read v p)).1 (inl ((is.read v p t n).0 k)))
+        (λ k. (same t n (Read v p)).1 (inr (k.1, k.2, k.0))) ((adds.read v p t n).0 q),
+    λ q. (adds.read v p t n).1
+        (⊎_elim (λ k. inl ((is.read v p t n).1 k)) (λ k. inr (k.2, k.0, k.1)) ((same t n (Read v p)).0 q)),
+  );
 }
 
 -- an index of one property is one of an equal property
-pub IsIndexOf-same : (P Q : ℕ → ℕ → What → Type 0) (touches : Touches) (reads : Reads) → ((t n : ℕ) (w : What) → P t n w ↔ Q t n w) → IsIndexOf P touches reads → IsIndexOf Q touches reads
+pub IsIndexOf-same : (P Q : ℕ → ℕ → What → Type 0) (touches : Touches) (reads : Reads)
+    → ((t n : ℕ) (w : What) → P t n w ↔ Q t n w) → IsIndexOf P touches reads → IsIndexOf Q touches reads
 IsIndexOf-same P Q touches reads same is = record {
   touch = λ v p t n q. (same t n (Access v (p + 1))).0 (is.touch v p t n q);
   has_touch = λ v p t n q. is.has_touch v p t n ((same t n (Access v (p + 1))).1 q);
-  read = λ v p t n. (λ q. (same t n (Read v p)).0 ((is.read v p t n).0 q), λ q. (is.read v p t n).1 ((same t n (Read v p)).1 q));
+  read = λ v p t n.
+      (λ q. (same t n (Read v p)).0 ((is.read v p t n).0 q), λ q. (is.read v p t n).1 ((same t n (Read v p)).1 q));
 }
 
 -- an empty index
@@ -96,21 +146,30 @@ IsIndexOf-none P none = record {
 }
 
 -- one more entry, that of the number before
-pub index_down : (held : List Lane) (thread number : ℕ) (old new : Touches) (before after : Reads) (e : StampedEntry) → entry_at (lane held thread) (number + 1) ≡ Some e → e.thread ≡ thread → e.number ≡ number + 1 → IsIndexOf (FollowsDownTo held thread (number + 1)) old before → AddsEntry old new before after e → IsIndexOf (FollowsDownTo held thread number) new after
+pub index_down : (held : List Lane) (thread number : ℕ) (old new : Touches) (before after : Reads) (e : StampedEntry)
+    → entry_at (lane held thread) (number + 1) ≡ Some e → e.thread ≡ thread → e.number ≡ number + 1
+    → IsIndexOf (FollowsDownTo held thread (number + 1)) old before → AddsEntry old new before after e
+    → IsIndexOf (FollowsDownTo held thread number) new after
 index_down held thread number old new before after e here thread_is number_is is adds =
-    index_more (FollowsDownTo held thread (number + 1)) (FollowsDownTo held thread number) old new before after e is adds (λ t n w. (to t n w, from t n w))
+    index_more (FollowsDownTo held thread (number + 1)) (FollowsDownTo held thread number) old new before after e is
+    adds (λ t n w. (to t n w, from t n w))
   where
-    found : (t n : ℕ) (w : What) → t ≡ thread → n ≡ number + 1 → Follows held t n w → (e.thread ≡ t) × (e.number ≡ n) × (e.what ≡ w)
+    found : (t n : ℕ) (w : What) → t ≡ thread → n ≡ number + 1 → Follows held t n w
+        → (e.thread ≡ t) × (e.number ≡ n) × (e.what ≡ w)
     found t n w t_is n_is (f, at, what) =
         let there : entry_at (lane held thread) (number + 1) ≡ Some f = rw (sym t_is, sym n_is) at in
         let same : e ≡ f = cc in
         (thread_is ∙ sym t_is, number_is ∙ sym n_is, ap (λ (g : StampedEntry). g.what) same ∙ what)
 
-    to : (t n : ℕ) (w : What) → FollowsDownTo held thread number t n w → FollowsDownTo held thread (number + 1) t n w ⊎ ((e.thread ≡ t) × (e.number ≡ n) × (e.what ≡ w))
+    to : (t n : ℕ) (w : What) → FollowsDownTo held thread number t n w
+        → FollowsDownTo held thread (number + 1) t n w ⊎ ((e.thread ≡ t) × (e.number ≡ n) × (e.what ≡ w))
     to t n w (inl below) = inl (inl below)
-    to t n w (inr (t_is, up, follows)) = ⊎_elim (λ (q : n ≡ number + 1). inr (found t n w t_is q follows)) (λ (q : n ≢ number + 1). inl (inr (t_is, grind arith, follows))) (is_or n (number + 1))
+    to t n w (inr (t_is, up, follows)) = ⊎_elim (λ (q : n ≡ number + 1). inr (found t n w t_is q follows))
+        (λ (q : n ≢ number + 1). inl (inr (t_is, grind arith, follows))) (is_or n (number + 1))
 
-    from : (t n : ℕ) (w : What) → FollowsDownTo held thread (number + 1) t n w ⊎ ((e.thread ≡ t) × (e.number ≡ n) × (e.what ≡ w)) → FollowsDownTo held thread number t n w
+    from : (t n : ℕ) (w : What)
+        → FollowsDownTo held thread (number + 1) t n w ⊎ ((e.thread ≡ t) × (e.number ≡ n) × (e.what ≡ w))
+        → FollowsDownTo held thread number t n w
     from t n w (inl (inl below)) = inl below
     from t n w (inl (inr (t_is, up, follows))) = inr (t_is, omega arith, follows)
     from t n w (inr (t_is, n_is, what)) =
@@ -118,27 +177,48 @@ index_down held thread number old new before after e here thread_is number_is is
         let n_of : n ≡ number + 1 = sym n_is ∙ number_is in
         inr (t_of, omega arith, (e, rw (t_of, n_of) here, what))
 
-pub index_down_from : (held : List Lane) (thread m number : ℕ) (old new : Touches) (before after : Reads) (e : StampedEntry) → number ≡ m + 1 → entry_at (lane held thread) number ≡ Some e → e.thread ≡ thread → e.number ≡ number → IsIndexOf (FollowsDownTo held thread number) old before → AddsEntry old new before after e → IsIndexOf (FollowsDownTo held thread m) new after
+pub index_down_from : (held : List Lane) (thread m number : ℕ) (old new : Touches) (before after : Reads)
+    (e : StampedEntry) → number ≡ m + 1 → entry_at (lane held thread) number ≡ Some e → e.thread ≡ thread
+    → e.number ≡ number → IsIndexOf (FollowsDownTo held thread number) old before → AddsEntry old new before after e
+    → IsIndexOf (FollowsDownTo held thread m) new after
 index_down_from held thread m number old new before after e q here thread_is number_is is adds =
-    index_down held thread m old new before after e (subst (λ (n : ℕ). entry_at (lane held thread) n ≡ Some e) q here) thread_is (number_is ∙ q) (subst (λ (n : ℕ). IsIndexOf (FollowsDownTo held thread n) old before) q is) adds
+    index_down held thread m old new before after e (subst (λ (n : ℕ). entry_at (lane held thread) n ≡ Some e) q here)
+    thread_is (number_is ∙ q) (subst (λ (n : ℕ). IsIndexOf (FollowsDownTo held thread n) old before) q is) adds
 
 -- before the walk down a lane, and after it
-pub index_before : (held : List Lane) (thread f : ℕ) (touches : Touches) (reads : Reads) → ((n : ℕ) → f < n → entry_at (lane held thread) n ≡ None) → IsIndexOf (FollowsBelow held thread) touches reads → IsIndexOf (FollowsDownTo held thread f) touches reads
-index_before held thread f touches reads none = IsIndexOf-same (FollowsBelow held thread) (FollowsDownTo held thread f) touches reads (λ t n w. (λ h. inl h, λ h. go t n w h))
+pub index_before : (held : List Lane) (thread f : ℕ) (touches : Touches) (reads : Reads)
+    → ((n : ℕ) → f < n → entry_at (lane held thread) n ≡ None) → IsIndexOf (FollowsBelow held thread) touches reads
+    → IsIndexOf (FollowsDownTo held thread f) touches reads
+index_before held thread f touches reads none = IsIndexOf-same (FollowsBelow held thread) (FollowsDownTo held thread f)
+    touches reads (λ t n w. (λ h. inl h, λ h. go t n w h))
   where
     go : (t n : ℕ) (w : What) → FollowsDownTo held thread f t n w → FollowsBelow held thread t n w
     go t n w (inl h) = h
-    go t n w (inr (t_is, up, (e, here, what))) = let no = none n up in let there : entry_at (lane held thread) n ≡ Some e = subst (λ (u : ℕ). entry_at (lane held u) n ≡ Some e) t_is here in absurd cc
+    go t n w (inr (t_is, up, (e, here, what))) =
+        let no = none n up in
+        let there : entry_at (lane held thread) n ≡ Some e =
+        subst (λ (u : ℕ). entry_at (lane held u) n ≡ Some e) t_is here in
+        absurd cc
 
-pub index_after : (held : List Lane) (thread number : ℕ) (touches : Touches) (reads : Reads) → ((n : ℕ) → n ≤ number → entry_at (lane held thread) n ≡ None) → IsIndexOf (FollowsDownTo held thread number) touches reads → IsIndexOf (FollowsBelow held (thread + 1)) touches reads
-index_after held thread number touches reads none = IsIndexOf-same (FollowsDownTo held thread number) (FollowsBelow held (thread + 1)) touches reads (λ t n w. (to t n w, from t n w))
+pub index_after : (held : List Lane) (thread number : ℕ) (touches : Touches) (reads : Reads)
+    → ((n : ℕ) → n ≤ number → entry_at (lane held thread) n ≡ None)
+    → IsIndexOf (FollowsDownTo held thread number) touches reads
+    → IsIndexOf (FollowsBelow held (thread + 1)) touches reads
+index_after held thread number touches reads none = IsIndexOf-same (FollowsDownTo held thread number)
+    (FollowsBelow held (thread + 1)) touches reads (λ t n w. (to t n w, from t n w))
   where
     to : (t n : ℕ) (w : What) → FollowsDownTo held thread number t n w → FollowsBelow held (thread + 1) t n w
     to t n w (inl h) = (let low = h.0 in omega arith, h.1)
     to t n w (inr h) = (let same = h.0 in omega arith, h.2)
 
     above : (t n : ℕ) (w : What) → t ≡ thread → Follows held t n w → number < n
-    above t n w t_is (e, here, what) = ⊎_elim (λ (h : number < n). h) (λ h. let no = none n h in let there : entry_at (lane held thread) n ≡ Some e = subst (λ (u : ℕ). entry_at (lane held u) n ≡ Some e) t_is here in absurd cc) (cases_lt number n)
+    above t n w t_is (e, here, what) = ⊎_elim (λ (h : number < n). h)
+        (λ h.
+        let no = none n h in
+        let there : entry_at (lane held thread) n ≡ Some e =
+        subst (λ (u : ℕ). entry_at (lane held u) n ≡ Some e) t_is here in
+        absurd cc) (cases_lt number n)
 
     from : (t n : ℕ) (w : What) → FollowsBelow held (thread + 1) t n w → FollowsDownTo held thread number t n w
-    from t n w (low, h) = ⊎_elim (λ (q : t ≡ thread). inr (q, above t n w q h, h)) (λ (q : t ≢ thread). inl (grind arith, h)) (is_or t thread)
+    from t n w (low, h) = ⊎_elim (λ (q : t ≡ thread). inr (q, above t n w q h, h))
+        (λ (q : t ≢ thread). inl (grind arith, h)) (is_or t thread)

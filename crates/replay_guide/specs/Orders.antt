@@ -15,7 +15,8 @@ IsNamed t n (x ∷ rest) = ((x.0 ≡ t) × (x.1 ≡ n)) ⊎ IsNamed t n rest
 
 -- of two followed entries the first has less weight, or the same and a lesser thread, or both and a lesser number
 abbrev pub ComesBefore : List Lane → ℕ → ℕ → ℕ → ℕ → Type 0
-ComesBefore guide t n u m = (e f : StampedEntry) → entry_at (lane guide t) n ≡ Some e → entry_at (lane guide u) m ≡ Some f
+ComesBefore guide t n u m =
+    (e f : StampedEntry) → entry_at (lane guide t) n ≡ Some e → entry_at (lane guide u) m ≡ Some f
     → (weight_of e < weight_of f) ⊎ ((weight_of e ≡ weight_of f) × ((t < u) ⊎ ((t ≡ u) × (n < m))))
 
 -- Oldest first: by weight, then thread. So no entry stands twice.

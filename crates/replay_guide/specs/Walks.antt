@@ -27,12 +27,15 @@ FollowsBelow held thread t n what = (t < thread) × Follows held t n what
 
 -- the same, and of this thread the entries above this number too
 abbrev pub FollowsDownTo : List Lane → ℕ → ℕ → ℕ → ℕ → What → Type 0
-FollowsDownTo held thread number t n what = FollowsBelow held thread t n what ⊎ ((t ≡ thread) × (number < n) × Follows held t n what)
+FollowsDownTo held thread number t n what =
+    FollowsBelow held thread t n what ⊎ ((t ≡ thread) × (number < n) × Follows held t n what)
 
 -- What is true of the parts of a guide.
-pub record IsGuide (lanes : List Lane) (touches : List ((ℕ × ℕ) × (ℕ × ℕ))) (reads : List (ℕ × ℕ × ℕ × ℕ)) : Type 0 where
+pub record IsGuide (lanes : List Lane) (touches : List ((ℕ × ℕ) × (ℕ × ℕ)))
+    (reads : List (ℕ × ℕ × ℕ × ℕ)) : Type 0 where
   pub held : IsHeldSet lanes
-  pub apart : (v place t n u m : ℕ) → Follows lanes t n (Access v place) → Follows lanes u m (Access v place) → (t ≡ u) × (n ≡ m)
+  pub apart : (v place t n u m : ℕ) → Follows lanes t n (Access v place) → Follows lanes u m (Access v place)
+      → (t ≡ u) × (n ≡ m)
   pub indexed : IsIndexOf (Follows lanes) touches reads
 
 -- entries by weight, then thread, then number
@@ -41,7 +44,9 @@ weighed_cmp x y = ordering_then (ordering_then (nat_cmp x.0 y.0) (nat_cmp x.1 y.
 
 -- entry (t, n) is held in one of the lanes below this one, with this weight
 abbrev pub WeighsBelow : List Lane → ℕ → ℕ → ℕ → ℕ → Type 0
-WeighsBelow lanes below weight t n = (u k : ℕ) × (e : StampedEntry) × (u < below) × (entry_at (lane lanes u) k ≡ Some e) × (weight_of e ≡ weight) × (e.thread ≡ t) × (e.number ≡ n)
+WeighsBelow lanes below weight t n =
+    (u k : ℕ) × (e : StampedEntry) × (u < below) × (entry_at (lane lanes u) k ≡ Some e) × (weight_of e ≡ weight)
+    × (e.thread ≡ t) × (e.number ≡ n)
 
 -- entry (t, n) is there with this weight
 abbrev pub IsWeighed : List (ℕ × ℕ × ℕ) → ℕ → ℕ → ℕ → Type 0

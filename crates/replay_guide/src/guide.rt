@@ -1,11 +1,13 @@
-ghost use Rattle.std.specs.Prelude.{◌≡◌, ℕ, ◌+◌, ◌↔◌, [], IfOk, IfSome, IfNone, IsSome, IsTrue, false, map, option_copied};
+ghost use Rattle.std.specs.Prelude.{◌≡◌, ℕ, ◌+◌, ◌↔◌, [], IfOk, IfSome, IfNone, IsSome, IsTrue};
+ghost use Rattle.std.specs.Prelude.{false, map, option_copied};
 ghost use Rattle.std.specs.List.Sorted.{IsStrictlySortedBy};
 ghost use Rattle.entry_order.specs.declared.what.What.TheVariants as what_of;
 ghost use Rattle.access_log.specs.declared.entry.Turn.TheVariants as turn_of;
 ghost use Rattle.access_log.specs.Held.{lane, entry_at};
 ghost use Rattle.access_log.specs.Lanes.{IsHeldSet};
 ghost use Rattle.replay_guide.specs.Following.{Follows, CanBeFollowed, recorded};
-ghost use Rattle.replay_guide.specs.Turns.{WaitsFor, IsFollowed, IsFree, IsFirstPending, NoneIsPending};
+ghost use Rattle.replay_guide.specs.Turns.{WaitsFor, IsFollowed, IsFree, IsFirstPending};
+ghost use Rattle.replay_guide.specs.Turns.{NoneIsPending};
 ghost use Rattle.replay_guide.specs.Walks.{IsTurn, weighed_cmp};
 ghost use Rattle.replay_guide.specs.Orders.{IsNamed, IsInOrder};
 
@@ -21,8 +23,8 @@ use thread_clock::Stamp;
 /// Log entries by thread and number, the one that can be made first first.
 pub type Order = Sequence<(u32, u64)>;
 
-/// The log entries that a master must make as they are recorded, of at most 16 threads. Contracts see a guide as the list of its
-/// lanes, as they do the held set whose entries it follows.
+/// The log entries that a master must make as they are recorded, of at most 16 threads. Contracts see a guide as the
+/// list of its lanes, as they do the held set whose entries it follows.
 #[derive(Debug, Drop)]
 pub struct Guide {
     lanes: Vec<FollowedLane>,
@@ -97,11 +99,13 @@ impl Guide {
 
     /// Whether a thread may make the touch that it wants, or the read, as its entry of this number.
     ///
-    /// `places` is how often the variable was touched, and `readers` the join of the stamps of its reads since. A followed read at its
-    /// place goes ahead. Else a touch waits for the followed reads of the variable as it is now that are not made yet, the one of the
-    /// least thread and number first; and both wait for the followed touch that is next, unless it is their own.
+    /// `places` is how often the variable was touched, and `readers` the join of the stamps of its reads since. A
+    /// followed read at its place goes ahead. Else a touch waits for the followed reads of the variable as it is now
+    /// that are not made yet, the one of the least thread and number first; and both wait for the followed touch that
+    /// is next, unless it is their own.
     ///
-    /// It takes no memory. Its time grows with the number of threads, and with the logarithm of the number of followed entries.
+    /// It takes no memory. Its time grows with the number of threads, and with the logarithm of the number of followed
+    /// entries.
     pub fn turn(
         &self,
         thread: u32,
@@ -190,8 +194,8 @@ impl Guide {
         self.index.touch_after(var, places)
     }
 
-    /// The clock or the random word that the followed entry was told; `None` exactly where the entry is not followed, or is a
-    /// touch or a read.
+    /// The clock or the random word that the followed entry was told; `None` exactly where the entry is not followed,
+    /// or is a touch or a read.
     pub fn answer(&self, thread: u32, number: u64) -> Option<u64>
         ensures { result ≡ recorded (entry_at (lane self.now thread) number) }
     {
@@ -201,8 +205,8 @@ impl Guide {
         }
     }
 
-    /// The followed entries in an order in which they can all be made: by weight, which is the sum of the stamp, then by thread,
-    /// then by number.
+    /// The followed entries in an order in which they can all be made: by weight, which is the sum of the stamp, then
+    /// by thread, then by number.
     pub fn order(&self, alloc: Global) -> Result<Order, NoMemory>
         ensures each { IfOk result (λ order. (t n : ℕ) → IsNamed t n order
             ↔ IsSome (entry_at (lane self.now t) n)) }

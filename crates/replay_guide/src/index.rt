@@ -1,5 +1,6 @@
 //! The followed touches and reads, by the variable and its number of touches before them.
-ghost use Rattle.std.specs.Prelude.{◌≡◌, ℕ, ◌+◌, ◌<◌, ◌≤◌, List, [], None, IfSome, IfNone, MatchOption, OnOk, slice_index};
+ghost use Rattle.std.specs.Prelude.{◌≡◌, ℕ, ◌+◌, ◌<◌, ◌≤◌, List, [], None, IfSome, IfNone};
+ghost use Rattle.std.specs.Prelude.{MatchOption, OnOk, slice_index};
 ghost use Rattle.access_log.specs.declared.entry.StampedEntry as stamped;
 ghost use Rattle.replay_guide.specs.Turns.{GoesFirst};
 ghost use Rattle.replay_guide.specs.Indexes.{touch_after, HasRead, AddsEntry};
@@ -11,8 +12,8 @@ use std::collections::{BTreeMap, BTreeSet};
 use std::ops::Bound;
 use thread_clock::Stamp;
 
-/// The thread and number of each touch by its variable and place, and each read by its variable, place, thread and number.
-/// The place of a touch is here the number of touches before it.
+/// The thread and number of each touch by its variable and place, and each read by its variable, place, thread and
+/// number. The place of a touch is here the number of touches before it.
 #[derive(Debug, Drop)]
 pub struct Index {
     /// By variable and the number of touches before it: the thread and number of a touch.

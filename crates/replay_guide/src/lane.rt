@@ -1,4 +1,5 @@
-ghost use Rattle.std.specs.Prelude.{◌≡◌, ℕ, ◌+◌, ◌≤◌, ◌^◌, ◌↔◌, ◌⊎◌, Some, IfOk, OnOk, length, option_copied};
+ghost use Rattle.std.specs.Prelude.{◌≡◌, ℕ, ◌+◌, ◌≤◌, ◌^◌, ◌↔◌, ◌⊎◌, Some, IfOk, OnOk, length};
+ghost use Rattle.std.specs.Prelude.{option_copied};
 ghost use Rattle.access_log.specs.declared.entry.StampedEntry as stamped;
 ghost use Rattle.access_log.specs.Held.{lane, entry_at};
 ghost use Rattle.replay_guide.specs.Following.{CanBeFollowed};
@@ -40,7 +41,8 @@ impl Model for FollowedLane {
 }
 
 impl FollowedLane {
-    /// Follows the entries of one thread that are held, and puts them into the index, which has those of the threads before it.
+    /// Follows the entries of one thread that are held, and puts them into the index, which has those of the threads
+    /// before it.
     pub fn of(
         alloc: Global,
         followed: &Held,

@@ -1,5 +1,6 @@
 //! The laws of a guide in a world. Each is proved, and does nothing: a caller has it by the call.
-ghost use Rattle.std.specs.Prelude.{◌≡◌, ℕ, ◌+◌, ◌<◌, ◌⊎◌, ◌↔◌, true, false, List, Option, Some, None, IsSome, slice_index};
+ghost use Rattle.std.specs.Prelude.{◌≡◌, ℕ, ◌+◌, ◌<◌, ◌⊎◌, ◌↔◌, true, false, List, Option, Some};
+ghost use Rattle.std.specs.Prelude.{None, IsSome, slice_index};
 ghost use Rattle.entry_order.specs.Log.{Entry, entries, places, IsLog, IsIn};
 ghost use Rattle.entry_order.specs.Closed.{IsClosedOver};
 ghost use Rattle.plain_machine.specs.declared.local.Move.TheVariants as move;
@@ -24,9 +25,9 @@ pub fn closed_parts_can_be_followed()
         → CanBeFollowed held }
 {}
 
-/// A new master begins at the stored snapshot. There the guide that follows what is held follows exactly what the master must
-/// follow, of what the past does not have, if the held entries are those that it must follow and are not stored. It stays so as
-/// the past grows.
+/// A new master begins at the stored snapshot. There the guide that follows what is held follows exactly what the
+/// master must follow, of what the past does not have, if the held entries are those that it must follow and are not
+/// stored. It stays so as the past grows.
 pub fn guides_follow_the_world()
     ensures begins { (log stored followed : List Entry) (held guide : List Lane)
         → HoldsOf log stored held → ((t : ℕ) → lane guide t ≡ lane held t)
@@ -37,8 +38,8 @@ pub fn guides_follow_the_world()
         → Guides followed next guide }
 {}
 
-/// The turn is that of the world: with the places and the readers' stamp of the past, the guide says to wait exactly for the
-/// entry that the thread awaits there, and else the thread has its turn.
+/// The turn is that of the world: with the places and the readers' stamp of the past, the guide says to wait exactly
+/// for the entry that the thread awaits there, and else the thread has its turn.
 pub fn turns_are_those_of_the_world<X>()
     ensures touch { (s : Setting X) (w : World X) (guide : List Lane) (t v : ℕ) (readers : List ℕ)
         (u m : ℕ) → Sound s w → Guides w.followed (log_of w.past) guide
@@ -68,8 +69,8 @@ pub fn turns_are_those_of_the_world<X>()
         → HasTurn w.followed (log_of w.past) t (move.Read v) }
 {}
 
-/// What the guide answers is what the world tells: where the thread asks for a clock or a draw next, the recorded value; and
-/// where nothing is recorded, a free one.
+/// What the guide answers is what the world tells: where the thread asks for a clock or a draw next, the recorded
+/// value; and where nothing is recorded, a free one.
 pub fn answers_are_those_of_the_world<X>()
     ensures clock { (s : Setting X) (w : World X) (guide : List Lane) (t a : ℕ) (h : Hand)
         (given : Option ℕ) (clock : ℕ) → Sound s w → Guides w.followed (log_of w.past) guide
@@ -96,8 +97,8 @@ pub fn answers_are_those_of_the_world<X>()
         → TellsDraw w.followed (log_of w.past) t given words drawn a now }
 {}
 
-/// The entries of an order, or of some names in its order, stand by weight, then thread, in the log that they are of. The names
-/// of all followed entries name exactly these.
+/// The entries of an order, or of some names in its order, stand by weight, then thread, in the log that they are of.
+/// The names of all followed entries name exactly these.
 pub fn orders_are_by_weight()
     ensures by_weight { (log stored : List Entry) (guide : List Lane) (names : List (ℕ × ℕ))
         → IsLog log → ((e : Entry) → IsIn e log → e.thread < 16) → HoldsOf log stored guide

@@ -1,5 +1,6 @@
-//! What a new master follows after a crash: the log entries that were held, each as it is recorded. The guide tells whose turn it is at
-//! a variable, what a clock or a draw was told, how many entries are left, and in which order they can all be made.
+//! What a new master follows after a crash: the log entries that were held, each as it is recorded. The guide tells
+//! whose turn it is at a variable, what a clock or a draw was told, how many entries are left, and in which order they
+//! can all be made.
 #![tactic(auto)]
 
 mod guide;

@@ -1,5 +1,6 @@
 -- What a call answered of a move is what its receipt shows at its place in the woven order.
-use Rattle.std.proofs.Common.{◌≡◌, ℕ, ◌+◌, ◌-◌, ◌⊎◌, inl, inr, List, [], ◌∷◌, refl, sym, ap, ◌∙◌, subst, Option, Some, None, arith}
+use Rattle.std.proofs.Common.{◌≡◌, ℕ, ◌+◌, ◌-◌, ◌⊎◌, inl, inr, List, [], ◌∷◌, refl, sym, ap, ◌∙◌, subst, Option, Some}
+use Rattle.std.proofs.Common.{None, arith}
 use Rattle.std.specs.Prelude.{slice_get, slice_index}
 use Rattle.plain_text.specs.declared.packet.Packet.{Packet}
 use Rattle.entry_order.specs.declared.what.What.{What}
@@ -23,7 +24,8 @@ use Rattle.master_core.specs.Effects.{TouchesParts, ReadsParts, next_entry, next
 use Rattle.round_order.specs.Receipts.{Receipt}
 use Rattle.round_order.specs.PartMoves as moves
 use Rattle.var_locks.specs.declared.view.Note.{Note}
-use Rattle.var_locks.specs.Notes.{IsOwn, IsOwnBy, IsOwnEntry, IsOnVariable, packet_in, place_or, entry_receipt, receipt_by, read_note}
+use Rattle.var_locks.specs.Notes.{IsOwn, IsOwnBy, IsOwnEntry, IsOnVariable, packet_in, place_or, entry_receipt}
+use Rattle.var_locks.specs.Notes.{receipt_by, read_note}
 use Rattle.var_locks.specs.Plain.{IsSent}
 use Rattle.round_events.specs.Done.{IsDone}
 use Rattle.round_events.specs.Shown.{IsShown}
@@ -36,35 +38,52 @@ module _ {V : Type 0} (m : Meaning V) (t : ℕ) (n : Note V) (hand : Option Hand
   abbrev r : Receipt V
   r = read_note m t hand n
 
-  -- what holds of the receipt there: each entry that it has has its stamp, and what is sent out has that of the thread; and the packet in
-  -- hand is the one that was passed
+  -- what holds of the receipt there: each entry that it has has its stamp, and what is sent out has that of the thread;
+  -- and the packet in hand is the one that was passed
   pub record IsThere : Type 0 where
-    pub stamped : (e : Entry) (left : Option V) → (read_note m t hand n).step.act ≡ Did e left → IsStamp (log_of ((read_note m t hand n).step ∷ past)) e (λ u. slice_index (read_note m t hand n).stamp u)
+    pub stamped : (e : Entry) (left : Option V) → (read_note m t hand n).step.act ≡ Did e left
+        → IsStamp (log_of ((read_note m t hand n).step ∷ past)) e (λ u. slice_index (read_note m t hand n).stamp u)
     pub next : IsOutputStamp (log_of past) t (entries t (log_of past)) (λ u. slice_index n.before.stamp u)
     pub packet : (p : Packet) (place : Local) → n.packet ≡ Some p → n.before.hand ≡ Some place → packet_in hand ≡ p
 
   -- an entry, by the receipt
-  did : IsThere → (e : StampedEntry) (w : What) (left : Option V) → (read_note m t hand n).step.act ≡ Did (plain_entry (next_entry t n.before w e.stamp)) left → (read_note m t hand n).stamp ≡ e.stamp → e ≡ next_entry t n.before w e.stamp → DidEntry past e (read_note m t hand n).step
+  did : IsThere → (e : StampedEntry) (w : What) (left : Option V)
+      → (read_note m t hand n).step.act ≡ Did (plain_entry (next_entry t n.before w e.stamp)) left
+      → (read_note m t hand n).stamp ≡ e.stamp → e ≡ next_entry t n.before w e.stamp
+      → DidEntry past e (read_note m t hand n).step
   did there e w left act stamp is =
-      let mine : (read_note m t hand n).step.act ≡ Did (plain_entry e) left = act ∙ ap (λ (f : StampedEntry). Did (plain_entry f) left) (sym is) in
-      ((left, mine), subst (λ (l : List ℕ). IsStamp (log_of ((read_note m t hand n).step ∷ past)) (plain_entry e) (λ u. slice_index l u)) stamp (there.stamped (plain_entry e) left mine))
+      let mine : (read_note m t hand n).step.act ≡ Did (plain_entry e) left =
+      act ∙ ap (λ (f : StampedEntry). Did (plain_entry f) left) (sym is) in (
+        (left, mine),
+        subst (λ (l : List ℕ).
+            IsStamp (log_of ((read_note m t hand n).step ∷ past)) (plain_entry e) (λ u. slice_index l u)) stamp
+            (there.stamped (plain_entry e) left mine),
+      )
 
-  on_did : IsThere → (v : ℕ) (x y : VarPart V) (place : Local) (e : StampedEntry) → IsOnVariable m t v n x y place e → DidEntry past e (read_note m t hand n).step
+  on_did : IsThere → (v : ℕ) (x y : VarPart V) (place : Local) (e : StampedEntry) → IsOnVariable m t v n x y place e
+      → DidEntry past e (read_note m t hand n).step
   on_did there v x y place e is = go is.does
     where
-      go : ((m.next place ≡ move.Access v) × TouchesParts m t v place n.before x e n.after y) ⊎ ((m.next place ≡ move.Read v) × ReadsParts m t v place n.before x e n.after y) → DidEntry past e (read_note m t hand n).step
+      go : ((m.next place ≡ move.Access v) × TouchesParts m t v place n.before x e n.after y)
+          ⊎ ((m.next place ≡ move.Read v) × ReadsParts m t v place n.before x e n.after y)
+          → DidEntry past e (read_note m t hand n).step
       go (inl (next, does)) =
           let same = touch_read m [] t n hand v x y place e is does in
-          did there e (what.Access v (x.places + 1)) (Some (m.touch v x.value place).0) (ap (λ (q : Receipt V). q.step.act) same) (ap (λ (q : Receipt V). q.stamp) same) does.logs.entry
+          did there e (what.Access v (x.places + 1)) (Some (m.touch v x.value place).0)
+          (ap (λ (q : Receipt V). q.step.act) same) (ap (λ (q : Receipt V). q.stamp) same) does.logs.entry
       go (inr (next, does)) =
           let same = look_read m [] t n hand v x y place e is does in
-          did there e (what.Read v x.places) None (ap (λ (q : Receipt V). q.step.act) same) (ap (λ (q : Receipt V). q.stamp) same) does.logs.entry
+          did there e (what.Read v x.places) None (ap (λ (q : Receipt V). q.step.act) same)
+          (ap (λ (q : Receipt V). q.stamp) same) does.logs.entry
 
-  heard : IsThere → (e : StampedEntry) (w : What) → read_note m t hand n ≡ entry_receipt m t (packet_in hand) n e w → IsOwnEntry m t n e w → DidEntry past e (read_note m t hand n).step
+  heard : IsThere → (e : StampedEntry) (w : What) → read_note m t hand n ≡ entry_receipt m t (packet_in hand) n e w
+      → IsOwnEntry m t n e w → DidEntry past e (read_note m t hand n).step
   heard there e (what.Access v s) same is = absurd is
   heard there e (what.Read v s) same is = absurd is
-  heard there e (what.Clock a) same (place, next, is) = did there e (what.Clock a) None (ap (λ (q : Receipt V). q.step.act) same) (ap (λ (q : Receipt V). q.stamp) same) is.hears.entry
-  heard there e (what.Draw a) same (place, next, is) = did there e (what.Draw a) None (ap (λ (q : Receipt V). q.step.act) same) (ap (λ (q : Receipt V). q.stamp) same) is.hears.entry
+  heard there e (what.Clock a) same (place, next, is) = did there e (what.Clock a) None
+      (ap (λ (q : Receipt V). q.step.act) same) (ap (λ (q : Receipt V). q.stamp) same) is.hears.entry
+  heard there e (what.Draw a) same (place, next, is) = did there e (what.Draw a) None
+      (ap (λ (q : Receipt V). q.step.act) same) (ap (λ (q : Receipt V). q.stamp) same) is.hears.entry
 
   by_trace : (tr : Trace) → n.trace ≡ tr → read_note m t hand n ≡ receipt_by m t (packet_in hand) n tr
   by_trace tr is = ap (λ (z : Trace). receipt_by m t (packet_in hand) n z) is
@@ -81,10 +100,16 @@ module _ {V : Type 0} (m : Meaning V) (t : ℕ) (n : Note V) (hand : Option Hand
       let pk : packet_in hand ≡ packet = there.packet packet place passed hand_is in
       let at : place_or n.before.hand ≡ place = ap place_or hand_is in (
         ap (λ (q : Receipt V). q.step.act) (by_trace (trace.Emitted o.number) is)
-            ∙ (ap (λ (p : Packet). let a : Act V = Emitted (emission_of_output (next_output t n.before p (m.out p (place_or n.before.hand)))) in a) pk
-            ∙ (ap (λ (l : Local). let a : Act V = Emitted (emission_of_output (next_output t n.before packet (m.out packet l))) in a) at
+            ∙ (ap (λ (p : Packet).
+            let a : Act V =
+            Emitted (emission_of_output (next_output t n.before p (m.out p (place_or n.before.hand)))) in
+            a) pk
+            ∙ (ap (λ (l : Local).
+            let a : Act V = Emitted (emission_of_output (next_output t n.before packet (m.out packet l))) in a) at
             ∙ ap (λ (q : Output). let a : Act V = Emitted (emission_of_output q) in a) (sym out))),
-        subst (λ (q : Output). IsOutputStamp (log_of past) q.thread (entries q.thread (log_of past)) (λ u. slice_index q.stamp u)) (sym out) there.next,
+        subst (λ (q : Output).
+            IsOutputStamp (log_of past) q.thread (entries q.thread (log_of past)) (λ u. slice_index q.stamp u))
+            (sym out) there.next,
       )
   own_shows there (stepped.Ended k) own is =
       let own_k = subst (λ (z : Trace). IsOwnBy m t n z) is own in
@@ -93,11 +118,17 @@ module _ {V : Type 0} (m : Meaning V) (t : ℕ) (n : Note V) (hand : Option Hand
   own_shows there (stepped.NotTurn u k) own is = absurd is
   own_shows there stepped.NoMemory own is = absurd is
 
-  on_shows : IsThere → (st : Stepped) → (v : ℕ) (x y : VarPart V) (place : Local) (e : StampedEntry) → IsOnVariable m t v n x y place e → IsShown m t n st → Shows past st (read_note m t hand n).step
-  on_shows there (stepped.Took k) v x y place e on is = absurd (let q : trace.Did e ≡ trace.Took k = sym on.trace ∙ is in cc)
-  on_shows there (stepped.Did f) v x y place e on is = subst (λ (z : StampedEntry). DidEntry past z (read_note m t hand n).step) (did_only e f (sym on.trace ∙ is)) (on_did there v x y place e on)
-  on_shows there (stepped.Emitted o) v x y place e on (is, rest) = absurd (let q : trace.Did e ≡ trace.Emitted o.number = sym on.trace ∙ is in cc)
-  on_shows there (stepped.Ended k) v x y place e on is = absurd (let q : trace.Did e ≡ trace.Ended k = sym on.trace ∙ is in cc)
+  on_shows : IsThere → (st : Stepped) → (v : ℕ) (x y : VarPart V) (place : Local) (e : StampedEntry)
+      → IsOnVariable m t v n x y place e → IsShown m t n st → Shows past st (read_note m t hand n).step
+  on_shows there (stepped.Took k) v x y place e on is =
+      absurd (let q : trace.Did e ≡ trace.Took k = sym on.trace ∙ is in cc)
+  on_shows there (stepped.Did f) v x y place e on is =
+      subst (λ (z : StampedEntry). DidEntry past z (read_note m t hand n).step) (did_only e f (sym on.trace ∙ is))
+      (on_did there v x y place e on)
+  on_shows there (stepped.Emitted o) v x y place e on (is, rest) =
+      absurd (let q : trace.Did e ≡ trace.Emitted o.number = sym on.trace ∙ is in cc)
+  on_shows there (stepped.Ended k) v x y place e on is =
+      absurd (let q : trace.Did e ≡ trace.Ended k = sym on.trace ∙ is in cc)
   on_shows there stepped.Idle v x y place e on is = absurd is
   on_shows there (stepped.NotTurn u k) v x y place e on is = absurd is
   on_shows there stepped.NoMemory v x y place e on is = absurd is

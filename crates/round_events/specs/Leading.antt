@@ -25,16 +25,21 @@ bytes_in (r ∷ earlier) = bytes_in earlier + bytes_sent r.step.act
 
 -- the world after them
 abbrev pub world_after : {V : Type 0} → World V → List (Receipt V) → World V
-world_after w order = record w { past = after order w.past; moves = w.moves + length order; bytes = w.bytes + bytes_in order }
+world_after w order =
+    record w { past = after order w.past; moves = w.moves + length order; bytes = w.bytes + bytes_in order }
 
 -- The receipts, newest first, are what the events of their threads with their answers make, one after another.
 abbrev pub AreMade : {V : Type 0} → Setting V → World V → List (Receipt V) → Type 0
 AreMade s w [] = Unit {0}
-AreMade s w (r ∷ earlier) = CanMake s (world_after w earlier) r.step.thread r.answer r.step × Sound s (world_after w earlier) × AreMade s w earlier
+AreMade s w (r ∷ earlier) =
+    CanMake s (world_after w earlier) r.step.thread r.answer r.step
+    × Sound s (world_after w earlier)
+    × AreMade s w earlier
 
--- In a sound world, linked receipts that keep to what is followed are, in each order in which the logged ones rise in weight, what their
--- events make; and the world after them is sound.
+-- In a sound world, linked receipts that keep to what is followed are, in each order in which the logged ones rise in
+-- weight, what their events make; and the world after them is sound.
 abbrev pub ReceiptsAreEvents : Type 0 → Type 0
-ReceiptsAreEvents X = (s : Setting X) (w : World X) (guide : List Lane) (rs : Receipts X) (order : List (Receipt X))
-    → s.threads ≤ 16 → Sound s w → Guides w.followed (log_of w.past) guide → IsLinked s.meaning (inputs_fed s w.fed) s.threads w.past rs → IsOrder rs order → AllKeep guide order
-    → AreMade s w order × Sound s (world_after w order)
+ReceiptsAreEvents X =
+    (s : Setting X) (w : World X) (guide : List Lane) (rs : Receipts X) (order : List (Receipt X)) → s.threads ≤ 16
+    → Sound s w → Guides w.followed (log_of w.past) guide → IsLinked s.meaning (inputs_fed s w.fed) s.threads w.past rs
+    → IsOrder rs order → AllKeep guide order → AreMade s w order × Sound s (world_after w order)

@@ -30,8 +30,12 @@ pub record IsMadeAt {V : Type 0} (s : Setting V) (w : World V) (m : Made) (step 
 -- each is made in the world after the earlier ones, and the last leads to this world
 abbrev pub Pending : {V : Type 0} → Setting V → World V → List Made → World V → Type 0
 Pending s w [] new = new ≡ w
-Pending {V} s w (m ∷ earlier) new = (mid : World V) × (step : Step V) × IsMadeAt s mid m step × (new ≡ after_made mid step) × Pending s w earlier mid
+Pending {V} s w (m ∷ earlier) new =
+    (mid : World V) × (step : Step V) × IsMadeAt s mid m step × (new ≡ after_made mid step) × Pending s w earlier mid
 
 -- The rest stands for the world after them, and the events that they are lead there.
-abbrev pub NotesAll : {P V : Type 0} → Meaning V → Setting V → World V → List Made → World V → Parts P V → Parts P V → Type 0
-NotesAll m s w moves new old after = RestsFor m s w old → w.up ≡ true → Pending s w moves new → RestsFor m s new after × ((lines : List ℕ) × Performs s w (events_made moves) lines new)
+abbrev pub NotesAll : {P V : Type 0} → Meaning V → Setting V → World V → List Made → World V → Parts P V
+    → Parts P V → Type 0
+NotesAll m s w moves new old after =
+    RestsFor m s w old → w.up ≡ true → Pending s w moves new
+    → RestsFor m s new after × ((lines : List ℕ) × Performs s w (events_made moves) lines new)

@@ -34,11 +34,21 @@ adding v = record {
 -- The receipts of a thread that takes its packet, touches a variable and sends the packet out
 
 took : Packet → ℕ → Receipt ℕ
-took p t = record { step = record { thread = t; act = Took 1; after = holding 1 p (place 0) }; answer = None; found = 0; place = 0; stamp = [] }
+took p t = record {
+  step = record { thread = t; act = Took 1; after = holding 1 p (place 0) };
+  answer = None;
+  found = 0;
+  place = 0;
+  stamp = [];
+}
 
 touched : Packet → ℕ → ℕ → ℕ → List ℕ → Receipt ℕ
 touched p t v n stamp = record {
-  step = record { thread = t; act = Did (record { thread = t; number = 1; what = what.Access v (n + 1) }) (Some (n + 1)); after = holding 1 p (place 1) };
+  step = record {
+    thread = t;
+    act = Did (record { thread = t; number = 1; what = what.Access v (n + 1) }) (Some (n + 1));
+    after = holding 1 p (place 1);
+  };
   answer = None;
   found = n;
   place = n;
@@ -46,7 +56,17 @@ touched p t v n stamp = record {
 }
 
 sent : Packet → ℕ → Receipt ℕ
-sent p t = record { step = record { thread = t; act = Emitted (record { thread = t; number = 1; input = 1; packet = p }); after = holding 1 p (place 2) }; answer = None; found = 0; place = 0; stamp = [] }
+sent p t = record {
+  step = record {
+    thread = t;
+    act = Emitted (record { thread = t; number = 1; input = 1; packet = p });
+    after = holding 1 p (place 2);
+  };
+  answer = None;
+  found = 0;
+  place = 0;
+  stamp = [];
+}
 
 took_unlogged : (p : Packet) (t : ℕ) → IsUnlogged (took p t)
 unfolding took
@@ -75,7 +95,8 @@ one_by_one p = sent p 1 ∷ first p ∷ took p 1 ∷ second p ∷ took p 0 ∷ [
 did : Packet → Receipts ℕ
 did p t = own t (counted p)
 
-touched_logged : (p : Packet) (t v n : ℕ) (stamp : List ℕ) → IsLogged (touched p t v n stamp) (record { thread = t; number = 1; what = what.Access v (n + 1) })
+touched_logged : (p : Packet) (t v n : ℕ) (stamp : List ℕ)
+    → IsLogged (touched p t v n stamp) (record { thread = t; number = 1; what = what.Access v (n + 1) })
 unfolding touched
 touched_logged p t v n stamp = (Some (n + 1), refl)
 
@@ -83,28 +104,37 @@ touched_logged p t v n stamp = (Some (n + 1), refl)
 not_took : (p : Packet) (t : ℕ) (x : Receipt ℕ) (d : Entry) → took p t ≡ x → IsLogged x d → ⊥
 not_took p t x d same l = took_unlogged p t d (subst (λ (z : Receipt ℕ). IsLogged z d) (sym same) l)
 
--- Two takes, each followed by the touch of its thread, stand so in the woven list where the first touch goes before the second.
-in_turn : (p : Packet) (t u v w k n : ℕ) (older newer : List ℕ) → GoesBefore (touched p t v k older) (touched p u w n newer)
+-- Two takes, each followed by the touch of its thread, stand so in the woven list where the first touch goes before the
+-- second.
+in_turn : (p : Packet) (t u v w k n : ℕ) (older newer : List ℕ)
+    → GoesBefore (touched p t v k older) (touched p u w n newer)
     → IsByWeight (touched p u w n newer ∷ took p u ∷ touched p t v k older ∷ took p t ∷ [])
 in_turn p t u v w k n older newer before = (
   (λ e d x re a xd. newest x d a xd),
-  ((λ e d x re a xd. absurd (took_unlogged p u e re)), ((λ e d x re a xd. oldest x d a xd), ((λ e d x re a xd. absurd a), tt))),
+  (
+    (λ e d x re a xd. absurd (took_unlogged p u e re)),
+    ((λ e d x re a xd. oldest x d a xd), ((λ e d x re a xd. absurd a), tt)),
+  ),
 )
   where
     oldest : (x : Receipt ℕ) (d : Entry) → Among x (took p t ∷ []) → IsLogged x d → GoesBefore x (touched p t v k older)
     oldest x d (inl same) xd = absurd (not_took p t x d same xd)
     oldest x d (inr none) xd = absurd none
 
-    newest : (x : Receipt ℕ) (d : Entry) → Among x (took p u ∷ touched p t v k older ∷ took p t ∷ []) → IsLogged x d → GoesBefore x (touched p u w n newer)
+    newest : (x : Receipt ℕ) (d : Entry) → Among x (took p u ∷ touched p t v k older ∷ took p t ∷ []) → IsLogged x d
+        → GoesBefore x (touched p u w n newer)
     newest x d (inl same) xd = absurd (not_took p u x d same xd)
     newest x d (inr (inl same)) xd = subst (λ (z : Receipt ℕ). GoesBefore z (touched p u w n newer)) same before
     newest x d (inr (inr (inl same))) xd = absurd (not_took p t x d same xd)
     newest x d (inr (inr (inr none))) xd = absurd none
 
-in_groups : (p : Packet) (t u v w k n : ℕ) (older newer : List ℕ) → IsLedUp (touched p u w n newer ∷ took p u ∷ touched p t v k older ∷ took p t ∷ [])
+in_groups : (p : Packet) (t u v w k n : ℕ) (older newer : List ℕ)
+    → IsLedUp (touched p u w n newer ∷ took p u ∷ touched p t v k older ∷ took p t ∷ [])
 unfolding took touched
-in_groups p t u v w k n older newer =
-    ((_, touched_logged p u w n newer), (inr (took_unlogged p u, refl), (inl (_, touched_logged p t v k older), (inr (took_unlogged p t, refl), tt))))
+in_groups p t u v w k n older newer = (
+  (_, touched_logged p u w n newer),
+  (inr (took_unlogged p u, refl), (inl (_, touched_logged p t v k older), (inr (took_unlogged p t, refl), tt))),
+)
 
 lighter_first : (p : Packet) → GoesBefore (touched p 1 0 0 (0 ∷ 1 ∷ [])) (touched p 0 0 1 (1 ∷ 1 ∷ []))
 unfolding touched
@@ -120,7 +150,10 @@ counted_is_woven : (p : Packet) → IsWoven (did p) (counted p)
 unfolding did counted first second
 counted_is_woven p = record {
   each = λ t. refl;
-  by_weight = ((λ e d x re a xd. absurd (sent_unlogged p 1 e re)), in_turn p 1 0 0 0 0 1 (0 ∷ 1 ∷ []) (1 ∷ 1 ∷ []) (lighter_first p));
+  by_weight = (
+    (λ e d x re a xd. absurd (sent_unlogged p 1 e re)),
+    in_turn p 1 0 0 0 0 1 (0 ∷ 1 ∷ []) (1 ∷ 1 ∷ []) (lighter_first p),
+  );
   left = sent p 1 ∷ [];
   led = second p ∷ took p 0 ∷ first p ∷ took p 1 ∷ [];
   parts = refl;
@@ -136,7 +169,8 @@ counted_is_legal p = refl
 -- One thread after the other is another order, and not the woven one.
 one_by_one_is_not : (p : Packet) → IsWoven (did p) (one_by_one p) → ⊥
 unfolding one_by_one first second
-one_by_one_is_not p w = heavier_first p (w.by_weight.1.0 _ _ (second p) (touched_logged p 1 0 0 (0 ∷ 1 ∷ [])) (inr (inl refl)) (touched_logged p 0 0 1 (1 ∷ 1 ∷ [])))
+one_by_one_is_not p w = heavier_first p (w.by_weight.1.0 _ _ (second p) (touched_logged p 1 0 0 (0 ∷ 1 ∷ []))
+    (inr (inl refl)) (touched_logged p 0 0 1 (1 ∷ 1 ∷ [])))
 
 -- Each thread touches a variable of its own: of two touches of one weight, that of the lesser thread stands first.
 

@@ -21,26 +21,33 @@ use Rattle.round_order.proofs.SeatLemmas.{number, one_or_none, seat_stays, seat_
 use Rattle.round_order.proofs.TouchLemmas.{done_linked, home_done, home_other}
 use Rattle.round_order.proofs.ReadLemmas.{read_linked, home_read}
 
-module _ {V : Type 0} (m : Meaning V) (inputs : ℕ → List Packet) (threads : ℕ) (past : List (Step V)) (rs : Receipts V) (part : ThreadPart) (r : Receipt V)
-    (round : IsRound m inputs threads past rs) (next : IsNextOf m inputs threads past rs part r) where
+module _ {V : Type 0} (m : Meaning V) (inputs : ℕ → List Packet) (threads : ℕ) (past : List (Step V)) (rs : Receipts V)
+    (part : ThreadPart) (r : Receipt V) (round : IsRound m inputs threads past rs)
+    (next : IsNextOf m inputs threads past rs part r) where
   top : slice_index part.stamp r.step.thread ≡ count past rs r.step.thread
-  top = own_top m inputs threads past round.opening rs round.linked round.within r.step.thread (λ u. slice_index part.stamp u) next.seat.stamp
+  top = own_top m inputs threads past round.opening rs round.linked round.within r.step.thread
+      (λ u. slice_index part.stamp u) next.seat.stamp
 
   -- no entry of the round comes after it in its thread
-  last_of_thread : (q : Receipt V) (d e : Entry) → IsLogged r d → InRound rs q → IsLogged q e → d.thread ≡ e.thread → e.number ≡ d.number + 1 → ⊥
+  last_of_thread : (q : Receipt V) (d e : Entry) → IsLogged r d → InRound rs q → IsLogged q e → d.thread ≡ e.thread
+      → e.number ≡ d.number + 1 → ⊥
   last_of_thread q d e ld here le same more =
       let k = number m inputs threads past rs part r next d ld in
       let at = legal_at m inputs threads past round.opening rs round.linked q here in
-      let a : e.thread ≡ q.step.thread = (at_entry q.step.thread q.step.after.taken q.place at.0 at.1.0 e le.0 (sym at.1.2 ∙ le.1)).0 in
+      let a : e.thread ≡ q.step.thread =
+      (at_entry q.step.thread q.step.after.taken q.place at.0 at.1.0 e le.0 (sym at.1.2 ∙ le.1)).0 in
       let of_t : q.step.thread ≡ r.step.thread = sym a ∙ (sym same ∙ k.0) in
-      let n : e.number ≤ entries q.step.thread (log_of (after (rs q.step.thread) past)) = own_number m inputs past q.step.thread (rs q.step.thread) q e (round.linked.alone q.step.thread) here le in
-      let c : entries q.step.thread (log_of (after (rs q.step.thread) past)) ≡ count past rs r.step.thread = ap (λ (u : ℕ). count past rs u) of_t in
+      let n : e.number ≤ entries q.step.thread (log_of (after (rs q.step.thread) past)) =
+      own_number m inputs past q.step.thread (rs q.step.thread) q e (round.linked.alone q.step.thread) here le in
+      let c : entries q.step.thread (log_of (after (rs q.step.thread) past)) ≡ count past rs r.step.thread =
+      ap (λ (u : ℕ). count past rs u) of_t in
       omega (arith, k.1, more)
 
   -- A move on no variable
   module _ (one : IsPrivate part r) where
     no_access : (e : Entry) (v s : ℕ) → IsLogged r e → e.what ≢ Access v s
-    no_access e v s l w = let k = touch_of m inputs (after (rs r.step.thread) past) r e v s next.alone l w in one.no_touch v k.0 k.1
+    no_access e v s l w =
+        let k = touch_of m inputs (after (rs r.step.thread) past) r e v s next.alone l w in one.no_touch v k.0 k.1
 
     no_look : (e : Entry) (v s : ℕ) → IsLogged r e → e.what ≢ Read v s
     no_look e v s l w = one.no_read v (read_of m inputs (after (rs r.step.thread) past) r e v s next.alone l w).0
@@ -52,20 +59,26 @@ module _ {V : Type 0} (m : Meaning V) (inputs : ℕ → List Packet) (threads : 
     last q d e ld here le (inr (inr (inr (v, s, a, b)))) = no_look d v s ld a
 
     join : (e : Entry) → IsLogged r e → HasJoin past rs r e
-    join e l = hear_join m inputs threads past round.opening rs round.linked round.within r.step.thread (λ u. slice_index part.stamp u) next.seat.stamp top r e (number m inputs threads past rs part r next e l).0 (number m inputs threads past rs part r next e l).1
-        (λ v s. no_access e v s l) (λ v s. no_look e v s l) (one.stamp e l)
+    join e l = hear_join m inputs threads past round.opening rs round.linked round.within r.step.thread
+        (λ u. slice_index part.stamp u) next.seat.stamp top r e (number m inputs threads past rs part r next e l).0
+        (number m inputs threads past rs part r next e l).1 (λ v s. no_access e v s l) (λ v s. no_look e v s l)
+        (one.stamp e l)
 
     pub private_moves : IsKept m inputs threads past rs part r (λ w. Unit {0})
     private_moves = record {
       round = record {
         opening = round.opening;
-        linked = linked_more m inputs threads past rs round.linked r next.below next.alone (λ v left a. absurd (one.no_touch v left a)) (λ v a. absurd (one.no_read v a)) (λ g v x y a here b at. one.no_touch v x a) last join;
-        within = within_more m inputs threads past round.opening rs round.linked round.within r next.alone join one.none (one_or_none r);
+        linked = linked_more m inputs threads past rs round.linked r next.below next.alone
+            (λ v left a. absurd (one.no_touch v left a)) (λ v a. absurd (one.no_read v a))
+            (λ g v x y a here b at. one.no_touch v x a) last join;
+        within = within_more m inputs threads past round.opening rs round.linked round.within r next.alone join one.none
+            (one_or_none r);
       };
       seat = seat_grows m inputs threads past rs part r round next;
       held = held_grows m inputs threads past rs part r round next;
       seats = seat_stays m inputs threads past rs part r round next;
-      homes = λ w z other home. home_other m inputs threads past round.opening rs round.linked r w z next.alone (one.no_touch w) (one.no_read w) home;
+      homes = λ w z other home. home_other m inputs threads past round.opening rs round.linked r w z next.alone
+          (one.no_touch w) (one.no_read w) home;
     }
 
   -- A touch
@@ -74,9 +87,12 @@ module _ {V : Type 0} (m : Meaning V) (inputs : ℕ → List Packet) (threads : 
     touched = touch_logged r v y.value t.touch
 
     touch_joins : HasJoin past rs r t.touch.0
-    touch_joins = touch_join m inputs threads past round.opening rs round.linked round.within r.step.thread (λ u. slice_index part.stamp u) next.seat.stamp top r t.touch.0
-        (number m inputs threads past rs part r next t.touch.0 touched).0 (number m inputs threads past rs part r next t.touch.0 touched).1 v x.places (λ u. slice_index x.stamp u) (λ u. slice_index x.readers u)
-        (t.touch.2 ∙ ap (λ (n : ℕ). Access v (n + 1)) t.place) home.stamp home.readers t.stamp
+    touch_joins = touch_join m inputs threads past round.opening rs round.linked round.within r.step.thread
+        (λ u. slice_index part.stamp u) next.seat.stamp top r t.touch.0
+        (number m inputs threads past rs part r next t.touch.0 touched).0
+        (number m inputs threads past rs part r next t.touch.0 touched).1 v x.places (λ u. slice_index x.stamp u)
+        (λ u. slice_index x.readers u) (t.touch.2 ∙ ap (λ (n : ℕ). Access v (n + 1)) t.place) home.stamp
+        home.readers t.stamp
 
     no_read_of : (w : ℕ) → IsRead r w → ⊥
     no_read_of w a = let k : Did a.0 None ≡ Did t.touch.0 (Some y.value) = sym a.1 ∙ t.touch.1 in cc
@@ -84,23 +100,29 @@ module _ {V : Type 0} (m : Meaning V) (inputs : ℕ → List Packet) (threads : 
     of_v : (w : ℕ) (z : V) → IsTouch r w z → w ≡ v
     of_v w z a =
         let e : a.0 ≡ t.touch.0 = logged_once r a.0 t.touch.0 (touch_logged r w z a) touched in
-        let k : Access w (r.place + 1) ≡ Access v (r.place + 1) = sym a.2 ∙ (ap (λ (f : Entry). f.what) e ∙ t.touch.2) in cc
+        let k : Access w (r.place + 1) ≡ Access v (r.place + 1) =
+        sym a.2 ∙ (ap (λ (f : Entry). f.what) e ∙ t.touch.2) in
+        cc
 
     pub touch_moves : IsKept m inputs threads past rs part r (λ w. w ≢ v) × IsHome m past (with_one rs r) v y
     touch_moves = (
       record {
         round = record {
           opening = round.opening;
-          linked = done_linked m inputs threads past round.opening rs round.linked r v y.value x home t.touch t.found t.place next.below next.alone touch_joins;
+          linked = done_linked m inputs threads past round.opening rs round.linked r v y.value x home t.touch t.found
+              t.place next.below next.alone touch_joins;
           within = within_more m inputs threads past round.opening rs round.linked round.within r next.alone
-              (λ e l. subst (λ (d : Entry). HasJoin past rs r d) (logged_once r t.touch.0 e touched l) touch_joins) (λ none u. absurd (none t.touch.0 touched)) (inl (t.touch.0, touched));
+              (λ e l. subst (λ (d : Entry). HasJoin past rs r d) (logged_once r t.touch.0 e touched l) touch_joins)
+              (λ none u. absurd (none t.touch.0 touched)) (inl (t.touch.0, touched));
         };
         seat = seat_grows m inputs threads past rs part r round next;
         held = held_grows m inputs threads past rs part r round next;
         seats = seat_stays m inputs threads past rs part r round next;
-        homes = λ w z apart old. home_other m inputs threads past round.opening rs round.linked r w z next.alone (λ left a. apart (of_v w left a)) (no_read_of w) old;
+        homes = λ w z apart old. home_other m inputs threads past round.opening rs round.linked r w z next.alone
+            (λ left a. apart (of_v w left a)) (no_read_of w) old;
       },
-      subst (λ (z : VarPart V). IsHome m past (with_one rs r) v z) (sym t.left) (home_done m inputs threads past round.opening rs round.linked r v y.value x home t.touch t.found t.place next.below next.alone),
+      subst (λ (z : VarPart V). IsHome m past (with_one rs r) v z) (sym t.left) (home_done m inputs threads past
+          round.opening rs round.linked r v y.value x home t.touch t.found t.place next.below next.alone),
     )
 
   -- A read
@@ -109,8 +131,10 @@ module _ {V : Type 0} (m : Meaning V) (inputs : ℕ → List Packet) (threads : 
     looked = read_logged r v t.read
 
     read_joins : HasJoin past rs r t.read.0
-    read_joins = read_join m inputs threads past round.opening rs round.linked round.within r.step.thread (λ u. slice_index part.stamp u) next.seat.stamp top r t.read.0
-        (number m inputs threads past rs part r next t.read.0 looked).0 (number m inputs threads past rs part r next t.read.0 looked).1 v x.places (λ u. slice_index x.stamp u)
+    read_joins = read_join m inputs threads past round.opening rs round.linked round.within r.step.thread
+        (λ u. slice_index part.stamp u) next.seat.stamp top r t.read.0
+        (number m inputs threads past rs part r next t.read.0 looked).0
+        (number m inputs threads past rs part r next t.read.0 looked).1 v x.places (λ u. slice_index x.stamp u)
         (t.read.2 ∙ ap (λ (n : ℕ). Read v n) t.place) home.stamp t.stamp
 
     no_touch_of : (w : ℕ) (z : V) → IsTouch r w z → ⊥
@@ -126,14 +150,18 @@ module _ {V : Type 0} (m : Meaning V) (inputs : ℕ → List Packet) (threads : 
       record {
         round = record {
           opening = round.opening;
-          linked = read_linked m inputs threads past rs round.linked r v x home t.read t.found t.place next.below next.alone read_joins;
+          linked = read_linked m inputs threads past rs round.linked r v x home t.read t.found t.place next.below
+              next.alone read_joins;
           within = within_more m inputs threads past round.opening rs round.linked round.within r next.alone
-              (λ e l. subst (λ (d : Entry). HasJoin past rs r d) (logged_once r t.read.0 e looked l) read_joins) (λ none u. absurd (none t.read.0 looked)) (inl (t.read.0, looked));
+              (λ e l. subst (λ (d : Entry). HasJoin past rs r d) (logged_once r t.read.0 e looked l) read_joins)
+              (λ none u. absurd (none t.read.0 looked)) (inl (t.read.0, looked));
         };
         seat = seat_grows m inputs threads past rs part r round next;
         held = held_grows m inputs threads past rs part r round next;
         seats = seat_stays m inputs threads past rs part r round next;
-        homes = λ w z apart old. home_other m inputs threads past round.opening rs round.linked r w z next.alone (no_touch_of w) (λ a. apart (reads_v w a)) old;
+        homes = λ w z apart old. home_other m inputs threads past round.opening rs round.linked r w z next.alone
+            (no_touch_of w) (λ a. apart (reads_v w a)) old;
       },
-      subst (λ (z : VarPart V). IsHome m past (with_one rs r) v z) (sym t.left) (home_read m inputs threads past rs round.linked r v x home t.read t.found t.place next.below next.alone y.readers t.readers),
+      subst (λ (z : VarPart V). IsHome m past (with_one rs r) v z) (sym t.left) (home_read m inputs threads past rs
+          round.linked r v x home t.read t.found t.place next.below next.alone y.readers t.readers),
     )

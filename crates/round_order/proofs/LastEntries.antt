@@ -1,5 +1,6 @@
 -- The last entry of a thread so far, and what a thread has of its stamp.
-use Rattle.std.proofs.Common.{◌≡◌, ℕ, zero, suc, ◌+◌, ◌≤◌, List, [], ◌∷◌, refl, sym, ap, ◌∙◌, subst, inl, inr, ◌⊎◌, arith, Option}
+use Rattle.std.proofs.Common.{◌≡◌, ℕ, zero, suc, ◌+◌, ◌≤◌, List, [], ◌∷◌, refl, sym, ap, ◌∙◌, subst, inl, inr, ◌⊎◌}
+use Rattle.std.proofs.Common.{arith, Option}
 use Rattle.std.specs.Prelude.{slice_index}
 use Rattle.plain_text.specs.declared.packet.Packet.{Packet}
 use Rattle.entry_order.specs.Log.{Entry, entries, IsLog}
@@ -16,12 +17,15 @@ use Rattle.round_order.specs.Growth.{AreWithin}
 use Rattle.round_order.proofs.LoggedMoves.{at_entry, log_step}
 use Rattle.round_order.proofs.RoundCounts.{join_within}
 
-module _ {V : Type 0} (m : Meaning V) (inputs : ℕ → List Packet) (threads : ℕ) (past : List (Step V)) (opening : IsLog (log_of past)) (rs : Receipts V) (linked : IsLinked m inputs threads past rs) where
+module _ {V : Type 0} (m : Meaning V) (inputs : ℕ → List Packet) (threads : ℕ) (past : List (Step V))
+    (opening : IsLog (log_of past)) (rs : Receipts V) (linked : IsLinked m inputs threads past rs) where
   -- entry n of the thread is known, with a stamp that has n in the place of the thread
   abbrev Last : ℕ → ℕ → Type 0
   Last t n = (d : Entry) × (st : ℕ → ℕ) × IsEntryOf t n d × IsKnown past rs d st × (st t ≡ n)
 
-  last_known : (t : ℕ) (xs : List (Receipt V)) → AreOwnMoves m inputs past t xs → ((f : Receipt V) → Among f xs → InRound rs f) → 1 ≤ entries t (log_of (after xs past)) → Last t (entries t (log_of (after xs past)))
+  last_known : (t : ℕ) (xs : List (Receipt V)) → AreOwnMoves m inputs past t xs
+      → ((f : Receipt V) → Among f xs → InRound rs f) → 1 ≤ entries t (log_of (after xs past))
+      → Last t (entries t (log_of (after xs past)))
   last_known t [] alone here some =
       let e = entry_there (log_of past) t (entries t (log_of past)) opening some (omega arith) in
       let s = stamp_there (log_of past) e.0 opening e.1 in
@@ -29,28 +33,44 @@ module _ {V : Type 0} (m : Meaning V) (inputs : ℕ → List Packet) (threads : 
       let high : s.0 t ≤ entries t (log_of past) = stamp_within (log_of past) e.0 s.0 t opening s.1 in
       let own : s.0 e.0.thread ≡ s.0 t = ap s.0 e.2 in
       (e.0, s.0, (e.2, e.3), inr (e.1, s.1), omega (arith, e.3))
-  last_known t (r ∷ xs) alone here some = go (log_step r.step.act (log_of (after xs past))) (λ one. last_known t xs alone.2 (λ f a. here f (inr a)) one) some
+  last_known t (r ∷ xs) alone here some = go (log_step r.step.act (log_of (after xs past)))
+      (λ one. last_known t xs alone.2 (λ f a. here f (inr a)) one) some
     where
       Found : List Entry → Type 0
       Found log = Last t (entries t log)
 
       logged : (e : Entry) → (l : IsLogged r e) → Last t (entries t (e ∷ log_of (after xs past)))
       logged e (left, is) =
-          let k : (e.thread ≡ r.step.thread) × (e.number ≡ entries r.step.thread (log_of (after xs past)) + 1) = at_entry r.step.thread r.step.after.taken r.place (after xs past) alone.1.0 e left (sym alone.1.2 ∙ is) in
+          let k : (e.thread ≡ r.step.thread) × (e.number ≡ entries r.step.thread (log_of (after xs past)) + 1) =
+          at_entry r.step.thread r.step.after.taken r.place (after xs past) alone.1.0 e left (sym alone.1.2 ∙ is) in
           let of_t : e.thread ≡ t = k.0 ∙ alone.0 in
-          let n : e.number ≡ entries t (log_of (after xs past)) + 1 = k.1 ∙ ap (λ (u : ℕ). entries u (log_of (after xs past)) + 1) alone.0 in
-          let counted : entries t (e ∷ log_of (after xs past)) ≡ entries t (log_of (after xs past)) + 1 = rw (is_eq e.thread t of_t) refl in
+          let n : e.number ≡ entries t (log_of (after xs past)) + 1 =
+          k.1 ∙ ap (λ (u : ℕ). entries u (log_of (after xs past)) + 1) alone.0 in
+          let counted : entries t (e ∷ log_of (after xs past)) ≡ entries t (log_of (after xs past)) + 1 =
+          rw (is_eq e.thread t of_t) refl in
           let j = linked.joined r e (here r (inl refl)) (left, is) in
-          let own : slice_index r.stamp t ≡ e.number = j.stamp t ∙ rw (is_eq t e.thread (sym of_t)) refl in
-          (e, (λ u. slice_index r.stamp u), (of_t, n ∙ sym counted), inl (r, here r (inl refl), (left, is), λ u. refl), own ∙ (n ∙ sym counted))
+          let own : slice_index r.stamp t ≡ e.number = j.stamp t ∙ rw (is_eq t e.thread (sym of_t)) refl in (
+            e,
+            (λ u. slice_index r.stamp u),
+            (of_t, n ∙ sym counted),
+            inl (r, here r (inl refl), (left, is), λ u. refl),
+            own ∙ (n ∙ sym counted),
+          )
 
-      go : (((e : Entry) (left : Option V) → r.step.act ≡ Did e left → ⊥) × (log_more r.step.act (log_of (after xs past)) ≡ log_of (after xs past))) ⊎ ((e : Entry) × (left : Option V) × (r.step.act ≡ Did e left) × (log_more r.step.act (log_of (after xs past)) ≡ e ∷ log_of (after xs past)))
-          → (1 ≤ entries t (log_of (after xs past)) → Last t (entries t (log_of (after xs past)))) → 1 ≤ entries t (log_more r.step.act (log_of (after xs past))) → Last t (entries t (log_more r.step.act (log_of (after xs past))))
-      go (inl (none, same)) older one = subst Found (sym same) (older (subst (λ (log : List Entry). 1 ≤ entries t log) same one))
+      go : (((e : Entry) (left : Option V) → r.step.act ≡ Did e left → ⊥)
+          × (log_more r.step.act (log_of (after xs past)) ≡ log_of (after xs past)))
+          ⊎ ((e : Entry) × (left : Option V) × (r.step.act ≡ Did e left)
+          × (log_more r.step.act (log_of (after xs past)) ≡ e ∷ log_of (after xs past)))
+          → (1 ≤ entries t (log_of (after xs past)) → Last t (entries t (log_of (after xs past))))
+          → 1 ≤ entries t (log_more r.step.act (log_of (after xs past)))
+          → Last t (entries t (log_more r.step.act (log_of (after xs past))))
+      go (inl (none, same)) older one =
+          subst Found (sym same) (older (subst (λ (log : List Entry). 1 ≤ entries t log) same one))
       go (inr (e, left, is, more)) older one = subst Found (sym more) (logged e (left, is))
 
   -- the stamp that a thread has counts its own entries
-  pub own_top : AreWithin past rs → (t : ℕ) (own : ℕ → ℕ) → IsJoinOf past rs (IsEntryOf t (count past rs t)) own → own t ≡ count past rs t
+  pub own_top : AreWithin past rs → (t : ℕ) (own : ℕ → ℕ) → IsJoinOf past rs (IsEntryOf t (count past rs t)) own
+      → own t ≡ count past rs t
   own_top within t own j = go (count past rs t) refl
     where
       high : own t ≤ count past rs t

@@ -1,5 +1,6 @@
 -- Receipts of a round with one more: what is known of them, and how they stay linked.
-use Rattle.std.proofs.Common.{◌≡◌, ℕ, ◌+◌, ◌≤◌, ◌<◌, ◌≢◌, List, ◌∷◌, refl, sym, ap, ◌∙◌, subst, inl, inr, ◌⊎◌, arith, Option, Some, None}
+use Rattle.std.proofs.Common.{◌≡◌, ℕ, ◌+◌, ◌≤◌, ◌<◌, ◌≢◌, List, ◌∷◌, refl, sym, ap, ◌∙◌, subst, inl, inr, ◌⊎◌, arith}
+use Rattle.std.proofs.Common.{Option, Some, None}
 use Rattle.std.specs.Prelude.{slice_index}
 use Rattle.plain_text.specs.declared.packet.Packet.{Packet}
 use Rattle.entry_order.specs.declared.what.What.TheVariants.{Access, Read, Clock, Draw}
@@ -22,7 +23,8 @@ not_updated t u xs rs h = rw (not_eq u t h) refl
 
 -- What an entry tells of its receipt
 
-what_is : {V : Type 0} (t taken place : ℕ) (mine : List (Step V)) (d : Effect V) (e : Entry) (left : Option V) (v s : ℕ) → act_at t mine taken place d ≡ Did e left → e.what ≡ Access v s → (y : V) × (left ≡ Some y) × (s ≡ place + 1)
+what_is : {V : Type 0} (t taken place : ℕ) (mine : List (Step V)) (d : Effect V) (e : Entry) (left : Option V) (v s : ℕ)
+    → act_at t mine taken place d ≡ Did e left → e.what ≡ Access v s → (y : V) × (left ≡ Some y) × (s ≡ place + 1)
 what_is t taken place mine Takes e left v s h w = absurd (cc)
 what_is t taken place mine (Touches u y) e left v s h w =
     let k : entry_of t (log_of mine) (Access u (place + 1)) ≡ e = cc in
@@ -40,7 +42,8 @@ what_is t taken place mine (HearsDraw a) e left v s h w =
 what_is t taken place mine (Sends p) e left v s h w = absurd (cc)
 what_is t taken place mine Ends e left v s h w = absurd (cc)
 
-read_is : {V : Type 0} (t taken place : ℕ) (mine : List (Step V)) (d : Effect V) (e : Entry) (left : Option V) (v s : ℕ) → act_at t mine taken place d ≡ Did e left → e.what ≡ Read v s → (left ≡ None) × (s ≡ place)
+read_is : {V : Type 0} (t taken place : ℕ) (mine : List (Step V)) (d : Effect V) (e : Entry) (left : Option V) (v s : ℕ)
+    → act_at t mine taken place d ≡ Did e left → e.what ≡ Read v s → (left ≡ None) × (s ≡ place)
 read_is t taken place mine Takes e left v s h w = absurd (cc)
 read_is t taken place mine (Touches u y) e left v s h w =
     let k : entry_of t (log_of mine) (Access u (place + 1)) ≡ e = cc in
@@ -58,24 +61,31 @@ read_is t taken place mine (HearsDraw a) e left v s h w =
 read_is t taken place mine (Sends p) e left v s h w = absurd (cc)
 read_is t taken place mine Ends e left v s h w = absurd (cc)
 
-pub touch_of : {V : Type 0} (m : Meaning V) (inputs : ℕ → List Packet) (mine : List (Step V)) (r : Receipt V) (e : Entry) (v s : ℕ) → IsOwnMove m inputs mine r → IsLogged r e → e.what ≡ Access v s → (y : V) × IsTouch r v y × (s ≡ r.place + 1)
+pub touch_of : {V : Type 0} (m : Meaning V) (inputs : ℕ → List Packet) (mine : List (Step V)) (r : Receipt V)
+    (e : Entry) (v s : ℕ) → IsOwnMove m inputs mine r → IsLogged r e → e.what ≡ Access v s
+    → (y : V) × IsTouch r v y × (s ≡ r.place + 1)
 touch_of {V} m inputs mine r e v s alone (left, is) w =
-    let k : (y : V) × (left ≡ Some y) × (s ≡ r.place + 1) = what_is r.step.thread r.step.after.taken r.place mine alone.0 e left v s (sym alone.2 ∙ is) w in
+    let k : (y : V) × (left ≡ Some y) × (s ≡ r.place + 1) =
+    what_is r.step.thread r.step.after.taken r.place mine alone.0 e left v s (sym alone.2 ∙ is) w in
     (k.0, (e, is ∙ ap (λ (o : Option V). Did e o) k.1, w ∙ ap (λ (n : ℕ). Access v n) k.2), k.2)
 
-pub read_of : {V : Type 0} (m : Meaning V) (inputs : ℕ → List Packet) (mine : List (Step V)) (r : Receipt V) (e : Entry) (v s : ℕ) → IsOwnMove m inputs mine r → IsLogged r e → e.what ≡ Read v s → IsRead r v × (s ≡ r.place)
+pub read_of : {V : Type 0} (m : Meaning V) (inputs : ℕ → List Packet) (mine : List (Step V)) (r : Receipt V) (e : Entry)
+    (v s : ℕ) → IsOwnMove m inputs mine r → IsLogged r e → e.what ≡ Read v s → IsRead r v × (s ≡ r.place)
 read_of {V} m inputs mine r e v s alone (left, is) w =
-    let k : (left ≡ None) × (s ≡ r.place) = read_is r.step.thread r.step.after.taken r.place mine alone.0 e left v s (sym alone.2 ∙ is) w in
+    let k : (left ≡ None) × (s ≡ r.place) =
+    read_is r.step.thread r.step.after.taken r.place mine alone.0 e left v s (sym alone.2 ∙ is) w in
     ((e, is ∙ ap (λ (o : Option V). Did e o) k.0, w ∙ ap (λ (n : ℕ). Read v n) k.1), k.1)
 
 -- no entry is its own predecessor
 pub not_next_itself : (e : Entry) → IsNext e e → ⊥
 not_next_itself e (inl h) = absurd (omega (arith, h.1))
-not_next_itself e (inr (inl (v, s, a, b))) = let k : Access v s ≡ Access v (s + 1) = sym a ∙ b in let n : s ≡ s + 1 = cc in absurd (omega arith)
+not_next_itself e (inr (inl (v, s, a, b))) =
+    let k : Access v s ≡ Access v (s + 1) = sym a ∙ b in let n : s ≡ s + 1 = cc in absurd (omega arith)
 not_next_itself e (inr (inr (inl (v, s, a, b)))) = let k : Access v s ≡ Read v s = sym a ∙ b in cc
 not_next_itself e (inr (inr (inr (v, s, a, b)))) = let k : Read v s ≡ Access v (s + 1) = sym a ∙ b in cc
 
-module _ {V : Type 0} (m : Meaning V) (inputs : ℕ → List Packet) (threads : ℕ) (past : List (Step V)) (rs : Receipts V) (linked : IsLinked m inputs threads past rs) (r : Receipt V) where
+module _ {V : Type 0} (m : Meaning V) (inputs : ℕ → List Packet) (threads : ℕ) (past : List (Step V)) (rs : Receipts V)
+    (linked : IsLinked m inputs threads past rs) (r : Receipt V) where
   -- the receipts with one more
   abbrev pub with_one : Receipts V
   with_one = update r.step.thread (r ∷ rs r.step.thread) rs
@@ -84,51 +94,79 @@ module _ {V : Type 0} (m : Meaning V) (inputs : ℕ → List Packet) (threads : 
   in_more q h = go (is_or q.step.thread r.step.thread)
     where
       go : (q.step.thread ≡ r.step.thread) ⊎ (q.step.thread ≢ r.step.thread) → (r ≡ q) ⊎ InRound rs q
-      go (inl same) = among (subst (λ (l : List (Receipt V)). Among q l) (ap (λ (u : ℕ). update r.step.thread (r ∷ rs r.step.thread) rs u) same ∙ updated r.step.thread (r ∷ rs r.step.thread) rs) h)
+      go (inl same) = among (subst (λ (l : List (Receipt V)). Among q l)
+          (ap (λ (u : ℕ). update r.step.thread (r ∷ rs r.step.thread) rs u) same
+          ∙ updated r.step.thread (r ∷ rs r.step.thread) rs) h)
         where
           among : Among q (r ∷ rs r.step.thread) → (r ≡ q) ⊎ InRound rs q
           among (inl e) = inl e
           among (inr a) = inr (subst (λ (u : ℕ). Among q (rs u)) (sym same) a)
-      go (inr apart) = inr (subst (λ (l : List (Receipt V)). Among q l) (not_updated r.step.thread q.step.thread (r ∷ rs r.step.thread) rs apart) h)
+      go (inr apart) = inr (subst (λ (l : List (Receipt V)). Among q l)
+          (not_updated r.step.thread q.step.thread (r ∷ rs r.step.thread) rs apart) h)
 
   pub in_old : (q : Receipt V) → InRound rs q → InRound (update r.step.thread (r ∷ rs r.step.thread) rs) q
   in_old q h = go (is_or q.step.thread r.step.thread)
     where
-      go : (q.step.thread ≡ r.step.thread) ⊎ (q.step.thread ≢ r.step.thread) → InRound (update r.step.thread (r ∷ rs r.step.thread) rs) q
-      go (inl same) = subst (λ (l : List (Receipt V)). Among q l) (sym (ap (λ (u : ℕ). update r.step.thread (r ∷ rs r.step.thread) rs u) same ∙ updated r.step.thread (r ∷ rs r.step.thread) rs)) (inr (subst (λ (u : ℕ). Among q (rs u)) same h))
-      go (inr apart) = subst (λ (l : List (Receipt V)). Among q l) (sym (not_updated r.step.thread q.step.thread (r ∷ rs r.step.thread) rs apart)) h
+      go : (q.step.thread ≡ r.step.thread) ⊎ (q.step.thread ≢ r.step.thread)
+          → InRound (update r.step.thread (r ∷ rs r.step.thread) rs) q
+      go (inl same) = subst (λ (l : List (Receipt V)). Among q l)
+          (sym (ap (λ (u : ℕ). update r.step.thread (r ∷ rs r.step.thread) rs u) same
+          ∙ updated r.step.thread (r ∷ rs r.step.thread) rs)) (inr (subst (λ (u : ℕ). Among q (rs u)) same h))
+      go (inr apart) = subst (λ (l : List (Receipt V)). Among q l)
+          (sym (not_updated r.step.thread q.step.thread (r ∷ rs r.step.thread) rs apart)) h
 
   pub in_new : InRound (update r.step.thread (r ∷ rs r.step.thread) rs) r
-  in_new = subst (λ (l : List (Receipt V)). Among r l) (sym (updated r.step.thread (r ∷ rs r.step.thread) rs)) (inl refl)
+  in_new =
+      subst (λ (l : List (Receipt V)). Among r l) (sym (updated r.step.thread (r ∷ rs r.step.thread) rs)) (inl refl)
 
-  pub known_old : (d : Entry) (st : ℕ → ℕ) → IsKnown past rs d st → IsKnown past (update r.step.thread (r ∷ rs r.step.thread) rs) d st
+  pub known_old : (d : Entry) (st : ℕ → ℕ) → IsKnown past rs d st
+      → IsKnown past (update r.step.thread (r ∷ rs r.step.thread) rs) d st
   known_old d st (inl (f, here, l, same)) = inl (f, in_old f here, l, same)
   known_old d st (inr k) = inr k
 
-  pub known_more : (d : Entry) (st : ℕ → ℕ) → IsKnown past (update r.step.thread (r ∷ rs r.step.thread) rs) d st → (IsLogged r d × ((u : ℕ) → slice_index r.stamp u ≡ st u)) ⊎ IsKnown past rs d st
+  pub known_more : (d : Entry) (st : ℕ → ℕ) → IsKnown past (update r.step.thread (r ∷ rs r.step.thread) rs) d st
+      → (IsLogged r d × ((u : ℕ) → slice_index r.stamp u ≡ st u)) ⊎ IsKnown past rs d st
   known_more d st (inl (f, here, l, same)) = go (in_more f here)
     where
       go : (r ≡ f) ⊎ InRound rs f → (IsLogged r d × ((u : ℕ) → slice_index r.stamp u ≡ st u)) ⊎ IsKnown past rs d st
-      go (inl e) = inl (subst (λ (z : Receipt V). IsLogged z d) (sym e) l, λ u. ap (λ (z : Receipt V). slice_index z.stamp u) e ∙ same u)
+      go (inl e) = inl (
+        subst (λ (z : Receipt V). IsLogged z d) (sym e) l,
+        λ u. ap (λ (z : Receipt V). slice_index z.stamp u) e ∙ same u,
+      )
       go (inr old) = inr (inl (f, old, l, same))
   known_more d st (inr k) = inr (inr k)
 
   -- a join stays where the new entry is none of these
-  pub join_stays : (These : Entry → Type 0) (join : ℕ → ℕ) → ((d : Entry) → IsLogged r d → These d → ⊥) → IsJoinOf past rs These join → IsJoinOf past (update r.step.thread (r ∷ rs r.step.thread) rs) These join
-  join_stays These join none j = record { above = λ d st these known u. above d st these u (known_more d st known); reached = λ u. reached u (j.reached u) }
+  pub join_stays : (These : Entry → Type 0) (join : ℕ → ℕ) → ((d : Entry) → IsLogged r d → These d → ⊥)
+      → IsJoinOf past rs These join → IsJoinOf past (update r.step.thread (r ∷ rs r.step.thread) rs) These join
+  join_stays These join none j = record {
+    above = λ d st these known u. above d st these u (known_more d st known);
+    reached = λ u. reached u (j.reached u);
+  }
     where
-      above : (d : Entry) (st : ℕ → ℕ) → These d → (u : ℕ) → (IsLogged r d × ((w : ℕ) → slice_index r.stamp w ≡ st w)) ⊎ IsKnown past rs d st → st u ≤ join u
+      above : (d : Entry) (st : ℕ → ℕ) → These d → (u : ℕ)
+          → (IsLogged r d × ((w : ℕ) → slice_index r.stamp w ≡ st w)) ⊎ IsKnown past rs d st → st u ≤ join u
       above d st these u (inl (l, same)) = absurd (none d l these)
       above d st these u (inr known) = j.above d st these known u
 
-      reached : (u : ℕ) → (join u ≡ 0) ⊎ ((d : Entry) × (st : ℕ → ℕ) × These d × IsKnown past rs d st × (st u ≡ join u)) → (join u ≡ 0) ⊎ ((d : Entry) × (st : ℕ → ℕ) × These d × IsKnown past (update r.step.thread (r ∷ rs r.step.thread) rs) d st × (st u ≡ join u))
+      reached : (u : ℕ) → (join u ≡ 0) ⊎ ((d : Entry) × (st : ℕ → ℕ) × These d × IsKnown past rs d st × (st u ≡ join u))
+          → (join u ≡ 0)
+          ⊎ ((d : Entry) × (st : ℕ → ℕ) × These d × IsKnown past (update r.step.thread (r ∷ rs r.step.thread) rs) d st
+          × (st u ≡ join u))
       reached u (inl z) = inl z
       reached u (inr (d, st, these, known, is)) = inr (d, st, these, known_old d st known, is)
 
-  has_join : (q : Receipt V) (e : Entry) → ((d : Entry) → IsLogged r d → IsNext d e → ⊥) → HasJoin past rs q e → HasJoin past (update r.step.thread (r ∷ rs r.step.thread) rs) q e
-  has_join q e none j = record { join = j.join; joins = join_stays (λ d. IsNext d e) j.join none j.joins; before = j.before; stamp = j.stamp }
+  has_join : (q : Receipt V) (e : Entry) → ((d : Entry) → IsLogged r d → IsNext d e → ⊥) → HasJoin past rs q e
+      → HasJoin past (update r.step.thread (r ∷ rs r.step.thread) rs) q e
+  has_join q e none j = record {
+    join = j.join;
+    joins = join_stays (λ d. IsNext d e) j.join none j.joins;
+    before = j.before;
+    stamp = j.stamp;
+  }
 
-  found_old : (v : ℕ) (q : Receipt V) → HasFound m past rs v q → HasFound m past (update r.step.thread (r ∷ rs r.step.thread) rs) v q
+  found_old : (v : ℕ) (q : Receipt V) → HasFound m past rs v q
+      → HasFound m past (update r.step.thread (r ∷ rs r.step.thread) rs) v q
   found_old v q (inl h) = inl h
   found_old v q (inr (f, here, a, at)) = inr (f, in_old f here, a, at)
 
@@ -149,36 +187,51 @@ module _ {V : Type 0} (m : Meaning V) (inputs : ℕ → List Packet) (threads : 
     joined = λ q e here l. joined q e l (in_more q here);
   }
     where
-      each : (u : ℕ) → (u ≡ r.step.thread) ⊎ (u ≢ r.step.thread) → AreOwnMoves m inputs past u (update r.step.thread (r ∷ rs r.step.thread) rs u)
-      each u (inl same) = subst (λ (w : ℕ). AreOwnMoves m inputs past w (update r.step.thread (r ∷ rs r.step.thread) rs w)) (sym same)
-          (subst (λ (l : List (Receipt V)). AreOwnMoves m inputs past r.step.thread l) (sym (updated r.step.thread (r ∷ rs r.step.thread) rs)) (refl, alone, linked.alone r.step.thread))
-      each u (inr apart) = subst (λ (l : List (Receipt V)). AreOwnMoves m inputs past u l) (sym (not_updated r.step.thread u (r ∷ rs r.step.thread) rs apart)) (linked.alone u)
+      each : (u : ℕ) → (u ≡ r.step.thread) ⊎ (u ≢ r.step.thread)
+          → AreOwnMoves m inputs past u (update r.step.thread (r ∷ rs r.step.thread) rs u)
+      each u (inl same) =
+          subst (λ (w : ℕ). AreOwnMoves m inputs past w (update r.step.thread (r ∷ rs r.step.thread) rs w)) (sym same)
+          (subst (λ (l : List (Receipt V)). AreOwnMoves m inputs past r.step.thread l)
+          (sym (updated r.step.thread (r ∷ rs r.step.thread) rs)) (refl, alone, linked.alone r.step.thread))
+      each u (inr apart) = subst (λ (l : List (Receipt V)). AreOwnMoves m inputs past u l)
+          (sym (not_updated r.step.thread u (r ∷ rs r.step.thread) rs apart)) (linked.alone u)
 
       below : (q : Receipt V) → (r ≡ q) ⊎ InRound rs q → q.step.thread < threads
       below q (inl e) = subst (λ (z : Receipt V). z.step.thread < threads) e low
       below q (inr old) = linked.below q old
 
-      touched : (q : Receipt V) (v : ℕ) (left : V) → IsTouch q v left → (r ≡ q) ⊎ InRound rs q → (places v (log_of past) ≤ q.place) × HasFound m past (update r.step.thread (r ∷ rs r.step.thread) rs) v q
+      touched : (q : Receipt V) (v : ℕ) (left : V) → IsTouch q v left → (r ≡ q) ⊎ InRound rs q
+          → (places v (log_of past) ≤ q.place) × HasFound m past (update r.step.thread (r ∷ rs r.step.thread) rs) v q
       touched q v left a (inl e) =
           let h = touch v left (subst (λ (z : Receipt V). IsTouch z v left) (sym e) a) in
-          subst (λ (z : Receipt V). (places v (log_of past) ≤ z.place) × HasFound m past (update r.step.thread (r ∷ rs r.step.thread) rs) v z) e (h.0, found_old v r h.1)
+          subst (λ (z : Receipt V).
+          (places v (log_of past) ≤ z.place) × HasFound m past (update r.step.thread (r ∷ rs r.step.thread) rs) v z) e
+          (h.0, found_old v r h.1)
       touched q v left a (inr old) = let h = linked.touched q v left old a in (h.0, found_old v q h.1)
 
-      looked : (q : Receipt V) (v : ℕ) → IsRead q v → (r ≡ q) ⊎ InRound rs q → (places v (log_of past) ≤ q.place) × HasFound m past (update r.step.thread (r ∷ rs r.step.thread) rs) v q
+      looked : (q : Receipt V) (v : ℕ) → IsRead q v → (r ≡ q) ⊎ InRound rs q
+          → (places v (log_of past) ≤ q.place) × HasFound m past (update r.step.thread (r ∷ rs r.step.thread) rs) v q
       looked q v a (inl e) =
           let h = look v (subst (λ (z : Receipt V). IsRead z v) (sym e) a) in
-          subst (λ (z : Receipt V). (places v (log_of past) ≤ z.place) × HasFound m past (update r.step.thread (r ∷ rs r.step.thread) rs) v z) e (h.0, found_old v r h.1)
+          subst (λ (z : Receipt V).
+          (places v (log_of past) ≤ z.place) × HasFound m past (update r.step.thread (r ∷ rs r.step.thread) rs) v z) e
+          (h.0, found_old v r h.1)
       looked q v a (inr old) = let h = linked.looked q v old a in (h.0, found_old v q h.1)
 
-      once : (f g : Receipt V) (v : ℕ) (x y : V) → IsTouch f v x → IsTouch g v y → f.place ≡ g.place → (r ≡ f) ⊎ InRound rs f → (r ≡ g) ⊎ InRound rs g → f ≡ g
+      once : (f g : Receipt V) (v : ℕ) (x y : V) → IsTouch f v x → IsTouch g v y → f.place ≡ g.place
+          → (r ≡ f) ⊎ InRound rs f → (r ≡ g) ⊎ InRound rs g → f ≡ g
       once f g v x y a b at (inl e) (inl k) = sym e ∙ k
-      once f g v x y a b at (inl e) (inr old) = absurd (single g v x y (subst (λ (z : Receipt V). IsTouch z v x) (sym e) a) old b (ap (λ (z : Receipt V). z.place) e ∙ at))
-      once f g v x y a b at (inr old) (inl k) = absurd (single f v y x (subst (λ (z : Receipt V). IsTouch z v y) (sym k) b) old a (ap (λ (z : Receipt V). z.place) k ∙ sym at))
+      once f g v x y a b at (inl e) (inr old) = absurd (single g v x y
+          (subst (λ (z : Receipt V). IsTouch z v x) (sym e) a) old b (ap (λ (z : Receipt V). z.place) e ∙ at))
+      once f g v x y a b at (inr old) (inl k) = absurd (single f v y x
+          (subst (λ (z : Receipt V). IsTouch z v y) (sym k) b) old a (ap (λ (z : Receipt V). z.place) k ∙ sym at))
       once f g v x y a b at (inr old) (inr too) = linked.once f g v x y old too a b at
 
-      joined : (q : Receipt V) (e : Entry) → IsLogged q e → (r ≡ q) ⊎ InRound rs q → HasJoin past (update r.step.thread (r ∷ rs r.step.thread) rs) q e
+      joined : (q : Receipt V) (e : Entry) → IsLogged q e → (r ≡ q) ⊎ InRound rs q
+          → HasJoin past (update r.step.thread (r ∷ rs r.step.thread) rs) q e
       joined q e l (inl k) =
           let lr : IsLogged r e = subst (λ (z : Receipt V). IsLogged z e) (sym k) l in
-          subst (λ (z : Receipt V). HasJoin past (update r.step.thread (r ∷ rs r.step.thread) rs) z e) k
-          (has_join r e (λ d ld next. not_next_itself e (subst (λ (z : Entry). IsNext z e) (logged_once r d e ld lr) next)) (join e lr))
+          subst (λ (z : Receipt V). HasJoin past (update r.step.thread (r ∷ rs r.step.thread) rs) z e) k (has_join r e
+          (λ d ld next. not_next_itself e (subst (λ (z : Entry). IsNext z e) (logged_once r d e ld lr) next))
+          (join e lr))
       joined q e l (inr old) = has_join q e (λ d ld next. last q d e ld old l next) (linked.joined q e old l)

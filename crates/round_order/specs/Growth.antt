@@ -1,5 +1,5 @@
--- How the receipts of a round grow by one: by a move on no variable, by a touch of what is at home, or by a read of it. Each is
--- told by what its thread has and what it found alone, and keeps what holds between any two moves.
+-- How the receipts of a round grow by one: by a move on no variable, by a touch of what is at home, or by a read of it.
+-- Each is told by what its thread has and what it found alone, and keeps what holds between any two moves.
 use Rattle.std.specs.Prelude.{◌≡◌, ◌≢◌, ℕ, ◌+◌, ◌<◌, ◌≤◌, List, ◌∷◌, cond, max, nat_eq, replicate, slice_index}
 use Rattle.plain_text.specs.declared.packet.Packet.{Packet}
 use Rattle.entry_order.specs.Log.{Entry, IsLog}
@@ -12,7 +12,8 @@ use Rattle.master_core.specs.declared.parts.ThreadPart.{ThreadPart}
 use Rattle.master_core.specs.declared.parts.Counts.{Counts}
 use Rattle.master_core.specs.Mastered.{in_hand_count}
 use Rattle.master_core.specs.Effects.{before_touch, before_read}
-use Rattle.round_order.specs.Receipts.{Receipt, Receipts, no_receipts, InRound, after, IsLogged, IsUnlogged, IsTouch, IsRead}
+use Rattle.round_order.specs.Receipts.{Receipt, Receipts, no_receipts, InRound, after, IsLogged, IsUnlogged, IsTouch}
+use Rattle.round_order.specs.Receipts.{IsRead}
 use Rattle.round_order.specs.Linked.{IsOwnMove, IsLinked}
 use Rattle.round_order.specs.Home.{IsHome, IsSeat, count}
 
@@ -29,20 +30,23 @@ abbrev pub with_one : {V : Type 0} → Receipts V → Receipt V → Receipts V
 with_one rs r = update r.step.thread (r ∷ rs r.step.thread) rs
 
 -- What holds between any two moves of a round.
-pub record IsRound {V : Type 0} (m : Meaning V) (inputs : ℕ → List Packet) (threads : ℕ) (past : List (Step V)) (rs : Receipts V) : Type 0 where
+pub record IsRound {V : Type 0} (m : Meaning V) (inputs : ℕ → List Packet) (threads : ℕ) (past : List (Step V))
+    (rs : Receipts V) : Type 0 where
   pub opening : IsLog (log_of past)
   pub linked : IsLinked m inputs threads past rs
   pub within : AreWithin past rs
 
 -- The receipt is of the next move of its thread, which has this part.
-pub record IsNextOf {V : Type 0} (m : Meaning V) (inputs : ℕ → List Packet) (threads : ℕ) (past : List (Step V)) (rs : Receipts V) (part : ThreadPart) (r : Receipt V) : Type 0 where
+pub record IsNextOf {V : Type 0} (m : Meaning V) (inputs : ℕ → List Packet) (threads : ℕ) (past : List (Step V))
+    (rs : Receipts V) (part : ThreadPart) (r : Receipt V) : Type 0 where
   pub below : r.step.thread < threads
   pub alone : IsOwnMove m inputs (after (rs r.step.thread) past) r
   pub seat : IsSeat past rs r.step.thread part
   -- a packet in hand was taken
   pub held : in_hand_count part.hand ≤ part.counts.taken
 
--- It is of a move on no variable. The stamp of its entry, where it has one, is that of its thread with the entry's number.
+-- It is of a move on no variable. The stamp of its entry, where it has one, is that of its thread with the entry's
+-- number.
 pub record IsPrivate {V : Type 0} (part : ThreadPart) (r : Receipt V) : Type 0 where
   pub no_touch : (v : ℕ) (left : V) → IsTouch r v left → ⊥
   pub no_read : (v : ℕ) → IsRead r v → ⊥
@@ -66,7 +70,8 @@ pub record Reads {V : Type 0} (v : ℕ) (part : ThreadPart) (x y : VarPart V) (r
   pub readers : (u : ℕ) → slice_index y.readers u ≡ max (slice_index x.readers u) (slice_index r.stamp u)
   pub left : y ≡ record { value = x.value; places = x.places; stamp = x.stamp; readers = y.readers }
 
--- What the thread has after it: it counts the move, holds what the move leaves in hand, and has the stamp of the move's entry.
+-- What the thread has after it: it counts the move, holds what the move leaves in hand, and has the stamp of the move's
+-- entry.
 
 abbrev pub counts_after : {V : Type 0} → Act V → Counts → Counts
 counts_after (Took k) c = record c { taken = c.taken + 1 }
@@ -81,32 +86,45 @@ stamp_after (Emitted o) before own = before
 stamp_after (Ended k) before own = before
 
 abbrev pub part_after : {V : Type 0} → ThreadPart → Receipt V → ThreadPart
-part_after part r = record { counts = counts_after r.step.act part.counts; hand = local_in r.step.after.hand; stamp = stamp_after r.step.act part.stamp r.stamp }
+part_after part r = record {
+  counts = counts_after r.step.act part.counts;
+  hand = local_in r.step.after.hand;
+  stamp = stamp_after r.step.act part.stamp r.stamp;
+}
 
--- With it, what holds between any two moves holds again. Its thread has what the move left, the other threads have what they
--- had, and what is at home of the other variables stays.
-pub record IsKept {V : Type 0} (m : Meaning V) (inputs : ℕ → List Packet) (threads : ℕ) (past : List (Step V)) (rs : Receipts V) (part : ThreadPart) (r : Receipt V) (IsOther : ℕ → Type 0) : Type 0 where
+-- With it, what holds between any two moves holds again. Its thread has what the move left, the other threads have what
+-- they had, and what is at home of the other variables stays.
+pub record IsKept {V : Type 0} (m : Meaning V) (inputs : ℕ → List Packet) (threads : ℕ) (past : List (Step V))
+    (rs : Receipts V) (part : ThreadPart) (r : Receipt V) (IsOther : ℕ → Type 0) : Type 0 where
   pub round : IsRound m inputs threads past (with_one rs r)
   pub seat : IsSeat past (with_one rs r) r.step.thread (part_after part r)
   pub held : in_hand_count (part_after part r).hand ≤ (part_after part r).counts.taken
-  pub seats : (u : ℕ) (other : ThreadPart) → u ≢ r.step.thread → IsSeat past rs u other → IsSeat past (with_one rs r) u other
+  pub seats : (u : ℕ) (other : ThreadPart) → u ≢ r.step.thread → IsSeat past rs u other
+      → IsSeat past (with_one rs r) u other
   pub homes : (w : ℕ) (z : VarPart V) → IsOther w → IsHome m past rs w z → IsHome m past (with_one rs r) w z
 
 -- It holds when the round begins.
 abbrev pub RoundBegins : Type 0 → Type 0
-RoundBegins X = (m : Meaning X) (inputs : ℕ → List Packet) (threads : ℕ) (past : List (Step X)) → IsLog (log_of past) → IsRound m inputs threads past no_receipts
+RoundBegins X =
+    (m : Meaning X) (inputs : ℕ → List Packet) (threads : ℕ) (past : List (Step X)) → IsLog (log_of past)
+    → IsRound m inputs threads past no_receipts
 
 abbrev pub PrivateMoves : Type 0 → Type 0
-PrivateMoves X = (m : Meaning X) (inputs : ℕ → List Packet) (threads : ℕ) (past : List (Step X)) (rs : Receipts X) (part : ThreadPart) (r : Receipt X)
-    → IsRound m inputs threads past rs → IsNextOf m inputs threads past rs part r → IsPrivate part r
-    → IsKept m inputs threads past rs part r (λ w. Unit {0})
+PrivateMoves X =
+    (m : Meaning X) (inputs : ℕ → List Packet) (threads : ℕ) (past : List (Step X)) (rs : Receipts X)
+    (part : ThreadPart) (r : Receipt X) → IsRound m inputs threads past rs → IsNextOf m inputs threads past rs part r
+    → IsPrivate part r → IsKept m inputs threads past rs part r (λ w. Unit {0})
 
 abbrev pub TouchMoves : Type 0 → Type 0
-TouchMoves X = (m : Meaning X) (inputs : ℕ → List Packet) (threads : ℕ) (past : List (Step X)) (rs : Receipts X) (v : ℕ) (part : ThreadPart) (x y : VarPart X) (r : Receipt X)
-    → IsRound m inputs threads past rs → IsNextOf m inputs threads past rs part r → IsHome m past rs v x → Touches v part x y r
+TouchMoves X =
+    (m : Meaning X) (inputs : ℕ → List Packet) (threads : ℕ) (past : List (Step X)) (rs : Receipts X) (v : ℕ)
+    (part : ThreadPart) (x y : VarPart X) (r : Receipt X) → IsRound m inputs threads past rs
+    → IsNextOf m inputs threads past rs part r → IsHome m past rs v x → Touches v part x y r
     → IsKept m inputs threads past rs part r (λ w. w ≢ v) × IsHome m past (with_one rs r) v y
 
 abbrev pub ReadMoves : Type 0 → Type 0
-ReadMoves X = (m : Meaning X) (inputs : ℕ → List Packet) (threads : ℕ) (past : List (Step X)) (rs : Receipts X) (v : ℕ) (part : ThreadPart) (x y : VarPart X) (r : Receipt X)
-    → IsRound m inputs threads past rs → IsNextOf m inputs threads past rs part r → IsHome m past rs v x → Reads v part x y r
+ReadMoves X =
+    (m : Meaning X) (inputs : ℕ → List Packet) (threads : ℕ) (past : List (Step X)) (rs : Receipts X) (v : ℕ)
+    (part : ThreadPart) (x y : VarPart X) (r : Receipt X) → IsRound m inputs threads past rs
+    → IsNextOf m inputs threads past rs part r → IsHome m past rs v x → Reads v part x y r
     → IsKept m inputs threads past rs part r (λ w. w ≢ v) × IsHome m past (with_one rs r) v y

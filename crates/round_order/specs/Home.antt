@@ -1,5 +1,5 @@
--- What is at home of a variable while threads race, and what each thread has: the parts of a master, at the opening of a round,
--- as its receipts grow, and at its end.
+-- What is at home of a variable while threads race, and what each thread has: the parts of a master, at the opening of
+-- a round, as its receipts grow, and at its end.
 use Rattle.std.specs.Prelude.{◌≡◌, ℕ, ◌+◌, ◌<◌, ◌≤◌, ◌⊎◌, List, length, slice_index, slice_index_or, Ok}
 use Rattle.plain_text.specs.declared.packet.Packet.{Packet}
 use Rattle.entry_order.specs.declared.what.What.TheVariants.{Access, Read}
@@ -16,9 +16,10 @@ use Rattle.round_order.specs.Receipts.{Receipt, Receipts, no_receipts, InRound, 
 use Rattle.round_order.specs.Linked.{IsJoinOf, IsLinked}
 use Rattle.round_order.specs.Woven.{IsOrder}
 
--- The value that the newest touch of the variable left, with the stamp of this touch, and the join of the stamps of the reads
--- since; where the round has no touch of it, the opening value and stamp.
-pub record IsHome {V : Type 0} (m : Meaning V) (past : List (Step V)) (rs : Receipts V) (v : ℕ) (x : VarPart V) : Type 0 where
+-- The value that the newest touch of the variable left, with the stamp of this touch, and the join of the stamps of the
+-- reads since; where the round has no touch of it, the opening value and stamp.
+pub record IsHome {V : Type 0} (m : Meaning V) (past : List (Step V)) (rs : Receipts V) (v : ℕ)
+    (x : VarPart V) : Type 0 where
   pub from : places v (log_of past) ≤ x.places
   pub value :
       ((x.places ≡ places v (log_of past)) × (x.value ≡ value_after m past v))
@@ -53,9 +54,10 @@ Opening X = (m : Meaning X) (threads : ℕ) (past : List (Step X)) (p : Mastered
 
 -- At its end, what is at home and what each thread has make a master that stands for the woven list.
 abbrev pub Closing : Type 0 → Type 0
-Closing X = (m : Meaning X) (inputs : ℕ → List Packet) (threads : ℕ) (moves : List PlainMove) (past : List (Step X)) (rs : Receipts X) (order : List (Receipt X)) (q : Mastered X)
-    → threads ≤ 16 → play m inputs threads moves ≡ Ok past → IsLinked m inputs threads past rs → IsOrder rs order
-    → length q.threads ≡ threads
+Closing X =
+    (m : Meaning X) (inputs : ℕ → List Packet) (threads : ℕ) (moves : List PlainMove) (past : List (Step X))
+    (rs : Receipts X) (order : List (Receipt X)) (q : Mastered X) → threads ≤ 16 → play m inputs threads moves ≡ Ok past
+    → IsLinked m inputs threads past rs → IsOrder rs order → length q.threads ≡ threads
     → ((v : ℕ) (d : VarPart X) → v < m.vars → IsHome m past rs v (slice_index_or q.vars v d))
     → ((t : ℕ) (d : ThreadPart) → t < threads → IsSeat past rs t (slice_index_or q.threads t d))
     → Stands m threads (after order past) q

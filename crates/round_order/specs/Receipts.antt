@@ -1,12 +1,13 @@
--- What the threads of a round did, each thread apart from the others. A receipt is one move, with notes; the receipts of a
--- thread are a list, NEWEST FIRST.
+-- What the threads of a round did, each thread apart from the others. A receipt is one move, with notes; the receipts
+-- of a thread are a list, NEWEST FIRST.
 use Rattle.std.specs.Prelude.{◌≡◌, ◌⊎◌, ℕ, ◌+◌, List, [], ◌∷◌, ◌++◌, cond, nat_eq, Option, Some, None, slice_index}
 use Rattle.entry_order.specs.declared.what.What.TheVariants.{Access, Read, Clock, Draw}
 use Rattle.entry_order.specs.Log.{Entry}
 use Rattle.entry_order.specs.Stamps.{sum_below}
 use Rattle.plain_machine.specs.declared.plain_move.PlainMove.{PlainMove}
 use Rattle.plain_machine.specs.Machine.{Effect, Takes, Touches, Looks, HearsClock, HearsDraw, Sends, Ends}
-use Rattle.plain_machine.specs.History.{Act, Took, Did, Emitted, Ended, Step, log_more, log_of, sent_of, entry_of, emission_of}
+use Rattle.plain_machine.specs.History.{Act, Took, Did, Emitted, Ended, Step, log_more, log_of, sent_of, entry_of}
+use Rattle.plain_machine.specs.History.{emission_of}
 
 pub record Receipt (V : Type 0) : Type 0 where
   -- what the move did, and its thread after it
@@ -75,8 +76,8 @@ IsTouch r v left = (e : Entry) × (r.step.act ≡ Did e (Some left)) × (e.what 
 abbrev pub IsRead : {V : Type 0} → Receipt V → ℕ → Type 0
 IsRead r v = (e : Entry) × (r.step.act ≡ Did e None) × (e.what ≡ Read v r.place)
 
--- What an effect of a thread did that has this number of inputs taken now: its numbers go on from those of the thread's own
--- moves, and this number of touches of the variable stand before it.
+-- What an effect of a thread did that has this number of inputs taken now: its numbers go on from those of the thread's
+-- own moves, and this number of touches of the variable stand before it.
 abbrev pub act_at : {V : Type 0} → ℕ → List (Step V) → ℕ → ℕ → Effect V → Act V
 act_at t mine taken place Takes = Took taken
 act_at t mine taken place (Touches v left) = Did (entry_of t (log_of mine) (Access v (place + 1))) (Some left)

@@ -1,5 +1,5 @@
-//! A round in which threads race: receipts of what each thread did, and the laws by which they weave into one legal list of
-//! moves. It knows no words, locks or threads of a machine.
+//! A round in which threads race: receipts of what each thread did, and the laws by which they weave into one legal
+//! list of moves. It knows no words, locks or threads of a machine.
 #![tactic(auto)]
 
 mod laws;

@@ -1,10 +1,14 @@
-ghost use Rattle.std.specs.Prelude.{◌≡◌, ◌≢◌, ℕ, ◌+◌, ◌<◌, ◌≤◌, ◌↔◌, ◌++◌, List, [], ◌∷◌, length, reverse, slice_index, slice_index_or, IfOk, IfSome, IfNone, IsTrue, Option, Some, None};
-ghost use Rattle.round_order.specs.Turns.{IsLighter, newest, IsLatest, HasLatest, AreLeft, AreTurns, lengths};
+ghost use Rattle.std.specs.Prelude.{◌≡◌, ◌≢◌, ℕ, ◌+◌, ◌<◌, ◌≤◌, ◌↔◌, ◌++◌, List, [], ◌∷◌, length};
+ghost use Rattle.std.specs.Prelude.{reverse, slice_index, slice_index_or, IfOk, IfSome, IfNone};
+ghost use Rattle.std.specs.Prelude.{IsTrue, Option, Some, None};
+ghost use Rattle.round_order.specs.Turns.{IsLighter, newest, IsLatest, HasLatest, AreLeft};
+ghost use Rattle.round_order.specs.Turns.{AreTurns, lengths};
 
 use plain_text::{NoMemory, Sequence};
 use std::alloc::Global;
 
-/// The weight of the entry of a receipt, or none where its move is not logged. The marks of a thread stand oldest first.
+/// The weight of the entry of a receipt, or none where its move is not logged. The marks of a thread stand oldest
+/// first.
 pub type Marks = Sequence<Option<u64>>;
 
 /// Whether a receipt with the first mark is lighter than one with the second.
@@ -73,8 +77,8 @@ fn count_all(alloc: Global, marks: &[Marks]) -> Result<Vec<usize>, NoMemory>
     Ok(counts)
 }
 
-/// The turns in which the threads' receipts, of which these are the marks, stand in the woven list: each is of the oldest receipt
-/// of a thread that has not had its turn. It takes time by the number of receipts and that of threads.
+/// The turns in which the threads' receipts, of which these are the marks, stand in the woven list: each is of the
+/// oldest receipt of a thread that has not had its turn. It takes time by the number of receipts and that of threads.
 pub fn weave(alloc: Global, marks: &[Marks]) -> Result<Sequence<usize>, NoMemory>
     ensures { IfOk result (λ turns. AreTurns marks.now (lengths marks.now) (reverse turns)) }
 {

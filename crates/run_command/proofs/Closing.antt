@@ -1,5 +1,6 @@
 -- A run is finished: the schedule and the last line are written.
-use Rattle.std.proofs.Common.{◌≡◌, ℕ, List, [], ◌∷◌, ◌++◌, refl, sym, ap, ◌∙◌, append-nil, subst, inl, inr, Result, Ok, Err}
+use Rattle.std.proofs.Common.{◌≡◌, ℕ, List, [], ◌∷◌, ◌++◌, refl, sym, ap, ◌∙◌, append-nil, subst, inl, inr, Result, Ok}
+use Rattle.std.proofs.Common.{Err}
 use Rattle.std.specs.Prelude.{⊤}
 use Rattle.std.specs.Result.{IsErr}
 use Rattle.plain_machine.specs.Program.{Meaning}
@@ -19,13 +20,13 @@ use Rattle.output_files.proofs.Effects.{gathered_begun}
 use Rattle.run_writes.specs.Run.{OutputNames, writes_of, closing_writes, counts_line, WritesAll, HasBegunRun, Finishes}
 use Rattle.run_command.specs.Running.{HasCome}
 
-pub err_finishes : {V : Type 0} (r : Result ⊤ OutputError) (s : Setting V) (names : OutputNames) (events : List Event) (a b : Shown)
-    → IsErr r → HasBegunRun s names events a b → Finishes r s names events a b
+pub err_finishes : {V : Type 0} (r : Result ⊤ OutputError) (s : Setting V) (names : OutputNames) (events : List Event)
+    (a b : Shown) → IsErr r → HasBegunRun s names events a b → Finishes r s names events a b
 err_finishes (Ok done) s names events a b err h = absurd (cc)
 err_finishes (Err error) s names events a b err h = h
 
-module _ {P V : Type 0} (m : Meaning V) (s : Setting V) (names : OutputNames) (events : List Event) (y : Systemed P V) (lines : List ℕ)
-    (a b : Shown) (come : HasCome m s names events y lines a b) where
+module _ {P V : Type 0} (m : Meaning V) (s : Setting V) (names : OutputNames) (events : List Event) (y : Systemed P V)
+    (lines : List ℕ) (a b : Shown) (come : HasCome m s names events y lines a b) where
   -- a first part of what the events write was written
   pub still_begun : HasBegunRun s names events a b
   still_begun =
@@ -44,7 +45,8 @@ module _ {P V : Type 0} (m : Meaning V) (s : Setting V) (names : OutputNames) (e
       )
 
   module _ (f : Finished) (ends : FinishesAs s come.world f) (fit : FitLines f.schedule) where
-    all : WritesAll s names events (writes_of names s.fractions come.replies ++ closing_writes names (moves_made ends.steps) (done_line come.world))
+    all : WritesAll s names events (writes_of names s.fractions come.replies
+        ++ closing_writes names (moves_made ends.steps) (done_line come.world))
     all = record {
       replies = come.replies;
       world = come.world;
@@ -65,15 +67,20 @@ module _ {P V : Type 0} (m : Meaning V) (s : Setting V) (names : OutputNames) (e
         → Finishes r s names events a e
     closes r text line e text_is line_is h = go r here
       where
-        here : Writes r (writes_of names s.fractions come.replies ++ closing_writes names (moves_made ends.steps) (done_line come.world)) a e
+        here : Writes r
+            (writes_of names s.fractions come.replies
+            ++ closing_writes names (moves_made ends.steps) (done_line come.world)) a e
         here =
-            subst (λ (l : List ℕ). Writes r (writes_of names s.fractions come.replies ++ closing_writes names (moves_made ends.steps) l) a e)
+            subst (λ (l : List ℕ).
+            Writes r (writes_of names s.fractions come.replies ++ closing_writes names (moves_made ends.steps) l) a e)
             (line_is ∙ counts)
-            (subst (λ (l : List ℕ). Writes r (writes_of names s.fractions come.replies ++ (Appends names.schedule l ∷ Reports line ∷ [])) a e)
+            (subst (λ (l : List ℕ).
+            Writes r (writes_of names s.fractions come.replies ++ (Appends names.schedule l ∷ Reports line ∷ [])) a e)
             (text_is ∙ ap schedule_text ends.schedule) h)
 
         go : (r : Result ⊤ OutputError)
-            → Writes r (writes_of names s.fractions come.replies ++ closing_writes names (moves_made ends.steps) (done_line come.world)) a e
-            → Finishes r s names events a e
+            → Writes r
+            (writes_of names s.fractions come.replies
+            ++ closing_writes names (moves_made ends.steps) (done_line come.world)) a e → Finishes r s names events a e
         go (Ok done) h = (_, all, h)
         go (Err error) h = (_, inr (inr all), h)

@@ -20,19 +20,27 @@ use Rattle.run_command.specs.Running.{IsSystemAt, ComesTo}
 use Rattle.run_writes.proofs.ShortPackets.{released_short}
 
 -- what taking the released outputs promises
-pub record Takes {P V : Type 0} (meaning : P → Meaning V) (outputs : List Output) (old new : Systemed P V) : Type 0 where
+pub record Takes {P V : Type 0} (meaning : P → Meaning V) (outputs : List Output)
+    (old new : Systemed P V) : Type 0 where
   pub taken : outputs ≡ old.fresh
   pub rest : new.fresh ≡ []
-  pub packets : (w : SystemWorld V) → HasReleased w old → (packets_in outputs ≡ packets_of (drop old.handed w.released)) × HasReleased w new × (new.handed ≡ length w.released)
-  pub stands : (s : Setting V) (w : SystemWorld V) → SystemStands (meaning old.parts.program) s w old → SystemStands (meaning old.parts.program) s w new
+  pub packets : (w : SystemWorld V) → HasReleased w old
+      → (packets_in outputs ≡ packets_of (drop old.handed w.released))
+      × HasReleased w new
+      × (new.handed ≡ length w.released)
+  pub stands : (s : Setting V) (w : SystemWorld V) → SystemStands (meaning old.parts.program) s w old
+      → SystemStands (meaning old.parts.program) s w new
 
 -- what the system promises of an event
-pub record Answers {P V : Type 0} (meaning : P → Meaning V) (ev : Event) (r : Result SystemReply Stop) (old new : Systemed P V) : Type 0 where
+pub record Answers {P V : Type 0} (meaning : P → Meaning V) (ev : Event) (r : Result SystemReply Stop)
+    (old new : Systemed P V) : Type 0 where
   pub on : IfOk r (λ reply. SystemMoves (meaning old.parts.program) (RepliesAny ev reply) old new)
-  pub limit : (limit : Limit) → r ≡ Err (stop.Limit limit) → SystemStops (meaning old.parts.program) (IsStopped ev limit) old new
+  pub limit : (limit : Limit) → r ≡ Err (stop.Limit limit)
+      → SystemStops (meaning old.parts.program) (IsStopped ev limit) old new
   pub no_memory : r ≡ Err stop.NoMemory → (new.fresh ≡ old.fresh) × (new.handed ≡ old.handed)
 
-pub comes_to : {P V : Type 0} (meaning : P → Meaning V) (ev : Event) (r : Result SystemReply Stop) (outputs : List Output) (old mid new : Systemed P V) → Answers meaning ev r old mid → Takes meaning outputs mid new
+pub comes_to : {P V : Type 0} (meaning : P → Meaning V) (ev : Event) (r : Result SystemReply Stop)
+    (outputs : List Output) (old mid new : Systemed P V) → Answers meaning ev r old mid → Takes meaning outputs mid new
     → ComesTo (meaning old.parts.program) ev r outputs old new
 comes_to {P} {V} meaning ev (Ok reply) outputs old mid new does takes = λ s w at.
     let moved = does.on.2 s w at.stands in
@@ -40,7 +48,8 @@ comes_to {P} {V} meaning ev (Ok reply) outputs old mid new does takes = λ s w a
     let came = takes.packets next moved.2.released in
     let handed : mid.handed ≡ length w.released = does.on.1 ∙ at.handed in
     let same : meaning mid.parts.program ≡ meaning old.parts.program = ap meaning does.on.0 in
-    let here : SystemStands (meaning mid.parts.program) s next mid = subst (λ (m : Meaning V). SystemStands m s next mid) (sym same) moved.2 in (
+    let here : SystemStands (meaning mid.parts.program) s next mid =
+    subst (λ (m : Meaning V). SystemStands m s next mid) (sym same) moved.2 in (
       next,
       moved.1.0,
       moved.1.1,
@@ -54,13 +63,18 @@ comes_to {P} {V} meaning ev (Ok reply) outputs old mid new does takes = λ s w a
     )
 comes_to {P} {V} meaning ev (Err (stop.Limit limit)) outputs old mid new does takes = λ s w at.
     let stopped = does.limit limit refl in
-    let there = stopped.1 s w at.stands in
-    (there.0, there.1, (takes.packets there.0 there.2).0 ∙ ap (λ n. packets_of (drop n there.0.released)) (stopped.0 ∙ at.handed))
-comes_to {P} {V} meaning ev (Err stop.NoMemory) outputs old mid new does takes = λ s w at. takes.taken ∙ (does.no_memory refl).0 ∙ at.fresh
+    let there = stopped.1 s w at.stands in (
+      there.0,
+      there.1,
+      (takes.packets there.0 there.2).0 ∙ ap (λ n. packets_of (drop n there.0.released)) (stopped.0 ∙ at.handed),
+    )
+comes_to {P} {V} meaning ev (Err stop.NoMemory) outputs old mid new does takes =
+    λ s w at. takes.taken ∙ (does.no_memory refl).0 ∙ at.fresh
 
-pub came_short : {P V : Type 0} (m : Meaning V) (fits : ℕ → V → Type 0) (ev : Event) (r : Result SystemReply Stop) (outputs : List Output) (old new : Systemed P V) → IsLawful m fits → ComesTo m ev r outputs old new
-    → (s : Setting V) (w : SystemWorld V) → IsSystemAt m s w old
-    → All IsShort s.packets → All IsShort (packets_in outputs)
+pub came_short : {P V : Type 0} (m : Meaning V) (fits : ℕ → V → Type 0) (ev : Event) (r : Result SystemReply Stop)
+    (outputs : List Output) (old new : Systemed P V) → IsLawful m fits → ComesTo m ev r outputs old new
+    → (s : Setting V) (w : SystemWorld V) → IsSystemAt m s w old → All IsShort s.packets
+    → All IsShort (packets_in outputs)
 came_short {P} {V} m fits ev r outputs old new lawful comes s w at short = go r comes
   where
     law : IsLawful s.meaning fits
@@ -69,8 +83,11 @@ came_short {P} {V} m fits ev r outputs old new lawful comes s w at short = go r 
     go : (r : Result SystemReply Stop) → ComesTo m ev r outputs old new → All IsShort (packets_in outputs)
     go (Ok reply) comes =
         let came = comes s w at in
-        subst (All IsShort) (sym came.4) (released_short s fits came.0 (length w.released) law short (any_sound s w at.stands.parts.sound ev reply.outcome came.1 came.0 came.2))
+        subst (All IsShort) (sym came.4) (released_short s fits came.0 (length w.released) law short
+        (any_sound s w at.stands.parts.sound ev reply.outcome came.1 came.0 came.2))
     go (Err (stop.Limit limit)) comes =
         let came = comes s w at in
-        subst (All IsShort) (sym came.2) (released_short s fits came.0 (length w.released) law short (stops_sound s w at.stands.parts.sound ev limit came.0 came.1))
-    go (Err stop.NoMemory) comes = subst (All IsShort) (sym (ap packets_in (comes s w at))) (λ k d low. absurd (omega arith))
+        subst (All IsShort) (sym came.2) (released_short s fits came.0 (length w.released) law short
+        (stops_sound s w at.stands.parts.sound ev limit came.0 came.1))
+    go (Err stop.NoMemory) comes =
+        subst (All IsShort) (sym (ap packets_in (comes s w at))) (λ k d low. absurd (omega arith))

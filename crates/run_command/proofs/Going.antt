@@ -1,5 +1,7 @@
 -- A run goes on event by event.
-use Rattle.std.proofs.Common.{◌≡◌, ℕ, ◌+◌, ◌<◌, ◌≤◌, List, [], ◌∷◌, ◌++◌, take, drop, length, refl, sym, ap, ◌∙◌, append-nil, append_assoc, subst, inl, inr, Result, Ok, Err, zero, suc, arith, add-one, get_or}
+use Rattle.std.proofs.Common.{◌≡◌, ℕ, ◌+◌, ◌<◌, ◌≤◌, List, [], ◌∷◌, ◌++◌, take, drop, length, refl, sym, ap, ◌∙◌}
+use Rattle.std.proofs.Common.{append-nil, append_assoc, subst, inl, inr, Result, Ok, Err, zero, suc, arith, add-one}
+use Rattle.std.proofs.Common.{get_or}
 use Rattle.std.specs.Prelude.{⊤, All, IsErrOf, OnOk}
 use Rattle.std.specs.Result.{IsOk}
 use Rattle.std.proofs.lemmas.List.Elements.{All-append}
@@ -23,7 +25,8 @@ use Rattle.run_writes.specs.declared.error.RunError.{RunError}
 use Rattle.run_writes.specs.declared.error.RunError.TheVariants as run
 use Rattle.run_writes.specs.Errors.{run_result_of, stopped_result}
 use Rattle.run_writes.specs.Replies.{Reply, Answers, Goes, newly_released, released_in}
-use Rattle.run_writes.specs.Run.{OutputNames, FitsRecord, opening_writes, release_writes, reply_writes, replies_writes, writes_of, WritesUntil}
+use Rattle.run_writes.specs.Run.{OutputNames, FitsRecord, opening_writes, release_writes, reply_writes, replies_writes}
+use Rattle.run_writes.specs.Run.{writes_of, WritesUntil}
 use Rattle.plain_text.specs.declared.packet.Packet.{Packet}
 use Rattle.run_writes.specs.Replies.{packets_in}
 use Rattle.run_command.specs.Running.{HasBegunSome, IsSystemAt, ComesTo, IsSomewhere, HasCome, GoesOn, WritesPerformed}
@@ -35,28 +38,43 @@ fault_written (Ok done) h = absurd (cc)
 fault_written (Err output.WriteFault) h = refl
 fault_written (Err output.NoMemory) h = absurd (cc)
 
-pub fault_stopped : (r : Result ⊤ OutputError) (limit : Limit) → IsErrOf (stopped_result r limit) run.WriteFault → IsErrOf r output.WriteFault
+pub fault_stopped : (r : Result ⊤ OutputError) (limit : Limit) → IsErrOf (stopped_result r limit) run.WriteFault
+    → IsErrOf r output.WriteFault
 fault_stopped (Ok done) limit h = absurd (cc)
 fault_stopped (Err output.WriteFault) limit h = refl
 fault_stopped (Err output.NoMemory) limit h = absurd (cc)
 
-replies_more : (name : List ℕ) (replies : List Reply) (r : Reply) → replies_writes name (replies ++ r ∷ []) ≡ replies_writes name replies ++ reply_writes name r
+replies_more : (name : List ℕ) (replies : List Reply) (r : Reply)
+    → replies_writes name (replies ++ r ∷ []) ≡ replies_writes name replies ++ reply_writes name r
 replies_more name [] r = append-nil (reply_writes name r)
-replies_more name (x ∷ replies) r = ap (λ l. reply_writes name x ++ l) (replies_more name replies r) ∙ sym (append_assoc (reply_writes name x) (replies_writes name replies) (reply_writes name r))
+replies_more name (x ∷ replies) r =
+    ap (λ l. reply_writes name x ++ l) (replies_more name replies r)
+    ∙ sym (append_assoc (reply_writes name x) (replies_writes name replies) (reply_writes name r))
 
-module _ {P V : Type 0} (m : Meaning V) (s : Setting V) (names : OutputNames) (events : List Event) (y : Systemed P V) (lines : List ℕ) (a b : Shown) (come : HasCome m s names events y lines a b) where
-  with_reply : (r : Reply) → writes_of names s.fractions (come.replies ++ r ∷ []) ≡ writes_of names s.fractions come.replies ++ reply_writes names.released r
-  with_reply r = ap (λ l. opening_writes names s.fractions ++ l) (replies_more names.released come.replies r) ∙ sym (append_assoc (opening_writes names s.fractions) (replies_writes names.released come.replies) (reply_writes names.released r))
+module _ {P V : Type 0} (m : Meaning V) (s : Setting V) (names : OutputNames) (events : List Event) (y : Systemed P V)
+    (lines : List ℕ) (a b : Shown) (come : HasCome m s names events y lines a b) where
+  with_reply : (r : Reply)
+      → writes_of names s.fractions (come.replies ++ r ∷ [])
+      ≡ writes_of names s.fractions come.replies ++ reply_writes names.released r
+  with_reply r =
+      ap (λ l. opening_writes names s.fractions ++ l) (replies_more names.released come.replies r)
+      ∙ sym (append_assoc (opening_writes names s.fractions) (replies_writes names.released come.replies)
+      (reply_writes names.released r))
 
   -- an event was performed, and what it leaves was written
-  reply_goes : (ev : Event) (reply : SystemReply) (outputs : List Output) (w : Result ⊤ OutputError) (new : Systemed P V) (more : List ℕ) (c : Shown)
-      → (comes : ComesTo m ev (Ok reply) outputs y new)
-      → WritesGathered w (writes_of names s.fractions come.replies ++ reply_writes names.released (record { released = packets_in outputs; line = reply_line ev reply.outcome (comes s come.world come.at).1 })) more a c
-      → OnOk w (All FitsRecord (packets_in outputs))
+  reply_goes : (ev : Event) (reply : SystemReply) (outputs : List Output) (w : Result ⊤ OutputError)
+      (new : Systemed P V) (more : List ℕ) (c : Shown) → (comes : ComesTo m ev (Ok reply) outputs y new)
+      → WritesGathered w
+      (writes_of names s.fractions come.replies
+      ++ reply_writes names.released
+      (record { released = packets_in outputs; line = reply_line ev reply.outcome (comes s come.world come.at).1 }))
+      more a c → OnOk w (All FitsRecord (packets_in outputs))
       → GoesOn (run_result_of w) m s names (events ++ ev ∷ []) new more a c
   reply_goes ev reply outputs w new more c comes written fit = go w here fit
     where
-      came : (next : SystemWorld V) × (freed : List Sent) × OnAny s come.world ev reply.outcome freed next × (reply.released ≡ sent_names freed) × (packets_in outputs ≡ newly_released come.world next) × IsSystemAt m s next new
+      came : (next : SystemWorld V) × (freed : List Sent) × OnAny s come.world ev reply.outcome freed next
+          × (reply.released ≡ sent_names freed) × (packets_in outputs ≡ newly_released come.world next)
+          × IsSystemAt m s next new
       came = comes s come.world come.at
 
       r : Reply
@@ -65,31 +83,57 @@ module _ {P V : Type 0} (m : Meaning V) (s : Setting V) (names : OutputNames) (e
       answered : Answers s (events ++ ev ∷ []) (come.replies ++ r ∷ []) came.0
       answered = Goes ev reply.outcome came.1 come.answers came.2
 
-      same : writes_of names s.fractions come.replies ++ reply_writes names.released (record { released = packets_in outputs; line = reply_line ev reply.outcome came.1 }) ≡ writes_of names s.fractions (come.replies ++ r ∷ [])
-      same = ap (λ (l : List Packet). writes_of names s.fractions come.replies ++ reply_writes names.released (record { released = l; line = reply_line ev reply.outcome came.1 })) came.4 ∙ sym (with_reply r)
+      same : writes_of names s.fractions come.replies
+          ++ reply_writes names.released
+          (record { released = packets_in outputs; line = reply_line ev reply.outcome came.1 })
+          ≡ writes_of names s.fractions (come.replies ++ r ∷ [])
+      same =
+          ap (λ (l : List Packet).
+          writes_of names s.fractions come.replies
+          ++ reply_writes names.released (record { released = l; line = reply_line ev reply.outcome came.1 })) came.4
+          ∙ sym (with_reply r)
 
       here : WritesGathered w (writes_of names s.fractions (come.replies ++ r ∷ [])) more a c
       here = subst (λ (ws : List Write). WritesGathered w ws more a c) same written
 
       all_fit : All FitsRecord (packets_in outputs) → All FitsRecord (released_in (come.replies ++ r ∷ []))
       all_fit each =
-          subst (All FitsRecord) (sym (released_more come.replies r))
-          (All-append FitsRecord (released_in come.replies) (newly_released come.world came.0) come.fit_records (subst (All FitsRecord) came.4 each))
+          subst (All FitsRecord) (sym (released_more come.replies r)) (All-append FitsRecord (released_in come.replies)
+          (newly_released come.world came.0) come.fit_records (subst (All FitsRecord) came.4 each))
 
-      begun : HasBegun (writes_of names s.fractions (come.replies ++ r ∷ [])) a c → HasBegunSome s names (events ++ ev ∷ []) a c
+      begun : HasBegun (writes_of names s.fractions (come.replies ++ r ∷ [])) a c
+          → HasBegunSome s names (events ++ ev ∷ []) a c
       begun h = (
         writes_of names s.fractions (come.replies ++ r ∷ []),
-        inl (record { before = events ++ ev ∷ []; after = []; events_are = sym (append-nil (events ++ ev ∷ [])); replies = come.replies ++ r ∷ []; world = came.0; answers = answered; writes_are = refl }),
+        inl (record {
+          before = events ++ ev ∷ [];
+          after = [];
+          events_are = sym (append-nil (events ++ ev ∷ []));
+          replies = come.replies ++ r ∷ [];
+          world = came.0;
+          answers = answered;
+          writes_are = refl;
+        }),
         h,
       )
 
-      go : (w : Result ⊤ OutputError) → WritesGathered w (writes_of names s.fractions (come.replies ++ r ∷ [])) more a c → OnOk w (All FitsRecord (packets_in outputs)) → GoesOn (run_result_of w) m s names (events ++ ev ∷ []) new more a c
-      go (Ok done) h each = record { replies = come.replies ++ r ∷ []; world = came.0; answers = answered; at = came.5; fit_records = all_fit each; gathered = h }
+      go : (w : Result ⊤ OutputError) → WritesGathered w (writes_of names s.fractions (come.replies ++ r ∷ [])) more a c
+          → OnOk w (All FitsRecord (packets_in outputs))
+          → GoesOn (run_result_of w) m s names (events ++ ev ∷ []) new more a c
+      go (Ok done) h each = record {
+        replies = come.replies ++ r ∷ [];
+        world = came.0;
+        answers = answered;
+        at = came.5;
+        fit_records = all_fit each;
+        gathered = h;
+      }
       go (Err output.WriteFault) h each = begun h
       go (Err output.NoMemory) h each = begun h
 
   -- an event stopped at a limit, and what it released before was written
-  stopped_goes : (ev : Event) (limit : Limit) (outputs : List Output) (w : Result ⊤ OutputError) (new : Systemed P V) (more : List ℕ) (c : Shown) → ComesTo m ev (Err (stop.Limit limit)) outputs y new
+  stopped_goes : (ev : Event) (limit : Limit) (outputs : List Output) (w : Result ⊤ OutputError) (new : Systemed P V)
+      (more : List ℕ) (c : Shown) → ComesTo m ev (Err (stop.Limit limit)) outputs y new
       → Writes w (writes_of names s.fractions come.replies ++ release_writes names.released (packets_in outputs)) a c
       → GoesOn (stopped_result w limit) m s names (events ++ ev ∷ []) new more a c
   stopped_goes ev limit outputs w new more c comes written = go w here
@@ -98,30 +142,57 @@ module _ {P V : Type 0} (m : Meaning V) (s : Setting V) (names : OutputNames) (e
           × (packets_in outputs ≡ newly_released come.world next)
       came = comes s come.world come.at
 
-      here : Writes w (writes_of names s.fractions come.replies ++ release_writes names.released (newly_released come.world came.0)) a c
-      here = subst (λ (l : List Packet). Writes w (writes_of names s.fractions come.replies ++ release_writes names.released l) a c) came.2 written
+      here : Writes w
+          (writes_of names s.fractions come.replies ++ release_writes names.released (newly_released come.world came.0))
+          a c
+      here = subst (λ (l : List Packet).
+          Writes w (writes_of names s.fractions come.replies ++ release_writes names.released l) a c) came.2 written
 
-      until : WritesUntil s names (events ++ ev ∷ []) limit (writes_of names s.fractions come.replies ++ release_writes names.released (newly_released come.world came.0))
-      until = record { before = events; event = ev; after = []; events_are = refl; replies = come.replies; there = come.world; answers = come.answers; world = came.0; stops = came.1; writes_are = refl }
+      until : WritesUntil s names (events ++ ev ∷ []) limit
+          (writes_of names s.fractions come.replies ++ release_writes names.released (newly_released come.world came.0))
+      until = record {
+        before = events;
+        event = ev;
+        after = [];
+        events_are = refl;
+        replies = come.replies;
+        there = come.world;
+        answers = come.answers;
+        world = came.0;
+        stops = came.1;
+        writes_are = refl;
+      }
 
-      go : (w : Result ⊤ OutputError) → Writes w (writes_of names s.fractions come.replies ++ release_writes names.released (newly_released come.world came.0)) a c → GoesOn (stopped_result w limit) m s names (events ++ ev ∷ []) new more a c
+      go : (w : Result ⊤ OutputError)
+          → Writes w
+          (writes_of names s.fractions come.replies ++ release_writes names.released (newly_released come.world came.0))
+          a c → GoesOn (stopped_result w limit) m s names (events ++ ev ∷ []) new more a c
       go (Ok done) h = record { writes = _; until = until; written = h }
       go (Err output.WriteFault) h = (_, inr (limit, until), h)
       go (Err output.NoMemory) h = (_, inr (limit, until), h)
 
   -- nothing more was written
-  nothing_more : (rest : List Event) (c : Shown) → HasBegun (writes_of names s.fractions come.replies) a c → HasBegunSome s names (events ++ rest) a c
+  nothing_more : (rest : List Event) (c : Shown) → HasBegun (writes_of names s.fractions come.replies) a c
+      → HasBegunSome s names (events ++ rest) a c
   nothing_more rest c begun = (
     writes_of names s.fractions come.replies,
-    inl (record { before = events; after = rest; events_are = refl; replies = come.replies; world = come.world; answers = come.answers; writes_are = refl }),
+    inl (record {
+      before = events;
+      after = rest;
+      events_are = refl;
+      replies = come.replies;
+      world = come.world;
+      answers = come.answers;
+      writes_are = refl;
+    }),
     begun,
   )
 
   -- an event was performed, or stopped, and what it left was written
-  pub performed_goes : (ev : Event) (reply : Result SystemReply Stop) (outputs : List Output) (r : Result ⊤ RunError) (new : Systemed P V) (more : List ℕ) (c : Shown)
-      → ComesTo m ev reply outputs y new
-      → WritesPerformed r reply ev (packets_in outputs) (writes_of names s.fractions come.replies) names.released more a c
-      → GoesOn r m s names (events ++ ev ∷ []) new more a c
+  pub performed_goes : (ev : Event) (reply : Result SystemReply Stop) (outputs : List Output) (r : Result ⊤ RunError)
+      (new : Systemed P V) (more : List ℕ) (c : Shown) → ComesTo m ev reply outputs y new
+      → WritesPerformed r reply ev (packets_in outputs) (writes_of names s.fractions come.replies) names.released more
+      a c → GoesOn r m s names (events ++ ev ∷ []) new more a c
   performed_goes ev (Ok reply) outputs r new more c comes written =
       let came = comes s come.world come.at in
       let files = written came.1 came.3 in
@@ -134,7 +205,8 @@ module _ {P V : Type 0} (m : Meaning V) (s : Setting V) (names : OutputNames) (e
       subst (λ (x : Result ⊤ RunError). GoesOn x m s names (events ++ ev ∷ []) new more a c) (sym written.0)
       (nothing_more (ev ∷ []) c written.1)
 
-until_longer : {V : Type 0} (s : Setting V) (names : OutputNames) (events rest : List Event) (limit : Limit) (writes : List Write) → WritesUntil s names events limit writes → WritesUntil s names (events ++ rest) limit writes
+until_longer : {V : Type 0} (s : Setting V) (names : OutputNames) (events rest : List Event) (limit : Limit)
+    (writes : List Write) → WritesUntil s names events limit writes → WritesUntil s names (events ++ rest) limit writes
 until_longer s names events rest limit writes until =
     record {
       before = until.before;
@@ -150,7 +222,8 @@ until_longer s names events rest limit writes until =
     }
 
 -- what these events write is some of what they write with more behind them
-some_longer : {V : Type 0} (s : Setting V) (names : OutputNames) (events rest : List Event) (a b : Shown) → HasBegunSome s names events a b → HasBegunSome s names (events ++ rest) a b
+some_longer : {V : Type 0} (s : Setting V) (names : OutputNames) (events rest : List Event) (a b : Shown)
+    → HasBegunSome s names events a b → HasBegunSome s names (events ++ rest) a b
 some_longer s names events rest a b (writes, (inl some), begun) = (
   writes,
   inl (record {
@@ -171,48 +244,65 @@ some_longer s names events rest a b (writes, (inr (limit, until)), begun) = (
 )
 
 -- what the first events came to that did not come to their end is what all come to
-pub goes_longer : {P V : Type 0} (e : RunError) (m n : Meaning V) (s : Setting V) (names : OutputNames) (events rest all : List Event) (y z : Systemed P V) (lines more : List ℕ) (a b : Shown) → all ≡ events ++ rest
+pub goes_longer : {P V : Type 0} (e : RunError) (m n : Meaning V) (s : Setting V) (names : OutputNames)
+    (events rest all : List Event) (y z : Systemed P V) (lines more : List ℕ) (a b : Shown) → all ≡ events ++ rest
     → GoesOn {A = ⊤} (Err e) m s names events y lines a b → GoesOn {A = ⊤} (Err e) n s names all z more a b
-goes_longer {P} {V} e m n s names events rest all y z lines more a b same goes = subst (λ (l : List Event). GoesOn {A = ⊤} (Err e) n s names l z more a b) (sym same) (longer e goes)
+goes_longer {P} {V} e m n s names events rest all y z lines more a b same goes =
+    subst (λ (l : List Event). GoesOn {A = ⊤} (Err e) n s names l z more a b) (sym same) (longer e goes)
   where
-    longer : (e : RunError) → GoesOn {A = ⊤} (Err e) m s names events y lines a b → GoesOn {A = ⊤} (Err e) n s names (events ++ rest) z more a b
-    longer (run.Limit limit) h = record { writes = h.writes; until = until_longer s names events rest limit h.writes h.until; written = h.written }
+    longer : (e : RunError) → GoesOn {A = ⊤} (Err e) m s names events y lines a b
+        → GoesOn {A = ⊤} (Err e) n s names (events ++ rest) z more a b
+    longer (run.Limit limit) h = record {
+      writes = h.writes;
+      until = until_longer s names events rest limit h.writes h.until;
+      written = h.written;
+    }
     longer run.WriteFault h = some_longer s names events rest a b h
     longer run.NoMemory h = some_longer s names events rest a b h
 
 -- the system is somewhere again, where the event ended
-pub somewhere_again : {A E P V : Type 0} (r : Result A E) (m : Meaning V) (ev : Event) (reply : Result SystemReply Stop) (outputs : List Output) (y new : Systemed P V)
-    → OnOk r (IsOk reply) → ComesTo m ev reply outputs y new → IsSomewhere m y → OnOk r (IsSomewhere m new)
-somewhere_again (Ok x) m ev (Ok reply) outputs y new ended comes here = let came = comes here.0 here.1 here.2 in (here.0, came.0, came.5, here.3)
+pub somewhere_again : {A E P V : Type 0} (r : Result A E) (m : Meaning V) (ev : Event) (reply : Result SystemReply Stop)
+    (outputs : List Output) (y new : Systemed P V) → OnOk r (IsOk reply) → ComesTo m ev reply outputs y new
+    → IsSomewhere m y → OnOk r (IsSomewhere m new)
+somewhere_again (Ok x) m ev (Ok reply) outputs y new ended comes here =
+    let came = comes here.0 here.1 here.2 in (here.0, came.0, came.5, here.3)
 somewhere_again (Ok x) m ev (Err e) outputs y new ended comes here = absurd (cc)
 somewhere_again (Err e) m ev reply outputs y new ended comes here = tt
 
 -- what is true where the event ended
-pub on_ended : {A B E F : Type 0} (P : Type 0) (r : Result A E) (reply : Result B F) → OnOk r (IsOk reply) → OnOk reply P → OnOk r P
+pub on_ended : {A B E F : Type 0} (P : Type 0) (r : Result A E) (reply : Result B F) → OnOk r (IsOk reply)
+    → OnOk reply P → OnOk r P
 on_ended P (Ok x) (Ok y) ended p = p
 on_ended P (Ok x) (Err e) ended p = absurd (cc)
 on_ended P (Err e) reply ended p = tt
 
 -- the first events, with one more, and those behind it
-pub split_here : (events : List Event) (i : ℕ) (x : Event) → i < length events → x ≡ get_or events i x → events ≡ (take i events ++ x ∷ []) ++ drop (suc i) events
+pub split_here : (events : List Event) (i : ℕ) (x : Event) → i < length events → x ≡ get_or events i x
+    → events ≡ (take i events ++ x ∷ []) ++ drop (suc i) events
 split_here [] i x low is = absurd (omega arith)
 split_here (y ∷ events) zero x low is = ap (λ (z : Event). z ∷ events) (sym is)
 split_here (y ∷ events) (suc i) x low is = ap (λ l. y ∷ l) (split_here events i x (omega arith) is)
 
-pub take_here : (events : List Event) (i : ℕ) (x : Event) → i < length events → x ≡ get_or events i x → take (suc i) events ≡ take i events ++ x ∷ []
+pub take_here : (events : List Event) (i : ℕ) (x : Event) → i < length events → x ≡ get_or events i x
+    → take (suc i) events ≡ take i events ++ x ∷ []
 take_here [] i x low is = absurd (omega arith)
 take_here (y ∷ events) zero x low is = ap (λ (z : Event). z ∷ []) (sym is)
 take_here (y ∷ events) (suc i) x low is = ap (λ l. y ∷ l) (take_here events i x (omega arith) is)
 
 -- it has come one event further
-pub come_on : {P V : Type 0} (m n : Meaning V) (s : Setting V) (names : OutputNames) (events : List Event) (i : ℕ) (x : Event) (y : Systemed P V) (lines : List ℕ) (a b : Shown) → n ≡ m → i < length events → x ≡ get_or events i x
+pub come_on : {P V : Type 0} (m n : Meaning V) (s : Setting V) (names : OutputNames) (events : List Event) (i : ℕ)
+    (x : Event) (y : Systemed P V) (lines : List ℕ) (a b : Shown) → n ≡ m → i < length events → x ≡ get_or events i x
     → HasCome n s names (take i events ++ x ∷ []) y lines a b → HasCome m s names (take (i + 1) events) y lines a b
 come_on {P} {V} m n s names events i x y lines a b same low is h =
-    rw add-one (subst (λ (l : List Event). HasCome m s names l y lines a b) (sym (take_here events i x low is)) (subst (λ (k : Meaning V). HasCome k s names (take i events ++ x ∷ []) y lines a b) same h))
+    rw add-one (subst (λ (l : List Event). HasCome m s names l y lines a b) (sym (take_here events i x low is))
+    (subst (λ (k : Meaning V). HasCome k s names (take i events ++ x ∷ []) y lines a b) same h))
 
 -- the meaning of the same program
-pub come_same : {P V : Type 0} (m n : Meaning V) (s : Setting V) (names : OutputNames) (events : List Event) (y : Systemed P V) (lines : List ℕ) (a b : Shown) → m ≡ n → HasCome m s names events y lines a b → HasCome n s names events y lines a b
-come_same {P} {V} m n s names events y lines a b same h = subst (λ (k : Meaning V). HasCome k s names events y lines a b) same h
+pub come_same : {P V : Type 0} (m n : Meaning V) (s : Setting V) (names : OutputNames) (events : List Event)
+    (y : Systemed P V) (lines : List ℕ) (a b : Shown) → m ≡ n → HasCome m s names events y lines a b
+    → HasCome n s names events y lines a b
+come_same {P} {V} m n s names events y lines a b same h =
+    subst (λ (k : Meaning V). HasCome k s names events y lines a b) same h
 
 pub somewhere_same : {P V : Type 0} (m n : Meaning V) (y : Systemed P V) → m ≡ n → IsSomewhere m y → IsSomewhere n y
 somewhere_same {P} {V} m n y same h = subst (λ (k : Meaning V). IsSomewhere k y) same h
@@ -223,7 +313,8 @@ any_item (y ∷ l) zero d e low = refl
 any_item (y ∷ l) (suc i) d e low = any_item l i d e (omega arith)
 
 -- an element is itself, whatever stands for one that is not there
-pub same_item : (events : List Event) (i : ℕ) (d : Event) → i < length events → get_or events i d ≡ get_or events i (get_or events i d)
+pub same_item : (events : List Event) (i : ℕ) (d : Event) → i < length events
+    → get_or events i d ≡ get_or events i (get_or events i d)
 same_item events i d low = any_item events i d (get_or events i d) low
 
 take_all : (events : List Event) (n : ℕ) → length events ≤ n → take n events ≡ events
@@ -232,13 +323,19 @@ take_all [] (suc n) low = refl
 take_all (y ∷ events) zero low = absurd (omega arith)
 take_all (y ∷ events) (suc n) low = ap (λ l. y ∷ l) (take_all events n (omega arith))
 
-pub come_all : {P V : Type 0} (m : Meaning V) (s : Setting V) (names : OutputNames) (events : List Event) (n : ℕ) (y : Systemed P V) (lines : List ℕ) (a b : Shown) → length events ≤ n → HasCome m s names (take n events) y lines a b → HasCome m s names events y lines a b
-come_all {P} {V} m s names events n y lines a b low h = subst (λ (l : List Event). HasCome m s names l y lines a b) (take_all events n low) h
+pub come_all : {P V : Type 0} (m : Meaning V) (s : Setting V) (names : OutputNames) (events : List Event) (n : ℕ)
+    (y : Systemed P V) (lines : List ℕ) (a b : Shown) → length events ≤ n
+    → HasCome m s names (take n events) y lines a b → HasCome m s names events y lines a b
+come_all {P} {V} m s names events n y lines a b low h =
+    subst (λ (l : List Event). HasCome m s names l y lines a b) (take_all events n low) h
 
-pub at_same : {P V : Type 0} (m n : Meaning V) (s : Setting V) (w : SystemWorld V) (y : Systemed P V) → m ≡ n → IsSystemAt m s w y → IsSystemAt n s w y
+pub at_same : {P V : Type 0} (m n : Meaning V) (s : Setting V) (w : SystemWorld V) (y : Systemed P V) → m ≡ n
+    → IsSystemAt m s w y → IsSystemAt n s w y
 at_same {P} {V} m n s w y same h = subst (λ (k : Meaning V). IsSystemAt k s w y) same h
 
-pub goes_same : {A P V : Type 0} (r : Result A RunError) (m n : Meaning V) (s : Setting V) (names : OutputNames) (events other : List Event) (y : Systemed P V) (lines : List ℕ) (a b : Shown)
-    → m ≡ n → events ≡ other → GoesOn r m s names events y lines a b → GoesOn r n s names other y lines a b
+pub goes_same : {A P V : Type 0} (r : Result A RunError) (m n : Meaning V) (s : Setting V) (names : OutputNames)
+    (events other : List Event) (y : Systemed P V) (lines : List ℕ) (a b : Shown) → m ≡ n → events ≡ other
+    → GoesOn r m s names events y lines a b → GoesOn r n s names other y lines a b
 goes_same {A} {P} {V} r m n s names events other y lines a b same all h =
-    subst (λ (l : List Event). GoesOn r n s names l y lines a b) all (subst (λ (k : Meaning V). GoesOn r k s names events y lines a b) same h)
+    subst (λ (l : List Event). GoesOn r n s names l y lines a b) all
+    (subst (λ (k : Meaning V). GoesOn r k s names events y lines a b) same h)

@@ -19,7 +19,8 @@ use Rattle.output_files.specs.declared.error.OutputError.{OutputError}
 use Rattle.output_files.specs.Writes.{Write, HasWritten, HasBegun, HasGathered}
 use Rattle.output_files.specs.Written.{Writes, WritesGathered}
 use Rattle.run_writes.specs.Replies.{Reply, Answers, newly_released, packets_in, released_in}
-use Rattle.run_writes.specs.Run.{OutputNames, FitsRecord, release_writes, reply_writes, writes_of, WritesSome, WritesUntil}
+use Rattle.run_writes.specs.Run.{OutputNames, FitsRecord, release_writes, reply_writes, writes_of, WritesSome}
+use Rattle.run_writes.specs.Run.{WritesUntil}
 use Rattle.run_writes.specs.Errors.{run_result_of, stopped_result}
 use Rattle.run_writes.specs.declared.error.RunError.{RunError}
 use Rattle.run_writes.specs.declared.error.RunError.TheVariants as run
@@ -31,35 +32,45 @@ pub record IsSystemAt {P V : Type 0} (m : Meaning V) (s : Setting V) (w : System
   pub fresh : y.fresh ≡ []
   pub handed : y.handed ≡ length w.released
 
--- What performing an event came to, for each world that the system was at: the reply is that of the event, or the event stops at the
--- limit; and these are the outputs that it released. Where memory ran out, none is handed over.
-abbrev pub ComesTo : {P V : Type 0} → Meaning V → Event → Result SystemReply Stop → List Output → Systemed P V → Systemed P V → Type 0
+-- What performing an event came to, for each world that the system was at: the reply is that of the event, or the event
+-- stops at the limit; and these are the outputs that it released. Where memory ran out, none is handed over.
+abbrev pub ComesTo : {P V : Type 0} → Meaning V → Event → Result SystemReply Stop → List Output → Systemed P V
+    → Systemed P V → Type 0
 ComesTo {P} {V} m ev (Ok reply) outputs old new =
     (s : Setting V) (w : SystemWorld V) → IsSystemAt m s w old
-    → (next : SystemWorld V) × (freed : List Sent) × OnAny s w ev reply.outcome freed next × (reply.released ≡ sent_names freed)
-    × (packets_in outputs ≡ newly_released w next) × IsSystemAt m s next new
+    → (next : SystemWorld V) × (freed : List Sent) × OnAny s w ev reply.outcome freed next
+    × (reply.released ≡ sent_names freed) × (packets_in outputs ≡ newly_released w next) × IsSystemAt m s next new
 ComesTo {P} {V} m ev (Err (stop.Limit limit)) outputs old new =
-    (s : Setting V) (w : SystemWorld V) → IsSystemAt m s w old → (next : SystemWorld V) × Stops s w ev limit next × (packets_in outputs ≡ newly_released w next)
+    (s : Setting V) (w : SystemWorld V) → IsSystemAt m s w old
+    → (next : SystemWorld V) × Stops s w ev limit next × (packets_in outputs ≡ newly_released w next)
 ComesTo {P} {V} m ev (Err stop.NoMemory) outputs old new =
     (s : Setting V) (w : SystemWorld V) → IsSystemAt m s w old → outputs ≡ []
 
--- What it came to to write, behind these writes, what an event left: its records and its line; or, where it stopped at a limit, what it
--- released before; or nothing, where memory ran out.
-abbrev pub WritesPerformed : Result ⊤ RunError → Result SystemReply Stop → Event → List Packet → List Write → List ℕ → List ℕ → Shown → Shown → Type 0
+-- What it came to to write, behind these writes, what an event left: its records and its line; or, where it stopped at
+-- a limit, what it released before; or nothing, where memory ran out.
+abbrev pub WritesPerformed : Result ⊤ RunError → Result SystemReply Stop → Event → List Packet → List Write → List ℕ
+    → List ℕ → Shown → Shown → Type 0
 WritesPerformed result (Ok reply) ev released writes name lines old new =
     (freed : List Sent) → reply.released ≡ sent_names freed
     → (files : Result ⊤ OutputError) × (result ≡ run_result_of files) × OnOk files (All FitsRecord released)
-    × WritesGathered files (writes ++ reply_writes name (record { released = released; line = reply_line ev reply.outcome freed })) lines old new
+    × WritesGathered files
+    (writes ++ reply_writes name (record { released = released; line = reply_line ev reply.outcome freed })) lines
+    old new
 WritesPerformed result (Err (stop.Limit limit)) ev released writes name lines old new =
-    (files : Result ⊤ OutputError) × (result ≡ stopped_result files limit) × Writes files (writes ++ release_writes name released) old new
-WritesPerformed result (Err stop.NoMemory) ev released writes name lines old new = (result ≡ Err run.NoMemory) × HasBegun writes old new
+    (files : Result ⊤ OutputError)
+    × (result ≡ stopped_result files limit)
+    × Writes files (writes ++ release_writes name released) old new
+WritesPerformed result (Err stop.NoMemory) ev released writes name lines old new =
+    (result ≡ Err run.NoMemory) × HasBegun writes old new
 
 -- The system is at some world, on packets that a record can have.
 abbrev pub IsSomewhere : {P V : Type 0} → Meaning V → Systemed P V → Type 0
 IsSomewhere {P} {V} m y = (s : Setting V) × (w : SystemWorld V) × IsSystemAt m s w y × All IsShort s.packets
 
--- The events were performed, the system is at their world, and what they write was written but for the lines that are gathered.
-pub record HasCome {P V : Type 0} (m : Meaning V) (s : Setting V) (names : OutputNames) (events : List Event) (y : Systemed P V) (lines : List ℕ) (old new : Shown) : Type 0 where
+-- The events were performed, the system is at their world, and what they write was written but for the lines that are
+-- gathered.
+pub record HasCome {P V : Type 0} (m : Meaning V) (s : Setting V) (names : OutputNames) (events : List Event)
+    (y : Systemed P V) (lines : List ℕ) (old new : Shown) : Type 0 where
   pub replies : List Reply
   pub world : SystemWorld V
   pub answers : Answers s events replies world
@@ -68,7 +79,8 @@ pub record HasCome {P V : Type 0} (m : Meaning V) (s : Setting V) (names : Outpu
   pub gathered : HasGathered (writes_of names s.fractions replies) lines old new
 
 -- An event stopped at a limit, and all that is to be written until then was written.
-pub record StoppedThere {V : Type 0} (s : Setting V) (names : OutputNames) (events : List Event) (limit : Limit) (old new : Shown) : Type 0 where
+pub record StoppedThere {V : Type 0} (s : Setting V) (names : OutputNames) (events : List Event) (limit : Limit)
+    (old new : Shown) : Type 0 where
   pub writes : List Write
   pub until : WritesUntil s names events limit writes
   pub written : HasWritten writes old new
@@ -76,10 +88,14 @@ pub record StoppedThere {V : Type 0} (s : Setting V) (names : OutputNames) (even
 -- some first part of what these events write was written, where they may have stopped at a limit
 abbrev pub HasBegunSome : {V : Type 0} → Setting V → OutputNames → List Event → Shown → Shown → Type 0
 HasBegunSome s names events old new =
-    (writes : List Write) × (WritesSome s names events writes ⊎ ((limit : Limit) × WritesUntil s names events limit writes)) × HasBegun writes old new
+    (writes : List Write)
+    × (WritesSome s names events writes ⊎ ((limit : Limit) × WritesUntil s names events limit writes))
+    × HasBegun writes old new
 
--- What performing and writing the events came to: all of it was done; or it stopped at a limit; or a first part of it was written.
-abbrev pub GoesOn : {A P V : Type 0} → Result A RunError → Meaning V → Setting V → OutputNames → List Event → Systemed P V → List ℕ → Shown → Shown → Type 0
+-- What performing and writing the events came to: all of it was done; or it stopped at a limit; or a first part of it
+-- was written.
+abbrev pub GoesOn : {A P V : Type 0} → Result A RunError → Meaning V → Setting V → OutputNames → List Event
+    → Systemed P V → List ℕ → Shown → Shown → Type 0
 GoesOn (Ok done) m s names events y lines old new = HasCome m s names events y lines old new
 GoesOn (Err (run.Limit limit)) m s names events y lines old new = StoppedThere s names events limit old new
 GoesOn (Err run.WriteFault) m s names events y lines old new = HasBegunSome s names events old new

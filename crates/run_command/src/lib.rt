@@ -1,5 +1,5 @@
-//! The run of a script: a recovering system performs its events one by one, and what falls due is written after each of them, first
-//! the records of the packets that it released, then its line of the report.
+//! The run of a script: a recovering system performs its events one by one, and what falls due is written after each of
+//! them, first the records of the packets that it released, then its line of the report.
 #![tactic(auto)]
 
 mod ending;

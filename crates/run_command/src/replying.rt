@@ -50,8 +50,8 @@ fn write_answer<W: World>(
     write_reply(alloc, world, file, lines, line, outputs)
 }
 
-/// Writes what an event left: the records of what it released, and then its line, which may be gathered. Where it stopped at a limit,
-/// what it released before and all lines before it are written.
+/// Writes what an event left: the records of what it released, and then its line, which may be gathered. Where it
+/// stopped at a limit, what it released before and all lines before it are written.
 pub fn write_performed<W: World>(
     alloc: Global,
     world: &mut W,

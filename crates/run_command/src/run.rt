@@ -1,10 +1,12 @@
-ghost use Rattle.std.specs.Prelude.{◌≡◌, ◌<◌, ◌-◌, ◌^◌, [], IfOk, IsTrue, OnOk, IsErrOf, Err, false};
+ghost use Rattle.std.specs.Prelude.{◌≡◌, ◌<◌, ◌-◌, ◌^◌, [], IfOk, IsTrue, OnOk, IsErrOf, Err};
+ghost use Rattle.std.specs.Prelude.{false};
 ghost use Rattle.plain_text.specs.declared.limit.Limit.{Limit as LimitKind};
 ghost use Rattle.world_io.specs.World.{is_writable, WritingFailed};
 ghost use Rattle.recovery_world.specs.World.{Setting, opening};
 ghost use Rattle.output_files.specs.Writes.{IsOutput};
 ghost use Rattle.output_files.specs.Written.{WritesFiles};
-ghost use Rattle.run_writes.specs.Run.{CanRun, HasBegunRun, HasRun, HasStopped, names_of, setting_of};
+ghost use Rattle.run_writes.specs.Run.{CanRun, HasBegunRun, HasRun, HasStopped, names_of};
+ghost use Rattle.run_writes.specs.Run.{setting_of};
 ghost use Rattle.run_command.specs.Running.{GoesOn, IsSystemAt, IsSomewhere};
 
 use crate::{close_run, perform_events};
@@ -16,7 +18,8 @@ use run_writes::{RunError, RunFiles, ScriptRun, open_outputs, written};
 use std::alloc::Global;
 use world_io::World;
 
-/// Creates the outputs, and performs the events of a script and writes what each leaves. Gives the number of the schedule.
+/// Creates the outputs, and performs the events of a script and writes what each leaves. Gives the number of the
+/// schedule.
 fn write_events<P: Program, W: World>(
     alloc: Global,
     world: &mut W,
@@ -51,9 +54,9 @@ fn write_events<P: Program, W: World>(
 
 /// Runs a program on the packets, by the events of a script, and writes the outputs.
 ///
-/// The released capture is created first and gets its header, and then the schedule. After each event the records of what it
-/// released are written, and then its line of the report; lines may be gathered until an event releases something. When all events
-/// were performed, the schedule and the last line are written.
+/// The released capture is created first and gets its header, and then the schedule. After each event the records of
+/// what it released are written, and then its line of the report; lines may be gathered until an event releases
+/// something. When all events were performed, the schedule and the last line are written.
 pub fn run_script<P: Program, W: World>(
     alloc: Global,
     world: &mut W,

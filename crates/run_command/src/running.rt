@@ -16,8 +16,8 @@ use run_writes::RunError;
 use std::alloc::Global;
 use world_io::World;
 
-/// Performs an event, and writes what it leaves: the records of what it released, and then its line, which may be gathered. Where it
-/// stops at a limit, what it released before and all lines before it are written.
+/// Performs an event, and writes what it leaves: the records of what it released, and then its line, which may be
+/// gathered. Where it stops at a limit, what it released before and all lines before it are written.
 pub fn perform_event<P: Program, W: World>(
     alloc: Global,
     world: &mut W,

@@ -14,10 +14,13 @@ use Rattle.run_end.proofs.InputLemmas.{none_part}
 
 -- a thread has no more inputs than were fed
 few_inputs : (fed : Fed) (t : ℕ) → length (inputs_of fed t) ≤ length fed.packets
-few_inputs fed t = let e = length-filter (λ packet. thread_of packet fed.threads == t) fed.packets in let k = count_by-le-length (λ packet. thread_of packet fed.threads == t) fed.packets in omega (arith, e, k)
+few_inputs fed t =
+    let e = length-filter (λ packet. thread_of packet fed.threads == t) fed.packets in
+    let k = count_by-le-length (λ packet. thread_of packet fed.threads == t) fed.packets in omega (arith, e, k)
 
-pub room_there : {V : Type 0} (m : Meaning V) (fits : ℕ → V → Type 0) → IsLawful m fits → (fed : Fed) (threads : ℕ) (now : List (Step V)) (p : Mastered V) (t : ℕ)
-    → IsHistory m (inputs_of fed) threads now → length fed.packets < 2 ^ 50 → Stands m threads now p → t < threads → HasRoom p t
+pub room_there : {V : Type 0} (m : Meaning V) (fits : ℕ → V → Type 0) → IsLawful m fits → (fed : Fed) (threads : ℕ)
+    (now : List (Step V)) (p : Mastered V) (t : ℕ) → IsHistory m (inputs_of fed) threads now
+    → length fed.packets < 2 ^ 50 → Stands m threads now p → t < threads → HasRoom p t
 room_there m fits lawful fed threads now p t h few stands low = λ d.
     let made = (stands.thread t d low).made in
     let moves = few_moves m fits lawful (inputs_of fed) threads now h t in
@@ -29,11 +32,13 @@ room_there m fits lawful fed threads now p t h few stands low = λ d.
 abbrev pub moves_left : {V : Type 0} → Mastered V → ℕ → ℕ
 moves_left p t = 2 ^ 56 - part_moves (slice_index_or p.threads t none_part)
 
-pub moves_fall : {V : Type 0} (m : Meaning V) (threads : ℕ) (now : List (Step V)) (x : Step V) (p q : Mastered V) (t : ℕ) → Stands m threads now p → Stands m threads (x ∷ now) q → x.thread ≡ t → t < threads → HasRoom p t
+pub moves_fall : {V : Type 0} (m : Meaning V) (threads : ℕ) (now : List (Step V)) (x : Step V) (p q : Mastered V)
+    (t : ℕ) → Stands m threads now p → Stands m threads (x ∷ now) q → x.thread ≡ t → t < threads → HasRoom p t
     → moves_left q t < moves_left p t
 moves_fall m threads now x p q t before after th low room = go (moves_step t x now)
   where
-    go : ((x.thread ≢ t) × (moves_of t (x ∷ now) ≡ moves_of t now)) ⊎ ((x.thread ≡ t) × (moves_of t (x ∷ now) ≡ moves_of t now + 1)) → moves_left q t < moves_left p t
+    go : ((x.thread ≢ t) × (moves_of t (x ∷ now) ≡ moves_of t now))
+        ⊎ ((x.thread ≡ t) × (moves_of t (x ∷ now) ≡ moves_of t now + 1)) → moves_left q t < moves_left p t
     go (inl k) = absurd (k.0 th)
     go (inr k) =
         let a = (before.thread t none_part low).made in

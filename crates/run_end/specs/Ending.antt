@@ -24,9 +24,10 @@ pub record IsOrder {V : Type 0} (s : Setting V) (w : World V) (order : List Entr
   pub all : (e : Entry) → IsToCome w e → IsIn e order
   pub in_order : (line : List (Step V)) → IsLine s w line → AreInOrder (log_of line) order
 
--- What is at hand is that of a sound world whose master is up: the program, the inputs that were fed, the master with the
--- schedule of its moves, the followed entries in order, and the greatest released output of each thread.
-pub record IsEndOf {V : Type 0} (m : Meaning V) (s : Setting V) (w : World V) (fed : Fed) (p : Mastered V) (schedule : List PlainMove) (order : List Entry) (numbers : List ℕ) : Type 0 where
+-- What is at hand is that of a sound world whose master is up: the program, the inputs that were fed, the master with
+-- the schedule of its moves, the followed entries in order, and the greatest released output of each thread.
+pub record IsEndOf {V : Type 0} (m : Meaning V) (s : Setting V) (w : World V) (fed : Fed) (p : Mastered V)
+    (schedule : List PlainMove) (order : List Entry) (numbers : List ℕ) : Type 0 where
   pub sound : Sound s w
   pub up : w.up ≡ true
   pub meaning : s.meaning ≡ m
@@ -37,7 +38,8 @@ pub record IsEndOf {V : Type 0} (m : Meaning V) (s : Setting V) (w : World V) (f
 
 -- it is that of some world
 abbrev pub IsEndOfSome : {V : Type 0} → Meaning V → Fed → Mastered V → List PlainMove → List Entry → List ℕ → Type 0
-IsEndOfSome {V} m fed p schedule order numbers = (s : Setting V) × (w : World V) × IsEndOf m s w fed p schedule order numbers
+IsEndOfSome {V} m fed p schedule order numbers =
+    (s : Setting V) × (w : World V) × IsEndOf m s w fed p schedule order numbers
 
 -- These are the moves of the run in which the world ends.
 pub record EndsIn {V : Type 0} (s : Setting V) (w : World V) (schedule : List PlainMove) : Type 0 where

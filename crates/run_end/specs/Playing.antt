@@ -15,19 +15,25 @@ use Rattle.recovery_world.specs.Files.{answer_of_entry, answer_of, moves_made}
 use Rattle.recovery_world.specs.Finish.{greatest, GoesOn, AllGoOn}
 
 -- The master is where the machine is after these steps, and the schedule has their moves.
-pub record IsMasterAfter {V : Type 0} (m : Meaning V) (threads : ℕ) (steps : List (Step V)) (p : Mastered V) (schedule : List PlainMove) : Type 0 where
+pub record IsMasterAfter {V : Type 0} (m : Meaning V) (threads : ℕ) (steps : List (Step V)) (p : Mastered V)
+    (schedule : List PlainMove) : Type 0 where
   pub stands : Stands m threads steps p
   pub schedule_is : schedule ≡ moves_made steps
 
--- The master is where some way begins: one of a machine with this number of threads, from the steps until now to more steps.
-abbrev pub StandsBefore : {V : Type 0} → (ℕ → List (Step V) → List (Step V) → Type 0) → Meaning V → Mastered V → List PlainMove → Type 0
+-- The master is where some way begins: one of a machine with this number of threads, from the steps until now to more
+-- steps.
+abbrev pub StandsBefore : {V : Type 0} → (ℕ → List (Step V) → List (Step V) → Type 0) → Meaning V → Mastered V
+    → List PlainMove → Type 0
 StandsBefore {V} Leads m p schedule =
-    (threads : ℕ) × (now : List (Step V)) × (steps : List (Step V)) × Leads threads now steps × IsMasterAfter m threads now p schedule
+    (threads : ℕ) × (now : List (Step V)) × (steps : List (Step V)) × Leads threads now steps
+    × IsMasterAfter m threads now p schedule
 
 -- Wherever such a way begins where the master was, it ends where the master is.
-abbrev pub PlaysOn : {V : Type 0} → (ℕ → List (Step V) → List (Step V) → Type 0) → Meaning V → Mastered V → List PlainMove → Mastered V → List PlainMove → Type 0
+abbrev pub PlaysOn : {V : Type 0} → (ℕ → List (Step V) → List (Step V) → Type 0) → Meaning V → Mastered V
+    → List PlainMove → Mastered V → List PlainMove → Type 0
 PlaysOn {V} Leads m old moves new schedule =
-    (threads : ℕ) (now steps : List (Step V)) → Leads threads now steps → IsMasterAfter m threads now old moves → IsMasterAfter m threads steps new schedule
+    (threads : ℕ) (now steps : List (Step V)) → Leads threads now steps → IsMasterAfter m threads now old moves
+    → IsMasterAfter m threads steps new schedule
 
 -- what a move is told, where it is told something, is this
 abbrev pub IsTold : {V : Type 0} → Act V → ℕ → Type 0
@@ -46,11 +52,13 @@ LeadsTo m fed e threads now steps =
 -- the same for each of these entries, one after another
 abbrev pub LeadsBy : {V : Type 0} → Meaning V → Fed → List Entry → ℕ → List (Step V) → List (Step V) → Type 0
 LeadsBy m fed [] threads now steps = IsHistory m (inputs_of fed) threads steps × (steps ≡ now)
-LeadsBy {V} m fed (e ∷ later) threads now steps = (mid : List (Step V)) × LeadsTo m fed e threads now mid × LeadsBy m fed later threads mid steps
+LeadsBy {V} m fed (e ∷ later) threads now steps =
+    (mid : List (Step V)) × LeadsTo m fed e threads now mid × LeadsBy m fed later threads mid steps
 
 -- the moves of the thread, not logged, until it has sent out this number of packets
 abbrev pub SendsUpTo : {V : Type 0} → Meaning V → Fed → ℕ → ℕ → ℕ → List (Step V) → List (Step V) → Type 0
-SendsUpTo m fed t many threads now steps = (t < threads) × IsHistory m (inputs_of fed) threads steps × GoesOn t many now steps
+SendsUpTo m fed t many threads now steps =
+    (t < threads) × IsHistory m (inputs_of fed) threads steps × GoesOn t many now steps
 
 -- for each thread there is its greatest released output
 abbrev pub AreGreatest : List Sent → ℕ → List ℕ → Type 0

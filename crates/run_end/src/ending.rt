@@ -15,13 +15,14 @@ use std::alloc::Global;
 
 /// The schedule of the run in which a world ends, from its master and the schedule of the moves that the master made.
 ///
-/// `order` has the followed entries by weight, then thread, the first one first: all that the master has not made yet, and any
-/// that it has, which are passed over. `numbers` has for each thread the number of its greatest released output, or 0. The
-/// master makes the entries in this order, each after the moves of its thread that lead to it, with the recorded value of a
-/// clock or a draw. Then each thread, in increasing order, goes on while it sent out fewer packets than its number says.
+/// `order` has the followed entries by weight, then thread, the first one first: all that the master has not made yet,
+/// and any that it has, which are passed over. `numbers` has for each thread the number of its greatest released
+/// output, or 0. The master makes the entries in this order, each after the moves of its thread that lead to it, with
+/// the recorded value of a clock or a draw. Then each thread, in increasing order, goes on while it sent out fewer
+/// packets than its number says.
 ///
-/// It takes only inputs that were fed, in time by the moves that it makes and the entries. There are fewer than 2 to the 50
-/// inputs, so that no thread makes more moves than a master counts.
+/// It takes only inputs that were fed, in time by the moves that it makes and the entries. There are fewer than 2 to
+/// the 50 inputs, so that no thread makes more moves than a master counts.
 pub fn finish_run<P: Program>(
     alloc: Global,
     program: &P,

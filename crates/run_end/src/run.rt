@@ -1,7 +1,8 @@
 ghost use Rattle.std.specs.Prelude.{◌≡◌, ◌<◌, ◌^◌, OnOk, length, slice_index};
 ghost use Rattle.box_program.specs.Hands.{FitsProgram};
 ghost use Rattle.master_core.specs.Mastered.{value_of};
-ghost use Rattle.run_end.specs.Playing.{StandsBefore, PlaysOn, MakesNext, LeadsTo, LeadsBy, SendsUpTo, SendsAll};
+ghost use Rattle.run_end.specs.Playing.{StandsBefore, PlaysOn, MakesNext, LeadsTo, LeadsBy};
+ghost use Rattle.run_end.specs.Playing.{SendsUpTo, SendsAll};
 
 use crate::next::{answer_of, input_of, told_by};
 use access_log::Turn;

@@ -5,10 +5,12 @@ use Rattle.world_io.specs.World.{Shown, Ledger, KeepsLedgerWriting, GivesCreated
 use Rattle.output_files.specs.Writes.{Appends, HasWritten, HasBegun}
 
 -- the same bytes are appended
-pub same_append : (name bytes other : List ℕ) (a b : Shown) → bytes ≡ other → HasWritten (Appends name bytes ∷ []) a b → HasWritten (Appends name other ∷ []) a b
+pub same_append : (name bytes other : List ℕ) (a b : Shown) → bytes ≡ other → HasWritten (Appends name bytes ∷ []) a b
+    → HasWritten (Appends name other ∷ []) a b
 same_append name bytes other a b same h = subst (λ (l : List ℕ). HasWritten (Appends name l ∷ []) a b) same h
 
-pub same_append_begun : (name bytes other : List ℕ) (a b : Shown) → bytes ≡ other → HasBegun (Appends name bytes ∷ []) a b → HasBegun (Appends name other ∷ []) a b
+pub same_append_begun : (name bytes other : List ℕ) (a b : Shown) → bytes ≡ other
+    → HasBegun (Appends name bytes ∷ []) a b → HasBegun (Appends name other ∷ []) a b
 same_append_begun name bytes other a b same h = subst (λ (l : List ℕ). HasBegun (Appends name l ∷ []) a b) same h
 
 -- both outputs may be written
@@ -23,12 +25,16 @@ made_writable ledger file made = go (nat_eq file 0) (ledger.created file) made
 pub created_still : (b c : Ledger) (file : ℕ) → b.created file ≡ true → KeepsLedgerWriting b c → c.created file ≡ true
 created_still b c file made keeps = ap (λ (f : ℕ → Bool). f file) keeps.created ∙ made
 
-pub both_writable : (c d : Ledger) (first second : ℕ) → c.created first ≡ true → GivesCreated second c d → IsTrue (is_writable d first) × IsTrue (is_writable d second)
+pub both_writable : (c d : Ledger) (first second : ℕ) → c.created first ≡ true → GivesCreated second c d
+    → IsTrue (is_writable d first) × IsTrue (is_writable d second)
 both_writable c d first second made gives = (
-  made_writable d first (gives.others first (λ same. let no : true ≡ false = sym made ∙ ap c.created same ∙ gives.fresh.not_created in cc) ∙ made),
+  made_writable d first
+      (gives.others first (λ same. let no : true ≡ false = sym made ∙ ap c.created same ∙ gives.fresh.not_created in cc)
+      ∙ made),
   made_writable d second gives.created,
 )
 
 -- what may be written may still be written after writing
-pub writable_still : (b c : Ledger) (file : ℕ) → IsTrue (is_writable b file) → KeepsLedgerWriting b c → IsTrue (is_writable c file)
+pub writable_still : (b c : Ledger) (file : ℕ) → IsTrue (is_writable b file) → KeepsLedgerWriting b c
+    → IsTrue (is_writable c file)
 writable_still b c file may keeps = subst (λ (f : ℕ → Bool). IsTrue (nat_eq file 0 || f file)) (sym keeps.created) may

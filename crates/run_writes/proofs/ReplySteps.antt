@@ -7,13 +7,15 @@ use Rattle.output_files.specs.Written.{Writes, WritesGathered}
 use Rattle.output_files.proofs.Effects.{begun_before, gathered_begun, line_gathered, none_gathered}
 
 module _ (writes : List Write) (name records line : List ℕ) (a : Shown) where
-  all_same : (writes ++ Appends name records ∷ []) ++ Reports line ∷ [] ≡ writes ++ (Appends name records ∷ Reports line ∷ [])
+  all_same : (writes ++ Appends name records ∷ []) ++ Reports line ∷ []
+      ≡ writes ++ (Appends name records ∷ Reports line ∷ [])
   all_same = append_assoc writes (Appends name records ∷ []) (Reports line ∷ [])
 
   pub reply_begun : (b : Shown) → HasBegun (writes ++ Appends name records ∷ []) a b
       → HasBegun (writes ++ (Appends name records ∷ Reports line ∷ [])) a b
   reply_begun b h =
-      subst (λ (ws : List Write). HasBegun ws a b) all_same (begun_before (writes ++ Appends name records ∷ []) (Reports line ∷ []) a b h)
+      subst (λ (ws : List Write). HasBegun ws a b) all_same
+      (begun_before (writes ++ Appends name records ∷ []) (Reports line ∷ []) a b h)
 
   pub reply_lines_begun : (lines : List ℕ) (b : Shown) → HasGathered (writes ++ Appends name records ∷ []) lines a b
       → HasBegun (writes ++ (Appends name records ∷ Reports line ∷ [])) a b
@@ -30,18 +32,20 @@ module _ (writes : List Write) (name records line : List ℕ) (a : Shown) where
       (line_gathered (writes ++ Appends name records ∷ []) lines line a b h))
 
 -- the same records are written
-pub same_reply : {A : Type 0} (r : Result A OutputError) (writes : List Write) (name bytes records line lines : List ℕ) (a b : Shown)
-    → bytes ≡ records → WritesGathered r (writes ++ (Appends name bytes ∷ Reports line ∷ [])) lines a b
+pub same_reply : {A : Type 0} (r : Result A OutputError) (writes : List Write) (name bytes records line lines : List ℕ)
+    (a b : Shown) → bytes ≡ records → WritesGathered r (writes ++ (Appends name bytes ∷ Reports line ∷ [])) lines a b
     → WritesGathered r (writes ++ (Appends name records ∷ Reports line ∷ [])) lines a b
 same_reply r writes name bytes records line lines a b same h =
     subst (λ (l : List ℕ). WritesGathered r (writes ++ (Appends name l ∷ Reports line ∷ [])) lines a b) same h
 
-pub same_records : {A : Type 0} (r : Result A OutputError) (writes : List Write) (name bytes records : List ℕ) (a b : Shown)
-    → bytes ≡ records → Writes r (writes ++ Appends name bytes ∷ []) a b → Writes r (writes ++ Appends name records ∷ []) a b
+pub same_records : {A : Type 0} (r : Result A OutputError) (writes : List Write) (name bytes records : List ℕ)
+    (a b : Shown) → bytes ≡ records → Writes r (writes ++ Appends name bytes ∷ []) a b
+    → Writes r (writes ++ Appends name records ∷ []) a b
 same_records r writes name bytes records a b same h =
     subst (λ (l : List ℕ). Writes r (writes ++ Appends name l ∷ []) a b) same h
 
 -- no line is gathered after they were written
-pub lines_gone : (writes : List Write) (lines : List ℕ) (a b : Shown) → lines ≡ [] → HasWritten writes a b → HasGathered writes lines a b
+pub lines_gone : (writes : List Write) (lines : List ℕ) (a b : Shown) → lines ≡ [] → HasWritten writes a b
+    → HasGathered writes lines a b
 lines_gone writes lines a b none h =
     subst (λ (l : List ℕ). HasGathered writes l a b) (sym none) (none_gathered writes a b h)

@@ -25,10 +25,10 @@ newly_released w new = packets_of (drop (length w.released) new.released)
 -- The events, performed in order from the opening, leave these replies, one each, and lead to this world.
 pub data Answers {V : Type 0} (s : Setting V) : List Event → List Reply → SystemWorld V → Type 0 where
   Opens : Answers s [] [] (opening V)
-  Goes : {events : List Event} {replies : List Reply} {w new : SystemWorld V}
-      (ev : Event) (to : Outcome) (freed : List Sent)
-      → Answers s events replies w → OnAny s w ev to freed new
-      → Answers s (events ++ ev ∷ []) (replies ++ (record { released = newly_released w new; line = reply_line ev to freed }) ∷ []) new
+  Goes : {events : List Event} {replies : List Reply} {w new : SystemWorld V} (ev : Event) (to : Outcome)
+      (freed : List Sent) → Answers s events replies w → OnAny s w ev to freed new
+      → Answers s (events ++ ev ∷ [])
+      (replies ++ (record { released = newly_released w new; line = reply_line ev to freed }) ∷ []) new
 
 abbrev pub released_in : List Reply → List Packet
 released_in replies = flat_map (λ (r : Reply). r.released) replies

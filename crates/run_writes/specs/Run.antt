@@ -1,5 +1,6 @@
--- What the command `run` writes, and in which order: the released capture gets its header, and the schedule is created; then, event
--- by event, the records of what it released, and its line of the report; and then the schedule, and the last line.
+-- What the command `run` writes, and in which order: the released capture gets its header, and the schedule is created;
+-- then, event by event, the records of what it released, and its line of the report; and then the schedule, and the
+-- last line.
 use Rattle.std.specs.Prelude.{◌≡◌, ◌⊎◌, ℕ, ◌≤◌, All, List, [], ◌∷◌, ◌++◌, codes, Some, Result, Ok, Err, ⊤}
 use Rattle.plain_text.specs.Octets.{IsOfBytes}
 use Rattle.plain_text.specs.Packets.{IsShort}
@@ -58,7 +59,8 @@ pub record FitsRecord (p : Packet) : Type 0 where
   pub of_bytes : IsOfBytes p
 
 abbrev pub opening_writes : OutputNames → FractionUnit → List Write
-opening_writes names u = Creates names.released ∷ Appends names.released (written_header u) ∷ Creates names.schedule ∷ []
+opening_writes names u =
+    Creates names.released ∷ Appends names.released (written_header u) ∷ Creates names.schedule ∷ []
 
 -- the records of these packets go to the capture of this name
 abbrev pub release_writes : List ℕ → List Packet → List Write
@@ -76,13 +78,15 @@ writes_of names u replies = opening_writes names u ++ replies_writes names.relea
 
 -- the last line of a report, with these counts
 abbrev pub counts_line : ℕ → ℕ → ℕ → List ℕ
-counts_line fed epoch released = one (codes "done fed ") fed ++ two (codes " epoch ") epoch (codes " released ") released ++ codes "\n"
+counts_line fed epoch released =
+    one (codes "done fed ") fed ++ two (codes " epoch ") epoch (codes " released ") released ++ codes "\n"
 
 abbrev pub closing_writes : OutputNames → List PlainMove → List ℕ → List Write
 closing_writes names schedule line = Appends names.schedule (schedule_text schedule) ∷ Reports line ∷ []
 
 -- Some of the events were performed, in order, and this is what they write.
-pub record WritesSome {V : Type 0} (s : Setting V) (names : OutputNames) (events : List Event) (writes : List Write) : Type 0 where
+pub record WritesSome {V : Type 0} (s : Setting V) (names : OutputNames) (events : List Event)
+    (writes : List Write) : Type 0 where
   pub before : List Event
   pub after : List Event
   pub events_are : events ≡ before ++ after
@@ -92,7 +96,8 @@ pub record WritesSome {V : Type 0} (s : Setting V) (names : OutputNames) (events
   pub writes_are : writes ≡ writes_of names s.fractions replies
 
 -- An event stopped at this limit: behind what the events before it write stand the records of what it released.
-pub record WritesUntil {V : Type 0} (s : Setting V) (names : OutputNames) (events : List Event) (limit : Limit) (writes : List Write) : Type 0 where
+pub record WritesUntil {V : Type 0} (s : Setting V) (names : OutputNames) (events : List Event) (limit : Limit)
+    (writes : List Write) : Type 0 where
   pub before : List Event
   pub event : Event
   pub after : List Event
@@ -102,10 +107,12 @@ pub record WritesUntil {V : Type 0} (s : Setting V) (names : OutputNames) (event
   pub answers : Answers s before replies there
   pub world : SystemWorld V
   pub stops : Stops s there event limit world
-  pub writes_are : writes ≡ writes_of names s.fractions replies ++ release_writes names.released (newly_released there world)
+  pub writes_are : writes
+      ≡ writes_of names s.fractions replies ++ release_writes names.released (newly_released there world)
 
 -- All events were performed, and the run is finished.
-pub record WritesAll {V : Type 0} (s : Setting V) (names : OutputNames) (events : List Event) (writes : List Write) : Type 0 where
+pub record WritesAll {V : Type 0} (s : Setting V) (names : OutputNames) (events : List Event)
+    (writes : List Write) : Type 0 where
   pub replies : List Reply
   pub world : SystemWorld V
   pub answers : Answers s events replies world
@@ -113,12 +120,14 @@ pub record WritesAll {V : Type 0} (s : Setting V) (names : OutputNames) (events 
   pub finish : IsFinish s world steps
   pub fit_records : All FitsRecord (released_in replies)
   pub fit_lines : FitLines (moves_made steps)
-  pub writes_are : writes ≡ writes_of names s.fractions replies ++ closing_writes names (moves_made steps) (done_line world)
+  pub writes_are : writes
+      ≡ writes_of names s.fractions replies ++ closing_writes names (moves_made steps) (done_line world)
 
 -- a run of these events writes this, so far as it comes
 abbrev pub IsWritten : {V : Type 0} → Setting V → OutputNames → List Event → List Write → Type 0
 IsWritten s names events writes =
-    WritesSome s names events writes ⊎ (((limit : Limit) × WritesUntil s names events limit writes) ⊎ WritesAll s names events writes)
+    WritesSome s names events writes
+    ⊎ (((limit : Limit) × WritesUntil s names events limit writes) ⊎ WritesAll s names events writes)
 
 -- What a call leaves
 
@@ -129,17 +138,20 @@ pub record KeepsShown (old new : Shown) : Type 0 where
 
 -- all names but the outputs are as they were
 abbrev pub KeepsOthers : OutputNames → Shown → Shown → Type 0
-KeepsOthers names old new = (name : List ℕ) → ¬ (name ≡ names.released) → ¬ (name ≡ names.schedule) → new.names name ≡ old.names name
+KeepsOthers names old new =
+    (name : List ℕ) → ¬ (name ≡ names.released) → ¬ (name ≡ names.schedule) → new.names name ≡ old.names name
 
 -- the outputs are these: the released packets as a capture, the schedule, and the report
-pub record HasFiles (names : OutputNames) (u : FractionUnit) (released : List Packet) (schedule report : List ℕ) (old new : Shown) : Type 0 where
+pub record HasFiles (names : OutputNames) (u : FractionUnit) (released : List Packet) (schedule report : List ℕ)
+    (old new : Shown) : Type 0 where
   pub released_is : new.names names.released ≡ Some (written u released)
   pub schedule_is : new.names names.schedule ≡ Some schedule
   pub report_is : new.sent report_file ≡ old.sent report_file ++ report
   pub others : KeepsOthers names old new
 
 -- the outputs are the files that the events leave; what was released fits records, and the moves fit lines
-pub record HasRun {V : Type 0} (s : Setting V) (names : OutputNames) (events : List Event) (old new : Shown) : Type 0 where
+pub record HasRun {V : Type 0} (s : Setting V) (names : OutputNames) (events : List Event)
+    (old new : Shown) : Type 0 where
   pub report : List ℕ
   pub released : List Packet
   pub schedule : List PlainMove
@@ -148,9 +160,10 @@ pub record HasRun {V : Type 0} (s : Setting V) (names : OutputNames) (events : L
   pub fit_lines : FitLines schedule
   pub files : HasFiles names s.fractions released (schedule_text schedule) report old new
 
--- An event stopped at this limit: the report has the lines of those before it, the released capture has all that was released
--- until then, and the schedule is empty.
-pub record HasStopped {V : Type 0} (s : Setting V) (names : OutputNames) (events : List Event) (limit : Limit) (old new : Shown) : Type 0 where
+-- An event stopped at this limit: the report has the lines of those before it, the released capture has all that was
+-- released until then, and the schedule is empty.
+pub record HasStopped {V : Type 0} (s : Setting V) (names : OutputNames) (events : List Event) (limit : Limit)
+    (old new : Shown) : Type 0 where
   pub report : List ℕ
   pub released : List Packet
   pub leaves : LeavesAt s events limit report released
@@ -162,5 +175,6 @@ HasBegunRun s names events old new = (writes : List Write) × IsWritten s names 
 
 -- All of what the run of the events writes was written, or after an error some first part of it.
 abbrev pub Finishes : {V E : Type 0} → Result ⊤ E → Setting V → OutputNames → List Event → Shown → Shown → Type 0
-Finishes (Ok done) s names events old new = (writes : List Write) × WritesAll s names events writes × HasWritten writes old new
+Finishes (Ok done) s names events old new =
+    (writes : List Write) × WritesAll s names events writes × HasWritten writes old new
 Finishes (Err error) s names events old new = HasBegunRun s names events old new

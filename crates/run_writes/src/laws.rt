@@ -7,9 +7,9 @@ ghost use Rattle.output_files.specs.Writes.{Write, IsCut};
 ghost use Rattle.run_writes.specs.Run.{OutputNames, WritesSome, WritesUntil, WritesAll};
 ghost use Rattle.run_writes.specs.Steps.{KeepStep};
 
-/// Wherever a call ends, the released capture and the report keep step: where the report has the whole line of an event, the capture
-/// has the records of all that was released up to and with that event; and it has a byte of the record of an output only where the
-/// report has the whole lines of all events before the one that released it.
+/// Wherever a call ends, the released capture and the report keep step: where the report has the whole line of an
+/// event, the capture has the records of all that was released up to and with that event; and it has a byte of the
+/// record of an output only where the report has the whole lines of all events before the one that released it.
 pub fn outputs_keep_step<X>()
     ensures some { (s : Setting X) (names : OutputNames) (events : List Event)
         (writes done : List Write) → (names.released ≡ names.schedule → ⊥)

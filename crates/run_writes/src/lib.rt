@@ -1,5 +1,5 @@
-//! What the command `run` writes: the released capture and the schedule are created; then come, event by event, the records of what it
-//! released and its line of the report; and then the schedule and the last line.
+//! What the command `run` writes: the released capture and the schedule are created; then come, event by event, the
+//! records of what it released and its line of the report; and then the schedule and the last line.
 #![tactic(auto)]
 
 mod closing;

@@ -10,8 +10,8 @@ use plain_text::{Packets, Text, Unit};
 use script_text::Events;
 use world_io::World;
 
-/// What is run: the packets of a capture, on 1 to 16 threads, by the events of a script. Random words come from the generator of the
-/// seed.
+/// What is run: the packets of a capture, on 1 to 16 threads, by the events of a script. Random words come from the
+/// generator of the seed.
 #[derive(Drop)]
 pub struct ScriptRun {
     /// The number of threads, 1 to 16.

@@ -1,4 +1,5 @@
-ghost use Rattle.std.specs.Prelude.{◌≡◌, ◌<◌, ◌^◌, ◌∷◌, ◌++◌, [], ℕ, All, List, IfOk, OnOk, OnErr, IsTrue, IsErrOf};
+ghost use Rattle.std.specs.Prelude.{◌≡◌, ◌<◌, ◌^◌, ◌∷◌, ◌++◌, [], ℕ, All, List, IfOk, OnOk, OnErr};
+ghost use Rattle.std.specs.Prelude.{IsTrue, IsErrOf};
 ghost use Rattle.plain_text.specs.Octets.{AreBytes};
 ghost use Rattle.plain_text.specs.Packets.{IsShort};
 ghost use Rattle.pcap_io.specs.Capture.{record_of, records_of};
@@ -95,7 +96,8 @@ fn write_both<W: World>(
     Ok(())
 }
 
-/// Writes what an event that was performed leaves: the records of what it released, and then its line, which may be gathered.
+/// Writes what an event that was performed leaves: the records of what it released, and then its line, which may be
+/// gathered.
 pub fn write_reply<W: World>(
     alloc: Global,
     world: &mut W,

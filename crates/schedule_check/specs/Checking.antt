@@ -24,11 +24,14 @@ IsEmitted (Ok steps) (Err (error.Fault named)) = ⊥
 IsEmitted (Err fault) (Ok packets) = ⊥
 IsEmitted outcome (Err error.NoMemory) = Unit {0}
 
--- What is found of such a schedule, on inputs with fractions in this unit, and of released packets with fractions in that one: it is
--- legal, and they are matched; or the first fault; or it is legal, and the first that is unmatched.
-abbrev pub IsChecked : {V : Type 0} → Result (List (Step V)) PlayFault → FractionUnit → List Packet → FractionUnit → Checked → Type 0
-IsChecked (Ok steps) unit released other (Found number) = IsMatched other released unit (emissions steps) × (number ≡ length released)
-IsChecked (Ok steps) unit released other (Refuted (refuted.Packet number)) = FirstUnmatched other released unit (emissions steps) number
+-- What is found of such a schedule, on inputs with fractions in this unit, and of released packets with fractions in
+-- that one: it is legal, and they are matched; or the first fault; or it is legal, and the first that is unmatched.
+abbrev pub IsChecked : {V : Type 0} → Result (List (Step V)) PlayFault → FractionUnit → List Packet → FractionUnit
+    → Checked → Type 0
+IsChecked (Ok steps) unit released other (Found number) =
+    IsMatched other released unit (emissions steps) × (number ≡ length released)
+IsChecked (Ok steps) unit released other (Refuted (refuted.Packet number)) =
+    FirstUnmatched other released unit (emissions steps) number
 IsChecked (Ok steps) unit released other (Refuted (refuted.Moves named)) = ⊥
 IsChecked (Err fault) unit released other (Found number) = ⊥
 IsChecked (Err fault) unit released other (Refuted (refuted.Packet number)) = ⊥

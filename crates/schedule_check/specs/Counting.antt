@@ -18,11 +18,15 @@ pub record IsContentOf (u : FractionUnit) (p : Packet) (c : Content) : Type 0 wh
 
 -- whether it is the content of this packet
 abbrev pub is_content : FractionUnit → Packet → Content → Bool
-is_content u p c = (p.seconds == c.seconds) && ((nanoseconds u p == c.nanoseconds) && ((p.original == c.original) && bytes_eq p.bytes c.bytes.now))
+is_content u p c =
+    (p.seconds == c.seconds)
+    && ((nanoseconds u p == c.nanoseconds) && ((p.original == c.original) && bytes_eq p.bytes c.bytes.now))
 
 -- whether two packets are the same
 abbrev pub same : FractionUnit → Packet → FractionUnit → Packet → Bool
-same u p v q = (p.seconds == q.seconds) && ((nanoseconds u p == nanoseconds v q) && ((p.original == q.original) && bytes_eq p.bytes q.bytes))
+same u p v q =
+    (p.seconds == q.seconds)
+    && ((nanoseconds u p == nanoseconds v q) && ((p.original == q.original) && bytes_eq p.bytes q.bytes))
 
 -- how many items pass a test
 abbrev pub one_if : Bool → ℕ

@@ -1,4 +1,5 @@
--- What a content writes into a hasher: its seconds, its fraction, and all its bytes at once; and that equal ones write the same.
+-- What a content writes into a hasher: its seconds, its fraction, and all its bytes at once; and that equal ones write
+-- the same.
 use Rattle.std.specs.Prelude.{◌≡◌, ℕ, ◌==◌, ◌&&◌, Bool, true, false, List, [], ◌∷◌}
 use Rattle.std.specs.Hash.{le_bytes}
 use Rattle.std.specs.Str.{bytes_eq}
@@ -22,7 +23,9 @@ all_true true true true d e = (cc, cc, e)
 
 pub alike_writes : (a b : Content) → same_content a b ≡ true → content_writes a ≡ content_writes b
 alike_writes a b e =
-    let parts = all_true (a.seconds == b.seconds) (a.nanoseconds == b.nanoseconds) (a.original == b.original) (bytes_eq a.bytes.now b.bytes.now) e in
+    let parts = all_true (a.seconds == b.seconds) (a.nanoseconds == b.nanoseconds) (a.original == b.original)
+    (bytes_eq a.bytes.now b.bytes.now) e in
     ap (λ (n : ℕ). writes n a.nanoseconds a.bytes.now) ((Decides-eqb a.seconds b.seconds).0 parts.0)
     ∙ (ap (λ (n : ℕ). writes b.seconds n a.bytes.now) ((Decides-eqb a.nanoseconds b.nanoseconds).0 parts.1)
-    ∙ ap (λ (bytes : List ℕ). writes b.seconds b.nanoseconds bytes) ((bytes_eq-Decides a.bytes.now b.bytes.now).0 parts.2))
+    ∙ ap (λ (bytes : List ℕ). writes b.seconds b.nanoseconds bytes)
+    ((bytes_eq-Decides a.bytes.now b.bytes.now).0 parts.2))

@@ -28,10 +28,11 @@ pub enum Checked {
     Refuted(Refutation),
 }
 
-/// Whether a schedule is legal on the inputs that were fed, and whether each released packet has an emission of its own.
+/// Whether a schedule is legal on the inputs that were fed, and whether each released packet has an emission of its
+/// own.
 ///
-/// The schedule is judged first, and then the packets. The fractions of the inputs are in `unit`, and those of the released
-/// packets in `released_unit`.
+/// The schedule is judged first, and then the packets. The fractions of the inputs are in `unit`, and those of the
+/// released packets in `released_unit`.
 pub fn check<P: Program>(
     alloc: Global,
     program: &P,

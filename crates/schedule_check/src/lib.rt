@@ -1,5 +1,5 @@
-//! What is told of a schedule and of released packets: whether the schedule is legal on a capture, what it sends out, and
-//! whether each released packet has an emission of its own.
+//! What is told of a schedule and of released packets: whether the schedule is legal on a capture, what it sends out,
+//! and whether each released packet has an emission of its own.
 #![tactic(auto)]
 
 mod checking;

@@ -13,9 +13,9 @@ use std::alloc::Global;
 
 /// The number, from 1, of the first released packet that has no emission of its own; `None` where each has one.
 ///
-/// A packet and an emission are the same where their seconds, their fractions in nanoseconds, their lengths on the wire and
-/// their bytes are. The fractions of the released packets are in `unit`, and those of the emissions in `other_unit`. The order of
-/// the emissions says nothing. Time and memory grow with the bytes of both, and no faster.
+/// A packet and an emission are the same where their seconds, their fractions in nanoseconds, their lengths on the wire
+/// and their bytes are. The fractions of the released packets are in `unit`, and those of the emissions in
+/// `other_unit`. The order of the emissions says nothing. Time and memory grow with the bytes of both, and no faster.
 pub fn first_unmatched(
     alloc: Global,
     unit: Unit,

@@ -1,4 +1,5 @@
--- What the command `play` writes: the packets that a schedule sends out, in its order, as a capture, and how many there are.
+-- What the command `play` writes: the packets that a schedule sends out, in its order, as a capture, and how many there
+-- are.
 use Rattle.std.specs.Prelude.{◌≡◌, ℕ, List, ◌++◌, codes, decimal, length, Result, Ok, Err, ⊤}
 use Rattle.plain_text.specs.declared.packet.Packet.{Packet}
 use Rattle.plain_text.specs.declared.packet.Unit.{Unit as FractionUnit}
@@ -19,12 +20,14 @@ emitted_text count = codes "emitted " ++ decimal count ++ codes "\n"
 
 -- the capture of these packets in the unit of the inputs, and then the report
 abbrev pub packet_writes : List ℕ → FractionUnit → List Packet → List Write
-packet_writes name u packets = single_writes name (written_header u) (records_of order.Little packets) (emitted_text (length packets))
+packet_writes name u packets =
+    single_writes name (written_header u) (records_of order.Little packets) (emitted_text (length packets))
 
 abbrev pub emitted_writes : {V : Type 0} → List ℕ → FractionUnit → List (Step V) → List Write
 emitted_writes name u steps = packet_writes name u (packets_of (emissions steps))
 
--- What an answer says of what the schedule comes to. Writing is begun only where it is legal; running out of memory says nothing.
+-- What an answer says of what the schedule comes to. Writing is begun only where it is legal; running out of memory
+-- says nothing.
 abbrev pub SaysPlay : {V : Type 0} → Result (List (Step V)) PlayFault → Result ⊤ (ScheduleError PlayFault) → Type 0
 SaysPlay (Ok steps) (Ok done) = Unit {0}
 SaysPlay (Ok steps) (Err (error.Refused named)) = ⊥
@@ -36,13 +39,15 @@ SaysPlay (Err fault) (Err error.WriteFault) = ⊥
 SaysPlay (Err fault) (Err error.NoMemory) = Unit {0}
 
 -- the schedule is legal, and what it sends out was written
-pub record HasPlayed {V : Type 0} (outcome : Result (List (Step V)) PlayFault) (name : List ℕ) (u : FractionUnit) (old new : Shown) : Type 0 where
+pub record HasPlayed {V : Type 0} (outcome : Result (List (Step V)) PlayFault) (name : List ℕ) (u : FractionUnit)
+    (old new : Shown) : Type 0 where
   pub steps : List (Step V)
   pub legal : outcome ≡ Ok steps
   pub written : HasWritten (emitted_writes name u steps) old new
 
 -- the schedule is legal, and some first part of what it sends out was written, and nothing else
-pub record HasBegunPlay {V : Type 0} (outcome : Result (List (Step V)) PlayFault) (name : List ℕ) (u : FractionUnit) (old new : Shown) : Type 0 where
+pub record HasBegunPlay {V : Type 0} (outcome : Result (List (Step V)) PlayFault) (name : List ℕ) (u : FractionUnit)
+    (old new : Shown) : Type 0 where
   pub steps : List (Step V)
   pub legal : outcome ≡ Ok steps
   pub begun : HasBegun (emitted_writes name u steps) old new

@@ -57,11 +57,11 @@ fn report_found<W: World>(alloc: Global, world: &mut W, count: u64) -> Result<()
     report(world, text.as_slice())
 }
 
-/// Plays a schedule on a whole capture, and reports how many released packets there are, where the schedule is legal and each of them
-/// has an emission of its own. Their fractions are in `released_unit`.
+/// Plays a schedule on a whole capture, and reports how many released packets there are, where the schedule is legal
+/// and each of them has an emission of its own. Their fractions are in `released_unit`.
 ///
-/// Else it is `Refused`, and nothing is reported: for the first illegal move of the schedule; where it is legal, for the first packet
-/// that has no emission of its own.
+/// Else it is `Refused`, and nothing is reported: for the first illegal move of the schedule; where it is legal, for
+/// the first packet that has no emission of its own.
 pub fn check_schedule<P: Program, W: World>(
     alloc: Global,
     world: &mut W,

@@ -1,5 +1,6 @@
-//! The commands over a schedule: `play` writes the packets that it sends out, and `check` tells whether it is legal and whether
-//! each packet of a released capture has an emission of its own. Both play it by the plain machine, on a whole capture.
+//! The commands over a schedule: `play` writes the packets that it sends out, and `check` tells whether it is legal and
+//! whether each packet of a released capture has an emission of its own. Both play it by the plain machine, on a whole
+//! capture.
 #![tactic(auto)]
 
 mod checking;

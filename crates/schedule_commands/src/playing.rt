@@ -54,8 +54,8 @@ fn write_packets<W: World>(
     write_output(world, out, &header, records.as_slice(), report.as_slice())
 }
 
-/// Plays a schedule on a whole capture, and writes the packets that it sends out, in its order, as a capture in the unit of the inputs;
-/// and then how many there are.
+/// Plays a schedule on a whole capture, and writes the packets that it sends out, in its order, as a capture in the
+/// unit of the inputs; and then how many there are.
 ///
 /// Where the schedule is not legal, its first illegal move is `Refused`, and nothing is created.
 pub fn play_schedule<P: Program, W: World>(

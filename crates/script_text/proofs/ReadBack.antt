@@ -1,5 +1,6 @@
 -- What was written is read back: a text of the lines of events is their script.
-use Rattle.std.proofs.Common.{◌≡◌, ℕ, zero, suc, ◌^◌, ◌<◌, arith, List, [], ◌∷◌, ◌++◌, length, refl, sym, ap, ◌∙◌, subst, Some, None, true, append_assoc}
+use Rattle.std.proofs.Common.{◌≡◌, ℕ, zero, suc, ◌^◌, ◌<◌, arith, List, [], ◌∷◌, ◌++◌, length, refl, sym, ap, ◌∙◌}
+use Rattle.std.proofs.Common.{subst, Some, None, true, append_assoc}
 use Rattle.std.specs.Prelude.{codes, decimal, map, nat_lt}
 use Rattle.std.proofs.lemmas.List.{append-nil}
 use Rattle.plain_text.specs.Grammar.{PlacesSay}
@@ -12,11 +13,13 @@ use Rattle.plain_text.specs.declared.kind.Kind.{Kind as EventKind}
 use Rattle.plain_text.specs.declared.kind.Kind.TheVariants as kind
 use Rattle.recovery_world.specs.Files.{event_words}
 use Rattle.script_text.specs.declared.form.Form.{Form}
-use Rattle.script_text.specs.declared.form.Form.TheVariants.{Feed, Time, Step, Answered, Log, Out, Late, Cut, Snap, Store, Crash, Recover, Show, Settle, Flow, Auto}
+use Rattle.script_text.specs.declared.form.Form.TheVariants.{Feed, Time, Step, Answered, Log, Out, Late, Cut, Snap}
+use Rattle.script_text.specs.declared.form.Form.TheVariants.{Store, Crash, Recover, Show, Settle, Flow, Auto}
 use Rattle.script_text.specs.declared.part.Part.{Part}
 use Rattle.script_text.specs.declared.part.Part.TheVariants.{Number, Equals, Kind}
 use Rattle.script_text.specs.Table.{form_named, has_third, parts_of, grammar_place, word_of}
-use Rattle.script_text.specs.Scripts.{form_of, values_of, kind_value, SaysEvent, IsScript, AreNumbers, FitsWords, FitWords, script_form, script_text}
+use Rattle.script_text.specs.Scripts.{form_of, values_of, kind_value, SaysEvent, IsScript, AreNumbers, FitsWords}
+use Rattle.script_text.specs.Scripts.{FitWords, script_form, script_text}
 use Rattle.script_text.proofs.OneLine.{number_within, says_from, event_back}
 
 -- The words of an event
@@ -106,12 +109,14 @@ are_words ev f = (form_word (form_of ev), part_words (parts_of (form_of ev)) (va
 part_says : (part : Part) (n : ℕ) → IsSpelled part n
     → PlacesSay (grammar_place part ∷ []) (spelling part n ∷ []) (n ∷ [])
 part_says Number n is = (decimal_number n is, number_within n is, tt)
-part_says Equals n is = subst (λ (k : ℕ). PlacesSay (grammar_place Equals ∷ []) (spelling Equals k ∷ []) (k ∷ [])) (sym is) (refl, refl, tt)
+part_says Equals n is =
+    subst (λ (k : ℕ). PlacesSay (grammar_place Equals ∷ []) (spelling Equals k ∷ []) (k ∷ [])) (sym is) (refl, refl, tt)
 part_says Kind zero is = (refl, refl, tt)
 part_says Kind (suc zero) is = (refl, refl, tt)
 part_says Kind (suc (suc n)) is = absurd (omega arith)
 
-parts_say : (parts : List Part) (values : List ℕ) → AreSpelled parts values → PlacesSay (map grammar_place parts) (spellings parts values) values
+parts_say : (parts : List Part) (values : List ℕ) → AreSpelled parts values
+    → PlacesSay (map grammar_place parts) (spellings parts values) values
 parts_say [] [] are = tt
 parts_say [] (n ∷ values) are = absurd are
 parts_say (part ∷ parts) [] are = absurd are
@@ -119,7 +124,8 @@ parts_say (part ∷ parts) (n ∷ values) are =
     let first = part_says part n are.0 in
     (first.0, first.1, parts_say parts values are.1)
 
-length_spellings : (parts : List Part) (values : List ℕ) → AreSpelled parts values → length (spellings parts values) ≡ length parts
+length_spellings : (parts : List Part) (values : List ℕ) → AreSpelled parts values
+    → length (spellings parts values) ≡ length parts
 length_spellings [] [] are = refl
 length_spellings [] (n ∷ values) are = absurd are
 length_spellings (part ∷ parts) [] are = absurd are
@@ -150,7 +156,8 @@ line_says ev f =
     let named : form_named (has_third (line_words ev)) (word_of (form_of ev)) ≡ Some (form_of ev) =
     ap (λ (n : ℕ). form_named (nat_lt 2 (suc n)) (word_of (form_of ev))) count ∙ form_back (form_of ev) in
     subst (SaysEvent (line_words ev)) (event_back ev)
-    (says_from (word_of (form_of ev)) (spellings (parts_of (form_of ev)) (values_of ev)) (form_of ev) (values_of ev) named (parts_say (parts_of (form_of ev)) (values_of ev) are))
+    (says_from (word_of (form_of ev)) (spellings (parts_of (form_of ev)) (values_of ev)) (form_of ev) (values_of ev)
+    named (parts_say (parts_of (form_of ev)) (values_of ev) are))
 
 -- And they are what is written
 
@@ -161,10 +168,14 @@ written_words (event.Step t None) = ap (λ (l : List ℕ). codes "step " ++ l) (
 written_words (event.Step t (Some answer)) = refl
 written_words (event.Log t n) = refl
 written_words (event.Out t j) = refl
-written_words (event.Late e kind.Log t n) = ap (λ (l : List ℕ). codes "late " ++ l) (append_assoc (decimal e) (32 ∷ []) (codes "log " ++ (decimal t ++ 32 ∷ decimal n)))
-written_words (event.Late e kind.Out t n) = ap (λ (l : List ℕ). codes "late " ++ l) (append_assoc (decimal e) (32 ∷ []) (codes "out " ++ (decimal t ++ 32 ∷ decimal n)))
-written_words (event.Cut kind.Log t n len) = ap (λ (l : List ℕ). codes "cut log " ++ l) (append_assoc (decimal t) (32 ∷ decimal n) (32 ∷ decimal len))
-written_words (event.Cut kind.Out t n len) = ap (λ (l : List ℕ). codes "cut out " ++ l) (append_assoc (decimal t) (32 ∷ decimal n) (32 ∷ decimal len))
+written_words (event.Late e kind.Log t n) = ap (λ (l : List ℕ). codes "late " ++ l)
+    (append_assoc (decimal e) (32 ∷ []) (codes "log " ++ (decimal t ++ 32 ∷ decimal n)))
+written_words (event.Late e kind.Out t n) = ap (λ (l : List ℕ). codes "late " ++ l)
+    (append_assoc (decimal e) (32 ∷ []) (codes "out " ++ (decimal t ++ 32 ∷ decimal n)))
+written_words (event.Cut kind.Log t n len) =
+    ap (λ (l : List ℕ). codes "cut log " ++ l) (append_assoc (decimal t) (32 ∷ decimal n) (32 ∷ decimal len))
+written_words (event.Cut kind.Out t n len) =
+    ap (λ (l : List ℕ). codes "cut out " ++ l) (append_assoc (decimal t) (32 ∷ decimal n) (32 ∷ decimal len))
 written_words event.Snap = refl
 written_words event.Store = refl
 written_words event.Crash = refl

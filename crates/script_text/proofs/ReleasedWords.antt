@@ -11,4 +11,5 @@ names_words (x ∷ names) = two (codes " ") x.0 (codes ":") x.1 ++ names_words n
 -- they are those of the outputs
 pub words_of_names : (freed : List Sent) → names_words (sent_names freed) ≡ freed_words freed
 words_of_names [] = refl
-words_of_names (o ∷ freed) = ap (λ rest. two (codes " ") o.emission.thread (codes ":") o.emission.number ++ rest) (words_of_names freed)
+words_of_names (o ∷ freed) =
+    ap (λ rest. two (codes " ") o.emission.thread (codes ":") o.emission.number ++ rest) (words_of_names freed)

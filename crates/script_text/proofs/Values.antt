@@ -1,5 +1,6 @@
 -- The values of a line's words: read one by one, and put behind those before.
-use Rattle.std.proofs.Common.{◌≡◌, ℕ, ◌+◌, ◌<◌, List, [], ◌∷◌, ◌++◌, length, take, drop, set, get_or, refl, sym, ap, ◌∙◌, Ok, Err, append_assoc}
+use Rattle.std.proofs.Common.{◌≡◌, ℕ, ◌+◌, ◌<◌, List, [], ◌∷◌, ◌++◌, length, take, drop, set, get_or, refl, sym, ap}
+use Rattle.std.proofs.Common.{◌∙◌, Ok, Err, append_assoc}
 use Rattle.std.specs.Prelude.{Result, map}
 use Rattle.std.proofs.lemmas.List.{drop_more, take_more_set}
 use Rattle.plain_text.specs.declared.fault.LineCause.{LineCause}
@@ -15,30 +16,35 @@ abbrev pub behind : List ℕ → Result (List ℕ) LineCause → Result (List �
 behind values (Ok more) = Ok (values ++ more)
 behind values (Err cause) = Err cause
 
-behind_one : (values : List ℕ) (n : ℕ) (more : Result (List ℕ) LineCause) → behind (values ++ n ∷ []) more ≡ behind values (onto_values n more)
+behind_one : (values : List ℕ) (n : ℕ) (more : Result (List ℕ) LineCause)
+    → behind (values ++ n ∷ []) more ≡ behind values (onto_values n more)
 behind_one values n (Ok more) = ap Ok (append_assoc values (n ∷ []) more)
 behind_one values n (Err cause) = refl
 
 -- where no word is left at a place
-pub missing : (values : List ℕ) (parts : List Part) (i : ℕ) (words : List (List ℕ)) (r : Result (List ℕ) LineCause) → i < length parts → words ≡ []
-    → behind values (values_at (map grammar_place (drop i parts)) words) ≡ r → r ≡ Err MissingWord
+pub missing : (values : List ℕ) (parts : List Part) (i : ℕ) (words : List (List ℕ)) (r : Result (List ℕ) LineCause)
+    → i < length parts → words ≡ [] → behind values (values_at (map grammar_place (drop i parts)) words) ≡ r
+    → r ≡ Err MissingWord
 missing values parts i words r less none e =
     sym e
     ∙ ap (λ (ps : List Part). behind values (values_at (map grammar_place ps) words)) (drop_more parts i Number less)
-    ∙ ap (λ (ws : List (List ℕ)). behind values (values_at (map grammar_place (get_or parts i Number ∷ drop (i + 1) parts)) ws)) none
+    ∙ ap (λ (ws : List (List ℕ)).
+    behind values (values_at (map grammar_place (get_or parts i Number ∷ drop (i + 1) parts)) ws)) none
 
 -- one more value
-pub one_more : (values : List ℕ) (parts : List Part) (i n : ℕ) (word : List ℕ) (words left : List (List ℕ)) (r : Result (List ℕ) LineCause)
-    → i < length parts → i < length values → words ≡ word ∷ left
-    → value_or_misfit (grammar_place (get_or parts i Number))
-    (value_at (grammar_place (get_or parts i Number)) word) ≡ Ok n
-    → behind (take i values) (values_at (map grammar_place (drop i parts)) words) ≡ r
+pub one_more : (values : List ℕ) (parts : List Part) (i n : ℕ) (word : List ℕ) (words left : List (List ℕ))
+    (r : Result (List ℕ) LineCause) → i < length parts → i < length values → words ≡ word ∷ left
+    → value_or_misfit (grammar_place (get_or parts i Number)) (value_at (grammar_place (get_or parts i Number)) word)
+    ≡ Ok n → behind (take i values) (values_at (map grammar_place (drop i parts)) words) ≡ r
     → behind (take (i + 1) (set values i n)) (values_at (map grammar_place (drop (i + 1) parts)) left) ≡ r
 one_more values parts i n word words left r less room front value e =
     ap (λ (vs : List ℕ). behind vs (values_at (map grammar_place (drop (i + 1) parts)) left))
     (take_more_set values i n room)
     ∙ behind_one (take i values) n (values_at (map grammar_place (drop (i + 1) parts)) left)
-    ∙ sym (ap (λ (v : Result ℕ LineCause). behind (take i values) (and_values v (values_at (map grammar_place (drop (i + 1) parts)) left))) value)
-    ∙ sym (ap (λ (ws : List (List ℕ)). behind (take i values) (values_at (map grammar_place (get_or parts i Number ∷ drop (i + 1) parts)) ws)) front)
-    ∙ sym (ap (λ (ps : List Part). behind (take i values) (values_at (map grammar_place ps) words)) (drop_more parts i Number less))
+    ∙ sym (ap (λ (v : Result ℕ LineCause).
+    behind (take i values) (and_values v (values_at (map grammar_place (drop (i + 1) parts)) left))) value)
+    ∙ sym (ap (λ (ws : List (List ℕ)).
+    behind (take i values) (values_at (map grammar_place (get_or parts i Number ∷ drop (i + 1) parts)) ws)) front)
+    ∙ sym (ap (λ (ps : List Part). behind (take i values) (values_at (map grammar_place ps) words))
+    (drop_more parts i Number less))
     ∙ e

@@ -4,7 +4,8 @@ use Rattle.std.specs.Str.{bytes_eq}
 use Rattle.plain_text.specs.Grammar.{Place, Row, OneOf, free_row}
 use Rattle.plain_text.specs.Grammar as place
 use Rattle.script_text.specs.declared.form.Form.{Form}
-use Rattle.script_text.specs.declared.form.Form.TheVariants.{Feed, Time, Step, Answered, Log, Out, Late, Cut, Snap, Store, Crash, Recover, Show, Settle, Flow, Auto}
+use Rattle.script_text.specs.declared.form.Form.TheVariants.{Feed, Time, Step, Answered, Log, Out, Late, Cut, Snap}
+use Rattle.script_text.specs.declared.form.Form.TheVariants.{Store, Crash, Recover, Show, Settle, Flow, Auto}
 use Rattle.script_text.specs.declared.part.Part.{Part}
 use Rattle.script_text.specs.declared.part.Part.TheVariants.{Number, Equals, Kind}
 
@@ -58,11 +59,12 @@ parts_of Auto = Number ∷ Number ∷ []
 abbrev pub row_of : Form → Row
 row_of form = free_row (word_of form) (map grammar_place (parts_of form))
 
--- The forms that a line may have. A line `step` with a third word gives an answer, and one without does not; so the forms are
--- those of lines with a third word, or of lines without.
+-- The forms that a line may have. A line `step` with a third word gives an answer, and one without does not; so the
+-- forms are those of lines with a third word, or of lines without.
 
 abbrev pub short_forms : List Form
-short_forms = Step ∷ Feed ∷ Time ∷ Log ∷ Out ∷ Late ∷ Cut ∷ Snap ∷ Store ∷ Crash ∷ Recover ∷ Show ∷ Settle ∷ Flow ∷ Auto ∷ []
+short_forms =
+    Step ∷ Feed ∷ Time ∷ Log ∷ Out ∷ Late ∷ Cut ∷ Snap ∷ Store ∷ Crash ∷ Recover ∷ Show ∷ Settle ∷ Flow ∷ Auto ∷ []
 
 abbrev pub forms : Bool → List Form
 forms false = short_forms

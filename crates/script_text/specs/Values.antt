@@ -1,4 +1,5 @@
--- What the reader of scripts does with the words of a line: the values at the places of a form, and the event that they make.
+-- What the reader of scripts does with the words of a line: the values at the places of a form, and the event that they
+-- make.
 use Rattle.std.specs.Prelude.{ℕ, List, [], ◌∷◌, slice_index, nat_eq, if◌then◌else◌, Option, Some, None, Result, Ok, Err}
 use Rattle.plain_text.specs.declared.fault.LineCause.{LineCause}
 use Rattle.plain_text.specs.declared.fault.LineCause.TheVariants.{MissingWord, ExtraWord}
@@ -27,7 +28,8 @@ abbrev pub values_at : List Place → List (List ℕ) → Result (List ℕ) Line
 values_at [] [] = Ok []
 values_at [] (word ∷ words) = Err ExtraWord
 values_at (place ∷ places) [] = Err MissingWord
-values_at (place ∷ places) (word ∷ words) = and_values (value_or_misfit place (value_at place word)) (values_at places words)
+values_at (place ∷ places) (word ∷ words) =
+    and_values (value_or_misfit place (value_at place word)) (values_at places words)
 
 abbrev pub kind_from : ℕ → Kind
 kind_from value = if nat_eq value 0 then kind.Log else kind.Out
@@ -40,8 +42,10 @@ event_from form.Step values = event.Step (slice_index values 0) None
 event_from form.Answered values = event.Step (slice_index values 0) (Some (slice_index values 2))
 event_from form.Log values = event.Log (slice_index values 0) (slice_index values 1)
 event_from form.Out values = event.Out (slice_index values 0) (slice_index values 1)
-event_from form.Late values = event.Late (slice_index values 0) (kind_from (slice_index values 1)) (slice_index values 2) (slice_index values 3)
-event_from form.Cut values = event.Cut (kind_from (slice_index values 0)) (slice_index values 1) (slice_index values 2) (slice_index values 3)
+event_from form.Late values =
+    event.Late (slice_index values 0) (kind_from (slice_index values 1)) (slice_index values 2) (slice_index values 3)
+event_from form.Cut values =
+    event.Cut (kind_from (slice_index values 0)) (slice_index values 1) (slice_index values 2) (slice_index values 3)
 event_from form.Snap values = event.Snap
 event_from form.Store values = event.Store
 event_from form.Crash values = event.Crash

@@ -5,9 +5,10 @@ use recovery_world::Event;
 
 /// The event that two random words choose, where the lists have the numbers of entries and of outputs of each thread.
 ///
-/// The thread is `b` modulo the number of threads, and `a` modulo 32 chooses the event: 0 to 15 a step of the thread, 16 to 18
-/// a packet that is fed, 19 to 24 the arrival of one of its last four entries, 25 to 28 of one of its last four outputs, 29 a
-/// snapshot, and 30 and 31 its storing. Which of the four is `b` / 16 modulo 4; it is at least number 1.
+/// The thread is `b` modulo the number of threads, and `a` modulo 32 chooses the event: 0 to 15 a step of the thread,
+/// 16 to 18 a packet that is fed, 19 to 24 the arrival of one of its last four entries, 25 to 28 of one of its last
+/// four outputs, 29 a snapshot, and 30 and 31 its storing. Which of the four is `b` / 16 modulo 4; it is at least
+/// number 1.
 pub fn auto_event(a: u32, b: u32, entries: &[u64], outputs: &[u64]) -> Event
     requires threads { (1 ≤ length entries.now) × (length entries.now ≤ 16) }
     requires alike { length outputs.now ≡ length entries.now }

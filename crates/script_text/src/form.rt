@@ -6,7 +6,8 @@ use crate::part::Part;
 use plain_text::Kind;
 use recovery_world::Event;
 
-/// A form of a script's line: its first word, and what stands after it. `step` has two forms, without an answer and with one.
+/// A form of a script's line: its first word, and what stands after it. `step` has two forms, without an answer and
+/// with one.
 #[derive(Clone, Copy, Debug, PartialEq, Eq)]
 pub enum Form {
     Feed,

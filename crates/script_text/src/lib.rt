@@ -1,5 +1,5 @@
-//! Scripts: texts of events, one on each line. A text is read into its events, an event is written as its line, with what it came
-//! to, and two random words choose an event.
+//! Scripts: texts of events, one on each line. A text is read into its events, an event is written as its line, with
+//! what it came to, and two random words choose an event.
 #![tactic(auto)]
 
 mod choosing;

@@ -19,7 +19,8 @@ pub enum Part {
 impl Part {
     /// The value of a word at this place, or its fault.
     pub fn value(self, word: &[u8]) -> Result<u64, LineCause>
-        ensures { result ≡ value_or_misfit (grammar_place self) (value_at (grammar_place self) word.now) }
+        ensures { result
+            ≡ value_or_misfit (grammar_place self) (value_at (grammar_place self) word.now) }
     {
         match self {
             Part::Number => read_u64(word).ok_or(LineCause::BadNumber),

@@ -1,7 +1,8 @@
 ghost use Rattle.std.specs.Prelude.{◌≡◌, ◌≤◌, Ok, Err, Some, IfOk, IfErr, length, map, take};
 ghost use Rattle.plain_text.specs.declared.limit.TheConstants.{MOST_EVENTS as most_events};
 ghost use Rattle.plain_text.specs.Lines.{words_of};
-ghost use Rattle.script_text.specs.Scripts.{IsScript, IsRefused, SaysEvent, count_of, event_fault, weight};
+ghost use Rattle.script_text.specs.Scripts.{IsScript, IsRefused, SaysEvent, count_of, event_fault};
+ghost use Rattle.script_text.specs.Scripts.{weight};
 ghost use Rattle.script_text.specs.Table.{has_third, grammar_place};
 ghost use Rattle.script_text.specs.Values.{values_at};
 
@@ -20,10 +21,12 @@ pub type Events = Sequence<Event>;
 // An event takes at most 48 bytes.
 const _: () = prove!(size_of::<Event>() <= 48);
 
-/// Reads a script: one event on each line that counts. Its time and memory grow with the length of the text, and no faster.
+/// Reads a script: one event on each line that counts. Its time and memory grow with the length of the text, and no
+/// faster.
 ///
-/// It answers `TooMany` where the events of the lines before the first faulty one, or of all lines, pass `MOST_EVENTS`; there
-/// `auto S N` counts as N events, and any other as one. Else it answers `Fault` with the first faulty line, if there is one.
+/// It answers `TooMany` where the events of the lines before the first faulty one, or of all lines, pass `MOST_EVENTS`;
+/// there `auto S N` counts as N events, and any other as one. Else it answers `Fault` with the first faulty line, if
+/// there is one.
 pub fn read_script(alloc: Global, text: &[u8]) -> Result<Events, ReadError>
     ensures script { IfOk result (λ events. IsScript text.now events) }
     ensures few { IfOk result (λ events. count_of events ≤ most_events) }

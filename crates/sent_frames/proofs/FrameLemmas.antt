@@ -1,5 +1,6 @@
 -- Frames as they are sent, and what comes back.
-use Rattle.std.proofs.Common.{◌≡◌, ℕ, ◌<◌, List, [], ◌∷◌, ◌++◌, length, refl, sym, ap, ◌∙◌, subst, Option, Some, Result, Err, arith}
+use Rattle.std.proofs.Common.{◌≡◌, ℕ, ◌<◌, List, [], ◌∷◌, ◌++◌, length, refl, sym, ap, ◌∙◌, subst, Option, Some, Result}
+use Rattle.std.proofs.Common.{Err, arith}
 use Rattle.std.specs.Prelude.{slice_set, slice_index_or}
 use Rattle.std.proofs.lemmas.List.{get_or_default}
 use Rattle.plain_text.specs.declared.kind.Kind.TheVariants.{Log, Out}
@@ -15,36 +16,54 @@ use Rattle.wire_frames.specs.declared.frame.FrameFault.{FrameFault}
 use Rattle.wire_frames.specs.Layout.{IsFrame}
 use Rattle.wire_frames.specs.Writing.{CanPutEntry, CanPutOutput}
 use Rattle.wire_frames.specs.Faults.{Gives}
-use Rattle.sent_frames.specs.Sending.{Sending, HasEntryFrame, HasOutputFrame, SendsEntry, SendsOutput, SendsAgain, entry_address, output_address, entry_size, output_size, lengths_of}
+use Rattle.sent_frames.specs.Sending.{Sending, HasEntryFrame, HasOutputFrame, SendsEntry, SendsOutput, SendsAgain}
+use Rattle.sent_frames.specs.Sending.{entry_address, output_address, entry_size, output_size, lengths_of}
 
 -- a frame is not at fault
-pub gives_no_fault : (r : Result (Frame × ℕ) FrameError) (fault : FrameFault) (f : Frame) (size : ℕ) → r ≡ Err (error.Fault fault) → Gives r f size → ⊥
+pub gives_no_fault : (r : Result (Frame × ℕ) FrameError) (fault : FrameFault) (f : Frame) (size : ℕ)
+    → r ≡ Err (error.Fault fault) → Gives r f size → ⊥
 gives_no_fault r fault f size is gives = subst (λ (q : Result (Frame × ℕ) FrameError). Gives q f size) is gives
 
 -- the frame that is found is that of the entry, or of the output
 
-pub found_entry : (sent : Sending) (e : StampedEntry) (t n : ℕ) (found : Option (List ℕ)) → HasEntryFrame sent e → e.thread ≡ t → e.number ≡ n
-    → found ≡ frame_at sent.frames (address sent.epoch Log t n) → (bytes : List ℕ) × (found ≡ Some bytes) × IsFrame bytes (frame.Entry sent.epoch sent.threads e)
-found_entry sent e t n found has a b is =
-    (has.bytes, is ∙ sym (ap (λ (u : ℕ). frame_at sent.frames (address sent.epoch Log u e.number)) a ∙ ap (λ (k : ℕ). frame_at sent.frames (address sent.epoch Log t k)) b) ∙ has.there, has.is)
+pub found_entry : (sent : Sending) (e : StampedEntry) (t n : ℕ) (found : Option (List ℕ)) → HasEntryFrame sent e
+    → e.thread ≡ t → e.number ≡ n → found ≡ frame_at sent.frames (address sent.epoch Log t n)
+    → (bytes : List ℕ) × (found ≡ Some bytes) × IsFrame bytes (frame.Entry sent.epoch sent.threads e)
+found_entry sent e t n found has a b is = (
+  has.bytes,
+  is
+      ∙ sym (ap (λ (u : ℕ). frame_at sent.frames (address sent.epoch Log u e.number)) a
+      ∙ ap (λ (k : ℕ). frame_at sent.frames (address sent.epoch Log t k)) b)
+      ∙ has.there,
+  has.is,
+)
 
-pub found_output : (sent : Sending) (o : Output) (t n : ℕ) (found : Option (List ℕ)) → HasOutputFrame sent o → o.thread ≡ t → o.number ≡ n
-    → found ≡ frame_at sent.frames (address sent.epoch Out t n) → (bytes : List ℕ) × (found ≡ Some bytes) × IsFrame bytes (frame.Output sent.epoch sent.threads o)
-found_output sent o t n found has a b is =
-    (has.bytes, is ∙ sym (ap (λ (u : ℕ). frame_at sent.frames (address sent.epoch Out u o.number)) a ∙ ap (λ (k : ℕ). frame_at sent.frames (address sent.epoch Out t k)) b) ∙ has.there, has.is)
+pub found_output : (sent : Sending) (o : Output) (t n : ℕ) (found : Option (List ℕ)) → HasOutputFrame sent o
+    → o.thread ≡ t → o.number ≡ n → found ≡ frame_at sent.frames (address sent.epoch Out t n)
+    → (bytes : List ℕ) × (found ≡ Some bytes) × IsFrame bytes (frame.Output sent.epoch sent.threads o)
+found_output sent o t n found has a b is = (
+  has.bytes,
+  is
+      ∙ sym (ap (λ (u : ℕ). frame_at sent.frames (address sent.epoch Out u o.number)) a
+      ∙ ap (λ (k : ℕ). frame_at sent.frames (address sent.epoch Out t k)) b)
+      ∙ has.there,
+  has.is,
+)
 
 some_same : (a b : List ℕ) → Some a ≡ Some b → a ≡ b
 some_same a b is = cc
 
 -- these bytes are that frame
-pub entry_bytes : (sent : Sending) (e : StampedEntry) (t n : ℕ) (bytes : List ℕ) → HasEntryFrame sent e → e.thread ≡ t → e.number ≡ n
-    → Some bytes ≡ frame_at sent.frames (address sent.epoch Log t n) → IsFrame bytes (frame.Entry sent.epoch sent.threads e)
+pub entry_bytes : (sent : Sending) (e : StampedEntry) (t n : ℕ) (bytes : List ℕ) → HasEntryFrame sent e → e.thread ≡ t
+    → e.number ≡ n → Some bytes ≡ frame_at sent.frames (address sent.epoch Log t n)
+    → IsFrame bytes (frame.Entry sent.epoch sent.threads e)
 entry_bytes sent e t n bytes has a b is =
     let k = found_entry sent e t n (Some bytes) has a b is in
     subst (λ (q : List ℕ). IsFrame q (frame.Entry sent.epoch sent.threads e)) (sym (some_same bytes k.0 k.1)) k.2
 
-pub output_bytes : (sent : Sending) (o : Output) (t n : ℕ) (bytes : List ℕ) → HasOutputFrame sent o → o.thread ≡ t → o.number ≡ n
-    → Some bytes ≡ frame_at sent.frames (address sent.epoch Out t n) → IsFrame bytes (frame.Output sent.epoch sent.threads o)
+pub output_bytes : (sent : Sending) (o : Output) (t n : ℕ) (bytes : List ℕ) → HasOutputFrame sent o → o.thread ≡ t
+    → o.number ≡ n → Some bytes ≡ frame_at sent.frames (address sent.epoch Out t n)
+    → IsFrame bytes (frame.Output sent.epoch sent.threads o)
 output_bytes sent o t n bytes has a b is =
     let k = found_output sent o t n (Some bytes) has a b is in
     subst (λ (q : List ℕ). IsFrame q (frame.Output sent.epoch sent.threads o)) (sym (some_same bytes k.0 k.1)) k.2
@@ -52,13 +71,27 @@ output_bytes sent o t n bytes has a b is =
 -- one more frame
 
 abbrev pub sent_entry : Sending → List (Address × List ℕ) → StampedEntry → List ℕ → Sending
-sent_entry old frames e lengths = record { epoch = old.epoch; threads = old.threads; frames = frames; entries = slice_set old.entries e.thread lengths; outputs = old.outputs }
+sent_entry old frames e lengths = record {
+  epoch = old.epoch;
+  threads = old.threads;
+  frames = frames;
+  entries = slice_set old.entries e.thread lengths;
+  outputs = old.outputs;
+}
 
 abbrev pub sent_output : Sending → List (Address × List ℕ) → Output → List ℕ → Sending
-sent_output old frames o lengths = record { epoch = old.epoch; threads = old.threads; frames = frames; entries = old.entries; outputs = slice_set old.outputs o.thread lengths }
+sent_output old frames o lengths = record {
+  epoch = old.epoch;
+  threads = old.threads;
+  frames = frames;
+  entries = old.entries;
+  outputs = slice_set old.outputs o.thread lengths;
+}
 
-pub sends_entry : (old now : Sending) (frames : List (Address × List ℕ)) (e : StampedEntry) (bytes : List ℕ) (lengths : List ℕ) → old ≡ now → CanPutEntry old.epoch old.threads e
-    → IsFrame bytes (frame.Entry old.epoch old.threads e) → Sends old.frames frames (entry_address old e.thread e.number) bytes
+pub sends_entry : (old now : Sending) (frames : List (Address × List ℕ)) (e : StampedEntry) (bytes : List ℕ)
+    (lengths : List ℕ) → old ≡ now → CanPutEntry old.epoch old.threads e
+    → IsFrame bytes (frame.Entry old.epoch old.threads e)
+    → Sends old.frames frames (entry_address old e.thread e.number) bytes
     → lengths ≡ lengths_of old.entries e.thread ++ entry_size e ∷ []
     → SendsEntry now (sent_entry old frames e lengths) e
 sends_entry old now frames e bytes lengths as_now can is sends longer =
@@ -71,8 +104,10 @@ sends_entry old now frames e bytes lengths as_now can is sends longer =
       threads = refl;
     })
 
-pub sends_output : (old now : Sending) (frames : List (Address × List ℕ)) (o : Output) (bytes : List ℕ) (lengths : List ℕ) → old ≡ now → CanPutOutput old.epoch old.threads o
-    → IsFrame bytes (frame.Output old.epoch old.threads o) → Sends old.frames frames (output_address old o.thread o.number) bytes
+pub sends_output : (old now : Sending) (frames : List (Address × List ℕ)) (o : Output) (bytes : List ℕ)
+    (lengths : List ℕ) → old ≡ now → CanPutOutput old.epoch old.threads o
+    → IsFrame bytes (frame.Output old.epoch old.threads o)
+    → Sends old.frames frames (output_address old o.thread o.number) bytes
     → lengths ≡ lengths_of old.outputs o.thread ++ output_size o ∷ []
     → SendsOutput now (sent_output old frames o lengths) o
 sends_output old now frames o bytes lengths as_now can is sends longer =
@@ -86,8 +121,10 @@ sends_output old now frames o bytes lengths as_now can is sends longer =
     })
 
 -- the same, of an output of which the length is known
-pub sends_again : (old now : Sending) (frames : List (Address × List ℕ)) (o : Output) (bytes : List ℕ) → old ≡ now → CanPutOutput old.epoch old.threads o
-    → IsFrame bytes (frame.Output old.epoch old.threads o) → Sends old.frames frames (output_address old o.thread o.number) bytes → SendsAgain now (record old { frames = frames }) o
+pub sends_again : (old now : Sending) (frames : List (Address × List ℕ)) (o : Output) (bytes : List ℕ) → old ≡ now
+    → CanPutOutput old.epoch old.threads o → IsFrame bytes (frame.Output old.epoch old.threads o)
+    → Sends old.frames frames (output_address old o.thread o.number) bytes
+    → SendsAgain now (record old { frames = frames }) o
 sends_again old now frames o bytes as_now can is sends =
     subst (λ (q : Sending). SendsAgain q (record old { frames = frames }) o) as_now (record {
       frame = record { can = can; bytes = bytes; is = is; there = sends.sent };
@@ -99,7 +136,10 @@ sends_again old now frames o bytes as_now can is sends =
     })
 
 -- the lengths of a thread with one more behind
-pub one_longer_is : (lengths : List (List ℕ)) (t threads : ℕ) (now longer : List ℕ) (size is_size : ℕ) → now ≡ slice_index_or lengths t now → longer ≡ now ++ size ∷ [] → size ≡ is_size
-    → length lengths ≡ threads → t < threads → longer ≡ lengths_of lengths t ++ is_size ∷ []
+pub one_longer_is : (lengths : List (List ℕ)) (t threads : ℕ) (now longer : List ℕ) (size is_size : ℕ)
+    → now ≡ slice_index_or lengths t now → longer ≡ now ++ size ∷ [] → size ≡ is_size → length lengths ≡ threads
+    → t < threads → longer ≡ lengths_of lengths t ++ is_size ∷ []
 one_longer_is lengths t threads now longer size is_size is more same count in_range =
-    more ∙ ap (λ (l : List ℕ). l ++ size ∷ []) (is ∙ get_or_default lengths t now [] (omega arith)) ∙ ap (λ (n : ℕ). lengths_of lengths t ++ n ∷ []) same
+    more
+    ∙ ap (λ (l : List ℕ). l ++ size ∷ []) (is ∙ get_or_default lengths t now [] (omega arith))
+    ∙ ap (λ (n : ℕ). lengths_of lengths t ++ n ∷ []) same

@@ -1,5 +1,6 @@
 -- What a master sent on its links: the frames of its entries and outputs that are not forgotten, and how long each was.
-use Rattle.std.specs.Prelude.{◌≡◌, ℕ, zero, suc, ◌+◌, ◌*◌, ◌≤◌, ◌⊎◌, List, [], ◌∷◌, ◌++◌, length, replicate, slice_get, slice_index, slice_index_or, slice_set, take, Option, Some, None}
+use Rattle.std.specs.Prelude.{◌≡◌, ℕ, zero, suc, ◌+◌, ◌*◌, ◌≤◌, ◌⊎◌, List, [], ◌∷◌, ◌++◌, length, replicate, slice_get}
+use Rattle.std.specs.Prelude.{slice_index, slice_index_or, slice_set, take, Option, Some, None}
 use Rattle.plain_text.specs.declared.kind.Kind.TheVariants.{Log, Out}
 use Rattle.access_log.specs.declared.entry.StampedEntry.{StampedEntry}
 use Rattle.access_log.specs.declared.entry.Output.{Output}
@@ -9,8 +10,8 @@ use Rattle.wire_frames.specs.declared.frame.Frame.TheVariants as frame_of
 use Rattle.wire_frames.specs.Layout.{nonzero, IsFrame}
 use Rattle.wire_frames.specs.Writing.{CanPutEntry, CanPutOutput}
 
--- The epoch and the number of threads that each frame says; the frames on the links; and the lengths of all frames of this
--- epoch, thread by thread, in the order of their numbers.
+-- The epoch and the number of threads that each frame says; the frames on the links; and the lengths of all frames of
+-- this epoch, thread by thread, in the order of their numbers.
 pub record Sending : Type 0 where
   pub epoch : ℕ
   pub threads : ℕ
@@ -93,8 +94,10 @@ pub record ForgetsEntries (old new : Sending) (t up_to : ℕ) : Type 0 where
 
 -- Frames of entries up to these counts may be forgotten, and no others.
 pub record ForgetsCovered (old new : Sending) (counts : List ℕ) : Type 0 where
-  pub each : (a : Address) → (frame_at new.frames a ≡ frame_at old.frames a)
-      ⊎ ((frame_at new.frames a ≡ None) × (a.epoch ≡ old.epoch) × (a.kind ≡ Log) × (a.number ≤ slice_index counts a.thread))
+  pub each : (a : Address)
+      → (frame_at new.frames a ≡ frame_at old.frames a)
+      ⊎ ((frame_at new.frames a ≡ None) × (a.epoch ≡ old.epoch) × (a.kind ≡ Log)
+      × (a.number ≤ slice_index counts a.thread))
   pub entries : new.entries ≡ old.entries
   pub outputs : new.outputs ≡ old.outputs
   pub epoch : new.epoch ≡ old.epoch

@@ -1,4 +1,5 @@
-ghost use Rattle.std.specs.Prelude.{◌≡◌, ◌<◌, ◌≤◌, ◌+◌, ◌-◌, ◌^◌, ℕ, [], None, Some, IfOk, OnOk, length, replicate};
+ghost use Rattle.std.specs.Prelude.{◌≡◌, ◌<◌, ◌≤◌, ◌+◌, ◌-◌, ◌^◌, ℕ, [], None, Some, IfOk, OnOk};
+ghost use Rattle.std.specs.Prelude.{length, replicate};
 ghost use Rattle.access_log.specs.declared.entry.StampedEntry.{StampedEntry};
 ghost use Rattle.access_log.specs.declared.entry.Output.{Output as OutputValue};
 ghost use Rattle.wire_frames.specs.declared.frame.Frame.{Frame as FrameValue};
@@ -7,7 +8,10 @@ ghost use Rattle.link_store.specs.Links.{frame_at};
 ghost use Rattle.wire_frames.specs.Writing.{CanPutEntry, CanPutOutput};
 ghost use Rattle.wire_frames.specs.declared.frame.Frame.TheVariants as frame_is;
 ghost use Rattle.wire_frames.specs.Layout.{IsFrame};
-ghost use Rattle.sent_frames.specs.Sending.{IsUnsent, SendsEntry, SendsOutput, SendsAgain, ForgetsEntries, ForgetsOutputs, BeginsEpoch, TurnsBack, HasEntryFrame, HasOutputFrame, entry_address, output_address, length_at};
+ghost use Rattle.sent_frames.specs.Sending.{IsUnsent, SendsEntry, SendsOutput, SendsAgain};
+ghost use Rattle.sent_frames.specs.Sending.{ForgetsEntries, ForgetsOutputs, BeginsEpoch, TurnsBack};
+ghost use Rattle.sent_frames.specs.Sending.{HasEntryFrame, HasOutputFrame, entry_address};
+ghost use Rattle.sent_frames.specs.Sending.{output_address, length_at};
 
 use access_log::{Output, StampedEntry, copy_output};
 use link_store::Links;
@@ -18,8 +22,8 @@ use wire_frames::{Frame, FrameError, put_entry, put_output, take_frame};
 
 /// What a master sends on its links: each entry and each output as a frame, and how long each frame was.
 ///
-/// A frame is there until it is forgotten; its length stays. A new master has a new epoch: the frames of the one before are
-/// forgotten, and the lengths of what it did not make.
+/// A frame is there until it is forgotten; its length stays. A new master has a new epoch: the frames of the one before
+/// are forgotten, and the lengths of what it did not make.
 #[derive(Drop)]
 pub struct SentFrames {
     alloc: Global,
@@ -144,7 +148,8 @@ impl SentFrames {
             .send(self.epoch, Kind::Log, entry.thread, entry.number, frame)
     }
 
-    /// Sends an output as its thread's next frame, in the buffer of its packet. After `NoMemory` the links are of no use any more.
+    /// Sends an output as its thread's next frame, in the buffer of its packet. After `NoMemory` the links are of no
+    /// use any more.
     pub fn send_output(&mut self, output: Output) -> Result<(), NoMemory>
         requires can { CanPutOutput self.old.epoch self.old.threads output }
         ensures ok { OnOk result (SendsOutput self.old self.new output) }
@@ -236,8 +241,8 @@ impl SentFrames {
         self.epoch += 1;
     }
 
-    /// Counts only this number of a thread's entries as sent, and only this number of its outputs: the first ones. It takes no
-    /// memory.
+    /// Counts only this number of a thread's entries as sent, and only this number of its outputs: the first ones. It
+    /// takes no memory.
     pub fn turn_back(&mut self, thread: u32, entries: u64, outputs: u64)
         requires { thread < self.old.threads }
         ensures { TurnsBack self.old self.new thread entries outputs }

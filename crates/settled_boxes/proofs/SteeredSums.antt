@@ -20,25 +20,36 @@ abbrev of_thread : ℕ → List Packet → ℕ → List Packet
 of_thread threads packets t = filter (λ packet. thread_of packet threads == t) packets
 
 -- one more packet counts with its own thread, and with no other
-share_of_own : (number : Packet → ℕ) (threads t : ℕ) (p : Packet) (ps : List Packet) → thread_of p threads ≡ t → shares number (of_thread threads (p ∷ ps) t) ≡ number p + shares number (of_thread threads ps t)
-share_of_own number threads t p ps own = let k : (thread_of p threads == t) ≡ true = grind (arith, nat_tests) in rw k refl
+share_of_own : (number : Packet → ℕ) (threads t : ℕ) (p : Packet) (ps : List Packet) → thread_of p threads ≡ t
+    → shares number (of_thread threads (p ∷ ps) t) ≡ number p + shares number (of_thread threads ps t)
+share_of_own number threads t p ps own =
+    let k : (thread_of p threads == t) ≡ true = grind (arith, nat_tests) in rw k refl
 
-share_of_other : (number : Packet → ℕ) (threads t : ℕ) (p : Packet) (ps : List Packet) → thread_of p threads ≢ t → shares number (of_thread threads (p ∷ ps) t) ≡ shares number (of_thread threads ps t)
-share_of_other number threads t p ps other = let k : (thread_of p threads == t) ≡ false = grind (arith, nat_tests) in rw k refl
+share_of_other : (number : Packet → ℕ) (threads t : ℕ) (p : Packet) (ps : List Packet) → thread_of p threads ≢ t
+    → shares number (of_thread threads (p ∷ ps) t) ≡ shares number (of_thread threads ps t)
+share_of_other number threads t p ps other =
+    let k : (thread_of p threads == t) ≡ false = grind (arith, nat_tests) in rw k refl
 
-pub steered_sum : (number : Packet → ℕ) (threads : ℕ) (packets : List Packet) → 1 ≤ threads → sum_below threads (λ t. shares number (of_thread threads packets t)) ≡ shares number packets
+pub steered_sum : (number : Packet → ℕ) (threads : ℕ) (packets : List Packet) → 1 ≤ threads
+    → sum_below threads (λ t. shares number (of_thread threads packets t)) ≡ shares number packets
 steered_sum number threads [] some = sum_of_none threads _ (λ t low. refl)
-steered_sum number threads (p ∷ ps) some = more (thread_of p threads) refl (thread_of_view-lt (viewed p.bytes p.original) threads some) (steered_sum number threads ps some)
+steered_sum number threads (p ∷ ps) some = more (thread_of p threads) refl
+    (thread_of_view-lt (viewed p.bytes p.original) threads some) (steered_sum number threads ps some)
   where
-    more : (u : ℕ) → thread_of p threads ≡ u → u < threads → sum_below threads (λ t. shares number (of_thread threads ps t)) ≡ shares number ps
+    more : (u : ℕ) → thread_of p threads ≡ u → u < threads
+        → sum_below threads (λ t. shares number (of_thread threads ps t)) ≡ shares number ps
         → sum_below threads (λ t. shares number (of_thread threads (p ∷ ps) t)) ≡ number p + shares number ps
     more u is low rest =
-        let one = one_changes threads u (λ t. shares number (of_thread threads (p ∷ ps) t)) (λ t. shares number (of_thread threads ps t)) low (λ k other. share_of_other number threads k p ps (λ e. other (sym e ∙ is))) in
+        let one = one_changes threads u (λ t. shares number (of_thread threads (p ∷ ps) t))
+        (λ t. shares number (of_thread threads ps t)) low
+        (λ k other. share_of_other number threads k p ps (λ e. other (sym e ∙ is))) in
         let own = share_of_own number threads u p ps is in
         omega arith
 
 -- where the packets of a capture are of bytes, so are the inputs of each thread
 pub inputs_have_bytes : {V : Type 0} (s : Setting V) → All IsOfBytes s.packets → HaveBytes (all_inputs s)
 inputs_have_bytes s all t k p e =
-    let kept : All IsOfBytes (all_inputs s t) = All-filter (λ packet. thread_of packet s.threads == t) IsOfBytes s.packets all in
-    subst IsOfBytes (get_or_from_slice_get (all_inputs s t) k p p e) (kept k p (slice_get_within (all_inputs s t) k p e))
+    let kept : All IsOfBytes (all_inputs s t) =
+    All-filter (λ packet. thread_of packet s.threads == t) IsOfBytes s.packets all in
+    subst IsOfBytes (get_or_from_slice_get (all_inputs s t) k p p e)
+    (kept k p (slice_get_within (all_inputs s t) k p e))

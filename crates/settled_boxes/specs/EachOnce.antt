@@ -8,16 +8,20 @@ use Rattle.recovery_world.specs.Events.{IsAmong}
 -- how often an output of input j of thread t is in the list
 abbrev pub times_sent : ℕ → ℕ → List Sent → ℕ
 times_sent t j [] = 0
-times_sent t j (o ∷ sent) = cond (nat_eq o.emission.thread t && nat_eq o.emission.input j) (times_sent t j sent + 1) (times_sent t j sent)
+times_sent t j (o ∷ sent) =
+    cond (nat_eq o.emission.thread t && nat_eq o.emission.input j) (times_sent t j sent + 1) (times_sent t j sent)
 
 -- Inputs are numbered from 1; `SentAs p q` says that the packet p goes out as q.
-pub record ReleasesEachOnce {V : Type 0} (s : Setting V) (w : World V) (SentAs : Packet → Packet → Type 0) : Type 0 where
+pub record ReleasesEachOnce {V : Type 0} (s : Setting V) (w : World V)
+    (SentAs : Packet → Packet → Type 0) : Type 0 where
   -- each input of each thread was released, as it goes out
   pub each : (t k : ℕ) (p : Packet) → t < s.threads → slice_get (all_inputs s t) k ≡ Some p
-      → (o : Sent) × IsAmong o w.released × (o.emission.thread ≡ t) × (o.emission.input ≡ k + 1) × SentAs p o.emission.packet
+      → (o : Sent) × IsAmong o w.released × (o.emission.thread ≡ t) × (o.emission.input ≡ k + 1)
+      × SentAs p o.emission.packet
   -- nothing else was
   pub only : (o : Sent) → IsAmong o w.released
-      → (k : ℕ) × (p : Packet) × (o.emission.input ≡ k + 1) × (slice_get (all_inputs s o.emission.thread) k ≡ Some p) × SentAs p o.emission.packet
+      → (k : ℕ) × (p : Packet) × (o.emission.input ≡ k + 1) × (slice_get (all_inputs s o.emission.thread) k ≡ Some p)
+      × SentAs p o.emission.packet
   -- and none twice
   pub once : (t j : ℕ) → times_sent t j w.released ≤ 1
 

@@ -1,5 +1,6 @@
 -- How far an event of several is, in memory, and which phase of the definitions that is.
-use Rattle.std.specs.Prelude.{◌≡◌, ℕ, zero, suc, ◌+◌, ◌-◌, ◌*◌, ◌<◌, ◌||◌, nat_lt, not, if◌then◌else◌, Bool, true, false, List, [], ◌∷◌, ◌++◌, length, Option, Some, None}
+use Rattle.std.specs.Prelude.{◌≡◌, ℕ, zero, suc, ◌+◌, ◌-◌, ◌*◌, ◌<◌, ◌||◌, nat_lt, not, if◌then◌else◌, Bool, true}
+use Rattle.std.specs.Prelude.{false, List, [], ◌∷◌, ◌++◌, length, Option, Some, None}
 use Rattle.plain_text.specs.declared.kind.Kind.{Kind}
 use Rattle.plain_text.specs.declared.kind.Kind.TheVariants as kind
 use Rattle.plain_text.specs.declared.limit.Limit.{Limit}
@@ -14,7 +15,8 @@ use Rattle.recovery_world.specs.declared.event.Outcome.{Outcome}
 use Rattle.recovery_world.specs.World.{Setting, Sent, World}
 use Rattle.recovery_world.specs.Limits.{OnWithin}
 use Rattle.recovery_world.specs.Strategies.{Choice, Follows}
-use Rattle.recovery_world.specs.Many.{Message, numbered, of_threads, Phase, Wakes, Steps, Arrives, Chooses, rests, goes_on, begins, summary_of}
+use Rattle.recovery_world.specs.Many.{Message, numbered, of_threads, Phase, Wakes, Steps, Arrives, Chooses, rests}
+use Rattle.recovery_world.specs.Many.{goes_on, begins, summary_of}
 use Rattle.system_parts.specs.Parts.{Parts}
 use Rattle.system_parts.specs.SystemStanding.{StandsFor}
 use Rattle.several_events.specs.declared.progress.Progress.{Progress}
@@ -36,7 +38,8 @@ of_rest k count t arrived (suc many) = numbered k t (arrived + 1) (count t - arr
 -- behind the entries come the outputs
 abbrev pub messages_from : {V : Type 0} → Setting V → World V → Kind → ℕ → ℕ → List Message
 messages_from s w kind.Log t arrived =
-    of_rest kind.Log (count_in kind.Log w.past) t arrived (s.threads - t) ++ of_threads kind.Out (count_in kind.Out w.past) 0 s.threads
+    of_rest kind.Log (count_in kind.Log w.past) t arrived (s.threads - t)
+    ++ of_threads kind.Out (count_in kind.Out w.past) 0 s.threads
 messages_from s w kind.Out t arrived = of_rest kind.Out (count_in kind.Out w.past) t arrived (s.threads - t)
 
 -- The phase
@@ -58,7 +61,8 @@ IsTurn n (progress.Chooses words left) = Unit {0}
 
 abbrev pub after_turn : ℕ → ℕ → ℕ → Bool → Outcome → Progress
 after_turn n left t moved to =
-    if rests to then (if nat_lt (t + 1) n || not moved then progress.Steps left (t + 1) moved else progress.Steps left 0 false)
+    if rests to
+    then (if nat_lt (t + 1) n || not moved then progress.Steps left (t + 1) moved else progress.Steps left 0 false)
     else progress.Steps left t true
 
 -- how it goes on behind an event with this outcome
@@ -76,7 +80,8 @@ abbrev pub to_arrive : ℕ → Kind → ℕ → ℕ → ℕ
 to_arrive n kind.Log t arrived = (MOST_MOVES + 2) * (n + 1) + to_arrive_of n t arrived
 to_arrive n kind.Out t arrived = to_arrive_of n t arrived
 
--- by packets and moves, behind each of which there are at most 2 rounds of 16 threads without a move, and then by messages
+-- by packets and moves, behind each of which there are at most 2 rounds of 16 threads without a move, and then by
+-- messages
 abbrev pub to_move : ℕ → ℕ → ℕ → ℕ
 to_move n left moves = 64 * (left + (MOST_MOVES + 1 - moves)) + (MOST_MOVES + 2) * (2 * n + 2)
 
@@ -90,10 +95,12 @@ to_do n packets moves (progress.Chooses words left) = left
 
 -- Nothing more is done.
 abbrev pub IsOver : {P V : Type 0} → Meaning V → Parts P V → Progress → Type 0
-IsOver {P} {V} m y at = (s : Setting V) (w : World V) (q : Phase) → StandsFor m s w y → IsInPhase s w at q → goes_on s q w ≡ None
+IsOver {P} {V} m y at =
+    (s : Setting V) (w : World V) (q : Phase) → StandsFor m s w y → IsInPhase s w at q → goes_on s q w ≡ None
 
 -- The strategy chooses this event, behind which it goes on from there, and less is to be done.
-pub record IsNext {P V : Type 0} (m : Meaning V) (y : Parts P V) (at : Progress) (ev : Event) (further : Progress) : Type 0 where
+pub record IsNext {P V : Type 0} (m : Meaning V) (y : Parts P V) (at : Progress) (ev : Event)
+    (further : Progress) : Type 0 where
   pub chosen : (s : Setting V) (w : World V) (q : Phase) → StandsFor m s w y → IsInPhase s w at q
       → (c : Choice Phase) × (goes_on s q w ≡ Some c) × (c.event ≡ ev)
       × ((to : Outcome) (freed : List Sent) (new : World V) → OnWithin s w ev to freed new
@@ -108,11 +115,13 @@ pub record IsNext {P V : Type 0} (m : Meaning V) (y : Parts P V) (at : Progress)
 -- The message of this kind that comes next, and what is to come behind it.
 pub record IsOfKind {V : Type 0} (s : Setting V) (w : World V) (k : Kind) (t arrived : ℕ) (next : ℕ × ℕ) : Type 0 where
   pub messages : of_rest k (count_in k w.past) t arrived (s.threads - t)
-      ≡ record { kind = k; thread = next.0; number = next.1 } ∷ of_rest k (count_in k w.past) next.0 next.1 (s.threads - next.0)
+      ≡ record { kind = k; thread = next.0; number = next.1 }
+      ∷ of_rest k (count_in k w.past) next.0 next.1 (s.threads - next.0)
   pub less : to_arrive_of s.threads next.0 next.1 < to_arrive_of s.threads t arrived
 
 -- The message that comes next, and what is to come behind it.
-pub record IsMessage {V : Type 0} (s : Setting V) (w : World V) (k : Kind) (t arrived : ℕ) (next : Kind × ℕ × ℕ) : Type 0 where
+pub record IsMessage {V : Type 0} (s : Setting V) (w : World V) (k : Kind) (t arrived : ℕ)
+    (next : Kind × ℕ × ℕ) : Type 0 where
   pub messages : messages_from s w k t arrived
       ≡ record { kind = next.0; thread = next.1; number = next.2 } ∷ messages_from s w next.0 next.1 next.2
   pub less : to_arrive s.threads next.0 next.1 next.2 < to_arrive s.threads k t arrived
@@ -125,7 +134,8 @@ NoMessage s w k t arrived = messages_from s w k t arrived ≡ []
 
 -- An event of several begins so.
 abbrev pub IsBegun : {P V : Type 0} → Meaning V → Parts P V → Event → Progress → Type 0
-IsBegun {P} {V} m y ev at = (s : Setting V) (w : World V) → StandsFor m s w y → (q : Phase) × (begins s w ev ≡ Some q) × IsInPhase s w at q
+IsBegun {P} {V} m y ev at =
+    (s : Setting V) (w : World V) → StandsFor m s w y → (q : Phase) × (begins s w ev ≡ Some q) × IsInPhase s w at q
 
 -- it is so far, in some world that the parts stand for
 abbrev pub StandsAt : {P V : Type 0} → Meaning V → Parts P V → Progress → Type 0

@@ -1,5 +1,6 @@
-//! A recovering system performs the events of several: a settling, a flow of packets, and events that are chosen by words. Each is a
-//! strategy, that tells from how far it is and from the system which event comes next; one loop follows them all.
+//! A recovering system performs the events of several: a settling, a flow of packets, and events that are chosen by
+//! words. Each is a strategy, that tells from how far it is and from the system which event comes next; one loop
+//! follows them all.
 #![tactic(auto)]
 
 mod choosing;

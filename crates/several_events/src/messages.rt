@@ -1,7 +1,8 @@
 ghost use Rattle.std.specs.Prelude.{◌≡◌, ◌<◌, ◌-◌, [], IfSome, None};
 ghost use Rattle.recovery_world.specs.World.{Setting, World};
 ghost use Rattle.system_parts.specs.SystemStanding.{StandsFor};
-ghost use Rattle.several_events.specs.Progressing.{IsMessage, IsOfKind, NoMessage, count_in, of_rest};
+ghost use Rattle.several_events.specs.Progressing.{IsMessage, IsOfKind, NoMessage, count_in};
+ghost use Rattle.several_events.specs.Progressing.{of_rest};
 
 use box_program::Program;
 use plain_text::Kind;
@@ -45,7 +46,8 @@ fn next_of_kind<P: Program>(
     None
 }
 
-/// The next message: entries come first, by thread and then number, and then outputs. Of this thread this number arrived.
+/// The next message: entries come first, by thread and then number, and then outputs. Of this thread this number
+/// arrived.
 pub fn next_message<P: Program>(
     core: &Core<P>,
     kind: Kind,

@@ -11,7 +11,8 @@ use recovery_world::{Event, Outcome};
 pub enum Progress {
     /// The master is to be up.
     Wakes,
-    /// It is the turn of this thread. So many packets are still to come in, and a thread has moved in this round or none has.
+    /// It is the turn of this thread. So many packets are still to come in, and a thread has moved in this round or
+    /// none has.
     Steps {
         left: u64,
         thread: u32,
@@ -30,8 +31,8 @@ pub enum Progress {
     },
 }
 
-/// How it goes on behind a step of the thread whose turn it is. A thread that moved has another turn. Behind the last thread a new
-/// round begins, if one has moved in this round.
+/// How it goes on behind a step of the thread whose turn it is. A thread that moved has another turn. Behind the last
+/// thread a new round begins, if one has moved in this round.
 fn after_step(left: u64, thread: u32, moved: bool, threads: u32, outcome: &Outcome) -> Progress
     requires { IsTurn threads (progress_is.Steps left thread moved) }
     ensures { result ≡ after_turn threads left thread moved outcome.now }

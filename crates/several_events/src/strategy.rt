@@ -3,7 +3,8 @@ ghost use Rattle.plain_text.specs.declared.limit.Limit.{Limit as LimitKind};
 ghost use Rattle.several_events.specs.declared.progress.Progress.TheVariants as progress_is;
 ghost use Rattle.system_parts.specs.Performing.{Appends, MovesOn, StopsAt, Releasing};
 ghost use Rattle.single_events.specs.Single.{IsSingle};
-ghost use Rattle.several_events.specs.Progressing.{IsBegun, IsNext, IsOver, StandsAt, Comes, SumsUp};
+ghost use Rattle.several_events.specs.Progressing.{IsBegun, IsNext, IsOver, StandsAt, Comes};
+ghost use Rattle.several_events.specs.Progressing.{SumsUp};
 
 use crate::choosing::choose_next;
 use crate::messages::next_message;

@@ -41,4 +41,5 @@ looks_to {P} {V} m ev to reply out y quiet is on =
 pub passes_none : {P V : Type 0} (m : Meaning V) (ev : Event) (limit : Limit) (out : List Output) (old new : Parts P V)
     → StopsAt m (WouldPass ev limit) old new → StopsAt m (Releasing out out (WouldPass ev limit)) old new
 passes_none {P} {V} m ev limit out old new stops =
-    λ s w st. let r = stops s w st in (r.0, (r.1, releases_none out w r.0 (ap (λ (x : World V). x.released) r.1.1)), r.2)
+    λ s w st.
+    let r = stops s w st in (r.0, (r.1, releases_none out w r.0 (ap (λ (x : World V). x.released) r.1.1)), r.2)

@@ -2,7 +2,8 @@ ghost use Rattle.std.specs.Prelude.{◌≡◌, IfOk, Err};
 ghost use Rattle.plain_text.specs.declared.limit.Limit.{Limit as LimitKind};
 ghost use Rattle.system_parts.specs.SystemStanding.{StandsForSome};
 ghost use Rattle.single_events.specs.Single.{IsSingle};
-ghost use Rattle.system_parts.specs.Performing.{Appends, MovesOn, StopsAt, Releasing, Replies, WouldPass};
+ghost use Rattle.system_parts.specs.Performing.{Appends, MovesOn, StopsAt, Releasing, Replies};
+ghost use Rattle.system_parts.specs.Performing.{WouldPass};
 
 use crate::showing::show;
 use access_log::Outputs;

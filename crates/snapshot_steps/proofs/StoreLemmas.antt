@@ -1,5 +1,6 @@
 -- A snapshot is stored: what it covers is held no more, and what is due then is released.
-use Rattle.std.proofs.Common.{◌≡◌, ℕ, suc, ◌+◌, lit≤, ◌<◌, ◌≤◌, List, [], ◌∷◌, ◌++◌, length, refl, sym, ap, ◌∙◌, subst, inl, inr, ◌⊎◌, Option, Some, None, arith, false}
+use Rattle.std.proofs.Common.{◌≡◌, ℕ, suc, ◌+◌, lit≤, ◌<◌, ◌≤◌, List, [], ◌∷◌, ◌++◌, length, refl, sym, ap, ◌∙◌, subst}
+use Rattle.std.proofs.Common.{inl, inr, ◌⊎◌, Option, Some, None, arith, false}
 use Rattle.std.specs.Prelude.{slice_index, ◌↔◌, IsSome, nat_le, sum, ◌^◌}
 use Rattle.plain_text.specs.declared.limit.TheConstants.{MOST_MOVES}
 use Rattle.plain_text.specs.declared.packet.Packet.{Packet}
@@ -46,7 +47,8 @@ use Rattle.recovery_world.specs.declared.event.Outcome.{Outcome}
 use Rattle.recovery_world.specs.declared.event.Outcome.TheVariants as outcome
 use Rattle.recovery_laws.proofs.KeptWorlds.{line_entries, entries_line, within_sound}
 use Rattle.event_replies.specs.declared.reply.Reply.{Reply}
-use Rattle.sent_frames.specs.Sending.{Sending, length_at, lengths_of, entry_address, output_address, HasEntryFrame, HasOutputFrame, ForgetsCovered}
+use Rattle.sent_frames.specs.Sending.{Sending, length_at, lengths_of, entry_address, output_address, HasEntryFrame}
+use Rattle.sent_frames.specs.Sending.{HasOutputFrame, ForgetsCovered}
 use Rattle.output_releases.specs.Released.{names_of}
 use Rattle.system_parts.proofs.LineLemmas.{line_log, past_in, past_good, holds_log, holds_moves}
 use Rattle.system_parts.proofs.SentLemmas.{entry_frame_stays, output_frame_stays}
@@ -69,13 +71,18 @@ log_short {V} (x ∷ steps) = go x.act (log_short steps)
     go (Emitted o) h = omega (arith, h)
     go (Ended k) h = omega (arith, h)
 
-pub total_is : {V : Type 0} (m : Meaning V) (inputs : ℕ → List Packet) (threads : ℕ) (steps : List (Step V)) (counts : List ℕ) → IsHistory m inputs threads steps → threads ≤ 16 → length counts ≡ 16
+pub total_is : {V : Type 0} (m : Meaning V) (inputs : ℕ → List Packet) (threads : ℕ) (steps : List (Step V))
+    (counts : List ℕ) → IsHistory m inputs threads steps → threads ≤ 16 → length counts ≡ 16
     → ((t : ℕ) → slice_index counts t ≡ entries t (log_of steps)) → sum counts ≡ length (log_of steps)
 total_is m inputs threads steps counts hist few long are =
-    sym (sum_below_list counts) ∙ ap (λ (k : ℕ). sum_below k (λ u. slice_index counts u)) long ∙ sum_below_same 16 (λ u. slice_index counts u) (λ t. entries t (log_of steps)) (λ u low. are u)
-    ∙ entries_sum 16 (log_of steps) (λ e i. let k = entry_thread m inputs threads steps e hist i in omega (arith, k, few))
+    sym (sum_below_list counts)
+    ∙ ap (λ (k : ℕ). sum_below k (λ u. slice_index counts u)) long
+    ∙ sum_below_same 16 (λ u. slice_index counts u) (λ t. entries t (log_of steps)) (λ u low. are u)
+    ∙ entries_sum 16 (log_of steps)
+    (λ e i. let k = entry_thread m inputs threads steps e hist i in omega (arith, k, few))
 
-module _ {P V : Type 0} (m : Meaning V) (s : Setting V) (w : World V) (y : Parts P V) (st : StandsFor m s w y) (copy : List (Step V)) (copy_is : w.copy ≡ Some copy) where
+module _ {P V : Type 0} (m : Meaning V) (s : Setting V) (w : World V) (y : Parts P V) (st : StandsFor m s w y)
+    (copy : List (Step V)) (copy_is : w.copy ≡ Some copy) where
   legal : IsHistory s.meaning (inputs_fed s w.fed) s.threads w.past
   legal = st.sound.firm.legal
 
@@ -92,7 +99,8 @@ module _ {P V : Type 0} (m : Meaning V) (s : Setting V) (w : World V) (y : Parts
   stored_copy e i = earlier_log w.stored copy e moments.0 i
 
   -- how many entries of each thread the snapshot has
-  module _ (snap : Snapshot V) (has : IsSnapshot s y.sent y.logger.released copy snap) (counts : List ℕ) (counted : HasCounts snap.master.threads counts) where
+  module _ (snap : Snapshot V) (has : IsSnapshot s y.sent y.logger.released copy snap) (counts : List ℕ)
+      (counted : HasCounts snap.master.threads counts) where
     pub counts_are : (t : ℕ) → slice_index counts t ≡ entries t (log_of copy)
     counts_are t = go (cases_lt t s.threads)
       where
@@ -100,17 +108,24 @@ module _ {P V : Type 0} (m : Meaning V) (s : Setting V) (w : World V) (y : Parts
         none = record { counts = record { taken = 0; entries = 0; outputs = 0 }; hand = None; stamp = [] }
 
         go : (t < s.threads) ⊎ (s.threads ≤ t) → slice_index counts t ≡ entries t (log_of copy)
-        go (inl low) = counted.each t none (let k = has.stands.threads_are in omega (arith, low, k)) ∙ (has.stands.thread t none low).logged
-        go (inr high) = counted.none t (let k = has.stands.threads_are in omega (arith, high, k)) ∙ sym (none_past_threads s.meaning (inputs_fed s w.fed) s.threads copy t copy_legal high)
+        go (inl low) =
+            counted.each t none (let k = has.stands.threads_are in omega (arith, low, k))
+            ∙ (has.stands.thread t none low).logged
+        go (inr high) =
+            counted.none t (let k = has.stands.threads_are in omega (arith, high, k))
+            ∙ sym (none_past_threads s.meaning (inputs_fed s w.fed) s.threads copy t copy_legal high)
           where
             copy_legal : IsHistory s.meaning (inputs_fed s w.fed) s.threads copy
             copy_legal = earlier_history s.meaning (inputs_fed s w.fed) s.threads copy w.past moments.1 legal
 
     -- and in all
-    pub total_of : (n : ℕ) → length counts ≡ 16 → (sum counts < 2 ^ 64 → n ≡ sum counts) → y.inputs.threads ≤ 16 → y.moves ≤ MOST_MOVES → n ≡ length (log_of copy)
+    pub total_of : (n : ℕ) → length counts ≡ 16 → (sum counts < 2 ^ 64 → n ≡ sum counts) → y.inputs.threads ≤ 16
+        → y.moves ≤ MOST_MOVES → n ≡ length (log_of copy)
     total_of n long is few moves =
         let threads = ap (λ (f : Fed). f.threads) st.inputs.inputs in
-        let all = total_is s.meaning (inputs_fed s w.fed) s.threads copy counts (earlier_history s.meaning (inputs_fed s w.fed) s.threads copy w.past moments.1 legal) (omega (arith, threads, few)) long counts_are in
+        let all = total_is s.meaning (inputs_fed s w.fed) s.threads copy counts
+        (earlier_history s.meaning (inputs_fed s w.fed) s.threads copy w.past moments.1 legal)
+        (omega (arith, threads, few)) long counts_are in
         let short = log_short copy in
         let earlier = earlier_length copy w.past moments.1 in
         let past = st.master.past in
@@ -126,52 +141,75 @@ module _ {P V : Type 0} (m : Meaning V) (s : Setting V) (w : World V) (y : Parts
         let c = counts_are t in
         omega (arith, a, b, c)
 
-    module _ (now : Logger) (long : length now.held ≡ length y.logger.held) (lanes : length y.logger.held ≡ y.inputs.threads)
-        (covers : (t : ℕ) → t < length y.logger.held → CoversUpTo (lane y.logger.held t) (lane now.held t) (slice_index counts t)) where
+    module _ (now : Logger) (long : length now.held ≡ length y.logger.held)
+        (lanes : length y.logger.held ≡ y.inputs.threads)
+        (covers : (t : ℕ) → t < length y.logger.held
+        → CoversUpTo (lane y.logger.held t) (lane now.held t) (slice_index counts t)) where
       count_past : (t : ℕ) → length y.logger.held ≤ t → entries t (log_of copy) ≡ 0
       count_past t high =
-          none_past_threads s.meaning (inputs_fed s w.fed) s.threads copy t (earlier_history s.meaning (inputs_fed s w.fed) s.threads copy w.past moments.1 legal)
+          none_past_threads s.meaning (inputs_fed s w.fed) s.threads copy t
+          (earlier_history s.meaning (inputs_fed s w.fed) s.threads copy w.past moments.1 legal)
           (let f = ap (λ (x : Fed). x.threads) st.inputs.inputs in omega (arith, high, lanes, f))
 
       covers_all : (t : ℕ) → CoversUpTo (lane y.logger.held t) (lane now.held t) (entries t (log_of copy))
-      covers_all = covers_each (log_of copy) y.logger.held now.held counts long count_past (λ t low. counts_are t) covers
+      covers_all =
+          covers_each (log_of copy) y.logger.held now.held counts long count_past (λ t low. counts_are t) covers
 
       pub holds : HoldsOf (entries_of_line w) (log_of copy) now.held
-      holds = covering_holds (entries_of_line w) (log_of w.stored) (log_of copy) y.logger.held now.held st.logger.holds covers_all
+      holds = covering_holds (entries_of_line w) (log_of w.stored) (log_of copy) y.logger.held now.held
+          st.logger.holds covers_all
 
       pub held_is : (e : Entry) → IsIn e (held_entries now.held) ↔ (IsIn e w.held × (IsIn e (log_of copy) → ⊥))
-      held_is e = (λ i. let h = k.0 i in (((st.logger.held e).0 h.0).0, h.1), λ h. k.1 ((st.logger.held e).1 (h.0, λ i. h.1 (stored_copy e i)), h.1))
+      held_is e = (
+        λ i. let h = k.0 i in (((st.logger.held e).0 h.0).0, h.1),
+        λ h. k.1 ((st.logger.held e).1 (h.0, λ i. h.1 (stored_copy e i)), h.1),
+      )
         where
           k : IsIn e (held_entries now.held) ↔ (IsIn e (held_entries y.logger.held) × (IsIn e (log_of copy) → ⊥))
-          k = covering_keeps (line_log s w st.sound.firm) (log_of w.stored) (log_of copy) y.logger.held now.held e st.sound.firm.log good copy_in (holds_log s w st.sound.firm y.logger.held st.logger.holds) covers_all
+          k = covering_keeps (line_log s w st.sound.firm) (log_of w.stored) (log_of copy) y.logger.held now.held e
+              st.sound.firm.log good copy_in (holds_log s w st.sound.firm y.logger.held st.logger.holds) covers_all
 
       -- how far the entries of the past are held then, or stored
       reaches : IsFrontier (log_of w.past) (log_of copy) (held_entries now.held) (frontier_of now.held)
-      reaches = record { below = λ e i low. all.below e (past_in s w st.sound.firm e i) low; next = λ e i at. all.next e (past_in s w st.sound.firm e i) at }
+      reaches = record {
+        below = λ e i low. all.below e (past_in s w st.sound.firm e i) low;
+        next = λ e i at. all.next e (past_in s w st.sound.firm e i) at;
+      }
         where
           all : IsFrontier (line_log s w st.sound.firm) (log_of copy) (held_entries now.held) (frontier_of now.held)
           all =
               frontiers_are_defined (line_log s w st.sound.firm) (log_of copy) now.held st.sound.firm.log good copy_in
-              (holds_moves (entries_of_line w) (line_log s w st.sound.firm) (log_of copy) now.held (λ f k. line_entries s w st.sound.firm f k) (λ f k. entries_line s w st.sound.firm f k) holds)
+              (holds_moves (entries_of_line w) (line_log s w st.sound.firm) (log_of copy) now.held
+              (λ f k. line_entries s w st.sound.firm f k) (λ f k. entries_line s w st.sound.firm f k) holds)
 
       abbrev then_stored : World V
       then_stored = record w { stored = copy; copy = None }
 
-      miss_out : (u k : ℕ) (e : Entry) → IsMissing (log_of w.past) (log_of copy) (held_entries now.held) u k e → IsMissing (log_of w.past) (log_of copy) w.held u k e
-      miss_out u k e h = record { precedes = h.precedes; not_held = λ i. h.not_held ((held_is e).1 (i, h.not_stored)); not_stored = h.not_stored }
+      miss_out : (u k : ℕ) (e : Entry) → IsMissing (log_of w.past) (log_of copy) (held_entries now.held) u k e
+          → IsMissing (log_of w.past) (log_of copy) w.held u k e
+      miss_out u k e h = record {
+        precedes = h.precedes;
+        not_held = λ i. h.not_held ((held_is e).1 (i, h.not_stored));
+        not_stored = h.not_stored;
+      }
 
-      miss_in : (u k : ℕ) (e : Entry) → IsMissing (log_of w.past) (log_of copy) w.held u k e → IsMissing (log_of w.past) (log_of copy) (held_entries now.held) u k e
-      miss_in u k e h = record { precedes = h.precedes; not_held = λ i. h.not_held ((held_is e).0 i).0; not_stored = h.not_stored }
+      miss_in : (u k : ℕ) (e : Entry) → IsMissing (log_of w.past) (log_of copy) w.held u k e
+          → IsMissing (log_of w.past) (log_of copy) (held_entries now.held) u k e
+      miss_in u k e h =
+          record { precedes = h.precedes; not_held = λ i. h.not_held ((held_is e).0 i).0; not_stored = h.not_stored }
 
-      due_is : (o : Output) (z : Sent) → emission_of_output o ≡ z.emission → IsOutputStamp (log_of w.past) z.emission.thread z.after (λ u. slice_index o.stamp u) → IsDue now.held o ↔ MayGo then_stored z
+      due_is : (o : Output) (z : Sent) → emission_of_output o ≡ z.emission
+          → IsOutputStamp (log_of w.past) z.emission.thread z.after (λ u. slice_index o.stamp u)
+          → IsDue now.held o ↔ MayGo then_stored z
       due_is o z is stamp = (
         λ within e miss.
-            due_within (log_of w.past) (log_of copy) (held_entries now.held) z.emission.thread z.after (λ u. slice_index o.stamp u) (frontier_of now.held) (past_good s w st.sound.firm) stamp
-            reaches (within_frontiers now.held o.stamp within) e (miss_in z.emission.thread z.after e miss),
+            due_within (log_of w.past) (log_of copy) (held_entries now.held) z.emission.thread z.after
+            (λ u. slice_index o.stamp u) (frontier_of now.held) (past_good s w st.sound.firm) stamp reaches
+            (within_frontiers now.held o.stamp within) e (miss_in z.emission.thread z.after e miss),
         λ may.
-            frontiers_within now.held o.stamp
-            (within_due (log_of w.past) (log_of copy) (held_entries now.held) z.emission.thread z.after (λ u. slice_index o.stamp u) (frontier_of now.held) (past_good s w st.sound.firm) stamp
-            reaches (λ e miss. may e (miss_out z.emission.thread z.after e miss))),
+            frontiers_within now.held o.stamp (within_due (log_of w.past) (log_of copy) (held_entries now.held)
+            z.emission.thread z.after (λ u. slice_index o.stamp u) (frontier_of now.held) (past_good s w st.sound.firm)
+            stamp reaches (λ e miss. may e (miss_out z.emission.thread z.after e miss))),
       )
 
       -- what was known is known
@@ -187,11 +225,13 @@ module _ {P V : Type 0} (m : Meaning V) (s : Setting V) (w : World V) (y : Parts
           go (inr low) = let c = (covers_all t).covered in inl (omega (arith, low, c))
           go (inl high) =
               let test : nat_le n (entries t (log_of copy)) ≡ false = grind (arith, nat_tests) in
-              let same : entry_at (lane now.held t) n ≡ entry_at (lane y.logger.held t) n = (covers_all t).held n ∙ rw test refl in
+              let same : entry_at (lane now.held t) n ≡ entry_at (lane y.logger.held t) n =
+              (covers_all t).held n ∙ rw test refl in
               inr (subst (λ (o : Option StampedEntry). IsSome o) (sym same) there)
 
       module _ (links : Sending) (forgets : ForgetsCovered y.sent links counts) where
-        entry_on : (e : Entry) → IsSentEntry (log_of w.past) y.logger.held y.sent e → IsSentEntry (log_of w.past) now.held links e
+        entry_on : (e : Entry) → IsSentEntry (log_of w.past) y.logger.held y.sent e
+            → IsSentEntry (log_of w.past) now.held links e
         entry_on e h = record {
           stamped = h.stamped;
           plain = h.plain;
@@ -200,13 +240,20 @@ module _ {P V : Type 0} (m : Meaning V) (s : Setting V) (w : World V) (y : Parts
           there = go (forgets.each (entry_address y.sent e.thread e.number)) h.there;
         }
           where
-            at_new : frame_at links.frames (entry_address links e.thread e.number) ≡ frame_at links.frames (entry_address y.sent e.thread e.number)
+            at_new : frame_at links.frames (entry_address links e.thread e.number)
+                ≡ frame_at links.frames (entry_address y.sent e.thread e.number)
             at_new = ap (λ (k : ℕ). frame_at links.frames (address k Log e.thread e.number)) forgets.epoch
 
-            go : (frame_at links.frames (entry_address y.sent e.thread e.number) ≡ frame_at y.sent.frames (entry_address y.sent e.thread e.number))
-                ⊎ ((frame_at links.frames (entry_address y.sent e.thread e.number) ≡ None) × (y.sent.epoch ≡ y.sent.epoch) × (Log ≡ Log) × (e.number ≤ slice_index counts e.thread))
-                → HasEntryFrame y.sent h.stamped ⊎ ((frame_at y.sent.frames (entry_address y.sent e.thread e.number) ≡ None) × IsKnownLane (lane y.logger.held e.thread) e.number)
-                → HasEntryFrame links h.stamped ⊎ ((frame_at links.frames (entry_address links e.thread e.number) ≡ None) × IsKnownLane (lane now.held e.thread) e.number)
+            go : (frame_at links.frames (entry_address y.sent e.thread e.number)
+                ≡ frame_at y.sent.frames (entry_address y.sent e.thread e.number))
+                ⊎ ((frame_at links.frames (entry_address y.sent e.thread e.number) ≡ None)
+                × (y.sent.epoch ≡ y.sent.epoch) × (Log ≡ Log) × (e.number ≤ slice_index counts e.thread))
+                → HasEntryFrame y.sent h.stamped
+                ⊎ ((frame_at y.sent.frames (entry_address y.sent e.thread e.number) ≡ None)
+                × IsKnownLane (lane y.logger.held e.thread) e.number)
+                → HasEntryFrame links h.stamped
+                ⊎ ((frame_at links.frames (entry_address links e.thread e.number) ≡ None)
+                × IsKnownLane (lane now.held e.thread) e.number)
             go (inr gone) b =
                 let c = (covers_all e.thread).covered in
                 let k = counts_are e.thread in
@@ -214,18 +261,26 @@ module _ {P V : Type 0} (m : Meaning V) (s : Setting V) (w : World V) (y : Parts
                 inr (at_new ∙ gone.0, inl (omega (arith, c, k, low)))
             go (inl same) (inl frame) =
                 inl (entry_frame_stays y.sent links h.stamped forgets.epoch forgets.threads
-                (subst (λ (f : Entry). frame_at links.frames (entry_address y.sent f.thread f.number) ≡ frame_at y.sent.frames (entry_address y.sent f.thread f.number)) (sym h.plain) same) frame)
+                (subst (λ (f : Entry).
+                frame_at links.frames (entry_address y.sent f.thread f.number)
+                ≡ frame_at y.sent.frames (entry_address y.sent f.thread f.number)) (sym h.plain) same) frame)
             go (inl same) (inr (none, known)) = inr (at_new ∙ same ∙ none, known_on e.thread e.number known)
 
-        out_frames : (t n : ℕ) → frame_at links.frames (output_address y.sent t n) ≡ frame_at y.sent.frames (output_address y.sent t n)
+        out_frames : (t n : ℕ)
+            → frame_at links.frames (output_address y.sent t n) ≡ frame_at y.sent.frames (output_address y.sent t n)
         out_frames t n = go (forgets.each (output_address y.sent t n))
           where
-            go : (frame_at links.frames (output_address y.sent t n) ≡ frame_at y.sent.frames (output_address y.sent t n))
-                ⊎ ((frame_at links.frames (output_address y.sent t n) ≡ None) × (y.sent.epoch ≡ y.sent.epoch) × (Out ≡ Log) × (n ≤ slice_index counts t)) → frame_at links.frames (output_address y.sent t n) ≡ frame_at y.sent.frames (output_address y.sent t n)
+            go : (frame_at links.frames (output_address y.sent t n)
+                ≡ frame_at y.sent.frames (output_address y.sent t n))
+                ⊎ ((frame_at links.frames (output_address y.sent t n) ≡ None) × (y.sent.epoch ≡ y.sent.epoch)
+                × (Out ≡ Log) × (n ≤ slice_index counts t))
+                → frame_at links.frames (output_address y.sent t n) ≡ frame_at y.sent.frames (output_address y.sent t n)
             go (inl same) = same
             go (inr k) = absurd (let kind = k.2 in cc)
 
-        output_on : (o : Sent) → ((t n : ℕ) → WasMarked y.logger.released t n → WasMarked now.released t n) → IsSentOutput (log_of w.past) y.logger.released y.sent o → IsSentOutput (log_of w.past) now.released links o
+        output_on : (o : Sent) → ((t n : ℕ) → WasMarked y.logger.released t n → WasMarked now.released t n)
+            → IsSentOutput (log_of w.past) y.logger.released y.sent o
+            → IsSentOutput (log_of w.past) now.released links o
         output_on o marks h = record {
           stamped = h.stamped;
           plain = h.plain;
@@ -234,39 +289,76 @@ module _ {P V : Type 0} (m : Meaning V) (s : Setting V) (w : World V) (y : Parts
           there = go h.there;
         }
           where
-            go : HasOutputFrame y.sent h.stamped ⊎ ((frame_at y.sent.frames (output_address y.sent o.emission.thread o.emission.number) ≡ None) × WasMarked y.logger.released o.emission.thread o.emission.number)
-                → HasOutputFrame links h.stamped ⊎ ((frame_at links.frames (output_address links o.emission.thread o.emission.number) ≡ None) × WasMarked now.released o.emission.thread o.emission.number)
-            go (inl frame) = inl (output_frame_stays y.sent links h.stamped forgets.epoch forgets.threads (out_frames h.stamped.thread h.stamped.number) frame)
+            go : HasOutputFrame y.sent h.stamped
+                ⊎ ((frame_at y.sent.frames (output_address y.sent o.emission.thread o.emission.number) ≡ None)
+                × WasMarked y.logger.released o.emission.thread o.emission.number)
+                → HasOutputFrame links h.stamped
+                ⊎ ((frame_at links.frames (output_address links o.emission.thread o.emission.number) ≡ None)
+                × WasMarked now.released o.emission.thread o.emission.number)
+            go (inl frame) = inl (output_frame_stays y.sent links h.stamped forgets.epoch forgets.threads
+                (out_frames h.stamped.thread h.stamped.number) frame)
             go (inr (none, was)) = inr (
-              ap (λ (k : ℕ). frame_at links.frames (address k Out o.emission.thread o.emission.number)) forgets.epoch ∙ out_frames o.emission.thread o.emission.number ∙ none,
+              ap (λ (k : ℕ). frame_at links.frames (address k Out o.emission.thread o.emission.number)) forgets.epoch
+                  ∙ out_frames o.emission.thread o.emission.number
+                  ∙ none,
               marks o.emission.thread o.emission.number was,
             )
 
         later_on : (a : Address) → w.epoch < a.epoch → frame_at links.frames a ≡ None
         later_on a later = go (forgets.each a)
           where
-            go : (frame_at links.frames a ≡ frame_at y.sent.frames a) ⊎ ((frame_at links.frames a ≡ None) × (a.epoch ≡ y.sent.epoch) × (a.kind ≡ Log) × (a.number ≤ slice_index counts a.thread)) → frame_at links.frames a ≡ None
+            go : (frame_at links.frames a ≡ frame_at y.sent.frames a)
+                ⊎ ((frame_at links.frames a ≡ None) × (a.epoch ≡ y.sent.epoch) × (a.kind ≡ Log)
+                × (a.number ≤ slice_index counts a.thread)) → frame_at links.frames a ≡ None
             go (inl same) = same ∙ st.sent.none_later a later
             go (inr k) = k.0
 
         -- the snapshot is stored, and what is due then is released
-        pub stores : (store : Snapshots V) (before out go : List Output) (reply : Reply) → out ≡ before ++ go → store.stored ≡ snap → store.copy ≡ None → now.epoch ≡ y.logger.epoch → LoggerParts (IsDue now.held) y.logger.waiting go now.waiting → ReleasesOnce y.logger.released now.released go
+        pub stores : (store : Snapshots V) (before out go : List Output) (reply : Reply) → out ≡ before ++ go
+            → store.stored ≡ snap → store.copy ≡ None → now.epoch ≡ y.logger.epoch
+            → LoggerParts (IsDue now.held) y.logger.waiting go now.waiting
+            → ReleasesOnce y.logger.released now.released go
             → reply ≡ record { outcome = outcome.Covers (length (log_of copy)); released = names_of go }
-            → AnswersTo m s w event.Store reply before out (record y { store = store; sent = links; logger = now; released = y.released ++ names_of go })
+            → AnswersTo m s w event.Store reply before out
+            (record y { store = store; sent = links; logger = now; released = y.released ++ names_of go })
         stores store before out go reply appends stored none epoch parts once is = (
           next,
           (
-            (r.0, (subst (λ (q : Outcome). On s w event.Store q r.0 next) (sym (ap (λ (k : Reply). k.outcome) is)) on, st.within), ap (λ (k : Reply). k.released) is ∙ names_as (log_of w.past) go r.0 r.3),
+            (
+              r.0,
+              (
+                subst (λ (q : Outcome). On s w event.Store q r.0 next) (sym (ap (λ (k : Reply). k.outcome) is)) on,
+                st.within,
+              ),
+              ap (λ (k : Reply). k.released) is ∙ names_as (log_of w.past) go r.0 r.3,
+            ),
             releases_as (log_of w.past) before out go w next r.0 r.3 appends refl,
           ),
           record {
-            sound = within_sound s w event.Store (outcome.Covers (length (log_of copy))) r.0 next st.sound (on, st.within);
+            sound =
+                within_sound s w event.Store (outcome.Covers (length (log_of copy))) r.0 next st.sound (on, st.within);
             within = st.within;
-            inputs = record { meaning = st.inputs.meaning; fractions = st.inputs.fractions; inputs = st.inputs.inputs; left = st.inputs.left; clock = st.inputs.clock; generator = st.inputs.generator };
-            master = record { up = st.master.up; stands = st.master.stands; schedule = st.master.schedule; past = st.master.past; moves = st.master.moves; bytes = st.master.bytes };
+            inputs = record {
+              meaning = st.inputs.meaning;
+              fractions = st.inputs.fractions;
+              inputs = st.inputs.inputs;
+              left = st.inputs.left;
+              clock = st.inputs.clock;
+              generator = st.inputs.generator;
+            };
+            master = record {
+              up = st.master.up;
+              stands = st.master.stands;
+              schedule = st.master.schedule;
+              past = st.master.past;
+              moves = st.master.moves;
+              bytes = st.master.bytes;
+            };
             snapshots = record {
               first = subst (λ (x : Snapshot V). IsSnapshot s links now.released copy x) (sym stored)
-                  (snapshot_on y.sent links y.logger.released now.released forgets.threads (λ u k size i. ap (λ (l : List (List ℕ)). length_at l u k) forgets.outputs ∙ i) marks s copy snap has);
+                  (snapshot_on y.sent links y.logger.released now.released forgets.threads
+                  (λ u k size i. ap (λ (l : List (List ℕ)). length_at l u k) forgets.outputs ∙ i) marks s copy
+                  snap has);
               copied = λ moment gone. absurd (cc);
               none = λ gone. none;
             };
@@ -276,8 +368,10 @@ module _ {P V : Type 0} (m : Meaning V) (s : Setting V) (w : World V) (y : Parts
               epoch = forgets.epoch ∙ st.sent.epoch;
               entry_sent = λ e i. entry_on e (st.sent.entry_sent e i);
               output_sent = λ o sends. output_on o marks (st.sent.output_sent o sends);
-              entry_counts = λ u. ap (λ (l : List (List ℕ)). length (lengths_of l u)) forgets.entries ∙ st.sent.entry_counts u;
-              output_counts = λ u. ap (λ (l : List (List ℕ)). length (lengths_of l u)) forgets.outputs ∙ st.sent.output_counts u;
+              entry_counts =
+                  λ u. ap (λ (l : List (List ℕ)). length (lengths_of l u)) forgets.entries ∙ st.sent.entry_counts u;
+              output_counts =
+                  λ u. ap (λ (l : List (List ℕ)). length (lengths_of l u)) forgets.outputs ∙ st.sent.output_counts u;
               none_later = later_on;
             };
             logger = record {
@@ -285,7 +379,8 @@ module _ {P V : Type 0} (m : Meaning V) (s : Setting V) (w : World V) (y : Parts
               holds = holds;
               held = held_is;
               waiting = r.4;
-              released = noted_more (log_of w.past) y.logger.released now.released go w.released r.0 once r.3 st.logger.released;
+              released = noted_more (log_of w.past) y.logger.released now.released go w.released r.0 once r.3
+                  st.logger.released;
             };
             released = names_more w y (log_of w.past) go r.0 st.released r.3;
           },
@@ -294,8 +389,10 @@ module _ {P V : Type 0} (m : Meaning V) (s : Setting V) (w : World V) (y : Parts
             marks : (t n : ℕ) → WasMarked y.logger.released t n → WasMarked now.released t n
             marks = marks_stay y.logger.released now.released go once
 
-            r : (freed : List Sent) × (still : List Sent) × WorldParts (MayGo then_stored) w.waiting freed still × AreOutputs (log_of w.past) go freed × AreOutputs (log_of w.past) now.waiting still
-            r = parts_world (log_of w.past) (IsDue now.held) (MayGo then_stored) due_is y.logger.waiting w.waiting go now.waiting st.logger.waiting parts
+            r : (freed : List Sent) × (still : List Sent) × WorldParts (MayGo then_stored) w.waiting freed still
+                × AreOutputs (log_of w.past) go freed × AreOutputs (log_of w.past) now.waiting still
+            r = parts_world (log_of w.past) (IsDue now.held) (MayGo then_stored) due_is y.logger.waiting w.waiting go
+                now.waiting st.logger.waiting parts
 
             next : World V
             next = record w { stored = copy; copy = None; waiting = r.1; released = w.released ++ r.0 }
@@ -305,11 +402,13 @@ module _ {P V : Type 0} (m : Meaning V) (s : Setting V) (w : World V) (y : Parts
 
 -- The calls of a store, and what they tell.
 
-pub store_same : {P V : Type 0} (view : Parts P V) (store : Snapshots V) → store ≡ view.store → view ≡ record view { store = store }
+pub store_same : {P V : Type 0} (view : Parts P V) (store : Snapshots V) → store ≡ view.store
+    → view ≡ record view { store = store }
 store_same {P} {V} view store is = ap (λ (q : Snapshots V). record view { store = q }) (sym is)
 
 -- no snapshot is under way in the world where none is in memory
-pub no_copy : {P V : Type 0} (m : Meaning V) (s : Setting V) (w : World V) (y : Parts P V) → StandsFor m s w y → y.store.copy ≡ None → w.copy ≡ None
+pub no_copy : {P V : Type 0} (m : Meaning V) (s : Setting V) (w : World V) (y : Parts P V) → StandsFor m s w y
+    → y.store.copy ≡ None → w.copy ≡ None
 no_copy {P} {V} m s w y st none = go w.copy refl
   where
     go : (o : Option (List (Step V))) → w.copy ≡ o → o ≡ None
@@ -317,11 +416,13 @@ no_copy {P} {V} m s w y st none = go w.copy refl
     go (Some moment) is = let there = (st.snapshots.copied moment is).1 in absurd (cc)
 
 -- and one is where one is
-pub some_copy : {P V : Type 0} (m : Meaning V) (s : Setting V) (w : World V) (y : Parts P V) (x : Snapshot V) → StandsFor m s w y → y.store.copy ≡ Some x
+pub some_copy : {P V : Type 0} (m : Meaning V) (s : Setting V) (w : World V) (y : Parts P V) (x : Snapshot V)
+    → StandsFor m s w y → y.store.copy ≡ Some x
     → (copy : List (Step V)) × (w.copy ≡ Some copy) × IsSnapshot s y.sent y.logger.released copy x
 some_copy {P} {V} m s w y x st there = go w.copy refl
   where
-    go : (o : Option (List (Step V))) → w.copy ≡ o → (copy : List (Step V)) × (w.copy ≡ Some copy) × IsSnapshot s y.sent y.logger.released copy x
+    go : (o : Option (List (Step V))) → w.copy ≡ o
+        → (copy : List (Step V)) × (w.copy ≡ Some copy) × IsSnapshot s y.sent y.logger.released copy x
     go None is = let none = st.snapshots.none is in absurd (cc)
     go (Some moment) is =
         let k = st.snapshots.copied moment is in
@@ -329,13 +430,16 @@ some_copy {P} {V} m s w y x st there = go w.copy refl
         (moment, is, subst (λ (q : Snapshot V). IsSnapshot s y.sent y.logger.released moment q) same k.2)
 
 -- a snapshot is under way where its counts came
-pub copy_there : {V : Type 0} (copy : Option (Snapshot V)) (r : Option (List ℕ)) (counts : List ℕ) → (r ≡ None) ↔ (copy ≡ None) → r ≡ Some counts → (x : Snapshot V) × (copy ≡ Some x)
+pub copy_there : {V : Type 0} (copy : Option (Snapshot V)) (r : Option (List ℕ)) (counts : List ℕ)
+    → (r ≡ None) ↔ (copy ≡ None) → r ≡ Some counts → (x : Snapshot V) × (copy ≡ Some x)
 copy_there None r counts none is = let gone = none.1 refl in absurd (cc)
 copy_there (Some x) r counts none is = (x, refl)
 
 -- the parts stay such where a snapshot is stored
-pub parts_stored : {P V : Type 0} (m : Meaning V) (may_have : ℕ → V → Type 0) (y : Parts P V) (x : Snapshot V) (store : Snapshots V) (links : Sending) (now : Logger) (names : List (ℕ × ℕ)) → AreParts m may_have y
-    → y.store.copy ≡ Some x → store.stored ≡ x → store.copy ≡ None → links.threads ≡ y.sent.threads → length now.held ≡ length y.logger.held
+pub parts_stored : {P V : Type 0} (m : Meaning V) (may_have : ℕ → V → Type 0) (y : Parts P V) (x : Snapshot V)
+    (store : Snapshots V) (links : Sending) (now : Logger) (names : List (ℕ × ℕ)) → AreParts m may_have y
+    → y.store.copy ≡ Some x → store.stored ≡ x → store.copy ≡ None → links.threads ≡ y.sent.threads
+    → length now.held ≡ length y.logger.held
     → AreParts m may_have (record y { store = store; sent = links; logger = now; released = names })
 parts_stored {P} {V} m may_have y x store links now names are there stored none sent held = record {
   fits = are.fits;
@@ -344,7 +448,8 @@ parts_stored {P} {V} m may_have y x store links now names are there stored none 
   master = are.master;
   logger = held ∙ are.logger;
   sent = sent ∙ are.sent;
-  stored_fits = subst (λ (q : Snapshot V). FitsProgram m may_have value_of q.master.vars) (sym stored) (are.copy_fits x there);
+  stored_fits =
+      subst (λ (q : Snapshot V). FitsProgram m may_have value_of q.master.vars) (sym stored) (are.copy_fits x there);
   copy_fits = λ q is. absurd (cc);
   stored = subst (λ (q : Snapshot V). length q.master.threads ≡ y.inputs.threads) (sym stored) (are.copied x there);
   copied = λ q is. absurd (cc);
@@ -356,11 +461,17 @@ parts_stored {P} {V} m may_have y x store links now names are there stored none 
 }
 
 -- what was released is noted and listed
-pub noted_stored : {P V : Type 0} (view now new : Parts P V) (store : Snapshots V) (links : Sending) (logger : Logger) (outputs go : List Output) (list : List (ℕ × ℕ)) → view ≡ now → outputs ≡ go
+pub noted_stored : {P V : Type 0} (view now new : Parts P V) (store : Snapshots V) (links : Sending) (logger : Logger)
+    (outputs go : List Output) (list : List (ℕ × ℕ)) → view ≡ now → outputs ≡ go
     → NotesReleased outputs list (record view { store = store; sent = links; logger = logger }) new
-    → (list ≡ names_of go) × (record view { store = store; sent = links; logger = logger; released = view.released ++ names_of go } ≡ new)
-noted_stored {P} {V} view now new store links logger outputs go list same is noted =
-    (names, ap (λ (l : List (ℕ × ℕ)). record view { store = store; sent = links; logger = logger; released = view.released ++ l }) (sym names) ∙ sym noted.new_is)
+    → (list ≡ names_of go)
+    × (record view { store = store; sent = links; logger = logger; released = view.released ++ names_of go } ≡ new)
+noted_stored {P} {V} view now new store links logger outputs go list same is noted = (
+  names,
+  ap (λ (l : List (ℕ × ℕ)). record view { store = store; sent = links; logger = logger; released = view.released ++ l })
+      (sym names)
+      ∙ sym noted.new_is,
+)
   where
     names : list ≡ names_of go
     names = noted.list_is ∙ ap names_of is

@@ -1,5 +1,6 @@
 -- The outputs that are not released are gathered, thread by thread, for a snapshot.
-use Rattle.std.proofs.Common.{◌≡◌, ℕ, ◌+◌, ◌<◌, ◌≤◌, ◌≢◌, List, [], ◌∷◌, ◌++◌, refl, sym, ap, ◌∙◌, subst, inl, inr, ◌⊎◌, Option, Some, None, arith}
+use Rattle.std.proofs.Common.{◌≡◌, ℕ, ◌+◌, ◌<◌, ◌≤◌, ◌≢◌, List, [], ◌∷◌, ◌++◌, refl, sym, ap, ◌∙◌, subst, inl, inr, ◌⊎◌}
+use Rattle.std.proofs.Common.{Option, Some, None, arith}
 use Rattle.std.specs.Prelude.{HoldsAt}
 use Rattle.entry_order.proofs.Order.{is_or}
 use Rattle.access_log.specs.declared.entry.Output.{Output}
@@ -28,7 +29,8 @@ use Rattle.system_parts.proofs.ReadLemmas.{counts_stand}
 -- One thread's
 
 -- those up to this number are there
-pub record AddedSoFar (sent : Sending) (released : List Numbers) (t most up_to : ℕ) (old now : List Output) : Type 0 where
+pub record AddedSoFar (sent : Sending) (released : List Numbers) (t most up_to : ℕ)
+    (old now : List Output) : Type 0 where
   pub keeps : (x : Output) → IsAmong x old → IsAmong x now
   pub each : (x : Output) → IsAmong x now → IsAmong x old ⊎ IsUnreleased sent released t most x
   pub has : (n : ℕ) → 1 ≤ n → n ≤ up_to → WasMarked released t n ⊎ Lists now t n
@@ -38,35 +40,44 @@ lists_on t n y xs h = (h.0, among_left h.0 xs (y ∷ []) h.1, h.2, h.3)
 
 module _ (sent : Sending) (released : List Numbers) (t most : ℕ) where
   -- those up to the floor were released
-  pub added_none : (floor : ℕ) (old : List Output) → floor ≡ (numbers released t).floor → AddedSoFar sent released t most floor old old
-  added_none floor old is = record { keeps = λ x i. i; each = λ x i. inl i; has = λ n from low. inl (inl (from, omega (arith, low, is))) }
+  pub added_none : (floor : ℕ) (old : List Output) → floor ≡ (numbers released t).floor
+      → AddedSoFar sent released t most floor old old
+  added_none floor old is =
+      record { keeps = λ x i. i; each = λ x i. inl i; has = λ n from low. inl (inl (from, omega (arith, low, is))) }
 
   -- one more was released
-  pub added_past : (n : ℕ) (old now : List Output) → WasMarked released t (n + 1) → AddedSoFar sent released t most n old now → AddedSoFar sent released t most (n + 1) old now
-  added_past n old now was h = record { keeps = h.keeps; each = h.each; has = λ k from low. go k from low (is_or k (n + 1)) }
+  pub added_past : (n : ℕ) (old now : List Output) → WasMarked released t (n + 1)
+      → AddedSoFar sent released t most n old now → AddedSoFar sent released t most (n + 1) old now
+  added_past n old now was h =
+      record { keeps = h.keeps; each = h.each; has = λ k from low. go k from low (is_or k (n + 1)) }
     where
       go : (k : ℕ) → 1 ≤ k → k ≤ n + 1 → (k ≡ n + 1) ⊎ (k ≢ n + 1) → WasMarked released t k ⊎ Lists now t k
       go k from low (inl same) = inl (subst (λ (j : ℕ). WasMarked released t j) (sym same) was)
       go k from low (inr other) = h.has k from (omega (arith, low, other))
 
   -- what was found under a number
-  pub found_is : (n : ℕ) (found : Option Output) → HasRest sent released t most → (WasMarked released t n → ⊥) → 1 ≤ n → n ≤ most → ((o : Output) → HasOutputFrame sent o → o.thread ≡ t → o.number ≡ n → found ≡ Some o)
+  pub found_is : (n : ℕ) (found : Option Output) → HasRest sent released t most → (WasMarked released t n → ⊥) → 1 ≤ n
+      → n ≤ most → ((o : Output) → HasOutputFrame sent o → o.thread ≡ t → o.number ≡ n → found ≡ Some o)
       → (x : Output) × (found ≡ Some x) × (x.thread ≡ t) × (x.number ≡ n)
   found_is n found rest fresh from low gives = go (rest n from low)
     where
-      go : WasMarked released t n ⊎ HasFrameOf sent t n → (x : Output) × (found ≡ Some x) × (x.thread ≡ t) × (x.number ≡ n)
+      go : WasMarked released t n ⊎ HasFrameOf sent t n
+          → (x : Output) × (found ≡ Some x) × (x.thread ≡ t) × (x.number ≡ n)
       go (inl was) = absurd (fresh was)
       go (inr (x, frame, a, b)) = (x, gives x frame a b, a, b)
 
   -- one more is there
-  pub added_more : (n : ℕ) (found : Option Output) (y : Output) (old now new : List Output) → HasRest sent released t most → (WasMarked released t (n + 1) → ⊥) → n < most
-      → ((o : Output) → HasOutputFrame sent o → o.thread ≡ t → o.number ≡ n + 1 → found ≡ Some o) → found ≡ Some y → new ≡ now ++ y ∷ []
-      → AddedSoFar sent released t most n old now → AddedSoFar sent released t most (n + 1) old new
-  added_more n found y old now new rest fresh low gives some pushed h = subst (λ (l : List Output). AddedSoFar sent released t most (n + 1) old l) (sym pushed) (record {
-    keeps = λ x i. among_left x now (y ∷ []) (h.keeps x i);
-    each = λ x i. which x (among_either x y now i);
-    has = λ k from few. go k from few (is_or k (n + 1));
-  })
+  pub added_more : (n : ℕ) (found : Option Output) (y : Output) (old now new : List Output)
+      → HasRest sent released t most → (WasMarked released t (n + 1) → ⊥) → n < most
+      → ((o : Output) → HasOutputFrame sent o → o.thread ≡ t → o.number ≡ n + 1 → found ≡ Some o) → found ≡ Some y
+      → new ≡ now ++ y ∷ [] → AddedSoFar sent released t most n old now
+      → AddedSoFar sent released t most (n + 1) old new
+  added_more n found y old now new rest fresh low gives some pushed h =
+      subst (λ (l : List Output). AddedSoFar sent released t most (n + 1) old l) (sym pushed) (record {
+        keeps = λ x i. among_left x now (y ∷ []) (h.keeps x i);
+        each = λ x i. which x (among_either x y now i);
+        has = λ k from few. go k from few (is_or k (n + 1));
+      })
     where
       same_some : (a b : Output) → found ≡ Some a → found ≡ Some b → a ≡ b
       same_some a b p q = cc
@@ -99,28 +110,39 @@ module _ (sent : Sending) (released : List Numbers) (t most : ℕ) where
           on (inr l) = inr (lists_on t k y now l)
 
   -- all of the thread's are there
-  pub added_all : (last : ℕ) (old now : List Output) → most ≤ last → AddedSoFar sent released t most last old now → AddsUnreleased sent released t most old now
-  added_all last old now high h = record { keeps = h.keeps; each = h.each; has = λ n from low. h.has n from (omega (arith, low, high)) }
+  pub added_all : (last : ℕ) (old now : List Output) → most ≤ last → AddedSoFar sent released t most last old now
+      → AddsUnreleased sent released t most old now
+  added_all last old now high h =
+      record { keeps = h.keeps; each = h.each; has = λ n from low. h.has n from (omega (arith, low, high)) }
 
 -- Thread by thread
 
-pub gathered_none : (sent : Sending) (released : List Numbers) (counts : ℕ → ℕ) → AreUnreleased sent released 0 counts []
+pub gathered_none : (sent : Sending) (released : List Numbers) (counts : ℕ → ℕ)
+    → AreUnreleased sent released 0 counts []
 gathered_none sent released counts = record { each = λ x i. absurd i; has = λ t n low. absurd (omega (arith, low)) }
 
-pub gathered_more : (sent : Sending) (released : List Numbers) (t most : ℕ) (counts : ℕ → ℕ) (old new : List Output) → most ≡ counts t → AddsUnreleased sent released t most old new → AreUnreleased sent released t counts old → AreUnreleased sent released (t + 1) counts new
+pub gathered_more : (sent : Sending) (released : List Numbers) (t most : ℕ) (counts : ℕ → ℕ) (old new : List Output)
+    → most ≡ counts t → AddsUnreleased sent released t most old new → AreUnreleased sent released t counts old
+    → AreUnreleased sent released (t + 1) counts new
 gathered_more sent released t most counts old new is adds h = record {
   each = λ x i. which x (adds.each x i);
   has = λ u n low from few. go u n low from few (is_or u t);
 }
   where
-    which : (x : Output) → IsAmong x old ⊎ IsUnreleased sent released t most x → (x.thread < t + 1) × IsUnreleased sent released x.thread (counts x.thread) x
+    which : (x : Output) → IsAmong x old ⊎ IsUnreleased sent released t most x
+        → (x.thread < t + 1) × IsUnreleased sent released x.thread (counts x.thread) x
     which x (inl i) = let k = h.each x i in let low = k.0 in (omega (arith, low), k.1)
-    which x (inr k) = let own = k.thread in
-        (omega (arith, own), subst (λ (u : ℕ). IsUnreleased sent released u (counts u) x) (sym own) (subst (λ (n : ℕ). IsUnreleased sent released t n x) is k))
+    which x (inr k) =
+        let own = k.thread in (
+          omega (arith, own),
+          subst (λ (u : ℕ). IsUnreleased sent released u (counts u) x) (sym own)
+              (subst (λ (n : ℕ). IsUnreleased sent released t n x) is k),
+        )
 
     go : (u n : ℕ) → u < t + 1 → 1 ≤ n → n ≤ counts u → (u ≡ t) ⊎ (u ≢ t) → WasMarked released u n ⊎ Lists new u n
     go u n low from few (inl same) =
-        subst (λ (v : ℕ). WasMarked released v n ⊎ Lists new v n) (sym same) (adds.has n from (subst (λ (k : ℕ). n ≤ k) (sym is) (subst (λ (v : ℕ). n ≤ counts v) same few)))
+        subst (λ (v : ℕ). WasMarked released v n ⊎ Lists new v n) (sym same)
+        (adds.has n from (subst (λ (k : ℕ). n ≤ k) (sym is) (subst (λ (v : ℕ). n ≤ counts v) same few)))
     go u n low from few (inr other) = on (h.has u n (omega (arith, low, other)) from few)
       where
         on : WasMarked released u n ⊎ Lists old u n → WasMarked released u n ⊎ Lists new u n
@@ -129,34 +151,51 @@ gathered_more sent released t most counts old new is adds h = record {
 
 -- for each world that the system stands for, those of these first threads are there
 abbrev pub Gathers : {P V : Type 0} → Meaning V → Parts P V → ℕ → List Output → Type 0
-Gathers {P} {V} m y threads outbox = (s : Setting V) (w : World V) → StandsFor m s w y → AreUnreleased y.sent y.logger.released threads (λ (t : ℕ). outputs t (sent_of w.past)) outbox
+Gathers {P} {V} m y threads outbox =
+    (s : Setting V) (w : World V) → StandsFor m s w y
+    → AreUnreleased y.sent y.logger.released threads (λ (t : ℕ). outputs t (sent_of w.past)) outbox
 
 module _ {P V : Type 0} (m : Meaning V) (s : Setting V) (w : World V) (y : Parts P V) (st : StandsFor m s w y) where
   -- each output of the past was released, or its frame is there
-  pub rest_there : (t most : ℕ) → t < y.inputs.threads → most ≡ outputs t (sent_of w.past) → HasRest y.sent y.logger.released t most
+  pub rest_there : (t most : ℕ) → t < y.inputs.threads → most ≡ outputs t (sent_of w.past)
+      → HasRest y.sent y.logger.released t most
   rest_there t most low is n from few = go (there_sent m s w y st t n from (omega (arith, few, is)))
     where
-      go : (o : Sent) × SendsAfter w.past o.emission o.after × HasNumber t n o × IsSentOutput (log_of w.past) y.logger.released y.sent o → WasMarked y.logger.released t n ⊎ HasFrameOf y.sent t n
+      go : (o : Sent) × SendsAfter w.past o.emission o.after × HasNumber t n o
+          × IsSentOutput (log_of w.past) y.logger.released y.sent o
+          → WasMarked y.logger.released t n ⊎ HasFrameOf y.sent t n
       go (o, sends, named, sent) = at sent.there
         where
-          at : HasOutputFrame y.sent sent.stamped ⊎ ((frame_at y.sent.frames (output_address y.sent o.emission.thread o.emission.number) ≡ None) × WasMarked y.logger.released o.emission.thread o.emission.number)
+          at : HasOutputFrame y.sent sent.stamped
+              ⊎ ((frame_at y.sent.frames (output_address y.sent o.emission.thread o.emission.number) ≡ None)
+              × WasMarked y.logger.released o.emission.thread o.emission.number)
               → WasMarked y.logger.released t n ⊎ HasFrameOf y.sent t n
-          at (inl frame) = inr (sent.stamped, frame, ap (λ (z : Emission). z.thread) sent.plain ∙ named.0, ap (λ (z : Emission). z.number) sent.plain ∙ named.1)
-          at (inr (none, was)) = inl (subst (λ (k : ℕ). WasMarked y.logger.released t k) named.1 (subst (λ (u : ℕ). WasMarked y.logger.released u o.emission.number) named.0 was))
+          at (inl frame) = inr (
+            sent.stamped,
+            frame,
+            ap (λ (z : Emission). z.thread) sent.plain ∙ named.0,
+            ap (λ (z : Emission). z.number) sent.plain ∙ named.1,
+          )
+          at (inr (none, was)) = inl (subst (λ (k : ℕ). WasMarked y.logger.released t k) named.1
+              (subst (λ (u : ℕ). WasMarked y.logger.released u o.emission.number) named.0 was))
 
   -- what was gathered are the outputs that a snapshot of now keeps
-  module _ (outbox : List Output) (are : AreUnreleased y.sent y.logger.released s.threads (λ (t : ℕ). outputs t (sent_of w.past)) outbox) where
+  module _ (outbox : List Output)
+      (are : AreUnreleased y.sent y.logger.released s.threads (λ (t : ℕ). outputs t (sent_of w.past)) outbox) where
     -- where the frame of an output of the past is there, one in the list is the same
-    kept_one : (o : Sent) (x : Output) → IsSentOutput (log_of w.past) y.logger.released y.sent o → IsAmong x outbox → x.thread ≡ o.emission.thread → x.number ≡ o.emission.number → IsKeptOutput (log_of w.past) y.sent x o
+    kept_one : (o : Sent) (x : Output) → IsSentOutput (log_of w.past) y.logger.released y.sent o → IsAmong x outbox
+        → x.thread ≡ o.emission.thread → x.number ≡ o.emission.number → IsKeptOutput (log_of w.past) y.sent x o
     kept_one o x sent i own same = at sent.there
       where
         of : IsUnreleased y.sent y.logger.released x.thread (outputs x.thread (sent_of w.past)) x
         of = (are.each x i).1
 
-        at : HasOutputFrame y.sent sent.stamped ⊎ ((frame_at y.sent.frames (output_address y.sent o.emission.thread o.emission.number) ≡ None) × WasMarked y.logger.released o.emission.thread o.emission.number)
-            → IsKeptOutput (log_of w.past) y.sent x o
+        at : HasOutputFrame y.sent sent.stamped
+            ⊎ ((frame_at y.sent.frames (output_address y.sent o.emission.thread o.emission.number) ≡ None)
+            × WasMarked y.logger.released o.emission.thread o.emission.number) → IsKeptOutput (log_of w.past) y.sent x o
         at (inl frame) =
-            let it = of.only sent.stamped frame (ap (λ (z : Emission). z.thread) sent.plain ∙ sym own) (ap (λ (z : Emission). z.number) sent.plain ∙ sym same) in
+            let it = of.only sent.stamped frame (ap (λ (z : Emission). z.thread) sent.plain ∙ sym own)
+            (ap (λ (z : Emission). z.number) sent.plain ∙ sym same) in
             subst (λ (z : Output). IsKeptOutput (log_of w.past) y.sent z o) it (record {
               plain = sent.plain;
               stamp = sent.stamp;
@@ -174,9 +213,11 @@ module _ {P V : Type 0} (m : Meaning V) (s : Setting V) (w : World V) (y : Parts
                 captured = frame.can.captured;
               };
             })
-        at (inr (none, was)) = absurd (of.fresh (subst (λ (k : ℕ). WasMarked y.logger.released x.thread k) (sym same) (subst (λ (u : ℕ). WasMarked y.logger.released u o.emission.number) (sym own) was)))
+        at (inr (none, was)) = absurd (of.fresh (subst (λ (k : ℕ). WasMarked y.logger.released x.thread k) (sym same)
+            (subst (λ (u : ℕ). WasMarked y.logger.released u o.emission.number) (sym own) was)))
 
-    pub keeps_each : (x : Output) → IsAmong x outbox → (o : Sent) × SendsAfter w.past o.emission o.after × IsKeptOutput (log_of w.past) y.sent x o
+    pub keeps_each : (x : Output) → IsAmong x outbox
+        → (o : Sent) × SendsAfter w.past o.emission o.after × IsKeptOutput (log_of w.past) y.sent x o
     keeps_each x i =
         let k = are.each x i in
         let threads = ap (λ (f : Fed). f.threads) st.inputs.inputs in
@@ -184,8 +225,11 @@ module _ {P V : Type 0} (m : Meaning V) (s : Setting V) (w : World V) (y : Parts
         let r = there_sent m s w y st x.thread x.number k.1.first k.1.last in
         (r.0, r.1, kept_one r.0 x r.3 i (sym r.2.0) (sym r.2.1))
 
-    pub keeps_all : (o : Sent) → SendsAfter w.past o.emission o.after → WasMarked y.logger.released o.emission.thread o.emission.number ⊎ ((x : Output) × IsAmong x outbox × IsKeptOutput (log_of w.past) y.sent x o)
-    keeps_all o sends = go (are.has o.emission.thread o.emission.number at.0 at.1 (number_high s.meaning (inputs_fed s w.fed) s.threads w.past o.emission o.after legal sends))
+    pub keeps_all : (o : Sent) → SendsAfter w.past o.emission o.after
+        → WasMarked y.logger.released o.emission.thread o.emission.number
+        ⊎ ((x : Output) × IsAmong x outbox × IsKeptOutput (log_of w.past) y.sent x o)
+    keeps_all o sends = go (are.has o.emission.thread o.emission.number at.0 at.1
+        (number_high s.meaning (inputs_fed s w.fed) s.threads w.past o.emission o.after legal sends))
       where
         legal : IsHistory s.meaning (inputs_fed s w.fed) s.threads w.past
         legal = st.sound.firm.legal
@@ -193,32 +237,52 @@ module _ {P V : Type 0} (m : Meaning V) (s : Setting V) (w : World V) (y : Parts
         at : (o.emission.thread < s.threads) × (1 ≤ o.emission.number)
         at = sends_thread s.meaning (inputs_fed s w.fed) s.threads w.past o.emission o.after legal sends
 
-        go : WasMarked y.logger.released o.emission.thread o.emission.number ⊎ Lists outbox o.emission.thread o.emission.number → WasMarked y.logger.released o.emission.thread o.emission.number ⊎ ((x : Output) × IsAmong x outbox × IsKeptOutput (log_of w.past) y.sent x o)
+        go : WasMarked y.logger.released o.emission.thread o.emission.number
+            ⊎ Lists outbox o.emission.thread o.emission.number
+            → WasMarked y.logger.released o.emission.thread o.emission.number
+            ⊎ ((x : Output) × IsAmong x outbox × IsKeptOutput (log_of w.past) y.sent x o)
         go (inl was) = inl was
         go (inr (x, i, own, same)) = inr (x, i, kept_one o x (st.sent.output_sent o sends) i own same)
 
 -- The calls, and what they tell
 
 -- how much a thread sent out
-pub sent_count : {P V : Type 0} (m : Meaning V) (s : Setting V) (w : World V) (y : Parts P V) (t : ℕ) (counts : Counts) → StandsFor m s w y → t < y.inputs.threads → HoldsAt (λ (part : ThreadPart). counts ≡ part.counts) y.master.threads t → counts.outputs ≡ outputs t (sent_of w.past)
+pub sent_count : {P V : Type 0} (m : Meaning V) (s : Setting V) (w : World V) (y : Parts P V) (t : ℕ) (counts : Counts)
+    → StandsFor m s w y → t < y.inputs.threads
+    → HoldsAt (λ (part : ThreadPart). counts ≡ part.counts) y.master.threads t
+    → counts.outputs ≡ outputs t (sent_of w.past)
 sent_count {P} {V} m s w y t counts st low at = (counts_stand m t counts refl low at s w st).2
 
 -- each output of the thread was released, or its frame is there
-pub rest_is : {P V : Type 0} (m : Meaning V) (view now : Parts P V) (t : ℕ) (counts : Counts) → view ≡ now → StandsForSome m now → t < view.inputs.threads → HoldsAt (λ (part : ThreadPart). counts ≡ part.counts) view.master.threads t
+pub rest_is : {P V : Type 0} (m : Meaning V) (view now : Parts P V) (t : ℕ) (counts : Counts) → view ≡ now
+    → StandsForSome m now → t < view.inputs.threads
+    → HoldsAt (λ (part : ThreadPart). counts ≡ part.counts) view.master.threads t
     → HasRest view.sent view.logger.released t counts.outputs
 rest_is {P} {V} m view now t counts same some low at =
-    let st : StandsFor m some.0 some.1 view = subst (λ (q : Parts P V). StandsFor m some.0 some.1 q) (sym same) some.2 in
+    let st : StandsFor m some.0 some.1 view =
+    subst (λ (q : Parts P V). StandsFor m some.0 some.1 q) (sym same) some.2 in
     rest_there m some.0 some.1 view st t counts.outputs low (sent_count m some.0 some.1 view t counts st low at)
 
-pub gathers_none : {P V : Type 0} (m : Meaning V) (y : Parts P V) (outbox : List Output) → outbox ≡ [] → Gathers m y 0 outbox
-gathers_none {P} {V} m y outbox none s w st = subst (λ (l : List Output). AreUnreleased y.sent y.logger.released 0 (λ (t : ℕ). outputs t (sent_of w.past)) l) (sym none) (gathered_none y.sent y.logger.released (λ (t : ℕ). outputs t (sent_of w.past)))
+pub gathers_none : {P V : Type 0} (m : Meaning V) (y : Parts P V) (outbox : List Output) → outbox ≡ []
+    → Gathers m y 0 outbox
+gathers_none {P} {V} m y outbox none s w st =
+    subst (λ (l : List Output). AreUnreleased y.sent y.logger.released 0 (λ (t : ℕ). outputs t (sent_of w.past)) l)
+    (sym none) (gathered_none y.sent y.logger.released (λ (t : ℕ). outputs t (sent_of w.past)))
 
-pub gathers_more : {P V : Type 0} (m : Meaning V) (view now : Parts P V) (t : ℕ) (counts : Counts) (old new : List Output) → view ≡ now → t < view.inputs.threads → HoldsAt (λ (part : ThreadPart). counts ≡ part.counts) view.master.threads t
-    → AddsUnreleased view.sent view.logger.released t counts.outputs old new → Gathers m now t old → Gathers m now (t + 1) new
-gathers_more {P} {V} m view now t counts old new same low at adds rest = subst (λ (q : Parts P V). Gathers m q (t + 1) new) same (λ s w st.
-    gathered_more view.sent view.logger.released t counts.outputs (λ (u : ℕ). outputs u (sent_of w.past)) old new (sent_count m s w view t counts st low at) adds (subst (λ (q : Parts P V). Gathers m q t old) (sym same) rest s w st))
+pub gathers_more : {P V : Type 0} (m : Meaning V) (view now : Parts P V) (t : ℕ) (counts : Counts)
+    (old new : List Output) → view ≡ now → t < view.inputs.threads
+    → HoldsAt (λ (part : ThreadPart). counts ≡ part.counts) view.master.threads t
+    → AddsUnreleased view.sent view.logger.released t counts.outputs old new → Gathers m now t old
+    → Gathers m now (t + 1) new
+gathers_more {P} {V} m view now t counts old new same low at adds rest =
+    subst (λ (q : Parts P V). Gathers m q (t + 1) new) same (λ s w st.
+    gathered_more view.sent view.logger.released t counts.outputs (λ (u : ℕ). outputs u (sent_of w.past)) old new
+    (sent_count m s w view t counts st low at) adds
+    (subst (λ (q : Parts P V). Gathers m q t old) (sym same) rest s w st))
 
-pub gathers_all : {P V : Type 0} (m : Meaning V) (y : Parts P V) (threads : ℕ) (outbox : List Output) → threads ≡ y.inputs.threads → Gathers m y threads outbox
-    → (s : Setting V) (w : World V) → StandsFor m s w y → AreUnreleased y.sent y.logger.released s.threads (λ (t : ℕ). outputs t (sent_of w.past)) outbox
+pub gathers_all : {P V : Type 0} (m : Meaning V) (y : Parts P V) (threads : ℕ) (outbox : List Output)
+    → threads ≡ y.inputs.threads → Gathers m y threads outbox → (s : Setting V) (w : World V) → StandsFor m s w y
+    → AreUnreleased y.sent y.logger.released s.threads (λ (t : ℕ). outputs t (sent_of w.past)) outbox
 gathers_all {P} {V} m y threads outbox is all s w st =
-    subst (λ (n : ℕ). AreUnreleased y.sent y.logger.released n (λ (t : ℕ). outputs t (sent_of w.past)) outbox) (is ∙ ap (λ (f : Fed). f.threads) st.inputs.inputs) (all s w st)
+    subst (λ (n : ℕ). AreUnreleased y.sent y.logger.released n (λ (t : ℕ). outputs t (sent_of w.past)) outbox)
+    (is ∙ ap (λ (f : Fed). f.threads) st.inputs.inputs) (all s w st)

@@ -32,6 +32,8 @@ pub record AddsUnreleased (sent : Sending) (released : List Numbers) (t most : �
   pub has : (n : ℕ) → 1 ≤ n → n ≤ most → WasMarked released t n ⊎ Lists new t n
 
 -- The list has just the outputs of the first threads that were not released, of as many as each thread sent out.
-pub record AreUnreleased (sent : Sending) (released : List Numbers) (threads : ℕ) (counts : ℕ → ℕ) (outbox : List Output) : Type 0 where
-  pub each : (x : Output) → IsAmong x outbox → (x.thread < threads) × IsUnreleased sent released x.thread (counts x.thread) x
+pub record AreUnreleased (sent : Sending) (released : List Numbers) (threads : ℕ) (counts : ℕ → ℕ)
+    (outbox : List Output) : Type 0 where
+  pub each : (x : Output) → IsAmong x outbox
+      → (x.thread < threads) × IsUnreleased sent released x.thread (counts x.thread) x
   pub has : (t n : ℕ) → t < threads → 1 ≤ n → n ≤ counts t → WasMarked released t n ⊎ Lists outbox t n

@@ -18,12 +18,14 @@ pub record Snapshots (V : Type 0) : Type 0 where
   pub stored : Snapshot V
   pub copy : Option (Snapshot V)
 
--- A snapshot of this master is under way. It has this number of moves and these outputs. Where the stored snapshot stands for an
--- earlier moment of the master's history, it stands for that history.
-pub record HasTaken {V : Type 0} (m : Meaning V) (stored : Snapshot V) (master : Mastered V) (moves : ℕ) (outbox : List Output) (under_way : Option (Snapshot V)) : Type 0 where
+-- A snapshot of this master is under way. It has this number of moves and these outputs. Where the stored snapshot
+-- stands for an earlier moment of the master's history, it stands for that history.
+pub record HasTaken {V : Type 0} (m : Meaning V) (stored : Snapshot V) (master : Mastered V) (moves : ℕ)
+    (outbox : List Output) (under_way : Option (Snapshot V)) : Type 0 where
   pub copy : Snapshot V
   pub is : under_way ≡ Some copy
-  pub stands : (threads : ℕ) (earlier now : List (Step V)) → Stands m threads earlier stored.master → Stands m threads now master → IsEarlier earlier now → Stands m threads now copy.master
+  pub stands : (threads : ℕ) (earlier now : List (Step V)) → Stands m threads earlier stored.master
+      → Stands m threads now master → IsEarlier earlier now → Stands m threads now copy.master
   pub threads_are : copy.master.threads ≡ master.threads
   pub moves_are : copy.moves ≡ moves
   pub outbox_is : copy.outbox ≡ outbox

@@ -1,5 +1,5 @@
-//! Snapshots of a master: the one that is stored, from which a new master starts after a crash, and the one that is under way to the
-//! store.
+//! Snapshots of a master: the one that is stored, from which a new master starts after a crash, and the one that is
+//! under way to the store.
 #![tactic(auto)]
 
 mod outbox;

@@ -1,4 +1,5 @@
-ghost use Rattle.std.specs.Prelude.{◌≡◌, ◌↔◌, ℕ, ◌≤◌, [], length, IsTrue, IsSome, IfOk, OnOk, OnErr, None};
+ghost use Rattle.std.specs.Prelude.{◌≡◌, ◌↔◌, ℕ, ◌≤◌, [], length, IsTrue, IsSome, IfOk, OnOk};
+ghost use Rattle.std.specs.Prelude.{OnErr, None};
 ghost use Rattle.std.specs.Option.{ForSome};
 ghost use Rattle.box_program.specs.Hands.{FitsProgram};
 ghost use Rattle.master_core.specs.Mastered.{value_of};
@@ -15,7 +16,8 @@ use std::alloc::Global;
 use std::marker::Model;
 use thread_clock::Stamp;
 
-/// What a recovery starts from: a master as it was stored, how many moves it had made, and its outputs that were not released then.
+/// What a recovery starts from: a master as it was stored, how many moves it had made, and its outputs that were not
+/// released then.
 #[derive(Drop)]
 pub struct Restored<P: Program> {
     /// A master of its own, which moves apart from the stored one.
@@ -36,8 +38,8 @@ struct Taken<P: Program> {
 
 /// The last snapshot of a master that was stored, and perhaps one that is under way to the store.
 ///
-/// Of the snapshot under way it keeps what changed since the stored one: the values of the variables that were touched, and no
-/// other values.
+/// Of the snapshot under way it keeps what changed since the stored one: the values of the variables that were touched,
+/// and no other values.
 #[derive(Drop)]
 pub struct Store<P: Program> {
     master: Master<P>,
@@ -87,8 +89,8 @@ impl<P: Program> Store<P> {
         })
     }
 
-    /// Takes a snapshot of a master, which replaces one that was under way: the master made this number of moves, and these outputs
-    /// of it are not released yet. The stored snapshot is to be one of an earlier moment of the master.
+    /// Takes a snapshot of a master, which replaces one that was under way: the master made this number of moves, and
+    /// these outputs of it are not released yet. The stored snapshot is to be one of an earlier moment of the master.
     ///
     /// After `NoMemory` the store is unchanged.
     pub fn take(
@@ -122,8 +124,8 @@ impl<P: Program> Store<P> {
         self.taken.is_some()
     }
 
-    /// Stores the snapshot that is under way, in the place of the stored one, and gives the number of its entries for each thread;
-    /// `None` exactly where none is under way. It takes no memory.
+    /// Stores the snapshot that is under way, in the place of the stored one, and gives the number of its entries for
+    /// each thread; `None` exactly where none is under way. It takes no memory.
     pub fn store(&mut self) -> Option<Stamp>
         ensures none { (result ≡ None) ↔ (self.old.copy ≡ None) }
         ensures counts { ForSome self.old.copy (λ copy. ForSome result (λ counts.

@@ -8,4 +8,5 @@ use Rattle.run_end.specs.Ending.{AreInOrder}
 -- The list has just the entries of the guide. In each log that they are of, they stand by weight, then thread.
 pub record IsOrderOf (guide : List Lane) (order : List Entry) : Type 0 where
   pub each : (e : Entry) → IsIn e order ↔ IsIn e (held_entries guide)
-  pub in_order : (log stored : List Entry) → IsLog log → ((e : Entry) → IsIn e log → e.thread < 16) → HoldsOf log stored guide → AreInOrder log order
+  pub in_order : (log stored : List Entry) → IsLog log → ((e : Entry) → IsIn e log → e.thread < 16)
+      → HoldsOf log stored guide → AreInOrder log order

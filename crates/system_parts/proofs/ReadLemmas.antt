@@ -1,5 +1,6 @@
 -- What is read of a system: the value of a variable, and the counts of a thread.
-use Rattle.std.proofs.Common.{◌≡◌, ℕ, suc, ◌<◌, List, [], ◌∷◌, length, slice_index_or, refl, sym, ap, ◌∙◌, subst, inr, None, true}
+use Rattle.std.proofs.Common.{◌≡◌, ℕ, suc, ◌<◌, List, [], ◌∷◌, length, slice_index_or, refl, sym, ap, ◌∙◌, subst, inr}
+use Rattle.std.proofs.Common.{None, true}
 use Rattle.std.specs.Prelude.{HoldsAt}
 use Rattle.entry_order.specs.Log.{entries}
 use Rattle.input_logger.specs.Inputs.{Fed}
@@ -21,23 +22,44 @@ abbrev pub part_with : {V : Type 0} → V → VarPart V
 part_with value = record { value = value; places = 0; stamp = []; readers = [] }
 
 -- The variable has the value that the past left.
-pub shown_moves : {P V : Type 0} (m : Meaning V) (v : ℕ) (value : V) (text : List ℕ) (d : VarPart V) {y old : Parts P V} → y ≡ old → v < m.vars → value ≡ (slice_index_or y.master.vars v d).value
-    → y.up ≡ true → text ≡ m.shown v value → (s : Setting V) (w : World V) → StandsFor m s w old → ComesTo (event.Show v) (outcome.Shown text) s w w
-shown_moves {P} {V} m v value text d {y} {old} is low value_is up text_is s w st = ((inr (inr (few, sym st.master.up ∙ sym (ap (λ (q : Parts P V). q.up) is) ∙ up, ap (λ (l : List ℕ). outcome.Shown l) shown)), refl, refl), st.within)
+pub shown_moves : {P V : Type 0} (m : Meaning V) (v : ℕ) (value : V) (text : List ℕ) (d : VarPart V) {y old : Parts P V}
+    → y ≡ old → v < m.vars → value ≡ (slice_index_or y.master.vars v d).value → y.up ≡ true → text ≡ m.shown v value
+    → (s : Setting V) (w : World V) → StandsFor m s w old → ComesTo (event.Show v) (outcome.Shown text) s w w
+shown_moves {P} {V} m v value text d {y} {old} is low value_is up text_is s w st = (
+  (
+    inr (inr (
+      few,
+      sym st.master.up ∙ sym (ap (λ (q : Parts P V). q.up) is) ∙ up,
+      ap (λ (l : List ℕ). outcome.Shown l) shown,
+    )),
+    refl,
+    refl,
+  ),
+  st.within,
+)
   where
     few : v < s.meaning.vars
     few = subst (λ (n : Meaning V). v < n.vars) (sym st.inputs.meaning) low
 
     left : value ≡ value_after s.meaning w.past v
-    left = value_is ∙ ap (λ (q : Parts P V). (slice_index_or q.master.vars v d).value) is ∙ (st.master.stands.var v d few).value
+    left =
+        value_is
+        ∙ ap (λ (q : Parts P V). (slice_index_or q.master.vars v d).value) is
+        ∙ (st.master.stands.var v d few).value
 
     shown : text ≡ s.meaning.shown v (value_after s.meaning w.past v)
-    shown = text_is ∙ ap (λ (n : Meaning V). n.shown v value) (sym st.inputs.meaning) ∙ ap (λ (x : V). s.meaning.shown v x) left
+    shown =
+        text_is
+        ∙ ap (λ (n : Meaning V). n.shown v value) (sym st.inputs.meaning)
+        ∙ ap (λ (x : V). s.meaning.shown v x) left
 
 -- The thread's counts are those of the past.
-pub counts_stand : {P V : Type 0} (m : Meaning V) (t : ℕ) (counts : Counts) {y old : Parts P V} → y ≡ old → t < old.inputs.threads → HoldsAt (λ (part : ThreadPart). counts ≡ part.counts) y.master.threads t
+pub counts_stand : {P V : Type 0} (m : Meaning V) (t : ℕ) (counts : Counts) {y old : Parts P V} → y ≡ old
+    → t < old.inputs.threads → HoldsAt (λ (part : ThreadPart). counts ≡ part.counts) y.master.threads t
     → (s : Setting V) (w : World V) → StandsFor m s w old
-    → (counts.taken ≡ (thread_after w.past t).taken) × (counts.entries ≡ entries t (log_of w.past)) × (counts.outputs ≡ outputs t (sent_of w.past))
+    → (counts.taken ≡ (thread_after w.past t).taken)
+    × (counts.entries ≡ entries t (log_of w.past))
+    × (counts.outputs ≡ outputs t (sent_of w.past))
 counts_stand {P} {V} m t counts {y} {old} is low at s w st = (
   ap (λ (c : Counts). c.taken) here ∙ (st.master.stands.thread t none few).taken,
   ap (λ (c : Counts). c.entries) here ∙ (st.master.stands.thread t none few).logged,
@@ -59,5 +81,6 @@ pub names_length : (sent : List Sent) → length (sent_names sent) ≡ length se
 names_length [] = refl
 names_length (o ∷ sent) = ap suc (names_length sent)
 
-pub released_count : {P V : Type 0} (m : Meaning V) (s : Setting V) (w : World V) (y : Parts P V) → StandsFor m s w y → length y.released ≡ length w.released
+pub released_count : {P V : Type 0} (m : Meaning V) (s : Setting V) (w : World V) (y : Parts P V) → StandsFor m s w y
+    → length y.released ≡ length w.released
 released_count m s w y st = ap length st.released ∙ names_length w.released

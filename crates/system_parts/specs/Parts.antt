@@ -26,7 +26,8 @@ pub record Parts (P V : Type 0) : Type 0 where
   -- the packets of the capture that are not fed yet, and those that are
   pub left : List Packet
   pub inputs : Fed
-  -- whether the master is up; the master, the moves that it made, how many all masters made, and how many bytes they sent out
+  -- whether the master is up; the master, the moves that it made, how many all masters made, and how many bytes they
+  -- sent out
   pub up : Bool
   pub master : Mastered V
   pub schedule : List PlainMove

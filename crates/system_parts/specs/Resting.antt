@@ -6,7 +6,8 @@ use Rattle.recovery_world.specs.Limits.{IsWithin}
 use Rattle.recovery_world.specs.Files.{moves_made}
 use Rattle.recovery_laws.specs.Sound.{Sound}
 use Rattle.system_parts.specs.Parts.{Parts}
-use Rattle.system_parts.specs.SystemStanding.{HasInputs, HasSnapshots, HasEnded, HasGuide, HasSent, HasLogger, NotesNames}
+use Rattle.system_parts.specs.SystemStanding.{HasInputs, HasSnapshots, HasEnded, HasGuide, HasSent, HasLogger}
+use Rattle.system_parts.specs.SystemStanding.{NotesNames}
 
 -- the moves of the master and those of all masters are counted, wherever the master is
 pub record HasMoves {P V : Type 0} (w : World V) (y : Parts P V) : Type 0 where

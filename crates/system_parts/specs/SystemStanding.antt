@@ -1,5 +1,6 @@
 -- Which worlds a recovering system stands for: a record for each of its parts.
-use Rattle.std.specs.Prelude.{◌≡◌, ℕ, ◌+◌, ◌-◌, ◌≤◌, ◌<◌, ◌⊎◌, ◌↔◌, List, [], ◌∷◌, ◌++◌, length, take, drop, slice_get, slice_index, slice_index_or, Option, Some, None}
+use Rattle.std.specs.Prelude.{◌≡◌, ℕ, ◌+◌, ◌-◌, ◌≤◌, ◌<◌, ◌⊎◌, ◌↔◌, List, [], ◌∷◌, ◌++◌, length, take, drop, slice_get}
+use Rattle.std.specs.Prelude.{slice_index, slice_index_or, Option, Some, None}
 use Rattle.random_words.specs.Words.{generator_after}
 use Rattle.entry_order.specs.Log.{Entry, entries, IsIn}
 use Rattle.entry_order.specs.Stamps.{IsStamp, IsOutputStamp}
@@ -25,7 +26,8 @@ use Rattle.recovery_world.specs.Events.{HasNumber, IsAmong, entries_of_line}
 use Rattle.recovery_world.specs.Limits.{IsWithin}
 use Rattle.recovery_world.specs.Files.{moves_made, sent_names}
 use Rattle.recovery_laws.specs.Sound.{Sound}
-use Rattle.sent_frames.specs.Sending.{Sending, lengths_of, length_at, entry_size, output_size, entry_address, output_address, HasEntryFrame, HasOutputFrame}
+use Rattle.sent_frames.specs.Sending.{Sending, lengths_of, length_at, entry_size, output_size, entry_address}
+use Rattle.sent_frames.specs.Sending.{output_address, HasEntryFrame, HasOutputFrame}
 use Rattle.system_parts.specs.Parts.{Parts}
 
 -- the same program, threads and unit, and the same packets, of which the first are fed
@@ -37,7 +39,8 @@ pub record HasInputs {P V : Type 0} (m : Meaning V) (s : Setting V) (w : World V
   pub clock : y.clock ≡ w.clock
   pub generator : y.generator ≡ generator_after s.seed w.drawn
 
--- The master, also one that is down, is where the machine is after the past, which has no more moves than all masters made.
+-- The master, also one that is down, is where the machine is after the past, which has no more moves than all masters
+-- made.
 pub record HasMaster {P V : Type 0} (s : Setting V) (w : World V) (y : Parts P V) : Type 0 where
   pub up : y.up ≡ w.up
   pub stands : Stands s.meaning s.threads w.past y.master
@@ -56,18 +59,20 @@ pub record IsSentEntry (log : List Entry) (held : List Lane) (sent : Sending) (e
       HasEntryFrame sent stamped
       ⊎ ((frame_at sent.frames (entry_address sent e.thread e.number) ≡ None) × IsKnown (lane held e.thread) e.number)
 
--- The frame of an output was sent, with the stamp of its predecessors, and is on the links unless the output was released.
+-- The frame of an output was sent, with the stamp of its predecessors, and is on the links unless the output was
+-- released.
 pub record IsSentOutput (log : List Entry) (released : List Numbers) (sent : Sending) (o : Sent) : Type 0 where
   pub stamped : Output
   pub plain : emission_of_output stamped ≡ o.emission
   pub stamp : IsOutputStamp log o.emission.thread o.after (λ u. slice_index stamped.stamp u)
   pub size : length_at sent.outputs o.emission.thread o.emission.number ≡ Some (output_size stamped)
-  pub there :
-      HasOutputFrame sent stamped
-      ⊎ ((frame_at sent.frames (output_address sent o.emission.thread o.emission.number) ≡ None) × WasMarked released o.emission.thread o.emission.number)
+  pub there : HasOutputFrame sent stamped
+      ⊎ ((frame_at sent.frames (output_address sent o.emission.thread o.emission.number) ≡ None)
+      × WasMarked released o.emission.thread o.emission.number)
 
 -- The frames of all that the past made were sent in this epoch, and none in a later one.
-pub record HasSent {V : Type 0} (now : ℕ) (past : List (Step V)) (held : List Lane) (released : List Numbers) (sent : Sending) : Type 0 where
+pub record HasSent {V : Type 0} (now : ℕ) (past : List (Step V)) (held : List Lane) (released : List Numbers)
+    (sent : Sending) : Type 0 where
   pub epoch : sent.epoch ≡ now
   pub entry_sent : (e : Entry) → IsIn e (log_of past) → IsSentEntry (log_of past) held sent e
   pub output_sent : (o : Sent) → SendsAfter past o.emission o.after → IsSentOutput (log_of past) released sent o
@@ -75,26 +80,32 @@ pub record HasSent {V : Type 0} (now : ℕ) (past : List (Step V)) (held : List 
   pub output_counts : (t : ℕ) → length (lengths_of sent.outputs t) ≡ outputs t (sent_of past)
   pub none_later : (a : Address) → now < a.epoch → frame_at sent.frames a ≡ None
 
--- An output that a snapshot keeps: it has the stamp of its predecessors, is as long as its frame was, and can be sent again.
+-- An output that a snapshot keeps: it has the stamp of its predecessors, is as long as its frame was, and can be sent
+-- again.
 pub record IsKeptOutput (log : List Entry) (sent : Sending) (x : Output) (o : Sent) : Type 0 where
   pub plain : emission_of_output x ≡ o.emission
   pub stamp : IsOutputStamp log o.emission.thread o.after (λ u. slice_index x.stamp u)
   pub size : length_at sent.outputs o.emission.thread o.emission.number ≡ Some (output_size x)
   pub can : CanPutOutput 1 sent.threads x
 
--- The snapshot is that of a moment of the past: its master is where the machine was then, and it keeps each output that was not
--- released.
-pub record IsSnapshot {V : Type 0} (s : Setting V) (sent : Sending) (released : List Numbers) (moment : List (Step V)) (snap : Snapshot V) : Type 0 where
+-- The snapshot is that of a moment of the past: its master is where the machine was then, and it keeps each output that
+-- was not released.
+pub record IsSnapshot {V : Type 0} (s : Setting V) (sent : Sending) (released : List Numbers) (moment : List (Step V))
+    (snap : Snapshot V) : Type 0 where
   pub stands : Stands s.meaning s.threads moment snap.master
   pub moves_are : snap.moves ≡ length moment
-  pub each : (x : Output) → IsAmongOutputs x snap.outbox → (o : Sent) × SendsAfter moment o.emission o.after × IsKeptOutput (log_of moment) sent x o
+  pub each : (x : Output) → IsAmongOutputs x snap.outbox
+      → (o : Sent) × SendsAfter moment o.emission o.after × IsKeptOutput (log_of moment) sent x o
   pub has : (o : Sent) → SendsAfter moment o.emission o.after
-      → WasMarked released o.emission.thread o.emission.number ⊎ ((x : Output) × IsAmongOutputs x snap.outbox × IsKeptOutput (log_of moment) sent x o)
+      → WasMarked released o.emission.thread o.emission.number
+      ⊎ ((x : Output) × IsAmongOutputs x snap.outbox × IsKeptOutput (log_of moment) sent x o)
 
 -- the stored snapshot, and the one that is under way, if there is one
-pub record HasSnapshots {V : Type 0} (s : Setting V) (stored : List (Step V)) (copy : Option (List (Step V))) (sent : Sending) (released : List Numbers) (store : Snapshots V) : Type 0 where
+pub record HasSnapshots {V : Type 0} (s : Setting V) (stored : List (Step V)) (copy : Option (List (Step V)))
+    (sent : Sending) (released : List Numbers) (store : Snapshots V) : Type 0 where
   pub first : IsSnapshot s sent released stored store.stored
-  pub copied : (moment : List (Step V)) → copy ≡ Some moment → (x : Snapshot V) × (store.copy ≡ Some x) × IsSnapshot s sent released moment x
+  pub copied : (moment : List (Step V)) → copy ≡ Some moment
+      → (x : Snapshot V) × (store.copy ≡ Some x) × IsSnapshot s sent released moment x
   pub none : copy ≡ None → store.copy ≡ None
 
 -- how much each thread did until the end of an epoch
@@ -106,10 +117,11 @@ pub record AreCounts (threads : ℕ) (x : EndedEpoch) (counts : List Counts) : T
 pub record HasEnded (threads now : ℕ) (epochs : List EndedEpoch) (ended : List (List Counts)) : Type 0 where
   pub all : length epochs + 1 ≡ now
   pub there : length ended ≡ length epochs
-  pub each : (epoch : ℕ) (x : EndedEpoch) → 1 ≤ epoch → epoch < now → slice_get epochs (now - epoch - 1) ≡ Some x → AreCounts threads x (slice_index_or ended (epoch - 1) [])
+  pub each : (epoch : ℕ) (x : EndedEpoch) → 1 ≤ epoch → epoch < now → slice_get epochs (now - epoch - 1) ≡ Some x
+      → AreCounts threads x (slice_index_or ended (epoch - 1) [])
 
--- The guide has just the followed entries that the past had not made when it began, each with its stamp among the entries of the
--- line.
+-- The guide has just the followed entries that the past had not made when it began, each with its stamp among the
+-- entries of the line.
 pub record HasGuide {V : Type 0} (followed : List Entry) (past : List (Step V)) (guide : List Lane) : Type 0 where
   pub follows : Guides followed (log_of past) guide
   pub only : (e : Entry) → IsIn e (held_entries guide) → IsIn e followed
@@ -122,10 +134,12 @@ AreOutputs log [] [] = Unit {0}
 AreOutputs log [] (o ∷ sent) = ⊥
 AreOutputs log (x ∷ stamped) [] = ⊥
 AreOutputs log (x ∷ stamped) (o ∷ sent) =
-    (emission_of_output x ≡ o.emission) × IsOutputStamp log o.emission.thread o.after (λ u. slice_index x.stamp u) × AreOutputs log stamped sent
+    (emission_of_output x ≡ o.emission)
+    × IsOutputStamp log o.emission.thread o.after (λ u. slice_index x.stamp u)
+    × AreOutputs log stamped sent
 
--- The output logger holds what the world holds and has not stored, with the stamps among the entries of the line, has the same
--- outputs waiting, and noted those released.
+-- The output logger holds what the world holds and has not stored, with the stamps among the entries of the line, has
+-- the same outputs waiting, and noted those released.
 pub record HasLogger {V : Type 0} (w : World V) (l : Logger) : Type 0 where
   pub epoch : l.epoch ≡ w.epoch
   pub holds : HoldsOf (entries_of_line w) (log_of w.stored) l.held

@@ -42,8 +42,8 @@ pub struct Parted<P: Program> {
     pub rest: Rest<P>,
 }
 
-/// Takes the master out of the parts of a system. Where no memory is left for the fresh one that takes its place, the parts are
-/// gone.
+/// Takes the master out of the parts of a system. Where no memory is left for the fresh one that takes its place, the
+/// parts are gone.
 pub fn part<P: Program>(mut core: Core<P>) -> Result<Parted<P>, NoMemory>
     ensures rest { IfOk result (λ parted. (s : Setting P.Value) (w : World P.Value)
         → StandsFor (P.meaning core.program) s w core
@@ -85,8 +85,8 @@ impl<P: Program> Rest<P> {
         &self.core.guide
     }
 
-    /// Takes note of a move that a thread of the master made while it was out, with what the thread was told, and sends what it
-    /// logged or sent out. After `NoMemory` the rest is of no use any more.
+    /// Takes note of a move that a thread of the master made while it was out, with what the thread was told, and sends
+    /// what it logged or sent out. After `NoMemory` the rest is of no use any more.
     pub fn note(
         &mut self,
         thread: u32,

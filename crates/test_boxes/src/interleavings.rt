@@ -16,15 +16,17 @@ use std::test::Fail;
 /// What both packets are told, as the time in microseconds and as a random word.
 const TOLD: u64 = 100_000_005;
 
-/// The bit of the first move in the number of an order; each move after it has the next lower one. No race has more than 20 moves.
+/// The bit of the first move in the number of an order; each move after it has the next lower one. No race has more
+/// than 20 moves.
 const FIRST_MOVE: u32 = 1 << 19;
 
-/// How many orders there are. A packet looks for its mapping in its 3rd move and maps its source in its 7th. It makes 9 moves
-/// where it is mapped first; 5 where it finds that mapping; and 11 where it looked before, and gives its own port up.
+/// How many orders there are. A packet looks for its mapping in its 3rd move and maps its source in its 7th. It makes 9
+/// moves where it is mapped first; 5 where it finds that mapping; and 11 where it looked before, and gives its own port
+/// up.
 ///
-/// Say thread 0 is mapped first, after j moves of thread 1. With j up to 2 thread 1 finds the mapping: C(6 + j, j) C(7 - j, 2)
-/// orders, which are 21, 105 and 280. With j from 3 to 6 it looked before: C(6 + j, j) C(13 - j, 2) orders, which are 3,780, 7,560,
-/// 12,936 and 19,404. Together 44,086, and as many where thread 1 is first.
+/// Say thread 0 is mapped first, after j moves of thread 1. With j up to 2 thread 1 finds the mapping: C(6 + j, j) C(7
+/// - j, 2) orders, which are 21, 105 and 280. With j from 3 to 6 it looked before: C(6 + j, j) C(13 - j, 2) orders,
+/// which are 3,780, 7,560, 12,936 and 19,404. Together 44,086, and as many where thread 1 is first.
 const ORDERS: u32 = 88_172;
 
 /// What has become of a race of two packets, one on each thread.
@@ -89,10 +91,11 @@ fn go_on<P: Program>(
     }
 }
 
-/// Runs both packets to their ends. Where both have moves left, the bits of the order say which thread makes the next one.
+/// Runs both packets to their ends. Where both have moves left, the bits of the order say which thread makes the next
+/// one.
 ///
-/// It gives the order after this one, if there is one: as this one up to the last move that thread 1 could have made in place of
-/// thread 0. There thread 1 makes it, and thread 0 makes all moves behind it that it can.
+/// It gives the order after this one, if there is one: as this one up to the last move that thread 1 could have made in
+/// place of thread 0. There thread 1 makes it, and thread 0 makes all moves behind it that it can.
 fn run<P: Program>(
     alloc: Global,
     master: &mut Master<P>,
@@ -154,7 +157,8 @@ fn one_port_stands<P: Program>(
     shows_one_port(alloc, master, program, mapping, binding)
 }
 
-/// Runs a race on a fresh master, and gives the next order: whether both packets went out from one port, which alone stands then.
+/// Runs a race on a fresh master, and gives the next order: whether both packets went out from one port, which alone
+/// stands then.
 fn goes_well<P: Program>(
     alloc: Global,
     master: &mut Master<P>,

@@ -1,5 +1,6 @@
-//! Tests of boxes: the counting box and the one that also reads; box files; a race of two threads on one endpoint of the box `nat`, in
-//! every order of their moves; and its tables. Worked examples of the boxes are stored sessions of the program.
+//! Tests of boxes: the counting box and the one that also reads; box files; a race of two threads on one endpoint of
+//! the box `nat`, in every order of their moves; and its tables. Worked examples of the boxes are stored sessions of
+//! the program.
 #![tactic(auto)]
 
 #[cfg(test)]

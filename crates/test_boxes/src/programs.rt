@@ -75,7 +75,8 @@ fn sends<P: Program>(
     })
 }
 
-/// What a packet of this number of bytes does where the variable is `BEFORE`: the text of the value, and what goes out begins with.
+/// What a packet of this number of bytes does where the variable is `BEFORE`: the text of the value, and what goes out
+/// begins with.
 type Row = (usize, &'static str, &'static [u8]);
 
 /// Whether a packet goes out so, and the value then has this text.

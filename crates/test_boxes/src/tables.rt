@@ -32,7 +32,8 @@ fn has_ports(alloc: Global) -> Result<bool, NoMemory> {
     Ok(takes_ports(&mut pool) && shows_ports(alloc, &pool, "tcp 4 udp 2")?)
 }
 
-/// Whether an endpoint is bound once, and where it is idle its mapping makes room for another endpoint, of the other protocol.
+/// Whether an endpoint is bound once, and where it is idle its mapping makes room for another endpoint, of the other
+/// protocol.
 fn binds(table: &mut Forward) -> Result<bool, NoMemory> {
     let (first, second) = (endpoint(17, 5000), endpoint(6, 5000));
     let bound = table.find_or_bind(&first, 10, 1)?;

@@ -44,7 +44,8 @@ const LEFT_WITH_39276: Left<'static> = Left {
     tables: b"show 1 tcp 4 udp 3\nshow 2 udp 10.0.0.5:5000 39276 100000006\nshow 3 udp 39276 10.0.0.5:5000\n",
 };
 
-/// How a script goes on from the event at which the master crashes, and the last lines of the reports of its run and its check.
+/// How a script goes on from the event at which the master crashes, and the last lines of the reports of its run and
+/// its check.
 #[derive(Clone, Copy)]
 struct Ending<'a> {
     events: &'a [u8],
@@ -63,7 +64,8 @@ const CRASHED_IN_REPLAYS: Ending<'static> = Ending {
     last: b"done fed 2 epoch 4 released 2\nfound 2\n",
 };
 
-/// The moves of the race. Both threads take a port before either is mapped; the first to be mapped, thread 1's, is the endpoint's.
+/// The moves of the race. Both threads take a port before either is mapped; the first to be mapped, thread 1's, is the
+/// endpoint's.
 const MOVES: [&str; 20] = [
     "step 0\n",
     "step 0\n",
@@ -136,17 +138,19 @@ enum Kept {
 }
 
 impl Kept {
-    /// What is left after a crash behind this number of events. Both ports that the host's own port asks for, 39276 and 39278, are even;
+    /// What is left after a crash behind this number of events. Both ports that the host's own port asks for, 39276 and
+    /// 39278, are even;
     /// an even word takes the first of two that are free, an odd one the second.
     ///
     /// Nothing is kept: thread 0 goes first, draws 2707161783, and maps the host to 39278. Thread 1 finds the mapping.
     ///
-    /// Each entry is held: behind ten events it is held that thread 1 looked for the mapping. It is to look again before thread 0 may map
-    /// the host, so it goes on to map it, to the port that thread 0 left. Thread 0 took 39276 where it is held that it drew 0, behind
-    /// twelve events; before, it draws 2707161783 and takes 39278. Behind 26 events the packet of thread 1 has left before the crash.
+    /// Each entry is held: behind ten events it is held that thread 1 looked for the mapping. It is to look again
+    /// before thread 0 may map the host, so it goes on to map it, to the port that thread 0 left. Thread 0 took 39276
+    /// where it is held that it drew 0, behind twelve events; before, it draws 2707161783 and takes 39278. Behind 26
+    /// events the packet of thread 1 has left before the crash.
     ///
-    /// A snapshot is stored behind each move: thread 0 goes on first, and has drawn 0 in those of seven moves and more. It maps the host to
-    /// 39276, unless thread 1 has mapped it, which is so behind thirteen moves.
+    /// A snapshot is stored behind each move: thread 0 goes on first, and has drawn 0 in those of seven moves and more.
+    /// It maps the host to 39276, unless thread 1 has mapped it, which is so behind thirteen moves.
     fn left(self, events: usize) -> Left<'static> {
         match self {
             Kept::Nothing => LEFT_WITH_39278,

@@ -79,7 +79,8 @@ const MAKE_NONE: Case<'static> = Case {
     ..MAKE
 };
 
-/// The first of this number of reads of a case that fails, and does not come to a read fault with this left and nothing reported.
+/// The first of this number of reads of a case that fails, and does not come to a read fault with this left and nothing
+/// reported.
 fn first_wrong_read<'a>(
     alloc: Global,
     case: &Case<'a>,
@@ -100,7 +101,8 @@ fn first_wrong_read<'a>(
     Ok(None)
 }
 
-/// A command, how many reads it makes, and what is left where one of them fails. Each file is opened, gives its bytes, and then gives none.
+/// A command, how many reads it makes, and what is left where one of them fails. Each file is opened, gives its bytes,
+/// and then gives none.
 const READS: [(Case<'static>, u64, Names); 3] = [
     (RUN, 9, &[("out", None), ("moves", None)]),
     (CHECK, 12, &[("released", Some(ONE_COUNTED))]),
@@ -161,8 +163,9 @@ fn first_wrong_write(
     Ok(None)
 }
 
-/// What is left where the first, the second and so on of the writes of a run fails: that creates the released capture, its header, that
-/// creates the schedule, the lines before a packet leaves, its record, the line behind it, the schedule, the last line.
+/// What is left where the first, the second and so on of the writes of a run fails: that creates the released capture,
+/// its header, that creates the schedule, the lines before a packet leaves, its record, the line behind it, the
+/// schedule, the last line.
 const LEFT_BY_RUN: [Left; 8] = [
     (&[("out", None), ("moves", None)], b""),
     (&[("out", Some(b"")), ("moves", None)], b""),

@@ -1,4 +1,5 @@
-//! Large runs from a number: 20,000 generated packets, 90,000 chosen events, and three crashes among them, on four threads.
+//! Large runs from a number: 20,000 generated packets, 90,000 chosen events, and three crashes among them, on four
+//! threads.
 use crate::commands::{Case, Fault, comes_to};
 use job_top::Status;
 use plain_text::NoMemory;
@@ -11,8 +12,8 @@ const SCRIPT: &[u8] =
 /// The last lines where each packet was released, and `check` found each.
 const ALL_FOUND: &[u8] = b"done fed 20000 epoch 4 released 20000\nfound 20000\n";
 
-/// Boxes, and how the report of each ends. Of the packets, 42 go to the virtual address and port of the balancer, by the generator's
-/// definition, each of a client of its own.
+/// Boxes, and how the report of each ends. Of the packets, 42 go to the virtual address and port of the balancer, by
+/// the generator's definition, each of a client of its own.
 const RUNS: [(&[u8], &[u8]); 4] = [
     (
         b"box nat\nthreads 4\ninside 10.0.0.0 8\noutside 203.0.113.1\n",

@@ -30,7 +30,8 @@ fn put_spaces_behind(alloc: Global, text: &[u8], count: usize) -> Result<Bytes, 
     Ok(all)
 }
 
-/// Whether a run of one packet through the counting box, but with these bytes as this file, comes to this status, and nothing is created.
+/// Whether a run of one packet through the counting box, but with these bytes as this file, comes to this status, and
+/// nothing is created.
 fn refuses<'a>(
     alloc: Global,
     name: &'a str,
@@ -53,7 +54,8 @@ fn refuses<'a>(
     comes_to(alloc, Fault::Nothing, &case)
 }
 
-/// A file, its text, the number of spaces behind that, and what a run with it comes to. The lines of a file are judged before its size.
+/// A file, its text, the number of spaces behind that, and what a run with it comes to. The lines of a file are judged
+/// before its size.
 const LARGE: [(&str, &[u8], usize, Status); 6] = [
     (
         "script",

@@ -1,8 +1,8 @@
 use plain_text::{NoMemory, Packet};
 use traffic_gen::make;
 
-/// The first three packets of seed 7, and the 20,000th. Another program worked them out, from the published algorithm of the
-/// generator and the tables of the headers.
+/// The first three packets of seed 7, and the 20,000th. Another program worked them out, from the published algorithm
+/// of the generator and the tables of the headers.
 const FIRST: [u8; 60] = [
     0x02, 0x00, 0x00, 0x00, 0x00, 0x02, 0x02, 0x00, 0x00, 0x00, 0x00, 0x01, 0x08, 0x00, 0x45, 0x00,
     0x00, 0x2e, 0x00, 0x00, 0x00, 0x00, 0x40, 0x06, 0x46, 0x76, 0x0a, 0x00, 0x00, 0x04, 0xc6, 0x33,

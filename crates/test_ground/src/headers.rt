@@ -84,7 +84,8 @@ fn sums_for_steering(rt: HostRuntime) {
     assert!(rt; steering_sum(&LAST_FLOW) == 8_589_939_660);
 }
 
-/// Two bytes of the query, each with its place, the length that it had, and the protocol that is seen then, or why there is none.
+/// Two bytes of the query, each with its place, the length that it had, and the protocol that is seen then, or why
+/// there is none.
 type Change = ((usize, u8), (usize, u8), u32, Result<u8, NotFlow>);
 
 /// No byte: there is no such place.

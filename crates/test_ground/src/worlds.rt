@@ -97,8 +97,8 @@ fn add_hello(alloc: Global, world: &mut MemoryWorld) -> Result<Text, NoMemory>
 /// What is read of "hello": its first bytes, and whether they are all, or nothing where reading fails.
 type Beginning = Option<(&'static str, bool)>;
 
-/// A call of reading that is told to fail, a limit, and what is read up to it. The tenth call is never made. Where the file is
-/// longer than the limit, its end is not looked for.
+/// A call of reading that is told to fail, a limit, and what is read up to it. The tenth call is never made. Where the
+/// file is longer than the limit, its end is not looked for.
 const FRONTS: [(u64, u64, Beginning); 9] = [
     (10, 6, Some(("hello", true))),
     (10, 5, Some(("hello", true))),

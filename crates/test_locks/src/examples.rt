@@ -48,8 +48,8 @@ fn guide_to(alloc: Global, entries: &[First]) -> Result<Guide, NoMemory> {
     guide_of(alloc, &stamped)
 }
 
-/// A move that a thread wants as its first entry: the thread, whether it reads, the places of variable 0, the readers' stamp, and whose
-/// turn it is.
+/// A move that a thread wants as its first entry: the thread, whether it reads, the places of variable 0, the readers'
+/// stamp, and whose turn it is.
 type Asked = (u32, bool, u64, [u64; 4], Turn);
 
 /// The first of these moves of which the guide says something else.

@@ -57,7 +57,8 @@ fn add(held: &mut Held, last: &mut [u64], entry: &StampedEntry) -> Result<(), No
     Ok(())
 }
 
-/// Holds the next entry of its thread, where it is no touch or comes after the last touch of its variable. Any other one is left out.
+/// Holds the next entry of its thread, where it is no touch or comes after the last touch of its variable. Any other
+/// one is left out.
 fn hold(held: &mut Held, last: &mut [u64], entry: &StampedEntry) -> Result<(), NoMemory>
     requires { AreFollowed held.old last.old }
     ensures { AreFollowed held.new last.new }

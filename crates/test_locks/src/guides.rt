@@ -40,7 +40,8 @@ fn told_at(receipts: &[Woven], thread: usize) -> Option<u64> {
     receipts.get(thread)?.as_slice().get(10)?.moved.answer
 }
 
-/// What comes of a race that follows another round, and what each thread is told in its 11th move, the second one of its second packet.
+/// What comes of a race that follows another round, and what each thread is told in its 11th move, the second one of
+/// its second packet.
 #[derive(Clone, Copy)]
 struct Followed {
     outcome: Outcome,
@@ -67,8 +68,8 @@ fn race_after<P: Program + Sync, R: Threads + Wait + Sync>(
 /// The time of the second round.
 const LATER: u64 = 1_000_000;
 
-/// Whether a race in which each thread takes this number of packets of one of these frames comes to this, where it follows a round in
-/// which each took one, thread 0 first.
+/// Whether a race in which each thread takes this number of packets of one of these frames comes to this, where it
+/// follows a round in which each took one, thread 0 first.
 fn race_again<P: Program + Sync, R: Threads + Wait + Sync>(
     rt: &R,
     alloc: Global,
@@ -100,8 +101,8 @@ fn a_thread_waits_for_the_other(rt: HostRuntime) -> Result<(), Fail> {
     Ok(())
 }
 
-/// The first packets are told the recorded time and word, which are those of the first round, and bind the same ports in the same order.
-/// The second ones are not followed, and are told the later time.
+/// The first packets are told the recorded time and word, which are those of the first round, and bind the same ports
+/// in the same order. The second ones are not followed, and are told the later time.
 #[test]
 fn followed_answers_and_then_free_ones(rt: HostRuntime) -> Result<(), Fail> {
     let wanted = Followed {

@@ -140,7 +140,8 @@ fn raced_with<P: Program + Sync, R: Threads + Wait + Sync>(
     Ok(shows && outcome_of(alloc, program, feed.inputs, &closed)? == *wanted)
 }
 
-/// Whether a race of two threads, each with this number of packets of one of these frames, comes to this, and the variable then shows so.
+/// Whether a race of two threads, each with this number of packets of one of these frames, comes to this, and the
+/// variable then shows so.
 fn raced<P: Program + Sync, R: Threads + Wait + Sync>(
     rt: &R,
     alloc: Global,
@@ -160,7 +161,8 @@ fn raced<P: Program + Sync, R: Threads + Wait + Sync>(
     raced_with(rt, alloc, program, feed, wanted, shown)
 }
 
-/// What comes where each thread took and sent out this number of packets, and logged and made this number of entries and moves.
+/// What comes where each thread took and sent out this number of packets, and logged and made this number of entries
+/// and moves.
 pub fn outcome(packets: u64, entries: u64, moves: usize) -> Outcome {
     let counts = Counts {
         taken: packets,
@@ -174,7 +176,8 @@ pub fn outcome(packets: u64, entries: u64, moves: usize) -> Outcome {
     }
 }
 
-/// Each packet touches the table of its flow, which is that of its thread alone, and then the totals: 100,000 touches of each thread.
+/// Each packet touches the table of its flow, which is that of its thread alone, and then the totals: 100,000 touches
+/// of each thread.
 #[test]
 fn two_threads_race_over_the_monitor(rt: HostRuntime) -> Result<(), Fail> {
     let alloc = rt.alloc();
@@ -186,8 +189,8 @@ fn two_threads_race_over_the_monitor(rt: HostRuntime) -> Result<(), Fail> {
     Ok(())
 }
 
-/// The first packet of each endpoint makes 9 moves, and of them 4 touches. Each one after it finds its mapping idle, and makes 11
-/// moves, of which 6 are touches. All are told the time and a word. So each thread makes 100,000 touches.
+/// The first packet of each endpoint makes 9 moves, and of them 4 touches. Each one after it finds its mapping idle,
+/// and makes 11 moves, of which 6 are touches. All are told the time and a word. So each thread makes 100,000 touches.
 #[test]
 fn two_threads_race_over_the_nat(rt: HostRuntime) -> Result<(), Fail> {
     let alloc = rt.alloc();

@@ -33,8 +33,8 @@ pub struct Feed<'a> {
     pub at_once: bool,
 }
 
-/// Makes the next move of the seat's thread. A clock or a draw is told the time of its packet. Out of memory also where the thread made
-/// more moves than a test makes.
+/// Makes the next move of the seat's thread. A clock or a draw is told the time of its packet. Out of memory also where
+/// the thread made more moves than a test makes.
 #[tactic(auto, using(crate::proofs::Keeping::steps_keep, crate::proofs::Keeping::touches_keep))]
 fn make<P: Program, J: Round, R: Wait>(
     rt: &R,

@@ -52,7 +52,8 @@ fn touch(thread: u32, number: u64, var: u32, place: u64, stamp: Stamp) -> Trace 
     })
 }
 
-/// What each thread does: it counts the packet in the table of its flow, and in the totals, which thread 1 finds as thread 0 left them.
+/// What each thread does: it counts the packet in the table of its flow, and in the totals, which thread 1 finds as
+/// thread 0 left them.
 fn wanted() -> [[Trace; 5]; 2] {
     [
         [

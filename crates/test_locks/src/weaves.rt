@@ -27,9 +27,9 @@ fn are_woven(
     Ok(turns_of(alloc, first, second)?.as_slice() == turns)
 }
 
-/// Each thread takes a packet and touches a variable of its own: of two touches of weight 1 that of thread 0 stands first. Where thread 1
-/// counts first, and sends its packet out, its take and its touch stand first, and what it sent out is left. What no logged move comes
-/// after stands last, thread by thread.
+/// Each thread takes a packet and touches a variable of its own: of two touches of weight 1 that of thread 0 stands
+/// first. Where thread 1 counts first, and sends its packet out, its take and its touch stand first, and what it sent
+/// out is left. What no logged move comes after stands last, thread by thread.
 #[test]
 fn moves_stand_by_weight(rt: HostRuntime) -> Result<(), Fail> {
     let alloc = rt.alloc();

@@ -31,8 +31,8 @@ fn holds_second(held: &mut Held) -> bool {
         && held.closed_part().kept == 1
 }
 
-/// Two threads count: thread 1 makes its touch, then thread 0. Whether the first touch is missing for the second alone, is known once
-/// it was added, and is no more held once it is covered.
+/// Two threads count: thread 1 makes its touch, then thread 0. Whether the first touch is missing for the second alone,
+/// is known once it was added, and is no more held once it is covered.
 fn covers_first_in(held: &mut Held) -> Result<bool, NoMemory>
     requires { held.old ≡ replicate 2 fresh_lane }
 {

@@ -8,7 +8,8 @@ use plain_text::{Bytes, NoMemory, Packet};
 use std::alloc::Global;
 use thread_clock::Stamp;
 
-/// What happens to a logger, and what is to become of it. An output comes after these numbers of entries of threads 0 and 1.
+/// What happens to a logger, and what is to become of it. An output comes after these numbers of entries of threads 0
+/// and 1.
 #[derive(Clone, Copy)]
 enum Event {
     /// An entry of this thread and number, sent in this epoch.
@@ -194,7 +195,8 @@ const WAIT_FOR_1: OutputTook = OutputTook::Wait {
     number: 1,
 };
 
-/// Thread 1 touches a variable, then thread 0, which sends. Its output waits for thread 1's entry, whichever comes first.
+/// Thread 1 touches a variable, then thread 0, which sends. Its output waits for thread 1's entry, whichever comes
+/// first.
 const TWO_THREADS: [Event; 7] = [
     Event::Log(1, 0, 1, New),
     Event::Out(1, 0, 1, (1, 1), WAIT_FOR_1),
@@ -249,8 +251,8 @@ fn releases_what_is_due(rt: HostRuntime) {
     }
 }
 
-/// Whether a snapshot with the first entry of each thread, the first one that is stored, releases the output that it frees, and the
-/// other one goes on waiting.
+/// Whether a snapshot with the first entry of each thread, the first one that is stored, releases the output that it
+/// frees, and the other one goes on waiting.
 fn stored_snapshot_releases(
     alloc: Global,
     logger: &mut OutputLogger,

@@ -12,8 +12,8 @@ use std::alloc::Global;
 use std::process::Abort;
 use std::test::Fail;
 
-/// What a master tells of a move. Of an entry and of a packet that was sent out it has the components of the stamp, and of a packet
-/// its number and that of its input.
+/// What a master tells of a move. Of an entry and of a packet that was sent out it has the components of the stamp, and
+/// of a packet its number and that of its input.
 #[derive(Clone, Copy, PartialEq)]
 enum Told {
     Took(u64),
@@ -59,7 +59,8 @@ pub fn packet(alloc: Global, bytes: &[u8]) -> Result<Packet, NoMemory> {
     })
 }
 
-/// Whether a test may make a move of a thread with this input: it made few, and has no packet in hand where there is no input.
+/// Whether a test may make a move of a thread with this input: it made few, and has no packet in hand where there is no
+/// input.
 fn may_move<P: Program>(master: &Master<P>, thread: u32, input: Option<&Packet>) -> bool
     requires { thread < length master.now.threads }
     ensures room { IsTrue result → HasRoom master.now thread }

@@ -10,8 +10,8 @@ use std::alloc::Global;
 /// The variable that can't be copied.
 const PINNED: u32 = 1;
 
-/// A program for tests: the box `count`, with a second variable. No packet touches that one, and copying it always runs out of
-/// memory.
+/// A program for tests: the box `count`, with a second variable. No packet touches that one, and copying it always runs
+/// out of memory.
 #[derive(Drop)]
 pub struct PinnedBox {
     count: CountBox,

@@ -1,4 +1,5 @@
-//! Scripts of a box whose odd packets read and do not touch. No box of the program reads alone, so no stored session can have these.
+//! Scripts of a box whose odd packets read and do not touch. No box of the program reads alone, so no stored session
+//! can have these.
 use crate::replay::leaves;
 use box_program::PeekBox;
 use plain_text::NoMemory;
@@ -9,8 +10,8 @@ use std::test::Fail;
 /// A script, and the report and the moves that it leaves.
 type Row = (&'static str, &'static str);
 
-/// A reader beside a counter. A packet with an odd number of bytes reads, and its output waits for what it read. A read is followed
-/// at its place, and a touch without the read before it is dropped.
+/// A reader beside a counter. A packet with an odd number of bytes reads, and its output waits for what it read. A read
+/// is followed at its place, and a touch without the read before it is dropped.
 const PEEKS: [Row; 3] = [
     (
         "feed 2\nstep 1\nstep 1\nstep 0\nstep 0\nstep 1\nout 1 1\nlog 0 1\nlog 1 1\n",

@@ -102,7 +102,8 @@ fn perform_all<P: Program>(
     }
 }
 
-/// Runs a system of the seed by the events, and appends their lines: how it ended; none where an event was not performed.
+/// Runs a system of the seed by the events, and appends their lines: how it ended; none where an event was not
+/// performed.
 fn run_of<P: Program>(
     alloc: Global,
     program: P,

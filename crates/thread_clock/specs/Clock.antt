@@ -1,4 +1,5 @@
--- Stamps as the lists of their 16 components, one for each thread that there may be: vector clocks (Fidge 1988, Mattern 1989).
+-- Stamps as the lists of their 16 components, one for each thread that there may be: vector clocks (Fidge 1988, Mattern
+-- 1989).
 use Rattle.std.specs.Prelude.{◌≡◌, ℕ, ◌≤◌, List, max, slice_index}
 
 -- no component of the first stamp is above that of the second

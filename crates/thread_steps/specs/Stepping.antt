@@ -36,15 +36,18 @@ pub record NotesMove {P V : Type 0} (t : ℕ) (answer : Option ℕ) (bytes : ℕ
   pub new_is : new ≡ with_move t answer bytes old
 
 -- the same, and the links are left so
-pub record NotesSending {P V : Type 0} (t : ℕ) (answer : Option ℕ) (bytes : ℕ) (Sends : Sending → Sending → Type 0) (old new : Parts P V) : Type 0 where
+pub record NotesSending {P V : Type 0} (t : ℕ) (answer : Option ℕ) (bytes : ℕ) (Sends : Sending → Sending → Type 0)
+    (old new : Parts P V) : Type 0 where
   pub within : limit_passed (old.moves + 1) (old.bytes + bytes) ≡ None
   pub sends : Sends old.sent new.sent
   pub new_is : new ≡ record (with_move t answer bytes old) { sent = new.sent }
 
 -- The move is noted, with this outcome; or it would pass a limit, and nothing changed. Of no memory nothing is said.
-abbrev pub NotesAs : {P V : Type 0} → ℕ → Option ℕ → ℕ → Outcome → (Sending → Sending → Type 0) → Parts P V → Result Outcome Stop → Parts P V → Type 0
+abbrev pub NotesAs : {P V : Type 0} → ℕ → Option ℕ → ℕ → Outcome → (Sending → Sending → Type 0) → Parts P V
+    → Result Outcome Stop → Parts P V → Type 0
 NotesAs t answer bytes to Sends old (Ok other) new = (other ≡ to) × NotesSending t answer bytes Sends old new
-NotesAs t answer bytes to Sends old (Err (stop.Limit limit)) new = (limit_passed (old.moves + 1) (old.bytes + bytes) ≡ Some limit) × (new ≡ old)
+NotesAs t answer bytes to Sends old (Err (stop.Limit limit)) new =
+    (limit_passed (old.moves + 1) (old.bytes + bytes) ≡ Some limit) × (new ≡ old)
 NotesAs t answer bytes to Sends old (Err stop.NoMemory) new = Unit {0}
 
 abbrev pub SendsNothing : Sending → Sending → Type 0
@@ -65,7 +68,8 @@ NotesNone to old r new = (r ≡ Ok to) × (new ≡ old)
 abbrev pub Notes : {P V : Type 0} → ℕ → Option ℕ → Stepped → Parts P V → Result Outcome Stop → Parts P V → Type 0
 Notes t answer (stepped.Took k) old r new = NotesAs t answer 0 (outcome.Take k) SendsNothing old r new
 Notes t answer (stepped.Did e) old r new = NotesAs t answer 0 (entry_outcome e.number e.what) (AddsEntry e) old r new
-Notes t answer (stepped.Emitted o) old r new = NotesAs t answer (length o.packet.bytes) (outcome.Emitted o.number) (AddsOutput o) old r new
+Notes t answer (stepped.Emitted o) old r new =
+    NotesAs t answer (length o.packet.bytes) (outcome.Emitted o.number) (AddsOutput o) old r new
 Notes t answer (stepped.Ended k) old r new = NotesAs t answer 0 (outcome.Ended k) SendsNothing old r new
 Notes t answer stepped.Idle old r new = NotesNone outcome.Idle old r new
 Notes t answer (stepped.NotTurn u n) old r new = NotesNone (outcome.Waits u n) old r new
@@ -84,8 +88,8 @@ CanSend epoch threads stepped.NoMemory = Unit {0}
 abbrev pub CanNote : {P V : Type 0} → Parts P V → Stepped → Type 0
 CanNote y r = CanSend y.sent.epoch y.sent.threads r
 
--- The move that is noted is what the event of its thread and answer makes in the world, with this outcome, within the limits; and all
--- parts but the master stand for the world after it.
+-- The move that is noted is what the event of its thread and answer makes in the world, with this outcome, within the
+-- limits; and all parts but the master stand for the world after it.
 abbrev pub NotesFor : {P V : Type 0} → Meaning V → Setting V → World V → ℕ → Option ℕ → Stepped → Step V → Outcome
     → Parts P V → Parts P V → Type 0
 NotesFor m s w t answer stepped step to old new =
@@ -95,7 +99,8 @@ NotesFor m s w t answer stepped step to old new =
     × RestsFor m s (after_made w step) new
 
 -- The event would pass this limit.
-abbrev pub PassesFor : {P V : Type 0} → Meaning V → Setting V → World V → ℕ → Option ℕ → Stepped → Step V → Limit → Parts P V → Type 0
+abbrev pub PassesFor : {P V : Type 0} → Meaning V → Setting V → World V → ℕ → Option ℕ → Stepped → Step V → Limit
+    → Parts P V → Type 0
 PassesFor m s w t answer stepped step limit old =
     RestsFor m s w old → w.up ≡ true → CanMake s w t answer step → Shows w.past stepped step
     → Passes s w (event.Step t answer) limit

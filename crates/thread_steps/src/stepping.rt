@@ -112,8 +112,8 @@ fn recorded_or(guide: &Guide, thread: u32, number: u64, given: Option<u64>) -> O
     }
 }
 
-/// What the thread's next move is told, if it asks: what is recorded, else the given answer, else the time or the next word of the
-/// generator.
+/// What the thread's next move is told, if it asks: what is recorded, else the given answer, else the time or the next
+/// word of the generator.
 fn told<P: Program>(
     program: &P,
     master: &Master<P>,
@@ -170,8 +170,8 @@ fn note_move<P: Program>(
     Ok(())
 }
 
-/// Takes note of what the master answered of a move, with what the thread was told, and sends what it logged or sent out on the
-/// links. Of `Idle`, `NotTurn` and `NoMemory` nothing is noted.
+/// Takes note of what the master answered of a move, with what the thread was told, and sends what it logged or sent
+/// out on the links. Of `Idle`, `NotTurn` and `NoMemory` nothing is noted.
 pub fn note<P: Program>(
     core: &mut Core<P>,
     thread: u32,

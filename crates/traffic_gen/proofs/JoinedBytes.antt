@@ -4,7 +4,8 @@ use Rattle.std.proofs.lemmas.List.{append-nil}
 use Rattle.std.proofs.Math.Seq.{take-append_seam, drop-append_seam, drop-length}
 use borrow.Rule.Slice.PartMut.{put_mid}
 
-pub put_mid_last : {X : Type 0} (a k : ℕ) (xs ys zs : List X) → length xs ≡ a → length zs ≡ k → put_mid a k (xs ++ zs) ys ≡ xs ++ ys
+pub put_mid_last : {X : Type 0} (a k : ℕ) (xs ys zs : List X) → length xs ≡ a → length zs ≡ k
+    → put_mid a k (xs ++ zs) ys ≡ xs ++ ys
 put_mid_last {X} a k xs ys zs first last =
     let nothing : drop k zs ≡ [] = subst (λ (m : ℕ). drop m zs ≡ []) last (drop-length zs) in
     let P : ℕ → Type 0 = λ m. put_mid m k (xs ++ zs) ys ≡ xs ++ ys in

@@ -1,5 +1,6 @@
 -- The packets after one packet more.
-use Rattle.std.proofs.Common.{◌≡◌, ℕ, zero, suc, ◌+◌, ◌*◌, List, [], ◌∷◌, ◌++◌, length, refl, sym, ap, ◌∙◌, arith, add-one, length-append}
+use Rattle.std.proofs.Common.{◌≡◌, ℕ, zero, suc, ◌+◌, ◌*◌, List, [], ◌∷◌, ◌++◌, length, refl, sym, ap, ◌∙◌, arith}
+use Rattle.std.proofs.Common.{add-one, length-append}
 use Rattle.std.specs.List.{All}
 use Rattle.std.proofs.lemmas.List.Elements.{All-append}
 use Rattle.plain_text.specs.declared.packet.Packet.{Packet}
@@ -25,8 +26,10 @@ All_one P p holds zero d below = holds
 All_one P p holds (suc k) d below = absurd (omega arith)
 
 -- what holds of every packet that can be drawn holds of each that is
-pub generated_each : (P : Packet → Type 0) → ((i a b : ℕ) → P (packet_of i a b)) → (seed n : ℕ) → All P (generated seed n)
+pub generated_each : (P : Packet → Type 0) → ((i a b : ℕ) → P (packet_of i a b)) → (seed n : ℕ)
+    → All P (generated seed n)
 generated_each P holds seed zero = λ k d below. absurd (omega arith)
 generated_each P holds seed (suc n) =
     let last = packet_of n (word_of seed (2 * n)) (word_of seed (2 * n + 1)) in
-    All-append P (generated seed n) (last ∷ []) (generated_each P holds seed n) (All_one P last (holds n (word_of seed (2 * n)) (word_of seed (2 * n + 1))))
+    All-append P (generated seed n) (last ∷ []) (generated_each P holds seed n)
+    (All_one P last (holds n (word_of seed (2 * n)) (word_of seed (2 * n + 1))))

@@ -1,5 +1,5 @@
--- A worked example: a datagram from port 52,037, whose checksum comes out as 0 and so is written as all ones. No packet that is made
--- has such a checksum, since the ports are few.
+-- A worked example: a datagram from port 52,037, whose checksum comes out as 0 and so is written as all ones. No packet
+-- that is made has such a checksum, since the ports are few.
 use Rattle.std.specs.Prelude.{◌≡◌, ℕ, List, [], ◌∷◌, refl}
 use Rattle.traffic_gen.specs.declared.fields.Fields.{Fields}
 use Rattle.traffic_gen.specs.declared.fields.Protocol.TheVariants.{Udp}

@@ -1,5 +1,5 @@
--- The bytes of a generated packet, field by field in the order of the wire: an Ethernet frame that carries IPv4 (RFC 791),
--- and in it TCP (RFC 9293) or UDP (RFC 768). Numbers of 16 and 32 bits have their high byte first.
+-- The bytes of a generated packet, field by field in the order of the wire: an Ethernet frame that carries IPv4 (RFC
+-- 791), and in it TCP (RFC 9293) or UDP (RFC 768). Numbers of 16 and 32 bits have their high byte first.
 use Rattle.std.specs.Prelude.{ℕ, ◌==◌, if◌then◌else◌, List, [], ◌∷◌, ◌++◌, replicate}
 use Rattle.std.specs.Int.{to_be_bytes, w16, w32}
 use Rattle.inet_checksum.specs.OnesComplement.{words, checksum_of}

@@ -1,6 +1,8 @@
 ghost use Rattle.std.specs.Prelude.{◌≡◌, ◌++◌, IfOk};
 ghost use Rattle.std.specs.List.{flat_map};
-ghost use Rattle.traffic_gen.specs.Frame.{protocol_number, ethernet_header, ipv4_header, tcp_segment, udp_datagram, transport, pseudo_header, written_checksum, transport_checksum, frame};
+ghost use Rattle.traffic_gen.specs.Frame.{protocol_number, ethernet_header, ipv4_header};
+ghost use Rattle.traffic_gen.specs.Frame.{tcp_segment, udp_datagram, transport, pseudo_header};
+ghost use Rattle.traffic_gen.specs.Frame.{written_checksum, transport_checksum, frame};
 
 use crate::fields::{Fields, Protocol};
 use inet_checksum::checksum;

@@ -32,27 +32,44 @@ named_right [] k a b h = h
 named_right (y ∷ l) k a b h = inr (named_right l k a b h)
 
 -- what was there stays
-pub seats_stay : {V : Type 0} (w u : View V) (seats : List (Seated V)) → HasSeats w seats → HasSeats (joined_view w u) seats
+pub seats_stay : {V : Type 0} (w u : View V) (seats : List (Seated V)) → HasSeats w seats
+    → HasSeats (joined_view w u) seats
 seats_stay w u [] has = tt
-seats_stay w u (x ∷ others) (one, has) = (record { share = share_right u.shares w.shares _ one.share; missing = λ a b named. named_right u.missing w.missing a b (one.missing a b named) }, seats_stay w u others has)
+seats_stay w u (x ∷ others) (one, has) = (
+  record {
+    share = share_right u.shares w.shares _ one.share;
+    missing = λ a b named. named_right u.missing w.missing a b (one.missing a b named);
+  },
+  seats_stay w u others has,
+)
 
-module _ {V : Type 0} (x : Seated V) (me : Me (VarPart V) (View V)) (receipts : List WovenStep) (kept : IsKept me x.thread x.part x.seen receipts x.ended) (notes : first_notes me.0.shares ≡ x.notes) (missing : me.0.missing ≡ x.missing) where
+module _ {V : Type 0} (x : Seated V) (me : Me (VarPart V) (View V)) (receipts : List WovenStep)
+    (kept : IsKept me x.thread x.part x.seen receipts x.ended) (notes : first_notes me.0.shares ≡ x.notes)
+    (missing : me.0.missing ≡ x.missing) where
   -- a token has its seat
   pub own_seat : HasSeat me.0 x
   own_seat = record {
-    share = subst (λ (l : List (Share V)). HasShare (record { thread = x.thread; notes = x.notes; part = x.part; ended = x.ended }) l) (sym kept.alone)
-        (inl (ap (λ (l : List (Note V)). let y : Share V = record { thread = x.thread; notes = l; part = x.part; ended = x.ended } in y) notes));
+    share = subst (λ (l : List (Share V)).
+        HasShare (record { thread = x.thread; notes = x.notes; part = x.part; ended = x.ended }) l) (sym kept.alone)
+        (inl (ap (λ (l : List (Note V)).
+        let y : Share V = record { thread = x.thread; notes = l; part = x.part; ended = x.ended } in y) notes));
     missing = λ a b named. subst (λ (l : List (ℕ × ℕ)). IsNamed a b l) (sym missing) named;
   }
 
   pub joined_seat : (w : View V) → HasSeat (joined_view w me.0) x
-  joined_seat w = let k = own_seat in record { share = share_left me.0.shares w.shares _ k.share; missing = λ a b named. named_left me.0.missing w.missing a b (k.missing a b named) }
+  joined_seat w =
+      let k = own_seat in
+      record {
+        share = share_left me.0.shares w.shares _ k.share;
+        missing = λ a b named. named_left me.0.missing w.missing a b (k.missing a b named);
+      }
 
   pub own_steps : receipts ≡ seat_steps x
   own_steps = kept.receipts_are ∙ ap (steps_of x.thread) notes
 
 -- the seat at the end of a list of seats
-pub last_seat : {V : Type 0} (round : TableId) (t : ℕ) (rest : List (Seated V)) (x : Seated V) (done : List (Seated V)) → AreSeats round t (rest ++ x ∷ done) → x.round ≡ round
+pub last_seat : {V : Type 0} (round : TableId) (t : ℕ) (rest : List (Seated V)) (x : Seated V) (done : List (Seated V))
+    → AreSeats round t (rest ++ x ∷ done) → x.round ≡ round
 last_seat round t [] x done are = are.1
 last_seat round t (y ∷ rest) x done are = last_seat round (t + 1) rest x done are.3
 

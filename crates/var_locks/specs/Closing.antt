@@ -64,24 +64,29 @@ FoundMissing [] u k = ⊥
 FoundMissing (x ∷ others) u k = IsNamed u k x.missing ⊎ FoundMissing others u k
 
 -- The receipts weave into a legal continuation, for which the master stands.
-pub record Weaves {V : Type 0} (m : Meaning V) (inputs : ℕ → List Packet) (threads : ℕ) (moves : List PlainMove) (past : List (Step V)) (rs : Receipts V) (q : Mastered V) : Type 0 where
+pub record Weaves {V : Type 0} (m : Meaning V) (inputs : ℕ → List Packet) (threads : ℕ) (moves : List PlainMove)
+    (past : List (Step V)) (rs : Receipts V) (q : Mastered V) : Type 0 where
   pub linked : IsLinked m inputs threads past rs
   pub order : List (Receipt V)
   pub woven : IsWoven rs order
   pub goes_on : GoesOn m inputs threads moves past order
   pub stands : Stands m threads (after order past) q
 
--- Of each legal list of moves that the opening master p stands for, with inputs that have the packets that were passed: what the
--- seats did weaves into a continuation of it for which q stands; and no entry that a seat found missing is in either.
-pub record Closes {V : Type 0} (m : Meaning V) (guide : List Lane) (p : Mastered V) (seats : List (Seated V)) (q : Mastered V) (inputs : ℕ → List Packet) (moves : List PlainMove) (past : List (Step V)) : Type 0 where
+-- Of each legal list of moves that the opening master p stands for, with inputs that have the packets that were passed:
+-- what the seats did weaves into a continuation of it for which q stands; and no entry that a seat found missing is in
+-- either.
+pub record Closes {V : Type 0} (m : Meaning V) (guide : List Lane) (p : Mastered V) (seats : List (Seated V))
+    (q : Mastered V) (inputs : ℕ → List Packet) (moves : List PlainMove) (past : List (Step V)) : Type 0 where
   pub weaves : Weaves m inputs (length p.threads) moves past (receipts_of m past seats) q
   pub missing : (u k : ℕ) (what : What) (stamp : ℕ → ℕ) → FoundMissing seats u k → Follows guide u k what
       → IsKnown past (receipts_of m past seats) (record { thread = u; number = k; what = what }) stamp → ⊥
 
 -- However the threads ran.
-pub record IsClosed {V : Type 0} (m : Meaning V) (fits : ℕ → V → Type 0) (guide : List Lane) (p : Mastered V) (seats : List (Seated V)) (q : Mastered V) : Type 0 where
+pub record IsClosed {V : Type 0} (m : Meaning V) (fits : ℕ → V → Type 0) (guide : List Lane) (p : Mastered V)
+    (seats : List (Seated V)) (q : Mastered V) : Type 0 where
   pub bounded : IsBounded q.vars q.threads
   pub fit : FitsProgram m fits value_of q.vars
   pub threads : q.threads ≡ map seat_part seats
-  pub closes : (inputs : ℕ → List Packet) (moves : List PlainMove) (past : List (Step V)) → play m inputs (length p.threads) moves ≡ Ok past → Stands m (length p.threads) past p → AreAllFed inputs seats
+  pub closes : (inputs : ℕ → List Packet) (moves : List PlainMove) (past : List (Step V))
+      → play m inputs (length p.threads) moves ≡ Ok past → Stands m (length p.threads) past p → AreAllFed inputs seats
       → Closes m guide p seats q inputs moves past

@@ -1,6 +1,7 @@
--- What a note tells of the move of a thread: what it did to the part of its thread and to what it found, the receipt that it is in
--- a run, and how it keeps to what is followed.
-use Rattle.std.specs.Prelude.{◌≡◌, ℕ, ◌+◌, ◌-◌, ◌⊎◌, Bool, true, false, List, [], ◌∷◌, ◌++◌, Option, Some, None, cond, is_some, slice_get}
+-- What a note tells of the move of a thread: what it did to the part of its thread and to what it found, the receipt
+-- that it is in a run, and how it keeps to what is followed.
+use Rattle.std.specs.Prelude.{◌≡◌, ℕ, ◌+◌, ◌-◌, ◌⊎◌, Bool, true, false, List, [], ◌∷◌, ◌++◌, Option, Some, None, cond}
+use Rattle.std.specs.Prelude.{is_some, slice_get}
 use Rattle.plain_text.specs.declared.packet.Packet.{Packet}
 use Rattle.entry_order.specs.declared.what.What.{What}
 use Rattle.entry_order.specs.declared.what.What.TheVariants as what
@@ -20,7 +21,8 @@ use Rattle.master_core.specs.Effects.{TouchesParts, ReadsParts, HearsPart, after
 use Rattle.replay_guide.specs.Following.{recorded}
 use Rattle.replay_guide.specs.Turns.{IsFollowed, IsFree}
 use Rattle.round_order.specs.Receipts.{Receipt, after}
-use Rattle.round_order.specs.PartMoves.{take_receipt, emit_receipt, end_receipt, hear_receipt, touch_receipt, read_receipt}
+use Rattle.round_order.specs.PartMoves.{take_receipt, emit_receipt, end_receipt, hear_receipt, touch_receipt}
+use Rattle.round_order.specs.PartMoves.{read_receipt}
 use Rattle.var_locks.specs.declared.view.Note.{Note}
 
 -- the note of a move on no variable
@@ -30,7 +32,8 @@ own_note before after tr packet = record { before = before; after = after; trace
 -- What the move did
 
 -- Thread t was told this answer, which the entry has.
-pub record IsHearing {V : Type 0} (m : Meaning V) (t : ℕ) (n : Note V) (e : StampedEntry) (what : What) (answer : ℕ) (place : Local) : Type 0 where
+pub record IsHearing {V : Type 0} (m : Meaning V) (t : ℕ) (n : Note V) (e : StampedEntry) (what : What) (answer : ℕ)
+    (place : Local) : Type 0 where
   pub hand : n.before.hand ≡ Some place
   pub hears : HearsPart m t what answer place n.before e n.after
 
@@ -38,8 +41,10 @@ pub record IsHearing {V : Type 0} (m : Meaning V) (t : ℕ) (n : Note V) (e : St
 abbrev pub IsOwnEntry : {V : Type 0} → Meaning V → ℕ → Note V → StampedEntry → What → Type 0
 IsOwnEntry m t n e (what.Access v s) = ⊥
 IsOwnEntry m t n e (what.Read v s) = ⊥
-IsOwnEntry m t n e (what.Clock a) = (place : Local) × (m.next place ≡ move.Clock) × IsHearing m t n e (what.Clock a) a place
-IsOwnEntry m t n e (what.Draw a) = (place : Local) × (m.next place ≡ move.Draw) × IsHearing m t n e (what.Draw a) a place
+IsOwnEntry m t n e (what.Clock a) =
+    (place : Local) × (m.next place ≡ move.Clock) × IsHearing m t n e (what.Clock a) a place
+IsOwnEntry m t n e (what.Draw a) =
+    (place : Local) × (m.next place ≡ move.Draw) × IsHearing m t n e (what.Draw a) a place
 
 -- the thread took the packet that was passed
 pub record IsTaking {V : Type 0} (m : Meaning V) (n : Note V) (k : ℕ) (packet : Packet) : Type 0 where
@@ -73,7 +78,8 @@ abbrev pub IsOwn : {V : Type 0} → Meaning V → ℕ → Note V → Type 0
 IsOwn m t n = IsOwnBy m t n n.trace
 
 -- The note is of a touch of variable v, or of a read of it, that found x there and left y.
-pub record IsOnVariable {V : Type 0} (m : Meaning V) (t v : ℕ) (n : Note V) (x y : VarPart V) (place : Local) (e : StampedEntry) : Type 0 where
+pub record IsOnVariable {V : Type 0} (m : Meaning V) (t v : ℕ) (n : Note V) (x y : VarPart V) (place : Local)
+    (e : StampedEntry) : Type 0 where
   pub hand : n.before.hand ≡ Some place
   pub found : n.found ≡ Some x
   pub trace : n.trace ≡ trace.Did e
@@ -100,10 +106,14 @@ found_or m None = record { value = m.fresh 0; places = 0; stamp = []; readers = 
 found_or m (Some x) = x
 
 abbrev pub entry_receipt : {V : Type 0} → Meaning V → ℕ → Packet → Note V → StampedEntry → What → Receipt V
-entry_receipt m t packet n e (what.Access v s) = touch_receipt m t n.before packet (place_or n.before.hand) v (found_or m n.found) e.stamp
-entry_receipt m t packet n e (what.Read v s) = read_receipt m t n.before packet (place_or n.before.hand) v (found_or m n.found) e.stamp
-entry_receipt m t packet n e (what.Clock a) = hear_receipt m t n.before packet (place_or n.before.hand) (what.Clock a) a e.stamp
-entry_receipt m t packet n e (what.Draw a) = hear_receipt m t n.before packet (place_or n.before.hand) (what.Draw a) a e.stamp
+entry_receipt m t packet n e (what.Access v s) =
+    touch_receipt m t n.before packet (place_or n.before.hand) v (found_or m n.found) e.stamp
+entry_receipt m t packet n e (what.Read v s) =
+    read_receipt m t n.before packet (place_or n.before.hand) v (found_or m n.found) e.stamp
+entry_receipt m t packet n e (what.Clock a) =
+    hear_receipt m t n.before packet (place_or n.before.hand) (what.Clock a) a e.stamp
+entry_receipt m t packet n e (what.Draw a) =
+    hear_receipt m t n.before packet (place_or n.before.hand) (what.Draw a) a e.stamp
 
 abbrev pub receipt_by : {V : Type 0} → Meaning V → ℕ → Packet → Note V → Trace → Receipt V
 receipt_by m t packet n (trace.Took k) = take_receipt m t n.before (packet_or n.packet)
@@ -118,7 +128,8 @@ read_note m t hand n = receipt_by m t (packet_in hand) n n.trace
 -- the receipts that the notes of thread t are after a history, newest first
 abbrev pub read_notes : {V : Type 0} → Meaning V → List (Step V) → ℕ → List (Note V) → List (Receipt V)
 read_notes m past t [] = []
-read_notes m past t (n ∷ notes) = read_note m t (thread_after (after (read_notes m past t notes) past) t).hand n ∷ read_notes m past t notes
+read_notes m past t (n ∷ notes) =
+    read_note m t (thread_after (after (read_notes m past t notes) past) t).hand n ∷ read_notes m past t notes
 
 -- What was passed
 
@@ -129,17 +140,22 @@ input_number part = cond (is_some part.hand) (part.counts.taken - 1) part.counts
 -- each packet that was passed is the input with that number
 abbrev pub AreFed : {V : Type 0} → List Packet → List (Note V) → Type 0
 AreFed packets [] = Unit {0}
-AreFed packets (n ∷ notes) = ((packet : Packet) → n.packet ≡ Some packet → slice_get packets (input_number n.before) ≡ Some packet) × AreFed packets notes
+AreFed packets (n ∷ notes) =
+    ((packet : Packet) → n.packet ≡ Some packet → slice_get packets (input_number n.before) ≡ Some packet)
+    × AreFed packets notes
 
 -- How it keeps to what is followed
 
--- the guide lets a touch or a read pass, where the variable was touched so often and this is the join of its reads since
+-- the guide lets a touch or a read pass, where the variable was touched so often and this is the join of its reads
+-- since
 abbrev pub LetsPass : List Lane → ℕ → ℕ → ℕ → Bool → ℕ → List ℕ → Type 0
-LetsPass guide t number v read places readers = IsFollowed guide t number v read places readers ⊎ IsFree guide t number v read places readers
+LetsPass guide t number v read places readers =
+    IsFollowed guide t number v read places readers ⊎ IsFree guide t number v read places readers
 
 -- the move on a variable did not have to wait
 abbrev pub InTurn : {V : Type 0} → List Lane → ℕ → ℕ → ℕ → Bool → Option (VarPart V) → Type 0
-InTurn {V} guide t number v read found = (x : VarPart V) → found ≡ Some x → LetsPass guide t number v read x.places x.readers
+InTurn {V} guide t number v read found =
+    (x : VarPart V) → found ≡ Some x → LetsPass guide t number v read x.places x.readers
 
 -- the answer is the recorded one, where one is
 abbrev pub IsRecorded : List Lane → ℕ → ℕ → ℕ → Type 0
@@ -157,8 +173,8 @@ IsGuidedBy guide t n (trace.Did e) = IsGuidedEntry guide t n e.number e.what
 IsGuidedBy guide t n (trace.Emitted k) = Unit {0}
 IsGuidedBy guide t n (trace.Ended k) = Unit {0}
 
--- Where the note is of a touch or a read, the guide did not say to wait at what it found; where it is of a followed clock or draw, its
--- answer is the recorded one.
+-- Where the note is of a touch or a read, the guide did not say to wait at what it found; where it is of a followed
+-- clock or draw, its answer is the recorded one.
 abbrev pub IsGuided : {V : Type 0} → List Lane → ℕ → Note V → Type 0
 IsGuided guide t n = IsGuidedBy guide t n n.trace
 

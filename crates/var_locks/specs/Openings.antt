@@ -26,7 +26,8 @@ rest_view t parts places = record { shares = fresh_shares t parts; hand = None; 
 
 -- the seat of a thread that did nothing in the round
 abbrev pub fresh_seat : {V : Type 0} → TableId → List ℕ → ℕ → ThreadPart → Seated V
-fresh_seat round places t part = record { thread = t; part = part; notes = []; seen = places; missing = []; ended = false; round = round }
+fresh_seat round places t part =
+    record { thread = t; part = part; notes = []; seen = places; missing = []; ended = false; round = round }
 
 abbrev pub fresh_seats : {V : Type 0} → TableId → List ℕ → ℕ → List ThreadPart → List (Seated V)
 fresh_seats round places t [] = []

@@ -20,15 +20,19 @@ use Rattle.var_locks.specs.Seats.{Seated, HasMade}
 
 -- the output is the thread's next one, made of the packet in hand, which was passed
 abbrev pub IsSent : {V : Type 0} → Meaning V → ℕ → ThreadPart → Option Packet → Output → Type 0
-IsSent m t part input o = (packet : Packet) × (place : Local) × (input ≡ Some packet) × (part.hand ≡ Some place) × (o ≡ next_output t part packet (m.out packet place))
+IsSent m t part input o =
+    (packet : Packet) × (place : Local) × (input ≡ Some packet) × (part.hand ≡ Some place)
+    × (o ≡ next_output t part packet (m.out packet place))
 
 -- where no answer is recorded, the thread was told this one
 abbrev pub IsOwnAnswer : List Lane → ℕ → ℕ → StampedEntry → Type 0
-IsOwnAnswer guide t answer e = recorded (entry_at (lane guide t) e.number) ≡ None → answer_in (trace.Did e) ≡ Some answer
+IsOwnAnswer guide t answer e =
+    recorded (entry_at (lane guide t) e.number) ≡ None → answer_in (trace.Did e) ≡ Some answer
 
 -- the entry of a clock or a draw, for which the thread asks here, has this answer
 abbrev pub IsAsked : {V : Type 0} → Meaning V → Local → What → ℕ → Type 0
-IsAsked m place w told = ((m.next place ≡ move.Clock) × (w ≡ what.Clock told)) ⊎ ((m.next place ≡ move.Draw) × (w ≡ what.Draw told))
+IsAsked m place w told =
+    ((m.next place ≡ move.Clock) × (w ≡ what.Clock told)) ⊎ ((m.next place ≡ move.Draw) × (w ≡ what.Draw told))
 
 -- where no answer is recorded of this entry, the thread is told this one
 abbrev pub IsFree : List Lane → ℕ → ℕ → ℕ → ℕ → Type 0
@@ -37,8 +41,10 @@ IsFree guide t number told answer = recorded (entry_at (lane guide t) number) �
 -- What a move comes to
 abbrev pub Steps : {V : Type 0} → Meaning V → List Lane → Seated V → ℕ → Option Packet → Seated V → Stepped → Type 0
 Steps m guide old answer input new (stepped.Took k) = HasMade m guide old (trace.Took k) input new
-Steps m guide old answer input new (stepped.Did e) = HasMade m guide old (trace.Did e) input new × IsOwnAnswer guide old.thread answer e
-Steps m guide old answer input new (stepped.Emitted o) = HasMade m guide old (trace.Emitted o.number) input new × IsSent m old.thread old.part input o
+Steps m guide old answer input new (stepped.Did e) =
+    HasMade m guide old (trace.Did e) input new × IsOwnAnswer guide old.thread answer e
+Steps m guide old answer input new (stepped.Emitted o) =
+    HasMade m guide old (trace.Emitted o.number) input new × IsSent m old.thread old.part input o
 Steps m guide old answer input new (stepped.Ended k) = HasMade m guide old (trace.Ended k) input new
 Steps m guide old answer input new stepped.Idle = (new ≡ old) × (old.part.hand ≡ None) × (input ≡ None)
 Steps m guide old answer input new (stepped.NotTurn u n) = ⊥

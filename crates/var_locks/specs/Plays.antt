@@ -8,25 +8,33 @@ use Rattle.var_locks.specs.declared.view.Note.{Note}
 use Rattle.var_locks.specs.declared.view.View.{View}
 use Rattle.var_locks.specs.Views.{with_hand, empty_hand, noted_view, missed_view, ended_view}
 
--- What a seat finds of a variable: no fewer touches than it saw, twice their number in the word, and a value that the program knows.
-pub record Finds {P V : Type 0} (fits : P → ℕ → V → Type 0) (c : Coded P) (program : Gv) (w : View V) (v word : ℕ) (x : VarPart V) : Type 0 where
+-- What a seat finds of a variable: no fewer touches than it saw, twice their number in the word, and a value that the
+-- program knows.
+pub record Finds {P V : Type 0} (fits : P → ℕ → V → Type 0) (c : Coded P) (program : Gv) (w : View V) (v word : ℕ)
+    (x : VarPart V) : Type 0 where
   pub word_is : x.places + x.places ≡ word
   pub few : x.places ≤ 2 ^ 60
   pub seen : slice_index w.seen v ≤ x.places
   pub fit : (q : P) → c.code q ≡ program → fits q v x.value
 
 -- where the word was as it was seen, the variable is in hand
-abbrev pub Takes : {P V : Type 0} → (P → ℕ → V → Type 0) → Coded P → Gv → Step (VarPart V) → Me (VarPart V) (View V) → ℕ → Me (VarPart V) (View V) → Type 0
+abbrev pub Takes : {P V : Type 0} → (P → ℕ → V → Type 0) → Coded P → Gv → Step (VarPart V) → Me (VarPart V) (View V) → ℕ
+    → Me (VarPart V) (View V) → Type 0
 Takes {P} {V} fits c program st me found now =
-    (found ≡ st.first → (x : VarPart V) × Finds fits c program me.0 st.word found x × (now ≡ (with_hand me.0 st.word x, (st.word, x) ∷ me.1)))
+    (found ≡ st.first
+    → (x : VarPart V)
+    × Finds fits c program me.0 st.word found x
+    × (now ≡ (with_hand me.0 st.word x, (st.word, x) ∷ me.1)))
     × (found ≢ st.first → now ≡ me)
 
 -- the note of this code is noted, and the slots stay
-abbrev pub Notes : {V : Type 0} → Coded (Note V) → Gv → Step (VarPart V) → Me (VarPart V) (View V) → ℕ → Me (VarPart V) (View V) → Type 0
+abbrev pub Notes : {V : Type 0} → Coded (Note V) → Gv → Step (VarPart V) → Me (VarPart V) (View V) → ℕ
+    → Me (VarPart V) (View V) → Type 0
 Notes {V} c note st me found now = (n : Note V) × (c.code n ≡ note) × (now ≡ (noted_view me.0 n, me.1))
 
 -- it is noted, and the slot taken last is at home
-abbrev pub Brings : {V : Type 0} → Coded (Note V) → Gv → Step (VarPart V) → Me (VarPart V) (View V) → ℕ → Me (VarPart V) (View V) → Type 0
+abbrev pub Brings : {V : Type 0} → Coded (Note V) → Gv → Step (VarPart V) → Me (VarPart V) (View V) → ℕ
+    → Me (VarPart V) (View V) → Type 0
 Brings {V} c note st me found now = (n : Note V) × (c.code n ≡ note) × (now ≡ (noted_view me.0 n, rest me.1))
 
 -- the slot taken last is at home
@@ -34,7 +42,8 @@ abbrev pub Gives : {V : Type 0} → Step (VarPart V) → Me (VarPart V) (View V)
 Gives st me found now = now ≡ (empty_hand me.0, rest me.1)
 
 -- where the word was 1, entry (u, k) is missing
-abbrev pub Misses : {V : Type 0} → ℕ → ℕ → Step (VarPart V) → Me (VarPart V) (View V) → ℕ → Me (VarPart V) (View V) → Type 0
+abbrev pub Misses : {V : Type 0} → ℕ → ℕ → Step (VarPart V) → Me (VarPart V) (View V) → ℕ
+    → Me (VarPart V) (View V) → Type 0
 Misses u k st me found now = (found ≡ 1 → now ≡ (missed_view me.0 u k, me.1)) × (found ≢ 1 → now ≡ me)
 
 abbrev pub Ends : {V : Type 0} → Step (VarPart V) → Me (VarPart V) (View V) → ℕ → Me (VarPart V) (View V) → Type 0

@@ -21,7 +21,8 @@ use Rattle.var_locks.specs.Notes.{IsOwn, IsOnVariable, IsGuided}
 use Rattle.var_locks.specs.Told.{AreFirstWords, ArePlaces}
 
 -- The round is of this program, and has this number of words: one for each variable, and one for each thread.
-pub record IsRoundOf {P V : Type 0} (meaning : P → Meaning V) (c : Coded P) (d : Coded V) (program opening : Gv) (parts : List ThreadPart) (q : P) (words : ℕ) : Type 0 where
+pub record IsRoundOf {P V : Type 0} (meaning : P → Meaning V) (c : Coded P) (d : Coded V) (program opening : Gv)
+    (parts : List ThreadPart) (q : P) (words : ℕ) : Type 0 where
   pub is : c.code q ≡ program
   pub master : Mastered V
   pub opens : (master_code d).code master ≡ opening
@@ -29,7 +30,9 @@ pub record IsRoundOf {P V : Type 0} (meaning : P → Meaning V) (c : Coded P) (d
   pub words_are : words ≡ (meaning q).vars + length parts
 
 -- The master of these parts opens the round.
-pub record Opens {V : Type 0} (m : Meaning V) (fits : ℕ → V → Type 0) (d : Coded V) (opening : Gv) (threads : List ThreadPart) (places : List ℕ) (vars : List (VarPart V)) (words : List ℕ) (p : Mastered V) : Type 0 where
+pub record Opens {V : Type 0} (m : Meaning V) (fits : ℕ → V → Type 0) (d : Coded V) (opening : Gv)
+    (threads : List ThreadPart) (places : List ℕ) (vars : List (VarPart V)) (words : List ℕ)
+    (p : Mastered V) : Type 0 where
   pub code : (master_code d).code p ≡ opening
   pub vars_are : p.vars ≡ vars
   pub threads_are : p.threads ≡ threads
@@ -47,13 +50,15 @@ pub record IsNext {V : Type 0} (guide : List Lane) (w : View V) (x : Share V) (n
   pub room : moves_made n.before < 2 ^ 56
 
 -- The seat may note the move, on no variable.
-pub record MayNote {V : Type 0} (m : Meaning V) (guide : List Lane) (w : View V) (x : Share V) (n : Note V) : Type 0 where
+pub record MayNote {V : Type 0} (m : Meaning V) (guide : List Lane) (w : View V) (x : Share V)
+    (n : Note V) : Type 0 where
   pub next : IsNext guide w x n
   pub empty : w.hand ≡ None
   pub own : IsOwn m x.thread n
 
 -- The seat may bring variable v home, as y: the note is of a touch or a read of it. The word becomes this one.
-pub record MayBring {V : Type 0} (m : Meaning V) (fits : ℕ → V → Type 0) (guide : List Lane) (w : View V) (v word : ℕ) (y : VarPart V) (x : Share V) (n : Note V) (found : VarPart V) (place : Local) (e : StampedEntry) : Type 0 where
+pub record MayBring {V : Type 0} (m : Meaning V) (fits : ℕ → V → Type 0) (guide : List Lane) (w : View V) (v word : ℕ)
+    (y : VarPart V) (x : Share V) (n : Note V) (found : VarPart V) (place : Local) (e : StampedEntry) : Type 0 where
   pub next : IsNext guide w x n
   pub hand : w.hand ≡ Some (record { var = v; found = found })
   pub on : IsOnVariable m x.thread v n found y place e
@@ -65,7 +70,8 @@ abbrev pub HasInHand : {V : Type 0} → View V → ℕ → VarPart V → Type 0
 HasInHand w v x = w.hand ≡ Some (record { var = v; found = x })
 
 -- The seat has variable v in hand, and the guide says to wait for entry (u, k) there.
-pub record MayMiss {V : Type 0} (guide : List Lane) (w : View V) (v u k : ℕ) (x : VarPart V) (t n : ℕ) (read : Bool) : Type 0 where
+pub record MayMiss {V : Type 0} (guide : List Lane) (w : View V) (v u k : ℕ) (x : VarPart V) (t n : ℕ)
+    (read : Bool) : Type 0 where
   pub hand : HasInHand w v x
   pub waits : WaitsFor guide t n v read x.places x.readers u k
 
@@ -81,9 +87,11 @@ abbrev pub CanNote : {V : Type 0} → Meaning V → List Lane → View V → Not
 CanNote {V} m guide w n = (x : Share V) × MayNote m guide w x n
 
 -- it may bring variable v home with this word, by this note
-abbrev pub CanBring : {V : Type 0} → Meaning V → (ℕ → V → Type 0) → List Lane → Me (VarPart V) (View V) → ℕ → ℕ → Note V → Type 0
-CanBring {V} m fits guide me v word n = (x : Share V) × (y : VarPart V) × (found : VarPart V) × (place : Local) × (e : StampedEntry)
-    × (me.1 ≡ (v, y) ∷ []) × MayBring m fits guide me.0 v word y x n found place e
+abbrev pub CanBring : {V : Type 0} → Meaning V → (ℕ → V → Type 0) → List Lane → Me (VarPart V) (View V) → ℕ → ℕ
+    → Note V → Type 0
+CanBring {V} m fits guide me v word n =
+    (x : Share V) × (y : VarPart V) × (found : VarPart V) × (place : Local) × (e : StampedEntry) × (me.1 ≡ (v, y) ∷ [])
+    × MayBring m fits guide me.0 v word y x n found place e
 
 -- it may give variable v back with this word, as it found it
 abbrev pub CanGive : {V : Type 0} → Me (VarPart V) (View V) → ℕ → ℕ → Type 0
@@ -91,7 +99,8 @@ CanGive {V} me v word = (x : VarPart V) × HasInHand me.0 v x × (me.1 ≡ (v, x
 
 -- it may find entry (u, k) missing
 abbrev pub CanMiss : {V : Type 0} → Meaning V → List Lane → View V → ℕ → ℕ → Type 0
-CanMiss {V} m guide w u k = (v : ℕ) × (x : VarPart V) × (t : ℕ) × (n : ℕ) × (read : Bool) × (v < m.vars) × MayMiss guide w v u k x t n read
+CanMiss {V} m guide w u k =
+    (v : ℕ) × (x : VarPart V) × (t : ℕ) × (n : ℕ) × (read : Bool) × (v < m.vars) × MayMiss guide w v u k x t n read
 
 -- it may take a variable
 abbrev pub CanTake : {V : Type 0} → View V → Type 0
@@ -105,8 +114,8 @@ CanEnd {V} m w word = (x : Share V) × IsIdle w x × (word ≡ m.vars + x.thread
 abbrev pub CanSplit : {V : Type 0} → View V → Type 0
 CanSplit {V} w = (x : Share V) × (others : List (Share V)) × (w.shares ≡ x ∷ others) × (w.hand ≡ None)
 
--- What is seen of the variables of a round: the codes of its program and of its opening master, with the parts of the threads in this
--- master; the table of its words and slots; and how many variables and threads it has.
+-- What is seen of the variables of a round: the codes of its program and of its opening master, with the parts of the
+-- threads in this master; the table of its words and slots; and how many variables and threads it has.
 pub record Opened : Type 0 where
   pub program : Gv
   pub opening : Gv
@@ -116,7 +125,8 @@ pub record Opened : Type 0 where
   pub threads : ℕ
 
 -- These are the variables of a round of this program.
-pub record AreVarsOf {P V : Type 0} (meaning : P → Meaning V) (c : Coded P) (d : Coded V) (q : P) (x : Opened) : Type 0 where
+pub record AreVarsOf {P V : Type 0} (meaning : P → Meaning V) (c : Coded P) (d : Coded V) (q : P)
+    (x : Opened) : Type 0 where
   pub of : IsRoundOf meaning c d x.program x.opening x.parts q x.round.words
   pub slots_are : x.round.slots ≡ x.vars
   pub vars_are : x.vars ≡ (meaning q).vars

@@ -16,8 +16,9 @@ use Rattle.var_locks.specs.declared.view.View.{View}
 use Rattle.var_locks.specs.Notes.{IsOwn, IsGuided, own_note, steps_of}
 use Rattle.var_locks.specs.Rounds.{Opened}
 
--- Its thread, with the part that it has now and the notes of its moves in the round, newest first; of each variable, as often as the
--- seat saw it touched; the followed entries that it found missing; whether it ended; and the round that it is of.
+-- Its thread, with the part that it has now and the notes of its moves in the round, newest first; of each variable, as
+-- often as the seat saw it touched; the followed entries that it found missing; whether it ended; and the round that it
+-- is of.
 pub record Seated (V : Type 0) : Type 0 where
   pub thread : ℕ
   pub part : ThreadPart
@@ -40,9 +41,10 @@ pub record IsCounted (part : ThreadPart) : Type 0 where
   pub held : in_hand_count part.hand ≤ part.counts.taken
   pub made : moves_made part ≤ 2 ^ 56
 
--- The seat's token has its one thread, nothing in hand, and has seen what the seat keeps; and the seat keeps what the moves left, with
--- counts that are within their bounds.
-pub record IsKept {V : Type 0} (me : Me (VarPart V) (View V)) (thread : ℕ) (part : ThreadPart) (seen : List ℕ) (receipts : List WovenStep) (ended : Bool) : Type 0 where
+-- The seat's token has its one thread, nothing in hand, and has seen what the seat keeps; and the seat keeps what the
+-- moves left, with counts that are within their bounds.
+pub record IsKept {V : Type 0} (me : Me (VarPart V) (View V)) (thread : ℕ) (part : ThreadPart) (seen : List ℕ)
+    (receipts : List WovenStep) (ended : Bool) : Type 0 where
   pub alone : me.0.shares ≡ share_of me.0 thread part ended ∷ []
   pub empty : me.0.hand ≡ None
   pub slots : me.1 ≡ []
@@ -62,7 +64,16 @@ pub record MayMove {V : Type 0} (vars : Opened) (x : Seated V) : Type 0 where
   pub room : moves_made x.part < 2 ^ 56
 
 -- The seat made this move, on no variable: its part is what the move left, and it has one more note.
-pub record HasMade {V : Type 0} (m : Meaning V) (guide : List Lane) (old : Seated V) (tr : Trace) (packet : Option Packet) (new : Seated V) : Type 0 where
+pub record HasMade {V : Type 0} (m : Meaning V) (guide : List Lane) (old : Seated V) (tr : Trace)
+    (packet : Option Packet) (new : Seated V) : Type 0 where
   pub own : IsOwn {V = V} m old.thread (own_note old.part new.part tr packet)
   pub guided : IsGuided {V = V} guide old.thread (own_note old.part new.part tr packet)
-  pub seat : new ≡ record { thread = old.thread; part = new.part; notes = own_note old.part new.part tr packet ∷ old.notes; seen = old.seen; missing = old.missing; ended = old.ended; round = old.round }
+  pub seat : new ≡ record {
+    thread = old.thread;
+    part = new.part;
+    notes = own_note old.part new.part tr packet ∷ old.notes;
+    seen = old.seen;
+    missing = old.missing;
+    ended = old.ended;
+    round = old.round;
+  }

@@ -1,5 +1,6 @@
 -- What a touch or a read does to what a seat has in hand.
-use Rattle.std.specs.Prelude.{◌≡◌, ℕ, ◌+◌, ◌<◌, ◌≤◌, ◌^◌, Bool, true, false, List, [], ◌∷◌, ◌++◌, Option, Some, None, slice_index}
+use Rattle.std.specs.Prelude.{◌≡◌, ℕ, ◌+◌, ◌<◌, ◌≤◌, ◌^◌, Bool, true, false, List, [], ◌∷◌, ◌++◌, Option, Some, None}
+use Rattle.std.specs.Prelude.{slice_index}
 use base.Stored.{Gv}
 use Rattle.std.specs.Coded.{Coded}
 use Rattle.access_log.specs.Held.{Lane}
@@ -31,7 +32,8 @@ abbrev pub wanted_move : ℕ → Bool → Move
 wanted_move v true = move.Read v
 wanted_move v false = move.Access v
 
-abbrev pub WorksBy : {V : Type 0} → Meaning V → ℕ → ℕ → Bool → Local → ThreadPart → ThreadPart → StampedEntry → VarPart V → VarPart V → Type 0
+abbrev pub WorksBy : {V : Type 0} → Meaning V → ℕ → ℕ → Bool → Local → ThreadPart → ThreadPart → StampedEntry
+    → VarPart V → VarPart V → Type 0
 WorksBy m t v true place before after e x y = ReadsParts m t v place before x e after y
 WorksBy m t v false place before after e x y = TouchesParts m t v place before x e after y
 
@@ -47,8 +49,10 @@ abbrev pub HasSlot : {V : Type 0} → (ℕ → V → Type 0) → ℕ → Me (Var
 HasSlot {V} fits v me = (x : VarPart V) × (me.1 ≡ (v, x) ∷ []) × (x.places ≤ 2 ^ 60) × fits v x.value
 
 -- it has in hand what the touch or the read left of the variable
-abbrev pub Works : {V : Type 0} → Meaning V → Access → ThreadPart → ThreadPart → StampedEntry → VarPart V → List (ℕ × VarPart V) → Type 0
-Works {V} m a before after e x slots = (y : VarPart V) × (slots ≡ (a.var, y) ∷ []) × WorksBy m a.thread a.var a.read a.place before after e x y
+abbrev pub Works : {V : Type 0} → Meaning V → Access → ThreadPart → ThreadPart → StampedEntry → VarPart V
+    → List (ℕ × VarPart V) → Type 0
+Works {V} m a before after e x slots =
+    (y : VarPart V) × (slots ≡ (a.var, y) ∷ []) × WorksBy m a.thread a.var a.read a.place before after e x y
 
 -- the word that a touch brings home, or a read
 abbrev pub next_word : ℕ → Bool → ℕ
@@ -70,13 +74,15 @@ pub record HasThread {V : Type 0} (me : Me (VarPart V) (View V)) (thread : ℕ) 
   pub slots : me.1 ≡ []
 
 -- It has the variable in hand as it found it, with its thread.
-pub record HasTaken {P V : Type 0} (fits : P → ℕ → V → Type 0) (c : Coded P) (program : Gv) (a : Access) (word : ℕ) (part : ThreadPart) (me : Me (VarPart V) (View V)) (x : VarPart V) : Type 0 where
+pub record HasTaken {P V : Type 0} (fits : P → ℕ → V → Type 0) (c : Coded P) (program : Gv) (a : Access) (word : ℕ)
+    (part : ThreadPart) (me : Me (VarPart V) (View V)) (x : VarPart V) : Type 0 where
   pub before : View V
   pub finds : Finds fits c program before a.var word x
   pub token : me ≡ (with_hand before a.var x, (a.var, x) ∷ [])
   pub alone : before.shares ≡ share_of before a.thread part false ∷ []
 
-abbrev pub IsTaken : {P V : Type 0} → (P → ℕ → V → Type 0) → Coded P → Gv → Access → ℕ → ThreadPart → Me (VarPart V) (View V) → Type 0
+abbrev pub IsTaken : {P V : Type 0} → (P → ℕ → V → Type 0) → Coded P → Gv → Access → ℕ → ThreadPart
+    → Me (VarPart V) (View V) → Type 0
 IsTaken {P} {V} fits c program a word part me = (x : VarPart V) × HasTaken fits c program a word part me x
 
 -- the guide lets it pass at what it found
@@ -84,23 +90,32 @@ abbrev pub MayGo : {V : Type 0} → List Lane → ℕ → ℕ → ℕ → Bool �
 MayGo guide t n v read x = LetsPass guide t n v read x.places x.readers
 
 -- it has taken the variable, and need not wait
-abbrev pub MayWork : {P V : Type 0} → (P → ℕ → V → Type 0) → Coded P → Gv → List Lane → Access → ℕ → ThreadPart → Me (VarPart V) (View V) → Type 0
-MayWork {P} {V} fits c program guide a word part me = (x : VarPart V) × HasTaken fits c program a word part me x × MayGo guide a.thread (part.counts.entries + 1) a.var a.read x
+abbrev pub MayWork : {P V : Type 0} → (P → ℕ → V → Type 0) → Coded P → Gv → List Lane → Access → ℕ → ThreadPart
+    → Me (VarPart V) (View V) → Type 0
+MayWork {P} {V} fits c program guide a word part me =
+    (x : VarPart V)
+    × HasTaken fits c program a word part me x
+    × MayGo guide a.thread (part.counts.entries + 1) a.var a.read x
 
 -- it has variable v in hand as it found it, and the guide says to wait for entry (u, k) there
 abbrev pub MustWait : {V : Type 0} → List Lane → ℕ → ℕ → ℕ → ℕ → Me (VarPart V) (View V) → Type 0
-MustWait {V} guide v word u k me = (x : VarPart V) × (t : ℕ) × (n : ℕ) × (read : Bool) × MayMiss guide me.0 v u k x t n read × (me.1 ≡ (v, x) ∷ []) × (word ≡ x.places + x.places)
+MustWait {V} guide v word u k me =
+    (x : VarPart V) × (t : ℕ) × (n : ℕ) × (read : Bool) × MayMiss guide me.0 v u k x t n read × (me.1 ≡ (v, x) ∷ [])
+    × (word ≡ x.places + x.places)
 
 -- It touched or read what it had in hand, which is at home again, and noted the move.
-pub record MadeOn {V : Type 0} (m : Meaning V) (guide : List Lane) (a : Access) (before after : ThreadPart) (old new : Me (VarPart V) (View V)) (e : StampedEntry) (x : VarPart V) : Type 0 where
+pub record MadeOn {V : Type 0} (m : Meaning V) (guide : List Lane) (a : Access) (before after : ThreadPart)
+    (old new : Me (VarPart V) (View V)) (e : StampedEntry) (x : VarPart V) : Type 0 where
   pub left : VarPart V
   pub place : Local
   pub on : IsOnVariable m a.thread a.var (note_on before after (trace.Did e) old.0) x left place e
   pub guided : IsGuided guide a.thread (note_on before after (trace.Did e) old.0)
   pub token : new ≡ (noted_view old.0 (note_on before after (trace.Did e) old.0), [])
 
-abbrev pub MadeBy : {V : Type 0} → Meaning V → List Lane → Access → ThreadPart → ThreadPart → Me (VarPart V) (View V) → Me (VarPart V) (View V) → StampedEntry → Type 0
-MadeBy {V} m guide a before after old new e = (x : VarPart V) × (old.1 ≡ (a.var, x) ∷ []) × MadeOn m guide a before after old new e x
+abbrev pub MadeBy : {V : Type 0} → Meaning V → List Lane → Access → ThreadPart → ThreadPart → Me (VarPart V) (View V)
+    → Me (VarPart V) (View V) → StampedEntry → Type 0
+MadeBy {V} m guide a before after old new e =
+    (x : VarPart V) × (old.1 ≡ (a.var, x) ∷ []) × MadeOn m guide a before after old new e x
 
 -- What came of a touch or a read
 
@@ -110,37 +125,67 @@ pub record MadeNone {V : Type 0} (old new : Me (VarPart V) (View V)) (before aft
   pub part : after ≡ before
 
 -- and it found an entry missing
-pub record MadeMissed {V : Type 0} (u k : ℕ) (old new : Me (VarPart V) (View V)) (before after : ThreadPart) : Type 0 where
+pub record MadeMissed {V : Type 0} (u k : ℕ) (old new : Me (VarPart V) (View V))
+    (before after : ThreadPart) : Type 0 where
   pub token : new ≡ (empty_hand (missed_view old.0 u k), [])
   pub part : after ≡ before
 
 -- of a seat that had taken the variable
-abbrev pub Comes : {V : Type 0} → Meaning V → List Lane → Access → ThreadPart → ThreadPart → Me (VarPart V) (View V) → Me (VarPart V) (View V) → Touched → Type 0
+abbrev pub Comes : {V : Type 0} → Meaning V → List Lane → Access → ThreadPart → ThreadPart → Me (VarPart V) (View V)
+    → Me (VarPart V) (View V) → Touched → Type 0
 Comes m guide a before after old new (touched.Did e) = MadeBy m guide a before after old new e
 Comes m guide a before after old new (touched.Blocked u k) = MadeMissed u k old new before after
 Comes m guide a before after old new touched.NoMemory = MadeNone old new before after
 
 -- of a seat that found no fewer touches of it than it had seen, and took it
-abbrev pub ComesOf : {V : Type 0} → Meaning V → List Lane → Access → ThreadPart → ThreadPart → Me (VarPart V) (View V) → Me (VarPart V) (View V) → Touched → Type 0
-ComesOf {V} m guide a before after old new r = (x : VarPart V) × (slice_index old.0.seen a.var ≤ x.places) × Comes m guide a before after (with_hand old.0 a.var x, (a.var, x) ∷ []) new r
+abbrev pub ComesOf : {V : Type 0} → Meaning V → List Lane → Access → ThreadPart → ThreadPart → Me (VarPart V) (View V)
+    → Me (VarPart V) (View V) → Touched → Type 0
+ComesOf {V} m guide a before after old new r =
+    (x : VarPart V)
+    × (slice_index old.0.seen a.var ≤ x.places)
+    × Comes m guide a before after (with_hand old.0 a.var x, (a.var, x) ∷ []) new r
 
 -- What a touch or a read came to, of a seat
 
--- The seat touched variable v, or read it, and found x: it has one more note, and saw as many touches as the entry says.
-pub record HasTouched {V : Type 0} (m : Meaning V) (guide : List Lane) (old : Seated V) (e : StampedEntry) (new : Seated V) : Type 0 where
+-- The seat touched variable v, or read it, and found x: it has one more note, and saw as many touches as the entry
+-- says.
+pub record HasTouched {V : Type 0} (m : Meaning V) (guide : List Lane) (old : Seated V) (e : StampedEntry)
+    (new : Seated V) : Type 0 where
   pub var : ℕ
   pub found : VarPart V
   pub left : VarPart V
   pub place : Local
-  pub on : IsOnVariable m old.thread var (record { before = old.part; after = new.part; trace = trace.Did e; packet = None; found = Some found }) found left place e
-  pub guided : IsGuided guide old.thread (record { before = old.part; after = new.part; trace = trace.Did e; packet = None; found = Some found })
+  pub on : IsOnVariable m old.thread var
+      (record { before = old.part; after = new.part; trace = trace.Did e; packet = None; found = Some found }) found
+      left place e
+  pub guided : IsGuided guide old.thread
+      (record { before = old.part; after = new.part; trace = trace.Did e; packet = None; found = Some found })
   -- its place is above all that the seat had seen
   pub above : slice_index old.seen var ≤ found.places
-  pub seat : new ≡ record { thread = old.thread; part = new.part; notes = record { before = old.part; after = new.part; trace = trace.Did e; packet = None; found = Some found } ∷ old.notes; seen = sees_what old.seen e.what; missing = old.missing; ended = old.ended; round = old.round }
+  pub seat : new ≡ record {
+    thread = old.thread;
+    part = new.part;
+    notes =
+        record { before = old.part; after = new.part; trace = trace.Did e; packet = None; found = Some found }
+        ∷ old.notes;
+    seen = sees_what old.seen e.what;
+    missing = old.missing;
+    ended = old.ended;
+    round = old.round;
+  }
 
 abbrev pub Touches : {V : Type 0} → Meaning V → List Lane → Seated V → Seated V → Touched → Type 0
 Touches m guide old new (touched.Did e) = HasTouched m guide old e new
-Touches m guide old new (touched.Blocked u k) = new ≡ record { thread = old.thread; part = old.part; notes = old.notes; seen = old.seen; missing = (u, k) ∷ old.missing; ended = old.ended; round = old.round }
+Touches m guide old new (touched.Blocked u k) =
+    new ≡ record {
+      thread = old.thread;
+      part = old.part;
+      notes = old.notes;
+      seen = old.seen;
+      missing = (u, k) ∷ old.missing;
+      ended = old.ended;
+      round = old.round;
+    }
 Touches m guide old new touched.NoMemory = new ≡ old
 
 -- what the seat saw after it
@@ -151,6 +196,7 @@ seen_by seen touched.NoMemory = seen
 
 -- what its thread did after it
 abbrev pub did_by : ℕ → List WovenStep → Touched → List WovenStep
-did_by t did (touched.Did e) = did ++ (record { moved = record { thread = t; answer = answer_in (trace.Did e) }; trace = trace.Did e }) ∷ []
+did_by t did (touched.Did e) =
+    did ++ (record { moved = record { thread = t; answer = answer_in (trace.Did e) }; trace = trace.Did e }) ∷ []
 did_by t did (touched.Blocked u k) = did
 did_by t did touched.NoMemory = did

@@ -25,7 +25,8 @@ AreApart {V} (x ∷ others) = ((y : Share V) → HasShare y others → y.thread 
 -- a share of each thread from this one on, which has no notes
 abbrev pub fresh_shares : {V : Type 0} → ℕ → List ThreadPart → List (Share V)
 fresh_shares t [] = []
-fresh_shares t (part ∷ parts) = (record { thread = t; notes = []; part = part; ended = false }) ∷ fresh_shares (t + 1) parts
+fresh_shares t (part ∷ parts) =
+    (record { thread = t; notes = []; part = part; ended = false }) ∷ fresh_shares (t + 1) parts
 
 -- the view of the first seat: all threads, and the places of the opening master
 abbrev pub first_view : {V : Type 0} → List ThreadPart → List ℕ → View V
@@ -50,7 +51,8 @@ other_shares w = record { shares = rest_of w.shares; hand = w.hand; seen = w.see
 
 -- the shares of both, and what both found missing
 abbrev pub joined_view : {V : Type 0} → View V → View V → View V
-joined_view w u = record { shares = u.shares ++ w.shares; hand = w.hand; seen = w.seen; missing = u.missing ++ w.missing }
+joined_view w u =
+    record { shares = u.shares ++ w.shares; hand = w.hand; seen = w.seen; missing = u.missing ++ w.missing }
 
 abbrev pub spent_view : {V : Type 0} → View V
 spent_view = record { shares = []; hand = None; seen = []; missing = [] }
@@ -59,7 +61,8 @@ spent_view = record { shares = []; hand = None; seen = []; missing = [] }
 
 -- with variable v in hand, as it was found
 abbrev pub with_hand : {V : Type 0} → View V → ℕ → VarPart V → View V
-with_hand w v x = record { shares = w.shares; hand = Some (record { var = v; found = x }); seen = w.seen; missing = w.missing }
+with_hand w v x =
+    record { shares = w.shares; hand = Some (record { var = v; found = x }); seen = w.seen; missing = w.missing }
 
 abbrev pub empty_hand : {V : Type 0} → View V → View V
 empty_hand w = record { shares = w.shares; hand = None; seen = w.seen; missing = w.missing }
@@ -71,13 +74,15 @@ found_in (Some h) = Some h.found
 
 -- the note of a move on the variable in hand
 abbrev pub note_on : {V : Type 0} → ThreadPart → ThreadPart → Trace → View V → Note V
-note_on before after tr w = record { before = before; after = after; trace = tr; packet = None; found = found_in w.hand }
+note_on before after tr w =
+    record { before = before; after = after; trace = tr; packet = None; found = found_in w.hand }
 
 -- A seat and its moves
 
 abbrev pub note_shares : {V : Type 0} → List (Share V) → Note V → List (Share V)
 note_shares [] n = []
-note_shares (x ∷ others) n = (record { thread = x.thread; notes = n ∷ x.notes; part = n.after; ended = x.ended }) ∷ others
+note_shares (x ∷ others) n =
+    (record { thread = x.thread; notes = n ∷ x.notes; part = n.after; ended = x.ended }) ∷ others
 
 abbrev pub sees_what : List ℕ → What → List ℕ
 sees_what seen (what.Access v s) = slice_set seen v s
@@ -94,7 +99,8 @@ seen_after seen (trace.Ended k) = seen
 
 -- the first share with one more note, and nothing in hand
 abbrev pub noted_view : {V : Type 0} → View V → Note V → View V
-noted_view w n = record { shares = note_shares w.shares n; hand = None; seen = seen_after w.seen n.trace; missing = w.missing }
+noted_view w n =
+    record { shares = note_shares w.shares n; hand = None; seen = seen_after w.seen n.trace; missing = w.missing }
 
 -- one more entry was found missing
 abbrev pub missed_view : {V : Type 0} → View V → ℕ → ℕ → View V

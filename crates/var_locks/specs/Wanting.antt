@@ -9,7 +9,8 @@ use Rattle.master_core.specs.declared.wants.Wants.{Wants}
 use Rattle.master_core.specs.declared.wants.Wants.TheVariants as wants
 use Rattle.var_locks.specs.Seats.{Seated}
 
--- what a thread wants that did so much, where the program's next move is this and this number of touches of each variable were seen
+-- what a thread wants that did so much, where the program's next move is this and this number of touches of each
+-- variable were seen
 abbrev pub seat_wants_by : Counts → List ℕ → Move → Wants
 seat_wants_by c seen (move.Access v) = wants.Touch (c.entries + 1) v (slice_index seen v)
 seat_wants_by c seen (move.Read v) = wants.Read (c.entries + 1) v (slice_index seen v)

@@ -17,11 +17,12 @@ use replay_guide::Guide;
 use std::alloc::Global;
 
 impl<P: Program, J: Round> Vars<P, J> {
-    /// Makes the next move of the seat's thread, which is on no variable, and notes it by one load of the thread's word.
+    /// Makes the next move of the seat's thread, which is on no variable, and notes it by one load of the thread's
+    /// word.
     ///
-    /// `input` is the packet in hand, else the next input of the thread, else `None`. A clock or a draw that is followed is told
-    /// the recorded answer, and every other one `answer`. `Idle` comes exactly where the thread wants an input and gets none, and
-    /// `NotTurn` never; after `Idle` and `NoMemory` the seat is unchanged.
+    /// `input` is the packet in hand, else the next input of the thread, else `None`. A clock or a draw that is
+    /// followed is told the recorded answer, and every other one `answer`. `Idle` comes exactly where the thread wants
+    /// an input and gets none, and `NotTurn` never; after `Idle` and `NoMemory` the seat is unchanged.
     pub fn plain(
         &self,
         alloc: Global,

@@ -1,5 +1,6 @@
 //! A seat's own moves: those on no variable.
-ghost use Rattle.std.specs.Prelude.{◌≡◌, ℕ, ◌+◌, ◌<◌, OnOk, OnErr, IsTrue, IsSome, option_copied, Some, None};
+ghost use Rattle.std.specs.Prelude.{◌≡◌, ℕ, ◌+◌, ◌<◌, OnOk, OnErr, IsTrue, IsSome, option_copied};
+ghost use Rattle.std.specs.Prelude.{Some, None};
 ghost use Rattle.box_program.specs.Hands.{has_hand};
 ghost use Rattle.plain_machine.specs.declared.local.Move.TheVariants as move_is;
 ghost use Rattle.master_core.specs.Mastered.{WantsVariable};

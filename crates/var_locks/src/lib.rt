@@ -1,5 +1,5 @@
-//! The shared variables of a round in which threads race, each under a numbered lock: its word is twice the number of its
-//! touches, and one more while a thread has it. However the threads run, what they did is one legal run.
+//! The shared variables of a round in which threads race, each under a numbered lock: its word is twice the number of
+//! its touches, and one more while a thread has it. However the threads run, what they did is one legal run.
 #![tactic(auto)]
 
 mod calls;

@@ -4,7 +4,8 @@ ghost use Rattle.box_program.specs.Hands.{FitsProgram};
 ghost use Rattle.master_core.specs.Mastered.{master_of, value_of};
 ghost use Rattle.var_locks.specs.Codes.{master_code};
 ghost use Rattle.var_locks.specs.Rounds.{IsRoundOf, AreVarsOf, Opens};
-ghost use Rattle.var_locks.specs.Openings.{AreCounted, places_of, words_of, rest_view, fresh_seat, fresh_seats};
+ghost use Rattle.var_locks.specs.Openings.{AreCounted, places_of, words_of, rest_view, fresh_seat};
+ghost use Rattle.var_locks.specs.Openings.{fresh_seats};
 
 use crate::seats::VarSeat;
 use crate::steps::{Lock, Token, open_round, split_off};

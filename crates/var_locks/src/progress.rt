@@ -26,8 +26,8 @@ impl<P: Program> VarSeat<P> {
         }
     }
 
-    /// What its thread does next. Of a touch or a read, `places` is how often the seat saw the variable touched: since then
-    /// others may have touched it.
+    /// What its thread does next. Of a touch or a read, `places` is how often the seat saw the variable touched: since
+    /// then others may have touched it.
     pub fn wants(&self, program: &P) -> Wants
         ensures { result ≡ seat_wants (P.meaning program.now) self.now }
     {

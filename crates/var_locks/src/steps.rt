@@ -1,14 +1,18 @@
 //! The steps of a round on its words. Each keeps the rule.
-ghost use Rattle.std.specs.Prelude.{◌≡◌, ◌+◌, ◌<◌, true, false, [], ◌∷◌, length, None, IfOk, IfErr, option_copied};
+ghost use Rattle.std.specs.Prelude.{◌≡◌, ◌+◌, ◌<◌, true, false, [], ◌∷◌, length, None, IfOk, IfErr};
+ghost use Rattle.std.specs.Prelude.{option_copied};
 ghost use Rattle.atomic_table.specs.Table.{rest};
 ghost use Rattle.master_core.specs.Mastered.{Mastered};
 ghost use Rattle.master_core.specs.declared.parts.VarPart as var_of;
 ghost use Rattle.var_locks.specs.declared.view.Note as note_of;
 ghost use Rattle.var_locks.specs.Codes.{note_code};
 ghost use Rattle.var_locks.specs.Notes.{own_note};
-ghost use Rattle.var_locks.specs.Views.{note_on, first_view, first_share, other_shares, joined_view, with_hand, empty_hand, noted_view, missed_view, ended_view};
+ghost use Rattle.var_locks.specs.Views.{note_on, first_view, first_share, other_shares};
+ghost use Rattle.var_locks.specs.Views.{joined_view, with_hand, empty_hand, noted_view};
+ghost use Rattle.var_locks.specs.Views.{missed_view, ended_view};
 ghost use Rattle.var_locks.specs.Plays.{Finds};
-ghost use Rattle.var_locks.specs.Rounds.{IsRoundOf, Opens, CanTake, CanNote, CanBring, CanGive, CanMiss, CanEnd, CanSplit};
+ghost use Rattle.var_locks.specs.Rounds.{IsRoundOf, Opens, CanTake, CanNote, CanBring, CanGive};
+ghost use Rattle.var_locks.specs.Rounds.{CanMiss, CanEnd, CanSplit};
 
 use crate::view::{
     Brought, Ended, Given, Law, Missed, Named, News, Noted, Parted, Round, Taken, View,
@@ -227,7 +231,8 @@ pub(crate) fn give_back<P: Program, J: Round>(
     shared.store::<Given>(token, var, word);
 }
 
-/// Whether the thread of an entry ended, for which the guide says to wait at the variable in hand. If so, the entry is missing.
+/// Whether the thread of an entry ended, for which the guide says to wait at the variable in hand. If so, the entry is
+/// missing.
 fn misses_as<P: Program, J: Round, N: Named>(
     program: &P,
     shared: &Lock<P, J>,
@@ -254,7 +259,8 @@ fn misses_as<P: Program, J: Round, N: Named>(
     shared.load::<Missed<N>>(token, word) == 1
 }
 
-/// Whether the thread of an entry ended, for which the guide says to wait at the variable in hand. If so, the entry is missing.
+/// Whether the thread of an entry ended, for which the guide says to wait at the variable in hand. If so, the entry is
+/// missing.
 pub(crate) fn misses<P: Program, J: Round>(
     program: &P,
     shared: &Lock<P, J>,

@@ -1,5 +1,6 @@
 //! The call by which a thread touches or reads the variable that it wants.
-ghost use Rattle.std.specs.Prelude.{◌≡◌, ℕ, ◌<◌, ◌^◌, false, slice_set, vec_len, vec_capacity, IfSome, IfNone};
+ghost use Rattle.std.specs.Prelude.{◌≡◌, ℕ, ◌<◌, ◌^◌, false, slice_set, vec_len, vec_capacity};
+ghost use Rattle.std.specs.Prelude.{IfSome, IfNone};
 ghost use Rattle.plain_machine.specs.declared.local.Move.TheVariants as move_is;
 ghost use Rattle.master_core.specs.Mastered.{moves_made, WantsVariable};
 ghost use Rattle.var_locks.specs.Rounds.{AreVarsOf};
@@ -78,12 +79,12 @@ fn wanted<P: Program>(program: &P, thread: u32, place: &Local) -> Option<Access>
 }
 
 impl<P: Program, J: Round> Vars<P, J> {
-    /// Makes the touch or the read that the seat's thread wants. It waits while another seat has the variable, or the guide says to
-    /// wait.
+    /// Makes the touch or the read that the seat's thread wants. It waits while another seat has the variable, or the
+    /// guide says to wait.
     ///
-    /// `Did` has the entry: of a touch its place is above all that this seat had seen of the variable, of a read no lower. `Blocked`
-    /// names the entry for which the guide says to wait, and comes only where its thread had ended the round without it. After
-    /// `Blocked` and `NoMemory` the seat made no move and has no variable.
+    /// `Did` has the entry: of a touch its place is above all that this seat had seen of the variable, of a read no
+    /// lower. `Blocked` names the entry for which the guide says to wait, and comes only where its thread had ended the
+    /// round without it. After `Blocked` and `NoMemory` the seat made no move and has no variable.
     pub fn touch<R: Wait, G: Gate>(
         &self,
         rt: &R,

@@ -1,12 +1,15 @@
 //! A seat's touch or read of the variable in hand.
-ghost use Rattle.std.specs.Prelude.{◌≡◌, ℕ, ◌+◌, ◌<◌, ◌≤◌, ◌^◌, [], ◌∷◌, IfOk, IfSome, IfNone, OnErr, true, false};
+ghost use Rattle.std.specs.Prelude.{◌≡◌, ℕ, ◌+◌, ◌<◌, ◌≤◌, ◌^◌, [], ◌∷◌, IfOk, IfSome, IfNone};
+ghost use Rattle.std.specs.Prelude.{OnErr, true, false};
 ghost use Rattle.master_core.specs.Mastered.{moves_made};
 ghost use Rattle.master_core.specs.declared.parts.VarPart as var_of;
 ghost use Rattle.replay_guide.specs.Turns.{WaitsFor};
 ghost use Rattle.var_locks.specs.Notes.{LetsPass};
 ghost use Rattle.var_locks.specs.Rounds.{AreVarsOf, CanMiss};
 ghost use Rattle.var_locks.specs.Views.{empty_hand, missed_view};
-ghost use Rattle.var_locks.specs.TouchedParts.{IsWanted, HasSlot, Works, WorksBy, next_word, entry_waited, HasThread, IsTaken, MayWork, MustWait, MadeBy, MadeNone, Comes, ComesOf};
+ghost use Rattle.var_locks.specs.TouchedParts.{IsWanted, HasSlot, Works, WorksBy, next_word};
+ghost use Rattle.var_locks.specs.TouchedParts.{entry_waited, HasThread, IsTaken, MayWork, MustWait};
+ghost use Rattle.var_locks.specs.TouchedParts.{MadeBy, MadeNone, Comes, ComesOf};
 
 use crate::keeping::copied;
 use crate::steps::{Lock, Made, Token, bring_home, give_back, misses, take_up};
@@ -147,7 +150,8 @@ fn entry_of(turn: Turn) -> Option<(u32, u64)>
     }
 }
 
-/// The entry for which the guide says to wait, where the variable was touched so often and this is the join of its reads since.
+/// The entry for which the guide says to wait, where the variable was touched so often and this is the join of its
+/// reads since.
 fn waits_for(
     guide: &Guide,
     number: u64,
@@ -222,7 +226,8 @@ impl<P: Program, J: Round> Vars<P, J> {
         Ok(entry)
     }
 
-    /// Whether the thread of an entry ended, for which the guide says to wait at the variable in hand. If so, the entry is missing.
+    /// Whether the thread of an entry ended, for which the guide says to wait at the variable in hand. If so, the entry
+    /// is missing.
     fn looks_missing(
         &self,
         program: &P,
@@ -246,7 +251,8 @@ impl<P: Program, J: Round> Vars<P, J> {
         misses::<P, J>(program, &self.table.shared, token, word, other, number)
     }
 
-    /// Gives the variable in hand back, at which the guide says to wait for an entry. Whether its thread ended the round without it.
+    /// Gives the variable in hand back, at which the guide says to wait for an entry. Whether its thread ended the
+    /// round without it.
     fn wait_on(
         &self,
         program: &P,
@@ -333,8 +339,8 @@ impl<P: Program, J: Round> Vars<P, J> {
         None
     }
 
-    /// Makes the touch or the read that the seat's thread wants, as soon as no other seat has the variable and the guide does not
-    /// say to wait.
+    /// Makes the touch or the read that the seat's thread wants, as soon as no other seat has the variable and the
+    /// guide does not say to wait.
     pub(crate) fn touch_on<R: Wait, G: Gate>(
         &self,
         rt: &R,

@@ -115,8 +115,8 @@ fn take_out<V: Drop>(
 impl<P: Program, J: Round> Vars<P, J> {
     /// The end of the round: the master after it, and what each thread did. After `NoMemory` the round is gone.
     ///
-    /// However the threads ran, what they did weaves into a legal continuation of each list of moves that the opening master
-    /// stands for, with inputs that have the packets that were passed; and the master stands for it.
+    /// However the threads ran, what they did weaves into a legal continuation of each list of moves that the opening
+    /// master stands for, with inputs that have the packets that were passed; and the master stands for it.
     pub fn close(
         self,
         alloc: Global,

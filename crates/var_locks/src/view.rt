@@ -43,8 +43,8 @@ pub struct View<V> {
     pub missing: LinkedList<(u32, u64)>,
 }
 
-/// Which round it is: the codes of its program and of its opening master, the parts of the threads and the places of the variables in
-/// this master, and what is followed.
+/// Which round it is: the codes of its program and of its opening master, the parts of the threads and the places of
+/// the variables in this master, and what is followed.
 pub trait Round {
     ghost use Rattle.std.specs.Prelude.{List, ℕ};
     ghost use base.Stored.{Gv};

@@ -1,5 +1,6 @@
 -- Fields and the bytes that spell them.
-use Rattle.std.proofs.Common.{◌≡◌, ℕ, ◌+◌, ◌*◌, ◌%◌, ◌^◌, ◌<◌, ◌≤◌, ◌∙◌, ◌⊎◌, inl, inr, List, [], ◌∷◌, ◌++◌, length, take, drop, refl, sym, ap, subst, arith, append_assoc, length-append, drop-drop}
+use Rattle.std.proofs.Common.{◌≡◌, ℕ, ◌+◌, ◌*◌, ◌%◌, ◌^◌, ◌<◌, ◌≤◌, ◌∙◌, ◌⊎◌, inl, inr, List, [], ◌∷◌, ◌++◌, length}
+use Rattle.std.proofs.Common.{take, drop, refl, sym, ap, subst, arith, append_assoc, length-append, drop-drop}
 use Rattle.std.proofs.lemmas.List.{drop_at, length-drop, length-take, take-append-drop}
 use Rattle.std.proofs.lemmas.Grind.{flat_map-append}
 use Rattle.std.proofs.lemmas.Nat.{be_bytes_2, be_bytes_4, be_bytes_8}
@@ -26,18 +27,22 @@ spelled_1 (x ∷ xs) long bytes =
     ap (λ (n : ℕ). n ∷ []) same
 
 -- the first bytes are what spells the number in them
-pub spelled_first : (w : ℕ) (xs : List ℕ) → IsWidth w → w ≤ length xs → AreBytes xs → big_bytes w (big_number w xs) ≡ take w xs
+pub spelled_first : (w : ℕ) (xs : List ℕ) → IsWidth w → w ≤ length xs → AreBytes xs
+    → big_bytes w (big_number w xs) ≡ take w xs
 spelled_first w xs (inl one) long bytes =
     subst (λ (n : ℕ). big_bytes n (big_number n xs) ≡ take n xs) (sym one) (spelled_1 xs (omega arith) bytes)
 spelled_first w xs (inr (inl two)) long bytes =
     subst (λ (n : ℕ). big_bytes n (big_number n xs) ≡ take n xs) (sym two)
-    (be_bytes_2 (take 2 xs) _ (omega (arith, length-take 2 xs)) (AreBytes-take 2 xs bytes) (sym (big_from-take 0 2 2 xs (omega arith)) ∙ omega arith))
+    (be_bytes_2 (take 2 xs) _ (omega (arith, length-take 2 xs)) (AreBytes-take 2 xs bytes)
+    (sym (big_from-take 0 2 2 xs (omega arith)) ∙ omega arith))
 spelled_first w xs (inr (inr (inl four))) long bytes =
     subst (λ (n : ℕ). big_bytes n (big_number n xs) ≡ take n xs) (sym four)
-    (be_bytes_4 (take 4 xs) _ (omega (arith, length-take 4 xs)) (AreBytes-take 4 xs bytes) (sym (big_from-take 0 4 4 xs (omega arith)) ∙ omega arith))
+    (be_bytes_4 (take 4 xs) _ (omega (arith, length-take 4 xs)) (AreBytes-take 4 xs bytes)
+    (sym (big_from-take 0 4 4 xs (omega arith)) ∙ omega arith))
 spelled_first w xs (inr (inr (inr eight))) long bytes =
     subst (λ (n : ℕ). big_bytes n (big_number n xs) ≡ take n xs) (sym eight)
-    (be_bytes_8 (take 8 xs) _ (omega (arith, length-take 8 xs)) (AreBytes-take 8 xs bytes) (sym (big_from-take 0 8 8 xs (omega arith)) ∙ omega arith))
+    (be_bytes_8 (take 8 xs) _ (omega (arith, length-take 8 xs)) (AreBytes-take 8 xs bytes)
+    (sym (big_from-take 0 8 8 xs (omega arith)) ∙ omega arith))
 
 -- the fields of these widths that stand from a place on
 abbrev pub fields_at : ℕ → List ℕ → List ℕ → List Field
@@ -57,9 +62,12 @@ spelled-fields_at at (w ∷ ws) bytes widths are room =
     let size = length-drop at bytes in
     let first = spelled_first w rest widths.0 (omega arith) (AreBytes-drop at bytes are) in
     let later = spelled-fields_at (at + w) ws bytes widths.1 are (omega arith) in
-    let behind : drop (at + (w + total ws)) bytes ≡ drop (at + w + total ws) bytes = ap (λ (k : ℕ). drop k bytes) (omega arith) in
-    let on : drop (at + w) bytes ≡ drop w rest = ap (λ (k : ℕ). drop k bytes) (omega arith) ∙ sym (drop-drop w at bytes) in
-    append_assoc (big_bytes w (big_number w rest)) (spelled (fields_at (at + w) ws bytes)) (drop (at + (w + total ws)) bytes)
+    let behind : drop (at + (w + total ws)) bytes ≡ drop (at + w + total ws) bytes =
+    ap (λ (k : ℕ). drop k bytes) (omega arith) in
+    let on : drop (at + w) bytes ≡ drop w rest =
+    ap (λ (k : ℕ). drop k bytes) (omega arith) ∙ sym (drop-drop w at bytes) in
+    append_assoc (big_bytes w (big_number w rest)) (spelled (fields_at (at + w) ws bytes))
+    (drop (at + (w + total ws)) bytes)
     ∙ ap (λ (l : List ℕ). big_bytes w (big_number w rest) ++ (spelled (fields_at (at + w) ws bytes) ++ l)) behind
     ∙ ap (λ (l : List ℕ). big_bytes w (big_number w rest) ++ l) (later ∙ on)
     ∙ ap (λ (l : List ℕ). l ++ drop w rest) first
@@ -81,13 +89,17 @@ fields_at-spelled at before [] more is fit = refl
 fields_at-spelled at before (f ∷ fs) more is fit =
     let bytes = big_bytes f.width f.value in
     let behind : before ++ ((bytes ++ spelled fs) ++ more) ≡ (before ++ bytes) ++ (spelled fs ++ more) =
-    ap (λ (l : List ℕ). before ++ l) (append_assoc bytes (spelled fs) more) ∙ sym (append_assoc before bytes (spelled fs ++ more)) in
+    ap (λ (l : List ℕ). before ++ l) (append_assoc bytes (spelled fs) more)
+    ∙ sym (append_assoc before bytes (spelled fs ++ more)) in
     let front : number_at f.width at (before ++ ((bytes ++ spelled fs) ++ more)) ≡ f.value =
-    ap (big_number f.width) (drop_at before ((bytes ++ spelled fs) ++ more) at (sym is) ∙ append_assoc bytes (spelled fs) more)
+    ap (big_number f.width)
+    (drop_at before ((bytes ++ spelled fs) ++ more) at (sym is) ∙ append_assoc bytes (spelled fs) more)
     ∙ big_number-reads_back f.width f.value (spelled fs ++ more) fit.0 in
-    let size : at + f.width ≡ length (before ++ bytes) = omega (arith, length-append before bytes, length-bytes_high_first f.width f.value) in
+    let size : at + f.width ≡ length (before ++ bytes) =
+    omega (arith, length-append before bytes, length-bytes_high_first f.width f.value) in
     let later = fields_at-spelled (at + f.width) (before ++ bytes) fs more size fit.1 in
-    let first : ◌≡◌ {A = Field} (field f.width (number_at f.width at (before ++ ((bytes ++ spelled fs) ++ more)))) f = ap (field f.width) front in
+    let first : ◌≡◌ {A = Field} (field f.width (number_at f.width at (before ++ ((bytes ++ spelled fs) ++ more)))) f =
+    ap (field f.width) front in
     let others = ap (fields_at (at + f.width) (widths fs)) behind ∙ later in
     cc
 
@@ -97,7 +109,13 @@ spelled-append fs gs = flat_map-append (λ (f : Field). big_bytes f.width f.valu
 pub length-spelled : (fs : List Field) → length (spelled fs) ≡ total (widths fs)
 length-spelled [] = refl
 length-spelled (f ∷ fs) =
-    omega (arith, length-append (big_bytes f.width f.value) (spelled fs), length-bytes_high_first f.width f.value, length-spelled fs)
+    omega (
+      arith,
+      length-append (big_bytes f.width f.value) (spelled fs),
+      length-bytes_high_first f.width f.value,
+      length-spelled fs,
+    )
 
-pub drop-spelled : (fs : List Field) (more : List ℕ) (n : ℕ) → total (widths fs) ≡ n → drop n (spelled fs ++ more) ≡ more
+pub drop-spelled : (fs : List Field) (more : List ℕ) (n : ℕ) → total (widths fs) ≡ n
+    → drop n (spelled fs ++ more) ≡ more
 drop-spelled fs more n is = drop_at (spelled fs) more n (length-spelled fs ∙ is)

@@ -7,8 +7,9 @@ use Rattle.wire_frames.specs.Layout.{IsSent, IsDone}
 use Rattle.wire_frames.specs.Parts.{FitsWord}
 use Rattle.wire_frames.specs.Writing.{CanSend, CanTell}
 
-pub is_sent : (epoch threads thread number : ℕ) (stamp : List ℕ) → CanSend epoch threads thread number stamp → epoch < 2 ^ 32 → number < 2 ^ 64
-    → length stamp ≡ 16 → ((u : ℕ) → slice_index stamp u < 2 ^ 64) → IsSent epoch threads thread number stamp
+pub is_sent : (epoch threads thread number : ℕ) (stamp : List ℕ) → CanSend epoch threads thread number stamp
+    → epoch < 2 ^ 32 → number < 2 ^ 64 → length stamp ≡ 16 → ((u : ℕ) → slice_index stamp u < 2 ^ 64)
+    → IsSent epoch threads thread number stamp
 is_sent epoch threads thread number stamp can epoch_to number_to all fit = record {
   epoch_from = can.epoch_from;
   epoch_to = epoch_to;

@@ -1,5 +1,7 @@
 -- Masks, and the components that they name.
-use Rattle.std.proofs.Common.{◌≡◌, ℕ, zero, suc, ◌+◌, ◌-◌, ◌*◌, ◌/◌, ◌%◌, ◌^◌, ◌<◌, ◌≤◌, ◌==◌, ◌&&◌, ◌||◌, ◌∙◌, ◌⊎◌, Bool, true, false, not, if◌then◌else◌, List, [], ◌∷◌, ◌++◌, length, take, drop, replicate, slice_index, set, refl, sym, ap, arith, inl, inr, IsTrue, append_assoc, drop-drop}
+use Rattle.std.proofs.Common.{◌≡◌, ℕ, zero, suc, ◌+◌, ◌-◌, ◌*◌, ◌/◌, ◌%◌, ◌^◌, ◌<◌, ◌≤◌, ◌==◌, ◌&&◌, ◌||◌, ◌∙◌, ◌⊎◌}
+use Rattle.std.proofs.Common.{Bool, true, false, not, if◌then◌else◌, List, [], ◌∷◌, ◌++◌, length, take, drop, replicate}
+use Rattle.std.proofs.Common.{slice_index, set, refl, sym, ap, arith, inl, inr, IsTrue, append_assoc, drop-drop}
 use Rattle.std.proofs.lemmas.List.{take_more_set, drop_at, drop-replicate, drop-set-lt, length-drop, take-append-drop}
 use Rattle.std.proofs.lemmas.Bool.{cases_lt, eqb-true, eqb-false, eq-eqb, ne_eqb}
 use Rattle.std.proofs.Math.Nat.{pow-suc, pow-succ', one-le-pow, div-one, div-div-eq-div-mul, zero-div}
@@ -25,11 +27,13 @@ unfolding components
 components-none mask bytes = refl
 
 pub components-step : (n mask : ℕ) (bytes : List ℕ) → 0 < n
-    → components n mask bytes ≡ component_at (is_odd mask) bytes ∷ components (n - 1) (mask / 2) (drop (8 * (mask % 2)) bytes)
+    → components n mask bytes
+    ≡ component_at (is_odd mask) bytes ∷ components (n - 1) (mask / 2) (drop (8 * (mask % 2)) bytes)
 unfolding components
 components-step zero mask bytes some = absurd (omega arith)
 components-step (suc n) mask bytes some =
-    ap (λ (k : ℕ). component_at (is_odd mask) bytes ∷ components k (mask / 2) (drop (8 * (mask % 2)) bytes)) (omega arith)
+    ap (λ (k : ℕ). component_at (is_odd mask) bytes ∷ components k (mask / 2) (drop (8 * (mask % 2)) bytes))
+    (omega arith)
 
 -- a mask without bits names no component
 
@@ -71,7 +75,8 @@ mask_of-below (c ∷ cs) =
     bit_below false m n below = omega arith
 
 -- what is behind a component that may be there
-pub drop-behind : (place mask : ℕ) (bytes : List ℕ) → drop (8 * (mask % 2)) (drop place bytes) ≡ drop (place + 8 * (mask % 2)) bytes
+pub drop-behind : (place mask : ℕ) (bytes : List ℕ)
+    → drop (8 * (mask % 2)) (drop place bytes) ≡ drop (place + 8 * (mask % 2)) bytes
 drop-behind place mask bytes = drop-drop (8 * (mask % 2)) place bytes ∙ ap (λ (k : ℕ). drop k bytes) (omega arith)
 
 -- one more component of a stamp is read
@@ -79,15 +84,21 @@ module _ (all : List ℕ) (stamp bytes : List ℕ) (thread rest place component 
   pub reads_one_more : length stamp ≡ 16 → thread < 16
       → take thread stamp ++ components (16 - thread) rest (drop place bytes) ≡ all
       → component ≡ component_at (is_odd rest) (drop place bytes)
-      → take (thread + 1) (set stamp thread component) ++ components (16 - (thread + 1)) (rest / 2) (drop (place + 8 * (rest % 2)) bytes) ≡ all
+      → take (thread + 1) (set stamp thread component)
+      ++ components (16 - (thread + 1)) (rest / 2) (drop (place + 8 * (rest % 2)) bytes)
+      ≡ all
   reads_one_more sixteen within read is =
       let front = take_more_set stamp thread component (omega arith) in
       let step = components-step (16 - thread) rest (drop place bytes) (omega arith) in
       let later : 16 - thread - 1 ≡ 16 - (thread + 1) = omega arith in
-      let whole : component ∷ components (16 - (thread + 1)) (rest / 2) (drop (place + 8 * (rest % 2)) bytes) ≡ components (16 - thread) rest (drop place bytes) =
+      let whole : component ∷ components (16 - (thread + 1)) (rest / 2) (drop (place + 8 * (rest % 2)) bytes)
+      ≡ components (16 - thread) rest (drop place bytes) =
       rw (step, is, drop-behind place rest bytes, later) refl in
-      rw (front, append_assoc (take thread stamp) (component ∷ []) (components (16 - (thread + 1)) (rest / 2) (drop (place + 8 * (rest % 2)) bytes)))
-      (ap (λ (l : List ℕ). take thread stamp ++ l) whole ∙ read)
+      rw (
+        front,
+        append_assoc (take thread stamp) (component ∷ [])
+            (components (16 - (thread + 1)) (rest / 2) (drop (place + 8 * (rest % 2)) bytes)),
+      ) (ap (λ (l : List ℕ). take thread stamp ++ l) whole ∙ read)
 
 parity : (n : ℕ) → (n % 2 ≡ 0) ⊎ (n % 2 ≡ 1)
 parity n = elim (cases_lt (n % 2) 1) [
@@ -104,14 +115,15 @@ same_less a b m n down up = go (m == n) refl
     go true is = ap not (eq-eqb a b (up (eqb-true m n is)))
     go false is = ap not (ne_eqb a b (λ same. eqb-false m n is (down same)))
 
-zero_odd : (b : Bool) (m rest : ℕ) → rest % 2 ≡ 1 → not ((if b then 0 else 1) + 2 * m == rest) ≡ b || not (m == rest / 2)
+zero_odd : (b : Bool) (m rest : ℕ) → rest % 2 ≡ 1
+    → not ((if b then 0 else 1) + 2 * m == rest) ≡ b || not (m == rest / 2)
 zero_odd true m rest odd = ap not (ne_eqb (0 + 2 * m) rest (λ same. omega arith))
 zero_odd false m rest odd = same_less (1 + 2 * m) rest m (rest / 2) (λ same. omega arith) (λ same. omega arith)
 
 -- it is the first, or among those behind it
 pub zero_first : (n rest : ℕ) (bytes : List ℕ) → 0 < n
-    → not (mask_of (components n rest bytes) == rest)
-    ≡ (is_odd rest && component_at (is_odd rest) bytes == 0) || not (mask_of (components (n - 1) (rest / 2) (drop (8 * (rest % 2)) bytes)) == rest / 2)
+    → not (mask_of (components n rest bytes) == rest) ≡ (is_odd rest && component_at (is_odd rest) bytes == 0)
+    || not (mask_of (components (n - 1) (rest / 2) (drop (8 * (rest % 2)) bytes)) == rest / 2)
 zero_first n rest bytes some =
     let step = components-step n rest bytes some in
     elim (parity rest) [
@@ -135,22 +147,25 @@ or_none : (b : Bool) → b ≡ b || false
 or_none true = refl
 or_none false = refl
 
-pub named_all : (earlier all : Bool) (n : ℕ) (bytes : List ℕ) → earlier || not (mask_of (components n 0 bytes) == 0) ≡ all → earlier ≡ all
-named_all earlier all n bytes named = or_none earlier ∙ ap (λ (b : Bool). earlier || b) (sym (zero_none n bytes)) ∙ named
+pub named_all : (earlier all : Bool) (n : ℕ) (bytes : List ℕ)
+    → earlier || not (mask_of (components n 0 bytes) == 0) ≡ all → earlier ≡ all
+named_all earlier all n bytes named =
+    or_none earlier ∙ ap (λ (b : Bool). earlier || b) (sym (zero_none n bytes)) ∙ named
 
 or_behind : (a b c : Bool) → (a || b) || c ≡ a || (b || c)
 or_behind true b c = refl
 or_behind false b c = refl
 
 pub named_one_more : (earlier now all : Bool) (bytes : List ℕ) (thread rest place component : ℕ) → thread < 16
-    → component ≡ component_at (is_odd rest) (drop place bytes)
-    → now ≡ earlier || (is_odd rest && component == 0)
+    → component ≡ component_at (is_odd rest) (drop place bytes) → now ≡ earlier || (is_odd rest && component == 0)
     → earlier || not (mask_of (components (16 - thread) rest (drop place bytes)) == rest) ≡ all
-    → now || not (mask_of (components (16 - (thread + 1)) (rest / 2) (drop (place + 8 * (rest % 2)) bytes)) == rest / 2) ≡ all
+    → now
+    || not (mask_of (components (16 - (thread + 1)) (rest / 2) (drop (place + 8 * (rest % 2)) bytes)) == rest / 2) ≡ all
 named_one_more earlier now all bytes thread rest place component within is now_is named =
     let first = zero_first (16 - thread) rest (drop place bytes) (omega arith) in
     let later : 16 - thread - 1 ≡ 16 - (thread + 1) = omega arith in
-    let behind : components (16 - thread - 1) (rest / 2) (drop (8 * (rest % 2)) (drop place bytes)) ≡ components (16 - (thread + 1)) (rest / 2) (drop (place + 8 * (rest % 2)) bytes) =
+    let behind : components (16 - thread - 1) (rest / 2) (drop (8 * (rest % 2)) (drop place bytes))
+    ≡ components (16 - (thread + 1)) (rest / 2) (drop (place + 8 * (rest % 2)) bytes) =
     rw (drop-behind place rest bytes, later) refl in
     rw (now_is, is, sym behind) (or_behind earlier _ _ ∙ ap (λ (b : Bool). earlier || b) (sym first) ∙ named)
 
@@ -161,9 +176,11 @@ no_bits (suc n) rest below over = absurd (omega arith)
 
 pub half_fits : (n rest : ℕ) → 0 < n → rest < 2 ^ n → rest / 2 < 2 ^ (n - 1)
 half_fits zero rest some below = absurd (omega arith)
-half_fits (suc n) rest some below = let double = pow-suc 2 n in let same : suc n - 1 ≡ n = omega arith in rw same (omega arith)
+half_fits (suc n) rest some below =
+    let double = pow-suc 2 n in let same : suc n - 1 ≡ n = omega arith in rw same (omega arith)
 
-pub odd_room : (n rest place size : ℕ) → 0 < n → IsTrue (rest % 2 == 1) → place + 8 * bits_set n rest ≤ size → place + 8 ≤ size
+pub odd_room : (n rest place size : ℕ) → 0 < n → IsTrue (rest % 2 == 1) → place + 8 * bits_set n rest ≤ size
+    → place + 8 ≤ size
 odd_room n rest place size some odd room =
     let one = eqb-true _ _ odd in
     let step = bits_set-step n rest some in
@@ -205,7 +222,8 @@ spelled-present (suc n) mask bytes are room = elim (parity mask) [
   | inr odd ↦
       let room_is : 8 * (mask % 2 + bits_set n (mask / 2)) ≤ length bytes = room in
       let same : 8 * (mask % 2 + bits_set n (mask / 2)) ≡ 8 + 8 * bits_set n (mask / 2) = omega arith in
-      let later = spelled-present n (mask / 2) (drop 8 bytes) (AreBytes-drop 8 bytes are) (omega (arith, length-drop 8 bytes)) in
+      let later =
+      spelled-present n (mask / 2) (drop 8 bytes) (AreBytes-drop 8 bytes are) (omega (arith, length-drop 8 bytes)) in
       let front = spelled_first 8 bytes (inr (inr (inr refl))) (omega arith) are in
       let P = spelled (component_fields (present (mask / 2) (components n (mask / 2) (drop 8 bytes)))) in
       let behind = drop-drop (8 * bits_set n (mask / 2)) 8 bytes in
@@ -231,9 +249,12 @@ components-spelled mask (c ∷ cs) more fit unset = elim (parity mask) [
       let P = spelled (component_fields (present (mask / 2) cs)) in
       let later = components-spelled (mask / 2) cs more fit.1 unset.1 in
       let parts = append_assoc (big_bytes 8 c) P more in
-      let front : number_at 8 0 ((big_bytes 8 c ++ P) ++ more) ≡ c = ap (big_number 8) parts ∙ big_number-reads_back 8 c (P ++ more) fit.0 in
-      let behind : drop 8 ((big_bytes 8 c ++ P) ++ more) ≡ P ++ more = ap (drop 8) parts ∙ drop_at (big_bytes 8 c) (P ++ more) 8 refl in
-      let rest : components (length cs) (mask / 2) (drop 8 ((big_bytes 8 c ++ P) ++ more)) ≡ cs = ap (components (length cs) (mask / 2)) behind ∙ later in
+      let front : number_at 8 0 ((big_bytes 8 c ++ P) ++ more) ≡ c =
+      ap (big_number 8) parts ∙ big_number-reads_back 8 c (P ++ more) fit.0 in
+      let behind : drop 8 ((big_bytes 8 c ++ P) ++ more) ≡ P ++ more =
+      ap (drop 8) parts ∙ drop_at (big_bytes 8 c) (P ++ more) 8 refl in
+      let rest : components (length cs) (mask / 2) (drop 8 ((big_bytes 8 c ++ P) ++ more)) ≡ cs =
+      ap (components (length cs) (mask / 2)) behind ∙ later in
       rw odd (cc (front, rest))
 ]
 
@@ -253,7 +274,8 @@ present-mask_of (c ∷ cs) =
     let later = present-mask_of cs in
     rw (mask_parity (c == 0) (mask_of cs), mask_half (c == 0) (mask_of cs), later) (shown (c == 0))
   where
-    shown : (b : Bool) → there ((if b then 0 else 1) == 1) c ++ nonzero cs ≡ (if not b then c ∷ nonzero cs else nonzero cs)
+    shown : (b : Bool)
+        → there ((if b then 0 else 1) == 1) c ++ nonzero cs ≡ (if not b then c ∷ nonzero cs else nonzero cs)
     shown true = refl
     shown false = refl
 
@@ -284,7 +306,8 @@ bits_set-mask_of (c ∷ cs) =
     let later = bits_set-mask_of cs in
     rw (mask_parity (c == 0) (mask_of cs), mask_half (c == 0) (mask_of cs), later) (shown (c == 0))
   where
-    shown : (b : Bool) → (if b then 0 else 1) + length (nonzero cs) ≡ length (if not b then c ∷ nonzero cs else nonzero cs)
+    shown : (b : Bool)
+        → (if b then 0 else 1) + length (nonzero cs) ≡ length (if not b then c ∷ nonzero cs else nonzero cs)
     shown true = omega arith
     shown false = omega arith
 
@@ -356,14 +379,17 @@ component_fits : (b : Bool) (bytes : List ℕ) → AreBytes bytes → component_
 component_fits true bytes are = big_from-lt 0 8 bytes are
 component_fits false bytes are = omega arith
 
-pub components-fit : (n mask : ℕ) (bytes : List ℕ) → AreBytes bytes → (u : ℕ) → slice_index (components n mask bytes) u < 2 ^ 64
+pub components-fit : (n mask : ℕ) (bytes : List ℕ) → AreBytes bytes → (u : ℕ)
+    → slice_index (components n mask bytes) u < 2 ^ 64
 unfolding components
 components-fit zero mask bytes are u = omega arith
 components-fit (suc n) mask bytes are zero = component_fits (is_odd mask) bytes are
-components-fit (suc n) mask bytes are (suc u) = components-fit n (mask / 2) (drop (8 * (mask % 2)) bytes) (AreBytes-drop (8 * (mask % 2)) bytes are) u
+components-fit (suc n) mask bytes are (suc u) =
+    components-fit n (mask / 2) (drop (8 * (mask % 2)) bytes) (AreBytes-drop (8 * (mask % 2)) bytes are) u
 
 -- a mask names no component past its bits
-pub components-past : (n mask k : ℕ) (bytes : List ℕ) → mask < 2 ^ k → (u : ℕ) → k ≤ u → slice_index (components n mask bytes) u ≡ 0
+pub components-past : (n mask k : ℕ) (bytes : List ℕ) → mask < 2 ^ k → (u : ℕ) → k ≤ u
+    → slice_index (components n mask bytes) u ≡ 0
 unfolding components
 components-past zero mask k bytes below u past = refl
 components-past (suc n) mask zero bytes below zero past =

@@ -1,5 +1,7 @@
 -- Frames, tests and values together.
-use Rattle.std.proofs.Common.{◌≡◌, ℕ, ◌+◌, ◌<◌, ◌∙◌, List, ◌++◌, length, take, drop, Option, Some, None, option_map, Result, Ok, Err, IfOk, IfErr, is_none, false, [], refl, sym, ap, subst, arith, length-append}
+use Rattle.std.proofs.Common.{◌≡◌, ℕ, ◌+◌, ◌<◌, ◌∙◌, List, ◌++◌, length, take, drop, Option, Some, None, option_map}
+use Rattle.std.proofs.Common.{Result, Ok, Err, IfOk, IfErr, is_none, false, [], refl, sym, ap, subst, arith}
+use Rattle.std.proofs.Common.{length-append}
 use Rattle.std.proofs.lemmas.List.{append-nil, take-append-drop, length-take}
 use Rattle.plain_text.specs.Octets.{AreBytes}
 use Rattle.entry_order.specs.declared.what.What.{What}
@@ -12,14 +14,16 @@ use Rattle.wire_frames.specs.declared.frame.Frame.TheVariants as frame
 use Rattle.wire_frames.specs.declared.frame.FrameFault.{FrameFault}
 use Rattle.wire_frames.specs.declared.frame.FrameError.{FrameError}
 use Rattle.wire_frames.specs.declared.frame.FrameError.TheVariants as error
-use Rattle.wire_frames.specs.Layout.{kind_code, spelled, output_fields, bytes_of, written, written_length, IsOfRange, IsFrame, BeginsWith}
+use Rattle.wire_frames.specs.Layout.{kind_code, spelled, output_fields, bytes_of, written, written_length, IsOfRange}
+use Rattle.wire_frames.specs.Layout.{IsFrame, BeginsWith}
 use Rattle.wire_frames.specs.Places.{number_at, kind_at, version_at, length_at, what_at, entry_at, output_at}
 use Rattle.wire_frames.specs.Faults.{found_tests, field_tests, first_failure, frame_fault, IsCauseIn, Gives}
 use Rattle.wire_frames.specs.Parts.{IsTold, IsFieldCause, IsReadingCause}
 use Rattle.wire_frames.proofs.FirstFailure.{first_failure-append, first_failure-earlier}
 use Rattle.wire_frames.proofs.Facts.{Facts, facts_from, no_failure, kind_of_facts, version_of_facts}
 use Rattle.wire_frames.proofs.Sound.{log_begins, out_begins}
-use Rattle.wire_frames.proofs.Told.{log_what, log_value, log_length, log_facts, log_size, out_value, out_length, out_facts, out_size}
+use Rattle.wire_frames.proofs.Told.{log_what, log_value, log_length, log_facts, log_size, out_value, out_length}
+use Rattle.wire_frames.proofs.Told.{out_facts, out_size}
 
 -- what bytes that begin with a frame tell
 pub record Tells (bytes : List ℕ) (f : Frame) (size : ℕ) : Type 0 where
@@ -41,7 +45,9 @@ tells bytes (frame.Entry epoch threads e) size begins =
       version = is.version;
       facts = log_facts is.version bytes begins.rest n epoch threads e range.0 range.1 parts sized;
       sized = log_length is.version bytes begins.rest n epoch threads e range.0 range.1 parts sized ∙ begins.sized;
-      told = ap (option_map (entry_at is.version bytes)) (log_what is.version bytes begins.rest n epoch threads e range.0 range.1 parts sized)
+      told =
+          ap (option_map (entry_at is.version bytes))
+          (log_what is.version bytes begins.rest n epoch threads e range.0 range.1 parts sized)
           ∙ ap Some (log_value is.version bytes begins.rest n epoch threads e range.0 range.1 parts sized);
     }
 tells bytes (frame.Output epoch threads o) size begins =
@@ -54,33 +60,48 @@ tells bytes (frame.Output epoch threads o) size begins =
       kind = Out;
       version = is.version;
       facts = out_facts is.version bytes begins.rest n epoch threads o range.0 range.1 range.2 range.3 parts sized;
-      sized = out_length is.version bytes begins.rest n epoch threads o range.0 range.1 range.2 range.3 parts sized ∙ begins.sized;
+      sized =
+          out_length is.version bytes begins.rest n epoch threads o range.0 range.1 range.2 range.3 parts sized
+          ∙ begins.sized;
       told = sym (out_value is.version bytes begins.rest n epoch threads o range.0 range.1 range.2 range.3 parts sized);
     }
 
-told_at : (bytes : List ℕ) (f : Frame) (size : ℕ) → Tells bytes f size → IsTold (kind_at bytes) (version_at bytes) bytes f
+told_at : (bytes : List ℕ) (f : Frame) (size : ℕ) → Tells bytes f size
+    → IsTold (kind_at bytes) (version_at bytes) bytes f
 told_at bytes f size t =
     let K : Kind → Type 0 = λ k. IsTold k (version_at bytes) bytes f in
     let V : Version → Type 0 = λ v. IsTold t.kind v bytes f in
-    subst K (sym (kind_of_facts t.kind t.version bytes t.facts)) (subst V (sym (version_of_facts t.kind t.version bytes t.facts)) t.told)
+    subst K (sym (kind_of_facts t.kind t.version bytes t.facts))
+    (subst V (sym (version_of_facts t.kind t.version bytes t.facts)) t.told)
 
-one_told : (kind : Kind) (version : Version) (bytes : List ℕ) (f g : Frame) → IsTold kind version bytes f → IsTold kind version bytes g → f ≡ g
-one_told Log version bytes f g first second = let same : ◌≡◌ {A = Option Frame} (Some f) (Some g) = sym first ∙ second in cc
+one_told : (kind : Kind) (version : Version) (bytes : List ℕ) (f g : Frame) → IsTold kind version bytes f
+    → IsTold kind version bytes g → f ≡ g
+one_told Log version bytes f g first second =
+    let same : ◌≡◌ {A = Option Frame} (Some f) (Some g) = sym first ∙ second in cc
 one_told Out version bytes f g first second = first ∙ sym second
 
-pub same_frame : (bytes : List ℕ) (f g : Frame) (n m : ℕ) → BeginsWith bytes f n → BeginsWith bytes g m → (f ≡ g) × (n ≡ m)
+pub same_frame : (bytes : List ℕ) (f g : Frame) (n m : ℕ) → BeginsWith bytes f n → BeginsWith bytes g m
+    → (f ≡ g) × (n ≡ m)
 same_frame bytes f g n m first second =
     let a = tells bytes f n first in
-    let b = tells bytes g m second in
-    (one_told (kind_at bytes) (version_at bytes) bytes f g (told_at bytes f n a) (told_at bytes g m b), sym a.sized ∙ b.sized)
+    let b = tells bytes g m second in (
+      one_told (kind_at bytes) (version_at bytes) bytes f g (told_at bytes f n a) (told_at bytes g m b),
+      sym a.sized ∙ b.sized,
+    )
 
 pub begins_whole : (bytes : List ℕ) (f : Frame) → IsFrame bytes f → BeginsWith bytes f (length bytes)
 begins_whole bytes f is = record { first = bytes; rest = []; parts = sym (append-nil bytes); sized = refl; is = is }
 
-pub no_shorter : (bytes : List ℕ) (f g : Frame) (n : ℕ) → IsFrame bytes f → n < length bytes → IsFrame (take n bytes) g → ⊥
+pub no_shorter : (bytes : List ℕ) (f g : Frame) (n : ℕ) → IsFrame bytes f → n < length bytes
+    → IsFrame (take n bytes) g → ⊥
 no_shorter bytes f g n is less other =
-    let begins : BeginsWith bytes g (length (take n bytes)) =
-    record { first = take n bytes; rest = drop n bytes; parts = sym (take-append-drop n bytes); sized = refl; is = other } in
+    let begins : BeginsWith bytes g (length (take n bytes)) = record {
+      first = take n bytes;
+      rest = drop n bytes;
+      parts = sym (take-append-drop n bytes);
+      sized = refl;
+      is = other;
+    } in
     let same = same_frame bytes f g (length bytes) (length (take n bytes)) (begins_whole bytes f is) begins in
     let size_is = same.1 in
     omega (arith, length-take n bytes)
@@ -89,11 +110,12 @@ pub no_fault : (bytes : List ℕ) (f : Frame) (n : ℕ) → BeginsWith bytes f n
 no_fault bytes f n begins = let t = tells bytes f n begins in no_failure t.kind t.version bytes t.facts
 
 -- a value that the bytes tell, where every test passes, is that of a frame
-told_begins : (kind : Kind) (version : Version) (bytes : List ℕ) (f : Frame) → AreBytes bytes → Facts kind version bytes → IsTold kind version bytes f
-    → BeginsWith bytes f (length_at bytes)
+told_begins : (kind : Kind) (version : Version) (bytes : List ℕ) (f : Frame) → AreBytes bytes → Facts kind version bytes
+    → IsTold kind version bytes f → BeginsWith bytes f (length_at bytes)
 told_begins Log version bytes f are facts told = go (what_at version bytes) refl told
   where
-    go : (o : Option What) → what_at version bytes ≡ o → option_map (entry_at version bytes) o ≡ Some f → BeginsWith bytes f (length_at bytes)
+    go : (o : Option What) → what_at version bytes ≡ o → option_map (entry_at version bytes) o ≡ Some f
+        → BeginsWith bytes f (length_at bytes)
     go None is told = cc
     go (Some w) is told =
         let same : entry_at version bytes w ≡ f = cc in
@@ -104,15 +126,18 @@ told_begins Out version bytes f are facts told =
     subst P (sym told) (out_begins bytes are version facts)
 
 -- where every test passes there is a value
-some_told : (kind : Kind) (version : Version) (bytes : List ℕ) → Facts kind version bytes → (f : Frame) × IsTold kind version bytes f
+some_told : (kind : Kind) (version : Version) (bytes : List ℕ) → Facts kind version bytes
+    → (f : Frame) × IsTold kind version bytes f
 some_told Log version bytes facts = go (what_at version bytes) refl facts.content
   where
-    go : (o : Option What) → what_at version bytes ≡ o → is_none o ≡ false → (f : Frame) × (option_map (entry_at version bytes) (what_at version bytes) ≡ Some f)
+    go : (o : Option What) → what_at version bytes ≡ o → is_none o ≡ false
+        → (f : Frame) × (option_map (entry_at version bytes) (what_at version bytes) ≡ Some f)
     go None is some = cc
     go (Some w) is some = (entry_at version bytes w, ap (option_map (entry_at version bytes)) is)
 some_told Out version bytes facts = (output_at version bytes, refl)
 
-pub some_frame : (bytes : List ℕ) → AreBytes bytes → frame_fault bytes ≡ None → (f : Frame) × (n : ℕ) × BeginsWith bytes f n
+pub some_frame : (bytes : List ℕ) → AreBytes bytes → frame_fault bytes ≡ None
+    → (f : Frame) × (n : ℕ) × BeginsWith bytes f n
 some_frame bytes are none =
     let facts = facts_from bytes none in
     let some = some_told (kind_at bytes) (version_at bytes) bytes facts in
@@ -124,17 +149,21 @@ module _ (bytes : List ℕ) where
   Fields = first_failure (field_tests (kind_at bytes) (version_at bytes) bytes)
 
   pub none_in_all : first_failure (found_tests bytes) ≡ None → Fields ≡ None → frame_fault bytes ≡ None
-  none_in_all found fields = first_failure-append (found_tests bytes) (field_tests (kind_at bytes) (version_at bytes) bytes) found ∙ fields
+  none_in_all found fields =
+      first_failure-append (found_tests bytes) (field_tests (kind_at bytes) (version_at bytes) bytes) found ∙ fields
 
-  pub found_begins : (f : Frame) → AreBytes bytes → first_failure (found_tests bytes) ≡ None → Fields ≡ None → IsTold (kind_at bytes) (version_at bytes) bytes f
-      → BeginsWith bytes f (length_at bytes)
+  pub found_begins : (f : Frame) → AreBytes bytes → first_failure (found_tests bytes) ≡ None → Fields ≡ None
+      → IsTold (kind_at bytes) (version_at bytes) bytes f → BeginsWith bytes f (length_at bytes)
   found_begins f are found fields told =
       told_begins (kind_at bytes) (version_at bytes) bytes f are (facts_from bytes (none_in_all found fields)) told
 
-  pub earlier_cause : (fault : FrameFault) → first_failure (found_tests bytes) ≡ Some fault → frame_fault bytes ≡ Some fault
-  earlier_cause fault fails = first_failure-earlier (found_tests bytes) (field_tests (kind_at bytes) (version_at bytes) bytes) fault fails
+  pub earlier_cause : (fault : FrameFault) → first_failure (found_tests bytes) ≡ Some fault
+      → frame_fault bytes ≡ Some fault
+  earlier_cause fault fails =
+      first_failure-earlier (found_tests bytes) (field_tests (kind_at bytes) (version_at bytes) bytes) fault fails
 
-  out_cause : (e : FrameError) → kind_at bytes ≡ Out → first_failure (found_tests bytes) ≡ None → IsFieldCause (kind_at bytes) (version_at bytes) bytes e → IsCauseIn bytes e
+  out_cause : (e : FrameError) → kind_at bytes ≡ Out → first_failure (found_tests bytes) ≡ None
+      → IsFieldCause (kind_at bytes) (version_at bytes) bytes e → IsCauseIn bytes e
   out_cause (error.Fault fault) kind found cause =
       first_failure-append (found_tests bytes) (field_tests (kind_at bytes) (version_at bytes) bytes) found ∙ cause
   out_cause error.NoMemory kind found cause =
@@ -143,21 +172,25 @@ module _ (bytes : List ℕ) where
       let K : Kind → Type 0 = λ k. number_at 1 0 bytes ≡ kind_code k in
       (all, subst K kind facts.kind_is)
 
-  later_cause_of : (kind : Kind) (e : FrameError) → kind_at bytes ≡ kind → first_failure (found_tests bytes) ≡ None → IsReadingCause kind (version_at bytes) bytes e → IsCauseIn bytes e
+  later_cause_of : (kind : Kind) (e : FrameError) → kind_at bytes ≡ kind → first_failure (found_tests bytes) ≡ None
+      → IsReadingCause kind (version_at bytes) bytes e → IsCauseIn bytes e
   later_cause_of Log (error.Fault fault) is found cause =
       let K : Kind → Type 0 = λ k. first_failure (field_tests k (version_at bytes) bytes) ≡ Some fault in
-      first_failure-append (found_tests bytes) (field_tests (kind_at bytes) (version_at bytes) bytes) found ∙ subst K (sym is) cause
+      first_failure-append (found_tests bytes) (field_tests (kind_at bytes) (version_at bytes) bytes) found
+      ∙ subst K (sym is) cause
   later_cause_of Log error.NoMemory is found cause = absurd cause
   later_cause_of Out e is found cause =
       let K : Kind → Type 0 = λ k. IsFieldCause k (version_at bytes) bytes e in
       out_cause e is found (subst K (sym is) cause)
 
-  pub later_cause : (e : FrameError) → first_failure (found_tests bytes) ≡ None → IsReadingCause (kind_at bytes) (version_at bytes) bytes e → IsCauseIn bytes e
+  pub later_cause : (e : FrameError) → first_failure (found_tests bytes) ≡ None
+      → IsReadingCause (kind_at bytes) (version_at bytes) bytes e → IsCauseIn bytes e
   later_cause e found cause = later_cause_of (kind_at bytes) e refl found cause
 
 -- an answer that is right gives the frame
-pub gives : (bytes : List ℕ) (answer : Result (Frame × ℕ) FrameError) → IfOk answer (λ taken. BeginsWith bytes taken.0 taken.1) → IfErr answer (IsCauseIn bytes)
-    → (f : Frame) (size : ℕ) → BeginsWith bytes f size → Gives answer f size
+pub gives : (bytes : List ℕ) (answer : Result (Frame × ℕ) FrameError)
+    → IfOk answer (λ taken. BeginsWith bytes taken.0 taken.1) → IfErr answer (IsCauseIn bytes) → (f : Frame) (size : ℕ)
+    → BeginsWith bytes f size → Gives answer f size
 gives bytes (Ok taken) frame fault f size begins = same_frame bytes taken.0 f taken.1 size frame begins
 gives bytes (Err (error.Fault said)) frame fault f size begins =
     let none = no_fault bytes f size begins in
@@ -180,5 +213,7 @@ is_written f range = record {
   range = range;
 }
 
-pub begins_written : (f : Frame) (rest : List ℕ) → IsOfRange Two f → BeginsWith (written f ++ rest) f (length (written f))
-begins_written f rest range = record { first = written f; rest = rest; parts = refl; sized = refl; is = is_written f range }
+pub begins_written : (f : Frame) (rest : List ℕ) → IsOfRange Two f
+    → BeginsWith (written f ++ rest) f (length (written f))
+begins_written f rest range =
+    record { first = written f; rest = rest; parts = refl; sized = refl; is = is_written f range }

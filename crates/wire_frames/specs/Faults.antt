@@ -1,5 +1,6 @@
 -- Where no frame stands at the front of bytes: the first test that fails, and its answer.
-use Rattle.std.specs.Prelude.{◌≡◌, ℕ, ◌+◌, ◌^◌, ◌==◌, ◌&&◌, ◌||◌, Bool, false, not, nat_lt, nat_le, if◌then◌else◌, List, [], ◌∷◌, ◌++◌, length, Option, Some, None, is_none, Result, Ok, Err}
+use Rattle.std.specs.Prelude.{◌≡◌, ℕ, ◌+◌, ◌^◌, ◌==◌, ◌&&◌, ◌||◌, Bool, false, not, nat_lt, nat_le, if◌then◌else◌, List}
+use Rattle.std.specs.Prelude.{[], ◌∷◌, ◌++◌, length, Option, Some, None, is_none, Result, Ok, Err}
 use Rattle.plain_text.specs.declared.limit.TheConstants.{MOST_CAPTURED}
 use Rattle.plain_text.specs.declared.kind.Kind.{Kind}
 use Rattle.plain_text.specs.declared.kind.Kind.TheVariants.{Log, Out}
@@ -11,7 +12,8 @@ use Rattle.wire_frames.specs.declared.frame.FrameFault.TheVariants.{Short, BadKi
 use Rattle.wire_frames.specs.declared.frame.FrameError.{FrameError}
 use Rattle.wire_frames.specs.declared.frame.FrameError.TheVariants as error
 use Rattle.wire_frames.specs.Layout.{mask_of}
-use Rattle.wire_frames.specs.Places.{number_at, kind_at, version_at, length_at, epoch_at, thread_at, code_at, count_at, subject_at, threads_at, mask_at, stamp_at, stamp_end, what_at, captured_at}
+use Rattle.wire_frames.specs.Places.{number_at, kind_at, version_at, length_at, epoch_at, thread_at, code_at, count_at}
+use Rattle.wire_frames.specs.Places.{subject_at, threads_at, mask_at, stamp_at, stamp_end, what_at, captured_at}
 
 -- the least and the most bytes of a frame
 abbrev pub least : Kind → Version → ℕ
@@ -92,7 +94,8 @@ field_tests kind version bytes =
 
 -- the tests up to the lengths, by which the parts of a frame are found, and all
 abbrev pub part_tests : Kind → Version → List ℕ → List (Bool × FrameFault)
-part_tests kind version bytes = length_tests kind version bytes ++ (stamp_tests kind version bytes ++ size_tests kind version bytes)
+part_tests kind version bytes =
+    length_tests kind version bytes ++ (stamp_tests kind version bytes ++ size_tests kind version bytes)
 
 abbrev pub found_tests : List ℕ → List (Bool × FrameFault)
 found_tests bytes = form_tests bytes ++ part_tests (kind_at bytes) (version_at bytes) bytes

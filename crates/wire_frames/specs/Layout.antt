@@ -1,5 +1,6 @@
 -- Frames as bytes: the table of the fields of each kind and version, in order, with the bytes that each takes.
-use Rattle.std.specs.Prelude.{◌≡◌, ℕ, ◌+◌, ◌*◌, ◌^◌, ◌<◌, ◌≤◌, ◌==◌, not, if◌then◌else◌, List, [], ◌∷◌, ◌++◌, length, take, map, filter, slice_index}
+use Rattle.std.specs.Prelude.{◌≡◌, ℕ, ◌+◌, ◌*◌, ◌^◌, ◌<◌, ◌≤◌, ◌==◌, not, if◌then◌else◌, List, [], ◌∷◌, ◌++◌, length}
+use Rattle.std.specs.Prelude.{take, map, filter, slice_index}
 use Rattle.std.specs.List.{flat_map}
 use Rattle.byteorder.specs.Endian.{big_bytes}
 use Rattle.plain_text.specs.declared.limit.TheConstants.{MOST_CAPTURED}
@@ -79,7 +80,8 @@ nonzero components = filter (λ c. not (c == 0)) components
 abbrev pub component_fields : List ℕ → List Field
 component_fields components = map (field 8) components
 
--- the number of threads, and the components: in version 1 that of each thread, in version 2 those that are not 0, behind the mask
+-- the number of threads, and the components: in version 1 that of each thread, in version 2 those that are not 0,
+-- behind the mask
 abbrev pub stamp_fields : Version → ℕ → List ℕ → List Field
 stamp_fields One threads stamp = field 1 threads ∷ component_fields (take threads stamp)
 stamp_fields Two threads stamp = field 1 threads ∷ field 2 (mask_of stamp) ∷ component_fields (nonzero stamp)
@@ -102,7 +104,8 @@ output_fields version length epoch threads o =
 -- the bytes of a frame of this version, where it says that it has this length; an output ends with its captured bytes
 abbrev pub bytes_of : Version → ℕ → Frame → List ℕ
 bytes_of version length (frame.Entry epoch threads e) = spelled (entry_fields version length epoch threads e)
-bytes_of version length (frame.Output epoch threads o) = spelled (output_fields version length epoch threads o) ++ o.packet.bytes
+bytes_of version length (frame.Output epoch threads o) =
+    spelled (output_fields version length epoch threads o) ++ o.packet.bytes
 
 -- Which values may stand in a frame
 

@@ -14,7 +14,8 @@ use Rattle.wire_frames.specs.declared.frame.Frame.{Frame}
 use Rattle.wire_frames.specs.declared.frame.FrameError.{FrameError}
 use Rattle.wire_frames.specs.declared.frame.FrameError.TheVariants as error
 use Rattle.wire_frames.specs.Layout.{Field, field, head, code_of, subject_of, place_field, mask_of}
-use Rattle.wire_frames.specs.Places.{kind_at, version_at, length_at, threads_at, mask_at, stamp_end, epoch_at, thread_at, count_at, stamp_at, what_at, entry_at, output_at}
+use Rattle.wire_frames.specs.Places.{kind_at, version_at, length_at, threads_at, mask_at, stamp_end, epoch_at}
+use Rattle.wire_frames.specs.Places.{thread_at, count_at, stamp_at, what_at, entry_at, output_at}
 use Rattle.wire_frames.specs.Faults.{first_failure, field_tests}
 
 abbrev pub layout_of : List ℕ → Layout

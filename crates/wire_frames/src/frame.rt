@@ -2,7 +2,8 @@ use access_log::{Output, StampedEntry};
 use plain_text::NoMemory;
 use thiserror::Error;
 
-/// What a frame carries, with the epoch in which it was sent, counted from 1, and the number of threads of its sender, 1 to 16.
+/// What a frame carries, with the epoch in which it was sent, counted from 1, and the number of threads of its sender,
+/// 1 to 16.
 #[derive(Debug, Drop)]
 pub enum Frame {
     /// A log entry of a master of this epoch.

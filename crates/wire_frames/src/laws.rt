@@ -1,5 +1,6 @@
 //! The laws of frames. Each is proved, and does nothing.
-ghost use Rattle.std.specs.Prelude.{◌≡◌, ℕ, ◌/◌, ◌%◌, ◌^◌, ◌<◌, ◌==◌, if◌then◌else◌, List, ◌++◌, length, take, slice_index, None};
+ghost use Rattle.std.specs.Prelude.{◌≡◌, ℕ, ◌/◌, ◌%◌, ◌^◌, ◌<◌, ◌==◌, if◌then◌else◌, List, ◌++◌};
+ghost use Rattle.std.specs.Prelude.{length, take, slice_index, None};
 ghost use Rattle.plain_text.specs.Octets.{AreBytes};
 ghost use Rattle.wire_frames.specs.declared.version.Version.TheVariants.{Two};
 ghost use Rattle.wire_frames.specs.declared.frame.Frame.{Frame};

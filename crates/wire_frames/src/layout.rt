@@ -1,7 +1,9 @@
 ghost use Rattle.std.specs.Prelude.{◌≡◌, ◌+◌, ◌^◌, ◌<◌, ◌≤◌, length, IfOk, IfErr, Some, None};
 ghost use Rattle.plain_text.specs.Octets.{AreBytes};
-ghost use Rattle.wire_frames.specs.Faults.{first_failure, form_tests, least, length_tests, needed, size_tests, stamp_tests, found_tests};
-ghost use Rattle.wire_frames.specs.Places.{components_place, kind_at, length_at, mask_at, stamp_end, threads_at, threads_place, version_at};
+ghost use Rattle.wire_frames.specs.Faults.{first_failure, form_tests, least, length_tests, needed};
+ghost use Rattle.wire_frames.specs.Faults.{size_tests, stamp_tests, found_tests};
+ghost use Rattle.wire_frames.specs.Places.{components_place, kind_at, length_at, mask_at};
+ghost use Rattle.wire_frames.specs.Places.{stamp_end, threads_at, threads_place, version_at};
 ghost use Rattle.wire_frames.specs.Parts.{layout_of};
 
 use crate::FrameFault;
@@ -13,7 +15,8 @@ use plain_text::{Kind, MOST_CAPTURED};
 /// The bytes that tell the kind, the version and the length.
 const PREFIX: usize = 6;
 
-/// The most bytes of a frame of version 1, and of version 2: an output with all components and as many captured bytes as may be.
+/// The most bytes of a frame of version 1, and of version 2: an output with all components and as many captured bytes
+/// as may be.
 const MOST_OF_ONE: u32 = 262_317;
 
 const MOST_OF_TWO: u32 = 262_319;

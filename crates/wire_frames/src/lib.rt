@@ -1,8 +1,8 @@
 //! Log entries and outputs as bytes, and back.
 //!
-//! A frame has its version in its second byte and its own length behind it. Frames are written in version 2, and read in versions 1
-//! and 2. A stamp of version 1 has one component for each thread; one of version 2 has those that are not 0, and says by a mask
-//! whose they are. All numbers have their high byte first.
+//! A frame has its version in its second byte and its own length behind it. Frames are written in version 2, and read
+//! in versions 1 and 2. A stamp of version 1 has one component for each thread; one of version 2 has those that are not
+//! 0, and says by a mask whose they are. All numbers have their high byte first.
 #![tactic(auto)]
 
 mod bytes;

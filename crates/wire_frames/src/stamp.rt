@@ -1,4 +1,5 @@
-ghost use Rattle.std.specs.Prelude.{◌≡◌, ◌+◌, ◌*◌, ◌^◌, ◌<◌, ◌≤◌, ◌==◌, ◌&&◌, ◌||◌, not, ℕ, IsTrue, length, drop, slice_index};
+ghost use Rattle.std.specs.Prelude.{◌≡◌, ◌+◌, ◌*◌, ◌^◌, ◌<◌, ◌≤◌, ◌==◌, ◌&&◌, ◌||◌, not, ℕ, IsTrue};
+ghost use Rattle.std.specs.Prelude.{length, drop, slice_index};
 ghost use Rattle.wire_frames.specs.Layout.{mask_of, nonzero};
 ghost use Rattle.wire_frames.specs.Places.{bits_set, component_at, components};
 
@@ -53,8 +54,8 @@ pub(crate) fn bits_set(mask: u32) -> usize
     count
 }
 
-/// The stamp whose components stand one after the other, where they are those of the threads in the mask; and whether one of these is
-/// 0, so that the mask is not that of the stamp.
+/// The stamp whose components stand one after the other, where they are those of the threads in the mask; and whether
+/// one of these is 0, so that the mask is not that of the stamp.
 pub(crate) fn read_stamp(mask: u32, bytes: &[u8]) -> (Stamp, bool)
     requires room { 8 * bits_set 16 mask ≤ length bytes.now }
     requires fits { mask < 2 ^ 16 }

@@ -1,10 +1,14 @@
-ghost use Rattle.std.specs.Prelude.{◌≡◌, ◌+◌, ◌≤◌, ◌^◌, ◌<◌, ◌==◌, not, true, false, length, option_map, Some, None, IfOk, IfErr, IfSome, IfNone};
+ghost use Rattle.std.specs.Prelude.{◌≡◌, ◌+◌, ◌≤◌, ◌^◌, ◌<◌, ◌==◌, not, true, false, length};
+ghost use Rattle.std.specs.Prelude.{option_map, Some, None, IfOk, IfErr, IfSome, IfNone};
 ghost use Rattle.plain_text.specs.declared.kind.Kind.TheVariants.{Log, Out};
 ghost use Rattle.wire_frames.specs.declared.version.Version.TheVariants.{One, Two};
 ghost use Rattle.wire_frames.specs.declared.frame.FrameFault.TheVariants.{OutOfRange};
-ghost use Rattle.wire_frames.specs.Faults.{first_failure, field_tests, has_zero_component, is_not_sent, needed};
-ghost use Rattle.wire_frames.specs.Parts.{common_at, layout_of, IsFieldCause, IsReadingCause, IsTold};
-ghost use Rattle.wire_frames.specs.Places.{entry_at, kind_at, number_at, output_at, packet_from, stamp_at, version_at, what_at, what_from};
+ghost use Rattle.wire_frames.specs.Faults.{first_failure, field_tests, has_zero_component};
+ghost use Rattle.wire_frames.specs.Faults.{is_not_sent, needed};
+ghost use Rattle.wire_frames.specs.Parts.{common_at, layout_of, IsFieldCause, IsReadingCause};
+ghost use Rattle.wire_frames.specs.Parts.{IsTold};
+ghost use Rattle.wire_frames.specs.Places.{entry_at, kind_at, number_at, output_at, packet_from};
+ghost use Rattle.wire_frames.specs.Places.{stamp_at, version_at, what_at, what_from};
 
 use crate::bytes::{byte_at, u32_at, u64_at};
 use crate::layout::{Layout, PACKET_HEADER, place_of_components};

@@ -1,9 +1,12 @@
-ghost use Rattle.std.specs.Prelude.{◌≡◌, ◌+◌, ◌*◌, ◌^◌, ◌<◌, ◌≤◌, ◌++◌, ◌∷◌, [], ℕ, length, slice_index, OnOk, OnErr, IfOk};
+ghost use Rattle.std.specs.Prelude.{◌≡◌, ◌+◌, ◌*◌, ◌^◌, ◌<◌, ◌≤◌, ◌++◌, ◌∷◌, [], ℕ, length};
+ghost use Rattle.std.specs.Prelude.{slice_index, OnOk, OnErr, IfOk};
 ghost use Rattle.plain_text.specs.declared.limit.TheConstants.{MOST_CAPTURED};
 ghost use Rattle.plain_text.specs.declared.kind.Kind.TheVariants.{Log, Out};
 ghost use Rattle.wire_frames.specs.declared.version.Version.TheVariants.{Two};
 ghost use Rattle.wire_frames.specs.declared.frame.Frame.TheVariants as frame;
-ghost use Rattle.wire_frames.specs.Layout.{code_of, component_fields, field, head, kind_code, mask_of, nonzero, packet_fields, place_field, spelled, subject_of, written, written_length, IsFrame};
+ghost use Rattle.wire_frames.specs.Layout.{code_of, component_fields, field, head, kind_code};
+ghost use Rattle.wire_frames.specs.Layout.{mask_of, nonzero, packet_fields, place_field, spelled};
+ghost use Rattle.wire_frames.specs.Layout.{subject_of, written, written_length, IsFrame};
 ghost use Rattle.wire_frames.specs.Parts.{entry_front, output_front, FitsWord};
 ghost use Rattle.wire_frames.specs.Writing.{CanPutEntry, CanPutOutput};
 
@@ -20,7 +23,8 @@ const BARE_ENTRY: usize = 39;
 
 const BARE_OUTPUT: usize = 47;
 
-/// How many bytes the frame of an entry has that `put_entry` writes: 39, and 8 for each component of its stamp that is not 0.
+/// How many bytes the frame of an entry has that `put_entry` writes: 39, and 8 for each component of its stamp that is
+/// not 0.
 pub fn entry_length(entry: &StampedEntry) -> usize
     ensures value { result ≡ 39 + 8 * length (nonzero entry.now.stamp) }
     ensures written { (epoch threads : ℕ)
@@ -30,8 +34,8 @@ pub fn entry_length(entry: &StampedEntry) -> usize
     BARE_ENTRY + 8 * count_nonzero(&entry.stamp)
 }
 
-/// How many bytes the frame of an output has that `put_output` writes: 47, 8 for each component of its stamp that is not 0, and the
-/// captured bytes.
+/// How many bytes the frame of an output has that `put_output` writes: 47, 8 for each component of its stamp that is
+/// not 0, and the captured bytes.
 pub fn output_length(output: &Output) -> usize
     requires { length output.now.packet.bytes ≤ MOST_CAPTURED }
     ensures value { result
@@ -63,8 +67,8 @@ pub fn put_entry(
     Ok(frame)
 }
 
-/// The frame of an output of this epoch, of a sender with this number of threads. Its header is put in front of the captured bytes, which
-/// stay where they are if there is room for it (`HEADER_ROOM`).
+/// The frame of an output of this epoch, of a sender with this number of threads. Its header is put in front of the
+/// captured bytes, which stay where they are if there is room for it (`HEADER_ROOM`).
 pub fn put_output(
     alloc: Global,
     epoch: u32,
@@ -157,8 +161,8 @@ fn code_of_kind(kind: Kind) -> u8
     }
 }
 
-/// Puts the fields that tell the kind, the version and the length. Like all that follow it is put in front of what the frame has so far,
-/// since a frame is written from its end, and in one piece, since a frame has many fields.
+/// Puts the fields that tell the kind, the version and the length. Like all that follow it is put in front of what the
+/// frame has so far, since a frame is written from its end, and in one piece, since a frame has many fields.
 fn put_kind(frame: &mut Bytes, kind: Kind, size: u32) -> Result<(), NoMemory>
     ensures { OnOk result (frame.new
         ≡ spelled (field 1 (kind_code kind) ∷ field 1 2 ∷ field 4 size ∷ []) ++ frame.old) }

@@ -1,5 +1,6 @@
 -- That what the calls of a world in memory do is what a world promises.
-use Rattle.std.proofs.Common.{◌≡◌, ◌≢◌, ℕ, zero, suc, ◌+◌, ◌-◌, ◌^◌, ◌≤◌, List, [], ◌++◌, Some, Ok, Err, Result, true, false, cond, eqb, take, arith, ap, ◌∙◌, sym, refl, subst}
+use Rattle.std.proofs.Common.{◌≡◌, ◌≢◌, ℕ, zero, suc, ◌+◌, ◌-◌, ◌^◌, ◌≤◌, List, [], ◌++◌, Some, Ok, Err, Result, true}
+use Rattle.std.proofs.Common.{false, cond, eqb, take, arith, ap, ◌∙◌, sym, refl, subst}
 use Rattle.std.specs.Prelude.{◌==◌, if◌then◌else◌}
 use Rattle.std.proofs.lemmas.List.{take_all}
 use Rattle.std.proofs.lemmas.Bool.Decides.{nat_tests}
@@ -18,8 +19,9 @@ use Rattle.world_io.specs.OneFile.{WritesFile-nothing}
 use Rattle.world_io.specs.Memory.{Memory, IsHealthy, Opens, Fills, Puts, after_read, after_read_fault, shown_of}
 use Rattle.world_io.proofs.FilesLemmas.{TakesFromFile-nothing, seen_alike-set, file_of-set_same, file_of-set_other}
 
-pub Fills-passed : (old : Memory) (file : ℕ) (r : Filled) (piece : List ℕ) (files : List MemoryFile) → next_fails old.reading ≡ false → r ≢ Failed
-    → EndsAtEnd r (left_in (file_of old.files file)) → TakesFromFile file (filled_bytes r piece) old.files files
+pub Fills-passed : (old : Memory) (file : ℕ) (r : Filled) (piece : List ℕ) (files : List MemoryFile)
+    → next_fails old.reading ≡ false → r ≢ Failed → EndsAtEnd r (left_in (file_of old.files file))
+    → TakesFromFile file (filled_bytes r piece) old.files files
     → Fills old file r piece (record (after_read old) { files = files })
 Fills-passed old file (Got n) piece files passed fine end takes = (passed, end, takes, refl)
 Fills-passed old file End piece files passed fine end takes =
@@ -53,7 +55,8 @@ module _ (old new : Memory) where
       let P : Shown → Type 0 = λ s. WritesFile file [] (shown_of old) s in
       subst P (sym e) (WritesFile-nothing file (shown_of old))
 
-  pub Puts-told : (file : ℕ) (r : Put) (piece : List ℕ) → Puts old file r piece new → WritesFile file (put_bytes r piece) (shown_of old) (shown_of new)
+  pub Puts-told : (file : ℕ) (r : Put) (piece : List ℕ) → Puts old file r piece new
+      → WritesFile file (put_bytes r piece) (shown_of old) (shown_of new)
   Puts-told zero (put.Took n) piece h =
       let P : Memory → Type 0 = λ m. WritesFile zero (take n piece) (shown_of old) (shown_of m) in
       let all : take n piece ≡ piece = take_all n piece (omega (arith, h.1)) in
@@ -73,14 +76,23 @@ module _ (old new : Memory) where
       let own = ap (λ fs. file_of fs number) sends.after ∙ file_of-set_same old.files number _ _ sends.had in
       let report : new.report ≡ old.report = ap (λ m. m.report) h.2.after in
       record {
-        sent = rw (suc-eqb file) (ap sent_to own ∙ ap (λ l. l ++ piece) (sym (ap sent_to sends.had)) ∙ ap (λ l. sent_to (file_of old.files number) ++ l) (sym all));
+        sent = rw (suc-eqb file) (ap sent_to own
+            ∙ ap (λ l. l ++ piece) (sym (ap sent_to sends.had))
+            ∙ ap (λ l. sent_to (file_of old.files number) ++ l) (sym all));
         other_sent = λ k other.
-            let same = ap (λ fs. sent_to (file_of fs k)) sends.after ∙ ap sent_to (file_of-set_other old.files number k _ _ sends.had other) in
-            ap (λ l. if k == 0 then l else sent_to (file_of new.files k)) report ∙ ap (λ l. if k == 0 then old.report else l) same;
+            let same =
+            ap (λ fs. sent_to (file_of fs k)) sends.after
+            ∙ ap sent_to (file_of-set_other old.files number k _ _ sends.had other) in
+            ap (λ l. if k == 0 then l else sent_to (file_of new.files k)) report
+            ∙ ap (λ l. if k == 0 then old.report else l) same;
         named = λ had some there. appends.own had there ∙ ap (λ l. Some (had ++ l)) (sym all);
         other_names = λ name differ. appends.others name (differ (λ z. omega arith));
-        name_of = ap (λ fs k. name_in (file_of fs k)) sends.after ∙ seen_alike-set name_in old.files number _ _ sends.had refl;
-        left = ap (λ fs k. left_in (file_of fs k)) sends.after ∙ seen_alike-set left_in old.files number _ _ sends.had refl;
+        name_of =
+            ap (λ fs k. name_in (file_of fs k)) sends.after
+            ∙ seen_alike-set name_in old.files number _ _ sends.had refl;
+        left =
+            ap (λ fs k. left_in (file_of fs k)) sends.after
+            ∙ seen_alike-set left_in old.files number _ _ sends.had refl;
       }
   Puts-told zero put.Failed piece h = puts_nothing zero (ap shown_of h.1)
   Puts-told (suc file) put.Failed piece h = puts_nothing (suc file) (ap shown_of h.1)

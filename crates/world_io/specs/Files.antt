@@ -1,5 +1,6 @@
 -- The files of a world in memory, each under its number: the place where it stands, counted from 1.
-use Rattle.std.specs.Prelude.{◌≡◌, ℕ, zero, suc, ◌-◌, Bool, true, false, List, [], ◌++◌, Option, Some, None, slice_get, slice_set, take}
+use Rattle.std.specs.Prelude.{◌≡◌, ℕ, zero, suc, ◌-◌, Bool, true, false, List, [], ◌++◌, Option, Some, None, slice_get}
+use Rattle.std.specs.Prelude.{slice_set, take}
 use Rattle.world_io.specs.declared.memory_file.CreatedFile.{CreatedFile}
 use Rattle.world_io.specs.declared.memory_file.MemoryFile.{MemoryFile}
 use Rattle.world_io.specs.declared.memory_file.MemoryFile.TheVariants.{Opened, Created}

@@ -1,5 +1,6 @@
 -- A world in memory, as plain data, and what each of its calls does.
-use Rattle.std.specs.Prelude.{◌≡◌, ◌⊎◌, ℕ, zero, suc, ◌+◌, ◌==◌, true, false, List, [], ◌∷◌, ◌++◌, Some, None, Result, Ok, Err, length, if◌then◌else◌}
+use Rattle.std.specs.Prelude.{◌≡◌, ◌⊎◌, ℕ, zero, suc, ◌+◌, ◌==◌, true, false, List, [], ◌∷◌, ◌++◌, Some, None, Result}
+use Rattle.std.specs.Prelude.{Ok, Err, length, if◌then◌else◌}
 use Rattle.world_io.specs.declared.names.NamedBytes.{NamedBytes}
 use Rattle.world_io.specs.declared.memory_file.MemoryFile.{MemoryFile}
 use Rattle.world_io.specs.declared.memory_file.MemoryFile.TheVariants.{Opened, Created}
@@ -15,7 +16,8 @@ use Rattle.world_io.specs.Files.{file_of, is_opened, is_created, left_in, sent_t
 use Rattle.world_io.specs.Calls.{CallCount, next_fails, after_call, after_fault, NoneIsToFail}
 use Rattle.world_io.specs.World.{Shown, Ledger}
 
--- the names with their bytes, the files in the order of their numbers, the report, and the calls of reading and of writing
+-- the names with their bytes, the files in the order of their numbers, the report, and the calls of reading and of
+-- writing
 pub record Memory : Type 0 where
   pub names : List NamedBytes
   pub files : List MemoryFile
@@ -64,22 +66,33 @@ after_write_fault m = record m { writing = after_fault m.writing }
 
 -- an opening fails exactly where it was told to, or where the name is not there
 abbrev pub Opens : Memory → List ℕ → Result ℕ OpenFault → Memory → Type 0
-Opens old name (Ok file) new = (next_fails old.reading ≡ false) × (file ≡ length old.files + 1)
-    × ((bytes : List ℕ) × (bytes_under old.names name ≡ Some bytes) × (new ≡ record (after_read old) { files = old.files ++ Opened bytes ∷ [] }))
-Opens old name (Err Failed) new = ((next_fails old.reading ≡ true) ⊎ (bytes_under old.names name ≡ None)) × (new ≡ after_read_fault old)
+Opens old name (Ok file) new =
+    (next_fails old.reading ≡ false) × (file ≡ length old.files + 1) × ((bytes : List ℕ)
+    × (bytes_under old.names name ≡ Some bytes)
+    × (new ≡ record (after_read old) { files = old.files ++ Opened bytes ∷ [] }))
+Opens old name (Err Failed) new =
+    ((next_fails old.reading ≡ true) ⊎ (bytes_under old.names name ≡ None)) × (new ≡ after_read_fault old)
 Opens old name (Err NoMemory) new = (next_fails old.reading ≡ false) × (new ≡ after_read old)
 
 -- a fill fails exactly where it was told to
 abbrev pub Fills : Memory → ℕ → Filled → List ℕ → Memory → Type 0
 Fills old file filled.Failed piece new = (next_fails old.reading ≡ true) × (new ≡ after_read_fault old)
-Fills old file (filled.Got n) piece new = (next_fails old.reading ≡ false) × EndsAtEnd (filled.Got n) (left_in (file_of old.files file))
-    × TakesFromFile file (filled_bytes (filled.Got n) piece) old.files new.files × (new ≡ record (after_read old) { files = new.files })
-Fills old file filled.End piece new = (next_fails old.reading ≡ false) × EndsAtEnd filled.End (left_in (file_of old.files file)) × (new ≡ after_read old)
+Fills old file (filled.Got n) piece new =
+    (next_fails old.reading ≡ false)
+    × EndsAtEnd (filled.Got n) (left_in (file_of old.files file))
+    × TakesFromFile file (filled_bytes (filled.Got n) piece) old.files new.files
+    × (new ≡ record (after_read old) { files = new.files })
+Fills old file filled.End piece new =
+    (next_fails old.reading ≡ false) × EndsAtEnd filled.End (left_in (file_of old.files file)) × (new ≡ after_read old)
 
 -- a creation fails exactly where it was told to
 abbrev pub Creates : Memory → List ℕ → Result ℕ OpenFault → Memory → Type 0
-Creates old name (Ok file) new = (next_fails old.writing ≡ false) × (file ≡ length old.files + 1) × SetsName name [] old.names new.names
-    × (new ≡ record (after_write old) { names = new.names; files = old.files ++ Created (record { name = name; sent = [] }) ∷ [] })
+Creates old name (Ok file) new =
+    (next_fails old.writing ≡ false) × (file ≡ length old.files + 1) × SetsName name [] old.names new.names
+    × (new ≡ record (after_write old) {
+      names = new.names;
+      files = old.files ++ Created (record { name = name; sent = [] }) ∷ [];
+    })
 Creates old name (Err Failed) new = (next_fails old.writing ≡ true) × (new ≡ after_write_fault old)
 Creates old name (Err NoMemory) new = (next_fails old.writing ≡ false) × (new ≡ after_write old)
 
@@ -91,7 +104,11 @@ pub record Sends (file : ℕ) (bytes : List ℕ) (old new : Memory) : Type 0 whe
 
 -- a put fails exactly where it was told to, and else takes all of the piece
 abbrev pub Puts : Memory → ℕ → Put → List ℕ → Memory → Type 0
-Puts old zero (put.Took n) piece new = (next_fails old.writing ≡ false) × (n ≡ length piece) × (new ≡ record (after_write old) { report = old.report ++ piece })
-Puts old (suc file) (put.Took n) piece new = (next_fails old.writing ≡ false) × (n ≡ length piece) × Sends (suc file) piece (after_write old) new
+Puts old zero (put.Took n) piece new =
+    (next_fails old.writing ≡ false)
+    × (n ≡ length piece)
+    × (new ≡ record (after_write old) { report = old.report ++ piece })
+Puts old (suc file) (put.Took n) piece new =
+    (next_fails old.writing ≡ false) × (n ≡ length piece) × Sends (suc file) piece (after_write old) new
 Puts old file put.Failed piece new = (next_fails old.writing ≡ true) × (new ≡ after_write_fault old)
 Puts old file put.NoMemory piece new = (next_fails old.writing ≡ false) × (new ≡ after_write old)

@@ -4,12 +4,14 @@ use Rattle.std.proofs.Common.{sym, ◌∙◌, ap, subst, arith, append_assoc, ap
 use Rattle.world_io.specs.World.{Shown, Ledger, KeepsLedgerReading, KeepsLedgerWriting, ReadsFile, WritesFile}
 
 -- These bytes were taken from one file of a world: where told, by the world's own relation.
-pub record ReadsOneFile {W : Type 0} (tells : Bool) (shown : W → Shown) (ledger : W → Ledger) (file : ℕ) (taken : List ℕ) (old new : W) : Type 0 where
+pub record ReadsOneFile {W : Type 0} (tells : Bool) (shown : W → Shown) (ledger : W → Ledger) (file : ℕ)
+    (taken : List ℕ) (old new : W) : Type 0 where
   pub ledger_kept : KeepsLedgerReading (ledger old) (ledger new)
   pub shown_read : IsTrue tells → ReadsFile file taken (shown old) (shown new)
 
 -- These bytes were appended to one file of a world: where told, by the world's own relation.
-pub record WritesOneFile {W : Type 0} (tells : Bool) (shown : W → Shown) (ledger : W → Ledger) (file : ℕ) (bytes : List ℕ) (old new : W) : Type 0 where
+pub record WritesOneFile {W : Type 0} (tells : Bool) (shown : W → Shown) (ledger : W → Ledger) (file : ℕ)
+    (bytes : List ℕ) (old new : W) : Type 0 where
   pub ledger_kept : KeepsLedgerWriting (ledger old) (ledger new)
   pub shown_written : IsTrue tells → WritesFile file bytes (shown old) (shown new)
 
@@ -17,7 +19,8 @@ pub KeepsLedgerReading-same : (a : Ledger) → KeepsLedgerReading a a
 KeepsLedgerReading-same a =
     record { opened = refl; created = refl; given = refl; read_faults = omega arith; write_faults = refl }
 
-pub KeepsLedgerReading-more : (a b c : Ledger) → KeepsLedgerReading a b → KeepsLedgerReading b c → KeepsLedgerReading a c
+pub KeepsLedgerReading-more : (a b c : Ledger) → KeepsLedgerReading a b → KeepsLedgerReading b c
+    → KeepsLedgerReading a c
 KeepsLedgerReading-more a b c r s = record {
   opened = s.opened ∙ r.opened;
   created = s.created ∙ r.created;
@@ -30,7 +33,8 @@ pub KeepsLedgerWriting-same : (a : Ledger) → KeepsLedgerWriting a a
 KeepsLedgerWriting-same a =
     record { opened = refl; created = refl; given = refl; read_faults = refl; write_faults = omega arith }
 
-pub KeepsLedgerWriting-more : (a b c : Ledger) → KeepsLedgerWriting a b → KeepsLedgerWriting b c → KeepsLedgerWriting a c
+pub KeepsLedgerWriting-more : (a b c : Ledger) → KeepsLedgerWriting a b → KeepsLedgerWriting b c
+    → KeepsLedgerWriting a c
 KeepsLedgerWriting-more a b c r s = record {
   opened = s.opened ∙ r.opened;
   created = s.created ∙ r.created;
@@ -43,7 +47,8 @@ pub ReadsFile-nothing : (file : ℕ) (a : Shown) → ReadsFile file [] a a
 ReadsFile-nothing file a =
     record { left = refl; other_left = λ _ _. refl; names = refl; sent = refl; name_of = refl }
 
-pub ReadsFile-more : (file : ℕ) (first more : List ℕ) (a b c : Shown) → ReadsFile file first a b → ReadsFile file more b c → ReadsFile file (first ++ more) a c
+pub ReadsFile-more : (file : ℕ) (first more : List ℕ) (a b c : Shown) → ReadsFile file first a b
+    → ReadsFile file more b c → ReadsFile file (first ++ more) a c
 ReadsFile-more file first more a b c r s = record {
   left = r.left ∙ ap (λ rest. first ++ rest) s.left ∙ sym (append_assoc first more (c.left file));
   other_left = λ k other. s.other_left k other ∙ r.other_left k other;
@@ -62,14 +67,17 @@ WritesFile-nothing file a = record {
   left = refl;
 }
 
-pub WritesFile-more : (file : ℕ) (first more : List ℕ) (a b c : Shown) → WritesFile file first a b → WritesFile file more b c → WritesFile file (first ++ more) a c
+pub WritesFile-more : (file : ℕ) (first more : List ℕ) (a b c : Shown) → WritesFile file first a b
+    → WritesFile file more b c → WritesFile file (first ++ more) a c
 WritesFile-more file first more a b c r s =
     let same : b.name_of file ≡ a.name_of file = ap (λ f. f file) r.name_of in
     record {
       sent = s.sent ∙ ap (λ l. l ++ more) r.sent ∙ append_assoc (a.sent file) first more;
       other_sent = λ k other. s.other_sent k other ∙ r.other_sent k other;
       named = λ had some there.
-          ap c.names (sym same) ∙ s.named (had ++ first) some (ap b.names same ∙ r.named had some there) ∙ ap Some (append_assoc had first more);
+          ap c.names (sym same)
+          ∙ s.named (had ++ first) some (ap b.names same ∙ r.named had some there)
+          ∙ ap Some (append_assoc had first more);
       other_names = λ name other. s.other_names name (λ some e. other some (e ∙ same)) ∙ r.other_names name other;
       name_of = s.name_of ∙ r.name_of;
       left = s.left ∙ r.left;
@@ -81,24 +89,30 @@ module _ {W : Type 0} (tells : Bool) (shown : W → Shown) (ledger : W → Ledge
       record { ledger_kept = KeepsLedgerReading-same (ledger a); shown_read = λ _. ReadsFile-nothing file (shown a) }
 
   -- the same file, as a later state of the source names it
-  pub ReadsOneFile-more : (file next : ℕ) (first more : List ℕ) (a b c : W) → next ≡ file → ReadsOneFile tells shown ledger file first a b
-      → ReadsOneFile tells shown ledger next more b c → ReadsOneFile tells shown ledger file (first ++ more) a c
+  pub ReadsOneFile-more : (file next : ℕ) (first more : List ℕ) (a b c : W) → next ≡ file
+      → ReadsOneFile tells shown ledger file first a b → ReadsOneFile tells shown ledger next more b c
+      → ReadsOneFile tells shown ledger file (first ++ more) a c
   ReadsOneFile-more file next first more a b c same r s =
       let P : ℕ → Type 0 = λ k. ReadsOneFile tells shown ledger k more b c in
       let t = subst P same s in record {
         ledger_kept = KeepsLedgerReading-more (ledger a) (ledger b) (ledger c) r.ledger_kept t.ledger_kept;
-        shown_read = λ told. ReadsFile-more file first more (shown a) (shown b) (shown c) (r.shown_read told) (t.shown_read told);
+        shown_read = λ told.
+            ReadsFile-more file first more (shown a) (shown b) (shown c) (r.shown_read told) (t.shown_read told);
       }
 
   pub WritesOneFile-nothing : (file : ℕ) (a : W) → WritesOneFile tells shown ledger file [] a a
-  WritesOneFile-nothing file a =
-      record { ledger_kept = KeepsLedgerWriting-same (ledger a); shown_written = λ _. WritesFile-nothing file (shown a) }
+  WritesOneFile-nothing file a = record {
+    ledger_kept = KeepsLedgerWriting-same (ledger a);
+    shown_written = λ _. WritesFile-nothing file (shown a);
+  }
 
-  pub WritesOneFile-more : (file next : ℕ) (first more : List ℕ) (a b c : W) → next ≡ file → WritesOneFile tells shown ledger file first a b
-      → WritesOneFile tells shown ledger next more b c → WritesOneFile tells shown ledger file (first ++ more) a c
+  pub WritesOneFile-more : (file next : ℕ) (first more : List ℕ) (a b c : W) → next ≡ file
+      → WritesOneFile tells shown ledger file first a b → WritesOneFile tells shown ledger next more b c
+      → WritesOneFile tells shown ledger file (first ++ more) a c
   WritesOneFile-more file next first more a b c same r s =
       let P : ℕ → Type 0 = λ k. WritesOneFile tells shown ledger k more b c in
       let t = subst P same s in record {
         ledger_kept = KeepsLedgerWriting-more (ledger a) (ledger b) (ledger c) r.ledger_kept t.ledger_kept;
-        shown_written = λ told. WritesFile-more file first more (shown a) (shown b) (shown c) (r.shown_written told) (t.shown_written told);
+        shown_written = λ told.
+            WritesFile-more file first more (shown a) (shown b) (shown c) (r.shown_written told) (t.shown_written told);
       }

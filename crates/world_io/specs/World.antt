@@ -128,7 +128,8 @@ pub record CreatesNothing (name : List ℕ) (old new : Shown) : Type 0 where
 pub record WritesFile (file : ℕ) (bytes : List ℕ) (old new : Shown) : Type 0 where
   pub sent : new.sent file ≡ old.sent file ++ bytes
   pub other_sent : (k : ℕ) → ¬ (k ≡ file) → new.sent k ≡ old.sent k
-  pub named : (had : List ℕ) → ¬ (file ≡ 0) → old.names (old.name_of file) ≡ Some had → new.names (old.name_of file) ≡ Some (had ++ bytes)
+  pub named : (had : List ℕ) → ¬ (file ≡ 0) → old.names (old.name_of file) ≡ Some had
+      → new.names (old.name_of file) ≡ Some (had ++ bytes)
   pub other_names : (name : List ℕ) → (¬ (file ≡ 0) → ¬ (name ≡ old.name_of file)) → new.names name ≡ old.names name
   pub name_of : new.name_of ≡ old.name_of
   pub left : new.left ≡ old.left

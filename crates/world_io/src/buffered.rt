@@ -81,7 +81,8 @@ impl<S: Source> BufferedSource<S> {
         ensures holds { HoldsSome result self.new.1 }
         ensures end { IsTrue S.tells → EndsAtEnd result (S.left self.old.0) }
         ensures goes_on { GoesOn S.faults S.healthy self.old.0 self.new.0 }
-        ensures cause { result ≡ Filled.Failed → HasFailed S.faults S.healthy self.old.0 self.new.0 }
+        ensures cause { result ≡ Filled.Failed
+            → HasFailed S.faults S.healthy self.old.0 self.new.0 }
     {
         let filled = self.source.fill(self.buffer.as_mut_slice());
         self.given = 0;
@@ -95,7 +96,8 @@ impl<S: Source> BufferedSource<S> {
 
 impl<S: Source> Source for BufferedSource<S> {
     ghost use Rattle.std.specs.Prelude.{◌++◌};
-    ghost use Rattle.world_io.specs.Buffered.{TakesThrough, TakesThrough-nothing, TakesThrough-more, TakesThrough-told};
+    ghost use Rattle.world_io.specs.Buffered.{TakesThrough, TakesThrough-nothing};
+    ghost use Rattle.world_io.specs.Buffered.{TakesThrough-more, TakesThrough-told};
 
     ghost tells = { S.tells };
 

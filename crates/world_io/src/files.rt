@@ -1,7 +1,8 @@
 ghost use Rattle.std.specs.Prelude.{◌≡◌, ◌≢◌, ◌++◌, ◌∷◌, [], length, take, IsTrue, OnOk, OnErr};
 ghost use Rattle.world_io.specs.declared.memory_file.MemoryFile.TheVariants.{Opened, Created};
 ghost use Rattle.world_io.specs.Stream.{FillCount, filled_bytes, EndsAtEnd};
-ghost use Rattle.world_io.specs.Files.{file_of, is_opened, is_created, left_in, TakesFromFile, SendsToFile, CutsFile};
+ghost use Rattle.world_io.specs.Files.{file_of, is_opened, is_created, left_in, TakesFromFile};
+ghost use Rattle.world_io.specs.Files.{SendsToFile, CutsFile};
 
 use crate::Filled;
 use crate::memory_file::{CreatedFile, MemoryFile, OpenedFile};

@@ -5,7 +5,8 @@ ghost use Rattle.world_io.specs.World.{OpensFile, WritesFile, is_writable};
 ghost use Rattle.world_io.specs.Names.{bytes_under, SetsName};
 ghost use Rattle.world_io.specs.Calls.{with_failing};
 ghost use Rattle.world_io.specs.Files.{file_of, is_opened, is_created};
-ghost use Rattle.world_io.specs.Memory.{empty_memory, IsHealthy, shown_of, ledger_of, Opens, Fills, Creates, Sends, Puts};
+ghost use Rattle.world_io.specs.Memory.{empty_memory, IsHealthy, shown_of, ledger_of, Opens, Fills};
+ghost use Rattle.world_io.specs.Memory.{Creates, Sends, Puts};
 
 use crate::calls::Calls;
 use crate::files::Files;

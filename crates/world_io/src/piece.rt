@@ -1,4 +1,5 @@
-ghost use Rattle.std.specs.Prelude.{◌≡◌, ◌≤◌, ◌<◌, ◌++◌, [], IsTrue, IsNone, IsErrOf, IfSome, IfOk, MatchOption, List, ℕ, length, take};
+ghost use Rattle.std.specs.Prelude.{◌≡◌, ◌≤◌, ◌<◌, ◌++◌, [], IsTrue, IsNone, IsErrOf, IfSome, IfOk};
+ghost use Rattle.std.specs.Prelude.{MatchOption, List, ℕ, length, take};
 ghost use Rattle.plain_text.specs.Octets.{AreBytes};
 ghost use Rattle.world_io.specs.Beginning.{ReadsBehind};
 ghost use Rattle.world_io.specs.Stream.{GoesOn, HasFailed};

@@ -1,5 +1,6 @@
 ghost use Rattle.std.specs.Prelude.{◌≡◌, ◌++◌, [], Bool, true, IsTrue, List, ℕ, length};
-ghost use Rattle.world_io.specs.Stream.{GoesOn, HasFailed, FillCount, filled_bytes, EndsAtEnd, PutCount, put_bytes};
+ghost use Rattle.world_io.specs.Stream.{GoesOn, HasFailed, FillCount, filled_bytes, EndsAtEnd};
+ghost use Rattle.world_io.specs.Stream.{PutCount, put_bytes};
 
 use std::marker::Model;
 

@@ -1,6 +1,12 @@
-ghost use Rattle.std.specs.Prelude.{◌≡◌, ◌<◌, ◌-◌, ◌^◌, Bool, IsTrue, length, IfOk, OnErr, IsErrOf, None};
-ghost use Rattle.world_io.specs.Stream.{Rose, FillCount, filled_bytes, EndsAtEnd, PutCount, put_bytes};
-ghost use Rattle.world_io.specs.World.{Shown, Ledger, KeepsLedgerReading, KeepsLedgerWriting, ReadsOn, WritesOn, ReadingFailed, WritingFailed, GivesOpened, GivesCreated, OpensFile, ReadsFile, CreatesFile, CreatesNothing, WritesFile, FilledNothing, PutNothing, is_writable};
+ghost use Rattle.std.specs.Prelude.{◌≡◌, ◌<◌, ◌-◌, ◌^◌, Bool, IsTrue, length, IfOk, OnErr, IsErrOf};
+ghost use Rattle.std.specs.Prelude.{None};
+ghost use Rattle.world_io.specs.Stream.{Rose, FillCount, filled_bytes, EndsAtEnd, PutCount};
+ghost use Rattle.world_io.specs.Stream.{put_bytes};
+ghost use Rattle.world_io.specs.World.{Shown, Ledger, KeepsLedgerReading, KeepsLedgerWriting};
+ghost use Rattle.world_io.specs.World.{ReadsOn, WritesOn, ReadingFailed, WritingFailed};
+ghost use Rattle.world_io.specs.World.{GivesOpened, GivesCreated, OpensFile, ReadsFile};
+ghost use Rattle.world_io.specs.World.{CreatesFile, CreatesNothing, WritesFile, FilledNothing};
+ghost use Rattle.world_io.specs.World.{PutNothing, is_writable};
 
 use crate::{Filled, Put};
 use plain_text::{NoMemory, Text};

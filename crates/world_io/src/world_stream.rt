@@ -1,7 +1,9 @@
 ghost use Rattle.std.specs.Prelude.{◌≡◌, ◌++◌, IsTrue, refl};
 ghost use Rattle.std.proofs.Common.{◌∙◌, sym, ap};
 ghost use Rattle.world_io.specs.World.{is_writable};
-ghost use Rattle.world_io.specs.OneFile.{ReadsOneFile, WritesOneFile, ReadsOneFile-nothing, ReadsOneFile-more, WritesOneFile-nothing, WritesOneFile-more};
+ghost use Rattle.world_io.specs.OneFile.{ReadsOneFile, WritesOneFile, ReadsOneFile-nothing};
+ghost use Rattle.world_io.specs.OneFile.{ReadsOneFile-more, WritesOneFile-nothing};
+ghost use Rattle.world_io.specs.OneFile.{WritesOneFile-more};
 
 use crate::{Filled, Put, Sink, Source, World};
 

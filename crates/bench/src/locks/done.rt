@@ -12,7 +12,8 @@ pub struct Done {
 }
 
 impl Done {
-    /// What all threads of a master did, which made this number of moves. The box of this crate logs nothing but touches.
+    /// What all threads of a master did, which made this number of moves. The box of this crate logs nothing but
+    /// touches.
     pub fn of<P: Program>(master: &Master<P>, threads: u32, moves: u64) -> Self
         requires { threads ≤ length master.now.threads }
     {

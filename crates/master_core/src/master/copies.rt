@@ -2,7 +2,9 @@ ghost use Rattle.std.specs.Prelude.{◌≡◌, ◌↔◌, ℕ, ◌<◌, ◌≤�
 ghost use Rattle.std.specs.Prelude.{HoldsAt};
 ghost use Rattle.box_program.specs.Hands.{FitsProgram};
 ghost use Rattle.master_core.specs.Mastered.{value_of};
-ghost use Rattle.master_core.specs.Deltas.{changed_part, changed_parts, applied_part, applied_parts, delta_of, applied, HasCounts, HasTouched, LeadsOn, StandsAfter};
+ghost use Rattle.master_core.specs.Deltas.{changed_part, changed_parts, applied_part};
+ghost use Rattle.master_core.specs.Deltas.{applied_parts, delta_of, applied, HasCounts, HasTouched};
+ghost use Rattle.master_core.specs.Deltas.{LeadsOn, StandsAfter};
 
 use super::Master;
 use crate::{ThreadPart, VarPart};
@@ -14,8 +16,8 @@ use thread_clock::{Stamp, THREADS};
 
 /// What changed in a master since an earlier moment of it: the parts that its variables and its threads have now.
 ///
-/// Of a variable that was not touched since then the value is left out. How often a variable was touched, and its stamps, are there
-/// for each one, since a read changes those of the readers and no value.
+/// Of a variable that was not touched since then the value is left out. How often a variable was touched, and its
+/// stamps, are there for each one, since a read changes those of the readers and no value.
 #[derive(Drop)]
 pub struct Delta<P: Program> {
     vars: Vec<VarPart<Option<P::Value>>>,
@@ -56,8 +58,8 @@ impl<P: Program> Master<P> {
         })
     }
 
-    /// What changed since the master was as `base` is. It copies the values of the variables that were touched since then, and no
-    /// other.
+    /// What changed since the master was as `base` is. It copies the values of the variables that were touched since
+    /// then, and no other.
     pub fn delta(&self, alloc: Global, program: &P, base: &Master<P>) -> Result<Delta<P>, NoMemory>
         requires program { FitsProgram (P.meaning program.now) (P.fits program.now)
             value_of self.now.vars }
@@ -76,8 +78,8 @@ impl<P: Program> Master<P> {
         })
     }
 
-    /// Changes the master as the delta says: where it stands for the moment from which the delta leads, it stands for the one to
-    /// which it leads. It takes no memory.
+    /// Changes the master as the delta says: where it stands for the moment from which the delta leads, it stands for
+    /// the one to which it leads. It takes no memory.
     pub fn apply(&mut self, delta: Delta<P>)
         requires { length delta.vars ≡ length self.old.vars }
         ensures applied { self.new ≡ applied self.old delta }

@@ -1,6 +1,7 @@
 use Rattle.recovery_laws.proofs.EventOutcomes.{on_there}
 use Rattle.recovery_laws.proofs.Existence.{comes_to}
-use Rattle.recovery_laws.proofs.Scripts.{any_one, any_within, stops_one, stops_not, leaves_one, leaves_or_stops, stops_leave_one}
+use Rattle.recovery_laws.proofs.Scripts.{any_one, any_within, stops_one, stops_not, leaves_one, leaves_or_stops}
+use Rattle.recovery_laws.proofs.Scripts.{stops_leave_one}
 use Rattle.recovery_laws.proofs.scripts_come_to_one_thing.Goals as goal
 
 pub returns-clause-performed : goal.returns-clause-performed

@@ -10,7 +10,8 @@ pub returns-clause-count : goal.returns-clause-count
 returns-clause-count c = script_releases count_meaning IsNumbered count_went count_once
 
 pub returns-clause-monitor : goal.returns-clause-monitor
-returns-clause-monitor c = λ tables. script_releases (monitor_meaning tables) IsUnchanged monitor_went (monitor_once tables)
+returns-clause-monitor c =
+    λ tables. script_releases (monitor_meaning tables) IsUnchanged monitor_went (monitor_once tables)
 
 pub returns-clause-counts : goal.returns-clause-counts
 returns-clause-counts c = script_counts

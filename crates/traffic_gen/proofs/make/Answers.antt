@@ -27,7 +27,8 @@ loop-index-preserved c =
       packets =
           c.in_ok-push.ensures.ok
           ∙ generated-more seed i _ _ c.loop-index.packets c.in_ok-build_packet.field-0 c.loop-index.invariant.packets
-              (first.word seed (2 * i) c.loop-index.invariant.words) (second.word seed (2 * i + 1) after) c.in_ok-build_packet.ensures;
+          (first.word seed (2 * i) c.loop-index.invariant.words) (second.word seed (2 * i + 1) after)
+          c.in_ok-build_packet.ensures;
     }
 
 pub returns-clause-count : goal.returns-clause-count
@@ -38,9 +39,11 @@ returns-clause-count c =
 pub returns-clause-sixty_bytes : goal.returns-clause-sixty_bytes
 returns-clause-sixty_bytes c =
     let P : Packet → Type 0 = λ packet. length packet.bytes ≡ 60 in
-    subst (All P) (sym c.loop-index.invariant.packets) (generated_each P (λ i a b. length-frame (fields_of i a b)) c.args.seed c.loop-index.index)
+    subst (All P) (sym c.loop-index.invariant.packets)
+    (generated_each P (λ i a b. length-frame (fields_of i a b)) c.args.seed c.loop-index.index)
 
 pub returns-clause-right_checksums : goal.returns-clause-right_checksums
 returns-clause-right_checksums c =
     let P : Packet → Type 0 = λ packet. HasRightChecksums packet.bytes in
-    subst (All P) (sym c.loop-index.invariant.packets) (generated_each P (λ i a b. frame_verifies (fields_of i a b)) c.args.seed c.loop-index.index)
+    subst (All P) (sym c.loop-index.invariant.packets)
+    (generated_each P (λ i a b. frame_verifies (fields_of i a b)) c.args.seed c.loop-index.index)

@@ -6,6 +6,9 @@ use Rattle.access_log.proofs.slots.empty_above.Given as goal
 abbrev pub invariant-loop-i : goal.invariant-loop-i
 invariant-loop-i l = record {
   slots : length l.contiguous.items ≡ length l.initial.contiguous.items;
-  held : (i : ℕ) (e : StampedEntry) → i < l.i → (slice_index_or l.contiguous.items i None ≡ Some e) ↔ ((slice_index_or l.initial.contiguous.items i None ≡ Some e) × AtMost e.stamp l.frontiers);
-  ahead : (i : ℕ) → l.i ≤ i → slice_index_or l.contiguous.items i None ≡ slice_index_or l.initial.contiguous.items i None;
+  held : (i : ℕ) (e : StampedEntry) → i < l.i
+      → (slice_index_or l.contiguous.items i None ≡ Some e)
+      ↔ ((slice_index_or l.initial.contiguous.items i None ≡ Some e) × AtMost e.stamp l.frontiers);
+  ahead : (i : ℕ) → l.i ≤ i
+      → slice_index_or l.contiguous.items i None ≡ slice_index_or l.initial.contiguous.items i None;
 }

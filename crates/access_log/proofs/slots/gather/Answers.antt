@@ -14,7 +14,8 @@ loop-number-preserved c =
     let is = c.loop-number.invariant.slotted in
     let good : is_ok c.push_back.result ≡ true = c.is_err.ensures.negation ∙ ap not c.if-is_err.false in
     let pushed = rw good at c.push_back.ensures.items in
-    let took = popped c.pop_first.result out_of_order rest k e c.in-Some.ensures.first (c.pop_first.ensures.variant.1 (c.in-Some.ensures.variant.0 refl)) c.pop_first.ensures.removal in
+    let took = popped c.pop_first.result out_of_order rest k e c.in-Some.ensures.first
+    (c.pop_first.ensures.variant.1 (c.in-Some.ensures.variant.0 refl)) c.pop_first.ensures.removal in
     let removed = rw took at c.pop_first.ensures.removal in
     let updates = rw took at c.pop_first.ensures.updates in
     let len = c.loop-number.contiguous.ok.0 in
@@ -22,6 +23,9 @@ loop-number-preserved c =
     let past = is.past k some in
     let next : k ≡ c.args.covered + length contiguous + 1 = omega (arith, c.if-number-covered.false, c.len.ensures) in
     record {
-      slotted = rw pushed (IsSlotted-gathered c.args.covered contiguous out_of_order rest k e is removed updates.1 next);
-      same = rw pushed (in_slots-push c.args.covered contiguous k e rest next ∙ ap (λ l. in_slots c.args.covered contiguous ++ l) (sym removed) ∙ c.loop-number.invariant.same);
+      slotted =
+          rw pushed (IsSlotted-gathered c.args.covered contiguous out_of_order rest k e is removed updates.1 next);
+      same = rw pushed (in_slots-push c.args.covered contiguous k e rest next
+          ∙ ap (λ l. in_slots c.args.covered contiguous ++ l) (sym removed)
+          ∙ c.loop-number.invariant.same);
     }

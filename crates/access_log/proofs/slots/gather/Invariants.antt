@@ -6,7 +6,8 @@ use Rattle.access_log.proofs.slots.gather.Given as goal
 abbrev pub invariant-loop-number : goal.invariant-loop-number
 invariant-loop-number l = record {
   slotted : IsSlotted l.covered l.contiguous.items l.out_of_order.entries;
-  same : in_slots l.covered l.contiguous.items ++ l.out_of_order.entries ≡ in_slots l.covered l.initial.contiguous.items ++ l.initial.out_of_order.entries;
+  same : in_slots l.covered l.contiguous.items ++ l.out_of_order.entries
+      ≡ in_slots l.covered l.initial.contiguous.items ++ l.initial.out_of_order.entries;
 }
 
 abbrev pub decreases-loop-number : goal.decreases-loop-number

@@ -8,8 +8,8 @@ use Rattle.balancer_box.proofs.connections.first_idle.Goals.{in-Some+else-is_idl
 
 pub returns-then-is_idle : goal.returns-then-is_idle
 returns-then-is_idle c =
-    idle_here c.args.now c.loop-index.index (c.in-Some.client.now, c.in-Some.slot.now) c.args.slots.now.entries c.loop-index.invariant (sym c.in-Some.ensures.entry)
-    (sym c.is_idle.ensures ∙ c.if-is_idle.true)
+    idle_here c.args.now c.loop-index.index (c.in-Some.client.now, c.in-Some.slot.now) c.args.slots.now.entries
+    c.loop-index.invariant (sym c.in-Some.ensures.entry) (sym c.is_idle.ensures ∙ c.if-is_idle.true)
 
 pub loop-index-preserved : goal.loop-index-preserved
 loop-index-preserved c =
@@ -17,8 +17,10 @@ loop-index-preserved c =
     (elim c.match-get_index.branch [
       | in-Some+else-is_idle w ↦ λ e is.
           let same : (w.in-Some.client.now, w.in-Some.slot.now) ≡ e = (let at = w.in-Some.ensures.entry in cc) in
-          subst (λ (e : Endpoint × Slot). is_idle c.args.now e ≡ false) same (sym w.is_idle.ensures ∙ w.if-is_idle.false)
-      | in_default w ↦ λ e is. absurd (nothing_at c.args.slots.now.entries c.loop-index.index e w.in_default.ensures.entry is)
+          subst (λ (e : Endpoint × Slot). is_idle c.args.now e ≡ false) same
+          (sym w.is_idle.ensures ∙ w.if-is_idle.false)
+      | in_default w ↦
+          λ e is. absurd (nothing_at c.args.slots.now.entries c.loop-index.index e w.in_default.ensures.entry is)
     ])
 
 pub returns : goal.returns

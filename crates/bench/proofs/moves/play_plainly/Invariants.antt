@@ -15,7 +15,8 @@ invariant-loop-packet g l = record {
 abbrev pub invariant-moves : goal.invariant-moves
 invariant-moves g l = record {
   fits : FitsProgram (g.P.Program.meaning l.program) (g.P.Program.fits l.program) (λ value. value) l.player.values;
-  within : l.player.made + moves_left (g.P.Program.meaning l.program) (place_in_hand l.player 0) ≤ 64 * (l.packet-index + 1);
+  within : l.player.made + moves_left (g.P.Program.meaning l.program) (place_in_hand l.player 0)
+      ≤ 64 * (l.packet-index + 1);
 }
 
 abbrev pub decreases-moves : goal.decreases-moves

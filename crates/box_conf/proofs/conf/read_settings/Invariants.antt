@@ -10,6 +10,8 @@ use Rattle.box_conf.proofs.conf.read_settings.Given as goal
 -- the text comes to what the settings so far and the lines left come to; what was set is in its range
 abbrev pub invariant-loop-line : goal.invariant-loop-line
 invariant-loop-line l = record {
-  text : described_box l.text ≡ conf_of (length (lines_of l.text)) l.kind (backends_after [] (counted_lines l.text)) (set_lines l.kind l.settings l.line-iterator);
+  text : described_box l.text
+      ≡ conf_of (length (lines_of l.text)) l.kind (backends_after [] (counted_lines l.text))
+      (set_lines l.kind l.settings l.line-iterator);
   in_range : AreInRange l.settings;
 }

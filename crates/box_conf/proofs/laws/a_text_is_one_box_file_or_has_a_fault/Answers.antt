@@ -1,4 +1,5 @@
-use Rattle.box_conf.proofs.OneFile.{one_box, one_fault, box_or_fault, box_is_read, read_is_box, fault_is_read, read_is_fault}
+use Rattle.box_conf.proofs.OneFile.{one_box, one_fault, box_or_fault, box_is_read, read_is_box, fault_is_read}
+use Rattle.box_conf.proofs.OneFile.{read_is_fault}
 use Rattle.box_conf.proofs.laws.a_text_is_one_box_file_or_has_a_fault.Goals as goal
 
 pub returns-clause-one_box : goal.returns-clause-one_box

@@ -6,4 +6,5 @@ use Rattle.command_line.proofs.words.copy_texts.Given as goal
 -- the texts so far and those of the strings left are the texts of all strings
 abbrev pub invariant-loop-string : goal.invariant-loop-string
 invariant-loop-string l =
-    l.texts.items ++ map string_bytes (into_iter_items l.string-iterator) ≡ map string_bytes (into_iter_items l.fn.strings)
+    l.texts.items ++ map string_bytes (into_iter_items l.string-iterator)
+    ≡ map string_bytes (into_iter_items l.fn.strings)

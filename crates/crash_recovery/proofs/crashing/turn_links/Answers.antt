@@ -8,5 +8,6 @@ loop-thread-init g c = record { within = search rules; turned = turned_none _ _ 
 pub loop-thread-preserved : goal.loop-thread-preserved
 loop-thread-preserved g c = record {
   within = search rules;
-  turned = turned_more _ c.loop-thread.thread c.counts-counts.result _ _ c.turn_back.new.self c.counts-counts.ensures c.loop-thread.invariant.turned c.turn_back.ensures;
+  turned = turned_more _ c.loop-thread.thread c.counts-counts.result _ _ c.turn_back.new.self c.counts-counts.ensures
+      c.loop-thread.invariant.turned c.turn_back.ensures;
 }

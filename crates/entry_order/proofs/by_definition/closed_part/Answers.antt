@@ -3,7 +3,8 @@ use Rattle.entry_order.proofs.by_definition.closed_part.Goals as goal
 
 pub loop-i-preserved : goal.loop-i-preserved
 loop-i-preserved c =
-    rw c.remove.ensures.items (dropping_step _ _ _ _ c.in-Some.i c.loop-i.invariant (rw c.deref.ensures.value at c.in-Some.ensures.lacking))
+    rw c.remove.ensures.items
+    (dropping_step _ _ _ _ c.in-Some.i c.loop-i.invariant (rw c.deref.ensures.value at c.in-Some.ensures.lacking))
 
 pub returns : goal.returns
 returns c = record {

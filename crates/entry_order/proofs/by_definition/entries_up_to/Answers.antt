@@ -17,14 +17,18 @@ remove-requires c =
 
 pub loop-i-init : goal.loop-i-init
 loop-i-init c =
-    rw (c.in_ok-push.ensures.items, c.new-found.ensures.items, c.in_ok-rest.ensures.items) (search_start _ _ (c.contains.ensures.0 c.if-not-contains.false))
+    rw (c.in_ok-push.ensures.items, c.new-found.ensures.items, c.in_ok-rest.ensures.items)
+    (search_start _ _ (c.contains.ensures.0 c.if-not-contains.false))
 
 pub loop-i-preserved : goal.loop-i-preserved
 loop-i-preserved c =
-    rw (c.in_ok-push-2.ensures.items, c.remove.ensures.items) (search_step _ _ _ _ c.in-Some.i c.remove.result c.loop-i.invariant (rw (c.deref.ensures.value, c.deref-in-loop-i.ensures.value) at c.in-Some.ensures.behind) c.remove.ensures.value)
+    rw (c.in_ok-push-2.ensures.items, c.remove.ensures.items)
+    (search_step _ _ _ _ c.in-Some.i c.remove.result c.loop-i.invariant
+    (rw (c.deref.ensures.value, c.deref-in-loop-i.ensures.value) at c.in-Some.ensures.behind) c.remove.ensures.value)
 
 pub returns : goal.returns
 returns c = λ e. (
   c.loop-i.invariant.sound e,
-  (λ (here, behind). search_end _ _ _ _ c.loop-i.invariant (rw (c.deref.ensures.value, c.deref-in-loop-i.ensures.value) at c.in_default.ensures.none) e here behind),
+  (λ (here, behind). search_end _ _ _ _ c.loop-i.invariant
+      (rw (c.deref.ensures.value, c.deref-in-loop-i.ensures.value) at c.in_default.ensures.none) e here behind),
 )

@@ -10,7 +10,9 @@ returns-then-is_lacking c =
 
 pub loop-other-preserved : goal.loop-other-preserved
 loop-other-preserved c =
-    so_far_step (λ e. IsNext e c.args.entry.now → IsIn e c.args.part.now ⊎ IsIn e c.args.stored.now) _ _ _ c.loop-other-test.true c.other-item.is c.loop-other.invariant (c.if-is_lacking.ensures)
+    so_far_step (λ e. IsNext e c.args.entry.now → IsIn e c.args.part.now ⊎ IsIn e c.args.stored.now) _ _ _
+    c.loop-other-test.true c.other-item.is c.loop-other.invariant (c.if-is_lacking.ensures)
 
 pub returns : goal.returns
-returns c = so_far_end (λ e. IsNext e c.args.entry.now → IsIn e c.args.part.now ⊎ IsIn e c.args.stored.now) _ _ c.loop-other-test.false c.loop-other.invariant
+returns c = so_far_end (λ e. IsNext e c.args.entry.now → IsIn e c.args.part.now ⊎ IsIn e c.args.stored.now) _ _
+    c.loop-other-test.false c.loop-other.invariant

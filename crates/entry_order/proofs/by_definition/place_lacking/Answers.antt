@@ -5,7 +5,11 @@ use Rattle.entry_order.proofs.by_definition.place_lacking.Goals as goal
 
 pub loop-i-preserved : goal.loop-i-preserved
 loop-i-preserved c =
-    so_far_step (λ f. (e : Entry) → IsIn e c.args.log.now → IsNext e f → IsIn e c.args.part.now ⊎ IsIn e c.args.stored.now) _ _ _ c.loop-i-test.true c.index-part-i.is c.loop-i.invariant (c.if-lacks.ensures)
+    so_far_step
+    (λ f. (e : Entry) → IsIn e c.args.log.now → IsNext e f → IsIn e c.args.part.now ⊎ IsIn e c.args.stored.now) _ _ _
+    c.loop-i-test.true c.index-part-i.is c.loop-i.invariant (c.if-lacks.ensures)
 
 pub returns-clause-none : goal.returns-clause-none
-returns-clause-none c = λ e f he hf n. so_far_end (λ f. (e : Entry) → IsIn e c.args.log.now → IsNext e f → IsIn e c.args.part.now ⊎ IsIn e c.args.stored.now) _ _ c.loop-i-test.false c.loop-i.invariant f hf e he n
+returns-clause-none c = λ e f he hf n. so_far_end
+    (λ f. (e : Entry) → IsIn e c.args.log.now → IsNext e f → IsIn e c.args.part.now ⊎ IsIn e c.args.stored.now) _ _
+    c.loop-i-test.false c.loop-i.invariant f hf e he n

@@ -12,10 +12,16 @@ returns-then-branch c =
 pub loop-last-preserved : goal.loop-last-preserved
 loop-last-preserved c =
     let here = at_in _ _ _ c.loop-last-test.true c.last-item.is in
-    so_far_step (λ last. last.thread ≡ c.args.thread → last.number ≡ c.args.number → PrecedesOrIs c.args.log.now c.args.entry.now last → ⊥) _ _ _ c.loop-last-test.true c.last-item.is c.loop-last.invariant (λ th num p. let k = c.in_ok-precedes_last.ensures.1 (th, num, up_to_in _ _ _ here p, p) in cc)
+    so_far_step
+    (λ last.
+    last.thread ≡ c.args.thread → last.number ≡ c.args.number → PrecedesOrIs c.args.log.now c.args.entry.now last → ⊥) _
+    _ _ c.loop-last-test.true c.last-item.is c.loop-last.invariant
+    (λ th num p. let k = c.in_ok-precedes_last.ensures.1 (th, num, up_to_in _ _ _ here p, p) in cc)
 
 pub returns : goal.returns
 returns c = (
   (λ k. absurd (cc)),
-  (λ (last, here, th, num, p). absurd (so_far_end (λ last. last.thread ≡ c.args.thread → last.number ≡ c.args.number → PrecedesOrIs c.args.log.now c.args.entry.now last → ⊥) _ _ c.loop-last-test.false c.loop-last.invariant last here th num p)),
+  (λ (last, here, th, num, p). absurd (so_far_end (λ last.
+      last.thread ≡ c.args.thread → last.number ≡ c.args.number → PrecedesOrIs c.args.log.now c.args.entry.now last → ⊥)
+      _ _ c.loop-last-test.false c.loop-last.invariant last here th num p)),
 )

@@ -4,4 +4,5 @@ use Rattle.entry_order.proofs.Members.{SoFar}
 use Rattle.entry_order.proofs.by_definition.precedes_output.Given as goal
 
 abbrev pub invariant-loop-last : goal.invariant-loop-last
-invariant-loop-last l = SoFar (λ last. last.thread ≡ l.thread → last.number ≡ l.number → PrecedesOrIs l.log l.entry last → ⊥) l.log l.last-index
+invariant-loop-last l = SoFar
+    (λ last. last.thread ≡ l.thread → last.number ≡ l.number → PrecedesOrIs l.log l.entry last → ⊥) l.log l.last-index

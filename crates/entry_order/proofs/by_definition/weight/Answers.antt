@@ -10,7 +10,9 @@ loop-other-preserved-then-not-contains c =
     let test = rw c.deref.ensures.value at c.contains.ensures in
     record {
       few = omega arith;
-      counted = counts_out (λ f. PrecedesOrIs c.args.log.now f c.args.entry.now) _ _ _ _ c.loop-other-test.true c.other-item.is (λ p. let k = test.1 ((c.in_ok-found.ensures c.other-item.result).1 (here, p)) in cc) c.loop-other.invariant.counted;
+      counted = counts_out (λ f. PrecedesOrIs c.args.log.now f c.args.entry.now) _ _ _ _ c.loop-other-test.true
+          c.other-item.is (λ p. let k = test.1 ((c.in_ok-found.ensures c.other-item.result).1 (here, p)) in cc)
+          c.loop-other.invariant.counted;
     }
 
 pub loop-other-preserved : goal.loop-other-preserved
@@ -18,8 +20,11 @@ loop-other-preserved c =
     let test = rw c.deref.ensures.value at c.contains.ensures in
     record {
       few = omega arith;
-      counted = counts_in (λ f. PrecedesOrIs c.args.log.now f c.args.entry.now) _ _ _ _ c.loop-other-test.true c.other-item.is ((c.in_ok-found.ensures c.other-item.result).0 (test.0 c.if-not-contains.false)).1 c.loop-other.invariant.counted;
+      counted = counts_in (λ f. PrecedesOrIs c.args.log.now f c.args.entry.now) _ _ _ _ c.loop-other-test.true
+          c.other-item.is ((c.in_ok-found.ensures c.other-item.result).0 (test.0 c.if-not-contains.false)).1
+          c.loop-other.invariant.counted;
     }
 
 pub returns : goal.returns
-returns c = counts_end (λ f. PrecedesOrIs c.args.log.now f c.args.entry.now) _ _ _ c.loop-other-test.false c.loop-other.invariant.counted
+returns c = counts_end (λ f. PrecedesOrIs c.args.log.now f c.args.entry.now) _ _ _ c.loop-other-test.false
+    c.loop-other.invariant.counted

@@ -9,4 +9,5 @@ pub returns-clause-there : goal.returns-clause-there
 returns-clause-there c = closed_part_there
 
 pub returns-clause-one : goal.returns-clause-one
-returns-clause-one c = λ log stored held part other a b e. (part_unique log stored held part other a b e, part_unique log stored held other part b a e)
+returns-clause-one c = λ log stored held part other a b e.
+    (part_unique log stored held part other a b e, part_unique log stored held other part b a e)

@@ -7,7 +7,9 @@ pub returns-clause-predecessors : goal.returns-clause-predecessors
 returns-clause-predecessors c = closed_down
 
 pub returns-clause-of_thread : goal.returns-clause-of_thread
-returns-clause-of_thread c = λ log set e f good closed hf h t. closed_earlier log set e f good closed hf h (binds_thread e f t)
+returns-clause-of_thread c =
+    λ log set e f good closed hf h t. closed_earlier log set e f good closed hf h (binds_thread e f t)
 
 pub returns-clause-on_variable : goal.returns-clause-on_variable
-returns-clause-on_variable c = λ log set e f good closed hf h b. closed_earlier log set e f good closed hf h (binds_variable e f (shares_sym f.what e.what ∙ b))
+returns-clause-on_variable c = λ log set e f good closed hf h b.
+    closed_earlier log set e f good closed hf h (binds_variable e f (shares_sym f.what e.what ∙ b))

@@ -1,5 +1,6 @@
 use Rattle.entry_order.proofs.laws.entries_are_numbered.Goals as goal
-use Rattle.entry_order.proofs.Order.{number_within, entry_there, same_number, place_within, touch_there, same_place, read_within}
+use Rattle.entry_order.proofs.Order.{number_within, entry_there, same_number, place_within, touch_there, same_place}
+use Rattle.entry_order.proofs.Order.{read_within}
 
 pub returns-clause-within : goal.returns-clause-within
 returns-clause-within c = number_within

@@ -6,15 +6,20 @@ use Rattle.input_files.proofs.capture_file.read_buffered.Goals as goal
 pub returns-clause-told : goal.returns-clause-told
 returns-clause-told g c = λ told.
     let start = ap (λ b. b.1 ++ g.S.Source.left b.0.now) c.of-buffered.ensures in
-    subst (λ (left : List ℕ). SaysAny left c.read_any_capture-captured.result) start (c.read_any_capture-captured.ensures.told told)
+    subst (λ (left : List ℕ). SaysAny left c.read_any_capture-captured.result) start
+    (c.read_any_capture-captured.ensures.told told)
 
 pub returns-clause-reads : goal.returns-clause-reads
 returns-clause-reads g c =
     let taken = c.read_any_capture-captured.ensures.reads in
     let start = ap (λ b. b.0.now) c.of-buffered.ensures in
-    let name = ap (λ b. b.0.ghost_name) (sym c.of-buffered.ensures) ∙ sym taken.1.below.0 ∙ ap (λ s. s.ghost_name) (sym c.into_inner-below.ensures) in
+    let name =
+    ap (λ b. b.0.ghost_name) (sym c.of-buffered.ensures)
+    ∙ sym taken.1.below.0
+    ∙ ap (λ s. s.ghost_name) (sym c.into_inner-below.ensures) in
     let last = ap (λ s. s.now) (sym c.into_inner-below.ensures) ∙ sym (c.source-1.given.1 name) in
-    let below = subst (λ s. g.S.Source.reads s taken.1.fetched c.read_any_capture-captured.new.source.0.now) start taken.1.below.1 in
+    let below = subst (λ s. g.S.Source.reads s taken.1.fetched c.read_any_capture-captured.new.source.0.now) start
+    taken.1.below.1 in
     (taken.1.fetched, subst (λ s. g.S.Source.reads c.args.source.now taken.1.fetched s) last below)
 
 pub returns-clause-packets : goal.returns-clause-packets
@@ -24,21 +29,30 @@ pub returns-clause-goes_on : goal.returns-clause-goes_on
 returns-clause-goes_on g c =
     let went = c.read_any_capture-captured.ensures.goes_on in
     let start = ap (λ b. b.0.now) c.of-buffered.ensures in
-    let name = ap (λ b. b.0.ghost_name) (sym c.of-buffered.ensures) ∙ sym c.read_any_capture-captured.ensures.reads.1.below.0 ∙ ap (λ s. s.ghost_name) (sym c.into_inner-below.ensures) in
+    let name =
+    ap (λ b. b.0.ghost_name) (sym c.of-buffered.ensures)
+    ∙ sym c.read_any_capture-captured.ensures.reads.1.below.0
+    ∙ ap (λ s. s.ghost_name) (sym c.into_inner-below.ensures) in
     let last = ap (λ s. s.now) (sym c.into_inner-below.ensures) ∙ sym (c.source-1.given.1 name) in
-    let later = subst (λ s. g.S.Source.faults s ≤ g.S.Source.faults c.read_any_capture-captured.new.source.0.now) start went.later in
+    let later = subst (λ s. g.S.Source.faults s ≤ g.S.Source.faults c.read_any_capture-captured.new.source.0.now) start
+    went.later in
     record {
       later = subst (λ s. g.S.Source.faults c.args.source.now ≤ g.S.Source.faults s) last later;
-      stays_healthy = λ healthy. subst g.S.Source.healthy last (went.stays_healthy (subst g.S.Source.healthy (sym start) healthy));
+      stays_healthy =
+          λ healthy. subst g.S.Source.healthy last (went.stays_healthy (subst g.S.Source.healthy (sym start) healthy));
     }
 
 pub returns-clause-cause : goal.returns-clause-cause
 returns-clause-cause g c = λ fault.
     let failed = c.read_any_capture-captured.ensures.cause fault in
     let start = ap (λ b. b.0.now) c.of-buffered.ensures in
-    let name = ap (λ b. b.0.ghost_name) (sym c.of-buffered.ensures) ∙ sym c.read_any_capture-captured.ensures.reads.1.below.0 ∙ ap (λ s. s.ghost_name) (sym c.into_inner-below.ensures) in
+    let name =
+    ap (λ b. b.0.ghost_name) (sym c.of-buffered.ensures)
+    ∙ sym c.read_any_capture-captured.ensures.reads.1.below.0
+    ∙ ap (λ s. s.ghost_name) (sym c.into_inner-below.ensures) in
     let last = ap (λ s. s.now) (sym c.into_inner-below.ensures) ∙ sym (c.source-1.given.1 name) in
-    let rose = subst (λ s. Rose (g.S.Source.faults s) (g.S.Source.faults c.read_any_capture-captured.new.source.0.now)) start failed.rose in
+    let rose = subst (λ s. Rose (g.S.Source.faults s) (g.S.Source.faults c.read_any_capture-captured.new.source.0.now))
+    start failed.rose in
     record {
       rose = subst (λ s. Rose (g.S.Source.faults c.args.source.now) (g.S.Source.faults s)) last rose;
       not_healthy = λ healthy. failed.not_healthy (subst g.S.Source.healthy (sym start) healthy);

@@ -13,4 +13,5 @@ pub returns-clause-script : goal.returns-clause-script
 returns-clause-script c = λ healthy name shown a b. one_answer SaysScript one_script (IsTrue healthy) name shown a b
 
 pub returns-clause-schedule : goal.returns-clause-schedule
-returns-clause-schedule c = λ healthy name shown a b. one_answer SaysSchedule one_schedule (IsTrue healthy) name shown a b
+returns-clause-schedule c =
+    λ healthy name shown a b. one_answer SaysSchedule one_schedule (IsTrue healthy) name shown a b

@@ -14,14 +14,16 @@ returns-in-All-clause-says g c = λ bytes is.
 
 pub returns-in-Ok-clause-says : goal.returns-in-Ok-clause-says
 returns-in-Ok-clause-says g c = λ bytes is.
-    let lines : c.whole_lines.result.now ≡ whole_lines c.in-More.bytes = c.whole_lines.ensures ∙ ap whole_lines c.as_slice-in-More.ensures in
+    let lines : c.whole_lines.result.now ≡ whole_lines c.in-More.bytes =
+    c.whole_lines.ensures ∙ ap whole_lines c.as_slice-in-More.ensures in
     cut_file g.F.LineFile.form c.requires.decisive c.in-More.bytes bytes c.in-Ok._things
     (subst (λ (text : List ℕ). SaysLines g.F.LineFile.form text (Ok c.in-Ok._things)) lines c.in-Ok.ensures.says)
     (subst (λ (front : Front). IsFrontOf front bytes) c.in-More.is is)
 
 pub returns-in-Err-clause-says : goal.returns-in-Err-clause-says
 returns-in-Err-clause-says g c = λ bytes is.
-    let lines : c.whole_lines.result.now ≡ whole_lines c.in-More.bytes = c.whole_lines.ensures ∙ ap whole_lines c.as_slice-in-More.ensures in
+    let lines : c.whole_lines.result.now ≡ whole_lines c.in-More.bytes =
+    c.whole_lines.ensures ∙ ap whole_lines c.as_slice-in-More.ensures in
     cut_file_refused g.F.LineFile.form c.in-More.bytes bytes c.in-Err.error
     (subst (λ (text : List ℕ). SaysLines g.F.LineFile.form text (Err c.in-Err.error)) lines c.in-Err.ensures.says)
     (subst (λ (front : Front). IsFrontOf front bytes) c.in-More.is is)

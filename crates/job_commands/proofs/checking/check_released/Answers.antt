@@ -4,7 +4,8 @@ use Rattle.job_commands.specs.Words.{check_names_of}
 use Rattle.job_commands.proofs.Outcomes.{kept, not_of_run}
 use Rattle.job_commands.proofs.Stages.{quiet_words, quiet_writing, quiet_done}
 use Rattle.job_commands.proofs.FilesInTurn.{four_refused}
-use Rattle.job_commands.proofs.Finds.{check_judged, check_done, check_in_order, check_refused, check_limit, check_words, check_reads, check_fault}
+use Rattle.job_commands.proofs.Finds.{check_judged, check_done, check_in_order, check_refused, check_limit, check_words}
+use Rattle.job_commands.proofs.Finds.{check_reads, check_fault}
 use Rattle.job_commands.specs.Schedules.{EndsCheck}
 use Rattle.job_commands.proofs.Failing.{failed_since}
 use Rattle.job_commands.proofs.checking.check_released.Goals as goal
@@ -13,25 +14,33 @@ use Rattle.job_commands.proofs.checking.check_released.Goals as goal
 
 pub returns-in-Ok-clause-done : goal.returns-in-Ok-clause-done
 returns-in-Ok-clause-done g c told done =
-    check_done (g.W.World.healthy c.args.world.now) (check_names_of c.args.names) c.in-Ok.inputs _ _ _ (c.in-Ok.ensures.only_reads.outputs told) (c.in-Ok.ensures.judged told) c.check_box.result (sym c.check_outcome.ensures ∙ done) c.check_box.ensures.says
-    (c.check_box.ensures.reported told)
+    check_done (g.W.World.healthy c.args.world.now) (check_names_of c.args.names) c.in-Ok.inputs _ _ _
+    (c.in-Ok.ensures.only_reads.outputs told) (c.in-Ok.ensures.judged told) c.check_box.result
+    (sym c.check_outcome.ensures ∙ done) c.check_box.ensures.says (c.check_box.ensures.reported told)
 
 pub returns-in-Ok-clause-no_limit : goal.returns-in-Ok-clause-no_limit
-returns-in-Ok-clause-no_limit g c told limit e stage = check_limit c.check_box.result limit (sym c.check_outcome.ensures ∙ e)
+returns-in-Ok-clause-no_limit g c told limit e stage =
+    check_limit c.check_box.result limit (sym c.check_outcome.ensures ∙ e)
 
 pub returns-in-Ok-clause-judged : goal.returns-in-Ok-clause-judged
 returns-in-Ok-clause-judged g c told =
-    rw c.check_outcome.ensures (check_judged (g.W.World.healthy c.args.world.now) (check_names_of c.args.names) c.in-Ok.inputs (g.W.World.shown c.args.world.now) _ (g.W.World.shown c.check_box.new.world) (c.in-Ok.ensures.only_reads.outputs told) (c.in-Ok.ensures.judged told) c.check_box.result c.check_box.ensures.says
+    rw c.check_outcome.ensures (check_judged (g.W.World.healthy c.args.world.now) (check_names_of c.args.names)
+    c.in-Ok.inputs (g.W.World.shown c.args.world.now) _ (g.W.World.shown c.check_box.new.world)
+    (c.in-Ok.ensures.only_reads.outputs told) (c.in-Ok.ensures.judged told) c.check_box.result c.check_box.ensures.says
     (λ ok fault. (c.check_box.ensures.cause fault).not_healthy (c.in-Ok.ensures.only_reads.stays_healthy ok)))
 
 pub returns-in-Ok-clause-in_order : goal.returns-in-Ok-clause-in_order
 returns-in-Ok-clause-in_order g c told =
-    check_in_order (g.W.World.healthy c.args.world.now) (check_names_of c.args.names) c.in-Ok.inputs _ _ _ (c.in-Ok.ensures.only_reads.outputs told) (c.in-Ok.ensures.judged told)
-    (elim (c.check_box.ensures.in_order told) [ inl same ↦ inl (ap g.W.World.shown (sym same)) | inr begun ↦ inr begun ])
+    check_in_order (g.W.World.healthy c.args.world.now) (check_names_of c.args.names) c.in-Ok.inputs _ _ _
+    (c.in-Ok.ensures.only_reads.outputs told) (c.in-Ok.ensures.judged told)
+    (elim (c.check_box.ensures.in_order told)
+    [ inl same ↦ inl (ap g.W.World.shown (sym same)) | inr begun ↦ inr begun ])
 
 pub returns-in-Ok-clause-refused : goal.returns-in-Ok-clause-refused
 returns-in-Ok-clause-refused g c told e =
-    check_refused (g.W.World.healthy c.args.world.now) (check_names_of c.args.names) c.in-Ok.inputs _ _ _ (c.in-Ok.ensures.only_reads.outputs told) (c.in-Ok.ensures.judged told) c.check_box.result (ap stage_of (sym c.check_outcome.ensures) ∙ e)
+    check_refused (g.W.World.healthy c.args.world.now) (check_names_of c.args.names) c.in-Ok.inputs _ _ _
+    (c.in-Ok.ensures.only_reads.outputs told) (c.in-Ok.ensures.judged told) c.check_box.result
+    (ap stage_of (sym c.check_outcome.ensures) ∙ e)
     (λ x is. ap g.W.World.shown (sym (c.check_box.ensures.refused x is)))
 
 pub returns-in-Ok-clause-words : goal.returns-in-Ok-clause-words
@@ -42,7 +51,8 @@ returns-in-Ok-clause-read_fault g c e = absurd (check_reads c.check_box.result (
 
 pub returns-in-Ok-clause-write_fault : goal.returns-in-Ok-clause-write_fault
 returns-in-Ok-clause-write_fault g c e =
-    failed_since _ _ _ _ _ _ _ _ c.in-Ok.ensures.only_reads (c.check_box.ensures.cause (check_fault c.check_box.result (sym c.check_outcome.ensures ∙ e)))
+    failed_since _ _ _ _ _ _ _ _ c.in-Ok.ensures.only_reads
+    (c.check_box.ensures.cause (check_fault c.check_box.result (sym c.check_outcome.ensures ∙ e)))
 
 -- an input is refused
 
@@ -50,11 +60,13 @@ pub returns-in-Err-clause-done : goal.returns-in-Err-clause-done
 returns-in-Err-clause-done g c told e = absurd (quiet_done c.in-Err.status e c.in-Err.ensures.quiet)
 
 pub returns-in-Err-clause-no_limit : goal.returns-in-Err-clause-no_limit
-returns-in-Err-clause-no_limit g c told limit e stage = not_of_run c.in-Err.status limit e stage (c.in-Err.ensures.stage told)
+returns-in-Err-clause-no_limit g c told limit e stage =
+    not_of_run c.in-Err.status limit e stage (c.in-Err.ensures.stage told)
 
 pub returns-in-Err-clause-judged : goal.returns-in-Err-clause-judged
 returns-in-Err-clause-judged g c told =
-    four_refused (g.W.World.healthy c.args.world.now) (check_names_of c.args.names) (g.W.World.shown c.args.world.now) (EndsCheck (g.W.World.healthy c.args.world.now)) c.in-Err.status (c.in-Err.ensures.judged told)
+    four_refused (g.W.World.healthy c.args.world.now) (check_names_of c.args.names) (g.W.World.shown c.args.world.now)
+    (EndsCheck (g.W.World.healthy c.args.world.now)) c.in-Err.status (c.in-Err.ensures.judged told)
 
 pub returns-in-Err-clause-in_order : goal.returns-in-Err-clause-in_order
 returns-in-Err-clause-in_order g c told = inl (kept _ _ (c.in-Err.ensures.only_reads.outputs told))

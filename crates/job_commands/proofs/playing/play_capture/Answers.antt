@@ -4,7 +4,8 @@ use Rattle.job_commands.specs.Words.{play_names_of}
 use Rattle.job_commands.proofs.Outcomes.{kept, not_of_run}
 use Rattle.job_commands.proofs.Stages.{quiet_words, quiet_writing, quiet_done}
 use Rattle.job_commands.proofs.FilesInTurn.{three_refused}
-use Rattle.job_commands.proofs.Plays.{play_judged, play_done, play_in_order, play_refused, play_limit, play_words, play_reads, play_fault}
+use Rattle.job_commands.proofs.Plays.{play_judged, play_done, play_in_order, play_refused, play_limit, play_words}
+use Rattle.job_commands.proofs.Plays.{play_reads, play_fault}
 use Rattle.job_commands.specs.Schedules.{EndsPlay}
 use Rattle.job_commands.proofs.Failing.{failed_since}
 use Rattle.job_commands.proofs.playing.play_capture.Goals as goal
@@ -13,26 +14,32 @@ use Rattle.job_commands.proofs.playing.play_capture.Goals as goal
 
 pub returns-in-Ok-clause-done : goal.returns-in-Ok-clause-done
 returns-in-Ok-clause-done g c told done =
-    play_done (g.W.World.healthy c.args.world.now) (play_names_of c.args.names) c.in-Ok.inputs _ _ _ (c.in-Ok.ensures.only_reads.outputs told) (c.in-Ok.ensures.judged told) c.play_box.result (sym c.play_outcome.ensures ∙ done)
-    (c.play_box.ensures.played told)
+    play_done (g.W.World.healthy c.args.world.now) (play_names_of c.args.names) c.in-Ok.inputs _ _ _
+    (c.in-Ok.ensures.only_reads.outputs told) (c.in-Ok.ensures.judged told) c.play_box.result
+    (sym c.play_outcome.ensures ∙ done) (c.play_box.ensures.played told)
 
 pub returns-in-Ok-clause-no_limit : goal.returns-in-Ok-clause-no_limit
-returns-in-Ok-clause-no_limit g c told limit e stage = play_limit c.play_box.result limit (sym c.play_outcome.ensures ∙ e)
+returns-in-Ok-clause-no_limit g c told limit e stage =
+    play_limit c.play_box.result limit (sym c.play_outcome.ensures ∙ e)
 
 pub returns-in-Ok-clause-judged : goal.returns-in-Ok-clause-judged
 returns-in-Ok-clause-judged g c told =
-    rw c.play_outcome.ensures (play_judged (g.W.World.healthy c.args.world.now) (play_names_of c.args.names) c.in-Ok.inputs (g.W.World.shown c.args.world.now) _ (g.W.World.shown c.play_box.new.world) (c.in-Ok.ensures.only_reads.outputs told) (c.in-Ok.ensures.judged told) c.play_box.result c.play_box.ensures.says
+    rw c.play_outcome.ensures (play_judged (g.W.World.healthy c.args.world.now) (play_names_of c.args.names)
+    c.in-Ok.inputs (g.W.World.shown c.args.world.now) _ (g.W.World.shown c.play_box.new.world)
+    (c.in-Ok.ensures.only_reads.outputs told) (c.in-Ok.ensures.judged told) c.play_box.result c.play_box.ensures.says
     (λ ok fault. (c.play_box.ensures.cause fault).not_healthy (c.in-Ok.ensures.only_reads.stays_healthy ok)))
 
 pub returns-in-Ok-clause-in_order : goal.returns-in-Ok-clause-in_order
 returns-in-Ok-clause-in_order g c told =
-    play_in_order (g.W.World.healthy c.args.world.now) (play_names_of c.args.names) c.in-Ok.inputs _ _ _ (c.in-Ok.ensures.only_reads.outputs told) (c.in-Ok.ensures.judged told)
+    play_in_order (g.W.World.healthy c.args.world.now) (play_names_of c.args.names) c.in-Ok.inputs _ _ _
+    (c.in-Ok.ensures.only_reads.outputs told) (c.in-Ok.ensures.judged told)
     (elim (c.play_box.ensures.in_order told) [ inl same ↦ inl (ap g.W.World.shown (sym same)) | inr begun ↦ inr begun ])
 
 pub returns-in-Ok-clause-refused : goal.returns-in-Ok-clause-refused
 returns-in-Ok-clause-refused g c told e =
-    play_refused (g.W.World.healthy c.args.world.now) (play_names_of c.args.names) c.in-Ok.inputs _ _ _ (c.in-Ok.ensures.only_reads.outputs told) (c.in-Ok.ensures.judged told) c.play_box.result (ap stage_of (sym c.play_outcome.ensures) ∙ e)
-    (λ x is. ap g.W.World.shown (sym (c.play_box.ensures.refused x is)))
+    play_refused (g.W.World.healthy c.args.world.now) (play_names_of c.args.names) c.in-Ok.inputs _ _ _
+    (c.in-Ok.ensures.only_reads.outputs told) (c.in-Ok.ensures.judged told) c.play_box.result
+    (ap stage_of (sym c.play_outcome.ensures) ∙ e) (λ x is. ap g.W.World.shown (sym (c.play_box.ensures.refused x is)))
 
 pub returns-in-Ok-clause-words : goal.returns-in-Ok-clause-words
 returns-in-Ok-clause-words g c e = play_words c.play_box.result (sym c.play_outcome.ensures ∙ e)
@@ -42,7 +49,8 @@ returns-in-Ok-clause-read_fault g c e = absurd (play_reads c.play_box.result (sy
 
 pub returns-in-Ok-clause-write_fault : goal.returns-in-Ok-clause-write_fault
 returns-in-Ok-clause-write_fault g c e =
-    failed_since _ _ _ _ _ _ _ _ c.in-Ok.ensures.only_reads (c.play_box.ensures.cause (play_fault c.play_box.result (sym c.play_outcome.ensures ∙ e)))
+    failed_since _ _ _ _ _ _ _ _ c.in-Ok.ensures.only_reads
+    (c.play_box.ensures.cause (play_fault c.play_box.result (sym c.play_outcome.ensures ∙ e)))
 
 -- an input is refused
 
@@ -50,11 +58,14 @@ pub returns-in-Err-clause-done : goal.returns-in-Err-clause-done
 returns-in-Err-clause-done g c told e = absurd (quiet_done c.in-Err.status e c.in-Err.ensures.quiet)
 
 pub returns-in-Err-clause-no_limit : goal.returns-in-Err-clause-no_limit
-returns-in-Err-clause-no_limit g c told limit e stage = not_of_run c.in-Err.status limit e stage (c.in-Err.ensures.stage told)
+returns-in-Err-clause-no_limit g c told limit e stage =
+    not_of_run c.in-Err.status limit e stage (c.in-Err.ensures.stage told)
 
 pub returns-in-Err-clause-judged : goal.returns-in-Err-clause-judged
 returns-in-Err-clause-judged g c told =
-    three_refused (g.W.World.healthy c.args.world.now) (play_names_of c.args.names).files (g.W.World.shown c.args.world.now) (EndsPlay (g.W.World.healthy c.args.world.now)) c.in-Err.status (c.in-Err.ensures.judged told)
+    three_refused (g.W.World.healthy c.args.world.now) (play_names_of c.args.names).files
+    (g.W.World.shown c.args.world.now) (EndsPlay (g.W.World.healthy c.args.world.now)) c.in-Err.status
+    (c.in-Err.ensures.judged told)
 
 pub returns-in-Err-clause-in_order : goal.returns-in-Err-clause-in_order
 returns-in-Err-clause-in_order g c told = inl (kept _ _ (c.in-Err.ensures.only_reads.outputs told))

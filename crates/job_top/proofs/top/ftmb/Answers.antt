@@ -9,60 +9,77 @@ use Rattle.job_commands.proofs.Others.{run_others, made_others, play_others, che
 use Rattle.job_top.proofs.top.ftmb.Goals as goal
 
 pub returns-in-Some-Run-clause-done : goal.returns-in-Some-Run-clause-done
-returns-in-Some-Run-clause-done g c told done = rw (c.in-Some-Run.ensures, c.in-Some-Run.field-0-is) (c.run.ensures.done told done)
+returns-in-Some-Run-clause-done g c told done =
+    rw (c.in-Some-Run.ensures, c.in-Some-Run.field-0-is) (c.run.ensures.done told done)
 
 pub returns-in-Some-Run-clause-completes : goal.returns-in-Some-Run-clause-completes
 returns-in-Some-Run-clause-completes g c ok told =
     rw (c.in-Some-Run.ensures, c.in-Some-Run.field-0-is)
-    (λ accepted. run_completes (g.W.World.healthy c.args.world.now) (names_of c.in-Some-Run.names) (g.W.World.shown c.args.world.now) ok accepted c.run.result (c.run.ensures.judged told))
+    (λ accepted. run_completes (g.W.World.healthy c.args.world.now) (names_of c.in-Some-Run.names)
+    (g.W.World.shown c.args.world.now) ok accepted c.run.result (c.run.ensures.judged told))
 
 pub returns-in-Some-Make-clause-completes : goal.returns-in-Some-Make-clause-completes
 returns-in-Some-Make-clause-completes g c ok told =
-    rw (c.in-Some-Make.ensures, c.in-Some-Make.field-0-is) (λ _. rw c.outcome.ensures (made_completes c.make_capture.result (λ fault. (c.make_capture.ensures.cause fault).not_healthy ok)))
+    rw (c.in-Some-Make.ensures, c.in-Some-Make.field-0-is) (λ _. rw c.outcome.ensures
+    (made_completes c.make_capture.result (λ fault. (c.make_capture.ensures.cause fault).not_healthy ok)))
 
 pub returns-in-Some-Make-clause-refused : goal.returns-in-Some-Make-clause-refused
-returns-in-Some-Make-clause-refused g c told e = absurd (made_not_at_inputs c.make_capture.result (ap stage_of (sym c.outcome.ensures) ∙ e))
+returns-in-Some-Make-clause-refused g c told e =
+    absurd (made_not_at_inputs c.make_capture.result (ap stage_of (sym c.outcome.ensures) ∙ e))
 
 pub returns-in-Some-Run-clause-limit : goal.returns-in-Some-Run-clause-limit
-returns-in-Some-Run-clause-limit g c told limit e stage = rw (c.in-Some-Run.ensures, c.in-Some-Run.field-0-is) (c.run.ensures.limit told limit e stage)
+returns-in-Some-Run-clause-limit g c told limit e stage =
+    rw (c.in-Some-Run.ensures, c.in-Some-Run.field-0-is) (c.run.ensures.limit told limit e stage)
 
 pub returns-in-Some-Run-clause-others : goal.returns-in-Some-Run-clause-others
 returns-in-Some-Run-clause-others g c told =
-    rw (c.in-Some-Run.ensures, c.in-Some-Run.field-0-is) (run_others (names_of c.in-Some-Run.names) (g.W.World.shown c.args.world.now) (g.W.World.shown c.run.new.world) (c.run.ensures.in_order told))
+    rw (c.in-Some-Run.ensures, c.in-Some-Run.field-0-is) (run_others (names_of c.in-Some-Run.names)
+    (g.W.World.shown c.args.world.now) (g.W.World.shown c.run.new.world) (c.run.ensures.in_order told))
 
 pub returns-in-Some-Make-clause-others : goal.returns-in-Some-Make-clause-others
 returns-in-Some-Make-clause-others g c told =
-    rw (c.in-Some-Make.ensures, c.in-Some-Make.field-0-is) (made_others (made_of c.in-Some-Make.words) c.make_capture.result (g.W.World.shown c.args.world.now) (g.W.World.shown c.make_capture.new.world) (c.make_capture.ensures.told told))
+    rw (c.in-Some-Make.ensures, c.in-Some-Make.field-0-is)
+    (made_others (made_of c.in-Some-Make.words) c.make_capture.result (g.W.World.shown c.args.world.now)
+    (g.W.World.shown c.make_capture.new.world) (c.make_capture.ensures.told told))
 
 pub returns-in-Some-Play-clause-done : goal.returns-in-Some-Play-clause-done
-returns-in-Some-Play-clause-done g c told done = rw (c.in-Some-Play.ensures, c.in-Some-Play.field-0-is) (c.play_capture.ensures.done told done)
+returns-in-Some-Play-clause-done g c told done =
+    rw (c.in-Some-Play.ensures, c.in-Some-Play.field-0-is) (c.play_capture.ensures.done told done)
 
 pub returns-in-Some-Play-clause-completes : goal.returns-in-Some-Play-clause-completes
 returns-in-Some-Play-clause-completes g c ok told =
     rw (c.in-Some-Play.ensures, c.in-Some-Play.field-0-is)
-    (λ accepted. play_completes (g.W.World.healthy c.args.world.now) (play_names_of c.in-Some-Play.names) (g.W.World.shown c.args.world.now) ok accepted c.play_capture.result (c.play_capture.ensures.judged told))
+    (λ accepted. play_completes (g.W.World.healthy c.args.world.now) (play_names_of c.in-Some-Play.names)
+    (g.W.World.shown c.args.world.now) ok accepted c.play_capture.result (c.play_capture.ensures.judged told))
 
 pub returns-in-Some-Play-clause-limit : goal.returns-in-Some-Play-clause-limit
 returns-in-Some-Play-clause-limit g c told limit e stage = absurd (c.play_capture.ensures.no_limit told limit e stage)
 
 pub returns-in-Some-Play-clause-others : goal.returns-in-Some-Play-clause-others
 returns-in-Some-Play-clause-others g c told =
-    rw (c.in-Some-Play.ensures, c.in-Some-Play.field-0-is) (play_others (play_names_of c.in-Some-Play.names) (g.W.World.shown c.args.world.now) (g.W.World.shown c.play_capture.new.world) (c.play_capture.ensures.in_order told))
+    rw (c.in-Some-Play.ensures, c.in-Some-Play.field-0-is)
+    (play_others (play_names_of c.in-Some-Play.names) (g.W.World.shown c.args.world.now)
+    (g.W.World.shown c.play_capture.new.world) (c.play_capture.ensures.in_order told))
 
 pub returns-in-Some-Check-clause-done : goal.returns-in-Some-Check-clause-done
-returns-in-Some-Check-clause-done g c told done = rw (c.in-Some-Check.ensures, c.in-Some-Check.field-0-is) (c.check_released.ensures.done told done)
+returns-in-Some-Check-clause-done g c told done =
+    rw (c.in-Some-Check.ensures, c.in-Some-Check.field-0-is) (c.check_released.ensures.done told done)
 
 pub returns-in-Some-Check-clause-completes : goal.returns-in-Some-Check-clause-completes
 returns-in-Some-Check-clause-completes g c ok told =
     rw (c.in-Some-Check.ensures, c.in-Some-Check.field-0-is)
-    (λ accepted. check_completes (g.W.World.healthy c.args.world.now) (check_names_of c.in-Some-Check.names) (g.W.World.shown c.args.world.now) ok accepted c.check_released.result (c.check_released.ensures.judged told))
+    (λ accepted. check_completes (g.W.World.healthy c.args.world.now) (check_names_of c.in-Some-Check.names)
+    (g.W.World.shown c.args.world.now) ok accepted c.check_released.result (c.check_released.ensures.judged told))
 
 pub returns-in-Some-Check-clause-limit : goal.returns-in-Some-Check-clause-limit
-returns-in-Some-Check-clause-limit g c told limit e stage = absurd (c.check_released.ensures.no_limit told limit e stage)
+returns-in-Some-Check-clause-limit g c told limit e stage =
+    absurd (c.check_released.ensures.no_limit told limit e stage)
 
 pub returns-in-Some-Check-clause-others : goal.returns-in-Some-Check-clause-others
 returns-in-Some-Check-clause-others g c told =
-    rw (c.in-Some-Check.ensures, c.in-Some-Check.field-0-is) (check_others (check_names_of c.in-Some-Check.names) (g.W.World.shown c.args.world.now) (g.W.World.shown c.check_released.new.world) (c.check_released.ensures.in_order told))
+    rw (c.in-Some-Check.ensures, c.in-Some-Check.field-0-is)
+    (check_others (check_names_of c.in-Some-Check.names) (g.W.World.shown c.args.world.now)
+    (g.W.World.shown c.check_released.new.world) (c.check_released.ensures.in_order told))
 
 pub returns-in-Some-Run-clause-write_fault : goal.returns-in-Some-Run-clause-write_fault
 returns-in-Some-Run-clause-write_fault g c e = (c.run.ensures.write_fault e).rose

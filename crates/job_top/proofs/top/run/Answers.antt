@@ -2,7 +2,8 @@ use Rattle.std.proofs.Common.{ap, sym, ◌∙◌, inl, inr}
 use Rattle.job_commands.specs.Run.{outputs_of, setting_for}
 use Rattle.job_commands.specs.Status.{stage_of}
 use Rattle.job_commands.specs.Words.{names_of}
-use Rattle.job_commands.proofs.Outcomes.{whole_since, stopped_since, begun_since, kept, run_judged, run_done, run_limit, not_at_inputs, run_words, run_reads, run_fault, not_of_run}
+use Rattle.job_commands.proofs.Outcomes.{whole_since, stopped_since, begun_since, kept, run_judged, run_done, run_limit}
+use Rattle.job_commands.proofs.Outcomes.{not_at_inputs, run_words, run_reads, run_fault, not_of_run}
 use Rattle.job_commands.proofs.Stages.{quiet_words, quiet_writing, quiet_done}
 use Rattle.job_commands.proofs.Failing.{failed_since}
 use Rattle.job_top.proofs.Promise.{promise}
@@ -13,40 +14,61 @@ use Rattle.job_top.proofs.top.run.Goals as goal
 pub returns-in-Ok-clause-done : goal.returns-in-Ok-clause-done
 returns-in-Ok-clause-done g c told done =
     let i = c.in-Ok.inputs in
-    run_done (g.W.World.healthy c.args.world.now) (names_of c.args.names) i (g.W.World.shown c.args.world.now) (g.W.World.shown c.run_box.new.world) (c.in-Ok.ensures.judged told) c.run_box.result (sym c.run_outcome.ensures ∙ done)
-    (whole_since _ _ _ (c.in-Ok.ensures.only_reads.outputs told) (setting_for i) (outputs_of (names_of c.args.names)) i.events c.run_box.result (c.run_box.ensures.whole told))
+    run_done (g.W.World.healthy c.args.world.now) (names_of c.args.names) i (g.W.World.shown c.args.world.now)
+    (g.W.World.shown c.run_box.new.world) (c.in-Ok.ensures.judged told) c.run_box.result
+    (sym c.run_outcome.ensures ∙ done)
+    (whole_since _ _ _ (c.in-Ok.ensures.only_reads.outputs told) (setting_for i) (outputs_of (names_of c.args.names))
+    i.events c.run_box.result (c.run_box.ensures.whole told))
 
 pub returns-in-Ok-clause-headline : goal.returns-in-Ok-clause-headline
 returns-in-Ok-clause-headline g c told done =
     let i = c.in-Ok.inputs in
     promise (names_of c.args.names) (g.W.World.shown c.args.world.now) (g.W.World.shown c.run_box.new.world)
-    (run_done (g.W.World.healthy c.args.world.now) (names_of c.args.names) i (g.W.World.shown c.args.world.now) (g.W.World.shown c.run_box.new.world) (c.in-Ok.ensures.judged told) c.run_box.result (sym c.run_outcome.ensures ∙ done)
-    (whole_since _ _ _ (c.in-Ok.ensures.only_reads.outputs told) (setting_for i) (outputs_of (names_of c.args.names)) i.events c.run_box.result (c.run_box.ensures.whole told)))
+    (run_done (g.W.World.healthy c.args.world.now) (names_of c.args.names) i (g.W.World.shown c.args.world.now)
+    (g.W.World.shown c.run_box.new.world) (c.in-Ok.ensures.judged told) c.run_box.result
+    (sym c.run_outcome.ensures ∙ done)
+    (whole_since _ _ _ (c.in-Ok.ensures.only_reads.outputs told) (setting_for i) (outputs_of (names_of c.args.names))
+    i.events c.run_box.result (c.run_box.ensures.whole told)))
 
 pub returns-in-Ok-clause-limit : goal.returns-in-Ok-clause-limit
 returns-in-Ok-clause-limit g c told limit e stage =
     let i = c.in-Ok.inputs in
-    run_limit (g.W.World.healthy c.args.world.now) (names_of c.args.names) i (g.W.World.shown c.args.world.now) (g.W.World.shown c.run_box.new.world) (c.in-Ok.ensures.judged told) c.run_box.result limit (sym c.run_outcome.ensures ∙ e)
-    (λ l is. stopped_since _ _ _ (c.in-Ok.ensures.only_reads.outputs told) (setting_for i) (outputs_of (names_of c.args.names)) i.events l (c.run_box.ensures.limit told l is))
+    run_limit (g.W.World.healthy c.args.world.now) (names_of c.args.names) i (g.W.World.shown c.args.world.now)
+    (g.W.World.shown c.run_box.new.world) (c.in-Ok.ensures.judged told) c.run_box.result limit
+    (sym c.run_outcome.ensures ∙ e)
+    (λ l is. stopped_since _ _ _ (c.in-Ok.ensures.only_reads.outputs told) (setting_for i)
+    (outputs_of (names_of c.args.names)) i.events l (c.run_box.ensures.limit told l is))
 
 pub returns-in-Ok-clause-judged : goal.returns-in-Ok-clause-judged
 returns-in-Ok-clause-judged g c told =
     let i = c.in-Ok.inputs in
-    rw c.run_outcome.ensures (run_judged (g.W.World.healthy c.args.world.now) (names_of c.args.names) i (g.W.World.shown c.args.world.now) (g.W.World.shown c.run_box.new.world) (c.in-Ok.ensures.judged told) c.run_box.result
+    rw c.run_outcome.ensures
+    (run_judged (g.W.World.healthy c.args.world.now) (names_of c.args.names) i (g.W.World.shown c.args.world.now)
+    (g.W.World.shown c.run_box.new.world) (c.in-Ok.ensures.judged told) c.run_box.result
     (λ ok fault. (c.run_box.ensures.cause fault).not_healthy (c.in-Ok.ensures.only_reads.stays_healthy ok))
-    (whole_since _ _ _ (c.in-Ok.ensures.only_reads.outputs told) (setting_for i) (outputs_of (names_of c.args.names)) i.events c.run_box.result (c.run_box.ensures.whole told))
-    (λ l is. stopped_since _ _ _ (c.in-Ok.ensures.only_reads.outputs told) (setting_for i) (outputs_of (names_of c.args.names)) i.events l (c.run_box.ensures.limit told l is)))
+    (whole_since _ _ _ (c.in-Ok.ensures.only_reads.outputs told) (setting_for i) (outputs_of (names_of c.args.names))
+    i.events c.run_box.result (c.run_box.ensures.whole told))
+    (λ l is. stopped_since _ _ _ (c.in-Ok.ensures.only_reads.outputs told) (setting_for i)
+    (outputs_of (names_of c.args.names)) i.events l (c.run_box.ensures.limit told l is)))
 
 pub returns-in-Ok-clause-in_order : goal.returns-in-Ok-clause-in_order
 returns-in-Ok-clause-in_order g c told =
     let i = c.in-Ok.inputs in
-    inr (i, c.in-Ok.ensures.judged told, begun_since _ _ _ (c.in-Ok.ensures.only_reads.outputs told) (setting_for i) (outputs_of (names_of c.args.names)) i.events (c.run_box.ensures.in_order told))
+    inr (
+      i,
+      c.in-Ok.ensures.judged told,
+      begun_since _ _ _ (c.in-Ok.ensures.only_reads.outputs told) (setting_for i) (outputs_of (names_of c.args.names))
+          i.events (c.run_box.ensures.in_order told),
+    )
 
 pub returns-in-Ok-clause-refused : goal.returns-in-Ok-clause-refused
 returns-in-Ok-clause-refused g c told e =
     let i = c.in-Ok.inputs in
-    absurd (not_at_inputs (g.W.World.healthy c.args.world.now) (names_of c.args.names) i (g.W.World.shown c.args.world.now) (g.W.World.shown c.run_box.new.world) (c.in-Ok.ensures.judged told) c.run_box.result (ap stage_of (sym c.run_outcome.ensures) ∙ e)
-    (λ l is. stopped_since _ _ _ (c.in-Ok.ensures.only_reads.outputs told) (setting_for i) (outputs_of (names_of c.args.names)) i.events l (c.run_box.ensures.limit told l is)))
+    absurd (not_at_inputs (g.W.World.healthy c.args.world.now) (names_of c.args.names) i
+    (g.W.World.shown c.args.world.now) (g.W.World.shown c.run_box.new.world) (c.in-Ok.ensures.judged told)
+    c.run_box.result (ap stage_of (sym c.run_outcome.ensures) ∙ e)
+    (λ l is. stopped_since _ _ _ (c.in-Ok.ensures.only_reads.outputs told) (setting_for i)
+    (outputs_of (names_of c.args.names)) i.events l (c.run_box.ensures.limit told l is)))
 
 pub returns-in-Ok-clause-words : goal.returns-in-Ok-clause-words
 returns-in-Ok-clause-words g c e = run_words c.run_box.result (sym c.run_outcome.ensures ∙ e)
@@ -56,7 +78,8 @@ returns-in-Ok-clause-read_fault g c e = absurd (run_reads c.run_box.result (sym 
 
 pub returns-in-Ok-clause-write_fault : goal.returns-in-Ok-clause-write_fault
 returns-in-Ok-clause-write_fault g c e =
-    failed_since _ _ _ _ _ _ _ _ c.in-Ok.ensures.only_reads (c.run_box.ensures.cause (run_fault c.run_box.result (sym c.run_outcome.ensures ∙ e)))
+    failed_since _ _ _ _ _ _ _ _ c.in-Ok.ensures.only_reads
+    (c.run_box.ensures.cause (run_fault c.run_box.result (sym c.run_outcome.ensures ∙ e)))
 
 -- an input is refused
 
@@ -67,7 +90,8 @@ pub returns-in-Err-clause-headline : goal.returns-in-Err-clause-headline
 returns-in-Err-clause-headline g c told e = absurd (quiet_done c.in-Err.status e c.in-Err.ensures.quiet)
 
 pub returns-in-Err-clause-limit : goal.returns-in-Err-clause-limit
-returns-in-Err-clause-limit g c told limit e stage = absurd (not_of_run c.in-Err.status limit e stage (c.in-Err.ensures.stage told))
+returns-in-Err-clause-limit g c told limit e stage =
+    absurd (not_of_run c.in-Err.status limit e stage (c.in-Err.ensures.stage told))
 
 pub returns-in-Err-clause-in_order : goal.returns-in-Err-clause-in_order
 returns-in-Err-clause-in_order g c told = inl (kept _ _ (c.in-Err.ensures.only_reads.outputs told))

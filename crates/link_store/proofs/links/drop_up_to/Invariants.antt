@@ -5,7 +5,8 @@ use Rattle.link_store.specs.Links.{frame_at, IsUpTo}
 use Rattle.link_store.proofs.links.drop_up_to.Given as goal
 
 abbrev pub invariant-loop-address : goal.invariant-loop-address
-invariant-loop-address l = (a : Address) → (IsUpTo l.last a → ⊥) → frame_at l.frames.entries a ≡ frame_at l.initial.frames.entries a
+invariant-loop-address l =
+    (a : Address) → (IsUpTo l.last a → ⊥) → frame_at l.frames.entries a ≡ frame_at l.initial.frames.entries a
 
 abbrev pub decreases-loop-address : goal.decreases-loop-address
 decreases-loop-address l = btree_map_len l.frames

@@ -12,7 +12,8 @@ returns-clause-holds g c = covering_holds
 
 pub returns-clause-each_lane : goal.returns-clause-each_lane
 returns-clause-each_lane g c = λ m inputs threads later held new counts h many same are covers.
-    covers_each (log_of later) held new counts same (λ t past. none_past_threads m inputs threads later t h (omega arith)) are covers
+    covers_each (log_of later) held new counts same
+    (λ t past. none_past_threads m inputs threads later t h (omega arith)) are covers
 
 pub returns-clause-rising : goal.returns-clause-rising
 returns-clause-rising g c = λ log later earlier held t before holds.
@@ -22,4 +23,5 @@ returns-clause-rising g c = λ log later earlier held t before holds.
 
 pub returns-clause-still_held : goal.returns-clause-still_held
 returns-clause-still_held g c = λ m inputs threads steps later stored held new e h after holds covers.
-    covering_keeps (log_of steps) stored (log_of later) held new e (history_log m inputs threads steps h) (moment_log m inputs threads steps later h after) (λ f here. earlier_log later steps f after here) holds covers
+    covering_keeps (log_of steps) stored (log_of later) held new e (history_log m inputs threads steps h)
+    (moment_log m inputs threads steps later h after) (λ f here. earlier_log later steps f after here) holds covers

@@ -8,4 +8,5 @@ pub returns-clause-holds : goal.returns-clause-holds
 returns-clause-holds c = fresh_holds
 
 pub returns-clause-none : goal.returns-clause-none
-returns-clause-none c = λ threads e h. let r = held_at (replicate threads fresh_lane) e h in fresh_holds_none threads r.0 r.1 r.2 r.3
+returns-clause-none c =
+    λ threads e h. let r = held_at (replicate threads fresh_lane) e h in fresh_holds_none threads r.0 r.1 r.2 r.3

@@ -17,4 +17,5 @@ returns-clause-grows_by_step g c = λ m inputs threads x steps stored held h hol
     holds_later m inputs threads (x ∷ steps) steps stored held h (inr (earlier_refl steps)) holds
 
 pub returns-clause-grows : goal.returns-clause-grows
-returns-clause-grows g c = λ m inputs threads now steps stored held h before holds. holds_later m inputs threads steps now stored held h before holds
+returns-clause-grows g c = λ m inputs threads now steps stored held h before holds.
+    holds_later m inputs threads steps now stored held h before holds

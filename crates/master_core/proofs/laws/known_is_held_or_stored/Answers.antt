@@ -6,5 +6,8 @@ use Rattle.master_core.proofs.laws.known_is_held_or_stored.Goals as goal
 
 pub returns : goal.returns
 returns g c = λ m inputs threads steps earlier held e h before holds here.
-    let good_stored = moment_log m inputs threads steps earlier h before in
-    (known_is_there (log_of steps) (log_of earlier) held e (history_log m inputs threads steps h) good_stored (λ f stored. earlier_log earlier steps f before stored) holds here, there_is_known (log_of steps) (log_of earlier) held e good_stored holds)
+    let good_stored = moment_log m inputs threads steps earlier h before in (
+      known_is_there (log_of steps) (log_of earlier) held e (history_log m inputs threads steps h) good_stored
+          (λ f stored. earlier_log earlier steps f before stored) holds here,
+      there_is_known (log_of steps) (log_of earlier) held e good_stored holds,
+    )

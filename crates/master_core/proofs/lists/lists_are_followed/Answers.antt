@@ -13,7 +13,8 @@ pub returns-clause-follows : goal.returns-clause-follows
 returns-clause-follows g c = λ m inputs threads. followed_grown m inputs threads
 
 pub returns-clause-history : goal.returns-clause-history
-returns-clause-history g c = λ m inputs threads moves p stood. ((play_history m inputs threads moves stood.steps stood.legal).0, stood.stands.log)
+returns-clause-history g c = λ m inputs threads moves p stood.
+    ((play_history m inputs threads moves stood.steps stood.legal).0, stood.stands.log)
 
 pub returns-clause-within : goal.returns-clause-within
 returns-clause-within g c = λ t steps. moves_within t steps

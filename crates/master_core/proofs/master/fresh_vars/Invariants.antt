@@ -8,5 +8,6 @@ use Rattle.master_core.proofs.master.fresh_vars.Given as goal
 abbrev pub invariant-loop-var : goal.invariant-loop-var
 invariant-loop-var g l = record {
   count : length l.vars.items ≡ l.var;
-  each : (v : ℕ) (d : VarPart _) → v < l.var → slice_index_or l.vars.items v d ≡ fresh_var (g.P.Program.meaning l.program) v;
+  each : (v : ℕ) (d : VarPart _) → v < l.var
+      → slice_index_or l.vars.items v d ≡ fresh_var (g.P.Program.meaning l.program) v;
 }

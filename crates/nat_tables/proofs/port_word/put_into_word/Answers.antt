@@ -8,10 +8,12 @@ returns-clause-ports c =
     let low = c.requires.low in
     let high = c.requires.high in
     let parity = c.requires.parity in
-    word_with c.args.word.now c.with_bit.result c.args.first c.from-bit.result c.args.port (omega arith) (omega arith) c.with_bit.ensures
+    word_with c.args.word.now c.with_bit.result c.args.first c.from-bit.result c.args.port (omega arith) (omega arith)
+    c.with_bit.ensures
 
 pub returns-clause-count : goal.returns-clause-count
 returns-clause-count c =
     let bit = c.from-bit.ensures in
     let high = c.requires.high in
-    rw c.has_bit-missing.ensures (word_more c.args.word.now c.with_bit.result c.from-bit.result (omega arith) c.with_bit.ensures)
+    rw c.has_bit-missing.ensures
+    (word_more c.args.word.now c.with_bit.result c.from-bit.result (omega arith) c.with_bit.ensures)

@@ -10,9 +10,11 @@ returns-then-is_empty-clause-told g c told before writes name is gathered =
 
 pub returns-in_err-write_lines-clause-told : goal.returns-in_err-write_lines-clause-told
 returns-in_err-write_lines-clause-told g c told before writes name is gathered =
-    err_gathers _ _ _ before _ c.from_residual.ensures.0 (begun_before writes (Appends name c.args.records.now ∷ []) before _ (c.in_err-write_lines.ensures.told told before writes gathered))
+    err_gathers _ _ _ before _ c.from_residual.ensures.0 (begun_before writes (Appends name c.args.records.now ∷ [])
+    before _ (c.in_err-write_lines.ensures.told told before writes gathered))
 
 pub returns-clause-told : goal.returns-clause-told
 returns-clause-told g c told before writes name is gathered =
-    gathers_behind _ writes _ _ before _ _ c.in_ok-write_lines.ensures.none (c.in_ok-write_lines.ensures.told told before writes gathered)
+    gathers_behind _ writes _ _ before _ _ c.in_ok-write_lines.ensures.none
+    (c.in_ok-write_lines.ensures.told told before writes gathered)
     (c.append.ensures.told told name (c.in_ok-write_lines.ensures.only_writes.outputs told _ name is))

@@ -5,21 +5,24 @@ use Rattle.output_files.proofs.single.write_output.Goals as goal
 
 pub returns-in_err-file-clause-told : goal.returns-in_err-file-clause-told
 returns-in_err-file-clause-told g c told =
-    err_writes _ _ _ _ c.from_residual.ensures.0 (begun_before (Creates c.args.name.now ∷ []) _ _ _ (c.in_err-file.ensures.told told))
+    err_writes _ _ _ _ c.from_residual.ensures.0
+    (begun_before (Creates c.args.name.now ∷ []) _ _ _ (c.in_err-file.ensures.told told))
 
 pub returns-in_err-append-clause-told : goal.returns-in_err-append-clause-told
 returns-in_err-append-clause-told g c told =
     let created = c.in_ok-file.ensures.told told in
     err_writes _ _ _ _ c.from_residual-in_err-append.ensures.0
     (begun_behind (Creates c.args.name.now ∷ []) _ _ _ _ created
-    (begun_before (Appends c.args.name.now c.args.header.now ∷ []) _ _ _ (c.in_err-append.ensures.told told c.args.name.now (c.in_ok-file.ensures.output told))))
+    (begun_before (Appends c.args.name.now c.args.header.now ∷ []) _ _ _
+    (c.in_err-append.ensures.told told c.args.name.now (c.in_ok-file.ensures.output told))))
 
 pub returns-in_err-append-2-clause-told : goal.returns-in_err-append-2-clause-told
 returns-in_err-append-2-clause-told g c told =
     let created = c.in_ok-file.ensures.told told in
     let is = c.in_ok-file.ensures.output told in
     let header = c.in_ok-append.ensures.told told c.args.name.now is in
-    let first = written_more (Creates c.args.name.now ∷ []) (Appends c.args.name.now c.args.header.now ∷ []) _ _ _ created header in
+    let first =
+    written_more (Creates c.args.name.now ∷ []) (Appends c.args.name.now c.args.header.now ∷ []) _ _ _ created header in
     err_writes _ _ _ _ c.from_residual-in_err-append-2.ensures.0
     (begun_behind (Creates c.args.name.now ∷ Appends c.args.name.now c.args.header.now ∷ []) _ _ _ _ first
     (begun_before (Appends c.args.name.now c.args.body.now ∷ []) _ _ _
@@ -30,7 +33,12 @@ returns-clause-told g c told =
     let created = c.in_ok-file.ensures.told told in
     let is = c.in_ok-file.ensures.output told in
     let header = c.in_ok-append.ensures.told told c.args.name.now is in
-    let body = c.in_ok-append-2.ensures.told told c.args.name.now (c.in_ok-append.ensures.only_writes.outputs told _ _ is) in
-    let first = written_more (Creates c.args.name.now ∷ []) (Appends c.args.name.now c.args.header.now ∷ []) _ _ _ created header in
-    let second = written_more (Creates c.args.name.now ∷ Appends c.args.name.now c.args.header.now ∷ []) (Appends c.args.name.now c.args.body.now ∷ []) _ _ _ first body in
-    then_writes _ (Creates c.args.name.now ∷ Appends c.args.name.now c.args.header.now ∷ Appends c.args.name.now c.args.body.now ∷ []) _ _ _ _ second (c.report.ensures.told told)
+    let body =
+    c.in_ok-append-2.ensures.told told c.args.name.now (c.in_ok-append.ensures.only_writes.outputs told _ _ is) in
+    let first =
+    written_more (Creates c.args.name.now ∷ []) (Appends c.args.name.now c.args.header.now ∷ []) _ _ _ created header in
+    let second = written_more (Creates c.args.name.now ∷ Appends c.args.name.now c.args.header.now ∷ [])
+    (Appends c.args.name.now c.args.body.now ∷ []) _ _ _ first body in
+    then_writes _
+    (Creates c.args.name.now ∷ Appends c.args.name.now c.args.header.now ∷ Appends c.args.name.now c.args.body.now ∷ [])
+    _ _ _ _ second (c.report.ensures.told told)

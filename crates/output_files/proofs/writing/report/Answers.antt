@@ -6,4 +6,5 @@ pub returns-clause-told : goal.returns-clause-told
 returns-clause-told g c told = reports_to _ _ _ _ (c.put_all.ensures.told told)
 
 pub returns-clause-only_writes : goal.returns-clause-only_writes
-returns-clause-only_writes g c = OnlyWrites-appended _ _ _ _ _ _ _ _ _ c.put_all.ensures.told c.put_all.ensures.writes_on
+returns-clause-only_writes g c =
+    OnlyWrites-appended _ _ _ _ _ _ _ _ _ c.put_all.ensures.told c.put_all.ensures.writes_on

@@ -11,11 +11,20 @@ loop-thread-preserved c =
           let t = c.loop-thread.thread in
           let component = c.get-component.result in
           let updates = w.in_ok-insert.ensures.updates.0 in
-          let more = indexed_more c.loop-thread.index.keys w.insert.new.self.keys (t, component, c.args.arrival) updates in
-          let here : IsIndexed w.insert.new.self.keys t component c.args.arrival = indexed_here c.loop-thread.index.keys w.insert.new.self.keys (t, component, c.args.arrival) updates in
+          let more =
+          indexed_more c.loop-thread.index.keys w.insert.new.self.keys (t, component, c.args.arrival) updates in
+          let here : IsIndexed w.insert.new.self.keys t component c.args.arrival =
+          indexed_here c.loop-thread.index.keys w.insert.new.self.keys (t, component, c.args.arrival) updates in
           rw w.index-is (record {
             keeps = λ u n a was. more u n a (c.loop-thread.invariant.keeps u n a was);
-            enters = below_more (λ u. slice_index c.args.frontiers.now u < slice_index c.args.stamp.now u → IsIndexed w.insert.new.self.keys u (slice_index c.args.stamp.now u) c.args.arrival) t (λ u h above. more u (slice_index c.args.stamp.now u) c.args.arrival (c.loop-thread.invariant.enters u h above)) (λ above. subst (λ (n : ℕ). IsIndexed w.insert.new.self.keys t n c.args.arrival) c.get-component.ensures here);
+            enters = below_more
+                (λ u.
+                slice_index c.args.frontiers.now u < slice_index c.args.stamp.now u
+                → IsIndexed w.insert.new.self.keys u (slice_index c.args.stamp.now u) c.args.arrival) t
+                (λ u h above.
+                more u (slice_index c.args.stamp.now u) c.args.arrival (c.loop-thread.invariant.enters u h above))
+                (λ above.
+                subst (λ (n : ℕ). IsIndexed w.insert.new.self.keys t n c.args.arrival) c.get-component.ensures here);
           })
       | else-component-get w ↦
           let t = c.loop-thread.thread in
@@ -24,6 +33,10 @@ loop-thread-preserved c =
           let f = c.get.ensures in
           rw w.index-is (record {
             keeps = c.loop-thread.invariant.keeps;
-            enters = below_more (λ u. slice_index c.args.frontiers.now u < slice_index c.args.stamp.now u → IsIndexed c.loop-thread.index.keys u (slice_index c.args.stamp.now u) c.args.arrival) t c.loop-thread.invariant.enters (λ above. absurd (omega arith));
+            enters = below_more
+                (λ u.
+                slice_index c.args.frontiers.now u < slice_index c.args.stamp.now u
+                → IsIndexed c.loop-thread.index.keys u (slice_index c.args.stamp.now u) c.args.arrival) t
+                c.loop-thread.invariant.enters (λ above. absurd (omega arith));
           })
     ]

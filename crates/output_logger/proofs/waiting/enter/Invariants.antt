@@ -5,5 +5,6 @@ use Rattle.output_logger.proofs.waiting.enter.Given as goal
 abbrev pub invariant-loop-thread : goal.invariant-loop-thread
 invariant-loop-thread l = record {
   keeps : (u n a : ℕ) → IsIndexed l.initial.index.keys u n a → IsIndexed l.index.keys u n a;
-  enters : (u : ℕ) → u < l.thread → slice_index l.frontiers u < slice_index l.stamp u → IsIndexed l.index.keys u (slice_index l.stamp u) l.arrival;
+  enters : (u : ℕ) → u < l.thread → slice_index l.frontiers u < slice_index l.stamp u
+      → IsIndexed l.index.keys u (slice_index l.stamp u) l.arrival;
 }

@@ -4,11 +4,13 @@ use Rattle.packet_headers.proofs.rewriting.set_source.Goals as goal
 
 pub returns-clause-header : goal.returns-clause-header
 returns-clause-header c =
-    rw c.rewrite.ensures.value (source_keeps c.args.frame.now c.args.flow.now c.args.address c.args.port c.rewrite.ensures.bytes c.requires).0
+    rw c.rewrite.ensures.value
+    (source_keeps c.args.frame.now c.args.flow.now c.args.address c.args.port c.rewrite.ensures.bytes c.requires).0
 
 pub returns-clause-transport : goal.returns-clause-transport
 returns-clause-transport c =
-    rw c.rewrite.ensures.value (source_keeps c.args.frame.now c.args.flow.now c.args.address c.args.port c.rewrite.ensures.bytes c.requires).1
+    rw c.rewrite.ensures.value
+    (source_keeps c.args.frame.now c.args.flow.now c.args.address c.args.port c.rewrite.ensures.bytes c.requires).1
 
 pub returns-clause-seen : goal.returns-clause-seen
 returns-clause-seen c =

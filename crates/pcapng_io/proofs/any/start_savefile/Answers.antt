@@ -5,5 +5,7 @@ use Rattle.pcapng_io.proofs.any.start_savefile.Goals as goal
 
 pub returns-clause-header : goal.returns-clause-header
 returns-clause-header c =
-    let Taken : List ℕ → Type 0 = λ head. TakesHeader (λ (a taken b : List ℕ). a ≡ taken ++ b) c.start.result head c.start.new.source in
-    takes_header c.args.head.now c.start.new.source c.start.result c.requires (subst Taken c.of.ensures c.start.ensures.taken)
+    let Taken : List ℕ → Type 0 =
+    λ head. TakesHeader (λ (a taken b : List ℕ). a ≡ taken ++ b) c.start.result head c.start.new.source in
+    takes_header c.args.head.now c.start.new.source c.start.result c.requires
+    (subst Taken c.of.ensures c.start.ensures.taken)

@@ -12,7 +12,14 @@ loop-done-preserved g c =
       taken = (
         inv.taken.0 ++ take c.in-Got.got c.fill.new.piece,
         g.met.S.Source.reads_more _ _ _ _ _ inv.taken.1 c.in-Got.ensures.reads,
-        omega (arith, inv.taken.2, length-append inv.taken.0 (take c.in-Got.got c.fill.new.piece), length-take c.in-Got.got c.fill.new.piece, c.in-Got.ensures.count.0, c.fill.auto.piece),
+        omega (
+          arith,
+          inv.taken.2,
+          length-append inv.taken.0 (take c.in-Got.got c.fill.new.piece),
+          length-take c.in-Got.got c.fill.new.piece,
+          c.in-Got.ensures.count.0,
+          c.fill.auto.piece,
+        ),
       );
       within = grind (arith, common_steps, c.fill.auto.piece, c.in-Got.ensures.count);
       goes_on = GoesOn-trans g.S.Source.faults g.S.Source.healthy _ _ _ inv.goes_on c.in-Got.ensures.goes_on;
@@ -20,8 +27,11 @@ loop-done-preserved g c =
 
 pub returns-in-End-clause-taken : goal.returns-in-End-clause-taken
 returns-in-End-clause-taken g c =
-    let inv = c.loop-done.invariant in
-    (_, g.met.S.Source.reads_more _ _ _ _ _ inv.taken.1 c.in-End.ensures.reads, omega (arith, inv.taken.2, length-append inv.taken.0 []))
+    let inv = c.loop-done.invariant in (
+      _,
+      g.met.S.Source.reads_more _ _ _ _ _ inv.taken.1 c.in-End.ensures.reads,
+      omega (arith, inv.taken.2, length-append inv.taken.0 []),
+    )
 
 pub returns-in-Failed-clause-taken : goal.returns-in-Failed-clause-taken
 returns-in-Failed-clause-taken g c =

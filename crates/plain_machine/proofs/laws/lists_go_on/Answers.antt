@@ -15,4 +15,5 @@ returns-clause-one_more g c = λ m inputs threads moves steps next move e n.
     play_append m inputs threads (Ok []) moves (move ∷ []) ∙ (ap (λ r. and_move m inputs threads r move) e ∙ rw n refl)
 
 pub returns-clause-earlier_moment : goal.returns-clause-earlier_moment
-returns-clause-earlier_moment g c = λ m inputs threads steps earlier h e. earlier_history m inputs threads earlier steps e h
+returns-clause-earlier_moment g c =
+    λ m inputs threads steps earlier h e. earlier_history m inputs threads earlier steps e h

@@ -1,7 +1,8 @@
 use Rattle.std.proofs.Common.{◌<◌, ◌↔◌, ℕ, List, length, refl, subst}
 use Rattle.plain_text.specs.declared.limit.TheConstants.{MOST_EVENTS}
 use Rattle.plain_text.specs.LineFiles.{count_of}
-use Rattle.plain_text.proofs.WholeFiles.{count_is_length, either, not_both, one_file, one_fault, too_many, too_many_before}
+use Rattle.plain_text.proofs.WholeFiles.{count_is_length, either, not_both, one_file, one_fault, too_many}
+use Rattle.plain_text.proofs.WholeFiles.{too_many_before}
 use Rattle.plain_machine.specs.declared.plain_move.PlainMove.{PlainMove}
 use Rattle.plain_player.specs.Schedules.{schedule_form, HasTooMany}
 use Rattle.plain_player.proofs.OneMove.{moves_are_decisive}

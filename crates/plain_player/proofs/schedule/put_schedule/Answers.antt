@@ -24,8 +24,9 @@ pub loop-plain-preserved : goal.loop-plain-preserved
 loop-plain-preserved c =
     let ends : c.push.new.self ≡ c.put_move.new.text ++ codes "\n" = search rules in
     record {
-      text = text_more c.as_slice-plain-items.result.now c.loop-plain.plain-index _ c.loop-plain.text
-          c.put_move.new.text c.push.new.self c.loop-plain-test.true c.loop-plain.invariant.text c.in_ok-put_move.ensures.text ends;
+      text =
+          text_more c.as_slice-plain-items.result.now c.loop-plain.plain-index _ c.loop-plain.text c.put_move.new.text
+          c.push.new.self c.loop-plain-test.true c.loop-plain.invariant.text c.in_ok-put_move.ensures.text ends;
       fit = All-more FitsLine c.as_slice-plain-items.result.now c.loop-plain.plain-index _ c.loop-plain-test.true
           c.loop-plain.invariant.fit c.in_ok-put_move.ensures.fits;
     }

@@ -18,10 +18,12 @@ pub loop-byte-preserved : goal.loop-byte-preserved
 loop-byte-preserved c =
     let more = value_more c.args.word.now c.loop-byte.byte-index _ (omega arith) refl (search rules) in
     record {
-      digits = digits_more c.args.word.now c.loop-byte.byte-index (omega arith) c.loop-byte.invariant.digits (search rules);
+      digits =
+          digits_more c.args.word.now c.loop-byte.byte-index (omega arith) c.loop-byte.invariant.digits (search rules);
       value = omega arith;
       fits = omega arith;
     }
 
 pub returns : goal.returns
-returns c = is_whole c.args.word.now c.loop-byte.number c.loop-byte.byte-index (search rules) (omega arith) (omega arith) c.loop-byte.invariant.digits c.loop-byte.invariant.value c.loop-byte.invariant.fits
+returns c = is_whole c.args.word.now c.loop-byte.number c.loop-byte.byte-index (search rules) (omega arith)
+    (omega arith) c.loop-byte.invariant.digits c.loop-byte.invariant.value c.loop-byte.invariant.fits

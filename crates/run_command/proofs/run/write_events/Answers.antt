@@ -32,7 +32,8 @@ returns-in_err-perform_events-clause-cause g c fault =
 
 pub returns-in_err-perform_events-clause-writes_files : goal.returns-in_err-perform_events-clause-writes_files
 returns-in_err-perform_events-clause-writes_files g c =
-    WritesFiles-trans _ _ 2 0 _ _ _ c.in_ok-outputs.ensures.writes_files (OnlyWrites-files _ _ _ _ 0 _ _ c.in_err-perform_events.ensures.only_writes)
+    WritesFiles-trans _ _ 2 0 _ _ _ c.in_ok-outputs.ensures.writes_files
+    (OnlyWrites-files _ _ _ _ 0 _ _ c.in_err-perform_events.ensures.only_writes)
 
 pub returns-clause-told : goal.returns-clause-told
 returns-clause-told g c told s unit at =
@@ -41,11 +42,14 @@ returns-clause-told g c told s unit at =
     c.in_ok-perform_events.ensures.told told s names _ (c.in_ok-outputs.ensures.released told) first
 
 pub returns-clause-schedule : goal.returns-clause-schedule
-returns-clause-schedule g c told = c.in_ok-perform_events.ensures.only_writes.outputs told _ _ (c.in_ok-outputs.ensures.schedule told)
+returns-clause-schedule g c told =
+    c.in_ok-perform_events.ensures.only_writes.outputs told _ _ (c.in_ok-outputs.ensures.schedule told)
 
 pub returns-clause-writable : goal.returns-clause-writable
-returns-clause-writable g c = writable_still _ _ _ c.in_ok-outputs.ensures.writable.1 c.in_ok-perform_events.ensures.only_writes.ledger
+returns-clause-writable g c =
+    writable_still _ _ _ c.in_ok-outputs.ensures.writable.1 c.in_ok-perform_events.ensures.only_writes.ledger
 
 pub returns-clause-writes_files : goal.returns-clause-writes_files
 returns-clause-writes_files g c =
-    WritesFiles-trans _ _ 2 0 _ _ _ c.in_ok-outputs.ensures.writes_files (OnlyWrites-files _ _ _ _ 0 _ _ c.in_ok-perform_events.ensures.only_writes)
+    WritesFiles-trans _ _ 2 0 _ _ _ c.in_ok-outputs.ensures.writes_files
+    (OnlyWrites-files _ _ _ _ 0 _ _ c.in_ok-perform_events.ensures.only_writes)

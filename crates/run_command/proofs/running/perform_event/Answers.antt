@@ -8,9 +8,9 @@ write_performed-requires-clause-short g c =
 
 pub returns-clause-told : goal.returns-clause-told
 returns-clause-told g c told s names events before is come =
-    performed_goes (g.P.Program.meaning c.args.system.now.parts.program) s names events c.args.system.now c.args.lines.now before _ come
-    c.args.event.now _ _ _ c.perform-performed.new.system _ _ c.perform-performed.ensures.comes
-    (c.write_performed.ensures.told told before _ names.released is come.gathered)
+    performed_goes (g.P.Program.meaning c.args.system.now.parts.program) s names events c.args.system.now
+    c.args.lines.now before _ come c.args.event.now _ _ _ c.perform-performed.new.system _ _
+    c.perform-performed.ensures.comes (c.write_performed.ensures.told told before _ names.released is come.gathered)
 
 pub returns-clause-runs : goal.returns-clause-runs
 returns-clause-runs g c = on_ended _ _ _ c.write_performed.ensures.ended c.perform-performed.ensures.goes_on
@@ -20,5 +20,6 @@ returns-clause-program g c = on_ended _ _ _ c.write_performed.ensures.ended c.pe
 
 pub returns-clause-somewhere : goal.returns-clause-somewhere
 returns-clause-somewhere g c =
-    somewhere_again _ (g.P.Program.meaning c.args.system.now.parts.program) c.args.event.now _ _ c.args.system.now c.perform-performed.new.system
-    c.write_performed.ensures.ended c.perform-performed.ensures.comes c.requires.somewhere
+    somewhere_again _ (g.P.Program.meaning c.args.system.now.parts.program) c.args.event.now _ _ c.args.system.now
+    c.perform-performed.new.system c.write_performed.ensures.ended c.perform-performed.ensures.comes
+    c.requires.somewhere

@@ -17,7 +17,8 @@ invariant-loop-event g l =
       program : l.system.parts.program ≡ l.fn.system.parts.program;
       somewhere : IsSomewhere m l.system;
       only_writes : OnlyWrites g.W.World.tells g.W.World.shown g.W.World.ledger g.W.World.healthy l.fn.world l.world;
-      come : IsTrue g.W.World.tells → (s : Setting g.row.P-Value.Denot) (names : OutputNames) (before : Shown) → IsOutput l.file names.released (g.W.World.shown l.fn.world)
+      come : IsTrue g.W.World.tells → (s : Setting g.row.P-Value.Denot) (names : OutputNames) (before : Shown)
+          → IsOutput l.file names.released (g.W.World.shown l.fn.world)
           → HasCome m s names [] l.fn.system l.fn.lines before (g.W.World.shown l.fn.world)
           → HasCome m s names (take l.event-index l.events) l.system l.lines before (g.W.World.shown l.world);
     }

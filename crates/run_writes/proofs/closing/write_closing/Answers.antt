@@ -16,4 +16,5 @@ returns-in_err-append-clause-told g c told before writes name is gathered =
 pub returns-clause-told : goal.returns-clause-told
 returns-clause-told g c told before writes name is gathered =
     closed writes name _ _ before _ _ (c.in_ok-write_lines.ensures.told told before writes gathered) _ _
-    (c.in_ok-append.ensures.told told name (c.in_ok-write_lines.ensures.only_writes.outputs told _ _ is)) (c.report.ensures.told told)
+    (c.in_ok-append.ensures.told told name (c.in_ok-write_lines.ensures.only_writes.outputs told _ _ is))
+    (c.report.ensures.told told)

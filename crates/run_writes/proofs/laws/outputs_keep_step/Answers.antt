@@ -10,8 +10,10 @@ returns-clause-some g c = λ s names events writes done apart w cut.
 
 pub returns-clause-until : goal.returns-clause-until
 returns-clause-until g c = λ s names events limit writes done apart w cut.
-    keeps_step names s.fractions apart w.replies _ done (have_lines s w.before w.replies w.there w.answers) tt (subst (λ (ws : List Write). IsCut done ws) w.writes_are cut)
+    keeps_step names s.fractions apart w.replies _ done (have_lines s w.before w.replies w.there w.answers) tt
+    (subst (λ (ws : List Write). IsCut done ws) w.writes_are cut)
 
 pub returns-clause-all : goal.returns-clause-all
 returns-clause-all g c = λ s names events writes done apart w cut.
-    keeps_step names s.fractions apart w.replies _ done (have_lines s events w.replies w.world w.answers) tt (subst (λ (ws : List Write). IsCut done ws) w.writes_are cut)
+    keeps_step names s.fractions apart w.replies _ done (have_lines s events w.replies w.world w.answers) tt
+    (subst (λ (ws : List Write). IsCut done ws) w.writes_are cut)

@@ -9,14 +9,15 @@ returns-in_err-write_records-clause-told g c told before writes name is gathered
 
 pub returns-in_err-extend-clause-told : goal.returns-in_err-extend-clause-told
 returns-in_err-extend-clause-told g c told before writes name is gathered =
-    err_gathers _ _ _ before _ c.from_residual-in_err-extend.ensures.0
-    (reply_lines_begun writes name _ _ before _ _ (c.in_ok-write_records.ensures.told told before writes name is gathered))
+    err_gathers _ _ _ before _ c.from_residual-in_err-extend.ensures.0 (reply_lines_begun writes name _ _ before _ _
+    (c.in_ok-write_records.ensures.told told before writes name is gathered))
 
 pub returns-in_err-write_lines-clause-told : goal.returns-in_err-write_lines-clause-told
 returns-in_err-write_lines-clause-told g c told before writes name is gathered =
     let records = c.in_ok-write_records.ensures.told told before writes name is gathered in
     let done = reply_gathered writes name _ _ before _ _ _ c.in_ok-extend.ensures.ok records in
-    err_gathers _ _ _ before _ c.from_residual-in_err-write_lines.ensures.0 (c.in_err-write_lines.ensures.told told before _ done)
+    err_gathers _ _ _ before _ c.from_residual-in_err-write_lines.ensures.0
+    (c.in_err-write_lines.ensures.told told before _ done)
 
 pub returns-in_ok-write_lines-clause-told : goal.returns-in_ok-write_lines-clause-told
 returns-in_ok-write_lines-clause-told g c told before writes name is gathered =
@@ -26,4 +27,5 @@ returns-in_ok-write_lines-clause-told g c told before writes name is gathered =
 
 pub returns-else-len-gt-GATHERED-clause-told : goal.returns-else-len-gt-GATHERED-clause-told
 returns-else-len-gt-GATHERED-clause-told g c told before writes name is gathered =
-    reply_gathered writes name _ _ before _ _ _ c.in_ok-extend.ensures.ok (c.in_ok-write_records.ensures.told told before writes name is gathered)
+    reply_gathered writes name _ _ before _ _ _ c.in_ok-extend.ensures.ok
+    (c.in_ok-write_records.ensures.told told before writes name is gathered)

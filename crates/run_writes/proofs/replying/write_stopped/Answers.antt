@@ -10,7 +10,8 @@ returns-in_err-records-clause-told g c told before writes name is gathered =
 pub returns-in_err-write_records-clause-told : goal.returns-in_err-write_records-clause-told
 returns-in_err-write_records-clause-told g c told before writes name is gathered =
     same_records _ writes name _ _ before _ (c.as_slice.ensures ∙ c.in_ok-records.ensures.records)
-    (err_writes _ _ before _ c.from_residual-in_err-write_records.ensures.0 (c.in_err-write_records.ensures.told told before writes name is gathered))
+    (err_writes _ _ before _ c.from_residual-in_err-write_records.ensures.0
+    (c.in_err-write_records.ensures.told told before writes name is gathered))
 
 pub returns-clause-told : goal.returns-clause-told
 returns-clause-told g c told before writes name is gathered =

@@ -11,14 +11,14 @@ returns c =
     let third : c.is_third_there-third.result ≡ has_third (words_of c.args.line.now) = search rules in
     let four : length c.in_ok-values.values ≡ 4 = search rules in
     let says : SaysEvent (words_of c.args.line.now) (event_from c.in-Some-named.form c.in_ok-values.values) =
-    says_read (words_of c.args.line.now) c.is_third_there-third.result c.in-Some.word.now c.next.new.self c.in-Some-named.form c.in_ok-values.values
-    third (search rules) (sym c.in-Some-named.ensures) four (search rules) in
+    says_read (words_of c.args.line.now) c.is_third_there-third.result c.in-Some.word.now c.next.new.self
+    c.in-Some-named.form c.in_ok-values.values third (search rules) (sym c.in-Some-named.ensures) four (search rules) in
     search rules
 
 pub returns-in_err-values-clause-fault : goal.returns-in_err-values-clause-fault
 returns-in_err-values-clause-fault c =
     let third : c.is_third_there-third.result ≡ has_third (words_of c.args.line.now) = search rules in
     let bad : event_fault (words_of c.args.line.now) ≡ Some c.in_err-values.field-0.0 =
-    no_values (words_of c.args.line.now) c.is_third_there-third.result c.in-Some.word.now c.next.new.self c.in-Some-named.form c.in_err-values.field-0.0
-    third (search rules) (sym c.in-Some-named.ensures) (search rules) in
+    no_values (words_of c.args.line.now) c.is_third_there-third.result c.in-Some.word.now c.next.new.self
+    c.in-Some-named.form c.in_err-values.field-0.0 third (search rules) (sym c.in-Some-named.ensures) (search rules) in
     search rules

@@ -4,13 +4,17 @@ use Rattle.script_text.proofs.Values.{missing, one_more}
 use Rattle.script_text.proofs.script.read_values.Goals as goal
 
 pub returns-in_default-clause-fault : goal.returns-in_default-clause-fault
-returns-in_default-clause-fault c = missing (take c.loop-index.index c.loop-index.values) c.args.parts.now c.loop-index.index c.loop-index.words _ c.loop-index-test.true c.in_default.ensures.steps.0 c.loop-index.invariant.comes
+returns-in_default-clause-fault c =
+    missing (take c.loop-index.index c.loop-index.values) c.args.parts.now c.loop-index.index c.loop-index.words _
+    c.loop-index-test.true c.in_default.ensures.steps.0 c.loop-index.invariant.comes
 
 pub loop-index-preserved : goal.loop-index-preserved
 loop-index-preserved c =
-    let four : length (slice_set c.loop-index.values c.loop-index.index c.in_ok-values.field-0) ≡ 4 = grind (arith, common_steps) in
+    let four : length (slice_set c.loop-index.values c.loop-index.index c.in_ok-values.field-0) ≡ 4 =
+    grind (arith, common_steps) in
     record {
       four = four;
-      comes = one_more c.loop-index.values c.args.parts.now c.loop-index.index c.in_ok-values.field-0 c.in-Some.word.now c.loop-index.words c.next.new.self _
-          c.loop-index-test.true (omega arith) (search rules) (search rules) c.loop-index.invariant.comes;
+      comes = one_more c.loop-index.values c.args.parts.now c.loop-index.index c.in_ok-values.field-0 c.in-Some.word.now
+          c.loop-index.words c.next.new.self _ c.loop-index-test.true (omega arith) (search rules) (search rules)
+          c.loop-index.invariant.comes;
     }

@@ -8,5 +8,6 @@ use Rattle.script_text.proofs.script.read_values.Given as goal
 abbrev pub invariant-loop-index : goal.invariant-loop-index
 invariant-loop-index l = record {
   four : length l.values ≡ 4;
-  comes : behind (take l.index l.values) (values_at (map grammar_place (drop l.index l.parts)) l.words) ≡ values_at (map grammar_place l.parts) l.fn.words;
+  comes : behind (take l.index l.values) (values_at (map grammar_place (drop l.index l.parts)) l.words)
+      ≡ values_at (map grammar_place l.parts) l.fn.words;
 }

@@ -4,9 +4,11 @@ use Rattle.sent_frames.proofs.FrameLemmas.{gives_no_fault}
 use Rattle.sent_frames.proofs.sending.frame_in.Goals as goal
 
 pub returns-in-Ok : goal.returns-in-Ok
-returns-in-Ok c f is = ap Some (c.in-Ok.ensures.every f (length c.args.bytes.now) (begins_whole c.args.bytes.now f is)).0
+returns-in-Ok c f is =
+    ap Some (c.in-Ok.ensures.every f (length c.args.bytes.now) (begins_whole c.args.bytes.now f is)).0
 
 pub returns-in-Err-Fault : goal.returns-in-Err-Fault
 returns-in-Err-Fault c f is =
-    absurd (gives_no_fault c.take_frame.result c.in-Err-Fault.field-0-0 f (length c.args.bytes.now) (c.in-Err-Fault.is ∙ ap Err c.in-Err-Fault.field-0-is)
+    absurd (gives_no_fault c.take_frame.result c.in-Err-Fault.field-0-0 f (length c.args.bytes.now)
+    (c.in-Err-Fault.is ∙ ap Err c.in-Err-Fault.field-0-is)
     (c.take_frame.ensures.every f (length c.args.bytes.now) (begins_whole c.args.bytes.now f is)))

@@ -16,10 +16,14 @@ threads-preserved g c =
     let now = ap (λ y. y.inputs.threads) c.core.view_is in
     record {
       end = c.threads.invariant.end;
-      counted = counted_next (g.P.Program.meaning c.args.core.now.program) c.threads.thread c.counts-counts.result c.threads.entries c.threads.outputs c.core.view_is (omega (arith, test, end)) (omega (arith, test, end, few, now)) c.counts-counts.ensures c.threads.invariant.counted;
+      counted = counted_next (g.P.Program.meaning c.args.core.now.program) c.threads.thread c.counts-counts.result
+          c.threads.entries c.threads.outputs c.core.view_is (omega (arith, test, end))
+          (omega (arith, test, end, few, now)) c.counts-counts.ensures c.threads.invariant.counted;
     }
 
 pub returns : goal.returns
 returns g c =
-    let last : c.threads.thread ≡ c.threads-thread-end.result = let a = c.threads-test.false in let b = c.threads.auto.thread-end in omega (arith, a, b) in
-    counted_whole (g.P.Program.meaning c.args.core.now.program) c.args.core.now c.threads.thread _ c.threads.entries c.threads.outputs (last ∙ c.threads.invariant.end) c.threads.invariant.counted
+    let last : c.threads.thread ≡ c.threads-thread-end.result =
+    let a = c.threads-test.false in let b = c.threads.auto.thread-end in omega (arith, a, b) in
+    counted_whole (g.P.Program.meaning c.args.core.now.program) c.args.core.now c.threads.thread _ c.threads.entries
+    c.threads.outputs (last ∙ c.threads.invariant.end) c.threads.invariant.counted

@@ -8,6 +8,7 @@ use Rattle.several_events.proofs.messages.next_of_kind.Given as goal
 abbrev pub invariant-threads : goal.invariant-threads
 invariant-threads g l = record {
   end : l.turn-end ≡ l.core.inputs.threads;
-  goes : (s : Setting g.row.P-Value.Denot) (w : World g.row.P-Value.Denot) → StandsFor (g.P.Program.meaning l.core.program) s w l.core
+  goes : (s : Setting g.row.P-Value.Denot) (w : World g.row.P-Value.Denot)
+      → StandsFor (g.P.Program.meaning l.core.program) s w l.core
       → GoesOnTo s w l.kind l.thread l.arrived l.turn l.before;
 }

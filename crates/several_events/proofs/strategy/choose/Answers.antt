@@ -13,4 +13,7 @@ returns-in-Wakes-clause-next g c =
     let few = c.core.invariant.few_threads in
     let m = g.P.Program.meaning c.args.core.now.program in
     subst (λ at. IsNext m c.args.core.now at event.Recover (progress.Steps c.len.result 0 false)) (sym c.in-Wakes.is)
-    (next_wake m c.args.core.now c.len.result (c.len.ensures ∙ (c.core.inside.left.ok.0 ∙ sym (length-reverse c.core.inside.left.items)) ∙ ap (λ y. length y.left) c.core.view_is) (omega (arith, now, some)) (omega (arith, now, few)))
+    (next_wake m c.args.core.now c.len.result
+    (c.len.ensures
+    ∙ (c.core.inside.left.ok.0 ∙ sym (length-reverse c.core.inside.left.items))
+    ∙ ap (λ y. length y.left) c.core.view_is) (omega (arith, now, some)) (omega (arith, now, few)))

@@ -6,7 +6,8 @@ use Rattle.several_events.proofs.strategy.follow.Given as goal
 -- the strategy goes on from here, whatever it comes to
 abbrev pub invariant-events : goal.invariant-events
 invariant-events g l = record {
-  moved : MovesOn (g.P.Program.meaning l.fn.core.program) (Releasing l.fn.out l.out (Reaches l.fn.from l.at)) l.fn.core l.core;
+  moved : MovesOn (g.P.Program.meaning l.fn.core.program) (Releasing l.fn.out l.out (Reaches l.fn.from l.at))
+      l.fn.core l.core;
   appends : Appends l.fn.out l.out;
 }
 

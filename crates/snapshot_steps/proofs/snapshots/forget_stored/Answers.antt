@@ -5,4 +5,5 @@ pub loop-thread-init : goal.loop-thread-init
 loop-thread-init c = covers_none _ _
 
 pub loop-thread-preserved : goal.loop-thread-preserved
-loop-thread-preserved c = covers_more _ _ _ _ c.loop-thread.thread _ c.get.ensures c.loop-thread.invariant c.forget_entries.ensures.forgets
+loop-thread-preserved c =
+    covers_more _ _ _ _ c.loop-thread.thread _ c.get.ensures c.loop-thread.invariant c.forget_entries.ensures.forgets

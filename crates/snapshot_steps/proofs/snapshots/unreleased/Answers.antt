@@ -13,7 +13,8 @@ add_unreleased-requires g c =
     let low = c.loop-thread-test.true in
     let end = c.threads-thread-end.ensures.value in
     record {
-      there = rw c.released.ensures (rest_is (g.P.Program.meaning c.args.core.now.program) _ _ c.loop-thread.thread c.counts-count.result c.core.view_is c.requires.stands (omega (arith, low, end)) c.counts-count.ensures);
+      there = rw c.released.ensures (rest_is (g.P.Program.meaning c.args.core.now.program) _ _ c.loop-thread.thread
+          c.counts-count.result c.core.view_is c.requires.stands (omega (arith, low, end)) c.counts-count.ensures);
     }
 
 pub loop-thread-preserved : goal.loop-thread-preserved
@@ -21,7 +22,9 @@ loop-thread-preserved g c =
     let low = c.loop-thread-test.true in
     let end = c.threads-thread-end.ensures.value in
     record {
-      all = gathers_more (g.P.Program.meaning c.args.core.now.program) _ _ c.loop-thread.thread c.counts-count.result _ _ c.core.view_is (omega (arith, low, end)) c.counts-count.ensures (rw c.released.ensures at c.in_ok-add_unreleased.ensures.adds) c.loop-thread.invariant.all;
+      all = gathers_more (g.P.Program.meaning c.args.core.now.program) _ _ c.loop-thread.thread c.counts-count.result _
+          _ c.core.view_is (omega (arith, low, end)) c.counts-count.ensures
+          (rw c.released.ensures at c.in_ok-add_unreleased.ensures.adds) c.loop-thread.invariant.all;
       end = c.loop-thread.invariant.end;
     }
 
@@ -30,4 +33,7 @@ returns g c =
     let high = c.loop-thread-test.false in
     let few = c.loop-thread.auto.thread-end in
     let end = c.loop-thread.invariant.end in
-    record { are = gathers_all (g.P.Program.meaning c.args.core.now.program) _ c.loop-thread.thread _ (omega (arith, high, few, end)) c.loop-thread.invariant.all }
+    record {
+      are = gathers_all (g.P.Program.meaning c.args.core.now.program) _ c.loop-thread.thread _
+          (omega (arith, high, few, end)) c.loop-thread.invariant.all;
+    }

@@ -5,20 +5,15 @@ use Rattle.system_opening.proofs.opening.open_parts.Goals as goal
 
 pub invariant_of-result : goal.invariant_of-result
 invariant_of-result g c =
-    opening_are_parts (g.P.Program.meaning c.args.program) (g.P.Program.fits c.args.program) c.args.threads c.args.packets _ c.requires.some_threads c.requires.few_threads c.requires.short
-    c.in_ok-master.ensures.fits
+    opening_are_parts (g.P.Program.meaning c.args.program) (g.P.Program.fits c.args.program) c.args.threads
+    c.args.packets _ c.requires.some_threads c.requires.few_threads c.requires.short c.in_ok-master.ensures.fits
     (ap reverse c.reverse.ensures.items ∙ reverse-reverse c.into_vec-left.result.items ∙ c.into_vec-left.ensures)
-    c.in_ok-inputs.ensures
-    c.in_ok-master.ensures.stands
-    refl refl c.in_ok-sent.ensures c.in_ok-logger.ensures
-    (record {
+    c.in_ok-inputs.ensures c.in_ok-master.ensures.stands refl refl c.in_ok-sent.ensures c.in_ok-logger.ensures (record {
       stands = c.in_ok-store.ensures.fresh;
       moves = c.in_ok-store.ensures.moves;
       outbox = c.in_ok-store.ensures.outbox;
       none = c.in_ok-store.ensures.no_copy;
-    })
-    c.in_ok-store.ensures.fits
-    (omega arith)
+    }) c.in_ok-store.ensures.fits (omega arith)
 
 pub returns-clause-stands : goal.returns-clause-stands
 returns-clause-stands g c =

@@ -9,4 +9,5 @@ part_with value = record { value = value; places = 0; stamp = []; readers = [] }
 pub show-requires : goal.show-requires
 show-requires g c =
     let part = part_with c.value.result.now in
-    subst (λ x. g.P.Program.fits c.args.program.now c.args.var x) (sym (c.value.ensures part)) (c.requires.program.fit c.args.var part (omega arith))
+    subst (λ x. g.P.Program.fits c.args.program.now c.args.var x) (sym (c.value.ensures part))
+    (c.requires.program.fit c.args.var part (omega arith))

@@ -16,8 +16,14 @@ store-requires g c =
     let slots : ℕ = c.args.shared.now.table_id.slots in (
       search rules,
       search rules,
-      allows_of g.P.Program.meaning g.P.Program.fits g.row.P.coded g.row.P-Value.coded g.J.Round.program g.J.Round.opening g.J.Round.guide q of.master of.is of.opens slots c.args.token.now.id c.args.token.now.me c.args.var
-          (λ _. c.args.word) (λ _. Gives (step slots c.args.var c.args.word 0 none) c.args.token.now.me c.args.word)
-          (subst (λ (l : List (ℕ × VarPart g.row.P-Value.Denot)). Allows (IsTold (g.P.Program.meaning q) (g.P.Program.fits q) g.J.Round.guide of.master) slots c.args.token.now.id (c.args.token.now.me.0, l) c.args.var (λ _. c.args.word) (λ _. Gives (step slots c.args.var c.args.word 0 none) (c.args.token.now.me.0, l) c.args.word)) (sym h.2)
-          (give_allows (g.P.Program.meaning q) (g.P.Program.fits q) g.J.Round.guide of.master c.args.token.now.id c.args.var c.requires.var_in c.args.token.now.me.0 h.0 h.1 [] slots c.args.word h.3)),
+      allows_of g.P.Program.meaning g.P.Program.fits g.row.P.coded g.row.P-Value.coded g.J.Round.program
+          g.J.Round.opening g.J.Round.guide q of.master of.is of.opens slots c.args.token.now.id c.args.token.now.me
+          c.args.var (λ _. c.args.word)
+          (λ _. Gives (step slots c.args.var c.args.word 0 none) c.args.token.now.me c.args.word)
+          (subst (λ (l : List (ℕ × VarPart g.row.P-Value.Denot)).
+          Allows (IsTold (g.P.Program.meaning q) (g.P.Program.fits q) g.J.Round.guide of.master) slots
+          c.args.token.now.id (c.args.token.now.me.0, l) c.args.var (λ _. c.args.word)
+          (λ _. Gives (step slots c.args.var c.args.word 0 none) (c.args.token.now.me.0, l) c.args.word)) (sym h.2)
+          (give_allows (g.P.Program.meaning q) (g.P.Program.fits q) g.J.Round.guide of.master c.args.token.now.id
+          c.args.var c.requires.var_in c.args.token.now.me.0 h.0 h.1 [] slots c.args.word h.3)),
     )

@@ -4,4 +4,7 @@ use Rattle.var_locks.specs.Notes.{own_note}
 use Rattle.var_locks.proofs.steps.note_move.Given as goal
 
 abbrev pub ghosts-note_as : goal.ghosts-note_as
-ghosts-note_as g a = record { note = (note_code g.row.P-Value.coded).code (own_note a.made.before.now a.made.after.now a.made.trace.now (option_copied a.packet)) }
+ghosts-note_as g a = record {
+  note = (note_code g.row.P-Value.coded).code
+      (own_note a.made.before.now a.made.after.now a.made.trace.now (option_copied a.packet));
+}

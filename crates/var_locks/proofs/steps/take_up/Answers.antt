@@ -19,13 +19,23 @@ compare_exchange-found-requires g c =
     let same = c.loop.invariant.2 in (
       search rules,
       search rules,
-      allows_of g.P.Program.meaning g.P.Program.fits g.row.P.coded g.row.P-Value.coded g.J.Round.program g.J.Round.opening g.J.Round.guide q of.master of.is of.opens c.args.shared.now.table_id.slots c.loop.token.id c.loop.token.me c.args.var
-          (λ n. either (eqb n c.peek-word.result) (c.peek-word.result + 1) n) (Takes g.P.Program.fits g.row.P.coded g.J.Round.program (step c.args.shared.now.table_id.slots c.args.var c.peek-word.result (c.peek-word.result + 1) none) c.loop.token.me)
-          (take_allows (g.P.Program.meaning q) (g.P.Program.fits q) g.J.Round.guide of.master c.loop.token.id c.args.var c.requires.var_in c.loop.token.me.0
-          (ap (λ (m : Me (VarPart g.row.P-Value.Denot) (View g.row.P-Value.Denot)). m.0.hand) same ∙ idle.1.empty) idle.0
-          (one_share c.loop.token.me.0.shares idle.0 (ap (λ (m : Me (VarPart g.row.P-Value.Denot) (View g.row.P-Value.Denot)). m.0.shares) same ∙ idle.1.alone))
-          g.P.Program.fits g.row.P.coded g.J.Round.program (λ r code z fit. fits_of g.P.Program.meaning g.P.Program.fits g.row.P.coded g.row.P-Value.coded g.J.Round.program g.J.Round.opening g.J.Round.guide q of.master of.is of.opens c.args.var z fit r code)
-          c.loop.token.me.1 c.args.shared.now.table_id.slots c.peek-word.result (c.peek-word.result + 1) c.if-word-eq0.true refl),
+      allows_of g.P.Program.meaning g.P.Program.fits g.row.P.coded g.row.P-Value.coded g.J.Round.program
+          g.J.Round.opening g.J.Round.guide q of.master of.is of.opens c.args.shared.now.table_id.slots c.loop.token.id
+          c.loop.token.me c.args.var (λ n. either (eqb n c.peek-word.result) (c.peek-word.result + 1) n)
+          (Takes g.P.Program.fits g.row.P.coded g.J.Round.program
+          (step c.args.shared.now.table_id.slots c.args.var c.peek-word.result (c.peek-word.result + 1) none)
+          c.loop.token.me)
+          (take_allows (g.P.Program.meaning q) (g.P.Program.fits q) g.J.Round.guide of.master c.loop.token.id c.args.var
+          c.requires.var_in c.loop.token.me.0
+          (ap (λ (m : Me (VarPart g.row.P-Value.Denot) (View g.row.P-Value.Denot)). m.0.hand) same ∙ idle.1.empty)
+          idle.0
+          (one_share c.loop.token.me.0.shares idle.0
+          (ap (λ (m : Me (VarPart g.row.P-Value.Denot) (View g.row.P-Value.Denot)). m.0.shares) same ∙ idle.1.alone))
+          g.P.Program.fits g.row.P.coded g.J.Round.program
+          (λ r code z fit. fits_of g.P.Program.meaning g.P.Program.fits g.row.P.coded g.row.P-Value.coded
+          g.J.Round.program g.J.Round.opening g.J.Round.guide q of.master of.is of.opens c.args.var z fit r code)
+          c.loop.token.me.1 c.args.shared.now.table_id.slots c.peek-word.result (c.peek-word.result + 1)
+          c.if-word-eq0.true refl),
     )
 
 pub returns-then-found-word-clause-taken : goal.returns-then-found-word-clause-taken
@@ -33,7 +43,14 @@ returns-then-found-word-clause-taken g c =
     let k = c.compare_exchange-found.ensures.2.0 c.if-found-word.true in
     let same = c.loop.invariant.2 in (
       k.0,
-      subst (λ (w : View g.row.P-Value.Denot). Finds g.P.Program.fits g.row.P.coded g.J.Round.program w c.args.var c.peek-word.result k.0) (ap (λ (m : Me (VarPart g.row.P-Value.Denot) (View g.row.P-Value.Denot)). m.0) same)
-          (subst (λ (n : ℕ). Finds g.P.Program.fits g.row.P.coded g.J.Round.program c.loop.token.me.0 c.args.var n k.0) c.if-found-word.true k.1),
-      k.2 ∙ ap (λ (me : Me (VarPart g.row.P-Value.Denot) (View g.row.P-Value.Denot)). let r : Me (VarPart g.row.P-Value.Denot) (View g.row.P-Value.Denot) = (with_hand me.0 c.args.var k.0, (c.args.var, k.0) ∷ me.1) in r) same,
+      subst (λ (w : View g.row.P-Value.Denot).
+          Finds g.P.Program.fits g.row.P.coded g.J.Round.program w c.args.var c.peek-word.result k.0)
+          (ap (λ (m : Me (VarPart g.row.P-Value.Denot) (View g.row.P-Value.Denot)). m.0) same)
+          (subst (λ (n : ℕ). Finds g.P.Program.fits g.row.P.coded g.J.Round.program c.loop.token.me.0 c.args.var n k.0)
+          c.if-found-word.true k.1),
+      k.2
+          ∙ ap (λ (me : Me (VarPart g.row.P-Value.Denot) (View g.row.P-Value.Denot)).
+          let r : Me (VarPart g.row.P-Value.Denot) (View g.row.P-Value.Denot) =
+          (with_hand me.0 c.args.var k.0, (c.args.var, k.0) ∷ me.1) in
+          r) same,
     )

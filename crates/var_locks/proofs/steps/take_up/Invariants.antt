@@ -2,4 +2,7 @@ use Rattle.std.proofs.Common.{◌≡◌}
 use Rattle.var_locks.proofs.steps.take_up.Given as goal
 
 abbrev pub invariant-loop : goal.invariant-loop
-invariant-loop g l = (l.token.table_id ≡ l.initial.token.table_id) × (l.token.id ≡ l.initial.token.id) × (l.token.me ≡ l.initial.token.me)
+invariant-loop g l =
+    (l.token.table_id ≡ l.initial.token.table_id)
+    × (l.token.id ≡ l.initial.token.id)
+    × (l.token.me ≡ l.initial.token.me)

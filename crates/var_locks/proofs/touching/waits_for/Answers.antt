@@ -9,8 +9,14 @@ pub returns : goal.returns
 returns c =
     let g = c.args.guide.now in
     let a = c.args.access in record {
-      waits = subst (λ (o : Option (ℕ × ℕ)). IfSome o (λ e. WaitsFor g a.thread c.args.number a.var a.read c.args.places c.args.readers.now e.0 e.1)) (sym c.entry_of.ensures)
-          (entry_waits g a.thread c.args.number a.var a.read c.args.places c.args.readers.now c.turn.result c.turn.ensures.wait);
-      goes = subst (λ (o : Option (ℕ × ℕ)). IfNone o (LetsPass g a.thread c.args.number a.var a.read c.args.places c.args.readers.now)) (sym c.entry_of.ensures)
-          (none_waits g a.thread c.args.number a.var a.read c.args.places c.args.readers.now c.turn.result c.turn.ensures.follow c.turn.ensures.free);
+      waits = subst (λ (o : Option (ℕ × ℕ)).
+          IfSome o (λ e. WaitsFor g a.thread c.args.number a.var a.read c.args.places c.args.readers.now e.0 e.1))
+          (sym c.entry_of.ensures)
+          (entry_waits g a.thread c.args.number a.var a.read c.args.places c.args.readers.now c.turn.result
+          c.turn.ensures.wait);
+      goes = subst (λ (o : Option (ℕ × ℕ)).
+          IfNone o (LetsPass g a.thread c.args.number a.var a.read c.args.places c.args.readers.now))
+          (sym c.entry_of.ensures)
+          (none_waits g a.thread c.args.number a.var a.read c.args.places c.args.readers.now c.turn.result
+          c.turn.ensures.follow c.turn.ensures.free);
     }

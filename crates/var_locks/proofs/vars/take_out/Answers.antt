@@ -14,13 +14,21 @@ loop-slot-preserved g c =
     let end : c.loop-slot.slot < c.slot_count-slot-end.result = c.loop-slot-test.true in
     let len : c.take.new.self.slots.len ≡ c.loop-slot.closed.slots.len = o.2 in
     let last = inv.3 in
-    let found : get_elem? c.args.closed.slots.items c.loop-slot.slot ≡ logic.some c.take.result = ap (λ (l : List (VarPart g.row.V.Denot)). get_elem? l c.loop-slot.slot) (sym inv.0) ∙ c.take.ensures.value in (
+    let found : get_elem? c.args.closed.slots.items c.loop-slot.slot ≡ logic.some c.take.result =
+    ap (λ (l : List (VarPart g.row.V.Denot)). get_elem? l c.loop-slot.slot) (sym inv.0) ∙ c.take.ensures.value in (
       o.0 ∙ inv.0,
       o.2 ∙ inv.1,
       omega (arith, end, last, len),
       inv.3 ∙ sym o.2,
-      c.push_reserved.ensures.items ∙ (ap (λ (l : List (VarPart g.row.V.Denot)). l ++ c.take.result ∷ []) inv.4 ∙ sym (take_next c.args.closed.slots.items c.loop-slot.slot c.take.result found)),
+      c.push_reserved.ensures.items
+          ∙ (ap (λ (l : List (VarPart g.row.V.Denot)). l ++ c.take.result ∷ []) inv.4
+          ∙ sym (take_next c.args.closed.slots.items c.loop-slot.slot c.take.result found)),
       (let room = inv.5 in let same = c.push_reserved.ensures.capacity in omega (arith, room, same, len)),
-      (λ k low above. ap (λ (l : List Bool). slice_index_or l k false) o.1 ∙ full_left c.loop-slot.closed.slots.filled c.loop-slot.slot c.loop-slot.closed.slots.len inv.6 k (omega (arith, low, len)) above),
-      λ k low. ap (λ (l : List Bool). slice_index_or l k false) o.1 ∙ empty_so_far c.loop-slot.closed.slots.filled c.loop-slot.slot inv.7 k low,
+      (λ k low above.
+          ap (λ (l : List Bool). slice_index_or l k false) o.1
+          ∙ full_left c.loop-slot.closed.slots.filled c.loop-slot.slot c.loop-slot.closed.slots.len inv.6 k
+          (omega (arith, low, len)) above),
+      λ k low.
+          ap (λ (l : List Bool). slice_index_or l k false) o.1
+          ∙ empty_so_far c.loop-slot.closed.slots.filled c.loop-slot.slot inv.7 k low,
     )

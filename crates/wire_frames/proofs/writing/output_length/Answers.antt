@@ -11,4 +11,5 @@ pub returns-clause-written : goal.returns-clause-written
 returns-clause-written c epoch threads =
     let o = c.args.output.now in
     written_size (frame.Output epoch threads o)
-    ∙ same_sum c.count_nonzero.result c.len.result (length (nonzero o.stamp)) (length o.packet.bytes) c.count_nonzero.ensures.value c.len.ensures
+    ∙ same_sum c.count_nonzero.result c.len.result (length (nonzero o.stamp)) (length o.packet.bytes)
+    c.count_nonzero.ensures.value c.len.ensures

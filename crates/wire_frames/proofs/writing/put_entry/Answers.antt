@@ -9,9 +9,11 @@ use Rattle.wire_frames.proofs.writing.put_entry.Goals as goal
 
 pub returns-clause-spelled : goal.returns-clause-spelled
 returns-clause-spelled c =
-    entry_written c.entry_length-size.result c.args.epoch c.args.threads c.args.entry.now c.in_ok-frame.frame c.put_components.new.frame c.components.result.now c.put_entry_front.new.frame
-    (entry_front c.entry_length-size.result c.args.epoch c.args.threads c.args.entry.now)
-    c.in_ok-frame.ensures c.in_ok-put_components.ensures.spelled c.components.ensures.value c.in_ok-put_entry_front.ensures.spelled refl c.entry_length-size.ensures.value
+    entry_written c.entry_length-size.result c.args.epoch c.args.threads c.args.entry.now c.in_ok-frame.frame
+    c.put_components.new.frame c.components.result.now c.put_entry_front.new.frame
+    (entry_front c.entry_length-size.result c.args.epoch c.args.threads c.args.entry.now) c.in_ok-frame.ensures
+    c.in_ok-put_components.ensures.spelled c.components.ensures.value c.in_ok-put_entry_front.ensures.spelled refl
+    c.entry_length-size.ensures.value
 
 pub returns-clause-frame : goal.returns-clause-frame
 returns-clause-frame c =
@@ -19,12 +21,17 @@ returns-clause-frame c =
     let f = frame.Entry c.args.epoch c.args.threads e in
     let P : List ℕ → Type 0 = λ stamp. (u : ℕ) → slice_index stamp u < 2 ^ 64 in
     let fit = subst P c.components.ensures.value c.put_components.ensures.fit in
-    let sent = is_sent c.args.epoch c.args.threads e.thread e.number e.stamp c.requires.sent c.ranges.epoch.fits c.in_ok-put_entry_front.ensures.number c.components.ensures.all fit in
+    let sent = is_sent c.args.epoch c.args.threads e.thread e.number e.stamp c.requires.sent c.ranges.epoch.fits
+    c.in_ok-put_entry_front.ensures.number c.components.ensures.all fit in
     let F : List ℕ → Type 0 = λ l. IsFrame l f in
-    subst F (sym (returns-clause-spelled c)) (is_written f (sent, is_done e.what c.requires.what c.put_entry_front.ensures.fits))
+    subst F (sym (returns-clause-spelled c))
+    (is_written f (sent, is_done e.what c.requires.what c.put_entry_front.ensures.fits))
 
 pub returns-clause-size : goal.returns-clause-size
-returns-clause-size c = ap length (returns-clause-spelled c) ∙ c.entry_length-size.ensures.written c.args.epoch c.args.threads ∙ c.entry_length-size.ensures.value
+returns-clause-size c =
+    ap length (returns-clause-spelled c)
+    ∙ c.entry_length-size.ensures.written c.args.epoch c.args.threads
+    ∙ c.entry_length-size.ensures.value
 
 pub returns-clause-small : goal.returns-clause-small
 returns-clause-small c =

@@ -6,6 +6,8 @@ pub returns-clause-spelled : goal.returns-clause-spelled
 returns-clause-spelled c =
     let a = c.args in
     let told = c.numbers_of-code.ensures in
-    on_ok_weaker c.put_kind.result (λ last.
-    entry_begun a.size a.epoch a.threads a.frame.now c.put_mask.new.frame c.put_subject.new.frame c.put_kind.new.frame a.entry.now _ _ _ c.put_u64.new.frame
-    told.code told.subject told.place c.in_ok-put_mask.ensures c.in_ok-put_u64.ensures c.in_ok-put_subject.ensures last) c.put_kind.ensures
+    on_ok_weaker c.put_kind.result
+    (λ last.
+    entry_begun a.size a.epoch a.threads a.frame.now c.put_mask.new.frame c.put_subject.new.frame c.put_kind.new.frame
+    a.entry.now _ _ _ c.put_u64.new.frame told.code told.subject told.place c.in_ok-put_mask.ensures
+    c.in_ok-put_u64.ensures c.in_ok-put_subject.ensures last) c.put_kind.ensures

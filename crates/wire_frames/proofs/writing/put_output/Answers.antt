@@ -10,10 +10,14 @@ use Rattle.wire_frames.proofs.writing.put_output.Goals as goal
 pub returns-clause-spelled : goal.returns-clause-spelled
 returns-clause-spelled c =
     let o = c.args.output in
-    output_written c.output_length-size.result c.args.epoch c.args.threads o c.replace-frame.result c.put_packet_fields.new.frame c.put_components.new.frame c.components.result.now c.put_output_front.new.frame
-    (output_front c.output_length-size.result c.args.epoch c.args.threads o) (packet_fields (record o.packet { bytes = c.replace-frame.result }))
-    c.replace-frame.ensures.value c.in_ok-put_packet_fields.ensures.spelled (ap (λ (l : List ℕ). packet_fields (record o.packet { bytes = l })) c.replace-frame.ensures.value)
-    c.in_ok-put_components.ensures.spelled c.components.ensures.value c.in_ok-put_output_front.ensures.spelled refl c.output_length-size.ensures.value
+    output_written c.output_length-size.result c.args.epoch c.args.threads o c.replace-frame.result
+    c.put_packet_fields.new.frame c.put_components.new.frame c.components.result.now c.put_output_front.new.frame
+    (output_front c.output_length-size.result c.args.epoch c.args.threads o)
+    (packet_fields (record o.packet { bytes = c.replace-frame.result })) c.replace-frame.ensures.value
+    c.in_ok-put_packet_fields.ensures.spelled
+    (ap (λ (l : List ℕ). packet_fields (record o.packet { bytes = l })) c.replace-frame.ensures.value)
+    c.in_ok-put_components.ensures.spelled c.components.ensures.value c.in_ok-put_output_front.ensures.spelled refl
+    c.output_length-size.ensures.value
 
 pub returns-clause-frame : goal.returns-clause-frame
 returns-clause-frame c =
@@ -21,7 +25,8 @@ returns-clause-frame c =
     let f = frame.Output c.args.epoch c.args.threads o in
     let P : List ℕ → Type 0 = λ stamp. (u : ℕ) → slice_index stamp u < 2 ^ 64 in
     let fit = subst P c.components.ensures.value c.put_components.ensures.fit in
-    let sent = is_sent c.args.epoch c.args.threads o.thread o.number o.stamp c.requires.sent c.ranges.epoch.fits c.in_ok-put_output_front.ensures.number c.components.ensures.all fit in
+    let sent = is_sent c.args.epoch c.args.threads o.thread o.number o.stamp c.requires.sent c.ranges.epoch.fits
+    c.in_ok-put_output_front.ensures.number c.components.ensures.all fit in
     let captured : IsCaptured o.packet = record {
       seconds = c.put_packet_fields.ensures.seconds;
       fraction = c.put_packet_fields.ensures.fraction;
@@ -29,10 +34,14 @@ returns-clause-frame c =
       captured = c.requires.captured;
     } in
     let F : List ℕ → Type 0 = λ l. IsFrame l f in
-    subst F (sym (returns-clause-spelled c)) (is_written f (sent, c.requires.input, c.in_ok-put_output_front.ensures.input, captured))
+    subst F (sym (returns-clause-spelled c))
+    (is_written f (sent, c.requires.input, c.in_ok-put_output_front.ensures.input, captured))
 
 pub returns-clause-size : goal.returns-clause-size
-returns-clause-size c = ap length (returns-clause-spelled c) ∙ c.output_length-size.ensures.written c.args.epoch c.args.threads ∙ c.output_length-size.ensures.value
+returns-clause-size c =
+    ap length (returns-clause-spelled c)
+    ∙ c.output_length-size.ensures.written c.args.epoch c.args.threads
+    ∙ c.output_length-size.ensures.value
 
 pub returns-clause-small : goal.returns-clause-small
 returns-clause-small c =

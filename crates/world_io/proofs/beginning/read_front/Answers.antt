@@ -11,8 +11,10 @@ returns-in-End-clause-reads g c =
     (rw append-nil at both, omega arith)
 
 pub returns-in-Failed-clause-reads : goal.returns-in-Failed-clause-reads
-returns-in-Failed-clause-reads g c =
-    (c.loop-bytes.bytes ++ [], g.met.S.Source.reads_more _ _ _ _ _ c.loop-bytes.invariant.reads c.in-Failed.ensures.reads)
+returns-in-Failed-clause-reads g c = (
+  c.loop-bytes.bytes ++ [],
+  g.met.S.Source.reads_more _ _ _ _ _ c.loop-bytes.invariant.reads c.in-Failed.ensures.reads,
+)
 
 pub returns-in_err-keep-in-Got-clause-reads : goal.returns-in_err-keep-in-Got-clause-reads
 returns-in_err-keep-in-Got-clause-reads g c =
@@ -31,7 +33,8 @@ returns-then-kept-count-clause-reads g c =
     let first = c.in_ok-keep-in-Got.ensures.ok in
     let next = drop kept (take count piece) in
     let both = g.met.S.Source.reads_more _ _ _ _ _ inv.reads c.in-Got.ensures.reads in
-    let parts : c.keep.new.bytes ++ next ≡ c.loop-bytes.bytes ++ take count piece = ap (λ l. l ++ next) first ∙ parts_of_piece c.loop-bytes.bytes piece tail count kept less within in
+    let parts : c.keep.new.bytes ++ next ≡ c.loop-bytes.bytes ++ take count piece =
+    ap (λ l. l ++ next) first ∙ parts_of_piece c.loop-bytes.bytes piece tail count kept less within in
     let Taken : List ℕ → Type 0 = λ l. g.S.Source.reads c.args.source.now l c.fill.new.self in
     let size = kept_length c.keep.new.bytes c.loop-bytes.bytes piece tail kept first (omega (arith, less, within)) in
     let more = left_of_piece piece count kept within in (
@@ -52,11 +55,15 @@ returns-then-kept-count-clause-end g c = λ told.
     let less : kept ≤ count = omega (arith, c.min-kept.ensures) in
     let first = c.in_ok-keep-in-Got.ensures.ok in
     let next = drop kept (take count piece) in
-    let both = g.met.S.Source.reads_told _ _ _ told (g.met.S.Source.reads_more _ _ _ _ _ inv.reads c.in-Got.ensures.reads) in
-    let parts : c.keep.new.bytes ++ next ≡ c.loop-bytes.bytes ++ take count piece = ap (λ l. l ++ next) first ∙ parts_of_piece c.loop-bytes.bytes piece tail count kept less within in
+    let both =
+    g.met.S.Source.reads_told _ _ _ told (g.met.S.Source.reads_more _ _ _ _ _ inv.reads c.in-Got.ensures.reads) in
+    let parts : c.keep.new.bytes ++ next ≡ c.loop-bytes.bytes ++ take count piece =
+    ap (λ l. l ++ next) first ∙ parts_of_piece c.loop-bytes.bytes piece tail count kept less within in
     let size = kept_length c.keep.new.bytes c.loop-bytes.bytes piece tail kept first (omega (arith, less, within)) in
     let more = left_of_piece piece count kept within in
-    is_front c.keep.new.bytes next (g.S.Source.left c.fill.new.self) _ c.args.limit (both ∙ ap (λ l. l ++ g.S.Source.left c.fill.new.self) (sym parts)) (grind (arith, common_steps, size)) (grind (arith, common_steps, more))
+    is_front c.keep.new.bytes next (g.S.Source.left c.fill.new.self) _ c.args.limit
+    (both ∙ ap (λ l. l ++ g.S.Source.left c.fill.new.self) (sym parts)) (grind (arith, common_steps, size))
+    (grind (arith, common_steps, more))
 
 pub loop-bytes-preserved : goal.loop-bytes-preserved
 loop-bytes-preserved g c =
@@ -67,8 +74,10 @@ loop-bytes-preserved g c =
     let tail = drop c.min-want.result c.loop-bytes.piece in
     let within : c.in-Got.count ≤ length piece = omega (arith, got.count.0, c.fill.auto.piece) in
     let all : c.min-kept.result ≡ c.in-Got.count = grind (arith, common_steps) in
-    let now = whole_piece c.keep.new.bytes c.loop-bytes.bytes piece tail c.in-Got.count c.min-kept.result kept.ok all within in
-    let size = kept_length c.keep.new.bytes c.loop-bytes.bytes piece tail c.min-kept.result kept.ok (omega (arith, all, within)) in
+    let now =
+    whole_piece c.keep.new.bytes c.loop-bytes.bytes piece tail c.in-Got.count c.min-kept.result kept.ok all within in
+    let size =
+    kept_length c.keep.new.bytes c.loop-bytes.bytes piece tail c.min-kept.result kept.ok (omega (arith, all, within)) in
     record {
       reads = rw now (g.met.S.Source.reads_more _ _ _ _ _ inv.reads got.reads);
       bytes = rw kept.ok (AreBytes-append c.loop-bytes.bytes _ inv.bytes kept.octets);

@@ -10,7 +10,8 @@ loop-done-preserved g c =
     let source = g.S.Source in
     record {
       taken =
-          rw (take-put_mid_more c.loop-done.done _ c.in-Got.count c.loop-done.piece c.fill.new.piece inv.within (grind (arith, common_steps, c.fill.auto.piece, c.in-Got.ensures.count)))
+          rw (take-put_mid_more c.loop-done.done _ c.in-Got.count c.loop-done.piece c.fill.new.piece inv.within
+          (grind (arith, common_steps, c.fill.auto.piece, c.in-Got.ensures.count)))
           (g.met.S.Source.reads_more _ _ _ _ _ inv.taken c.in-Got.ensures.reads);
       within = grind (arith, common_steps, c.fill.auto.piece, c.in-Got.ensures.count);
       bytes = λ k. omega (arith, c.type_inv.piece k);

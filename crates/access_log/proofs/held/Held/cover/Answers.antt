@@ -8,5 +8,8 @@ returns-clause-counted c =
     let old = c.self.inside.lanes.items in
     let new = c.cover_each.new.lanes in
     let len : length new ≡ length old = c.cover_each.auto.lanes ∙ ap length c.deref_mut.ensures.value in
-    let whole = take_at new (drop (length new) old) c.self.inside.lanes.len (c.cover_each.auto.lanes ∙ c.deref_mut.ensures.len) in
-    rw (whole, ← c.self.view_is) (number_above old new c.args.counts.now c.self.invariant len (rw (← c.deref_mut.ensures.value) c.cover_each.ensures.covers) (rw (← c.deref_mut.ensures.value) c.cover_each.ensures.rising))
+    let whole =
+    take_at new (drop (length new) old) c.self.inside.lanes.len (c.cover_each.auto.lanes ∙ c.deref_mut.ensures.len) in
+    rw (whole, ← c.self.view_is) (number_above old new c.args.counts.now c.self.invariant len
+    (rw (← c.deref_mut.ensures.value) c.cover_each.ensures.covers)
+    (rw (← c.deref_mut.ensures.value) c.cover_each.ensures.rising))

@@ -14,11 +14,13 @@ module _ (c : goal.After-insert-old) where
   entries =
       let es = c.self.inside.slots.entries in
       let some : slot_of c.args.client.now es ≡ Some c.args.slot = rw (← c.self.view_is) at c.requires in
-      let new = there c.insert-old.result _ _ c.insert-old.ensures.entries c.insert-old.ensures.absent (λ none. absurd (let k = sym (slot_found_by _ (λ a b. refl) c.args.client.now es) ∙ none in cc)) in
+      let new = there c.insert-old.result _ _ c.insert-old.ensures.entries c.insert-old.ensures.absent
+      (λ none. absurd (let k = sym (slot_found_by _ (λ a b. refl) c.args.client.now es) ∙ none in cc)) in
       rw (new, c.max.ensures) (used_by _ (λ a b. refl) c.args.client.now c.args.now c.args.slot es some)
 
 pub invariant_of-self : goal.invariant_of-self
-invariant_of-self c = rw (entries c) (busy_refreshed c.self.inside.busy_before c.args.client.now c.args.now c.self.inside.slots.entries c.self.invariant)
+invariant_of-self c = rw (entries c)
+    (busy_refreshed c.self.inside.busy_before c.args.client.now c.args.now c.self.inside.slots.entries c.self.invariant)
 
 pub returns : goal.returns
 returns c = rw (← c.self.view_is) (entries c)

@@ -7,5 +7,6 @@ use Rattle.balancer_box.proofs.loads.Loads.least.Given as goal
 abbrev pub invariant-loop-backend : goal.invariant-loop-backend
 invariant-loop-backend l = record {
   here : l.least ≤ l.backend;
-  rest : least_loaded l.fn.self ≡ least_from l.least (slice_index l.fn.self l.least) l.backend (drop l.backend l.fn.self);
+  rest : least_loaded l.fn.self
+      ≡ least_from l.least (slice_index l.fn.self l.least) l.backend (drop l.backend l.fn.self);
 }

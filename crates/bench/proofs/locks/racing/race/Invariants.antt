@@ -4,4 +4,10 @@ use Rattle.bench.proofs.locks.racing.race.Given as goal
 
 -- the round is that of the program, the master and the guide
 abbrev pub ghosts-round_of : goal.ghosts-round_of
-ghosts-round_of g a = record { program = g.row.P.coded.code a.program.now; opening = (master_code g.row.P-Value.coded).code a.master; threads = a.master.threads; places = places_of a.master.vars; guide = a.guide.now }
+ghosts-round_of g a = record {
+  program = g.row.P.coded.code a.program.now;
+  opening = (master_code g.row.P-Value.coded).code a.master;
+  threads = a.master.threads;
+  places = places_of a.master.vars;
+  guide = a.guide.now;
+}

@@ -9,13 +9,18 @@ invariant_of-self c =
     let s = c.self.inside in
     let old : Numbers = record { floor = s.floor; above = s.above.entries } in
     let new : Numbers = record { floor = s.floor; above = c.retain.new.self.entries } in
-    let k : Sifts old new = sifts s.floor s.above.entries c.retain.new.self.entries c.retain.ensures.was_ordered (filter_same_pairs _ (λ e. e.1) _ (λ k v b w f' t. search rules) _ _ c.retain.ensures.filtered) in
-    record { past = sifts_past old new s.greatest c.self.invariant k; greatest = greatest_same old new s.greatest c.self.invariant.greatest (gives_up old new k).marked }
+    let k : Sifts old new = sifts s.floor s.above.entries c.retain.new.self.entries c.retain.ensures.was_ordered
+    (filter_same_pairs _ (λ e. e.1) _ (λ k v b w f' t. search rules) _ _ c.retain.ensures.filtered) in
+    record {
+      past = sifts_past old new s.greatest c.self.invariant k;
+      greatest = greatest_same old new s.greatest c.self.invariant.greatest (gives_up old new k).marked;
+    }
 
 pub returns : goal.returns
 returns c =
     let s = c.self.inside in
     let old : Numbers = record { floor = s.floor; above = s.above.entries } in
     let new : Numbers = record { floor = s.floor; above = c.retain.new.self.entries } in
-    let k : Sifts old new = sifts s.floor s.above.entries c.retain.new.self.entries c.retain.ensures.was_ordered (filter_same_pairs _ (λ e. e.1) _ (λ k v b w f' t. search rules) _ _ c.retain.ensures.filtered) in
+    let k : Sifts old new = sifts s.floor s.above.entries c.retain.new.self.entries c.retain.ensures.was_ordered
+    (filter_same_pairs _ (λ e. e.1) _ (λ k v b w f' t. search rules) _ _ c.retain.ensures.filtered) in
     rw (← c.self.view_is) (gives_up old new k)

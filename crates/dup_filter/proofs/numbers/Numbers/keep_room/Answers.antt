@@ -9,8 +9,11 @@ invariant_of-self-2 c =
     let old : Numbers = record { floor = s.floor; above = s.above.entries } in
     let put : Numbers = record { floor = s.floor; above = c.insert.new.self.entries } in
     let fresh : IsMarked old c.args.number → ⊥ = rw (← c.self.view_is) at c.requires.fresh in
-    let p : Puts old put c.args.number false = puts s.floor s.above.entries c.insert.new.self.entries c.args.number false c.in_ok-insert.ensures.updates.0 in
+    let p : Puts old put c.args.number false =
+    puts s.floor s.above.entries c.insert.new.self.entries c.args.number false c.in_ok-insert.ensures.updates.0 in
     record {
-      past = puts_past old put s.greatest c.args.number false c.self.invariant p (fresh_past old c.args.number c.requires.numbered fresh);
-      greatest = greatest_same old put s.greatest c.self.invariant.greatest (keeps_marked old put c.args.number p fresh);
+      past = puts_past old put s.greatest c.args.number false c.self.invariant p
+          (fresh_past old c.args.number c.requires.numbered fresh);
+      greatest =
+          greatest_same old put s.greatest c.self.invariant.greatest (keeps_marked old put c.args.number p fresh);
     }

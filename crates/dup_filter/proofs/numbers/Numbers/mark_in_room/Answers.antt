@@ -10,7 +10,13 @@ invariant_of-self c =
     let put : Numbers = record { floor = s.floor; above = c.insert-old.new.self.entries } in
     let new : Numbers = record { floor = c.raise-self-inside.result; above = c.raise-self-inside.new.above.entries } in
     let room : HasRoom old c.args.number = rw (← c.self.view_is) at c.requires in
-    let updates = at_present c.insert-old.result _ false room c.insert-old.ensures.updates c.insert-old.ensures.absent in
-    let p : Puts old put c.args.number true = puts s.floor s.above.entries c.insert-old.new.self.entries c.args.number true updates.0 in
-    let m : Marks old new c.args.number = marks old put new c.args.number p c.raise-self-inside.ensures.marked c.raise-self-inside.ensures.room in
-    rw c.max-self-inside.ensures (record { past = c.raise-self-inside.ensures.past; greatest = greatest_after old new s.greatest c.args.number c.self.invariant.greatest m })
+    let updates =
+    at_present c.insert-old.result _ false room c.insert-old.ensures.updates c.insert-old.ensures.absent in
+    let p : Puts old put c.args.number true =
+    puts s.floor s.above.entries c.insert-old.new.self.entries c.args.number true updates.0 in
+    let m : Marks old new c.args.number =
+    marks old put new c.args.number p c.raise-self-inside.ensures.marked c.raise-self-inside.ensures.room in
+    rw c.max-self-inside.ensures (record {
+      past = c.raise-self-inside.ensures.past;
+      greatest = greatest_after old new s.greatest c.args.number c.self.invariant.greatest m;
+    })

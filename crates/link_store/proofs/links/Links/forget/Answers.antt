@@ -6,5 +6,7 @@ pub returns : goal.returns
 returns c =
     let s = c.self.inside in
     rw (← c.self.view_is) (record {
-      forgotten = forgets_all (IsUpTo (address c.args.epoch c.args.kind c.args.thread c.args.up_to)) s.runs.items c.forget_in_runs.new.runs.items s.others.entries c.drop_up_to.new.frames.entries c.forget_in_runs.ensures c.drop_up_to.ensures;
+      forgotten = forgets_all (IsUpTo (address c.args.epoch c.args.kind c.args.thread c.args.up_to)) s.runs.items
+          c.forget_in_runs.new.runs.items s.others.entries c.drop_up_to.new.frames.entries c.forget_in_runs.ensures
+          c.drop_up_to.ensures;
     })

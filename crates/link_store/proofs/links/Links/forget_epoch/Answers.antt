@@ -6,5 +6,6 @@ pub returns : goal.returns
 returns c =
     let s = c.self.inside in
     rw (← c.self.view_is) (record {
-      forgotten = forgets_all (IsOfEpoch c.args.epoch) s.runs.items c.forget_epoch_in_runs.new.runs.items s.others.entries c.drop_epoch.new.frames.entries c.forget_epoch_in_runs.ensures c.drop_epoch.ensures;
+      forgotten = forgets_all (IsOfEpoch c.args.epoch) s.runs.items c.forget_epoch_in_runs.new.runs.items
+          s.others.entries c.drop_epoch.new.frames.entries c.forget_epoch_in_runs.ensures c.drop_epoch.ensures;
     })

@@ -9,5 +9,8 @@ pub returns-in-Some-clause-ok : goal.returns-in-Some-clause-ok
 returns-in-Some-clause-ok c =
     let s = c.self.inside in
     let at = address c.args.epoch c.args.kind c.args.thread c.args.number in
-    rw (← c.self.view_is) (on_ok_weaker c.put.result (λ sends. sent_to_taker s.runs.items s.others.entries c.in-Some.i at c.put.new.self c.args.frame c.index_mut.result.now c.in-Some.ensures.found
-    (subst (λ (r : Run). Sends (frames_of r) (frames_of c.put.new.self) at c.args.frame) c.index_mut.ensures.value sends)) c.put.ensures.ok)
+    rw (← c.self.view_is) (on_ok_weaker c.put.result
+    (λ sends. sent_to_taker s.runs.items s.others.entries c.in-Some.i at c.put.new.self c.args.frame
+    c.index_mut.result.now c.in-Some.ensures.found
+    (subst (λ (r : Run). Sends (frames_of r) (frames_of c.put.new.self) at c.args.frame)
+    c.index_mut.ensures.value sends)) c.put.ensures.ok)

@@ -9,7 +9,8 @@ use Rattle.link_store.proofs.run.Run.forget.Goals as goal
 pub returns-then-not-is_beside : goal.returns-then-not-is_beside
 returns-then-not-is_beside c =
     let s = c.self.inside in
-    rw (← c.self.view_is) (none_beside s.frames.items s.first c.args.last.now (λ beside. absurd (let is = c.is_beside.ensures.1 beside in let no = c.if-not-is_beside.true in cc)))
+    rw (← c.self.view_is) (none_beside s.frames.items s.first c.args.last.now
+    (λ beside. absurd (let is = c.is_beside.ensures.1 beside in let no = c.if-not-is_beside.true in cc)))
 
 pub loop-self-preserved : goal.loop-self-preserved
 loop-self-preserved c =
@@ -19,11 +20,14 @@ loop-self-preserved c =
     let len = s.frames.ok.0 in
     let next = c.saturating_add-self-inside.result in
     let most = below_min (s.first.number + 1) _ next c.saturating_add-self-inside.ensures in
-    let follows : 1 < length s.frames.items → next ≡ s.first.number + 1 = λ more. is_min (s.first.number + 1) _ next c.saturating_add-self-inside.ensures (omega (arith, inv.fits)) in
+    let follows : 1 < length s.frames.items → next ≡ s.first.number + 1 =
+    λ more. is_min (s.first.number + 1) _ next c.saturating_add-self-inside.ensures (omega (arith, inv.fits)) in
     rw c.pop_front.ensures.rest (record {
       beside = record { epoch = inv.beside.epoch; kind = inv.beside.kind; thread = inv.beside.thread };
       fits = omega (arith, inv.fits);
-      others = λ a apart. drops_first s.frames.items s.first c.args.last.now next inv.beside (omega arith) follows a apart ∙ inv.others a apart;
+      others = λ a apart.
+          drops_first s.frames.items s.first c.args.last.now next inv.beside (omega arith) follows a apart
+          ∙ inv.others a apart;
     })
 
 pub returns-then-self-last : goal.returns-then-self-last
@@ -31,7 +35,8 @@ returns-then-self-last c =
     let s = c.loop-self.self-inside in
     let inv = c.loop-self.invariant in
     rw (← c.self.view_is) (record {
-      forgotten = λ a up. none_up_to s.frames.items s.first c.args.last.now a (λ some. omega (arith, c.if-self-last.true)) up;
+      forgotten =
+          λ a up. none_up_to s.frames.items s.first c.args.last.now a (λ some. omega (arith, c.if-self-last.true)) up;
       others = inv.others;
     })
 
@@ -40,6 +45,8 @@ returns c =
     let s = c.loop-self.self-inside in
     let inv = c.loop-self.invariant in
     rw (← c.self.view_is) (record {
-      forgotten = λ a up. none_up_to s.frames.items s.first c.args.last.now a (λ some. absurd (let none = c.loop-self-test.ensures in let len = s.frames.ok.0 in grind (arith, nat_tests))) up;
+      forgotten = λ a up. none_up_to s.frames.items s.first c.args.last.now a
+          (λ some. absurd (let none = c.loop-self-test.ensures in let len = s.frames.ok.0 in grind (arith, nat_tests)))
+          up;
       others = inv.others;
     })

@@ -10,7 +10,9 @@ abbrev pub invariant-loop-self : goal.invariant-loop-self
 invariant-loop-self l = record {
   beside : IsBeside l.self-inside.first l.last;
   fits : l.self-inside.first.number + length l.self-inside.frames.items ≤ 2 ^ 64;
-  others : (a : Address) → (IsUpTo l.last a → ⊥) → frame_at (in_turn l.self-inside.first l.self-inside.frames.items) a ≡ frame_at (in_turn l.initial.self-inside.first l.initial.self-inside.frames.items) a;
+  others : (a : Address) → (IsUpTo l.last a → ⊥)
+      → frame_at (in_turn l.self-inside.first l.self-inside.frames.items) a
+      ≡ frame_at (in_turn l.initial.self-inside.first l.initial.self-inside.frames.items) a;
 }
 
 abbrev pub decreases-loop-self : goal.decreases-loop-self

@@ -8,7 +8,8 @@ returns-then-place-len-clause-ok c =
     let s = c.self.inside in
     let takes = subst (λ (r : Run). Takes r c.args.at.now) (sym c.self.view_is) c.requires in
     let len = s.frames.ok.0 in
-    let low : c.args.at.now.number - s.first.number < length s.frames.items = omega (arith, c.if-place-len.true, c.len.ensures) in
+    let low : c.args.at.now.number - s.first.number < length s.frames.items =
+    omega (arith, c.if-place-len.true, c.len.ensures) in
     rw (← c.self.view_is) (puts_set s.first s.frames.items c.args.at.now c.args.frame takes low)
 
 pub returns-in_ok-push_back-clause-ok : goal.returns-in_ok-push_back-clause-ok
@@ -16,5 +17,7 @@ returns-in_ok-push_back-clause-ok c =
     let s = c.self.inside in
     let takes = subst (λ (r : Run). Takes r c.args.at.now) (sym c.self.view_is) c.requires in
     let len = s.frames.ok.0 in
-    let high : length s.frames.items ≤ c.args.at.now.number - s.first.number = omega (arith, c.if-place-len.false, c.len.ensures) in
-    rw (← c.self.view_is, c.in_ok-push_back.ensures.items) (puts_next s.first s.frames.items c.args.at.now c.args.frame takes high)
+    let high : length s.frames.items ≤ c.args.at.now.number - s.first.number =
+    omega (arith, c.if-place-len.false, c.len.ensures) in
+    rw (← c.self.view_is, c.in_ok-push_back.ensures.items)
+    (puts_next s.first s.frames.items c.args.at.now c.args.frame takes high)

@@ -8,5 +8,7 @@ use Rattle.master_core.proofs.master.Master.play.Goals as goal
 pub returns-in-Follow : goal.returns-in-Follow
 returns-in-Follow g c d x =
     let m = g.P.Program.meaning c.args.program.now in
-    subst (λ (next : Move). Played m c.args.thread c.args.turn c.args.answer c.args.packet.now c.args.place (slice_index_or c.args.self.now.threads c.args.thread d) x c.args.self.now c.touch.result c.touch.new.self next) c.in-Access.ensures
+    subst (λ (next : Move). Played m c.args.thread c.args.turn c.args.answer c.args.packet.now c.args.place
+    (slice_index_or c.args.self.now.threads c.args.thread d) x c.args.self.now c.touch.result c.touch.new.self next)
+    c.in-Access.ensures
     (in_turn c.args.turn c.args.self.now c.touch.result c.touch.new.self _ c.in-Follow.is (c.touch.ensures d x))

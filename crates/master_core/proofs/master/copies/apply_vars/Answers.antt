@@ -7,8 +7,9 @@ loop-var-init g c = applied_none _ _
 
 pub loop-var-preserved : goal.loop-var-preserved
 loop-var-preserved g c =
-    applied_one _ _ _ _ c.loop-var.var c.index_mut.result.now c.apply_var.new.part c.index_mut-in-loop-var.result.now c.apply_var.new.change
-    c.loop-var.invariant c.requires (omega arith) c.index_mut.ensures.value c.index_mut-in-loop-var.ensures.value c.apply_var.ensures
+    applied_one _ _ _ _ c.loop-var.var c.index_mut.result.now c.apply_var.new.part c.index_mut-in-loop-var.result.now
+    c.apply_var.new.change c.loop-var.invariant c.requires (omega arith) c.index_mut.ensures.value
+    c.index_mut-in-loop-var.ensures.value c.apply_var.ensures
 
 pub returns : goal.returns
 returns g c = applied_all _ _ _ c.loop-var.changes.items c.loop-var.var c.loop-var.invariant c.requires (omega arith)

@@ -7,6 +7,7 @@ use Rattle.master_core.proofs.master.copies.counts_of.Given as goal
 abbrev pub invariant-loop-thread : goal.invariant-loop-thread
 invariant-loop-thread l = record {
   all : length l.components ≡ 16;
-  each : (t : ℕ) (d : ThreadPart) → t < l.thread → slice_index l.components t ≡ (slice_index_or l.threads t d).counts.entries;
+  each : (t : ℕ) (d : ThreadPart) → t < l.thread
+      → slice_index l.components t ≡ (slice_index_or l.threads t d).counts.entries;
   none : (t : ℕ) → l.thread ≤ t → slice_index l.components t ≡ 0;
 }

@@ -5,5 +5,11 @@ use Rattle.monitor_box.proofs.table.FlowTable.count.Goals as goal
 pub returns-clause-ok : goal.returns-clause-ok
 returns-clause-ok c =
     let known = c.copied-known.ensures ∙ c.get.ensures.value in
-    rw (c.in_ok-insert.ensures.entries, c.with_packet.ensures, c.unwrap_or-earlier.ensures, known, c.new.ensures, ← c.self.view_is)
-    (counted_by _ (λ a b. refl) c.args.flow c.args.length c.self.inside.counts.entries)
+    rw (
+      c.in_ok-insert.ensures.entries,
+      c.with_packet.ensures,
+      c.unwrap_or-earlier.ensures,
+      known,
+      c.new.ensures,
+      ← c.self.view_is,
+    ) (counted_by _ (λ a b. refl) c.args.flow c.args.length c.self.inside.counts.entries)

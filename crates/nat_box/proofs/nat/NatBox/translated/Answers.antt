@@ -11,4 +11,5 @@ returns c =
     let behind : c.from_vec_at.result ≡ c.translate.new.frame = search (rules, overwrites) in
     behind
     ∙ (c.translate.ensures
-    ∙ ap (λ (l : List ℕ). frame_out (settings_of a.self.now) a.noted.now.class l a.flow.now a.noted.now) (behind_room 175 c.deref_mut.result.now c.in_ok-copy.copy.items a.frame.now c.deref_mut.ensures.value c.in_ok-copy.ensures))
+    ∙ ap (λ (l : List ℕ). frame_out (settings_of a.self.now) a.noted.now.class l a.flow.now a.noted.now) (behind_room
+    175 c.deref_mut.result.now c.in_ok-copy.copy.items a.frame.now c.deref_mut.ensures.value c.in_ok-copy.ensures))

@@ -4,7 +4,8 @@ use Rattle.nat_tables.proofs.forward.Forward.remove_first_idle.Goals as goal
 
 pub returns-then-now-self : goal.returns-then-now-self
 returns-then-now-self c =
-    let none = none_idle c.self.inside.busy_before c.args.now c.self.inside.slots.entries c.self.invariant c.if-now-self.true in
+    let none =
+    none_idle c.self.inside.busy_before c.args.now c.self.inside.slots.entries c.self.invariant c.if-now-self.true in
     rw (← c.self.view_is, none) refl
 
 pub invariant_of-self-2 : goal.invariant_of-self-2

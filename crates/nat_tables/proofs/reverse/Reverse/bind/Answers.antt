@@ -4,4 +4,5 @@ use Rattle.nat_tables.proofs.reverse.Reverse.bind.Goals as goal
 
 pub returns-clause-ok : goal.returns-clause-ok
 returns-clause-ok c =
-    rw (c.in_ok-insert.ensures.entries, ← c.self.view_is) (inserted (port_key c.args.protocol c.args.port) c.args.key.now c.self.inside.endpoints.entries)
+    rw (c.in_ok-insert.ensures.entries, ← c.self.view_is)
+    (inserted (port_key c.args.protocol c.args.port) c.args.key.now c.self.inside.endpoints.entries)

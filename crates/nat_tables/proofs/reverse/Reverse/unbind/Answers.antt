@@ -3,4 +3,5 @@ use Rattle.nat_tables.proofs.TableLemmas.{removed}
 use Rattle.nat_tables.proofs.reverse.Reverse.unbind.Goals as goal
 
 pub returns : goal.returns
-returns c = rw (c.shift_remove.ensures.entries, ← c.self.view_is) (removed (port_key c.args.protocol c.args.port) c.self.inside.endpoints.entries)
+returns c = rw (c.shift_remove.ensures.entries, ← c.self.view_is)
+    (removed (port_key c.args.protocol c.args.port) c.self.inside.endpoints.entries)

@@ -13,6 +13,7 @@ returns c = record {
         let most = due.2 u in
         let within = positive_in c.args.reached.now u (omega arith) in
         let all = c.components-few.ensures.all in
-        c.loop-thread.invariant.found u a (slice_index o.stamp u) (omega arith) (c.requires.indexed a u o due.1 above.1) above.1 due most,
+        c.loop-thread.invariant.found u a (slice_index o.stamp u) (omega arith) (c.requires.indexed a u o due.1 above.1)
+        above.1 due most,
   );
 }

@@ -10,7 +10,9 @@ returns-clause-arrives c =
     record {
       last = λ b p h. last b (some_of _ p h);
       small = c.in_ok-arrival.ensures.small;
-      added = ok_of c.insert.result good c.insert.ensures.entries ∙ insert_last c.args.self.now.outputs.entries a c.args.output last;
+      added =
+          ok_of c.insert.result good c.insert.ensures.entries
+          ∙ insert_last c.args.self.now.outputs.entries a c.args.output last;
       found = (ok_of c.insert.result good c.insert.ensures.updates).0;
       sorted = c.insert.ensures.ordered;
     }

@@ -6,7 +6,8 @@ pub returns-in-Ok-clause-told : goal.returns-in-Ok-clause-told
 returns-in-Ok-clause-told g c told =
     let left = g.met.S.Source.reads_told _ _ _ told c.in-Some.ensures.taken in
     let header = c.in-Ok.ensures in
-    header_fault-whole c.in-Some.had _ _ _ c.fill_piece.auto.piece c.if-had-lt-FILE_HEADER.false left _ _ _ header.1 header.2
+    header_fault-whole c.in-Some.had _ _ _ c.fill_piece.auto.piece c.if-had-lt-FILE_HEADER.false left _ _ _
+    header.1 header.2
 
 pub returns-in-Err-clause-told : goal.returns-in-Err-clause-told
 returns-in-Err-clause-told g c told =

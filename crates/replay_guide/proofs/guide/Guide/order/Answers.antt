@@ -20,8 +20,11 @@ returns-clause-each c =
     let high = c.loop-i.auto.i-end in
     let all : c.loop-i.i ≡ length guide = rw (← c.self.view_is) (omega arith) in
     let held : IsHeldSet guide = rw (← c.self.view_is) c.self.invariant.held in
-    let weighed : (w t n : ℕ) → IsWeighed keys w t n ↔ WeighsBelow guide (length guide) w t n = subst (λ (i : ℕ). (w t n : ℕ) → IsWeighed keys w t n ↔ WeighsBelow guide i w t n) all c.loop-i.invariant in
-    if_ok c.names_of.result (λ order. order ≡ map name_of keys) _ (λ order is t n. subst (λ (names : List (ℕ × ℕ)). IsNamed t n names ↔ IsSome (entry_at (lane guide t) n)) (sym is) (each_named guide keys held weighed t n)) c.names_of.ensures.names
+    let weighed : (w t n : ℕ) → IsWeighed keys w t n ↔ WeighsBelow guide (length guide) w t n =
+    subst (λ (i : ℕ). (w t n : ℕ) → IsWeighed keys w t n ↔ WeighsBelow guide i w t n) all c.loop-i.invariant in
+    if_ok c.names_of.result (λ order. order ≡ map name_of keys) _
+    (λ order is t n. subst (λ (names : List (ℕ × ℕ)). IsNamed t n names ↔ IsSome (entry_at (lane guide t) n)) (sym is)
+    (each_named guide keys held weighed t n)) c.names_of.ensures.names
 
 pub returns-clause-in_order : goal.returns-clause-in_order
 returns-clause-in_order c =
@@ -33,5 +36,8 @@ returns-clause-in_order c =
     let high = c.loop-i.auto.i-end in
     let all : c.loop-i.i ≡ length guide = rw (← c.self.view_is) (omega arith) in
     let held : IsHeldSet guide = rw (← c.self.view_is) c.self.invariant.held in
-    let weighed : (w t n : ℕ) → IsWeighed keys w t n ↔ WeighsBelow guide (length guide) w t n = subst (λ (i : ℕ). (w t n : ℕ) → IsWeighed keys w t n ↔ WeighsBelow guide i w t n) all c.loop-i.invariant in
-    if_ok c.names_of.result (λ order. order ≡ map name_of keys) _ (λ order is. subst (λ (names : List (ℕ × ℕ)). IsInOrder guide names) (sym is) (all_in_order guide keys held weighed c.names_of.ensures.sorted)) c.names_of.ensures.names
+    let weighed : (w t n : ℕ) → IsWeighed keys w t n ↔ WeighsBelow guide (length guide) w t n =
+    subst (λ (i : ℕ). (w t n : ℕ) → IsWeighed keys w t n ↔ WeighsBelow guide i w t n) all c.loop-i.invariant in
+    if_ok c.names_of.result (λ order. order ≡ map name_of keys) _
+    (λ order is. subst (λ (names : List (ℕ × ℕ)). IsInOrder guide names) (sym is)
+    (all_in_order guide keys held weighed c.names_of.ensures.sorted)) c.names_of.ensures.names

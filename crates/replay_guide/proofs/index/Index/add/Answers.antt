@@ -7,7 +7,8 @@ pub returns-in_ok-insert-in-Access : goal.returns-in_ok-insert-in-Access
 returns-in_ok-insert-in-Access c =
     let above = c.if-place-gt0.true in
     let place : c.in-Access.place ≡ c.in-Access.place - 1 + 1 = omega arith in
-    adds_touch _ _ _ c.in-Access.var (c.in-Access.place - 1) c.args.entry.now (c.in-Access.is ∙ ap (λ (s : ℕ). Access c.in-Access.var s) place) c.in_ok-insert-in-Access.ensures.updates.0
+    adds_touch _ _ _ c.in-Access.var (c.in-Access.place - 1) c.args.entry.now
+    (c.in-Access.is ∙ ap (λ (s : ℕ). Access c.in-Access.var s) place) c.in_ok-insert-in-Access.ensures.updates.0
 
 pub returns-in_ok-insert-in-Read : goal.returns-in_ok-insert-in-Read
 returns-in_ok-insert-in-Read c =

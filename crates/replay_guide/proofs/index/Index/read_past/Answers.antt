@@ -9,14 +9,17 @@ if_none (Some x) P p = tt
 pub returns-in_err-found-clause-none : goal.returns-in_err-found-clause-none
 returns-in_err-found-clause-none c =
     let a = c.args in
-    if_none c.from_residual.result _ (none_of_range a.self.now.reads a.var a.places a.thread a.number c.range.result (c.range.ensures.in_range tt) c.in_err-found.ensures.steps.0)
+    if_none c.from_residual.result _ (none_of_range a.self.now.reads a.var a.places a.thread a.number c.range.result
+    (c.range.ensures.in_range tt) c.in_err-found.ensures.steps.0)
 
 pub returns-clause-there : goal.returns-clause-there
 returns-clause-there c =
     let a = c.args in
-    (first_of_range a.self.now.reads a.var a.places a.thread a.number c.range.result c.next.new.self c.in_ok-found.field-0.now (c.range.ensures.in_range tt) c.in_ok-found.ensures.steps).0
+    (first_of_range a.self.now.reads a.var a.places a.thread a.number c.range.result c.next.new.self
+    c.in_ok-found.field-0.now (c.range.ensures.in_range tt) c.in_ok-found.ensures.steps).0
 
 pub returns-clause-least : goal.returns-clause-least
 returns-clause-least c =
     let a = c.args in
-    (first_of_range a.self.now.reads a.var a.places a.thread a.number c.range.result c.next.new.self c.in_ok-found.field-0.now (c.range.ensures.in_range tt) c.in_ok-found.ensures.steps).1
+    (first_of_range a.self.now.reads a.var a.places a.thread a.number c.range.result c.next.new.self
+    c.in_ok-found.field-0.now (c.range.ensures.in_range tt) c.in_ok-found.ensures.steps).1

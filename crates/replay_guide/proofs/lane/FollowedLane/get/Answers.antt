@@ -13,4 +13,6 @@ returns c =
     let i : ℕ = c.args.number - s.covered - 1 in
     let low = c.if-number-self.false in
     let place : c.args.number ≡ s.covered + i + 1 = omega arith in
-    rw (← c.self.view_is) (copied_get s.entries.items _ i c.get.result s.entries.ok.0 c.get.ensures.variant c.get.ensures.lookup ∙ sym (at-numbered s.covered s.entries.items c.args.number i place))
+    rw (← c.self.view_is)
+    (copied_get s.entries.items _ i c.get.result s.entries.ok.0 c.get.ensures.variant c.get.ensures.lookup
+    ∙ sym (at-numbered s.covered s.entries.items c.args.number i place))

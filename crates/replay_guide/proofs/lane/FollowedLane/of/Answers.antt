@@ -16,7 +16,8 @@ loop-entry-init c =
       covered = covered_within (lane held t) f c.frontier-number.ensures;
       same = λ k above. sym (none k c.requires.can c.frontier-number.ensures above);
       few = omega arith;
-      indexed = index_before held t f _ _ (λ n above. none n c.requires.can c.frontier-number.ensures above) c.requires.indexed;
+      indexed = index_before held t f _ _ (λ n above. none n c.requires.can c.frontier-number.ensures above)
+          c.requires.indexed;
     })
 
 pub loop-entry-preserved : goal.loop-entry-preserved
@@ -35,9 +36,11 @@ loop-entry-preserved c =
     rw c.in_ok-push_front.ensures.items (record {
       known = λ k h. c.loop-entry.invariant.known k (omega arith);
       covered = omega arith;
-      same = one_down (lane held t) (number - 1) number c.loop-entry.entries.items e one here c.loop-entry.invariant.same;
+      same =
+          one_down (lane held t) (number - 1) number c.loop-entry.entries.items e one here c.loop-entry.invariant.same;
       few = omega arith;
-      indexed = index_down_from held t (number - 1) number _ _ _ _ e one here names.0 names.1 c.loop-entry.invariant.indexed c.in_ok-add.ensures;
+      indexed = index_down_from held t (number - 1) number _ _ _ _ e one here names.0 names.1
+          c.loop-entry.invariant.indexed c.in_ok-add.ensures;
     })
 
 pub returns-clause-lane : goal.returns-clause-lane
@@ -46,8 +49,10 @@ returns-clause-lane c =
     let t = c.args.thread in
     let number = c.loop-entry.number in
     let none : entry_at (lane held t) number ≡ None = sym c.in_default.ensures.value in
-    let covered = all_covered (lane held t) number c.loop-entry.invariant.covered (c.loop-entry.invariant.known number (omega arith)) none in
-    walked_lane (lane held t) number c.loop-entry.entries.items (c.is_held_set.ensures.rising t) covered c.loop-entry.invariant.same
+    let covered = all_covered (lane held t) number c.loop-entry.invariant.covered
+    (c.loop-entry.invariant.known number (omega arith)) none in
+    walked_lane (lane held t) number c.loop-entry.entries.items (c.is_held_set.ensures.rising t) covered
+    c.loop-entry.invariant.same
 
 pub returns-clause-indexed : goal.returns-clause-indexed
 returns-clause-indexed c =
@@ -55,5 +60,8 @@ returns-clause-indexed c =
     let t = c.args.thread in
     let number = c.loop-entry.number in
     let none : entry_at (lane held t) number ≡ None = sym c.in_default.ensures.value in
-    let covered = all_covered (lane held t) number c.loop-entry.invariant.covered (c.loop-entry.invariant.known number (omega arith)) none in
-    index_after held t number _ _ (λ n low. at_low (lane held t).covered (lane held t).entries n (c.is_held_set.ensures.rising t) (omega arith)) c.loop-entry.invariant.indexed
+    let covered = all_covered (lane held t) number c.loop-entry.invariant.covered
+    (c.loop-entry.invariant.known number (omega arith)) none in
+    index_after held t number _ _
+    (λ n low. at_low (lane held t).covered (lane held t).entries n (c.is_held_set.ensures.rising t) (omega arith))
+    c.loop-entry.invariant.indexed

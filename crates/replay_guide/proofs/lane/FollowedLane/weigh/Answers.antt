@@ -11,7 +11,8 @@ loop-i-preserved c =
     let len = c.len-i-end.ensures in
     let here = slice_get_read es _ i e c.self.inside.entries.ok.0 (omega arith) c.index-entry.ensures in
     let weight = weight_is_sum e c.weight.ensures.all ∙ sym c.weight.ensures.summed in
-    weighs_more c.args.weighed.now.keys c.loop-i.weighed.keys c.insert.new.self.keys es i e c.weight.result here weight c.in_ok-insert.ensures.updates.0 c.loop-i.invariant
+    weighs_more c.args.weighed.now.keys c.loop-i.weighed.keys c.insert.new.self.keys es i e c.weight.result here weight
+    c.in_ok-insert.ensures.updates.0 c.loop-i.invariant
 
 pub returns : goal.returns
 returns c =
@@ -19,4 +20,5 @@ returns c =
     let len = c.len-i-end.ensures in
     let ok = s.entries.ok.0 in
     let all : length s.entries.items ≤ c.loop-i.i = omega arith in
-    rw (← c.self.view_is) (weighs_lane c.args.weighed.now.keys c.loop-i.weighed.keys s.covered s.entries.items c.loop-i.i all c.loop-i.invariant)
+    rw (← c.self.view_is) (weighs_lane c.args.weighed.now.keys c.loop-i.weighed.keys s.covered s.entries.items
+    c.loop-i.i all c.loop-i.invariant)

@@ -9,8 +9,9 @@ use Rattle.run_end.proofs.run.Run.play_to.Given as goal
 abbrev pub invariant-moves : goal.invariant-moves
 invariant-moves g l = record {
   fits : FitsProgram (g.P.Program.meaning l.program) (g.P.Program.fits l.program) value_of l.self.master.vars;
-  leads : IsOnWay (LeadsTo (g.P.Program.meaning l.program) l.inputs l.entry) (LeadsOrMade (g.P.Program.meaning l.program) l.inputs l.entry)
-      (g.P.Program.meaning l.program) l.initial.self.master l.initial.self.schedule l.self.master l.self.schedule;
+  leads : IsOnWay (LeadsTo (g.P.Program.meaning l.program) l.inputs l.entry)
+      (LeadsOrMade (g.P.Program.meaning l.program) l.inputs l.entry) (g.P.Program.meaning l.program)
+      l.initial.self.master l.initial.self.schedule l.self.master l.self.schedule;
 }
 
 abbrev pub decreases-moves : goal.decreases-moves

@@ -8,6 +8,7 @@ use Rattle.run_end.proofs.run.Run.send_all.Given as goal
 abbrev pub invariant-threads : goal.invariant-threads
 invariant-threads g l = record {
   fits : FitsProgram (g.P.Program.meaning l.program) (g.P.Program.fits l.program) value_of l.self.master.vars;
-  sends : IsOnWay (SendsAll (g.P.Program.meaning l.program) l.inputs l.numbers) (SendsRest (g.P.Program.meaning l.program) l.inputs l.numbers l.thread)
-      (g.P.Program.meaning l.program) l.initial.self.master l.initial.self.schedule l.self.master l.self.schedule;
+  sends : IsOnWay (SendsAll (g.P.Program.meaning l.program) l.inputs l.numbers)
+      (SendsRest (g.P.Program.meaning l.program) l.inputs l.numbers l.thread) (g.P.Program.meaning l.program)
+      l.initial.self.master l.initial.self.schedule l.self.master l.self.schedule;
 }

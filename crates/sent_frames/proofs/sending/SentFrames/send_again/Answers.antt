@@ -10,7 +10,12 @@ use Rattle.sent_frames.proofs.sending.SentFrames.send_again.Goals as goal
 
 pub returns-clause-ok : goal.returns-clause-ok
 returns-clause-ok c =
-    on_ok_weaker c.send.result (λ sends.
-    let frame_of = subst (λ (o : Output). IsFrame c.in_ok-frame.frame (frame.Output c.self.inside.epoch c.self.inside.threads o)) c.in_ok-copy.ensures c.in_ok-frame.ensures.frame in
-    let can = subst (λ (q : Sending). CanPutOutput q.epoch q.threads c.args.output.now) (sym c.self.view_is) c.requires.can in
-    sends_again _ _ c.send.new.self c.args.output.now c.in_ok-frame.frame c.self.view_is can frame_of sends) c.send.ensures.ok
+    on_ok_weaker c.send.result
+    (λ sends.
+    let frame_of =
+    subst (λ (o : Output). IsFrame c.in_ok-frame.frame (frame.Output c.self.inside.epoch c.self.inside.threads o))
+    c.in_ok-copy.ensures c.in_ok-frame.ensures.frame in
+    let can =
+    subst (λ (q : Sending). CanPutOutput q.epoch q.threads c.args.output.now) (sym c.self.view_is) c.requires.can in
+    sends_again _ _ c.send.new.self c.args.output.now c.in_ok-frame.frame c.self.view_is can frame_of sends)
+    c.send.ensures.ok

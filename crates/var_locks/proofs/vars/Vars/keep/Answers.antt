@@ -19,10 +19,12 @@ note_move-requires-clause-next g c κs within =
           alone = c.seat.invariant.alone;
           going = ap (λ (s : Seated g.row.P-Value.Denot). s.ended) c.seat.view_is ∙ c.requires.seat.going;
           before = refl;
-          guided = subst (λ (s : Seated g.row.P-Value.Denot). IsGuided {V = g.row.P-Value.Denot} g.J.Round.guide s.thread (own_note s.part c.args.after c.args.trace (option_copied c.args.input))) is c.requires.guided;
+          guided = subst (λ (s : Seated g.row.P-Value.Denot). IsGuided {V = g.row.P-Value.Denot} g.J.Round.guide
+              s.thread (own_note s.part c.args.after c.args.trace (option_copied c.args.input))) is c.requires.guided;
           room = subst (λ (s : Seated g.row.P-Value.Denot). moves_made s.part < 2 ^ 56) is c.requires.seat.room;
         };
         empty = c.seat.invariant.empty;
-        own = subst (λ (s : Seated g.row.P-Value.Denot). IsOwn (g.P.Program.meaning c.args.program.now) s.thread (own_note s.part c.args.after c.args.trace (option_copied c.args.input))) is c.requires.own;
+        own = subst (λ (s : Seated g.row.P-Value.Denot). IsOwn (g.P.Program.meaning c.args.program.now) s.thread
+            (own_note s.part c.args.after c.args.trace (option_copied c.args.input))) is c.requires.own;
       },
     )

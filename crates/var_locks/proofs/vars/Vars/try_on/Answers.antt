@@ -7,7 +7,10 @@ use Rattle.var_locks.proofs.Turning.{half, here, passes}
 use Rattle.var_locks.proofs.vars.Vars.try_on.Goals as goal
 
 pub readers_of-readers-requires-clause-slot : goal.readers_of-readers-requires-clause-slot
-readers_of-readers-requires-clause-slot g c κs within = (c.requires.taken.0, ap (λ (me : Me (VarPart g.row.P-Value.Denot) (View g.row.P-Value.Denot)). me.1) c.requires.taken.1.token)
+readers_of-readers-requires-clause-slot g c κs within = (
+  c.requires.taken.0,
+  ap (λ (me : Me (VarPart g.row.P-Value.Denot) (View g.row.P-Value.Denot)). me.1) c.requires.taken.1.token,
+)
 
 pub go_on-requires-clause-taken : goal.go_on-requires-clause-taken
 go_on-requires-clause-taken g c κs within =
@@ -15,8 +18,13 @@ go_on-requires-clause-taken g c κs within =
     let h = c.requires.taken.1 in
     let slots = ap (λ (me : Me (VarPart g.row.P-Value.Denot) (View g.row.P-Value.Denot)). me.1) h.token in (
       x,
-      subst (λ (me : Me (VarPart g.row.P-Value.Denot) (View g.row.P-Value.Denot)). HasTaken g.P.Program.fits g.row.P.coded g.J.Round.program c.args.access c.args.word c.args.part.now me x) (sym c.readers_of-readers.ensures.stays) h,
-      passes c.args.setting.now.guide.now g.J.Round.guide c.requires.guide c.args.access.thread (c.args.part.now.counts.entries + 1) c.args.access.var c.args.access.read (c.args.word / 2) c.readers_of-readers.result x (half x.places c.args.word h.finds.word_is) (c.readers_of-readers.ensures.readers x slots) c.in_default.ensures.goes,
+      subst (λ (me : Me (VarPart g.row.P-Value.Denot) (View g.row.P-Value.Denot)).
+          HasTaken g.P.Program.fits g.row.P.coded g.J.Round.program c.args.access c.args.word c.args.part.now me x)
+          (sym c.readers_of-readers.ensures.stays) h,
+      passes c.args.setting.now.guide.now g.J.Round.guide c.requires.guide c.args.access.thread
+          (c.args.part.now.counts.entries + 1) c.args.access.var c.args.access.read (c.args.word / 2)
+          c.readers_of-readers.result x (half x.places c.args.word h.finds.word_is)
+          (c.readers_of-readers.ensures.readers x slots) c.in_default.ensures.goes,
     )
 
 pub wait_on-requires-clause-waits : goal.wait_on-requires-clause-waits
@@ -31,8 +39,10 @@ wait_on-requires-clause-waits g c κs within =
       c.args.access.read,
       record {
         hand = ap (λ (me : Me (VarPart g.row.P-Value.Denot) (View g.row.P-Value.Denot)). me.0.hand) same;
-        waits = here c.args.setting.now.guide.now g.J.Round.guide c.requires.guide c.args.access.thread (c.args.part.now.counts.entries + 1) c.args.access.var c.args.access.read (c.args.word / 2) c.readers_of-readers.result x (half x.places c.args.word h.finds.word_is) (c.readers_of-readers.ensures.readers x slots)
-            c.in-Some.thread c.in-Some.number c.in-Some.ensures.waits;
+        waits = here c.args.setting.now.guide.now g.J.Round.guide c.requires.guide c.args.access.thread
+            (c.args.part.now.counts.entries + 1) c.args.access.var c.args.access.read (c.args.word / 2)
+            c.readers_of-readers.result x (half x.places c.args.word h.finds.word_is)
+            (c.readers_of-readers.ensures.readers x slots) c.in-Some.thread c.in-Some.number c.in-Some.ensures.waits;
       },
       ap (λ (me : Me (VarPart g.row.P-Value.Denot) (View g.row.P-Value.Denot)). me.1) same,
       sym h.finds.word_is,

@@ -7,4 +7,5 @@ returns-clause-given g c =
     let b = c.self.inside in
     let n = c.min-count.result in
     let copied = rw c.deref.ensures.value at c.copy_from_slice.ensures.after in
-    ap (λ held. held.1) (sym c.self.view_is) ∙ held_copied b.buffer.items b.given b.filled n _ _ (omega arith) (omega (arith, c.self.invariant)) copied
+    ap (λ held. held.1) (sym c.self.view_is)
+    ∙ held_copied b.buffer.items b.given b.filled n _ _ (omega arith) (omega (arith, c.self.invariant)) copied
