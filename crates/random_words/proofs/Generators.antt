@@ -20,7 +20,7 @@ generator_after-suc : (seed count : ℕ)
 generator_after-suc seed count =
     let start = started 64 multiplier_64 seed (increment_of 64 54) in
     rw add-one (ap (λ (s : ℕ). let g : Lcg = record { state = s; increment = start.increment } in g)
-      (state_after-suc 64 multiplier_64 start.increment count start.state))
+    (state_after-suc 64 multiplier_64 start.increment count start.state))
 
 pub this_word : (seed count word : ℕ) (old new : Lcg) → (word, new) ≡ pcg32 old → old ≡ generator_after seed count
     → word ≡ word_of seed count
