@@ -14,7 +14,8 @@ use Rattle.round_order.specs.Woven.{IsByThread, IsWoven}
 use Rattle.round_order.proofs.WovenLines.{woven_line}
 use Rattle.round_join.specs.Weaving.{steps_in}
 
-pub after_steps : {V : Type 0} (order : List (Receipt V)) (past : List (Step V)) → after order past ≡ steps_in order ++ past
+pub after_steps : {V : Type 0} (order : List (Receipt V)) (past : List (Step V))
+    → after order past ≡ steps_in order ++ past
 after_steps [] past = refl
 after_steps {V} (r ∷ earlier) past = ap (λ (l : List (Step V)). r.step ∷ l) (after_steps earlier past)
 

@@ -12,6 +12,7 @@ use std::thread::{Threads, yield_now};
 
 /// How many numbers go through the lane, which has room for 1,024 of them, and how many stay in it at the end.
 const TAKEN: u64 = 100_000;
+
 const LEFT: u64 = 500;
 
 /// Puts a number, again and again until there is room.

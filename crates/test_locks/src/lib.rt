@@ -1,5 +1,6 @@
 //! Tests of numbered locks: rounds in which threads race over one box, and what they come to; the turns in which it is
-//! woven; and what a guide says that rounds follow; and lanes between threads. They stand apart, so that what they test is proved once.
+//! woven; and what a guide says that rounds follow; and lanes between threads. They stand apart, so that what they test
+//! is proved once.
 #![tactic(auto)]
 
 #[cfg(test)]
