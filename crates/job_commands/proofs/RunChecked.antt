@@ -15,7 +15,11 @@ use Rattle.pcapng_io.specs.Captured.{SaysAny}
 use Rattle.pcapng_io.proofs.Frames.{and_false}
 use Rattle.plain_machine.specs.declared.plain_move.PlayFault.{PlayFault}
 use Rattle.plain_machine.specs.History.{Step}
+use Rattle.plain_text.specs.declared.limit.TheConstants.{MOST_EVENTS}
+use Rattle.plain_text.specs.LineFiles.{count_of}
+use Rattle.plain_text.proofs.WholeFiles.{count_is_length}
 use Rattle.plain_player.specs.ScheduleText.{schedule_text}
+use Rattle.plain_player.specs.Schedules.{schedule_form}
 use Rattle.plain_player.proofs.WrittenSchedules.{read_back}
 use Rattle.world_io.specs.World.{Shown}
 use Rattle.recovery_laws.proofs.ScriptFiles.{leaves_accepted}
@@ -71,6 +75,12 @@ module _ (names : RunNames) (inputs : Inputs) (old new later : Shown) (accepted 
     released = record { unit = inputs.capture.unit; packets = ran.released };
   }
 
+  -- each move counts as one
+  few : count_of schedule_form ran.schedule ≤ MOST_EVENTS
+  few =
+      subst (λ (n : ℕ). n ≤ MOST_EVENTS) (sym (count_is_length schedule_form (λ plain. refl) ran.schedule))
+      fits.few_moves
+
   accepts : AcceptsCheckInputs (checked names) Read later
   accepts = record {
     played_accepted = record {
@@ -79,7 +89,7 @@ module _ (names : RunNames) (inputs : Inputs) (old new later : Shown) (accepted 
       schedule_accepted = (
         schedule_text ran.schedule,
         stand.schedule ∙ ran.files.schedule_is,
-        (fits.schedule_size, read_back ran.schedule ran.fit_lines, fits.few_moves),
+        (fits.schedule_size, read_back ran.schedule ran.fit_lines, few),
       );
     };
     released_accepted = (

@@ -8,8 +8,8 @@ ghost use Rattle.plain_player.specs.Schedules.{SaysMove, move_fault};
 
 use plain_machine::{PlainMove, Schedule};
 use plain_text::{
-    Bytes, LineCause, LineFile, MOST_EVENTS, NoMemory, ReadError, WordIter, put_u64, read_lines,
-    read_u64, words,
+    Bytes, LineCause, LineFile, MOST_EVENTS, NoMemory, ReadError, WordIter, WrittenFile, put_lines,
+    put_u64, read_lines, read_u64, words,
 };
 use std::alloc::Global;
 
@@ -93,12 +93,22 @@ pub fn put_schedule(alloc: Global, schedule: &Schedule) -> Result<Bytes, NoMemor
     ensures text { IfOk result (λ text. text ≡ schedule_text schedule.now) }
     ensures fit_lines { OnOk result (FitLines schedule.now) }
 {
-    let mut text = Bytes::new(alloc);
-    for plain in schedule.as_slice() {
-        put_move(&mut text, *plain)?;
-        text.push(b'\n')?;
+    put_lines::<Schedules>(alloc, schedule.as_slice())
+}
+
+impl WrittenFile for Schedules {
+    ghost use Rattle.plain_player.specs.ScheduleText.{move_line};
+    ghost use Rattle.plain_player.specs.Schedules.{FitsLine};
+
+    type Thing = PlainMove;
+
+    ghost line = { move_line };
+
+    ghost fits = { FitsLine };
+
+    fn put_line(_alloc: Global, text: &mut Bytes, plain: &PlainMove) -> Result<(), NoMemory> {
+        put_move(text, *plain)
     }
-    Ok(text)
 }
 
 /// Appends the line of a move, without a line feed.

@@ -86,18 +86,21 @@ impl Bytes {
         buffer
     }
 
+    /// All bytes, without the room in front.
     pub fn as_slice(&self) -> &[u8]
         ensures { result.now ≡ self.now }
     {
         &self.buffer[self.start..]
     }
 
+    /// How many bytes there are, without the room in front.
     pub fn len(&self) -> usize
         ensures { result ≡ length self.now }
     {
         self.buffer.len() - self.start
     }
 
+    /// Whether there are none, whatever room stands in front.
     pub fn is_empty(&self) -> bool
         ensures { IsTrue result ↔ (self.now ≡ []) }
     {

@@ -26,7 +26,7 @@ pub use limit::{
     Limit, MOST_CAPTURED, MOST_EVENTS, MOST_FILE_BYTES, MOST_MOVES, MOST_OUTPUT_BYTES, MOST_PACKETS,
 };
 pub use line::{Line, LineIter, count_lines, lines};
-pub use line_file::{LineFile, read_lines};
+pub use line_file::{LineFile, WrittenFile, put_lines, read_lines};
 pub use memory::NoMemory;
 pub use number::{put_decimal, put_u64, read_address, read_u64};
 pub use packet::{HEADER_ROOM, Packet, Packets, Unit};

@@ -1,8 +1,9 @@
-ghost use Rattle.std.specs.Prelude.{◌≡◌, ◌≤◌, Some, IfOk, IfErr};
+ghost use Rattle.std.specs.Prelude.{◌≡◌, ◌≤◌, ◌++◌, List, ℕ, Some, All, IfOk, IfErr, OnOk};
 ghost use Rattle.plain_text.specs.LineFiles.{LineForm, IsDecisive, IsFile, IsRefused, count_of};
+ghost use Rattle.plain_text.specs.LineFiles.{text_of};
 ghost use Rattle.plain_text.specs.Lines.{words_of};
 
-use crate::{LineCause, LineFault, ReadError, Sequence, lines};
+use crate::{Bytes, LineCause, LineFault, NoMemory, ReadError, Sequence, lines};
 use std::alloc::Global;
 
 /// A kind of text files in which each line that counts says one thing.
@@ -55,4 +56,34 @@ pub fn read_lines<F: LineFile>(
         things.push(thing)?;
     }
     Ok(things)
+}
+
+/// A kind of files of lines that is written as well.
+pub trait WrittenFile {
+    /// What a line says.
+    type Thing;
+
+    /// The line of a thing, without its line feed.
+    ghost line: { Self.Thing → List ℕ };
+
+    /// The numbers of a thing may stand in a file, so that its line is read back.
+    ghost fits: { Self.Thing → Type 0 };
+
+    /// Appends the line of a thing, without its line feed.
+    fn put_line(alloc: Global, text: &mut Bytes, thing: &Self::Thing) -> Result<(), NoMemory>
+        ensures line { OnOk result (text.new ≡ text.old ++ line thing.now) }
+        ensures fits { OnOk result (fits thing.now) };
+}
+
+/// The text of a file of lines: the line of each thing, in order, each with a line feed.
+pub fn put_lines<F: WrittenFile>(alloc: Global, things: &[F::Thing]) -> Result<Bytes, NoMemory>
+    ensures text { IfOk result (λ text. text ≡ text_of F.line things.now) }
+    ensures fits { OnOk result (All F.fits things.now) }
+{
+    let mut text = Bytes::new(alloc);
+    for thing in things {
+        F::put_line(alloc, &mut text, thing)?;
+        text.push(b'\n')?;
+    }
+    Ok(text)
 }

@@ -29,6 +29,7 @@ impl Text {
         })
     }
 
+    /// The text, without its allocator.
     pub fn as_str(&self) -> &str
         ensures { result.now ≡ self.now }
     {

@@ -40,14 +40,15 @@ abbrev pub of_thread : ℕ → List Message → List Message
 of_thread t [] = []
 of_thread t (f ∷ frames) = cond (nat_eq f.thread t) (f ∷ of_thread t frames) (of_thread t frames)
 
+-- none of them is of a thread after this one
+abbrev pub NoneIsLater : {V : Type 0} → ℕ → List (Step V) → Type 0
+NoneIsLater t [] = Unit {0}
+NoneIsLater t (y ∷ rest) = (y.thread ≤ t) × NoneIsLater t rest
+
 -- none is logged, and they stand thread by thread
 abbrev pub AreByThread : {V : Type 0} → List (Step V) → Type 0
 AreByThread [] = Unit {0}
-AreByThread {V} (x ∷ earlier) = IsQuiet x.act × LaterThan x.thread earlier × AreByThread earlier
-  where
-    LaterThan : ℕ → List (Step V) → Type 0
-    LaterThan t [] = Unit {0}
-    LaterThan t (y ∷ rest) = (y.thread ≤ t) × LaterThan t rest
+AreByThread (x ∷ earlier) = IsQuiet x.act × NoneIsLater x.thread earlier × AreByThread earlier
 
 -- The steps after a past stand in the order in which rounds weave: the logged ones by weight, then thread, each after
 -- the moves of its thread that lead to it; and then, thread by thread, the others.

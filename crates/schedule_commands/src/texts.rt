@@ -1,30 +1,18 @@
-ghost use Rattle.std.specs.Prelude.{◌≡◌, ◌++◌, [], All, IfOk, codes, decimal};
+ghost use Rattle.std.specs.Prelude.{◌≡◌, ◌++◌, All, IfOk, codes, decimal};
 ghost use Rattle.plain_text.specs.Packets.{IsShort};
 ghost use Rattle.pcap_io.specs.Capture.{records_of};
 ghost use Rattle.pcap_io.specs.declared.order.Order.TheVariants as order;
 
-use pcap_io::{put_packet, record_len};
+use pcap_io::put_packet;
 use plain_text::{Bytes, NoMemory, Packet, put_u64};
 use std::alloc::Global;
-
-/// No bytes, with room for the records of packets.
-fn room_for(alloc: Global, packets: &[Packet]) -> Result<Bytes, NoMemory>
-    requires { All IsShort packets.now }
-    ensures { IfOk result (λ bytes. bytes ≡ []) }
-{
-    let mut room: usize = 0;
-    for packet in packets {
-        room = room.saturating_add(record_len(packet));
-    }
-    Ok(Bytes::from_vec(Vec::with_capacity(alloc, room)?))
-}
 
 /// The records of packets, in order.
 pub fn put_records(alloc: Global, packets: &[Packet]) -> Result<Bytes, NoMemory>
     requires { All IsShort packets.now }
     ensures { IfOk result (λ records. records ≡ records_of order.Little packets.now) }
 {
-    let mut records = room_for(alloc, packets)?;
+    let mut records = Bytes::new(alloc);
     for packet in packets {
         put_packet(&mut records, packet)?;
     }

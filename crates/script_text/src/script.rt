@@ -1,15 +1,17 @@
-ghost use Rattle.std.specs.Prelude.{◌≡◌, ◌≤◌, Ok, Err, Some, IfOk, IfErr, length, map, take};
+ghost use Rattle.std.specs.Prelude.{◌≡◌, ◌≤◌, Ok, Err, Some, IfOk, IfErr, OnOk, length, map, take};
 ghost use Rattle.plain_text.specs.declared.limit.TheConstants.{MOST_EVENTS as most_events};
 ghost use Rattle.plain_text.specs.Lines.{words_of};
 ghost use Rattle.script_text.specs.Scripts.{IsScript, IsRefused, SaysEvent, count_of, event_fault};
-ghost use Rattle.script_text.specs.Scripts.{weight};
+ghost use Rattle.script_text.specs.Scripts.{FitWords, script_text, weight};
 ghost use Rattle.script_text.specs.Table.{has_third, grammar_place};
 ghost use Rattle.script_text.specs.Values.{values_at};
 
 use crate::form::{Form, MOST_VALUES};
 use crate::part::Part;
+use crate::written::put_event;
 use plain_text::{
-    LineCause, LineFile, MOST_EVENTS, ReadError, Sequence, WordIter, read_lines, words,
+    Bytes, LineCause, LineFile, MOST_EVENTS, NoMemory, ReadError, Sequence, WordIter, WrittenFile,
+    put_lines, read_lines, words,
 };
 use recovery_world::Event;
 use std::alloc::Global;
@@ -52,6 +54,31 @@ impl LineFile for Scripts {
     fn weight(event: &Event) -> u64 {
         weight_of(event)
     }
+}
+
+impl WrittenFile for Scripts {
+    ghost use Rattle.recovery_world.specs.Files.{event_words};
+    ghost use Rattle.script_text.specs.Scripts.{FitsWords};
+
+    type Thing = Event;
+
+    ghost line = { event_words };
+
+    ghost fits = { FitsWords };
+
+    fn put_line(alloc: Global, text: &mut Bytes, event: &Event) -> Result<(), NoMemory> {
+        let line = put_event(alloc, event)?;
+        text.extend(line.as_str().as_bytes())
+    }
+}
+
+/// The text of a script: the line of each event, in order, each with a line feed. Its numbers fit their lines, so the
+/// text is read back.
+pub fn put_script(alloc: Global, events: &[Event]) -> Result<Bytes, NoMemory>
+    ensures text { IfOk result (λ text. text ≡ script_text events.now) }
+    ensures fit_words { OnOk result (FitWords events.now) }
+{
+    put_lines::<Scripts>(alloc, events)
 }
 
 /// As how many events an event counts.

@@ -1,5 +1,6 @@
 //! Tests of numbered locks: rounds in which threads race over one box, and what they come to; the turns in which it is
-//! woven; and what a guide says that rounds follow. They stand apart, so that what they test is proved once.
+//! woven; and what a guide says that rounds follow; and lanes between threads. They stand apart, so that what they test
+//! is proved once.
 #![tactic(auto)]
 
 #[cfg(test)]
@@ -10,6 +11,8 @@ mod following;
 mod guides;
 #[cfg(test)]
 mod inputs;
+#[cfg(test)]
+mod lanes;
 #[cfg(test)]
 mod outcomes;
 #[cfg(test)]

@@ -20,6 +20,7 @@ const TOUCHES: u32 = 60;
 pub struct TouchBox {}
 
 impl TouchBox {
+    /// The box, which has no settings.
     pub fn new() -> Self {
         TouchBox {}
     }
