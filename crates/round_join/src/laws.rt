@@ -1,8 +1,15 @@
-//! The law of the steps of a round. It is proved, and does nothing: a caller has it by the call.
+//! The laws of what the threads of a round did. Each is proved, and does nothing: a caller has it by the call.
+ghost use Rattle.round_join.specs.Marking.{SeatsHaveMarks};
 ghost use Rattle.round_join.specs.Weaving.{WovenSteps};
 
 /// The woven receipts of a round are the steps of a plan's round: the logged ones by weight, then thread, each after
 /// the moves of its thread that lead to it, and then, thread by thread, the others.
 pub fn woven_receipts_are_steps_of_a_plan<X>()
     ensures woven { WovenSteps X }
+{}
+
+/// The marks of what the threads of a round's seats did are those of the receipts that their notes are, whatever the
+/// past. So the turns that `round_order::weave` answers for them are those of the woven list.
+pub fn seats_have_marks<X>()
+    ensures marks { SeatsHaveMarks X }
 {}
