@@ -1,17 +1,16 @@
 -- The parts of a plan, performed one after another.
-use Rattle.std.proofs.Common.{◌≡◌, ℕ, ◌-◌, ◌⊎◌, inl, inr, List, [], ◌∷◌, ◌++◌, append_assoc, length, refl, sym, ap, ◌∙◌}
+use Rattle.std.proofs.Common.{◌≡◌, ℕ, ◌-◌, inl, inr, List, [], ◌∷◌, ◌++◌, append_assoc, length, sym}
 use Rattle.std.proofs.Common.{subst}
 use Rattle.recovery_world.specs.declared.event.Event.{Event}
 use Rattle.recovery_world.specs.declared.event.Event.TheVariants as event
-use Rattle.recovery_world.specs.declared.event.Outcome.{Outcome}
-use Rattle.recovery_world.specs.World.{Setting, Sent, World}
-use Rattle.recovery_world.specs.Many.{OnAny, all_messages}
+use Rattle.recovery_world.specs.World.{Setting, World}
+use Rattle.recovery_world.specs.Many.{all_messages}
 use Rattle.recovery_world.specs.Files.{Performs, Rests, Goes as Performed, reply_line}
 use Rattle.plan_script.specs.declared.plan.PlanLine.{PlanLine}
 use Rattle.plan_script.specs.declared.plan.PlanLine.TheVariants as line
 use Rattle.plan_script.specs.Orders.{Orders}
 use Rattle.plan_script.specs.Rounds.{IsRound, step_events, arrival_events}
-use Rattle.plan_script.specs.Scripts.{Does, OnRound, OnSettle, IsPart, IsScript, Ends, Goes}
+use Rattle.plan_script.specs.Scripts.{Does, OnRound, IsPart, IsScript, Ends, Goes}
 
 -- events, and then others
 pub performs_append : {V : Type 0} (s : Setting V) (w mid new : World V) (first events : List Event) (a b : List ℕ)

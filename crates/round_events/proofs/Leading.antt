@@ -1,15 +1,11 @@
 -- The receipts of a round are events, one after another.
 use Rattle.std.proofs.Common.{◌≡◌, ℕ, ◌+◌, ◌≤◌, List, [], ◌∷◌, ◌++◌, length, append_assoc, Option, Ok, Err, Result}
 use Rattle.std.proofs.Common.{refl, sym, ap, ◌∙◌, subst, inl, inr, arith}
-use Rattle.std.specs.Prelude.{slice_index}
-use Rattle.entry_order.specs.Log.{Entry, IsIn}
-use Rattle.entry_order.specs.Stamps.{IsStamp}
 use Rattle.access_log.specs.Held.{Lane}
 use Rattle.plain_machine.specs.declared.plain_move.PlainMove.{PlainMove}
 use Rattle.plain_machine.specs.declared.plain_move.PlayCause.{PlayCause}
 use Rattle.plain_machine.specs.declared.plain_move.PlayFault.{PlayFault}
-use Rattle.plain_machine.specs.Program.{Meaning}
-use Rattle.plain_machine.specs.History.{Act, Did, Step, log_of, plain_move, numbered, and_move, play}
+use Rattle.plain_machine.specs.History.{Step, log_of, plain_move, numbered, and_move, play}
 use Rattle.plain_machine.specs.Agree.{IsEarlier}
 use Rattle.plain_machine.proofs.Histories.{earlier_refl, earlier_log}
 use Rattle.plain_machine.proofs.PlayedLists.{play_append, history_played}
@@ -23,7 +19,6 @@ use Rattle.round_order.specs.Linked.{IsLinked}
 use Rattle.round_order.specs.Woven.{IsOrder}
 use Rattle.round_order.proofs.OrderFronts.{IsFront, front_rest, Goes}
 use Rattle.round_order.proofs.WovenSteps.{all_go, front_all}
-use Rattle.round_events.specs.Guided.{KeepsTo}
 use Rattle.recovery_laws.specs.Making.{CanMake, after_made}
 use Rattle.round_events.specs.Leading.{AllKeep, bytes_in, world_after, AreMade}
 use Rattle.round_events.proofs.Telling.{can_make}

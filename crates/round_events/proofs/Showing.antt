@@ -1,7 +1,7 @@
 -- What a call answered of a move is what its receipt shows at its place in the woven order.
-use Rattle.std.proofs.Common.{◌≡◌, ℕ, ◌+◌, ◌-◌, ◌⊎◌, inl, inr, List, [], ◌∷◌, refl, sym, ap, ◌∙◌, subst, Option, Some}
-use Rattle.std.proofs.Common.{None, arith}
-use Rattle.std.specs.Prelude.{slice_get, slice_index}
+use Rattle.std.proofs.Common.{◌≡◌, ℕ, ◌+◌, ◌⊎◌, inl, inr, List, [], ◌∷◌, sym, ap, ◌∙◌, subst, Option, Some}
+use Rattle.std.proofs.Common.{None}
+use Rattle.std.specs.Prelude.{slice_index}
 use Rattle.plain_text.specs.declared.packet.Packet.{Packet}
 use Rattle.entry_order.specs.declared.what.What.{What}
 use Rattle.entry_order.specs.declared.what.What.TheVariants as what
@@ -19,14 +19,12 @@ use Rattle.master_core.specs.declared.step.Trace.{Trace}
 use Rattle.master_core.specs.declared.step.Trace.TheVariants as trace
 use Rattle.master_core.specs.declared.step.Stepped.{Stepped}
 use Rattle.master_core.specs.declared.step.Stepped.TheVariants as stepped
-use Rattle.master_core.specs.Stepping.{plain_entry, emission_of_output, DidEntry, EmittedOutput, Shows}
+use Rattle.master_core.specs.Stepping.{plain_entry, emission_of_output, DidEntry, Shows}
 use Rattle.master_core.specs.Effects.{TouchesParts, ReadsParts, next_entry, next_output}
 use Rattle.round_order.specs.Receipts.{Receipt}
-use Rattle.round_order.specs.PartMoves as moves
 use Rattle.var_locks.specs.declared.view.Note.{Note}
 use Rattle.var_locks.specs.Notes.{IsOwn, IsOwnBy, IsOwnEntry, IsOnVariable, packet_in, place_or, entry_receipt}
 use Rattle.var_locks.specs.Notes.{receipt_by, read_note}
-use Rattle.var_locks.specs.Plain.{IsSent}
 use Rattle.round_events.specs.Done.{IsDone}
 use Rattle.round_events.specs.Shown.{IsShown}
 use Rattle.round_events.proofs.Noting.{touch_read, look_read}

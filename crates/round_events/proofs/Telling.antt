@@ -1,18 +1,16 @@
 -- A legal move of a round that keeps to what is followed is the one that the event of its thread and answer makes.
-use Rattle.std.proofs.Common.{◌≡◌, ◌≢◌, ℕ, ◌+◌, ◌⊎◌, false, List, [], ◌∷◌, Option, Some, None, Ok, refl, sym, ap, ◌∙◌}
-use Rattle.std.proofs.Common.{subst, inl, inr, arith}
+use Rattle.std.proofs.Common.{◌≡◌, ℕ, ◌+◌, false, List, ◌∷◌, Option, Some, None, Ok, refl, sym, ap, ◌∙◌}
+use Rattle.std.proofs.Common.{subst, inl, arith}
 use Rattle.std.specs.Prelude.{slice_index, slice_get}
 use Rattle.plain_text.specs.declared.packet.Packet.{Packet}
-use Rattle.entry_order.specs.declared.what.What.TheVariants.{Access, Read, Clock, Draw}
+use Rattle.entry_order.specs.declared.what.What.TheVariants.{Access}
 use Rattle.entry_order.specs.Log.{Entry, entries, places}
 use Rattle.entry_order.specs.Stamps.{IsStamp}
-use Rattle.access_log.specs.declared.entry.StampedEntry.{StampedEntry}
 use Rattle.access_log.specs.Held.{Lane, lane, entry_at}
 use Rattle.plain_machine.specs.declared.local.Move.{Move}
 use Rattle.plain_machine.specs.declared.local.Move.TheVariants as move
-use Rattle.plain_machine.specs.declared.plain_move.PlainMove.{PlainMove}
 use Rattle.plain_machine.specs.Program.{Meaning}
-use Rattle.plain_machine.specs.Machine.{Hand, Thread, Effect, Touches, Looks, HearsClock, HearsDraw, Moved, Moves}
+use Rattle.plain_machine.specs.Machine.{Hand, Thread, Effect, Touches, Looks, HearsClock, HearsDraw, Moves}
 use Rattle.plain_machine.specs.Machine.{take_move, hand_move, held_move}
 use Rattle.plain_machine.specs.History.{Act, Did, Step, log_more, log_of, entry_of, act_of, thread_after, value_after}
 use Rattle.plain_machine.specs.History.{plain_move}

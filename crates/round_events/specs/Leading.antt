@@ -1,7 +1,6 @@
 -- The receipts of a round as events, one after another.
-use Rattle.std.specs.Prelude.{◌≡◌, ℕ, ◌+◌, ◌≤◌, List, [], ◌∷◌, length, slice_index}
+use Rattle.std.specs.Prelude.{ℕ, ◌+◌, ◌≤◌, List, [], ◌∷◌, length}
 use Rattle.access_log.specs.Held.{Lane}
-use Rattle.plain_machine.specs.History.{Step}
 use Rattle.recovery_world.specs.World.{Setting, World, inputs_fed}
 use Rattle.recovery_world.specs.Events.{bytes_sent}
 use Rattle.recovery_laws.specs.Sound.{Sound}
@@ -11,7 +10,7 @@ use Rattle.round_order.specs.Receipts.{Receipt, Receipts, after}
 use Rattle.round_order.specs.Linked.{IsLinked}
 use Rattle.round_order.specs.Woven.{IsOrder}
 use Rattle.round_events.specs.Guided.{KeepsTo}
-use Rattle.recovery_laws.specs.Making.{CanMake, after_made}
+use Rattle.recovery_laws.specs.Making.{CanMake}
 
 -- each receipt keeps to what is followed
 abbrev pub AllKeep : {V : Type 0} → List Lane → List (Receipt V) → Type 0

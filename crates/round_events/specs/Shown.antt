@@ -1,5 +1,5 @@
 -- What the answer to a call shows of a move.
-use Rattle.std.specs.Prelude.{◌≡◌, ℕ, List}
+use Rattle.std.specs.Prelude.{◌≡◌, ℕ}
 use Rattle.plain_machine.specs.Program.{Meaning}
 use Rattle.master_core.specs.declared.step.Trace.TheVariants as trace
 use Rattle.master_core.specs.declared.step.Stepped.{Stepped}

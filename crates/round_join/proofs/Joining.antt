@@ -1,5 +1,5 @@
 -- The receipts of a round, in woven order, are moves that are noted one after another.
-use Rattle.std.proofs.Common.{◌≡◌, ℕ, ◌+◌, List, [], ◌∷◌, length, Option, refl, sym, ap, ◌∙◌, subst, arith}
+use Rattle.std.proofs.Common.{◌≡◌, ℕ, ◌+◌, List, [], ◌∷◌, length, Option, sym, ap, ◌∙◌, subst, arith}
 use Rattle.plain_machine.specs.History.{Step}
 use Rattle.recovery_world.specs.World.{Setting, World}
 use Rattle.recovery_world.specs.Events.{bytes_sent}
@@ -8,7 +8,7 @@ use Rattle.recovery_laws.specs.Making.{CanMake, after_made}
 use Rattle.round_order.specs.Receipts.{Receipt, after}
 use Rattle.round_events.specs.Leading.{AreMade, world_after, bytes_in}
 use Rattle.round_join.specs.declared.noting.Made.{Made}
-use Rattle.round_join.specs.Noting.{IsMadeAt, Pending}
+use Rattle.round_join.specs.Noting.{Pending}
 
 -- each move shows its receipt, at its place
 abbrev pub AreShown : {V : Type 0} → List (Step V) → List Made → List (Receipt V) → Type 0

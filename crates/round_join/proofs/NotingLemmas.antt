@@ -1,13 +1,13 @@
 -- Moves noted one after another.
-use Rattle.std.proofs.Common.{◌≡◌, ℕ, true, List, [], ◌∷◌, ◌++◌, append_assoc, Option, Ok, refl, sym, ap, ◌∙◌, subst}
+use Rattle.std.proofs.Common.{◌≡◌, ℕ, true, List, [], ◌∷◌, ◌++◌, append_assoc, refl, sym, ap, ◌∙◌, subst}
 use Rattle.plain_machine.specs.Program.{Meaning}
 use Rattle.plain_machine.specs.History.{Step}
-use Rattle.recovery_world.specs.World.{Setting, Sent, World}
+use Rattle.recovery_world.specs.World.{Setting, World}
 use Rattle.recovery_world.specs.declared.event.Event.{Event}
 use Rattle.recovery_world.specs.declared.event.Event.TheVariants as event
 use Rattle.recovery_world.specs.declared.event.Outcome.{Outcome}
 use Rattle.recovery_world.specs.Limits.{OnWithin}
-use Rattle.recovery_world.specs.Many.{OnAny, Single}
+use Rattle.recovery_world.specs.Many.{Single}
 use Rattle.recovery_world.specs.Files.{Performs, Rests, Goes as Performed, reply_line}
 use Rattle.recovery_laws.specs.Making.{after_made}
 use Rattle.system_parts.specs.Parts.{Parts}

@@ -1,14 +1,13 @@
 -- The woven receipts stand as the steps of a plan's round.
-use Rattle.std.proofs.Common.{◌≡◌, ℕ, ◌≤◌, List, [], ◌∷◌, ◌++◌, refl, sym, ap, ◌∙◌, subst, inl, inr, Ok}
+use Rattle.std.proofs.Common.{◌≡◌, ℕ, ◌≤◌, List, [], ◌∷◌, ◌++◌, refl, ap, ◌∙◌, subst, inl, inr, Ok}
 use Rattle.plain_text.specs.declared.packet.Packet.{Packet}
-use Rattle.entry_order.specs.Log.{Entry}
 use Rattle.plain_machine.specs.declared.plain_move.PlainMove.{PlainMove}
 use Rattle.plain_machine.specs.Program.{Meaning}
 use Rattle.plain_machine.specs.History.{Act, Took, Did, Emitted, Ended, Step, log_of, play}
 use Rattle.plain_machine.specs.Continue.{IsQuiet, IsLed}
 use Rattle.line_order.specs.Line.{IsByWeight}
 use Rattle.plan_script.specs.Rounds.{AreWoven, NoneIsLater, AreByThread}
-use Rattle.round_order.specs.Receipts.{Receipt, Receipts, Among, after, entries_in, IsLogged, IsUnlogged}
+use Rattle.round_order.specs.Receipts.{Receipt, Receipts, Among, after, entries_in, IsUnlogged}
 use Rattle.round_order.specs.Linked.{IsLinked}
 use Rattle.round_order.specs.Woven.{IsByThread, IsWoven}
 use Rattle.round_order.proofs.WovenLines.{woven_line}

@@ -1,5 +1,5 @@
 -- What is noted in the rest of a system, by what was noted of the parts.
-use Rattle.std.proofs.Common.{◌≡◌, ℕ, length, ap, refl, subst, Option, Result, Ok, Err}
+use Rattle.std.proofs.Common.{◌≡◌, ℕ, length, ap, subst, Option, Ok, Err}
 use Rattle.std.specs.Prelude.{IfOk, OnOk}
 use Rattle.plain_text.specs.declared.limit.Limit.{Limit}
 use Rattle.plain_machine.specs.Program.{Meaning}
@@ -10,7 +10,6 @@ use Rattle.recovery_world.specs.declared.event.Outcome.{Outcome}
 use Rattle.recovery_world.specs.declared.event.Outcome.TheVariants as outcome
 use Rattle.recovery_world.specs.World.{Setting, World}
 use Rattle.recovery_world.specs.Events.{entry_outcome}
-use Rattle.event_replies.specs.declared.reply.Stop.{Stop}
 use Rattle.event_replies.specs.declared.reply.Stop.TheVariants as stop
 use Rattle.sent_frames.specs.Sending.{Sending}
 use Rattle.system_parts.specs.Parts.{Parts}

@@ -1,4 +1,4 @@
-use Rattle.std.proofs.Common.{rules, ◌≡◌, ◌<◌, ◌^◌, ◌∙◌, ap, arith, subst, sym, Some}
+use Rattle.std.proofs.Common.{rules, ◌<◌, ◌^◌, ◌∙◌, ap, arith, subst, sym, Some}
 use Rattle.replay_guide.specs.Orders.{weight_of}
 use Rattle.replay_guide.proofs.OrderLemmas.{weight_is_sum}
 use Rattle.round_join.specs.Marking.{IsSmall, mark_in}

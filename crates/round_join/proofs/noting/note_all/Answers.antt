@@ -1,4 +1,4 @@
-use Rattle.std.proofs.Common.{refl, sym, ◌∙◌, subst, ◌++◌, ◌∷◌, []}
+use Rattle.std.proofs.Common.{refl, sym, ◌∙◌, subst}
 use Rattle.plain_machine.specs.History.{Step}
 use Rattle.recovery_world.specs.World.{Setting, World}
 use Rattle.thread_steps.specs.Stepping.{NotesFor}

@@ -1,4 +1,4 @@
-use Rattle.std.proofs.Common.{◌≡◌, ℕ, true, length}
+use Rattle.std.proofs.Common.{◌≡◌, true, length}
 use Rattle.recovery_world.specs.World.{Setting, World}
 use Rattle.system_parts.specs.Resting.{RestsFor}
 use Rattle.round_join.specs.Noting.{CanSendAll, Pending}

@@ -1,4 +1,4 @@
-use Rattle.std.proofs.Common.{ap, ◌≡◌}
+use Rattle.std.proofs.Common.{ap}
 use Rattle.log_queues.proofs.Keeping.{merges, gets, totals}
 use Rattle.log_queues.proofs.lane.Lane.finish.Goals as goal
 
