@@ -29,6 +29,8 @@ use Rattle.round_events.specs.Waiting.{StepWaits}
 use Rattle.round_join.specs.declared.noting.Made.{Made}
 use Rattle.round_join.specs.declared.noting.Noted.{Noted}
 use Rattle.round_join.specs.Working.{AllWork}
+use Rattle.round_join.specs.Drawing.{AreDrawn}
+use Rattle.round_join.specs.Noting.{CanSendAll, events_made, Pending}
 
 -- A round in this world, of which y is all but the master. It began with master p and came to master q; its seats have
 -- these marks, and did these moves.
@@ -101,6 +103,25 @@ lines_noted (n ∷ noted) = reply_line (event_noted n) n.outcome [] ++ lines_not
 pub record IsAfterSteps {V : Type 0} (w : World V) (steps : List (Step V)) (there : World V) : Type 0 where
   pub world : there ≡ record w { past = steps ++ w.past; moves = there.moves; bytes = there.bytes }
   pub moves : there.moves ≡ w.moves + length steps
+
+-- The moves of a round in its turns, both newest first: each may be noted in the world after those before it, and so
+-- they lead to a world whose steps stand as a plan's round has them. Master q stands for it, and the thread of each seat
+-- that was blocked waits there.
+pub record IsInOrder {P V : Type 0} (s : Setting V) (w : World V) (seats : List (Seated V)) (q : Mastered V)
+    (moves : List (List Made)) (turns : List ℕ) (y : Parts P V) : Type 0 where
+  pub drawn : List Made
+  pub draws : AreDrawn moves turns drawn
+  pub can : CanSendAll y.sent.epoch y.sent.threads drawn
+  pub steps : List (Step V)
+  pub there : World V
+  pub pending : Pending s w drawn there
+  pub events_are : events_made drawn ≡ step_events steps
+  pub after : IsAfterSteps w steps there
+  pub woven : AreWoven w.past steps
+  pub each : (t : ℕ) → AreStepsOf (slice_index_or moves t []) (steps_by t steps)
+  pub stands : Stands s.meaning s.threads there.past q
+  pub stuck : (x : Seated V) (e : MissedEntry) → IsSeatAmong x seats → IsStuck s.meaning y.guide x e
+      → StepWaits s there x.thread None
 
 -- What the round came to: steps that stand as a plan's round has them, performed as the events that are noted. The rest
 -- stands for the world after them, and master q does; and the thread of each seat that was blocked waits there.

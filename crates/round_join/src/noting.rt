@@ -16,6 +16,7 @@ use plain_text::{Limit, NoMemory};
 use recovery_world::Outcome;
 use round_order::{Marks, weave};
 use std::alloc::Global;
+use std::collections::VecDeque;
 use std::marker::Model;
 use system_rest::Rest;
 
@@ -28,25 +29,124 @@ pub struct Made {
 }
 
 /// A move that was noted, as the event of a script that it is, and what it came to.
-#[derive(Clone, Copy)]
+#[derive(Drop)]
 pub struct Noted {
     pub thread: u32,
     pub answer: Option<u64>,
     pub outcome: Outcome,
 }
 
-/// The moves of one thread. Contracts see them newest first.
-#[derive(Drop)]
-pub struct Moves {
-    /// Newest first once they are turned round for the end of a round, else oldest first.
-    items: Vec<Made>,
-}
-
 /// Why the moves of a round were not all noted.
+#[derive(Drop)]
 pub enum NoteStop {
     /// This move would pass the limit.
     Limit { limit: Limit, next: PlainMove },
     NoMemory,
+}
+
+impl From<NoMemory> for NoteStop {
+    ghost use Rattle.std.specs.Prelude.{◌≡◌};
+    ghost use Rattle.round_join.specs.declared.noting.NoteStop.TheVariants as stop;
+
+    ghost from_gives = { λ _ r. r ≡ stop.NoMemory };
+
+    fn from(_: NoMemory) -> Self {
+        NoteStop::NoMemory
+    }
+}
+
+/// The moves of one thread, in the order in which it made them. Contracts see them newest first.
+#[derive(Drop)]
+pub struct Moves {
+    items: VecDeque<Made>,
+}
+
+impl Model for Moves {
+    ghost use Rattle.std.specs.Prelude.{List, reverse};
+    ghost use Rattle.round_join.specs.declared.noting.Made.{Made};
+
+    ghost Value = { List Made };
+
+    ghost view = { λ m. reverse m.items.items };
+}
+
+impl Moves {
+    /// None so far. It takes no memory.
+    pub fn new(alloc: Global) -> Self
+        ensures { result ≡ [] }
+    {
+        Moves {
+            items: VecDeque::new(alloc),
+        }
+    }
+
+    /// How many there are.
+    pub fn len(&self) -> usize
+        ensures { result ≡ length self.now }
+    {
+        self.items.len()
+    }
+
+    /// One more is made.
+    pub fn push(&mut self, made: Made) -> Result<(), NoMemory>
+        ensures pushed { OnOk result (self.new ≡ made ∷ self.old) }
+        ensures same { OnErr result (self.new ≡ self.old) }
+    {
+        self.items.push_back(made)?;
+        Ok(())
+    }
+
+    /// Takes the oldest one out.
+    fn take_oldest(&mut self) -> Option<Made>
+        ensures oldest { IfSome result (λ made. self.old ≡ self.new ++ made ∷ []) }
+        ensures none { IfNone result (self.old ≡ []) }
+    {
+        self.items.pop_front()
+    }
+}
+
+/// Notes one move.
+fn note_one<P: Program>(
+    rest: &mut Rest<P>,
+    made: Made,
+    noted: &mut Vec<Noted>,
+) -> Result<(), NoteStop> {
+    let Made {
+        thread,
+        answer,
+        stepped,
+    } = made;
+    match rest.note(thread, answer, stepped) {
+        Ok(outcome) => {
+            noted.push(Noted {
+                thread,
+                answer,
+                outcome,
+            })?;
+            Ok(())
+        }
+        Err(Stop::Limit(limit)) => Err(NoteStop::Limit {
+            limit,
+            next: PlainMove { thread, answer },
+        }),
+        Err(Stop::NoMemory) => Err(NoteStop::NoMemory),
+    }
+}
+
+/// Notes the moves of all threads in these turns, of which the first is the oldest.
+fn note_turns<P: Program>(
+    rest: &mut Rest<P>,
+    turns: &[usize],
+    mut moves: Vec<Moves>,
+    noted: &mut Vec<Noted>,
+) -> Result<(), NoteStop> {
+    for turn in turns {
+        let Some(made) = moves[*turn].take_oldest() else {
+            unreachable!()
+        };
+        note_one(rest, made, noted)?;
+    }
+    Ok(())
 }
 
 /// The end of a round: the moves of its threads are noted in the woven order, one after another.
@@ -76,3 +176,7 @@ pub fn note_round<P: Program>(
         marks.entry.now moves.items rest.old
         → StoppedAt s w noted.new.items limit next }
     ensures program { OnOk result (rest.new.program ≡ rest.old.program) }
+{
+    let turns = weave(alloc, marks)?;
+    note_turns(rest, turns.as_slice(), moves, noted)
+}
