@@ -5,6 +5,7 @@ mod all;
 mod beginning;
 mod buffered;
 mod calls;
+mod clock;
 mod files;
 mod memory_file;
 mod memory_world;
@@ -15,6 +16,7 @@ mod world;
 mod world_stream;
 
 pub use all::{WriteError, write_all};
+pub use clock::{Clock, FixedClock};
 pub use beginning::{Front, FrontError, read_front};
 pub use buffered::BufferedSource;
 pub use memory_world::MemoryWorld;

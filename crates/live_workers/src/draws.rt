@@ -1,0 +1,51 @@
+ghost use Rattle.std.specs.Prelude.{◌≡◌, IfOk};
+ghost use Rattle.live_workers.specs.Draws.{generators_of};
+
+use plain_text::NoMemory;
+use rand_pcg::Pcg32;
+use std::alloc::Global;
+use std::marker::Model;
+
+/// The stream of the generator of worker 0; that of worker t is t further.
+const FIRST_STREAM: u64 = 55;
+
+/// The generators of the workers' free draws, one for each thread. They go on from round to round.
+#[derive(Drop)]
+pub struct Draws {
+    generators: Vec<Pcg32>,
+}
+
+impl Model for Draws {
+    ghost use Rattle.std.specs.Prelude.{List};
+    ghost use Rattle.rand_pcg.specs.Lcg.{Lcg};
+
+    ghost Value = { List Lcg };
+
+    ghost view = { λ d. d.generators.items };
+}
+
+impl Draws {
+    /// Those of a seed, for this number of threads, before their first words.
+    pub fn new(alloc: Global, seed: u64, threads: u32) -> Result<Self, NoMemory>
+        ensures { IfOk result (λ draws. draws ≡ generators_of seed 0 threads) }
+    {
+        let mut generators = Vec::new(alloc);
+        for thread in 0..threads {
+            generators.push(Pcg32::new(seed, FIRST_STREAM + u64::from(thread)))?;
+        }
+        Ok(Draws { generators })
+    }
+
+    /// The generators, by thread.
+    pub(crate) fn into_vec(self) -> Vec<Pcg32>
+        ensures { result.items ≡ self }
+    {
+        self.generators
+    }
+
+    pub(crate) fn of(generators: Vec<Pcg32>) -> Self
+        ensures { result ≡ generators.items }
+    {
+        Draws { generators }
+    }
+}

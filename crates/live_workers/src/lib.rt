@@ -1,0 +1,9 @@
+//! Rounds of racing threads: workers make the moves of a box's threads beside each other, on as many threads as the
+//! machine gives. What they did is a part of a script, and the recovering system stands where that part leads.
+#![tactic(auto)]
+
+mod draws;
+mod moving;
+mod working;
+
+pub use draws::Draws;
