@@ -1,5 +1,3 @@
 pub mod Draws
-pub mod Frames
 pub mod Moving
 pub mod Telling
-pub mod Working

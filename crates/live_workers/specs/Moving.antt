@@ -1,5 +1,5 @@
 -- What one call of a worker came to.
-use Rattle.std.specs.Prelude.{◌≡◌, ℕ, ◌+◌, ◌-◌, ◌<◌, ◌≤◌, ◌^◌, List, ◌∷◌, Option, Some, None, IsSome, false, slice_get}
+use Rattle.std.specs.Prelude.{◌≡◌, ℕ, ◌+◌, List, ◌∷◌, Option, Some, None, slice_get}
 use Rattle.rand_pcg.specs.Lcg.{Lcg}
 use Rattle.plain_text.specs.declared.packet.Packet.{Packet}
 use Rattle.access_log.specs.Held.{Lane}
@@ -27,10 +27,11 @@ use Rattle.live_workers.specs.Telling.{IsTold}
 abbrev pub IsFedTo : {V : Type 0} → List Packet → Note V → Type 0
 IsFedTo packets n = (packet : Packet) → n.packet ≡ Some packet → slice_get packets (input_number n.before) ≡ Some packet
 
--- a packet in hand is an input of the thread
+-- a packet in hand is the last input that the thread took
 abbrev pub HasInput : List Packet → ThreadPart → Type 0
 HasInput packets part =
-    (place : Local) → part.hand ≡ Some place → IsSome (slice_get packets (part.counts.taken - 1))
+    (place : Local) → part.hand ≡ Some place
+    → (k : ℕ) × (packet : Packet) × (part.counts.taken ≡ k + 1) × (slice_get packets k ≡ Some packet)
 
 -- no packet is in hand, and none comes next
 abbrev pub IsAtRest : List Packet → ThreadPart → Type 0

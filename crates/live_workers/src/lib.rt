@@ -4,6 +4,5 @@
 
 mod draws;
 mod moving;
-mod working;
 
 pub use draws::Draws;

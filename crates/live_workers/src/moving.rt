@@ -81,6 +81,7 @@ fn stepped_by(touched: Touched) -> Stepped
 }
 
 /// Touches or reads the variable that the thread wants.
+#[tactic(auto, using(crate::proofs::MovingLemmas::touch_comes))]
 fn touch_next<P: Program, J: Round, C: Clock, G: Gate, R: Wait>(
     rt: &R,
     around: &Surroundings<'_, P, J, C, G>,
@@ -110,6 +111,7 @@ fn touch_next<P: Program, J: Round, C: Clock, G: Gate, R: Wait>(
 }
 
 /// Makes the thread's next move, which is on no variable.
+#[tactic(auto, using(crate::proofs::MovingLemmas::plain_comes, crate::proofs::MovingLemmas::passed))]
 fn plain_next<P: Program, J: Round, C: Clock, G: Gate>(
     around: &Surroundings<'_, P, J, C, G>,
     seat: &mut VarSeat<P>,
