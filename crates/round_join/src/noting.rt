@@ -1,11 +1,18 @@
-ghost use Rattle.std.specs.Prelude.{◌≡◌, ℕ, [], ◌∷◌, ◌++◌, Err, List, length, reverse, IfSome, IfNone};
-ghost use Rattle.std.specs.Prelude.{OnOk, OnErr};
+ghost use Rattle.std.specs.Prelude.{◌≡◌, ℕ, [], ◌∷◌, ◌++◌, Err, List, length, reverse, true};
+ghost use Rattle.std.specs.Prelude.{IfSome, IfNone, OnOk, OnErr};
 ghost use Rattle.plain_text.specs.declared.limit.Limit.{Limit as LimitKind};
 ghost use Rattle.plain_machine.specs.declared.plain_move.PlainMove.{PlainMove as PlainMoveValue};
 ghost use Rattle.master_core.specs.Mastered.{Mastered};
 ghost use Rattle.recovery_world.specs.World.{Setting, World};
+ghost use Rattle.recovery_world.specs.declared.event.Outcome.{Outcome as OutcomeKind};
+ghost use Rattle.system_parts.specs.Resting.{RestsFor};
+ghost use Rattle.thread_steps.specs.Stepping.{CanNote};
 ghost use Rattle.atomic_table.specs.Seated.{TableId};
 ghost use Rattle.var_locks.specs.Seats.{Seated};
+ghost use Rattle.round_join.specs.declared.noting.Made.{Made as MadeValue};
+ghost use Rattle.round_join.specs.Drawing.{AreDrawn};
+ghost use Rattle.round_join.specs.Noting.{CanSendAll, Pending};
+ghost use Rattle.round_join.specs.NotedMoves.{NotesAll, NotesMade, StopsBefore, noted_as};
 ghost use Rattle.round_join.specs.Racing.{CameTo, HasRaced, Raced, StoppedAt};
 
 use box_program::Program;
@@ -105,12 +112,33 @@ impl Moves {
     }
 }
 
+/// One more move is noted.
+fn add(noted: &mut Vec<Noted>, one: Noted) -> Result<(), NoMemory>
+    ensures added { OnOk result (noted.new.items ≡ noted.old.items ++ one ∷ []) }
+    ensures same { OnErr result (noted.new.items ≡ noted.old.items) }
+{
+    noted.push(one)?;
+    Ok(())
+}
+
 /// Notes one move.
 fn note_one<P: Program>(
     rest: &mut Rest<P>,
     made: Made,
     noted: &mut Vec<Noted>,
-) -> Result<(), NoteStop> {
+) -> Result<(), NoteStop>
+    requires can { CanNote rest.old made.stepped }
+    ensures on { OnOk result ((to : OutcomeKind)
+        × (noted.new.items ≡ noted.old.items ++ noted_as made to ∷ [])
+        × NotesMade (P.meaning rest.old.program) made to rest.old rest.new) }
+    ensures same { OnErr result (noted.new.items ≡ noted.old.items) }
+    ensures limit { (limit : LimitKind) (next : PlainMoveValue)
+        → result ≡ Err (NoteStop.Limit limit next)
+        → StopsBefore (P.meaning rest.old.program) made limit next rest.old }
+    ensures program { OnOk result (rest.new.program ≡ rest.old.program) }
+    ensures epoch { OnOk result (rest.new.sent.epoch ≡ rest.old.sent.epoch) }
+    ensures threads { OnOk result (rest.new.sent.threads ≡ rest.old.sent.threads) }
+{
     let Made {
         thread,
         answer,
@@ -118,11 +146,14 @@ fn note_one<P: Program>(
     } = made;
     match rest.note(thread, answer, stepped) {
         Ok(outcome) => {
-            noted.push(Noted {
-                thread,
-                answer,
-                outcome,
-            })?;
+            add(
+                noted,
+                Noted {
+                    thread,
+                    answer,
+                    outcome,
+                },
+            )?;
             Ok(())
         }
         Err(Stop::Limit(limit)) => Err(NoteStop::Limit {
@@ -139,7 +170,25 @@ fn note_turns<P: Program>(
     turns: &[usize],
     mut moves: Vec<Moves>,
     noted: &mut Vec<Noted>,
-) -> Result<(), NoteStop> {
+) -> Result<(), NoteStop>
+    requires draws { (drawn : List MadeValue) × AreDrawn moves.items (reverse turns.now) drawn
+        × CanSendAll rest.old.sent.epoch rest.old.sent.threads drawn }
+    requires none { noted.old.items ≡ [] }
+    ensures on { OnOk result ((s : Setting P.Value) (w new : World P.Value)
+        (drawn : List MadeValue)
+        → AreDrawn moves.items (reverse turns.now) drawn
+        → RestsFor (P.meaning rest.old.program) s w rest.old → w.up ≡ true
+        → Pending s w drawn new
+        → NotesAll (P.meaning rest.old.program) s w drawn new noted.new.items rest.new) }
+    ensures limit { (limit : LimitKind) (next : PlainMoveValue)
+        → result ≡ Err (NoteStop.Limit limit next)
+        → (s : Setting P.Value) (w new : World P.Value) (drawn : List MadeValue)
+        → AreDrawn moves.items (reverse turns.now) drawn
+        → RestsFor (P.meaning rest.old.program) s w rest.old → w.up ≡ true
+        → Pending s w drawn new
+        → StoppedAt s w noted.new.items limit next }
+    ensures program { OnOk result (rest.new.program ≡ rest.old.program) }
+{
     for turn in turns {
         let Some(made) = moves[*turn].take_oldest() else {
             unreachable!()
@@ -177,6 +226,7 @@ pub fn note_round<P: Program>(
         → StoppedAt s w noted.new.items limit next }
     ensures program { OnOk result (rest.new.program ≡ rest.old.program) }
 {
+    rest.has_parts();
     let turns = weave(alloc, marks)?;
     note_turns(rest, turns.as_slice(), moves, noted)
 }
