@@ -1,15 +1,11 @@
 -- The moves of a round, noted one after another; the newest stands first.
-use Rattle.std.specs.Prelude.{◌≡◌, ℕ, true, List, [], ◌∷◌, ◌++◌}
-use Rattle.plain_machine.specs.Program.{Meaning}
+use Rattle.std.specs.Prelude.{◌≡◌, ℕ, List, [], ◌∷◌, ◌++◌}
 use Rattle.plain_machine.specs.History.{Step}
 use Rattle.recovery_world.specs.World.{Setting, World}
 use Rattle.recovery_world.specs.declared.event.Event.{Event}
 use Rattle.recovery_world.specs.declared.event.Event.TheVariants as event
-use Rattle.recovery_world.specs.Files.{Performs}
 use Rattle.master_core.specs.Stepping.{Shows}
 use Rattle.recovery_laws.specs.Making.{CanMake, after_made}
-use Rattle.system_parts.specs.Parts.{Parts}
-use Rattle.system_parts.specs.Resting.{RestsFor}
 use Rattle.thread_steps.specs.Stepping.{CanSend}
 use Rattle.round_join.specs.declared.noting.Made.{Made}
 
@@ -32,10 +28,3 @@ abbrev pub Pending : {V : Type 0} → Setting V → World V → List Made → Wo
 Pending s w [] new = new ≡ w
 Pending {V} s w (m ∷ earlier) new =
     (mid : World V) × (step : Step V) × IsMadeAt s mid m step × (new ≡ after_made mid step) × Pending s w earlier mid
-
--- The rest stands for the world after them, and the events that they are lead there.
-abbrev pub NotesAll : {P V : Type 0} → Meaning V → Setting V → World V → List Made → World V → Parts P V
-    → Parts P V → Type 0
-NotesAll m s w moves new old after =
-    RestsFor m s w old → w.up ≡ true → Pending s w moves new
-    → RestsFor m s new after × ((lines : List ℕ) × Performs s w (events_made moves) lines new)

@@ -106,8 +106,8 @@ pub record IsAfterSteps {V : Type 0} (w : World V) (steps : List (Step V)) (ther
   pub moves : there.moves ≡ w.moves + length steps
 
 -- The moves of a round in its turns, both newest first: each may be noted in the world after those before it, and so
--- they lead to a world whose steps stand as a plan's round has them. Master q stands for it, and the thread of each seat
--- that was blocked waits there.
+-- they lead to a world whose steps stand as a plan's round has them. Master q stands for it, and the thread of each
+-- seat that was blocked waits there.
 pub record IsInOrder {P V : Type 0} (s : Setting V) (w : World V) (seats : List (Seated V)) (q : Mastered V)
     (moves : List (List Made)) (turns : List ℕ) (y : Parts P V) : Type 0 where
   pub drawn : List Made

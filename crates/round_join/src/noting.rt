@@ -1,12 +1,31 @@
-ghost use Rattle.std.specs.Prelude.{◌≡◌, [], ◌∷◌, ◌++◌, length, IfSome, IfNone, OnOk, OnErr};
+ghost use Rattle.std.specs.Prelude.{◌≡◌, ℕ, [], ◌∷◌, ◌++◌, Err, List, length, reverse, true};
+ghost use Rattle.std.specs.Prelude.{IfSome, IfNone, OnOk, OnErr};
+ghost use Rattle.plain_text.specs.declared.limit.Limit.{Limit as LimitKind};
+ghost use Rattle.plain_machine.specs.declared.plain_move.PlainMove.{PlainMove as PlainMoveValue};
+ghost use Rattle.master_core.specs.Mastered.{Mastered};
+ghost use Rattle.recovery_world.specs.World.{Setting, World};
+ghost use Rattle.recovery_world.specs.declared.event.Outcome.{Outcome as OutcomeKind};
+ghost use Rattle.system_parts.specs.Resting.{RestsFor};
+ghost use Rattle.thread_steps.specs.Stepping.{CanNote};
+ghost use Rattle.atomic_table.specs.Seated.{TableId};
+ghost use Rattle.var_locks.specs.Seats.{Seated};
+ghost use Rattle.round_join.specs.declared.noting.Made.{Made as MadeValue};
+ghost use Rattle.round_join.specs.Drawing.{AreDrawn};
+ghost use Rattle.round_join.specs.Noting.{CanSendAll, Pending};
+ghost use Rattle.round_join.specs.NotedMoves.{NotesAll, NotesMade, StopsBefore, noted_as};
+ghost use Rattle.round_join.specs.Racing.{CameTo, HasRaced, Raced, StoppedAt};
 
+use box_program::Program;
+use event_replies::Stop;
 use master_core::Stepped;
 use plain_machine::PlainMove;
 use plain_text::{Limit, NoMemory};
 use recovery_world::Outcome;
+use round_order::{Marks, weave};
 use std::alloc::Global;
 use std::collections::VecDeque;
 use std::marker::Model;
+use system_rest::Rest;
 
 /// A move of a thread: what it was told, if anything, and what it showed.
 #[derive(Drop)]
@@ -93,3 +112,121 @@ impl Moves {
     }
 }
 
+/// One more move is noted.
+fn add(noted: &mut Vec<Noted>, one: Noted) -> Result<(), NoMemory>
+    ensures added { OnOk result (noted.new.items ≡ noted.old.items ++ one ∷ []) }
+    ensures same { OnErr result (noted.new.items ≡ noted.old.items) }
+{
+    noted.push(one)?;
+    Ok(())
+}
+
+/// Notes one move.
+fn note_one<P: Program>(
+    rest: &mut Rest<P>,
+    made: Made,
+    noted: &mut Vec<Noted>,
+) -> Result<(), NoteStop>
+    requires can { CanNote rest.old made.stepped }
+    ensures on { OnOk result ((to : OutcomeKind)
+        × (noted.new.items ≡ noted.old.items ++ noted_as made to ∷ [])
+        × NotesMade (P.meaning rest.old.program) made to rest.old rest.new) }
+    ensures same { OnErr result (noted.new.items ≡ noted.old.items) }
+    ensures limit { (limit : LimitKind) (next : PlainMoveValue)
+        → result ≡ Err (NoteStop.Limit limit next)
+        → StopsBefore (P.meaning rest.old.program) made limit next rest.old }
+    ensures program { OnOk result (rest.new.program ≡ rest.old.program) }
+    ensures epoch { OnOk result (rest.new.sent.epoch ≡ rest.old.sent.epoch) }
+    ensures threads { OnOk result (rest.new.sent.threads ≡ rest.old.sent.threads) }
+{
+    let Made {
+        thread,
+        answer,
+        stepped,
+    } = made;
+    match rest.note(thread, answer, stepped) {
+        Ok(outcome) => {
+            add(
+                noted,
+                Noted {
+                    thread,
+                    answer,
+                    outcome,
+                },
+            )?;
+            Ok(())
+        }
+        Err(Stop::Limit(limit)) => Err(NoteStop::Limit {
+            limit,
+            next: PlainMove { thread, answer },
+        }),
+        Err(Stop::NoMemory) => Err(NoteStop::NoMemory),
+    }
+}
+
+/// Notes the moves of all threads in these turns, of which the first is the oldest.
+fn note_turns<P: Program>(
+    rest: &mut Rest<P>,
+    turns: &[usize],
+    mut moves: Vec<Moves>,
+    noted: &mut Vec<Noted>,
+) -> Result<(), NoteStop>
+    requires draws { (drawn : List MadeValue) × AreDrawn moves.items (reverse turns.now) drawn
+        × CanSendAll rest.old.sent.epoch rest.old.sent.threads drawn }
+    requires none { noted.old.items ≡ [] }
+    ensures on { OnOk result ((s : Setting P.Value) (w new : World P.Value)
+        (drawn : List MadeValue)
+        → AreDrawn moves.items (reverse turns.now) drawn
+        → RestsFor (P.meaning rest.old.program) s w rest.old → w.up ≡ true
+        → Pending s w drawn new
+        → NotesAll (P.meaning rest.old.program) s w drawn new noted.new.items rest.new) }
+    ensures limit { (limit : LimitKind) (next : PlainMoveValue)
+        → result ≡ Err (NoteStop.Limit limit next)
+        → (s : Setting P.Value) (w new : World P.Value) (drawn : List MadeValue)
+        → AreDrawn moves.items (reverse turns.now) drawn
+        → RestsFor (P.meaning rest.old.program) s w rest.old → w.up ≡ true
+        → Pending s w drawn new
+        → StoppedAt s w noted.new.items limit next }
+    ensures program { OnOk result (rest.new.program ≡ rest.old.program) }
+{
+    for turn in turns {
+        let Some(made) = moves[*turn].take_oldest() else {
+            unreachable!()
+        };
+        note_one(rest, made, noted)?;
+    }
+    Ok(())
+}
+
+/// The end of a round: the moves of its threads are noted in the woven order, one after another.
+///
+/// After `Limit` those before it were noted. After `NoMemory` the rest is of no use any more.
+pub fn note_round<P: Program>(
+    alloc: Global,
+    rest: &mut Rest<P>,
+    marks: &[Marks],
+    moves: Vec<Moves>,
+    noted: &mut Vec<Noted>,
+) -> Result<(), NoteStop>
+    requires raced { HasRaced (P.meaning rest.old.program) (P.fits rest.old.program) marks.now
+        moves.items rest.old }
+    requires none { noted.old.items ≡ [] }
+    ensures came { OnOk result ((s : Setting P.Value) (w : World P.Value) (p : Mastered P.Value)
+        (round : TableId) (seats : List (Seated P.Value)) (q : Mastered P.Value)
+        → Raced (P.meaning rest.old.program) (P.fits rest.old.program) s w p round seats q
+        marks.entry.now moves.items rest.old
+        → CameTo (P.meaning rest.old.program) s w seats q moves.items rest.old.guide
+        noted.new.items rest.new) }
+    ensures limit { (limit : LimitKind) (next : PlainMoveValue)
+        → result ≡ Err (NoteStop.Limit limit next)
+        → (s : Setting P.Value) (w : World P.Value) (p : Mastered P.Value)
+        (round : TableId) (seats : List (Seated P.Value)) (q : Mastered P.Value)
+        → Raced (P.meaning rest.old.program) (P.fits rest.old.program) s w p round seats q
+        marks.entry.now moves.items rest.old
+        → StoppedAt s w noted.new.items limit next }
+    ensures program { OnOk result (rest.new.program ≡ rest.old.program) }
+{
+    rest.has_parts();
+    let turns = weave(alloc, marks)?;
+    note_turns(rest, turns.as_slice(), moves, noted)
+}

@@ -5,6 +5,7 @@ ghost use Rattle.plain_machine.specs.History.{Step};
 ghost use Rattle.master_core.specs.Mastered.{value_of};
 ghost use Rattle.master_core.specs.MasterStanding.{Stands};
 ghost use Rattle.recovery_world.specs.World.{Setting, World};
+ghost use Rattle.system_parts.specs.Parts.{AreParts};
 ghost use Rattle.system_parts.specs.SystemStanding.{StandsFor};
 ghost use Rattle.system_parts.specs.Resting.{RestsFor};
 ghost use Rattle.thread_steps.specs.Stepping.{CanNote, NotesFor, PassesFor};
@@ -83,6 +84,13 @@ impl<P: Program> Rest<P> {
         ensures { result.now ≡ self.now.guide }
     {
         &self.core.guide
+    }
+
+    /// What is true of the parts of every system. It does nothing: a caller has it by the call.
+    pub fn has_parts(&self)
+        ensures { AreParts (P.meaning self.now.program) (P.fits self.now.program) self.now }
+    {
+        let _program = &self.core.program;
     }
 
     /// Takes note of a move that a thread of the master made while it was out, with what the thread was told, and sends

@@ -1,0 +1,32 @@
+-- What the moves of a raced round come to, where all are noted.
+use Rattle.std.proofs.Common.{◌≡◌, ℕ, List, sym, ◌∙◌, subst}
+use Rattle.plain_machine.specs.Program.{Meaning}
+use Rattle.master_core.specs.Mastered.{Mastered}
+use Rattle.recovery_world.specs.World.{Setting, World}
+use Rattle.recovery_world.specs.declared.event.Event.{Event}
+use Rattle.recovery_world.specs.Files.{Performs}
+use Rattle.system_parts.specs.Parts.{Parts}
+use Rattle.var_locks.specs.Seats.{Seated}
+use Rattle.round_events.specs.Blocked.{IsStuck}
+use Rattle.round_join.specs.declared.noting.Made.{Made}
+use Rattle.round_join.specs.declared.noting.Noted.{Noted}
+use Rattle.round_join.specs.Racing.{CameTo, IsInOrder, lines_noted}
+use Rattle.round_join.specs.NotedMoves.{NotesAll}
+
+pub round_came : {P V : Type 0} (m : Meaning V) (s : Setting V) (w : World V) (seats : List (Seated V)) (q : Mastered V)
+    (moves : List (List Made)) (turns : List ℕ) (noted : List Noted) (old new : Parts P V) → s.meaning ≡ m
+    → (i : IsInOrder s w seats q moves turns old) → NotesAll m s w i.drawn i.there noted new
+    → CameTo m s w seats q moves old.guide noted new
+round_came {P} {V} m s w seats q moves turns noted old new meaning i all = record {
+  steps = i.steps;
+  there = i.there;
+  performs = subst (λ (l : List Event). Performs s w l (lines_noted noted) i.there) i.events_are all.performs;
+  events_are = all.events_are ∙ i.events_are;
+  after = i.after;
+  woven = i.woven;
+  each = i.each;
+  rests = all.rests;
+  stands = i.stands;
+  stuck = λ x e among stuck.
+      i.stuck x e among (subst (λ (k : Meaning V). IsStuck k old.guide x e) (sym meaning) stuck);
+}
