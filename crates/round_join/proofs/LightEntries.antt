@@ -102,11 +102,11 @@ light_notes {V} m past t (n ∷ notes) light =
 light_from : {V : Type 0} (m : Meaning V) (past : List (Step V)) (round : TableId) (k : ℕ) (seats : List (Seated V))
     (notes : ℕ → List (Note V)) → AreSeats round k seats → ((u : ℕ) → k ≤ u → notes u ≡ notes_at seats u)
     → ((t : ℕ) → AllLight (read_notes m past t (notes t))) → AreLight seats
-light_from {V} m past round k [] notes are same light = All-nil (λ (x : Seated V). All (λ n. IsLight n.trace) x.notes)
-light_from {V} m past round k (x ∷ others) notes are same light =
-    All-cons (λ (y : Seated V). All (λ n. IsLight n.trace) y.notes) x others
-    (subst (λ (l : List (Note V)). All (λ n. IsLight n.trace) l) mine (light_notes m past k (notes k) (light k)))
-    (light_from m past round (k + 1) others notes are.3 rest light)
+light_from m past round k [] notes are same light = tt
+light_from {V} m past round k (x ∷ others) notes are same light = (
+  subst (λ (l : List (Note V)). All (λ n. IsLight n.trace) l) mine (light_notes m past k (notes k) (light k)),
+  light_from m past round (k + 1) others notes are.3 rest light,
+)
   where
     mine : notes k ≡ x.notes
     mine = same k (omega arith) ∙ ap (λ (b : Bool). cond b x.notes (notes_at others k)) (is_eq x.thread k are.0)
