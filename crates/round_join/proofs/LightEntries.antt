@@ -29,7 +29,7 @@ use Rattle.var_locks.specs.declared.view.Note.{Note}
 use Rattle.var_locks.specs.Notes.{packet_in, entry_receipt, receipt_by, read_note, read_notes}
 use Rattle.var_locks.specs.Seats.{Seated}
 use Rattle.var_locks.specs.Closing.{AreSeats, notes_at, receipts_of}
-use Rattle.round_join.specs.Lightness.{IsLight, AreLight}
+use Rattle.round_join.specs.Marking.{IsLight, AreLight}
 
 sum_within : (n : ℕ) (f : ℕ → ℕ) → ((u : ℕ) → f u ≤ 2 ^ 56) → sum_below n f ≤ n * 2 ^ 56
 sum_within zero f low = omega arith

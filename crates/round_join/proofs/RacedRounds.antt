@@ -39,7 +39,7 @@ use Rattle.round_events.proofs.Leading.{receipts_are_events}
 use Rattle.round_events.proofs.Waiting.{missed_still_wait}
 use Rattle.system_parts.specs.Parts.{Parts, AreParts}
 use Rattle.round_join.specs.declared.noting.Made.{Made}
-use Rattle.round_join.specs.Lightness.{AreLight}
+use Rattle.round_join.specs.Marking.{AreLight}
 use Rattle.round_join.specs.Racing.{AreStepsOf, IsInOrder, Raced}
 use Rattle.round_join.specs.Weaving.{steps_in}
 use Rattle.round_join.specs.Working.{AllWork}
@@ -210,7 +210,7 @@ module _ {P V : Type 0} (fits : ℕ → V → Type 0) (s : Setting V) (w : World
 
   are_marked : AreMarksOf rs marks
   are_marked = subst (λ (l : List (List (Option ℕ))). AreMarksOf rs l) (sym raced.marks_are)
-      (seats_have_marks s.meaning w.past round seats raced.seats_are)
+      (seats_have_marks s.meaning w.past round seats raced.seats_are raced_light)
 
   pub raced_round : (turns : List ℕ) → AreTurns marks (lengths marks) turns → IsLawful s.meaning fits
       → 1 ≤ y.inputs.threads → y.sent.threads ≡ y.inputs.threads → All IsShort y.inputs.packets

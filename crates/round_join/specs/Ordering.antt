@@ -8,7 +8,7 @@ use Rattle.atomic_table.specs.Seated.{TableId}
 use Rattle.round_order.specs.Turns.{AreTurns, lengths}
 use Rattle.var_locks.specs.Seats.{Seated}
 use Rattle.round_join.specs.declared.noting.Made.{Made}
-use Rattle.round_join.specs.Lightness.{AreLight}
+use Rattle.round_join.specs.Marking.{AreLight}
 use Rattle.round_join.specs.Racing.{IsInOrder, Raced}
 
 -- Each entry that the threads of a raced round logged is light.

@@ -23,12 +23,11 @@ use Rattle.system_parts.specs.Resting.{RestsFor}
 use Rattle.atomic_table.specs.Seated.{TableId}
 use Rattle.var_locks.specs.declared.view.MissedEntry.{MissedEntry}
 use Rattle.var_locks.specs.Seats.{Seated}
-use Rattle.var_locks.specs.Closing.{AreSeats, IsClosed, seat_steps}
+use Rattle.var_locks.specs.Closing.{AreSeats, IsClosed, seat_marks}
 use Rattle.round_events.specs.Blocked.{IsStuck, IsSeatAmong}
 use Rattle.round_events.specs.Waiting.{StepWaits}
 use Rattle.round_join.specs.declared.noting.Made.{Made}
 use Rattle.round_join.specs.declared.noting.Noted.{Noted}
-use Rattle.round_join.specs.Marking.{marks_of}
 use Rattle.round_join.specs.Working.{AllWork}
 use Rattle.round_join.specs.Drawing.{AreDrawn}
 use Rattle.round_join.specs.Noting.{CanSendAll, events_made, Pending}
@@ -43,7 +42,7 @@ pub record Raced {P V : Type 0} (m : Meaning V) (fits : ℕ → V → Type 0) (s
   pub opens : Stands s.meaning s.threads w.past p
   pub closed : IsClosed m fits y.guide p seats q
   pub seats_are : AreSeats round 0 seats
-  pub marks_are : marks ≡ map marks_of (map seat_steps seats)
+  pub marks_are : marks ≡ map seat_marks seats
   pub works : AllWork m y.guide (inputs_of y.inputs) p.threads seats moves
 
 -- such a round of some world

@@ -11,8 +11,8 @@ pub fn woven_receipts_are_steps_of_a_plan<X>()
     ensures woven { WovenSteps X }
 {}
 
-/// The marks of what the threads of a round's seats did are those of the receipts that their notes are, whatever the
-/// past. So the turns that `round_order::weave` answers for them are those of the woven list.
+/// The marks that the seats of a round keep are those of the receipts that their notes are, whatever the past, where
+/// each weight has 64 bits. So the turns that `round_order::weave` answers for them are those of the woven list.
 pub fn seats_have_marks<X>()
     ensures marks { SeatsHaveMarks X }
 {}

@@ -4,6 +4,7 @@ use crate::inputs::inputs_of;
 use crate::outcomes::{Outcome, outcome_of};
 use crate::races::{outcome, race_fresh};
 use crate::racing::Feed;
+use crate::steps::Did;
 use crate::turns::take_one_each;
 use crate::weaving::woven;
 use box_program::Program;
@@ -20,8 +21,8 @@ use std::test::Fail;
 use std::thread::Threads;
 
 /// A guide that follows what the threads did.
-fn guide_to(alloc: Global, receipts: &[Woven]) -> Result<Guide, NoMemory> {
-    let steps = woven(alloc, receipts)?;
+fn guide_to(alloc: Global, did: &Did) -> Result<Guide, NoMemory> {
+    let steps = woven(alloc, did)?;
     guide_to_run(alloc, steps.as_slice())
 }
 
@@ -53,16 +54,16 @@ fn race_after<P: Program + Sync, R: Threads + Wait + Sync>(
     rt: &R,
     alloc: Global,
     program: &P,
-    first: &[Woven],
+    first: &Did,
     feed: Feed<'_>,
     wanted: &Followed,
 ) -> Result<bool, NoMemory> {
     let guide = guide_to(alloc, first)?;
     let again = race_fresh(rt, alloc, program, &guide, feed)?;
-    let receipts = again.receipts.as_slice();
+    let receipts = again.did.receipts.as_slice();
     let told = told_at(receipts, 0) == wanted.told && told_at(receipts, 1) == wanted.told;
     let outcome = outcome_of(alloc, program, feed.inputs, &again)?;
-    Ok(told && begins_with(receipts, first) && outcome == wanted.outcome)
+    Ok(told && begins_with(receipts, &first.receipts) && outcome == wanted.outcome)
 }
 
 /// The time of the second round.

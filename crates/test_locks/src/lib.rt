@@ -22,6 +22,8 @@ mod racing;
 #[cfg(test)]
 mod rounds;
 #[cfg(test)]
+mod steps;
+#[cfg(test)]
 mod turns;
 #[cfg(test)]
 mod weaves;

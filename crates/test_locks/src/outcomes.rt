@@ -3,13 +3,13 @@ ghost use Rattle.std.specs.Prelude.{◌≡◌, ◌<◌, length};
 ghost use Rattle.box_program.specs.Hands.{FitsProgram};
 ghost use Rattle.master_core.specs.Mastered.{value_of};
 
+use crate::rounds::Raced;
 use crate::weaving::{is_legal, woven};
 use box_program::Program;
 use input_logger::InputLog;
 use master_core::{Counts, Master};
 use plain_text::{NoMemory, Text};
 use std::alloc::Global;
-use var_locks::Closed;
 
 /// What a round of two threads came to.
 #[derive(Clone, Copy, PartialEq)]
@@ -27,14 +27,14 @@ pub fn outcome_of<P: Program>(
     alloc: Global,
     program: &P,
     inputs: &InputLog,
-    closed: &Closed<P>,
+    raced: &Raced<P>,
 ) -> Result<Outcome, NoMemory>
-    requires { length closed.now.master.threads ≡ 2 }
+    requires { length raced.now.master.threads ≡ 2 }
 {
-    let steps = woven(alloc, &closed.receipts)?;
+    let steps = woven(alloc, &raced.did)?;
     let steps = steps.as_slice();
     Ok(Outcome {
-        counts: [closed.master.counts(0), closed.master.counts(1)],
+        counts: [raced.master.counts(0), raced.master.counts(1)],
         moves: steps.len(),
         legal: is_legal(alloc, program, inputs, steps)?,
     })

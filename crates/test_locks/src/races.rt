@@ -9,8 +9,8 @@ ghost use Rattle.test_locks.specs.Racing.{IsSeatIn};
 
 use crate::inputs::inputs_of;
 use crate::outcomes::{Outcome, outcome_of, shows};
-use crate::racing::{Feed, run};
-use crate::rounds::{close_two, open_two};
+use crate::racing::{Feed, Ran, run};
+use crate::rounds::{Raced, close_two, open_two};
 use box_program::Program;
 use master_core::{Counts, Master};
 use monitor_box::MonitorBox;
@@ -24,7 +24,7 @@ use std::sync::Wait;
 use std::test::Fail;
 use std::thread;
 use std::thread::Threads;
-use var_locks::{Closed, Round, VarSeat, Vars};
+use var_locks::{Round, VarSeat, Vars};
 
 /// Both threads take their inputs to their ends, at once or one after the other.
 fn run_both<P: Program + Sync, J: Round + Sync, R: Threads + Wait + Sync>(
@@ -36,14 +36,14 @@ fn run_both<P: Program + Sync, J: Round + Sync, R: Threads + Wait + Sync>(
     first: VarSeat<P>,
     second: VarSeat<P>,
     feed: Feed<'_>,
-) -> (VarSeat<P>, VarSeat<P>)
+) -> (Ran<P>, Ran<P>)
     requires of { AreVarsOf P.meaning P.row.coded P.Value.row.coded program.now vars.now }
     requires guide { guide.now ≡ J.guide }
     requires two { vars.now.threads ≡ 2 }
     requires first { IsSeatIn vars.now.round 0 false first }
     requires second { IsSeatIn vars.now.round 1 false second }
-    ensures first { IsSeatIn vars.now.round 0 true result.0 }
-    ensures second { IsSeatIn vars.now.round 1 true result.1 }
+    ensures first { IsSeatIn vars.now.round 0 true result.0.seat }
+    ensures second { IsSeatIn vars.now.round 1 true result.1.seat }
 {
     if !feed.at_once {
         let first = run(rt, alloc, program, vars, guide, 0, first, feed);
@@ -51,17 +51,17 @@ fn run_both<P: Program + Sync, J: Round + Sync, R: Threads + Wait + Sync>(
     }
     thread::join(
         rt,
-        move || -> VarSeat<P>
+        move || -> Ran<P>
             requires { AreVarsOf P.meaning P.row.coded P.Value.row.coded program.now vars.now
                 × (guide.now ≡ J.guide) × (vars.now.threads ≡ 2)
                 × IsSeatIn vars.now.round 0 false first }
-            ensures { IsSeatIn vars.entry.now.round 0 true result }
+            ensures { IsSeatIn vars.entry.now.round 0 true result.seat }
         { run(rt, alloc, program, vars, guide, 0, first, feed) },
-        move || -> VarSeat<P>
+        move || -> Ran<P>
             requires { AreVarsOf P.meaning P.row.coded P.Value.row.coded program.now vars.now
                 × (guide.now ≡ J.guide) × (vars.now.threads ≡ 2)
                 × IsSeatIn vars.now.round 1 false second }
-            ensures { IsSeatIn vars.entry.now.round 1 true result }
+            ensures { IsSeatIn vars.entry.now.round 1 true result.seat }
         { run(rt, alloc, program, vars, guide, 1, second, feed) },
     )
 }
@@ -74,7 +74,7 @@ fn race_of<P: Program + Sync, J: Round + Sync, R: Threads + Wait + Sync>(
     master: Master<P>,
     guide: &Guide,
     feed: Feed<'_>,
-) -> Result<Closed<P>, NoMemory>
+) -> Result<Raced<P>, NoMemory>
     requires program { P.row.coded.code program.now ≡ J.program }
     requires master { (master_code P.Value.row.coded).code master ≡ J.opening }
     requires threads { master.threads ≡ J.threads }
@@ -82,9 +82,9 @@ fn race_of<P: Program + Sync, J: Round + Sync, R: Threads + Wait + Sync>(
     requires guide { guide.now ≡ J.guide }
     requires fits { FitsProgram (P.meaning program.now) (P.fits program.now) value_of master.vars }
     requires two { length master.threads ≡ 2 }
-    ensures fits { IfOk result (λ closed. FitsProgram (P.meaning program.now) (P.fits program.now)
-        value_of closed.master.vars) }
-    ensures two { IfOk result (λ closed. length closed.master.threads ≡ 2) }
+    ensures fits { IfOk result (λ raced. FitsProgram (P.meaning program.now) (P.fits program.now)
+        value_of raced.master.vars) }
+    ensures two { IfOk result (λ raced. length raced.master.threads ≡ 2) }
 {
     let (vars, first, second) = open_two::<P, J>(alloc, program, master, guide)?;
     let (first, second) = run_both(rt, alloc, program, &vars, guide, first, second, feed);
@@ -99,12 +99,12 @@ fn race<P: Program + Sync, R: Threads + Wait + Sync>(
     master: Master<P>,
     guide: &Guide,
     feed: Feed<'_>,
-) -> Result<Closed<P>, NoMemory>
+) -> Result<Raced<P>, NoMemory>
     requires fits { FitsProgram (P.meaning program.now) (P.fits program.now) value_of master.vars }
     requires two { length master.threads ≡ 2 }
-    ensures fits { IfOk result (λ closed. FitsProgram (P.meaning program.now) (P.fits program.now)
-        value_of closed.master.vars) }
-    ensures two { IfOk result (λ closed. length closed.master.threads ≡ 2) }
+    ensures fits { IfOk result (λ raced. FitsProgram (P.meaning program.now) (P.fits program.now)
+        value_of raced.master.vars) }
+    ensures two { IfOk result (λ raced. length raced.master.threads ≡ 2) }
 {
     race_of::<P, Brand, R>(rt, alloc, program, master, guide, feed)
 }
@@ -116,10 +116,10 @@ pub fn race_fresh<P: Program + Sync, R: Threads + Wait + Sync>(
     program: &P,
     guide: &Guide,
     feed: Feed<'_>,
-) -> Result<Closed<P>, NoMemory>
-    ensures fits { IfOk result (λ closed. FitsProgram (P.meaning program.now) (P.fits program.now)
-        value_of closed.master.vars) }
-    ensures two { IfOk result (λ closed. length closed.master.threads ≡ 2) }
+) -> Result<Raced<P>, NoMemory>
+    ensures fits { IfOk result (λ raced. FitsProgram (P.meaning program.now) (P.fits program.now)
+        value_of raced.master.vars) }
+    ensures two { IfOk result (λ raced. length raced.master.threads ≡ 2) }
 {
     let master = Master::fresh(alloc, program, 2)?;
     race(rt, alloc, program, master, guide, feed)
@@ -134,10 +134,10 @@ fn raced_with<P: Program + Sync, R: Threads + Wait + Sync>(
     wanted: &Outcome,
     shown: (u32, &str),
 ) -> Result<bool, NoMemory> {
-    let closed = race_fresh(rt, alloc, program, &Guide::none(alloc), feed)?;
+    let raced = race_fresh(rt, alloc, program, &Guide::none(alloc), feed)?;
     let (var, text) = shown;
-    let shows = shows(alloc, program, &closed.master, var, text)?;
-    Ok(shows && outcome_of(alloc, program, feed.inputs, &closed)? == *wanted)
+    let shows = shows(alloc, program, &raced.master, var, text)?;
+    Ok(shows && outcome_of(alloc, program, feed.inputs, &raced)? == *wanted)
 }
 
 /// Whether a race of two threads, each with this number of packets of one of these frames, comes to this, and the

@@ -3,9 +3,10 @@ ghost use Rattle.std.specs.Prelude.{◌≡◌, ℕ, ◌<◌, ◌^◌, false, tru
 ghost use Rattle.var_locks.specs.Rounds.{AreVarsOf};
 ghost use Rattle.test_locks.specs.Racing.{IsSeatIn};
 
+use crate::steps::add;
 use box_program::Program;
 use input_logger::InputLog;
-use master_core::Stepped;
+use master_core::{Stepped, Woven};
 use plain_text::Packet;
 use replay_guide::Guide;
 use std::alloc::Global;
@@ -31,6 +32,13 @@ pub struct Feed<'a> {
     pub time: u64,
     /// Whether the threads race; else the second begins where the first has ended.
     pub at_once: bool,
+}
+
+/// A seat whose thread was run, and what it was answered.
+#[derive(Drop)]
+pub struct Ran<P: Program> {
+    pub seat: VarSeat<P>,
+    pub did: Woven,
 }
 
 /// Makes the next move of the seat's thread. A clock or a draw is told the time of its packet. Out of memory also where
@@ -68,7 +76,7 @@ fn make<P: Program, J: Round, R: Wait>(
     vars.plain(alloc, program, seat, guide, told, Some(packet))
 }
 
-/// Takes a packet to its end; whether it came there.
+/// Takes a packet to its end, and adds the moves to what the thread did; whether it came there.
 fn run_one<P: Program, J: Round, R: Wait>(
     rt: &R,
     alloc: Global,
@@ -77,6 +85,7 @@ fn run_one<P: Program, J: Round, R: Wait>(
     guide: &Guide,
     thread: u32,
     seat: &mut VarSeat<P>,
+    did: &mut Woven,
     packet: &Packet,
     time: u64,
 ) -> bool
@@ -87,10 +96,12 @@ fn run_one<P: Program, J: Round, R: Wait>(
     ensures seat { IsSeatIn vars.now.round thread false seat.new }
 {
     for _made in 0..MOST_MOVES {
-        match make(rt, alloc, program, vars, guide, thread, seat, packet, time) {
-            Stepped::Ended(_) => return true,
-            Stepped::Took(_) | Stepped::Did(_) | Stepped::Emitted(_) => {}
-            Stepped::Idle | Stepped::NotTurn { .. } | Stepped::NoMemory => return false,
+        let stepped = make(rt, alloc, program, vars, guide, thread, seat, packet, time);
+        let Ok(true) = add(did, thread, &stepped) else {
+            return false;
+        };
+        if let Stepped::Ended(_) = stepped {
+            return true;
         }
     }
     false
@@ -106,23 +117,24 @@ pub fn run<P: Program, J: Round, R: Wait>(
     thread: u32,
     mut seat: VarSeat<P>,
     feed: Feed<'_>,
-) -> VarSeat<P>
+) -> Ran<P>
     requires of { AreVarsOf P.meaning P.row.coded P.Value.row.coded program.now vars.now }
     requires guide { guide.now ≡ J.guide }
     requires low { thread < vars.now.threads }
     requires seat { IsSeatIn vars.now.round thread false seat }
-    ensures seat { IsSeatIn vars.now.round thread true result }
+    ensures seat { IsSeatIn vars.now.round thread true result.seat }
 {
+    let mut did = Woven::new(alloc);
     for number in 0..feed.count {
         let Some(packet) = feed.inputs.input(thread, number + 1) else {
             break;
         };
         if !run_one(
-            rt, alloc, program, vars, guide, thread, &mut seat, packet, feed.time,
+            rt, alloc, program, vars, guide, thread, &mut seat, &mut did, packet, feed.time,
         ) {
             break;
         }
     }
     vars.end(program, &mut seat);
-    seat
+    Ran { seat, did }
 }

@@ -2,6 +2,7 @@
 use crate::inputs::inputs_of;
 use crate::races::race_fresh;
 use crate::racing::Feed;
+use crate::steps::Did;
 use access_log::{StampedEntry, What};
 use box_program::Program;
 use input_logger::InputLog;
@@ -23,15 +24,15 @@ pub fn take_one_each<P: Program + Sync, R: Threads + Wait + Sync>(
     alloc: Global,
     program: &P,
     inputs: &InputLog,
-) -> Result<Vec<Woven>, NoMemory> {
+) -> Result<Did, NoMemory> {
     let feed = Feed {
         inputs,
         count: 1,
         time: 0,
         at_once: false,
     };
-    let closed = race_fresh(rt, alloc, program, &Guide::none(alloc), feed)?;
-    Ok(closed.receipts)
+    let raced = race_fresh(rt, alloc, program, &Guide::none(alloc), feed)?;
+    Ok(raced.did)
 }
 
 /// The stamp of which these are the components of threads 0 and 1.
@@ -89,9 +90,9 @@ fn did(receipts: &[Woven], thread: usize, wanted: &[Trace]) -> bool {
 /// Whether each thread does what is wanted of it.
 fn take_turns_as_wanted<R: Threads + Wait + Sync>(rt: &R, alloc: Global) -> Result<bool, NoMemory> {
     let inputs = inputs_of(alloc, [&QUERY, &OTHER_QUERY], 1)?;
-    let receipts = take_one_each(rt, alloc, &MonitorBox::new(2), &inputs)?;
+    let made = take_one_each(rt, alloc, &MonitorBox::new(2), &inputs)?;
     let [first, second] = wanted();
-    Ok(did(&receipts, 0, &first) && did(&receipts, 1, &second))
+    Ok(did(&made.receipts, 0, &first) && did(&made.receipts, 1, &second))
 }
 
 /// Each thread touches a table of its own at place 1, and then the totals.

@@ -1,17 +1,16 @@
 -- The seats of a round come together.
-use Rattle.std.proofs.Common.{◌≡◌, ℕ, ◌+◌, inl, inr, List, [], ◌∷◌, ◌++◌, refl, sym, ap, ◌∙◌, subst}
+use Rattle.std.proofs.Common.{◌≡◌, ℕ, ◌+◌, inl, inr, List, [], ◌∷◌, ◌++◌, Option, refl, sym, ap, ◌∙◌, subst}
 use Rattle.master_core.specs.declared.parts.VarPart.{VarPart}
-use Rattle.master_core.specs.declared.step.WovenStep.{WovenStep}
 use Rattle.atomic_table.specs.Table.{Me}
 use Rattle.atomic_table.specs.Seated.{TableId}
 use Rattle.var_locks.specs.declared.view.Note.{Note}
 use Rattle.var_locks.specs.declared.view.Share.{Share}
 use Rattle.var_locks.specs.declared.view.MissedEntry.{MissedEntry}
 use Rattle.var_locks.specs.declared.view.View.{View}
-use Rattle.var_locks.specs.Notes.{steps_of}
+use Rattle.var_locks.specs.Notes.{marks_of}
 use Rattle.var_locks.specs.Views.{HasShare, IsMissed, joined_view}
 use Rattle.var_locks.specs.Seats.{Seated, IsKept, first_notes}
-use Rattle.var_locks.specs.Closing.{AreSeats, HasSeat, HasSeats, seat_steps}
+use Rattle.var_locks.specs.Closing.{AreSeats, HasSeat, HasSeats, seat_marks}
 
 share_left : {V : Type 0} (l k : List (Share V)) (x : Share V) → HasShare x l → HasShare x (l ++ k)
 share_left [] k x h = absurd h
@@ -43,8 +42,8 @@ seats_stay w u (x ∷ others) (one, has) = (
   seats_stay w u others has,
 )
 
-module _ {V : Type 0} (x : Seated V) (me : Me (VarPart V) (View V)) (receipts : List WovenStep)
-    (kept : IsKept me x.thread x.part x.seen receipts x.ended) (notes : first_notes me.0.shares ≡ x.notes)
+module _ {V : Type 0} (x : Seated V) (me : Me (VarPart V) (View V)) (marks : List (Option ℕ))
+    (kept : IsKept me x.thread x.part x.seen marks x.ended) (notes : first_notes me.0.shares ≡ x.notes)
     (missing : me.0.missing ≡ x.missing) where
   -- a token has its seat
   pub own_seat : HasSeat me.0 x
@@ -64,8 +63,8 @@ module _ {V : Type 0} (x : Seated V) (me : Me (VarPart V) (View V)) (receipts : 
         missing = λ e named. missed_left me.0.missing w.missing e (k.missing e named);
       }
 
-  pub own_steps : receipts ≡ seat_steps x
-  own_steps = kept.receipts_are ∙ ap (steps_of x.thread) notes
+  pub own_marks : marks ≡ seat_marks x
+  own_marks = kept.marks_are ∙ ap marks_of notes
 
 -- the seat at the end of a list of seats
 pub last_seat : {V : Type 0} (round : TableId) (t : ℕ) (rest : List (Seated V)) (x : Seated V) (done : List (Seated V))

@@ -1,14 +1,13 @@
 -- A seat's token has what the seat keeps, before its move and after it.
-use Rattle.std.proofs.Common.{◌≡◌, ℕ, Bool, List, [], ◌∷◌, ◌++◌, refl, sym, ap, ◌∙◌, subst}
+use Rattle.std.proofs.Common.{◌≡◌, ℕ, Bool, List, [], ◌∷◌, ◌++◌, Option, refl, sym, ap, ◌∙◌, subst}
 use Rattle.master_core.specs.declared.parts.VarPart.{VarPart}
 use Rattle.master_core.specs.declared.parts.ThreadPart.{ThreadPart}
-use Rattle.master_core.specs.declared.step.WovenStep.{WovenStep}
 use Rattle.atomic_table.specs.Table.{Me}
 use Rattle.atomic_table.specs.Seated.{TableId}
 use Rattle.var_locks.specs.declared.view.Note.{Note}
 use Rattle.var_locks.specs.declared.view.Share.{Share}
 use Rattle.var_locks.specs.declared.view.View.{View}
-use Rattle.var_locks.specs.Notes.{step_of, steps_of}
+use Rattle.var_locks.specs.Notes.{mark_in, marks_of}
 use Rattle.var_locks.specs.Views.{noted_view, note_shares, seen_after}
 use Rattle.var_locks.specs.Seats.{Seated, IsCounted, IsKept, first_notes}
 
@@ -25,13 +24,13 @@ seat_of me thread part seen ended round = record {
 }
 
 module _ {V : Type 0} (me : Me (VarPart V) (View V)) (thread : ℕ) (part : ThreadPart) (seen : List ℕ)
-    (did : List WovenStep) (ended : Bool) (kept : IsKept me thread part seen did ended) where
+    (marks : List (Option ℕ)) (ended : Bool) (kept : IsKept me thread part seen marks ended) where
   -- the notes of the token with one more
   pub notes_more : (n : Note V) → first_notes (note_shares me.0.shares n) ≡ n ∷ first_notes me.0.shares
   notes_more n = ap (λ (l : List (Share V)). first_notes (note_shares l n)) kept.alone
 
   pub kept_more : (n : Note V) → seen_after me.0.seen n.trace ≡ seen → IsCounted n.after
-      → IsKept (noted_view me.0 n, me.1) thread n.after seen (did ++ step_of thread n ∷ []) ended
+      → IsKept (noted_view me.0 n, me.1) thread n.after seen (marks ++ mark_in n.trace ∷ []) ended
   kept_more n unseen counted = record {
     alone =
         ap (λ (l : List (Share V)). note_shares l n) kept.alone
@@ -41,19 +40,19 @@ module _ {V : Type 0} (me : Me (VarPart V) (View V)) (thread : ℕ) (part : Thre
     empty = refl;
     slots = kept.slots;
     seen_is = unseen;
-    receipts_are =
-        ap (λ (l : List WovenStep). l ++ step_of thread n ∷ []) kept.receipts_are
-        ∙ ap (steps_of thread) (sym (notes_more n));
+    marks_are =
+        ap (λ (l : List (Option ℕ)). l ++ mark_in n.trace ∷ []) kept.marks_are
+        ∙ ap marks_of (sym (notes_more n));
     counted = counted;
   }
 
-  -- what the seat keeps after a move on no variable, of which the token and the steps have the note
+  -- what the seat keeps after a move on no variable, of which the token has the note and the marks have the mark
   pub kept_noted : (n : Note V) → seen_after me.0.seen n.trace ≡ me.0.seen → IsCounted n.after
-      → (new : Me (VarPart V) (View V)) → new ≡ (noted_view me.0 n, me.1) → (now : List WovenStep)
-      → now ≡ did ++ step_of thread n ∷ [] → IsKept new thread n.after seen now ended
-  kept_noted n unseen counted new token now steps =
+      → (new : Me (VarPart V) (View V)) → new ≡ (noted_view me.0 n, me.1) → (now : List (Option ℕ))
+      → now ≡ marks ++ mark_in n.trace ∷ [] → IsKept new thread n.after seen now ended
+  kept_noted n unseen counted new token now marked =
       subst (λ (z : Me (VarPart V) (View V)). IsKept z thread n.after seen now ended) (sym token)
-      (subst (λ (l : List WovenStep). IsKept (noted_view me.0 n, me.1) thread n.after seen l ended) (sym steps)
+      (subst (λ (l : List (Option ℕ)). IsKept (noted_view me.0 n, me.1) thread n.after seen l ended) (sym marked)
       (kept_more n (unseen ∙ kept.seen_is) counted))
 
   -- and what is seen of it

@@ -1,12 +1,11 @@
 -- A seat after a touch or a read.
-use Rattle.std.proofs.Common.{◌≡◌, ◌<◌, ◌≤◌, ◌^◌, ℕ, false, List, [], ◌∷◌, ◌++◌, refl, sym, ap, ◌∙◌, subst}
+use Rattle.std.proofs.Common.{◌≡◌, ◌<◌, ◌≤◌, ◌^◌, ℕ, false, List, [], ◌∷◌, ◌++◌, Option, refl, sym, ap, ◌∙◌, subst}
 use Rattle.std.specs.Prelude.{slice_index}
 use Rattle.access_log.specs.Held.{Lane}
 use Rattle.plain_machine.specs.Program.{Meaning}
 use Rattle.master_core.specs.declared.parts.VarPart.{VarPart}
 use Rattle.master_core.specs.declared.parts.ThreadPart.{ThreadPart}
 use Rattle.master_core.specs.declared.step.Trace.TheVariants as trace
-use Rattle.master_core.specs.declared.step.WovenStep.{WovenStep}
 use Rattle.master_core.specs.Mastered.{moves_made}
 use Rattle.atomic_table.specs.Table.{Me}
 use Rattle.atomic_table.specs.Seated.{TableId}
@@ -16,70 +15,71 @@ use Rattle.var_locks.specs.declared.view.Note.{Note}
 use Rattle.var_locks.specs.declared.view.Share.{Share}
 use Rattle.var_locks.specs.declared.view.MissedEntry.{MissedEntry}
 use Rattle.var_locks.specs.declared.view.View.{View}
-use Rattle.var_locks.specs.Notes.{IsOnVariable, step_of, steps_of}
+use Rattle.var_locks.specs.Notes.{IsOnVariable, mark_in, marks_of}
 use Rattle.var_locks.specs.declared.touching.Access.{Access}
 use Rattle.var_locks.specs.Views.{with_hand, empty_hand, missed_view, noted_view, note_on, note_shares, seen_after}
 use Rattle.var_locks.specs.Views.{sees_what}
 use Rattle.var_locks.specs.Seats.{Seated, IsCounted, IsKept, first_notes}
-use Rattle.var_locks.specs.TouchedParts.{Comes, Touches, missed_at, seen_by, did_by}
+use Rattle.var_locks.specs.TouchedParts.{Comes, Touches, missed_at, seen_by, marked_by}
 use Rattle.var_locks.proofs.KeptSeats.{notes_more, seat_of}
 use Rattle.var_locks.proofs.Bounding.{on_counted}
 use Rattle.var_locks.proofs.SlotLists.{first_same}
 
 module _ {V : Type 0} (me : Me (VarPart V) (View V)) (a : Access) (part : ThreadPart) (seen : List ℕ)
-    (did : List WovenStep) (kept : IsKept me a.thread part seen did false) (x : VarPart V) where
+    (marks : List (Option ℕ)) (kept : IsKept me a.thread part seen marks false) (x : VarPart V) where
   on_kept : (n : Note V) → IsCounted n.after
       → IsKept (noted_view (with_hand me.0 a.var x) n, []) a.thread n.after (seen_after seen n.trace)
-      (did ++ step_of a.thread n ∷ []) false
+      (marks ++ mark_in n.trace ∷ []) false
   on_kept n counted = record {
     alone =
         ap (λ (l : List (Share V)). note_shares l n) kept.alone
         ∙ ap (λ (l : List (Note V)).
         (let y : Share V = record { thread = a.thread; notes = l; part = n.after; ended = false } in y) ∷ [])
-        (sym (notes_more me a.thread part seen did false kept n));
+        (sym (notes_more me a.thread part seen marks false kept n));
     empty = refl;
     slots = refl;
     seen_is = ap (λ (s : List ℕ). seen_after s n.trace) kept.seen_is;
-    receipts_are =
-        ap (λ (l : List WovenStep). l ++ step_of a.thread n ∷ []) kept.receipts_are
-        ∙ ap (steps_of a.thread) (sym (notes_more me a.thread part seen did false kept n));
+    marks_are =
+        ap (λ (l : List (Option ℕ)). l ++ mark_in n.trace ∷ []) kept.marks_are
+        ∙ ap marks_of (sym (notes_more me a.thread part seen marks false kept n));
     counted = counted;
   }
 
   module _ (m : Meaning V) (guide : List Lane) (after : ThreadPart) (new : Me (VarPart V) (View V)) where
     left_kept : new ≡ (empty_hand (with_hand me.0 a.var x), []) → after ≡ part
-        → IsKept new a.thread after seen did false
-    left_kept token same = subst (λ (z : Me (VarPart V) (View V)). IsKept z a.thread after seen did false) (sym token)
-        (subst (λ (z : ThreadPart). IsKept (empty_hand (with_hand me.0 a.var x), []) a.thread z seen did false)
+        → IsKept new a.thread after seen marks false
+    left_kept token same = subst (λ (z : Me (VarPart V) (View V)). IsKept z a.thread after seen marks false) (sym token)
+        (subst (λ (z : ThreadPart). IsKept (empty_hand (with_hand me.0 a.var x), []) a.thread z seen marks false)
         (sym same) (record {
           alone = kept.alone;
           empty = refl;
           slots = refl;
           seen_is = kept.seen_is;
-          receipts_are = kept.receipts_are;
+          marks_are = kept.marks_are;
           counted = kept.counted;
         }))
 
     missed_kept : (e : MissedEntry) → new ≡ (empty_hand (missed_view (with_hand me.0 a.var x) e), []) → after ≡ part
-        → IsKept new a.thread after seen did false
+        → IsKept new a.thread after seen marks false
     missed_kept e token same =
-        subst (λ (z : Me (VarPart V) (View V)). IsKept z a.thread after seen did false) (sym token) (subst
-        (λ (z : ThreadPart). IsKept (empty_hand (missed_view (with_hand me.0 a.var x) e), []) a.thread z seen did false)
+        subst (λ (z : Me (VarPart V) (View V)). IsKept z a.thread after seen marks false) (sym token)
+        (subst (λ (z : ThreadPart).
+        IsKept (empty_hand (missed_view (with_hand me.0 a.var x) e), []) a.thread z seen marks false)
         (sym same) (record {
           alone = kept.alone;
           empty = refl;
           slots = refl;
           seen_is = kept.seen_is;
-          receipts_are = kept.receipts_are;
+          marks_are = kept.marks_are;
           counted = kept.counted;
         }))
 
     -- what the seat keeps after a touch or a read
     pub comes_kept : moves_made part < 2 ^ 56 → (r : Touched)
         → Comes m guide a part after (with_hand me.0 a.var x, (a.var, x) ∷ []) new r
-        → IsKept new a.thread after (seen_by seen r) (did_by a.thread did r) false
+        → IsKept new a.thread after (seen_by seen r) (marked_by marks r) false
     comes_kept room (touched.Did e) (y, slots, made) = subst (λ (z : Me (VarPart V) (View V)).
-        IsKept z a.thread after (sees_what seen e.what) (did_by a.thread did (touched.Did e)) false) (sym made.token)
+        IsKept z a.thread after (sees_what seen e.what) (marked_by marks (touched.Did e)) false) (sym made.token)
         (on_kept (note_on part after (trace.Did e) (with_hand me.0 a.var x))
         (on_counted m a.thread (note_on part after (trace.Did e) (with_hand me.0 a.var x)) kept.counted room a.var y
         made.left made.place e made.on))
@@ -116,7 +116,7 @@ module _ {V : Type 0} (me : Me (VarPart V) (View V)) (a : Access) (part : Thread
                 round = round;
               } in
               s)
-              (notes_more me a.thread part seen did false kept
+              (notes_more me a.thread part seen marks false kept
               (note_on part after (trace.Did e) (with_hand me.0 a.var x)));
         }
     comes_touches round above (touched.Blocked u k) made = record {

@@ -1,6 +1,6 @@
 -- What a round comes to: whatever the seats did is one legal run.
 use Rattle.std.specs.Prelude.{◌≡◌, ℕ, ◌+◌, ◌<◌, ◌≤◌, ◌⊎◌, true, cond, nat_eq, Ok}
-use Rattle.std.specs.Prelude.{List, [], ◌∷◌, map, length, slice_index_or}
+use Rattle.std.specs.Prelude.{List, [], ◌∷◌, Option, map, length, slice_index_or}
 use Rattle.plain_text.specs.declared.packet.Packet.{Packet}
 use Rattle.entry_order.specs.declared.what.What.{What}
 use Rattle.access_log.specs.Held.{Lane}
@@ -10,7 +10,6 @@ use Rattle.plain_machine.specs.History.{Step, play}
 use Rattle.box_program.specs.Hands.{FitsProgram}
 use Rattle.master_core.specs.declared.parts.VarPart.{VarPart}
 use Rattle.master_core.specs.declared.parts.ThreadPart.{ThreadPart}
-use Rattle.master_core.specs.declared.step.WovenStep.{WovenStep}
 use Rattle.master_core.specs.Mastered.{Mastered, IsBounded, value_of}
 use Rattle.master_core.specs.MasterStanding.{Stands}
 use Rattle.replay_guide.specs.Following.{Follows}
@@ -21,7 +20,7 @@ use Rattle.round_order.specs.Woven.{IsWoven, GoesOn}
 use Rattle.var_locks.specs.declared.view.Note.{Note}
 use Rattle.var_locks.specs.declared.view.MissedEntry.{MissedEntry}
 use Rattle.var_locks.specs.declared.view.View.{View}
-use Rattle.var_locks.specs.Notes.{read_notes, AreFed, steps_of}
+use Rattle.var_locks.specs.Notes.{read_notes, AreFed, marks_of}
 use Rattle.var_locks.specs.Views.{HasShare, IsMissed}
 use Rattle.var_locks.specs.Seats.{Seated}
 
@@ -42,9 +41,9 @@ HasSeats w (x ∷ others) = HasSeat w x × HasSeats w others
 abbrev pub seat_part : {V : Type 0} → Seated V → ThreadPart
 seat_part x = x.part
 
--- what the seat's thread did, oldest first
-abbrev pub seat_steps : {V : Type 0} → Seated V → List WovenStep
-seat_steps x = steps_of x.thread x.notes
+-- the marks of what the seat's thread did, oldest first
+abbrev pub seat_marks : {V : Type 0} → Seated V → List (Option ℕ)
+seat_marks x = marks_of x.notes
 
 -- the notes of a thread
 abbrev pub notes_at : {V : Type 0} → List (Seated V) → ℕ → List (Note V)

@@ -1,7 +1,7 @@
 -- What a note tells of the move of a thread: what it did to the part of its thread and to what it found, the receipt
 -- that it is in a run, and how it keeps to what is followed.
 use Rattle.std.specs.Prelude.{◌≡◌, ℕ, ◌+◌, ◌-◌, ◌⊎◌, Bool, true, false, List, [], ◌∷◌, ◌++◌, Option, Some, None, cond}
-use Rattle.std.specs.Prelude.{is_some, slice_get}
+use Rattle.std.specs.Prelude.{◌%◌, ◌^◌, is_some, slice_get}
 use Rattle.plain_text.specs.declared.packet.Packet.{Packet}
 use Rattle.entry_order.specs.declared.what.What.{What}
 use Rattle.entry_order.specs.declared.what.What.TheVariants as what
@@ -16,9 +16,9 @@ use Rattle.master_core.specs.declared.parts.VarPart.{VarPart}
 use Rattle.master_core.specs.declared.parts.ThreadPart.{ThreadPart}
 use Rattle.master_core.specs.declared.step.Trace.{Trace}
 use Rattle.master_core.specs.declared.step.Trace.TheVariants as trace
-use Rattle.master_core.specs.declared.step.WovenStep.{WovenStep}
 use Rattle.master_core.specs.Effects.{TouchesParts, ReadsParts, HearsPart, after_take, after_emit, after_end}
 use Rattle.replay_guide.specs.Following.{recorded}
+use Rattle.replay_guide.specs.Orders.{weight_of}
 use Rattle.replay_guide.specs.Turns.{IsFollowed, IsFree}
 use Rattle.round_order.specs.Receipts.{Receipt, after}
 use Rattle.round_order.specs.PartMoves.{take_receipt, emit_receipt, end_receipt, hear_receipt, touch_receipt}
@@ -197,11 +197,15 @@ answer_in (trace.Did e) = told_by e.what
 answer_in (trace.Emitted k) = None
 answer_in (trace.Ended k) = None
 
--- the move and what it left
-abbrev pub step_of : {V : Type 0} → ℕ → Note V → WovenStep
-step_of t n = record { moved = record { thread = t; answer = answer_in n.trace }; trace = n.trace }
+-- The mark of a move, by what it left: the weight of its entry, where it is logged. A mark has 64 bits, so the weight
+-- is taken modulo 2^64; the weights of every run within the limits are far below.
+abbrev pub mark_in : Trace → Option ℕ
+mark_in (trace.Took k) = None
+mark_in (trace.Did e) = Some (weight_of e % 2 ^ 64)
+mark_in (trace.Emitted k) = None
+mark_in (trace.Ended k) = None
 
--- those of the notes of thread t, oldest first
-abbrev pub steps_of : {V : Type 0} → ℕ → List (Note V) → List WovenStep
-steps_of t [] = []
-steps_of t (n ∷ notes) = steps_of t notes ++ step_of t n ∷ []
+-- the marks of the notes of a thread, oldest first
+abbrev pub marks_of : {V : Type 0} → List (Note V) → List (Option ℕ)
+marks_of [] = []
+marks_of (n ∷ notes) = marks_of notes ++ mark_in n.trace ∷ []

@@ -6,7 +6,6 @@ use Rattle.plain_machine.specs.Program.{Meaning}
 use Rattle.master_core.specs.declared.step.Trace.{Trace}
 use Rattle.master_core.specs.declared.parts.VarPart.{VarPart}
 use Rattle.master_core.specs.declared.parts.ThreadPart.{ThreadPart}
-use Rattle.master_core.specs.declared.step.WovenStep.{WovenStep}
 use Rattle.master_core.specs.Mastered.{in_hand_count, moves_made}
 use Rattle.atomic_table.specs.Table.{Me}
 use Rattle.atomic_table.specs.Seated.{TableId}
@@ -14,7 +13,7 @@ use Rattle.var_locks.specs.declared.view.Note.{Note}
 use Rattle.var_locks.specs.declared.view.Share.{Share}
 use Rattle.var_locks.specs.declared.view.MissedEntry.{MissedEntry}
 use Rattle.var_locks.specs.declared.view.View.{View}
-use Rattle.var_locks.specs.Notes.{IsOwn, IsGuided, own_note, steps_of}
+use Rattle.var_locks.specs.Notes.{IsOwn, IsGuided, own_note, marks_of}
 use Rattle.var_locks.specs.Rounds.{Opened}
 
 -- Its thread, with the part that it has now and the notes of its moves in the round, newest first; of each variable, as
@@ -42,15 +41,15 @@ pub record IsCounted (part : ThreadPart) : Type 0 where
   pub held : in_hand_count part.hand ≤ part.counts.taken
   pub made : moves_made part ≤ 2 ^ 56
 
--- The seat's token has its one thread, nothing in hand, and has seen what the seat keeps; and the seat keeps what the
--- moves left, with counts that are within their bounds.
+-- The seat's token has its one thread, nothing in hand, and has seen what the seat keeps; and the seat keeps the marks
+-- of the moves, with counts that are within their bounds.
 pub record IsKept {V : Type 0} (me : Me (VarPart V) (View V)) (thread : ℕ) (part : ThreadPart) (seen : List ℕ)
-    (receipts : List WovenStep) (ended : Bool) : Type 0 where
+    (marks : List (Option ℕ)) (ended : Bool) : Type 0 where
   pub alone : me.0.shares ≡ share_of me.0 thread part ended ∷ []
   pub empty : me.0.hand ≡ None
   pub slots : me.1 ≡ []
   pub seen_is : me.0.seen ≡ seen
-  pub receipts_are : receipts ≡ steps_of thread (first_notes me.0.shares)
+  pub marks_are : marks ≡ marks_of (first_notes me.0.shares)
   pub counted : IsCounted part
 
 -- the seat is of the round of these variables

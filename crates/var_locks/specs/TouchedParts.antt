@@ -5,11 +5,10 @@ use base.Stored.{Gv}
 use Rattle.std.specs.Coded.{Coded}
 use Rattle.access_log.specs.Held.{Lane}
 use Rattle.master_core.specs.declared.step.Trace.TheVariants as trace
-use Rattle.master_core.specs.declared.step.WovenStep.{WovenStep}
 use Rattle.atomic_table.specs.Table.{Me}
 use Rattle.var_locks.specs.declared.view.MissedEntry.{MissedEntry}
 use Rattle.var_locks.specs.declared.view.View.{View}
-use Rattle.var_locks.specs.Notes.{IsOnVariable, LetsPass, IsGuided, answer_in}
+use Rattle.var_locks.specs.Notes.{IsOnVariable, LetsPass, IsGuided, mark_in}
 use Rattle.var_locks.specs.declared.touching.Touched.{Touched}
 use Rattle.var_locks.specs.declared.touching.Touched.TheVariants as touched
 use Rattle.var_locks.specs.Views.{with_hand, empty_hand, missed_view, note_on, noted_view, sees_what}
@@ -218,9 +217,8 @@ seen_by seen (touched.Did e) = sees_what seen e.what
 seen_by seen (touched.Blocked u k) = seen
 seen_by seen touched.NoMemory = seen
 
--- what its thread did after it
-abbrev pub did_by : ℕ → List WovenStep → Touched → List WovenStep
-did_by t did (touched.Did e) =
-    did ++ (record { moved = record { thread = t; answer = answer_in (trace.Did e) }; trace = trace.Did e }) ∷ []
-did_by t did (touched.Blocked u k) = did
-did_by t did touched.NoMemory = did
+-- the marks of what its thread did after it
+abbrev pub marked_by : List (Option ℕ) → Touched → List (Option ℕ)
+marked_by marks (touched.Did e) = marks ++ mark_in (trace.Did e) ∷ []
+marked_by marks (touched.Blocked u k) = marks
+marked_by marks touched.NoMemory = marks

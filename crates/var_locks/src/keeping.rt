@@ -1,10 +1,12 @@
 //! A seat's own moves: those on no variable.
-ghost use Rattle.std.specs.Prelude.{◌≡◌, ℕ, ◌+◌, ◌<◌, OnOk, OnErr, IsTrue, IsSome, option_copied};
+ghost use Rattle.std.specs.Prelude.{◌≡◌, ℕ, ◌+◌, ◌%◌, ◌^◌, OnOk, OnErr, IsTrue, IsSome};
+ghost use Rattle.std.specs.Prelude.{option_copied};
 ghost use Rattle.std.specs.Prelude.{Some, None};
 ghost use Rattle.box_program.specs.Hands.{has_hand};
 ghost use Rattle.plain_machine.specs.declared.local.Move.TheVariants as move_is;
 ghost use Rattle.master_core.specs.Mastered.{WantsVariable};
-ghost use Rattle.var_locks.specs.Notes.{IsOwn, IsGuided, IsRecorded, own_note, answer_in};
+ghost use Rattle.replay_guide.specs.Orders.{weight_of};
+ghost use Rattle.var_locks.specs.Notes.{IsOwn, IsGuided, IsRecorded, own_note, mark_in};
 ghost use Rattle.var_locks.specs.Rounds.{AreVarsOf};
 ghost use Rattle.var_locks.specs.Seats.{MayMove, HasMade};
 ghost use Rattle.var_locks.specs.Plain.{Steps, IsAsked, IsFree};
@@ -15,36 +17,29 @@ use crate::vars::Vars;
 use crate::view::Round;
 use access_log::{StampedEntry, What};
 use box_program::Program;
-use master_core::{Stepped, ThreadPart, Trace, WovenStep, moves};
-use plain_machine::{Local, Move, PlainMove};
+use master_core::{Stepped, ThreadPart, Trace, moves};
+use plain_machine::{Local, Move};
 use plain_text::{NoMemory, Packet};
 use replay_guide::Guide;
 use std::alloc::Global;
 
-/// The answer that a move was told, by what it left.
-fn answer_of(trace: &Trace) -> Option<u64>
-    ensures { result ≡ answer_in trace.now }
+/// How many weights the marks of 64 bits tell apart.
+const MARKS: u128 = 1 << 64;
+
+/// The mark of an entry: its weight, modulo 2^64.
+pub(crate) fn mark_of_entry(entry: &StampedEntry) -> u64
+    ensures { result ≡ weight_of entry.now % 2 ^ 64 }
 {
-    match trace {
-        Trace::Did(entry) => match entry.what {
-            What::Clock(answer) | What::Draw(answer) => Some(answer),
-            What::Access { .. } | What::Read { .. } => None,
-        },
-        Trace::Took(_) | Trace::Emitted(_) | Trace::Ended(_) => None,
-    }
+    (entry.stamp.weight() % MARKS) as u64
 }
 
-/// The step of a thread that left this.
-pub(crate) fn step_of(thread: u32, trace: Trace) -> WovenStep
-    ensures { result ≡ record {
-      moved = record { thread = thread; answer = answer_in trace };
-      trace = trace;
-    } }
+/// The mark of a move, by what it left.
+fn mark_of(trace: &Trace) -> Option<u64>
+    ensures { result ≡ mark_in trace.now }
 {
-    let answer = answer_of(&trace);
-    WovenStep {
-        moved: PlainMove { thread, answer },
-        trace,
+    match trace {
+        Trace::Did(entry) => Some(mark_of_entry(entry)),
+        Trace::Took(_) | Trace::Emitted(_) | Trace::Ended(_) => None,
     }
 }
 
@@ -91,7 +86,7 @@ impl<P: Program, J: Round> Vars<P, J> {
             (option_copied input.entry) seat.new) }
         ensures left { OnErr result (seat.new ≡ seat.old) }
     {
-        seat.receipts.reserve(1)?;
+        seat.marks.reserve(1)?;
         let word = self.vars + seat.thread as usize;
         let made = Made {
             before: &seat.part,
@@ -106,7 +101,7 @@ impl<P: Program, J: Round> Vars<P, J> {
             made,
             input,
         );
-        seat.receipts.push_reserved(step_of(seat.thread, trace));
+        seat.marks.push_reserved(mark_of(&trace));
         seat.part = after;
         Ok(())
     }

@@ -15,7 +15,7 @@ mod view;
 
 pub use seats::VarSeat;
 pub use touching::{Gate, OpenGate, Touched};
-pub use vars::{Closed, Receipts, Vars};
+pub use vars::{Closed, Vars};
 pub use view::{
     Brought, Ended, Given, Held, Law, Missed, MissedEntry, Named, News, Note, Noted, Parted, Round,
     Share, Taken, View,

@@ -1,11 +1,11 @@
-//! The seats of a round: each is of one thread, with its part of the master and what it did in the round.
+//! The seats of a round: each is of one thread, with its part of the master and the marks of what it did in the round.
 ghost use Rattle.std.specs.Prelude.{◌≡◌, [], ◌∷◌};
 ghost use Rattle.var_locks.specs.Openings.{rest_view, fresh_seat};
 ghost use Rattle.var_locks.specs.Seats.{IsCounted, IsKept, first_notes};
 
 use crate::steps::Token;
 use box_program::Program;
-use master_core::{ThreadPart, WovenStep};
+use master_core::ThreadPart;
 use std::alloc::Global;
 use std::marker::Model;
 
@@ -17,8 +17,8 @@ pub struct VarSeat<P: Program> {
     pub(crate) part: ThreadPart,
     /// For each variable, the greatest number of its touches that the seat saw.
     pub(crate) seen: Vec<u64>,
-    /// What the thread did in the round, oldest first.
-    pub(crate) receipts: Vec<WovenStep>,
+    /// The marks of what the thread did in the round, oldest first.
+    pub(crate) marks: Vec<Option<u64>>,
     pub(crate) ended: bool,
 }
 
@@ -38,7 +38,7 @@ impl<P: Program> Model for VarSeat<P> {
     } };
 
     ghost invariant = { λ s.
-        IsKept s.token.me s.thread s.part s.seen.items s.receipts.items s.ended };
+        IsKept s.token.me s.thread s.part s.seen.items s.marks.items s.ended };
 }
 
 impl<P: Program> VarSeat<P> {
@@ -67,13 +67,13 @@ impl<P: Program> VarSeat<P> {
             thread,
             part,
             seen,
-            receipts: Vec::new(alloc),
+            marks: Vec::new(alloc),
             ended: false,
         }
     }
 
-    /// Its token, its part and what its thread did.
-    pub(crate) fn take_apart(self) -> (Token<P::Value>, ThreadPart, Vec<WovenStep>)
+    /// Its token, its part and the marks of what its thread did.
+    pub(crate) fn take_apart(self) -> (Token<P::Value>, ThreadPart, Vec<Option<u64>>)
         ensures kept { IsKept result.0.me self.thread self.part self.seen
             result.2.items self.ended }
         ensures told { (first_notes result.0.me.0.shares ≡ self.notes)
@@ -86,11 +86,11 @@ impl<P: Program> VarSeat<P> {
             thread: _,
             part,
             seen,
-            receipts,
+            marks,
             ended: _,
         } = self;
         drop(seen);
-        (token, part, receipts)
+        (token, part, marks)
     }
 
     /// Whether its thread ended the round.

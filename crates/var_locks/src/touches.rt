@@ -5,16 +5,15 @@ ghost use Rattle.plain_machine.specs.declared.local.Move.TheVariants as move_is;
 ghost use Rattle.master_core.specs.Mastered.{moves_made, WantsVariable};
 ghost use Rattle.var_locks.specs.Rounds.{AreVarsOf};
 ghost use Rattle.var_locks.specs.Seats.{IsSeatOf};
-ghost use Rattle.var_locks.specs.TouchedParts.{Touches, seen_by, did_by, wanted_move};
+ghost use Rattle.var_locks.specs.TouchedParts.{Touches, seen_by, marked_by, wanted_move};
 
-use crate::keeping::{copied, step_of};
+use crate::keeping::mark_of_entry;
 use crate::seats::VarSeat;
 use crate::touching::{Access, Gate, Setting, Touched};
 use crate::vars::Vars;
 use crate::view::Round;
 use access_log::What;
 use box_program::Program;
-use master_core::{Trace, WovenStep};
 use plain_machine::{Local, Move};
 use replay_guide::Guide;
 use std::alloc::Global;
@@ -44,13 +43,13 @@ fn see(seen: &mut Vec<u64>, touched: &Touched)
     }
 }
 
-/// What a touch or a read adds to what its thread did, for which there is room.
-fn note(did: &mut Vec<WovenStep>, thread: u32, touched: &Touched)
-    requires room { vec_len did.old < vec_capacity did.old }
-    ensures { did.new.items ≡ did_by thread did.old.items touched.now }
+/// The mark that a touch or a read adds to those of its thread, for which there is room.
+fn mark(marks: &mut Vec<Option<u64>>, touched: &Touched)
+    requires room { vec_len marks.old < vec_capacity marks.old }
+    ensures { marks.new.items ≡ marked_by marks.old.items touched.now }
 {
     if let Touched::Did(entry) = touched {
-        did.push_reserved(step_of(thread, Trace::Did(copied(entry))));
+        marks.push_reserved(Some(mark_of_entry(entry)));
     }
 }
 
@@ -103,7 +102,7 @@ impl<P: Program, J: Round> Vars<P, J> {
         requires wants { WantsVariable (P.meaning program.now) seat.old.part.hand }
         ensures touches { Touches (P.meaning program.now) J.guide seat.old seat.new result }
     {
-        let Ok(()) = seat.receipts.reserve(1) else {
+        let Ok(()) = seat.marks.reserve(1) else {
             return Touched::NoMemory;
         };
         let place = seat.part.hand.unwrap();
@@ -117,7 +116,7 @@ impl<P: Program, J: Round> Vars<P, J> {
             gate,
         };
         let touched = self.touch_on(rt, &setting, &mut seat.token, &mut seat.part, access);
-        note(&mut seat.receipts, seat.thread, &touched);
+        mark(&mut seat.marks, &touched);
         see(&mut seat.seen, &touched);
         touched
     }

@@ -4,20 +4,18 @@ ghost use Rattle.std.specs.Mem.Slots.{slots_items, slots_len, IsFull};
 ghost use Rattle.master_core.specs.Mastered.{Mastered};
 ghost use Rattle.var_locks.specs.Codes.{master_code};
 ghost use Rattle.var_locks.specs.Rounds.{IsRoundOf, AreVarsOf};
-ghost use Rattle.var_locks.specs.Closing.{AreSeats, HasSeats, IsClosed, seat_part, seat_steps};
+ghost use Rattle.var_locks.specs.Closing.{AreSeats, HasSeats, IsClosed, seat_part, seat_marks};
 
 use crate::seats::VarSeat;
 use crate::steps::{Lock, LockTable, Token, join_in};
 use crate::view::Round;
 use atomic_table::Closed as ClosedTable;
 use box_program::Program;
-use master_core::{Master, MasterParts, ThreadPart, VarPart, Woven};
+use master_core::{Master, MasterParts, ThreadPart, VarPart};
 use plain_text::{NoMemory, Sequence};
+use round_order::Marks;
 use std::alloc::Global;
 use std::marker::Model;
-
-/// What each thread did in a round, by its number.
-pub type Receipts = Vec<Woven>;
 
 /// The variables of a round, for its seats.
 #[derive(Drop)]
@@ -42,20 +40,20 @@ impl<P: Program, J: Round> Model for Vars<P, J> {
     } };
 }
 
-/// What a round came to: the master after it, and what each thread did.
+/// What a round came to: the master after it, and the marks of what each thread did.
 #[derive(Drop)]
 pub struct Closed<P: Program> {
     /// The master after all moves of the round.
     pub master: Master<P>,
-    /// What each thread did, by its number.
-    pub receipts: Receipts,
+    /// The marks of what each thread did, by its number: by them the round is woven.
+    pub marks: Vec<Marks>,
 }
 
-/// All seats as one: their token, their parts and what each did, by their numbers.
+/// All seats as one: their token, and by their numbers their parts and the marks of what each did.
 struct Gathered<P: Program> {
     token: Token<P::Value>,
     parts: Vec<ThreadPart>,
-    receipts: Receipts,
+    marks: Vec<Marks>,
 }
 
 /// Takes all seats of a round together.
@@ -73,26 +71,26 @@ fn gather<P: Program, J: Round>(
     ensures token { IfOk result (λ all. (all.token.table_id ≡ shared.now.table_id)
         × (all.token.me.0.hand ≡ None) × HasSeats all.token.me.0 seats.items) }
     ensures parts { IfOk result (λ all. all.parts.items ≡ map seat_part seats.items) }
-    ensures receipts { IfOk result (λ all. all.receipts.items ≡ map seat_steps seats.items) }
+    ensures marks { IfOk result (λ all. all.marks.items ≡ map seat_marks seats.items) }
 {
     let count = seats.len();
     let mut parts = Vec::with_capacity(alloc, count)?;
-    let mut receipts = Vec::with_capacity(alloc, count)?;
-    let (mut token, part, did) = seats.pop().unwrap().take_apart();
+    let mut marks = Vec::with_capacity(alloc, count)?;
+    let (mut token, part, own) = seats.pop().unwrap().take_apart();
     parts.push(part)?;
-    receipts.push(Sequence::from_vec(did))?;
+    marks.push(Sequence::from_vec(own))?;
     while let Some(seat) = seats.pop() {
-        let (other, part, did) = seat.take_apart();
+        let (other, part, own) = seat.take_apart();
         join_in::<P, J>(program, shared, &mut token, other);
         parts.push(part)?;
-        receipts.push(Sequence::from_vec(did))?;
+        marks.push(Sequence::from_vec(own))?;
     }
     parts.reverse();
-    receipts.reverse();
+    marks.reverse();
     Ok(Gathered {
         token,
         parts,
-        receipts,
+        marks,
     })
 }
 
@@ -113,7 +111,8 @@ fn take_out<V: Drop>(
 }
 
 impl<P: Program, J: Round> Vars<P, J> {
-    /// The end of the round: the master after it, and what each thread did. After `NoMemory` the round is gone.
+    /// The end of the round: the master after it, and the marks of what each thread did. After `NoMemory` the round is
+    /// gone.
     ///
     /// However the threads ran, what they did weaves into a legal continuation of each list of moves that the opening
     /// master stands for, with inputs that have the packets that were passed; and the master stands for it.
@@ -130,20 +129,19 @@ impl<P: Program, J: Round> Vars<P, J> {
             → (master_code P.Value.row.coded).code p ≡ J.opening → p.threads ≡ J.threads
             → IfOk result (λ closed. IsClosed (P.meaning program.now) (P.fits program.now)
             J.guide p seats.items closed.master) }
-        ensures receipts { IfOk result (λ closed.
-            closed.receipts.items ≡ map seat_steps seats.items) }
+        ensures marks { IfOk result (λ closed. closed.marks.items ≡ map seat_marks seats.items) }
     {
         let vars = Vec::with_capacity(alloc, self.vars)?;
         let all = gather::<P, J>(alloc, program, &self.table.shared, seats)?;
         let Gathered {
             token,
             parts,
-            receipts,
+            marks,
         } = all;
         let closed = self.table.close_with(token);
         let vars = take_out(closed, vars);
         let threads = parts;
         let master = Master::of_parts(MasterParts { vars, threads });
-        Ok(Closed { master, receipts })
+        Ok(Closed { master, marks })
     }
 }

@@ -179,8 +179,8 @@ pub fn race<P: Program + Send + Sync, R: AllocGlobal + Threads + Wait + Sync>(
     let guide = Guide::none(alloc);
     let closed = round_of::<P, Brand, R>(rt, program, master, &guide, packets, count)?;
     let mut moves = 0u64;
-    for did in &closed.receipts {
-        moves = moves.saturating_add(did.len() as u64);
+    for marks in &closed.marks {
+        moves = moves.saturating_add(marks.len() as u64);
     }
     Ok(Done::of(&closed.master, threads, moves))
 }

@@ -1,14 +1,13 @@
-use Rattle.std.proofs.Common.{◌≡◌, List, [], ◌∷◌, ◌++◌, map, reverse, sym, ap, ◌∙◌, subst, Option}
+use Rattle.std.proofs.Common.{◌≡◌, ℕ, List, [], ◌∷◌, ◌++◌, map, reverse, sym, ap, ◌∙◌, subst, Option}
 use Rattle.std.specs.Prelude.{option_to_list}
 use mathlib.Core.List.{reverse-cons}
 use Rattle.master_core.specs.declared.parts.VarPart.{VarPart}
 use Rattle.master_core.specs.declared.parts.ThreadPart.{ThreadPart}
-use Rattle.master_core.specs.declared.step.WovenStep.{WovenStep}
 use Rattle.atomic_table.specs.Table.{Me}
 use Rattle.var_locks.specs.declared.view.View.{View}
 use Rattle.var_locks.specs.Seats.{Seated}
-use Rattle.var_locks.specs.Closing.{AreSeats, HasSeats, seat_part, seat_steps}
-use Rattle.var_locks.proofs.Gathering.{own_seat, own_steps, joined_seat, seats_stay, last_seat, append_again}
+use Rattle.var_locks.specs.Closing.{AreSeats, HasSeats, seat_part, seat_marks}
+use Rattle.var_locks.proofs.Gathering.{own_seat, own_marks, joined_seat, seats_stay, last_seat, append_again}
 use Rattle.var_locks.proofs.vars.gather.Goals as goal
 
 pub loop-seat-init : goal.loop-seat-init
@@ -31,10 +30,10 @@ loop-seat-init g c =
             ∙ (ap (λ (l : List ThreadPart). l ++ c.take_apart-token.result.1 ∷ []) c.in_ok-parts.ensures.items
             ∙ (ap (λ (p : ThreadPart). p ∷ []) c.take_apart-token.ensures.part ∙ sym (reverse-cons (seat_part x) []))),
         c.in_ok-push-2.ensures.items
-            ∙ (ap (λ (l : List (List WovenStep)). l ++ c.from_vec.result ∷ []) c.in_ok-receipts.ensures.items
-            ∙ (ap (λ (p : List WovenStep). p ∷ []) (c.from_vec.ensures
-            ∙ own_steps x c.take_apart-token.result.0.me c.take_apart-token.result.2.items kept told.0 told.1)
-            ∙ sym (reverse-cons (seat_steps x) []))),
+            ∙ (ap (λ (l : List (List (Option ℕ))). l ++ c.from_vec.result ∷ []) c.in_ok-marks.ensures.items
+            ∙ (ap (λ (p : List (Option ℕ)). p ∷ []) (c.from_vec.ensures
+            ∙ own_marks x c.take_apart-token.result.0.me c.take_apart-token.result.2.items kept told.0 told.1)
+            ∙ sym (reverse-cons (seat_marks x) []))),
         (own_seat x c.take_apart-token.result.0.me c.take_apart-token.result.2.items kept told.0 told.1, tt),
       ),
     )
@@ -74,10 +73,10 @@ loop-seat-preserved g c =
             ∙ (ap (λ (p : ThreadPart). reverse (map seat_part done) ++ p ∷ []) c.take_apart-other.ensures.part
             ∙ sym (reverse-cons (seat_part x) (map seat_part done)))),
         c.in_ok-push-4.ensures.items
-            ∙ (ap (λ (l : List (List WovenStep)). l ++ c.from_vec-in-Some.result ∷ []) c.loop-seat.invariant.2.3
-            ∙ (ap (λ (p : List WovenStep). reverse (map seat_steps done) ++ p ∷ []) (c.from_vec-in-Some.ensures
-            ∙ own_steps x c.take_apart-other.result.0.me c.take_apart-other.result.2.items kept told.0 told.1)
-            ∙ sym (reverse-cons (seat_steps x) (map seat_steps done)))),
+            ∙ (ap (λ (l : List (List (Option ℕ))). l ++ c.from_vec-in-Some.result ∷ []) c.loop-seat.invariant.2.3
+            ∙ (ap (λ (p : List (Option ℕ)). reverse (map seat_marks done) ++ p ∷ []) (c.from_vec-in-Some.ensures
+            ∙ own_marks x c.take_apart-other.result.0.me c.take_apart-other.result.2.items kept told.0 told.1)
+            ∙ sym (reverse-cons (seat_marks x) (map seat_marks done)))),
         subst (λ (me : Me (VarPart g.row.P-Value.Denot) (View g.row.P-Value.Denot)). HasSeats me.0 (x ∷ done))
             (sym joined) (
               joined_seat x c.take_apart-other.result.0.me c.take_apart-other.result.2.items kept told.0 told.1

@@ -1,5 +1,4 @@
-use Rattle.std.proofs.Common.{◌≡◌, ℕ, sym, ap, ◌∙◌, subst, Bool, false, List}
-use Rattle.master_core.specs.declared.step.WovenStep.{WovenStep}
+use Rattle.std.proofs.Common.{◌≡◌, ℕ, sym, ap, ◌∙◌, subst, Bool, false, List, Option}
 use Rattle.atomic_table.specs.Seated.{TableId}
 use Rattle.var_locks.specs.Seats.{Seated, IsKept, first_notes}
 use Rattle.var_locks.specs.declared.touching.Access.{Access}
@@ -15,8 +14,9 @@ returns g c =
     let r = c.touch_on-touched.result in
     let going : i.ended ≡ false = ap (λ (s : Seated g.row.P-Value.Denot). s.ended) c.seat.view_is ∙ c.requires.going in
     let kept =
-    subst (λ (l : List WovenStep). IsKept i.token.me i.thread i.part i.seen.items l false) (sym c.reserve.ensures.items)
-    (subst (λ (b : Bool). IsKept i.token.me i.thread i.part i.seen.items i.receipts.items b) going c.seat.invariant) in
+    subst (λ (l : List (Option ℕ)). IsKept i.token.me i.thread i.part i.seen.items l false)
+    (sym c.reserve.ensures.items)
+    (subst (λ (b : Bool). IsKept i.token.me i.thread i.part i.seen.items i.marks.items b) going c.seat.invariant) in
     let a : Access = record {
       thread = i.thread;
       var = c.in-Some.access.var;
