@@ -1,5 +1,6 @@
 pub use Rattle.system_parts.specs.Parts
 pub use Rattle.system_parts.specs.SystemStanding
 pub use Rattle.system_parts.specs.Performing
+pub mod Partings
 pub mod Systems
 pub mod Views
