@@ -1,10 +1,11 @@
-//! The outside: a world of named files, and sources and sinks of bytes.
+//! The outside: a world of named files, sources and sinks of bytes, and a clock.
 #![tactic(auto)]
 
 mod all;
 mod beginning;
 mod buffered;
 mod calls;
+mod clock;
 mod files;
 mod memory_file;
 mod memory_world;
@@ -17,6 +18,7 @@ mod world_stream;
 pub use all::{WriteError, write_all};
 pub use beginning::{Front, FrontError, read_front};
 pub use buffered::BufferedSource;
+pub use clock::{Clock, FixedClock};
 pub use memory_world::MemoryWorld;
 pub use piece::{fill_behind, fill_piece, read_behind};
 pub use stream::{Filled, Put, Sink, SliceSource, Source};
