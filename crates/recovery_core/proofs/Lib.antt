@@ -1,2 +1,3 @@
 pub mod RepliesLemmas
 pub mod FinishLemmas
+pub mod PartingLemmas

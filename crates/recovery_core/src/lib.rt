@@ -7,7 +7,9 @@
 //! the run has been.
 #![tactic(auto)]
 
+mod parting;
 mod system;
 
 pub use event_replies::{Finished, Releases, Reply, Stop, put_line};
+pub use parting::{Kept, SystemParted};
 pub use system::System;

@@ -38,12 +38,12 @@ use system_parts::Core;
 /// for good; what it released until then can still be taken.
 #[derive(Drop)]
 pub struct System<P: Program> {
-    core: Core<P>,
-    stopped: bool,
+    pub(crate) core: Core<P>,
+    pub(crate) stopped: bool,
     /// How many of the released outputs were handed over.
-    handed: usize,
+    pub(crate) handed: usize,
     /// The others.
-    fresh: Outputs,
+    pub(crate) fresh: Outputs,
 }
 
 impl<P: Program> Model for System<P> {

@@ -55,6 +55,7 @@ pub fn part<P: Program>(mut core: Core<P>) -> Result<Parted<P>, NoMemory>
         (P.fits core.program) value_of parted.master.vars) }
     ensures threads { IfOk result (λ parted.
         length parted.master.threads ≡ parted.rest.inputs.threads) }
+    ensures released { IfOk result (λ parted. parted.rest.released ≡ core.released) }
 {
     let fresh = Master::fresh(core.alloc, &core.program, core.inputs.threads())?;
     let master = mem::replace(&mut core.master, fresh);
@@ -93,6 +94,28 @@ impl<P: Program> Rest<P> {
         let _program = &self.core.program;
     }
 
+    /// How many threads the master has.
+    pub fn threads(&self) -> u32
+        ensures { result ≡ self.now.inputs.threads }
+    {
+        self.core.inputs.threads()
+    }
+
+    /// The epoch, from 1: each recovery raises it by 1.
+    pub fn epoch(&self) -> u32
+        ensures { (s : Setting P.Value) (w : World P.Value)
+            → RestsFor (P.meaning self.now.program) s w self.now → result ≡ w.epoch }
+    {
+        self.core.logger.epoch()
+    }
+
+    /// How many moves all masters made, also those that were noted while the master is out.
+    pub fn moves(&self) -> u64
+        ensures { result ≡ self.now.moves }
+    {
+        self.core.moves
+    }
+
     /// Takes note of a move that a thread of the master made while it was out, with what the thread was told, and sends
     /// what it logged or sent out. After `NoMemory` the rest is of no use any more.
     pub fn note(
@@ -126,6 +149,7 @@ impl<P: Program> Rest<P> {
             → RestsFor (P.meaning self.program) s w self
             → Stands s.meaning s.threads w.past master
             → StandsFor (P.meaning self.program) s w result }
+        ensures program { result.program ≡ self.program }
     {
         let mut core = self.core;
         core.master = master;

@@ -1,4 +1,4 @@
-//! The outside: a world of named files, and sources and sinks of bytes.
+//! The outside: a world of named files, sources and sinks of bytes, and a clock.
 #![tactic(auto)]
 
 mod all;

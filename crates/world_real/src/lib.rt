@@ -1,4 +1,4 @@
-//! The outside of the program: the files of the system, and standard output as the report.
+//! The outside of the program: the files of the system, standard output as the report, and the system's clock.
 //!
 //! This is the trusted edge. What a call answers, which numbers it gives and how it counts faults
 //! is proved. That the bytes a call moved are those of the named file is not, and no proof can
@@ -8,9 +8,11 @@
 #![tactic(auto)]
 
 mod pieces;
+mod real_clock;
 mod real_file;
 mod real_world;
 #[cfg(test)]
 mod tests;
 
+pub use real_clock::RealClock;
 pub use real_world::RealWorld;

@@ -1,10 +1,21 @@
-use crate::RealWorld;
+use crate::{RealClock, RealWorld};
 use plain_text::Text;
+use std::marker::Sync;
 use std::test::Fail;
 use std::{env, fs, process};
-use world_io::{Front, OpenFault, World, WorldSink, WorldSource, read_front, write_all};
+use world_io::{
+    Clock, FixedClock, Front, OpenFault, World, WorldSink, WorldSource, read_front, write_all,
+};
 
 const TEXT: &[u8] = b"two lines\nof bytes \xff\x00";
+
+/// The first microsecond of 2020.
+const YEAR_2020: u64 = 1_577_836_800_000_000;
+
+/// The time by a clock that threads may share.
+fn shared_time<C: Clock + Sync>(clock: &C) -> u64 {
+    clock.now()
+}
 
 /// The name of a file that no other run of this test has.
 fn own_name(rt: &HostRuntime) -> Result<Text, Fail> {
@@ -31,5 +42,13 @@ fn a_file_reads_back_as_it_was_written(rt: HostRuntime) -> Result<(), Fail> {
         panic!(rt; "not read");
     };
     assert_eq!(rt; bytes.as_slice(), TEXT);
+    Ok(())
+}
+
+#[test]
+fn threads_may_share_a_clock(rt: HostRuntime) -> Result<(), Fail> {
+    assert_eq!(rt; shared_time(&FixedClock(7)), 7);
+    let clock = RealClock::new(rt.clone()?);
+    assert!(rt; shared_time(&clock) > YEAR_2020);
     Ok(())
 }
