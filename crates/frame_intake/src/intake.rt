@@ -40,6 +40,13 @@ fn add_all(frames: &mut Vec<FrameName>, thread: usize, sent: &[Sent]) -> Result<
     Ok(())
 }
 
+/// Tells the gate of a frame that was taken.
+fn tell<G: Gate>(gate: &G, thread: usize, sent: Sent) {
+    if let Ok(thread) = u32::try_from(thread) {
+        gate.took(sent.kind, thread, sent.number);
+    }
+}
+
 /// Takes a frame from the lane of this thread, if there is one; whether it took any.
 fn take_one<R: Wait, G: Gate>(
     rt: &R,
@@ -54,10 +61,10 @@ fn take_one<R: Wait, G: Gate>(
     ensures ends { OnOk result (AreEndsOf lanes.now taken.new.receivers.items) }
     ensures taken { OnOk result (AreTaken taken.new.receivers.items taken.new.frames.items) }
 {
-    let _ = gate;
     match lanes[thread].take(rt, &mut taken.receivers[thread]) {
         Some(sent) => {
             taken.frames.push(named(thread, sent))?;
+            tell(gate, thread, sent);
             Ok(true)
         }
         None => Ok(false),
