@@ -1,5 +1,5 @@
 //! The frames of a round, by their names, on the way from the worker that sends them to the intake.
-ghost use Rattle.std.specs.Prelude.{◌≡◌, ◌++◌, ◌∷◌, [], OnOk, length};
+ghost use Rattle.std.specs.Prelude.{◌≡◌, ◌++◌, ◌∷◌, [], OnErr, OnOk};
 ghost use Rattle.frame_intake.specs.Frames.{all_posted};
 
 use log_queues::{Lane, LaneSender};
@@ -80,6 +80,7 @@ impl Outbox {
         requires of { self.old.sender.lane ≡ lane.now }
         ensures lane { self.new.sender.lane ≡ self.old.sender.lane }
         ensures posted { OnOk result (all_posted self.new ≡ all_posted self.old ++ frame ∷ []) }
+        ensures same { OnErr result (all_posted self.new ≡ all_posted self.old) }
     {
         self.flush(rt, lane);
         if self.waiting.is_empty() && lane.put(rt, &mut self.sender, frame).is_ok() {

@@ -1,5 +1,5 @@
 //! What is asked of a round.
-ghost use Rattle.std.specs.Prelude.{◌≡◌, ◌↔◌, ◌+◌, ◌^◌, ◌<◌, ◌≤◌, ◌∷◌, ℕ, IfOk, IsTrue, OnOk};
+ghost use Rattle.std.specs.Prelude.{◌≡◌, ◌↔◌, ◌+◌, ◌^◌, ◌<◌, ◌≤◌, ◌∷◌, ℕ, IfOk, IsTrue, OnErr, OnOk};
 ghost use Rattle.std.specs.Prelude.{slice_index, slice_set};
 ghost use Rattle.plan_script.specs.Orders.{but, no_orders};
 ghost use Rattle.frame_intake.specs.Orders.{orders_of, Arrive, TakesOneMore};
@@ -92,6 +92,7 @@ impl RoundOrders {
     pub fn lose(&mut self, frame: FrameName) -> Result<(), NoMemory>
         ensures lost { OnOk result ((orders_of self.new).lost
             ≡ frame ∷ (orders_of self.old).lost) }
+        ensures same { OnErr result ((orders_of self.new).lost ≡ (orders_of self.old).lost) }
         ensures moves { (t : ℕ) → (orders_of self.new).moves t ≡ (orders_of self.old).moves t }
         ensures frames { (t : ℕ) → (orders_of self.new).frames t ≡ (orders_of self.old).frames t }
     {
