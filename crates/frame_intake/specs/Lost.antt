@@ -9,6 +9,7 @@ use Rattle.plain_text.specs.declared.kind.Kind.TheVariants as kind
 use Rattle.recovery_world.specs.Many.{Message}
 use Rattle.plan_script.specs.Orders.{IsLost}
 
+-- the code of a kind
 abbrev pub code : Kind → ℕ
 code kind.Log = 0
 code kind.Out = 1

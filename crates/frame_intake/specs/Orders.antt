@@ -5,7 +5,7 @@ use Rattle.plan_script.specs.Orders.{Orders, AreLeft, first_ones}
 use Rattle.plan_script.specs.Rounds.{of_thread}
 
 -- What is seen of them: by thread how many moves it makes at most, and how many of its frames are taken; and the frames
--- that are lost.
+-- that are lost, newest first.
 pub record InMemory : Type 0 where
   pub most_moves : List (Option ℕ)
   pub most_frames : List (Option ℕ)

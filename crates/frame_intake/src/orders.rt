@@ -19,7 +19,7 @@ const THREADS: usize = 16;
 pub struct RoundOrders {
     moves: [Option<u64>; THREADS],
     frames: [Option<u64>; THREADS],
-    /// The newest first.
+    /// The oldest first.
     lost: Vec<FrameName>,
 }
 
