@@ -1,0 +1,3 @@
+pub mod ArriveLemmas
+pub mod LostLemmas
+pub mod TakenLemmas

@@ -1,3 +1,4 @@
 pub mod Frames
 pub mod Intake
+pub mod Lost
 pub mod Orders

@@ -1,13 +1,28 @@
 -- The orders for a round, of at most 16 threads, as they stand in memory.
-use Rattle.std.specs.Prelude.{◌≡◌, ℕ, ◌<◌, List, Option, None, slice_index_or}
+use Rattle.std.specs.Prelude.{ℕ, ◌<◌, List, Option, Some, None, slice_index_or}
 use Rattle.recovery_world.specs.Many.{Message}
 use Rattle.plan_script.specs.Orders.{Orders, AreLeft, first_ones}
 use Rattle.plan_script.specs.Rounds.{of_thread}
 
--- what they are, by the lists of the most moves and frames by thread
-abbrev pub orders_of : List (Option ℕ) → List (Option ℕ) → List Message → Orders
-orders_of moves frames lost =
-    record { moves = λ t. slice_index_or moves t None; frames = λ t. slice_index_or frames t None; lost = lost }
+-- What is seen of them: by thread how many moves it makes at most, and how many of its frames are taken; and the frames
+-- that are lost, newest first.
+pub record InMemory : Type 0 where
+  pub most_moves : List (Option ℕ)
+  pub most_frames : List (Option ℕ)
+  pub lost_frames : List Message
+
+-- the orders that they are
+abbrev pub orders_of : InMemory → Orders
+orders_of o = record {
+  moves = λ t. slice_index_or o.most_moves t None;
+  frames = λ t. slice_index_or o.most_frames t None;
+  lost = o.lost_frames;
+}
+
+-- one more frame of a thread is taken, of which so many came before
+abbrev pub TakesOneMore : Option ℕ → ℕ → Type 0
+TakesOneMore None before = Unit {0}
+TakesOneMore (Some most) before = before < most
 
 -- Of the frames that were sent these arrive: of each thread the first ones, as many as it is ordered, but those lost.
 abbrev pub Arrive : Orders → List Message → List Message → Type 0

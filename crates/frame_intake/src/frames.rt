@@ -1,5 +1,5 @@
 //! The frames of a round, by their names, on the way from the worker that sends them to the intake.
-ghost use Rattle.std.specs.Prelude.{◌≡◌, ◌++◌, ◌∷◌, [], OnOk, length};
+ghost use Rattle.std.specs.Prelude.{◌≡◌, ◌++◌, ◌∷◌, [], OnErr, OnOk};
 ghost use Rattle.frame_intake.specs.Frames.{all_posted};
 
 use log_queues::{Lane, LaneSender};
@@ -30,6 +30,8 @@ impl Model for FrameName {
     ghost Value = { Message };
 
     ghost view = { λ f. record { kind = f.kind; thread = f.thread; number = f.number } };
+
+    ghost inverse = { λ m. record { kind = m.kind; thread = m.thread; number = m.number } };
 }
 
 /// Where a worker posts its frames: a lane to the intake, and those that wait for room in it. So a full lane never
@@ -74,15 +76,11 @@ impl Outbox {
     }
 
     /// Posts a frame behind the others.
-    pub fn post<R: Wait>(
-        &mut self,
-        rt: &R,
-        lane: &Lane<Sent>,
-        frame: Sent,
-    ) -> Result<(), NoMemory>
+    pub fn post<R: Wait>(&mut self, rt: &R, lane: &Lane<Sent>, frame: Sent) -> Result<(), NoMemory>
         requires of { self.old.sender.lane ≡ lane.now }
         ensures lane { self.new.sender.lane ≡ self.old.sender.lane }
         ensures posted { OnOk result (all_posted self.new ≡ all_posted self.old ++ frame ∷ []) }
+        ensures same { OnErr result (all_posted self.new ≡ all_posted self.old) }
     {
         self.flush(rt, lane);
         if self.waiting.is_empty() && lane.put(rt, &mut self.sender, frame).is_ok() {

@@ -1,9 +1,7 @@
 //! The intake of a round: it takes frames from the workers' lanes while they move.
-ghost use Rattle.std.specs.Prelude.{◌≡◌, ◌<◌, ℕ, [], All, IfOk, OnOk, length, map, slice_index_or};
-ghost use Rattle.atomic_table.specs.Seated.{TableId};
-ghost use Rattle.log_queues.specs.Lanes.{Ended};
-ghost use Rattle.frame_intake.specs.Frames.{message_of};
-ghost use Rattle.frame_intake.specs.Intake.{AreAllTaken, AreBoxesOf, AreEndsOf, AreTaken};
+ghost use Rattle.std.specs.Prelude.{◌≡◌, ◌++◌, ◌<◌, [], All, IfOk, OnOk, length};
+ghost use Rattle.frame_intake.specs.Frames.{message_of, messages_of};
+ghost use Rattle.frame_intake.specs.Intake.{AddsLeft, AreAllTaken, AreBoxesOf, AreEndsOf, AreTaken};
 
 use crate::frames::{FrameName, Outbox, Sent};
 use log_queues::{Lane, LaneReceiver};
@@ -33,15 +31,44 @@ fn named(thread: usize, sent: Sent) -> FrameName
 }
 
 /// Puts frames of this thread behind the others.
-fn add_all<'a>(
-    frames: &mut Vec<FrameName>,
-    thread: usize,
-    sent: impl Iterator<Item = &'a Sent>,
-) -> Result<(), NoMemory> {
+fn add_all(frames: &mut Vec<FrameName>, thread: usize, sent: &[Sent]) -> Result<(), NoMemory>
+    ensures { OnOk result (frames.new.items ≡ frames.old.items ++ messages_of thread sent.now) }
+{
     for frame in sent {
         frames.push(named(thread, *frame))?;
     }
     Ok(())
+}
+
+/// Tells the gate of a frame that was taken.
+fn tell<G: Gate>(gate: &G, thread: usize, sent: Sent) {
+    if let Ok(thread) = u32::try_from(thread) {
+        gate.took(sent.kind, thread, sent.number);
+    }
+}
+
+/// Takes a frame from the lane of this thread, if there is one; whether it took any.
+fn take_one<R: Wait, G: Gate>(
+    rt: &R,
+    gate: &G,
+    lanes: &[Lane<Sent>],
+    thread: usize,
+    taken: &mut Taken,
+) -> Result<bool, NoMemory>
+    requires inside { thread < length lanes.now }
+    requires ends { AreEndsOf lanes.now taken.old.receivers.items }
+    requires taken { AreTaken taken.old.receivers.items taken.old.frames.items }
+    ensures ends { OnOk result (AreEndsOf lanes.now taken.new.receivers.items) }
+    ensures taken { OnOk result (AreTaken taken.new.receivers.items taken.new.frames.items) }
+{
+    match lanes[thread].take(rt, &mut taken.receivers[thread]) {
+        Some(sent) => {
+            taken.frames.push(named(thread, sent))?;
+            tell(gate, thread, sent);
+            Ok(true)
+        }
+        None => Ok(false),
+    }
 }
 
 /// Takes a frame from each lane, where there is one; whether it took any.
@@ -58,11 +85,7 @@ fn sweep<R: Wait, G: Gate>(
 {
     let mut any = false;
     for thread in 0..lanes.len() {
-        if let Some(sent) = lanes[thread].take(rt, &mut taken.receivers[thread]) {
-            taken.frames.push(named(thread, sent))?;
-            gate.took(sent.kind, thread as u32, sent.number);
-            any = true;
-        }
+        any |= take_one(rt, gate, lanes, thread, taken)?;
     }
     Ok(any)
 }
@@ -97,6 +120,30 @@ pub fn take_in<R: Wait, G: Gate>(
     Ok(taken)
 }
 
+/// Puts behind the others what is left of a thread's frames: in its lane and in its outbox.
+fn add_left<R: Wait>(
+    rt: &R,
+    alloc: Global,
+    frames: &mut Vec<FrameName>,
+    thread: usize,
+    lane: Lane<Sent>,
+    outbox: Outbox,
+    receiver: LaneReceiver<Sent>,
+) -> Result<(), NoMemory>
+    requires outbox { outbox.sender.lane ≡ lane }
+    requires receiver { receiver.lane ≡ lane }
+    ensures { OnOk result
+        (AddsLeft thread outbox receiver frames.old.items frames.new.items) }
+{
+    let (sender, waiting) = outbox.take_apart();
+    let left = lane.finish(rt, alloc, sender, receiver)?;
+    add_all(frames, thread, left.as_slice())?;
+    let (front, back) = waiting.as_slices();
+    add_all(frames, thread, front)?;
+    add_all(frames, thread, back)?;
+    Ok(())
+}
+
 /// All frames of a round: those that the intake took, and behind them, thread by thread, those that were left in the
 /// lanes and in the outboxes.
 pub fn all_frames<R: Wait>(
@@ -116,14 +163,14 @@ pub fn all_frames<R: Wait>(
         mut frames,
     } = taken;
     while let Some(lane) = lanes.pop() {
-        let (Some(outbox), Some(receiver)) = (outboxes.pop(), receivers.pop()) else {
+        let Some(outbox) = outboxes.pop() else {
+            unreachable!()
+        };
+        let Some(receiver) = receivers.pop() else {
             unreachable!()
         };
         let thread = lanes.len();
-        let (sender, waiting) = outbox.take_apart();
-        let left = lane.finish(rt, alloc, sender, receiver)?;
-        add_all(&mut frames, thread, left.as_slice())?;
-        add_all(&mut frames, thread, waiting.as_slice())?;
+        add_left(rt, alloc, &mut frames, thread, lane, outbox, receiver)?;
     }
     Ok(frames)
 }

@@ -4,6 +4,7 @@
 
 mod frames;
 mod intake;
+mod lost;
 mod orders;
 
 pub use frames::{FrameName, Outbox, Sent};
