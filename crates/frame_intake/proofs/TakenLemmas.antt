@@ -240,21 +240,21 @@ pub first_none : (all : List Posted) (lanes : List TableId) (ends : List (Ended 
     (frames : List Message) → AreFirst all lanes ends boxes frames → length lanes ≡ 0 → AreAllTaken all frames
 first_none all lanes ends boxes frames was none t = was.high t (omega arith)
 
--- what is left of a thread's frames comes behind in three parts
-pub left_added : (t : ℕ) (box : Posted) (end : Ended Sent) (old one two new : List Message)
-    (left front back : List Sent) → box.sender.items ≡ end.items ++ left → front ++ back ≡ box.waiting
-    → one ≡ old ++ messages_of t left → two ≡ one ++ messages_of t front → new ≡ two ++ messages_of t back
-    → AddsLeft t box end old new
-left_added t box end old one two new left front back put parts first second third = record {
+-- frames of a thread in two parts
+pub behind_both : (t : ℕ) (old : List Message) (front back : List Sent)
+    → old ++ messages_of t front ++ messages_of t back ≡ old ++ messages_of t (front ++ back)
+behind_both t old front back =
+    append_assoc old (messages_of t front) (messages_of t back)
+    ∙ ap (λ l. old ++ l) (sym (map-append (message_of t) front back))
+
+-- what is left of a thread's frames comes behind in two parts
+pub left_added : (t : ℕ) (box : Posted) (end : Ended Sent) (old one new : List Message) (left : List Sent)
+    → box.sender.items ≡ end.items ++ left → one ≡ old ++ messages_of t left
+    → new ≡ one ++ messages_of t box.waiting → AddsLeft t box end old new
+left_added t box end old one new left put first second = record {
   left = left ++ box.waiting;
   all = ap (λ l. l ++ box.waiting) put ∙ append_assoc end.items left box.waiting;
-  added = third
-      ∙ ap (λ l. l ++ messages_of t back) (second ∙ ap (λ l. l ++ messages_of t front) first)
-      ∙ append_assoc (old ++ messages_of t left) (messages_of t front) (messages_of t back)
-      ∙ append_assoc old (messages_of t left) (messages_of t front ++ messages_of t back)
-      ∙ ap (λ l. old ++ (messages_of t left ++ l))
-      (sym (map-append (message_of t) front back) ∙ ap (messages_of t) parts)
-      ∙ ap (λ l. old ++ l) (sym (map-append (message_of t) left box.waiting));
+  added = second ∙ ap (λ l. l ++ messages_of t box.waiting) first ∙ behind_both t old left box.waiting;
 }
 
 pub first_same : (all : List Posted) (lanes fewer : List TableId) (ends few : List (Ended Sent))

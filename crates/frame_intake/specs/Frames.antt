@@ -11,7 +11,7 @@ message_of t s = record { kind = s.kind; thread = t; number = s.number }
 abbrev pub messages_of : ℕ → List Sent → List Message
 messages_of t frames = map (message_of t) frames
 
--- What is seen of an outbox: the end of its lane that puts, and the frames that wait for room in the lane, oldest first.
+-- What is seen of an outbox: the end of its lane that puts, and the frames that wait for room in it, oldest first.
 pub record Posted : Type 0 where
   pub sender : Ended Sent
   pub waiting : List Sent

@@ -7,6 +7,7 @@ use crate::frames::{FrameName, Outbox, Sent};
 use log_queues::{Lane, LaneReceiver};
 use plain_text::NoMemory;
 use std::alloc::Global;
+use std::collections::VecDeque;
 use std::sync::Wait;
 use std::sync::atomic::{AtomicU64, Ordering};
 use std::thread::yield_now;
@@ -37,6 +38,21 @@ fn add_all(frames: &mut Vec<FrameName>, thread: usize, sent: &[Sent]) -> Result<
     for frame in sent {
         frames.push(named(thread, *frame))?;
     }
+    Ok(())
+}
+
+/// Puts the frames that wait in the outbox of this thread behind the others.
+fn add_waiting(
+    frames: &mut Vec<FrameName>,
+    thread: usize,
+    waiting: &VecDeque<Sent>,
+) -> Result<(), NoMemory>
+    ensures { OnOk result
+        (frames.new.items ≡ frames.old.items ++ messages_of thread waiting.now.items) }
+{
+    let (front, back) = waiting.as_slices();
+    add_all(frames, thread, front)?;
+    add_all(frames, thread, back)?;
     Ok(())
 }
 
@@ -138,9 +154,7 @@ fn add_left<R: Wait>(
     let (sender, waiting) = outbox.take_apart();
     let left = lane.finish(rt, alloc, sender, receiver)?;
     add_all(frames, thread, left.as_slice())?;
-    let (front, back) = waiting.as_slices();
-    add_all(frames, thread, front)?;
-    add_all(frames, thread, back)?;
+    add_waiting(frames, thread, &waiting)?;
     Ok(())
 }
 

@@ -1,6 +1,6 @@
 //! What is asked of a round.
-ghost use Rattle.std.specs.Prelude.{◌≡◌, ◌↔◌, ◌+◌, ◌^◌, ◌<◌, ◌≤◌, ◌∷◌, ℕ, IfOk, IsTrue, OnErr, OnOk};
-ghost use Rattle.std.specs.Prelude.{slice_index, slice_set};
+ghost use Rattle.std.specs.Prelude.{◌≡◌, ◌↔◌, ◌+◌, ◌^◌, ◌<◌, ◌≤◌, ◌∷◌, ℕ, IfOk, IsTrue, OnErr};
+ghost use Rattle.std.specs.Prelude.{OnOk, slice_index, slice_set};
 ghost use Rattle.plan_script.specs.Orders.{but, no_orders};
 ghost use Rattle.frame_intake.specs.Orders.{orders_of, Arrive, TakesOneMore};
 

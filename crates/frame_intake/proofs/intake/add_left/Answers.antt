@@ -8,9 +8,11 @@ pub returns : goal.returns
 returns g c =
     let put : c.args.outbox.sender.items ≡ c.args.receiver.items ++ c.in_ok-left.left =
     ap (λ s. s.items) (sym c.take_apart-sender.ensures.0) ∙ c.in_ok-left.ensures.left in
-    let parts : c.as_slices.result.0.now ++ c.as_slices.result.1.now ≡ c.args.outbox.waiting =
-    c.as_slices.ensures.items ∙ c.take_apart-sender.ensures.1 in
     let first : c.add_all.new.frames.items ≡ c.args.frames.now.items ++ messages_of c.args.thread c.in_ok-left.left =
     c.in_ok-add_all.ensures
     ∙ ap (λ (l : List Sent). c.args.frames.now.items ++ messages_of c.args.thread l) c.as_slice.ensures in
-    left_added _ _ _ _ _ _ _ _ _ _ put parts first c.in_ok-add_all-2.ensures c.in_ok-add_all-3.ensures
+    let second : c.add_waiting.new.frames.items
+    ≡ c.add_all.new.frames.items ++ messages_of c.args.thread c.args.outbox.waiting =
+    c.in_ok-add_waiting.ensures
+    ∙ ap (λ (l : List Sent). c.add_all.new.frames.items ++ messages_of c.args.thread l) c.take_apart-sender.ensures.1 in
+    left_added _ _ _ _ _ _ _ put first second
