@@ -1,1 +1,3 @@
+pub mod Generators
 pub mod MovingLemmas
+pub mod WorkingLemmas

@@ -44,12 +44,15 @@ some_same x y e = cc
 none_some : {A : Type 0} (x : A) → None ≡ Some x → ⊥
 none_some x e = cc
 
+no_hand : IsTrue (has_hand None) → ⊥
+no_hand e = cc
+
 -- A touch or a read
 
 module _ {V : Type 0} (m : Meaning V) (guide : List Lane) (packets : List Packet) (may : ℕ → Type 0)
     (old : Seated V) (g : Lcg) (new : Seated V) where
   -- a seat as a move left it, whatever it saw
-  seat_left : List (Note V) → List ℕ → Seated V
+  abbrev seat_left : List (Note V) → List ℕ → Seated V
   seat_left notes seen = record {
     thread = old.thread;
     part = new.part;
@@ -116,12 +119,12 @@ module _ {V : Type 0} (m : Meaning V) (guide : List Lane) (packets : List Packet
 
 -- the input of a thread with which its next move is made
 input_is : (inputs : Fed) (t n : ℕ) → input_at inputs t (n + 1) ≡ slice_get (inputs_of inputs t) n
-input_is inputs t n = ap (input_at inputs t) (omega arith)
+input_is inputs t n = let same : n + 1 ≡ suc n = omega arith in ap (input_at inputs t) same
 
 taken_is : (inputs : Fed) (t n : ℕ) (p : Packet) → input_at inputs t n ≡ Some p
     → slice_get (inputs_of inputs t) (n - 1) ≡ Some p
 taken_is inputs t zero p is = absurd (none_some p is)
-taken_is inputs t (suc n) p is = ap (slice_get (inputs_of inputs t)) (omega arith) ∙ is
+taken_is inputs t (suc n) p is = let same : suc n - 1 ≡ n = omega arith in ap (slice_get (inputs_of inputs t)) same ∙ is
 
 module _ {V : Type 0} (m : Meaning V) (guide : List Lane) (inputs : Fed) (may : ℕ → Type 0) (old : Seated V) (g : Lcg)
     (new : Seated V) (g_new : Lcg) (answer : ℕ) (input : Option Packet)
@@ -272,8 +275,8 @@ module _ {V : Type 0} (m : Meaning V) (guide : List Lane) (inputs : Fed) (may : 
       there : (place : Local) → old.part.hand ≡ Some place → (p : Packet) × (input ≡ Some p)
       there place some =
           let h = has place some in
-          (h.1, fed_some place some ∙ ap (input_at inputs old.thread) h.2.0 ∙ input_is inputs old.thread h.0 ∙ h.2.1)
+          (h.1, fed_some place some ∙ ap (input_at inputs old.thread) h.2 ∙ input_is inputs old.thread h.0 ∙ h.3)
 
       go : (o : Option Local) → old.part.hand ≡ o → IsTrue (has_hand o) → IsSome input
-      go None none is = absurd is
-      go (Some place) some is = subst IsSome (sym (there place some).1) tt
+      go None none is = absurd (no_hand is)
+      go (Some place) some is = subst IsSome (sym (there place some).1) refl

@@ -26,6 +26,7 @@ impl Model for Draws {
 
 impl Draws {
     /// Those of a seed, for this number of threads, before their first words.
+    #[tactic(auto, using(crate::proofs::Generators::one_more))]
     pub fn new(alloc: Global, seed: u64, threads: u32) -> Result<Self, NoMemory>
         ensures { IfOk result (λ draws. draws ≡ generators_of seed 0 threads) }
     {

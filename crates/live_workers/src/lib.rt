@@ -4,5 +4,6 @@
 
 mod draws;
 mod moving;
+mod working;
 
 pub use draws::Draws;
