@@ -1,6 +1,6 @@
 -- One more generator behind the others.
-use Rattle.std.proofs.Common.{◌≡◌, ℕ, zero, suc, ◌+◌, List, [], ◌∷◌, ◌++◌, refl, sym, ap, ◌∙◌, subst, arith}
-use Rattle.rand_pcg.specs.Lcg.{Lcg, started, advance, increment_of, state_after}
+use Rattle.std.proofs.Common.{◌≡◌, ℕ, zero, suc, ◌+◌, List, [], ◌∷◌, ◌++◌, refl, sym, ap, ◌∙◌, arith}
+use Rattle.rand_pcg.specs.Lcg.{Lcg, started, increment_of, state_after}
 use Rattle.rand_pcg.specs.Pcg.{multiplier_64}
 use Rattle.live_workers.specs.Draws.{worker_generator, generators_of}
 

@@ -1,21 +1,19 @@
 -- What a call of a worker came to, by what the call of the round says.
-use Rattle.std.proofs.Common.{◌≡◌, ◌≢◌, ℕ, zero, suc, ◌+◌, ◌-◌, ◌⊎◌, inl, inr, List, [], ◌∷◌, refl, sym, ap, ◌∙◌, subst}
-use Rattle.std.proofs.Common.{Option, Some, None, arith, Bool, true, false, IsTrue}
+use Rattle.std.proofs.Common.{◌≡◌, ℕ, zero, suc, ◌+◌, ◌-◌, ◌⊎◌, inl, inr, List, ◌∷◌, refl, sym, ap, ◌∙◌, subst}
+use Rattle.std.proofs.Common.{Option, Some, None, arith, IsTrue}
 use Rattle.std.specs.Prelude.{IsSome, slice_get}
 use Rattle.rand_pcg.specs.Lcg.{Lcg}
 use Rattle.plain_text.specs.declared.packet.Packet.{Packet}
 use Rattle.entry_order.specs.declared.what.What.{What}
 use Rattle.entry_order.specs.declared.what.What.TheVariants as what
 use Rattle.input_logger.specs.Inputs.{Fed, inputs_of, input_at}
-use Rattle.access_log.specs.Held.{Lane, lane, entry_at}
+use Rattle.access_log.specs.Held.{Lane}
 use Rattle.access_log.specs.declared.entry.StampedEntry.{StampedEntry}
-use Rattle.access_log.specs.declared.entry.Output.{Output}
 use Rattle.plain_machine.specs.declared.local.Local.{Local}
 use Rattle.plain_machine.specs.declared.local.Move.{Move}
 use Rattle.plain_machine.specs.declared.local.Move.TheVariants as move
 use Rattle.plain_machine.specs.Program.{Meaning}
 use Rattle.box_program.specs.Hands.{has_hand}
-use Rattle.master_core.specs.declared.parts.ThreadPart.{ThreadPart}
 use Rattle.master_core.specs.declared.parts.VarPart.{VarPart}
 use Rattle.master_core.specs.declared.wants.Wants.{Wants}
 use Rattle.master_core.specs.declared.wants.Wants.TheVariants as wants
@@ -24,19 +22,18 @@ use Rattle.master_core.specs.declared.step.Stepped.TheVariants as stepped
 use Rattle.master_core.specs.declared.step.Trace.{Trace}
 use Rattle.master_core.specs.declared.step.Trace.TheVariants as trace
 use Rattle.master_core.specs.Effects.{TouchesParts, ReadsParts}
-use Rattle.replay_guide.specs.Following.{recorded}
 use Rattle.var_locks.specs.declared.view.Note.{Note}
 use Rattle.var_locks.specs.declared.touching.Touched.{Touched}
 use Rattle.var_locks.specs.declared.touching.Touched.TheVariants as touched
-use Rattle.var_locks.specs.Notes.{IsOwn, IsOwnBy, IsOwnEntry, IsOnVariable, IsGuided, own_note, input_number, told_by}
+use Rattle.var_locks.specs.Notes.{IsOwnBy, IsOwnEntry, IsOnVariable, own_note, input_number, told_by}
 use Rattle.var_locks.specs.Seats.{Seated, HasMade}
-use Rattle.var_locks.specs.Plain.{Steps, IsSent, IsOwnAnswer}
+use Rattle.var_locks.specs.Plain.{Steps, IsOwnAnswer}
 use Rattle.var_locks.specs.TouchedParts.{Touches, HasTouched, IsBlocked, missed_at}
 use Rattle.var_locks.specs.Wanting.{seat_wants, seat_wants_in, seat_wants_by}
 use Rattle.round_events.specs.Shown.{IsShown}
 use Rattle.round_events.proofs.Blocked.{blocked_stuck}
-use Rattle.live_workers.specs.Telling.{IsUnrecorded, IsWord, IsTime, IsToldBy, IsTold, IsAtHand}
-use Rattle.live_workers.specs.Moving.{ComesTo, HasInput, IsAtRest, IsFedTo, IsHeld, OneMore, input_wanted, touch_shown}
+use Rattle.live_workers.specs.Telling.{IsUnrecorded, IsWord, IsToldBy, IsTold, IsAtHand}
+use Rattle.live_workers.specs.Moving.{ComesTo, HasInput, IsFedTo, IsHeld, OneMore, input_wanted, touch_shown}
 
 some_same : {A : Type 0} (x y : A) → Some x ≡ Some y → x ≡ y
 some_same x y e = cc

@@ -1,6 +1,6 @@
 -- One more move of a worker, and none.
-use Rattle.std.proofs.Common.{◌≡◌, ℕ, ◌+◌, ◌-◌, ◌≤◌, ◌<◌, ◌⊎◌, inl, inr, List, [], ◌∷◌, ◌++◌, length, refl, sym, ap, ◌∙◌}
-use Rattle.std.proofs.Common.{subst, Option, Some, None, arith, false, suc}
+use Rattle.std.proofs.Common.{◌≡◌, ℕ, ◌+◌, ◌-◌, ◌≤◌, ◌⊎◌, inl, inr, List, [], ◌∷◌, ◌++◌, length, refl, sym, ap, ◌∙◌}
+use Rattle.std.proofs.Common.{subst, Option, Some, None, arith, false, true}
 use Rattle.std.specs.Prelude.{slice_get}
 use Rattle.rand_pcg.specs.Lcg.{Lcg}
 use Rattle.plain_text.specs.declared.packet.Packet.{Packet}
@@ -21,20 +21,18 @@ use Rattle.master_core.specs.declared.step.Trace.TheVariants as trace
 use Rattle.master_core.specs.Effects.{TouchesParts, ReadsParts, after_entry, after_take, after_emit, after_end}
 use Rattle.master_core.specs.Mastered.{in_hand_count, moves_made}
 use Rattle.var_locks.specs.declared.view.Note.{Note}
-use Rattle.var_locks.specs.declared.view.MissedEntry.{MissedEntry}
-use Rattle.var_locks.specs.Notes.{IsOwnBy, IsOwnEntry, IsOnVariable, answer_in, input_number}
+use Rattle.var_locks.specs.Notes.{AreFed, IsOwnBy, IsOwnEntry, IsOnVariable, answer_in, input_number}
 use Rattle.var_locks.specs.Seats.{Seated}
 use Rattle.round_events.specs.Done.{IsDone, AreDone}
 use Rattle.round_events.specs.Shown.{IsShown}
-use Rattle.round_events.specs.Blocked.{IsStuck}
 use Rattle.round_join.specs.declared.noting.Made.{Made}
-use Rattle.round_join.specs.Working.{IsMadeBy, Works}
+use Rattle.round_join.specs.Working.{AreMadeBy, Works}
 use Rattle.frame_intake.specs.declared.frames.Sent.{Sent}
 use Rattle.frame_intake.specs.Frames.{Posted, all_posted}
 use Rattle.live_workers.specs.Frames.{frames_made, frames_shown}
 use Rattle.live_workers.specs.Telling.{IsTold, AreTold}
 use Rattle.live_workers.specs.Moving.{ComesTo, HasInput, IsAtRest, IsFedTo, IsHeld, OneMore, answer_shown, made_by}
-use Rattle.live_workers.specs.Working.{Given, Course, GoesOn, HasCome, MadeOne, MadeNone}
+use Rattle.live_workers.specs.Working.{Given, Course, GoesOn, HasCome, HasEnded, MadeOne, MadeNone, WhyEnded}
 
 -- What a move does to the part of its thread
 
@@ -352,3 +350,70 @@ go_idle {V} m guide inputs may now old new is going r seat g (inr (u, n, waits))
     go_held m guide inputs may now old new is going (ap (λ (c : Course V). c.moves) new_is)
     (ap (λ (c : Course V). c.generator) new_is ∙ k.1) (ap (λ (c : Course V). c.outbox) new_is)
     (subst (λ (x : Seated V). IsHeld m guide old.seat x) (sym (ap (λ (c : Course V). c.seat) new_is)) k.0)
+
+-- How a worker begins, and how it ends
+
+module _ {V : Type 0} (m : Meaning V) (guide : List Lane) (inputs : ℕ → List Packet) (may : ℕ → Type 0) where
+  fresh_works : (first : ThreadPart) (x : Seated V) (notes : List (Note V)) → x.notes ≡ notes → notes ≡ []
+      → x.part ≡ first → Works m guide inputs first x []
+  fresh_works first x notes are none part =
+      let empty : x.notes ≡ [] = are ∙ none in
+      record {
+        done = subst (λ (l : List (Note V)). AreDone m guide x.thread first l x.part) (sym empty) part;
+        fed = subst (λ (l : List (Note V)). AreFed (inputs x.thread) l) (sym empty) tt;
+        made = subst (λ (l : List (Note V)). AreMadeBy m x.thread l []) (sym empty) tt;
+      }
+
+  pub begun : (given : Given V) (start : Course V) → start.seat ≡ given.seat → start.moves ≡ []
+      → start.generator ≡ given.generator → start.outbox ≡ given.outbox → given.seat.notes ≡ []
+      → all_posted given.outbox ≡ [] → HasCome m guide inputs may given start
+  begun given start seat moves generator outbox none empty = record {
+    thread = ap (λ (x : Seated V). x.thread) seat;
+    round_is = ap (λ (x : Seated V). x.round) seat;
+    works = subst (λ (l : List Made). Works m guide inputs given.seat.part start.seat l) (sym moves)
+        (subst (λ (x : Seated V). Works m guide inputs given.seat.part x []) (sym seat)
+        (fresh_works given.seat.part given.seat [] none refl refl));
+    told = subst (λ (l : List Made). AreTold may guide given.seat.thread l given.generator start.generator) (sym moves)
+        generator;
+    lane = ap (λ (o : Posted). o.sender.lane) outbox;
+    sent = ap all_posted outbox ∙ empty ∙ sym (ap frames_made moves);
+  }
+
+  stuck_still : (x : Seated V) (made most : ℕ) (limit : Option ℕ) → WhyEnded m guide inputs most limit x made
+      → WhyEnded m guide inputs most limit (record x { ended = true }) made
+  stuck_still x made most limit (inl is) = inl is
+  stuck_still x made most limit (inr (inl is)) = inr (inl is)
+  stuck_still x made most limit (inr (inr (inl is))) = inr (inr (inl is))
+  stuck_still x made most limit (inr (inr (inr (e, is)))) = inr (inr (inr (e, record {
+    read = is.read;
+    place = is.place;
+    readers = is.readers;
+    hand = is.hand;
+    next = is.next;
+    waits = is.waits;
+    missed = is.missed;
+  })))
+
+  pub has_ended : (most : ℕ) (given : Given V) (limit : Option ℕ) (now : Course V) (seat : Seated V)
+      → given.limit ≡ limit → seat ≡ record now.seat { ended = true } → HasCome m guide inputs may given now
+      → ((n : ℕ) → limit ≡ Some n → length now.moves ≤ n)
+      → WhyEnded m guide inputs most limit now.seat (length now.moves)
+      → HasEnded m guide inputs may most given
+      (record { seat = seat; moves = now.moves; generator = now.generator; outbox = now.outbox })
+  has_ended most given limit now seat limit_is seat_is come few why =
+      subst (λ (x : Seated V). HasEnded m guide inputs may most given
+      (record { seat = x; moves = now.moves; generator = now.generator; outbox = now.outbox })) (sym seat_is) (record {
+        come = record {
+          thread = come.thread;
+          round_is = come.round_is;
+          works = record { done = come.works.done; fed = come.works.fed; made = come.works.made };
+          told = come.told;
+          lane = come.lane;
+          sent = come.sent;
+        };
+        ended = refl;
+        few = λ n is. few n (sym limit_is ∙ is);
+        why = subst (λ (l : Option ℕ).
+            WhyEnded m guide inputs most l (record now.seat { ended = true }) (length now.moves)) (sym limit_is)
+            (stuck_still now.seat (length now.moves) most limit why);
+      })

@@ -1,5 +1,6 @@
 pub mod Draws
 pub mod Frames
 pub mod Moving
+pub mod Racing
 pub mod Telling
 pub mod Working

@@ -3,6 +3,7 @@
 #![tactic(auto)]
 
 mod draws;
+mod gathering;
 mod moving;
 mod working;
 

@@ -1,0 +1,93 @@
+//! Workers are made of what each thread has, and what they leave is put together, by thread.
+ghost use Rattle.std.specs.Prelude.{◌≡◌, IfOk, List, Ok, length, map};
+ghost use Rattle.frame_intake.specs.Orders.{orders_of};
+ghost use Rattle.live_workers.specs.Working.{Course};
+ghost use Rattle.live_workers.specs.Racing.{AreLeftBy, AreWorkers};
+
+use crate::working::{Worker, Working};
+use box_program::Program;
+use frame_intake::{Outbox, RoundOrders};
+use plain_text::NoMemory;
+use rand_pcg::Pcg32;
+use round_join::Moves;
+use std::alloc::Global;
+use var_locks::VarSeat;
+
+/// What all workers left, by thread.
+#[derive(Drop)]
+pub(crate) struct Left<P: Program> {
+    pub(crate) seats: Vec<VarSeat<P>>,
+    pub(crate) moves: Vec<Moves>,
+    pub(crate) generators: Vec<Pcg32>,
+    pub(crate) outboxes: Vec<Outbox>,
+}
+
+/// Workers for these seats, generators and outboxes.
+pub(crate) fn workers_of<P: Program>(
+    alloc: Global,
+    mut seats: Vec<VarSeat<P>>,
+    mut generators: Vec<Pcg32>,
+    mut outboxes: Vec<Outbox>,
+    orders: &RoundOrders,
+) -> Result<Vec<Worker<P>>, NoMemory>
+    requires generators { length generators.items ≡ length seats.items }
+    requires outboxes { length outboxes.items ≡ length seats.items }
+    ensures { IfOk result (λ workers. AreWorkers seats.items generators.items outboxes.items
+        (orders_of orders.now).moves workers.items) }
+{
+    let mut workers = Vec::with_capacity(alloc, seats.len())?;
+    while let Some(seat) = seats.pop() {
+        let Some(generator) = generators.pop() else {
+            unreachable!()
+        };
+        let Some(outbox) = outboxes.pop() else {
+            unreachable!()
+        };
+        let limit = orders.most_moves(seats.len() as u32);
+        workers.push(Worker {
+            seat,
+            generator,
+            outbox,
+            limit,
+        })?;
+    }
+    workers.reverse();
+    Ok(workers)
+}
+
+/// What the workers left that all came to their ends.
+pub(crate) fn part_all<P: Program>(
+    alloc: Global,
+    mut ended: Vec<Result<Working<P>, NoMemory>>,
+) -> Result<Left<P>, NoMemory>
+    ensures { IfOk result (λ left. (courses : List (Course P.Value))
+        × (ended.items ≡ map Ok courses)
+        × AreLeftBy courses left.seats.items left.moves.items left.generators.items
+        left.outboxes.items) }
+{
+    let count = ended.len();
+    let mut left = Left {
+        seats: Vec::with_capacity(alloc, count)?,
+        moves: Vec::with_capacity(alloc, count)?,
+        generators: Vec::with_capacity(alloc, count)?,
+        outboxes: Vec::with_capacity(alloc, count)?,
+    };
+    while let Some(one) = ended.pop() {
+        let Working {
+            seat,
+            moves,
+            generator,
+            outbox,
+        } = one?;
+        left.seats.push(seat)?;
+        left.moves.push(moves)?;
+        left.generators.push(generator)?;
+        left.outboxes.push(outbox)?;
+    }
+    left.seats.reverse();
+    left.moves.reverse();
+    left.generators.reverse();
+    left.outboxes.reverse();
+    Ok(left)
+}
+
