@@ -5,6 +5,7 @@
 mod draws;
 mod gathering;
 mod moving;
+mod racing;
 mod working;
 
 pub use draws::Draws;

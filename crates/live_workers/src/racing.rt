@@ -1,0 +1,154 @@
+//! A race: the workers of a master's threads, on threads of the machine, and the intake beside them.
+ghost use Rattle.std.specs.Prelude.{◌≡◌, ◌<◌, ℕ, [], All, IfOk, List, Result, length, slice_index_or};
+ghost use Rattle.plain_text.specs.declared.memory.NoMemory.{NoMemory as NoMemoryValue};
+ghost use Rattle.input_logger.specs.Inputs.{inputs_of};
+ghost use Rattle.var_locks.specs.Rounds.{AreVarsOf};
+ghost use Rattle.frame_intake.specs.Intake.{AreEndsOf, AreTaken};
+ghost use Rattle.live_workers.specs.Working.{Course, Given, HasEnded, IsGivenAmong};
+ghost use Rattle.live_workers.specs.Racing.{AllEnded, AreLeftBy};
+
+use crate::gathering::{Left, part_all};
+use crate::moving::Surroundings;
+use crate::working::{Worker, Working, work};
+use box_program::Program;
+use frame_intake::{FrameName, Sent, Taken, take_in};
+use input_logger::InputLog;
+use log_queues::{Lane, LaneReceiver};
+use master_core::Master;
+use plain_text::NoMemory;
+use rand_pcg::Pcg32;
+use replay_guide::Guide;
+use round_join::Moves;
+use round_order::Marks;
+use std::sync::Wait;
+use std::sync::atomic::{AtomicU64, Ordering};
+use std::thread;
+use std::thread::{Threads, map_vec};
+use var_locks::{Gate, Round, Vars};
+use world_io::Clock;
+
+/// What a race came to: the master after it; of each thread the marks by which its moves are woven, the moves, and the
+/// generator; and all frames that the threads sent.
+#[derive(Drop)]
+pub(crate) struct Race<P: Program> {
+    pub(crate) master: Master<P>,
+    pub(crate) marks: Vec<Marks>,
+    pub(crate) moves: Vec<Moves>,
+    pub(crate) generators: Vec<Pcg32>,
+    pub(crate) frames: Vec<FrameName>,
+}
+
+/// Runs the workers, each on a thread of the machine.
+fn run_all<
+    P: Program + Send + Sync,
+    J: Round + Send + Sync,
+    C: Clock + Sync,
+    G: Gate + Sync,
+    R: AllocGlobal + Threads + Wait + Sync,
+>(
+    rt: &R,
+    program: &P,
+    vars: &Vars<P, J>,
+    guide: &Guide,
+    inputs: &InputLog,
+    clock: &C,
+    gate: &G,
+    lanes: &[Lane<Sent>],
+    at_work: &AtomicU64,
+    most: u64,
+    workers: Vec<Worker<P>>,
+) -> Result<Vec<Result<Working<P>, NoMemory>>, NoMemory>
+    requires of { AreVarsOf P.meaning P.row.coded P.Value.row.coded program.now vars.now }
+    requires guide { guide.now ≡ J.guide }
+    requires lanes { length lanes.now ≡ vars.now.threads }
+    requires given { All (IsGivenAmong vars.now lanes.now (inputs_of inputs.now) most)
+        workers.items }
+    ensures count { IfOk result (λ ended. length ended.items ≡ length workers.items) }
+    ensures each { IfOk result (λ ended. (i : ℕ) (d : Given P.Value)
+        (e : Result (Course P.Value) NoMemoryValue) → i < length workers.items
+        → IfOk (slice_index_or ended.items i e) (λ end.
+        HasEnded (P.meaning program.now) J.guide (inputs_of inputs.now) (C.may clock.now) most
+        (slice_index_or workers.items i d) end)) }
+{
+    let run = |worker: Worker<P>| -> Result<Working<P>, NoMemory>
+        requires { AreVarsOf P.meaning P.row.coded P.Value.row.coded program.now vars.now
+            × (guide.now ≡ J.guide)
+            × (length lanes.now ≡ vars.now.threads)
+            × IsGivenAmong vars.now lanes.now (inputs_of inputs.now) most worker }
+        ensures { IfOk result (λ end. HasEnded (P.meaning program.entry.now) J.guide
+            (inputs_of inputs.entry.now) (C.may clock.entry.now) most worker end) }
+    {
+        let around = Surroundings {
+            alloc: rt.alloc(),
+            program,
+            vars,
+            guide,
+            inputs,
+            clock,
+            gate,
+        };
+        let lane = &lanes[worker.seat.thread() as usize];
+        let ended = work(rt, &around, lane, most, worker);
+        at_work.fetch_sub(1, Ordering::SeqCst);
+        ended
+    };
+    Ok(map_vec(rt, workers, &run)?)
+}
+
+/// Runs the workers, and the intake beside them. Where no thread can be started, the intake goes behind them.
+fn run_beside<
+    P: Program + Send + Sync,
+    J: Round + Send + Sync,
+    C: Clock + Sync,
+    G: Gate + Sync,
+    R: AllocGlobal + Threads + Wait + Sync,
+>(
+    rt: &R,
+    program: &P,
+    vars: &Vars<P, J>,
+    guide: &Guide,
+    inputs: &InputLog,
+    clock: &C,
+    gate: &G,
+    lanes: &[Lane<Sent>],
+    most: u64,
+    workers: Vec<Worker<P>>,
+    receivers: Vec<LaneReceiver<Sent>>,
+) -> Result<(Left<P>, Taken), NoMemory>
+    requires of { AreVarsOf P.meaning P.row.coded P.Value.row.coded program.now vars.now }
+    requires guide { guide.now ≡ J.guide }
+    requires lanes { length lanes.now ≡ vars.now.threads }
+    requires given { All (IsGivenAmong vars.now lanes.now (inputs_of inputs.now) most)
+        workers.items }
+    requires ends { AreEndsOf lanes.now receivers.items }
+    requires none { All (λ r. r.items ≡ []) receivers.items }
+    ensures ended { IfOk result (λ r. (courses : List (Course P.Value))
+        × AllEnded (P.meaning program.now) J.guide (inputs_of inputs.now) (C.may clock.now) most
+        workers.items courses
+        × AreLeftBy courses r.0.seats.items r.0.moves.items r.0.generators.items
+        r.0.outboxes.items) }
+    ensures ends { IfOk result (λ r. AreEndsOf lanes.now r.1.receivers.items) }
+    ensures taken { IfOk result (λ r. AreTaken r.1.receivers.items r.1.frames.items) }
+{
+    let at_work = AtomicU64::new(workers.len() as u64);
+    let (ended, taken) = thread::join(
+        rt,
+        || -> Result<Vec<Result<Working<P>, NoMemory>>, NoMemory>
+            requires { AreVarsOf P.meaning P.row.coded P.Value.row.coded program.now vars.now
+                × (guide.now ≡ J.guide)
+                × (length lanes.now ≡ vars.now.threads)
+                × All (IsGivenAmong vars.now lanes.now (inputs_of inputs.now) most) workers.items }
+        {
+            run_all(
+                rt, program, vars, guide, inputs, clock, gate, lanes, &at_work, most, workers,
+            )
+        },
+        || -> Result<Taken, NoMemory>
+            requires { AreEndsOf lanes.now receivers.items
+                × All (λ r. r.items ≡ []) receivers.items }
+        { take_in(rt, rt.alloc(), gate, lanes, &at_work, receivers) },
+    );
+    let left = part_all(rt.alloc(), ended?)?;
+    Ok((left, taken?))
+}
+
