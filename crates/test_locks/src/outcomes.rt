@@ -3,7 +3,7 @@ ghost use Rattle.std.specs.Prelude.{◌≡◌, ◌<◌, length};
 ghost use Rattle.box_program.specs.Hands.{FitsProgram};
 ghost use Rattle.master_core.specs.Mastered.{value_of};
 
-use crate::rounds::Raced;
+use crate::races::RoundEnd;
 use crate::weaving::{is_legal, woven};
 use box_program::Program;
 use input_logger::InputLog;
@@ -27,7 +27,7 @@ pub fn outcome_of<P: Program>(
     alloc: Global,
     program: &P,
     inputs: &InputLog,
-    raced: &Raced<P>,
+    raced: &RoundEnd<P>,
 ) -> Result<Outcome, NoMemory>
     requires { length raced.now.master.threads ≡ 2 }
 {

@@ -10,7 +10,8 @@ ghost use Rattle.test_locks.specs.Racing.{IsSeatIn};
 use crate::inputs::inputs_of;
 use crate::outcomes::{Outcome, outcome_of, shows};
 use crate::racing::{Feed, Ran, run};
-use crate::rounds::{Raced, close_two, open_two};
+use crate::rounds::{close_two, open_two};
+use crate::steps::{Did, did_of};
 use box_program::Program;
 use master_core::{Counts, Master};
 use monitor_box::MonitorBox;
@@ -24,7 +25,14 @@ use std::sync::Wait;
 use std::test::Fail;
 use std::thread;
 use std::thread::Threads;
-use var_locks::{Round, VarSeat, Vars};
+use var_locks::{Closed, Round, VarSeat, Vars};
+
+/// What a round of two threads came to: the master after it, and what each thread did.
+#[derive(Drop)]
+pub struct RoundEnd<P: Program> {
+    pub master: Master<P>,
+    pub did: Did,
+}
 
 /// Both threads take their inputs to their ends, at once or one after the other.
 fn run_both<P: Program + Sync, J: Round + Sync, R: Threads + Wait + Sync>(
@@ -74,7 +82,7 @@ fn race_of<P: Program + Sync, J: Round + Sync, R: Threads + Wait + Sync>(
     master: Master<P>,
     guide: &Guide,
     feed: Feed<'_>,
-) -> Result<Raced<P>, NoMemory>
+) -> Result<RoundEnd<P>, NoMemory>
     requires program { P.row.coded.code program.now ≡ J.program }
     requires master { (master_code P.Value.row.coded).code master ≡ J.opening }
     requires threads { master.threads ≡ J.threads }
@@ -88,7 +96,9 @@ fn race_of<P: Program + Sync, J: Round + Sync, R: Threads + Wait + Sync>(
 {
     let (vars, first, second) = open_two::<P, J>(alloc, program, master, guide)?;
     let (first, second) = run_both(rt, alloc, program, &vars, guide, first, second, feed);
-    close_two(alloc, program, vars, first, second)
+    let Closed { master, marks } = close_two(alloc, program, vars, first.seat, second.seat)?;
+    let did = did_of(alloc, marks, first.did, second.did)?;
+    Ok(RoundEnd { master, did })
 }
 
 /// A round in which each of two threads takes its inputs to their ends.
@@ -99,7 +109,7 @@ fn race<P: Program + Sync, R: Threads + Wait + Sync>(
     master: Master<P>,
     guide: &Guide,
     feed: Feed<'_>,
-) -> Result<Raced<P>, NoMemory>
+) -> Result<RoundEnd<P>, NoMemory>
     requires fits { FitsProgram (P.meaning program.now) (P.fits program.now) value_of master.vars }
     requires two { length master.threads ≡ 2 }
     ensures fits { IfOk result (λ raced. FitsProgram (P.meaning program.now) (P.fits program.now)
@@ -116,7 +126,7 @@ pub fn race_fresh<P: Program + Sync, R: Threads + Wait + Sync>(
     program: &P,
     guide: &Guide,
     feed: Feed<'_>,
-) -> Result<Raced<P>, NoMemory>
+) -> Result<RoundEnd<P>, NoMemory>
     ensures fits { IfOk result (λ raced. FitsProgram (P.meaning program.now) (P.fits program.now)
         value_of raced.master.vars) }
     ensures two { IfOk result (λ raced. length raced.master.threads ≡ 2) }

@@ -9,21 +9,12 @@ ghost use Rattle.var_locks.specs.Openings.{fresh_seats, places_of};
 ghost use Rattle.var_locks.specs.Rounds.{AreVarsOf};
 ghost use Rattle.test_locks.specs.Racing.{IsSeatIn};
 
-use crate::racing::Ran;
-use crate::steps::Did;
 use box_program::Program;
 use master_core::Master;
 use plain_text::NoMemory;
 use replay_guide::Guide;
 use std::alloc::Global;
 use var_locks::{Closed, Round, VarSeat, Vars};
-
-/// What a round of two threads came to: the master after it, and what each thread did.
-#[derive(Drop)]
-pub struct Raced<P: Program> {
-    pub master: Master<P>,
-    pub did: Did,
-}
 
 /// The two seats of a round.
 fn two_of<P: Program>(mut seats: Vec<VarSeat<P>>) -> Option<(VarSeat<P>, VarSeat<P>)>
@@ -69,24 +60,19 @@ pub fn close_two<P: Program, J: Round>(
     alloc: Global,
     program: &P,
     vars: Vars<P, J>,
-    first: Ran<P>,
-    second: Ran<P>,
-) -> Result<Raced<P>, NoMemory>
+    first: VarSeat<P>,
+    second: VarSeat<P>,
+) -> Result<Closed<P>, NoMemory>
     requires of { AreVarsOf P.meaning P.row.coded P.Value.row.coded program.now vars }
     requires two { vars.threads ≡ 2 }
-    requires first { IsSeatIn vars.round 0 true first.seat }
-    requires second { IsSeatIn vars.round 1 true second.seat }
-    ensures fits { IfOk result (λ raced. FitsProgram (P.meaning program.now) (P.fits program.now)
-        value_of raced.master.vars) }
-    ensures two { IfOk result (λ raced. length raced.master.threads ≡ 2) }
+    requires first { IsSeatIn vars.round 0 true first }
+    requires second { IsSeatIn vars.round 1 true second }
+    ensures fits { IfOk result (λ closed. FitsProgram (P.meaning program.now) (P.fits program.now)
+        value_of closed.master.vars) }
+    ensures two { IfOk result (λ closed. length closed.master.threads ≡ 2) }
 {
     let mut seats = Vec::new(alloc);
-    seats.push(first.seat)?;
-    seats.push(second.seat)?;
-    let mut receipts = Vec::new(alloc);
-    receipts.push(first.did)?;
-    receipts.push(second.did)?;
-    let Closed { master, marks } = vars.close(alloc, program, seats)?;
-    let did = Did { marks, receipts };
-    Ok(Raced { master, did })
+    seats.push(first)?;
+    seats.push(second)?;
+    vars.close(alloc, program, seats)
 }

@@ -4,12 +4,26 @@ use master_core::{Stepped, Trace, Woven, WovenStep};
 use plain_machine::PlainMove;
 use plain_text::NoMemory;
 use round_order::Marks;
+use std::alloc::Global;
 
 /// What the threads of a round did, by their numbers: the marks that the round kept, and what each was answered.
 #[derive(Drop)]
 pub struct Did {
     pub marks: Vec<Marks>,
     pub receipts: Vec<Woven>,
+}
+
+/// What two threads did, of which the round kept these marks.
+pub fn did_of(
+    alloc: Global,
+    marks: Vec<Marks>,
+    first: Woven,
+    second: Woven,
+) -> Result<Did, NoMemory> {
+    let mut receipts = Vec::new(alloc);
+    receipts.push(first)?;
+    receipts.push(second)?;
+    Ok(Did { marks, receipts })
 }
 
 /// What the move left, if one was made.

@@ -1,6 +1,6 @@
 //! The steps of a round on its words. Each keeps the rule.
 ghost use Rattle.std.specs.Prelude.{◌≡◌, ◌+◌, ◌<◌, true, false, [], ◌∷◌, length, None, IfOk, IfErr};
-ghost use Rattle.std.specs.Prelude.{option_copied};
+ghost use Rattle.std.specs.Prelude.{option_copied, IfSome, IfNone};
 ghost use Rattle.atomic_table.specs.Table.{rest};
 ghost use Rattle.master_core.specs.Mastered.{Mastered};
 ghost use Rattle.master_core.specs.declared.parts.VarPart as var_of;
@@ -22,6 +22,7 @@ use box_program::Program;
 use master_core::{ThreadPart, Trace, VarPart};
 use plain_text::Packet;
 use std::alloc::Global;
+use std::hint::spin_loop;
 use std::marker::Brand;
 use std::sync::Wait;
 use std::thread;
@@ -73,6 +74,49 @@ pub(crate) fn open_round<P: Program, J: Round>(
     Table::new(alloc, words, parts, &())
 }
 
+/// Takes a variable, if no other seat has it. The answer is the word: twice how often it was touched.
+fn try_take<P: Program, J: Round>(
+    program: &P,
+    shared: &Lock<P, J>,
+    token: &mut Token<P::Value>,
+    var: usize,
+) -> Option<u64>
+    requires of { IsRoundOf P.meaning P.row.coded P.Value.row.coded
+        J.program J.opening J.threads program.now shared.now.table_id.words }
+    requires table { token.old.table_id ≡ shared.now.table_id }
+    requires var_in { var < (P.meaning program.now).vars }
+    requires idle { CanTake token.old.me.0 }
+    ensures same { (token.new.table_id ≡ token.old.table_id) × (token.new.id ≡ token.old.id) }
+    ensures taken { IfSome result (λ word. (x : var_of.VarPart P.Value)
+        × Finds P.fits P.row.coded J.program token.old.me.0 var word x
+        × (token.new.me ≡ (with_hand token.old.me.0 var x, (var, x) ∷ token.old.me.1))) }
+    ensures left { IfNone result (token.new.me ≡ token.old.me) }
+{
+    let _ = program;
+    let word = shared.peek(var);
+    if word % 2 == 0 {
+        let found = shared.compare_exchange::<Taken<P, J>>(token, var, word, word + 1);
+        if found == word {
+            return Some(word);
+        }
+    }
+    None
+}
+
+/// So many tries are made one after the other before other threads are let run.
+const MOST_TRIES: u32 = 64;
+
+/// Lets some time go by after so many tries: most waits are shorter than a change of threads. The answer is how many
+/// tries were made since one was let run.
+pub(crate) fn pause(tries: u32) -> u32 {
+    if tries < MOST_TRIES {
+        spin_loop();
+        return tries + 1;
+    }
+    thread::yield_now();
+    0
+}
+
 /// Takes a variable, as soon as no other seat has it. The answer is the word: twice how often it was touched.
 pub(crate) fn take_up<P: Program, J: Round, R: Wait>(
     rt: &R,
@@ -91,16 +135,12 @@ pub(crate) fn take_up<P: Program, J: Round, R: Wait>(
         × Finds P.fits P.row.coded J.program token.old.me.0 var result x
         × (token.new.me ≡ (with_hand token.old.me.0 var x, (var, x) ∷ token.old.me.1)) }
 {
-    let _ = program;
+    let mut tries = 0;
     for _ in rt.forever() {
-        let word = shared.peek(var);
-        if word % 2 == 0 {
-            let found = shared.compare_exchange::<Taken<P, J>>(token, var, word, word + 1);
-            if found == word {
-                return word;
-            }
+        if let Some(word) = try_take(program, shared, token, var) {
+            return word;
         }
-        thread::yield_now();
+        tries = pause(tries);
     }
     unreachable!()
 }

@@ -12,7 +12,7 @@ ghost use Rattle.var_locks.specs.TouchedParts.{entry_waited, HasThread, IsTaken,
 ghost use Rattle.var_locks.specs.TouchedParts.{MadeBy, MadeNone, Comes, ComesOf};
 
 use crate::keeping::copied;
-use crate::steps::{Lock, Made, Token, bring_home, give_back, misses, take_up};
+use crate::steps::{Lock, Made, Token, bring_home, give_back, misses, pause, take_up};
 use crate::vars::Vars;
 use crate::view::{MissedEntry, Round};
 use access_log::{StampedEntry, Turn};
@@ -23,7 +23,6 @@ use plain_text::{Kind, NoMemory};
 use replay_guide::Guide;
 use std::alloc::Global;
 use std::sync::Wait;
-use std::thread::yield_now;
 use thread_clock::Stamp;
 
 /// Where a worker stands in the course of a round: a test may hold it there.
@@ -217,12 +216,12 @@ impl<P: Program, J: Round> Vars<P, J> {
         let program = setting.program;
         let var = access.var as usize;
         let before = *part;
-        let mut after = *part;
-        let worked = work::<P, J>(setting.alloc, program, shared, token, &mut after, access);
+        let worked = work::<P, J>(setting.alloc, program, shared, token, part, access);
         let Ok(entry) = worked else {
             give_back::<P, J>(program, shared, token, var, word);
             return Err(NoMemory);
         };
+        let after = *part;
         let trace = Trace::Did(copied(&entry));
         let home = word_after(word, access.read);
         let made = Made {
@@ -231,7 +230,6 @@ impl<P: Program, J: Round> Vars<P, J> {
             trace: &trace,
         };
         bring_home::<P, J>(program, shared, token, var, home, made);
-        *part = after;
         Ok(entry)
     }
 
@@ -374,6 +372,7 @@ impl<P: Program, J: Round> Vars<P, J> {
         ensures comes { ComesOf (P.meaning setting.now.program.now) J.guide access
             part.old part.new token.old.me token.new.me result }
     {
+        let mut tries = 0;
         for _ in rt.forever() {
             let shared = &self.table.shared;
             let word = take_up::<P, J, R>(rt, setting.program, shared, token, access.var as usize);
@@ -381,7 +380,7 @@ impl<P: Program, J: Round> Vars<P, J> {
             if let Some(touched) = tried {
                 return touched;
             }
-            yield_now();
+            tries = pause(tries);
         }
         unreachable!()
     }
