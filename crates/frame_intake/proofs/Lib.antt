@@ -1,3 +1,4 @@
 pub mod ArriveLemmas
 pub mod LostLemmas
+pub mod OpeningLemmas
 pub mod TakenLemmas

@@ -5,8 +5,10 @@
 mod frames;
 mod intake;
 mod lost;
+mod opening;
 mod orders;
 
 pub use frames::{FrameName, Outbox, Sent};
 pub use intake::{Taken, all_frames, take_in};
+pub use opening::{Lanes, open_lanes};
 pub use orders::RoundOrders;
