@@ -104,7 +104,7 @@ fn try_take<P: Program, J: Round>(
 }
 
 /// So many tries are made one after the other before other threads are let run.
-const MOST_TRIES: u32 = 64;
+const MOST_TRIES: u32 = 4;
 
 /// Lets some time go by after so many tries: most waits are shorter than a change of threads. The answer is how many
 /// tries were made since one was let run.
