@@ -1,0 +1,53 @@
+-- A round of racing threads, by the recovering system.
+use Rattle.std.specs.Prelude.{◌≡◌, ℕ, ◌<◌, List, [], ◌∷◌, slice_index_or, Option, None}
+use Rattle.rand_pcg.specs.Lcg.{Lcg}
+use Rattle.access_log.specs.Held.{Lane}
+use Rattle.plain_machine.specs.Program.{Meaning}
+use Rattle.plain_machine.specs.History.{Act, Took, Did, Emitted, Ended, Step, moves_of}
+use Rattle.recovery_world.specs.declared.event.Event.TheVariants as event
+use Rattle.recovery_world.specs.declared.event.Outcome.TheVariants as outcome
+use Rattle.recovery_world.specs.Many.{Message}
+use Rattle.recovery_world.specs.World.{Setting, World}
+use Rattle.recovery_world.specs.Events.{On}
+use Rattle.recovery_world.specs.Files.{Performs}
+use Rattle.plan_script.specs.Orders.{Orders, AreLeft, first_ones}
+use Rattle.plan_script.specs.Rounds.{AreWoven, HasStopped, frames_of, of_thread, step_events}
+use Rattle.recovery_core.specs.Systems.{Systemed, SystemStands}
+use Rattle.round_join.specs.declared.noting.Noted.{Noted}
+use Rattle.round_join.specs.Racing.{IsAfterSteps, events_noted, lines_noted, steps_by}
+use Rattle.live_workers.specs.Telling.{IsToldBy}
+
+-- what the move of thread t was told, and how the generator of the thread went on
+abbrev pub IsToldIn : {V : Type 0} → (ℕ → Type 0) → List Lane → ℕ → Act V → Lcg → Lcg → Type 0
+IsToldIn may guide t (Took k) g new = new ≡ g
+IsToldIn may guide t (Did e left) g new = IsToldBy may guide t e.number e.what g new
+IsToldIn may guide t (Emitted o) g new = new ≡ g
+IsToldIn may guide t (Ended k) g new = new ≡ g
+
+-- Over steps of thread t, newest first, its generator went from g to new: a followed time or word is the recorded one;
+-- a free time is one that the clock may answer, and a free word the generator's next.
+abbrev pub StepsTold : {V : Type 0} → (ℕ → Type 0) → List Lane → ℕ → List (Step V) → Lcg → Lcg → Type 0
+StepsTold may guide t [] g new = new ≡ g
+StepsTold may guide t (x ∷ earlier) g new =
+    (mid : Lcg) × StepsTold may guide t earlier g mid × IsToldIn may guide t x.act mid new
+
+-- A round in a world: the steps that its threads made, one after another in the woven order, lead to the world for which
+-- the system stands now; each thread stopped where it may; these frames may arrive.
+pub record Rounds {P V : Type 0} (m : Meaning V) (s : Setting V) (w : World V) (orders : Orders) (may : ℕ → Type 0)
+    (guide : List Lane) (before : List Lcg) (noted : List Noted) (arriving : List Message) (after : List Lcg)
+    (y : Systemed P V) : Type 0 where
+  pub steps : List (Step V)
+  pub there : World V
+  pub performs : Performs s w (step_events steps) (lines_noted noted) there
+  pub events_are : events_noted noted ≡ step_events steps
+  pub world : IsAfterSteps w steps there
+  pub woven : AreWoven w.past steps
+  pub stopped : (t : ℕ) → t < s.threads → HasStopped s there t (orders.moves t) (moves_of t steps)
+  pub arrive : (t : ℕ) → AreLeft orders.lost (first_ones (orders.frames t) (frames_of t steps)) (of_thread t arriving)
+  pub told : (t : ℕ) (g : Lcg) → t < s.threads
+      → StepsTold may guide t (steps_by t steps) (slice_index_or before t g) (slice_index_or after t g)
+  pub stands : SystemStands m s there y
+
+-- every thread is idle
+abbrev pub AreIdle : {V : Type 0} → Setting V → World V → Type 0
+AreIdle s w = (t : ℕ) → t < s.threads → On s w (event.Step t None) outcome.Idle [] w
