@@ -1,3 +1,4 @@
+pub mod GatheringLemmas
 pub mod Generators
 pub mod MovingLemmas
 pub mod WorkingLemmas
