@@ -1,7 +1,7 @@
 -- What the workers of a race left, by thread.
 use Rattle.std.proofs.Common.{◌≡◌, ℕ, zero, suc, ◌+◌, ◌<◌, inl, inr, List, [], ◌∷◌, length, map, refl, sym, ap, ◌∙◌, subst}
-use Rattle.std.proofs.Common.{arith}
-use Rattle.std.specs.Prelude.{slice_index_or}
+use Rattle.std.proofs.Common.{arith, Result, Ok}
+use Rattle.std.specs.Prelude.{slice_index_or, IfOk}
 use Rattle.plain_text.specs.declared.packet.Packet.{Packet}
 use Rattle.access_log.specs.Held.{Lane}
 use Rattle.plain_machine.specs.Program.{Meaning}
@@ -83,3 +83,21 @@ pub seat_among : {V : Type 0} (seats : List (Seated V)) (t : ℕ) (d : Seated V)
 seat_among [] t d low = absurd (omega (arith, low))
 seat_among (x ∷ seats) zero d low = inl refl
 seat_among (x ∷ seats) (suc t) d low = inr (seat_among seats t d (omega (arith, low)))
+
+-- from what each call answered
+pub ended_from : {V E : Type 0} (m : Meaning V) (guide : List Lane) (inputs : ℕ → List Packet) (may : ℕ → Type 0)
+    (most : ℕ) (workers : List (Given V)) (results : List (Result (Course V) E)) (courses : List (Course V))
+    → results ≡ map Ok courses → length results ≡ length workers
+    → ((i : ℕ) (d : Given V) (e : Result (Course V) E) → i < length workers
+    → IfOk (slice_index_or results i e) (λ end. HasEnded m guide inputs may most (slice_index_or workers i d) end))
+    → AllEnded m guide inputs may most workers courses
+ended_from {V} {E} m guide inputs may most workers results courses are count each =
+    let all : length courses ≡ length workers =
+    sym (map_count (λ (c : Course V). let r : Result (Course V) E = Ok c in r) courses)
+    ∙ sym (ap (λ (l : List (Result (Course V) E)). length l) are) ∙ count in
+    all_ended m guide inputs may most workers courses all (λ t d e low.
+    let at : slice_index_or results t (Ok e) ≡ Ok (slice_index_or courses t e) =
+    ap (λ (l : List (Result (Course V) E)). slice_index_or l t (Ok e)) are
+    ∙ map_at (λ (c : Course V). let r : Result (Course V) E = Ok c in r) courses t e in
+    subst (λ (r : Result (Course V) E).
+    IfOk r (λ end. HasEnded m guide inputs may most (slice_index_or workers t d) end)) at (each t d (Ok e) low))

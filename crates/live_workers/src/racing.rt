@@ -1,17 +1,23 @@
 //! A race: the workers of a master's threads, on threads of the machine, and the intake beside them.
 ghost use Rattle.std.specs.Prelude.{◌≡◌, ◌<◌, ℕ, [], All, IfOk, List, Result, length, slice_index_or};
 ghost use Rattle.plain_text.specs.declared.memory.NoMemory.{NoMemory as NoMemoryValue};
+ghost use Rattle.box_program.specs.Hands.{FitsProgram};
 ghost use Rattle.input_logger.specs.Inputs.{inputs_of};
+ghost use Rattle.master_core.specs.Mastered.{value_of};
+ghost use Rattle.var_locks.specs.Codes.{master_code};
+ghost use Rattle.var_locks.specs.Openings.{places_of};
 ghost use Rattle.var_locks.specs.Rounds.{AreVarsOf};
 ghost use Rattle.frame_intake.specs.Intake.{AreEndsOf, AreTaken};
+ghost use Rattle.frame_intake.specs.Orders.{orders_of};
 ghost use Rattle.live_workers.specs.Working.{Course, Given, HasEnded, IsGivenAmong};
-ghost use Rattle.live_workers.specs.Racing.{AllEnded, AreLeftBy};
+ghost use Rattle.live_workers.specs.Racing.{AllEnded, AreLeftBy, AreReadyFor, IsRace};
 
-use crate::gathering::{Left, part_all};
+use crate::draws::Draws;
+use crate::gathering::{Left, part_all, workers_of};
 use crate::moving::Surroundings;
 use crate::working::{Worker, Working, work};
 use box_program::Program;
-use frame_intake::{FrameName, Sent, Taken, take_in};
+use frame_intake::{FrameName, Lanes, RoundOrders, Sent, Taken, all_frames, open_lanes, take_in};
 use input_logger::InputLog;
 use log_queues::{Lane, LaneReceiver};
 use master_core::Master;
@@ -20,6 +26,7 @@ use rand_pcg::Pcg32;
 use replay_guide::Guide;
 use round_join::Moves;
 use round_order::Marks;
+use std::marker::Brand;
 use std::sync::Wait;
 use std::sync::atomic::{AtomicU64, Ordering};
 use std::thread;
@@ -152,3 +159,87 @@ fn run_beside<
     Ok((left, taken?))
 }
 
+/// A race of the round that J names.
+fn race_of<
+    P: Program + Send + Sync,
+    J: Round + Send + Sync,
+    C: Clock + Sync,
+    G: Gate + Sync,
+    R: AllocGlobal + Threads + Wait + Sync,
+>(
+    rt: &R,
+    program: &P,
+    guide: &Guide,
+    inputs: &InputLog,
+    clock: &C,
+    gate: &G,
+    master: Master<P>,
+    orders: &RoundOrders,
+    draws: Draws,
+    most: u64,
+) -> Result<Race<P>, NoMemory>
+    requires program { P.row.coded.code program.now ≡ J.program }
+    requires master { (master_code P.Value.row.coded).code master ≡ J.opening }
+    requires threads { master.threads ≡ J.threads }
+    requires places { places_of master.vars ≡ J.places }
+    requires guide { guide.now ≡ J.guide }
+    requires fits { FitsProgram (P.meaning program.now) (P.fits program.now) value_of master.vars }
+    requires some { 0 < length master.threads }
+    requires draws { length draws ≡ length master.threads }
+    requires ready { AreReadyFor most (inputs_of inputs.now) master }
+    ensures { IfOk result (λ race. IsRace (P.meaning program.now) (P.fits program.now) J.guide
+        (inputs_of inputs.now) (C.may clock.now) most (orders_of orders.now).moves master draws race.master
+        race.marks.items race.moves.items race.generators.items race.frames.items) }
+{
+    let alloc = rt.alloc();
+    let (vars, seats) = Vars::<P, J>::of(alloc, program, master, guide)?;
+    let Lanes {
+        lanes,
+        outboxes,
+        receivers,
+    } = open_lanes(alloc, seats.len())?;
+    let workers = workers_of(alloc, seats, draws.into_vec(), outboxes, orders)?;
+    let (left, taken) = run_beside(
+        rt, program, &vars, guide, inputs, clock, gate, &lanes, most, workers, receivers,
+    )?;
+    let frames = all_frames(rt, alloc, lanes, left.outboxes, taken)?;
+    let closed = vars.close(alloc, program, left.seats)?;
+    Ok(Race {
+        master: closed.master,
+        marks: closed.marks,
+        moves: left.moves,
+        generators: left.generators,
+        frames,
+    })
+}
+
+/// A race of the threads of this master, each of which makes fewer than `most` moves more.
+pub(crate) fn run_race<
+    P: Program + Send + Sync,
+    C: Clock + Sync,
+    G: Gate + Sync,
+    R: AllocGlobal + Threads + Wait + Sync,
+>(
+    rt: &R,
+    program: &P,
+    guide: &Guide,
+    inputs: &InputLog,
+    clock: &C,
+    gate: &G,
+    master: Master<P>,
+    orders: &RoundOrders,
+    draws: Draws,
+    most: u64,
+) -> Result<Race<P>, NoMemory>
+    requires fits { FitsProgram (P.meaning program.now) (P.fits program.now) value_of master.vars }
+    requires some { 0 < length master.threads }
+    requires draws { length draws ≡ length master.threads }
+    requires ready { AreReadyFor most (inputs_of inputs.now) master }
+    ensures { IfOk result (λ race. IsRace (P.meaning program.now) (P.fits program.now) guide.now
+        (inputs_of inputs.now) (C.may clock.now) most (orders_of orders.now).moves master draws race.master
+        race.marks.items race.moves.items race.generators.items race.frames.items) }
+{
+    race_of::<P, Brand, C, G, R>(
+        rt, program, guide, inputs, clock, gate, master, orders, draws, most,
+    )
+}

@@ -1,0 +1,14 @@
+use Rattle.std.proofs.Common.{length}
+use Rattle.input_logger.specs.Inputs.{inputs_of}
+use Rattle.live_workers.proofs.EndedWorkers.{ended_from}
+use Rattle.live_workers.proofs.racing.run_beside.Goals as goal
+
+pub returns-clause-ended : goal.returns-clause-ended
+returns-clause-ended g c =
+    let k = c.in_ok-left.ensures in (
+      k.0,
+      ended_from (g.P.Program.meaning c.args.program.now) g.J.Round.guide (inputs_of c.args.inputs.now)
+          (g.C.Clock.may c.args.clock.now) c.args.most c.args.workers.items c.in_ok-ended.field-0.items k.0 k.1
+          c.join-ended.ensures.first c.join-ended.ensures.first,
+      k.2,
+    )

@@ -1,0 +1,13 @@
+use Rattle.var_locks.specs.Codes.{master_code}
+use Rattle.var_locks.specs.Openings.{places_of}
+use Rattle.live_workers.proofs.racing.run_race.Given as goal
+
+-- the round is that of the program, the master and the guide
+abbrev pub ghosts-race_of : goal.ghosts-race_of
+ghosts-race_of g a = record {
+  program = g.row.P.coded.code a.program.now;
+  opening = (master_code g.row.P-Value.coded).code a.master;
+  threads = a.master.threads;
+  places = places_of a.master.vars;
+  guide = a.guide.now;
+}
