@@ -384,15 +384,18 @@ module _ {V : Type 0} (m : Meaning V) (guide : List Lane) (inputs : ℕ → List
   stuck_still x made most limit (inl is) = inl is
   stuck_still x made most limit (inr (inl is)) = inr (inl is)
   stuck_still x made most limit (inr (inr (inl is))) = inr (inr (inl is))
-  stuck_still x made most limit (inr (inr (inr (e, is)))) = inr (inr (inr (e, record {
-    read = is.read;
-    place = is.place;
-    readers = is.readers;
-    hand = is.hand;
-    next = is.next;
-    waits = is.waits;
-    missed = is.missed;
-  })))
+  stuck_still x made most limit (inr (inr (inr (e, is)))) = inr (inr (inr (
+    e,
+    record {
+      read = is.read;
+      place = is.place;
+      readers = is.readers;
+      hand = is.hand;
+      next = is.next;
+      waits = is.waits;
+      missed = is.missed;
+    },
+  )))
 
   pub has_ended : (most : ℕ) (given : Given V) (limit : Option ℕ) (now : Course V) (seat : Seated V)
       → given.limit ≡ limit → seat ≡ record now.seat { ended = true } → HasCome m guide inputs may given now

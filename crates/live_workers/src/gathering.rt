@@ -43,12 +43,15 @@ pub(crate) fn workers_of<P: Program>(
         let Some(outbox) = outboxes.pop() else {
             unreachable!()
         };
-        let limit = orders.most_moves(seats.len() as u32);
+        // More seats than there are numbers of threads, which are u32, no memory has.
+        let Ok(thread) = u32::try_from(seats.len()) else {
+            return Err(NoMemory);
+        };
         workers.push(Worker {
             seat,
             generator,
             outbox,
-            limit,
+            limit: orders.most_moves(thread),
         })?;
     }
     workers.reverse();
@@ -90,4 +93,3 @@ pub(crate) fn part_all<P: Program>(
     left.outboxes.reverse();
     Ok(left)
 }
-

@@ -100,14 +100,16 @@ fn touch_next<P: Program, J: Round, C: Clock, G: Gate, R: Wait>(
         seat.old generator.now seat.new generator.now result }
 {
     let _ = generator;
-    stepped_by(around.vars.touch(
-        rt,
-        around.alloc,
-        around.program,
-        seat,
-        around.guide,
-        around.gate,
-    ))
+    stepped_by(
+        around.vars.touch(
+            rt,
+            around.alloc,
+            around.program,
+            seat,
+            around.guide,
+            around.gate,
+        ),
+    )
 }
 
 /// Makes the thread's next move, which is on no variable.
@@ -134,9 +136,14 @@ fn plain_next<P: Program, J: Round, C: Clock, G: Gate>(
     let thread = seat.thread();
     let input = input_for(around.inputs, thread, wants, &seat.counts());
     let answer = answer_at_hand(around.guide, around.clock, thread, wants, generator);
-    around
-        .vars
-        .plain(around.alloc, around.program, seat, around.guide, answer, input)
+    around.vars.plain(
+        around.alloc,
+        around.program,
+        seat,
+        around.guide,
+        answer,
+        input,
+    )
 }
 
 /// Makes the thread's next move.

@@ -1,4 +1,4 @@
-use Rattle.std.proofs.Common.{List, [], ◌∷◌, ◌++◌, Ok, map, ap, ◌∙◌}
+use Rattle.std.proofs.Common.{[], ◌∷◌, ◌++◌, Ok, map, ap, ◌∙◌}
 use Rattle.live_workers.specs.Working.{Course}
 use Rattle.live_workers.specs.Racing.{seat_of, moves_of, generator_of, outbox_of}
 use Rattle.live_workers.proofs.GatheringLemmas.{append_none, last_taken, put_behind}
