@@ -202,10 +202,18 @@ module _ {P V : Type 0} (m : Meaning V) (s : Setting V) (w : World V) (lists : L
       (one_more next to notes)
 
   pub went_stops : (limit : Limit) (next : PlainMove) (after : List Noted) → StopsBefore m made limit next now
-      → after ≡ noted → StoppedAt s w after limit next
+      → after ≡ noted → StoppedAt s w (events_made all) after limit next
   went_stops limit next after stops is =
       let here = stops.passes s h.there first.step h.rests h.up first.made.can first.made.shows in
       record {
+        left = events_made around.0;
+        all_are =
+            ap (λ (l : List Noted). events_noted l ++ event.Step next.thread next.answer ∷ events_made around.0) is
+            ∙ ap (λ (x : PlainMove). events_noted noted ++ event.Step x.thread x.answer ∷ events_made around.0)
+            stops.is_next
+            ∙ ap (λ (l : List Event). events_noted noted ++ l)
+            (sym (events_oldest around.0 made) ∙ ap events_made (sym around.1))
+            ∙ h.all_are;
         there = h.there;
         performs =
             subst (λ (l : List Noted). Performs s w (events_noted l) (lines_noted l) h.there) (sym is) h.performs;

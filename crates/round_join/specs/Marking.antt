@@ -1,5 +1,5 @@
 -- The marks of what the threads of a round did, by which it is woven.
-use Rattle.std.specs.Prelude.{ℕ, ◌<◌, ◌^◌, All, List, [], ◌∷◌, map}
+use Rattle.std.specs.Prelude.{◌<◌, ◌^◌, All, List, [], ◌∷◌, map}
 use Rattle.plain_machine.specs.Program.{Meaning}
 use Rattle.plain_machine.specs.History.{Step}
 use Rattle.master_core.specs.declared.step.Trace.{Trace}

@@ -139,9 +139,20 @@ pub record CameTo {P V : Type 0} (m : Meaning V) (s : Setting V) (w : World V) (
   pub stuck : (x : Seated V) (e : MissedEntry) → IsSeatAmong x seats → IsStuck m guide x e
       → StepWaits s there x.thread None
 
--- Noting the round stopped at a limit: the events that are noted were performed, and this move would pass the limit.
-pub record StoppedAt {V : Type 0} (s : Setting V) (w : World V) (noted : List Noted) (limit : Limit)
-    (next : PlainMove) : Type 0 where
+-- Noting these events stopped at a limit: the first of them are noted, and were performed, and the next one, which is
+-- this move, would pass the limit.
+pub record StoppedAt {V : Type 0} (s : Setting V) (w : World V) (events : List Event) (noted : List Noted)
+    (limit : Limit) (next : PlainMove) : Type 0 where
+  pub left : List Event
+  pub all_are : events_noted noted ++ event.Step next.thread next.answer ∷ left ≡ events
   pub there : World V
   pub performs : Performs s w (events_noted noted) (lines_noted noted) there
   pub passes : Passes s there (event.Step next.thread next.answer) limit
+
+-- Noting the round stopped at a limit, at an event of its steps, which stand as a plan's round has them.
+pub record Stopped {V : Type 0} (s : Setting V) (w : World V) (moves : List (List Made)) (noted : List Noted)
+    (limit : Limit) (next : PlainMove) : Type 0 where
+  pub steps : List (Step V)
+  pub woven : AreWoven w.past steps
+  pub each : (t : ℕ) → AreStepsOf (slice_index_or moves t []) (steps_by t steps)
+  pub at : StoppedAt s w (step_events steps) noted limit next

@@ -1,4 +1,5 @@
 //! The laws of what the threads of a round did. Each is proved, and does nothing: a caller has it by the call.
+ghost use Rattle.round_join.specs.Idling.{EndIdle};
 ghost use Rattle.round_join.specs.Marking.{SeatsHaveMarks};
 ghost use Rattle.round_join.specs.Weaving.{WovenSteps};
 ghost use Rattle.round_join.specs.Ordering.{RoundsAreInOrder, RoundsAreLight};
@@ -15,6 +16,11 @@ pub fn woven_receipts_are_steps_of_a_plan<X>()
 /// each weight has 64 bits. So the turns that `round_order::weave` answers for them are those of the woven list.
 pub fn seats_have_marks<X>()
     ensures marks { SeatsHaveMarks X }
+{}
+
+/// The threads of a round with no limits end idle: while a thread waits for an entry, one of the threads can move.
+pub fn unlimited_rounds_end_idle<X>()
+    ensures idle { EndIdle X }
 {}
 
 /// The moves of a raced round, in the turns of its marks, may be noted one after another; and each entry that a seat's

@@ -11,9 +11,9 @@ ghost use Rattle.atomic_table.specs.Seated.{TableId};
 ghost use Rattle.var_locks.specs.Seats.{Seated};
 ghost use Rattle.round_join.specs.declared.noting.Made.{Made as MadeValue};
 ghost use Rattle.round_join.specs.Drawing.{AreDrawn};
-ghost use Rattle.round_join.specs.Noting.{CanSendAll, Pending};
+ghost use Rattle.round_join.specs.Noting.{CanSendAll, events_made, Pending};
 ghost use Rattle.round_join.specs.NotedMoves.{NotesAll, NotesMade, StopsBefore, noted_as};
-ghost use Rattle.round_join.specs.Racing.{CameTo, HasRaced, Raced, StoppedAt};
+ghost use Rattle.round_join.specs.Racing.{CameTo, HasRaced, Raced, Stopped, StoppedAt};
 
 use box_program::Program;
 use event_replies::Stop;
@@ -186,7 +186,7 @@ fn note_turns<P: Program>(
         → AreDrawn moves.items (reverse turns.now) drawn
         → RestsFor (P.meaning rest.old.program) s w rest.old → w.up ≡ true
         → Pending s w drawn new
-        → StoppedAt s w noted.new.items limit next }
+        → StoppedAt s w (events_made drawn) noted.new.items limit next }
     ensures program { OnOk result (rest.new.program ≡ rest.old.program) }
 {
     for turn in turns {
@@ -223,7 +223,7 @@ pub fn note_round<P: Program>(
         (round : TableId) (seats : List (Seated P.Value)) (q : Mastered P.Value)
         → Raced (P.meaning rest.old.program) (P.fits rest.old.program) s w p round seats q
         marks.entry.now moves.items rest.old
-        → StoppedAt s w noted.new.items limit next }
+        → Stopped s w moves.items noted.new.items limit next }
     ensures program { OnOk result (rest.new.program ≡ rest.old.program) }
 {
     rest.has_parts();

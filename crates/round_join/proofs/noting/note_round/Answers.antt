@@ -2,7 +2,7 @@ use Rattle.std.proofs.Common.{reverse, sym, subst}
 use Rattle.std.proofs.lemmas.Result.{on_ok_weaker}
 use Rattle.round_order.specs.Turns.{AreTurns, lengths}
 use Rattle.round_join.proofs.RacedRounds.{raced_in_order}
-use Rattle.round_join.proofs.RoundNotes.{round_came}
+use Rattle.round_join.proofs.RoundNotes.{round_came, round_stopped}
 use Rattle.round_join.proofs.noting.note_round.Goals as goal
 
 pub note_turns-requires-clause-draws : goal.note_turns-requires-clause-draws
@@ -37,4 +37,6 @@ returns-clause-limit g c limit next is s w p round seats q raced =
     let i = raced_in_order (g.P.Program.meaning program) (g.P.Program.fits program) s w p round seats q
     c.args.marks.now c.args.moves.items (reverse c.as_slice.result.now) c.args.rest.now
     (g.met.P.Program.lawful program) c.has_parts.ensures raced are in
-    c.note_turns.ensures.limit limit next is s w i.there i.drawn i.draws raced.rests raced.up i.pending
+    round_stopped s w seats q c.args.moves.items (reverse c.as_slice.result.now) c.args.rest.now
+    c.note_turns.new.noted.items limit next i
+    (c.note_turns.ensures.limit limit next is s w i.there i.drawn i.draws raced.rests raced.up i.pending)
