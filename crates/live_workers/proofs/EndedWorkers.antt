@@ -12,7 +12,7 @@ use Rattle.var_locks.specs.Closing.{AreSeats}
 use Rattle.round_events.specs.Blocked.{IsSeatAmong}
 use Rattle.round_join.specs.Working.{AllWork}
 use Rattle.live_workers.specs.Working.{Given, Course, HasEnded}
-use Rattle.live_workers.specs.Racing.{AllEnded, seat_of, moves_of}
+use Rattle.live_workers.specs.Racing.{AllAnswered, AllEnded, seat_of, moves_of}
 
 -- an item of a mapped list
 pub map_at : {A B : Type 0} (f : A → B) (xs : List A) (t : ℕ) (d : A) → slice_index_or (map f xs) t (f d) ≡ f (slice_index_or xs t d)
@@ -87,17 +87,15 @@ seat_among (x ∷ seats) (suc t) d low = inr (seat_among seats t d (omega (arith
 -- from what each call answered
 pub ended_from : {V E : Type 0} (m : Meaning V) (guide : List Lane) (inputs : ℕ → List Packet) (may : ℕ → Type 0)
     (most : ℕ) (workers : List (Given V)) (results : List (Result (Course V) E)) (courses : List (Course V))
-    → results ≡ map Ok courses → length results ≡ length workers
-    → ((i : ℕ) (d : Given V) (e : Result (Course V) E) → i < length workers
-    → IfOk (slice_index_or results i e) (λ end. HasEnded m guide inputs may most (slice_index_or workers i d) end))
+    → results ≡ map Ok courses → AllAnswered m guide inputs may most workers results
     → AllEnded m guide inputs may most workers courses
-ended_from {V} {E} m guide inputs may most workers results courses are count each =
+ended_from {V} {E} m guide inputs may most workers results courses are answered =
     let all : length courses ≡ length workers =
     sym (map_count (λ (c : Course V). let r : Result (Course V) E = Ok c in r) courses)
-    ∙ sym (ap (λ (l : List (Result (Course V) E)). length l) are) ∙ count in
+    ∙ sym (ap (λ (l : List (Result (Course V) E)). length l) are) ∙ answered.count in
     all_ended m guide inputs may most workers courses all (λ t d e low.
     let at : slice_index_or results t (Ok e) ≡ Ok (slice_index_or courses t e) =
     ap (λ (l : List (Result (Course V) E)). slice_index_or l t (Ok e)) are
     ∙ map_at (λ (c : Course V). let r : Result (Course V) E = Ok c in r) courses t e in
     subst (λ (r : Result (Course V) E).
-    IfOk r (λ end. HasEnded m guide inputs may most (slice_index_or workers t d) end)) at (each t d (Ok e) low))
+    IfOk r (λ end. HasEnded m guide inputs may most (slice_index_or workers t d) end)) at (answered.each t d (Ok e) low))

@@ -1,5 +1,6 @@
 -- A race: workers make the moves of a master's threads beside each other.
 use Rattle.std.specs.Prelude.{◌≡◌, ℕ, ◌+◌, ◌<◌, ◌^◌, List, [], ◌∷◌, length, map, Option, slice_index_or}
+use Rattle.std.specs.Prelude.{IfOk, Result}
 use Rattle.rand_pcg.specs.Lcg.{Lcg}
 use Rattle.plain_text.specs.declared.packet.Packet.{Packet}
 use Rattle.access_log.specs.Held.{Lane}
@@ -63,6 +64,13 @@ AllEnded m guide inputs may most [] (c ∷ courses) = ⊥
 AllEnded m guide inputs may most (w ∷ workers) [] = ⊥
 AllEnded m guide inputs may most (w ∷ workers) (c ∷ courses) =
     HasEnded m guide inputs may most w c × AllEnded m guide inputs may most workers courses
+
+-- Each call of a worker answered: where it did not run out of memory, its worker ended the round.
+pub record AllAnswered {V E : Type 0} (m : Meaning V) (guide : List Lane) (inputs : ℕ → List Packet) (may : ℕ → Type 0)
+    (most : ℕ) (workers : List (Given V)) (answers : List (Result (Course V) E)) : Type 0 where
+  pub count : length answers ≡ length workers
+  pub each : (i : ℕ) (d : Given V) (e : Result (Course V) E) → i < length workers
+      → IfOk (slice_index_or answers i e) (λ end. HasEnded m guide inputs may most (slice_index_or workers i d) end)
 
 -- A race from master p to master q: its workers began with the parts of p, with these generators and limits, and each
 -- ended; their seats closed the round, and their frames were taken.

@@ -10,7 +10,8 @@ ghost use Rattle.var_locks.specs.Rounds.{AreVarsOf};
 ghost use Rattle.frame_intake.specs.Intake.{AreEndsOf, AreTaken};
 ghost use Rattle.frame_intake.specs.Orders.{orders_of};
 ghost use Rattle.live_workers.specs.Working.{Course, Given, HasEnded, IsGivenAmong};
-ghost use Rattle.live_workers.specs.Racing.{AllEnded, AreLeftBy, AreReadyFor, IsRace};
+ghost use Rattle.live_workers.specs.Racing.{AllAnswered, AllEnded, AreLeftBy, AreReadyFor};
+ghost use Rattle.live_workers.specs.Racing.{IsRace};
 
 use crate::draws::Draws;
 use crate::gathering::{Left, part_all, workers_of};
@@ -70,12 +71,8 @@ fn run_all<
     requires lanes { length lanes.now ≡ vars.now.threads }
     requires given { All (IsGivenAmong vars.now lanes.now (inputs_of inputs.now) most)
         workers.items }
-    ensures count { IfOk result (λ ended. length ended.items ≡ length workers.items) }
-    ensures each { IfOk result (λ ended. (i : ℕ) (d : Given P.Value)
-        (e : Result (Course P.Value) NoMemoryValue) → i < length workers.items
-        → IfOk (slice_index_or ended.items i e) (λ end.
-        HasEnded (P.meaning program.now) J.guide (inputs_of inputs.now) (C.may clock.now) most
-        (slice_index_or workers.items i d) end)) }
+    ensures { IfOk result (λ ended. AllAnswered (P.meaning program.now) J.guide
+        (inputs_of inputs.now) (C.may clock.now) most workers.items ended.items) }
 {
     let run = |worker: Worker<P>| -> Result<Working<P>, NoMemory>
         requires { AreVarsOf P.meaning P.row.coded P.Value.row.coded program.now vars.now
@@ -145,6 +142,9 @@ fn run_beside<
                 × (guide.now ≡ J.guide)
                 × (length lanes.now ≡ vars.now.threads)
                 × All (IsGivenAmong vars.now lanes.now (inputs_of inputs.now) most) workers.items }
+            ensures { IfOk result (λ ended. AllAnswered (P.meaning program.entry.now) J.guide
+                (inputs_of inputs.entry.now) (C.may clock.entry.now) most workers.items
+                ended.items) }
         {
             run_all(
                 rt, program, vars, guide, inputs, clock, gate, lanes, &at_work, most, workers,

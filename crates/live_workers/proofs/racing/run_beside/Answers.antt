@@ -1,5 +1,6 @@
-use Rattle.std.proofs.Common.{length}
+use Rattle.std.proofs.Common.{IfOk, subst}
 use Rattle.input_logger.specs.Inputs.{inputs_of}
+use Rattle.live_workers.specs.Racing.{AllAnswered}
 use Rattle.live_workers.proofs.EndedWorkers.{ended_from}
 use Rattle.live_workers.proofs.racing.run_beside.Goals as goal
 
@@ -9,6 +10,8 @@ returns-clause-ended g c =
       k.0,
       ended_from (g.P.Program.meaning c.args.program.now) g.J.Round.guide (inputs_of c.args.inputs.now)
           (g.C.Clock.may c.args.clock.now) c.args.most c.args.workers.items c.in_ok-ended.field-0.items k.0 k.1
-          c.join-ended.ensures.first c.join-ended.ensures.first,
+          (subst (λ r. IfOk r (λ ended. AllAnswered (g.P.Program.meaning c.args.program.now) g.J.Round.guide
+          (inputs_of c.args.inputs.now) (g.C.Clock.may c.args.clock.now) c.args.most c.args.workers.items ended.items))
+          c.in_ok-ended.was c.join-ended.ensures.first),
       k.2,
     )
