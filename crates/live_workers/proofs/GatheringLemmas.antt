@@ -22,6 +22,11 @@ pub last_taken : {A : Type 0} (all before now done : List A) (x : A) → all ≡
     → all ≡ now ++ x ∷ done
 last_taken all before now done x are last = are ∙ (ap (λ l. l ++ done) last ∙ append_again now x done)
 
+pub last_taken_as : {A : Type 0} (all before now done : List A) (y x : A) → y ≡ x → all ≡ before ++ done
+    → before ≡ now ++ y ∷ [] → all ≡ now ++ x ∷ done
+last_taken_as all before now done y x is are last =
+    last_taken all before now done x are (last ∙ ap (λ z. now ++ z ∷ []) is)
+
 -- it is put behind the others
 pub put_last : {A : Type 0} (x : A) (done before now : List A) → before ≡ reverse done → now ≡ before ++ x ∷ []
     → now ≡ reverse (x ∷ done)
@@ -44,6 +49,15 @@ same_left l l_now x k k_now y same one other =
     let l_len : length l ≡ length l_now + 1 = ap length one ∙ length-append l_now (x ∷ []) in
     let k_len : length k ≡ length k_now + 1 = ap length other ∙ length-append k_now (y ∷ []) in
     omega (arith, same, l_len, k_len)
+
+pub one_longer : {A : Type 0} (before now : List A) (x : A) → before ≡ now ++ x ∷ [] → length before ≡ length now + 1
+one_longer before now x is = ap length is ∙ length-append now (x ∷ [])
+
+-- the number of the thread whose limit was asked for
+pub limit_at : (limits : ℕ → Option ℕ) (limit : Option ℕ) (thread len count n : ℕ) → thread ≡ len → len ≡ count
+    → count ≡ n → limit ≡ limits thread → limit ≡ limits n
+limit_at limits limit thread len count n thread_is len_is count_is is =
+    is ∙ ap limits (thread_is ∙ (len_is ∙ count_is))
 
 -- the workers from this number on have these limits
 abbrev pub AreLimitsFrom : {V : Type 0} → (ℕ → Option ℕ) → ℕ → List (Given V) → Type 0
@@ -72,21 +86,25 @@ from_none n t none = omega (arith, none)
 module _ {V : Type 0} (seats : List (Seated V)) (generators : List Lcg) (outboxes : List Posted)
     (limits : ℕ → Option ℕ) (seats_left : List (Seated V)) (generators_left : List Lcg)
     (outboxes_left : List Posted) (done : List (Given V)) where
-  pub all_made : length seats_left ≡ 0 → length generators_left ≡ length seats_left
+  pub all_made : (n : ℕ) → n ≡ length seats_left → n ≡ 0 → length generators_left ≡ length seats_left
       → length outboxes_left ≡ length seats_left → seats ≡ seats_left ++ map (λ w. w.seat) done
       → generators ≡ generators_left ++ map (λ w. w.generator) done
       → outboxes ≡ outboxes_left ++ map (λ w. w.outbox) done → AreLimitsFrom limits (length seats_left) done
       → AreWorkers seats generators outboxes limits done
-  all_made none as_generators as_outboxes are_seats are_generators are_outboxes are_limits = record {
-    seats_are = all_taken seats seats_left (map (λ w. w.seat) done) are_seats none;
-    generators_are = all_taken generators generators_left (map (λ w. w.generator) done) are_generators
-        (as_generators ∙ none);
-    outboxes_are = all_taken outboxes outboxes_left (map (λ w. w.outbox) done) are_outboxes (as_outboxes ∙ none);
-    limits_are = λ t d within. are_limits t d within ∙ ap limits (from_none (length seats_left) t none);
-  }
+  all_made n len len_none as_generators as_outboxes are_seats are_generators are_outboxes are_limits =
+      let none : length seats_left ≡ 0 = sym len ∙ len_none in
+      record {
+        seats_are = all_taken seats seats_left (map (λ w. w.seat) done) are_seats none;
+        generators_are = all_taken generators generators_left (map (λ w. w.generator) done) are_generators
+            (as_generators ∙ none);
+        outboxes_are = all_taken outboxes outboxes_left (map (λ w. w.outbox) done) are_outboxes
+            (as_outboxes ∙ none);
+        limits_are = λ t d within. are_limits t d within ∙ ap limits (from_none (length seats_left) t none);
+      }
 
-  pub all_reversed : (made workers : List (Given V)) → made ≡ reverse done → workers ≡ reverse made
-      → AreWorkers seats generators outboxes limits done → AreWorkers seats generators outboxes limits workers
-  all_reversed made workers are turned all =
-      subst (λ (l : List (Given V)). AreWorkers seats generators outboxes limits l)
-      (sym (turned ∙ (ap reverse are ∙ reverse-reverse done))) all
+pub all_reversed : {V : Type 0} (seats : List (Seated V)) (generators : List Lcg) (outboxes : List Posted)
+    (limits : ℕ → Option ℕ) (done made workers : List (Given V)) → made ≡ reverse done → workers ≡ reverse made
+    → AreWorkers seats generators outboxes limits done → AreWorkers seats generators outboxes limits workers
+all_reversed seats generators outboxes limits done made workers are turned all =
+    subst (λ (l : List (Given _)). AreWorkers seats generators outboxes limits l)
+    (sym (turned ∙ (ap reverse are ∙ reverse-reverse done))) all

@@ -43,7 +43,7 @@ pub(crate) fn workers_of<P: Program>(
         let Some(outbox) = outboxes.pop() else {
             unreachable!()
         };
-        // More seats than there are numbers of threads, which are u32, no memory has.
+        // A thread has a number of 32 bits: no memory has more seats than that.
         let Ok(thread) = u32::try_from(seats.len()) else {
             return Err(NoMemory);
         };

@@ -1,7 +1,7 @@
-use Rattle.std.proofs.Common.{[], ◌∷◌, ◌++◌, Ok, map, ap, ◌∙◌}
+use Rattle.std.proofs.Common.{[], ◌∷◌, Ok, map, ap}
 use Rattle.live_workers.specs.Working.{Course}
 use Rattle.live_workers.specs.Racing.{seat_of, moves_of, generator_of, outbox_of}
-use Rattle.live_workers.proofs.GatheringLemmas.{append_none, last_taken, put_behind}
+use Rattle.live_workers.proofs.GatheringLemmas.{append_none, last_taken_as, put_behind}
 use Rattle.live_workers.proofs.gathering.part_all.Goals as goal
 
 pub loop-one-init : goal.loop-one-init
@@ -21,8 +21,8 @@ loop-one-preserved g c =
     let view = c.seat.view_is in
     let now = c.pop.new.self.items in (
       w ∷ done,
-      last_taken c.args.ended.items c.loop-one.ended.items now (map Ok done) (Ok w) c.loop-one.invariant.1
-          (c.in-Some.ensures.items ∙ ap (λ e. now ++ e ∷ []) c.in_ok-seat.was),
+      last_taken_as c.args.ended.items c.loop-one.ended.items now (map Ok done) c.in-Some.one (Ok w)
+          c.in_ok-seat.was c.loop-one.invariant.1 c.in-Some.ensures.items,
       put_behind seat_of w done c.loop-one.left.seats.items c.push.new.self.items c.seat.inside.seat
           (ap seat_of view) c.loop-one.invariant.2 c.in_ok-push.ensures.items,
       put_behind moves_of w done c.loop-one.left.moves.items c.push-in-Some.new.self.items c.seat.inside.moves

@@ -1,9 +1,8 @@
-use Rattle.std.proofs.Common.{[], ◌∷◌, map, length, ap, sym, ◌∙◌, arith}
-use Rattle.std.proofs.lemmas.List.{length-append}
+use Rattle.std.proofs.Common.{[], ◌∷◌, map, length, arith}
 use Rattle.frame_intake.specs.Orders.{orders_of}
 use Rattle.live_workers.specs.Working.{Given}
-use Rattle.live_workers.proofs.GatheringLemmas.{all_made, all_reversed, append_none, last_taken, limits_before}
-use Rattle.live_workers.proofs.GatheringLemmas.{none_missing, put_last, same_left}
+use Rattle.live_workers.proofs.GatheringLemmas.{all_made, all_reversed, append_none, last_taken, limit_at}
+use Rattle.live_workers.proofs.GatheringLemmas.{limits_before, none_missing, one_longer, put_last, same_left}
 use Rattle.live_workers.proofs.gathering.workers_of.Goals as goal
 
 pub loop-seat-init : goal.loop-seat-init
@@ -40,8 +39,7 @@ loop-seat-preserved g c =
       outbox = c.in-Some-pop-2.outbox;
       limit = c.most_moves.result;
     } in
-    let limits = (orders_of c.args.orders.now).moves in
-    let number = c.in-Ok.ensures.1 ∙ (c.len-in-Some.ensures ∙ c.pop.new.self.ok.0) in (
+    let limits = (orders_of c.args.orders.now).moves in (
       same_left c.loop-seat.generators.items c.pop-in-Some.new.self.items w.generator c.loop-seat.seats.items
           c.pop.new.self.items w.seat was.0 c.in-Some-pop.ensures.items c.in-Some.ensures.items,
       same_left c.loop-seat.outboxes.items c.pop-in-Some-2.new.self.items w.outbox c.loop-seat.seats.items
@@ -56,8 +54,10 @@ loop-seat-preserved g c =
             (map (λ w. w.outbox) done) w.outbox was.2.3 c.in-Some-pop-2.ensures.items,
         put_last w done c.loop-seat.workers.items c.push.new.self.items was.2.4 c.in_ok-push.ensures.items,
         limits_before limits (length c.loop-seat.seats.items) (length c.pop.new.self.items) w done
-            (ap length c.in-Some.ensures.items ∙ length-append c.pop.new.self.items (w.seat ∷ []))
-            (c.most_moves.ensures ∙ ap limits number) was.2.5,
+            (one_longer c.loop-seat.seats.items c.pop.new.self.items w.seat c.in-Some.ensures.items)
+            (limit_at limits w.limit c.in-Ok.thread c.len-in-Some.result c.pop.new.self.len
+            (length c.pop.new.self.items) c.in-Ok.ensures.1 c.len-in-Some.ensures c.pop.new.self.ok.0
+            c.most_moves.ensures) was.2.5,
       ),
     )
 
@@ -65,10 +65,8 @@ pub returns : goal.returns
 returns g c =
     let was = c.loop-seat.invariant in
     let limits = (orders_of c.args.orders.now).moves in
-    all_reversed c.args.seats.items c.args.generators.items c.args.outboxes.items limits c.loop-seat.seats.items
-    c.loop-seat.generators.items c.loop-seat.outboxes.items was.2.0 c.loop-seat.workers.items
-    c.reverse.new.self.items was.2.4 c.reverse.ensures.items
+    all_reversed c.args.seats.items c.args.generators.items c.args.outboxes.items limits was.2.0
+    c.loop-seat.workers.items c.reverse.new.self.items was.2.4 c.reverse.ensures.items
     (all_made c.args.seats.items c.args.generators.items c.args.outboxes.items limits c.loop-seat.seats.items
-    c.loop-seat.generators.items c.loop-seat.outboxes.items was.2.0
-    (sym c.loop-seat.seats.ok.0 ∙ c.in_default.ensures.cases.0) was.0 was.1 was.2.1
-    was.2.2 was.2.3 was.2.5)
+    c.loop-seat.generators.items c.loop-seat.outboxes.items was.2.0 c.loop-seat.seats.len c.loop-seat.seats.ok.0
+    c.in_default.ensures.cases.0 was.0 was.1 was.2.1 was.2.2 was.2.3 was.2.5)
