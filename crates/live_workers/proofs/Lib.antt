@@ -2,6 +2,7 @@ pub mod EndedWorkers
 pub mod Generators
 pub mod GatheringLemmas
 pub mod MovingLemmas
+pub mod RaceLemmas
 pub mod ReadyThreads
 pub mod RoundSteps
 pub mod Rounding
