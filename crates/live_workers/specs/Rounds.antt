@@ -14,7 +14,9 @@ use Rattle.plan_script.specs.Orders.{Orders, AreLeft, first_ones}
 use Rattle.plan_script.specs.Rounds.{AreWoven, HasStopped, frames_of, of_thread, step_events}
 use Rattle.recovery_core.specs.Systems.{Systemed, SystemStands}
 use Rattle.round_join.specs.declared.noting.Noted.{Noted}
-use Rattle.round_join.specs.Racing.{IsAfterSteps, events_noted, lines_noted, steps_by}
+use Rattle.round_join.specs.Racing.{IsAfterSteps, StoppedAt, events_noted, lines_noted, steps_by}
+use Rattle.live_workers.specs.declared.rounds.RoundStop.{RoundStop}
+use Rattle.live_workers.specs.declared.rounds.RoundStop.TheVariants as stop
 use Rattle.live_workers.specs.Telling.{IsToldBy}
 
 -- what the move of thread t was told, and how the generator of the thread went on
@@ -31,8 +33,13 @@ StepsTold may guide t [] g new = new ≡ g
 StepsTold may guide t (x ∷ earlier) g new =
     (mid : Lcg) × StepsTold may guide t earlier g mid × IsToldIn may guide t x.act mid new
 
+-- every thread is idle
+abbrev pub AreIdle : {V : Type 0} → Setting V → World V → Type 0
+AreIdle s w = (t : ℕ) → t < s.threads → On s w (event.Step t None) outcome.Idle [] w
+
 -- A round in a world: the steps that its threads made, one after another in the woven order, lead to the world for which
--- the system stands now; each thread stopped where it may; these frames may arrive.
+-- the system stands now. Each thread stopped where it may, and where none has a limit all are idle. These frames may
+-- arrive, and the generators went on from those before to those after.
 pub record Rounds {P V : Type 0} (m : Meaning V) (s : Setting V) (w : World V) (orders : Orders) (may : ℕ → Type 0)
     (guide : List Lane) (before : List Lcg) (noted : List Noted) (arriving : List Message) (after : List Lcg)
     (y : Systemed P V) : Type 0 where
@@ -43,11 +50,15 @@ pub record Rounds {P V : Type 0} (m : Meaning V) (s : Setting V) (w : World V) (
   pub world : IsAfterSteps w steps there
   pub woven : AreWoven w.past steps
   pub stopped : (t : ℕ) → t < s.threads → HasStopped s there t (orders.moves t) (moves_of t steps)
+  pub idle : ((t : ℕ) → t < s.threads → orders.moves t ≡ None) → AreIdle s there
   pub arrive : (t : ℕ) → AreLeft orders.lost (first_ones (orders.frames t) (frames_of t steps)) (of_thread t arriving)
   pub told : (t : ℕ) (g : Lcg) → t < s.threads
       → StepsTold may guide t (steps_by t steps) (slice_index_or before t g) (slice_index_or after t g)
   pub stands : SystemStands m s there y
 
--- every thread is idle
-abbrev pub AreIdle : {V : Type 0} → Setting V → World V → Type 0
-AreIdle s w = (t : ℕ) → t < s.threads → On s w (event.Step t None) outcome.Idle [] w
+-- Where a round came to no end at a limit, these events were performed, the first of its steps, which stand as a plan's
+-- round has them; and the next one would pass the limit. Where memory ran out, nothing is said.
+abbrev pub Stops : {V : Type 0} → Setting V → World V → RoundStop → Type 0
+Stops {V} s w (stop.Limit limit noted next) =
+    (steps : List (Step V)) × AreWoven w.past steps × StoppedAt s w (step_events steps) noted.items limit next
+Stops s w stop.NoMemory = Unit {0}

@@ -6,6 +6,8 @@ mod draws;
 mod gathering;
 mod moving;
 mod racing;
+mod rounds;
 mod working;
 
 pub use draws::Draws;
+pub use rounds::{RoundStop, RoundDone, round};

@@ -1,0 +1,157 @@
+//! A round of racing threads, by the recovering system.
+ghost use Rattle.std.specs.Prelude.{◌≡◌, true, false, IfErr, IfOk, List, length};
+ghost use Rattle.master_core.specs.Mastered.{Mastered};
+ghost use Rattle.recovery_world.specs.World.{Setting, World};
+ghost use Rattle.recovery_core.specs.Systems.{SystemStands};
+ghost use Rattle.atomic_table.specs.Seated.{TableId};
+ghost use Rattle.var_locks.specs.Seats.{Seated};
+ghost use Rattle.frame_intake.specs.Orders.{orders_of};
+ghost use Rattle.round_join.specs.Racing.{CameTo, HasRaced, Raced};
+ghost use Rattle.live_workers.specs.Rounds.{Rounds, Stops};
+
+use crate::draws::Draws;
+use crate::racing::run_race;
+use box_program::Program;
+use frame_intake::{FrameName, RoundOrders};
+use plain_machine::PlainMove;
+use plain_text::{Limit, MOST_MOVES, NoMemory};
+use recovery_core::{System, SystemParted};
+use round_join::{Moves, NoteStop, Noted, note_round};
+use round_order::Marks;
+use std::alloc::Global;
+use std::sync::Wait;
+use std::thread::Threads;
+use system_rest::Rest;
+use var_locks::Gate;
+use world_io::Clock;
+
+/// What a round came to.
+#[derive(Drop)]
+pub struct RoundDone<P: Program> {
+    /// The system after the steps.
+    pub system: System<P>,
+    /// The steps that the threads made, one after another, as events with what each came to.
+    pub steps: Vec<Noted>,
+    /// The frames that may arrive now, in the order in which the intake took them.
+    pub arriving: Vec<FrameName>,
+    /// The generators of the next round.
+    pub draws: Draws,
+}
+
+/// Why a round came to no end. The system is gone.
+#[derive(Drop)]
+pub enum RoundStop {
+    /// After these steps the next one would pass the limit.
+    Limit {
+        limit: Limit,
+        steps: Vec<Noted>,
+        next: PlainMove,
+    },
+    NoMemory,
+}
+
+impl From<NoMemory> for RoundStop {
+    ghost use Rattle.std.specs.Prelude.{◌≡◌};
+    ghost use Rattle.live_workers.specs.declared.rounds.RoundStop.TheVariants as stop;
+
+    ghost from_gives = { λ _ r. r ≡ stop.NoMemory };
+
+    fn from(_: NoMemory) -> Self {
+        RoundStop::NoMemory
+    }
+}
+
+/// Notes the moves of a race in the woven order.
+fn note_moves<P: Program>(
+    alloc: Global,
+    rest: &mut Rest<P>,
+    marks: &[Marks],
+    moves: Vec<Moves>,
+) -> Result<Vec<Noted>, RoundStop>
+    requires raced { HasRaced (P.meaning rest.old.program) (P.fits rest.old.program) marks.now
+        moves.items rest.old }
+    ensures came { IfOk result (λ noted. (s : Setting P.Value) (w : World P.Value)
+        (p : Mastered P.Value) (round : TableId) (seats : List (Seated P.Value))
+        (q : Mastered P.Value)
+        → Raced (P.meaning rest.old.program) (P.fits rest.old.program) s w p round seats q
+        marks.entry.now moves.items rest.old
+        → CameTo (P.meaning rest.old.program) s w seats q moves.items rest.old.guide
+        noted.items rest.new) }
+    ensures stops { IfErr result (λ stop. (s : Setting P.Value) (w : World P.Value)
+        (p : Mastered P.Value) (round : TableId) (seats : List (Seated P.Value))
+        (q : Mastered P.Value)
+        → Raced (P.meaning rest.old.program) (P.fits rest.old.program) s w p round seats q
+        marks.entry.now moves.items rest.old
+        → Stops s w stop) }
+    ensures program { IfOk result (λ noted. rest.new.program ≡ rest.old.program) }
+{
+    let mut steps = Vec::new(alloc);
+    match note_round(alloc, rest, marks, moves, &mut steps) {
+        Ok(()) => Ok(steps),
+        Err(NoteStop::Limit { limit, next }) => Err(RoundStop::Limit { limit, steps, next }),
+        Err(NoteStop::NoMemory) => Err(RoundStop::NoMemory),
+    }
+}
+
+/// Threads race in a round: each makes moves until it made as many as it is ordered, is idle, or waits for an entry that
+/// is missing. Afterwards the system stands where it would stand had the moves been events `step`, one after another.
+///
+/// Each thread is run by a worker, on a thread of the machine, or by the caller where none can be started. An intake
+/// takes the workers' frames while they move; which of them may arrive is told, and they have not arrived yet.
+pub fn round<
+    P: Program + Send + Sync,
+    C: Clock + Sync,
+    G: Gate + Sync,
+    R: AllocGlobal + Threads + Wait + Sync,
+>(
+    rt: &R,
+    system: System<P>,
+    clock: &C,
+    gate: &G,
+    orders: &RoundOrders,
+    draws: Draws,
+) -> Result<RoundDone<P>, RoundStop>
+    requires runs { system.stopped ≡ false }
+    requires up { system.parts.up ≡ true }
+    requires draws { length draws ≡ system.parts.inputs.threads }
+
+    // For every world that the system stood for.
+    ensures on { IfOk result (λ r. (s : Setting P.Value) (w : World P.Value)
+        → SystemStands (P.meaning system.parts.program) s w system
+        → Rounds (P.meaning system.parts.program) s w (orders_of orders.now) (C.may clock.now)
+        system.parts.guide draws r.steps.items r.arriving.items r.draws r.system) }
+    ensures stops { IfErr result (λ stop. (s : Setting P.Value) (w : World P.Value)
+        → SystemStands (P.meaning system.parts.program) s w system → Stops s w stop) }
+    ensures goes_on { IfOk result (λ r. r.system.stopped ≡ false) }
+    ensures program { IfOk result (λ r. r.system.parts.program ≡ system.parts.program) }
+{
+    let alloc = rt.alloc();
+    let SystemParted {
+        master,
+        mut rest,
+        kept,
+    } = system.part()?;
+    rest.has_parts();
+    let most = u64::from(MOST_MOVES) - rest.moves() + 1;
+    let race = run_race(
+        rt,
+        rest.program(),
+        rest.guide(),
+        rest.inputs(),
+        clock,
+        gate,
+        master,
+        orders,
+        draws,
+        most,
+    )?;
+    let steps = note_moves(alloc, &mut rest, &race.marks, race.moves)?;
+    rest.has_parts();
+    let arriving = orders.arriving(alloc, &race.frames)?;
+    Ok(RoundDone {
+        system: System::rejoin(rest, race.master, kept),
+        steps,
+        arriving,
+        draws: Draws::of(race.generators),
+    })
+}
