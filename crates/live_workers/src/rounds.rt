@@ -10,7 +10,7 @@ ghost use Rattle.round_join.specs.Racing.{CameTo, HasRaced, Raced};
 ghost use Rattle.live_workers.specs.Rounds.{Rounds, Stops};
 
 use crate::draws::Draws;
-use crate::racing::run_race;
+use crate::racing::{Race, run_race};
 use box_program::Program;
 use frame_intake::{FrameName, RoundOrders};
 use plain_machine::PlainMove;
@@ -133,7 +133,13 @@ pub fn round<
     } = system.part()?;
     rest.has_parts();
     let most = u64::from(MOST_MOVES) - rest.moves() + 1;
-    let race = run_race(
+    let Race {
+        master,
+        marks,
+        moves,
+        generators,
+        frames,
+    } = run_race(
         rt,
         rest.program(),
         rest.guide(),
@@ -145,13 +151,13 @@ pub fn round<
         draws,
         most,
     )?;
-    let steps = note_moves(alloc, &mut rest, &race.marks, race.moves)?;
+    let steps = note_moves(alloc, &mut rest, &marks, moves)?;
     rest.has_parts();
-    let arriving = orders.arriving(alloc, &race.frames)?;
+    let arriving = orders.arriving(alloc, &frames)?;
     Ok(RoundDone {
-        system: System::rejoin(rest, race.master, kept),
+        system: System::rejoin(rest, master, kept),
         steps,
         arriving,
-        draws: Draws::of(race.generators),
+        draws: Draws::of(generators),
     })
 }
