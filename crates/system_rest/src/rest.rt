@@ -155,4 +155,10 @@ impl<P: Program> Rest<P> {
         core.master = master;
         core
     }
+
+    /// Lets go of the rest of a system. A function that may end early gives it to this call: so how all parts are let
+    /// go is proved once.
+    pub fn discard(self) {
+        drop(self.core);
+    }
 }
