@@ -11,6 +11,8 @@ mod boxes;
 #[cfg(test)]
 mod courses;
 #[cfg(test)]
+mod draws;
+#[cfg(test)]
 mod packets;
 #[cfg(test)]
 mod racing;
