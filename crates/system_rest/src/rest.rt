@@ -50,6 +50,8 @@ pub fn part<P: Program>(mut core: Core<P>) -> Result<Parted<P>, NoMemory>
         → StandsFor (P.meaning core.program) s w core
         → RestsFor (P.meaning core.program) s w parted.rest
         × Stands s.meaning s.threads w.past parted.master) }
+    ensures same { IfOk result (λ parted.
+        parted.rest ≡ record core { master = parted.rest.master }) }
     ensures program { IfOk result (λ parted. parted.rest.program ≡ core.program) }
     ensures fits { IfOk result (λ parted. FitsProgram (P.meaning core.program)
         (P.fits core.program) value_of parted.master.vars) }
