@@ -90,8 +90,8 @@ frames_same t x stepped.Idle of own is = absurd is
 frames_same t x (stepped.NotTurn u n) of own is = absurd is
 frames_same t x stepped.NoMemory of own is = absurd is
 
-module _ {V : Type 0} (t : ℕ) (x : Step V) (steps : List (Step V)) (one : IsOwned x)
-    (others : (l : List Made) → AreStepsOf l (steps_by t steps) → frames_of t steps ≡ messages_of t (frames_made l)) where
+module _ {V : Type 0} (t : ℕ) (x : Step V) (steps : List (Step V)) (one : IsOwned x) (others : (l : List Made)
+    → AreStepsOf l (steps_by t steps) → frames_of t steps ≡ messages_of t (frames_made l)) where
   mine : x.thread ≡ t → (l : List Made) → AreStepsOf l (x ∷ steps_by t steps)
       → frames_of t steps ++ frames_by x.act ≡ messages_of t (frames_made l)
   mine of [] is = absurd is
@@ -116,7 +116,8 @@ module _ {V : Type 0} (t : ℕ) (x : Step V) (steps : List (Step V)) (one : IsOw
           ∙ others moves
           (subst (λ (c : Bool). AreStepsOf moves (cond c (x ∷ steps_by t steps) (steps_by t steps))) b are)
 
-no_frames : (V : Type 0) (t : ℕ) (moves : List Made) → AreStepsOf {V = V} moves [] → [] ≡ messages_of t (frames_made moves)
+no_frames : (V : Type 0) (t : ℕ) (moves : List Made) → AreStepsOf {V = V} moves []
+    → [] ≡ messages_of t (frames_made moves)
 no_frames V t [] are = refl
 no_frames V t (k ∷ moves) are = absurd are
 

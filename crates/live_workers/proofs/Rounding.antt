@@ -1,5 +1,6 @@
 -- A race is a round of the recovering system.
-use Rattle.std.proofs.Common.{◌≡◌, ℕ, ◌+◌, ◌≤◌, ◌<◌, ◌⊎◌, inl, inr, true, List, [], ◌∷◌, ◌++◌, length, map, refl, sym, ap}
+use Rattle.std.proofs.Common.{◌≡◌, ℕ, ◌+◌, ◌≤◌, ◌<◌, ◌⊎◌, inl, inr, true, List, [], ◌∷◌, ◌++◌, length, map, refl, sym}
+use Rattle.std.proofs.Common.{ap}
 use Rattle.std.proofs.Common.{◌∙◌, subst, Option, Some, None, arith}
 use Rattle.std.specs.Prelude.{slice_get, slice_index_or}
 use Rattle.rand_pcg.specs.Lcg.{Lcg}
@@ -72,12 +73,15 @@ pub race_with : {P V : Type 0} (meaning : P → Meaning V) (fits : P → ℕ →
     (frames : List Message) → a ≡ b → g ≡ h → i ≡ j
     → IsRace (meaning a) (fits a) g (inputs_of i) may most limits p before q marks moves after frames
     → IsRace (meaning b) (fits b) h (inputs_of j) may most limits p before q marks moves after frames
-race_with {P} {V} meaning fits a b g h i j may most limits p before q marks moves after frames program guide inputs race =
+race_with {P} {V} meaning fits a b g h i j may most limits p before q marks moves after frames program guide
+    inputs race =
     subst (λ (x : P). IsRace (meaning x) (fits x) h (inputs_of j) may most limits p before q marks moves after frames)
     program
-    (subst (λ (x : List Lane).
-    IsRace (meaning a) (fits a) x (inputs_of j) may most limits p before q marks moves after frames) guide
-    (subst (λ (x : Fed). IsRace (meaning a) (fits a) g (inputs_of x) may most limits p before q marks moves after frames)
+    (subst
+    (λ (x : List Lane). IsRace (meaning a) (fits a) x (inputs_of j) may most limits p before q marks moves after frames)
+    guide
+    (subst
+    (λ (x : Fed). IsRace (meaning a) (fits a) g (inputs_of x) may most limits p before q marks moves after frames)
     inputs race))
 
 module _ {P V : Type 0} (m : Meaning V) (fits : ℕ → V → Type 0) (s : Setting V) (w : World V) (y : Parts P V)
@@ -281,25 +285,24 @@ module _ {P V : Type 0} (m : Meaning V) (fits : ℕ → V → Type 0) (s : Setti
       → y.moves + most ≡ MOST_MOVES + 1 → (orders : Orders) → ((t : ℕ) → limits t ≡ orders.moves t)
       → (arriving : List Message) → Arrive orders frames arriving
       → RoundsRest m s w orders may y.guide before noted arriving after q new
-  rounds noted new came few most_is orders limits_are arriving arrive =
-      (
-        came.there,
-        record {
-          steps = came.steps;
-          performs = came.performs;
-          events_are = came.events_are;
-          world = came.after;
-          woven = came.woven;
-          stopped = stops noted new came few most_is orders limits_are;
-          idle = λ none. ends_idle s came.there (λ t. moves_of t came.steps) came.rests.sound
-              (ap (λ (z : World V). z.up) came.after.world ∙ up)
-              (λ t low. subst (λ (l : Option ℕ). HasStopped s came.there t l (moves_of t came.steps)) (none t low)
-              (stops noted new came few most_is orders limits_are t low));
-          arrive = λ t. subst (λ (l : List Message).
-              AreLeft orders.lost (first_ones (orders.frames t) l) (of_thread t arriving)) (frames_sent noted new came t)
-              (arrive t);
-          told = λ t g low. told noted new came t low some_seat g;
-        },
-        came.rests,
-        came.stands,
-      )
+  rounds noted new came few most_is orders limits_are arriving arrive = (
+    came.there,
+    record {
+      steps = came.steps;
+      performs = came.performs;
+      events_are = came.events_are;
+      world = came.after;
+      woven = came.woven;
+      stopped = stops noted new came few most_is orders limits_are;
+      idle = λ none. ends_idle s came.there (λ t. moves_of t came.steps) came.rests.sound
+          (ap (λ (z : World V). z.up) came.after.world ∙ up)
+          (λ t low. subst (λ (l : Option ℕ). HasStopped s came.there t l (moves_of t came.steps)) (none t low)
+          (stops noted new came few most_is orders limits_are t low));
+      arrive = λ t. subst (λ (l : List Message).
+          AreLeft orders.lost (first_ones (orders.frames t) l) (of_thread t arriving)) (frames_sent noted new came t)
+          (arrive t);
+      told = λ t g low. told noted new came t low some_seat g;
+    },
+    came.rests,
+    came.stands,
+  )

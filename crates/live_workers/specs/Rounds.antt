@@ -42,8 +42,8 @@ abbrev pub AreIdle : {V : Type 0} → Setting V → World V → Type 0
 AreIdle s w = (t : ℕ) → t < s.threads → On s w (event.Step t None) outcome.Idle [] w
 
 -- A round from one world to another: the steps that its threads made, one after another in the woven order, lead there.
--- Each thread stopped where it may, and where none has a limit all are idle. These frames may arrive, and the generators
--- went on from those before to those after.
+-- Each thread stopped where it may, and where none has a limit all are idle. These frames may arrive, and the
+-- generators went on from those before to those after.
 pub record IsRoundTo {V : Type 0} (s : Setting V) (w : World V) (orders : Orders) (may : ℕ → Type 0) (guide : List Lane)
     (before : List Lcg) (noted : List Noted) (arriving : List Message) (after : List Lcg)
     (there : World V) : Type 0 where

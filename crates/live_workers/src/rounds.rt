@@ -167,8 +167,9 @@ fn go_round<
     })
 }
 
-/// Threads race in a round: each makes moves until it made as many as it is ordered, is idle, or waits for an entry that
-/// is missing. Afterwards the system stands where it would stand had the moves been events `step`, one after another.
+/// Threads race in a round: each makes moves until it made as many as it is ordered, is idle, or waits for an entry
+/// that is missing. Afterwards the system stands where it would stand had the moves been events `step`, one after
+/// another.
 ///
 /// Each thread is run by a worker, on a thread of the machine, or by the caller where none can be started. An intake
 /// takes the workers' frames while they move; which of them may arrive is told, and they have not arrived yet.

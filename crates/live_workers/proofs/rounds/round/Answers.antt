@@ -36,8 +36,7 @@ returns-in-Ok-clause-on g c = λ s w st.
     let stands = c.rejoin.ensures.stands s r.0
     (subst (λ q. RestsFor (g.P.Program.meaning q) s r.0 c.go_round.new.rest) (sym c.in-Ok.ensures.program) r.2) r.3 in
     let released : r.0.released ≡ w.released =
-    ap (λ (z : World g.row.P-Value.Denot). z.released) r.1.world.world in
-    (
+    ap (λ (z : World g.row.P-Value.Denot). z.released) r.1.world.world in (
       r.0,
       subst (λ (l : List Lane). IsRoundTo s w (orders_of c.args.orders.now) (g.C.Clock.may c.args.clock.now) l
           c.args.draws c.in-Ok.over.steps.items c.in-Ok.over.arriving.items c.in-Ok.over.draws r.0)
