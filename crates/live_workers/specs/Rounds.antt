@@ -75,7 +75,7 @@ RoundsRest {P} {V} m s w orders may guide before noted arriving after q y =
 
 -- Where a round came to no end at a limit, these events were performed, the first of its steps, which stand as a plan's
 -- round has them; and the next one would pass the limit. Where memory ran out, nothing is said.
-abbrev pub Stops : {V : Type 0} → Setting V → World V → RoundStop → Type 0
-Stops {V} s w (stop.Limit limit noted next) =
+abbrev pub StopsRound : {V : Type 0} → Setting V → World V → RoundStop → Type 0
+StopsRound {V} s w (stop.Limit limit noted next) =
     (steps : List (Step V)) × AreWoven w.past steps × StoppedAt s w (step_events steps) noted.items limit next
-Stops s w stop.NoMemory = Unit {0}
+StopsRound s w stop.NoMemory = Unit {0}

@@ -11,7 +11,7 @@ ghost use Rattle.atomic_table.specs.Seated.{TableId};
 ghost use Rattle.var_locks.specs.Seats.{Seated};
 ghost use Rattle.frame_intake.specs.Orders.{orders_of};
 ghost use Rattle.round_join.specs.Racing.{CameTo, HasRaced, Raced};
-ghost use Rattle.live_workers.specs.Rounds.{Rounds, RoundsRest, Stops};
+ghost use Rattle.live_workers.specs.Rounds.{Rounds, RoundsRest, StopsRound};
 
 use crate::draws::Draws;
 use crate::racing::{Race, run_race};
@@ -96,7 +96,7 @@ fn note_moves<P: Program>(
         (q : Mastered P.Value)
         → Raced (P.meaning rest.old.program) (P.fits rest.old.program) s w p round seats q
         marks.entry.now moves.items rest.old
-        → Stops s w stop) }
+        → StopsRound s w stop) }
     ensures program { IfOk result (λ noted. rest.new.program ≡ rest.old.program) }
 {
     let mut steps = Vec::new(alloc);
@@ -135,7 +135,7 @@ fn go_round<
         rest.old.guide draws r.steps.items r.arriving.items r.draws r.master rest.new) }
     ensures stops { IfErr result (λ stop. (s : Setting P.Value) (w : World P.Value)
         → RestsFor (P.meaning rest.old.program) s w rest.old
-        → Stands s.meaning s.threads w.past master → Stops s w stop) }
+        → Stands s.meaning s.threads w.past master → StopsRound s w stop) }
     ensures fits { IfOk result (λ r. FitsProgram (P.meaning rest.old.program)
         (P.fits rest.old.program) value_of r.master.vars) }
     ensures program { IfOk result (λ r. rest.new.program ≡ rest.old.program) }
@@ -196,7 +196,7 @@ pub fn round<
         → Rounds (P.meaning system.parts.program) s w (orders_of orders.now) (C.may clock.now)
         system.parts.guide draws r.steps.items r.arriving.items r.draws r.system) }
     ensures stops { IfErr result (λ stop. (s : Setting P.Value) (w : World P.Value)
-        → SystemStands (P.meaning system.parts.program) s w system → Stops s w stop) }
+        → SystemStands (P.meaning system.parts.program) s w system → StopsRound s w stop) }
     ensures goes_on { IfOk result (λ r. r.system.stopped ≡ false) }
     ensures program { IfOk result (λ r. r.system.parts.program ≡ system.parts.program) }
 {

@@ -10,7 +10,7 @@ use Rattle.system_parts.specs.Resting.{RestsFor}
 use Rattle.system_parts.specs.SystemStanding.{StandsFor}
 use Rattle.recovery_core.specs.Partings.{PartsStandForSome}
 use Rattle.frame_intake.specs.Orders.{orders_of}
-use Rattle.live_workers.specs.Rounds.{IsRoundTo, Stops}
+use Rattle.live_workers.specs.Rounds.{IsRoundTo, StopsRound}
 use Rattle.live_workers.proofs.rounds.round.Goals as goal
 
 pub go_round-requires-clause-some : goal.go_round-requires-clause-some
