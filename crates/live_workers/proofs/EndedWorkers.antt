@@ -1,5 +1,6 @@
 -- What the workers of a race left, by thread.
-use Rattle.std.proofs.Common.{◌≡◌, ℕ, zero, suc, ◌+◌, ◌<◌, inl, inr, List, [], ◌∷◌, length, map, refl, sym, ap, ◌∙◌, subst}
+use Rattle.std.proofs.Common.{◌≡◌, ℕ, zero, suc, ◌+◌, ◌<◌, inl, inr, List, [], ◌∷◌, length, map, refl, sym, ap, ◌∙◌}
+use Rattle.std.proofs.Common.{subst}
 use Rattle.std.proofs.Common.{arith, Result, Ok}
 use Rattle.std.specs.Prelude.{slice_index_or, IfOk}
 use Rattle.plain_text.specs.declared.packet.Packet.{Packet}
@@ -15,7 +16,8 @@ use Rattle.live_workers.specs.Working.{Given, Course, HasEnded}
 use Rattle.live_workers.specs.Racing.{AllAnswered, AllEnded, seat_of, moves_of}
 
 -- an item of a mapped list
-pub map_at : {A B : Type 0} (f : A → B) (xs : List A) (t : ℕ) (d : A) → slice_index_or (map f xs) t (f d) ≡ f (slice_index_or xs t d)
+pub map_at : {A B : Type 0} (f : A → B) (xs : List A) (t : ℕ) (d : A)
+    → slice_index_or (map f xs) t (f d) ≡ f (slice_index_or xs t d)
 map_at f [] t d = refl
 map_at f (x ∷ xs) zero d = refl
 map_at f (x ∷ xs) (suc t) d = map_at f xs t d
@@ -97,5 +99,6 @@ ended_from {V} {E} m guide inputs may most workers results courses are answered 
     let at : slice_index_or results t (Ok e) ≡ Ok (slice_index_or courses t e) =
     ap (λ (l : List (Result (Course V) E)). slice_index_or l t (Ok e)) are
     ∙ map_at (λ (c : Course V). let r : Result (Course V) E = Ok c in r) courses t e in
-    subst (λ (r : Result (Course V) E).
-    IfOk r (λ end. HasEnded m guide inputs may most (slice_index_or workers t d) end)) at (answered.each t d (Ok e) low))
+    subst
+    (λ (r : Result (Course V) E). IfOk r (λ end. HasEnded m guide inputs may most (slice_index_or workers t d) end)) at
+    (answered.each t d (Ok e) low))

@@ -4,7 +4,8 @@ use Rattle.rand_pcg.specs.Lcg.{Lcg, started, increment_of, state_after}
 use Rattle.rand_pcg.specs.Pcg.{multiplier_64}
 use Rattle.live_workers.specs.Draws.{worker_generator, generators_of}
 
-more_from : (seed t n : ℕ) → generators_of seed t (suc n) ≡ generators_of seed t n ++ worker_generator seed (t + n) 0 ∷ []
+more_from : (seed t n : ℕ)
+    → generators_of seed t (suc n) ≡ generators_of seed t n ++ worker_generator seed (t + n) 0 ∷ []
 more_from seed t zero = let at : t ≡ t + 0 = omega arith in ap (λ (u : ℕ). worker_generator seed u 0 ∷ []) at
 more_from seed t (suc n) =
     let at : t + 1 + n ≡ t + suc n = omega arith in

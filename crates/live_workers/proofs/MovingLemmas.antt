@@ -167,7 +167,8 @@ module _ {V : Type 0} (m : Meaning V) (guide : List Lane) (inputs : Fed) (may : 
   fed_some : (place : Local) → old.part.hand ≡ Some place
       → input ≡ input_at inputs old.thread old.part.counts.taken
   fed_some place some =
-      input_of ∙ ap (input_at inputs old.thread) (asks_taken place (seat_wants m old) (sym (wanted_with (Some place) some)))
+      input_of
+      ∙ ap (input_at inputs old.thread) (asks_taken place (seat_wants m old) (sym (wanted_with (Some place) some)))
 
   fed : (n : Note V) → n.before ≡ old.part → n.packet ≡ input → IsFedTo packets n
   fed n before packet p is = go old.part.hand refl

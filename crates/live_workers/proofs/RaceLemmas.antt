@@ -1,5 +1,6 @@
 -- How the workers of a race begin, and what their ends make of a round.
-use Rattle.std.proofs.Common.{◌≡◌, ℕ, zero, suc, ◌+◌, ◌<◌, List, [], ◌∷◌, length, map, refl, sym, ap, ◌∙◌, subst, arith, false}
+use Rattle.std.proofs.Common.{◌≡◌, ℕ, zero, suc, ◌+◌, ◌<◌, List, [], ◌∷◌, length, map, refl, sym, ap, ◌∙◌, subst, arith}
+use Rattle.std.proofs.Common.{false}
 use Rattle.std.proofs.Common.{Option}
 use Rattle.std.specs.Prelude.{◌^◌, slice_index_or, All}
 use Rattle.rand_pcg.specs.Lcg.{Lcg}

@@ -47,28 +47,23 @@ steps_owned m inputs threads (x ∷ steps) past (is, hist) = (
 
 -- How many there are
 
+counted : {V : Type 0} (b : Bool) (x : Step V) (l : List (Step V)) (n : ℕ) → n ≡ length l
+    → cond b (n + 1) n ≡ length (cond b (x ∷ l) l)
+counted true x l n is = omega (arith, is)
+counted false x l n is = is
+
 pub count_by : {V : Type 0} (t : ℕ) (steps : List (Step V)) → moves_of t steps ≡ length (steps_by t steps)
 count_by t [] = refl
-count_by {V} t (x ∷ steps) = go (nat_eq x.thread t)
-  where
-    so_far : moves_of t steps ≡ length (steps_by t steps)
-    so_far = count_by t steps
+count_by t (x ∷ steps) = counted (nat_eq x.thread t) x (steps_by t steps) (moves_of t steps) (count_by t steps)
 
-    go : (b : Bool) → cond b (moves_of t steps + 1) (moves_of t steps)
-        ≡ length (cond b (x ∷ steps_by t steps) (steps_by t steps))
-    go true = omega (arith, so_far)
-    go false = so_far
+within_one : (b : Bool) (n k : ℕ) → n ≤ k → cond b (n + 1) n ≤ suc k
+within_one true n k is = omega (arith, is)
+within_one false n k is = omega (arith, is)
 
 pub moves_within : {V : Type 0} (t : ℕ) (steps : List (Step V)) → moves_of t steps ≤ length steps
 moves_within t [] = omega arith
-moves_within t (x ∷ steps) = go (nat_eq x.thread t)
-  where
-    so_far : moves_of t steps ≤ length steps
-    so_far = moves_within t steps
-
-    go : (b : Bool) → cond b (moves_of t steps + 1) (moves_of t steps) ≤ length (x ∷ steps)
-    go true = omega (arith, so_far)
-    go false = omega (arith, so_far)
+moves_within t (x ∷ steps) =
+    within_one (nat_eq x.thread t) (moves_of t steps) (length steps) (moves_within t steps)
 
 pub steps_count : {V : Type 0} (moves : List Made) (steps : List (Step V)) → AreStepsOf moves steps
     → length steps ≡ length moves
@@ -95,34 +90,42 @@ frames_same t x stepped.Idle of own is = absurd is
 frames_same t x (stepped.NotTurn u n) of own is = absurd is
 frames_same t x stepped.NoMemory of own is = absurd is
 
+module _ {V : Type 0} (t : ℕ) (x : Step V) (steps : List (Step V)) (one : IsOwned x) (others : (l : List Made)
+    → AreStepsOf l (steps_by t steps) → frames_of t steps ≡ messages_of t (frames_made l)) where
+  mine : x.thread ≡ t → (l : List Made) → AreStepsOf l (x ∷ steps_by t steps)
+      → frames_of t steps ++ frames_by x.act ≡ messages_of t (frames_made l)
+  mine of [] is = absurd is
+  mine of (k ∷ l) (is, rest) =
+      ap (λ (f : List Message). f ++ frames_by x.act) (others l rest)
+      ∙ ap (λ (f : List Message). messages_of t (frames_made l) ++ f) (frames_same t x k.stepped of one is.act)
+      ∙ sym (map-append (message_of t) (frames_made l) (frames_shown k.stepped))
+
+  frames_step : (moves : List Made) → AreStepsOf moves (steps_by t (x ∷ steps))
+      → frames_of t (x ∷ steps) ≡ messages_of t (frames_made moves)
+  frames_step moves are = go (is_or x.thread t)
+    where
+      go : (x.thread ≡ t) ⊎ (x.thread ≢ t) → frames_of t (x ∷ steps) ≡ messages_of t (frames_made moves)
+      go (inl of) =
+          let b : nat_eq x.thread t ≡ true = is_eq x.thread t of in
+          ap (λ (c : Bool). cond c (frames_of t steps ++ frames_by x.act) (frames_of t steps)) b
+          ∙ mine of moves
+          (subst (λ (c : Bool). AreStepsOf moves (cond c (x ∷ steps_by t steps) (steps_by t steps))) b are)
+      go (inr other) =
+          let b : nat_eq x.thread t ≡ false = not_eq x.thread t other in
+          ap (λ (c : Bool). cond c (frames_of t steps ++ frames_by x.act) (frames_of t steps)) b
+          ∙ others moves
+          (subst (λ (c : Bool). AreStepsOf moves (cond c (x ∷ steps_by t steps) (steps_by t steps))) b are)
+
+no_frames : (V : Type 0) (t : ℕ) (moves : List Made) → AreStepsOf {V = V} moves []
+    → [] ≡ messages_of t (frames_made moves)
+no_frames V t [] are = refl
+no_frames V t (k ∷ moves) are = absurd are
+
 pub frames_are : {V : Type 0} (t : ℕ) (moves : List Made) (steps : List (Step V)) → AreOwned steps
     → AreStepsOf moves (steps_by t steps) → frames_of t steps ≡ messages_of t (frames_made moves)
-frames_are t moves [] own are = none moves are
-  where
-    none : (l : List Made) → AreStepsOf l [] → [] ≡ messages_of t (frames_made l)
-    none [] is = refl
-    none (k ∷ l) is = absurd is
-frames_are {V} t moves (x ∷ steps) (one, own) are = go (is_or x.thread t)
-  where
-    mine : x.thread ≡ t → (l : List Made) → AreStepsOf l (x ∷ steps_by t steps)
-        → frames_of t steps ++ frames_by x.act ≡ messages_of t (frames_made l)
-    mine of [] is = absurd is
-    mine of (k ∷ l) (is, rest) =
-        ap (λ (f : List Message). f ++ frames_by x.act) (frames_are t l steps own rest)
-        ∙ ap (λ (f : List Message). messages_of t (frames_made l) ++ f) (frames_same t x k.stepped of one is.act)
-        ∙ sym (map-append (message_of t) (frames_made l) (frames_shown k.stepped))
-
-    go : (x.thread ≡ t) ⊎ (x.thread ≢ t)
-        → frames_of t (x ∷ steps) ≡ messages_of t (frames_made moves)
-    go (inl of) =
-        let b : nat_eq x.thread t ≡ true = is_eq x.thread t of in
-        ap (λ (c : Bool). cond c (frames_of t steps ++ frames_by x.act) (frames_of t steps)) b
-        ∙ mine of moves (subst (λ (c : Bool). AreStepsOf moves (cond c (x ∷ steps_by t steps) (steps_by t steps))) b are)
-    go (inr other) =
-        let b : nat_eq x.thread t ≡ false = not_eq x.thread t other in
-        ap (λ (c : Bool). cond c (frames_of t steps ++ frames_by x.act) (frames_of t steps)) b
-        ∙ frames_are t moves steps own
-        (subst (λ (c : Bool). AreStepsOf moves (cond c (x ∷ steps_by t steps) (steps_by t steps))) b are)
+frames_are {V} t moves [] own are = no_frames V t moves are
+frames_are {V} t moves (x ∷ steps) (one, own) are =
+    frames_step t x steps one (λ l is. frames_are t l steps own is) moves are
 
 -- What they were told
 

@@ -1,11 +1,13 @@
 -- A race is a round of the recovering system.
-use Rattle.std.proofs.Common.{◌≡◌, ℕ, ◌+◌, ◌≤◌, ◌<◌, ◌⊎◌, inl, inr, true, List, [], ◌∷◌, ◌++◌, length, map, refl, sym, ap}
+use Rattle.std.proofs.Common.{◌≡◌, ℕ, ◌+◌, ◌≤◌, ◌<◌, ◌⊎◌, inl, inr, true, List, [], ◌∷◌, ◌++◌, length, map, refl, sym}
+use Rattle.std.proofs.Common.{ap}
 use Rattle.std.proofs.Common.{◌∙◌, subst, Option, Some, None, arith}
 use Rattle.std.specs.Prelude.{slice_get, slice_index_or}
 use Rattle.rand_pcg.specs.Lcg.{Lcg}
 use Rattle.plain_text.specs.declared.limit.TheConstants.{MOST_MOVES}
 use Rattle.plain_text.specs.declared.packet.Packet.{Packet}
 use Rattle.input_logger.specs.Inputs.{Fed, inputs_of}
+use Rattle.access_log.specs.Held.{Lane}
 use Rattle.box_program.specs.Hands.{local_in}
 use Rattle.plain_machine.specs.declared.local.Local.{Local}
 use Rattle.plain_machine.specs.Program.{Meaning}
@@ -19,6 +21,7 @@ use Rattle.recovery_world.specs.declared.event.Outcome.TheVariants as outcome
 use Rattle.recovery_world.specs.World.{Setting, World, inputs_fed}
 use Rattle.recovery_world.specs.Events.{On, WantsMore}
 use Rattle.recovery_world.specs.Many.{Message}
+use Rattle.plan_script.specs.Orders.{Orders, AreLeft, first_ones}
 use Rattle.plan_script.specs.Rounds.{HasStopped, frames_of, of_thread}
 use Rattle.system_parts.specs.Parts.{Parts}
 use Rattle.system_parts.specs.Resting.{RestsFor}
@@ -30,13 +33,15 @@ use Rattle.round_join.specs.declared.noting.Made.{Made}
 use Rattle.round_join.specs.declared.noting.Noted.{Noted}
 use Rattle.round_join.specs.Working.{AllWork}
 use Rattle.round_join.specs.Racing.{CameTo, Raced, steps_by}
+use Rattle.round_join.proofs.IdleThreads.{ends_idle}
 use Rattle.frame_intake.specs.Frames.{messages_of}
+use Rattle.frame_intake.specs.Orders.{Arrive}
 use Rattle.live_workers.specs.Frames.{frames_made}
 use Rattle.live_workers.specs.Telling.{AreTold}
 use Rattle.live_workers.specs.Moving.{IsAtRest}
 use Rattle.live_workers.specs.Working.{Given, Course, HasEnded, WhyEnded}
 use Rattle.live_workers.specs.Racing.{IsRace, seat_of, moves_of as moves_in, generator_of}
-use Rattle.live_workers.specs.Rounds.{StepsTold}
+use Rattle.live_workers.specs.Rounds.{RoundsRest, StepsTold}
 use Rattle.live_workers.proofs.EndedWorkers.{map_in, map_count, all_work, ended_count, ended_at, seat_at, seat_among}
 use Rattle.live_workers.proofs.RoundSteps.{steps_owned, count_by, moves_within, steps_count, frames_are, steps_told}
 
@@ -60,6 +65,24 @@ nowhere x g = record {
 no_hand : (o : Option Hand) → local_in o ≡ None → o ≡ None
 no_hand None is = refl
 no_hand (Some h) is = absurd (cc)
+
+-- a race, by what its program, guide and inputs are
+pub race_with : {P V : Type 0} (meaning : P → Meaning V) (fits : P → ℕ → V → Type 0) (a b : P) (g h : List Lane)
+    (i j : Fed) (may : ℕ → Type 0) (most : ℕ) (limits : ℕ → Option ℕ) (p : Mastered V) (before : List Lcg)
+    (q : Mastered V) (marks : List (List (Option ℕ))) (moves : List (List Made)) (after : List Lcg)
+    (frames : List Message) → a ≡ b → g ≡ h → i ≡ j
+    → IsRace (meaning a) (fits a) g (inputs_of i) may most limits p before q marks moves after frames
+    → IsRace (meaning b) (fits b) h (inputs_of j) may most limits p before q marks moves after frames
+race_with {P} {V} meaning fits a b g h i j may most limits p before q marks moves after frames program guide
+    inputs race =
+    subst (λ (x : P). IsRace (meaning x) (fits x) h (inputs_of j) may most limits p before q marks moves after frames)
+    program
+    (subst
+    (λ (x : List Lane). IsRace (meaning a) (fits a) x (inputs_of j) may most limits p before q marks moves after frames)
+    guide
+    (subst
+    (λ (x : Fed). IsRace (meaning a) (fits a) g (inputs_of x) may most limits p before q marks moves after frames)
+    inputs race))
 
 module _ {P V : Type 0} (m : Meaning V) (fits : ℕ → V → Type 0) (s : Setting V) (w : World V) (y : Parts P V)
     (may : ℕ → Type 0) (most : ℕ) (limits : ℕ → Option ℕ) (p : Mastered V) (before : List Lcg) (q : Mastered V)
@@ -112,7 +135,9 @@ module _ {P V : Type 0} (m : Meaning V) (fits : ℕ → V → Type 0) (s : Setti
         (nowhere x g) in_workers
 
     in_seats : t < length (map seat_of race.courses)
-    in_seats = let k = map_count {V = V} seat_of race.courses in let c = in_courses in omega (arith, k, c)
+    in_seats =
+        let k : length (map seat_of race.courses) ≡ length race.courses = map_count seat_of race.courses in
+        let c = in_courses in omega (arith, k, c)
 
     mine : slice_index_or (map seat_of race.courses) t x ≡ course.seat
     mine = map_in seat_of race.courses t x (nowhere x g) in_courses
@@ -230,3 +255,54 @@ module _ {P V : Type 0} (m : Meaning V) (fits : ℕ → V → Type 0) (s : Setti
       came.rests.sound.firm.legal) in
       race.frames_are t
       ∙ sym (frames_are t (slice_index_or moves t []) came.steps owned (came.each t))
+
+  -- a seat and a generator that stand for those that are not there
+  some_seat : Seated V
+  some_seat = record {
+    thread = 0;
+    part = record { counts = record { taken = 0; entries = 0; outputs = 0 }; hand = None; stamp = [] };
+    notes = [];
+    seen = [];
+    missing = [];
+    ended = true;
+    round = race.round;
+  }
+
+  some_generator : Lcg
+  some_generator = record { state = 0; increment = 0 }
+
+  -- each thread stopped where its order lets it
+  stops : (noted : List Noted) (new : Parts P V)
+      (came : CameTo m s w (map seat_of race.courses) q moves y.guide noted new) → new.moves ≤ MOST_MOVES
+      → y.moves + most ≡ MOST_MOVES + 1 → (orders : Orders) → ((t : ℕ) → limits t ≡ orders.moves t) → (t : ℕ)
+      → t < s.threads → HasStopped s came.there t (orders.moves t) (moves_of t came.steps)
+  stops noted new came few most_is orders limits_are t low =
+      subst (λ (l : Option ℕ). HasStopped s came.there t l (moves_of t came.steps)) (limits_are t)
+      (stopped noted new came t low some_seat some_generator few most_is)
+
+  pub rounds : (noted : List Noted) (new : Parts P V)
+      (came : CameTo m s w (map seat_of race.courses) q moves y.guide noted new) → new.moves ≤ MOST_MOVES
+      → y.moves + most ≡ MOST_MOVES + 1 → (orders : Orders) → ((t : ℕ) → limits t ≡ orders.moves t)
+      → (arriving : List Message) → Arrive orders frames arriving
+      → RoundsRest m s w orders may y.guide before noted arriving after q new
+  rounds noted new came few most_is orders limits_are arriving arrive = (
+    came.there,
+    record {
+      steps = came.steps;
+      performs = came.performs;
+      events_are = came.events_are;
+      world = came.after;
+      woven = came.woven;
+      stopped = stops noted new came few most_is orders limits_are;
+      idle = λ none. ends_idle s came.there (λ t. moves_of t came.steps) came.rests.sound
+          (ap (λ (z : World V). z.up) came.after.world ∙ up)
+          (λ t low. subst (λ (l : Option ℕ). HasStopped s came.there t l (moves_of t came.steps)) (none t low)
+          (stops noted new came few most_is orders limits_are t low));
+      arrive = λ t. subst (λ (l : List Message).
+          AreLeft orders.lost (first_ones (orders.frames t) l) (of_thread t arriving)) (frames_sent noted new came t)
+          (arrive t);
+      told = λ t g low. told noted new came t low some_seat g;
+    },
+    came.rests,
+    came.stands,
+  )

@@ -232,7 +232,8 @@ module _ {V : Type 0} (m : Meaning V) (guide : List Lane) (inputs : ℕ → List
       (subst (λ (x : Seated V). Works m guide inputs given.seat.part x old.moves) (sym held.seat)
       (record { done = come.works.done; fed = come.works.fed; made = come.works.made })))
 
-  pub rest_none : new.seat ≡ old.seat → IsAtRest (inputs old.seat.thread) old.seat.part → MadeNone m guide inputs old new
+  pub rest_none : new.seat ≡ old.seat → IsAtRest (inputs old.seat.thread) old.seat.part
+      → MadeNone m guide inputs old new
   rest_none seat rest = record {
     count = moves;
     why = inl (subst (λ (x : Seated V). IsAtRest (inputs x.thread) x.part) (sym seat) rest);

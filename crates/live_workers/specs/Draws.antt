@@ -6,7 +6,8 @@ use Rattle.rand_pcg.specs.Pcg.{multiplier_64}
 
 -- the generator of worker t, after this number of words
 abbrev pub worker_generator : ℕ → ℕ → ℕ → Lcg
-worker_generator seed t count = advance 64 multiplier_64 count (started 64 multiplier_64 seed (increment_of 64 (55 + t)))
+worker_generator seed t count =
+    advance 64 multiplier_64 count (started 64 multiplier_64 seed (increment_of 64 (55 + t)))
 
 -- those of this many threads from thread t on, before their first words
 abbrev pub generators_of : ℕ → ℕ → ℕ → List Lcg

@@ -12,6 +12,10 @@ use Rattle.recovery_world.specs.Events.{On}
 use Rattle.recovery_world.specs.Files.{Performs}
 use Rattle.plan_script.specs.Orders.{Orders, AreLeft, first_ones}
 use Rattle.plan_script.specs.Rounds.{AreWoven, HasStopped, frames_of, of_thread, step_events}
+use Rattle.master_core.specs.Mastered.{Mastered}
+use Rattle.master_core.specs.MasterStanding.{Stands}
+use Rattle.system_parts.specs.Parts.{Parts}
+use Rattle.system_parts.specs.Resting.{RestsFor}
 use Rattle.recovery_core.specs.Systems.{Systemed, SystemStands}
 use Rattle.round_join.specs.declared.noting.Noted.{Noted}
 use Rattle.round_join.specs.Racing.{IsAfterSteps, StoppedAt, events_noted, lines_noted, steps_by}
@@ -37,14 +41,13 @@ StepsTold may guide t (x ∷ earlier) g new =
 abbrev pub AreIdle : {V : Type 0} → Setting V → World V → Type 0
 AreIdle s w = (t : ℕ) → t < s.threads → On s w (event.Step t None) outcome.Idle [] w
 
--- A round in a world: the steps that its threads made, one after another in the woven order, lead to the world for which
--- the system stands now. Each thread stopped where it may, and where none has a limit all are idle. These frames may
--- arrive, and the generators went on from those before to those after.
-pub record Rounds {P V : Type 0} (m : Meaning V) (s : Setting V) (w : World V) (orders : Orders) (may : ℕ → Type 0)
-    (guide : List Lane) (before : List Lcg) (noted : List Noted) (arriving : List Message) (after : List Lcg)
-    (y : Systemed P V) : Type 0 where
+-- A round from one world to another: the steps that its threads made, one after another in the woven order, lead there.
+-- Each thread stopped where it may, and where none has a limit all are idle. These frames may arrive, and the
+-- generators went on from those before to those after.
+pub record IsRoundTo {V : Type 0} (s : Setting V) (w : World V) (orders : Orders) (may : ℕ → Type 0) (guide : List Lane)
+    (before : List Lcg) (noted : List Noted) (arriving : List Message) (after : List Lcg)
+    (there : World V) : Type 0 where
   pub steps : List (Step V)
-  pub there : World V
   pub performs : Performs s w (step_events steps) (lines_noted noted) there
   pub events_are : events_noted noted ≡ step_events steps
   pub world : IsAfterSteps w steps there
@@ -54,11 +57,25 @@ pub record Rounds {P V : Type 0} (m : Meaning V) (s : Setting V) (w : World V) (
   pub arrive : (t : ℕ) → AreLeft orders.lost (first_ones (orders.frames t) (frames_of t steps)) (of_thread t arriving)
   pub told : (t : ℕ) (g : Lcg) → t < s.threads
       → StepsTold may guide t (steps_by t steps) (slice_index_or before t g) (slice_index_or after t g)
-  pub stands : SystemStands m s there y
+
+-- such a round leads to a world for which the system stands
+abbrev pub Rounds : {P V : Type 0} → Meaning V → Setting V → World V → Orders → (ℕ → Type 0) → List Lane → List Lcg
+    → List Noted → List Message → List Lcg → Systemed P V → Type 0
+Rounds {P} {V} m s w orders may guide before noted arriving after y =
+    (there : World V) × IsRoundTo s w orders may guide before noted arriving after there × SystemStands m s there y
+
+-- and to one for which the rest of it and a master do
+abbrev pub RoundsRest : {P V : Type 0} → Meaning V → Setting V → World V → Orders → (ℕ → Type 0) → List Lane → List Lcg
+    → List Noted → List Message → List Lcg → Mastered V → Parts P V → Type 0
+RoundsRest {P} {V} m s w orders may guide before noted arriving after q y =
+    (there : World V)
+    × IsRoundTo s w orders may guide before noted arriving after there
+    × RestsFor m s there y
+    × Stands s.meaning s.threads there.past q
 
 -- Where a round came to no end at a limit, these events were performed, the first of its steps, which stand as a plan's
 -- round has them; and the next one would pass the limit. Where memory ran out, nothing is said.
-abbrev pub Stops : {V : Type 0} → Setting V → World V → RoundStop → Type 0
-Stops {V} s w (stop.Limit limit noted next) =
+abbrev pub StopsRound : {V : Type 0} → Setting V → World V → RoundStop → Type 0
+StopsRound {V} s w (stop.Limit limit noted next) =
     (steps : List (Step V)) × AreWoven w.past steps × StoppedAt s w (step_events steps) noted.items limit next
-Stops s w stop.NoMemory = Unit {0}
+StopsRound s w stop.NoMemory = Unit {0}

@@ -26,8 +26,8 @@ pub record Given (V : Type 0) : Type 0 where
   pub outbox : Posted
   pub limit : Option ℕ
 
--- what it has in the course of the round, and at the end: the seat, what its thread did, newest first, the generator and
--- the outbox
+-- what it has in the course of the round, and at the end: the seat, what its thread did, newest first, the generator
+-- and the outbox
 pub record Course (V : Type 0) : Type 0 where
   pub seat : Seated V
   pub moves : List Made
@@ -55,8 +55,8 @@ pub record MayGoOn {V : Type 0} (inputs : ℕ → List Packet) (most : ℕ) (now
   pub input : HasInput (inputs now.seat.thread) now.seat.part
   pub room : moves_made now.seat.part + most < 2 ^ 56 + length now.moves
 
--- Why a thread made no more moves: it made as many as it may, or as a round has room for; or it is at rest; or the guide
--- says to wait for an entry that is missing.
+-- Why a thread made no more moves: it made as many as it may, or as a round has room for; or it is at rest; or the
+-- guide says to wait for an entry that is missing.
 abbrev pub WhyEnded : {V : Type 0} → Meaning V → List Lane → (ℕ → List Packet) → ℕ → Option ℕ → Seated V → ℕ → Type 0
 WhyEnded m guide inputs most limit x made =
     (limit ≡ Some made)

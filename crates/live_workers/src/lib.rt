@@ -10,4 +10,4 @@ mod rounds;
 mod working;
 
 pub use draws::Draws;
-pub use rounds::{RoundStop, RoundDone, round};
+pub use rounds::{RoundDone, RoundStop, round};

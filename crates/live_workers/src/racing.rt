@@ -1,5 +1,6 @@
 //! A race: the workers of a master's threads, on threads of the machine, and the intake beside them.
-ghost use Rattle.std.specs.Prelude.{◌≡◌, ◌<◌, ℕ, [], All, IfOk, List, Result, length, slice_index_or};
+ghost use Rattle.std.specs.Prelude.{◌≡◌, ◌<◌, ℕ, [], All, IfOk, List, Result, length};
+ghost use Rattle.std.specs.Prelude.{slice_index_or};
 ghost use Rattle.plain_text.specs.declared.memory.NoMemory.{NoMemory as NoMemoryValue};
 ghost use Rattle.box_program.specs.Hands.{FitsProgram};
 ghost use Rattle.input_logger.specs.Inputs.{inputs_of};

@@ -1,18 +1,23 @@
 //! A round of racing threads, by the recovering system.
 ghost use Rattle.std.specs.Prelude.{◌≡◌, true, false, IfErr, IfOk, List, length};
-ghost use Rattle.master_core.specs.Mastered.{Mastered};
+ghost use Rattle.box_program.specs.Hands.{FitsProgram};
+ghost use Rattle.master_core.specs.Mastered.{Mastered, value_of};
+ghost use Rattle.master_core.specs.MasterStanding.{Stands};
 ghost use Rattle.recovery_world.specs.World.{Setting, World};
+ghost use Rattle.system_parts.specs.Resting.{RestsFor};
+ghost use Rattle.recovery_core.specs.Partings.{PartsStandForSome};
 ghost use Rattle.recovery_core.specs.Systems.{SystemStands};
 ghost use Rattle.atomic_table.specs.Seated.{TableId};
 ghost use Rattle.var_locks.specs.Seats.{Seated};
 ghost use Rattle.frame_intake.specs.Orders.{orders_of};
 ghost use Rattle.round_join.specs.Racing.{CameTo, HasRaced, Raced};
-ghost use Rattle.live_workers.specs.Rounds.{Rounds, Stops};
+ghost use Rattle.live_workers.specs.Rounds.{Rounds, RoundsRest, StopsRound};
 
 use crate::draws::Draws;
-use crate::racing::run_race;
+use crate::racing::{Race, run_race};
 use box_program::Program;
 use frame_intake::{FrameName, RoundOrders};
+use master_core::Master;
 use plain_machine::PlainMove;
 use plain_text::{Limit, MOST_MOVES, NoMemory};
 use recovery_core::{System, SystemParted};
@@ -36,6 +41,15 @@ pub struct RoundDone<P: Program> {
     pub arriving: Vec<FrameName>,
     /// The generators of the next round.
     pub draws: Draws,
+}
+
+/// What a round came to whose system has its master out.
+#[derive(Drop)]
+struct Over<P: Program> {
+    master: Master<P>,
+    steps: Vec<Noted>,
+    arriving: Vec<FrameName>,
+    draws: Draws,
 }
 
 /// Why a round came to no end. The system is gone.
@@ -82,7 +96,7 @@ fn note_moves<P: Program>(
         (q : Mastered P.Value)
         → Raced (P.meaning rest.old.program) (P.fits rest.old.program) s w p round seats q
         marks.entry.now moves.items rest.old
-        → Stops s w stop) }
+        → StopsRound s w stop) }
     ensures program { IfOk result (λ noted. rest.new.program ≡ rest.old.program) }
 {
     let mut steps = Vec::new(alloc);
@@ -93,8 +107,69 @@ fn note_moves<P: Program>(
     }
 }
 
-/// Threads race in a round: each makes moves until it made as many as it is ordered, is idle, or waits for an entry that
-/// is missing. Afterwards the system stands where it would stand had the moves been events `step`, one after another.
+/// The round of a system whose master is out.
+fn go_round<
+    P: Program + Send + Sync,
+    C: Clock + Sync,
+    G: Gate + Sync,
+    R: AllocGlobal + Threads + Wait + Sync,
+>(
+    rt: &R,
+    rest: &mut Rest<P>,
+    clock: &C,
+    gate: &G,
+    master: Master<P>,
+    orders: &RoundOrders,
+    draws: Draws,
+) -> Result<Over<P>, RoundStop>
+    requires fits { FitsProgram (P.meaning rest.old.program) (P.fits rest.old.program)
+        value_of master.vars }
+    requires threads { length master.threads ≡ rest.old.inputs.threads }
+    requires up { rest.old.up ≡ true }
+    requires draws { length draws ≡ rest.old.inputs.threads }
+    requires some { PartsStandForSome (P.meaning rest.old.program) rest.old master }
+    ensures on { IfOk result (λ r. (s : Setting P.Value) (w : World P.Value)
+        → RestsFor (P.meaning rest.old.program) s w rest.old
+        → Stands s.meaning s.threads w.past master
+        → RoundsRest (P.meaning rest.old.program) s w (orders_of orders.now) (C.may clock.now)
+        rest.old.guide draws r.steps.items r.arriving.items r.draws r.master rest.new) }
+    ensures stops { IfErr result (λ stop. (s : Setting P.Value) (w : World P.Value)
+        → RestsFor (P.meaning rest.old.program) s w rest.old
+        → Stands s.meaning s.threads w.past master → StopsRound s w stop) }
+    ensures fits { IfOk result (λ r. FitsProgram (P.meaning rest.old.program)
+        (P.fits rest.old.program) value_of r.master.vars) }
+    ensures program { IfOk result (λ r. rest.new.program ≡ rest.old.program) }
+{
+    let alloc = rt.alloc();
+    rest.has_parts();
+    let most = u64::from(MOST_MOVES) - rest.moves() + 1;
+    let (program, guide, inputs) = (rest.program(), rest.guide(), rest.inputs());
+    let Race {
+        master,
+        marks,
+        moves,
+        generators,
+        frames,
+    } = run_race(
+        rt, program, guide, inputs, clock, gate, master, orders, draws, most,
+    )?;
+    let steps = match note_moves(alloc, rest, &marks, moves) {
+        Ok(steps) => steps,
+        Err(stop) => return Err(stop),
+    };
+    rest.has_parts();
+    let arriving = orders.arriving(alloc, &frames)?;
+    Ok(Over {
+        master,
+        steps,
+        arriving,
+        draws: Draws::of(generators),
+    })
+}
+
+/// Threads race in a round: each makes moves until it made as many as it is ordered, is idle, or waits for an entry
+/// that is missing. Afterwards the system stands where it would stand had the moves been events `step`, one after
+/// another.
 ///
 /// Each thread is run by a worker, on a thread of the machine, or by the caller where none can be started. An intake
 /// takes the workers' frames while they move; which of them may arrive is told, and they have not arrived yet.
@@ -121,37 +196,25 @@ pub fn round<
         → Rounds (P.meaning system.parts.program) s w (orders_of orders.now) (C.may clock.now)
         system.parts.guide draws r.steps.items r.arriving.items r.draws r.system) }
     ensures stops { IfErr result (λ stop. (s : Setting P.Value) (w : World P.Value)
-        → SystemStands (P.meaning system.parts.program) s w system → Stops s w stop) }
+        → SystemStands (P.meaning system.parts.program) s w system → StopsRound s w stop) }
     ensures goes_on { IfOk result (λ r. r.system.stopped ≡ false) }
     ensures program { IfOk result (λ r. r.system.parts.program ≡ system.parts.program) }
 {
-    let alloc = rt.alloc();
     let SystemParted {
         master,
         mut rest,
         kept,
     } = system.part()?;
-    rest.has_parts();
-    let most = u64::from(MOST_MOVES) - rest.moves() + 1;
-    let race = run_race(
-        rt,
-        rest.program(),
-        rest.guide(),
-        rest.inputs(),
-        clock,
-        gate,
-        master,
-        orders,
-        draws,
-        most,
-    )?;
-    let steps = note_moves(alloc, &mut rest, &race.marks, race.moves)?;
-    rest.has_parts();
-    let arriving = orders.arriving(alloc, &race.frames)?;
-    Ok(RoundDone {
-        system: System::rejoin(rest, race.master, kept),
-        steps,
-        arriving,
-        draws: Draws::of(race.generators),
-    })
+    match go_round(rt, &mut rest, clock, gate, master, orders, draws) {
+        Ok(over) => Ok(RoundDone {
+            system: System::rejoin(rest, over.master, kept),
+            steps: over.steps,
+            arriving: over.arriving,
+            draws: over.draws,
+        }),
+        Err(stop) => {
+            rest.discard();
+            Err(stop)
+        }
+    }
 }

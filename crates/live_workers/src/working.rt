@@ -1,5 +1,6 @@
 //! A worker of a round: it makes the moves of its thread, one after another.
-ghost use Rattle.std.specs.Prelude.{◌≡◌, ◌<◌, ◌≤◌, ◌+◌, ◌^◌, ◌++◌, ◌∷◌, [], ℕ, false, length, IfOk, OnOk};
+ghost use Rattle.std.specs.Prelude.{◌≡◌, ◌<◌, ◌≤◌, ◌+◌, ◌^◌, ◌++◌, ◌∷◌, [], ℕ, false, length, IfOk};
+ghost use Rattle.std.specs.Prelude.{OnOk};
 ghost use Rattle.std.specs.Prelude.{MatchBool, Some};
 ghost use Rattle.std.specs.Option.{option_to_list};
 ghost use Rattle.input_logger.specs.Inputs.{inputs_of};

@@ -54,6 +54,8 @@ impl<P: Program> System<P> {
             × Stands s.meaning s.threads w.past parted.master) }
         ensures some { IfOk result (λ parted. PartsStandForSome
             (P.meaning self.parts.program) parted.rest parted.master) }
+        ensures same { IfOk result (λ parted.
+            parted.rest ≡ record self.parts { master = parted.rest.master }) }
         ensures program { IfOk result (λ parted. parted.rest.program ≡ self.parts.program) }
         ensures fits { IfOk result (λ parted. FitsProgram (P.meaning self.parts.program)
             (P.fits self.parts.program) value_of parted.master.vars) }

@@ -86,6 +86,9 @@ impl Index {
         ensures first { IfSome result (λ x. (w k : ℕ) → w < 16 → slice_index done.now w < k
             → HasRead self.now.reads.keys var places w k → GoesFirst x.0 x.1 w k) }
     {
+        if self.reads.is_empty() {
+            return None;
+        }
         for thread in 0..16 {
             if let Some(number) = self.read_past(var, places, thread, done.get(thread)) {
                 return Some((thread, number));

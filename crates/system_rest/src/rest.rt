@@ -50,6 +50,8 @@ pub fn part<P: Program>(mut core: Core<P>) -> Result<Parted<P>, NoMemory>
         → StandsFor (P.meaning core.program) s w core
         → RestsFor (P.meaning core.program) s w parted.rest
         × Stands s.meaning s.threads w.past parted.master) }
+    ensures same { IfOk result (λ parted.
+        parted.rest ≡ record core { master = parted.rest.master }) }
     ensures program { IfOk result (λ parted. parted.rest.program ≡ core.program) }
     ensures fits { IfOk result (λ parted. FitsProgram (P.meaning core.program)
         (P.fits core.program) value_of parted.master.vars) }
@@ -154,5 +156,11 @@ impl<P: Program> Rest<P> {
         let mut core = self.core;
         core.master = master;
         core
+    }
+
+    /// Lets go of the rest of a system. A function that may end early gives it to this call: so how all parts are let
+    /// go is proved once.
+    pub fn discard(self) {
+        drop(self.core);
     }
 }

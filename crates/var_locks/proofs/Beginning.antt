@@ -22,6 +22,7 @@ use Rattle.round_order.proofs.OpenedRounds.{home_opens, seat_opens, round_begins
 use Rattle.var_locks.specs.declared.view.Share.{Share}
 use Rattle.var_locks.specs.declared.view.View.{View}
 use Rattle.var_locks.specs.Views.{HasShare, AreApart, first_view, fresh_shares}
+use Rattle.var_locks.specs.Words.{thread_word, word_count}
 use Rattle.var_locks.specs.Told.{Now, IsView, IsStory, IsTold, AreFirstWords, ArePlaces}
 
 -- a part for each number, and some part past the end
@@ -100,9 +101,9 @@ module _ {V : Type 0} (m : Meaning V) (fits : ℕ → V → Type 0) (guide : Lis
   told_opens words seen first saw = record {
     now = at_first;
     at = record {
-      words = first.count ∙ ap (λ n. n + length p.threads) fit.count;
+      words = first.count ∙ ap (λ n. word_count n (length p.threads)) fit.count;
       homes = length-map p.vars (λ (x : VarPart V). logic.some x) ∙ fit.count;
-      ended = λ t low. ap (λ n. slice_index words (n + t)) (sym fit.count) ∙ first.thread t low;
+      ended = λ t low. ap (λ n. slice_index words (thread_word n t)) (sym fit.count) ∙ first.thread t low;
       placed = λ v low. (
         first.var v (fresh_var m) (subst (λ n. v < n) (sym fit.count) low),
         at_map (λ (x : VarPart V). logic.some x) p.vars v (slice_index_or p.vars v (fresh_var m))

@@ -13,6 +13,8 @@ use Rattle.var_locks.specs.Codes.{master_code}
 use Rattle.atomic_table.specs.Seated.{TableId}
 use Rattle.var_locks.specs.Rounds.{IsRoundOf, AreVarsOf, Opens}
 use Rattle.master_core.proofs.BoundLemmas.{sum_small}
+use Rattle.var_locks.specs.Words.{thread_word, word_count, line_of, spread}
+use Rattle.var_locks.proofs.Apart.{spread_at, spread_length, spread_next}
 use Rattle.var_locks.specs.Told.{AreFirstWords, ArePlaces}
 use Rattle.var_locks.specs.Openings.{AreCounted, places_of, words_of}
 
@@ -25,19 +27,23 @@ zeros_length : (n : ℕ) → length {A = ℕ} (replicate n 0) ≡ n
 zeros_length zero = refl
 zeros_length (suc n) = ap suc (zeros_length n)
 
+-- the words before they are spread
+abbrev close_words : List ℕ → ℕ → List ℕ
+close_words places n = map (λ k. k * 2) places ++ replicate n 0
+
 words_at : (places : List ℕ) (n v : ℕ) → v < length places
-    → slice_index (words_of places n) v ≡ slice_index places v * 2
+    → slice_index (close_words places n) v ≡ slice_index places v * 2
 words_at [] n v low = absurd (omega (arith, low))
 words_at (x ∷ xs) n zero low = refl
 words_at (x ∷ xs) n (suc v) low = words_at xs n v (omega (arith, low))
 
-words_past : (places : List ℕ) (n t : ℕ) → slice_index (words_of places n) (length places + t) ≡ 0
+words_past : (places : List ℕ) (n t : ℕ) → slice_index (close_words places n) (length places + t) ≡ 0
 words_past [] n t = let k : 0 + t ≡ t = omega arith in ap (slice_index (replicate n 0)) k ∙ zeros n t
 words_past (x ∷ xs) n t =
     let k : suc (length xs) + t ≡ suc (length xs + t) = omega arith in
-    ap (slice_index (words_of (x ∷ xs) n)) k ∙ words_past xs n t
+    ap (slice_index (close_words (x ∷ xs) n)) k ∙ words_past xs n t
 
-words_length : (places : List ℕ) (n : ℕ) → length (words_of places n) ≡ length places + n
+words_length : (places : List ℕ) (n : ℕ) → length (close_words places n) ≡ length places + n
 words_length [] n = let k : n ≡ 0 + n = omega arith in zeros_length n ∙ k
 words_length (x ∷ xs) n =
     let k : suc (length xs) + n ≡ suc (length xs + n) = omega arith in ap suc (words_length xs n) ∙ sym k
@@ -54,13 +60,19 @@ places_at (x ∷ xs) (suc v) d low = places_at xs v d (omega (arith, low))
 
 pub first_words : {V : Type 0} (p : Mastered V) → AreFirstWords p (words_of (places_of p.vars) (length p.threads))
 first_words p = record {
-  count = words_length (places_of p.vars) (length p.threads) ∙ ap (λ n. n + length p.threads) (places_length p.vars);
+  count =
+      spread_length (close_words (places_of p.vars) (length p.threads))
+      ∙ (ap (λ n. 8 * n) (words_length (places_of p.vars) (length p.threads))
+      ∙ ap (λ n. word_count n (length p.threads)) (places_length p.vars));
   var = λ v d low.
       (let a = words_at (places_of p.vars) (length p.threads) v (subst (λ n. v < n) (sym (places_length p.vars)) low) in
-      let b = places_at p.vars v d low in omega (arith, a, b));
+      let b = places_at p.vars v d low in
+      let e = spread_at (close_words (places_of p.vars) (length p.threads)) v in omega (arith, a, b, e));
   thread = λ t low.
-      ap (λ n. slice_index (words_of (places_of p.vars) (length p.threads)) (n + t)) (sym (places_length p.vars))
-      ∙ words_past (places_of p.vars) (length p.threads) t;
+      ap (λ n. slice_index (words_of (places_of p.vars) (length p.threads)) (thread_word n t))
+      (sym (places_length p.vars))
+      ∙ (spread_at (close_words (places_of p.vars) (length p.threads)) (length (places_of p.vars) + t)
+      ∙ words_past (places_of p.vars) (length p.threads) t);
 }
 
 pub first_places : {V : Type 0} (p : Mastered V) → ArePlaces p (places_of p.vars)
@@ -85,21 +97,30 @@ few_places {V} vars threads bounded v = go vars v (λ d low. top d low)
     go (x ∷ xs) zero low = low x (omega arith)
     go (x ∷ xs) (suc i) low = go xs i (λ d under. low d (omega (arith, under)))
 
-pub words_next : (places : List ℕ) (v : ℕ) → v < length places
+close_next : (places : List ℕ) (v : ℕ) → v < length places
     → map (λ n. n * 2) (take (v + 1) places) ≡ map (λ n. n * 2) (take v places) ++ slice_index places v * 2 ∷ []
-words_next [] v low = absurd (omega (arith, low))
-words_next (x ∷ xs) zero low = refl
-words_next (x ∷ xs) (suc v) low =
+close_next [] v low = absurd (omega (arith, low))
+close_next (x ∷ xs) zero low = refl
+close_next (x ∷ xs) (suc v) low =
     let n : suc v + 1 ≡ suc (v + 1) = omega arith in
     ap (λ (i : ℕ). map (λ k. k * 2) (take i (x ∷ xs))) n
-    ∙ ap (λ (l : List ℕ). x * 2 ∷ l) (words_next xs v (omega (arith, low)))
+    ∙ ap (λ (l : List ℕ). x * 2 ∷ l) (close_next xs v (omega (arith, low)))
 
-pub zeros_next : (l : List ℕ) (n : ℕ) → (l ++ replicate n 0) ++ 0 ∷ [] ≡ l ++ replicate (n + 1) 0
-zeros_next [] zero = refl
-zeros_next [] (suc n) =
+pub words_next : (places : List ℕ) (v : ℕ) → v < length places
+    → spread (map (λ n. n * 2) (take (v + 1) places))
+    ≡ spread (map (λ n. n * 2) (take v places)) ++ line_of (slice_index places v * 2)
+words_next places v low =
+    ap spread (close_next places v low) ∙ spread_next (map (λ n. n * 2) (take v places)) (slice_index places v * 2)
+
+close_zeros : (l : List ℕ) (n : ℕ) → (l ++ replicate n 0) ++ 0 ∷ [] ≡ l ++ replicate (n + 1) 0
+close_zeros [] zero = refl
+close_zeros [] (suc n) =
     let k : suc n + 1 ≡ suc (n + 1) = omega arith in
-    ap (λ (l : List ℕ). 0 ∷ l) (zeros_next [] n) ∙ ap (λ (i : ℕ). replicate i 0) (sym k)
-zeros_next (x ∷ xs) n = ap (λ (l : List ℕ). x ∷ l) (zeros_next xs n)
+    ap (λ (l : List ℕ). 0 ∷ l) (close_zeros [] n) ∙ ap (λ (i : ℕ). replicate i 0) (sym k)
+close_zeros (x ∷ xs) n = ap (λ (l : List ℕ). x ∷ l) (close_zeros xs n)
+
+pub zeros_next : (l : List ℕ) (n : ℕ) → spread (l ++ replicate n 0) ++ line_of 0 ≡ spread (l ++ replicate (n + 1) 0)
+zeros_next l n = sym (spread_next (l ++ replicate n 0) 0) ∙ ap spread (close_zeros l n)
 
 module _ {P V : Type 0} (meaning : P → Meaning V) (fits : P → ℕ → V → Type 0) (c : Coded P) (d : Coded V)
     (program opening : Gv) (threads : List ThreadPart) (places : List ℕ) (q : P) (is : c.code q ≡ program)
@@ -115,8 +136,8 @@ module _ {P V : Type 0} (meaning : P → Meaning V) (fits : P → ℕ → V → 
     words_are =
         count
         ∙ (opens.first.count
-        ∙ (ap (λ n. n + length parts) opens.fit.count
-        ∙ ap (λ (l : List ThreadPart). (meaning q).vars + length l) opens.threads_are));
+        ∙ (ap (λ n. word_count n (length parts)) opens.fit.count
+        ∙ ap (λ (l : List ThreadPart). word_count (meaning q).vars (length l)) opens.threads_are));
   }
 
   -- the variables of the round, whose table is this one
@@ -133,7 +154,7 @@ module _ {P V : Type 0} (meaning : P → Meaning V) (fits : P → ℕ → V → 
     some = subst (λ n. 0 < n) (sym size_is) some;
     few = subst (λ n. n ≤ 16) (sym size_is) opens.bounded.few;
     small = (let s = same in
-        let a : words ≡ (meaning q).vars + length threads = round_of.words_are in
+        let a : words ≡ word_count (meaning q).vars (length threads) = round_of.words_are in
         let b : length parts ≡ length threads = ap (λ (l : List ThreadPart). length l) opens.threads_are in
         let e = opens.bounded.few in omega (arith, s, a, b, e, vars_is, low));
   }

@@ -9,7 +9,7 @@ pub mod Seating
 pub mod Beginning
 pub mod Naming
 pub mod Seeing
-pub mod Counting
+pub mod Apart
 pub mod Ending
 pub mod Slots
 pub mod Gathering

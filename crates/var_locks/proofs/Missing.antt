@@ -30,9 +30,10 @@ use Rattle.var_locks.specs.declared.view.MissedEntry.{MissedEntry}
 use Rattle.var_locks.specs.declared.view.View.{View}
 use Rattle.var_locks.specs.Views.{IsMissed, missed_view}
 use Rattle.var_locks.specs.Plays.{Misses}
+use Rattle.var_locks.specs.Words.{thread_word}
 use Rattle.var_locks.specs.Told.{Now, IsLost, IsView, IsStory, IsSound, IsTold}
 use Rattle.var_locks.proofs.Placing.{at_word, IsLater, stays_placed, at_later}
-use Rattle.var_locks.proofs.Stepping.{share_stays, same_state, in_hand}
+use Rattle.var_locks.proofs.Stepping.{share_stays, thread_in, same_state, in_hand}
 
 -- what is followed at one number is one thing
 followed_once : (guide : List Lane) (u k : ℕ) (a b : What) → Follows guide u k a → Follows guide u k b → a ≡ b
@@ -147,7 +148,7 @@ module _ {V : Type 0} (m : Meaning V) (fits : ℕ → V → Type 0) (guide : Lis
       (read : Bool) (under : e.thread < length p.threads)
       (waits : WaitsFor guide t n e.var read x.places x.readers e.thread e.number) where
     miss_told : (s : State (VarPart V) (View V)) (r : IsTold m fits guide p s)
-        (here : get_elem? s.views id ≡ logic.some w) → slice_index s.words (m.vars + e.thread) ≡ 1
+        (here : get_elem? s.views id ≡ logic.some w) → slice_index s.words (thread_word m.vars e.thread) ≡ 1
         → IsTold m fits guide p
         (record { words = s.words; homes = s.homes; views = slice_set s.views id (missed_view w e) })
     miss_told s r here one = record {
@@ -199,29 +200,31 @@ module _ {V : Type 0} (m : Meaning V) (fits : ℕ → V → Type 0) (guide : Lis
         }
 
     pub miss_allows : (carried : List (ℕ × VarPart V)) (slots : ℕ)
-        → Allows (IsTold m fits guide p) slots id (w, carried) (m.vars + e.thread) (λ i. i)
-        (Misses e (step slots (m.vars + e.thread) 0 0 logic.none) (w, carried))
-    miss_allows carried slots s r wide here small = go (is_or (slice_index s.words (m.vars + e.thread)) 1)
+        → Allows (IsTold m fits guide p) slots id (w, carried) (thread_word m.vars e.thread) (λ i. i)
+        (Misses e (step slots (thread_word m.vars e.thread) 0 0 logic.none) (w, carried))
+    miss_allows carried slots s r wide here small = go (is_or (slice_index s.words (thread_word m.vars e.thread)) 1)
       where
-        inside : m.vars + e.thread < length s.words
-        inside = let q = r.at.words in omega (arith, q, under)
+        inside : thread_word m.vars e.thread < length s.words
+        inside = thread_in m fits guide p id s r e.thread under
 
-        go : (slice_index s.words (m.vars + e.thread) ≡ 1) ⊎ (slice_index s.words (m.vars + e.thread) ≢ 1)
+        go : (slice_index s.words (thread_word m.vars e.thread) ≡ 1)
+            ⊎ (slice_index s.words (thread_word m.vars e.thread) ≢ 1)
             → (z : View V)
             × (a : Rattle.atomic_table.specs.Table.Act (VarPart V))
             × Rattle.atomic_table.specs.Table.Valid s.homes carried a
             × IsTold m fits guide p
-            (stepped s (m.vars + e.thread) (slice_index s.words (m.vars + e.thread)) id carried z a)
-            × Misses e (step slots (m.vars + e.thread) 0 0 logic.none) (w, carried)
-            (slice_index s.words (m.vars + e.thread)) (z, Rattle.atomic_table.specs.Table.carried_after carried a)
+            (stepped s (thread_word m.vars e.thread) (slice_index s.words (thread_word m.vars e.thread)) id carried z a)
+            × Misses e (step slots (thread_word m.vars e.thread) 0 0 logic.none) (w, carried)
+            (slice_index s.words (thread_word m.vars e.thread))
+            (z, Rattle.atomic_table.specs.Table.carried_after carried a)
         go (inl one) = (
           missed_view w e,
           keeps,
           tt,
           subst (λ (ws : List ℕ). IsTold m fits guide p
               (record { words = ws; homes = s.homes; views = slice_set s.views id (missed_view w e) }))
-              (sym (set_again s.words (m.vars + e.thread) (slice_index s.words (m.vars + e.thread))
-              (at_word s.words (m.vars + e.thread) inside))) (miss_told s r here one),
+              (sym (set_again s.words (thread_word m.vars e.thread) (slice_index s.words (thread_word m.vars e.thread))
+              (at_word s.words (thread_word m.vars e.thread) inside))) (miss_told s r here one),
           ((λ _. refl), λ not. absurd (not one)),
         )
         go (inr not) = (
@@ -229,6 +232,6 @@ module _ {V : Type 0} (m : Meaning V) (fits : ℕ → V → Type 0) (guide : Lis
           keeps,
           tt,
           subst (λ (q : State (VarPart V) (View V)). IsTold m fits guide p q)
-              (sym (same_state m fits guide p id s w carried (m.vars + e.thread) inside here)) r,
+              (sym (same_state m fits guide p id s w carried (thread_word m.vars e.thread) inside here)) r,
           ((λ one. absurd (not one)), λ _. refl),
         )

@@ -1,5 +1,5 @@
 -- The table is as it is so after a step of one seat.
-use Rattle.std.proofs.Common.{◌≡◌, ◌≢◌, ℕ, zero, suc, ◌+◌, ◌<◌, ◌≤◌, ◌⊎◌, inl, inr, List, [], ◌∷◌, length, refl, sym}
+use Rattle.std.proofs.Common.{◌≡◌, ◌≢◌, ℕ, zero, suc, ◌<◌, ◌≤◌, ◌⊎◌, inl, inr, List, [], ◌∷◌, length, refl, sym}
 use Rattle.std.proofs.Common.{ap, ◌∙◌, subst, Option, Some, None, arith, cond}
 use Rattle.std.specs.Prelude.{slice_index, slice_set}
 use mathlib.Core.Option as logic
@@ -14,6 +14,7 @@ use Rattle.var_locks.specs.declared.view.Share.{Share}
 use Rattle.var_locks.specs.declared.view.Held.{Held}
 use Rattle.var_locks.specs.declared.view.MissedEntry.{MissedEntry}
 use Rattle.var_locks.specs.declared.view.View.{View}
+use Rattle.var_locks.specs.Words.{var_word, thread_word}
 use Rattle.var_locks.specs.Told.{Now, IsPlaced, IsShare, IsLost, IsView, IsTableOf}
 
 pub at_word : (l : List ℕ) (i : ℕ) → i < length l → get_elem? l i ≡ logic.some (slice_index l i)
@@ -80,7 +81,7 @@ module _ {V : Type 0} (vars threads id : ℕ) (d e : Now V) (later : IsLater var
     next = record { words = words; homes = homes; views = slice_set s.views id new }
 
     -- What the seat has not in hand, or keeps in hand, stays in its place.
-    pub stays_placed : (v : ℕ) → v < vars → slice_index words v ≡ slice_index s.words v
+    pub stays_placed : (v : ℕ) → v < vars → slice_index words (var_word v) ≡ slice_index s.words (var_word v)
         → get_elem? homes v ≡ get_elem? s.homes v → e.vars v ≡ d.vars v → e.holder v ≡ d.holder v
         → ((h : Held V) → w.hand ≡ Some h → h.var ≡ v → new.hand ≡ Some h)
         → IsPlaced (record { words = words; homes = homes; views = slice_set s.views id new }) threads e v (e.vars v)
@@ -115,7 +116,7 @@ module _ {V : Type 0} (vars threads id : ℕ) (d e : Now V) (later : IsLater var
             seat (inr apart) = (u, set_else s.views id other new apart ∙ there, has)
 
     pub at_later : length words ≡ length s.words → length homes ≡ length s.homes
-        → ((t : ℕ) → t < threads → slice_index words (vars + t) ≡ cond (e.ended t) 1 0)
+        → ((t : ℕ) → t < threads → slice_index words (thread_word vars t) ≡ cond (e.ended t) 1 0)
         → ((v : ℕ) → v < vars
         → IsPlaced (record { words = words; homes = homes; views = slice_set s.views id new }) threads e v (e.vars v)
         (e.holder v)) → IsView vars threads e id new

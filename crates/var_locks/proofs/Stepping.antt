@@ -29,8 +29,10 @@ use Rattle.var_locks.specs.Notes.{IsOwn, IsOnVariable, IsGuided}
 use Rattle.var_locks.specs.Views.{HasShare, AreApart, note_shares, end_shares, with_hand, empty_hand, noted_view}
 use Rattle.var_locks.specs.Views.{ended_view, seen_after}
 use Rattle.var_locks.specs.Plays.{Takes, Notes, Brings, Gives, Ends}
+use Rattle.var_locks.specs.Words.{var_word, thread_word, word_count}
 use Rattle.var_locks.specs.Told.{Now, IsPlaced, IsShare, IsView, IsSound, IsTold}
 use Rattle.var_locks.proofs.Puts.{put, put_here, put_else}
+use Rattle.var_locks.proofs.Apart.{same_thread, vars_apart, thread_apart, var_inside, thread_inside}
 use Rattle.var_locks.proofs.Placing.{at_word, set_at, held_is, IsLater, lost_later, stays_placed, at_later}
 use Rattle.var_locks.proofs.Bounding.{own_bounds, on_bounds, sum_few}
 use Rattle.var_locks.proofs.Growing.{with_note, sound_own, sound_on}
@@ -140,6 +142,17 @@ module _ {V : Type 0} (m : Meaning V) (fits : ℕ → V → Type 0) (guide : Lis
       (λ u under. let q = k.made u under in omega (arith, q)) in
       let c : length p.threads ≤ 16 = k.few in omega (arith, a, b, c)
 
+  -- the words stand in the table
+  pub var_in : (s : State (VarPart V) (View V)) (r : IsTold m fits guide p s) (v : ℕ) → v < m.vars
+      → var_word v < length s.words
+  var_in s r v low =
+      subst (λ (k : ℕ). var_word v < k) (sym r.at.words) (var_inside m.vars (length p.threads) v low)
+
+  pub thread_in : (s : State (VarPart V) (View V)) (r : IsTold m fits guide p s) (t : ℕ) → t < length p.threads
+      → thread_word m.vars t < length s.words
+  thread_in s r t low =
+      subst (λ (k : ℕ). thread_word m.vars t < k) (sym r.at.words) (thread_inside m.vars (length p.threads) t low)
+
   -- where nothing changes, the rule stays
   pub same_state : (s : State (VarPart V) (View V)) (w : View V) (carried : List (ℕ × VarPart V)) (i : ℕ)
       → i < length s.words → get_elem? s.views id ≡ logic.some w
@@ -159,13 +172,15 @@ module _ {V : Type 0} (m : Meaning V) (fits : ℕ → V → Type 0) (guide : Lis
     take_told : (s : State (VarPart V) (View V)) (r : IsTold m fits guide p s) → get_elem? s.views id ≡ logic.some w
         → (carried : List (ℕ × VarPart V)) → IsPlaced s (length p.threads) r.now v (r.now.vars v) None
         → r.now.holder v ≡ None → (n : ℕ) → n ≡ (r.now.vars v).places + (r.now.vars v).places + 1
-        → IsTold m fits guide p (stepped s v n id carried (with_hand w v (r.now.vars v)) (takes v (r.now.vars v)))
+        → IsTold m fits guide p
+        (stepped s (var_word v) n id carried (with_hand w v (r.now.vars v)) (takes v (r.now.vars v)))
     take_told s r here carried free none n is = record {
       now = after;
-      at = at_later m.vars (length p.threads) id r.now after later s r.at w new here (slice_set s.words v n)
-          (slice_set s.homes v logic.none) (length-set s.words v n) (length-set s.homes v logic.none)
-          (λ t under. get_or-set_other s.words v (m.vars + t) n 0 (λ e. absurd (omega arith)) ∙ r.at.ended t under)
-          (λ u under. placed u under (is_or u v)) view;
+      at = at_later m.vars (length p.threads) id r.now after later s r.at w new here (slice_set s.words (var_word v) n)
+          (slice_set s.homes v logic.none) (length-set s.words (var_word v) n) (length-set s.homes v logic.none)
+          (λ t under.
+          get_or-set_other s.words (var_word v) (thread_word m.vars t) n 0 (thread_apart m.vars v t low)
+          ∙ r.at.ended t under) (λ u under. placed u under (is_or u v)) view;
       sound = sound_seats m fits guide p r.now r.now.owner (put v (Some id) r.now.holder) r.sound;
     }
       where
@@ -193,32 +208,33 @@ module _ {V : Type 0} (m : Meaning V) (fits : ℕ → V → Type 0) (guide : Lis
         }
 
         placed : (u : ℕ) → u < m.vars → (u ≡ v) ⊎ (u ≢ v) → IsPlaced (record {
-          words = slice_set s.words v n;
+          words = slice_set s.words (var_word v) n;
           homes = slice_set s.homes v logic.none;
           views = slice_set s.views id (with_hand w v (r.now.vars v));
         }) (length p.threads) (with_seats r.now r.now.owner (put v (Some id) r.now.holder)) u (r.now.vars u)
             (put v (Some id) r.now.holder u)
         placed u under (inl same) =
             subst (λ (h : Option ℕ). IsPlaced (record {
-              words = slice_set s.words v n;
+              words = slice_set s.words (var_word v) n;
               homes = slice_set s.homes v logic.none;
               views = slice_set s.views id (with_hand w v (r.now.vars v));
             }) (length p.threads) (with_seats r.now r.now.owner (put v (Some id) r.now.holder)) u (r.now.vars u) h)
             (sym (put_here v u (Some id) r.now.holder same)) (subst (λ (z : ℕ). IsPlaced (record {
-              words = slice_set s.words v n;
+              words = slice_set s.words (var_word v) n;
               homes = slice_set s.homes v logic.none;
               views = slice_set s.views id (with_hand w v (r.now.vars v));
             }) (length p.threads) (with_seats r.now r.now.owner (put v (Some id) r.now.holder)) z
             (r.now.vars z) (Some id)) (sym same) (
-              get_or-set_same s.words v n 0 (let q = r.at.words in omega (arith, q)) ∙ is,
+              get_or-set_same s.words (var_word v) n 0 (var_in s r v low) ∙ is,
               (with_hand w v (r.now.vars v), set_at s.views id w (with_hand w v (r.now.vars v)) here, refl),
               (x.thread, (old.share x mine).low, (old.share x mine).mine),
             ))
         placed u under (inr apart) = stays_placed m.vars (length p.threads) id r.now
             (with_seats r.now r.now.owner (put v (Some id) r.now.holder)) later s r.at w (with_hand w v (r.now.vars v))
-            here (slice_set s.words v n) (slice_set s.homes v logic.none) u under
-            (get_or-set_other s.words v u n 0 apart) (set_else s.homes v u logic.none apart) refl
-            (put_else v u (Some id) r.now.holder apart) (λ h has e. absurd (no_hand w h empty has))
+            here (slice_set s.words (var_word v) n) (slice_set s.homes v logic.none) u under
+            (get_or-set_other s.words (var_word v) (var_word u) n 0 (vars_apart u v apart))
+            (set_else s.homes v u logic.none apart) refl (put_else v u (Some id) r.now.holder apart)
+            (λ h has e. absurd (no_hand w h empty has))
 
         view : IsView m.vars (length p.threads) (with_seats r.now r.now.owner (put v (Some id) r.now.holder)) id
             (with_hand w v (r.now.vars v))
@@ -237,25 +253,27 @@ module _ {V : Type 0} (m : Meaning V) (fits : ℕ → V → Type 0) (guide : Lis
     pub take_allows : {P : Type 0} (fit : P → ℕ → V → Type 0) (c : Coded P) (program : Gv)
         → ((q : P) → c.code q ≡ program → (z : V) → fits v z → fit q v z) → (carried : List (ℕ × VarPart V))
         (slots old new : ℕ) → old % 2 ≡ 0 → new ≡ old + 1
-        → Allows (IsTold m fits guide p) slots id (w, carried) v (λ n. either (eqb n old) new n)
-        (Takes fit c program (step slots v old new logic.none) (w, carried))
+        → Allows (IsTold m fits guide p) slots id (w, carried) (var_word v) (λ n. either (eqb n old) new n)
+        (Takes fit c program (step slots (var_word v) old new logic.none) (w, carried))
     take_allows fit c program known carried slots old new even up s r wide here small =
-        go (is_or (slice_index s.words v) old) (r.now.holder v) refl
+        go (is_or (slice_index s.words (var_word v)) old) (r.now.holder v) refl
       where
-        go : (slice_index s.words v ≡ old) ⊎ (slice_index s.words v ≢ old) → (h : Option ℕ) → r.now.holder v ≡ h
+        go : (slice_index s.words (var_word v) ≡ old) ⊎ (slice_index s.words (var_word v) ≢ old) → (h : Option ℕ)
+            → r.now.holder v ≡ h
             → (u : View V) × (a : Act (VarPart V)) × Valid s.homes carried a
-            × IsTold m fits guide p
-            (stepped s v (either (eqb (slice_index s.words v) old) new (slice_index s.words v)) id carried u a)
-            × Takes fit c program (step slots v old new logic.none) (w, carried) (slice_index s.words v)
-            (u, carried_after carried a)
+            × IsTold m fits guide p (stepped s (var_word v)
+            (either (eqb (slice_index s.words (var_word v)) old) new (slice_index s.words (var_word v))) id carried u a)
+            × Takes fit c program (step slots (var_word v) old new logic.none) (w, carried)
+            (slice_index s.words (var_word v)) (u, carried_after carried a)
         go (inr miss) h is = (
           w,
           keeps,
           tt,
-          subst (λ b. IsTold m fits guide p (stepped s v (either b new (slice_index s.words v)) id carried w keeps))
-              (sym (ne_eqb (slice_index s.words v) old miss))
+          subst (λ b. IsTold m fits guide p
+              (stepped s (var_word v) (either b new (slice_index s.words (var_word v))) id carried w keeps))
+              (sym (ne_eqb (slice_index s.words (var_word v)) old miss))
               (subst (λ (q : State (VarPart V) (View V)). IsTold m fits guide p q)
-              (sym (same_state s w carried v (let q = r.at.words in omega (arith, q)) here)) r),
+              (sym (same_state s w carried (var_word v) (var_in s r v low) here)) r),
           ((λ hit. absurd (miss hit)), λ _. refl),
         )
         go (inl hit) (Some other) is =
@@ -266,17 +284,20 @@ module _ {V : Type 0} (m : Meaning V) (fits : ℕ → V → Type 0) (guide : Lis
         go (inl hit) None is =
             let k : IsPlaced s (length p.threads) r.now v (r.now.vars v) None =
             subst (λ (h : Option ℕ). IsPlaced s (length p.threads) r.now v (r.now.vars v) h) is (r.at.placed v low) in
-            let word : slice_index s.words v ≡ (r.now.vars v).places + (r.now.vars v).places = k.0 in (
+            let word : slice_index s.words (var_word v) ≡ (r.now.vars v).places + (r.now.vars v).places = k.0 in (
               with_hand w v (r.now.vars v),
               takes v (r.now.vars v),
               k.1,
-              subst (λ b. IsTold m fits guide p (stepped s v (either b new (slice_index s.words v)) id carried
-                  (with_hand w v (r.now.vars v)) (takes v (r.now.vars v))))
-                  (sym (eq-eqb (slice_index s.words v) old hit))
+              subst (λ b.
+                  IsTold m fits guide p (stepped s (var_word v) (either b new (slice_index s.words (var_word v))) id
+                  carried (with_hand w v (r.now.vars v)) (takes v (r.now.vars v))))
+                  (sym (eq-eqb (slice_index s.words (var_word v)) old hit))
                   (take_told s r here carried k is new (omega (arith, hit, word, up))),
               (
                 (λ _. (
+                  v,
                   r.now.vars v,
+                  refl,
                   record {
                     word_is = sym word;
                     few = few_places r.now r.sound v low;
@@ -304,14 +325,15 @@ module _ {V : Type 0} (m : Meaning V) (fits : ℕ → V → Type 0) (guide : Lis
 
       give_told : (s : State (VarPart V) (View V)) (r : IsTold m fits guide p s) → get_elem? s.views id ≡ logic.some w
           → (carried : List (ℕ × VarPart V)) (n : ℕ) → n ≡ x.places + x.places
-          → IsTold m fits guide p (stepped s v n id ((v, x) ∷ carried) (empty_hand w) gives)
+          → IsTold m fits guide p (stepped s (var_word v) n id ((v, x) ∷ carried) (empty_hand w) gives)
       give_told s r here carried n is = record {
         now = with_seats r.now r.now.owner (put v None r.now.holder);
         at = at_later m.vars (length p.threads) id r.now (with_seats r.now r.now.owner (put v None r.now.holder)) later
-            s r.at w (empty_hand w) here (slice_set s.words v n) (slice_set s.homes v (logic.some x))
-            (length-set s.words v n) (length-set s.homes v (logic.some x))
-            (λ t under. get_or-set_other s.words v (m.vars + t) n 0 (λ e. absurd (omega arith)) ∙ r.at.ended t under)
-            (λ u under. placed u under (is_or u v)) view;
+            s r.at w (empty_hand w) here (slice_set s.words (var_word v) n) (slice_set s.homes v (logic.some x))
+            (length-set s.words (var_word v) n) (length-set s.homes v (logic.some x))
+            (λ t under.
+            get_or-set_other s.words (var_word v) (thread_word m.vars t) n 0 (thread_apart m.vars v t low)
+            ∙ r.at.ended t under) (λ u under. placed u under (is_or u v)) view;
         sound = sound_seats m fits guide p r.now r.now.owner (put v None r.now.holder) r.sound;
       }
         where
@@ -337,35 +359,36 @@ module _ {V : Type 0} (m : Meaning V) (fits : ℕ → V → Type 0) (guide : Lis
           }
 
           placed : (u : ℕ) → u < m.vars → (u ≡ v) ⊎ (u ≢ v) → IsPlaced (record {
-            words = slice_set s.words v n;
+            words = slice_set s.words (var_word v) n;
             homes = slice_set s.homes v (logic.some x);
             views = slice_set s.views id (empty_hand w);
           }) (length p.threads) (with_seats r.now r.now.owner (put v None r.now.holder)) u (r.now.vars u)
               (put v None r.now.holder u)
           placed u under (inl same) =
               subst (λ (h : Option ℕ). IsPlaced (record {
-                words = slice_set s.words v n;
+                words = slice_set s.words (var_word v) n;
                 homes = slice_set s.homes v (logic.some x);
                 views = slice_set s.views id (empty_hand w);
               }) (length p.threads) (with_seats r.now r.now.owner (put v None r.now.holder)) u (r.now.vars u) h)
               (sym (put_here v u None r.now.holder same)) (subst (λ (z : ℕ). IsPlaced (record {
-                words = slice_set s.words v n;
+                words = slice_set s.words (var_word v) n;
                 homes = slice_set s.homes v (logic.some x);
                 views = slice_set s.views id (empty_hand w);
               }) (length p.threads) (with_seats r.now r.now.owner (put v None r.now.holder)) z (r.now.vars z) None)
               (sym same) (subst (λ (z : VarPart V). IsPlaced (record {
-                words = slice_set s.words v n;
+                words = slice_set s.words (var_word v) n;
                 homes = slice_set s.homes v (logic.some x);
                 views = slice_set s.views id (empty_hand w);
               }) (length p.threads) (with_seats r.now r.now.owner (put v None r.now.holder)) v z None) known.1 (
-                get_or-set_same s.words v n 0 (let q = r.at.words in omega (arith, q)) ∙ is,
+                get_or-set_same s.words (var_word v) n 0 (var_in s r v low) ∙ is,
                 set_here s.homes v (logic.some x) (let q = r.at.homes in omega (arith, q)),
               )))
           placed u under (inr apart) =
               stays_placed m.vars (length p.threads) id r.now (with_seats r.now r.now.owner (put v None r.now.holder))
-              later s r.at w (empty_hand w) here (slice_set s.words v n) (slice_set s.homes v (logic.some x)) u under
-              (get_or-set_other s.words v u n 0 apart) (set_else s.homes v u (logic.some x) apart) refl
-              (put_else v u None r.now.holder apart) (λ h has e. absurd (apart (sym e ∙ only_hand h has)))
+              later s r.at w (empty_hand w) here (slice_set s.words (var_word v) n) (slice_set s.homes v (logic.some x))
+              u under (get_or-set_other s.words (var_word v) (var_word u) n 0 (vars_apart u v apart))
+              (set_else s.homes v u (logic.some x) apart) refl (put_else v u None r.now.holder apart)
+              (λ h has e. absurd (apart (sym e ∙ only_hand h has)))
 
           view : IsView m.vars (length p.threads) (with_seats r.now r.now.owner (put v None r.now.holder)) id
               (empty_hand w)
@@ -379,8 +402,8 @@ module _ {V : Type 0} (m : Meaning V) (fits : ℕ → V → Type 0) (guide : Lis
           }
 
       pub give_allows : (carried : List (ℕ × VarPart V)) (slots n : ℕ) → n ≡ x.places + x.places
-          → Allows (IsTold m fits guide p) slots id (w, (v, x) ∷ carried) v (λ _. n)
-          (λ _. Gives (step slots v n 0 logic.none) (w, (v, x) ∷ carried) n)
+          → Allows (IsTold m fits guide p) slots id (w, (v, x) ∷ carried) (var_word v) (λ _. n)
+          (λ _. Gives (step slots (var_word v) n 0 logic.none) (w, (v, x) ∷ carried) n)
       give_allows carried slots n is s r wide here small =
           (empty_hand w, gives, tt, give_told s r here carried n is, refl)
 
@@ -474,7 +497,7 @@ module _ {V : Type 0} (m : Meaning V) (fits : ℕ → V → Type 0) (guide : Lis
             }
 
     pub note_allows : IsOwn m x.thread n → w.hand ≡ None → seen_after w.seen n.trace ≡ w.seen → (c : Coded V)
-        (carried : List (ℕ × VarPart V)) (slots i : ℕ) → i < m.vars + length p.threads
+        (carried : List (ℕ × VarPart V)) (slots i : ℕ) → i < word_count m.vars (length p.threads)
         → Allows (IsTold m fits guide p) slots id (w, carried) i (λ k. k)
         (Notes (note_code c) ((note_code c).code n) (step slots i 0 0 logic.none) (w, carried))
     note_allows own empty seen c carried slots i inside s r wide here small = (
@@ -484,7 +507,7 @@ module _ {V : Type 0} (m : Meaning V) (fits : ℕ → V → Type 0) (guide : Lis
       subst (λ (ws : List ℕ).
           IsTold m fits guide p (record { words = ws; homes = s.homes; views = slice_set s.views id (noted_view w n) }))
           (sym (set_again s.words i (slice_index s.words i)
-          (at_word s.words i (let q = r.at.words in omega (arith, q, inside))))) (own_told s r here own empty seen),
+          (at_word s.words i (subst (λ (k : ℕ). i < k) (sym r.at.words) inside)))) (own_told s r here own empty seen),
       (n, refl, refl),
     )
 
@@ -559,7 +582,7 @@ module _ {V : Type 0} (m : Meaning V) (fits : ℕ → V → Type 0) (guide : Lis
         }
 
         bring_told : (carried : List (ℕ × VarPart V)) (word : ℕ) → word ≡ y.places + y.places
-            → IsTold m fits guide p (stepped s v word id ((v, y) ∷ carried) (noted_view w n) gives)
+            → IsTold m fits guide p (stepped s (var_word v) word id ((v, y) ∷ carried) (noted_view w n) gives)
         bring_told carried word is =
             let on_home : IsOnVariable m x.thread v n (r.now.vars v) y place e =
             subst (λ (z : VarPart V). IsOnVariable m x.thread v n z y place e) known.1 on in
@@ -567,52 +590,53 @@ module _ {V : Type 0} (m : Meaning V) (fits : ℕ → V → Type 0) (guide : Lis
               now = with_note r.now x.thread n (put v y r.now.vars) (put v None r.now.holder);
               at = at_later m.vars (length p.threads) id r.now
                   (with_note r.now x.thread n (put v y r.now.vars) (put v None r.now.holder)) later s r.at w
-                  (noted_view w n) here (slice_set s.words v word) (slice_set s.homes v (logic.some y))
-                  (length-set s.words v word) (length-set s.homes v (logic.some y))
+                  (noted_view w n) here (slice_set s.words (var_word v) word) (slice_set s.homes v (logic.some y))
+                  (length-set s.words (var_word v) word) (length-set s.homes v (logic.some y))
                   (λ t under.
-                  get_or-set_other s.words v (m.vars + t) word 0 (λ q. absurd (omega arith)) ∙ r.at.ended t under)
-                  (λ u under. placed u under (is_or u v)) view;
+                  get_or-set_other s.words (var_word v) (thread_word m.vars t) word 0 (thread_apart m.vars v t low)
+                  ∙ r.at.ended t under) (λ u under. placed u under (is_or u v)) view;
               sound = sound_on m fits guide p r.now r.sound x.thread (mine s r here).low (not_ended s r here) n
                   (is_before s r here) guided v y place e low on_home fit b.2 b.1 b.0.held b.0.made;
             }
           where
             placed : (u : ℕ) → u < m.vars → (u ≡ v) ⊎ (u ≢ v) → IsPlaced (record {
-              words = slice_set s.words v word;
+              words = slice_set s.words (var_word v) word;
               homes = slice_set s.homes v (logic.some y);
               views = slice_set s.views id (noted_view w n);
             }) (length p.threads) (with_note r.now x.thread n (put v y r.now.vars) (put v None r.now.holder)) u
                 (put v y r.now.vars u) (put v None r.now.holder u)
             placed u under (inl same) =
                 subst (λ (h : Option ℕ). IsPlaced (record {
-                  words = slice_set s.words v word;
+                  words = slice_set s.words (var_word v) word;
                   homes = slice_set s.homes v (logic.some y);
                   views = slice_set s.views id (noted_view w n);
                 }) (length p.threads) (with_note r.now x.thread n (put v y r.now.vars) (put v None r.now.holder)) u
                 (put v y r.now.vars u) h) (sym (put_here v u None r.now.holder same))
                 (subst (λ (z : VarPart V). IsPlaced (record {
-                  words = slice_set s.words v word;
+                  words = slice_set s.words (var_word v) word;
                   homes = slice_set s.homes v (logic.some y);
                   views = slice_set s.views id (noted_view w n);
                 }) (length p.threads) (with_note r.now x.thread n (put v y r.now.vars) (put v None r.now.holder)) u
                 z None) (sym (put_here v u y r.now.vars same)) (subst (λ (z : ℕ). IsPlaced (record {
-                  words = slice_set s.words v word;
+                  words = slice_set s.words (var_word v) word;
                   homes = slice_set s.homes v (logic.some y);
                   views = slice_set s.views id (noted_view w n);
                 }) (length p.threads) (with_note r.now x.thread n (put v y r.now.vars) (put v None r.now.holder)) z
                 y None) (sym same) (
-                  get_or-set_same s.words v word 0 (let q = r.at.words in omega (arith, q)) ∙ is,
+                  get_or-set_same s.words (var_word v) word 0 (var_in s r v low) ∙ is,
                   set_here s.homes v (logic.some y) (let q = r.at.homes in omega (arith, q)),
                 )))
             placed u under (inr apart) = stays_placed m.vars (length p.threads) id r.now
                 (with_note r.now x.thread n (put v y r.now.vars) (put v None r.now.holder)) later s r.at w
-                (noted_view w n) here (slice_set s.words v word) (slice_set s.homes v (logic.some y)) u under
-                (get_or-set_other s.words v u word 0 apart) (set_else s.homes v u (logic.some y) apart)
-                (put_else v u y r.now.vars apart) (put_else v u None r.now.holder apart)
+                (noted_view w n) here (slice_set s.words (var_word v) word) (slice_set s.homes v (logic.some y)) u under
+                (get_or-set_other s.words (var_word v) (var_word u) word 0 (vars_apart u v apart))
+                (set_else s.homes v u (logic.some y) apart) (put_else v u y r.now.vars apart)
+                (put_else v u None r.now.holder apart)
                 (λ h has q. absurd (apart (sym q ∙ only_hand v low w found hand h has)))
 
       pub bring_allows : (c : Coded V) (carried : List (ℕ × VarPart V)) (slots word : ℕ) → word ≡ y.places + y.places
-          → Allows (IsTold m fits guide p) slots id (w, (v, y) ∷ carried) v (λ _. word)
-          (λ _. Brings (note_code c) ((note_code c).code n) (step slots v word 0 logic.none) (w, (v, y) ∷ carried) word)
+          → Allows (IsTold m fits guide p) slots id (w, (v, y) ∷ carried) (var_word v) (λ _. word) (λ _. Brings
+          (note_code c) ((note_code c).code n) (step slots (var_word v) word 0 logic.none) (w, (v, y) ∷ carried) word)
       bring_allows c carried slots word is s r wide here small =
           (noted_view w n, gives, tt, bring_told s r here carried word is, (n, refl, refl))
 
@@ -622,18 +646,19 @@ module _ {V : Type 0} (m : Meaning V) (fits : ℕ → V → Type 0) (guide : Lis
     end_told : (s : State (VarPart V) (View V)) (r : IsTold m fits guide p s)
         (here : get_elem? s.views id ≡ logic.some w)
         → IsTold m fits guide p (record {
-          words = slice_set s.words (m.vars + x.thread) 1;
+          words = slice_set s.words (thread_word m.vars x.thread) 1;
           homes = s.homes;
           views = slice_set s.views id (ended_view w);
         })
     end_told s r here = record {
       now = with_end r.now x.thread;
       at = at_later m.vars (length p.threads) id r.now (with_end r.now x.thread) later s r.at w (ended_view w) here
-          (slice_set s.words (m.vars + x.thread) 1) s.homes (length-set s.words (m.vars + x.thread) 1) refl
-          (λ t under. ended t under (is_or t x.thread))
+          (slice_set s.words (thread_word m.vars x.thread) 1) s.homes
+          (length-set s.words (thread_word m.vars x.thread) 1) refl (λ t under. ended t under (is_or t x.thread))
           (λ u under. stays_placed m.vars (length p.threads) id r.now (with_end r.now x.thread) later s r.at w
-          (ended_view w) here (slice_set s.words (m.vars + x.thread) 1) s.homes u under
-          (get_or-set_other s.words (m.vars + x.thread) u 1 0 (λ q. absurd (omega arith))) refl refl refl
+          (ended_view w) here (slice_set s.words (thread_word m.vars x.thread) 1) s.homes u under
+          (get_or-set_other s.words (thread_word m.vars x.thread) (var_word u) 1 0
+          (λ q. thread_apart m.vars u x.thread under (sym q))) refl refl refl
           (λ h has q. absurd (no_hand w h empty has))) view;
       sound = sound_end m fits guide p r.now x.thread r.sound;
     }
@@ -652,15 +677,16 @@ module _ {V : Type 0} (m : Meaning V) (fits : ℕ → V → Type 0) (guide : Lis
         }
 
         ended : (t : ℕ) → t < length p.threads → (t ≡ x.thread) ⊎ (t ≢ x.thread)
-            → slice_index (slice_set s.words (m.vars + x.thread) 1) (m.vars + t)
+            → slice_index (slice_set s.words (thread_word m.vars x.thread) 1) (thread_word m.vars t)
             ≡ cond (put x.thread true r.now.ended t) 1 0
         ended t under (inl same) =
-            ap (λ (z : ℕ). slice_index (slice_set s.words (m.vars + x.thread) 1) (m.vars + z)) same
-            ∙ (get_or-set_same s.words (m.vars + x.thread) 1 0
-            (let q = r.at.words in let low = mine.low in omega (arith, q, low))
+            ap (λ (z : ℕ). slice_index (slice_set s.words (thread_word m.vars x.thread) 1) (thread_word m.vars z)) same
+            ∙ (get_or-set_same s.words (thread_word m.vars x.thread) 1 0
+            (thread_in s r x.thread mine.low)
             ∙ sym (ap (λ (b : Bool). cond b 1 0) (put_here x.thread t true r.now.ended same)))
         ended t under (inr apart) =
-            get_or-set_other s.words (m.vars + x.thread) (m.vars + t) 1 0 (λ q. apart (omega (arith, q)))
+            get_or-set_other s.words (thread_word m.vars x.thread) (thread_word m.vars t) 1 0
+            (λ q. apart (same_thread m.vars t x.thread q))
             ∙ (r.at.ended t under ∙ sym (ap (λ (b : Bool). cond b 1 0) (put_else x.thread t true r.now.ended apart)))
 
         ends : end_shares w.shares ≡ (record { thread = x.thread; notes = x.notes; part = x.part; ended = true }) ∷ []
@@ -685,6 +711,6 @@ module _ {V : Type 0} (m : Meaning V) (fits : ℕ → V → Type 0) (guide : Lis
         }
 
     pub end_allows : (carried : List (ℕ × VarPart V)) (slots : ℕ)
-        → Allows (IsTold m fits guide p) slots id (w, carried) (m.vars + x.thread) (λ _. 1)
-        (λ _. Ends (step slots (m.vars + x.thread) 1 0 logic.none) (w, carried) 1)
+        → Allows (IsTold m fits guide p) slots id (w, carried) (thread_word m.vars x.thread) (λ _. 1)
+        (λ _. Ends (step slots (thread_word m.vars x.thread) 1 0 logic.none) (w, carried) 1)
     end_allows carried slots s r wide here small = (ended_view w, keeps, tt, end_told s r here, refl)

@@ -1,4 +1,5 @@
 pub mod Codes
+pub mod Words
 pub mod Notes
 pub mod Views
 pub mod Plays

@@ -6,6 +6,7 @@ use Rattle.atomic_table.specs.Seated.{TableId}
 use Rattle.var_locks.specs.declared.view.View.{View}
 use Rattle.var_locks.specs.Seats.{Seated, IsCounted}
 use Rattle.var_locks.specs.Views.{fresh_shares}
+use Rattle.var_locks.specs.Words.{spread}
 use Rattle.std.specs.Prelude.{None}
 
 -- the counts of each thread are within their bounds
@@ -16,9 +17,9 @@ AreCounted parts = (t : ℕ) (d : ThreadPart) → t < length parts → IsCounted
 abbrev pub places_of : {V : Type 0} → List (VarPart V) → List ℕ
 places_of vars = map (λ x. x.places) vars
 
--- the words at first: of each variable twice that, and 0 of each thread
+-- the words at first: of each variable twice that, and 0 of each thread, each on a line of its own
 abbrev pub words_of : List ℕ → ℕ → List ℕ
-words_of places threads = map (λ n. n * 2) places ++ replicate threads 0
+words_of places threads = spread (map (λ n. n * 2) places ++ replicate threads 0)
 
 -- the view of a seat that has the threads from this one on, with these parts
 abbrev pub rest_view : {V : Type 0} → ℕ → List ThreadPart → List ℕ → View V

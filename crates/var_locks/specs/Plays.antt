@@ -7,6 +7,7 @@ use Rattle.master_core.specs.declared.parts.VarPart.{VarPart}
 use Rattle.var_locks.specs.declared.view.Note.{Note}
 use Rattle.var_locks.specs.declared.view.MissedEntry.{MissedEntry}
 use Rattle.var_locks.specs.declared.view.View.{View}
+use Rattle.var_locks.specs.Words.{var_word}
 use Rattle.var_locks.specs.Views.{with_hand, empty_hand, noted_view, missed_view, ended_view}
 
 -- What a seat finds of a variable: no fewer touches than it saw, twice their number in the word, and a value that the
@@ -18,14 +19,15 @@ pub record Finds {P V : Type 0} (fits : P → ℕ → V → Type 0) (c : Coded P
   pub seen : slice_index w.seen v ≤ x.places
   pub fit : (q : P) → c.code q ≡ program → fits q v x.value
 
--- where the word was as it was seen, the variable is in hand
+-- where the word was as it was seen, its variable is in hand
 abbrev pub Takes : {P V : Type 0} → (P → ℕ → V → Type 0) → Coded P → Gv → Step (VarPart V) → Me (VarPart V) (View V) → ℕ
     → Me (VarPart V) (View V) → Type 0
 Takes {P} {V} fits c program st me found now =
     (found ≡ st.first
-    → (x : VarPart V)
-    × Finds fits c program me.0 st.word found x
-    × (now ≡ (with_hand me.0 st.word x, (st.word, x) ∷ me.1)))
+    → (v : ℕ) × (x : VarPart V)
+    × (st.word ≡ var_word v)
+    × Finds fits c program me.0 v found x
+    × (now ≡ (with_hand me.0 v x, (v, x) ∷ me.1)))
     × (found ≢ st.first → now ≡ me)
 
 -- the note of this code is noted, and the slots stay

@@ -18,6 +18,7 @@ use Rattle.var_locks.specs.declared.view.Share.{Share}
 use Rattle.var_locks.specs.declared.view.MissedEntry.{MissedEntry}
 use Rattle.var_locks.specs.declared.view.View.{View}
 use Rattle.var_locks.specs.Codes.{master_code}
+use Rattle.var_locks.specs.Words.{thread_word, word_count}
 use Rattle.var_locks.specs.Notes.{IsOwn, IsOnVariable, IsGuided}
 use Rattle.var_locks.specs.Told.{AreFirstWords, ArePlaces}
 
@@ -28,7 +29,7 @@ pub record IsRoundOf {P V : Type 0} (meaning : P → Meaning V) (c : Coded P) (d
   pub master : Mastered V
   pub opens : (master_code d).code master ≡ opening
   pub threads : master.threads ≡ parts
-  pub words_are : words ≡ (meaning q).vars + length parts
+  pub words_are : words ≡ word_count (meaning q).vars (length parts)
 
 -- The master of these parts opens the round.
 pub record Opens {V : Type 0} (m : Meaning V) (fits : ℕ → V → Type 0) (d : Coded V) (opening : Gv)
@@ -111,7 +112,7 @@ CanTake {V} w = (x : Share V) × IsIdle w x
 
 -- it may end the round, by this word
 abbrev pub CanEnd : {V : Type 0} → Meaning V → View V → ℕ → Type 0
-CanEnd {V} m w word = (x : Share V) × IsIdle w x × (word ≡ m.vars + x.thread)
+CanEnd {V} m w word = (x : Share V) × IsIdle w x × (word ≡ thread_word m.vars x.thread)
 
 -- it may part with its first thread
 abbrev pub CanSplit : {V : Type 0} → View V → Type 0

@@ -28,6 +28,7 @@ use Rattle.var_locks.specs.declared.view.Held.{Held}
 use Rattle.var_locks.specs.declared.view.MissedEntry.{MissedEntry}
 use Rattle.var_locks.specs.declared.view.View.{View}
 use Rattle.var_locks.specs.Codes.{master_code}
+use Rattle.var_locks.specs.Words.{var_word, thread_word, word_count}
 use Rattle.var_locks.specs.Notes.{read_notes, AreFed, AreGuided}
 use Rattle.var_locks.specs.Views.{HasShare, AreApart, IsMissed}
 
@@ -49,9 +50,9 @@ pub record Now (V : Type 0) : Type 0 where
 -- has a thread.
 abbrev pub IsPlaced : {V : Type 0} → State (VarPart V) (View V) → ℕ → Now V → ℕ → VarPart V → Option ℕ → Type 0
 IsPlaced s threads d v x None =
-    (slice_index s.words v ≡ x.places + x.places) × (get_elem? s.homes v ≡ logic.some (logic.some x))
+    (slice_index s.words (var_word v) ≡ x.places + x.places) × (get_elem? s.homes v ≡ logic.some (logic.some x))
 IsPlaced {V} s threads d v x (Some id) =
-    (slice_index s.words v ≡ x.places + x.places + 1)
+    (slice_index s.words (var_word v) ≡ x.places + x.places + 1)
     × ((w : View V) × (get_elem? s.views id ≡ logic.some w) × (w.hand ≡ Some (record { var = v; found = x })))
     × ((t : ℕ) × (t < threads) × (d.owner t ≡ id))
 
@@ -78,9 +79,9 @@ pub record IsView {V : Type 0} (vars threads : ℕ) (d : Now V) (id : ℕ) (w : 
 -- The table is as it is so: a word for each variable, with its value, and one for each thread, which is 1 where it
 -- ended.
 pub record IsTableOf {V : Type 0} (vars threads : ℕ) (d : Now V) (s : State (VarPart V) (View V)) : Type 0 where
-  pub words : length s.words ≡ vars + threads
+  pub words : length s.words ≡ word_count vars threads
   pub homes : length s.homes ≡ vars
-  pub ended : (t : ℕ) → t < threads → slice_index s.words (vars + t) ≡ cond (d.ended t) 1 0
+  pub ended : (t : ℕ) → t < threads → slice_index s.words (thread_word vars t) ≡ cond (d.ended t) 1 0
   pub placed : (v : ℕ) → v < vars → IsPlaced s threads d v (d.vars v) (d.holder v)
   pub view : (id : ℕ) (w : View V) → get_elem? s.views id ≡ logic.some w → IsView vars threads d id w
 
@@ -134,10 +135,10 @@ IsToldOf {P} {V} meaning fits c d program opening guide s =
 
 -- The words at first: twice the places of each variable, and 0 for each thread.
 pub record AreFirstWords {V : Type 0} (p : Mastered V) (words : List ℕ) : Type 0 where
-  pub count : length words ≡ length p.vars + length p.threads
+  pub count : length words ≡ word_count (length p.vars) (length p.threads)
   pub var : (v : ℕ) (d : VarPart V) → v < length p.vars
-      → slice_index words v ≡ (slice_index_or p.vars v d).places + (slice_index_or p.vars v d).places
-  pub thread : (t : ℕ) → t < length p.threads → slice_index words (length p.vars + t) ≡ 0
+      → slice_index words (var_word v) ≡ (slice_index_or p.vars v d).places + (slice_index_or p.vars v d).places
+  pub thread : (t : ℕ) → t < length p.threads → slice_index words (thread_word (length p.vars) t) ≡ 0
 
 -- how often each variable was touched then
 abbrev pub ArePlaces : {V : Type 0} → Mastered V → List ℕ → Type 0

@@ -6,6 +6,7 @@ ghost use Rattle.var_locks.specs.Rounds.{AreVarsOf};
 ghost use Rattle.var_locks.specs.Seats.{IsSeatOf};
 ghost use Rattle.var_locks.specs.Plain.{Steps};
 
+use crate::lines::thread_word;
 use crate::seats::VarSeat;
 use crate::steps::end_round;
 use crate::vars::Vars;
@@ -52,7 +53,7 @@ impl<P: Program, J: Round> Vars<P, J> {
         requires going { seat.old.ended ≡ false }
         ensures ended { seat.new ≡ record seat.old { ended = true } }
     {
-        let word = self.vars + seat.thread as usize;
+        let word = thread_word(self.vars, seat.thread);
         end_round::<P, J>(program, &self.table.shared, &mut seat.token, word);
         seat.ended = true;
     }

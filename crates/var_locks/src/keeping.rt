@@ -11,6 +11,7 @@ ghost use Rattle.var_locks.specs.Rounds.{AreVarsOf};
 ghost use Rattle.var_locks.specs.Seats.{MayMove, HasMade};
 ghost use Rattle.var_locks.specs.Plain.{Steps, IsAsked, IsFree};
 
+use crate::lines::thread_word;
 use crate::seats::VarSeat;
 use crate::steps::{Made, note_move};
 use crate::vars::Vars;
@@ -87,7 +88,7 @@ impl<P: Program, J: Round> Vars<P, J> {
         ensures left { OnErr result (seat.new ≡ seat.old) }
     {
         seat.marks.reserve(1)?;
-        let word = self.vars + seat.thread as usize;
+        let word = thread_word(self.vars, seat.thread);
         let made = Made {
             before: &seat.part,
             after: &after,

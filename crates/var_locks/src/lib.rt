@@ -4,6 +4,7 @@
 
 mod calls;
 mod keeping;
+mod lines;
 mod opening;
 mod progress;
 mod seats;

@@ -7,6 +7,7 @@ ghost use Rattle.var_locks.specs.Rounds.{IsRoundOf, AreVarsOf, Opens};
 ghost use Rattle.var_locks.specs.Openings.{AreCounted, places_of, words_of, rest_view, fresh_seat};
 ghost use Rattle.var_locks.specs.Openings.{fresh_seats};
 
+use crate::lines::push_line;
 use crate::seats::VarSeat;
 use crate::steps::{Lock, Token, open_round, split_off};
 use crate::vars::Vars;
@@ -29,7 +30,7 @@ fn first_places<V>(alloc: Global, vars: &[VarPart<V>]) -> Result<Vec<u64>, NoMem
     Ok(places)
 }
 
-/// The words at first: of each variable twice its places, and 0 of each thread.
+/// The words at first: of each variable twice its places, and 0 of each thread, each on a line of its own.
 #[tactic(auto, using(crate::proofs::FirstWords::words_next, crate::proofs::FirstWords::zeros_next))]
 fn first_words(alloc: Global, places: &[u64], threads: usize) -> Result<Vec<u64>, NoMemory>
     requires small { (v : ℕ) → slice_index places.now v ≤ 2 ^ 60 }
@@ -37,11 +38,11 @@ fn first_words(alloc: Global, places: &[u64], threads: usize) -> Result<Vec<u64>
 {
     let mut words = Vec::new(alloc);
     for var in 0..places.len() {
-        words.push(places[var] * 2)?;
+        push_line(&mut words, places[var] * 2)?;
     }
     for thread in 0..threads {
         let _ = thread;
-        words.push(0)?;
+        push_line(&mut words, 0)?;
     }
     Ok(words)
 }

@@ -7,6 +7,7 @@ ghost use Rattle.master_core.specs.declared.parts.VarPart as var_of;
 ghost use Rattle.var_locks.specs.declared.view.Note as note_of;
 ghost use Rattle.var_locks.specs.Codes.{note_code};
 ghost use Rattle.var_locks.specs.Notes.{own_note};
+ghost use Rattle.var_locks.specs.Words.{thread_word};
 ghost use Rattle.var_locks.specs.Views.{note_on, first_view, first_share, other_shares};
 ghost use Rattle.var_locks.specs.Views.{joined_view, with_hand, empty_hand, noted_view};
 ghost use Rattle.var_locks.specs.Views.{missed_view, ended_view};
@@ -14,6 +15,7 @@ ghost use Rattle.var_locks.specs.Plays.{Finds};
 ghost use Rattle.var_locks.specs.Rounds.{IsRoundOf, Opens, CanTake, CanNote, CanBring, CanGive};
 ghost use Rattle.var_locks.specs.Rounds.{CanMiss, CanEnd, CanSplit};
 
+use crate::lines::var_word;
 use crate::view::{
     Brought, Ended, Given, Law, Missed, MissedEntry, Named, News, Noted, Parted, Round, Taken, View,
 };
@@ -79,7 +81,7 @@ fn try_take<P: Program, J: Round>(
     program: &P,
     shared: &Lock<P, J>,
     token: &mut Token<P::Value>,
-    var: usize,
+    var: u32,
 ) -> Option<u64>
     requires of { IsRoundOf P.meaning P.row.coded P.Value.row.coded
         J.program J.opening J.threads program.now shared.now.table_id.words }
@@ -93,9 +95,10 @@ fn try_take<P: Program, J: Round>(
     ensures left { IfNone result (token.new.me ≡ token.old.me) }
 {
     let _ = program;
-    let word = shared.peek(var);
+    let index = var_word(var);
+    let word = shared.peek(index);
     if word % 2 == 0 {
-        let found = shared.compare_exchange::<Taken<P, J>>(token, var, word, word + 1);
+        let found = shared.compare_exchange::<Taken<P, J>>(token, index, word, word + 1);
         if found == word {
             return Some(word);
         }
@@ -123,7 +126,7 @@ pub(crate) fn take_up<P: Program, J: Round, R: Wait>(
     program: &P,
     shared: &Lock<P, J>,
     token: &mut Token<P::Value>,
-    var: usize,
+    var: u32,
 ) -> u64
     requires of { IsRoundOf P.meaning P.row.coded P.Value.row.coded
         J.program J.opening J.threads program.now shared.now.table_id.words }
@@ -203,7 +206,7 @@ fn bring_as<P: Program, J: Round, N: News>(
     program: &P,
     shared: &Lock<P, J>,
     token: &mut Token<P::Value>,
-    var: usize,
+    var: u32,
     word: u64,
     made: Made<'_>,
 )
@@ -222,7 +225,7 @@ fn bring_as<P: Program, J: Round, N: News>(
 {
     let _ = program;
     let _ = made;
-    shared.store::<Brought<N>>(token, var, word);
+    shared.store::<Brought<N>>(token, var_word(var), word);
 }
 
 /// Brings the variable in hand home, after a touch or a read of it.
@@ -230,7 +233,7 @@ pub(crate) fn bring_home<P: Program, J: Round>(
     program: &P,
     shared: &Lock<P, J>,
     token: &mut Token<P::Value>,
-    var: usize,
+    var: u32,
     word: u64,
     made: Made<'_>,
 )
@@ -256,7 +259,7 @@ pub(crate) fn give_back<P: Program, J: Round>(
     program: &P,
     shared: &Lock<P, J>,
     token: &mut Token<P::Value>,
-    var: usize,
+    var: u32,
     word: u64,
 )
     requires of { IsRoundOf P.meaning P.row.coded P.Value.row.coded
@@ -268,7 +271,7 @@ pub(crate) fn give_back<P: Program, J: Round>(
     ensures given { token.new.me ≡ (empty_hand token.old.me.0, []) }
 {
     let _ = program;
-    shared.store::<Given>(token, var, word);
+    shared.store::<Given>(token, var_word(var), word);
 }
 
 /// Whether the thread of an entry ended, for which the guide says to wait at the variable in hand. If so, the entry is
@@ -285,7 +288,7 @@ fn misses_as<P: Program, J: Round, N: Named>(
     requires table { token.old.table_id ≡ shared.now.table_id }
     requires named { missed ≡ N.entry }
     requires thread_in { missed.thread < length J.threads }
-    requires word_is { word ≡ (P.meaning program.now).vars + missed.thread }
+    requires word_is { word ≡ thread_word (P.meaning program.now).vars missed.thread }
     requires waits { CanMiss (P.meaning program.now) J.guide token.old.me.0 missed }
     ensures same { (token.new.table_id ≡ token.old.table_id) × (token.new.id ≡ token.old.id) }
     ensures missing { result ≡ true
@@ -310,7 +313,7 @@ pub(crate) fn misses<P: Program, J: Round>(
         J.program J.opening J.threads program.now shared.now.table_id.words }
     requires table { token.old.table_id ≡ shared.now.table_id }
     requires thread_in { missed.thread < length J.threads }
-    requires word_is { word ≡ (P.meaning program.now).vars + missed.thread }
+    requires word_is { word ≡ thread_word (P.meaning program.now).vars missed.thread }
     requires waits { CanMiss (P.meaning program.now) J.guide token.old.me.0 missed }
     ensures same { (token.new.table_id ≡ token.old.table_id) × (token.new.id ≡ token.old.id) }
     ensures missing { result ≡ true

@@ -12,6 +12,7 @@ ghost use Rattle.var_locks.specs.TouchedParts.{entry_waited, HasThread, IsTaken,
 ghost use Rattle.var_locks.specs.TouchedParts.{MadeBy, MadeNone, Comes, ComesOf};
 
 use crate::keeping::copied;
+use crate::lines::thread_word;
 use crate::steps::{Lock, Made, Token, bring_home, give_back, misses, pause, take_up};
 use crate::vars::Vars;
 use crate::view::{MissedEntry, Round};
@@ -214,7 +215,7 @@ impl<P: Program, J: Round> Vars<P, J> {
     {
         let shared = &self.table.shared;
         let program = setting.program;
-        let var = access.var as usize;
+        let var = access.var;
         let before = *part;
         let worked = work::<P, J>(setting.alloc, program, shared, token, part, access);
         let Ok(entry) = worked else {
@@ -248,7 +249,7 @@ impl<P: Program, J: Round> Vars<P, J> {
         if missed.thread as usize >= self.threads {
             return false;
         }
-        let word = self.vars + missed.thread as usize;
+        let word = thread_word(self.vars, missed.thread);
         misses::<P, J>(program, &self.table.shared, token, word, missed)
     }
 
@@ -272,13 +273,7 @@ impl<P: Program, J: Round> Vars<P, J> {
         ensures going { result ≡ false → token.new.me ≡ (empty_hand token.old.me.0, []) }
     {
         let missing = self.looks_missing(program, token, missed);
-        give_back::<P, J>(
-            program,
-            &self.table.shared,
-            token,
-            missed.var as usize,
-            word,
-        );
+        give_back::<P, J>(program, &self.table.shared, token, missed.var, word);
         missing
     }
 
@@ -375,7 +370,7 @@ impl<P: Program, J: Round> Vars<P, J> {
         let mut tries = 0;
         for _ in rt.forever() {
             let shared = &self.table.shared;
-            let word = take_up::<P, J, R>(rt, setting.program, shared, token, access.var as usize);
+            let word = take_up::<P, J, R>(rt, setting.program, shared, token, access.var);
             let tried = self.try_on(setting, token, part, access, word);
             if let Some(touched) = tried {
                 return touched;

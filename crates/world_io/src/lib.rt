@@ -16,9 +16,9 @@ mod world;
 mod world_stream;
 
 pub use all::{WriteError, write_all};
-pub use clock::{Clock, FixedClock};
 pub use beginning::{Front, FrontError, read_front};
 pub use buffered::BufferedSource;
+pub use clock::{Clock, FixedClock};
 pub use memory_world::MemoryWorld;
 pub use piece::{fill_behind, fill_piece, read_behind};
 pub use stream::{Filled, Put, Sink, SliceSource, Source};

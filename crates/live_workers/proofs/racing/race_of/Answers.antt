@@ -19,13 +19,14 @@ workers_of-requires-clause-generators g c κs within =
 pub run_beside-requires-clause-given : goal.run_beside-requires-clause-given
 run_beside-requires-clause-given g c κs within = λ k d low l.
     let all = c.in_ok-vars.ensures.vars.threads_are ∙ ap length c.in_ok-vars.ensures.threads in
-    subst (λ (z : List TableId). IsGiven c.in_ok-vars.vars (slice_index_or z
-    (slice_index_or c.in_ok-workers.workers.items k d).seat.thread l) (inputs_of c.args.inputs.now) c.args.most
-    (slice_index_or c.in_ok-workers.workers.items k d)) (sym c.deref.ensures.value)
-    (is_given c.in_ok-vars.vars c.in_ok-lanes.field-0.lanes.items (inputs_of c.args.inputs.now) c.args.most c.args.master
-    g.J.Round.places g.J.Round.threads c.in_ok-vars.seats.items c.into_vec.result.items
-    c.in_ok-lanes.field-0.outboxes.items _ c.in_ok-workers.workers.items c.in_ok-vars.ensures.seats c.requires.threads all
-    c.in_ok-lanes.ensures.boxes c.in_ok-lanes.ensures.empty c.requires.ready c.in_ok-workers.ensures k d low l)
+    subst (λ (z : List TableId).
+    IsGiven c.in_ok-vars.vars (slice_index_or z (slice_index_or c.in_ok-workers.workers.items k d).seat.thread l)
+    (inputs_of c.args.inputs.now) c.args.most (slice_index_or c.in_ok-workers.workers.items k d))
+    (sym c.deref.ensures.value)
+    (is_given c.in_ok-vars.vars c.in_ok-lanes.field-0.lanes.items (inputs_of c.args.inputs.now) c.args.most
+    c.args.master g.J.Round.places g.J.Round.threads c.in_ok-vars.seats.items c.into_vec.result.items
+    c.in_ok-lanes.field-0.outboxes.items _ c.in_ok-workers.workers.items c.in_ok-vars.ensures.seats c.requires.threads
+    all c.in_ok-lanes.ensures.boxes c.in_ok-lanes.ensures.empty c.requires.ready c.in_ok-workers.ensures k d low l)
 
 pub all_frames-requires-clause-boxes : goal.all_frames-requires-clause-boxes
 all_frames-requires-clause-boxes g c =
@@ -42,11 +43,10 @@ close-requires-clause-count g c κs within =
     ap length k.2.seats_are ∙ map_count _ k.0
     ∙ ended_count (g.P.Program.meaning c.args.program.now) g.J.Round.guide (inputs_of c.args.inputs.now)
     (g.C.Clock.may c.args.clock.now) c.args.most c.in_ok-workers.workers.items k.0 k.1
-    ∙ workers_count c.in_ok-vars.vars c.in_ok-lanes.field-0.lanes.items (inputs_of c.args.inputs.now) c.args.most c.args.master
-    g.J.Round.places g.J.Round.threads c.in_ok-vars.seats.items c.into_vec.result.items
-    c.in_ok-lanes.field-0.outboxes.items _ c.in_ok-workers.workers.items c.in_ok-vars.ensures.seats c.requires.threads all
-    c.in_ok-lanes.ensures.boxes c.in_ok-lanes.ensures.empty c.requires.ready c.in_ok-workers.ensures
-    ∙ sym all
+    ∙ workers_count c.in_ok-vars.vars c.in_ok-lanes.field-0.lanes.items (inputs_of c.args.inputs.now) c.args.most
+    c.args.master g.J.Round.places g.J.Round.threads c.in_ok-vars.seats.items c.into_vec.result.items
+    c.in_ok-lanes.field-0.outboxes.items _ c.in_ok-workers.workers.items c.in_ok-vars.ensures.seats c.requires.threads
+    all c.in_ok-lanes.ensures.boxes c.in_ok-lanes.ensures.empty c.requires.ready c.in_ok-workers.ensures ∙ sym all
 
 pub close-requires-clause-seats : goal.close-requires-clause-seats
 close-requires-clause-seats g c κs within =
@@ -69,8 +69,9 @@ returns g c =
       courses = k.0;
       parts = workers_parts c.in_ok-vars.vars c.in_ok-lanes.field-0.lanes.items inputs c.args.most c.args.master
           g.J.Round.places g.J.Round.threads c.in_ok-vars.seats.items c.into_vec.result.items
-          c.in_ok-lanes.field-0.outboxes.items _ c.in_ok-workers.workers.items c.in_ok-vars.ensures.seats c.requires.threads
-          all c.in_ok-lanes.ensures.boxes c.in_ok-lanes.ensures.empty c.requires.ready c.in_ok-workers.ensures;
+          c.in_ok-lanes.field-0.outboxes.items _ c.in_ok-workers.workers.items c.in_ok-vars.ensures.seats
+          c.requires.threads all c.in_ok-lanes.ensures.boxes c.in_ok-lanes.ensures.empty c.requires.ready
+          c.in_ok-workers.ensures;
       begin = c.in_ok-workers.ensures.generators_are ∙ c.into_vec.ensures;
       limits_are = c.in_ok-workers.ensures.limits_are;
       ended = k.1;

@@ -1,8 +1,9 @@
-use Rattle.std.proofs.Common.{rules, ℕ, ◌+◌, ◌<◌, List, length, sym, subst}
+use Rattle.std.proofs.Common.{rules, ℕ, ◌<◌, List, length, sym, subst}
 use mathlib.Core.Option.{none}
 use Rattle.master_core.specs.declared.parts.ThreadPart.{ThreadPart}
 use Rattle.atomic_table.specs.Table.{Allows, step}
 use Rattle.var_locks.specs.declared.view.MissedEntry.{MissedEntry}
+use Rattle.var_locks.specs.Words.{thread_word}
 use Rattle.var_locks.specs.Plays.{Misses}
 use Rattle.var_locks.specs.Told.{IsTold}
 use Rattle.var_locks.proofs.Missing.{miss_allows}
@@ -24,14 +25,15 @@ load-requires g c =
           (sym c.requires.word_is)
           (allows_of g.P.Program.meaning g.P.Program.fits g.row.P.coded g.row.P-Value.coded g.J.Round.program
           g.J.Round.opening g.J.Round.guide q of.master of.is of.opens slots c.args.token.now.id c.args.token.now.me
-          ((g.P.Program.meaning q).vars + c.args.missed.thread) (λ z. z)
-          (Misses g.N.Named.entry (step slots ((g.P.Program.meaning q).vars + c.args.missed.thread) 0 0 none)
+          (thread_word (g.P.Program.meaning q).vars c.args.missed.thread) (λ z. z)
+          (Misses g.N.Named.entry (step slots (thread_word (g.P.Program.meaning q).vars c.args.missed.thread) 0 0 none)
           c.args.token.now.me)
           (subst (λ (f : MissedEntry).
           Allows (IsTold (g.P.Program.meaning q) (g.P.Program.fits q) g.J.Round.guide of.master) slots
-          c.args.token.now.id c.args.token.now.me ((g.P.Program.meaning q).vars + c.args.missed.thread) (λ z. z)
-          (Misses f (step slots ((g.P.Program.meaning q).vars + c.args.missed.thread) 0 0 none) c.args.token.now.me))
-          c.requires.named
+          c.args.token.now.id c.args.token.now.me (thread_word (g.P.Program.meaning q).vars c.args.missed.thread)
+          (λ z. z)
+          (Misses f (step slots (thread_word (g.P.Program.meaning q).vars c.args.missed.thread) 0 0 none)
+          c.args.token.now.me)) c.requires.named
           (miss_allows (g.P.Program.meaning q) (g.P.Program.fits q) g.J.Round.guide of.master c.args.token.now.id
           c.args.token.now.me.0 c.args.missed h.0 h.4 may.hand may.places_are h.1 h.2 h.3
           (subst (λ (l : List ThreadPart). c.args.missed.thread < length l) (sym of.threads) c.requires.thread_in)

@@ -11,7 +11,7 @@ use Rattle.var_locks.specs.Told.{IsTold}
 use Rattle.var_locks.proofs.Stepping.{note_allows}
 use Rattle.var_locks.proofs.Seeing.{own_unseen}
 use Rattle.var_locks.proofs.Naming.{allows_of}
-use Rattle.var_locks.proofs.Counting.{words_in}
+use Rattle.var_locks.proofs.Apart.{words_in}
 use Rattle.var_locks.proofs.steps.note_as.Goals as goal
 
 pub load-requires : goal.load-requires
