@@ -302,6 +302,7 @@ module _ {P V : Type 0} (m : Meaning V) (fits : ℕ → V → Type 0) (s : Setti
           AreLeft orders.lost (first_ones (orders.frames t) l) (of_thread t arriving)) (frames_sent noted new came t)
           (arrive t);
       told = λ t g low. told noted new came t low some_seat g;
+      count = ap (λ (l : List Lcg). length l) race.after_are ∙ map_count generator_of race.courses ∙ courses_count;
     },
     came.rests,
     came.stands,

@@ -1,5 +1,5 @@
 -- A round of racing threads, by the recovering system.
-use Rattle.std.specs.Prelude.{◌≡◌, ℕ, ◌<◌, List, [], ◌∷◌, slice_index_or, Option, None}
+use Rattle.std.specs.Prelude.{◌≡◌, ℕ, ◌<◌, List, [], ◌∷◌, length, slice_index_or, Option, None}
 use Rattle.rand_pcg.specs.Lcg.{Lcg}
 use Rattle.access_log.specs.Held.{Lane}
 use Rattle.plain_machine.specs.Program.{Meaning}
@@ -43,7 +43,7 @@ AreIdle s w = (t : ℕ) → t < s.threads → On s w (event.Step t None) outcome
 
 -- A round from one world to another: the steps that its threads made, one after another in the woven order, lead there.
 -- Each thread stopped where it may, and where none has a limit all are idle. These frames may arrive, and the
--- generators went on from those before to those after.
+-- generators went on from those before to those after, one for each thread.
 pub record IsRoundTo {V : Type 0} (s : Setting V) (w : World V) (orders : Orders) (may : ℕ → Type 0) (guide : List Lane)
     (before : List Lcg) (noted : List Noted) (arriving : List Message) (after : List Lcg)
     (there : World V) : Type 0 where
@@ -57,6 +57,7 @@ pub record IsRoundTo {V : Type 0} (s : Setting V) (w : World V) (orders : Orders
   pub arrive : (t : ℕ) → AreLeft orders.lost (first_ones (orders.frames t) (frames_of t steps)) (of_thread t arriving)
   pub told : (t : ℕ) (g : Lcg) → t < s.threads
       → StepsTold may guide t (steps_by t steps) (slice_index_or before t g) (slice_index_or after t g)
+  pub count : length after ≡ s.threads
 
 -- such a round leads to a world for which the system stands
 abbrev pub Rounds : {P V : Type 0} → Meaning V → Setting V → World V → Orders → (ℕ → Type 0) → List Lane → List Lcg

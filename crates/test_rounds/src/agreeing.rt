@@ -1,4 +1,7 @@
 //! A system whose threads race, and one that performs the same steps and arrivals as events, one after another.
+ghost use Rattle.std.specs.Prelude.{◌≡◌, IfSome, IsTrue, false};
+ghost use Rattle.test_rounds.specs.Standing.{HasThreads};
+
 use crate::packets::{are_taken, packets_of};
 use crate::racing::{Racing, Stage, go_on_by};
 use crate::record::Record;
@@ -26,23 +29,35 @@ pub struct End {
     pub finished: Finished,
 }
 
-/// A system on this number of packets. None also where they are too long.
-fn fresh<P: Program>(alloc: Global, program: P, threads: u32, packets: u32) -> Option<System<P>> {
-    let packets = packets_of(alloc, packets).ok()?;
-    if !are_taken(packets.as_slice()) {
+/// A system on this number of packets. None also where they are too long, or the threads too many.
+#[tactic(auto, using(crate::proofs::Keeping::opens))]
+fn fresh<P: Program>(alloc: Global, program: P, threads: u32, packets: u32) -> Option<System<P>>
+    ensures runs { IfSome result (λ y. y.stopped ≡ false) }
+    ensures of { IfSome result (λ y. HasThreads P.meaning threads y) }
+{
+    let Ok(packets) = packets_of(alloc, packets) else {
+        return None;
+    };
+    if threads == 0 || threads > 16 || !are_taken(packets.as_slice()) {
         return None;
     }
-    System::new(alloc, program, threads, SEED, Unit::Micro, packets).ok()
+    match System::new(alloc, program, threads, SEED, Unit::Micro, packets) {
+        Ok(system) => Some(system),
+        Err(NoMemory) => None,
+    }
 }
 
 /// How a run ends.
-fn finish<P: Program>(mut system: System<P>) -> Option<End> {
+fn finish<P: Program>(mut system: System<P>) -> Option<End>
+    requires { system.stopped ≡ false }
+{
     let released = system.take_released();
     let finished = system.finish().ok()?;
     Some(End { released, finished })
 }
 
 /// How a run by these stages ends.
+#[tactic(auto, using(crate::proofs::Keeping::generators_count))]
 pub fn race_by<P: Program + Send + Sync, R: AllocGlobal + Threads + Wait + Sync>(
     rt: &R,
     program: P,
@@ -52,11 +67,8 @@ pub fn race_by<P: Program + Send + Sync, R: AllocGlobal + Threads + Wait + Sync>
     record: &mut Record,
 ) -> Option<End> {
     let alloc = rt.alloc();
+    let draws = Draws::new(alloc, DRAWS, threads).ok()?;
     let system = fresh(alloc, program, threads, packets)?;
-    let Ok(draws) = Draws::new(alloc, DRAWS, threads) else {
-        system.discard();
-        return None;
-    };
     let racing = Racing {
         system,
         draws,
@@ -71,7 +83,10 @@ fn perform<P: Program>(
     system: &mut System<P>,
     event: &Event,
     report: &mut String,
-) -> bool {
+) -> bool
+    requires { system.old.stopped ≡ false }
+    ensures { IsTrue result → system.new.stopped ≡ false }
+{
     let Ok(reply) = system.on(event) else {
         return false;
     };
@@ -87,8 +102,11 @@ fn perform_all<P: Program>(
     system: &mut System<P>,
     events: &[Event],
     report: &mut String,
-) -> bool {
-    for event in events {
+) -> bool
+    requires { system.old.stopped ≡ false }
+    ensures { IsTrue result → system.new.stopped ≡ false }
+{
+    'events: for event in events {
         if !perform(alloc, system, event, report) {
             return false;
         }

@@ -1,5 +1,6 @@
 //! A system goes on by stages: events, and rounds of racing threads.
-ghost use Rattle.std.specs.Prelude.{◌≡◌, IfSome, false};
+ghost use Rattle.std.specs.Prelude.{◌≡◌, IfSome, IsTrue, false, length};
+ghost use Rattle.test_rounds.specs.Standing.{HasThreads, KeepsThreads};
 
 use crate::asked::{Asked, is_kept};
 use crate::record::{Record, are_idle, arrive, perform};
@@ -9,6 +10,7 @@ use live_workers::{Draws, RoundDone, round};
 use plain_text::Kind;
 use recovery_core::System;
 use recovery_world::Event;
+use round_join::Noted;
 use std::alloc::Global;
 use std::sync::Wait;
 use std::thread::{Threads, yield_now};
@@ -51,43 +53,80 @@ pub struct Racing<P: Program> {
     pub threads: u32,
 }
 
-/// Lets the threads race, and then what may arrive arrive. None where it did not do what was asked.
-fn race<P: Program + Send + Sync, R: AllocGlobal + Threads + Wait + Sync>(
+/// Whether a round did what was asked. Its steps are appended, and what may arrive arrives.
+fn keep_round<P: Program>(
+    alloc: Global,
+    system: &mut System<P>,
+    threads: u32,
+    asked: &Asked,
+    steps: Vec<Noted>,
+    arriving: &[FrameName],
+    record: &mut Record,
+) -> bool
+    requires runs { system.old.stopped ≡ false }
+    ensures runs { IsTrue result → system.new.stopped ≡ false }
+    ensures keeps { IsTrue result → KeepsThreads P.meaning system.old system.new }
+{
+    is_kept(alloc, asked, threads, steps.as_slice(), arriving) == Ok(true)
+        && record.add_steps(alloc, steps).is_ok()
+        && arrive(alloc, system, arriving, record)
+}
+
+/// A round of a system whose master is up. None also where it came to no end.
+#[tactic(auto, using(crate::proofs::Keeping::round_keeps, crate::proofs::Keeping::is_up))]
+fn race_with<P: Program + Send + Sync, R: AllocGlobal + Threads + Wait + Sync>(
     rt: &R,
     racing: Racing<P>,
     asked: &Asked,
-    record: &mut Record,
-) -> Option<Racing<P>>
-    requires { racing.system.stopped ≡ false }
-    ensures { IfSome result (λ r. r.system.stopped ≡ false) }
+) -> Option<RoundDone<P>>
+    requires runs { racing.system.stopped ≡ false }
+    requires of { HasThreads P.meaning racing.threads racing.system }
+    requires draws { length racing.draws ≡ racing.threads }
+    ensures runs { IfSome result (λ r. r.system.stopped ≡ false) }
+    ensures of { IfSome result (λ r. HasThreads P.meaning racing.threads r.system) }
+    ensures draws { IfSome result (λ r. length r.draws ≡ racing.threads) }
 {
-    let alloc = rt.alloc();
     let Racing {
         system,
         draws,
         threads,
     } = racing;
-    if !system.up() {
-        return None;
-    }
-    let Ok(orders) = asked.orders(alloc, threads) else {
+    let (true, Ok(orders)) = (system.up(), asked.orders(rt.alloc(), threads)) else {
+        system.discard();
         return None;
     };
     let clock = FixedClock(asked.time);
     let Ok(done) = round(rt, system, &clock, &YieldingGate, &orders, draws) else {
         return None;
     };
+    Some(done)
+}
+
+/// Lets the threads race, and then what may arrive arrive. None where the round did not do what was asked.
+fn race<P: Program + Send + Sync, R: AllocGlobal + Threads + Wait + Sync>(
+    rt: &R,
+    racing: Racing<P>,
+    asked: &Asked,
+    record: &mut Record,
+) -> Option<Racing<P>>
+    requires runs { racing.system.stopped ≡ false }
+    requires of { HasThreads P.meaning racing.threads racing.system }
+    requires draws { length racing.draws ≡ racing.threads }
+    ensures runs { IfSome result (λ r. r.system.stopped ≡ false) }
+    ensures of { IfSome result (λ r. HasThreads P.meaning r.threads r.system) }
+    ensures draws { IfSome result (λ r. length r.draws ≡ r.threads) }
+{
+    let alloc = rt.alloc();
+    let threads = racing.threads;
     let RoundDone {
         mut system,
         steps,
         arriving,
         draws,
-    } = done;
-    let kept = is_kept(alloc, asked, threads, steps.as_slice(), arriving.as_slice());
-    if kept != Ok(true)
-        || record.add_steps(alloc, steps).is_err()
-        || !arrive(alloc, &mut system, arriving.as_slice(), record)
-    {
+    } = race_with(rt, racing, asked)?;
+    let frames = arriving.as_slice();
+    if !keep_round(alloc, &mut system, threads, asked, steps, frames, record) {
+        system.discard();
         return None;
     }
     Some(Racing {
@@ -97,37 +136,73 @@ fn race<P: Program + Send + Sync, R: AllocGlobal + Threads + Wait + Sync>(
     })
 }
 
-/// Performs an event, or sees that each thread is idle.
+/// Performs an event, or, where there is none, sees that each thread is idle.
 fn perform_stage<P: Program>(
     alloc: Global,
     system: &mut System<P>,
     event: Option<Event>,
     threads: u32,
     record: &mut Record,
-) -> bool {
+) -> bool
+    requires runs { system.old.stopped ≡ false }
+    ensures runs { IsTrue result → system.new.stopped ≡ false }
+    ensures keeps { IsTrue result → KeepsThreads P.meaning system.old system.new }
+{
     match event {
         Some(event) => perform(alloc, system, &event, false, record),
         None => are_idle(alloc, system, threads, record),
     }
 }
 
-/// Goes on by one stage.
-fn go_on<P: Program + Send + Sync, R: AllocGlobal + Threads + Wait + Sync>(
-    rt: &R,
-    mut racing: Racing<P>,
-    stage: &Stage,
+/// Goes on by an event, or, where there is none, sees that each thread is idle.
+fn go_on<P: Program>(
+    alloc: Global,
+    racing: Racing<P>,
+    event: Option<Event>,
     record: &mut Record,
-) -> Option<Racing<P>> {
-    let event = match stage {
-        Stage::Round(asked) => return race(rt, racing, asked, record),
-        Stage::Event(event) => Some(*event),
-        Stage::Idle => None,
-    };
-    let threads = racing.threads;
-    if !perform_stage(rt.alloc(), &mut racing.system, event, threads, record) {
+) -> Option<Racing<P>>
+    requires runs { racing.system.stopped ≡ false }
+    requires of { HasThreads P.meaning racing.threads racing.system }
+    requires draws { length racing.draws ≡ racing.threads }
+    ensures runs { IfSome result (λ r. r.system.stopped ≡ false) }
+    ensures of { IfSome result (λ r. HasThreads P.meaning r.threads r.system) }
+    ensures draws { IfSome result (λ r. length r.draws ≡ r.threads) }
+{
+    let Racing {
+        mut system,
+        draws,
+        threads,
+    } = racing;
+    if !perform_stage(alloc, &mut system, event, threads, record) {
+        system.discard();
         return None;
     }
-    Some(racing)
+    Some(Racing {
+        system,
+        draws,
+        threads,
+    })
+}
+
+/// Goes on by one stage.
+fn go_on_by_one<P: Program + Send + Sync, R: AllocGlobal + Threads + Wait + Sync>(
+    rt: &R,
+    racing: Racing<P>,
+    stage: &Stage,
+    record: &mut Record,
+) -> Option<Racing<P>>
+    requires runs { racing.system.stopped ≡ false }
+    requires of { HasThreads P.meaning racing.threads racing.system }
+    requires draws { length racing.draws ≡ racing.threads }
+    ensures runs { IfSome result (λ r. r.system.stopped ≡ false) }
+    ensures of { IfSome result (λ r. HasThreads P.meaning r.threads r.system) }
+    ensures draws { IfSome result (λ r. length r.draws ≡ r.threads) }
+{
+    match stage {
+        Stage::Event(event) => go_on(rt.alloc(), racing, Some(*event), record),
+        Stage::Idle => go_on(rt.alloc(), racing, None, record),
+        Stage::Round(asked) => race(rt, racing, asked, record),
+    }
 }
 
 /// Goes on by all these stages.
@@ -136,9 +211,14 @@ pub fn go_on_by<P: Program + Send + Sync, R: AllocGlobal + Threads + Wait + Sync
     racing: Racing<P>,
     stages: &[Stage],
     record: &mut Record,
-) -> Option<Racing<P>> {
+) -> Option<Racing<P>>
+    requires runs { racing.system.stopped ≡ false }
+    requires of { HasThreads P.meaning racing.threads racing.system }
+    requires draws { length racing.draws ≡ racing.threads }
+    ensures runs { IfSome result (λ r. r.system.stopped ≡ false) }
+{
     match stages {
         [] => Some(racing),
-        [stage, rest @ ..] => go_on_by(rt, go_on(rt, racing, stage, record)?, rest, record),
+        [stage, rest @ ..] => go_on_by(rt, go_on_by_one(rt, racing, stage, record)?, rest, record),
     }
 }

@@ -1,5 +1,6 @@
 //! What was done with a system, as events, and the lines of the report that they came to.
 ghost use Rattle.std.specs.Prelude.{◌≡◌, IsTrue, false};
+ghost use Rattle.test_rounds.specs.Standing.{KeepsThreads};
 
 use box_program::Program;
 use event_replies::{Releases, Reply, put_line};
@@ -89,6 +90,7 @@ impl Record {
 }
 
 /// Performs an event, and appends it; whether it was performed, and came to nothing where `idle` says so.
+#[tactic(auto, using(crate::proofs::Keeping::event_keeps))]
 pub fn perform<P: Program>(
     alloc: Global,
     system: &mut System<P>,
@@ -97,7 +99,8 @@ pub fn perform<P: Program>(
     record: &mut Record,
 ) -> bool
     requires { system.old.stopped ≡ false }
-    ensures { IsTrue result → system.new.stopped ≡ false }
+    ensures runs { IsTrue result → system.new.stopped ≡ false }
+    ensures keeps { IsTrue result → KeepsThreads P.meaning system.old system.new }
 {
     let Ok(reply) = system.on(event) else {
         return false;
@@ -123,7 +126,8 @@ pub fn arrive<P: Program>(
     record: &mut Record,
 ) -> bool
     requires { system.old.stopped ≡ false }
-    ensures { IsTrue result → system.new.stopped ≡ false }
+    ensures runs { IsTrue result → system.new.stopped ≡ false }
+    ensures keeps { IsTrue result → KeepsThreads P.meaning system.old system.new }
 {
     match frames {
         [] => true,
@@ -142,16 +146,15 @@ pub fn are_idle<P: Program>(
     record: &mut Record,
 ) -> bool
     requires { system.old.stopped ≡ false }
-    ensures { IsTrue result → system.new.stopped ≡ false }
+    ensures runs { IsTrue result → system.new.stopped ≡ false }
+    ensures keeps { IsTrue result → KeepsThreads P.meaning system.old system.new }
 {
-    for thread in 0..u64::from(threads) {
-        let step = Event::Step {
-            thread,
-            answer: None,
-        };
-        if !perform(alloc, system, &step, true, record) {
-            return false;
-        }
-    }
-    true
+    let Some(thread) = threads.checked_sub(1) else {
+        return true;
+    };
+    let step = Event::Step {
+        thread: u64::from(thread),
+        answer: None,
+    };
+    perform(alloc, system, &step, true, record) && are_idle(alloc, system, thread, record)
 }
