@@ -8,8 +8,6 @@
 //! - `logger FORWARD REVERSE`: FORWARD outputs through an output logger in order, and REVERSE outputs with the last one
 //!   first
 //! - `moves player|master COUNT TIMES`: COUNT packets, all of them TIMES times
-//! - `rounds THREADS PACKETS ROUNDS`: PACKETS packets through the recovering system, by THREADS threads that race in
-//!   ROUNDS rounds, with a crash behind each
 //! - `scripts COUNT`: a script of COUNT lines, which is read
 //! - `system count|monitor settle|single COUNT`: COUNT packets through the recovering system
 //! - `sample`: each of these with small numbers, one after another
@@ -25,7 +23,6 @@ mod logger;
 mod moves;
 mod one_packet;
 mod packets;
-mod rounds;
 mod scripts;
 mod system;
 mod words;
@@ -62,7 +59,6 @@ fn perform<R: AllocGlobal + Print + Threads + Wait + Sync>(
         "locks" => locks::run(rt, words),
         "logger" => logger::run(rt, words),
         "moves" => moves::run(rt, words),
-        "rounds" => rounds::run(rt, words),
         "scripts" => scripts::run(rt, words),
         "system" => system::run(rt, words),
         _ => bail!("{work} is no work for a stopwatch"),
