@@ -142,13 +142,7 @@ fn round_of<
     J: Round + Send + Sync,
     I: Inputs + Sync,
     R: AllocGlobal + Threads + Wait + Sync,
->(
-    rt: &R,
-    program: &P,
-    master: Master<P>,
-    guide: &Guide,
-    inputs: &I,
-) -> Result<Closed<P>, NoMemory>
+>(rt: &R, program: &P, master: Master<P>, guide: &Guide, inputs: &I) -> Result<Closed<P>, NoMemory>
     requires program { P.row.coded.code program.now ≡ J.program }
     requires master { (master_code P.Value.row.coded).code master ≡ J.opening }
     requires threads { master.threads ≡ J.threads }
@@ -166,11 +160,7 @@ fn round_of<
 }
 
 /// What this number of threads do, beside each other.
-pub fn race<
-    P: Program + Send + Sync,
-    I: Inputs + Sync,
-    R: AllocGlobal + Threads + Wait + Sync,
->(
+pub fn race<P: Program + Send + Sync, I: Inputs + Sync, R: AllocGlobal + Threads + Wait + Sync>(
     rt: &R,
     program: &P,
     threads: u32,

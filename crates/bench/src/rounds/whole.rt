@@ -1,14 +1,15 @@
 //! A round of the recovering system.
-ghost use Rattle.std.specs.Prelude.{◌≡◌, ◌≤◌, All, IfOk, false, length};
+ghost use Rattle.std.specs.Prelude.{◌≡◌, ◌≤◌, All, false, length};
 ghost use Rattle.plain_text.specs.Packets.{IsShort};
 ghost use Rattle.system_parts.specs.SystemStanding.{StandsForSome};
+ghost use Rattle.bench.specs.Systems.{StandsSomewhere};
 
-use anyhow::{Context, anyhow};
+use anyhow::{Context, ensure};
 use box_program::Program;
 use frame_intake::RoundOrders;
 use live_workers::{Draws, RoundDone, round};
 use plain_text::{Packets, Unit};
-use recovery_core::{Stop, System};
+use recovery_core::System;
 use recovery_world::Event;
 use std::alloc::Global;
 use std::sync::Wait;
@@ -18,31 +19,6 @@ use world_io::FixedClock;
 
 /// The seed of a system's random words, and of those that its racing threads draw.
 const SEED: u64 = 1;
-
-/// A system of this number of threads that was fed all these packets.
-fn open_fed<P: Program>(
-    alloc: Global,
-    program: P,
-    threads: u32,
-    packets: Packets,
-) -> Result<System<P>, Stop>
-    requires some { 1 ≤ threads }
-    requires few { threads ≤ 16 }
-    requires short { All IsShort packets }
-    ensures runs { IfOk result (λ y. y.stopped ≡ false) }
-    ensures threads { IfOk result (λ y. y.parts.inputs.threads ≡ threads) }
-    ensures stands { IfOk result (λ y. StandsForSome (P.meaning y.parts.program) y.parts) }
-{
-    let count = packets.len() as u64;
-    let mut system = System::new(alloc, program, threads, SEED, Unit::Micro, packets)?;
-    match system.on(&Event::Feed(count)) {
-        Ok(_) => Ok(system),
-        Err(stop) => {
-            system.discard();
-            Err(stop)
-        }
-    }
-}
 
 /// Makes a system, and has it fed all these packets. No move is made.
 pub fn open<P: Program>(
@@ -55,8 +31,11 @@ pub fn open<P: Program>(
     requires few { threads ≤ 16 }
     requires short { All IsShort packets }
 {
-    let opened = open_fed(alloc, program, threads, packets);
-    opened.map_err(|stop| anyhow!("{stop:?}"))?.discard();
+    let count = packets.len() as u64;
+    let mut system = System::new(alloc, program, threads, SEED, Unit::Micro, packets)?;
+    let fed = system.on(&Event::Feed(count)).is_ok();
+    system.discard();
+    ensure!(fed, "the packets were not fed");
     Ok((0, 0))
 }
 
@@ -86,7 +65,27 @@ fn race_all<P: Program + Send + Sync, R: AllocGlobal + Threads + Wait + Sync>(
     Some((steps.len() as u64, arriving.len() as u64))
 }
 
-/// The same by a system of this number of threads that was fed all these packets.
+/// The same, once this number of packets was fed.
+fn race_fed<P: Program + Send + Sync, R: AllocGlobal + Threads + Wait + Sync>(
+    rt: &R,
+    mut system: System<P>,
+    packets: u64,
+    draws: Draws,
+) -> Option<(u64, u64)>
+    requires runs { system.stopped ≡ false }
+    requires stands { StandsSomewhere (P.meaning system.parts.program) system }
+    requires draws { length draws ≡ system.parts.inputs.threads }
+{
+    match system.on(&Event::Feed(packets)) {
+        Ok(_) => race_all(rt, system, draws),
+        Err(_) => {
+            system.discard();
+            None
+        }
+    }
+}
+
+/// The same by a system on these packets, all of which are fed.
 pub fn race_whole<P: Program + Send + Sync, R: AllocGlobal + Threads + Wait + Sync>(
     rt: &R,
     program: P,
@@ -98,8 +97,8 @@ pub fn race_whole<P: Program + Send + Sync, R: AllocGlobal + Threads + Wait + Sy
     requires short { All IsShort packets }
 {
     let alloc = rt.alloc();
+    let count = packets.len() as u64;
     let draws = Draws::new(alloc, SEED, threads)?;
-    let opened = open_fed(alloc, program, threads, packets);
-    let system = opened.map_err(|stop| anyhow!("{stop:?}"))?;
-    race_all(rt, system, draws).context("the round came to no end")
+    let system = System::new(alloc, program, threads, SEED, Unit::Micro, packets)?;
+    race_fed(rt, system, count, draws).context("the round came to no end")
 }
