@@ -1,2 +1,3 @@
 pub mod Racing
+pub mod Systems
 pub mod Touching

@@ -1,21 +1,19 @@
 //! Threads that touch variables of a small box, with a master alone or under numbered locks.
 ghost use Rattle.std.specs.Prelude.{◌<◌, ◌≤◌};
 
-mod done;
-mod racing;
-mod stepping;
 mod touch_box;
 
+use crate::done::Done;
+use crate::inputs::Again;
+use crate::racing::race;
+use crate::stepping::step_all;
 use crate::words::next_number;
 use anyhow::{Context, bail, ensure};
-use done::Done;
 use plain_text::{Bytes, NoMemory, Packet};
-use racing::race;
 use std::alloc::Global;
 use std::env::Args;
 use std::sync::Wait;
 use std::thread::Threads;
-use stepping::step_all;
 use touch_box::TouchBox;
 
 /// A packet of 60 bytes, of which the first says which variable it touches.
@@ -39,20 +37,19 @@ fn packets_of(alloc: Global, threads: u8, own: bool) -> Result<Vec<Packet>, NoMe
     Ok(packets)
 }
 
-/// What threads do with these packets, one for each, as a master alone or under locks.
+/// What threads do with their packets, as a master alone or under locks. The box logs nothing but touches.
 fn perform<R: AllocGlobal + Threads + Wait + Sync>(
     rt: &R,
     who: &str,
     threads: u32,
-    packets: &[Packet],
-    count: u64,
+    inputs: &Again,
 ) -> anyhow::Result<Done>
     requires some { 0 < threads }
     requires few { threads ≤ 16 }
 {
     match who {
-        "step" => Ok(step_all(rt.alloc(), &TouchBox::new(), threads, packets, count)?),
-        "locks" => Ok(race(rt, &TouchBox::new(), threads, packets, count)?),
+        "step" => Ok(step_all(rt.alloc(), &TouchBox::new(), threads, inputs)?),
+        "locks" => Ok(race(rt, &TouchBox::new(), threads, inputs)?),
         _ => bail!("{who} is neither step nor locks"),
     }
 }
@@ -77,10 +74,14 @@ pub fn run<R: AllocGlobal + Print + Threads + Wait + Sync>(
         _ => bail!("{whose} is neither one nor own"),
     };
     let packets = packets_of(rt.alloc(), threads, own)?;
-    let done = perform(rt, who.as_str(), u32::from(threads), &packets, count)?;
+    let inputs = Again {
+        packets: packets.as_slice(),
+        count,
+    };
+    let done = perform(rt, who.as_str(), u32::from(threads), &inputs)?;
     println!(rt;
         "{who}: {} moves, {} touches, {} packets sent out",
-        done.moves, done.touches, done.sent
+        done.moves, done.entries, done.sent
     )?;
     Ok(())
 }

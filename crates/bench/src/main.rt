@@ -8,6 +8,8 @@
 //! - `logger FORWARD REVERSE`: FORWARD outputs through an output logger in order, and REVERSE outputs with the last one
 //!   first
 //! - `moves player|master COUNT TIMES`: COUNT packets, all of them TIMES times
+//! - `rounds feed|alone|race|open|whole monitor|nat THREADS COUNT`: COUNT packets by a master alone, by threads that
+//!   race, or in a whole round of the recovering system; or only what comes before that
 //! - `scripts COUNT`: a script of COUNT lines, which is read
 //! - `system count|monitor settle|single COUNT`: COUNT packets through the recovering system
 //! - `sample`: each of these with small numbers, one after another
@@ -15,15 +17,20 @@
 //! What it prints is the same at each run with the same words.
 #![tactic(auto)]
 
+mod done;
 mod frames;
 mod headers;
 mod held;
+mod inputs;
 mod locks;
 mod logger;
 mod moves;
 mod one_packet;
 mod packets;
+mod racing;
+mod rounds;
 mod scripts;
+mod stepping;
 mod system;
 mod words;
 
@@ -35,13 +42,14 @@ use std::thread::Threads;
 use words::words_of;
 
 /// Each work with the other words of its sample.
-const SAMPLES: [(&str, &str); 8] = [
+const SAMPLES: [(&str, &str); 9] = [
     ("frames", "1000 2"),
     ("headers", "1000 1000"),
     ("held", "1000"),
     ("locks", "locks 2 own 10"),
     ("logger", "1000 1000"),
     ("moves", "master 100 2"),
+    ("rounds", "whole monitor 2 50"),
     ("scripts", "1000"),
     ("system", "monitor single 100"),
 ];
@@ -59,6 +67,7 @@ fn perform<R: AllocGlobal + Print + Threads + Wait + Sync>(
         "locks" => locks::run(rt, words),
         "logger" => logger::run(rt, words),
         "moves" => moves::run(rt, words),
+        "rounds" => rounds::run(rt, words),
         "scripts" => scripts::run(rt, words),
         "system" => system::run(rt, words),
         _ => bail!("{work} is no work for a stopwatch"),

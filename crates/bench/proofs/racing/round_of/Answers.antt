@@ -5,7 +5,7 @@ use Rattle.var_locks.specs.Seats.{Seated}
 use Rattle.var_locks.specs.Closing.{seat_part}
 use Rattle.bench.specs.Racing.{IsGoing, Stays}
 use Rattle.bench.proofs.Staying.{fresh_count, fresh_go, ended_are}
-use Rattle.bench.proofs.locks.racing.round_of.Goals as goal
+use Rattle.bench.proofs.racing.round_of.Goals as goal
 
 pub run_all-requires-clause-seats : goal.run_all-requires-clause-seats
 run_all-requires-clause-seats g c κs within =

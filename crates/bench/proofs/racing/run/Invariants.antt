@@ -1,6 +1,6 @@
 use Rattle.std.proofs.Common.{false}
 use Rattle.bench.specs.Racing.{IsGoing, Stays}
-use Rattle.bench.proofs.locks.racing.run.Given as goal
+use Rattle.bench.proofs.racing.run.Given as goal
 
 -- the seat stays that of the thread
 abbrev pub invariant-loop-taken : goal.invariant-loop-taken

@@ -1,4 +1,4 @@
-//! A round in which each thread takes one packet again and again, in a thread of the machine.
+//! A round in which each thread takes all that it is to take, in a thread of the machine.
 ghost use Rattle.std.specs.Prelude.{◌≡◌, ℕ, ◌<◌, ◌≤◌, ◌^◌, false, true, length, slice_index_or};
 ghost use Rattle.std.specs.Prelude.{All, IfOk};
 ghost use Rattle.box_program.specs.Hands.{FitsProgram};
@@ -9,7 +9,8 @@ ghost use Rattle.var_locks.specs.Rounds.{AreVarsOf};
 ghost use Rattle.var_locks.specs.Seats.{Seated};
 ghost use Rattle.bench.specs.Racing.{IsGoing, Stays};
 
-use super::done::Done;
+use crate::done::Done;
+use crate::inputs::Inputs;
 use crate::one_packet::{MOST_COUNT, MOST_MOVES_OF_ONE};
 use box_program::Program;
 use master_core::{Master, Stepped};
@@ -77,15 +78,14 @@ fn run_one<P: Program, J: Round, R: Wait>(
     false
 }
 
-/// Takes the packet of the seat's thread to its end this number of times, and ends the round for it.
+/// Takes each packet of the seat's thread to its end, and ends the round for it.
 #[tactic(auto, using(crate::proofs::Staying::still_going))]
-fn run<P: Program, J: Round, R: AllocGlobal + Wait>(
+fn run<P: Program, J: Round, I: Inputs, R: AllocGlobal + Wait>(
     rt: &R,
     program: &P,
     vars: &Vars<P, J>,
     guide: &Guide,
-    packets: &[Packet],
-    count: u64,
+    inputs: &I,
     mut seat: VarSeat<P>,
 ) -> VarSeat<P>
     requires of { AreVarsOf P.meaning P.row.coded P.Value.row.coded program.now vars.now }
@@ -93,11 +93,13 @@ fn run<P: Program, J: Round, R: AllocGlobal + Wait>(
     requires seat { IsGoing vars.now seat }
     ensures stays { Stays true seat result }
 {
-    if let Some(packet) = packets.get(seat.thread() as usize) {
-        for _taken in 0..count {
-            if !run_one(rt, rt.alloc(), program, vars, guide, &mut seat, packet) {
-                break;
-            }
+    let thread = seat.thread();
+    for taken in 0..MOST_COUNT {
+        let Some(packet) = inputs.next_of(thread, taken) else {
+            break;
+        };
+        if !run_one(rt, rt.alloc(), program, vars, guide, &mut seat, packet) {
+            break;
         }
     }
     vars.end(program, &mut seat);
@@ -108,14 +110,14 @@ fn run<P: Program, J: Round, R: AllocGlobal + Wait>(
 fn run_all<
     P: Program + Send + Sync,
     J: Round + Send + Sync,
+    I: Inputs + Sync,
     R: AllocGlobal + Threads + Wait + Sync,
 >(
     rt: &R,
     program: &P,
     vars: &Vars<P, J>,
     guide: &Guide,
-    packets: &[Packet],
-    count: u64,
+    inputs: &I,
     seats: Vec<VarSeat<P>>,
 ) -> Result<Vec<VarSeat<P>>, NoMemory>
     requires of { AreVarsOf P.meaning P.row.coded P.Value.row.coded program.now vars.now }
@@ -130,23 +132,17 @@ fn run_all<
             × (guide.now ≡ J.guide)
             × IsGoing vars.now seat }
         ensures { Stays true seat result }
-    { run(rt, program, vars, guide, packets, count, seat) };
+    { run(rt, program, vars, guide, inputs, seat) };
     Ok(map_vec(rt, seats, &work)?)
 }
 
-/// A round in which each thread takes its packet this number of times.
+/// A round in which each thread takes all that it is to take.
 fn round_of<
     P: Program + Send + Sync,
     J: Round + Send + Sync,
+    I: Inputs + Sync,
     R: AllocGlobal + Threads + Wait + Sync,
->(
-    rt: &R,
-    program: &P,
-    master: Master<P>,
-    guide: &Guide,
-    packets: &[Packet],
-    count: u64,
-) -> Result<Closed<P>, NoMemory>
+>(rt: &R, program: &P, master: Master<P>, guide: &Guide, inputs: &I) -> Result<Closed<P>, NoMemory>
     requires program { P.row.coded.code program.now ≡ J.program }
     requires master { (master_code P.Value.row.coded).code master ≡ J.opening }
     requires threads { master.threads ≡ J.threads }
@@ -159,17 +155,16 @@ fn round_of<
 {
     let alloc = rt.alloc();
     let (vars, seats) = Vars::<P, J>::of(alloc, program, master, guide)?;
-    let seats = run_all(rt, program, &vars, guide, packets, count, seats)?;
+    let seats = run_all(rt, program, &vars, guide, inputs, seats)?;
     vars.close(alloc, program, seats)
 }
 
-/// What this number of threads do, each of which takes its packet this number of times.
-pub fn race<P: Program + Send + Sync, R: AllocGlobal + Threads + Wait + Sync>(
+/// What this number of threads do, beside each other.
+pub fn race<P: Program + Send + Sync, I: Inputs + Sync, R: AllocGlobal + Threads + Wait + Sync>(
     rt: &R,
     program: &P,
     threads: u32,
-    packets: &[Packet],
-    count: u64,
+    inputs: &I,
 ) -> Result<Done, NoMemory>
     requires some { 0 < threads }
     requires few { threads ≤ 16 }
@@ -177,7 +172,7 @@ pub fn race<P: Program + Send + Sync, R: AllocGlobal + Threads + Wait + Sync>(
     let alloc = rt.alloc();
     let master = Master::fresh(alloc, program, threads)?;
     let guide = Guide::none(alloc);
-    let closed = round_of::<P, Brand, R>(rt, program, master, &guide, packets, count)?;
+    let closed = round_of::<P, Brand, I, R>(rt, program, master, &guide, inputs)?;
     let mut moves = 0u64;
     for marks in &closed.marks {
         moves = moves.saturating_add(marks.len() as u64);

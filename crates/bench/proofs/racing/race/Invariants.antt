@@ -1,6 +1,6 @@
 use Rattle.var_locks.specs.Codes.{master_code}
 use Rattle.var_locks.specs.Openings.{places_of}
-use Rattle.bench.proofs.locks.racing.race.Given as goal
+use Rattle.bench.proofs.racing.race.Given as goal
 
 -- the round is that of the program, the master and the guide
 abbrev pub ghosts-round_of : goal.ghosts-round_of

@@ -1,0 +1,11 @@
+use Rattle.std.proofs.Common.{◌≡◌, length}
+use Rattle.box_program.specs.Hands.{FitsProgram}
+use Rattle.master_core.specs.Mastered.{value_of}
+use Rattle.bench.proofs.stepping.take_all.Given as goal
+
+-- the program fits the variables, and there are as many threads
+abbrev pub invariant-loop-taken : goal.invariant-loop-taken
+invariant-loop-taken g l = record {
+  fits : FitsProgram (g.P.Program.meaning l.program) (g.P.Program.fits l.program) value_of l.master.vars;
+  threads : length l.master.threads ≡ length l.fn.master.threads;
+}
