@@ -33,8 +33,8 @@ module _ {P V : Type 0} (meaning : P → Meaning V) where
   pub is_up : (threads : ℕ) (y : Systemed P V) (b : Bool) → HasThreads meaning threads y
       → ((s : Setting V) (w : World V) → StandsFor (meaning y.parts.program) s w y.parts → b ≡ w.up) → b ≡ true
       → y.parts.up ≡ true
-  is_up threads y b (s, w, stands, is) says yes =
-      stands.parts.master.up ∙ sym (says s w stands.parts) ∙ yes
+  is_up threads y b (s, w, stands, is) says is_true =
+      stands.parts.master.up ∙ sym (says s w stands.parts) ∙ is_true
 
   -- the number of threads is that of the inputs
   pub threads_are : (threads : ℕ) (y : Systemed P V) → HasThreads meaning threads y
