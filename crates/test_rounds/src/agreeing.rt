@@ -67,7 +67,9 @@ pub fn race_by<P: Program + Send + Sync, R: AllocGlobal + Threads + Wait + Sync>
     record: &mut Record,
 ) -> Option<End> {
     let alloc = rt.alloc();
-    let draws = Draws::new(alloc, DRAWS, threads).ok()?;
+    let Ok(draws) = Draws::new(alloc, DRAWS, threads) else {
+        return None;
+    };
     let system = fresh(alloc, program, threads, packets)?;
     let racing = Racing {
         system,

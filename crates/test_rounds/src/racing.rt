@@ -67,9 +67,11 @@ fn keep_round<P: Program>(
     ensures runs { IsTrue result → system.new.stopped ≡ false }
     ensures keeps { IsTrue result → KeepsThreads P.meaning system.old system.new }
 {
-    is_kept(alloc, asked, threads, steps.as_slice(), arriving) == Ok(true)
-        && record.add_steps(alloc, steps).is_ok()
-        && arrive(alloc, system, arriving, record)
+    let kept = is_kept(alloc, asked, threads, steps.as_slice(), arriving);
+    if kept != Ok(true) || record.add_steps(alloc, steps).is_err() {
+        return false;
+    }
+    arrive(alloc, system, arriving, record)
 }
 
 /// A round of a system whose master is up. None also where it came to no end.
