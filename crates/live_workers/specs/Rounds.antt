@@ -9,7 +9,6 @@ use Rattle.recovery_world.specs.declared.event.Outcome.TheVariants as outcome
 use Rattle.recovery_world.specs.Many.{Message}
 use Rattle.recovery_world.specs.World.{Setting, World}
 use Rattle.recovery_world.specs.Events.{On}
-use Rattle.recovery_world.specs.Files.{Performs}
 use Rattle.plan_script.specs.Orders.{Orders, AreLeft, first_ones}
 use Rattle.plan_script.specs.Rounds.{AreWoven, HasStopped, frames_of, of_thread, step_events}
 use Rattle.master_core.specs.Mastered.{Mastered}
@@ -18,7 +17,7 @@ use Rattle.system_parts.specs.Parts.{Parts}
 use Rattle.system_parts.specs.Resting.{RestsFor}
 use Rattle.recovery_core.specs.Systems.{Systemed, SystemStands}
 use Rattle.round_join.specs.declared.noting.Noted.{Noted}
-use Rattle.round_join.specs.Racing.{IsAfterSteps, StoppedAt, events_noted, lines_noted, steps_by}
+use Rattle.round_join.specs.Racing.{IsAfterSteps, PerformsNoted, StoppedAt, events_noted, steps_by}
 use Rattle.live_workers.specs.declared.rounds.RoundStop.{RoundStop}
 use Rattle.live_workers.specs.declared.rounds.RoundStop.TheVariants as stop
 use Rattle.live_workers.specs.Telling.{IsToldBy}
@@ -48,7 +47,7 @@ pub record IsRoundTo {V : Type 0} (s : Setting V) (w : World V) (orders : Orders
     (before : List Lcg) (noted : List Noted) (arriving : List Message) (after : List Lcg)
     (there : World V) : Type 0 where
   pub steps : List (Step V)
-  pub performs : Performs s w (step_events steps) (lines_noted noted) there
+  pub performs : PerformsNoted s w noted there
   pub events_are : events_noted noted ≡ step_events steps
   pub world : IsAfterSteps w steps there
   pub woven : AreWoven w.past steps

@@ -1,6 +1,6 @@
 -- The parts of a plan, performed one after another.
-use Rattle.std.proofs.Common.{◌≡◌, ℕ, ◌-◌, inl, inr, List, [], ◌∷◌, ◌++◌, append_assoc, length, sym}
-use Rattle.std.proofs.Common.{subst}
+use Rattle.std.proofs.Common.{◌≡◌, ℕ, inl, inr, List, [], ◌∷◌, ◌++◌, append_assoc, sym}
+use Rattle.std.proofs.Common.{refl, subst, append-nil}
 use Rattle.recovery_world.specs.declared.event.Event.{Event}
 use Rattle.recovery_world.specs.declared.event.Event.TheVariants as event
 use Rattle.recovery_world.specs.World.{Setting, World}
@@ -8,9 +8,10 @@ use Rattle.recovery_world.specs.Many.{all_messages}
 use Rattle.recovery_world.specs.Files.{Performs, Rests, Goes as Performed, reply_line}
 use Rattle.plan_script.specs.declared.plan.PlanLine.{PlanLine}
 use Rattle.plan_script.specs.declared.plan.PlanLine.TheVariants as line
-use Rattle.plan_script.specs.Orders.{Orders}
-use Rattle.plan_script.specs.Rounds.{IsRound, step_events, arrival_events}
-use Rattle.plan_script.specs.Scripts.{Does, OnRound, IsPart, IsScript, Ends, Goes}
+use Rattle.plan_script.specs.Begun.{BeginsScript, BeginsNone, BeginsLater}
+use Rattle.plan_script.specs.Orders.{Orders, orders_after}
+use Rattle.plan_script.specs.Rounds.{Does, IsRound, step_events, arrival_events}
+use Rattle.plan_script.specs.Scripts.{OnRound, IsPart, IsScript, Ends, Goes, feeding, orders_through}
 
 -- events, and then others
 pub performs_append : {V : Type 0} (s : Setting V) (w mid new : World V) (first events : List Event) (a b : List ℕ)
@@ -33,8 +34,8 @@ does_nothing {V} s w new events none same = subst (λ (l : List Event). Does s w
 round_does : {V : Type 0} (s : Setting V) (w : World V) (orders : Orders) (events : List Event) (new : World V)
     → IsRound s w orders events new → Does s w events new
 round_does s w orders events new r =
-    subst (λ (l : List Event). Does s w l new) (sym r.events_are) (does_append s w r.there new (step_events r.steps)
-    (arrival_events r.arrivals) (r.step_lines, r.steps_go) (r.arrival_lines, r.arrivals_go))
+    subst (λ (l : List Event). Does s w l new) (sym r.events_are)
+    (does_append s w r.there new (step_events r.steps) (arrival_events r.arrivals) r.race.go r.arrive)
 
 as_said : {V : Type 0} (s : Setting V) (w new : World V) (events said : List Event) → events ≡ said → Does s w said new
     → Does s w events new
@@ -58,10 +59,8 @@ part_does s w orders line.Crash events new h = as_said s w new events (event.Cra
 part_does s w orders line.Recover events new h = as_said s w new events (event.Recover ∷ []) h.0 h.1
 part_does s w orders line.Settle events new h =
     as_said s w new events
-    ((h.wake ++ event.Feed (length s.packets - w.fed) ∷ []) ++ (h.round ++ arrival_events (all_messages s h.ran)))
-    h.events_are
-    (does_append s w h.fed new (h.wake ++ event.Feed (length s.packets - w.fed) ∷ [])
-    (h.round ++ arrival_events (all_messages s h.ran)) h.feeds
+    (feeding s w h.wake ++ (h.round ++ arrival_events (all_messages s h.ran))) h.events_are
+    (does_append s w h.fed new (feeding s w h.wake) (h.round ++ arrival_events (all_messages s h.ran)) h.feeds
     (does_append s h.fed h.ran new h.round (arrival_events (all_messages s h.ran))
     (round_does s h.fed _ h.round h.ran h.runs) h.arrive))
 
@@ -70,3 +69,50 @@ pub scripts_perform : {V : Type 0} (s : Setting V) (w : World V) (orders : Order
 scripts_perform s w orders lines events new (Ends same none) = ([], Rests w)
 scripts_perform s w orders lines events new (Goes {mid = mid} {rest = rest} now ln first part script) =
     does_append s w mid new first rest (part_does s w now ln first mid part) (scripts_perform s mid _ _ rest new script)
+
+-- Scripts of a plan, one after another
+
+pub script_append : {V : Type 0} (s : Setting V) (w mid new : World V) (orders : Orders) (lines more : List PlanLine)
+    (events rest : List Event) → IsScript s w orders lines events mid
+    → IsScript s mid (orders_through lines orders) more rest new
+    → IsScript s w orders (lines ++ more) (events ++ rest) new
+script_append s w mid new orders _ more _ rest (Ends same none) script = script
+script_append {V} s w mid new orders _ more _ rest
+    (Goes {mid = there} {new = end} {lines = lines} {rest = later} now ln first part script) then =
+    subst (λ (l : List Event). IsScript s w now (ln ∷ (lines ++ more)) l new) (sym (append_assoc first later rest))
+    (Goes now ln first part (script_append s there mid new (orders_after ln now) lines more later rest script then))
+
+-- one more line
+pub script_more : {V : Type 0} (s : Setting V) (w mid new : World V) (orders : Orders) (lines : List PlanLine)
+    (ln : PlanLine) (events part : List Event) → IsScript s w orders lines events mid
+    → IsPart s mid (orders_through lines orders) ln part new
+    → IsScript s w orders (lines ++ ln ∷ []) (events ++ part) new
+script_more {V} s w mid new orders lines ln events part script is =
+    script_append s w mid new orders lines (ln ∷ []) events part script
+    (subst (λ (l : List Event). IsScript s mid (orders_through lines orders) (ln ∷ []) l new) (append-nil part)
+    (Goes (orders_through lines orders) ln part is (Ends new _)))
+
+pub orders_append : (lines more : List PlanLine) (orders : Orders)
+    → orders_through (lines ++ more) orders ≡ orders_through more (orders_through lines orders)
+orders_append [] more orders = refl
+orders_append (ln ∷ lines) more orders = orders_append lines more (orders_after ln orders)
+
+-- The lines were performed whole, and then some first events of those behind them.
+pub begins_behind : {V : Type 0} (s : Setting V) (w mid : World V) (orders : Orders) (lines more : List PlanLine)
+    (events rest : List Event) → IsScript s w orders lines events mid
+    → BeginsScript s mid (orders_through lines orders) more rest
+    → BeginsScript s w orders (lines ++ more) (events ++ rest)
+begins_behind s w mid orders _ more _ rest (Ends same none) begun = begun
+begins_behind {V} s w mid orders _ more _ rest
+    (Goes {mid = there} {new = end} {lines = lines} {rest = later} now ln first part script) begun =
+    subst (λ (l : List Event). BeginsScript s w now (ln ∷ (lines ++ more)) l) (sym (append_assoc first later rest))
+    (BeginsLater now ln first part
+    (begins_behind s there mid (orders_after ln now) lines more later rest script begun))
+
+-- a whole script is a first part of itself
+pub begins_whole : {V : Type 0} (s : Setting V) (w new : World V) (orders : Orders) (lines : List PlanLine)
+    (events : List Event) → IsScript s w orders lines events new → BeginsScript s w orders lines events
+begins_whole {V} s w new orders lines events script =
+    subst (λ (l : List PlanLine). BeginsScript s w orders l events) (append-nil lines)
+    (subst (λ (e : List Event). BeginsScript s w orders (lines ++ []) e) (append-nil events)
+    (begins_behind s w new orders lines [] events [] script (BeginsNone new _ [])))

@@ -69,18 +69,26 @@ pub record HasStopped {V : Type 0} (s : Setting V) (w : World V) (t : ℕ) (limi
       ⊎ (On s w (event.Step t None) outcome.Idle [] w
       ⊎ ((u : ℕ) × (n : ℕ) × On s w (event.Step t None) (outcome.Waits u n) [] w))
 
--- A round while the master is up.
+-- these events are performed
+abbrev pub Does : {V : Type 0} → Setting V → World V → List Event → World V → Type 0
+Does s w events new = (lines : List ℕ) × Performs s w events lines new
+
+-- Threads raced: their steps, one after another in the woven order, lead there, and each thread stopped where it may.
+-- Then these messages are to arrive.
+pub record IsRace {V : Type 0} (s : Setting V) (w : World V) (orders : Orders) (steps : List (Step V)) (there : World V)
+    (arrivals : List Message) : Type 0 where
+  pub go : Does s w (step_events steps) there
+  pub past : there.past ≡ steps ++ w.past
+  pub woven : AreWoven w.past steps
+  pub stopped : (t : ℕ) → t < s.threads → HasStopped s there t (orders.moves t) (moves_of t steps)
+  pub arrived : (t : ℕ) → AreLeft orders.lost (first_ones (orders.frames t) (frames_of t steps)) (of_thread t arrivals)
+
+-- A round while the master is up: threads race, and then the messages arrive.
 pub record IsRound {V : Type 0} (s : Setting V) (w : World V) (orders : Orders) (events : List Event)
     (new : World V) : Type 0 where
   pub steps : List (Step V)
   pub there : World V
-  pub step_lines : List ℕ
-  pub steps_go : Performs s w (step_events steps) step_lines there
-  pub past : there.past ≡ steps ++ w.past
-  pub woven : AreWoven w.past steps
-  pub stopped : (t : ℕ) → t < s.threads → HasStopped s there t (orders.moves t) (moves_of t steps)
   pub arrivals : List Message
-  pub arrival_lines : List ℕ
-  pub arrivals_go : Performs s there (arrival_events arrivals) arrival_lines new
-  pub arrived : (t : ℕ) → AreLeft orders.lost (first_ones (orders.frames t) (frames_of t steps)) (of_thread t arrivals)
+  pub race : IsRace s w orders steps there arrivals
+  pub arrive : Does s there (arrival_events arrivals) new
   pub events_are : events ≡ step_events steps ++ arrival_events arrivals

@@ -3,16 +3,11 @@ use Rattle.std.specs.Prelude.{◌≡◌, ◌⊎◌, ℕ, ◌-◌, true, false, L
 use Rattle.recovery_world.specs.declared.event.Event.{Event}
 use Rattle.recovery_world.specs.declared.event.Event.TheVariants as event
 use Rattle.recovery_world.specs.World.{Setting, World}
-use Rattle.recovery_world.specs.Files.{Performs}
 use Rattle.recovery_world.specs.Many.{all_messages}
 use Rattle.plan_script.specs.declared.plan.PlanLine.{PlanLine}
 use Rattle.plan_script.specs.declared.plan.PlanLine.TheVariants as line
 use Rattle.plan_script.specs.Orders.{Orders, no_orders, orders_after}
-use Rattle.plan_script.specs.Rounds.{IsRound, arrival_events}
-
--- these events are performed
-abbrev pub Does : {V : Type 0} → Setting V → World V → List Event → World V → Type 0
-Does s w events new = (lines : List ℕ) × Performs s w events lines new
+use Rattle.plan_script.specs.Rounds.{Does, IsRound, arrival_events}
 
 -- a round, which does nothing while the master is down
 abbrev pub OnRound : {V : Type 0} → Setting V → World V → Orders → List Event → World V → Type 0
@@ -23,19 +18,22 @@ OnRound s w orders events new =
 abbrev pub Wakes : {V : Type 0} → World V → List Event → Type 0
 Wakes w events = ((w.up ≡ true) × (events ≡ [])) ⊎ ((w.up ≡ false) × (events ≡ event.Recover ∷ []))
 
+-- The first events of a settling: the master recovers if it is down, and the rest of the capture is fed.
+abbrev pub feeding : {V : Type 0} → Setting V → World V → List Event → List Event
+feeding s w wake = wake ++ event.Feed (length s.packets - w.fed) ∷ []
+
 -- A settling: a recovery if the master is down, the rest of the capture is fed, a round without orders, and then each
 -- entry and each output of the past arrives, by thread, then number.
 pub record OnSettle {V : Type 0} (s : Setting V) (w : World V) (events : List Event) (new : World V) : Type 0 where
   pub wake : List Event
   pub wakes : Wakes w wake
   pub fed : World V
-  pub feeds : Does s w (wake ++ event.Feed (length s.packets - w.fed) ∷ []) fed
+  pub feeds : Does s w (feeding s w wake) fed
   pub round : List Event
   pub ran : World V
   pub runs : IsRound s fed no_orders round ran
   pub arrive : Does s ran (arrival_events (all_messages s ran)) new
-  pub events_are :
-      events ≡ (wake ++ event.Feed (length s.packets - w.fed) ∷ []) ++ (round ++ arrival_events (all_messages s ran))
+  pub events_are : events ≡ feeding s w wake ++ (round ++ arrival_events (all_messages s ran))
 
 -- The part of a line of the plan: its events, and the world after them.
 abbrev pub IsPart : {V : Type 0} → Setting V → World V → Orders → PlanLine → List Event → World V → Type 0
@@ -56,6 +54,11 @@ pub data IsScript {V : Type 0} (s : Setting V) : World V → Orders → List Pla
   Goes : {w mid new : World V} {lines : List PlanLine} {rest : List Event} (orders : Orders) (ln : PlanLine)
       (events : List Event) → IsPart s w orders ln events mid → IsScript s mid (orders_after ln orders) lines rest new
       → IsScript s w orders (ln ∷ lines) (events ++ rest) new
+
+-- the orders behind some lines
+abbrev pub orders_through : List PlanLine → Orders → Orders
+orders_through [] orders = orders
+orders_through (ln ∷ lines) orders = orders_through lines (orders_after ln orders)
 
 -- A script of a plan is performed, event by event.
 abbrev pub ScriptsPerform : Type 0 → Type 0

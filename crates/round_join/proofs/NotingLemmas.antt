@@ -11,9 +11,7 @@ use Rattle.recovery_world.specs.World.{Setting, World}
 use Rattle.recovery_world.specs.declared.event.Event.{Event}
 use Rattle.recovery_world.specs.declared.event.Event.TheVariants as event
 use Rattle.recovery_world.specs.declared.event.Outcome.{Outcome}
-use Rattle.recovery_world.specs.Limits.{OnWithin, Passes}
-use Rattle.recovery_world.specs.Many.{Single}
-use Rattle.recovery_world.specs.Files.{Performs, Rests, Goes as Performed, reply_line}
+use Rattle.recovery_world.specs.Limits.{Passes}
 use Rattle.recovery_laws.specs.Making.{after_made}
 use Rattle.system_parts.specs.Parts.{Parts}
 use Rattle.system_parts.specs.Resting.{RestsFor}
@@ -22,8 +20,9 @@ use Rattle.round_join.specs.declared.noting.Made.{Made}
 use Rattle.round_join.specs.declared.noting.Noted.{Noted}
 use Rattle.round_join.specs.Drawing.{AreDrawn}
 use Rattle.round_join.specs.Noting.{CanSendAll, events_made, IsMadeAt, Pending}
-use Rattle.round_join.specs.Racing.{event_noted, events_noted, lines_noted, StoppedAt}
+use Rattle.round_join.specs.Racing.{event_noted, events_noted, PerformsNoted, NoneNoted, OneMore, StoppedAt}
 use Rattle.round_join.specs.NotedMoves.{noted_as, NotesAll, NotesMade, StopsBefore}
+use Rattle.round_join.proofs.NotedEvents.{events_more}
 use Rattle.round_join.proofs.DrawingLemmas.{none_drawn, turn_around, turn_low, turn_some, turns_left}
 
 -- the oldest of them, and the others after it
@@ -54,40 +53,6 @@ pub can_oldest : (epoch threads : ℕ) (left : List Made) (m : Made) → CanSend
     → CanSend epoch threads m.stepped × CanSendAll epoch threads left
 can_oldest epoch threads [] m can = (can.0, tt)
 can_oldest epoch threads (x ∷ left) m can = let k = can_oldest epoch threads left m can.1 in (k.0, (can.0, k.1))
-
--- one more event at the end
-performs_more : {V : Type 0} (s : Setting V) (w mid new : World V) (events : List Event) (lines : List ℕ) (ev : Event)
-    (to : Outcome) → Performs s w events lines mid → OnWithin s mid ev to [] new
-    → Performs s w (events ++ ev ∷ []) (lines ++ (reply_line ev to [] ++ [])) new
-performs_more {V} s w mid new events lines ev to (Rests same) on =
-    Performed ev to [] (Single ev to [] new on) (Rests new)
-performs_more {V} s w mid new events lines ev to
-    (Performed {mid = there} {events = es} {lines = ls} first first_to freed first_on rest) on =
-    subst (λ (l : List ℕ). Performs s w (first ∷ (es ++ ev ∷ [])) l new)
-    (sym (append_assoc (reply_line first first_to freed) ls (reply_line ev to [] ++ [])))
-    (Performed first first_to freed first_on (performs_more s there mid new es ls ev to rest on))
-
-lines_more : (noted : List Noted) (n : Noted)
-    → lines_noted (noted ++ n ∷ []) ≡ lines_noted noted ++ (reply_line (event_noted n) n.outcome [] ++ [])
-lines_more [] n = refl
-lines_more (x ∷ noted) n =
-    ap (λ (l : List ℕ). reply_line (event_noted x) x.outcome [] ++ l) (lines_more noted n)
-    ∙ sym (append_assoc (reply_line (event_noted x) x.outcome []) (lines_noted noted)
-    (reply_line (event_noted n) n.outcome [] ++ []))
-
-events_more : (noted : List Noted) (n : Noted)
-    → events_noted (noted ++ n ∷ []) ≡ events_noted noted ++ event_noted n ∷ []
-events_more noted n = map-append event_noted noted (n ∷ [])
-
-performs_noted : {V : Type 0} (s : Setting V) (w mid new : World V) (noted : List Noted) (n : Noted)
-    → Performs s w (events_noted noted) (lines_noted noted) mid → OnWithin s mid (event_noted n) n.outcome [] new
-    → Performs s w (events_noted (noted ++ n ∷ [])) (lines_noted (noted ++ n ∷ [])) new
-performs_noted {V} s w mid new noted n performs on =
-    subst (λ (l : List ℕ). Performs s w (events_noted (noted ++ n ∷ [])) l new) (sym (lines_more noted n))
-    (subst (λ (l : List Event).
-    Performs s w l (lines_noted noted ++ (reply_line (event_noted n) n.outcome [] ++ [])) new)
-    (sym (events_more noted n))
-    (performs_more s w mid new (events_noted noted) (lines_noted noted) (event_noted n) n.outcome performs on))
 
 -- the moves that are drawn from these lists in these turns have frames
 abbrev pub CanDraw : ℕ → ℕ → List (List Made) → List ℕ → Type 0
@@ -147,7 +112,7 @@ pub record Went {P V : Type 0} (m : Meaning V) (s : Setting V) (w : World V) (li
   pub left : List Made
   pub draws : AreDrawn lists turns left
   pub pending : Pending s there left new
-  pub performs : Performs s w (events_noted noted) (lines_noted noted) there
+  pub performs : PerformsNoted s w noted there
   pub all_are : events_noted noted ++ events_made left ≡ events_made all
 
 pub went_none : {P V : Type 0} (m : Meaning V) (s : Setting V) (w : World V) (lists : List (List Made)) (turns : List ℕ)
@@ -160,7 +125,7 @@ went_none m s w lists turns all new now draws rests up pending = record {
   left = all;
   draws = draws;
   pending = pending;
-  performs = Rests w;
+  performs = NoneNoted;
   all_are = refl;
 }
 
@@ -186,7 +151,7 @@ module _ {P V : Type 0} (m : Meaning V) (s : Setting V) (w : World V) (lists : L
         left = around.0;
         draws = around.2;
         pending = first.more;
-        performs = performs_noted s w h.there (after_made h.there first.step) noted n h.performs done.1;
+        performs = OneMore n h.performs done.1;
         all_are =
             ap (λ (l : List Event). l ++ events_made around.0) (events_more noted n)
             ∙ append_assoc (events_noted noted) (event_noted n ∷ []) (events_made around.0)
@@ -215,8 +180,7 @@ module _ {P V : Type 0} (m : Meaning V) (s : Setting V) (w : World V) (lists : L
             (sym (events_oldest around.0 made) ∙ ap events_made (sym around.1))
             ∙ h.all_are;
         there = h.there;
-        performs =
-            subst (λ (l : List Noted). Performs s w (events_noted l) (lines_noted l) h.there) (sym is) h.performs;
+        performs = subst (λ (l : List Noted). PerformsNoted s w l h.there) (sym is) h.performs;
         passes =
             subst (λ (x : PlainMove). Passes s h.there (event.Step x.thread x.answer) limit) (sym stops.is_next) here;
       }
@@ -232,7 +196,6 @@ went_all {P} {V} m s w lists all new noted now h =
     ∙ ap (λ (l : List Made). events_noted noted ++ events_made l) (sym none) ∙ h.all_are in
     record {
       rests = subst (λ (z : World V). RestsFor m s z now) (sym same) h.rests;
-      performs = subst (λ (z : World V). Performs s w (events_made all) (lines_noted noted) z) (sym same)
-          (subst (λ (l : List Event). Performs s w l (lines_noted noted) h.there) events h.performs);
+      performs = subst (λ (z : World V). PerformsNoted s w noted z) (sym same) h.performs;
       events_are = events;
     }

@@ -6,13 +6,12 @@ use Rattle.plain_machine.specs.Program.{Meaning}
 use Rattle.master_core.specs.Mastered.{Mastered}
 use Rattle.recovery_world.specs.World.{Setting, World}
 use Rattle.recovery_world.specs.declared.event.Event.{Event}
-use Rattle.recovery_world.specs.Files.{Performs}
 use Rattle.system_parts.specs.Parts.{Parts}
 use Rattle.var_locks.specs.Seats.{Seated}
 use Rattle.round_events.specs.Blocked.{IsStuck}
 use Rattle.round_join.specs.declared.noting.Made.{Made}
 use Rattle.round_join.specs.declared.noting.Noted.{Noted}
-use Rattle.round_join.specs.Racing.{CameTo, IsInOrder, lines_noted, Stopped, StoppedAt}
+use Rattle.round_join.specs.Racing.{CameTo, IsInOrder, Stopped, StoppedAt}
 use Rattle.round_join.specs.Noting.{events_made}
 use Rattle.round_join.specs.NotedMoves.{NotesAll}
 
@@ -23,7 +22,7 @@ pub round_came : {P V : Type 0} (m : Meaning V) (s : Setting V) (w : World V) (s
 round_came {P} {V} m s w seats q moves turns noted old new meaning i all = record {
   steps = i.steps;
   there = i.there;
-  performs = subst (λ (l : List Event). Performs s w l (lines_noted noted) i.there) i.events_are all.performs;
+  performs = all.performs;
   events_are = all.events_are ∙ i.events_are;
   after = i.after;
   woven = i.woven;

@@ -6,14 +6,13 @@ use Rattle.plain_machine.specs.Program.{Meaning}
 use Rattle.plain_machine.specs.History.{Step}
 use Rattle.recovery_world.specs.declared.event.Outcome.{Outcome}
 use Rattle.recovery_world.specs.World.{Setting, World}
-use Rattle.recovery_world.specs.Files.{Performs}
 use Rattle.system_parts.specs.Parts.{Parts}
 use Rattle.system_parts.specs.Resting.{RestsFor}
 use Rattle.thread_steps.specs.Stepping.{NotesFor, PassesFor}
 use Rattle.round_join.specs.declared.noting.Made.{Made}
 use Rattle.round_join.specs.declared.noting.Noted.{Noted}
 use Rattle.round_join.specs.Noting.{events_made}
-use Rattle.round_join.specs.Racing.{events_noted, lines_noted}
+use Rattle.round_join.specs.Racing.{PerformsNoted, events_noted}
 
 -- the move as it is noted, where it came to this
 abbrev pub noted_as : Made → Outcome → Noted
@@ -36,5 +35,5 @@ pub record StopsBefore {P V : Type 0} (m : Meaning V) (x : Made) (limit : Limit)
 pub record NotesAll {P V : Type 0} (m : Meaning V) (s : Setting V) (w : World V) (moves : List Made) (new : World V)
     (noted : List Noted) (y : Parts P V) : Type 0 where
   pub rests : RestsFor m s new y
-  pub performs : Performs s w (events_made moves) (lines_noted noted) new
+  pub performs : PerformsNoted s w noted new
   pub events_are : events_noted noted ≡ events_made moves

@@ -16,7 +16,7 @@ use Rattle.recovery_world.specs.declared.event.Event.{Event}
 use Rattle.recovery_world.specs.declared.event.Event.TheVariants as event
 use Rattle.recovery_world.specs.World.{Setting, World}
 use Rattle.recovery_world.specs.Files.{Performs, answer_of, reply_line}
-use Rattle.recovery_world.specs.Limits.{Passes}
+use Rattle.recovery_world.specs.Limits.{OnWithin, Passes}
 use Rattle.plan_script.specs.Rounds.{AreWoven, step_events}
 use Rattle.system_parts.specs.Parts.{Parts}
 use Rattle.system_parts.specs.Resting.{RestsFor}
@@ -99,6 +99,18 @@ abbrev pub lines_noted : List Noted → List ℕ
 lines_noted [] = []
 lines_noted (n ∷ noted) = reply_line (event_noted n) n.outcome [] ++ lines_noted noted
 
+-- The events, performed one after another, each come to what is noted of it, and lead to this world.
+pub data PerformsNoted {V : Type 0} (s : Setting V) (w : World V) : List Noted → World V → Type 0 where
+  NoneNoted : PerformsNoted s w [] w
+  OneMore : {noted : List Noted} {mid new : World V} (n : Noted) → PerformsNoted s w noted mid
+      → OnWithin s mid (event_noted n) n.outcome [] new → PerformsNoted s w (noted ++ n ∷ []) new
+
+-- So they are performed, and their lines say what they came to.
+abbrev pub NotedPerform : Type 0 → Type 0
+NotedPerform X =
+    (s : Setting X) (w : World X) (noted : List Noted) (new : World X)
+    → PerformsNoted s w noted new → Performs s w (events_noted noted) (lines_noted noted) new
+
 -- The world after the steps of a round, newest first: nothing but the master went on.
 pub record IsAfterSteps {V : Type 0} (w : World V) (steps : List (Step V)) (there : World V) : Type 0 where
   pub world : there ≡ record w { past = steps ++ w.past; moves = there.moves; bytes = there.bytes }
@@ -129,7 +141,7 @@ pub record CameTo {P V : Type 0} (m : Meaning V) (s : Setting V) (w : World V) (
     (q : Mastered V) (moves : List (List Made)) (guide : List Lane) (noted : List Noted) (y : Parts P V) : Type 0 where
   pub steps : List (Step V)
   pub there : World V
-  pub performs : Performs s w (step_events steps) (lines_noted noted) there
+  pub performs : PerformsNoted s w noted there
   pub events_are : events_noted noted ≡ step_events steps
   pub after : IsAfterSteps w steps there
   pub woven : AreWoven w.past steps
@@ -146,7 +158,7 @@ pub record StoppedAt {V : Type 0} (s : Setting V) (w : World V) (events : List E
   pub left : List Event
   pub all_are : events_noted noted ++ event.Step next.thread next.answer ∷ left ≡ events
   pub there : World V
-  pub performs : Performs s w (events_noted noted) (lines_noted noted) there
+  pub performs : PerformsNoted s w noted there
   pub passes : Passes s there (event.Step next.thread next.answer) limit
 
 -- Noting the round stopped at a limit, at an event of its steps, which stand as a plan's round has them.

@@ -3,6 +3,7 @@ ghost use Rattle.round_join.specs.Idling.{EndIdle};
 ghost use Rattle.round_join.specs.Marking.{SeatsHaveMarks};
 ghost use Rattle.round_join.specs.Weaving.{WovenSteps};
 ghost use Rattle.round_join.specs.Ordering.{RoundsAreInOrder, RoundsAreLight};
+ghost use Rattle.round_join.specs.Racing.{NotedPerform};
 
 use box_program::Program;
 
@@ -21,6 +22,11 @@ pub fn seats_have_marks<X>()
 /// The threads of a round with no limits end idle: while a thread waits for an entry, one of the threads can move.
 pub fn unlimited_rounds_end_idle<X>()
     ensures idle { EndIdle X }
+{}
+
+/// The events that are noted of a round are performed, and their lines say what is noted of them.
+pub fn noted_events_are_performed<X>()
+    ensures perform { NotedPerform X }
 {}
 
 /// The moves of a raced round, in the turns of its marks, may be noted one after another; and each entry that a seat's
