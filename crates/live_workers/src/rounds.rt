@@ -199,6 +199,10 @@ pub fn round<
         → SystemStands (P.meaning system.parts.program) s w system → StopsRound s w stop) }
     ensures goes_on { IfOk result (λ r. r.system.stopped ≡ false) }
     ensures program { IfOk result (λ r. r.system.parts.program ≡ system.parts.program) }
+
+    // What was released and not handed over is still there.
+    ensures handed { IfOk result (λ r. r.system.handed ≡ system.handed) }
+    ensures fresh { IfOk result (λ r. r.system.fresh ≡ system.fresh) }
 {
     let SystemParted {
         master,

@@ -1,0 +1,230 @@
+-- Lines of the script and of the report are gathered and written.
+use Rattle.std.proofs.Common.{◌≡◌, ℕ, ◌+◌, ◌<◌, All, List, [], ◌∷◌, ◌++◌, length, refl, sym, ap, ◌∙◌, subst, inl, inr}
+use Rattle.std.proofs.Common.{append-nil, append_assoc, Result, Ok, Err, arith}
+use Rattle.std.proofs.lemmas.List.{length-append}
+use Rattle.std.proofs.lemmas.List.Concat.{flat_map-append}
+use Rattle.std.specs.Prelude.{codes, ⊤, OnOk}
+use Rattle.std.proofs.lemmas.List.Elements.{All-append, All-nil, All-cons}
+use Rattle.plain_text.specs.declared.packet.Packet.{Packet}
+use Rattle.plain_text.specs.declared.packet.Unit.{Unit as FractionUnit}
+use Rattle.plain_text.specs.LineFiles.{text_of}
+use Rattle.plain_text.specs.declared.limit.Limit.{Limit}
+use Rattle.plain_text.specs.declared.limit.Limit.TheVariants as limit_of
+use Rattle.plain_machine.specs.declared.plain_move.PlainMove.{PlainMove}
+use Rattle.world_io.specs.World.{Shown}
+use Rattle.recovery_world.specs.declared.event.Event.{Event}
+use Rattle.recovery_world.specs.World.{Setting, Sent, World as SystemWorld}
+use Rattle.recovery_world.specs.Files.{event_words, reply_line}
+use Rattle.event_replies.specs.declared.reply.Reply.{Reply as SystemReply}
+use Rattle.output_files.specs.declared.error.OutputError.{OutputError}
+use Rattle.output_files.specs.declared.error.OutputError.TheVariants as output
+use Rattle.output_files.specs.Writes.{report_file, Write, Appends, Reports, IsPrefix, HasBegun, HasGathered, HasWritten}
+use Rattle.output_files.specs.Writes.{AreOnlyReports, reported}
+use Rattle.output_files.specs.Written.{Writes}
+use Rattle.output_files.proofs.Effects.{after_more, begun_all, gathered_begun, line_gathered, names_stay, none_gathered}
+use Rattle.output_files.proofs.Effects.{nothing_gathered, reported_more}
+use Rattle.run_writes.specs.declared.error.RunError.{RunError}
+use Rattle.run_writes.specs.declared.error.RunError.TheVariants as run
+use Rattle.run_writes.specs.Errors.{run_error_of}
+use Rattle.run_writes.specs.Replies.{Reply, Answers, Goes, newly_released, released_in}
+use Rattle.run_writes.specs.Run.{FitsRecord, HasBegunRun, IsWritten, OutputNames, WritesAll, WritesSome, WritesUntil}
+use Rattle.run_writes.specs.Run.{closing_writes, opening_writes, release_writes, replies_writes, reply_writes, writes_of}
+use Rattle.run_writes.proofs.ScriptAnswers.{released_more}
+use Rattle.run_command.proofs.Going.{replies_more}
+use Rattle.script_text.specs.Scripts.{FitWords, FitsWords, script_text}
+use Rattle.plan_script.specs.Begun.{AreFirstOf}
+use Rattle.live_writes.specs.Outputs.{AreApart, LiveOutputs, holding}
+use Rattle.live_writes.specs.Script.{Scripted, AreCounted, Beside, PassesScript, SpareName, line_of, with_line}
+use Rattle.live_writes.specs.Told.{FailsLive, HasBegunLive, HasTold, IsAhead, IsPaused}
+use Rattle.live_writes.proofs.ScriptSteps.{begun_longer, part_appended, spare_both, written_beside}
+use Rattle.live_command.specs.Writing.{Adds, IsQuiet, Keeps}
+
+-- Texts of scripts
+
+pub text_more : (events more : List Event) → script_text (events ++ more) ≡ script_text events ++ script_text more
+text_more events more = flat_map-append (λ (ev : Event). event_words ev ++ codes "\n") events more
+
+pub prefix_more : (a whole more : List ℕ) → IsPrefix a whole → IsPrefix a (whole ++ more)
+prefix_more a whole more (rest, is) =
+    (rest ++ more, ap (λ (l : List ℕ). l ++ more) is ∙ append_assoc a rest more)
+
+pub text_prefix : (first rest : List Event) → IsPrefix (script_text first) (script_text (first ++ rest))
+text_prefix first rest = (script_text rest, text_more first rest)
+
+-- What the outputs beside the script write spares it
+
+module _ {V : Type 0} (s : Setting V) (names : LiveOutputs) (apart : AreApart names) where
+  spare_replies : (replies : List Reply)
+      → SpareName names.script (replies_writes names.outputs.released replies)
+  spare_replies [] = tt
+  spare_replies (r ∷ replies) = (apart.released, spare_replies replies)
+
+  pub spare_writes : (replies : List Reply)
+      → SpareName names.script (writes_of names.outputs s.fractions replies)
+  spare_writes replies = (apart.released, (apart.released, (apart.schedule, spare_replies replies)))
+
+  spare_run : (events : List Event) (writes : List Write) → IsWritten s names.outputs events writes
+      → SpareName names.script writes
+  spare_run events writes (inl some) =
+      subst (λ (ws : List Write). SpareName names.script ws) (sym some.writes_are) (spare_writes some.replies)
+  spare_run events writes (inr (inl (limit, until))) =
+      subst (λ (ws : List Write). SpareName names.script ws) (sym until.writes_are)
+      (spare_both names.script (writes_of names.outputs s.fractions until.replies)
+      (release_writes names.outputs.released (newly_released until.there until.world)) (spare_writes until.replies)
+      (apart.released, tt))
+  spare_run events writes (inr (inr all)) =
+      subst (λ (ws : List Write). SpareName names.script ws) (sym all.writes_are)
+      (spare_both names.script (writes_of names.outputs s.fractions all.replies)
+      (closing_writes names.outputs _ _) (spare_writes all.replies) (apart.schedule, tt))
+
+  -- the script grew, and nothing else was written
+  pub ahead_longer : (events : List Event) (written part : List ℕ) (old now new : Shown)
+      → IsAhead s names events written old now → HasWritten (Appends names.script part ∷ []) now new
+      → IsAhead s names events (written ++ part) old new
+  ahead_longer events written part old now new a w = record {
+    first = a.first;
+    rest = a.rest;
+    events_are = a.events_are;
+    lines = prefix_more (script_text a.first) written part a.lines;
+    begun = (
+      a.begun.0,
+      a.begun.1,
+      begun_longer names.script written part old now new a.begun.0 (spare_run a.first a.begun.0 a.begun.1)
+          a.begun.2 w,
+    );
+  }
+
+-- of more events
+pub ahead_more : {V : Type 0} (s : Setting V) (names : LiveOutputs) (events more : List Event) (written : List ℕ)
+    (old now : Shown) → IsAhead s names events written old now → IsAhead s names (events ++ more) written old now
+ahead_more s names events more written old now a = record {
+  first = a.first;
+  rest = a.rest ++ more;
+  events_are = ap (λ (l : List Event). l ++ more) a.events_are ∙ append_assoc a.first a.rest more;
+  lines = a.lines;
+  begun = a.begun;
+}
+
+pub begun_more : {V : Type 0} (s : Setting V) (names : LiveOutputs) (events more : List Event) (old now : Shown)
+    → HasBegunLive s names events old now → HasBegunLive s names (events ++ more) old now
+begun_more s names events more old now h = record {
+  written = h.written;
+  part = subst (IsPrefix h.written) (sym (text_more events more))
+      (prefix_more h.written (script_text events) (script_text more) h.part);
+  ahead = ahead_more s names events more h.written old now h.ahead;
+}
+
+-- a first part of what these events leave was written, and the script has all their lines
+pub all_ahead : {V : Type 0} (s : Setting V) (names : LiveOutputs) (events : List Event) (written : List ℕ)
+    (old now : Shown) → IsPrefix (script_text events) written
+    → HasBegunRun s names.outputs events (holding names.script written old) now
+    → IsAhead s names events written old now
+all_ahead s names events written old now lines begun =
+    record { first = events; rest = []; events_are = sym (append-nil events); lines = lines; begun = begun }
+
+module _ {V : Type 0} (s : Setting V) (names : LiveOutputs) (apart : AreApart names) (events scripted : List Event)
+    (w : SystemWorld V) (lines : List ℕ) (x : Scripted) (old now : Shown)
+    (h : HasTold s names events scripted w lines x old now) where
+  some_written : IsWritten s names.outputs events (writes_of names.outputs s.fractions h.replies)
+  some_written = inl (record {
+    before = events;
+    after = [];
+    events_are = sym (append-nil events);
+    replies = h.replies;
+    world = w;
+    answers = h.answers;
+    writes_are = refl;
+  })
+
+  -- the script's lines were written
+  pub script_written : (y : Scripted) (new : Shown) → HasWritten (Appends names.script x.text ∷ []) now new
+      → y.text ≡ [] → y.count ≡ x.count → y.size ≡ x.size → HasTold s names events scripted w lines y old new
+  script_written y new done none count size = record {
+    replies = h.replies;
+    answers = h.answers;
+    fit_records = h.fit_records;
+    behind = h.behind;
+    fit_words = h.fit_words;
+    written = h.written ++ x.text;
+    script_is =
+        h.script_is
+        ∙ sym (append-nil (h.written ++ x.text))
+        ∙ ap (λ (l : List ℕ). (h.written ++ x.text) ++ l) (sym none);
+    counted = record { count = count ∙ h.counted.count; size = size ∙ h.counted.size };
+    gathered = written_beside names.script h.written x.text old now new (writes_of names.outputs s.fractions h.replies)
+        lines (spare_writes s names apart h.replies) h.gathered done;
+    ahead = ahead_longer s names apart events h.written x.text old now new h.ahead done;
+  }
+
+  -- a first part of them was
+  pub script_begun : (new : Shown) → HasBegun (Appends names.script x.text ∷ []) now new
+      → HasBegunLive s names scripted old new
+  script_begun new begun =
+      let k = part_appended names.script x.text now new begun in
+      let all : HasBegunLive s names scripted old new = record {
+        written = h.written ++ k.0;
+        part = (
+          k.1.0,
+          h.script_is ∙ ap (λ (l : List ℕ). h.written ++ l) k.1.1 ∙ sym (append_assoc h.written k.0 k.1.0),
+        );
+        ahead = subst (λ (l : List Event). IsAhead s names l (h.written ++ k.0) old new) (sym h.behind.1)
+            (ahead_more s names events h.behind.0 (h.written ++ k.0) old new
+            (ahead_longer s names apart events h.written k.0 old now new h.ahead k.2));
+      } in all
+
+  module _ (none : x.text ≡ []) where
+    whole : script_text scripted ≡ h.written
+    whole = h.script_is ∙ ap (λ (l : List ℕ). h.written ++ l) none ∙ append-nil h.written
+
+    has_lines : IsPrefix (script_text events) h.written
+    has_lines = subst (IsPrefix (script_text events))
+        (ap script_text (sym h.behind.1) ∙ whole) (text_prefix events h.behind.0)
+
+    -- the report's lines were written behind all of the script's
+    pub lines_written : (new : Shown)
+        → HasWritten (writes_of names.outputs s.fractions h.replies) (holding names.script h.written old) new
+        → HasTold s names events scripted w [] x old new
+    lines_written new done = record {
+      replies = h.replies;
+      answers = h.answers;
+      fit_records = h.fit_records;
+      behind = h.behind;
+      fit_words = h.fit_words;
+      written = h.written;
+      script_is = h.script_is;
+      counted = h.counted;
+      gathered = none_gathered (writes_of names.outputs s.fractions h.replies) (holding names.script h.written old) new
+          done;
+      ahead = all_ahead s names events h.written old new has_lines (
+        writes_of names.outputs s.fractions h.replies,
+        some_written,
+        begun_all (writes_of names.outputs s.fractions h.replies) (holding names.script h.written old) new done,
+      );
+    }
+
+    pub lines_begun : (new : Shown)
+        → HasBegun (writes_of names.outputs s.fractions h.replies) (holding names.script h.written old) new
+        → HasBegunLive s names scripted old new
+    lines_begun new begun = record {
+      written = h.written;
+      part = ([], whole ∙ sym (append-nil h.written));
+      ahead = subst (λ (l : List Event). IsAhead s names l h.written old new) (sym h.behind.1)
+          (ahead_more s names events h.behind.0 h.written old new (all_ahead s names events h.written old new has_lines
+          (writes_of names.outputs s.fractions h.replies, some_written, begun)));
+    }
+
+    pub lines_kept : (r : Result ⊤ OutputError) (more : List ℕ) (new : Shown)
+        → Writes r (writes_of names.outputs s.fractions h.replies) (holding names.script h.written old) new
+        → OnOk r (more ≡ []) → Keeps r s names events scripted w more x old new
+    lines_kept (Ok done) more new written gone =
+        subst (λ (l : List ℕ). HasTold s names events scripted w l x old new) (sym gone) (lines_written new written)
+    lines_kept (Err error) more new begun gone = lines_begun new begun
+
+  -- nothing was written since, and an error came
+  pub still_begun : HasBegunLive s names scripted old now
+  still_begun = record {
+    written = h.written;
+    part = (x.text, h.script_is);
+    ahead = subst (λ (l : List Event). IsAhead s names l h.written old now) (sym h.behind.1)
+        (ahead_more s names events h.behind.0 h.written old now h.ahead);
+  }

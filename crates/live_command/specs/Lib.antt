@@ -1,0 +1,4 @@
+pub mod Telling
+pub mod Going
+pub mod Plans
+pub mod Writing

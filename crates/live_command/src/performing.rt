@@ -1,0 +1,109 @@
+//! An event is performed and told: its line goes to the script, and what it leaves to the other outputs.
+ghost use Rattle.std.specs.Prelude.{◌≡◌, ◌∷◌, ◌++◌, ◌≤◌, [], List, ℕ, All, OnOk, IsTrue, IsErrOf, false};
+ghost use Rattle.plain_text.specs.Packets.{IsShort};
+ghost use Rattle.plain_text.specs.declared.limit.TheConstants.{MOST_EVENTS as most_events};
+ghost use Rattle.plain_text.specs.declared.limit.TheConstants.{MOST_FILE_BYTES as most_bytes};
+ghost use Rattle.world_io.specs.World.{Shown, is_writable, WritingFailed};
+ghost use Rattle.recovery_world.specs.declared.event.Event.{Event as EventKind};
+ghost use Rattle.recovery_world.specs.World.{Setting, World as SystemWorld};
+ghost use Rattle.recovery_core.specs.Systems.{Systemed};
+ghost use Rattle.output_files.specs.Written.{OnlyWrites};
+ghost use Rattle.run_writes.specs.Replies.{packets_in};
+ghost use Rattle.run_command.specs.Running.{ComesTo, IsSomewhere, IsSystemAt};
+ghost use Rattle.live_writes.specs.Outputs.{AreApart, LiveOutputs};
+ghost use Rattle.live_writes.specs.Told.{AreOpen, HasTold};
+ghost use Rattle.live_command.specs.Going.{GoesOver, HasLivedTo};
+
+use crate::writing::{add_line, gather, write_script};
+use box_program::Program;
+use live_writes::{LiveNumbers, Script};
+use plain_text::Bytes;
+use recovery_core::System;
+use recovery_world::Event;
+use run_command::{Performed, perform, write_performed};
+use run_writes::{RunError, written};
+use std::alloc::Global;
+use world_io::World;
+
+/// Writes what an event left whose line of the script is gathered: where it released nothing its line of the report is
+/// gathered too.
+fn leave<P: Program, W: World>(
+    alloc: Global,
+    world: &mut W,
+    files: LiveNumbers,
+    lines: &mut Bytes,
+    script: &mut Script,
+    event: &Event,
+    performed: &Performed,
+) -> Result<(), RunError>
+    requires short { All IsShort (packets_in performed.now.outputs) }
+    requires released { IsTrue (is_writable (W.ledger world.old) files.released) }
+    requires script { IsTrue (is_writable (W.ledger world.old) files.script) }
+    ensures told { IsTrue W.tells → (s : Setting P.Value) (names : LiveOutputs)
+        (events : List EventKind) (w : SystemWorld P.Value) (old new : Systemed P P.Value)
+        (before : Shown) → AreApart names
+        → AreOpen names files.released files.schedule files.script (W.shown world.old)
+        → HasTold s names events (events ++ event.now ∷ []) w lines.old script.old before
+        (W.shown world.old)
+        → ComesTo s.meaning event.now performed.now.reply performed.now.outputs old new
+        → IsSystemAt s.meaning s w old
+        → GoesOver result s.meaning s names w events (event.now ∷ []) new lines.new script.new
+        before (W.shown world.new) }
+    ensures count { script.new.count ≡ script.old.count }
+    ensures size { script.new.size ≡ script.old.size }
+    ensures only_writes { OnlyWrites W.tells W.shown W.ledger W.healthy world.old world.new }
+    ensures cause { IsErrOf result RunError.WriteFault
+        → WritingFailed W.ledger W.healthy world.old world.new }
+{
+    match &performed.reply {
+        Ok(reply) if performed.outputs.is_empty() => {
+            let gathered =
+                gather::<P::Value, W>(alloc, world, files.script, lines, script, event, reply);
+            written(gathered)
+        }
+        _ => {
+            write_script::<P::Value, W>(world, files.script, script)?;
+            write_performed(alloc, world, files.released, lines, event, performed)
+        }
+    }
+}
+
+/// Performs an event and tells of it. Where the script would pass a limit with its line, nothing of it is told.
+pub(crate) fn tell<P: Program, W: World>(
+    alloc: Global,
+    world: &mut W,
+    files: LiveNumbers,
+    lines: &mut Bytes,
+    script: &mut Script,
+    system: &mut System<P>,
+    event: &Event,
+) -> Result<(), RunError>
+    requires runs { system.old.stopped ≡ false }
+    requires somewhere { IsSomewhere (P.meaning system.old.parts.program) system.old }
+    requires released { IsTrue (is_writable (W.ledger world.old) files.released) }
+    requires script { IsTrue (is_writable (W.ledger world.old) files.script) }
+    requires few { script.old.count ≤ most_events }
+    requires short { script.old.size ≤ most_bytes }
+    ensures told { IsTrue W.tells → (s : Setting P.Value) (names : LiveOutputs)
+        (events : List EventKind) (w : SystemWorld P.Value) (before : Shown) → AreApart names
+        → AreOpen names files.released files.schedule files.script (W.shown world.old)
+        → HasLivedTo (P.meaning system.old.parts.program) s names events w system.old lines.old
+        script.old before (W.shown world.old)
+        → GoesOver result (P.meaning system.old.parts.program) s names w events
+        (event.now ∷ []) system.new lines.new script.new before (W.shown world.new) }
+    ensures few { script.new.count ≤ most_events }
+    ensures short { script.new.size ≤ most_bytes }
+    ensures runs { OnOk result (system.new.stopped ≡ false) }
+    ensures somewhere { OnOk result
+        (IsSomewhere (P.meaning system.old.parts.program) system.new) }
+    ensures program { OnOk result (system.new.parts.program ≡ system.old.parts.program) }
+    ensures threads { OnOk result
+        (system.new.parts.inputs.threads ≡ system.old.parts.inputs.threads) }
+    ensures only_writes { OnlyWrites W.tells W.shown W.ledger W.healthy world.old world.new }
+    ensures cause { IsErrOf result RunError.WriteFault
+        → WritingFailed W.ledger W.healthy world.old world.new }
+{
+    let performed = perform(system, event);
+    add_line::<P::Value, W>(world, files.script, lines, script, event)?;
+    leave::<P, W>(alloc, world, files, lines, script, event, &performed)
+}

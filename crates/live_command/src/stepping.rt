@@ -1,0 +1,90 @@
+//! The steps of a round are told.
+ghost use Rattle.std.specs.Prelude.{◌≡◌, ◌∷◌, ◌++◌, ◌≤◌, [], List, ℕ, OnOk, IsTrue, IsErrOf};
+ghost use Rattle.plain_text.specs.declared.limit.TheConstants.{MOST_EVENTS as most_events};
+ghost use Rattle.plain_text.specs.declared.limit.TheConstants.{MOST_FILE_BYTES as most_bytes};
+ghost use Rattle.world_io.specs.World.{Shown, is_writable, WritingFailed};
+ghost use Rattle.recovery_world.specs.declared.event.Event.{Event as EventKind};
+ghost use Rattle.recovery_world.specs.World.{Setting, World as SystemWorld};
+ghost use Rattle.recovery_world.specs.Limits.{OnWithin};
+ghost use Rattle.output_files.specs.Writes.{IsOutput};
+ghost use Rattle.output_files.specs.Written.{OnlyWrites};
+ghost use Rattle.round_join.specs.Racing.{PerformsNoted, event_noted, events_noted};
+ghost use Rattle.live_writes.specs.Outputs.{AreApart, LiveOutputs};
+ghost use Rattle.live_writes.specs.Told.{HasTold};
+ghost use Rattle.live_command.specs.Going.{NotesOver};
+
+use crate::writing::{add_line, gather};
+use event_replies::only;
+use live_writes::Script;
+use plain_text::Bytes;
+use recovery_world::Event;
+use round_join::Noted;
+use run_writes::{RunError, written};
+use std::alloc::Global;
+use world_io::World;
+
+/// Tells one step.
+fn tell_step<X, W: World>(
+    alloc: Global,
+    world: &mut W,
+    file: u32,
+    lines: &mut Bytes,
+    script: &mut Script,
+    step: Noted,
+) -> Result<(), RunError>
+    requires writable { IsTrue (is_writable (W.ledger world.old) file) }
+    requires few { script.old.count ≤ most_events }
+    requires short { script.old.size ≤ most_bytes }
+    ensures told { IsTrue W.tells → (s : Setting X) (names : LiveOutputs) (events : List EventKind)
+        (w next : SystemWorld X) (before : Shown) → AreApart names
+        → IsOutput file names.script (W.shown world.old)
+        → HasTold s names events events w lines.old script.old before (W.shown world.old)
+        → OnWithin s w (event_noted step) step.outcome [] next
+        → NotesOver result s names events (event_noted step ∷ []) next lines.new script.new before
+        (W.shown world.new) }
+    ensures few { script.new.count ≤ most_events }
+    ensures short { script.new.size ≤ most_bytes }
+    ensures only_writes { OnlyWrites W.tells W.shown W.ledger W.healthy world.old world.new }
+    ensures cause { IsErrOf result RunError.WriteFault
+        → WritingFailed W.ledger W.healthy world.old world.new }
+{
+    let event = Event::Step {
+        thread: u64::from(step.thread),
+        answer: step.answer,
+    };
+    add_line::<X, W>(world, file, lines, script, &event)?;
+    let reply = only(alloc, step.outcome);
+    let gathered = gather::<X, W>(alloc, world, file, lines, script, &event, &reply);
+    written(gathered)
+}
+
+/// Tells the steps of a round, in their order.
+pub(crate) fn tell_steps<X, W: World>(
+    alloc: Global,
+    world: &mut W,
+    file: u32,
+    lines: &mut Bytes,
+    script: &mut Script,
+    steps: Vec<Noted>,
+) -> Result<(), RunError>
+    requires writable { IsTrue (is_writable (W.ledger world.old) file) }
+    requires few { script.old.count ≤ most_events }
+    requires short { script.old.size ≤ most_bytes }
+    ensures told { IsTrue W.tells → (s : Setting X) (names : LiveOutputs) (events : List EventKind)
+        (w there : SystemWorld X) (before : Shown) → AreApart names
+        → IsOutput file names.script (W.shown world.old)
+        → HasTold s names events events w lines.old script.old before (W.shown world.old)
+        → PerformsNoted s w steps.items there
+        → NotesOver result s names events (events_noted steps.items) there lines.new script.new
+        before (W.shown world.new) }
+    ensures few { script.new.count ≤ most_events }
+    ensures short { script.new.size ≤ most_bytes }
+    ensures only_writes { OnlyWrites W.tells W.shown W.ledger W.healthy world.old world.new }
+    ensures cause { IsErrOf result RunError.WriteFault
+        → WritingFailed W.ledger W.healthy world.old world.new }
+{
+    for step in steps {
+        tell_step::<X, W>(alloc, world, file, lines, script, step)?;
+    }
+    Ok(())
+}

@@ -1,0 +1,139 @@
+//! Lines of the report and of the script are gathered, and written where something else is to be written behind them.
+ghost use Rattle.std.specs.Prelude.{◌≡◌, ◌∷◌, ◌++◌, ◌≤◌, [], List, ℕ, OnOk, IsTrue, IsErrOf};
+ghost use Rattle.plain_text.specs.declared.limit.Limit.{Limit as LimitKind};
+ghost use Rattle.plain_text.specs.declared.limit.TheConstants.{MOST_EVENTS as most_events};
+ghost use Rattle.plain_text.specs.declared.limit.TheConstants.{MOST_FILE_BYTES as most_bytes};
+ghost use Rattle.world_io.specs.World.{Shown, is_writable, WritingFailed};
+ghost use Rattle.recovery_world.specs.declared.event.Event.{Event as EventKind};
+ghost use Rattle.recovery_world.specs.World.{Setting, World as SystemWorld};
+ghost use Rattle.output_files.specs.Writes.{IsOutput};
+ghost use Rattle.output_files.specs.Written.{OnlyWrites};
+ghost use Rattle.live_writes.specs.Outputs.{AreApart, LiveOutputs};
+ghost use Rattle.live_writes.specs.Told.{FailsLive, HasTold};
+ghost use Rattle.live_command.specs.Writing.{Adds, IsQuiet, Keeps};
+
+use event_replies::{Reply, put_line};
+use live_writes::Script;
+use output_files::{OutputError, write_lines};
+use plain_text::Bytes;
+use recovery_world::Event;
+use run_writes::{RunError, written};
+use std::alloc::Global;
+use world_io::World;
+
+/// The bytes of lines that are gathered before they are written, at most, but for the last lines.
+const GATHERED: usize = 65_536;
+
+/// Writes the gathered lines of the script.
+pub(crate) fn write_script<X, W: World>(
+    world: &mut W,
+    file: u32,
+    script: &mut Script,
+) -> Result<(), OutputError>
+    requires { IsTrue (is_writable (W.ledger world.old) file) }
+    ensures told { IsTrue W.tells → (s : Setting X) (names : LiveOutputs)
+        (events scripted : List EventKind) (w : SystemWorld X) (lines : List ℕ) (before : Shown)
+        → AreApart names → IsOutput file names.script (W.shown world.old)
+        → HasTold s names events scripted w lines script.old before (W.shown world.old)
+        → Keeps result s names events scripted w lines script.new before (W.shown world.new) }
+    ensures none { OnOk result (script.new.text ≡ []) }
+    ensures count { script.new.count ≡ script.old.count }
+    ensures size { script.new.size ≡ script.old.size }
+    ensures only_writes { OnlyWrites W.tells W.shown W.ledger W.healthy world.old world.new }
+    ensures cause { IsErrOf result OutputError.WriteFault
+        → WritingFailed W.ledger W.healthy world.old world.new }
+{
+    script.write(world, file)
+}
+
+/// Writes the gathered lines, those of the script first.
+pub(crate) fn flush<X, W: World>(
+    world: &mut W,
+    file: u32,
+    lines: &mut Bytes,
+    script: &mut Script,
+) -> Result<(), OutputError>
+    requires { IsTrue (is_writable (W.ledger world.old) file) }
+    ensures told { IsTrue W.tells → (s : Setting X) (names : LiveOutputs)
+        (events scripted : List EventKind) (w : SystemWorld X) (before : Shown)
+        → AreApart names → IsOutput file names.script (W.shown world.old)
+        → HasTold s names events scripted w lines.old script.old before (W.shown world.old)
+        → Keeps result s names events scripted w lines.new script.new before
+        (W.shown world.new) }
+    ensures no_lines { OnOk result (lines.new ≡ []) }
+    ensures no_text { OnOk result (script.new.text ≡ []) }
+    ensures count { script.new.count ≡ script.old.count }
+    ensures size { script.new.size ≡ script.old.size }
+    ensures only_writes { OnlyWrites W.tells W.shown W.ledger W.healthy world.old world.new }
+    ensures cause { IsErrOf result OutputError.WriteFault
+        → WritingFailed W.ledger W.healthy world.old world.new }
+{
+    write_script::<X, W>(world, file, script)?;
+    write_lines(world, lines)
+}
+
+/// Gathers the script's line of an event that was performed. Where the script would pass a limit with it, all that is
+/// gathered is written.
+pub(crate) fn add_line<X, W: World>(
+    world: &mut W,
+    file: u32,
+    lines: &mut Bytes,
+    script: &mut Script,
+    event: &Event,
+) -> Result<(), RunError>
+    requires writable { IsTrue (is_writable (W.ledger world.old) file) }
+    requires few { script.old.count ≤ most_events }
+    requires short { script.old.size ≤ most_bytes }
+    ensures told { IsTrue W.tells → (s : Setting X) (names : LiveOutputs) (events : List EventKind)
+        (w : SystemWorld X) (before : Shown)
+        → AreApart names → IsOutput file names.script (W.shown world.old)
+        → HasTold s names events events w lines.old script.old before (W.shown world.old)
+        → Adds result s names events event.now w lines.new script.new before
+        (W.shown world.new) }
+    ensures few { script.new.count ≤ most_events }
+    ensures short { script.new.size ≤ most_bytes }
+    ensures only_writes { OnlyWrites W.tells W.shown W.ledger W.healthy world.old world.new }
+    ensures cause { IsErrOf result RunError.WriteFault
+        → WritingFailed W.ledger W.healthy world.old world.new }
+{
+    match script.add(event) {
+        Err(RunError::Limit(limit)) => {
+            flush::<X, W>(world, file, lines, script)?;
+            Err(RunError::Limit(limit))
+        }
+        added => added,
+    }
+}
+
+/// Gathers the report's line of an event that released nothing, behind its line of the script. Where much is gathered it
+/// is written.
+pub(crate) fn gather<X, W: World>(
+    alloc: Global,
+    world: &mut W,
+    file: u32,
+    lines: &mut Bytes,
+    script: &mut Script,
+    event: &Event,
+    reply: &Reply,
+) -> Result<(), OutputError>
+    requires { IsTrue (is_writable (W.ledger world.old) file) }
+    ensures told { IsTrue W.tells → (s : Setting X) (names : LiveOutputs) (events : List EventKind)
+        (w next : SystemWorld X) (before : Shown)
+        → AreApart names → IsOutput file names.script (W.shown world.old)
+        → HasTold s names events (events ++ event.now ∷ []) w lines.old script.old before
+        (W.shown world.old) → IsQuiet s w event.now reply.now next
+        → Keeps result s names (events ++ event.now ∷ []) (events ++ event.now ∷ []) next
+        lines.new script.new before (W.shown world.new) }
+    ensures count { script.new.count ≡ script.old.count }
+    ensures size { script.new.size ≡ script.old.size }
+    ensures only_writes { OnlyWrites W.tells W.shown W.ledger W.healthy world.old world.new }
+    ensures cause { IsErrOf result OutputError.WriteFault
+        → WritingFailed W.ledger W.healthy world.old world.new }
+{
+    let line = put_line(alloc, event, reply)?;
+    lines.extend(line.as_str().as_bytes())?;
+    if lines.len() + script.gathered() > GATHERED {
+        return flush::<X, W>(world, file, lines, script);
+    }
+    Ok(())
+}

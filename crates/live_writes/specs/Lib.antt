@@ -1,0 +1,4 @@
+pub mod Outputs
+pub mod Script
+pub mod Told
+pub mod Whole
