@@ -150,7 +150,7 @@ pub fn run_plan<
 ) -> Result<(), RunError>
     requires inputs { CanLive run }
     requires room { (W.ledger world.old).given < 2 ^ 32 - 3 }
-    requires apart { AreApart (names_of files.now) }
+    requires apart { AreApart (names_of files) }
     ensures whole { IsTrue W.tells → OnOk result (LivesWhole (setting_of (P.meaning program) run)
         (C.may clock.now) run.plan (names_of files.entry)
         (W.shown world.old) (W.shown world.new)) }

@@ -13,16 +13,18 @@ use Rattle.live_writes.specs.Script.{Beside, SpareName}
 pub spared : (name : List ℕ) (writes : List Write) (had : Option (List ℕ)) → SpareName name writes
     → after_writes name writes had ≡ had
 spared name [] had spare = refl
-spared name (Creates other ∷ writes) had spare = go (compared other name)
+spared name (Creates other ∷ writes) had spare = go (spared name writes had spare.1) (compared other name)
   where
-    go : Compared other name → after_writes name (Creates other ∷ writes) had ≡ had
-    go (IsSame e same) = absurd (spare.0 same)
-    go (Differs e apart) = rw e (spared name writes had spare.1)
-spared name (Appends other bytes ∷ writes) had spare = go (compared other name)
+    go : after_writes name writes had ≡ had → Compared other name
+        → after_writes name (Creates other ∷ writes) had ≡ had
+    go rest (IsSame e same) = absurd (spare.0 same)
+    go rest (Differs e apart) = rw e rest
+spared name (Appends other bytes ∷ writes) had spare = go (spared name writes had spare.1) (compared other name)
   where
-    go : Compared other name → after_writes name (Appends other bytes ∷ writes) had ≡ had
-    go (IsSame e same) = absurd (spare.0 same)
-    go (Differs e apart) = rw e (spared name writes had spare.1)
+    go : after_writes name writes had ≡ had → Compared other name
+        → after_writes name (Appends other bytes ∷ writes) had ≡ had
+    go rest (IsSame e same) = absurd (spare.0 same)
+    go rest (Differs e apart) = rw e rest
 spared name (Reports bytes ∷ writes) had spare = spared name writes had spare
 
 pub spare_first : (name : List ℕ) (first more : List Write) → SpareName name (first ++ more) → SpareName name first

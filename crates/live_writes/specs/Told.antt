@@ -78,8 +78,8 @@ FailsLive (run.Limit limit) s names events old now = IsHalted s names events lim
 FailsLive run.WriteFault s names events old now = HasBegunLive s names events old now
 FailsLive run.NoMemory s names events old now = HasBegunLive s names events old now
 
--- the outputs are open under these numbers
-pub record AreOpen (names : LiveOutputs) (released schedule script : ℕ) (now : Shown) : Type 0 where
-  pub released : IsOutput released names.outputs.released now
-  pub schedule : IsOutput schedule names.outputs.schedule now
-  pub script : IsOutput script names.script now
+-- the outputs are open under these numbers: the released capture, the schedule and the script
+pub record AreOpen (names : LiveOutputs) (first second third : ℕ) (now : Shown) : Type 0 where
+  pub released : IsOutput first names.outputs.released now
+  pub schedule : IsOutput second names.outputs.schedule now
+  pub script : IsOutput third names.script now

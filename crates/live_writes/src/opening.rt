@@ -56,7 +56,7 @@ pub fn open_live<W: World>(
     unit: Unit,
 ) -> Result<LiveNumbers, OutputError>
     requires room { (W.ledger world.old).given < 2 ^ 32 - 3 }
-    requires apart { AreApart (names_of files.now) }
+    requires apart { AreApart (names_of files) }
     ensures told { IsTrue W.tells → Writes result (live_opening (names_of files.entry) unit)
         (W.shown world.old) (W.shown world.new) }
     ensures open { IsTrue W.tells → IfOk result (λ o. AreOpen (names_of files.entry)

@@ -5,11 +5,12 @@ ghost use Rattle.plain_text.specs.declared.limit.TheConstants.{MOST_FILE_BYTES a
 ghost use Rattle.world_io.specs.World.{is_writable, WritingFailed};
 ghost use Rattle.output_files.specs.Writes.{Appends, IsOutput};
 ghost use Rattle.output_files.specs.Written.{OnlyWrites, Writes};
+ghost use Rattle.std.specs.String.{string_bytes};
 ghost use Rattle.script_text.specs.Scripts.{FitsWords};
 ghost use Rattle.live_writes.specs.Script.{PassesScript, line_of, no_script, with_line};
 
 use output_files::{OutputError, append};
-use plain_text::{Bytes, Limit, MOST_EVENTS, MOST_FILE_BYTES};
+use plain_text::{Bytes, Limit, MOST_EVENTS, MOST_FILE_BYTES, NoMemory};
 use recovery_world::Event;
 use run_writes::RunError;
 use script_text::write_event;
@@ -34,6 +35,17 @@ impl Model for Script {
     ghost Value = { Scripted };
 
     ghost view = { λ s. record { text = s.text; count = s.count; size = s.size } };
+}
+
+/// The line of an event, in place of what stood there.
+fn write_line(line: &mut String, event: Event) -> Result<(), NoMemory>
+    ensures line { OnOk result (string_bytes line.new ≡ line_of event) }
+    ensures fits { FitsWords event }
+{
+    line.clear();
+    write_event(line, event)?;
+    line.push_str("\n")?;
+    Ok(())
 }
 
 impl Script {
@@ -62,7 +74,7 @@ impl Script {
         requires few { self.old.count ≤ most_events }
         requires short { self.old.size ≤ most_bytes }
         ensures added { OnOk result (self.new ≡ with_line event.now self.old) }
-        ensures fits { FitsWords event.now }
+        ensures fits { OnOk result (FitsWords event.now) }
         ensures few { self.new.count ≤ most_events }
         ensures short { self.new.size ≤ most_bytes }
         ensures limit { (limit : LimitKind) → result ≡ Err (RunError.Limit limit)
@@ -74,9 +86,7 @@ impl Script {
         if self.count >= u64::from(MOST_EVENTS) {
             return Err(RunError::Limit(Limit::Events));
         }
-        self.line.clear();
-        write_event(&mut self.line, *event)?;
-        self.line.push_str("\n")?;
+        write_line(&mut self.line, *event)?;
         let line = self.line.as_bytes();
         let size = self.size + line.len() as u64;
         if size > MOST_FILE_BYTES {

@@ -1,0 +1,9 @@
+use Rattle.std.proofs.Common.{ap, ◌∙◌}
+use Rattle.run_writes.proofs.OpeningSteps.{same_append}
+use Rattle.live_writes.specs.Script.{Scripted}
+use Rattle.live_writes.proofs.script.Script.write.Goals as goal
+
+pub returns-clause-told : goal.returns-clause-told
+returns-clause-told g c told name is =
+    same_append name _ _ _ _ (c.as_slice.ensures ∙ ap (λ (x : Scripted). x.text) c.self.view_is)
+    (c.in_ok-append.ensures.told told name is)
