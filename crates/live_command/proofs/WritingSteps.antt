@@ -19,7 +19,7 @@ use Rattle.event_replies.specs.declared.reply.Reply.{Reply as SystemReply}
 use Rattle.output_files.specs.declared.error.OutputError.{OutputError}
 use Rattle.output_files.specs.declared.error.OutputError.TheVariants as output
 use Rattle.output_files.specs.Writes.{report_file, Write, Appends, Reports, IsPrefix, HasBegun, HasGathered, HasWritten}
-use Rattle.output_files.specs.Writes.{AreOnlyReports, reported}
+use Rattle.output_files.specs.Writes.{AreOnlyReports, after_writes, reported}
 use Rattle.output_files.specs.Written.{Writes}
 use Rattle.output_files.proofs.Effects.{after_more, begun_all, gathered_begun, line_gathered, names_stay, none_gathered}
 use Rattle.output_files.proofs.Effects.{nothing_gathered, reported_more}
@@ -172,6 +172,12 @@ module _ {V : Type 0} (s : Setting V) (names : LiveOutputs) (apart : AreApart na
             (ahead_longer s names apart events h.written k.0 old now new h.ahead k.2));
       } in all
 
+  pub script_kept : (y : Scripted) (new : Shown) (r : Result ⊤ OutputError) → OnOk r (y.text ≡ [])
+      → y.count ≡ x.count → y.size ≡ x.size → Writes r (Appends names.script x.text ∷ []) now new
+      → Keeps r s names events scripted w lines y old new
+  script_kept y new (Ok done) none count size written = script_written y new written none count size
+  script_kept y new (Err error) none count size begun = script_begun new begun
+
   module _ (none : x.text ≡ []) where
     whole : script_text scripted ≡ h.written
     whole = h.script_is ∙ ap (λ (l : List ℕ). h.written ++ l) none ∙ append-nil h.written
@@ -228,3 +234,132 @@ module _ {V : Type 0} (s : Setting V) (names : LiveOutputs) (apart : AreApart na
     ahead = subst (λ (l : List Event). IsAhead s names l h.written old now) (sym h.behind.1)
         (ahead_more s names events h.behind.0 h.written old now h.ahead);
   }
+
+-- where no line is gathered, all was written
+pub gathered_none : (writes : List Write) (a b : Shown) → HasGathered writes [] a b → HasWritten writes a b
+gathered_none writes a b g = record {
+  names = λ name.
+      g.written.names name
+      ∙ sym (names_stay name g.late (after_writes name g.done (a.names name)) g.only)
+      ∙ sym (after_more name g.done g.late (a.names name))
+      ∙ ap (λ (ws : List Write). after_writes name ws (a.names name)) (sym g.writes_are);
+  report =
+      g.written.report
+      ∙ ap (λ (l : List ℕ). a.sent report_file ++ l)
+      (sym (append-nil (reported g.done))
+      ∙ ap (λ (l : List ℕ). reported g.done ++ l) g.lines_are
+      ∙ sym (reported_more g.done g.late)
+      ∙ ap reported (sym g.writes_are));
+}
+
+module _ {V : Type 0} (s : Setting V) (names : LiveOutputs) (events : List Event) (w : SystemWorld V) (lines : List ℕ)
+    (x : Scripted) (old now : Shown) where
+  -- the script's line of one more event is gathered
+  pub line_added : HasTold s names events events w lines x old now → (ev : Event) (y : Scripted) → FitsWords ev
+      → y ≡ with_line ev x → HasTold s names events (events ++ ev ∷ []) w lines y old now
+  line_added h ev y fits is = subst (λ (z : Scripted). HasTold s names events (events ++ ev ∷ []) w lines z old now)
+      (sym is) (record {
+        replies = h.replies;
+        answers = h.answers;
+        fit_records = h.fit_records;
+        behind = (ev ∷ [], refl);
+        fit_words = All-append FitsWords events (ev ∷ []) h.fit_words (fits, tt);
+        written = h.written;
+        script_is =
+            text_more events (ev ∷ [])
+            ∙ ap (λ (l : List ℕ). l ++ line_of ev) h.script_is
+            ∙ append_assoc h.written x.text (line_of ev);
+        counted = record {
+          count = ap (λ (n : ℕ). n + 1) h.counted.count ∙ sym (length-append events (ev ∷ []));
+          size =
+              ap (λ (n : ℕ). n + length (line_of ev)) h.counted.size
+              ∙ sym (length-append (script_text events) (line_of ev))
+              ∙ ap (λ (l : List ℕ). length l) (sym (text_more events (ev ∷ [])));
+        };
+        gathered = h.gathered;
+        ahead = h.ahead;
+      })
+
+  -- it would pass a limit, and all before it was written
+  pub paused : (h : HasTold s names events events w [] x old now) → x.text ≡ [] → (ev : Event) (limit : Limit)
+      → PassesScript limit x.count (x.size + length (line_of ev)) → FailsLive (run.Limit limit) s names (events ++ ev ∷ [])
+      old now
+  paused h none ev limit passes = inr (
+    events,
+    ev,
+    refl,
+    record {
+      replies = h.replies;
+      world = w;
+      answers = h.answers;
+      passes = subst (λ (n : ℕ). PassesScript limit n (length (script_text (events ++ ev ∷ [])))) h.counted.count
+          (subst (λ (n : ℕ). PassesScript limit x.count n)
+          (ap (λ (n : ℕ). n + length (line_of ev)) h.counted.size
+          ∙ sym (length-append (script_text events) (line_of ev))
+          ∙ ap (λ (l : List ℕ). length l) (sym (text_more events (ev ∷ [])))) passes);
+      written =
+          let same : h.written ≡ script_text events =
+          sym (append-nil h.written) ∙ ap (λ (l : List ℕ). h.written ++ l) (sym none) ∙ sym h.script_is in
+          subst (λ (l : List ℕ).
+          HasWritten (writes_of names.outputs s.fractions h.replies) (holding names.script l old) now) same
+          (gathered_none (writes_of names.outputs s.fractions h.replies) (holding names.script h.written old) now
+          h.gathered);
+    },
+  )
+
+with_reply : (names : OutputNames) (u : FractionUnit) (replies : List Reply) (r : Reply)
+    → writes_of names u (replies ++ r ∷ []) ≡ writes_of names u replies ++ reply_writes names.released r
+with_reply names u replies r =
+    ap (λ (l : List Write). opening_writes names u ++ l) (replies_more names.released replies r)
+    ∙ sym (append_assoc (opening_writes names u) (replies_writes names.released replies) (reply_writes names.released r))
+
+module _ {V : Type 0} (s : Setting V) (names : LiveOutputs) (events : List Event) (w : SystemWorld V) (lines : List ℕ)
+    (x : Scripted) (old now : Shown) (ev : Event)
+    (h : HasTold s names events (events ++ ev ∷ []) w lines x old now) where
+  told_reply : (next : SystemWorld V) (line : List ℕ) → Reply
+  told_reply next line = record { released = newly_released w next; line = line }
+
+  -- an event that released nothing was performed, and its line is gathered
+  pub quiet_told : (reply : SystemReply) (next : SystemWorld V) (q : IsQuiet s w ev reply next)
+      → HasTold s names (events ++ ev ∷ []) (events ++ ev ∷ []) next (lines ++ reply_line ev reply.outcome q.freed) x
+      old now
+  quiet_told reply next q =
+      let line : List ℕ = reply_line ev reply.outcome q.freed in
+      let r : Reply = told_reply next line in
+      let empty : r ≡ record { released = []; line = line } =
+      ap (λ (l : List Packet). record { released = l; line = line }) q.none in
+      record {
+        replies = h.replies ++ r ∷ [];
+        answers = Goes ev reply.outcome q.freed h.answers q.on;
+        fit_records = subst (All FitsRecord) (sym (released_more h.replies r)) (All-append FitsRecord
+            (released_in h.replies) r.released h.fit_records (subst (All FitsRecord) (sym q.none) (All-nil FitsRecord)));
+        behind = ([], sym (append-nil (events ++ ev ∷ [])));
+        fit_words = h.fit_words;
+        written = h.written;
+        script_is = h.script_is;
+        counted = h.counted;
+        gathered = subst (λ (ws : List Write).
+            Beside names.script h.written ws (lines ++ line) old now)
+            (append_assoc (writes_of names.outputs s.fractions h.replies) _ _
+            ∙ ap (λ (z : Reply). writes_of names.outputs s.fractions h.replies ++ reply_writes names.outputs.released z)
+            (sym empty)
+            ∙ sym (with_reply names.outputs s.fractions h.replies r))
+            (line_gathered _ lines line _ _
+            (nothing_gathered (writes_of names.outputs s.fractions h.replies) lines names.outputs.released [] _ _ refl
+            h.gathered));
+        ahead = ahead_more s names events (ev ∷ []) h.written old now h.ahead;
+      }
+
+-- An error of writing
+
+pub err_keeps : {A V : Type 0} (r : Result A OutputError) (e : OutputError) (s : Setting V) (names : LiveOutputs)
+    (events scripted : List Event) (w : SystemWorld V) (lines : List ℕ) (x : Scripted) (old now : Shown) → r ≡ Err e
+    → HasBegunLive s names scripted old now → Keeps r s names events scripted w lines x old now
+err_keeps {A} r e s names events scripted w lines x old now is h =
+    subst (λ (z : Result A OutputError). Keeps z s names events scripted w lines x old now) (sym is) h
+
+-- what came to no end is told as an error of the run
+pub fails_begun : {V : Type 0} (e : OutputError) (s : Setting V) (names : LiveOutputs) (events : List Event)
+    (old now : Shown) → HasBegunLive s names events old now → FailsLive (run_error_of e) s names events old now
+fails_begun output.WriteFault s names events old now h = h
+fails_begun output.NoMemory s names events old now h = h

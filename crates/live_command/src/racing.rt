@@ -68,7 +68,7 @@ fn tell_stop<X, W: World>(
 {
     tell_steps::<X, W>(alloc, world, file, lines, script, steps)?;
     let event = Event::Step {
-        thread: next.thread,
+        thread: u64::from(next.thread),
         answer: next.answer,
     };
     add_line::<X, W>(world, file, lines, script, &event)?;

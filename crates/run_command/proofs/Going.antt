@@ -44,7 +44,7 @@ fault_stopped (Ok done) limit h = absurd (cc)
 fault_stopped (Err output.WriteFault) limit h = refl
 fault_stopped (Err output.NoMemory) limit h = absurd (cc)
 
-replies_more : (name : List ℕ) (replies : List Reply) (r : Reply)
+pub replies_more : (name : List ℕ) (replies : List Reply) (r : Reply)
     → replies_writes name (replies ++ r ∷ []) ≡ replies_writes name replies ++ reply_writes name r
 replies_more name [] r = append-nil (reply_writes name r)
 replies_more name (x ∷ replies) r =

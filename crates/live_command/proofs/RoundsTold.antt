@@ -1,0 +1,1 @@
+-- Not written yet.
