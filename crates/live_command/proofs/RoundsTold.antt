@@ -1,1 +1,217 @@
--- Not written yet.
+-- A round is told.
+use Rattle.std.proofs.Common.{◌≡◌, ◌⊎◌, ℕ, ◌<◌, ◌≤◌, true, List, [], ◌∷◌, ◌++◌, length, take, refl, sym, ap, ◌∙◌, subst}
+use Rattle.std.proofs.Common.{inl, inr, append-nil, append_assoc, Result, Ok, Err, Option, Some, None, cond, nat_eq, arith}
+use Rattle.std.specs.Prelude.{⊤, All}
+use Rattle.std.proofs.lemmas.List.{take-nil}
+use Rattle.std.proofs.Common.{false}
+use Rattle.std.proofs.lemmas.Bool.Decides.{nat_tests}
+use Rattle.rand_pcg.specs.Lcg.{Lcg}
+use Rattle.plain_text.specs.Packets.{IsShort}
+use Rattle.plain_text.specs.declared.packet.Packet.{Packet}
+use Rattle.plain_text.specs.declared.limit.Limit.{Limit}
+use Rattle.plain_machine.specs.Program.{Meaning}
+use Rattle.plain_machine.specs.History.{IsHistory, Step, moves_of}
+use Rattle.plain_machine.specs.declared.plain_move.PlainMove.{PlainMove}
+use Rattle.world_io.specs.World.{Shown}
+use Rattle.recovery_world.specs.declared.event.Event.{Event}
+use Rattle.recovery_world.specs.declared.event.Event.TheVariants as event
+use Rattle.recovery_world.specs.Many.{Message}
+use Rattle.recovery_world.specs.World.{Setting, World as SystemWorld, inputs_fed}
+use Rattle.recovery_core.specs.Systems.{Systemed, SystemStands}
+use Rattle.run_writes.specs.declared.error.RunError.{RunError}
+use Rattle.run_writes.specs.declared.error.RunError.TheVariants as run
+use Rattle.run_command.specs.Running.{IsSomewhere, IsSystemAt}
+use Rattle.round_join.specs.declared.noting.Noted.{Noted}
+use Rattle.round_join.specs.Racing.{StoppedAt, events_noted, lines_noted}
+use Rattle.round_join.proofs.NotedEvents.{noted_perform}
+use Rattle.plan_script.specs.Orders.{AreLeft, Orders, first_ones}
+use Rattle.plan_script.specs.Rounds.{AreWoven, Does, HasStopped, IsRace, IsRound, arrival_events, frames_of, of_thread}
+use Rattle.plan_script.specs.Rounds.{step_events}
+use Rattle.plan_script.specs.Begun.{AreFirstOf, BeginsRound, IsCutRace}
+use Rattle.live_workers.specs.Rounds.{IsRoundTo, Rounds, StopsRound}
+use Rattle.live_workers.specs.declared.rounds.RoundStop.TheVariants as stop
+use Rattle.live_writes.specs.Outputs.{LiveOutputs}
+use Rattle.live_writes.specs.Script.{Scripted}
+use Rattle.live_writes.specs.Told.{FailsLive, HasTold, IsStopped}
+use Rattle.live_command.specs.declared.standing.Standing.{Standing}
+use Rattle.live_command.specs.Going.{GoesRace, GoesRound, HasLivedTo, SameOrders, StopsRace, standing_in}
+use Rattle.live_command.specs.Telling.{AreTold}
+
+-- The steps of a round are of threads that there are.
+
+below : {V : Type 0} (m : Meaning V) (inputs : ℕ → List Packet) (threads t : ℕ) (steps past : List (Step V))
+    → IsHistory m inputs threads (steps ++ past) → threads ≤ t → frames_of t steps ≡ []
+below m inputs threads t [] past h high = refl
+below m inputs threads t (x ∷ steps) past h high =
+    let low : x.thread < threads = h.0.0 in
+    let apart : nat_eq x.thread t ≡ false = grind (arith, nat_tests) in
+    rw apart (below m inputs threads t steps past h.1 high)
+
+first_none : {A : Type 0} (o : Option ℕ) → first_ones {A = A} o [] ≡ []
+first_none None = refl
+first_none (Some n) = take-nil n
+
+-- What arrives by the one orders does by the others, which are the same for the threads that there may be.
+same_arrived : {V : Type 0} (threads : ℕ) (steps : List (Step V)) (asked given : Orders) (arrivals : List Message)
+    → threads ≤ 16 → SameOrders asked given → ((t : ℕ) → threads ≤ t → frames_of t steps ≡ [])
+    → ((t : ℕ) → AreLeft given.lost (first_ones (given.frames t) (frames_of t steps)) (of_thread t arrivals))
+    → (t : ℕ) → AreLeft asked.lost (first_ones (asked.frames t) (frames_of t steps)) (of_thread t arrivals)
+same_arrived threads steps asked given arrivals few same none arrived t =
+    subst (λ (l : List Message).
+    AreLeft l (first_ones (asked.frames t) (frames_of t steps)) (of_thread t arrivals)) (sym same.lost)
+    (go (or_high t))
+  where
+    or_high : (t : ℕ) → (t < 16) ⊎ (threads ≤ t)
+    or_high t = grind (arith)
+
+    go : (t < 16) ⊎ (threads ≤ t)
+        → AreLeft given.lost (first_ones (asked.frames t) (frames_of t steps)) (of_thread t arrivals)
+    go (inl low) = subst (λ (o : Option ℕ).
+        AreLeft given.lost (first_ones o (frames_of t steps)) (of_thread t arrivals)) (sym (same.frames t low))
+        (arrived t)
+    go (inr high) =
+        let empty : first_ones (given.frames t) (frames_of t steps) ≡ first_ones (asked.frames t) (frames_of t steps) =
+        ap (λ (l : List Message). first_ones (given.frames t) l) (none t high)
+        ∙ first_none (given.frames t)
+        ∙ sym (first_none (asked.frames t))
+        ∙ ap (λ (l : List Message). first_ones (asked.frames t) l) (sym (none t high)) in
+        subst (λ (l : List Message). AreLeft given.lost l (of_thread t arrivals)) empty (arrived t)
+
+-- the generators are those after the round
+abbrev pub Drawn : {P V : Type 0} → Result (Standing P V) RunError → List Lcg → Type 0
+Drawn (Ok y) after = y.draws ≡ after
+Drawn (Err error) after = Unit {0}
+
+module _ {P V : Type 0} (m : Meaning V) (s : Setting V) (w : SystemWorld V) (may : ℕ → Type 0) (asked given : Orders)
+    (draws after : List Lcg) (noted : List Noted) (arriving : List Message) (y z : Systemed P V)
+    (stands : SystemStands m s w y) (few : s.threads ≤ 16) (same : SameOrders asked given)
+    (rounds : Rounds m s w given may y.parts.guide draws noted arriving after z) where
+  there : SystemWorld V
+  there = rounds.0
+
+  r : IsRoundTo s w given may y.parts.guide draws noted arriving after there
+  r = rounds.1
+
+  past_is : there.past ≡ r.steps ++ w.past
+  past_is = ap (λ (x : SystemWorld V). x.past) r.world.world
+
+  go : Does s w (step_events r.steps) there
+  go = subst (λ (l : List Event). Does s w l there) r.events_are (lines_noted noted, noted_perform s w noted there
+      r.performs)
+
+  -- the race of the round, by the orders that were asked
+  pub raced : IsRace s w asked r.steps there arriving
+  raced = record {
+    go = go;
+    past = past_is;
+    woven = r.woven;
+    stopped = λ t low. subst (λ (o : Option ℕ). HasStopped s there t o (moves_of t r.steps))
+        (sym (same.moves t (omega arith))) (r.stopped t low);
+    arrived = same_arrived s.threads r.steps asked given arriving few same
+        (λ t high. below s.meaning (inputs_fed s there.fed) s.threads t r.steps w.past
+        (subst (λ (l : List (Step V)). IsHistory s.meaning (inputs_fed s there.fed) s.threads l) past_is
+        rounds.2.parts.sound.firm.legal) high) r.arrive;
+  }
+
+  pub told : AreTold s may w r.steps draws after
+  told = record {
+    guide = y.parts.guide;
+    guides = stands.parts.guide.follows;
+    told = r.told;
+    count = r.count;
+  }
+
+  -- all that was released was handed over, and so it is still
+  pub at_end : IsSystemAt m s w y → z.handed ≡ y.handed → z.fresh ≡ y.fresh → IsSystemAt m s there z
+  at_end at handed fresh = record {
+    stands = rounds.2;
+    fresh = fresh ∙ at.fresh;
+    handed = handed ∙ at.handed ∙ ap (λ (x : SystemWorld V). length x.released) (sym r.world.world);
+  }
+
+  pub up_is : y.parts.up ≡ true → w.up ≡ true
+  up_is up = sym stands.parts.master.up ∙ up
+
+  pub draws_count : length after ≡ z.parts.inputs.threads
+  draws_count = r.count ∙ sym (ap (λ (x : _). x.threads) rounds.2.parts.inputs.inputs)
+
+  pub threads_same : z.parts.inputs.threads ≡ y.parts.inputs.threads
+  threads_same =
+      ap (λ (x : _). x.threads) rounds.2.parts.inputs.inputs
+      ∙ sym (ap (λ (x : _). x.threads) stands.parts.inputs.inputs)
+
+  -- what the round came to, where it was told
+  pub round_told : (names : LiveOutputs) (events : List Event) (up : y.parts.up ≡ true)
+      (result : Result (Standing P V) RunError) (lines : List ℕ) (x : Scripted) (old now : Shown)
+      → Drawn result after
+      → GoesRace result m s names there events (events_noted noted) arriving (standing_in result z) lines x old now
+      → GoesRound result m s names may w asked draws events lines x old now
+  round_told names events up (Ok standing) lines x old now given_on (next, does, lived) =
+      let part : List Event = step_events r.steps ++ arrival_events arriving in
+      let round : IsRound s w asked part next = record {
+        steps = r.steps;
+        there = there;
+        arrivals = arriving;
+        race = raced;
+        arrive = does;
+        events_are = refl;
+      } in (
+        part,
+        next,
+        round,
+        subst (λ (l : List Lcg). AreTold s may w r.steps draws l) (sym given_on) told,
+        subst (λ (l : List Event).
+            HasLivedTo m s names (events ++ (l ++ arrival_events arriving)) next standing.system lines x old now)
+            r.events_are lived,
+      )
+  round_told names events up (Err error) lines x old now given_on (first, firsts, fails) = (
+    first,
+    (
+      up_is up,
+      inr (record {
+        steps = r.steps;
+        there = there;
+        arrivals = arriving;
+        race = raced;
+        first = subst (λ (l : List Event). AreFirstOf (l ++ arrival_events arriving) first) r.events_are firsts;
+      }),
+    ),
+    fails,
+  )
+
+-- A round that stopped at a limit
+
+-- no event was told
+none_raced : {V : Type 0} (s : Setting V) (w : SystemWorld V) → IsCutRace s w []
+none_raced s w = record {
+  steps = [];
+  woven = record { left = []; led = []; parts = refl; more = []; in_order = tt; led_on = refl; rest = tt };
+  first = ([], refl);
+}
+
+module _ {V : Type 0} (s : Setting V) (names : LiveOutputs) (w : SystemWorld V) (limit : Limit) (events : List Event)
+    (noted : List Noted) (next : PlainMove) (steps : List (Step V)) (woven : AreWoven w.past steps)
+    (stopped : StoppedAt s w (step_events steps) noted limit next) where
+  last : Event
+  last = event.Step next.thread next.answer
+
+  -- the first of the noted events are the first of the race
+  firsts : (first : List Event) → AreFirstOf (events_noted noted) first → IsCutRace s w first
+  firsts first (rest, is) = record {
+    steps = steps;
+    woven = woven;
+    first = (
+      rest ++ last ∷ stopped.left,
+      sym stopped.all_are
+          ∙ ap (λ (l : List Event). l ++ last ∷ stopped.left) is
+          ∙ append_assoc first rest (last ∷ stopped.left),
+    );
+  }
+
+  -- and so is the one that would pass the limit behind them
+  all : IsCutRace s w (events_noted noted ++ last ∷ [])
+  all = record {
+    steps = steps;
+    woven = woven;
+    first = (stopped.left, sym stopped.all_are ∙ sym (append_assoc (events_noted noted) (last ∷ []) stopped.left));
+  }

@@ -1,5 +1,5 @@
 -- An event was performed, and what it left was written.
-use Rattle.std.proofs.Common.{◌≡◌, ℕ, List, [], ◌∷◌, ◌++◌, refl, sym, ap, ◌∙◌, subst, inl, inr, append-nil, Result, Ok}
+use Rattle.std.proofs.Common.{◌≡◌, ℕ, ◌≤◌, List, [], ◌∷◌, ◌++◌, refl, sym, ap, ◌∙◌, subst, inl, inr, append-nil, Result, Ok}
 use Rattle.std.proofs.Common.{Err}
 use Rattle.std.specs.Prelude.{⊤, All, OnOk}
 use Rattle.std.proofs.lemmas.List.Elements.{All-append}
@@ -42,17 +42,20 @@ pub does_one : {V : Type 0} (s : Setting V) (w next : SystemWorld V) (ev : Event
     → OnAny s w ev to freed next → Does s w (ev ∷ []) next
 does_one s w next ev to freed on = (reply_line ev to freed ++ [], Performed ev to freed on (Rests next))
 
--- what an event came to that released nothing
+-- what an event came to that released nothing, and whose line this is
 pub is_quiet : {P V : Type 0} (m : Meaning V) (s : Setting V) (w : SystemWorld V) (ev : Event) (reply : SystemReply)
-    (outputs : List Output) (y new : Systemed P V) → ComesTo m ev (Ok reply) outputs y new → IsSystemAt m s w y
-    → outputs ≡ [] → (next : SystemWorld V) × IsQuiet s w ev reply next × IsSystemAt m s next new
-is_quiet m s w ev reply outputs y new comes at none =
+    (outputs : List Output) (y new : Systemed P V) (line : List ℕ) → ComesTo m ev (Ok reply) outputs y new
+    → IsSystemAt m s w y → outputs ≡ []
+    → ((freed : List Sent) → reply.released ≡ sent_names freed → line ≡ reply_line ev reply.outcome freed)
+    → (next : SystemWorld V) × IsQuiet s w ev line next × IsSystemAt m s next new
+is_quiet m s w ev reply outputs y new line comes at none said =
     let came = comes s w at in (
       came.0,
       record {
+        to = reply.outcome;
         freed = came.1;
         on = came.2;
-        names = came.3;
+        line_is = said came.1 came.3;
         none = sym came.4 ∙ ap packets_in none;
       },
       came.5,
@@ -60,7 +63,7 @@ is_quiet m s w ev reply outputs y new comes at none =
 
 module _ {P V : Type 0} (m : Meaning V) (s : Setting V) (names : LiveOutputs) (events : List Event)
     (w : SystemWorld V) (lines : List ℕ) (x : Scripted) (old now : Shown) (ev : Event)
-    (h : HasTold s names events (events ++ ev ∷ []) w lines x old now) (none : x.text ≡ []) where
+    (h : HasTold s names events (events ++ ev ∷ []) w lines x old now) (none : x.text ≡ []) (few : s.threads ≤ 16) where
   whole : script_text (events ++ ev ∷ []) ≡ h.written
   whole = h.script_is ∙ ap (λ (l : List ℕ). h.written ++ l) none ∙ append-nil h.written
 
@@ -142,6 +145,7 @@ module _ {P V : Type 0} (m : Meaning V) (s : Setting V) (names : LiveOutputs) (e
             );
           };
           at = came.5;
+          few = few;
         },
       )
       ended (Err output.WriteFault) each begun = (ev ∷ [], ([], refl), begun_with c (writes, some, begun))

@@ -15,7 +15,6 @@ use Rattle.world_io.specs.World.{Shown}
 use Rattle.recovery_world.specs.declared.event.Event.{Event}
 use Rattle.recovery_world.specs.World.{Setting, Sent, World as SystemWorld}
 use Rattle.recovery_world.specs.Files.{event_words, reply_line}
-use Rattle.event_replies.specs.declared.reply.Reply.{Reply as SystemReply}
 use Rattle.output_files.specs.declared.error.OutputError.{OutputError}
 use Rattle.output_files.specs.declared.error.OutputError.TheVariants as output
 use Rattle.output_files.specs.Writes.{report_file, Write, Appends, Reports, IsPrefix, HasBegun, HasGathered, HasWritten}
@@ -320,17 +319,16 @@ module _ {V : Type 0} (s : Setting V) (names : LiveOutputs) (events : List Event
   told_reply next line = record { released = newly_released w next; line = line }
 
   -- an event that released nothing was performed, and its line is gathered
-  pub quiet_told : (reply : SystemReply) (next : SystemWorld V) (q : IsQuiet s w ev reply next)
-      → HasTold s names (events ++ ev ∷ []) (events ++ ev ∷ []) next (lines ++ reply_line ev reply.outcome q.freed) x
-      old now
-  quiet_told reply next q =
-      let line : List ℕ = reply_line ev reply.outcome q.freed in
-      let r : Reply = told_reply next line in
+  pub quiet_told : (line : List ℕ) (next : SystemWorld V) → IsQuiet s w ev line next
+      → HasTold s names (events ++ ev ∷ []) (events ++ ev ∷ []) next (lines ++ line) x old now
+  quiet_told line next q =
+      let r : Reply = told_reply next (reply_line ev q.to q.freed) in
       let empty : r ≡ record { released = []; line = line } =
-      ap (λ (l : List Packet). record { released = l; line = line }) q.none in
+      ap (λ (l : List Packet). record { released = l; line = reply_line ev q.to q.freed }) q.none
+      ∙ ap (λ (l : List ℕ). record { released = []; line = l }) (sym q.line_is) in
       record {
         replies = h.replies ++ r ∷ [];
-        answers = Goes ev reply.outcome q.freed h.answers q.on;
+        answers = Goes ev q.to q.freed h.answers q.on;
         fit_records = subst (All FitsRecord) (sym (released_more h.replies r)) (All-append FitsRecord
             (released_in h.replies) r.released h.fit_records (subst (All FitsRecord) (sym q.none) (All-nil FitsRecord)));
         behind = ([], sym (append-nil (events ++ ev ∷ [])));

@@ -1,5 +1,5 @@
 -- A run by a plan goes on: what performing its events, its rounds and its lines came to.
-use Rattle.std.specs.Prelude.{◌≡◌, ℕ, ◌<◌, true, List, [], ◌∷◌, ◌++◌, Result, Ok, Err}
+use Rattle.std.specs.Prelude.{◌≡◌, ℕ, ◌<◌, ◌≤◌, true, List, [], ◌∷◌, ◌++◌, Result, Ok, Err}
 use Rattle.plain_text.specs.declared.limit.Limit.{Limit}
 use Rattle.rand_pcg.specs.Lcg.{Lcg}
 use Rattle.plain_machine.specs.Program.{Meaning}
@@ -12,7 +12,11 @@ use Rattle.run_writes.specs.declared.error.RunError.{RunError}
 use Rattle.run_command.specs.Running.{IsSystemAt}
 use Rattle.plan_script.specs.declared.plan.PlanLine.{PlanLine}
 use Rattle.plan_script.specs.Orders.{Orders, orders_after}
-use Rattle.plan_script.specs.Rounds.{Does, IsRound, arrival_events}
+use Rattle.plain_machine.specs.declared.plain_move.PlainMove.{PlainMove}
+use Rattle.plain_machine.specs.History.{Step}
+use Rattle.round_join.specs.declared.noting.Noted.{Noted}
+use Rattle.round_join.specs.Racing.{StoppedAt}
+use Rattle.plan_script.specs.Rounds.{AreWoven, Does, IsRound, arrival_events, step_events}
 use Rattle.plan_script.specs.Scripts.{OnSettle, Wakes, feeding}
 use Rattle.plan_script.specs.Begun.{AreFirstOf, BeginsPart, BeginsRound, BeginsSettle, IsCutRace}
 use Rattle.live_writes.specs.Outputs.{LiveOutputs}
@@ -28,11 +32,12 @@ pub record SameOrders (a b : Orders) : Type 0 where
   pub lost : a.lost ≡ b.lost
 
 -- The events were performed and lead to this world, what they leave was written but for what is gathered, and the
--- system is at the world.
+-- system, of at most 16 threads, is at the world.
 pub record HasLivedTo {P V : Type 0} (m : Meaning V) (s : Setting V) (names : LiveOutputs) (events : List Event)
     (w : SystemWorld V) (y : Systemed P V) (lines : List ℕ) (x : Scripted) (old now : Shown) : Type 0 where
   pub told : HasTold s names events events w lines x old now
   pub at : IsSystemAt m s w y
+  pub few : s.threads ≤ 16
 
 -- These events came behind those before them, or after an error the first of them.
 abbrev pub GoesOver : {A P V : Type 0} → Result A RunError → Meaning V → Setting V → LiveOutputs → SystemWorld V
@@ -90,6 +95,11 @@ GoesRace {A} {P} {V} (Ok done) m s names there events part arriving y lines x ol
 GoesRace (Err error) m s names there events part arriving y lines x old now =
     (first : List Event) × AreFirstOf (part ++ arrival_events arriving) first
     × FailsLive error s names (events ++ first) old now
+
+-- A race stopped at this limit: its steps stand as they weave, the first of them are noted, and this is the next one.
+abbrev pub StopsAtStep : {V : Type 0} → Setting V → SystemWorld V → Limit → List Noted → PlainMove → Type 0
+StopsAtStep {V} s w limit noted next =
+    (steps : List (Step V)) × AreWoven w.past steps × StoppedAt s w (step_events steps) noted limit next
 
 -- The first steps of a race that stopped at this limit, and the one at which it stopped, are told and written.
 abbrev pub StopsRace : {A V : Type 0} → Result A RunError → Setting V → LiveOutputs → SystemWorld V → Limit

@@ -3,9 +3,9 @@ use Rattle.std.specs.Prelude.{◌≡◌, ℕ, List, [], ◌∷◌, ◌++◌, Res
 use Rattle.world_io.specs.World.{Shown}
 use Rattle.recovery_world.specs.declared.event.Event.{Event}
 use Rattle.recovery_world.specs.World.{Setting, Sent, World as SystemWorld}
-use Rattle.recovery_world.specs.Files.{sent_names}
+use Rattle.recovery_world.specs.declared.event.Outcome.{Outcome}
+use Rattle.recovery_world.specs.Files.{reply_line}
 use Rattle.recovery_world.specs.Many.{OnAny}
-use Rattle.event_replies.specs.declared.reply.Reply.{Reply as SystemReply}
 use Rattle.run_writes.specs.declared.error.RunError.{RunError}
 use Rattle.run_writes.specs.Replies.{newly_released}
 use Rattle.live_writes.specs.Outputs.{LiveOutputs}
@@ -26,10 +26,11 @@ Adds (Ok done) s names events ev w lines x old now =
     HasTold s names events (events ++ ev ∷ []) w lines x old now
 Adds (Err error) s names events ev w lines x old now = FailsLive error s names (events ++ ev ∷ []) old now
 
--- The event was performed, with this reply, and released nothing.
-pub record IsQuiet {V : Type 0} (s : Setting V) (w : SystemWorld V) (ev : Event) (reply : SystemReply)
+-- The event was performed and released nothing, and this is its line of the report.
+pub record IsQuiet {V : Type 0} (s : Setting V) (w : SystemWorld V) (ev : Event) (line : List ℕ)
     (next : SystemWorld V) : Type 0 where
+  pub to : Outcome
   pub freed : List Sent
-  pub on : OnAny s w ev reply.outcome freed next
-  pub names : reply.released ≡ sent_names freed
+  pub on : OnAny s w ev to freed next
+  pub line_is : line ≡ reply_line ev to freed
   pub none : newly_released w next ≡ []

@@ -16,6 +16,7 @@ ghost use Rattle.live_command.specs.Going.{GoesOver, HasLivedTo};
 
 use crate::writing::{add_line, gather, write_script};
 use box_program::Program;
+use event_replies::put_line;
 use live_writes::{LiveNumbers, Script};
 use plain_text::Bytes;
 use recovery_core::System;
@@ -46,7 +47,7 @@ fn leave<P: Program, W: World>(
         → HasTold s names events (events ++ event.now ∷ []) w lines.old script.old before
         (W.shown world.old)
         → ComesTo s.meaning event.now performed.now.reply performed.now.outputs old new
-        → IsSystemAt s.meaning s w old
+        → IsSystemAt s.meaning s w old → s.threads ≤ 16
         → GoesOver result s.meaning s names w events (event.now ∷ []) new lines.new script.new
         before (W.shown world.new) }
     ensures count { script.new.count ≡ script.old.count }
@@ -57,9 +58,9 @@ fn leave<P: Program, W: World>(
 {
     match &performed.reply {
         Ok(reply) if performed.outputs.is_empty() => {
-            let gathered =
-                gather::<P::Value, W>(alloc, world, files.script, lines, script, event, reply);
-            written(gathered)
+            let line = put_line(alloc, event, reply)?;
+            let line = line.as_str().as_bytes();
+            written(gather::<P::Value, W>(world, files.script, lines, script, line))
         }
         _ => {
             write_script::<P::Value, W>(world, files.script, script)?;

@@ -9,8 +9,6 @@ ghost use Rattle.recovery_world.specs.World.{Setting, World as SystemWorld};
 ghost use Rattle.output_files.specs.Written.{OnlyWrites};
 ghost use Rattle.output_files.specs.Writes.{IsOutput};
 ghost use Rattle.frame_intake.specs.Orders.{orders_of};
-ghost use Rattle.live_workers.specs.Rounds.{StopsRound};
-ghost use Rattle.live_workers.specs.declared.rounds.RoundStop.TheVariants as stop;
 ghost use Rattle.plan_script.specs.Orders.{Orders};
 ghost use Rattle.run_command.specs.Running.{IsSomewhere, IsSystemAt};
 ghost use Rattle.live_writes.specs.Outputs.{AreApart, LiveOutputs};
@@ -18,7 +16,7 @@ ghost use Rattle.live_writes.specs.Told.{AreOpen, HasTold};
 ghost use Rattle.plain_text.specs.declared.limit.Limit.{Limit as LimitKind};
 ghost use Rattle.round_join.specs.Racing.{PerformsNoted, events_noted};
 ghost use Rattle.live_command.specs.Going.{GoesRace, GoesRound, HasLivedTo, SameOrders};
-ghost use Rattle.live_command.specs.Going.{StopsRace, standing_in};
+ghost use Rattle.live_command.specs.Going.{StopsAtStep, StopsRace, standing_in};
 
 use crate::arriving::arrive;
 use crate::standing::Standing;
@@ -48,7 +46,7 @@ fn tell_stop<X, W: World>(
     file: u32,
     lines: &mut Bytes,
     script: &mut Script,
-    steps: Vec<Noted>,
+    steps: &[Noted],
     next: PlainMove,
 ) -> Result<(), RunError>
     requires writable { IsTrue (is_writable (W.ledger world.old) file) }
@@ -58,7 +56,7 @@ fn tell_stop<X, W: World>(
         (w : SystemWorld X) (limit : LimitKind) (before : Shown) → AreApart names
         → IsOutput file names.script (W.shown world.old)
         → HasTold s names events events w lines.old script.old before (W.shown world.old)
-        → StopsRound s w (stop.Limit limit steps next)
+        → StopsAtStep s w limit steps.now next
         → StopsRace result s names w limit events before (W.shown world.new) }
     ensures few { script.new.count ≤ most_events }
     ensures short { script.new.size ≤ most_bytes }
@@ -84,7 +82,7 @@ fn tell_race<P: Program, W: World>(
     lines: &mut Bytes,
     script: &mut Script,
     system: &mut System<P>,
-    steps: Vec<Noted>,
+    steps: &[Noted],
     arriving: &[FrameName],
 ) -> Result<(), RunError>
     requires runs { system.old.stopped ≡ false }
@@ -98,10 +96,10 @@ fn tell_race<P: Program, W: World>(
         → AreApart names
         → AreOpen names files.released files.schedule files.script (W.shown world.old)
         → HasTold s names events events w lines.old script.old before (W.shown world.old)
-        → PerformsNoted s w steps.items there
+        → PerformsNoted s w steps.now there
         → IsSystemAt (P.meaning system.old.parts.program) s there system.old
         → GoesRace result (P.meaning system.old.parts.program) s names there events
-        (events_noted steps.items) arriving.now system.new lines.new script.new before
+        (events_noted steps.now) arriving.now system.new lines.new script.new before
         (W.shown world.new) }
     ensures few { script.new.count ≤ most_events }
     ensures short { script.new.size ≤ most_bytes }
@@ -173,7 +171,7 @@ fn tell_round<P: Program, W: World>(
         lines,
         script,
         &mut system,
-        steps,
+        steps.as_slice(),
         arriving.as_slice(),
     ) {
         Ok(()) => Ok(Standing { system, draws }),
@@ -238,6 +236,7 @@ pub(crate) fn race<
     match round(rt, system, clock, gate, orders, draws) {
         Ok(done) => tell_round(alloc, world, files, lines, script, done),
         Err(RoundStop::Limit { limit, steps, next }) => {
+            let steps = steps.as_slice();
             tell_stop::<P::Value, W>(alloc, world, files.script, lines, script, steps, next)?;
             Err(RunError::Limit(limit))
         }

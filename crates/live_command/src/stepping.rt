@@ -1,5 +1,7 @@
 //! The steps of a round are told.
-ghost use Rattle.std.specs.Prelude.{◌≡◌, ◌∷◌, ◌++◌, ◌≤◌, [], List, ℕ, OnOk, IsTrue, IsErrOf};
+ghost use Rattle.std.specs.Prelude.{◌≡◌, ◌∷◌, ◌++◌, ◌≤◌, [], List, ℕ, IfOk, IsTrue, IsErrOf};
+ghost use Rattle.std.specs.String.{string_bytes};
+ghost use Rattle.recovery_world.specs.Files.{reply_line};
 ghost use Rattle.plain_text.specs.declared.limit.TheConstants.{MOST_EVENTS as most_events};
 ghost use Rattle.plain_text.specs.declared.limit.TheConstants.{MOST_FILE_BYTES as most_bytes};
 ghost use Rattle.world_io.specs.World.{Shown, is_writable, WritingFailed};
@@ -14,14 +16,26 @@ ghost use Rattle.live_writes.specs.Told.{HasTold};
 ghost use Rattle.live_command.specs.Going.{NotesOver};
 
 use crate::writing::{add_line, gather};
-use event_replies::only;
 use live_writes::Script;
-use plain_text::Bytes;
-use recovery_world::Event;
+use plain_text::{Bytes, NoMemory};
+use recovery_world::{Event, Outcome};
 use round_join::Noted;
 use run_writes::{RunError, written};
+use script_text::{write_event, write_outcome};
 use std::alloc::Global;
 use world_io::World;
+
+/// The line of the report for an event that released nothing.
+fn quiet_line(alloc: Global, event: Event, outcome: &Outcome) -> Result<String, NoMemory>
+    ensures { IfOk result (λ line. string_bytes line ≡ reply_line event outcome.now []) }
+{
+    let mut line = String::new(alloc);
+    write_event(&mut line, event)?;
+    line.push(' ')?;
+    write_outcome(&mut line, outcome)?;
+    line.push('\n')?;
+    Ok(line)
+}
 
 /// Tells one step.
 fn tell_step<X, W: World>(
@@ -30,7 +44,7 @@ fn tell_step<X, W: World>(
     file: u32,
     lines: &mut Bytes,
     script: &mut Script,
-    step: Noted,
+    step: &Noted,
 ) -> Result<(), RunError>
     requires writable { IsTrue (is_writable (W.ledger world.old) file) }
     requires few { script.old.count ≤ most_events }
@@ -39,9 +53,9 @@ fn tell_step<X, W: World>(
         (w next : SystemWorld X) (before : Shown) → AreApart names
         → IsOutput file names.script (W.shown world.old)
         → HasTold s names events events w lines.old script.old before (W.shown world.old)
-        → OnWithin s w (event_noted step) step.outcome [] next
-        → NotesOver result s names events (event_noted step ∷ []) next lines.new script.new before
-        (W.shown world.new) }
+        → OnWithin s w (event_noted step.now) step.now.outcome [] next
+        → NotesOver result s names events (event_noted step.now ∷ []) next lines.new script.new
+        before (W.shown world.new) }
     ensures few { script.new.count ≤ most_events }
     ensures short { script.new.size ≤ most_bytes }
     ensures only_writes { OnlyWrites W.tells W.shown W.ledger W.healthy world.old world.new }
@@ -53,9 +67,9 @@ fn tell_step<X, W: World>(
         answer: step.answer,
     };
     add_line::<X, W>(world, file, lines, script, &event)?;
-    let reply = only(alloc, step.outcome);
-    let gathered = gather::<X, W>(alloc, world, file, lines, script, &event, &reply);
-    written(gathered)
+    let line = quiet_line(alloc, event, &step.outcome)?;
+    let line = line.as_bytes();
+    written(gather::<X, W>(world, file, lines, script, line))
 }
 
 /// Tells the steps of a round, in their order.
@@ -65,7 +79,7 @@ pub(crate) fn tell_steps<X, W: World>(
     file: u32,
     lines: &mut Bytes,
     script: &mut Script,
-    steps: Vec<Noted>,
+    steps: &[Noted],
 ) -> Result<(), RunError>
     requires writable { IsTrue (is_writable (W.ledger world.old) file) }
     requires few { script.old.count ≤ most_events }
@@ -74,8 +88,8 @@ pub(crate) fn tell_steps<X, W: World>(
         (w there : SystemWorld X) (before : Shown) → AreApart names
         → IsOutput file names.script (W.shown world.old)
         → HasTold s names events events w lines.old script.old before (W.shown world.old)
-        → PerformsNoted s w steps.items there
-        → NotesOver result s names events (events_noted steps.items) there lines.new script.new
+        → PerformsNoted s w steps.now there
+        → NotesOver result s names events (events_noted steps.now) there lines.new script.new
         before (W.shown world.new) }
     ensures few { script.new.count ≤ most_events }
     ensures short { script.new.size ≤ most_bytes }

@@ -12,13 +12,11 @@ ghost use Rattle.live_writes.specs.Outputs.{AreApart, LiveOutputs};
 ghost use Rattle.live_writes.specs.Told.{FailsLive, HasTold};
 ghost use Rattle.live_command.specs.Writing.{Adds, IsQuiet, Keeps};
 
-use event_replies::{Reply, put_line};
 use live_writes::Script;
 use output_files::{OutputError, write_lines};
 use plain_text::Bytes;
 use recovery_world::Event;
-use run_writes::{RunError, written};
-use std::alloc::Global;
+use run_writes::RunError;
 use world_io::World;
 
 /// The bytes of lines that are gathered before they are written, at most, but for the last lines.
@@ -108,30 +106,27 @@ pub(crate) fn add_line<X, W: World>(
 /// Gathers the report's line of an event that released nothing, behind its line of the script. Where much is gathered it
 /// is written.
 pub(crate) fn gather<X, W: World>(
-    alloc: Global,
     world: &mut W,
     file: u32,
     lines: &mut Bytes,
     script: &mut Script,
-    event: &Event,
-    reply: &Reply,
+    line: &[u8],
 ) -> Result<(), OutputError>
     requires { IsTrue (is_writable (W.ledger world.old) file) }
     ensures told { IsTrue W.tells → (s : Setting X) (names : LiveOutputs) (events : List EventKind)
-        (w next : SystemWorld X) (before : Shown)
+        (ev : EventKind) (w next : SystemWorld X) (before : Shown)
         → AreApart names → IsOutput file names.script (W.shown world.old)
-        → HasTold s names events (events ++ event.now ∷ []) w lines.old script.old before
-        (W.shown world.old) → IsQuiet s w event.now reply.now next
-        → Keeps result s names (events ++ event.now ∷ []) (events ++ event.now ∷ []) next
-        lines.new script.new before (W.shown world.new) }
+        → HasTold s names events (events ++ ev ∷ []) w lines.old script.old before
+        (W.shown world.old) → IsQuiet s w ev line.now next
+        → Keeps result s names (events ++ ev ∷ []) (events ++ ev ∷ []) next lines.new
+        script.new before (W.shown world.new) }
     ensures count { script.new.count ≡ script.old.count }
     ensures size { script.new.size ≡ script.old.size }
     ensures only_writes { OnlyWrites W.tells W.shown W.ledger W.healthy world.old world.new }
     ensures cause { IsErrOf result OutputError.WriteFault
         → WritingFailed W.ledger W.healthy world.old world.new }
 {
-    let line = put_line(alloc, event, reply)?;
-    lines.extend(line.as_str().as_bytes())?;
+    lines.extend(line)?;
     if lines.len() + script.gathered() > GATHERED {
         return flush::<X, W>(world, file, lines, script);
     }
