@@ -92,6 +92,7 @@ module _ (healthy : Type 0) (names : RunNames) (shown : Shown) where
       OfCapture conf box (error.Fault (any.Ng fault)) tt h refl
   verdict (status.BadInput (input.Script fault)) decided (conf, box, (capture, accepted, h)) =
       OfScript conf box capture accepted (error.Fault fault) tt h refl
+  verdict (status.BadInput (input.Plan fault)) decided h = absurd h
   verdict (status.BadInput (input.Schedule fault)) decided h = absurd h
   verdict (status.BadInput (input.Moves fault)) decided h = absurd h
   verdict (status.BadInput (input.Released fault)) decided h = absurd h

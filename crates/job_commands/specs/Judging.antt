@@ -54,6 +54,7 @@ Judges healthy names (status.BadInput (input.NgCapture fault)) shown =
     BehindBox names shown (FaultsCapture names.capture (any.Ng fault) shown)
 Judges healthy names (status.BadInput (input.Script fault)) shown =
     BehindCapture names shown (FaultsScript names.script fault shown)
+Judges healthy names (status.BadInput (input.Plan fault)) shown = ⊥
 Judges healthy names (status.BadInput (input.Schedule fault)) shown = ⊥
 Judges healthy names (status.BadInput (input.Moves fault)) shown = ⊥
 Judges healthy names (status.BadInput (input.Released fault)) shown = ⊥
