@@ -1,5 +1,6 @@
-//! Tests of scripts and plans: what is read of them, and what the recovering system does by scripts of a box that reads,
-//! which no box file names, so that no stored session can have them. They stand apart, so that the system is proved once.
+//! Tests of scripts and plans: what is read of them, and what the recovering system does by scripts of a box that
+//! reads, which no box file names, so that no stored session can have them. They stand apart, so that the system is
+//! proved once.
 #![tactic(auto)]
 
 #[cfg(test)]
