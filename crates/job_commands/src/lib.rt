@@ -21,7 +21,8 @@ pub use checking::check_released;
 pub use command::{Command, read_command};
 pub use inputs::{Inputs, read_inputs};
 pub use laws::{
-    inputs_are_of_bytes, one_verdict, pcapng_captures_are_savefiles, what_run_leaves_is_accepted,
+    inputs_are_of_bytes, one_verdict, pcapng_captures_are_savefiles, what_refused_inputs_say,
+    what_run_leaves_is_accepted,
 };
 pub use live_inputs::{LiveInputs, read_live_inputs};
 pub use live_words::{LiveWords, read_live_words};
