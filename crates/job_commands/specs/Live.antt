@@ -39,8 +39,8 @@ abbrev pub JudgesLiveInputs : Type 0 → LiveNames → Result LiveInputs Status 
 JudgesLiveInputs healthy names (Ok inputs) shown = AcceptsLiveInputs names inputs shown
 JudgesLiveInputs healthy names (Err status) shown = JudgesLiveFiles healthy names (λ inputs other. ⊥) status shown
 
--- What a status of reading them says. Running out of memory says nothing, nor does a fault of reading in a world that is
--- not healthy.
+-- What a status of reading them says. Running out of memory says nothing, nor does a fault of reading in a world that
+-- is not healthy.
 abbrev pub SaysOfFiles : Type 0 → LiveNames → Status → Shown → Type 0
 SaysOfFiles healthy names status.Done shown = ⊥
 SaysOfFiles healthy names (status.Refuted refutation) shown = ⊥

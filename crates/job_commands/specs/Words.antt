@@ -1,5 +1,6 @@
 -- The words of the commands.
-use Rattle.std.specs.Prelude.{ℕ, Bool, ◌&&◌, not, nat_le, List, [], ◌∷◌, codes, if◌then◌else◌, Option, Some, None, IfSome}
+use Rattle.std.specs.Prelude.{ℕ, Bool, ◌&&◌, not, nat_le, List, [], ◌∷◌, codes, if◌then◌else◌, Option, Some, None}
+use Rattle.std.specs.Prelude.{IfSome}
 use Rattle.std.specs.Str.{bytes_eq}
 use Rattle.plain_text.specs.Lines.{number_of}
 use Rattle.plain_text.specs.declared.limit.TheConstants.{MOST_PACKETS}

@@ -123,4 +123,5 @@ are_values [] [] (n ∷ values) s = absurd s
 are_values [] (word ∷ words) values s = absurd s
 are_values (part ∷ parts) [] values s = absurd s
 are_values (part ∷ parts) (word ∷ words) [] s = absurd s
-are_values (part ∷ parts) (word ∷ words) (n ∷ values) s = (part_value part word n s.0, are_values parts words values s.2)
+are_values (part ∷ parts) (word ∷ words) (n ∷ values) s =
+    (part_value part word n s.0, are_values parts words values s.2)

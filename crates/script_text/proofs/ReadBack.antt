@@ -60,7 +60,8 @@ form_word Settle = (refl, above_test 32 (codes "settle") refl)
 form_word Flow = (refl, above_test 32 (codes "flow") refl)
 form_word Auto = (refl, above_test 32 (codes "auto") refl)
 
-form_named_back : (form : Form) → form_named script_table (nat_lt 2 (suc (length (parts_of form)))) (word_of form) ≡ Some form
+form_named_back : (form : Form)
+    → form_named script_table (nat_lt 2 (suc (length (parts_of form)))) (word_of form) ≡ Some form
 form_named_back Feed = refl
 form_named_back Time = refl
 form_named_back Step = refl
