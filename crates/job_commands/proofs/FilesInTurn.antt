@@ -30,20 +30,20 @@ module _ (healthy : Type 0) (names : ScheduleNames) (shown : Shown) (behind : Sc
   pub three_accepted : (inputs : ScheduleInputs) (s : Status) → AcceptsScheduleInputs names inputs shown
       → behind inputs s → JudgesThree healthy names behind s shown
   three_accepted inputs s a h =
-      accepted healthy names.box_file names.capture (schedule_third healthy names shown) shown Behind inputs.conf
+      accepted healthy names.box_file names.capture shown (schedule_third healthy names shown) Behind inputs.conf
       inputs.capture inputs.schedule s a.box_accepted a.capture_accepted a.schedule_accepted h
 
   pub three_refused : (s : Status) → JudgesThree healthy names (λ inputs other. ⊥) s shown
       → JudgesThree healthy names behind s shown
   three_refused s h =
-      refused healthy names.box_file names.capture (schedule_third healthy names shown) shown Behind s h
+      refused healthy names.box_file names.capture shown (schedule_third healthy names shown) Behind s h
 
   -- they decide one status
   pub three_one : ((inputs : ScheduleInputs) (s r : Status) → IsDecided healthy s → IsDecided healthy r
       → behind inputs s → behind inputs r → s ≡ r) → (s r : Status) → IsDecided healthy s → IsDecided healthy r
       → JudgesThree healthy names behind s shown → JudgesThree healthy names behind r shown → s ≡ r
   three_one next =
-      one_status healthy names.box_file names.capture (schedule_third healthy names shown) shown Behind
+      one_status healthy names.box_file names.capture shown (schedule_third healthy names shown) Behind
       (one_answer SaysSchedule one_schedule healthy names.schedule shown) (schedule_decides healthy)
       (λ conf capture schedule. next (record { conf = conf; capture = capture; schedule = schedule }))
 
@@ -51,7 +51,7 @@ module _ (healthy : Type 0) (names : ScheduleNames) (shown : Shown) (behind : Sc
   pub three_pass : healthy → (inputs : ScheduleInputs) → AcceptsScheduleInputs names inputs shown → (s : Status)
       → JudgesThree healthy names behind s shown → (s ≡ status.NoMemory) ⊎ behind inputs s
   three_pass ok inputs a s h =
-      all_pass healthy names.box_file names.capture (schedule_third healthy names shown) shown Behind
+      all_pass healthy names.box_file names.capture shown (schedule_third healthy names shown) Behind
       (one_answer SaysSchedule one_schedule healthy names.schedule shown) ok refl inputs.conf inputs.capture
       inputs.schedule a.box_accepted a.capture_accepted a.schedule_accepted s h
 

@@ -30,19 +30,19 @@ module _ (healthy : Type 0) (names : LiveNames) (shown : Shown) (behind : LiveIn
   pub live_accepted : (inputs : LiveInputs) (s : Status) → AcceptsLiveInputs names inputs shown → behind inputs s
       → JudgesLiveFiles healthy names behind s shown
   live_accepted inputs s a h =
-      accepted healthy names.box_file names.capture (plan_third healthy names shown) shown Behind inputs.conf
+      accepted healthy names.box_file names.capture shown (plan_third healthy names shown) Behind inputs.conf
       inputs.capture inputs.plan s a.box_accepted a.capture_accepted a.plan_accepted h
 
   pub live_refused : (s : Status) → JudgesLiveFiles healthy names (λ inputs other. ⊥) s shown
       → JudgesLiveFiles healthy names behind s shown
-  live_refused s h = refused healthy names.box_file names.capture (plan_third healthy names shown) shown Behind s h
+  live_refused s h = refused healthy names.box_file names.capture shown (plan_third healthy names shown) Behind s h
 
   -- they decide one status
   pub live_one : ((inputs : LiveInputs) (s r : Status) → IsDecided healthy s → IsDecided healthy r → behind inputs s
       → behind inputs r → s ≡ r) → (s r : Status) → IsDecided healthy s → IsDecided healthy r
       → JudgesLiveFiles healthy names behind s shown → JudgesLiveFiles healthy names behind r shown → s ≡ r
   live_one next =
-      one_status healthy names.box_file names.capture (plan_third healthy names shown) shown Behind
+      one_status healthy names.box_file names.capture shown (plan_third healthy names shown) Behind
       (one_answer SaysPlan one_plan healthy names.plan shown) (plan_decides healthy)
       (λ conf capture plan. next (record { conf = conf; capture = capture; plan = plan }))
 
@@ -50,7 +50,7 @@ module _ (healthy : Type 0) (names : LiveNames) (shown : Shown) (behind : LiveIn
   pub live_pass : healthy → (inputs : LiveInputs) → AcceptsLiveInputs names inputs shown → (s : Status)
       → JudgesLiveFiles healthy names behind s shown → (s ≡ status.NoMemory) ⊎ behind inputs s
   live_pass ok inputs a s h =
-      all_pass healthy names.box_file names.capture (plan_third healthy names shown) shown Behind
+      all_pass healthy names.box_file names.capture shown (plan_third healthy names shown) Behind
       (one_answer SaysPlan one_plan healthy names.plan shown) ok refl inputs.conf inputs.capture inputs.plan
       a.box_accepted a.capture_accepted a.plan_accepted s h
 

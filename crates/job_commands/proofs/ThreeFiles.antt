@@ -14,25 +14,47 @@ use Rattle.job_commands.specs.declared.status.Status.{Status}
 use Rattle.job_commands.specs.declared.status.Status.TheVariants as status
 use Rattle.job_commands.specs.Judging.{IsDecided}
 use Rattle.job_commands.specs.Status.{of_box_error, of_capture_error}
-use Rattle.job_commands.specs.Turns.{InTurn, JudgesFiles, Third}
+use Rattle.job_commands.specs.Turns.{InTurn, JudgesTwo, JudgesFiles, Third}
 use Rattle.job_commands.proofs.Turns.{OneAnswer, Decides, one_in_turn, passes, box_decides, capture_decides}
 
-module _ {A F : Type 0} (healthy : Type 0) (box_file capture_file : List ℕ) (third : Third A F) (shown : Shown)
+module _ (healthy : Type 0) (box_file capture_file : List ℕ) (shown : Shown) where
+  -- the first file that is not accepted decides
+  module _ (behind : BoxConf → Capture → Status → Type 0) where
+    pub box_refused : (e : InputError LineFault) → JudgesBox healthy box_file (Err e) shown
+        → JudgesTwo healthy box_file capture_file behind (of_box_error e) shown
+    box_refused e h = inl (e, h, refl)
+
+    pub capture_refused : (conf : BoxConf) (e : InputError AnyFault) → AcceptsBox box_file conf shown
+        → JudgesCapture healthy capture_file (Err e) shown
+        → JudgesTwo healthy box_file capture_file behind (of_capture_error e) shown
+    capture_refused conf e box h = inr (conf, box, inl (e, h, refl))
+
+    -- one of the two is not
+    pub two_refused : (s : Status) → JudgesTwo healthy box_file capture_file (λ conf capture other. ⊥) s shown
+        → JudgesTwo healthy box_file capture_file behind s shown
+    two_refused s (inl h) = inl h
+    two_refused s (inr (conf, box, inl h)) = inr (conf, box, inl h)
+    two_refused s (inr (conf, box, inr (capture, captured, h))) = absurd h
+
+module _ {A F : Type 0} (healthy : Type 0) (box_file capture_file : List ℕ) (shown : Shown) (third : Third A F)
     (behind : BoxConf → Capture → A → Status → Type 0) where
   abbrev Judged : Status → Type 0
   Judged s = JudgesFiles healthy box_file capture_file third behind s shown
 
-  -- the first file that is not accepted decides
-  pub box_refused : (e : InputError LineFault) → JudgesBox healthy box_file (Err e) shown → Judged (of_box_error e)
-  box_refused e h = inl (e, h, refl)
+  -- what is judged behind the box file, and behind the capture
+  abbrev BehindCapture : BoxConf → Capture → Status → Type 0
+  BehindCapture conf capture = InTurn third.judged third.status_of (behind conf capture)
 
-  pub capture_refused : (conf : BoxConf) (e : InputError AnyFault) → AcceptsBox box_file conf shown
-      → JudgesCapture healthy capture_file (Err e) shown → Judged (of_capture_error e)
-  capture_refused conf e box h = inr (conf, box, inl (e, h, refl))
+  abbrev BehindBox : BoxConf → Status → Type 0
+  BehindBox conf = InTurn (λ r. JudgesCapture healthy capture_file r shown) of_capture_error (BehindCapture conf)
+
+  pub first_refused : (s : Status)
+      → JudgesTwo healthy box_file capture_file (λ conf capture other. ⊥) s shown → Judged s
+  first_refused s h = two_refused healthy box_file capture_file shown BehindCapture s h
 
   pub third_refused : (conf : BoxConf) (capture : Capture) (e : InputError F) → AcceptsBox box_file conf shown
       → AcceptsCapture capture_file capture shown → third.judged (Err e) → Judged (third.status_of e)
-  third_refused conf capture e box accepted h = inr (conf, box, inr (capture, accepted, inl (e, h, refl)))
+  third_refused conf capture e box captured h = inr (conf, box, inr (capture, captured, inl (e, h, refl)))
 
   -- all are accepted, and what stands behind decides
   pub accepted : (conf : BoxConf) (capture : Capture) (value : A) (s : Status) → AcceptsBox box_file conf shown
@@ -45,13 +67,6 @@ module _ {A F : Type 0} (healthy : Type 0) (box_file capture_file : List ℕ) (t
   refused s (inr (conf, box, inl h)) = inr (conf, box, inl h)
   refused s (inr (conf, box, inr (capture, captured, inl h))) = inr (conf, box, inr (capture, captured, inl h))
   refused s (inr (conf, box, inr (capture, captured, inr (value, there, h)))) = absurd h
-
-  -- what is judged behind the box file, and behind the capture
-  abbrev BehindCapture : BoxConf → Capture → Status → Type 0
-  BehindCapture conf capture = InTurn third.judged third.status_of (behind conf capture)
-
-  abbrev BehindBox : BoxConf → Status → Type 0
-  BehindBox conf = InTurn (λ r. JudgesCapture healthy capture_file r shown) of_capture_error (BehindCapture conf)
 
   module _ (one : OneAnswer healthy third.judged) where
     -- they decide one status

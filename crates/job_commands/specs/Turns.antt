@@ -8,6 +8,7 @@ use Rattle.input_files.specs.declared.errors.InputError.{InputError}
 use Rattle.input_files.specs.Files.{IsMissing}
 use Rattle.input_files.specs.Judging.{JudgesBox, JudgesCapture, AcceptsBox, AcceptsCapture, BoxTooLarge}
 use Rattle.input_files.specs.Judging.{CaptureTooLarge}
+use Rattle.job_commands.specs.declared.first_inputs.FirstInputs.{FirstInputs}
 use Rattle.job_commands.specs.declared.status.Status.{Status}
 use Rattle.job_commands.specs.Status.{of_box_error, of_capture_error}
 
@@ -23,13 +24,25 @@ pub record Third (A F : Type 0) : Type 1 where
   pub judged : Result A (InputError F) → Type 0
   pub status_of : InputError F → Status
 
--- box, capture and a third file, in their turn, and this behind them
+-- box and capture, in their turn, and this behind them
+abbrev pub JudgesTwo : Type 0 → List ℕ → List ℕ → (BoxConf → Capture → Status → Type 0) → Status → Shown → Type 0
+JudgesTwo healthy box_file capture_file behind status shown =
+    InTurn (λ r. JudgesBox healthy box_file r shown) of_box_error (λ conf.
+    InTurn (λ r. JudgesCapture healthy capture_file r shown) of_capture_error (behind conf)) status
+
+-- and a third file in its turn
 abbrev pub JudgesFiles : {A F : Type 0} → Type 0 → List ℕ → List ℕ → Third A F
     → (BoxConf → Capture → A → Status → Type 0) → Status → Shown → Type 0
 JudgesFiles healthy box_file capture_file third behind status shown =
-    InTurn (λ r. JudgesBox healthy box_file r shown) of_box_error (λ conf.
-    InTurn (λ r. JudgesCapture healthy capture_file r shown) of_capture_error (λ capture.
-    InTurn third.judged third.status_of (behind conf capture))) status
+    JudgesTwo healthy box_file capture_file
+    (λ conf capture. InTurn third.judged third.status_of (behind conf capture)) status shown
+
+-- what reading box and capture answers: they are accepted, or the status that ends the command
+abbrev pub JudgesFirst : Type 0 → List ℕ → List ℕ → Result FirstInputs Status → Shown → Type 0
+JudgesFirst healthy box_file capture_file (Ok first) shown =
+    AcceptsBox box_file first.conf shown × AcceptsCapture capture_file first.capture shown
+JudgesFirst healthy box_file capture_file (Err status) shown =
+    JudgesTwo healthy box_file capture_file (λ conf capture other. ⊥) status shown
 
 -- The first file that is not accepted, of a box file, a capture and a third one
 

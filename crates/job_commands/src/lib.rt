@@ -4,6 +4,7 @@
 
 mod checking;
 mod command;
+mod first_inputs;
 mod inputs;
 mod laws;
 mod live_inputs;

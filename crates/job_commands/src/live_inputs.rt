@@ -6,10 +6,11 @@ ghost use Rattle.job_commands.specs.Live.{JudgesLiveInputs};
 ghost use Rattle.job_commands.specs.Status.{AtInputs, ComesAt, EndsReading};
 ghost use Rattle.job_commands.specs.Words.{live_names_of};
 
-use crate::status::{box_status, capture_status, plan_status};
+use crate::first_inputs::read_first_inputs;
+use crate::status::plan_status;
 use crate::{LiveWords, Status};
 use box_conf::BoxConf;
-use input_files::{Capture, read_box_file, read_capture_file, read_plan_file};
+use input_files::{Capture, read_plan_file};
 use plan_text::Plan;
 use std::alloc::Global;
 use world_io::World;
@@ -41,18 +42,14 @@ pub fn read_live_inputs<W: World>(
     ensures cause { IsErrOf result Status.ReadFault
         → Rose (W.ledger world.old).read_faults (W.ledger world.new).read_faults }
 {
-    let conf = match read_box_file(alloc, world, names.box_file) {
-        Ok(conf) => conf,
-        Err(error) => return Err(box_status(error)),
-    };
-    let capture = match read_capture_file(alloc, world, names.capture) {
-        Ok(capture) => capture,
-        Err(error) => return Err(capture_status(error)),
+    let first = match read_first_inputs(alloc, world, names.box_file, names.capture) {
+        Ok(first) => first,
+        Err(status) => return Err(status),
     };
     match read_plan_file(alloc, world, names.plan) {
         Ok(plan) => Ok(LiveInputs {
-            conf,
-            capture,
+            conf: first.conf,
+            capture: first.capture,
             plan,
         }),
         Err(error) => Err(plan_status(error)),
