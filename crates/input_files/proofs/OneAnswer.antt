@@ -20,6 +20,9 @@ use Rattle.box_conf.proofs.OneFile as box_file
 use Rattle.recovery_world.specs.declared.event.Event.{Event}
 use Rattle.script_text.specs.Scripts.{script_form}
 use Rattle.script_text.proofs.OneLine.{events_are_decisive}
+use Rattle.plan_script.specs.declared.plan.PlanLine.{PlanLine}
+use Rattle.plan_text.specs.Plans.{plan_form}
+use Rattle.plan_text.proofs.OneLine.{lines_are_decisive}
 use Rattle.plain_machine.specs.declared.plain_move.PlainMove.{PlainMove}
 use Rattle.plain_player.specs.Schedules.{schedule_form}
 use Rattle.plain_player.proofs.OneMove.{moves_are_decisive}
@@ -27,7 +30,8 @@ use Rattle.world_io.specs.World.{Shown}
 use Rattle.input_files.specs.declared.capture_file.Capture.{Capture}
 use Rattle.input_files.specs.declared.errors.InputError.{InputError}
 use Rattle.input_files.specs.declared.errors.InputError.TheVariants as error
-use Rattle.input_files.specs.Answers.{SaysBox, SaysFile, SaysScript, SaysSchedule, SaysCapture, BoxPasses, LinesPass}
+use Rattle.input_files.specs.Answers.{SaysBox, SaysFile, SaysScript, SaysSchedule, SaysPlan, SaysCapture, BoxPasses}
+use Rattle.input_files.specs.Answers.{LinesPass}
 use Rattle.input_files.specs.Answers.{MayGoOn, SaysNoFault}
 use Rattle.input_files.specs.Files.{IsMissing}
 use Rattle.input_files.specs.Judging.{Judges, IsDecided}
@@ -216,6 +220,10 @@ one_script = one_file script_form events_are_decisive
 pub one_schedule : (bytes : List ℕ) (a b : Result (List PlainMove) (InputError LineFault)) → OfBytes a → OfBytes b
     → SaysSchedule bytes a → SaysSchedule bytes b → a ≡ b
 one_schedule = one_file schedule_form moves_are_decisive
+
+pub one_plan : (bytes : List ℕ) (a b : Result (List PlanLine) (InputError LineFault)) → OfBytes a → OfBytes b
+    → SaysPlan bytes a → SaysPlan bytes b → a ≡ b
+one_plan = one_file plan_form lines_are_decisive
 
 -- Captures
 

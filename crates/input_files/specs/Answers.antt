@@ -21,6 +21,8 @@ use Rattle.recovery_world.specs.declared.event.Event.{Event}
 use Rattle.script_text.specs.Scripts.{script_form}
 use Rattle.plain_machine.specs.declared.plain_move.PlainMove.{PlainMove}
 use Rattle.plain_player.specs.Schedules.{schedule_form}
+use Rattle.plan_script.specs.declared.plan.PlanLine.{PlanLine}
+use Rattle.plan_text.specs.Plans.{plan_form}
 use Rattle.input_files.specs.declared.capture_file.Capture.{Capture}
 use Rattle.input_files.specs.declared.errors.InputError.{InputError}
 use Rattle.input_files.specs.declared.errors.InputError.TheVariants as error
@@ -83,6 +85,9 @@ SaysScript bytes answer = SaysFile script_form bytes answer
 
 abbrev pub SaysSchedule : List ℕ → Result (List PlainMove) (InputError LineFault) → Type 0
 SaysSchedule bytes answer = SaysFile schedule_form bytes answer
+
+abbrev pub SaysPlan : List ℕ → Result (List PlanLine) (InputError LineFault) → Type 0
+SaysPlan bytes answer = SaysFile plan_form bytes answer
 
 -- no limit of the whole file goes before: the records or blocks are judged one by one
 abbrev pub SaysCapture : List ℕ → Result Capture (InputError AnyFault) → Type 0

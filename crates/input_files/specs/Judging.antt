@@ -6,11 +6,12 @@ use Rattle.pcapng_io.specs.declared.fault.AnyFault.{AnyFault}
 use Rattle.box_conf.specs.declared.kind.BoxConf.{BoxConf}
 use Rattle.recovery_world.specs.declared.event.Event.{Event}
 use Rattle.plain_machine.specs.declared.plain_move.PlainMove.{PlainMove}
+use Rattle.plan_script.specs.declared.plan.PlanLine.{PlanLine}
 use Rattle.world_io.specs.World.{Shown}
 use Rattle.input_files.specs.declared.capture_file.Capture.{Capture}
 use Rattle.input_files.specs.declared.errors.InputError.{InputError}
 use Rattle.input_files.specs.declared.errors.InputError.TheVariants as error
-use Rattle.input_files.specs.Answers.{SaysBox, SaysScript, SaysSchedule, SaysCapture}
+use Rattle.input_files.specs.Answers.{SaysBox, SaysScript, SaysSchedule, SaysPlan, SaysCapture}
 use Rattle.input_files.specs.Files.{IsMissing}
 
 -- the name is there, and this is said of its bytes
@@ -34,6 +35,15 @@ FaultsScript name fault shown = IsToldOf name (λ bytes. SaysScript bytes (Err (
 
 abbrev pub ScriptTooLarge : List ℕ → Limit → Shown → Type 0
 ScriptTooLarge name limit shown = IsToldOf name (λ bytes. SaysScript bytes (Err (error.TooLarge limit))) shown
+
+abbrev pub AcceptsPlan : List ℕ → List PlanLine → Shown → Type 0
+AcceptsPlan name lines shown = IsToldOf name (λ bytes. SaysPlan bytes (Ok lines)) shown
+
+abbrev pub FaultsPlan : List ℕ → LineFault → Shown → Type 0
+FaultsPlan name fault shown = IsToldOf name (λ bytes. SaysPlan bytes (Err (error.Fault fault))) shown
+
+abbrev pub PlanTooLarge : List ℕ → Limit → Shown → Type 0
+PlanTooLarge name limit shown = IsToldOf name (λ bytes. SaysPlan bytes (Err (error.TooLarge limit))) shown
 
 abbrev pub AcceptsSchedule : List ℕ → List PlainMove → Shown → Type 0
 AcceptsSchedule name moves shown = IsToldOf name (λ bytes. SaysSchedule bytes (Ok moves)) shown
@@ -66,6 +76,9 @@ JudgesScript healthy name answer shown = Judges SaysScript healthy name answer s
 
 abbrev pub JudgesSchedule : Type 0 → List ℕ → Result (List PlainMove) (InputError LineFault) → Shown → Type 0
 JudgesSchedule healthy name answer shown = Judges SaysSchedule healthy name answer shown
+
+abbrev pub JudgesPlan : Type 0 → List ℕ → Result (List PlanLine) (InputError LineFault) → Shown → Type 0
+JudgesPlan healthy name answer shown = Judges SaysPlan healthy name answer shown
 
 abbrev pub JudgesCapture : Type 0 → List ℕ → Result Capture (InputError AnyFault) → Shown → Type 0
 JudgesCapture healthy name answer shown = Judges SaysCapture healthy name answer shown

@@ -5,11 +5,12 @@ ghost use Rattle.pcapng_io.specs.declared.fault.AnyFault.{AnyFault};
 ghost use Rattle.box_conf.specs.declared.kind.BoxConf.{BoxConf};
 ghost use Rattle.recovery_world.specs.declared.event.Event.{Event};
 ghost use Rattle.plain_machine.specs.declared.plain_move.PlainMove.{PlainMove};
+ghost use Rattle.plan_script.specs.declared.plan.PlanLine.{PlanLine};
 ghost use Rattle.world_io.specs.World.{Shown};
 ghost use Rattle.input_files.specs.declared.capture_file.Capture.{Capture};
 ghost use Rattle.input_files.specs.declared.errors.InputError.{InputError};
 ghost use Rattle.input_files.specs.Judging.{JudgesBox, JudgesCapture, JudgesSchedule, JudgesScript};
-ghost use Rattle.input_files.specs.Judging.{IsDecided};
+ghost use Rattle.input_files.specs.Judging.{JudgesPlan, IsDecided};
 
 /// A file decides the answer to it: the answers exclude each other, so each comes exactly where what it says is true,
 /// unless memory runs out or, in a world that is not healthy, reading fails.
@@ -34,4 +35,9 @@ pub fn each_file_has_one_answer()
         → IsDecided (IsTrue healthy) a → IsDecided (IsTrue healthy) b
         → JudgesSchedule (IsTrue healthy) name a shown
         → JudgesSchedule (IsTrue healthy) name b shown → a ≡ b }
+    ensures plan { (healthy : Bool) (name : List ℕ) (shown : Shown)
+        (a b : Result (List PlanLine) (InputError LineFault)) → IsDecided (IsTrue healthy) a
+        → IsDecided (IsTrue healthy) b
+        → JudgesPlan (IsTrue healthy) name a shown → JudgesPlan (IsTrue healthy) name b shown
+        → a ≡ b }
 {}

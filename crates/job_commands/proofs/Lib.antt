@@ -12,3 +12,5 @@ pub mod Plays
 pub mod Finds
 pub mod RunChecked
 pub mod Failing
+pub mod ThreeFiles
+pub mod LiveFiles

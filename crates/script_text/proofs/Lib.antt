@@ -1,4 +1,3 @@
 pub mod OneLine
 pub mod ReadBack
-pub mod Values
 pub mod ReleasedWords

@@ -1,19 +1,19 @@
 -- Scripts. Each line that counts says one event, in order; where a line says none, the first such line is the fault.
-use Rattle.std.specs.Prelude.{ℕ, ◌<◌, ◌^◌, All, List, [], ◌∷◌, Option, Some, None}
+use Rattle.std.specs.Prelude.{ℕ, All, List, [], ◌∷◌, Some, None}
 use Rattle.plain_text.specs.declared.fault.LineCause.{LineCause}
 use Rattle.plain_text.specs.declared.fault.ReadError.{ReadError}
 use Rattle.plain_text.specs.declared.limit.TheConstants.{MOST_EVENTS}
-use Rattle.plain_text.specs.Grammar.{LineSays, line_fault}
 use Rattle.plain_text.specs.LineFiles.{LineForm, IsFile, text_of}
 use Rattle.plain_text.specs.LineFiles as files
 use Rattle.recovery_world.specs.declared.event.Event.{Event}
 use Rattle.recovery_world.specs.declared.event.Event.TheVariants as event
-use Rattle.plain_text.specs.declared.kind.Kind.{Kind}
-use Rattle.plain_text.specs.declared.kind.Kind.TheVariants as kind
 use Rattle.recovery_world.specs.Files.{event_words}
+use Rattle.line_tables.specs.Parts.{kind_value, AreNumbers}
+use Rattle.line_tables.specs.Tables.{Table, line_form}
 use Rattle.script_text.specs.declared.form.Form.{Form}
 use Rattle.script_text.specs.declared.form.Form.TheVariants as form
-use Rattle.script_text.specs.Table.{row_of, rows_for}
+use Rattle.script_text.specs.Table.{word_of, parts_of, forms}
+use Rattle.script_text.specs.Values.{event_from}
 
 -- Of one line
 
@@ -36,11 +36,6 @@ form_of event.Settle = form.Settle
 form_of (event.Flow n) = form.Flow
 form_of (event.Auto seed n) = form.Auto
 
--- the place of a kind's word among the words of the kinds
-abbrev pub kind_value : Kind → ℕ
-kind_value kind.Log = 0
-kind_value kind.Out = 1
-
 -- the values at the places of its line; the sign `=` has the value 0
 abbrev pub values_of : Event → List ℕ
 values_of (event.Feed n) = n ∷ []
@@ -60,13 +55,16 @@ values_of event.Settle = []
 values_of (event.Flow n) = n ∷ []
 values_of (event.Auto seed n) = seed ∷ n ∷ []
 
--- a line with these words says this event
-abbrev pub SaysEvent : List (List ℕ) → Event → Type 0
-SaysEvent words ev = LineSays (rows_for words) words (row_of (form_of ev)) (values_of ev)
-
--- the first fault of a line with these words
-abbrev pub event_fault : List (List ℕ) → Option LineCause
-event_fault words = line_fault (rows_for words) words
+-- the lines that events have
+abbrev pub script_table : Table Form Event
+script_table = record {
+  word_of = word_of;
+  parts_of = parts_of;
+  forms = forms;
+  thing_from = event_from;
+  form_of = form_of;
+  values_of = values_of;
+}
 
 -- `auto S N` counts as N events, and any other as one
 abbrev pub weight : Event → ℕ
@@ -89,7 +87,7 @@ weight (event.Auto seed n) = n
 -- Of a text
 
 abbrev pub script_form : LineForm Event
-script_form = record { says = SaysEvent; fault = event_fault; weight = weight }
+script_form = line_form script_table weight
 
 -- a text is the script of these events
 abbrev pub IsScript : List ℕ → List Event → Type 0
@@ -112,12 +110,7 @@ IsRefused text error = files.IsRefused script_form MOST_EVENTS text error
 
 -- Written scripts
 
--- each is below 2^64, and so may stand in a text
-abbrev pub AreNumbers : List ℕ → Type 0
-AreNumbers [] = Unit {0}
-AreNumbers (n ∷ values) = (n < 2 ^ 64) × AreNumbers values
-
--- all numbers of this event may
+-- all numbers of this event may stand in a text
 abbrev pub FitsWords : Event → Type 0
 FitsWords ev = AreNumbers (values_of ev)
 

@@ -1,23 +1,10 @@
 -- The lines of scripts, as a table: the first word of each form of line, and what stands at the places after it.
-use Rattle.std.specs.Prelude.{ℕ, ◌-◌, ◌^◌, Bool, true, false, List, [], ◌∷◌, length, map, codes, nat_lt, find, Option}
-use Rattle.std.specs.Str.{bytes_eq}
-use Rattle.plain_text.specs.Grammar.{Place, Row, OneOf, free_row}
-use Rattle.plain_text.specs.Grammar as place
+use Rattle.std.specs.Prelude.{ℕ, Bool, true, false, List, [], ◌∷◌, codes}
+use Rattle.line_tables.specs.declared.part.Part.{Part}
+use Rattle.line_tables.specs.declared.part.Part.TheVariants.{Number, Equals, Kind}
 use Rattle.script_text.specs.declared.form.Form.{Form}
 use Rattle.script_text.specs.declared.form.Form.TheVariants.{Feed, Time, Step, Answered, Log, Out, Late, Cut, Snap}
 use Rattle.script_text.specs.declared.form.Form.TheVariants.{Store, Crash, Recover, Show, Settle, Flow, Auto}
-use Rattle.script_text.specs.declared.part.Part.{Part}
-use Rattle.script_text.specs.declared.part.Part.TheVariants.{Number, Equals, Kind}
-
--- the words of the kinds, in the order of their values
-abbrev pub kind_words : List (List ℕ)
-kind_words = codes "log" ∷ codes "out" ∷ []
-
--- what may stand at a place: any number below 2^64, the sign `=`, or the word of a kind
-abbrev pub grammar_place : Part → Place
-grammar_place Number = place.Number 0 (2 ^ 64 - 1)
-grammar_place Equals = OneOf (codes "=" ∷ [])
-grammar_place Kind = OneOf kind_words
 
 abbrev pub word_of : Form → List ℕ
 word_of Feed = codes "feed"
@@ -55,10 +42,6 @@ parts_of Settle = []
 parts_of Flow = Number ∷ []
 parts_of Auto = Number ∷ Number ∷ []
 
--- each may stand again
-abbrev pub row_of : Form → Row
-row_of form = free_row (word_of form) (map grammar_place (parts_of form))
-
 -- The forms that a line may have. A line `step` with a third word gives an answer, and one without does not; so the
 -- forms are those of lines with a third word, or of lines without.
 
@@ -69,13 +52,3 @@ short_forms =
 abbrev pub forms : Bool → List Form
 forms false = short_forms
 forms true = Answered ∷ short_forms
-
-abbrev pub form_named : Bool → List ℕ → Option Form
-form_named third word = find (λ form. bytes_eq word (word_of form)) (forms third)
-
-abbrev pub has_third : List (List ℕ) → Bool
-has_third words = nat_lt 2 (length words)
-
--- the table that judges a line with these words
-abbrev pub rows_for : List (List ℕ) → List Row
-rows_for words = map row_of (forms (has_third words))

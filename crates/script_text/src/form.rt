@@ -1,9 +1,8 @@
-ghost use Rattle.std.specs.Prelude.{◌≡◌, length};
-ghost use Rattle.script_text.specs.Table.{word_of, parts_of, forms, form_named};
-ghost use Rattle.script_text.specs.Values.{event_from, kind_from};
+ghost use Rattle.std.specs.Prelude.{◌≡◌};
+ghost use Rattle.script_text.specs.Table.{word_of, parts_of, forms};
+ghost use Rattle.script_text.specs.Values.{event_from};
 
-use crate::part::Part;
-use plain_text::Kind;
+use line_tables::{MOST_VALUES, Part, kind_of};
 use recovery_world::Event;
 
 /// A form of a script's line: its first word, and what stands after it. `step` has two forms, without an answer and
@@ -28,9 +27,6 @@ pub enum Form {
     Auto,
 }
 
-/// The most values of a line.
-pub const MOST_VALUES: usize = 4;
-
 /// The forms of lines with a third word.
 static FORMS: [Form; 16] = [
     Form::Answered,
@@ -53,24 +49,14 @@ static FORMS: [Form; 16] = [
 
 impl Form {
     /// The forms of lines that have a third word, or of those that have not.
-    fn all(third: bool) -> &'static [Form]
+    pub fn all(third: bool) -> &'static [Form]
         ensures { result.now ≡ forms third }
     {
         if third { &FORMS } else { &FORMS[1..] }
     }
 
-    /// The form of a line with this first word, if there is one; `third` says whether the line has a third word.
-    pub fn named(third: bool, word: &[u8]) -> Option<Form>
-        ensures { result ≡ form_named third word.now }
-    {
-        Form::all(third)
-            .iter()
-            .copied()
-            .find(|form| word == form.word())
-    }
-
     /// The first word of the line.
-    fn word(self) -> &'static [u8]
+    pub fn word(self) -> &'static [u8]
         ensures { result.now ≡ word_of self }
     {
         match self {
@@ -152,11 +138,4 @@ impl Form {
             Form::Auto => Event::Auto { seed: a, n: b },
         }
     }
-}
-
-/// The kind whose word has this value.
-fn kind_of(value: u64) -> Kind
-    ensures { result ≡ kind_from value }
-{
-    if value == 0 { Kind::Log } else { Kind::Out }
 }

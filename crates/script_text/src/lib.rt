@@ -6,7 +6,6 @@ mod choosing;
 mod form;
 mod laws;
 mod outcome;
-mod part;
 mod script;
 mod written;
 

@@ -5,7 +5,7 @@ ghost use Rattle.recovery_world.specs.declared.event.Outcome.TheVariants as outc
 ghost use Rattle.recovery_world.specs.World.{Sent};
 ghost use Rattle.recovery_world.specs.Files.{one, two, outcome_words, freed_words, sent_names};
 
-use crate::written::{put_one, put_two, put_word};
+use line_tables::{put_one, put_two, put_word};
 use plain_text::NoMemory;
 use recovery_world::Outcome;
 

@@ -1,17 +1,14 @@
-ghost use Rattle.std.specs.Prelude.{◌≡◌, ◌≤◌, Ok, Err, Some, IfOk, IfErr, OnOk, length, map, take};
+ghost use Rattle.std.specs.Prelude.{◌≡◌, ◌≤◌, IfOk, IfErr, OnOk};
 ghost use Rattle.plain_text.specs.declared.limit.TheConstants.{MOST_EVENTS as most_events};
-ghost use Rattle.plain_text.specs.Lines.{words_of};
-ghost use Rattle.script_text.specs.Scripts.{IsScript, IsRefused, SaysEvent, count_of, event_fault};
+ghost use Rattle.script_text.specs.Scripts.{IsScript, IsRefused, count_of};
 ghost use Rattle.script_text.specs.Scripts.{FitWords, script_text, weight};
-ghost use Rattle.script_text.specs.Table.{has_third, grammar_place};
-ghost use Rattle.script_text.specs.Values.{values_at};
 
-use crate::form::{Form, MOST_VALUES};
-use crate::part::Part;
+use crate::form::Form;
 use crate::written::put_event;
+use line_tables::{LineTable, MOST_VALUES, Part, read_thing};
 use plain_text::{
-    Bytes, LineCause, LineFile, MOST_EVENTS, NoMemory, ReadError, Sequence, WordIter, WrittenFile,
-    put_lines, read_lines, words,
+    Bytes, LineCause, LineFile, MOST_EVENTS, NoMemory, ReadError, Sequence, WrittenFile, put_lines,
+    read_lines,
 };
 use recovery_world::Event;
 use std::alloc::Global;
@@ -40,6 +37,32 @@ pub fn read_script(alloc: Global, text: &[u8]) -> Result<Events, ReadError>
 /// Scripts as files of lines.
 pub struct Scripts;
 
+impl LineTable for Scripts {
+    ghost use Rattle.script_text.specs.Scripts.{script_table};
+
+    type Form = Form;
+
+    type Thing = Event;
+
+    ghost table = { script_table };
+
+    fn forms(third: bool) -> &'static [Form] {
+        Form::all(third)
+    }
+
+    fn word(form: Form) -> &'static [u8] {
+        form.word()
+    }
+
+    fn parts(form: Form) -> &'static [Part] {
+        form.parts()
+    }
+
+    fn thing(form: Form, values: [u64; MOST_VALUES]) -> Event {
+        form.event(values)
+    }
+}
+
 impl LineFile for Scripts {
     ghost use Rattle.script_text.specs.Scripts.{script_form};
 
@@ -48,7 +71,7 @@ impl LineFile for Scripts {
     ghost form = { script_form };
 
     fn read_line(line: &[u8]) -> Result<Event, LineCause> {
-        read_event(line)
+        read_thing::<Scripts>(line)
     }
 
     fn weight(event: &Event) -> u64 {
@@ -88,51 +111,5 @@ fn weight_of(event: &Event) -> u64
     match event {
         Event::Auto { n, .. } => *n,
         _ => 1,
-    }
-}
-
-/// The event that a line says, or its fault.
-fn read_event(line: &[u8]) -> Result<Event, LineCause>
-    ensures event { IfOk result (SaysEvent (words_of line.now)) }
-    ensures fault { IfErr result (λ cause. event_fault (words_of line.now) ≡ Some cause) }
-{
-    let third = is_third_there(words(line));
-    let mut left = words(line);
-    let Some(word) = left.next() else {
-        return Err(LineCause::UnknownWord);
-    };
-    let Some(form) = Form::named(third, word) else {
-        return Err(LineCause::UnknownWord);
-    };
-    let values = read_values(left, form.parts())?;
-    Ok(form.event(values))
-}
-
-/// Whether a line has three words or more.
-fn is_third_there(mut words: WordIter<'_>) -> bool
-    ensures { result ≡ has_third words.entry }
-{
-    words.nth(2).is_some()
-}
-
-/// The values of a line's words at these places, followed by zeros; or its fault.
-fn read_values(mut words: WordIter<'_>, parts: &[Part]) -> Result<[u64; MOST_VALUES], LineCause>
-    requires { length parts.now ≤ 4 }
-    ensures values { IfOk result (λ values.
-        values_at (map grammar_place parts.now) words.entry
-        ≡ Ok (take (length parts.now) values)) }
-    ensures fault { IfErr result (λ cause.
-        values_at (map grammar_place parts.now) words.entry ≡ Err cause) }
-{
-    let mut values = [0; MOST_VALUES];
-    for (index, part) in parts.iter().enumerate() {
-        let Some(word) = words.next() else {
-            return Err(LineCause::MissingWord);
-        };
-        values[index] = part.value(word)?;
-    }
-    match words.next() {
-        None => Ok(values),
-        Some(_) => Err(LineCause::ExtraWord),
     }
 }

@@ -1,9 +1,11 @@
 ghost use Rattle.std.specs.Prelude.{◌≡◌, ◌++◌, codes, IfOk, OnOk};
 ghost use Rattle.std.specs.String.{string_bytes};
-ghost use Rattle.recovery_world.specs.Files.{one, two, kind_word, given_words, event_words};
-ghost use Rattle.script_text.specs.Scripts.{AreNumbers, values_of};
+ghost use Rattle.recovery_world.specs.Files.{one, given_words, event_words};
+ghost use Rattle.line_tables.specs.Parts.{AreNumbers};
+ghost use Rattle.script_text.specs.Scripts.{values_of};
 
-use plain_text::{Kind, NoMemory, Text, put_decimal};
+use line_tables::{put_one, put_two, put_word, word_of_kind};
+use plain_text::{NoMemory, Text};
 use recovery_world::Event;
 use std::alloc::Global;
 
@@ -37,7 +39,7 @@ pub fn write_event(text: &mut String, event: Event) -> Result<(), NoMemory>
         } => {
             put_one(text, "late ", epoch)?;
             text.push_str(" ")?;
-            put_two(text, word_of(kind), thread, " ", number)
+            put_two(text, word_of_kind(kind), thread, " ", number)
         }
         Event::Cut {
             kind,
@@ -46,7 +48,7 @@ pub fn write_event(text: &mut String, event: Event) -> Result<(), NoMemory>
             length,
         } => {
             text.push_str("cut ")?;
-            put_two(text, word_of(kind), thread, " ", number)?;
+            put_two(text, word_of_kind(kind), thread, " ", number)?;
             put_one(text, " ", length)
         }
         Event::Snap => put_word(text, "snap"),
@@ -69,42 +71,4 @@ fn put_step(text: &mut String, thread: u64, answer: Option<u64>) -> Result<(), N
         None => Ok(()),
         Some(answer) => put_one(text, " = ", answer),
     }
-}
-
-/// The word of a kind, and a space.
-fn word_of(kind: Kind) -> &'static str
-    ensures { result.now ≡ kind_word kind }
-{
-    match kind {
-        Kind::Log => "log ",
-        Kind::Out => "out ",
-    }
-}
-
-pub(crate) fn put_word(text: &mut String, word: &str) -> Result<(), NoMemory>
-    ensures { OnOk result (string_bytes text.new ≡ string_bytes text.old ++ word.now) }
-{
-    text.push_str(word)?;
-    Ok(())
-}
-
-pub(crate) fn put_one(text: &mut String, word: &str, number: u64) -> Result<(), NoMemory>
-    ensures { OnOk result (string_bytes text.new ≡ string_bytes text.old ++ one word.now number) }
-{
-    text.push_str(word)?;
-    put_decimal(text, number)
-}
-
-pub(crate) fn put_two(
-    text: &mut String,
-    word: &str,
-    a: u64,
-    other: &str,
-    b: u64,
-) -> Result<(), NoMemory>
-    ensures { OnOk result (string_bytes text.new
-        ≡ string_bytes text.old ++ two word.now a other.now b) }
-{
-    put_one(text, word, a)?;
-    put_one(text, other, b)
 }

@@ -1,6 +1,6 @@
 use Rattle.std.specs.Prelude.{IsTrue}
-use Rattle.input_files.specs.Answers.{SaysBox, SaysCapture, SaysSchedule, SaysScript}
-use Rattle.input_files.proofs.OneAnswer.{one_answer, one_box, one_capture, one_schedule, one_script}
+use Rattle.input_files.specs.Answers.{SaysBox, SaysCapture, SaysPlan, SaysSchedule, SaysScript}
+use Rattle.input_files.proofs.OneAnswer.{one_answer, one_box, one_capture, one_plan, one_schedule, one_script}
 use Rattle.input_files.proofs.laws.each_file_has_one_answer.Goals as goal
 
 pub returns-clause-box_file : goal.returns-clause-box_file
@@ -15,3 +15,6 @@ returns-clause-script c = λ healthy name shown a b. one_answer SaysScript one_s
 pub returns-clause-schedule : goal.returns-clause-schedule
 returns-clause-schedule c =
     λ healthy name shown a b. one_answer SaysSchedule one_schedule (IsTrue healthy) name shown a b
+
+pub returns-clause-plan : goal.returns-clause-plan
+returns-clause-plan c = λ healthy name shown a b. one_answer SaysPlan one_plan (IsTrue healthy) name shown a b

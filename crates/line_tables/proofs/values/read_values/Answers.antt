@@ -1,7 +1,7 @@
 use Rattle.std.proofs.Common.{rules, ◌≡◌, length, slice_set, take, arith}
 use Rattle.std.proofs.lemmas.Grind.{common_steps}
-use Rattle.script_text.proofs.Values.{missing, one_more}
-use Rattle.script_text.proofs.script.read_values.Goals as goal
+use Rattle.line_tables.proofs.ValuesRead.{missing, one_more}
+use Rattle.line_tables.proofs.values.read_values.Goals as goal
 
 pub returns-in_default-clause-fault : goal.returns-in_default-clause-fault
 returns-in_default-clause-fault c =

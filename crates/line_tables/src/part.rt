@@ -1,9 +1,8 @@
 ghost use Rattle.std.specs.Prelude.{◌≡◌};
 ghost use Rattle.plain_text.specs.Grammar.{value_at};
-ghost use Rattle.script_text.specs.Table.{grammar_place};
-ghost use Rattle.script_text.specs.Values.{value_or_misfit};
+ghost use Rattle.line_tables.specs.Parts.{grammar_place, kind_from, value_or_misfit};
 
-use plain_text::{LineCause, read_u64};
+use plain_text::{Kind, LineCause, read_u64};
 
 /// What stands at a place of a line, after its first word.
 #[derive(Clone, Copy, Debug, PartialEq, Eq)]
@@ -30,4 +29,11 @@ impl Part {
             Part::Equals | Part::Kind => Err(LineCause::UnknownWord),
         }
     }
+}
+
+/// The kind whose word has this value.
+pub fn kind_of(value: u64) -> Kind
+    ensures { result ≡ kind_from value }
+{
+    if value == 0 { Kind::Log } else { Kind::Out }
 }

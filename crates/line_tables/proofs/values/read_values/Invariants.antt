@@ -1,8 +1,7 @@
 use Rattle.std.proofs.Common.{◌≡◌, length, map, take, drop}
-use Rattle.script_text.specs.Table.{grammar_place}
-use Rattle.script_text.specs.Values.{values_at}
-use Rattle.script_text.proofs.Values.{behind}
-use Rattle.script_text.proofs.script.read_values.Given as goal
+use Rattle.line_tables.specs.Parts.{grammar_place, values_at}
+use Rattle.line_tables.proofs.ValuesRead.{behind}
+use Rattle.line_tables.proofs.values.read_values.Given as goal
 
 -- the values so far, and those of the words left at the places left, are what the words come to
 abbrev pub invariant-loop-index : goal.invariant-loop-index

@@ -6,10 +6,9 @@ use Rattle.std.proofs.lemmas.List.{drop_more, take_more_set}
 use Rattle.plain_text.specs.declared.fault.LineCause.{LineCause}
 use Rattle.plain_text.specs.declared.fault.LineCause.TheVariants.{MissingWord}
 use Rattle.plain_text.specs.Grammar.{value_at}
-use Rattle.script_text.specs.declared.part.Part.{Part}
-use Rattle.script_text.specs.declared.part.Part.TheVariants.{Number}
-use Rattle.script_text.specs.Table.{grammar_place}
-use Rattle.script_text.specs.Values.{onto_values, and_values, value_or_misfit, values_at}
+use Rattle.line_tables.specs.declared.part.Part.{Part}
+use Rattle.line_tables.specs.declared.part.Part.TheVariants.{Number}
+use Rattle.line_tables.specs.Parts.{grammar_place, onto_values, and_values, value_or_misfit, values_at}
 
 -- values, and then those of a result
 abbrev pub behind : List ℕ → Result (List ℕ) LineCause → Result (List ℕ) LineCause

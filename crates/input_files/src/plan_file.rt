@@ -1,0 +1,30 @@
+ghost use Rattle.std.specs.Prelude.{◌<◌, ◌-◌, ◌^◌, IsTrue, IsErrOf};
+ghost use Rattle.world_io.specs.Stream.{Rose};
+ghost use Rattle.input_files.specs.Files.{OnlyReads};
+ghost use Rattle.input_files.specs.Judging.{JudgesPlan};
+
+use crate::InputError;
+use crate::lines_file::read_lines_file;
+use plain_text::{LineFault, Text};
+use plan_text::{Plan, Plans};
+use std::alloc::Global;
+use world_io::World;
+
+/// Reads and judges a plan.
+///
+/// Of a file that is larger than `MOST_FILE_BYTES` the lines that end within these bytes are judged: their first fault
+/// comes first, or that they are too many, which passes the limit of events; otherwise the file is too large.
+pub fn read_plan_file<W: World>(
+    alloc: Global,
+    world: &mut W,
+    name: &Text,
+) -> Result<Plan, InputError<LineFault>>
+    requires { (W.ledger world.old).given < 2 ^ 32 - 1 }
+    ensures judged { IsTrue W.tells
+        → JudgesPlan (W.healthy world.old) name.now result (W.shown world.old) }
+    ensures only_reads { OnlyReads W.tells W.shown W.ledger W.healthy 1 world.old world.new }
+    ensures cause { IsErrOf result InputError.ReadFault
+        → Rose (W.ledger world.old).read_faults (W.ledger world.new).read_faults }
+{
+    read_lines_file::<W, Plans>(alloc, world, name)
+}

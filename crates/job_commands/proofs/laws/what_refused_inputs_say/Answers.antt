@@ -1,0 +1,10 @@
+use Rattle.std.specs.Prelude.{IsTrue}
+use Rattle.job_commands.proofs.LiveFiles.{live_one, live_says}
+use Rattle.job_commands.proofs.laws.what_refused_inputs_say.Goals as goal
+
+pub returns-clause-says : goal.returns-clause-says
+returns-clause-says c = λ healthy names s shown. live_says (IsTrue healthy) names shown s
+
+pub returns-clause-one : goal.returns-clause-one
+returns-clause-one c = λ healthy names s r shown.
+    live_one (IsTrue healthy) names shown (λ inputs other. ⊥) (λ inputs t u decides other h k. absurd h) s r

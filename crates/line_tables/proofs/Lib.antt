@@ -1,0 +1,4 @@
+pub mod OneLine
+pub mod PlaceValues
+pub mod ReadBack
+pub mod ValuesRead

@@ -1,0 +1,200 @@
+//! Plans as texts: what is read of them, and the first fault of a text that is none.
+use plain_text::{Kind, NoMemory};
+use plan_text::{PlanLine, put_plan, put_plan_line, read_plan};
+use std::alloc::Global;
+use std::test::Fail;
+
+/// Which kind of line it is, and its numbers.
+fn parts_of(line: PlanLine) -> (u8, u64, u64) {
+    match line {
+        PlanLine::Feed(n) => (0, n, 0),
+        PlanLine::Limit { thread, moves } => (1, thread, moves),
+        PlanLine::Take { thread, frames } => (2, thread, frames),
+        PlanLine::Lose {
+            kind: Kind::Log,
+            thread,
+            number,
+        } => (3, thread, number),
+        PlanLine::Lose {
+            kind: Kind::Out,
+            thread,
+            number,
+        } => (4, thread, number),
+        PlanLine::Round => (5, 0, 0),
+        PlanLine::Snap => (6, 0, 0),
+        PlanLine::Store => (7, 0, 0),
+        PlanLine::Crash => (8, 0, 0),
+        PlanLine::Recover => (9, 0, 0),
+        PlanLine::Settle => (10, 0, 0),
+    }
+}
+
+/// Whether a text is read as this line alone.
+fn is_read_as(alloc: Global, text: &str, line: PlanLine) -> bool {
+    match read_plan(alloc, text.as_bytes()) {
+        Ok(lines) => match lines.as_slice() {
+            [only] => parts_of(*only) == parts_of(line),
+            _ => false,
+        },
+        Err(_) => false,
+    }
+}
+
+/// Whether a text is read as this line alone, and the line is written as this text.
+fn stands_for(alloc: Global, text: &str, line: PlanLine) -> Result<bool, NoMemory> {
+    Ok(put_plan_line(alloc, &line)?.as_str() == text && is_read_as(alloc, text, line))
+}
+
+/// Whether the plan that a text is read as is written as this.
+fn is_written_as(alloc: Global, text: &str, wanted: &str) -> Result<bool, NoMemory> {
+    match read_plan(alloc, text.as_bytes()) {
+        Ok(lines) => Ok(put_plan(alloc, lines.as_slice())?.as_slice() == wanted.as_bytes()),
+        Err(_) => Ok(false),
+    }
+}
+
+/// Whether a text has this first fault.
+fn is_refused_as(alloc: Global, text: &str, wanted: &str) -> Result<bool, NoMemory> {
+    match read_plan(alloc, text.as_bytes()) {
+        Ok(_) => Ok(false),
+        Err(error) => Ok(format!(in alloc; "{error}")?.as_str() == wanted),
+    }
+}
+
+/// Texts, and the line for which each stands.
+const LINES: [(&str, PlanLine); 14] = [
+    ("feed 0", PlanLine::Feed(0)),
+    ("feed 18446744073709551615", PlanLine::Feed(u64::MAX)),
+    (
+        "limit 1 20",
+        PlanLine::Limit {
+            thread: 1,
+            moves: 20,
+        },
+    ),
+    (
+        "limit 99 0",
+        PlanLine::Limit {
+            thread: 99,
+            moves: 0,
+        },
+    ),
+    (
+        "take 3 4",
+        PlanLine::Take {
+            thread: 3,
+            frames: 4,
+        },
+    ),
+    (
+        "lose log 2 5",
+        PlanLine::Lose {
+            kind: Kind::Log,
+            thread: 2,
+            number: 5,
+        },
+    ),
+    (
+        "lose out 0 0",
+        PlanLine::Lose {
+            kind: Kind::Out,
+            thread: 0,
+            number: 0,
+        },
+    ),
+    (
+        "lose out 7 18446744073709551615",
+        PlanLine::Lose {
+            kind: Kind::Out,
+            thread: 7,
+            number: u64::MAX,
+        },
+    ),
+    ("round", PlanLine::Round),
+    ("snap", PlanLine::Snap),
+    ("store", PlanLine::Store),
+    ("crash", PlanLine::Crash),
+    ("recover", PlanLine::Recover),
+    ("settle", PlanLine::Settle),
+];
+
+#[test]
+fn reads_and_writes_each_line_of_a_plan(rt: HostRuntime) -> Result<(), Fail> {
+    for (text, line) in &LINES {
+        let both_ways = stands_for(rt.alloc(), text, *line)?;
+        assert!(rt; both_ways, "at {text:?}");
+    }
+    Ok(())
+}
+
+/// A text, and what is written of its plan, or its first fault.
+type Row = (&'static str, &'static str);
+
+/// Plans, and how they are written.
+const READ: [Row; 5] = [
+    ("", ""),
+    ("# nothing\n\n \t\r\n", ""),
+    ("settle", "settle\n"),
+    ("snap\r\nstore\r\n", "snap\nstore\n"),
+    (
+        "#1\n\n\tfeed  007 \n # x\nlimit\t01  02\nlose  log\t3 00\n\nround\ntake 0 18446744073709551615",
+        "feed 7\nlimit 1 2\nlose log 3 0\nround\ntake 0 18446744073709551615\n",
+    ),
+];
+
+#[test]
+fn reads_and_writes_plans(rt: HostRuntime) -> Result<(), Fail> {
+    for (text, wanted) in &READ {
+        let found = is_written_as(rt.alloc(), text, wanted)?;
+        assert!(rt; found, "at {text:?}");
+    }
+    Ok(())
+}
+
+/// Texts that are no plan, and the first fault of each.
+const FAULTS: [Row; 35] = [
+    ("step 0", "line 1: unknown word"),
+    ("log 0 1", "line 1: unknown word"),
+    ("Round", "line 1: unknown word"),
+    ("settle\r", "line 1: unknown word"),
+    ("round\n\n#\nround 1\nx", "line 4: extra word"),
+    ("feed 1\nlimit 0\nfeed", "line 2: missing word"),
+    ("feed", "line 1: missing word"),
+    ("feed x", "line 1: bad number"),
+    ("feed -1", "line 1: bad number"),
+    ("feed 1 2", "line 1: extra word"),
+    ("feed x 2", "line 1: bad number"),
+    ("feed 18446744073709551616", "line 1: bad number"),
+    ("feed 000000000000000000001", "line 1: bad number"),
+    ("limit", "line 1: missing word"),
+    ("limit 0", "line 1: missing word"),
+    ("limit x", "line 1: bad number"),
+    ("limit 0 x", "line 1: bad number"),
+    ("limit 0 1 2", "line 1: extra word"),
+    ("take", "line 1: missing word"),
+    ("take 1", "line 1: missing word"),
+    ("take 1 18446744073709551616", "line 1: bad number"),
+    ("take 1 2 3", "line 1: extra word"),
+    ("lose", "line 1: missing word"),
+    ("lose 0", "line 1: unknown word"),
+    ("lose nap", "line 1: unknown word"),
+    ("lose log", "line 1: missing word"),
+    ("lose log 0", "line 1: missing word"),
+    ("lose out x", "line 1: bad number"),
+    ("lose out 0 x", "line 1: bad number"),
+    ("lose log 0 1 2", "line 1: extra word"),
+    ("snap 1", "line 1: extra word"),
+    ("store 1", "line 1: extra word"),
+    ("crash 1", "line 1: extra word"),
+    ("recover 1", "line 1: extra word"),
+    ("settle 1", "line 1: extra word"),
+];
+
+#[test]
+fn names_the_first_fault_of_a_plan(rt: HostRuntime) -> Result<(), Fail> {
+    for (text, wanted) in &FAULTS {
+        let found = is_refused_as(rt.alloc(), text, wanted)?;
+        assert!(rt; found, "at {text:?}");
+    }
+    Ok(())
+}
