@@ -1,0 +1,122 @@
+-- What the command `live` does: a run by the plan that the inputs ask for.
+use Rattle.std.specs.Prelude.{◌≡◌, ◌⊎◌, ℕ, List, [], ◌∷◌, ◌++◌, length}
+use Rattle.plain_text.specs.declared.limit.Limit.{Limit}
+use Rattle.plain_text.specs.declared.packet.Packet.{Packet}
+use Rattle.plain_machine.specs.declared.plain_move.PlainMove.{PlainMove}
+use Rattle.box_conf.specs.Kinds.{meaning_of}
+use Rattle.world_io.specs.World.{Shown}
+use Rattle.recovery_world.specs.declared.event.Event.{Event}
+use Rattle.recovery_world.specs.World.{Setting, World as SystemWorld, opening}
+use Rattle.recovery_world.specs.Files.{Leaves, LeavesAt}
+use Rattle.run_writes.specs.Run.{KeepsShown}
+use Rattle.script_text.specs.Scripts.{script_text}
+use Rattle.plan_script.specs.Orders.{no_orders}
+use Rattle.plan_script.specs.Begun.{BeginsScript}
+use Rattle.plan_script.specs.Scripts.{IsScript}
+use Rattle.live_writes.specs.declared.opening.PlanRun.{PlanRun}
+use Rattle.live_writes.specs.Outputs.{LiveOutputs, setting_of}
+use Rattle.live_writes.specs.Script.{PassesScript}
+use Rattle.live_command.specs.Plans.{LivesWhole, LivesToLimit, LivesInOrder}
+use Rattle.job_commands.specs.declared.live_inputs.LiveInputs.{LiveInputs}
+use Rattle.job_commands.specs.declared.status.Status.{Status}
+use Rattle.job_commands.specs.declared.status.Status.TheVariants as status
+use Rattle.job_commands.specs.Live.{AcceptsLiveInputs, JudgesLiveFiles}
+use Rattle.job_commands.specs.Status.{Stage, AtWords, AtInputs, AtOutputs, AtAnyTime}
+use Rattle.job_commands.specs.Words.{LiveNames}
+
+-- the run that inputs ask for
+abbrev pub plan_of : LiveInputs → PlanRun
+plan_of inputs = record {
+  threads = inputs.conf.threads;
+  seed = inputs.conf.seed;
+  unit = inputs.capture.unit;
+  packets = inputs.capture.packets;
+  plan = inputs.plan;
+}
+
+-- its setting, which has the meaning of the box
+abbrev pub live_setting : (inputs : LiveInputs) → Setting (meaning_of inputs.conf.kind).value
+live_setting inputs = setting_of (meaning_of inputs.conf.kind).meaning (plan_of inputs)
+
+abbrev pub live_outputs : LiveNames → LiveOutputs
+live_outputs names = record {
+  outputs = record { released = names.released; schedule = names.schedule };
+  script = names.script;
+}
+
+-- What a run by the plan comes to
+
+-- some script of the plan comes to its end within the limits, and leaves files
+abbrev pub EndsLive : LiveInputs → Type 0
+EndsLive inputs =
+    (events : List Event) × (world : SystemWorld (meaning_of inputs.conf.kind).value)
+    × IsScript (live_setting inputs) (opening (meaning_of inputs.conf.kind).value) no_orders inputs.plan events world
+    × (report : List ℕ) × (released : List Packet) × (schedule : List PlainMove)
+    × Leaves (live_setting inputs) events report released schedule
+
+-- Some first part of a script of the plan stops at this limit of runs, or has one event more than a script may have by
+-- this limit.
+abbrev pub StopsLive : LiveInputs → Limit → Type 0
+StopsLive inputs limit =
+    (events : List Event)
+    × BeginsScript (live_setting inputs) (opening (meaning_of inputs.conf.kind).value) no_orders inputs.plan events
+    × (((report : List ℕ) × (released : List Packet) × LeavesAt (live_setting inputs) events limit report released)
+    ⊎ ((before : List Event) × (next : Event) × (events ≡ before ++ next ∷ [])
+    × PassesScript limit (length before) (length (script_text events))))
+
+-- what a status says of the run, once all inputs are accepted
+abbrev pub SaysOfRun : Type 0 → LiveInputs → Status → Type 0
+SaysOfRun healthy inputs status.Done = EndsLive inputs
+SaysOfRun healthy inputs (status.Refuted refutation) = ⊥
+SaysOfRun healthy inputs status.BadWords = ⊥
+SaysOfRun healthy inputs status.ReadFault = ⊥
+SaysOfRun healthy inputs status.WriteFault = healthy → ⊥
+SaysOfRun healthy inputs status.NoMemory = Unit {0}
+SaysOfRun healthy inputs (status.BadInput fault) = ⊥
+SaysOfRun healthy inputs (status.TooLarge limit) = StopsLive inputs limit
+
+-- What a status of `live` says: of the first file that is not accepted, or of the run.
+abbrev pub JudgesLive : Type 0 → LiveNames → Status → Shown → Type 0
+JudgesLive healthy names status shown = JudgesLiveFiles healthy names (SaysOfRun healthy) status shown
+
+-- What the command leaves
+
+-- the outputs are the files that a script of the plan leaves, and the script is there
+abbrev pub LivesFiles : (ℕ → Type 0) → LiveNames → Shown → Shown → Type 0
+LivesFiles may names old new =
+    (inputs : LiveInputs)
+    × AcceptsLiveInputs names inputs old
+    × LivesWhole (live_setting inputs) may inputs.plan (live_outputs names) old new
+
+-- Nothing was written, since an input passes the limit; or the run stopped at it.
+abbrev pub LivesLimit : LiveNames → Limit → Shown → Shown → Type 0
+LivesLimit names limit old new =
+    KeepsShown old new
+    ⊎ ((inputs : LiveInputs)
+    × AcceptsLiveInputs names inputs old
+    × LivesToLimit (live_setting inputs) inputs.plan (live_outputs names) limit old new)
+
+-- nothing was written, or some first part of what a script of the plan writes, in its order, and nothing else
+abbrev pub LivesOrder : LiveNames → Shown → Shown → Type 0
+LivesOrder names old new =
+    KeepsShown old new
+    ⊎ ((inputs : LiveInputs)
+    × AcceptsLiveInputs names inputs old
+    × LivesInOrder (live_setting inputs) inputs.plan (live_outputs names) old new)
+
+-- names that are no output of the command are as they were
+abbrev pub KeepsLiveNames : LiveNames → Shown → Shown → Type 0
+KeepsLiveNames names old new =
+    (name : List ℕ) → ¬ (name ≡ names.released) → ¬ (name ≡ names.schedule) → ¬ (name ≡ names.script)
+    → new.names name ≡ old.names name
+
+-- the stage at which a status comes; a limit may be passed by an input, or by the run and its script
+abbrev pub live_stage : Status → Stage
+live_stage status.Done = AtOutputs
+live_stage (status.Refuted refutation) = AtInputs
+live_stage status.BadWords = AtWords
+live_stage status.ReadFault = AtInputs
+live_stage status.WriteFault = AtOutputs
+live_stage status.NoMemory = AtAnyTime
+live_stage (status.BadInput fault) = AtInputs
+live_stage (status.TooLarge limit) = AtAnyTime

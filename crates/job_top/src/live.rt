@@ -1,0 +1,114 @@
+ghost use Rattle.std.specs.Prelude.{◌≡◌, ◌+◌, ◌<◌, ◌≤◌, ◌-◌, ◌^◌, Err, IsTrue, OnOk, IsErrOf};
+ghost use Rattle.plain_text.specs.declared.limit.Limit.{Limit as LimitKind};
+ghost use Rattle.world_io.specs.Stream.{Rose};
+ghost use Rattle.world_io.specs.World.{WritingFailed};
+ghost use Rattle.output_files.specs.Written.{WritesFiles};
+ghost use Rattle.run_writes.specs.Run.{KeepsShown};
+ghost use Rattle.live_writes.specs.Outputs.{AreApart, CanLive};
+ghost use Rattle.live_command.specs.Plans.{LivesInOrder, LivesToLimit, LivesWhole};
+ghost use Rattle.job_commands.specs.Status.{AtInputs, stage_of};
+ghost use Rattle.job_commands.specs.Words.{live_names_of};
+ghost use Rattle.job_commands.specs.declared.status.Status.TheVariants as status;
+ghost use Rattle.job_top.specs.Live.{JudgesLive, LivesFiles, LivesLimit, LivesOrder};
+ghost use Rattle.job_top.specs.Live.{live_outputs, live_setting, plan_of};
+ghost use Rattle.job_top.specs.Headline.{KeepsLivePromise};
+
+use box_conf::BoxKind;
+use job_commands::{LiveInputs, LiveWords, Status, read_live_inputs, run_outcome};
+use live_command::run_plan;
+use live_writes::{LiveFiles, PlanRun};
+use run_writes::RunError;
+use std::sync::Wait;
+use std::thread::Threads;
+use var_locks::Gate;
+use world_io::{Clock, World};
+
+/// Runs the box on the inputs, by the lines of the plan, and writes the outputs.
+fn live_box<
+    W: World,
+    C: Clock + Sync,
+    G: Gate + Sync,
+    R: AllocGlobal + Threads + Wait + Sync,
+>(
+    rt: &R,
+    world: &mut W,
+    names: LiveWords<'_>,
+    inputs: LiveInputs,
+    clock: &C,
+    gate: &G,
+) -> Result<(), RunError>
+    requires inputs { CanLive (plan_of inputs) }
+    requires room { (W.ledger world.old).given < 2 ^ 32 - 3 }
+    requires apart { AreApart (live_outputs (live_names_of names.now)) }
+    ensures whole { IsTrue W.tells → OnOk result (LivesWhole (live_setting inputs)
+        (C.may clock.now) inputs.plan (live_outputs (live_names_of names.entry))
+        (W.shown world.old) (W.shown world.new)) }
+    ensures limit { IsTrue W.tells → (limit : LimitKind) → result ≡ Err (RunError.Limit limit)
+        → LivesToLimit (live_setting inputs) inputs.plan (live_outputs (live_names_of names.entry))
+        limit (W.shown world.old) (W.shown world.new) }
+    ensures in_order { IsTrue W.tells → LivesInOrder (live_setting inputs) inputs.plan
+        (live_outputs (live_names_of names.entry)) (W.shown world.old) (W.shown world.new) }
+    ensures writes_files { WritesFiles W.ledger W.healthy 3 world.old world.new }
+    ensures cause { IsErrOf result RunError.WriteFault
+        → WritingFailed W.ledger W.healthy world.old world.new }
+{
+    let files = LiveFiles {
+        released: names.released,
+        schedule: names.schedule,
+        script: names.script,
+    };
+    let run = PlanRun {
+        threads: inputs.conf.threads,
+        seed: inputs.conf.seed,
+        unit: inputs.capture.unit,
+        packets: inputs.capture.packets,
+        plan: inputs.plan,
+    };
+    match inputs.conf.kind {
+        BoxKind::Count(count) => run_plan(rt, world, files, run, count, clock, gate),
+        BoxKind::Monitor(monitor) => run_plan(rt, world, files, run, monitor, clock, gate),
+        BoxKind::Nat(nat) => run_plan(rt, world, files, run, nat, clock, gate),
+        BoxKind::Balancer(balancer) => run_plan(rt, world, files, run, balancer, clock, gate),
+    }
+}
+
+/// The command `live`: all input files are judged before an output is created.
+pub(crate) fn live<
+    W: World,
+    C: Clock + Sync,
+    G: Gate + Sync,
+    R: AllocGlobal + Threads + Wait + Sync,
+>(
+    rt: &R,
+    world: &mut W,
+    names: LiveWords<'_>,
+    clock: &C,
+    gate: &G,
+) -> Status
+    requires room { (W.ledger world.old).given < 2 ^ 31 }
+    requires apart { AreApart (live_outputs (live_names_of names.now)) }
+    ensures done { IsTrue W.tells → result ≡ Status.Done → LivesFiles (C.may clock.now)
+        (live_names_of names.entry) (W.shown world.old) (W.shown world.new) }
+    ensures headline { IsTrue W.tells → result ≡ Status.Done
+        → KeepsLivePromise (live_names_of names.entry) (W.shown world.old) (W.shown world.new) }
+    ensures limit { IsTrue W.tells → (limit : LimitKind) → result ≡ Status.TooLarge limit
+        → LivesLimit (live_names_of names.entry) limit (W.shown world.old) (W.shown world.new) }
+    ensures judged { IsTrue W.tells → JudgesLive (W.healthy world.old) (live_names_of names.entry)
+        result (W.shown world.old) }
+    ensures in_order { IsTrue W.tells
+        → LivesOrder (live_names_of names.entry) (W.shown world.old) (W.shown world.new) }
+    ensures refused { IsTrue W.tells → stage_of result ≡ AtInputs
+        → ((limit : LimitKind) → result ≡ Status.TooLarge limit → ⊥)
+        → KeepsShown (W.shown world.old) (W.shown world.new) }
+    ensures words { result ≡ Status.BadWords → ⊥ }
+    ensures given { (W.ledger world.new).given ≤ (W.ledger world.old).given + 6 }
+    ensures read_fault { result ≡ Status.ReadFault
+        → Rose (W.ledger world.old).read_faults (W.ledger world.new).read_faults }
+    ensures write_fault { result ≡ Status.WriteFault
+        → WritingFailed W.ledger W.healthy world.old world.new }
+{
+    match read_live_inputs(rt.alloc(), world, names) {
+        Ok(inputs) => run_outcome(live_box(rt, world, names, inputs, clock, gate)),
+        Err(status) => status,
+    }
+}
