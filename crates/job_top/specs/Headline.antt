@@ -6,6 +6,7 @@ use Rattle.entry_order.specs.Closed.{IsFirstMissing}
 use Rattle.plain_machine.specs.declared.plain_move.PlainMove.{PlainMove}
 use Rattle.plain_machine.specs.History.{Step, log_of, play}
 use Rattle.plain_player.specs.ScheduleText.{schedule_text}
+use Rattle.box_conf.specs.Kinds.{meaning_of}
 use Rattle.world_io.specs.World.{Shown}
 use Rattle.recovery_world.specs.declared.event.Event.{Event}
 use Rattle.recovery_world.specs.World.{Setting, Sent, World as SystemWorld, opening, all_inputs}
@@ -57,9 +58,11 @@ pub record KeepsLivePromise (names : LiveNames) (old new : Shown) : Type 0 where
   pub inputs : LiveInputs
   pub accepted : AcceptsLiveInputs names inputs old
   pub events : List Event
+  pub there : SystemWorld (meaning_of inputs.conf.kind).value
+  pub of_plan : IsScript (live_setting inputs) (opening (meaning_of inputs.conf.kind).value) no_orders inputs.plan events
+      there
   pub script_written : new.names names.script ≡ Some (script_text events)
   pub keeps : KeepsPromise (live_setting inputs) (live_outputs names).outputs events new
-  pub of_plan : IsScript (live_setting inputs) (opening _) no_orders inputs.plan events keeps.world
 
 abbrev pub KeepsPromiseOf : Asked → Shown → Shown → Type 0
 KeepsPromiseOf (Runs names) old new = KeepsRunPromise names old new

@@ -1,0 +1,160 @@
+-- What the status of `live` says, and what it leaves: from before its inputs were read.
+use Rattle.std.proofs.Common.{◌≡◌, ◌⊎◌, ℕ, List, [], ◌∷◌, ◌++◌, Option, Some, refl, sym, ap, ◌∙◌, subst, inl, inr, Result}
+use Rattle.std.proofs.Common.{Ok, Err, if◌then◌else◌}
+use Rattle.std.specs.Prelude.{⊤, IsErrOf, OnOk}
+use Rattle.std.specs.Str.{bytes_eq}
+use Rattle.plain_text.specs.declared.limit.Limit.{Limit}
+use Rattle.world_io.specs.World.{Shown}
+use Rattle.recovery_world.specs.declared.event.Event.{Event}
+use Rattle.recovery_world.specs.World.{Setting}
+use Rattle.output_files.specs.Writes.{Write, Creates, HasBegun, after_writes}
+use Rattle.output_files.proofs.Effects.{Compared, compared, IsSame, Differs}
+use Rattle.run_writes.specs.declared.error.RunError.{RunError}
+use Rattle.run_writes.specs.declared.error.RunError.TheVariants as run_error
+use Rattle.run_writes.specs.Run.{KeepsShown}
+use Rattle.input_files.specs.Files.{KeepsOutputs}
+use Rattle.plan_script.specs.declared.plan.PlanLine.{PlanLine}
+use Rattle.live_writes.specs.Outputs.{LiveOutputs, holding}
+use Rattle.live_writes.specs.Told.{HasBegunLive, IsAhead}
+use Rattle.live_writes.specs.Whole.{BeginsLive, HaltsLive, HasLived, HasPaused, live_opening}
+use Rattle.live_command.specs.Plans.{LivesInOrder, LivesToLimit, LivesWhole}
+use Rattle.live_command.proofs.ScriptsTold.{live_script}
+use Rattle.job_commands.specs.declared.live_inputs.LiveInputs.{LiveInputs}
+use Rattle.job_commands.specs.declared.status.Status.{Status}
+use Rattle.job_commands.specs.declared.status.Status.TheVariants as status
+use Rattle.job_commands.specs.Live.{AcceptsLiveInputs, JudgesLiveFiles, JudgesLiveInputs}
+use Rattle.job_commands.specs.Status.{run_outcome}
+use Rattle.job_commands.specs.Words.{LiveNames}
+use Rattle.job_commands.proofs.Outcomes.{begun_since, begun_writes_since, run_since, stopped_since, files_since}
+use Rattle.job_top.specs.Live.{JudgesLive, LivesFiles, LivesLimit, LivesOrder, SaysOfRun, live_outputs, live_setting}
+
+-- The files are as they were when the inputs had been read.
+module _ (a b c : Shown) (keeps : KeepsOutputs a b) where
+  held : (name bytes : List ℕ) → KeepsOutputs (holding name bytes a) (holding name bytes b)
+  held name bytes = record {
+    names = ap (λ (f : List ℕ → Option (List ℕ)). λ other. if bytes_eq name other then Some bytes else f other)
+        keeps.names;
+    sent = keeps.sent;
+    name_of = keeps.name_of;
+  }
+
+  lived_since : {V : Type 0} (s : Setting V) (names : LiveOutputs) (events : List Event)
+      → HasLived s names events b c → HasLived s names events a c
+  lived_since s names events r = record {
+    run = run_since _ _ c (held names.script _) s names.outputs events r.run;
+    script_is = r.script_is;
+    fit_words = r.fit_words;
+    few = r.few;
+    short = r.short;
+  }
+
+  pub whole_lived : {V : Type 0} (s : Setting V) (may : ℕ → Type 0) (plan : List PlanLine) (names : LiveOutputs)
+      (r : Result ⊤ RunError) → OnOk r (LivesWhole s may plan names b c) → OnOk r (LivesWhole s may plan names a c)
+  whole_lived s may plan names (Ok done) r = record {
+    events = r.events;
+    world = r.world;
+    draws = r.draws;
+    script = r.script;
+    lived = lived_since s names r.events r.lived;
+  }
+  whole_lived s may plan names (Err e) r = tt
+
+  halts_since : {V : Type 0} (s : Setting V) (names : LiveOutputs) (events : List Event) (limit : Limit)
+      → HaltsLive s names events limit b c → HaltsLive s names events limit a c
+  halts_since s names events limit (inl (script_is, stopped)) =
+      inl (script_is, stopped_since _ _ c (held names.script _) s names.outputs events limit stopped)
+  halts_since s names events limit (inr (before, next, is, paused)) = inr (
+    before,
+    next,
+    is,
+    record {
+      report = paused.report;
+      world = paused.world;
+      performs = paused.performs;
+      passes = paused.passes;
+      files = files_since _ _ c (held names.script _) names.outputs s.fractions _ [] paused.report paused.files;
+      script_is = paused.script_is;
+    },
+  )
+
+  pub limit_lived : {V : Type 0} (s : Setting V) (plan : List PlanLine) (names : LiveOutputs) (limit : Limit)
+      → LivesToLimit s plan names limit b c → LivesToLimit s plan names limit a c
+  limit_lived s plan names limit r = record {
+    events = r.events;
+    begins = r.begins;
+    halts = halts_since s names r.events limit r.halts;
+  }
+
+  begun_lived : {V : Type 0} (s : Setting V) (names : LiveOutputs) (events : List Event)
+      → HasBegunLive s names events b c → HasBegunLive s names events a c
+  begun_lived s names events h = record {
+    written = h.written;
+    part = h.part;
+    ahead = record {
+      first = h.ahead.first;
+      rest = h.ahead.rest;
+      events_are = h.ahead.events_are;
+      lines = h.ahead.lines;
+      begun = begun_since _ _ c (held names.script _) s names.outputs h.ahead.first h.ahead.begun;
+    };
+  }
+
+  pub order_lived : {V : Type 0} (s : Setting V) (plan : List PlanLine) (names : LiveOutputs)
+      → LivesInOrder s plan names b c → LivesInOrder s plan names a c
+  order_lived s plan names r = record { events = r.events; begins = r.begins; written = go r.written }
+    where
+      go : BeginsLive s names r.events b c → BeginsLive s names r.events a c
+      go (inl begun) = inl (begun_writes_since a b c keeps (live_opening names s.fractions) begun)
+      go (inr begun) = inr (begun_lived s names r.events begun)
+
+-- The status of the run, where its inputs are accepted.
+
+module _ (healthy : Type 0) (may : ℕ → Type 0) (names : LiveNames) (inputs : LiveInputs) (a c : Shown)
+    (accepted : AcceptsLiveInputs names inputs a) where
+  behind : (s : Status) → SaysOfRun healthy inputs s → JudgesLive healthy names s a
+  behind s says = inr (
+    inputs.conf,
+    accepted.box_accepted,
+    inr (inputs.capture, accepted.capture_accepted, inr (inputs.plan, accepted.plan_accepted, says)),
+  )
+
+  pub live_judged : (r : Result ⊤ RunError) → (healthy → ¬ IsErrOf r run_error.WriteFault)
+      → OnOk r (LivesWhole (live_setting inputs) may inputs.plan (live_outputs names) a c)
+      → ((limit : Limit) → r ≡ Err (run_error.Limit limit)
+      → LivesToLimit (live_setting inputs) inputs.plan (live_outputs names) limit a c)
+      → JudgesLive healthy names (run_outcome r) a
+  live_judged (Ok done) never whole limit = behind status.Done (
+    whole.events,
+    whole.world,
+    live_script (live_setting inputs) may _ _ _ _ _ _ _ whole.script,
+    (whole.lived.run.report, whole.lived.run.released, whole.lived.run.schedule, whole.lived.run.leaves),
+  )
+  live_judged (Err (run_error.Limit l)) never whole limit = behind (status.TooLarge l) (
+    (limit l refl).events,
+    (limit l refl).begins,
+    go (limit l refl).events (limit l refl).halts,
+  )
+    where
+      go : (events : List Event) → HaltsLive (live_setting inputs) (live_outputs names) events l a c → _
+      go events (inl (script_is, stopped)) = inl (stopped.report, stopped.released, stopped.leaves)
+      go events (inr (before, next, is, paused)) = inr (before, next, is, rw is paused.passes)
+  live_judged (Err run_error.WriteFault) never whole limit = behind status.WriteFault (λ ok. never ok refl)
+  live_judged (Err run_error.NoMemory) never whole limit = behind status.NoMemory tt
+
+  pub live_done : (r : Result ⊤ RunError) → run_outcome r ≡ status.Done
+      → OnOk r (LivesWhole (live_setting inputs) may inputs.plan (live_outputs names) a c) → LivesFiles may names a c
+  live_done (Ok done) e whole = (inputs, accepted, whole)
+  live_done (Err (run_error.Limit l)) e whole = absurd (cc)
+  live_done (Err run_error.WriteFault) e whole = absurd (cc)
+  live_done (Err run_error.NoMemory) e whole = absurd (cc)
+
+  pub live_limit : (r : Result ⊤ RunError) (l : Limit) → run_outcome r ≡ status.TooLarge l
+      → ((limit : Limit) → r ≡ Err (run_error.Limit limit)
+      → LivesToLimit (live_setting inputs) inputs.plan (live_outputs names) limit a c) → LivesLimit names l a c
+  live_limit (Ok done) l e limit = absurd (cc)
+  live_limit (Err (run_error.Limit k)) l e limit =
+      let same : k ≡ l = cc in
+      inr (inputs, accepted, subst (λ (m : Limit).
+      LivesToLimit (live_setting inputs) inputs.plan (live_outputs names) m a c) same (limit k refl))
+  live_limit (Err run_error.WriteFault) l e limit = absurd (cc)
+  live_limit (Err run_error.NoMemory) l e limit = absurd (cc)
