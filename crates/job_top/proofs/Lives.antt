@@ -18,6 +18,9 @@ use Rattle.live_writes.specs.Outputs.{LiveOutputs, holding}
 use Rattle.live_writes.specs.Told.{HasBegunLive, IsAhead}
 use Rattle.live_writes.specs.Whole.{BeginsLive, HaltsLive, HasLived, HasPaused, live_opening}
 use Rattle.live_command.specs.Plans.{LivesInOrder, LivesToLimit, LivesWhole}
+use Rattle.live_writes.specs.Script.{SpareName}
+use Rattle.live_writes.proofs.ScriptSteps.{spare_cut, spared}
+use Rattle.live_command.proofs.WritingSteps.{spare_run}
 use Rattle.live_command.proofs.ScriptsTold.{live_script}
 use Rattle.job_commands.specs.declared.live_inputs.LiveInputs.{LiveInputs}
 use Rattle.job_commands.specs.declared.status.Status.{Status}
@@ -26,7 +29,7 @@ use Rattle.job_commands.specs.Live.{AcceptsLiveInputs, JudgesLiveFiles, JudgesLi
 use Rattle.job_commands.specs.Status.{run_outcome}
 use Rattle.job_commands.specs.Words.{LiveNames}
 use Rattle.job_commands.proofs.Outcomes.{begun_since, begun_writes_since, run_since, stopped_since, files_since}
-use Rattle.job_top.specs.Live.{JudgesLive, LivesFiles, LivesLimit, LivesOrder, SaysOfRun, live_outputs, live_setting}
+use Rattle.job_top.specs.Live.{JudgesLive, KeepsLiveNames, LivesFiles, LivesLimit, LivesOrder, SaysOfRun, live_outputs, live_setting}
 
 -- The files are as they were when the inputs had been read.
 module _ (a b c : Shown) (keeps : KeepsOutputs a b) where
@@ -158,3 +161,45 @@ module _ (healthy : Type 0) (may : ℕ → Type 0) (names : LiveNames) (inputs :
       LivesToLimit (live_setting inputs) inputs.plan (live_outputs names) m a c) same (limit k refl))
   live_limit (Err run_error.WriteFault) l e limit = absurd (cc)
   live_limit (Err run_error.NoMemory) l e limit = absurd (cc)
+
+-- what a refused input says
+pub live_refused : (healthy : Type 0) (names : LiveNames) (s : Status) (a : Shown)
+    → JudgesLiveInputs healthy names (Err s) a → JudgesLive healthy names s a
+live_refused healthy names s a (inl box) = inl box
+live_refused healthy names s a (inr (conf, box, inl capture)) = inr (conf, box, inl capture)
+live_refused healthy names s a (inr (conf, box, inr (capture, at, inl plan))) =
+    inr (conf, box, inr (capture, at, inl plan))
+live_refused healthy names s a (inr (conf, box, inr (capture, at, inr (plan, accepted, no)))) = absurd no
+
+-- Other names
+
+spare_opening : (names : LiveNames) (u : _) (name : List ℕ) → ¬ (name ≡ names.released) → ¬ (name ≡ names.schedule)
+    → ¬ (name ≡ names.script) → SpareName name (live_opening (live_outputs names) u)
+spare_opening names u name one two three =
+    ((λ e. one (sym e)), ((λ e. one (sym e)), ((λ e. two (sym e)), ((λ e. three (sym e)), tt))))
+
+not_held : (name other bytes : List ℕ) (a : Shown) → ¬ (name ≡ other)
+    → (holding other bytes a).names name ≡ a.names name
+not_held name other bytes a apart = go (compared other name)
+  where
+    go : Compared other name → (holding other bytes a).names name ≡ a.names name
+    go (IsSame e same) = absurd (apart (sym same))
+    go (Differs e differ) = rw e refl
+
+pub live_others : (names : LiveNames) (a b : Shown) → LivesOrder names a b → KeepsLiveNames names a b
+live_others names a b (inl kept) name one two three = ap (λ f. f name) kept.names
+live_others names a b (inr (inputs, accepted, r)) name one two three = go r.written
+  where
+    go : BeginsLive (live_setting inputs) (live_outputs names) r.events a b → b.names name ≡ a.names name
+    go (inl begun) =
+        begun.written.names name
+        ∙ spared name begun.done (a.names name) (spare_cut name begun.done
+        (live_opening (live_outputs names) (live_setting inputs).fractions)
+        (spare_opening names (live_setting inputs).fractions name one two three) begun.cut)
+    go (inr h) =
+        h.ahead.begun.2.written.names name
+        ∙ spared name h.ahead.begun.2.done ((holding names.script h.written a).names name) (spare_cut name
+        h.ahead.begun.2.done h.ahead.begun.0
+        (spare_run (live_setting inputs) (live_outputs names).outputs name (λ e. one (sym e)) (λ e. two (sym e))
+        h.ahead.first h.ahead.begun.0 h.ahead.begun.1) h.ahead.begun.2.cut)
+        ∙ not_held name names.script h.written a three

@@ -52,30 +52,28 @@ text_prefix first rest = (script_text rest, text_more first rest)
 
 -- What the outputs beside the script write spares it
 
-module _ {V : Type 0} (s : Setting V) (names : LiveOutputs) (apart : AreApart names) where
-  spare_replies : (replies : List Reply)
-      → SpareName names.script (replies_writes names.outputs.released replies)
+module _ {V : Type 0} (s : Setting V) (names : OutputNames) (name : List ℕ) (one : ¬ (names.released ≡ name))
+    (two : ¬ (names.schedule ≡ name)) where
+  spare_replies : (replies : List Reply) → SpareName name (replies_writes names.released replies)
   spare_replies [] = tt
-  spare_replies (r ∷ replies) = (apart.released, spare_replies replies)
+  spare_replies (r ∷ replies) = (one, spare_replies replies)
 
-  pub spare_writes : (replies : List Reply)
-      → SpareName names.script (writes_of names.outputs s.fractions replies)
-  spare_writes replies = (apart.released, (apart.released, (apart.schedule, spare_replies replies)))
+  pub spare_writes : (replies : List Reply) → SpareName name (writes_of names s.fractions replies)
+  spare_writes replies = (one, (one, (two, spare_replies replies)))
 
-  spare_run : (events : List Event) (writes : List Write) → IsWritten s names.outputs events writes
-      → SpareName names.script writes
+  pub spare_run : (events : List Event) (writes : List Write) → IsWritten s names events writes → SpareName name writes
   spare_run events writes (inl some) =
-      subst (λ (ws : List Write). SpareName names.script ws) (sym some.writes_are) (spare_writes some.replies)
+      subst (λ (ws : List Write). SpareName name ws) (sym some.writes_are) (spare_writes some.replies)
   spare_run events writes (inr (inl (limit, until))) =
-      subst (λ (ws : List Write). SpareName names.script ws) (sym until.writes_are)
-      (spare_both names.script (writes_of names.outputs s.fractions until.replies)
-      (release_writes names.outputs.released (newly_released until.there until.world)) (spare_writes until.replies)
-      (apart.released, tt))
+      subst (λ (ws : List Write). SpareName name ws) (sym until.writes_are)
+      (spare_both name (writes_of names s.fractions until.replies)
+      (release_writes names.released (newly_released until.there until.world)) (spare_writes until.replies) (one, tt))
   spare_run events writes (inr (inr all)) =
-      subst (λ (ws : List Write). SpareName names.script ws) (sym all.writes_are)
-      (spare_both names.script (writes_of names.outputs s.fractions all.replies)
-      (closing_writes names.outputs _ _) (spare_writes all.replies) (apart.schedule, tt))
+      subst (λ (ws : List Write). SpareName name ws) (sym all.writes_are)
+      (spare_both name (writes_of names s.fractions all.replies) (closing_writes names _ _) (spare_writes all.replies)
+      (two, tt))
 
+module _ {V : Type 0} (s : Setting V) (names : LiveOutputs) (apart : AreApart names) where
   -- the script grew, and nothing else was written
   pub ahead_longer : (events : List Event) (written part : List ℕ) (old now new : Shown)
       → IsAhead s names events written old now → HasWritten (Appends names.script part ∷ []) now new
@@ -88,8 +86,8 @@ module _ {V : Type 0} (s : Setting V) (names : LiveOutputs) (apart : AreApart na
     begun = (
       a.begun.0,
       a.begun.1,
-      begun_longer names.script written part old now new a.begun.0 (spare_run a.first a.begun.0 a.begun.1)
-          a.begun.2 w,
+      begun_longer names.script written part old now new a.begun.0
+          (spare_run s names.outputs names.script apart.released apart.schedule a.first a.begun.0 a.begun.1) a.begun.2 w,
     );
   }
 
@@ -151,7 +149,7 @@ module _ {V : Type 0} (s : Setting V) (names : LiveOutputs) (apart : AreApart na
         ∙ ap (λ (l : List ℕ). (h.written ++ x.text) ++ l) (sym none);
     counted = record { count = count ∙ h.counted.count; size = size ∙ h.counted.size };
     gathered = written_beside names.script h.written x.text old now new (writes_of names.outputs s.fractions h.replies)
-        lines (spare_writes s names apart h.replies) h.gathered done;
+        lines (spare_writes s names.outputs names.script apart.released apart.schedule h.replies) h.gathered done;
     ahead = ahead_longer s names apart events h.written x.text old now new h.ahead done;
   }
 

@@ -41,7 +41,7 @@ spare_both name (Appends other bytes ∷ first) more a b = (a.0, spare_both name
 spare_both name (Reports bytes ∷ first) more a b = spare_both name first more a b
 
 -- a cut of writes spares what they spare
-spare_cut : (name : List ℕ) (done writes : List Write) → SpareName name writes → IsCut done writes
+pub spare_cut : (name : List ℕ) (done writes : List Write) → SpareName name writes → IsCut done writes
     → SpareName name done
 spare_cut name [] writes spare cut = tt
 spare_cut name (x ∷ done) [] spare cut = absurd cut

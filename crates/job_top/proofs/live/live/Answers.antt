@@ -1,0 +1,102 @@
+use Rattle.std.proofs.Common.{ap, sym, ◌∙◌, inl, inr}
+use Rattle.live_writes.specs.Outputs.{AreApart}
+use Rattle.job_commands.specs.Status.{stage_of}
+use Rattle.job_commands.specs.Words.{live_names_of}
+use Rattle.job_commands.proofs.Outcomes.{kept, run_words, run_reads, run_fault}
+use Rattle.job_commands.proofs.Stages.{quiet_words, quiet_writing, quiet_done}
+use Rattle.job_commands.proofs.Failing.{failed_since}
+use Rattle.job_top.specs.Live.{live_outputs, live_setting}
+use Rattle.job_top.proofs.Lives.{limit_lived, live_done, live_judged, live_limit, live_refused, order_lived}
+use Rattle.job_top.proofs.Lives.{whole_lived}
+use Rattle.job_top.proofs.Promise.{live_promise}
+use Rattle.job_top.proofs.live.live.Goals as goal
+
+-- its inputs are accepted
+
+pub returns-in-Ok-clause-done : goal.returns-in-Ok-clause-done
+returns-in-Ok-clause-done g c told done =
+    let i = c.in-Ok.inputs in
+    live_done (g.W.World.healthy c.args.world.now) (g.C.Clock.may c.args.clock.now) (live_names_of c.args.names) i
+    (g.W.World.shown c.args.world.now) (g.W.World.shown c.live_box.new.world) (c.in-Ok.ensures.judged told)
+    c.live_box.result (sym c.run_outcome.ensures ∙ done)
+    (whole_lived _ _ _ (c.in-Ok.ensures.only_reads.outputs told) (live_setting i) _ _ _ c.live_box.result
+    (c.live_box.ensures.whole told))
+
+pub returns-in-Ok-clause-headline : goal.returns-in-Ok-clause-headline
+returns-in-Ok-clause-headline g c told done =
+    let i = c.in-Ok.inputs in
+    live_promise (g.C.Clock.may c.args.clock.now) (live_names_of c.args.names) (g.W.World.shown c.args.world.now)
+    (g.W.World.shown c.live_box.new.world)
+    (live_done (g.W.World.healthy c.args.world.now) (g.C.Clock.may c.args.clock.now) (live_names_of c.args.names) i
+    (g.W.World.shown c.args.world.now) (g.W.World.shown c.live_box.new.world) (c.in-Ok.ensures.judged told)
+    c.live_box.result (sym c.run_outcome.ensures ∙ done)
+    (whole_lived _ _ _ (c.in-Ok.ensures.only_reads.outputs told) (live_setting i) _ _ _ c.live_box.result
+    (c.live_box.ensures.whole told)))
+
+pub returns-in-Ok-clause-limit : goal.returns-in-Ok-clause-limit
+returns-in-Ok-clause-limit g c told limit e =
+    let i = c.in-Ok.inputs in
+    live_limit (g.W.World.healthy c.args.world.now) (g.C.Clock.may c.args.clock.now) (live_names_of c.args.names) i
+    (g.W.World.shown c.args.world.now) (g.W.World.shown c.live_box.new.world) (c.in-Ok.ensures.judged told)
+    c.live_box.result limit (sym c.run_outcome.ensures ∙ e)
+    (λ l is. limit_lived _ _ _ (c.in-Ok.ensures.only_reads.outputs told) (live_setting i) _ _ l
+    (c.live_box.ensures.limit told l is))
+
+pub returns-in-Ok-clause-judged : goal.returns-in-Ok-clause-judged
+returns-in-Ok-clause-judged g c told =
+    let i = c.in-Ok.inputs in
+    rw c.run_outcome.ensures
+    (live_judged (g.W.World.healthy c.args.world.now) (g.C.Clock.may c.args.clock.now) (live_names_of c.args.names) i
+    (g.W.World.shown c.args.world.now) (g.W.World.shown c.live_box.new.world) (c.in-Ok.ensures.judged told)
+    c.live_box.result
+    (λ ok fault. (c.live_box.ensures.cause fault).not_healthy (c.in-Ok.ensures.only_reads.stays_healthy ok))
+    (whole_lived _ _ _ (c.in-Ok.ensures.only_reads.outputs told) (live_setting i) _ _ _ c.live_box.result
+    (c.live_box.ensures.whole told))
+    (λ l is. limit_lived _ _ _ (c.in-Ok.ensures.only_reads.outputs told) (live_setting i) _ _ l
+    (c.live_box.ensures.limit told l is)))
+
+pub returns-in-Ok-clause-in_order : goal.returns-in-Ok-clause-in_order
+returns-in-Ok-clause-in_order g c told =
+    let i = c.in-Ok.inputs in
+    inr (
+      i,
+      c.in-Ok.ensures.judged told,
+      order_lived _ _ _ (c.in-Ok.ensures.only_reads.outputs told) (live_setting i) _ _
+          (c.live_box.ensures.in_order told),
+    )
+
+pub returns-in-Ok-clause-words : goal.returns-in-Ok-clause-words
+returns-in-Ok-clause-words g c e = run_words c.live_box.result (sym c.run_outcome.ensures ∙ e)
+
+pub returns-in-Ok-clause-read_fault : goal.returns-in-Ok-clause-read_fault
+returns-in-Ok-clause-read_fault g c e = absurd (run_reads c.live_box.result (sym c.run_outcome.ensures ∙ e))
+
+pub returns-in-Ok-clause-write_fault : goal.returns-in-Ok-clause-write_fault
+returns-in-Ok-clause-write_fault g c e =
+    failed_since _ _ _ _ _ _ _ _ c.in-Ok.ensures.only_reads
+    (c.live_box.ensures.cause (run_fault c.live_box.result (sym c.run_outcome.ensures ∙ e)))
+
+-- an input is refused
+
+pub returns-in-Err-clause-done : goal.returns-in-Err-clause-done
+returns-in-Err-clause-done g c told e = absurd (quiet_done c.in-Err.status e c.in-Err.ensures.quiet)
+
+pub returns-in-Err-clause-headline : goal.returns-in-Err-clause-headline
+returns-in-Err-clause-headline g c told e = absurd (quiet_done c.in-Err.status e c.in-Err.ensures.quiet)
+
+pub returns-in-Err-clause-limit : goal.returns-in-Err-clause-limit
+returns-in-Err-clause-limit g c told limit e = inl (kept _ _ (c.in-Err.ensures.only_reads.outputs told))
+
+pub returns-in-Err-clause-in_order : goal.returns-in-Err-clause-in_order
+returns-in-Err-clause-in_order g c told = inl (kept _ _ (c.in-Err.ensures.only_reads.outputs told))
+
+pub returns-in-Err-clause-words : goal.returns-in-Err-clause-words
+returns-in-Err-clause-words g c e = quiet_words c.in-Err.status e c.in-Err.ensures.quiet
+
+pub returns-in-Err-clause-write_fault : goal.returns-in-Err-clause-write_fault
+returns-in-Err-clause-write_fault g c e = absurd (quiet_writing c.in-Err.status e c.in-Err.ensures.quiet)
+
+pub returns-in-Err-clause-judged : goal.returns-in-Err-clause-judged
+returns-in-Err-clause-judged g c told =
+    live_refused (g.W.World.healthy c.args.world.now) (live_names_of c.args.names) c.in-Err.status
+    (g.W.World.shown c.args.world.now) (c.in-Err.ensures.judged told)
