@@ -14,7 +14,12 @@ use command_line::{StatusText, answer};
 use std::alloc::{AllocError, Global};
 use std::env::Args;
 use std::{env, fs, io};
+use var_locks::OpenGate;
+use world_io::FixedClock;
 use world_real::RealWorld;
+
+/// What the clock answers in each session, in microseconds.
+const TIME: u64 = 100_000_006;
 
 /// The arguments of a program that is called with these words, of which the first is its name.
 fn arguments(alloc: Global, words: &str) -> Result<Args, AllocError> {
@@ -29,7 +34,7 @@ fn arguments(alloc: Global, words: &str) -> Result<Args, AllocError> {
 fn run(rt: &HostRuntime, words: &str) -> io::Result<()> {
     let arguments = arguments(rt.alloc(), words)?;
     let mut world = RealWorld::new(rt.alloc(), rt);
-    let status = answer(rt.alloc(), Ok(arguments), &mut world);
+    let status = answer(rt, Ok(arguments), &mut world, &FixedClock(TIME), &OpenGate);
     let number = status.exit_code();
     println!(rt; "{number}: {}", StatusText(status))
 }

@@ -1,4 +1,4 @@
-ghost use Rattle.std.specs.Prelude.{◌≡◌, ◌+◌, ◌<◌, ◌≤◌, ◌-◌, ◌^◌, ◌↔◌, None, Some, Err, IsTrue, OnOk};
+ghost use Rattle.std.specs.Prelude.{◌≡◌, ◌+◌, ◌<◌, ◌≤◌, ◌-◌, ◌^◌, ◌↔◌, None, Err, IsTrue, OnOk};
 ghost use Rattle.std.specs.Prelude.{IsErrOf};
 ghost use Rattle.plain_text.specs.declared.limit.Limit.{Limit as LimitKind};
 ghost use Rattle.world_io.specs.Stream.{Rose};
@@ -11,14 +11,14 @@ ghost use Rattle.job_commands.specs.Judging.{Judges};
 ghost use Rattle.job_commands.specs.Run.{RunsInOrder, RunsToLimit, RunsWhole, outputs_of};
 ghost use Rattle.job_commands.specs.Run.{script_of, setting_for};
 ghost use Rattle.job_commands.specs.Status.{AtInputs, AtOutputs, stage_of, stage_of_limit};
-ghost use Rattle.job_commands.specs.Words.{asked, IfAsks, Lives, LiveNames, names_of};
+ghost use Rattle.job_commands.specs.Words.{asked, IfAsks, live_names, names_of};
 ghost use Rattle.world_io.specs.World.{WritingFailed};
 
 use crate::live::live;
 use box_conf::BoxKind;
 use job_commands::{
     Command, Inputs, RunWords, Status, check_released, make_capture, outcome, play_capture,
-    read_command, read_inputs, run_outcome,
+    read_command, read_inputs, read_live_words, run_outcome,
 };
 use plain_text::Text;
 use run_command::run_script;
@@ -104,7 +104,7 @@ fn run<W: World>(alloc: Global, world: &mut W, names: RunWords<'_>) -> Status
 /// It takes no runtime that may wait, so it is proved to return.
 pub fn serial<W: World>(alloc: Global, words: &[Text], world: &mut W) -> Status
     requires room { (W.ledger world.old).given < 2 ^ 31 }
-    requires no_rounds { (names : LiveNames) → asked words.now ≡ Some (Lives names) → ⊥ }
+    requires no_rounds { live_names words.now ≡ None }
 
     // What is asked: words that ask for no command change nothing.
     ensures bad_words { result ≡ Status.BadWords ↔ asked words.now ≡ None }
@@ -239,8 +239,8 @@ pub fn ftmb<
         → Rose (W.ledger world.old).write_faults (W.ledger world.new).write_faults }
     ensures given { (W.ledger world.new).given ≤ (W.ledger world.old).given + 6 }
 {
-    match read_command(words) {
-        Some(Command::Live(names)) => live(rt, world, names, clock, gate),
-        _ => serial(rt.alloc(), words, world),
+    match read_live_words(words) {
+        Some(names) => live(rt, world, names, clock, gate),
+        None => serial(rt.alloc(), words, world),
     }
 }

@@ -5,18 +5,19 @@ use plain_text::{Limit, NoMemory};
 use std::alloc::Global;
 use std::io;
 use std::test::Fail;
-use world_io::MemoryWorld;
+use var_locks::OpenGate;
+use world_io::{FixedClock, MemoryWorld};
 
 /// What the program comes to where std gives no arguments, since one of them is not UTF-8.
-fn answer_to_none(alloc: Global) -> Result<Status, NoMemory> {
-    let mut world = MemoryWorld::new(alloc)?;
+fn answer_to_none(rt: &HostRuntime) -> Result<Status, NoMemory> {
+    let mut world = MemoryWorld::new(rt.alloc())?;
     let none = io::Error::from(io::ErrorKind::InvalidData);
-    Ok(answer(alloc, Err(none), &mut world))
+    Ok(answer(rt, Err(none), &mut world, &FixedClock(0), &OpenGate))
 }
 
 #[test]
 fn a_word_that_is_not_text_is_a_bad_word(rt: HostRuntime) -> Result<(), Fail> {
-    assert!(rt; answer_to_none(rt.alloc())? == Status::BadWords);
+    assert!(rt; answer_to_none(&rt)? == Status::BadWords);
     Ok(())
 }
 
