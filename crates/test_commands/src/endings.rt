@@ -4,12 +4,14 @@ use job_top::Status;
 use plain_text::{Limit, NoMemory};
 use std::alloc::Global;
 use std::io;
+use std::sync::Wait;
+use std::thread::Threads;
 use std::test::Fail;
 use var_locks::OpenGate;
 use world_io::{FixedClock, MemoryWorld};
 
 /// What the program comes to where std gives no arguments, since one of them is not UTF-8.
-fn answer_to_none(rt: &HostRuntime) -> Result<Status, NoMemory> {
+fn answer_to_none<R: AllocGlobal + Threads + Wait + Sync>(rt: &R) -> Result<Status, NoMemory> {
     let mut world = MemoryWorld::new(rt.alloc())?;
     let none = io::Error::from(io::ErrorKind::InvalidData);
     Ok(answer(rt, Err(none), &mut world, &FixedClock(0), &OpenGate))
