@@ -9,6 +9,7 @@ use Rattle.rand_pcg.specs.Lcg.{Lcg}
 use Rattle.plain_text.specs.Packets.{IsShort}
 use Rattle.plain_text.specs.declared.packet.Packet.{Packet}
 use Rattle.plain_text.specs.declared.limit.Limit.{Limit}
+use Rattle.input_logger.specs.Inputs.{Fed}
 use Rattle.plain_machine.specs.Program.{Meaning}
 use Rattle.plain_machine.specs.History.{IsHistory, Step, moves_of}
 use Rattle.plain_machine.specs.declared.plain_move.PlainMove.{PlainMove}
@@ -133,12 +134,12 @@ module _ {P V : Type 0} (m : Meaning V) (s : Setting V) (w : SystemWorld V) (may
   up_is up = sym stands.parts.master.up ∙ up
 
   pub draws_count : length after ≡ z.parts.inputs.threads
-  draws_count = r.count ∙ sym (ap (λ (x : _). x.threads) rounds.2.parts.inputs.inputs)
+  draws_count = r.count ∙ sym (ap (λ (f : Fed). f.threads) rounds.2.parts.inputs.inputs)
 
   pub threads_same : z.parts.inputs.threads ≡ y.parts.inputs.threads
   threads_same =
-      ap (λ (x : _). x.threads) rounds.2.parts.inputs.inputs
-      ∙ sym (ap (λ (x : _). x.threads) stands.parts.inputs.inputs)
+      ap (λ (f : Fed). f.threads) rounds.2.parts.inputs.inputs
+      ∙ sym (ap (λ (f : Fed). f.threads) stands.parts.inputs.inputs)
 
   -- what the round came to, where it was told
   pub round_told : (names : LiveOutputs) (events : List Event) (up : y.parts.up ≡ true)

@@ -27,14 +27,17 @@ use Rattle.run_writes.specs.Errors.{run_result_of, stopped_result}
 use Rattle.run_writes.specs.Replies.{Reply, Answers, Goes, newly_released, packets_in, released_in}
 use Rattle.run_writes.specs.Run.{FitsRecord, HasBegunRun, IsWritten, WritesUntil, release_writes, reply_writes, writes_of}
 use Rattle.run_writes.proofs.ScriptAnswers.{released_more}
-use Rattle.run_command.specs.Running.{ComesTo, IsSystemAt, WritesPerformed}
+use Rattle.std.specs.Result.{IsOk}
+use Rattle.input_logger.specs.Inputs.{Fed}
+use Rattle.run_command.specs.Running.{ComesTo, IsSomewhere, IsSystemAt, WritesPerformed}
 use Rattle.script_text.specs.Scripts.{script_text}
 use Rattle.plan_script.specs.Rounds.{Does}
 use Rattle.live_writes.specs.Outputs.{LiveOutputs, holding}
 use Rattle.live_writes.specs.Script.{Scripted, Beside}
 use Rattle.live_writes.specs.Told.{FailsLive, HasBegunLive, HasTold, IsAhead, IsStopped}
 use Rattle.live_command.specs.Going.{GoesOver, HasLivedTo}
-use Rattle.live_command.specs.Writing.{IsQuiet}
+use Rattle.plan_script.specs.Begun.{AreFirstOf}
+use Rattle.live_command.specs.Writing.{IsQuiet, Keeps}
 use Rattle.live_command.proofs.WritingSteps.{all_ahead, told_reply, with_reply}
 
 -- one event is performed
@@ -236,3 +239,41 @@ module _ {P V : Type 0} (m : Meaning V) (s : Setting V) (names : LiveOutputs) (e
             written.1,
           ),
         )
+
+-- What is so of the system where the event ended.
+
+pub threads_kept : {A E P V : Type 0} (r : Result A E) (m : Meaning V) (ev : Event) (reply : Result SystemReply Stop)
+    (outputs : List Output) (y new : Systemed P V) → OnOk r (IsOk reply) → ComesTo m ev reply outputs y new
+    → IsSomewhere m y → OnOk r (new.parts.inputs.threads ≡ y.parts.inputs.threads)
+threads_kept (Ok x) m ev (Ok reply) outputs y new ended comes here =
+    let came = comes here.0 here.1 here.2 in
+    ap (λ (f : Fed). f.threads) came.5.stands.parts.inputs.inputs
+    ∙ sym (ap (λ (f : Fed). f.threads) here.2.stands.parts.inputs.inputs)
+threads_kept (Ok x) m ev (Err e) outputs y new ended comes here = absurd (cc)
+threads_kept (Err e) m ev reply outputs y new ended comes here = tt
+
+-- an error before the event was told
+pub err_goes : {A P V : Type 0} (r : Result A RunError) (e : RunError) (m : Meaning V) (s : Setting V)
+    (names : LiveOutputs) (w : SystemWorld V) (events part first : List Event) (y : Systemed P V) (lines : List ℕ)
+    (x : Scripted) (old now : Shown) → r ≡ Err e → AreFirstOf part first
+    → FailsLive e s names (events ++ first) old now → GoesOver r m s names w events part y lines x old now
+err_goes {A} r e m s names w events part first y lines x old now is firsts fails =
+    subst (λ (z : Result A RunError). GoesOver z m s names w events part y lines x old now) (sym is)
+    (first, firsts, fails)
+
+-- an event that released nothing was told
+pub quiet_goes : {P V : Type 0} (files : Result ⊤ OutputError) (r : Result ⊤ RunError) (m : Meaning V) (s : Setting V)
+    (names : LiveOutputs) (w next : SystemWorld V) (events : List Event) (ev : Event) (line : List ℕ)
+    (new : Systemed P V) (lines : List ℕ) (x : Scripted) (old now : Shown) → r ≡ run_result_of files
+    → IsQuiet s w ev line next → IsSystemAt m s next new → s.threads ≤ 16
+    → Keeps files s names (events ++ ev ∷ []) (events ++ ev ∷ []) next lines x old now
+    → GoesOver r m s names w events (ev ∷ []) new lines x old now
+quiet_goes files r m s names w next events ev line new lines x old now is q at few k =
+    subst (λ (z : Result ⊤ RunError). GoesOver z m s names w events (ev ∷ []) new lines x old now) (sym is) (go files k)
+  where
+    go : (files : Result ⊤ OutputError)
+        → Keeps files s names (events ++ ev ∷ []) (events ++ ev ∷ []) next lines x old now
+        → GoesOver (run_result_of files) m s names w events (ev ∷ []) new lines x old now
+    go (Ok done) k = (next, does_one s w next ev q.to q.freed q.on, record { told = k; at = at; few = few })
+    go (Err output.WriteFault) k = (ev ∷ [], ([], refl), k)
+    go (Err output.NoMemory) k = (ev ∷ [], ([], refl), k)

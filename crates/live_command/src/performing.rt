@@ -6,6 +6,8 @@ ghost use Rattle.plain_text.specs.declared.limit.TheConstants.{MOST_FILE_BYTES a
 ghost use Rattle.world_io.specs.World.{Shown, is_writable, WritingFailed};
 ghost use Rattle.recovery_world.specs.declared.event.Event.{Event as EventKind};
 ghost use Rattle.recovery_world.specs.World.{Setting, World as SystemWorld};
+ghost use Rattle.std.specs.Result.{IsOk};
+ghost use Rattle.plain_machine.specs.Program.{Meaning};
 ghost use Rattle.recovery_core.specs.Systems.{Systemed};
 ghost use Rattle.output_files.specs.Written.{OnlyWrites};
 ghost use Rattle.run_writes.specs.Replies.{packets_in};
@@ -40,16 +42,17 @@ fn leave<P: Program, W: World>(
     requires short { All IsShort (packets_in performed.now.outputs) }
     requires released { IsTrue (is_writable (W.ledger world.old) files.released) }
     requires script { IsTrue (is_writable (W.ledger world.old) files.script) }
-    ensures told { IsTrue W.tells → (s : Setting P.Value) (names : LiveOutputs)
-        (events : List EventKind) (w : SystemWorld P.Value) (old new : Systemed P P.Value)
-        (before : Shown) → AreApart names
+    ensures told { IsTrue W.tells → (m : Meaning P.Value) (s : Setting P.Value)
+        (names : LiveOutputs) (events : List EventKind) (w : SystemWorld P.Value)
+        (old new : Systemed P P.Value) (before : Shown) → AreApart names
         → AreOpen names files.released files.schedule files.script (W.shown world.old)
         → HasTold s names events (events ++ event.now ∷ []) w lines.old script.old before
         (W.shown world.old)
-        → ComesTo s.meaning event.now performed.now.reply performed.now.outputs old new
-        → IsSystemAt s.meaning s w old → s.threads ≤ 16
-        → GoesOver result s.meaning s names w events (event.now ∷ []) new lines.new script.new
-        before (W.shown world.new) }
+        → ComesTo m event.now performed.now.reply performed.now.outputs old new
+        → IsSystemAt m s w old → s.threads ≤ 16
+        → GoesOver result m s names w events (event.now ∷ []) new lines.new script.new before
+        (W.shown world.new) }
+    ensures ended { OnOk result (IsOk performed.now.reply) }
     ensures count { script.new.count ≡ script.old.count }
     ensures size { script.new.size ≡ script.old.size }
     ensures only_writes { OnlyWrites W.tells W.shown W.ledger W.healthy world.old world.new }
