@@ -1,8 +1,8 @@
 -- A round is told.
 use Rattle.std.proofs.Common.{◌≡◌, ◌⊎◌, ℕ, ◌<◌, ◌≤◌, true, List, [], ◌∷◌, ◌++◌, length, take, refl, sym, ap, ◌∙◌, subst}
 use Rattle.std.proofs.Common.{inl, inr, append-nil, append_assoc, Result, Ok, Err, Option, Some, None, cond, nat_eq, arith}
-use Rattle.std.specs.Prelude.{⊤, All}
-use Rattle.std.proofs.lemmas.List.{take-nil}
+use Rattle.std.specs.Prelude.{⊤, All, OnOk}
+use Rattle.std.proofs.lemmas.List.{drop_all, take-nil}
 use Rattle.std.proofs.Common.{false}
 use Rattle.std.proofs.lemmas.Bool.Decides.{nat_tests}
 use Rattle.rand_pcg.specs.Lcg.{Lcg}
@@ -19,6 +19,16 @@ use Rattle.recovery_world.specs.declared.event.Event.TheVariants as event
 use Rattle.recovery_world.specs.Many.{Message}
 use Rattle.recovery_world.specs.World.{Setting, World as SystemWorld, inputs_fed}
 use Rattle.recovery_core.specs.Systems.{Systemed, SystemStands}
+use Rattle.recovery_world.specs.Many.{SingleStops}
+use Rattle.recovery_world.specs.Files.{packets_of}
+use Rattle.output_files.specs.declared.error.OutputError.{OutputError}
+use Rattle.output_files.specs.declared.error.OutputError.TheVariants as output
+use Rattle.output_files.specs.Writes.{HasWritten, Write}
+use Rattle.output_files.proofs.Effects.{nothing_gathered}
+use Rattle.run_writes.specs.Errors.{run_error_of, run_result_of}
+use Rattle.run_writes.specs.Replies.{newly_released}
+use Rattle.run_writes.specs.Run.{WritesUntil, release_writes, writes_of}
+use Rattle.script_text.specs.Scripts.{script_text}
 use Rattle.run_writes.specs.declared.error.RunError.{RunError}
 use Rattle.run_writes.specs.declared.error.RunError.TheVariants as run
 use Rattle.run_command.specs.Running.{IsSomewhere, IsSystemAt}
@@ -31,12 +41,13 @@ use Rattle.plan_script.specs.Rounds.{step_events}
 use Rattle.plan_script.specs.Begun.{AreFirstOf, BeginsRound, IsCutRace}
 use Rattle.live_workers.specs.Rounds.{IsRoundTo, Rounds, StopsRound}
 use Rattle.live_workers.specs.declared.rounds.RoundStop.TheVariants as stop
-use Rattle.live_writes.specs.Outputs.{LiveOutputs}
+use Rattle.live_writes.specs.Outputs.{LiveOutputs, holding}
 use Rattle.live_writes.specs.Script.{Scripted}
 use Rattle.live_writes.specs.Told.{FailsLive, HasTold, IsStopped}
 use Rattle.live_command.specs.declared.standing.Standing.{Standing}
 use Rattle.live_command.specs.Going.{GoesRace, GoesRound, HasLivedTo, SameOrders, StopsRace, standing_in}
 use Rattle.live_command.specs.Telling.{AreTold}
+use Rattle.live_command.proofs.WritingSteps.{gathered_none}
 
 -- The steps of a round are of threads that there are.
 
@@ -216,3 +227,101 @@ module _ {V : Type 0} (s : Setting V) (names : LiveOutputs) (w : SystemWorld V) 
     woven = woven;
     first = (stopped.left, sym stopped.all_are ∙ sym (append_assoc (events_noted noted) (last ∷ []) stopped.left));
   }
+
+  module _ (old now : Shown) where
+    -- an error before all of it was told
+    pub steps_failed : {A : Type 0} (r : Result A RunError) (e : RunError) → r ≡ Err e → (first : List Event)
+        → AreFirstOf (events_noted noted) first → FailsLive e s names (events ++ first) old now
+        → StopsRace r s names w limit events old now
+    steps_failed {A} r e is first first_of fails =
+        subst (λ (z : Result A RunError). StopsRace z s names w limit events old now) (sym is)
+        (first, firsts first first_of, fails)
+
+    pub last_failed : {A : Type 0} (r : Result A RunError) (e : RunError) → r ≡ Err e
+        → FailsLive e s names ((events ++ events_noted noted) ++ last ∷ []) old now
+        → StopsRace r s names w limit events old now
+    last_failed {A} r e is fails =
+        subst (λ (z : Result A RunError). StopsRace z s names w limit events old now) (sym is) (
+          events_noted noted ++ last ∷ [],
+          all,
+          subst (λ (l : List Event). FailsLive e s names l old now)
+              (append_assoc events (events_noted noted) (last ∷ [])) fails,
+        )
+
+    -- all was told and written
+    module _ (x : Scripted) (none : x.text ≡ [])
+        (h : HasTold s names (events ++ events_noted noted) ((events ++ events_noted noted) ++ last ∷ []) stopped.there
+        [] x old now) where
+      told_all : List Event
+      told_all = (events ++ events_noted noted) ++ last ∷ []
+
+      till : List Write
+      till =
+          writes_of names.outputs s.fractions h.replies
+          ++ release_writes names.outputs.released (newly_released stopped.there stopped.there)
+
+      no_news : newly_released stopped.there stopped.there ≡ []
+      no_news = ap packets_of
+          (drop_all (length stopped.there.released) stopped.there.released (omega arith))
+
+      script_whole : h.written ≡ script_text told_all
+      script_whole =
+          sym (append-nil h.written) ∙ ap (λ (l : List ℕ). h.written ++ l) (sym none) ∙ sym h.script_is
+
+      until : WritesUntil s names.outputs told_all limit till
+      until = record {
+        before = events ++ events_noted noted;
+        event = last;
+        after = [];
+        events_are = refl;
+        replies = h.replies;
+        there = stopped.there;
+        answers = h.answers;
+        world = stopped.there;
+        stops = SingleStops last limit stopped.passes;
+        writes_are = refl;
+      }
+
+      written_till : HasWritten till (holding names.script (script_text told_all) old) now
+      written_till =
+          subst (λ (l : List Packet).
+          HasWritten (writes_of names.outputs s.fractions h.replies ++ release_writes names.outputs.released l)
+          (holding names.script (script_text told_all) old) now) (sym no_news)
+          (subst (λ (l : List ℕ).
+          HasWritten (writes_of names.outputs s.fractions h.replies ++ release_writes names.outputs.released [])
+          (holding names.script l old) now) script_whole
+          (gathered_none _ (holding names.script h.written old) now
+          (nothing_gathered (writes_of names.outputs s.fractions h.replies) [] names.outputs.released [] _ now refl
+          h.gathered)))
+
+      is_stopped : IsStopped s names told_all limit old now
+      is_stopped = record { writes = till; until = until; written = written_till }
+
+      pub stop_told : (part : List Event) × IsCutRace s w part × IsStopped s names (events ++ part) limit old now
+      stop_told = (
+        events_noted noted ++ last ∷ [],
+        all,
+        subst (λ (l : List Event). IsStopped s names l limit old now)
+            (append_assoc events (events_noted noted) (last ∷ [])) is_stopped,
+      )
+
+-- What the calls of a round that stopped answer.
+
+pub stop_written : {V : Type 0} (files : Result ⊤ OutputError) (r : Result ⊤ RunError) (s : Setting V)
+    (names : LiveOutputs) (w : SystemWorld V) (limit : Limit) (events : List Event) (old now : Shown)
+    → r ≡ run_result_of files
+    → OnOk files ((part : List Event) × IsCutRace s w part × IsStopped s names (events ++ part) limit old now)
+    → ((e : OutputError) → files ≡ Err e
+    → (part : List Event) × IsCutRace s w part × FailsLive (run_error_of e) s names (events ++ part) old now)
+    → StopsRace r s names w limit events old now
+stop_written files r s names w limit events old now is whole failed =
+    subst (λ (z : Result ⊤ RunError). StopsRace z s names w limit events old now) (sym is) (go files whole failed)
+  where
+    go : (files : Result ⊤ OutputError)
+        → OnOk files ((part : List Event) × IsCutRace s w part × IsStopped s names (events ++ part) limit old now)
+        → ((e : OutputError) → files ≡ Err e
+        → (part : List Event) × IsCutRace s w part × FailsLive (run_error_of e) s names (events ++ part) old now)
+        → StopsRace (run_result_of files) s names w limit events old now
+    go (Ok done) whole failed = whole
+    go (Err output.WriteFault) whole failed = failed output.WriteFault refl
+    go (Err output.NoMemory) whole failed = failed output.NoMemory refl

@@ -65,9 +65,9 @@ pub data IsLiveScript {V : Type 0} (s : Setting V) (may : ℕ → Type 0) : Worl
       → IsLiveScript s may mid (orders_after ln orders) between lines rest new after
       → IsLiveScript s may w orders before (ln ∷ lines) (events ++ rest) new after
 
--- It is a script of the plan.
-abbrev pub LiveScriptsAreScripts : Type 0 → Type 0
-LiveScriptsAreScripts X =
-    (s : Setting X) (may : ℕ → Type 0) (w new : World X) (orders : Orders) (before after : List Lcg)
-    (lines : List PlanLine) (events : List Event)
-    → IsLiveScript s may w orders before lines events new after → IsScript s w orders lines events new
+-- It is a script of the plan, whatever the clock may answer.
+abbrev pub LiveScriptsAreScripts : Type 0 → (ℕ → Type 0) → Type 0
+LiveScriptsAreScripts X may =
+    (s : Setting X) (w new : World X) (orders : Orders) (before after : List Lcg) (lines : List PlanLine)
+    (events : List Event) → IsLiveScript s may w orders before lines events new after
+    → IsScript s w orders lines events new
