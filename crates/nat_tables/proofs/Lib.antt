@@ -6,3 +6,5 @@ pub mod Parity
 pub mod PlaceLemmas
 pub mod WordLemmas
 pub mod GroupLemmas
+pub mod TimesLemmas
+pub mod RowLemmas
