@@ -8,3 +8,5 @@ pub mod WordLemmas
 pub mod GroupLemmas
 pub mod TimesLemmas
 pub mod RowLemmas
+pub mod RowWords
+pub mod IdleLemmas

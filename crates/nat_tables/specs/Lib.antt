@@ -7,3 +7,4 @@ pub mod Placing
 pub mod Times
 pub mod TimesFall
 pub mod Rows
+pub mod Idling

@@ -1,5 +1,5 @@
 ghost use Rattle.std.specs.Prelude.{◌≡◌, ℕ, ◌+◌, ◌*◌, [], ◌∷◌, ◌++◌, Some, None, Option, List, length, set, map};
-ghost use Rattle.std.specs.Prelude.{nat_lt, MatchOption, IfOk, OnOk, OnErr};
+ghost use Rattle.std.specs.Prelude.{◌^◌, ◌<◌, slice_get, MatchOption, IfOk, OnOk, OnErr};
 ghost use Rattle.nat_tables.specs.Rows.{present, row_at, IsAbsent, StandsAt};
 
 use indexmap::IndexMap;
@@ -45,14 +45,16 @@ impl<K: Copy + Eq + Hash, V: Copy> FirstSeen<K, V> {
 
     /// How many rows there are, empty ones included.
     pub(crate) fn rows(&self) -> usize
-        ensures { result ≡ length self.now }
+        ensures count { result ≡ length self.now }
+        ensures fits { result < 2 ^ 63 }
     {
         self.rows.len()
     }
 
     /// How many entries there are.
     pub(crate) fn len(&self) -> usize
-        ensures { result ≡ length (present self.now) }
+        ensures count { result ≡ length (present self.now) }
+        ensures fits { result < 2 ^ 63 }
     {
         self.count
     }
@@ -75,6 +77,22 @@ impl<K: Copy + Eq + Hash, V: Copy> FirstSeen<K, V> {
         let at = *self.places.get(key)?;
         let (own, value) = self.row(at)?;
         if *key == own { Some((at, value)) } else { None }
+    }
+
+    /// The entry at an index, in first-seen order. None exactly where the index is past the last one.
+    pub(crate) fn entry(&self, index: usize) -> Option<(K, V)>
+        ensures { result ≡ slice_get (present self.now) index }
+    {
+        let mut left = index;
+        for row in self.rows.iter() {
+            if let Some(entry) = row {
+                if left == 0 {
+                    return Some(*entry);
+                }
+                left -= 1;
+            }
+        }
+        None
     }
 
     /// Puts a value into a row that is not empty, in the place of another.
