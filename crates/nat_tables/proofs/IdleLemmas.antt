@@ -1,7 +1,7 @@
 -- The first idle mapping of rows, by times up to which they are not idle.
-use Rattle.std.proofs.Common.{◌≡◌, ◌==◌, ℕ, zero, suc, ◌+◌, ◌<◌, ◌≤◌, Bool, true, false, List, [], ◌∷◌, ◌++◌, length, set, get_or}
+use Rattle.std.proofs.Common.{◌≡◌, ◌==◌, ℕ, zero, suc, ◌+◌, ◌<◌, ◌≤◌, Bool, true, false, List, [], ◌∷◌, ◌++◌, length, set}
 use Rattle.std.proofs.Common.{refl, sym, ap, subst, ◌∙◌, arith, ⊎_elim, Option, Some, None, length-append}
-use Rattle.std.specs.Prelude.{◌≢◌, nat_lt, max, not}
+use Rattle.std.specs.Prelude.{◌≢◌, nat_lt}
 use Rattle.std.specs.List.{sum_by}
 use Rattle.std.proofs.lemmas.Bool.{eqb-true, cases_lt}
 use Rattle.std.proofs.lemmas.Bool.Decides.{nat_tests}
@@ -9,13 +9,13 @@ use Rattle.std.proofs.lemmas.List.{length-set, get_or-set_same, get_or-set_other
 use Rattle.std.proofs.lemmas.List.Sums.{sum_by-set}
 use Rattle.nat_tables.specs.declared.entries.Endpoint.{Endpoint}
 use Rattle.nat_tables.specs.declared.slot.Slot.{Slot}
-use Rattle.nat_tables.specs.Forwards.{timer, is_idle, refreshed, first_idle, without_idle, slot_of, refresh}
+use Rattle.nat_tables.specs.Forwards.{timer, refreshed, first_idle, without_idle, slot_of, refresh}
 use Rattle.nat_tables.specs.Keys.{same_endpoint}
 use Rattle.nat_tables.specs.Ports.{one_if}
 use Rattle.nat_tables.specs.Rows.{present, row_at}
 use Rattle.nat_tables.specs.Times.{never, time_at, AreFrom, IsFirstBefore}
 use Rattle.nat_tables.specs.Idling.{IsBusyUntil, AreBusyUntil, row_is_idle, NoneIsIdle, IsFirstIdle}
-use Rattle.nat_tables.proofs.RowLemmas.{row_inside, row_set_same, row_set_other, row_added, row_kept}
+use Rattle.nat_tables.proofs.RowLemmas.{row_set_same, row_set_other, row_added, row_kept}
 
 abbrev Row : Type 0
 Row = Option (Endpoint × Slot)
@@ -93,7 +93,7 @@ busy_pushed times rows at time key slot busy room last later = record {
         rw (get_or-set_other times at k time never apart, row_kept rows (Some (key, slot)) k other) (busy.each k inside)
 
 pub busy_none : AreBusyUntil [] []
-busy_none = record { long = omega arith; each = λ at less. absurd (omega arith); }
+busy_none = record { long = omega arith; each = λ at less. absurd (omega arith) }
 
 -- The first idle mapping
 

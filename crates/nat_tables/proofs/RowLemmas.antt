@@ -1,7 +1,7 @@
 -- Rows after one is emptied, filled anew or added, and the places of their keys.
-use Rattle.std.proofs.Common.{◌≡◌, ◌==◌, ℕ, zero, suc, ◌+◌, ◌<◌, ◌≤◌, Bool, true, false, List, [], ◌∷◌, ◌++◌, length, set, slice_get}
+use Rattle.std.proofs.Common.{◌≡◌, ◌==◌, ℕ, zero, suc, ◌+◌, ◌<◌, ◌≤◌, Bool, true, false, List, [], ◌∷◌, ◌++◌, length, set}
 use Rattle.std.proofs.Common.{cond, refl, sym, ap, subst, ◌∙◌, arith, Option, Some, None, length-append, take, get_or, map}
-use Rattle.std.specs.Prelude.{◌≢◌, nat_lt}
+use Rattle.std.specs.Prelude.{◌≢◌}
 use Rattle.std.specs.Cmp.{IsEquivalence}
 use Rattle.std.specs.Map.{lookup}
 use Rattle.std.proofs.lemmas.Bool.{eqb-true}
@@ -138,7 +138,6 @@ module _ {K : Type 0} (eq : K → K → Bool) (laws : IsEquivalence eq) where
   same_place key own places same = ap (λ test. lookup test places) (λ i q. laws.congr key own q same i)
 
 module _ {K V : Type 0} (eq : K → K → Bool) (laws : IsEquivalence eq) where
-
   place_of : (key : K) (places : List (K × ℕ)) (count : ℕ) (rows : List (Option (K × V))) (at : ℕ) (entry : K × V)
       → AreKept eq places count rows → row_at rows at ≡ Some entry → eq key entry.0 ≡ true
       → lookup (eq key) places ≡ Some at

@@ -1,10 +1,9 @@
 -- The first time before another, by that of the pairs.
-use Rattle.std.proofs.Common.{◌≡◌, ◌==◌, ℕ, ◌+◌, ◌*◌, ◌/◌, ◌%◌, ◌<◌, ◌≤◌, Bool, true, false, List, length, get_or, refl, sym, subst, arith, ⊎_elim}
-use Rattle.std.specs.Prelude.{min}
+use Rattle.std.proofs.Common.{◌≡◌, ◌==◌, ℕ, ◌+◌, ◌*◌, ◌/◌, ◌%◌, ◌<◌, ◌≤◌, Bool, true, false, List, length, refl, sym, subst, arith, ⊎_elim}
 use Rattle.std.proofs.lemmas.Bool.{eqb-true, cases_lt}
 use Rattle.std.proofs.lemmas.Bool.Decides.{nat_tests}
 use Rattle.std.proofs.lemmas.List.{get_or_past}
-use Rattle.nat_tables.specs.Times.{never, time_at, earlier_of, ArePairs, AreFrom, IsFirstBefore}
+use Rattle.nat_tables.specs.Times.{never, time_at, ArePairs, AreFrom, IsFirstBefore}
 
 -- where a pair is from a time on, so are both of its times
 left_from : (now pair : ℕ) (pairs times : List ℕ) → ArePairs pairs times → now ≤ time_at pairs pair

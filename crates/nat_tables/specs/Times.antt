@@ -1,5 +1,5 @@
 -- Times in a list, and the earlier one of each two neighbours in another one.
-use Rattle.std.specs.Prelude.{◌≡◌, ℕ, ◌+◌, ◌*◌, ◌/◌, ◌<◌, ◌≤◌, min, max, List, length, get_or}
+use Rattle.std.specs.Prelude.{◌≡◌, ℕ, ◌+◌, ◌*◌, ◌/◌, ◌<◌, ◌≤◌, min, List, length, get_or}
 use Rattle.nat_tables.specs.declared.times.Pairs.{Pairs}
 use Rattle.nat_tables.specs.declared.times.Pairs.TheVariants.{Alone, Of}
 

@@ -78,7 +78,11 @@ fn first_idle(slots: &FirstSeen<Endpoint, Slot>, busy: &mut Times, now: u64) -> 
 }
 
 /// The times of these rows, and of so many in all.
-fn times_of(alloc: Global, slots: &FirstSeen<Endpoint, Slot>, count: usize) -> Result<Times, NoMemory>
+fn times_of(
+    alloc: Global,
+    slots: &FirstSeen<Endpoint, Slot>,
+    count: usize,
+) -> Result<Times, NoMemory>
     requires { length slots.now ≤ count }
     ensures busy { IfOk result (λ times. AreBusyUntil times slots.now) }
     ensures count { IfOk result (λ times. length times ≡ count) }
@@ -91,7 +95,11 @@ fn times_of(alloc: Global, slots: &FirstSeen<Endpoint, Slot>, count: usize) -> R
 }
 
 /// Room for one more row: where there is none, the empty rows go, and there is room for as many again.
-fn make_room(alloc: Global, slots: &mut FirstSeen<Endpoint, Slot>, busy: &mut Times) -> Result<(), NoMemory>
+fn make_room(
+    alloc: Global,
+    slots: &mut FirstSeen<Endpoint, Slot>,
+    busy: &mut Times,
+) -> Result<(), NoMemory>
     requires { AreBusyUntil busy.old slots.old }
     ensures busy { AreBusyUntil busy.new slots.new }
     ensures same { present slots.new ≡ present slots.old }
@@ -101,7 +109,11 @@ fn make_room(alloc: Global, slots: &mut FirstSeen<Endpoint, Slot>, busy: &mut Ti
         return Ok(());
     }
     let swept = slots.swept(alloc)?;
-    let times = times_of(alloc, &swept, swept.rows().saturating_mul(2).saturating_add(64))?;
+    let times = times_of(
+        alloc,
+        &swept,
+        swept.rows().saturating_mul(2).saturating_add(64),
+    )?;
     *slots = swept;
     *busy = times;
     Ok(())

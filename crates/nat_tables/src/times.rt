@@ -90,7 +90,10 @@ impl Times {
     {
         let times = vec![in alloc; u64::MAX; count]?;
         if count < 2 {
-            return Ok(Times { times, pairs: Pairs::Alone });
+            return Ok(Times {
+                times,
+                pairs: Pairs::Alone,
+            });
         }
         let pairs = Times::all_never(alloc, count / 2 + count % 2)?;
         Ok(Times {
@@ -106,6 +109,13 @@ impl Times {
         self.times.len()
     }
 
+    /// The time at an index, and past the end the last time that there is.
+    fn time(&self, at: usize) -> u64
+        ensures { result ≡ time_at self.now at }
+    {
+        time_at(&self.times, at)
+    }
+
     /// Puts a time in the place of another.
     pub(crate) fn set(&mut self, at: usize, time: u64)
         requires { at < length self.old }
@@ -113,7 +123,10 @@ impl Times {
     {
         self.times[at] = time;
         if let Pairs::Of(pairs) = &mut self.pairs {
-            pairs.set(at / 2, earlier_of(&self.times, at / 2));
+            let earlier = earlier_of(&self.times, at / 2);
+            if pairs.time(at / 2) != earlier {
+                pairs.set(at / 2, earlier);
+            }
         }
     }
 
@@ -122,7 +135,11 @@ impl Times {
         ensures { MatchOption result (AreFrom now self.now) (λ at. IsFirstBefore now self.now at) }
     {
         let Pairs::Of(pairs) = &self.pairs else {
-            return if time_at(&self.times, 0) < now { Some(0) } else { None };
+            return if time_at(&self.times, 0) < now {
+                Some(0)
+            } else {
+                None
+            };
         };
         match pairs.first_before(now) {
             Some(pair) => Some(first_of(&self.times, pair, now)),

@@ -1,4 +1,4 @@
-use Rattle.std.proofs.Common.{◌≡◌, sym, arith}
+use Rattle.std.proofs.Common.{sym, arith}
 use Rattle.nat_tables.proofs.RowLemmas.{kept_clear, row_empty, fewer_present}
 use Rattle.nat_tables.proofs.first_seen.FirstSeen.clear.Goals as goal
 

@@ -1,5 +1,4 @@
-use Rattle.std.proofs.Common.{◌≡◌, ◌∙◌, ◌++◌, ◌∷◌, [], sym, ap, arith}
-use Rattle.nat_tables.specs.Rows.{row_at}
+use Rattle.std.proofs.Common.{◌∙◌, ◌++◌, ◌∷◌, [], sym, ap, arith}
 use Rattle.nat_tables.proofs.RowLemmas.{row_read, some_next, none_next}
 use Rattle.nat_tables.proofs.first_seen.FirstSeen.entries.Goals as goal
 use Rattle.nat_tables.proofs.first_seen.FirstSeen.entries.Goals.{in-Some+in_ok-push, in_default}

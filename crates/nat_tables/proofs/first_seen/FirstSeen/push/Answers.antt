@@ -1,4 +1,4 @@
-use Rattle.std.proofs.Common.{◌≡◌, ◌∙◌, arith}
+use Rattle.std.proofs.Common.{◌∙◌, arith}
 use Rattle.nat_tables.proofs.RowLemmas.{kept_push, present_few}
 use Rattle.nat_tables.proofs.first_seen.FirstSeen.push.Goals as goal
 

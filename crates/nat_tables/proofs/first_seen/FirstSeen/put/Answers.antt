@@ -1,4 +1,4 @@
-use Rattle.std.proofs.Common.{◌≡◌, ◌∙◌, sym, refl, arith, Some}
+use Rattle.std.proofs.Common.{sym}
 use Rattle.nat_tables.proofs.RowLemmas.{kept_put}
 use Rattle.nat_tables.proofs.first_seen.FirstSeen.put.Goals as goal
 

@@ -1,5 +1,4 @@
-use Rattle.std.proofs.Common.{◌≡◌, ◌∙◌, ◌++◌, ◌∷◌, [], sym, ap, arith, map, Some}
-use Rattle.nat_tables.specs.Rows.{row_at}
+use Rattle.std.proofs.Common.{◌∙◌, ◌++◌, ◌∷◌, [], sym, ap, arith, map, Some}
 use Rattle.nat_tables.proofs.RowLemmas.{row_read, absent_swept, swept_next, none_next}
 use Rattle.nat_tables.proofs.first_seen.FirstSeen.swept.Goals as goal
 use Rattle.nat_tables.proofs.first_seen.FirstSeen.swept.Goals.{in-Some+in_ok-push, in_default}

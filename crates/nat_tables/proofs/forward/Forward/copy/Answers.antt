@@ -1,4 +1,4 @@
-use Rattle.std.proofs.Common.{◌≡◌, ◌∙◌, ap}
+use Rattle.std.proofs.Common.{◌∙◌, ap}
 use Rattle.nat_tables.specs.Rows.{present}
 use Rattle.nat_tables.proofs.RowWords.{present_swept}
 use Rattle.nat_tables.proofs.forward.Forward.copy.Goals as goal

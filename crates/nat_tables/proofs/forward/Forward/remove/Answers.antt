@@ -1,4 +1,4 @@
-use Rattle.std.proofs.Common.{◌≡◌, ◌∙◌, sym, refl}
+use Rattle.std.proofs.Common.{◌∙◌, sym, refl}
 use Rattle.nat_tables.specs.Rows.{present}
 use Rattle.nat_tables.proofs.TableLemmas.{taken_out_by}
 use Rattle.nat_tables.proofs.RowWords.{derived, stands_removed, absent_removed}

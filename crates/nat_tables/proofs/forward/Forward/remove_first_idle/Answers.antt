@@ -1,4 +1,4 @@
-use Rattle.std.proofs.Common.{◌≡◌, ◌<◌, length, sym, refl, ap, Some, arith}
+use Rattle.std.proofs.Common.{sym, refl, ap, Some, arith}
 use Rattle.nat_tables.proofs.RowLemmas.{row_inside, row_set_same}
 use Rattle.nat_tables.proofs.IdleLemmas.{busy_cleared, busy_noted, first_is, first_removed, none_is, idle_some}
 use Rattle.nat_tables.proofs.forward.Forward.remove_first_idle.Goals as goal

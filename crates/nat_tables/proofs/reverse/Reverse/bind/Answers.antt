@@ -1,4 +1,4 @@
-use Rattle.std.proofs.Common.{◌≡◌, ◌++◌, ◌∷◌, [], ◌∙◌, sym, ap}
+use Rattle.std.proofs.Common.{◌++◌, ◌∷◌, [], ◌∙◌, sym, ap}
 use Rattle.nat_tables.specs.Keys.{port_key, same_port}
 use Rattle.nat_tables.specs.Rows.{present}
 use Rattle.nat_tables.proofs.TableLemmas.{inserted}

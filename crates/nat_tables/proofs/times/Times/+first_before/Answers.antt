@@ -1,4 +1,4 @@
-use Rattle.std.proofs.Common.{◌≡◌, ℕ, arith}
+use Rattle.std.proofs.Common.{arith}
 use Rattle.nat_tables.specs.Times.{AreFrom, IsFirstBefore, ArePairs}
 use Rattle.nat_tables.proofs.TimesLemmas.{from_pairs, first_by_pair, left_inside}
 use Rattle.nat_tables.proofs.times.Times.+first_before.Goals as goal
