@@ -1,5 +1,6 @@
 -- The first idle mapping of rows, by times up to which they are not idle.
-use Rattle.std.proofs.Common.{◌≡◌, ◌==◌, ℕ, zero, suc, ◌+◌, ◌<◌, ◌≤◌, Bool, true, false, List, [], ◌∷◌, ◌++◌, length, set}
+use Rattle.std.proofs.Common.{◌≡◌, ◌==◌, ℕ, zero, suc, ◌+◌, ◌<◌, ◌≤◌, Bool, true, false, List, [], ◌∷◌, ◌++◌, length}
+use Rattle.std.proofs.Common.{set}
 use Rattle.std.proofs.Common.{refl, sym, ap, subst, ◌∙◌, arith, ⊎_elim, Option, Some, None, length-append}
 use Rattle.std.specs.Prelude.{◌≢◌, nat_lt}
 use Rattle.std.specs.List.{sum_by}
@@ -48,7 +49,8 @@ row_changed times rows at row busy new = record {
   each = λ k less. by k (let s = length-set rows at row in omega arith) (k == at) refl;
 }
   where
-    by : (k : ℕ) → k < length rows → (b : Bool) → (k == at) ≡ b → IsBusyUntil (time_at times k) (row_at (set rows at row) k)
+    by : (k : ℕ) → k < length rows → (b : Bool) → (k == at) ≡ b
+        → IsBusyUntil (time_at times k) (row_at (set rows at row) k)
     by k less true e =
         let here : at ≡ k = sym (eqb-true _ _ e) in
         let inside : at < length rows = rw here less in

@@ -1,7 +1,9 @@
 -- Rows after one is emptied, filled anew or added, and the places of their keys.
-use Rattle.std.proofs.Common.{◌≡◌, ◌==◌, ℕ, zero, suc, ◌+◌, ◌<◌, ◌≤◌, Bool, true, false, List, [], ◌∷◌, ◌++◌, length, set}
-use Rattle.std.proofs.Common.{cond, refl, sym, ap, subst, ◌∙◌, arith, Option, Some, None, length-append, take, get_or, map}
-use Rattle.std.specs.Prelude.{◌≢◌}
+use Rattle.std.proofs.Common.{◌≡◌, ◌==◌, ℕ, zero, suc, ◌+◌, ◌<◌, ◌≤◌, Bool, true, false, List, [], ◌∷◌, ◌++◌, length}
+use Rattle.std.proofs.Common.{set}
+use Rattle.std.proofs.Common.{cond, refl, sym, ap, subst, ◌∙◌, arith, Option, Some, None, length-append, take, get_or}
+use Rattle.std.proofs.Common.{map}
+use Rattle.std.specs.Prelude.{◌≢◌, if◌then◌else◌}
 use Rattle.std.specs.Cmp.{IsEquivalence}
 use Rattle.std.specs.Map.{lookup}
 use Rattle.std.proofs.lemmas.Bool.{eqb-true}
@@ -50,7 +52,8 @@ module _ {A : Type 0} where
   present_few (None ∷ rows) = let h = present_few rows in omega arith
   present_few (Some entry ∷ rows) = let h = present_few rows in omega arith
 
-  pub present_more : (rows : List (Option A)) (entry : A) → present (rows ++ Some entry ∷ []) ≡ present rows ++ entry ∷ []
+  pub present_more : (rows : List (Option A)) (entry : A)
+      → present (rows ++ Some entry ∷ []) ≡ present rows ++ entry ∷ []
   present_more [] entry = refl
   present_more (None ∷ rows) entry = present_more rows entry
   present_more (Some x ∷ rows) entry = ap (λ (xs : List A). x ∷ xs) (present_more rows entry)
@@ -117,7 +120,8 @@ module _ {A : Type 0} where
       → map (λ (e : A). Some e) (present (take (at + 1) rows))
       ≡ map (λ (e : A). Some e) (present (take at rows)) ++ Some entry ∷ []
   swept_next rows at entry is =
-      ap (λ (xs : List A). map (λ (e : A). Some e) xs) (some_next rows at entry is) ∙ map_more (present (take at rows)) entry
+      ap (λ (xs : List A). map (λ (e : A). Some e) xs) (some_next rows at entry is)
+      ∙ map_more (present (take at rows)) entry
 
   -- what is swept is in a row before
   from_swept : (rows : List (Option A)) (i at : ℕ) (entry : A)
@@ -134,14 +138,16 @@ module _ {A : Type 0} where
 
 module _ {K : Type 0} (eq : K → K → Bool) (laws : IsEquivalence eq) where
   -- equal keys have one place
-  same_place : (key own : K) (places : List (K × ℕ)) → eq key own ≡ true → lookup (eq key) places ≡ lookup (eq own) places
+  same_place : (key own : K) (places : List (K × ℕ)) → eq key own ≡ true
+      → lookup (eq key) places ≡ lookup (eq own) places
   same_place key own places same = ap (λ test. lookup test places) (λ i q. laws.congr key own q same i)
 
 module _ {K V : Type 0} (eq : K → K → Bool) (laws : IsEquivalence eq) where
   place_of : (key : K) (places : List (K × ℕ)) (count : ℕ) (rows : List (Option (K × V))) (at : ℕ) (entry : K × V)
       → AreKept eq places count rows → row_at rows at ≡ Some entry → eq key entry.0 ≡ true
       → lookup (eq key) places ≡ Some at
-  place_of key places count rows at entry kept is same = same_place eq laws key entry.0 places same ∙ kept.placed at entry is
+  place_of key places count rows at entry kept is same =
+      same_place eq laws key entry.0 places same ∙ kept.placed at entry is
 
   pub absent_unplaced : (key : K) (places : List (K × ℕ)) (count : ℕ) (rows : List (Option (K × V)))
       → AreKept eq places count rows → lookup (eq key) places ≡ None → IsAbsent eq key rows
@@ -164,9 +170,9 @@ module _ {K V : Type 0} (eq : K → K → Bool) (laws : IsEquivalence eq) where
           other entry (subst (λ (x : ℕ). row_at rows x ≡ Some entry) here is)
       by false apart = apart
 
-  pub stands_there : (key own : K) (value : V) (places : List (K × ℕ)) (count : ℕ) (rows : List (Option (K × V))) (place : ℕ)
-      → AreKept eq places count rows → lookup (eq key) places ≡ Some place → row_at rows place ≡ Some (own, value)
-      → eq key own ≡ true → StandsAt eq key rows place value
+  pub stands_there : (key own : K) (value : V) (places : List (K × ℕ)) (count : ℕ) (rows : List (Option (K × V)))
+      (place : ℕ) → AreKept eq places count rows → lookup (eq key) places ≡ Some place
+      → row_at rows place ≡ Some (own, value) → eq key own ≡ true → StandsAt eq key rows place value
   stands_there key own value places count rows place kept found is same = record {
     own = own;
     row = is;
@@ -187,6 +193,7 @@ module _ {K V : Type 0} (eq : K → K → Bool) (laws : IsEquivalence eq) where
   kept_put places count rows at entry value kept is = record {
     placed = λ k x at_k. by k x at_k (k == at) refl;
     counted = kept.counted ∙ sym (as_many_present rows at entry (entry.0, value) is);
+    few = kept.few;
   }
     where
       new : List (Option (K × V))
@@ -207,10 +214,11 @@ module _ {K V : Type 0} (eq : K → K → Bool) (laws : IsEquivalence eq) where
   pub kept_clear : (places left : List (K × ℕ)) (count less : ℕ) (rows : List (Option (K × V))) (at : ℕ) (entry : K × V)
       → AreKept eq places count rows → row_at rows at ≡ Some entry
       → ((q : K) → lookup (eq q) left ≡ cond (eq entry.0 q) None (lookup (eq q) places)) → less + 1 ≡ count
-      → AreKept eq left less (set rows at None)
-  kept_clear places left count less rows at entry kept is others one = record {
+      → length left + 1 ≡ length places → AreKept eq left less (set rows at None)
+  kept_clear places left count less rows at entry kept is others one shrunk = record {
     placed = λ k x at_k. by k x at_k (k == at) refl;
     counted = let h = fewer_present rows at entry is in let c = kept.counted in omega arith;
+    few = let f = kept.few in omega arith;
   }
     where
       new : List (Option (K × V))
@@ -234,31 +242,25 @@ module _ {K V : Type 0} (eq : K → K → Bool) (laws : IsEquivalence eq) where
           let old : row_at rows k ≡ Some x = sym (row_set_other rows at k None apart) ∙ at_k in
           others x.0 ∙ (rw (apart_from k x apart old (eq entry.0 x.0) refl) (kept.placed k x old))
 
-  -- a place that is noted for a key without a row
-  pub kept_noted : (places more : List (K × ℕ)) (count place : ℕ) (rows : List (Option (K × V))) (key : K)
-      → AreKept eq places count rows → IsAbsent eq key rows
-      → ((q : K) → lookup (eq q) more ≡ cond (eq key q) (Some place) (lookup (eq q) places)) → AreKept eq more count rows
-  kept_noted places more count place rows key kept absent others = record {
-    placed = λ k x at_k. others x.0 ∙ (rw (absent k x at_k) (kept.placed k x at_k));
-    counted = kept.counted;
-  }
-
   pub kept_push : (places more : List (K × ℕ)) (count place : ℕ) (rows : List (Option (K × V))) (key : K) (value : V)
       → AreKept eq places count rows → IsAbsent eq key rows → place ≡ length rows
       → ((q : K) → lookup (eq q) more ≡ cond (eq key q) (Some place) (lookup (eq q) places))
+      → length more ≤ length places + 1
       → AreKept eq more (count + 1) (rows ++ Some (key, value) ∷ [])
-  kept_push places more count place rows key value kept absent last others = record {
+  kept_push places more count place rows key value kept absent last others grown = record {
     placed = λ k x at_k. by k x at_k (k == length rows) refl;
     counted =
         let more = ap length (present_more rows (key, value)) in
         let sum = length-append (present rows) ((key, value) ∷ []) in
         let c = kept.counted in omega (arith, more, sum, c);
+    few = let f = kept.few in omega arith;
   }
     where
       new : List (Option (K × V))
       new = rows ++ Some (key, value) ∷ []
 
-      by : (k : ℕ) (x : K × V) → row_at new k ≡ Some x → (b : Bool) → (k == length rows) ≡ b → lookup (eq x.0) more ≡ Some k
+      by : (k : ℕ) (x : K × V) → row_at new k ≡ Some x → (b : Bool) → (k == length rows) ≡ b
+          → lookup (eq x.0) more ≡ Some k
       by k x at_k true t =
           let here : length rows ≡ k = sym (eqb-true _ _ t) in
           let there : row_at new k ≡ Some (key, value) =
@@ -289,3 +291,8 @@ module _ {K V : Type 0} (eq : K → K → Bool) (laws : IsEquivalence eq) where
   absent_swept places count rows at entry kept is k other there =
       let h = from_swept rows at k other there in
       apart_before places count rows at h.0 entry other kept is h.2 h.1
+
+-- one more at most
+pub one_more : (m n : ℕ) (b : Bool) → m ≡ n + (if b then 0 else 1) → m ≤ n + 1
+one_more m n true e = omega arith
+one_more m n false e = omega arith

@@ -1,5 +1,6 @@
 -- The first time before another, by that of the pairs.
-use Rattle.std.proofs.Common.{◌≡◌, ◌==◌, ℕ, ◌+◌, ◌*◌, ◌/◌, ◌%◌, ◌<◌, ◌≤◌, Bool, true, false, List, length, refl, sym, subst, arith, ⊎_elim}
+use Rattle.std.proofs.Common.{◌≡◌, ◌==◌, ℕ, ◌+◌, ◌*◌, ◌/◌, ◌%◌, ◌<◌, ◌≤◌, Bool, true, false, List, length, refl, sym}
+use Rattle.std.proofs.Common.{subst, arith, ⊎_elim}
 use Rattle.std.proofs.lemmas.Bool.{eqb-true, cases_lt}
 use Rattle.std.proofs.lemmas.Bool.Decides.{nat_tests}
 use Rattle.std.proofs.lemmas.List.{get_or_past}
@@ -40,7 +41,9 @@ first_left now pair pairs times are first before = record {
 first_right : (now pair : ℕ) (pairs times : List ℕ) → now ≤ never → ArePairs pairs times
     → IsFirstBefore now pairs pair → now ≤ time_at times (2 * pair) → IsFirstBefore now times (2 * pair + 1)
 first_right now pair pairs times fits are first left = record {
-  inside = ⊎_elim (λ h. h) (λ past. absurd (let end = get_or_past times (2 * pair + 1) never past in omega (arith, before, end, fits))) (cases_lt (2 * pair + 1) (length times));
+  inside = ⊎_elim (λ h. h)
+      (λ past. absurd (let end = get_or_past times (2 * pair + 1) never past in omega (arith, before, end, fits)))
+      (cases_lt (2 * pair + 1) (length times));
   before = before;
   others = λ k less. by k less (k == 2 * pair) refl;
 }
@@ -49,7 +52,8 @@ first_right now pair pairs times fits are first left = record {
     before = let h = are.each pair in let b = first.before in omega (arith, h, b, left)
 
     by : (k : ℕ) → k < 2 * pair + 1 → (b : Bool) → (k == 2 * pair) ≡ b → now ≤ time_at times k
-    by k less true e = let same : 2 * pair ≡ k = sym (eqb-true _ _ e) in subst (λ (x : ℕ). now ≤ time_at times x) same left
+    by k less true e =
+        let same : 2 * pair ≡ k = sym (eqb-true _ _ e) in subst (λ (x : ℕ). now ≤ time_at times x) same left
     by k less false e =
         let fewer : k < 2 * pair = grind (arith, nat_tests) in
         one_from now k pairs times are (first.others (k / 2) (omega arith))

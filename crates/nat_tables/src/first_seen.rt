@@ -1,4 +1,5 @@
-ghost use Rattle.std.specs.Prelude.{◌≡◌, ℕ, ◌+◌, ◌*◌, [], ◌∷◌, ◌++◌, Some, None, Option, List, length, set, map};
+ghost use Rattle.std.specs.Prelude.{◌≡◌, ℕ, ◌+◌, ◌*◌, [], ◌∷◌, ◌++◌, Some, None, Option, List};
+ghost use Rattle.std.specs.Prelude.{length, set, map};
 ghost use Rattle.std.specs.Prelude.{◌^◌, ◌<◌, slice_get, MatchOption, IfOk, OnOk, OnErr};
 ghost use Rattle.nat_tables.specs.Rows.{present, row_at, IsAbsent, StandsAt};
 
@@ -122,6 +123,7 @@ impl<K: Copy + Eq + Hash, V: Copy> FirstSeen<K, V> {
         ensures ok { OnOk result (self.new ≡ self.old ++ Some (key, value) ∷ []) }
         ensures err { OnErr result (self.new ≡ self.old) }
     {
+        self.rows.reserve(1)?;
         self.places.insert(key, self.rows.len())?;
         self.rows.push(Some((key, value)))?;
         self.count += 1;

@@ -65,7 +65,8 @@ fn busy_until(row: Option<(Endpoint, Slot)>) -> u64
 fn first_idle(slots: &FirstSeen<Endpoint, Slot>, busy: &mut Times, now: u64) -> Option<usize>
     requires { AreBusyUntil busy.old slots.now }
     ensures busy { AreBusyUntil busy.new slots.now }
-    ensures first { MatchOption result (NoneIsIdle now slots.now) (λ at. IsFirstIdle now slots.now at) }
+    ensures first { MatchOption result (NoneIsIdle now slots.now)
+        (λ at. IsFirstIdle now slots.now at) }
 {
     while let Some(at) = busy.first_before(now) {
         let row = slots.row(at);

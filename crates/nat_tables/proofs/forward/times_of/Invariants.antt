@@ -6,4 +6,5 @@ use Rattle.nat_tables.proofs.forward.times_of.Given as goal
 
 -- the rows so far have their times
 abbrev pub invariant-loop-at : goal.invariant-loop-at
-invariant-loop-at l = (length l.times ≡ l.count) × ((k : ℕ) → k < l.at → IsBusyUntil (time_at l.times k) (row_at l.slots k))
+invariant-loop-at l =
+    (length l.times ≡ l.count) × ((k : ℕ) → k < l.at → IsBusyUntil (time_at l.times k) (row_at l.slots k))

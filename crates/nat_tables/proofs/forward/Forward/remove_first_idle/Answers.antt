@@ -14,7 +14,8 @@ returns-in_err-key c =
 
 pub set-requires : goal.set-requires
 set-requires c =
-    let inside = row_inside c.self.inside.slots c.in_ok-at.at (c.in_ok-key.key, c.in_ok-key.slot) (sym c.in_ok-key.ensures) in
+    let inside =
+    row_inside c.self.inside.slots c.in_ok-at.at (c.in_ok-key.key, c.in_ok-key.slot) (sym c.in_ok-key.ensures) in
     let long = c.in_ok-at.ensures.busy.long in omega arith
 
 pub invariant_of-self-2 : goal.invariant_of-self-2
@@ -29,7 +30,8 @@ pub returns : goal.returns
 returns c =
     let rows = c.self.inside.slots in
     let at = c.in_ok-at.at in
-    let first = first_is c.args.now rows at (c.in_ok-key.key, c.in_ok-key.slot) c.in_ok-at.ensures.first (sym c.in_ok-key.ensures) in
+    let first = first_is c.args.now rows at (c.in_ok-key.key, c.in_ok-key.slot) c.in_ok-at.ensures.first
+    (sym c.in_ok-key.ensures) in
     rw (c.clear.ensures, ← c.self.view_is, first)
     (ap (λ es. (Some (record { protocol = c.in_ok-key.key.protocol; port = c.in_ok-key.slot.port }), es))
     (sym (first_removed c.args.now rows at c.in_ok-at.ensures.first)))

@@ -11,8 +11,8 @@ returns-in-Some-clause-ok c =
     let port = port_key c.args.protocol c.args.port in
     let rows = c.self.inside.endpoints in
     let stands = c.in-Some.ensures in
-    rw (c.put.ensures (stands.own, c.in-Some.field-0-1) stands.row, ← c.self.view_is)
-    (sym (stands_inserted same_port port rows c.in-Some.at c.in-Some.field-0-1 c.args.key.now stands.own stands stands.row)
+    rw (c.put.ensures (stands.own, c.in-Some.field-0-1) stands.row, ← c.self.view_is) (sym (stands_inserted same_port
+    port rows c.in-Some.at c.in-Some.field-0-1 c.args.key.now stands.own stands stands.row)
     ∙ inserted port c.args.key.now (present rows))
 
 pub push-requires : goal.push-requires
