@@ -44,6 +44,17 @@ impl<K: Copy + Eq + Hash, V: Copy> FirstSeen<K, V> {
         }
     }
 
+    /// No rows, and room for so many.
+    fn with_room(alloc: Global, count: usize) -> Result<Self, NoMemory>
+        ensures { IfOk result (λ empty. empty ≡ []) }
+    {
+        Ok(FirstSeen {
+            rows: Vec::with_capacity(alloc, count)?,
+            places: IndexMap::with_capacity(alloc, count)?,
+            count: 0,
+        })
+    }
+
     /// How many rows there are, empty ones included.
     pub(crate) fn rows(&self) -> usize
         ensures count { result ≡ length self.now }
@@ -134,7 +145,7 @@ impl<K: Copy + Eq + Hash, V: Copy> FirstSeen<K, V> {
     pub(crate) fn swept(&self, alloc: Global) -> Result<Self, NoMemory>
         ensures { IfOk result (λ swept. swept ≡ map (λ entry. Some entry) (present self.now)) }
     {
-        let mut swept = FirstSeen::new(alloc);
+        let mut swept = FirstSeen::with_room(alloc, self.len())?;
         for row in self.rows.iter() {
             if let Some(entry) = row {
                 swept.push(entry.0, entry.1)?;

@@ -1,4 +1,6 @@
 use Rattle.std.proofs.Common.{◌∙◌, ◌++◌, ◌∷◌, [], sym, ap, arith, map, Some}
+use Rattle.std.proofs.lemmas.List.{take_all}
+use Rattle.nat_tables.specs.Rows.{present}
 use Rattle.nat_tables.proofs.RowLemmas.{row_read, absent_swept, swept_next, none_next}
 use Rattle.nat_tables.proofs.first_seen.FirstSeen.swept.Goals as goal
 use Rattle.nat_tables.proofs.first_seen.FirstSeen.swept.Goals.{in-Some+in_ok-push, in_default}
@@ -25,3 +27,9 @@ loop-row-preserved g c =
           w.swept-is ∙ c.loop-row.invariant
           ∙ ap (map (λ entry. Some entry)) (sym (none_next rows at (row ∙ w.in_default.is)))
     ]
+
+pub returns : goal.returns
+returns g c =
+    let whole = take_all c.loop-row.row-index c.deref-row-items.result.now (omega arith) in
+    c.loop-row.invariant
+    ∙ ap (λ xs. map (λ entry. Some entry) (present xs)) (whole ∙ c.deref-row-items.ensures.value ∙ c.self.view_is)
