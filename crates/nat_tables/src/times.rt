@@ -146,18 +146,4 @@ impl Times {
             None => None,
         }
     }
-
-    /// The same times.
-    pub(crate) fn copy(&self, alloc: Global) -> Result<Self, NoMemory>
-        ensures { IfOk result (λ copy. copy ≡ self.now) }
-    {
-        let pairs = match &self.pairs {
-            Pairs::Of(pairs) => Pairs::Of(Box::new(alloc, pairs.copy(alloc)?)?),
-            Pairs::Alone => Pairs::Alone,
-        };
-        Ok(Times {
-            times: self.times.clone()?,
-            pairs,
-        })
-    }
 }
