@@ -6,3 +6,7 @@ pub mod Parity
 pub mod PlaceLemmas
 pub mod WordLemmas
 pub mod GroupLemmas
+pub mod TimesLemmas
+pub mod RowLemmas
+pub mod RowWords
+pub mod IdleLemmas

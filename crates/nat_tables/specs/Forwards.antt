@@ -1,8 +1,7 @@
 -- Forward tables: the mappings of inside endpoints, in the order in which they were made. A mapping is of the inside
 -- endpoint alone, whatever remote endpoint it speaks with (RFC 4787, REQ-1).
-use Rattle.std.specs.Prelude.{◌≡◌, ℕ, ◌+◌, ◌<◌, ◌≤◌, max, Bool, true, false, ◌&&◌, ◌==◌, not, nat_lt, if◌then◌else◌}
-use Rattle.std.specs.Prelude.{List, [], ◌∷◌, ◌++◌, length, slice_get, Option, Some, None}
-use Rattle.std.specs.List.{remove}
+use Rattle.std.specs.Prelude.{◌≡◌, ℕ, ◌+◌, max, Bool, true, false, ◌&&◌, ◌==◌, not, nat_lt, if◌then◌else◌}
+use Rattle.std.specs.Prelude.{List, [], ◌∷◌, ◌++◌, slice_get, Option, Some, None}
 use Rattle.nat_tables.specs.declared.entries.Endpoint.{Endpoint}
 use Rattle.nat_tables.specs.declared.entries.PortKey.{PortKey}
 use Rattle.nat_tables.specs.declared.slot.Slot.{Slot}
@@ -97,18 +96,6 @@ mapping_of (Some e) = Some (record { key = e.0; port = e.1.port; last = e.1.last
 
 abbrev pub mapping_at : ℕ → Forwards → Option Mapping
 mapping_at index es = mapping_of (slice_get es index)
-
--- In memory: no mapping is idle before this time, and so none needs to be looked at
-
-abbrev pub AreBusyBefore : ℕ → Forwards → Type 0
-AreBusyBefore before [] = Unit {0}
-AreBusyBefore before (e ∷ es) = (before ≤ e.1.last + timer e.0.protocol) × AreBusyBefore before es
-
--- the first idle mapping stands at this index
-pub record FindsIdle (now : ℕ) (es : Forwards) (at : ℕ) : Type 0 where
-  pub there : first_idle now es ≡ slice_get es at
-  pub inside : at < length es
-  pub others : without_idle now es ≡ remove es at
 
 -- the sum of a number of each mapping
 abbrev pub total : (Endpoint → ℕ → ℕ) → Forwards → ℕ

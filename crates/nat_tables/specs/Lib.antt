@@ -4,3 +4,7 @@ pub mod Forwards
 pub mod Reverses
 pub mod Shown
 pub mod Placing
+pub mod Times
+pub mod TimesFall
+pub mod Rows
+pub mod Idling

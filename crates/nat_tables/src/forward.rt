@@ -1,13 +1,16 @@
 ghost use Rattle.std.specs.Prelude.{◌≡◌, [], ◌∷◌, ◌++◌, Some, None, IfOk, OnOk, OnErr, MatchOption};
-ghost use Rattle.std.specs.Prelude.{length};
+ghost use Rattle.std.specs.Prelude.{ℕ, ◌+◌, ◌^◌, ◌<◌, ◌≤◌, false, length};
 ghost use Rattle.nat_tables.specs.Forwards.{slot_of, find, idle_removed, find_or_bind, refresh};
-ghost use Rattle.nat_tables.specs.Forwards.{without, lives, mapping_at, first_idle, FindsIdle};
-ghost use Rattle.nat_tables.specs.Forwards.{AreBusyBefore};
+ghost use Rattle.nat_tables.specs.Forwards.{without, lives, mapping_at, first_idle, is_idle, timer};
+ghost use Rattle.nat_tables.specs.Rows.{present, row_at};
+ghost use Rattle.nat_tables.specs.Idling.{AreBusyUntil, IsFirstIdle, NoneIsIdle, row_is_idle};
+ghost use Rattle.nat_tables.specs.Idling.{IsBusyUntil};
 ghost use Rattle.nat_tables.specs.Shown.{mappings_text};
 
+use crate::first_seen::FirstSeen;
 use crate::showing::text_of_mapping;
+use crate::times::Times;
 use crate::{Bind, Endpoint, Find, Freed, Mapping, Slot};
-use indexmap::IndexMap;
 use plain_text::{NoMemory, Text};
 use std::alloc::Global;
 use std::marker::Model;
@@ -16,50 +19,105 @@ use std::marker::Model;
 /// their slots.
 #[derive(Debug, Drop)]
 pub struct Forward {
-    slots: IndexMap<Endpoint, Slot>,
-    /// No mapping is idle before this time, in microseconds.
-    busy_before: u64,
+    slots: FirstSeen<Endpoint, Slot>,
+    /// For each row a time up to which its mapping is not idle. A use makes it later, which is noted only when an idle
+    /// mapping is looked for.
+    busy_until: Times,
+    alloc: Global,
 }
 
 impl Model for Forward {
     ghost use Rattle.std.specs.Prelude.{List};
     ghost use Rattle.nat_tables.specs.declared.entries.Endpoint.{Endpoint};
     ghost use Rattle.nat_tables.specs.declared.slot.Slot.{Slot};
-    ghost use Rattle.nat_tables.specs.Forwards.{AreBusyBefore};
+    ghost use Rattle.nat_tables.specs.Rows.{present};
+    ghost use Rattle.nat_tables.specs.Idling.{AreBusyUntil};
 
     ghost Value = { List (Endpoint × Slot) };
 
-    ghost view = { λ t. t.slots.entries };
+    ghost view = { λ t. present t.slots };
 
-    ghost invariant = { λ t. AreBusyBefore t.busy_before t.slots.entries };
+    ghost invariant = { λ t. AreBusyUntil t.busy_until t.slots };
 }
 
-/// The index of the first mapping that is idle.
-fn first_idle(slots: &IndexMap<Endpoint, Slot>, now: u64) -> Option<usize>
-    ensures { MatchOption result (first_idle now slots.now.entries ≡ None)
-        (λ at. FindsIdle now slots.now.entries at) }
+/// Whether the mapping of a row is idle; an empty row has none.
+fn is_idle(row: Option<(Endpoint, Slot)>, now: u64) -> bool
+    ensures { result ≡ row_is_idle now row }
 {
-    for index in 0..slots.len() {
-        if let Some((key, slot)) = slots.get_index(index) {
-            if slot.is_idle(key, now) {
-                return Some(index);
-            }
+    match row {
+        Some((key, slot)) => slot.is_idle(&key, now),
+        None => false,
+    }
+}
+
+/// The last time at which the mapping of a row is not idle; an empty row never is.
+fn busy_until(row: Option<(Endpoint, Slot)>) -> u64
+    ensures busy { IsBusyUntil result row }
+    ensures last { (now : ℕ) → now < 2 ^ 64 → row_is_idle now row ≡ false → now ≤ result }
+{
+    match row {
+        Some((key, slot)) => slot.busy_until(&key),
+        None => u64::MAX,
+    }
+}
+
+/// The row of the first mapping that is idle. What was noted of the rows before it, and is too early, is corrected.
+fn first_idle(slots: &FirstSeen<Endpoint, Slot>, busy: &mut Times, now: u64) -> Option<usize>
+    requires { AreBusyUntil busy.old slots.now }
+    ensures busy { AreBusyUntil busy.new slots.now }
+    ensures first { MatchOption result (NoneIsIdle now slots.now)
+        (λ at. IsFirstIdle now slots.now at) }
+{
+    while let Some(at) = busy.first_before(now) {
+        let row = slots.row(at);
+        if is_idle(row, now) {
+            return Some(at);
         }
+        busy.set(at, busy_until(row));
     }
     None
 }
 
-/// A time before which none of these mappings is idle.
-fn busy_before(slots: &IndexMap<Endpoint, Slot>) -> u64
-    ensures { AreBusyBefore result slots.now.entries }
+/// The times of these rows, and of so many in all.
+fn times_of(
+    alloc: Global,
+    slots: &FirstSeen<Endpoint, Slot>,
+    count: usize,
+) -> Result<Times, NoMemory>
+    requires { length slots.now ≤ count }
+    ensures busy { IfOk result (λ times. AreBusyUntil times slots.now) }
+    ensures count { IfOk result (λ times. length times ≡ count) }
 {
-    let mut before = u64::MAX;
-    for index in 0..slots.len() {
-        if let Some((key, slot)) = slots.get_index(index) {
-            before = before.min(slot.idle_from(key));
-        }
+    let mut times = Times::all_never(alloc, count)?;
+    for at in 0..slots.rows() {
+        times.set(at, busy_until(slots.row(at)));
     }
-    before
+    Ok(times)
+}
+
+/// Room for one more row: where there is none, the empty rows go, and there is room for as many again.
+fn make_room(
+    alloc: Global,
+    slots: &mut FirstSeen<Endpoint, Slot>,
+    busy: &mut Times,
+) -> Result<(), NoMemory>
+    requires { AreBusyUntil busy.old slots.old }
+    ensures busy { AreBusyUntil busy.new slots.new }
+    ensures same { present slots.new ≡ present slots.old }
+    ensures room { OnOk result (length slots.new < length busy.new) }
+{
+    if slots.rows() < busy.len() {
+        return Ok(());
+    }
+    let swept = slots.swept(alloc)?;
+    let times = times_of(
+        alloc,
+        &swept,
+        swept.rows().saturating_mul(2).saturating_add(64),
+    )?;
+    *slots = swept;
+    *busy = times;
+    Ok(())
 }
 
 impl Forward {
@@ -68,8 +126,9 @@ impl Forward {
         ensures { result ≡ [] }
     {
         Forward {
-            slots: IndexMap::new(alloc),
-            busy_before: u64::MAX,
+            slots: FirstSeen::new(alloc),
+            busy_until: Times::new(alloc),
+            alloc,
         }
     }
 
@@ -77,22 +136,28 @@ impl Forward {
     fn slot_of(&self, key: &Endpoint) -> Option<Slot>
         ensures { result ≡ slot_of key.now self.now }
     {
-        self.slots.get(key).copied()
+        match self.slots.find(key) {
+            Some((_, slot)) => Some(slot),
+            None => None,
+        }
     }
 
-    /// Removes an endpoint's mapping, and closes up.
-    fn remove(&mut self, key: &Endpoint)
+    /// Removes an endpoint's mapping, and closes up. It changes nothing where there is none.
+    pub fn remove(&mut self, key: &Endpoint)
         ensures { self.new ≡ without key.now self.old }
     {
-        self.slots.shift_remove(key);
+        if let Some((at, _)) = self.slots.find(key) {
+            self.slots.clear(at);
+        }
     }
 
     /// Notes a use of an endpoint's mapping, which keeps its place.
-    fn refresh(&mut self, key: &Endpoint, slot: Slot, now: u64)
-        requires { slot_of key.now self.old ≡ Some slot }
+    fn refresh(&mut self, key: &Endpoint, now: u64)
         ensures { self.new ≡ refresh key.now now self.old }
     {
-        let _old = self.slots.insert(*key, slot.refreshed(now));
+        if let Some((at, slot)) = self.slots.find(key) {
+            self.slots.put(at, slot.refreshed(now));
+        }
     }
 
     /// Maps an endpoint that has no mapping; it stands last.
@@ -101,24 +166,21 @@ impl Forward {
         ensures ok { OnOk result (self.new ≡ self.old ++ (key.now, slot) ∷ []) }
         ensures err { OnErr result (self.new ≡ self.old) }
     {
-        self.slots.insert(*key, slot)?;
-        self.busy_before = self.busy_before.min(slot.idle_from(key));
+        make_room(self.alloc, &mut self.slots, &mut self.busy_until)?;
+        let at = self.slots.rows();
+        self.slots.push(*key, slot)?;
+        self.busy_until.set(at, slot.busy_until(key));
         Ok(())
     }
 
-    /// Removes the first mapping that is idle, if there is one, and answers its outside port. It looks at no mapping
-    /// while none can be idle.
+    /// Removes the first mapping that is idle, if there is one, and answers its outside port.
     fn remove_first_idle(&mut self, now: u64) -> Option<Freed>
         ensures { (result, self.new) ≡ idle_removed now self.old (first_idle now self.old) }
     {
-        if now < self.busy_before {
-            return None;
-        }
-        let Some(index) = first_idle(&self.slots, now) else {
-            self.busy_before = busy_before(&self.slots);
-            return None;
-        };
-        let (key, slot) = self.slots.shift_remove_index(index)?;
+        let at = first_idle(&self.slots, &mut self.busy_until, now)?;
+        let (key, slot) = self.slots.row(at)?;
+        self.slots.clear(at);
+        self.busy_until.set(at, u64::MAX);
         Some(Freed {
             protocol: key.protocol,
             port: slot.port,
@@ -141,7 +203,7 @@ impl Forward {
                 port: slot.port,
             }));
         }
-        self.refresh(key, slot, now);
+        self.refresh(key, now);
         Find::Live(slot.port)
     }
 
@@ -153,7 +215,7 @@ impl Forward {
         ensures err { OnErr result (self.new ≡ self.old) }
     {
         if let Some(slot) = self.slot_of(key) {
-            self.refresh(key, slot, now);
+            self.refresh(key, now);
             return Ok(Bind::Other(slot.port));
         }
         self.append(key, Slot { port, last: now })?;
@@ -181,9 +243,9 @@ impl Forward {
     pub fn entry(&self, index: usize) -> Option<Mapping>
         ensures { result ≡ mapping_at index self.now }
     {
-        let (key, slot) = self.slots.get_index(index)?;
+        let (key, slot) = self.slots.entry(index)?;
         Some(Mapping {
-            key: *key,
+            key,
             port: slot.port,
             last: slot.last,
         })
@@ -193,9 +255,11 @@ impl Forward {
     pub fn copy(&self) -> Result<Self, NoMemory>
         ensures { IfOk result (λ copy. copy ≡ self.now) }
     {
+        let slots = self.slots.swept(self.alloc)?;
         Ok(Forward {
-            slots: self.slots.clone()?,
-            busy_before: self.busy_before,
+            busy_until: times_of(self.alloc, &slots, slots.rows())?,
+            slots,
+            alloc: self.alloc,
         })
     }
 
@@ -203,7 +267,8 @@ impl Forward {
     pub fn text(&self, alloc: Global) -> Result<Text, NoMemory>
         ensures { IfOk result (λ text. text ≡ mappings_text self.now) }
     {
-        let mut slots = self.slots.iter();
+        let entries = self.slots.entries(alloc)?;
+        let mut slots = entries.iter();
         let Some((key, slot)) = slots.next() else {
             return Text::of(alloc, "-");
         };

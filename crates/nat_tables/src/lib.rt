@@ -2,6 +2,7 @@
 #![tactic(auto)]
 
 mod entries;
+mod first_seen;
 mod forward;
 mod free_ports;
 mod laws;
@@ -12,6 +13,7 @@ mod port_word;
 mod reverse;
 mod showing;
 mod slot;
+mod times;
 
 pub use entries::{Bind, BoundPort, Endpoint, Find, Freed, Mapping, PortKey};
 pub use forward::Forward;

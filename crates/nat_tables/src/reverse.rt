@@ -1,11 +1,12 @@
 ghost use Rattle.std.specs.Prelude.{◌≡◌, [], IfOk, OnOk, OnErr, length};
 ghost use Rattle.nat_tables.specs.Keys.{port_key};
 ghost use Rattle.nat_tables.specs.Reverses.{endpoint_of, bind, unbind, bound_at};
+ghost use Rattle.nat_tables.specs.Rows.{present};
 ghost use Rattle.nat_tables.specs.Shown.{all_bound_text};
 
+use crate::first_seen::FirstSeen;
 use crate::showing::text_of_bound;
 use crate::{BoundPort, Endpoint, PortKey};
-use indexmap::IndexMap;
 use plain_text::{NoMemory, Text};
 use std::alloc::Global;
 use std::marker::Model;
@@ -14,17 +15,31 @@ use std::marker::Model;
 /// list of the ports with their endpoints.
 #[derive(Debug, Drop)]
 pub struct Reverse {
-    endpoints: IndexMap<PortKey, Endpoint>,
+    endpoints: FirstSeen<PortKey, Endpoint>,
+    alloc: Global,
 }
 
 impl Model for Reverse {
     ghost use Rattle.std.specs.Prelude.{List};
     ghost use Rattle.nat_tables.specs.declared.entries.Endpoint.{Endpoint};
     ghost use Rattle.nat_tables.specs.declared.entries.PortKey.{PortKey};
+    ghost use Rattle.nat_tables.specs.Rows.{present};
 
     ghost Value = { List (PortKey × Endpoint) };
 
-    ghost view = { λ t. t.endpoints.entries };
+    ghost view = { λ t. present t.endpoints };
+}
+
+/// Where more than half of the rows are empty, they go.
+fn sweep(alloc: Global, endpoints: &mut FirstSeen<PortKey, Endpoint>) -> Result<(), NoMemory>
+    ensures { present endpoints.new ≡ present endpoints.old }
+{
+    if endpoints.rows() / 2 < endpoints.len() + 32 {
+        return Ok(());
+    }
+    let swept = endpoints.swept(alloc)?;
+    *endpoints = swept;
+    Ok(())
 }
 
 impl Reverse {
@@ -33,7 +48,8 @@ impl Reverse {
         ensures { result ≡ [] }
     {
         Reverse {
-            endpoints: IndexMap::new(alloc),
+            endpoints: FirstSeen::new(alloc),
+            alloc,
         }
     }
 
@@ -41,7 +57,10 @@ impl Reverse {
     pub fn find(&self, protocol: u8, port: u16) -> Option<Endpoint>
         ensures { result ≡ endpoint_of (port_key protocol port) self.now }
     {
-        self.endpoints.get(&PortKey { protocol, port }).copied()
+        match self.endpoints.find(&PortKey { protocol, port }) {
+            Some((_, key)) => Some(key),
+            None => None,
+        }
     }
 
     /// Binds a port. One that is bound gets the new endpoint in its old place.
@@ -49,7 +68,13 @@ impl Reverse {
         ensures ok { OnOk result (self.new ≡ bind (port_key protocol port) key.now self.old) }
         ensures err { OnErr result (self.new ≡ self.old) }
     {
-        self.endpoints.insert(PortKey { protocol, port }, *key)?;
+        let port = PortKey { protocol, port };
+        if let Some((at, _)) = self.endpoints.find(&port) {
+            self.endpoints.put(at, *key);
+            return Ok(());
+        }
+        sweep(self.alloc, &mut self.endpoints)?;
+        self.endpoints.push(port, *key)?;
         Ok(())
     }
 
@@ -57,7 +82,9 @@ impl Reverse {
     pub fn unbind(&mut self, protocol: u8, port: u16)
         ensures { self.new ≡ unbind (port_key protocol port) self.old }
     {
-        self.endpoints.shift_remove(&PortKey { protocol, port });
+        if let Some((at, _)) = self.endpoints.find(&PortKey { protocol, port }) {
+            self.endpoints.clear(at);
+        }
     }
 
     /// How many ports are bound.
@@ -71,11 +98,11 @@ impl Reverse {
     pub fn entry(&self, index: usize) -> Option<BoundPort>
         ensures { result ≡ bound_at index self.now }
     {
-        let (port, key) = self.endpoints.get_index(index)?;
+        let (port, key) = self.endpoints.entry(index)?;
         Some(BoundPort {
             protocol: port.protocol,
             port: port.port,
-            key: *key,
+            key,
         })
     }
 
@@ -84,7 +111,8 @@ impl Reverse {
         ensures { IfOk result (λ copy. copy ≡ self.now) }
     {
         Ok(Reverse {
-            endpoints: self.endpoints.clone()?,
+            endpoints: self.endpoints.swept(self.alloc)?,
+            alloc: self.alloc,
         })
     }
 
@@ -92,7 +120,8 @@ impl Reverse {
     pub fn text(&self, alloc: Global) -> Result<Text, NoMemory>
         ensures { IfOk result (λ text. text ≡ all_bound_text self.now) }
     {
-        let mut ports = self.endpoints.iter();
+        let entries = self.endpoints.entries(alloc)?;
+        let mut ports = entries.iter();
         let Some((port, key)) = ports.next() else {
             return Text::of(alloc, "-");
         };

@@ -1,4 +1,4 @@
-ghost use Rattle.std.specs.Prelude.{◌≡◌, ◌+◌, ◌≤◌};
+ghost use Rattle.std.specs.Prelude.{◌≡◌, ℕ, ◌+◌, ◌^◌, ◌<◌, ◌≤◌, false};
 ghost use Rattle.nat_tables.specs.Forwards.{timer, is_idle, refreshed};
 
 use crate::Endpoint;
@@ -34,12 +34,13 @@ impl Slot {
         now >= self.last && now - self.last >= timer(key.protocol)
     }
 
-    /// A time before which this mapping of the endpoint is not idle; the last one of all, or the last time that there
-    /// is.
-    pub(crate) fn idle_from(&self, key: &Endpoint) -> u64
-        ensures { result ≤ self.now.last + timer key.now.protocol }
+    /// The last time at which this mapping of the endpoint is not idle, of those that there are.
+    pub(crate) fn busy_until(&self, key: &Endpoint) -> u64
+        ensures busy { result < self.now.last + timer key.now.protocol }
+        ensures last { (now : ℕ) → now < 2 ^ 64 → is_idle now (key.now, self.now) ≡ false
+            → now ≤ result }
     {
-        self.last.saturating_add(timer(key.protocol))
+        self.last.saturating_add(timer(key.protocol) - 1)
     }
 
     /// The mapping after a use. Its last use does not go back where time does.

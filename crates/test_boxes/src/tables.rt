@@ -1,4 +1,4 @@
-use nat_tables::{Bind, Endpoint, Find, Forward, Freed, Pool, Reverse};
+use nat_tables::{Bind, BoundPort, Endpoint, Find, Forward, Freed, Pool, Reverse};
 use plain_text::NoMemory;
 use std::alloc::Global;
 use std::test::Fail;
@@ -65,6 +65,42 @@ fn has_mappings(alloc: Global) -> Result<bool, NoMemory> {
     Ok(binds(&mut table)? && shows_mapping(alloc, &table, "tcp 10.0.0.5:5000 11 300000003")?)
 }
 
+/// Binds 200 endpoints after one of TCP, and 200 others when they are idle. Answers whether each of those made room, the
+/// first one first.
+fn bind_again(table: &mut Forward) -> Result<bool, NoMemory> {
+    table.find_or_bind(&endpoint(6, 1), 1, 0)?;
+    for port in 0..200 {
+        table.find_or_bind(&endpoint(17, port), port, 0)?;
+    }
+    let mut first = true;
+    for port in 0..200 {
+        let other = endpoint(17, 200 + port);
+        let found = table.find(&other, 300_000_000);
+        let freed = Freed { protocol: 17, port };
+        first = first && found == Find::Absent(Some(freed));
+        table.find_or_bind(&other, port, 300_000_000)?;
+    }
+    Ok(first)
+}
+
+/// Whether the mapping at the index is of this port.
+fn stands(table: &Forward, index: usize, port: u16) -> bool {
+    match table.entry(index) {
+        Some(mapping) => mapping.key.port == port,
+        None => false,
+    }
+}
+
+/// Whether many idle mappings make room for others, and what is left is in the order in which it was bound.
+fn ages(alloc: Global) -> Result<bool, NoMemory> {
+    let mut table = Forward::new(alloc);
+    let first = bind_again(&mut table)?;
+    let none = table.find(&endpoint(17, 400), 300_000_000) == Find::Absent(None);
+    let copy = table.copy()?;
+    let ordered = stands(&copy, 0, 1) && stands(&copy, 1, 200) && stands(&copy, 200, 399);
+    Ok(first && none && copy.len() == 201 && ordered)
+}
+
 /// Binds a port of each protocol, and that of UDP again.
 fn bind_ports(table: &mut Reverse) -> Result<(), NoMemory> {
     table.bind(17, 10, &endpoint(17, 1))?;
@@ -91,10 +127,43 @@ fn has_bound_ports(alloc: Global) -> Result<bool, NoMemory> {
     Ok(unbinds(&mut table) && shown)
 }
 
+/// The bound port of this number, of UDP.
+fn bound_port(port: u16) -> BoundPort {
+    BoundPort {
+        protocol: 17,
+        port,
+        key: endpoint(17, port),
+    }
+}
+
+/// Whether ports that are bound and unbound in turns stay in the order in which they were bound.
+fn keeps_order(alloc: Global) -> Result<bool, NoMemory> {
+    let mut table = Reverse::new(alloc);
+    for port in 0..400 {
+        table.bind(17, port, &endpoint(17, port))?;
+        if port >= 100 {
+            table.unbind(17, port - 100);
+        }
+    }
+    Ok(
+        table.len() == 100
+            && table.entry(0) == Some(bound_port(300))
+            && table.entry(99) == Some(bound_port(399))
+            && table.entry(100).is_none(),
+    )
+}
+
 #[test]
 fn tables_find_what_was_put_in(rt: HostRuntime) -> Result<(), Fail> {
     assert!(rt; has_ports(rt.alloc())?);
     assert!(rt; has_mappings(rt.alloc())?);
     assert!(rt; has_bound_ports(rt.alloc())?);
+    Ok(())
+}
+
+#[test]
+fn tables_keep_their_order_as_they_age(rt: HostRuntime) -> Result<(), Fail> {
+    assert!(rt; ages(rt.alloc())?);
+    assert!(rt; keeps_order(rt.alloc())?);
     Ok(())
 }

@@ -1,6 +1,9 @@
-use Rattle.nat_tables.proofs.TableLemmas.{ArePassed}
+use Rattle.nat_tables.specs.Idling.{AreBusyUntil}
+use Rattle.nat_tables.proofs.IdleLemmas.{before_count}
 use Rattle.nat_tables.proofs.forward.first_idle.Given as goal
 
--- none of the mappings so far is idle
-abbrev pub invariant-loop-index : goal.invariant-loop-index
-invariant-loop-index l = ArePassed l.now l.slots.entries l.index
+abbrev pub invariant-loop-at : goal.invariant-loop-at
+invariant-loop-at l = AreBusyUntil l.busy l.slots
+
+abbrev pub decreases-loop-at : goal.decreases-loop-at
+decreases-loop-at l = before_count l.now l.busy

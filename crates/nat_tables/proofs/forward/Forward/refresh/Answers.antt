@@ -1,26 +1,33 @@
-use Rattle.std.proofs.Common.{◌≡◌, Some, ◌∙◌, refl, sym}
-use Rattle.std.specs.Prelude.{OnOk, OnErr, Ok, Err, Result}
-use Rattle.nat_tables.specs.Forwards.{slot_of, refresh}
-use Rattle.nat_tables.proofs.TableLemmas.{slot_found_by, used_by, busy_refreshed}
+use Rattle.std.proofs.Common.{◌≡◌, ◌∙◌, sym, refl, Some}
+use Rattle.nat_tables.specs.Forwards.{slot_of, refreshed}
+use Rattle.nat_tables.specs.Rows.{present}
+use Rattle.nat_tables.proofs.TableLemmas.{used_by, slot_found_by}
+use Rattle.nat_tables.proofs.IdleLemmas.{busy_used, unused}
+use Rattle.nat_tables.proofs.RowWords.{derived, stands_inserted, stands_lookup, absent_lookup}
 use Rattle.nat_tables.proofs.forward.Forward.refresh.Goals as goal
 
--- the insertion of a key that is there succeeds
-there : {T E : Type 0} (r : Result T E) (P : Type 0) (absent : Type 0) → OnOk r P → OnErr r absent → (absent → P) → P
-there (Ok x) P absent ok err never = ok
-there (Err e) P absent ok err never = never err
-
-module _ (c : goal.After-insert-old) where
-  entries : c.insert-old.new.self.entries ≡ refresh c.args.key.now c.args.now c.self.inside.slots.entries
-  entries =
-      let es = c.self.inside.slots.entries in
-      let some : slot_of c.args.key.now es ≡ Some c.args.slot = rw (← c.self.view_is) at c.requires in
-      let new = there c.insert-old.result _ _ c.insert-old.ensures.entries c.insert-old.ensures.absent
-      (λ none. absurd (let k = sym (slot_found_by _ (λ a b. refl) c.args.key.now es) ∙ none in cc)) in
-      rw (new, c.refreshed.ensures) (used_by _ (λ a b. refl) c.args.key.now c.args.now c.args.slot es some)
-
 pub invariant_of-self : goal.invariant_of-self
-invariant_of-self c = rw (entries c)
-    (busy_refreshed c.self.inside.busy_before c.args.key.now c.args.now c.self.inside.slots.entries c.self.invariant)
+invariant_of-self c =
+    let stands = c.in-Some.ensures in
+    rw (c.put.ensures (stands.own, c.in-Some.slot) stands.row, c.refreshed.ensures)
+    (busy_used _ _ c.in-Some.at c.args.now stands.own c.in-Some.slot c.self.invariant stands.row)
 
-pub returns : goal.returns
-returns c = rw (← c.self.view_is) (entries c)
+pub returns-in-Some : goal.returns-in-Some
+returns-in-Some c =
+    let rows = c.self.inside.slots in
+    let stands = c.in-Some.ensures in
+    let there : slot_of c.args.key.now (present rows) ≡ Some c.in-Some.slot =
+    sym (slot_found_by derived (λ a b. refl) c.args.key.now (present rows))
+    ∙ stands_lookup derived c.args.key.now rows c.in-Some.at c.in-Some.slot stands in
+    rw (c.put.ensures (stands.own, c.in-Some.slot) stands.row, c.refreshed.ensures, ← c.self.view_is)
+    (sym (stands_inserted derived c.args.key.now rows c.in-Some.at c.in-Some.slot (refreshed c.args.now c.in-Some.slot)
+    stands.own stands stands.row)
+    ∙ used_by derived (λ a b. refl) c.args.key.now c.args.now c.in-Some.slot (present rows) there)
+
+pub returns-in_default : goal.returns-in_default
+returns-in_default c =
+    let rows = c.self.inside.slots in
+    rw (← c.self.view_is)
+    (unused c.args.key.now c.args.now (present rows)
+    (sym (slot_found_by derived (λ a b. refl) c.args.key.now (present rows))
+    ∙ absent_lookup derived c.args.key.now rows c.in_default.ensures))

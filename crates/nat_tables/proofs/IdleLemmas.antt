@@ -1,0 +1,187 @@
+-- The first idle mapping of rows, by times up to which they are not idle.
+use Rattle.std.proofs.Common.{◌≡◌, ◌==◌, ℕ, zero, suc, ◌+◌, ◌<◌, ◌≤◌, Bool, true, false, List, [], ◌∷◌, ◌++◌, length}
+use Rattle.std.proofs.Common.{set}
+use Rattle.std.proofs.Common.{refl, sym, ap, subst, ◌∙◌, arith, ⊎_elim, Option, Some, None, length-append}
+use Rattle.std.specs.Prelude.{◌≢◌, nat_lt}
+use Rattle.std.specs.List.{sum_by}
+use Rattle.std.proofs.lemmas.Bool.{eqb-true, cases_lt}
+use Rattle.std.proofs.lemmas.Bool.Decides.{nat_tests}
+use Rattle.std.proofs.lemmas.List.{length-set, get_or-set_same, get_or-set_other}
+use Rattle.std.proofs.lemmas.List.Sums.{sum_by-set}
+use Rattle.nat_tables.specs.declared.entries.Endpoint.{Endpoint}
+use Rattle.nat_tables.specs.declared.slot.Slot.{Slot}
+use Rattle.nat_tables.specs.Forwards.{timer, refreshed, first_idle, without_idle, slot_of, refresh}
+use Rattle.nat_tables.specs.Keys.{same_endpoint}
+use Rattle.nat_tables.specs.Ports.{one_if}
+use Rattle.nat_tables.specs.Rows.{present, row_at}
+use Rattle.nat_tables.specs.Times.{never, time_at, AreFrom, IsFirstBefore}
+use Rattle.nat_tables.specs.Idling.{IsBusyUntil, AreBusyUntil, row_is_idle, NoneIsIdle, IsFirstIdle}
+use Rattle.nat_tables.proofs.RowLemmas.{row_set_same, row_set_other, row_added, row_kept}
+
+abbrev Row : Type 0
+Row = Option (Endpoint × Slot)
+
+-- Times and rows after a change
+
+pub busy_noted : (times : List ℕ) (rows : List Row) (at time : ℕ) → AreBusyUntil times rows
+    → IsBusyUntil time (row_at rows at) → AreBusyUntil (set times at time) rows
+busy_noted times rows at time busy later = record {
+  long = let l = busy.long in let s = length-set times at time in omega arith;
+  each = λ k less. by k less (k == at) refl;
+}
+  where
+    by : (k : ℕ) → k < length rows → (b : Bool) → (k == at) ≡ b
+        → IsBusyUntil (time_at (set times at time) k) (row_at rows k)
+    by k less true e =
+        let here : at ≡ k = sym (eqb-true _ _ e) in
+        let l = busy.long in
+        let same : time_at (set times at time) at ≡ time =
+        get_or-set_same times at time never (let inside : at < length rows = rw here less in omega arith) in
+        subst (λ (j : ℕ). IsBusyUntil (time_at (set times at time) j) (row_at rows j)) here (rw same later)
+    by k less false e =
+        let apart : k ≢ at = (λ same. grind (arith, nat_tests)) in
+        rw (get_or-set_other times at k time never apart) (busy.each k less)
+
+row_changed : (times : List ℕ) (rows : List Row) (at : ℕ) (row : Row) → AreBusyUntil times rows
+    → (at < length rows → IsBusyUntil (time_at times at) row) → AreBusyUntil times (set rows at row)
+row_changed times rows at row busy new = record {
+  long = let l = busy.long in let s = length-set rows at row in omega arith;
+  each = λ k less. by k (let s = length-set rows at row in omega arith) (k == at) refl;
+}
+  where
+    by : (k : ℕ) → k < length rows → (b : Bool) → (k == at) ≡ b
+        → IsBusyUntil (time_at times k) (row_at (set rows at row) k)
+    by k less true e =
+        let here : at ≡ k = sym (eqb-true _ _ e) in
+        let inside : at < length rows = rw here less in
+        subst (λ (j : ℕ). IsBusyUntil (time_at times j) (row_at (set rows at row) j)) here
+        (rw (row_set_same rows at row inside) (new inside))
+    by k less false e =
+        let apart : k ≢ at = (λ same. grind (arith, nat_tests)) in
+        rw (row_set_other rows at k row apart) (busy.each k less)
+
+pub busy_cleared : (times : List ℕ) (rows : List Row) (at : ℕ) → AreBusyUntil times rows
+    → AreBusyUntil times (set rows at None)
+busy_cleared times rows at busy = row_changed times rows at None busy (λ inside. tt)
+
+pub busy_used : (times : List ℕ) (rows : List Row) (at now : ℕ) (own : Endpoint) (slot : Slot) → AreBusyUntil times rows
+    → row_at rows at ≡ Some (own, slot) → AreBusyUntil times (set rows at (Some (own, refreshed now slot)))
+busy_used times rows at now own slot busy is =
+    row_changed times rows at (Some (own, refreshed now slot)) busy
+    (λ inside.
+    let old : IsBusyUntil (time_at times at) (Some (own, slot)) = rw is at (busy.each at inside) in omega arith)
+
+pub busy_pushed : (times : List ℕ) (rows : List Row) (at time : ℕ) (key : Endpoint) (slot : Slot)
+    → AreBusyUntil times rows → length rows < length times → at ≡ length rows → time < slot.last + timer key.protocol
+    → AreBusyUntil (set times at time) (rows ++ Some (key, slot) ∷ [])
+busy_pushed times rows at time key slot busy room last later = record {
+  long = let s = length-set times at time in let l = length-append rows (Some (key, slot) ∷ []) in omega arith;
+  each = λ k less. by k (let l = length-append rows (Some (key, slot) ∷ []) in omega arith) (k == at) refl;
+}
+  where
+    by : (k : ℕ) → k < length rows + 1 → (b : Bool) → (k == at) ≡ b
+        → IsBusyUntil (time_at (set times at time) k) (row_at (rows ++ Some (key, slot) ∷ []) k)
+    by k less true e =
+        let here : at ≡ k = sym (eqb-true _ _ e) in
+        let same : time_at (set times at time) at ≡ time = get_or-set_same times at time never (omega arith) in
+        let there : row_at (rows ++ Some (key, slot) ∷ []) at ≡ Some (key, slot) =
+        rw last (row_added rows (Some (key, slot))) in
+        subst (λ (j : ℕ). IsBusyUntil (time_at (set times at time) j) (row_at (rows ++ Some (key, slot) ∷ []) j)) here
+        (rw (same, there) later)
+    by k less false e =
+        let apart : k ≢ at = (λ same. grind (arith, nat_tests)) in
+        let other : k ≢ length rows = (λ same. apart (same ∙ sym last)) in
+        let inside : k < length rows = (let t : (k == at) ≡ false = e in grind (arith, nat_tests)) in
+        rw (get_or-set_other times at k time never apart, row_kept rows (Some (key, slot)) k other) (busy.each k inside)
+
+pub busy_none : AreBusyUntil [] []
+busy_none = record { long = omega arith; each = λ at less. absurd (omega arith) }
+
+-- The first idle mapping
+
+not_idle : (now time : ℕ) (row : Row) → IsBusyUntil time row → now ≤ time → row_is_idle now row ≡ false
+not_idle now time None busy from = refl
+not_idle now time (Some e) busy from =
+    let later : nat_lt now (e.1.last + timer e.0.protocol) ≡ true = grind (arith, nat_tests) in rw later refl
+
+row_past : (rows : List Row) (at : ℕ) → length rows ≤ at → row_at rows at ≡ None
+row_past [] at past = refl
+row_past (row ∷ rows) zero past = absurd (omega arith)
+row_past (row ∷ rows) (suc at) past = row_past rows at (omega arith)
+
+pub none_found : (now : ℕ) (times : List ℕ) (rows : List Row) → AreBusyUntil times rows → AreFrom now times
+    → NoneIsIdle now rows
+none_found now times rows busy from at =
+    ⊎_elim (λ inside. not_idle now (time_at times at) (row_at rows at) (busy.each at inside) (from at))
+    (λ past. rw (row_past rows at past) refl) (cases_lt at (length rows))
+
+idle_inside : (now : ℕ) (rows : List Row) (at : ℕ) → row_is_idle now (row_at rows at) ≡ true → at < length rows
+idle_inside now [] at idle = absurd (cc)
+idle_inside now (row ∷ rows) zero idle = omega arith
+idle_inside now (row ∷ rows) (suc at) idle = let h = idle_inside now rows at idle in omega arith
+
+pub first_found : (now : ℕ) (times : List ℕ) (rows : List Row) (at : ℕ) → AreBusyUntil times rows
+    → IsFirstBefore now times at → row_is_idle now (row_at rows at) ≡ true → IsFirstIdle now rows at
+first_found now times rows at busy first idle = record {
+  idle = idle;
+  others = λ k less.
+      let inside = idle_inside now rows at idle in
+      not_idle now (time_at times k) (row_at rows k) (busy.each k (omega arith)) (first.others k less);
+}
+
+pub none_is : (now : ℕ) (rows : List Row) → NoneIsIdle now rows → first_idle now (present rows) ≡ None
+none_is now [] none = refl
+none_is now (None ∷ rows) none = none_is now rows (λ k. none (suc k))
+none_is now (Some e ∷ rows) none = rw (none 0) (none_is now rows (λ k. none (suc k)))
+
+first_behind : (now : ℕ) (row : Row) (rows : List Row) (at : ℕ) → IsFirstIdle now (row ∷ rows) (suc at)
+    → IsFirstIdle now rows at
+first_behind now row rows at first = record {
+  idle = first.idle;
+  others = λ k less. first.others (suc k) (omega arith);
+}
+
+pub first_is : (now : ℕ) (rows : List Row) (at : ℕ) (entry : Endpoint × Slot) → IsFirstIdle now rows at
+    → row_at rows at ≡ Some entry → first_idle now (present rows) ≡ Some entry
+first_is now [] at entry first is = absurd (cc)
+first_is now (None ∷ rows) zero entry first is = absurd (cc)
+first_is now (Some e ∷ rows) zero entry first is = rw first.idle is
+first_is now (None ∷ rows) (suc at) entry first is = first_is now rows at entry (first_behind now None rows at first) is
+first_is now (Some e ∷ rows) (suc at) entry first is =
+    rw (first.others 0 (omega arith)) (first_is now rows at entry (first_behind now (Some e) rows at first) is)
+
+pub first_removed : (now : ℕ) (rows : List Row) (at : ℕ) → IsFirstIdle now rows at
+    → without_idle now (present rows) ≡ present (set rows at None)
+first_removed now [] at first = absurd (let h = first.idle in cc)
+first_removed now (None ∷ rows) zero first = absurd (let h = first.idle in cc)
+first_removed now (Some e ∷ rows) zero first = rw first.idle refl
+first_removed now (None ∷ rows) (suc at) first = first_removed now rows at (first_behind now None rows at first)
+first_removed now (Some e ∷ rows) (suc at) first =
+    rw (first.others 0 (omega arith))
+    (ap (λ rest. e ∷ rest) (first_removed now rows at (first_behind now (Some e) rows at first)))
+
+-- an idle row is not empty
+pub idle_some : (now : ℕ) (rows : List Row) (at : ℕ) → IsFirstIdle now rows at → None ≡ row_at rows at → ⊥
+idle_some now rows at first none = let h = rw (← none) at first.idle in cc
+
+-- how many times are before this one
+abbrev pub before_count : ℕ → List ℕ → ℕ
+before_count now times = sum_by (λ time. one_if (nat_lt time now)) times
+
+pub fewer_before : (now : ℕ) (times : List ℕ) (at time : ℕ) → IsFirstBefore now times at → now ≤ time
+    → before_count now (set times at time) < before_count now times
+fewer_before now times at time first later =
+    let sums = sum_by-set (λ t. one_if (nat_lt t now)) times at time never first.inside in
+    let old : nat_lt (time_at times at) now ≡ true = (let b = first.before in grind (arith, nat_tests)) in
+    let new : nat_lt time now ≡ false = grind (arith, nat_tests) in
+    let less = rw (old, new) at sums in omega arith
+
+-- a mapping that is not there is not refreshed
+pub unused : (key : Endpoint) (now : ℕ) (es : List (Endpoint × Slot)) → slot_of key es ≡ None → es ≡ refresh key now es
+unused key now [] none = refl
+unused key now (e ∷ es) none = by (same_endpoint key e.0) refl (unused key now es)
+  where
+    by : (b : Bool) → same_endpoint key e.0 ≡ b → (slot_of key es ≡ None → es ≡ refresh key now es)
+        → e ∷ es ≡ refresh key now (e ∷ es)
+    by true q behind = absurd (let h = rw q at none in cc)
+    by false q behind = rw q (ap (λ rest. e ∷ rest) (behind (rw q at none)))

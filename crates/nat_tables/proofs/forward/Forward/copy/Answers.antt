@@ -1,0 +1,7 @@
+use Rattle.std.proofs.Common.{◌∙◌, ap}
+use Rattle.nat_tables.specs.Rows.{present}
+use Rattle.nat_tables.proofs.RowWords.{present_swept}
+use Rattle.nat_tables.proofs.forward.Forward.copy.Goals as goal
+
+pub returns : goal.returns
+returns c = ap present c.in_ok-slots.ensures ∙ present_swept (present c.self.inside.slots) ∙ c.self.view_is
