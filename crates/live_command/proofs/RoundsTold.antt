@@ -2,8 +2,8 @@
 use Rattle.std.proofs.Common.{◌≡◌, ◌⊎◌, ℕ, ◌<◌, ◌≤◌, true, List, [], ◌∷◌, ◌++◌, length, take, refl, sym, ap, ◌∙◌, subst}
 use Rattle.std.proofs.Common.{inl, inr, append-nil, append_assoc, Result, Ok, Err, Option, Some, None, cond, nat_eq, arith}
 use Rattle.std.specs.Prelude.{⊤, All, OnOk}
-use Rattle.std.proofs.lemmas.List.{drop_all, take-nil}
-use Rattle.std.proofs.Common.{false}
+use Rattle.std.proofs.lemmas.List.{drop_all}
+use Rattle.std.proofs.Common.{false, take-nil}
 use Rattle.std.proofs.lemmas.Bool.Decides.{nat_tests}
 use Rattle.rand_pcg.specs.Lcg.{Lcg}
 use Rattle.plain_text.specs.Packets.{IsShort}
@@ -98,10 +98,10 @@ module _ {P V : Type 0} (m : Meaning V) (s : Setting V) (w : SystemWorld V) (may
     (draws after : List Lcg) (noted : List Noted) (arriving : List Message) (y z : Systemed P V)
     (stands : SystemStands m s w y) (few : s.threads ≤ 16) (same : SameOrders asked given)
     (rounds : Rounds m s w given may y.parts.guide draws noted arriving after z) where
-  there : SystemWorld V
+  abbrev pub there : SystemWorld V
   there = rounds.0
 
-  r : IsRoundTo s w given may y.parts.guide draws noted arriving after there
+  abbrev pub r : IsRoundTo s w given may y.parts.guide draws noted arriving after rounds.0
   r = rounds.1
 
   past_is : there.past ≡ r.steps ++ w.past
@@ -204,7 +204,7 @@ none_raced s w = record {
 module _ {V : Type 0} (s : Setting V) (names : LiveOutputs) (w : SystemWorld V) (limit : Limit) (events : List Event)
     (noted : List Noted) (next : PlainMove) (steps : List (Step V)) (woven : AreWoven w.past steps)
     (stopped : StoppedAt s w (step_events steps) noted limit next) where
-  last : Event
+  abbrev pub last : Event
   last = event.Step next.thread next.answer
 
   -- the first of the noted events are the first of the race
@@ -252,10 +252,10 @@ module _ {V : Type 0} (s : Setting V) (names : LiveOutputs) (w : SystemWorld V) 
     module _ (x : Scripted) (none : x.text ≡ [])
         (h : HasTold s names (events ++ events_noted noted) ((events ++ events_noted noted) ++ last ∷ []) stopped.there
         [] x old now) where
-      told_all : List Event
+      abbrev pub told_all : List Event
       told_all = (events ++ events_noted noted) ++ last ∷ []
 
-      till : List Write
+      abbrev pub till : List Write
       till =
           writes_of names.outputs s.fractions h.replies
           ++ release_writes names.outputs.released (newly_released stopped.there stopped.there)

@@ -18,7 +18,7 @@ use Rattle.event_replies.specs.declared.reply.Stop.TheVariants as stop
 use Rattle.recovery_core.specs.Systems.{Systemed}
 use Rattle.output_files.specs.declared.error.OutputError.{OutputError}
 use Rattle.output_files.specs.declared.error.OutputError.TheVariants as output
-use Rattle.output_files.specs.Writes.{Write, HasBegun, HasGathered}
+use Rattle.output_files.specs.Writes.{Write, HasBegun, HasWritten}
 use Rattle.output_files.specs.Written.{Writes, WritesGathered}
 use Rattle.output_files.proofs.Effects.{gathered_begun}
 use Rattle.run_writes.specs.declared.error.RunError.{RunError}
@@ -38,7 +38,7 @@ use Rattle.live_writes.specs.Told.{FailsLive, HasBegunLive, HasTold, IsAhead, Is
 use Rattle.live_command.specs.Going.{GoesOver, HasLivedTo}
 use Rattle.plan_script.specs.Begun.{AreFirstOf}
 use Rattle.live_command.specs.Writing.{IsQuiet, Keeps}
-use Rattle.live_command.proofs.WritingSteps.{all_ahead, told_reply, with_reply}
+use Rattle.live_command.proofs.WritingSteps.{all_ahead, with_reply}
 
 -- one event is performed
 pub does_one : {V : Type 0} (s : Setting V) (w next : SystemWorld V) (ev : Event) (to : _) (freed : List Sent)
@@ -64,9 +64,9 @@ is_quiet m s w ev reply outputs y new line comes at none said =
       came.5,
     )
 
-module _ {P V : Type 0} (m : Meaning V) (s : Setting V) (names : LiveOutputs) (events : List Event)
-    (w : SystemWorld V) (lines : List ℕ) (x : Scripted) (old now : Shown) (ev : Event)
-    (h : HasTold s names events (events ++ ev ∷ []) w lines x old now) (none : x.text ≡ []) (few : s.threads ≤ 16) where
+module _ {V : Type 0} (s : Setting V) (names : LiveOutputs) (events : List Event) (w : SystemWorld V) (lines : List ℕ)
+    (x : Scripted) (old now : Shown) (ev : Event)
+    (h : HasTold s names events (events ++ ev ∷ []) w lines x old now) (none : x.text ≡ []) where
   whole : script_text (events ++ ev ∷ []) ≡ h.written
   whole = h.script_is ∙ ap (λ (l : List ℕ). h.written ++ l) none ∙ append-nil h.written
 
@@ -79,21 +79,22 @@ module _ {P V : Type 0} (m : Meaning V) (s : Setting V) (names : LiveOutputs) (e
     ahead = all_ahead s names (events ++ ev ∷ []) h.written old c ([], sym whole ∙ sym (append-nil _)) begun;
   }
 
-  module _ (y new : Systemed P V) (at : IsSystemAt m s w y) (more : List ℕ) (c : Shown) where
+  module _ {P : Type 0} (m : Meaning V) (few : s.threads ≤ 16) (y new : Systemed P V) (at : IsSystemAt m s w y)
+      (more : List ℕ) (c : Shown) where
     -- the event ended
     module _ (reply : SystemReply) (outputs : List Output) (comes : ComesTo m ev (Ok reply) outputs y new) where
-      came : (next : SystemWorld V) × (freed : List Sent) × OnAny s w ev reply.outcome freed next
+      abbrev pub came : (next : SystemWorld V) × (freed : List Sent) × OnAny s w ev reply.outcome freed next
           × (reply.released ≡ sent_names freed) × (packets_in outputs ≡ newly_released w next)
           × IsSystemAt m s next new
       came = comes s w at
 
-      line : List ℕ
+      abbrev pub line : List ℕ
       line = reply_line ev reply.outcome came.1
 
-      r : Reply
+      abbrev pub r : Reply
       r = record { released = newly_released w came.0; line = line }
 
-      writes : List Write
+      abbrev pub writes : List Write
       writes = writes_of names.outputs s.fractions (h.replies ++ r ∷ [])
 
       same : writes_of names.outputs s.fractions h.replies
@@ -156,10 +157,10 @@ module _ {P V : Type 0} (m : Meaning V) (s : Setting V) (names : LiveOutputs) (e
 
     -- it stopped at a limit
     module _ (limit : Limit) (outputs : List Output) (comes : ComesTo m ev (Err (stop.Limit limit)) outputs y new) where
-      stopped : (next : SystemWorld V) × Stops s w ev limit next × (packets_in outputs ≡ newly_released w next)
+      abbrev pub stopped : (next : SystemWorld V) × Stops s w ev limit next × (packets_in outputs ≡ newly_released w next)
       stopped = comes s w at
 
-      till : List Write
+      abbrev pub till : List Write
       till =
           writes_of names.outputs s.fractions h.replies
           ++ release_writes names.outputs.released (newly_released w stopped.0)
@@ -196,13 +197,9 @@ module _ {P V : Type 0} (m : Meaning V) (s : Setting V) (names : LiveOutputs) (e
             inl (record {
               writes = till;
               until = until;
-              written =
-                  subst (λ (l : List ℕ). HasWrittenAll l) (sym whole) all;
+              written = subst (λ (l : List ℕ). HasWritten till (holding names.script l old) c) (sym whole) all;
             }),
           )
-            where
-              HasWrittenAll : List ℕ → Type 0
-              HasWrittenAll l = Writes {A = ⊤} (Ok done) till (holding names.script l old) c
           go (Err output.WriteFault) begun =
               (ev ∷ [], ([], refl), begun_with c (till, inr (inl (limit, until)), begun))
           go (Err output.NoMemory) begun =

@@ -260,7 +260,8 @@ module _ {V : Type 0} (s : Setting V) (names : LiveOutputs) (events : List Event
         answers = h.answers;
         fit_records = h.fit_records;
         behind = (ev ∷ [], refl);
-        fit_words = All-append FitsWords events (ev ∷ []) h.fit_words (fits, tt);
+        fit_words = All-append FitsWords events (ev ∷ []) h.fit_words
+            (All-cons FitsWords ev [] fits (All-nil FitsWords));
         written = h.written;
         script_is =
             text_more events (ev ∷ [])
@@ -304,7 +305,7 @@ module _ {V : Type 0} (s : Setting V) (names : LiveOutputs) (events : List Event
     },
   )
 
-with_reply : (names : OutputNames) (u : FractionUnit) (replies : List Reply) (r : Reply)
+pub with_reply : (names : OutputNames) (u : FractionUnit) (replies : List Reply) (r : Reply)
     → writes_of names u (replies ++ r ∷ []) ≡ writes_of names u replies ++ reply_writes names.released r
 with_reply names u replies r =
     ap (λ (l : List Write). opening_writes names u ++ l) (replies_more names.released replies r)
@@ -313,14 +314,11 @@ with_reply names u replies r =
 module _ {V : Type 0} (s : Setting V) (names : LiveOutputs) (events : List Event) (w : SystemWorld V) (lines : List ℕ)
     (x : Scripted) (old now : Shown) (ev : Event)
     (h : HasTold s names events (events ++ ev ∷ []) w lines x old now) where
-  told_reply : (next : SystemWorld V) (line : List ℕ) → Reply
-  told_reply next line = record { released = newly_released w next; line = line }
-
   -- an event that released nothing was performed, and its line is gathered
   pub quiet_told : (line : List ℕ) (next : SystemWorld V) → IsQuiet s w ev line next
       → HasTold s names (events ++ ev ∷ []) (events ++ ev ∷ []) next (lines ++ line) x old now
   quiet_told line next q =
-      let r : Reply = told_reply next (reply_line ev q.to q.freed) in
+      let r : Reply = record { released = newly_released w next; line = reply_line ev q.to q.freed } in
       let empty : r ≡ record { released = []; line = line } =
       ap (λ (l : List Packet). record { released = l; line = reply_line ev q.to q.freed }) q.none
       ∙ ap (λ (l : List ℕ). record { released = []; line = l }) (sym q.line_is) in
@@ -359,3 +357,30 @@ pub fails_begun : {V : Type 0} (e : OutputError) (s : Setting V) (names : LiveOu
     (old now : Shown) → HasBegunLive s names events old now → FailsLive (run_error_of e) s names events old now
 fails_begun output.WriteFault s names events old now h = h
 fails_begun output.NoMemory s names events old now h = h
+
+-- an error of writing, where one more event was to be told
+pub add_failed : {A V : Type 0} (r : Result A RunError) (e : OutputError) (s : Setting V) (names : LiveOutputs)
+    (events : List Event) (ev : Event) (w : SystemWorld V) (lines : List ℕ) (x : Scripted) (old now : Shown)
+    → r ≡ Err (run_error_of e) → HasBegunLive s names (events ++ ev ∷ []) old now
+    → Adds r s names events ev w lines x old now
+add_failed {A} r e s names events ev w lines x old now is h =
+    subst (λ (z : Result A RunError). Adds z s names events ev w lines x old now) (sym is) (go e h)
+  where
+    go : (e : OutputError) → HasBegunLive s names (events ++ ev ∷ []) old now
+        → Adds {A = A} (Err (run_error_of e)) s names events ev w lines x old now
+    go output.WriteFault h = h
+    go output.NoMemory h = h
+
+-- one more event would pass a limit of scripts, and all before it was written
+pub paused_now : {V : Type 0} (s : Setting V) (names : LiveOutputs) (events : List Event) (w : SystemWorld V)
+    (lines : List ℕ) (x y : Scripted) (old now : Shown) → HasTold s names events events w lines y old now
+    → AreCounted events x → lines ≡ [] → y.text ≡ [] → (ev : Event) (limit : Limit)
+    → PassesScript limit x.count (x.size + length (line_of ev))
+    → FailsLive (run.Limit limit) s names (events ++ ev ∷ []) old now
+paused_now s names events w lines x y old now h counted none no_text ev limit passes =
+    let here : HasTold s names events events w [] y old now =
+    subst (λ (l : List ℕ). HasTold s names events events w l y old now) none h in
+    paused s names events w [] y old now here no_text ev limit
+    (subst (λ (n : ℕ). PassesScript limit n (y.size + length (line_of ev))) (counted.count ∙ sym h.counted.count)
+    (subst (λ (n : ℕ). PassesScript limit x.count (n + length (line_of ev))) (counted.size ∙ sym h.counted.size)
+    passes))

@@ -95,11 +95,13 @@ pub(crate) fn add_line<X, W: World>(
         → WritingFailed W.ledger W.healthy world.old world.new }
 {
     match script.add(event) {
+        Ok(()) => Ok(()),
         Err(RunError::Limit(limit)) => {
             flush::<X, W>(world, file, lines, script)?;
             Err(RunError::Limit(limit))
         }
-        added => added,
+        Err(RunError::WriteFault) => Err(RunError::WriteFault),
+        Err(RunError::NoMemory) => Err(RunError::NoMemory),
     }
 }
 
@@ -127,7 +129,7 @@ pub(crate) fn gather<X, W: World>(
         → WritingFailed W.ledger W.healthy world.old world.new }
 {
     lines.extend(line)?;
-    if lines.len() + script.gathered() > GATHERED {
+    if lines.len() > GATHERED || script.gathered() > GATHERED {
         return flush::<X, W>(world, file, lines, script);
     }
     Ok(())

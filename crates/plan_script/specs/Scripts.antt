@@ -2,7 +2,11 @@
 use Rattle.std.specs.Prelude.{◌≡◌, ◌⊎◌, ℕ, ◌-◌, true, false, List, [], ◌∷◌, ◌++◌, length}
 use Rattle.recovery_world.specs.declared.event.Event.{Event}
 use Rattle.recovery_world.specs.declared.event.Event.TheVariants as event
-use Rattle.recovery_world.specs.World.{Setting, World}
+use Rattle.recovery_world.specs.World.{Setting, World, opening}
+use Rattle.recovery_world.specs.Files.{Leaves}
+use Rattle.recovery_laws.specs.Settled.{IsSettled}
+use Rattle.plain_text.specs.declared.packet.Packet.{Packet}
+use Rattle.plain_machine.specs.declared.plain_move.PlainMove.{PlainMove}
 use Rattle.recovery_world.specs.Many.{all_messages}
 use Rattle.plan_script.specs.declared.plan.PlanLine.{PlanLine}
 use Rattle.plan_script.specs.declared.plan.PlanLine.TheVariants as line
@@ -65,3 +69,12 @@ abbrev pub ScriptsPerform : Type 0 → Type 0
 ScriptsPerform X =
     (s : Setting X) (w : World X) (orders : Orders) (lines : List PlanLine) (events : List Event) (new : World X)
     → IsScript s w orders lines events new → Does s w events new
+
+-- A plan that ends in a settling: what its script leaves has released all, and each thread has taken and ended its
+-- inputs of the whole capture.
+abbrev pub PlansSettle : Type 0 → Type 0
+PlansSettle X =
+    (s : Setting X) (lines : List PlanLine) (events : List Event) (new : World X) (report : List ℕ)
+    (released : List Packet) (schedule : List PlainMove)
+    → IsScript s (opening X) no_orders (lines ++ line.Settle ∷ []) events new
+    → (l : Leaves s events report released schedule) → IsSettled s l.world l.steps
