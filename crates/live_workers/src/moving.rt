@@ -20,10 +20,18 @@ use std::sync::Wait;
 use var_locks::{Gate, Round, Touched, VarSeat, Vars};
 use world_io::Clock;
 
+/// What the frames of a round say of who sends them: its epoch and its number of threads.
+#[derive(Clone, Copy)]
+pub(crate) struct Sender {
+    pub(crate) epoch: u32,
+    pub(crate) threads: u32,
+}
+
 /// What surrounds the moves of a round: its box, its variables and what is followed, and whom its threads ask.
 #[derive(Drop)]
 pub(crate) struct Surroundings<'a, P: Program, J: Round, C, G> {
     pub(crate) alloc: Global,
+    pub(crate) sender: Sender,
     pub(crate) program: &'a P,
     pub(crate) vars: &'a Vars<P, J>,
     pub(crate) guide: &'a Guide,

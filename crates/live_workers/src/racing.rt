@@ -16,7 +16,7 @@ ghost use Rattle.live_workers.specs.Racing.{IsRace};
 
 use crate::draws::Draws;
 use crate::gathering::{Left, part_all, workers_of};
-use crate::moving::Surroundings;
+use crate::moving::{Sender, Surroundings};
 use crate::working::{Worker, Working, work};
 use box_program::Program;
 use frame_intake::{FrameName, Lanes, RoundOrders, Sent, Taken, all_frames, open_lanes, take_in};
@@ -65,6 +65,7 @@ fn run_all<
     lanes: &[Lane<Sent>],
     at_work: &AtomicU64,
     most: u64,
+    sender: Sender,
     workers: Vec<Worker<P>>,
 ) -> Result<Vec<Result<Working<P>, NoMemory>>, NoMemory>
     requires of { AreVarsOf P.meaning P.row.coded P.Value.row.coded program.now vars.now }
@@ -85,6 +86,7 @@ fn run_all<
     {
         let around = Surroundings {
             alloc: rt.alloc(),
+            sender,
             program,
             vars,
             guide,
@@ -117,6 +119,7 @@ fn run_beside<
     gate: &G,
     lanes: &[Lane<Sent>],
     most: u64,
+    sender: Sender,
     workers: Vec<Worker<P>>,
     receivers: Vec<LaneReceiver<Sent>>,
 ) -> Result<(Left<P>, Taken), NoMemory>
@@ -148,7 +151,8 @@ fn run_beside<
                 ended.items) }
         {
             run_all(
-                rt, program, vars, guide, inputs, clock, gate, lanes, &at_work, most, workers,
+                rt, program, vars, guide, inputs, clock, gate, lanes, &at_work, most, sender,
+                workers,
             )
         },
         || -> Result<Taken, NoMemory>
@@ -178,6 +182,7 @@ fn race_of<
     orders: &RoundOrders,
     draws: Draws,
     most: u64,
+    sender: Sender,
 ) -> Result<Race<P>, NoMemory>
     requires program { P.row.coded.code program.now ≡ J.program }
     requires master { (master_code P.Value.row.coded).code master ≡ J.opening }
@@ -201,7 +206,7 @@ fn race_of<
     } = open_lanes(alloc, seats.len())?;
     let workers = workers_of(alloc, seats, draws.into_vec(), outboxes, orders)?;
     let (left, taken) = run_beside(
-        rt, program, &vars, guide, inputs, clock, gate, &lanes, most, workers, receivers,
+        rt, program, &vars, guide, inputs, clock, gate, &lanes, most, sender, workers, receivers,
     )?;
     let frames = all_frames(rt, alloc, lanes, left.outboxes, taken)?;
     let closed = vars.close(alloc, program, left.seats)?;
@@ -231,6 +236,7 @@ pub(crate) fn run_race<
     orders: &RoundOrders,
     draws: Draws,
     most: u64,
+    sender: Sender,
 ) -> Result<Race<P>, NoMemory>
     requires fits { FitsProgram (P.meaning program.now) (P.fits program.now) value_of master.vars }
     requires some { 0 < length master.threads }
@@ -241,6 +247,6 @@ pub(crate) fn run_race<
         race.marks.items race.moves.items race.generators.items race.frames.items) }
 {
     race_of::<P, Brand, C, G, R>(
-        rt, program, guide, inputs, clock, gate, master, orders, draws, most,
+        rt, program, guide, inputs, clock, gate, master, orders, draws, most, sender,
     )
 }

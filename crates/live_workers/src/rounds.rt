@@ -1,5 +1,5 @@
 //! A round of racing threads, by the recovering system.
-ghost use Rattle.std.specs.Prelude.{◌≡◌, true, false, IfErr, IfOk, List, length};
+ghost use Rattle.std.specs.Prelude.{◌≡◌, [], true, false, IfErr, IfOk, List, length};
 ghost use Rattle.box_program.specs.Hands.{FitsProgram};
 ghost use Rattle.master_core.specs.Mastered.{Mastered, value_of};
 ghost use Rattle.master_core.specs.MasterStanding.{Stands};
@@ -14,6 +14,7 @@ ghost use Rattle.round_join.specs.Racing.{CameTo, HasRaced, Raced};
 ghost use Rattle.live_workers.specs.Rounds.{Rounds, RoundsRest, StopsRound};
 
 use crate::draws::Draws;
+use crate::moving::Sender;
 use crate::racing::{Race, run_race};
 use box_program::Program;
 use frame_intake::{FrameName, RoundOrders};
@@ -75,6 +76,17 @@ impl From<NoMemory> for RoundStop {
     }
 }
 
+/// Room for the steps that these moves are.
+fn room_for(alloc: Global, moves: &[Moves]) -> Result<Vec<Noted>, NoMemory>
+    ensures { IfOk result (λ steps. steps.items ≡ []) }
+{
+    let mut count: usize = 0;
+    for of_thread in moves {
+        count = count.saturating_add(of_thread.len());
+    }
+    Ok(Vec::with_capacity(alloc, count)?)
+}
+
 /// Notes the moves of a race in the woven order.
 fn note_moves<P: Program>(
     alloc: Global,
@@ -99,7 +111,7 @@ fn note_moves<P: Program>(
         → StopsRound s w stop) }
     ensures program { IfOk result (λ noted. rest.new.program ≡ rest.old.program) }
 {
-    let mut steps = Vec::new(alloc);
+    let mut steps = room_for(alloc, moves.as_slice())?;
     match note_round(alloc, rest, marks, moves, &mut steps) {
         Ok(()) => Ok(steps),
         Err(NoteStop::Limit { limit, next }) => Err(RoundStop::Limit { limit, steps, next }),
@@ -143,6 +155,10 @@ fn go_round<
     let alloc = rt.alloc();
     rest.has_parts();
     let most = u64::from(MOST_MOVES) - rest.moves() + 1;
+    let sender = Sender {
+        epoch: rest.epoch(),
+        threads: rest.threads(),
+    };
     let (program, guide, inputs) = (rest.program(), rest.guide(), rest.inputs());
     let Race {
         master,
@@ -151,7 +167,7 @@ fn go_round<
         generators,
         frames,
     } = run_race(
-        rt, program, guide, inputs, clock, gate, master, orders, draws, most,
+        rt, program, guide, inputs, clock, gate, master, orders, draws, most, sender,
     )?;
     let steps = match note_moves(alloc, rest, &marks, moves) {
         Ok(steps) => steps,

@@ -13,10 +13,11 @@ ghost use Rattle.live_workers.specs.Moving.{HasInput, answer_shown, made_by};
 ghost use Rattle.live_workers.specs.Working.{Given, GoesOn, HasCome, HasEnded, IsGiven, MadeNone};
 ghost use Rattle.live_workers.specs.Working.{MadeOne, MayGoOn, WhyEnded};
 
-use crate::moving::{Surroundings, make_next};
+use crate::moving::{Sender, Surroundings, make_next};
 use box_program::Program;
 use entry_order::What;
 use frame_intake::{Outbox, Sent};
+use kept_moves::KeptMove;
 use log_queues::Lane;
 use master_core::Stepped;
 use plain_text::{Kind, NoMemory};
@@ -112,6 +113,8 @@ impl<P: Program> Working<P> {
     fn keep<R: Wait>(
         &mut self,
         rt: &R,
+        alloc: Global,
+        sender: Sender,
         lane: &Lane<Sent>,
         thread: u32,
         stepped: Stepped,
@@ -127,9 +130,11 @@ impl<P: Program> Working<P> {
         if let Some(frame) = frame_of(&stepped) {
             self.outbox.post(rt, lane, frame)?;
         }
+        let answer = told_by(&stepped);
+        let stepped = KeptMove::of(alloc, sender.epoch, sender.threads, stepped)?;
         self.moves.push(Made {
             thread,
-            answer: told_by(&stepped),
+            answer,
             stepped,
         })
     }
@@ -168,7 +173,7 @@ fn go_on<P: Program, J: Round, C: Clock, G: Gate, R: Wait>(
         Stepped::Idle | Stepped::NotTurn { .. } => Ok(false),
         Stepped::NoMemory => Err(NoMemory),
         Stepped::Took(_) | Stepped::Did(_) | Stepped::Emitted(_) | Stepped::Ended(_) => {
-            working.keep(rt, lane, thread, stepped)?;
+            working.keep(rt, around.alloc, around.sender, lane, thread, stepped)?;
             Ok(true)
         }
     }

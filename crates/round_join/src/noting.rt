@@ -17,7 +17,7 @@ ghost use Rattle.round_join.specs.Racing.{CameTo, HasRaced, Raced, Stopped, Stop
 
 use box_program::Program;
 use event_replies::Stop;
-use master_core::Stepped;
+use kept_moves::KeptMove;
 use plain_machine::PlainMove;
 use plain_text::{Limit, NoMemory};
 use recovery_world::Outcome;
@@ -32,7 +32,7 @@ use system_rest::Rest;
 pub struct Made {
     pub thread: u32,
     pub answer: Option<u64>,
-    pub stepped: Stepped,
+    pub stepped: KeptMove,
 }
 
 /// A move that was noted, as the event of a script that it is, and what it came to.

@@ -14,10 +14,11 @@ use Rattle.wire_frames.specs.declared.frame.FrameError.{FrameError}
 use Rattle.wire_frames.specs.declared.frame.FrameError.TheVariants as error
 use Rattle.wire_frames.specs.declared.frame.FrameFault.{FrameFault}
 use Rattle.wire_frames.specs.Layout.{IsFrame}
-use Rattle.wire_frames.specs.Writing.{CanPutEntry, CanPutOutput}
+use Rattle.wire_frames.specs.Writing.{CanPutOutput}
 use Rattle.wire_frames.specs.Faults.{Gives}
 use Rattle.sent_frames.specs.Sending.{Sending, HasEntryFrame, HasOutputFrame, SendsEntry, SendsOutput, SendsAgain}
-use Rattle.sent_frames.specs.Sending.{entry_address, output_address, entry_size, output_size, lengths_of}
+use Rattle.sent_frames.specs.Sending.{entry_address, output_address, lengths_of}
+use Rattle.sent_frames.specs.Spelled.{IsEntryFrame, IsOutputFrame}
 
 -- a frame is not at fault
 pub gives_no_fault : (r : Result (Frame × ℕ) FrameError) (fault : FrameFault) (f : Frame) (size : ℕ)
@@ -70,55 +71,83 @@ output_bytes sent o t n bytes has a b is =
 
 -- one more frame
 
-abbrev pub sent_entry : Sending → List (Address × List ℕ) → StampedEntry → List ℕ → Sending
-sent_entry old frames e lengths = record {
+abbrev pub sent_entry : Sending → List (Address × List ℕ) → ℕ → List ℕ → Sending
+sent_entry old frames thread lengths = record {
   epoch = old.epoch;
   threads = old.threads;
   frames = frames;
-  entries = slice_set old.entries e.thread lengths;
+  entries = slice_set old.entries thread lengths;
   outputs = old.outputs;
 }
 
-abbrev pub sent_output : Sending → List (Address × List ℕ) → Output → List ℕ → Sending
-sent_output old frames o lengths = record {
+abbrev pub sent_output : Sending → List (Address × List ℕ) → ℕ → List ℕ → Sending
+sent_output old frames thread lengths = record {
   epoch = old.epoch;
   threads = old.threads;
   frames = frames;
   entries = old.entries;
-  outputs = slice_set old.outputs o.thread lengths;
+  outputs = slice_set old.outputs thread lengths;
 }
 
-pub sends_entry : (old now : Sending) (frames : List (Address × List ℕ)) (e : StampedEntry) (bytes : List ℕ)
-    (lengths : List ℕ) → old ≡ now → CanPutEntry old.epoch old.threads e
-    → IsFrame bytes (frame.Entry old.epoch old.threads e)
-    → Sends old.frames frames (entry_address old e.thread e.number) bytes
-    → lengths ≡ lengths_of old.entries e.thread ++ entry_size e ∷ []
-    → SendsEntry now (sent_entry old frames e lengths) e
-sends_entry old now frames e bytes lengths as_now can is sends longer =
-    subst (λ (q : Sending). SendsEntry q (sent_entry old frames e lengths) e) as_now (record {
-      frame = record { can = can; bytes = bytes; is = is; there = sends.sent };
-      sends = sends;
-      entries = ap (λ (l : List ℕ). slice_set old.entries e.thread l) longer;
-      outputs = refl;
-      epoch = refl;
-      threads = refl;
-    })
+module _ (old now : Sending) (frames : List (Address × List ℕ)) (bytes lengths : List ℕ) (as_now : old ≡ now) where
+  entry_sent : (e : StampedEntry) → IsEntryFrame old.epoch old.threads e bytes
+      → Sends old.frames frames (entry_address old e.thread e.number) bytes
+      → lengths ≡ lengths_of old.entries e.thread ++ length bytes ∷ []
+      → SendsEntry now (sent_entry old frames e.thread lengths) e
+  entry_sent e is sends longer =
+      subst (λ (q : Sending). SendsEntry q (sent_entry old frames e.thread lengths) e) as_now (record {
+        frame = record { can = is.can; bytes = bytes; is = is.is; there = sends.sent };
+        sends = sends;
+        entries =
+            ap (λ (l : List ℕ). slice_set old.entries e.thread l)
+            (longer ∙ ap (λ (n : ℕ). lengths_of old.entries e.thread ++ n ∷ []) is.size);
+        outputs = refl;
+        epoch = refl;
+        threads = refl;
+      })
 
-pub sends_output : (old now : Sending) (frames : List (Address × List ℕ)) (o : Output) (bytes : List ℕ)
-    (lengths : List ℕ) → old ≡ now → CanPutOutput old.epoch old.threads o
-    → IsFrame bytes (frame.Output old.epoch old.threads o)
-    → Sends old.frames frames (output_address old o.thread o.number) bytes
-    → lengths ≡ lengths_of old.outputs o.thread ++ output_size o ∷ []
-    → SendsOutput now (sent_output old frames o lengths) o
-sends_output old now frames o bytes lengths as_now can is sends longer =
-    subst (λ (q : Sending). SendsOutput q (sent_output old frames o lengths) o) as_now (record {
-      frame = record { can = can; bytes = bytes; is = is; there = sends.sent };
-      sends = sends;
-      outputs = ap (λ (l : List ℕ). slice_set old.outputs o.thread l) longer;
-      entries = refl;
-      epoch = refl;
-      threads = refl;
-    })
+  output_sent : (o : Output) → IsOutputFrame old.epoch old.threads o bytes
+      → Sends old.frames frames (output_address old o.thread o.number) bytes
+      → lengths ≡ lengths_of old.outputs o.thread ++ length bytes ∷ []
+      → SendsOutput now (sent_output old frames o.thread lengths) o
+  output_sent o is sends longer =
+      subst (λ (q : Sending). SendsOutput q (sent_output old frames o.thread lengths) o) as_now (record {
+        frame = record { can = is.can; bytes = bytes; is = is.is; there = sends.sent };
+        sends = sends;
+        outputs =
+            ap (λ (l : List ℕ). slice_set old.outputs o.thread l)
+            (longer ∙ ap (λ (n : ℕ). lengths_of old.outputs o.thread ++ n ∷ []) is.size);
+        entries = refl;
+        epoch = refl;
+        threads = refl;
+      })
+
+  -- the same, by its thread and number
+  module _ (t n : ℕ) where
+    pub sends_entry : Sends old.frames frames (entry_address old t n) bytes
+        → lengths ≡ lengths_of old.entries t ++ length bytes ∷ [] → (e : StampedEntry)
+        → IsEntryFrame now.epoch now.threads e bytes → e.thread ≡ t → e.number ≡ n
+        → SendsEntry now (sent_entry old frames t lengths) e
+    sends_entry sends longer e is t_is n_is =
+        let there = subst (λ (q : Sending). IsEntryFrame q.epoch q.threads e bytes) (sym as_now) is in
+        let numbered = subst (λ (k : ℕ). Sends old.frames frames (entry_address old t k) bytes) (sym n_is) sends in
+        let threaded =
+        subst (λ (k : ℕ). Sends old.frames frames (entry_address old k e.number) bytes) (sym t_is) numbered in
+        let more = subst (λ (k : ℕ). lengths ≡ lengths_of old.entries k ++ length bytes ∷ []) (sym t_is) longer in
+        subst (λ (k : ℕ). SendsEntry now (sent_entry old frames k lengths) e) t_is (entry_sent e there threaded more)
+
+    pub sends_output : Sends old.frames frames (output_address old t n) bytes
+        → lengths ≡ lengths_of old.outputs t ++ length bytes ∷ [] → (o : Output)
+        → IsOutputFrame now.epoch now.threads o bytes → o.thread ≡ t → o.number ≡ n
+        → SendsOutput now (sent_output old frames t lengths) o
+    sends_output sends longer o is t_is n_is =
+        let there = subst (λ (q : Sending). IsOutputFrame q.epoch q.threads o bytes) (sym as_now) is in
+        let numbered = subst (λ (k : ℕ). Sends old.frames frames (output_address old t k) bytes) (sym n_is) sends in
+        let threaded =
+        subst (λ (k : ℕ). Sends old.frames frames (output_address old k o.number) bytes) (sym t_is) numbered in
+        let more = subst (λ (k : ℕ). lengths ≡ lengths_of old.outputs k ++ length bytes ∷ []) (sym t_is) longer in
+        subst (λ (k : ℕ). SendsOutput now (sent_output old frames k lengths) o) t_is
+        (output_sent o there threaded more)
 
 -- the same, of an output of which the length is known
 pub sends_again : (old now : Sending) (frames : List (Address × List ℕ)) (o : Output) (bytes : List ℕ) → old ≡ now

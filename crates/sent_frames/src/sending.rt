@@ -12,10 +12,11 @@ ghost use Rattle.sent_frames.specs.Sending.{IsUnsent, SendsEntry, SendsOutput, S
 ghost use Rattle.sent_frames.specs.Sending.{ForgetsEntries, ForgetsOutputs, BeginsEpoch, TurnsBack};
 ghost use Rattle.sent_frames.specs.Sending.{HasEntryFrame, HasOutputFrame, entry_address};
 ghost use Rattle.sent_frames.specs.Sending.{output_address, length_at};
+ghost use Rattle.sent_frames.specs.Spelled.{IsEntryFrame, IsOutputFrame};
 
 use access_log::{Output, StampedEntry, copy_output};
 use link_store::Links;
-use plain_text::{Kind, NoMemory, Sequence};
+use plain_text::{Bytes, Kind, NoMemory, Sequence};
 use std::alloc::Global;
 use std::marker::Model;
 use wire_frames::{Frame, FrameError, put_entry, put_output, take_frame};
@@ -135,6 +136,20 @@ impl SentFrames {
         })
     }
 
+    /// The epoch that its frames say.
+    pub fn epoch(&self) -> u32
+        ensures { result ≡ self.now.epoch }
+    {
+        self.epoch
+    }
+
+    /// The number of threads that its frames say.
+    pub fn threads(&self) -> u32
+        ensures { result ≡ self.now.threads }
+    {
+        self.threads
+    }
+
     /// Sends an entry as its thread's next frame. After `NoMemory` the links are of no use any more.
     pub fn send_entry(&mut self, entry: &StampedEntry) -> Result<(), NoMemory>
         requires can { CanPutEntry self.old.epoch self.old.threads entry.now }
@@ -143,9 +158,27 @@ impl SentFrames {
         ensures threads { self.new.threads ≡ self.old.threads }
     {
         let frame = put_entry(self.alloc, self.epoch, self.threads, entry)?;
-        self.entries[entry.thread as usize].push(frame.len() as u32)?;
+        self.send_entry_frame(entry.thread, entry.number, frame)
+    }
+
+    /// Sends an entry of which the frame was made before. After `NoMemory` the links are of no use any more.
+    pub fn send_entry_frame(
+        &mut self,
+        thread: u32,
+        number: u64,
+        frame: Bytes,
+    ) -> Result<(), NoMemory>
+        requires of_these { thread < self.old.threads }
+        requires small { length frame < 2 ^ 32 }
+        ensures ok { OnOk result ((e : StampedEntry)
+            → IsEntryFrame self.old.epoch self.old.threads e frame
+            → e.thread ≡ thread → e.number ≡ number → SendsEntry self.old self.new e) }
+        ensures there { thread < length self.old.entries }
+        ensures threads { self.new.threads ≡ self.old.threads }
+    {
+        self.entries[thread as usize].push(frame.len() as u32)?;
         self.links
-            .send(self.epoch, Kind::Log, entry.thread, entry.number, frame)
+            .send(self.epoch, Kind::Log, thread, number, frame)
     }
 
     /// Sends an output as its thread's next frame, in the buffer of its packet. After `NoMemory` the links are of no
@@ -158,6 +191,24 @@ impl SentFrames {
     {
         let (thread, number) = (output.thread, output.number);
         let frame = put_output(self.alloc, self.epoch, self.threads, output)?;
+        self.send_output_frame(thread, number, frame)
+    }
+
+    /// Sends an output of which the frame was made before. After `NoMemory` the links are of no use any more.
+    pub fn send_output_frame(
+        &mut self,
+        thread: u32,
+        number: u64,
+        frame: Bytes,
+    ) -> Result<(), NoMemory>
+        requires of_these { thread < self.old.threads }
+        requires small { length frame < 2 ^ 32 }
+        ensures ok { OnOk result ((o : OutputValue)
+            → IsOutputFrame self.old.epoch self.old.threads o frame
+            → o.thread ≡ thread → o.number ≡ number → SendsOutput self.old self.new o) }
+        ensures there { thread < length self.old.outputs }
+        ensures threads { self.new.threads ≡ self.old.threads }
+    {
         self.outputs[thread as usize].push(frame.len() as u32)?;
         self.links
             .send(self.epoch, Kind::Out, thread, number, frame)

@@ -13,14 +13,15 @@ ghost use Rattle.thread_steps.specs.Stepping.{CanNote, NotesFor, PassesFor};
 use box_program::Program;
 use event_replies::Stop;
 use input_logger::InputLog;
-use master_core::{Master, Stepped};
+use kept_moves::KeptMove;
+use master_core::Master;
 use plain_text::NoMemory;
 use recovery_world::Outcome;
 use replay_guide::Guide;
 use std::marker::Model;
 use std::mem;
 use system_parts::Core;
-use thread_steps::note;
+use thread_steps::note_kept;
 
 /// The parts of a system whose master was taken out: a fresh one stands in its place.
 #[derive(Drop)]
@@ -119,27 +120,29 @@ impl<P: Program> Rest<P> {
     }
 
     /// Takes note of a move that a thread of the master made while it was out, with what the thread was told, and sends
-    /// what it logged or sent out. After `NoMemory` the rest is of no use any more.
+    /// what it logged or sent out, as the frame in which it was kept if this is one of these links. After `NoMemory` the rest is of no use any more.
     pub fn note(
         &mut self,
         thread: u32,
         answer: Option<u64>,
-        stepped: Stepped,
+        kept: KeptMove,
     ) -> Result<Outcome, Stop>
-        requires can { CanNote self.old stepped }
+        requires can { CanNote self.old kept }
         ensures on { IfOk result (λ to. (s : Setting P.Value) (w : World P.Value)
             (step : Step P.Value)
-            → NotesFor (P.meaning self.old.program) s w thread answer stepped step to
+            → NotesFor (P.meaning self.old.program) s w thread answer kept step to
             self.old self.new) }
         ensures limit { (limit : LimitKind) → result ≡ Err (Stop.Limit limit)
             → (s : Setting P.Value) (w : World P.Value) (step : Step P.Value)
-            → PassesFor (P.meaning self.old.program) s w thread answer stepped step limit
+            → PassesFor (P.meaning self.old.program) s w thread answer kept step limit
             self.old }
         ensures program { OnOk result (self.new.program ≡ self.old.program) }
         ensures epoch { OnOk result (self.new.sent.epoch ≡ self.old.sent.epoch) }
         ensures threads { OnOk result (self.new.sent.threads ≡ self.old.sent.threads) }
     {
-        note(&mut self.core, thread, answer, stepped)
+        let (epoch, threads) = (self.core.sent.epoch(), self.core.sent.threads());
+        let form = kept.into_form(self.core.alloc, epoch, threads)?;
+        note_kept(&mut self.core, thread, answer, form)
     }
 
     /// Puts a master in: the parts stand for each world for which the rest and the master do.

@@ -3,4 +3,4 @@
 
 mod stepping;
 
-pub use stepping::{note, step};
+pub use stepping::{note, note_kept, step};

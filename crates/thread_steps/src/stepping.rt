@@ -18,11 +18,13 @@ ghost use Rattle.thread_steps.specs.Following.{HasTurnBy, or_given};
 ghost use Rattle.replay_guide.specs.Following.{recorded};
 ghost use Rattle.access_log.specs.Held.{lane, entry_at};
 ghost use Rattle.system_parts.specs.Performing.{MovesOn, StopsAt, ComesTo, WouldPass};
+ghost use Rattle.kept_moves.specs.Keeping.{IsFor, shown};
 ghost use Rattle.thread_steps.specs.Stepping.{CanNote, Notes, NotesMove};
 
-use access_log::{StampedEntry, Turn, What};
+use access_log::{Turn, What};
 use box_program::Program;
 use event_replies::Stop;
+use kept_moves::Form;
 use master_core::{Master, Stepped, Wants};
 use plain_machine::PlainMove;
 use plain_text::{Limit, MOST_MOVES, MOST_OUTPUT_BYTES};
@@ -31,14 +33,14 @@ use random_words::next_word;
 use recovery_world::Outcome;
 use replay_guide::Guide;
 use run_end::input_of;
+use std::boxed::Box;
 use system_parts::Core;
 
 /// The outcome of a logged move.
-fn entry_outcome(entry: &StampedEntry) -> Outcome
-    ensures { result ≡ outcome_is entry.now.number entry.now.what }
+fn entry_outcome(number: u64, what: What) -> Outcome
+    ensures { result ≡ outcome_is number what }
 {
-    let number = entry.number;
-    match entry.what {
+    match what {
         What::Access { var, place } => Outcome::Touched {
             entry: number,
             var: u64::from(var),
@@ -189,7 +191,7 @@ pub fn note<P: Program>(
         Stepped::Did(entry) => {
             note_move(core, thread, answer, 0)?;
             core.sent.send_entry(&entry)?;
-            Ok(entry_outcome(&entry))
+            Ok(entry_outcome(entry.number, entry.what))
         }
         Stepped::Emitted(output) => {
             let number = output.number;
@@ -207,6 +209,51 @@ pub fn note<P: Program>(
             number,
         }),
         Stepped::NoMemory => Err(Stop::NoMemory),
+    }
+}
+
+/// Takes note of a move that was kept: of what its call showed. What it logged or sent out is sent as the frame in which
+/// it is kept.
+pub fn note_kept<P: Program>(
+    core: &mut Core<P>,
+    thread: u32,
+    answer: Option<u64>,
+    form: Form,
+) -> Result<Outcome, Stop>
+    requires frame { IsFor core.old.sent.epoch core.old.sent.threads form }
+    requires can { CanNote core.old (shown form) }
+    ensures { Notes thread answer (shown form) core.old result core.new }
+{
+    match form {
+        Form::Took(k) => {
+            note_move(core, thread, answer, 0)?;
+            Ok(Outcome::Take(k))
+        }
+        Form::Logged {
+            thread: by,
+            number,
+            what,
+            frame,
+        } => {
+            note_move(core, thread, answer, 0)?;
+            core.sent.send_entry_frame(by, number, frame)?;
+            Ok(entry_outcome(number, what))
+        }
+        Form::Sent {
+            thread: by,
+            number,
+            captured,
+            frame,
+        } => {
+            note_move(core, thread, answer, captured)?;
+            core.sent.send_output_frame(by, number, frame)?;
+            Ok(Outcome::Emitted(number))
+        }
+        Form::Ended(k) => {
+            note_move(core, thread, answer, 0)?;
+            Ok(Outcome::Ended(k))
+        }
+        Form::Whole(stepped) => note(core, thread, answer, Box::into_inner(stepped)),
     }
 }
 

@@ -1,17 +1,19 @@
-use Rattle.std.proofs.Common.{sym, subst, ◌∙◌}
+use Rattle.std.proofs.Common.{subst, refl}
 use Rattle.std.proofs.lemmas.Result.{on_ok_weaker}
-use Rattle.wire_frames.specs.Writing.{CanPutEntry}
+use Rattle.wire_frames.specs.declared.frame.Frame.TheVariants as frame
+use Rattle.wire_frames.specs.Layout.{IsFrame}
 use Rattle.sent_frames.specs.Sending.{Sending}
-use Rattle.sent_frames.proofs.FrameLemmas.{sends_entry, one_longer_is}
 use Rattle.sent_frames.proofs.sending.SentFrames.send_entry.Goals as goal
 
 pub returns-clause-ok : goal.returns-clause-ok
 returns-clause-ok c =
-    on_ok_weaker c.send.result
+    on_ok_weaker c.send_entry_frame.result
     (λ sends.
-    let can =
-    subst (λ (q : Sending). CanPutEntry q.epoch q.threads c.args.entry.now) (sym c.self.view_is) c.requires.can in
-    let longer = one_longer_is _ _ _ _ _ _ _ c.index_mut.ensures.value c.in_ok-push.ensures.ok
-    (c.len.ensures ∙ c.in_ok-frame.ensures.size) c.self.invariant.entries can.sent.of_these in
-    sends_entry _ _ c.send.new.self c.args.entry.now c.in_ok-frame.frame c.push.new.self c.self.view_is can
-    c.in_ok-frame.ensures.frame sends longer) c.send.ensures.ok
+    let is = subst (λ (q : Sending). IsFrame c.in_ok-frame.frame (frame.Entry q.epoch q.threads c.args.entry.now))
+    c.self.view_is c.in_ok-frame.ensures.frame in
+    sends c.args.entry.now (record {
+      can = c.requires.can;
+      is = is;
+      size = c.in_ok-frame.ensures.size;
+      small = c.in_ok-frame.ensures.small;
+    }) refl refl) c.send_entry_frame.ensures.ok

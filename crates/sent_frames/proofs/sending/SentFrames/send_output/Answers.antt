@@ -1,17 +1,19 @@
-use Rattle.std.proofs.Common.{sym, subst, ◌∙◌}
+use Rattle.std.proofs.Common.{subst, refl}
 use Rattle.std.proofs.lemmas.Result.{on_ok_weaker}
-use Rattle.wire_frames.specs.Writing.{CanPutOutput}
+use Rattle.wire_frames.specs.declared.frame.Frame.TheVariants as frame
+use Rattle.wire_frames.specs.Layout.{IsFrame}
 use Rattle.sent_frames.specs.Sending.{Sending}
-use Rattle.sent_frames.proofs.FrameLemmas.{sends_output, one_longer_is}
 use Rattle.sent_frames.proofs.sending.SentFrames.send_output.Goals as goal
 
 pub returns-clause-ok : goal.returns-clause-ok
 returns-clause-ok c =
-    on_ok_weaker c.send.result
+    on_ok_weaker c.send_output_frame.result
     (λ sends.
-    let can =
-    subst (λ (q : Sending). CanPutOutput q.epoch q.threads c.args.output) (sym c.self.view_is) c.requires.can in
-    let longer = one_longer_is _ _ _ _ _ _ _ c.index_mut.ensures.value c.in_ok-push.ensures.ok
-    (c.len.ensures ∙ c.in_ok-frame.ensures.size) c.self.invariant.outputs can.sent.of_these in
-    sends_output _ _ c.send.new.self c.args.output c.in_ok-frame.frame c.push.new.self c.self.view_is can
-    c.in_ok-frame.ensures.frame sends longer) c.send.ensures.ok
+    let is = subst (λ (q : Sending). IsFrame c.in_ok-frame.frame (frame.Output q.epoch q.threads c.args.output))
+    c.self.view_is c.in_ok-frame.ensures.frame in
+    sends c.args.output (record {
+      can = c.requires.can;
+      is = is;
+      size = c.in_ok-frame.ensures.size;
+      small = c.in_ok-frame.ensures.small;
+    }) refl refl) c.send_output_frame.ensures.ok
