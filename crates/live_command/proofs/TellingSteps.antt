@@ -1,6 +1,6 @@
 -- An event was performed, and what it left was written.
 use Rattle.std.proofs.Common.{◌≡◌, ℕ, ◌≤◌, List, [], ◌∷◌, ◌++◌, refl, sym, ap, ◌∙◌, subst, inl, inr, append-nil, Result, Ok}
-use Rattle.std.proofs.Common.{Err}
+use Rattle.std.proofs.Common.{Err, arith, length}
 use Rattle.std.specs.Prelude.{⊤, All, OnOk}
 use Rattle.std.proofs.lemmas.List.Elements.{All-append}
 use Rattle.plain_text.specs.declared.limit.Limit.{Limit}
@@ -34,7 +34,8 @@ use Rattle.script_text.specs.Scripts.{script_text}
 use Rattle.plan_script.specs.Rounds.{Does}
 use Rattle.live_writes.specs.Outputs.{LiveOutputs, holding}
 use Rattle.live_writes.specs.Script.{Scripted, Beside}
-use Rattle.live_writes.specs.Told.{FailsLive, HasBegunLive, HasTold, IsAhead, IsStopped}
+use Rattle.output_files.specs.Writes.{KeepsOutputs}
+use Rattle.live_writes.specs.Told.{AreOpen, FailsLive, HasBegunLive, HasTold, IsAhead, IsStopped}
 use Rattle.live_command.specs.Going.{GoesOver, HasLivedTo}
 use Rattle.plan_script.specs.Begun.{AreFirstOf}
 use Rattle.live_command.specs.Writing.{IsQuiet, Keeps}
@@ -274,3 +275,17 @@ quiet_goes files r m s names w next events ev line new lines x old now is q at f
     go (Ok done) k = (next, does_one s w next ev q.to q.freed q.on, record { told = k; at = at; few = few })
     go (Err output.WriteFault) k = (ev ∷ [], ([], refl), k)
     go (Err output.NoMemory) k = (ev ∷ [], ([], refl), k)
+
+-- outputs that are open stay open
+pub open_still : (names : LiveOutputs) (a b c : ℕ) (now new : Shown) → AreOpen names a b c now → KeepsOutputs now new
+    → AreOpen names a b c new
+open_still names a b c now new opened keeps = record {
+  released = keeps a names.outputs.released opened.released;
+  schedule = keeps b names.outputs.schedule opened.schedule;
+  script = keeps c names.script opened.script;
+}
+
+-- a list of no length is empty
+pub no_outputs : (outputs : List Output) → length outputs ≡ 0 → outputs ≡ []
+no_outputs [] is = refl
+no_outputs (o ∷ outputs) is = absurd (omega (arith, is))

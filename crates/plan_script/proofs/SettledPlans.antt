@@ -12,7 +12,8 @@ use Rattle.recovery_world.specs.declared.event.Event.TheVariants as event
 use Rattle.recovery_world.specs.declared.event.Outcome.{Outcome}
 use Rattle.recovery_world.specs.declared.event.Outcome.TheVariants as outcome
 use Rattle.recovery_world.specs.World.{Setting, Sent, World, inputs_fed, opening}
-use Rattle.recovery_world.specs.Events.{Awaits, On, OnStep, WaitsFor, WantsMore}
+use Rattle.recovery_world.specs.Turns.{Awaits}
+use Rattle.recovery_world.specs.Events.{On, OnStep, WaitsFor, WantsMore}
 use Rattle.recovery_world.specs.Finish.{IsFinish}
 use Rattle.recovery_world.specs.Limits.{OnWithin}
 use Rattle.recovery_world.specs.Many.{Arrives, Message, OnAny, Phase, Several, Single, all_messages, arrival, arrival_of}

@@ -15,4 +15,4 @@ returns-clause-told g c told s names events scripted w before apart is h =
     let k = c.in_ok-write_script.ensures.told told s names events scripted w _ before apart is h in
     lines_kept s names apart events scripted w _ _ before _ k c.in_ok-write_script.ensures.none _ _ _
     (c.write_lines.ensures.told told (holding names.script k.written before)
-    (writes_of names.outputs s.fractions k.replies) k.gathered) c.write_lines.ensures.no_lines
+    (writes_of names.outputs s.fractions k.replies) k.gathered) c.write_lines.ensures.none
