@@ -1,6 +1,6 @@
 -- A plan that ends in a settling releases all.
 use Rattle.std.proofs.Common.{◌≡◌, ◌⊎◌, ℕ, ◌+◌, ◌-◌, ◌<◌, ◌≤◌, true, false, List, [], ◌∷◌, ◌++◌, length, refl, sym, ap}
-use Rattle.std.proofs.Common.{◌∙◌, subst, inl, inr, append_assoc, append-nil, Option, Some, None, arith, min}
+use Rattle.std.proofs.Common.{◌∙◌, subst, inl, inr, append_assoc, append-nil, Option, Some, None, arith, min, slice_get}
 use Rattle.plain_text.specs.declared.packet.Packet.{Packet}
 use Rattle.plain_text.specs.declared.kind.Kind.{Kind}
 use Rattle.plain_text.specs.declared.kind.Kind.TheVariants as kind
@@ -136,19 +136,22 @@ steps_still s w new _ _ each (Performed {mid = mid} ev to freed on rest) =
 
 -- Arrivals
 
+none_begins : {V : Type 0} (s : Setting V) (w : World V) (k : Kind) (t n : ℕ) → begins s w (arrival_of k t n) ≡ None
+none_begins s w kind.Log t n = refl
+none_begins s w kind.Out t n = refl
+
+single_of : {V : Type 0} (s : Setting V) (w new : World V) (m : Message) (ev : Event) (to : Outcome) (freed : List Sent)
+    → ev ≡ arrival m → OnAny s w ev to freed new → OnWithin s w (arrival m) to freed new
+single_of {V} s w new m ev to freed is (Single e o f n within) =
+    subst (λ (x : Event). OnWithin s w x to freed new) is within
+single_of s w new m ev to freed is (Several e q o n begun f same) =
+    let k : begins s w (arrival m) ≡ Some q = ap (λ (x : Event). begins s w x) (sym is) ∙ begun in
+    let j : begins s w (arrival m) ≡ None = none_begins s w m.kind m.thread m.number in
+    let no : None ≡ Some q = sym j ∙ k in absurd (cc)
+
 single : {V : Type 0} (s : Setting V) (w new : World V) (m : Message) (to : Outcome) (freed : List Sent)
     → OnAny s w (arrival m) to freed new → OnWithin s w (arrival m) to freed new
-single s w new m to freed on = go (arrival m) refl on
-  where
-    none : (k : Kind) (t n : ℕ) → begins s w (arrival_of k t n) ≡ None
-    none kind.Log t n = refl
-    none kind.Out t n = refl
-
-    go : (ev : Event) → ev ≡ arrival m → OnAny s w ev to freed new → OnWithin s w (arrival m) to freed new
-    go ev is (Single e o f n within) = subst (λ (x : Event). OnWithin s w x to freed new) is within
-    go ev is (Several e q o n begun f same) =
-        let k : begins s w (arrival m) ≡ Some q = ap (λ (x : Event). begins s w x) (sym is) ∙ begun in
-        let j = none m.kind m.thread m.number in absurd (cc)
+single s w new m to freed on = single_of s w new m (arrival m) to freed refl on
 
 arrives : {V : Type 0} (s : Setting V) (w new : World V) (messages : List Message) (lines : List ℕ)
     → Performs s w (arrival_events messages) lines new → Follows s (goes_on s) (Arrives messages) w None new
@@ -269,6 +272,13 @@ all_fed {V} s mid fed n lines is (Performed {mid = x} ev to freed on (Rests same
     min_self : (i : ℕ) → min i i ≡ i
     min_self i = omega arith
 
+woken_fed : {V : Type 0} (s : Setting V) (w fed : World V) (n : ℕ) (lines : List ℕ) → w.fed + n ≡ length s.packets
+    → Performs s w (event.Recover ∷ event.Feed n ∷ []) lines fed
+    → (fed.up ≡ true) × (fed.fed ≡ length s.packets)
+woken_fed s w fed n lines few (Performed {mid = mid} ev to freed on rest) =
+    let woken = recovered_up s w mid to freed (any_single s w mid event.Recover to freed refl on) in
+    let k = all_fed s mid fed n _ (ap (λ (i : ℕ). i + n) woken.1 ∙ few) rest in (k.0 ∙ woken.0, k.1)
+
 feeds_all : {V : Type 0} (s : Setting V) (w fed : World V) (wake : List Event) → Sound s w → Wakes w wake
     → Does s w (feeding s w wake) fed → (fed.up ≡ true) × (fed.fed ≡ length s.packets)
 feeds_all {V} s w fed wake sound (inl (up, none)) (lines, does) =
@@ -278,16 +288,8 @@ feeds_all {V} s w fed wake sound (inl (up, none)) (lines, does) =
     (k.0 ∙ up, k.1)
 feeds_all {V} s w fed wake sound (inr (down, one)) (lines, does) =
     let few = sound.firm.fed in
-    go few
+    woken_fed s w fed (length s.packets - w.fed) lines (omega (arith, few))
     (subst (λ (l : List Event). Performs s w (l ++ event.Feed (length s.packets - w.fed) ∷ []) lines fed) one does)
-  where
-    go : w.fed ≤ length s.packets
-        → Performs s w (event.Recover ∷ event.Feed (length s.packets - w.fed) ∷ []) lines fed
-        → (fed.up ≡ true) × (fed.fed ≡ length s.packets)
-    go few (Performed {mid = mid} ev to freed on rest) =
-        let woken = recovered_up s w mid to freed (any_single s w mid event.Recover to freed refl on) in
-        let f = woken.1 in
-        let k = all_fed s mid fed (length s.packets - w.fed) _ (omega (arith, f, few)) rest in (k.0 ∙ woken.0, k.1)
 
 does_sound : {V : Type 0} (s : Setting V) (w new : World V) (events : List Event) → Sound s w → Does s w events new
     → Sound s new
