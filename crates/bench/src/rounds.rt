@@ -1,8 +1,8 @@
-//! Generated packets through the threads of a box: moved by a master alone, by threads that race, or in a round of the
-//! recovering system.
+//! Generated packets through the threads of a box: moved by a master alone, by threads that race, or in one round or
+//! several of the recovering system.
 //!
 //! What each of these begins with can be done alone: `feed` has the packets of `alone` and `race` fed, and `open` makes
-//! the system of `whole` and has them fed to it.
+//! the system of `whole` and `often` and has them fed to it.
 ghost use Rattle.std.specs.Prelude.{◌≤◌, All};
 ghost use Rattle.plain_text.specs.Packets.{IsShort};
 
@@ -23,6 +23,9 @@ use std::env::Args;
 use std::sync::Wait;
 use std::thread::Threads;
 use whole::{open, race_whole};
+
+/// How many rounds move the packets of `often`.
+const ROUNDS: u64 = 8;
 
 /// How many tables of each kind a box has.
 const SHARDS: u32 = 16;
@@ -48,7 +51,7 @@ fn perform_bare<P: Program + Send + Sync, R: AllocGlobal + Threads + Wait + Sync
         "feed" => Ok(Done::nothing()),
         "alone" => Ok(step_all(rt.alloc(), program, threads, &inputs)?),
         "race" => Ok(race(rt, program, threads, &inputs)?),
-        _ => bail!("{how} is none of feed, alone, race, open and whole"),
+        _ => bail!("{how} is none of feed, alone, race, open, whole and often"),
     }
 }
 
@@ -66,7 +69,8 @@ fn perform<P: Program + Send + Sync, R: AllocGlobal + Threads + Wait + Sync>(
 {
     match how {
         "open" => open(rt.alloc(), program, threads, packets),
-        "whole" => race_whole(rt, program, threads, packets),
+        "whole" => race_whole(rt, program, threads, packets, 1),
+        "often" => race_whole(rt, program, threads, packets, ROUNDS),
         _ => {
             let done = perform_bare(rt, how, &program, threads, packets)?;
             Ok((done.moves, done.entries.saturating_add(done.sent)))
@@ -99,7 +103,9 @@ pub fn run<R: AllocGlobal + Print + Threads + Wait + Sync>(
     rt: &R,
     words: &mut Args,
 ) -> anyhow::Result<()> {
-    let how = words.next().context("feed, alone, race, open or whole?")?;
+    let how = words
+        .next()
+        .context("feed, alone, race, open, whole or often?")?;
     let which = words.next().context("monitor or nat?")?;
     let threads: u32 = words.next().context("how many threads?")?.parse()?;
     let count = next_number(words, "how many packets?")?;

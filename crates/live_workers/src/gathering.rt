@@ -22,12 +22,21 @@ pub(crate) struct Left<P: Program> {
     pub(crate) outboxes: Vec<Outbox>,
 }
 
-/// Workers for these seats, generators and outboxes.
+/// The last of these rooms; a new one where there is none.
+fn room_of(alloc: Global, rooms: &mut Vec<Moves>) -> Moves {
+    match rooms.pop() {
+        Some(room) => room,
+        None => Moves::new(alloc),
+    }
+}
+
+/// Workers for these seats, generators and outboxes. Their rooms say nothing of what they do.
 pub(crate) fn workers_of<P: Program>(
     alloc: Global,
     mut seats: Vec<VarSeat<P>>,
     mut generators: Vec<Pcg32>,
     mut outboxes: Vec<Outbox>,
+    mut rooms: Vec<Moves>,
     orders: &RoundOrders,
 ) -> Result<Vec<Worker<P>>, NoMemory>
     requires generators { length generators.items ≡ length seats.items }
@@ -51,6 +60,7 @@ pub(crate) fn workers_of<P: Program>(
             seat,
             generator,
             outbox,
+            room: room_of(alloc, &mut rooms),
             limit: orders.most_moves(thread),
         })?;
     }

@@ -180,7 +180,7 @@ fn race_of<
     gate: &G,
     master: Master<P>,
     orders: &RoundOrders,
-    draws: Draws,
+    mut draws: Draws,
     most: u64,
     sender: Sender,
 ) -> Result<Race<P>, NoMemory>
@@ -204,7 +204,8 @@ fn race_of<
         outboxes,
         receivers,
     } = open_lanes(alloc, seats.len())?;
-    let workers = workers_of(alloc, seats, draws.into_vec(), outboxes, orders)?;
+    let rooms = draws.take_rooms(alloc);
+    let workers = workers_of(alloc, seats, draws.into_vec(), outboxes, rooms, orders)?;
     let (left, taken) = run_beside(
         rt, program, &vars, guide, inputs, clock, gate, &lanes, most, sender, workers, receivers,
     )?;

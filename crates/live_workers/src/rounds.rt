@@ -87,27 +87,27 @@ fn room_for(alloc: Global, moves: &[Moves]) -> Result<Vec<Noted>, NoMemory>
     Ok(Vec::with_capacity(alloc, count)?)
 }
 
-/// Notes the moves of a race in the woven order.
+/// Notes the moves of a race in the woven order. The lists keep their room.
 fn note_moves<P: Program>(
     alloc: Global,
     rest: &mut Rest<P>,
     marks: &[Marks],
-    moves: Vec<Moves>,
+    moves: &mut Vec<Moves>,
 ) -> Result<Vec<Noted>, RoundStop>
     requires raced { HasRaced (P.meaning rest.old.program) (P.fits rest.old.program) marks.now
-        moves.items rest.old }
+        moves.old.items rest.old }
     ensures came { IfOk result (λ noted. (s : Setting P.Value) (w : World P.Value)
         (p : Mastered P.Value) (round : TableId) (seats : List (Seated P.Value))
         (q : Mastered P.Value)
         → Raced (P.meaning rest.old.program) (P.fits rest.old.program) s w p round seats q
-        marks.entry.now moves.items rest.old
-        → CameTo (P.meaning rest.old.program) s w seats q moves.items rest.old.guide
+        marks.entry.now moves.old.items rest.old
+        → CameTo (P.meaning rest.old.program) s w seats q moves.old.items rest.old.guide
         noted.items rest.new) }
     ensures stops { IfErr result (λ stop. (s : Setting P.Value) (w : World P.Value)
         (p : Mastered P.Value) (round : TableId) (seats : List (Seated P.Value))
         (q : Mastered P.Value)
         → Raced (P.meaning rest.old.program) (P.fits rest.old.program) s w p round seats q
-        marks.entry.now moves.items rest.old
+        marks.entry.now moves.old.items rest.old
         → StopsRound s w stop) }
     ensures program { IfOk result (λ noted. rest.new.program ≡ rest.old.program) }
 {
@@ -163,13 +163,13 @@ fn go_round<
     let Race {
         master,
         marks,
-        moves,
+        mut moves,
         generators,
         frames,
     } = run_race(
         rt, program, guide, inputs, clock, gate, master, orders, draws, most, sender,
     )?;
-    let steps = match note_moves(alloc, rest, &marks, moves) {
+    let steps = match note_moves(alloc, rest, &marks, &mut moves) {
         Ok(steps) => steps,
         Err(stop) => return Err(stop),
     };
@@ -179,7 +179,7 @@ fn go_round<
         master,
         steps,
         arriving,
-        draws: Draws::of(generators),
+        draws: Draws::of(generators, moves),
     })
 }
 

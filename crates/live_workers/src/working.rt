@@ -35,6 +35,8 @@ pub(crate) struct Worker<P: Program> {
     pub(crate) seat: VarSeat<P>,
     pub(crate) generator: Pcg32,
     pub(crate) outbox: Outbox,
+    /// Where it keeps its moves. What is in there does not count.
+    pub(crate) room: Moves,
     /// How many moves it makes at most, where there is such an order.
     pub(crate) limit: Option<u64>,
 }
@@ -234,11 +236,12 @@ pub(crate) fn work<P: Program, J: Round, C: Clock, G: Gate, R: Wait>(
         seat,
         generator,
         outbox,
+        room,
         limit,
     } = worker;
     let mut working = Working {
         seat,
-        moves: Moves::new(around.alloc),
+        moves: room.cleared(),
         generator,
         outbox,
     };

@@ -87,6 +87,14 @@ impl Moves {
         }
     }
 
+    /// No moves, in the same room.
+    pub fn cleared(mut self) -> Self
+        ensures { result ≡ [] }
+    {
+        self.items.clear();
+        self
+    }
+
     /// How many there are.
     pub fn len(&self) -> usize
         ensures { result ≡ length self.now }
@@ -164,26 +172,26 @@ fn note_one<P: Program>(
     }
 }
 
-/// Notes the moves of all threads in these turns, of which the first is the oldest.
+/// Notes the moves of all threads in these turns, of which the first is the oldest. Each move leaves its list.
 fn note_turns<P: Program>(
     rest: &mut Rest<P>,
     turns: &[usize],
-    mut moves: Vec<Moves>,
+    moves: &mut Vec<Moves>,
     noted: &mut Vec<Noted>,
 ) -> Result<(), NoteStop>
-    requires draws { (drawn : List MadeValue) × AreDrawn moves.items (reverse turns.now) drawn
+    requires draws { (drawn : List MadeValue) × AreDrawn moves.old.items (reverse turns.now) drawn
         × CanSendAll rest.old.sent.epoch rest.old.sent.threads drawn }
     requires none { noted.old.items ≡ [] }
     ensures on { OnOk result ((s : Setting P.Value) (w new : World P.Value)
         (drawn : List MadeValue)
-        → AreDrawn moves.items (reverse turns.now) drawn
+        → AreDrawn moves.old.items (reverse turns.now) drawn
         → RestsFor (P.meaning rest.old.program) s w rest.old → w.up ≡ true
         → Pending s w drawn new
         → NotesAll (P.meaning rest.old.program) s w drawn new noted.new.items rest.new) }
     ensures limit { (limit : LimitKind) (next : PlainMoveValue)
         → result ≡ Err (NoteStop.Limit limit next)
         → (s : Setting P.Value) (w new : World P.Value) (drawn : List MadeValue)
-        → AreDrawn moves.items (reverse turns.now) drawn
+        → AreDrawn moves.old.items (reverse turns.now) drawn
         → RestsFor (P.meaning rest.old.program) s w rest.old → w.up ≡ true
         → Pending s w drawn new
         → StoppedAt s w (events_made drawn) noted.new.items limit next }
@@ -200,30 +208,30 @@ fn note_turns<P: Program>(
 
 /// The end of a round: the moves of its threads are noted in the woven order, one after another.
 ///
-/// After `Limit` those before it were noted. After `NoMemory` the rest is of no use any more.
+/// The lists keep their room. After `Limit` those before it were noted. After `NoMemory` the rest is of no use any more.
 pub fn note_round<P: Program>(
     alloc: Global,
     rest: &mut Rest<P>,
     marks: &[Marks],
-    moves: Vec<Moves>,
+    moves: &mut Vec<Moves>,
     noted: &mut Vec<Noted>,
 ) -> Result<(), NoteStop>
     requires raced { HasRaced (P.meaning rest.old.program) (P.fits rest.old.program) marks.now
-        moves.items rest.old }
+        moves.old.items rest.old }
     requires none { noted.old.items ≡ [] }
     ensures came { OnOk result ((s : Setting P.Value) (w : World P.Value) (p : Mastered P.Value)
         (round : TableId) (seats : List (Seated P.Value)) (q : Mastered P.Value)
         → Raced (P.meaning rest.old.program) (P.fits rest.old.program) s w p round seats q
-        marks.entry.now moves.items rest.old
-        → CameTo (P.meaning rest.old.program) s w seats q moves.items rest.old.guide
+        marks.entry.now moves.old.items rest.old
+        → CameTo (P.meaning rest.old.program) s w seats q moves.old.items rest.old.guide
         noted.new.items rest.new) }
     ensures limit { (limit : LimitKind) (next : PlainMoveValue)
         → result ≡ Err (NoteStop.Limit limit next)
         → (s : Setting P.Value) (w : World P.Value) (p : Mastered P.Value)
         (round : TableId) (seats : List (Seated P.Value)) (q : Mastered P.Value)
         → Raced (P.meaning rest.old.program) (P.fits rest.old.program) s w p round seats q
-        marks.entry.now moves.items rest.old
-        → Stopped s w moves.items noted.new.items limit next }
+        marks.entry.now moves.old.items rest.old
+        → Stopped s w moves.old.items noted.new.items limit next }
     ensures program { OnOk result (rest.new.program ≡ rest.old.program) }
 {
     rest.has_parts();

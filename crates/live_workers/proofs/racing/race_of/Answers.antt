@@ -12,7 +12,7 @@ use Rattle.live_workers.proofs.racing.race_of.Goals as goal
 
 pub workers_of-requires-clause-generators : goal.workers_of-requires-clause-generators
 workers_of-requires-clause-generators g c κs within =
-    ap length c.into_vec.ensures ∙ c.requires.draws ∙ ap length c.requires.threads
+    ap length (c.into_vec.ensures ∙ c.take_rooms-rooms.ensures) ∙ c.requires.draws ∙ ap length c.requires.threads
     ∙ sym (fresh_count g.row.P-Value.Denot c.in_ok-vars.vars.round g.J.Round.places 0 g.J.Round.threads)
     ∙ sym (ap length c.in_ok-vars.ensures.seats)
 
@@ -72,7 +72,7 @@ returns g c =
           c.in_ok-lanes.field-0.outboxes.items _ c.in_ok-workers.workers.items c.in_ok-vars.ensures.seats
           c.requires.threads all c.in_ok-lanes.ensures.boxes c.in_ok-lanes.ensures.empty c.requires.ready
           c.in_ok-workers.ensures;
-      begin = c.in_ok-workers.ensures.generators_are ∙ c.into_vec.ensures;
+      begin = c.in_ok-workers.ensures.generators_are ∙ (c.into_vec.ensures ∙ c.take_rooms-rooms.ensures);
       limits_are = c.in_ok-workers.ensures.limits_are;
       ended = k.1;
       closed = subst (λ (l : List (Seated g.row.P-Value.Denot)).

@@ -14,10 +14,10 @@ returns g c =
     let is = c.worker.view_is in
     let start = begun m g.J.Round.guide inputs may given (record {
       seat = c.worker.inside.seat;
-      moves = c.new.result;
+      moves = c.cleared.result;
       generator = c.worker.inside.generator;
       outbox = c.worker.inside.outbox;
-    }) (ap (λ (w : Given V). w.seat) is) c.new.ensures (ap (λ (w : Given V). w.generator) is)
+    }) (ap (λ (w : Given V). w.seat) is) c.cleared.ensures (ap (λ (w : Given V). w.generator) is)
     (ap (λ (w : Given V). w.outbox) is) c.requires.given.none c.requires.given.empty in
     let now = c.in_ok-ran.ensures.come given start in
     let view = c.working.view_is in

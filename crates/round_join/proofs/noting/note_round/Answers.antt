@@ -12,7 +12,7 @@ note_turns-requires-clause-draws g c κs within =
     c.in_ok-turns.ensures in
     let r = c.requires.raced in
     let i = raced_in_order (g.P.Program.meaning program) (g.P.Program.fits program) r.s r.w r.p r.round r.seats r.q
-    c.args.marks.now c.args.moves.items (reverse c.as_slice.result.now) c.args.rest.now
+    c.args.marks.now c.args.moves.now.items (reverse c.as_slice.result.now) c.args.rest.now
     (g.met.P.Program.lawful program) c.has_parts.ensures r.raced are in (i.drawn, i.draws, i.can)
 
 pub returns-clause-came : goal.returns-clause-came
@@ -23,9 +23,9 @@ returns-clause-came g c =
     on_ok_weaker c.note_turns.result
     (λ notes s w p round seats q raced.
     let i = raced_in_order (g.P.Program.meaning program) (g.P.Program.fits program) s w p round seats q
-    c.args.marks.now c.args.moves.items (reverse c.as_slice.result.now) c.args.rest.now
+    c.args.marks.now c.args.moves.now.items (reverse c.as_slice.result.now) c.args.rest.now
     (g.met.P.Program.lawful program) c.has_parts.ensures raced are in
-    round_came (g.P.Program.meaning program) s w seats q c.args.moves.items (reverse c.as_slice.result.now)
+    round_came (g.P.Program.meaning program) s w seats q c.args.moves.now.items (reverse c.as_slice.result.now)
     c.note_turns.new.noted.items c.args.rest.now c.note_turns.new.rest raced.rests.inputs.meaning i
     (notes s w i.there i.drawn i.draws raced.rests raced.up i.pending)) c.note_turns.ensures.on
 
@@ -35,8 +35,8 @@ returns-clause-limit g c limit next is s w p round seats q raced =
     let are = subst (λ l. AreTurns c.args.marks.now (lengths c.args.marks.now) (reverse l)) (sym c.as_slice.ensures)
     c.in_ok-turns.ensures in
     let i = raced_in_order (g.P.Program.meaning program) (g.P.Program.fits program) s w p round seats q
-    c.args.marks.now c.args.moves.items (reverse c.as_slice.result.now) c.args.rest.now
+    c.args.marks.now c.args.moves.now.items (reverse c.as_slice.result.now) c.args.rest.now
     (g.met.P.Program.lawful program) c.has_parts.ensures raced are in
-    round_stopped s w seats q c.args.moves.items (reverse c.as_slice.result.now) c.args.rest.now
+    round_stopped s w seats q c.args.moves.now.items (reverse c.as_slice.result.now) c.args.rest.now
     c.note_turns.new.noted.items limit next i
     (c.note_turns.ensures.limit limit next is s w i.there i.drawn i.draws raced.rests raced.up i.pending)
