@@ -26,10 +26,11 @@ use Rattle.job_commands.specs.declared.live_inputs.LiveInputs.{LiveInputs}
 use Rattle.job_commands.specs.declared.status.Status.{Status}
 use Rattle.job_commands.specs.declared.status.Status.TheVariants as status
 use Rattle.job_commands.specs.Live.{AcceptsLiveInputs, JudgesLiveFiles, JudgesLiveInputs}
-use Rattle.job_commands.specs.Status.{run_outcome}
-use Rattle.job_commands.specs.Words.{LiveNames}
+use Rattle.job_commands.specs.Status.{AtAnyTime, AtInputs, Completes, run_outcome, stage_of}
+use Rattle.job_commands.specs.Words.{LiveNames, Lives, asked, live_names}
+use Rattle.job_commands.proofs.LiveFiles.{live_pass}
 use Rattle.job_commands.proofs.Outcomes.{begun_since, begun_writes_since, run_since, stopped_since, files_since}
-use Rattle.job_top.specs.Live.{JudgesLive, KeepsLiveNames, LivesFiles, LivesLimit, LivesOrder, SaysOfRun, live_outputs, live_setting}
+use Rattle.job_top.specs.Live.{JudgesLive, KeepsLiveNames, LivesFiles, LivesLimit, LivesOrder, SaysOfRun, live_outputs, live_setting, live_stage}
 
 -- The files are as they were when the inputs had been read.
 module _ (a b c : Shown) (keeps : KeepsOutputs a b) where
@@ -203,3 +204,56 @@ live_others names a b (inr (inputs, accepted, r)) name one two three = go r.writ
         (spare_run (live_setting inputs) (live_outputs names).outputs name (λ e. one (sym e)) (λ e. two (sym e))
         h.ahead.first h.ahead.begun.0 h.ahead.begun.1) h.ahead.begun.2.cut)
         ∙ not_held name names.script h.written a three
+
+-- What the words ask for
+
+pub lives_asked : (words : List (List ℕ)) (names : LiveNames) → live_names words ≡ Some names
+    → asked words ≡ Some (Lives names)
+lives_asked [] names h = absurd (cc)
+lives_asked (a ∷ []) names h = absurd (cc)
+lives_asked (a ∷ b ∷ []) names h = absurd (cc)
+lives_asked (a ∷ b ∷ c ∷ []) names h = absurd (cc)
+lives_asked (a ∷ b ∷ c ∷ d ∷ []) names h = absurd (cc)
+lives_asked (a ∷ b ∷ c ∷ d ∷ e ∷ []) names h = absurd (cc)
+lives_asked (a ∷ b ∷ c ∷ d ∷ e ∷ f ∷ []) names h = absurd (cc)
+lives_asked (a ∷ b ∷ c ∷ d ∷ e ∷ f ∷ g ∷ []) names h = rw h refl
+lives_asked (a ∷ b ∷ c ∷ d ∷ e ∷ f ∷ g ∷ i ∷ more) names h = absurd (cc)
+
+-- where all inputs are accepted, in a healthy world
+pub live_completes : (healthy : Type 0) (names : LiveNames) (shown : Shown) → healthy → (inputs : LiveInputs)
+    → AcceptsLiveInputs names inputs shown → (s : Status) → JudgesLive healthy names s shown
+    → Completes s ⊎ ((limit : Limit) × (s ≡ status.TooLarge limit))
+live_completes healthy names shown ok inputs a s h =
+    go (live_pass healthy names shown (SaysOfRun healthy) ok inputs a s h)
+  where
+    on : (s : Status) → SaysOfRun healthy inputs s → Completes s ⊎ ((limit : Limit) × (s ≡ status.TooLarge limit))
+    on status.Done says = inl (inl refl)
+    on (status.Refuted refutation) says = absurd says
+    on status.BadWords says = absurd says
+    on status.ReadFault says = absurd says
+    on status.WriteFault says = absurd (says ok)
+    on status.NoMemory says = inl (inr refl)
+    on (status.BadInput fault) says = absurd says
+    on (status.TooLarge limit) says = inr (limit, refl)
+
+    go : (s ≡ status.NoMemory) ⊎ SaysOfRun healthy inputs s
+        → Completes s ⊎ ((limit : Limit) × (s ≡ status.TooLarge limit))
+    go (inl none) = inl (inr none)
+    go (inr says) = on s says
+
+-- The stage at which a status of `live` comes.
+
+pub at_inputs : (s : Status) → live_stage s ≡ AtInputs → stage_of s ≡ AtInputs
+at_inputs status.Done e = e
+at_inputs (status.Refuted refutation) e = e
+at_inputs status.BadWords e = e
+at_inputs status.ReadFault e = e
+at_inputs status.WriteFault e = e
+at_inputs status.NoMemory e = e
+at_inputs (status.BadInput fault) e = e
+at_inputs (status.TooLarge limit) e = absurd (cc)
+
+pub no_limit_at_inputs : (s : Status) → live_stage s ≡ AtInputs → (limit : Limit) → s ≡ status.TooLarge limit → ⊥
+no_limit_at_inputs s e limit is =
+    let other : AtInputs ≡ AtAnyTime = sym e ∙ ap live_stage is in
+    cc

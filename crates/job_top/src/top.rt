@@ -111,8 +111,9 @@ pub fn serial<W: World>(alloc: Global, words: &[Text], world: &mut W) -> Status
     ensures nothing_asked { result ≡ Status.BadWords → world.new ≡ world.old }
 
     // What Done leaves: the outputs, whole.
-    ensures done { IsTrue W.tells → result ≡ Status.Done → IfAsks words.now
-        (λ command. Leaves (λ t. ⊥) command (W.shown world.old) (W.shown world.new)) }
+    ensures done { IsTrue W.tells → result ≡ Status.Done → (may : ℕ → Type 0)
+        → IfAsks words.now
+        (λ command. Leaves may command (W.shown world.old) (W.shown world.new)) }
 
     // The promise: what was released is part of one legal run without crashes.
     ensures headline { IsTrue W.tells → result ≡ Status.Done → IfAsks words.now

@@ -9,7 +9,7 @@ use Rattle.job_commands.proofs.Others.{run_others, made_others, play_others, che
 use Rattle.job_top.proofs.top.serial.Goals as goal
 
 pub returns-in-Some-Run-clause-done : goal.returns-in-Some-Run-clause-done
-returns-in-Some-Run-clause-done g c told done =
+returns-in-Some-Run-clause-done g c told done may =
     rw (c.in-Some-Run.ensures, c.in-Some-Run.field-0-is) (c.run.ensures.done told done)
 
 pub returns-in-Some-Run-clause-completes : goal.returns-in-Some-Run-clause-completes
@@ -56,7 +56,7 @@ returns-in-Some-Make-clause-others g c told =
     (g.W.World.shown c.make_capture.new.world) (c.make_capture.ensures.told told))
 
 pub returns-in-Some-Play-clause-done : goal.returns-in-Some-Play-clause-done
-returns-in-Some-Play-clause-done g c told done =
+returns-in-Some-Play-clause-done g c told done may =
     rw (c.in-Some-Play.ensures, c.in-Some-Play.field-0-is) (c.play_capture.ensures.done told done)
 
 pub returns-in-Some-Play-clause-completes : goal.returns-in-Some-Play-clause-completes
@@ -77,7 +77,7 @@ returns-in-Some-Play-clause-others g c told =
     (g.W.World.shown c.play_capture.new.world) (c.play_capture.ensures.in_order told))
 
 pub returns-in-Some-Check-clause-done : goal.returns-in-Some-Check-clause-done
-returns-in-Some-Check-clause-done g c told done =
+returns-in-Some-Check-clause-done g c told done may =
     rw (c.in-Some-Check.ensures, c.in-Some-Check.field-0-is) (c.check_released.ensures.done told done)
 
 pub returns-in-Some-Check-clause-completes : goal.returns-in-Some-Check-clause-completes
