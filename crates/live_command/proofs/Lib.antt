@@ -3,3 +3,10 @@ pub mod TellingSteps
 pub mod StepsTold
 pub mod RoundsTold
 pub mod ScriptsTold
+pub mod EventsGone
+pub mod Feeding
+pub mod AllMessages
+pub mod SettlingsGone
+pub mod LinesGone
+pub mod RunsTold
+pub mod MovesTold

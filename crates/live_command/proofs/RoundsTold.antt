@@ -1,9 +1,9 @@
 -- A round is told.
 use Rattle.std.proofs.Common.{◌≡◌, ◌⊎◌, ℕ, ◌<◌, ◌≤◌, true, List, [], ◌∷◌, ◌++◌, length, take, refl, sym, ap, ◌∙◌, subst}
 use Rattle.std.proofs.Common.{inl, inr, append-nil, append_assoc, Result, Ok, Err, Option, Some, None, cond, nat_eq, arith}
-use Rattle.std.specs.Prelude.{⊤, All, OnOk}
+use Rattle.std.specs.Prelude.{⊤, All, IfOk, OnOk}
 use Rattle.std.proofs.lemmas.List.{drop_all}
-use Rattle.std.proofs.Common.{false, take-nil}
+use Rattle.std.proofs.Common.{false, zero, suc}
 use Rattle.std.proofs.lemmas.Bool.Decides.{nat_tests}
 use Rattle.rand_pcg.specs.Lcg.{Lcg}
 use Rattle.plain_text.specs.Packets.{IsShort}
@@ -43,10 +43,11 @@ use Rattle.live_workers.specs.Rounds.{IsRoundTo, Rounds, StopsRound}
 use Rattle.live_workers.specs.declared.rounds.RoundStop.TheVariants as stop
 use Rattle.live_writes.specs.Outputs.{LiveOutputs, holding}
 use Rattle.live_writes.specs.Script.{Scripted}
-use Rattle.live_writes.specs.Told.{FailsLive, HasTold, IsStopped}
+use Rattle.live_writes.specs.Told.{FailsLive, HasBegunLive, HasTold, IsStopped}
 use Rattle.live_command.specs.declared.standing.Standing.{Standing}
-use Rattle.live_command.specs.Going.{GoesRace, GoesRound, HasLivedTo, SameOrders, StopsRace, standing_in}
+use Rattle.live_command.specs.Going.{GoesOver, GoesRace, GoesRound, HasLivedTo, SameOrders, StopsRace, standing_in}
 use Rattle.live_command.specs.Telling.{AreTold}
+use Rattle.live_command.specs.Writing.{Keeps}
 use Rattle.live_command.proofs.WritingSteps.{gathered_none}
 
 -- The steps of a round are of threads that there are.
@@ -59,9 +60,13 @@ below m inputs threads t (x ∷ steps) past h high =
     let apart : nat_eq x.thread t ≡ false = grind (arith, nat_tests) in
     rw apart (below m inputs threads t steps past h.1 high)
 
+none_taken : {A : Type 0} (n : ℕ) → take {A = A} n [] ≡ []
+none_taken zero = refl
+none_taken (suc n) = refl
+
 first_none : {A : Type 0} (o : Option ℕ) → first_ones {A = A} o [] ≡ []
 first_none None = refl
-first_none (Some n) = take-nil n
+first_none (Some n) = none_taken n
 
 -- What arrives by the one orders does by the others, which are the same for the threads that there may be.
 same_arrived : {V : Type 0} (threads : ℕ) (steps : List (Step V)) (asked given : Orders) (arrivals : List Message)
@@ -133,24 +138,8 @@ module _ {P V : Type 0} (m : Meaning V) (s : Setting V) (w : SystemWorld V) (may
     count = r.count;
   }
 
-  -- all that was released was handed over, and so it is still
-  pub at_end : IsSystemAt m s w y → z.handed ≡ y.handed → z.fresh ≡ y.fresh → IsSystemAt m s there z
-  at_end at handed fresh = record {
-    stands = rounds.2;
-    fresh = fresh ∙ at.fresh;
-    handed = handed ∙ at.handed ∙ ap (λ (x : SystemWorld V). length x.released) (sym r.world.world);
-  }
-
   pub up_is : y.parts.up ≡ true → w.up ≡ true
   up_is up = sym stands.parts.master.up ∙ up
-
-  pub draws_count : length after ≡ z.parts.inputs.threads
-  draws_count = r.count ∙ sym (ap (λ (f : Fed). f.threads) rounds.2.parts.inputs.inputs)
-
-  pub threads_same : z.parts.inputs.threads ≡ y.parts.inputs.threads
-  threads_same =
-      ap (λ (f : Fed). f.threads) rounds.2.parts.inputs.inputs
-      ∙ sym (ap (λ (f : Fed). f.threads) stands.parts.inputs.inputs)
 
   -- what the round came to, where it was told
   pub round_told : (names : LiveOutputs) (events : List Event) (up : y.parts.up ≡ true)
@@ -190,6 +179,49 @@ module _ {P V : Type 0} (m : Meaning V) (s : Setting V) (w : SystemWorld V) (may
     ),
     fails,
   )
+
+-- What is so of the system of a round, whatever was asked.
+
+-- all that was released was handed over, and so it is still
+pub round_at : {P V : Type 0} (m : Meaning V) (s : Setting V) (w : SystemWorld V) (orders : Orders)
+    (may : ℕ → Type 0) (draws : List Lcg) (noted : List Noted) (arriving : List Message) (after : List Lcg)
+    (y z : Systemed P V) → IsSystemAt m s w y → z.handed ≡ y.handed → z.fresh ≡ y.fresh
+    → (rounds : Rounds m s w orders may y.parts.guide draws noted arriving after z) → IsSystemAt m s rounds.0 z
+round_at m s w orders may draws noted arriving after y z at handed fresh rounds = record {
+  stands = rounds.2;
+  fresh = fresh ∙ at.fresh;
+  handed = handed ∙ at.handed ∙ ap (λ x. length x.released) (sym rounds.1.world.world);
+}
+
+pub round_draws : {P V : Type 0} (m : Meaning V) (s : Setting V) (w : SystemWorld V) (orders : Orders)
+    (may : ℕ → Type 0) (draws : List Lcg) (noted : List Noted) (arriving : List Message) (after : List Lcg)
+    (y z : Systemed P V) → Rounds m s w orders may y.parts.guide draws noted arriving after z
+    → length after ≡ z.parts.inputs.threads
+round_draws m s w orders may draws noted arriving after y z rounds =
+    rounds.1.count ∙ sym (ap (λ (f : Fed). f.threads) rounds.2.parts.inputs.inputs)
+
+pub round_threads : {P V : Type 0} (m : Meaning V) (s : Setting V) (w : SystemWorld V) (orders : Orders)
+    (may : ℕ → Type 0) (draws : List Lcg) (noted : List Noted) (arriving : List Message) (after : List Lcg)
+    (y z : Systemed P V) → IsSystemAt m s w y → Rounds m s w orders may y.parts.guide draws noted arriving after z
+    → z.parts.inputs.threads ≡ y.parts.inputs.threads
+round_threads m s w orders may draws noted arriving after y z at rounds =
+    ap (λ (f : Fed). f.threads) rounds.2.parts.inputs.inputs
+    ∙ sym (ap (λ (f : Fed). f.threads) at.stands.parts.inputs.inputs)
+
+-- what is so of the system that is given on
+
+pub somewhere_on : {P V : Type 0} (r : Result (Standing P V) RunError) (n m : Meaning V) → n ≡ m
+    → IfOk r (λ y. IsSomewhere n y.system) → IfOk r (λ y. IsSomewhere m y.system)
+somewhere_on {P} {V} r n m same h = subst (λ (k : Meaning V). IfOk r (λ y. IsSomewhere k y.system)) same h
+
+pub threads_on : {P V : Type 0} (r : Result (Standing P V) RunError) (a b : ℕ) → a ≡ b
+    → IfOk r (λ y. y.system.parts.inputs.threads ≡ a) → IfOk r (λ y. y.system.parts.inputs.threads ≡ b)
+threads_on {P} {V} r a b same h = subst (λ (n : ℕ). IfOk r (λ y. y.system.parts.inputs.threads ≡ n)) same h
+
+pub drawn_on : {P V : Type 0} (r : Result (Standing P V) RunError) (after : List Lcg)
+    → IfOk r (λ y. y.draws ≡ after) → Drawn r after
+drawn_on (Ok y) after h = h
+drawn_on (Err e) after h = tt
 
 -- A round that stopped at a limit
 
@@ -305,23 +337,94 @@ module _ {V : Type 0} (s : Setting V) (names : LiveOutputs) (w : SystemWorld V) 
             (append_assoc events (events_noted noted) (last ∷ [])) is_stopped,
       )
 
--- What the calls of a round that stopped answer.
+    -- what was gathered is written
+    pub flushed : (files : Result ⊤ OutputError) (r : Result ⊤ RunError) (lines : List ℕ) (x : Scripted)
+        → r ≡ run_result_of files
+        → Keeps files s names (events ++ events_noted noted) ((events ++ events_noted noted) ++ last ∷ []) stopped.there
+        lines x old now → OnOk files (lines ≡ []) → OnOk files (x.text ≡ [])
+        → StopsRace r s names w limit events old now
+    flushed files r lines x is keeps no_lines no_text =
+        subst (λ (z : Result ⊤ RunError). StopsRace z s names w limit events old now) (sym is)
+        (go files keeps no_lines no_text)
+      where
+        begun : HasBegunLive s names ((events ++ events_noted noted) ++ last ∷ []) old now
+            → HasBegunLive s names (events ++ (events_noted noted ++ last ∷ [])) old now
+        begun h =
+            subst (λ (l : List Event). HasBegunLive s names l old now)
+            (append_assoc events (events_noted noted) (last ∷ [])) h
 
-pub stop_written : {V : Type 0} (files : Result ⊤ OutputError) (r : Result ⊤ RunError) (s : Setting V)
-    (names : LiveOutputs) (w : SystemWorld V) (limit : Limit) (events : List Event) (old now : Shown)
-    → r ≡ run_result_of files
-    → OnOk files ((part : List Event) × IsCutRace s w part × IsStopped s names (events ++ part) limit old now)
-    → ((e : OutputError) → files ≡ Err e
-    → (part : List Event) × IsCutRace s w part × FailsLive (run_error_of e) s names (events ++ part) old now)
-    → StopsRace r s names w limit events old now
-stop_written files r s names w limit events old now is whole failed =
-    subst (λ (z : Result ⊤ RunError). StopsRace z s names w limit events old now) (sym is) (go files whole failed)
-  where
-    go : (files : Result ⊤ OutputError)
-        → OnOk files ((part : List Event) × IsCutRace s w part × IsStopped s names (events ++ part) limit old now)
-        → ((e : OutputError) → files ≡ Err e
-        → (part : List Event) × IsCutRace s w part × FailsLive (run_error_of e) s names (events ++ part) old now)
-        → StopsRace (run_result_of files) s names w limit events old now
-    go (Ok done) whole failed = whole
-    go (Err output.WriteFault) whole failed = failed output.WriteFault refl
-    go (Err output.NoMemory) whole failed = failed output.NoMemory refl
+        go : (files : Result ⊤ OutputError)
+            → Keeps files s names (events ++ events_noted noted) ((events ++ events_noted noted) ++ last ∷ [])
+            stopped.there lines x old now → OnOk files (lines ≡ []) → OnOk files (x.text ≡ [])
+            → StopsRace (run_result_of files) s names w limit events old now
+        go (Ok done) keeps no_lines no_text =
+            stop_told x no_text (subst (λ (l : List ℕ).
+            HasTold s names (events ++ events_noted noted) ((events ++ events_noted noted) ++ last ∷ []) stopped.there l x
+            old now) no_lines keeps)
+        go (Err output.WriteFault) keeps no_lines no_text = (events_noted noted ++ last ∷ [], all, begun keeps)
+        go (Err output.NoMemory) keeps no_lines no_text = (events_noted noted ++ last ∷ [], all, begun keeps)
+
+-- What a round came to is what was given on of it, or the events up to an error.
+
+-- an error before its end, at some of its events
+pub race_failed : {A P V : Type 0} (r : Result A RunError) (e : RunError) (m : Meaning V) (s : Setting V)
+    (names : LiveOutputs) (there : SystemWorld V) (events part first : List Event) (arriving : List Message)
+    (y : Systemed P V) (lines : List ℕ) (x : Scripted) (old now : Shown) → r ≡ Err e → AreFirstOf part first
+    → FailsLive e s names (events ++ first) old now
+    → GoesRace r m s names there events part arriving y lines x old now
+race_failed {A} r e m s names there events part first arriving y lines x old now is (rest, split) fails =
+    subst (λ (z : Result A RunError). GoesRace z m s names there events part arriving y lines x old now) (sym is) (
+      first,
+      (
+        rest ++ arrival_events arriving,
+        ap (λ (l : List Event). l ++ arrival_events arriving) split
+            ∙ append_assoc first rest (arrival_events arriving),
+      ),
+      fails,
+    )
+
+-- the messages that arrived behind the steps
+pub race_arrived : {A P V : Type 0} (a : Result A RunError) (m : Meaning V) (s : Setting V) (names : LiveOutputs)
+    (there : SystemWorld V) (events part : List Event) (arriving : List Message) (y : Systemed P V) (lines : List ℕ)
+    (x : Scripted) (old now : Shown)
+    → GoesOver a m s names there (events ++ part) (arrival_events arriving) y lines x old now
+    → GoesRace a m s names there events part arriving y lines x old now
+race_arrived {A} {P} {V} (Ok done) m s names there events part arriving y lines x old now (next, does, lived) = (
+  next,
+  does,
+  subst (λ (l : List Event). HasLivedTo m s names l next y lines x old now)
+      (append_assoc events part (arrival_events arriving)) lived,
+)
+race_arrived (Err e) m s names there events part arriving y lines x old now (first, (rest, split), fails) = (
+  part ++ first,
+  (
+    rest,
+    ap (λ (l : List Event). part ++ l) split ∙ sym (append_assoc part first rest),
+  ),
+  subst (λ (l : List Event). FailsLive e s names l old now) (append_assoc events part first) fails,
+)
+
+-- a race of which nothing was told
+pub none_round : {V : Type 0} (s : Setting V) (w : SystemWorld V) (orders : Orders) → w.up ≡ true
+    → BeginsRound s w orders []
+none_round s w orders up = (up, inl (none_raced s w))
+
+-- the first steps of a race, up to the one that would pass a limit
+pub stopped_round : {P V : Type 0} (m : Meaning V) (s : Setting V) (names : LiveOutputs) (may : ℕ → Type 0)
+    (w : SystemWorld V) (orders : Orders) (draws : List Lcg) (events : List Event) (r : Result (Standing P V) RunError)
+    (e : RunError) (lines : List ℕ) (x : Scripted) (old now : Shown) → r ≡ Err e → w.up ≡ true
+    → ((part : List Event) × IsCutRace s w part × FailsLive e s names (events ++ part) old now)
+    → GoesRound r m s names may w orders draws events lines x old now
+stopped_round {P} {V} m s names may w orders draws events r e lines x old now is up (part, cut, fails) =
+    subst (λ (z : Result (Standing P V) RunError). GoesRound z m s names may w orders draws events lines x old now)
+    (sym is) (part, (up, inl cut), fails)
+
+-- the same of lists that are these
+pub race_same : {A P V : Type 0} (r : Result A RunError) (m : Meaning V) (s : Setting V) (names : LiveOutputs)
+    (there : SystemWorld V) (events : List Event) (noted given : List Noted) (arriving named : List Message)
+    (y : Systemed P V) (lines : List ℕ) (x : Scripted) (old now : Shown) → given ≡ noted → named ≡ arriving
+    → GoesRace r m s names there events (events_noted given) named y lines x old now
+    → GoesRace r m s names there events (events_noted noted) arriving y lines x old now
+race_same r m s names there events noted given arriving named y lines x old now is are h =
+    subst (λ (l : List Noted). GoesRace r m s names there events (events_noted l) arriving y lines x old now) is
+    (subst (λ (l : List Message). GoesRace r m s names there events (events_noted given) l y lines x old now) are h)

@@ -39,6 +39,12 @@ pub record HasLivedTo {P V : Type 0} (m : Meaning V) (s : Setting V) (names : Li
   pub at : IsSystemAt m s w y
   pub few : s.threads ≤ 16
 
+-- From each world that the system was at, the events lead to one that it is at now.
+abbrev pub MovesBy : {P V : Type 0} → Meaning V → List Event → Systemed P V → Systemed P V → Type 0
+MovesBy {P} {V} m events old new =
+    (s : Setting V) (w : SystemWorld V) → IsSystemAt m s w old
+    → (next : SystemWorld V) × Does s w events next × IsSystemAt m s next new
+
 -- These events came behind those before them, or after an error the first of them.
 abbrev pub GoesOver : {A P V : Type 0} → Result A RunError → Meaning V → Setting V → LiveOutputs → SystemWorld V
     → List Event → List Event → Systemed P V → List ℕ → Scripted → Shown → Shown → Type 0

@@ -57,7 +57,7 @@ GoesPlan {P} {V} (Err error) m s names may plan lines x old now =
 
 -- The run whose plan was performed was ended, and all was written; or after an error a first part of it.
 abbrev pub EndsPlan : {A V : Type 0} → Result A RunError → Setting V → LiveOutputs → List Event → Shown → Shown → Type 0
-EndsPlan (Ok done) s names events old new = HasLived s names events old new
+EndsPlan (Ok done) s names events old new = HasLived s names events old new × HasBegunLive s names events old new
 EndsPlan (Err error) s names events old new = HasBegunLive s names events old new
 
 -- What a run by a plan came to, whose outputs were created.

@@ -323,15 +323,15 @@ pub(crate) fn perform_plan<
         → WritingFailed W.ledger W.healthy world.old world.new }
 {
     let mut orders = RoundOrders::none(rt.alloc());
-    let mut standing = standing;
+    let mut reached = standing;
     for line in plan {
-        standing = perform_line(
+        reached = perform_line(
             rt,
             world,
             files,
             lines,
             script,
-            standing,
+            reached,
             threads,
             &mut orders,
             *line,
@@ -339,5 +339,5 @@ pub(crate) fn perform_plan<
             gate,
         )?;
     }
-    Ok(standing)
+    Ok(reached)
 }

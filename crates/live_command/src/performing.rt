@@ -14,7 +14,7 @@ ghost use Rattle.run_writes.specs.Replies.{packets_in};
 ghost use Rattle.run_command.specs.Running.{ComesTo, IsSomewhere, IsSystemAt};
 ghost use Rattle.live_writes.specs.Outputs.{AreApart, LiveOutputs};
 ghost use Rattle.live_writes.specs.Told.{AreOpen, HasTold};
-ghost use Rattle.live_command.specs.Going.{GoesOver, HasLivedTo};
+ghost use Rattle.live_command.specs.Going.{GoesOver, HasLivedTo, MovesBy};
 
 use crate::writing::{add_line, gather, write_script};
 use box_program::Program;
@@ -103,6 +103,8 @@ pub(crate) fn tell<P: Program, W: World>(
     ensures program { OnOk result (system.new.parts.program ≡ system.old.parts.program) }
     ensures threads { OnOk result
         (system.new.parts.inputs.threads ≡ system.old.parts.inputs.threads) }
+    ensures moves { OnOk result
+        (MovesBy (P.meaning system.old.parts.program) (event.now ∷ []) system.old system.new) }
     ensures only_writes { OnlyWrites W.tells W.shown W.ledger W.healthy world.old world.new }
     ensures cause { IsErrOf result RunError.WriteFault
         → WritingFailed W.ledger W.healthy world.old world.new }

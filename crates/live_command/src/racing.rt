@@ -98,6 +98,7 @@ fn tell_race<P: Program, W: World>(
         → HasTold s names events events w lines.old script.old before (W.shown world.old)
         → PerformsNoted s w steps.now there
         → IsSystemAt (P.meaning system.old.parts.program) s there system.old
+        → s.threads ≤ 16
         → GoesRace result (P.meaning system.old.parts.program) s names there events
         (events_noted steps.now) arriving.now system.new lines.new script.new before
         (W.shown world.new) }
@@ -140,6 +141,7 @@ fn tell_round<P: Program, W: World>(
         → HasTold s names events events w lines.old script.old before (W.shown world.old)
         → PerformsNoted s w done.steps.items there
         → IsSystemAt (P.meaning done.system.parts.program) s there done.system
+        → s.threads ≤ 16
         → GoesRace result (P.meaning done.system.parts.program) s names there events
         (events_noted done.steps.items) done.arriving.items (standing_in result done.system)
         lines.new script.new before (W.shown world.new) }
@@ -164,6 +166,8 @@ fn tell_round<P: Program, W: World>(
         arriving,
         draws,
     } = done;
+    let steps = steps.as_slice();
+    let arriving = arriving.as_slice();
     match tell_race(
         alloc,
         world,
@@ -171,8 +175,8 @@ fn tell_round<P: Program, W: World>(
         lines,
         script,
         &mut system,
-        steps.as_slice(),
-        arriving.as_slice(),
+        steps,
+        arriving,
     ) {
         Ok(()) => Ok(Standing { system, draws }),
         Err(error) => {

@@ -101,7 +101,7 @@ fn run_standing<
         → standing.draws ≡ generators_of s.seed 0 s.threads → AreApart names
         → AreOpen names files.released files.schedule files.script (W.shown world.old)
         → IsSystemAt (P.meaning standing.system.parts.program) s (opening P.Value) standing.system
-        → HasWritten (live_opening names s.fractions) before (W.shown world.old)
+        → s.threads ≤ 16 → HasWritten (live_opening names s.fractions) before (W.shown world.old)
         → RunsPlan result s (C.may clock.now) plan.now names before (W.shown world.new) }
     ensures only_writes { OnlyWrites W.tells W.shown W.ledger W.healthy world.old world.new }
     ensures cause { IsErrOf result RunError.WriteFault

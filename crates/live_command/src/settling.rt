@@ -1,6 +1,6 @@
 //! A settling: the master recovers if it is down, the rest of the capture is fed, a round without orders is run, and then
 //! all that was made arrives.
-ghost use Rattle.std.specs.Prelude.{◌≡◌, ◌∷◌, ◌++◌, ◌≤◌, [], List, ℕ, length, IfOk, OnOk, IsTrue, IsErrOf};
+ghost use Rattle.std.specs.Prelude.{◌≡◌, ◌∷◌, ◌++◌, ◌≤◌, ◌<◌, [], List, ℕ, length, IfOk, OnOk, IsTrue, IsErrOf};
 ghost use Rattle.std.specs.Prelude.{false, true};
 ghost use Rattle.plain_text.specs.declared.limit.TheConstants.{MOST_EVENTS as most_events};
 ghost use Rattle.plain_text.specs.declared.limit.TheConstants.{MOST_FILE_BYTES as most_bytes};
@@ -8,7 +8,8 @@ ghost use Rattle.world_io.specs.World.{Shown, is_writable, WritingFailed};
 ghost use Rattle.recovery_world.specs.declared.event.Event.{Event as EventKind};
 ghost use Rattle.recovery_world.specs.World.{Setting, World as SystemWorld};
 ghost use Rattle.output_files.specs.Written.{OnlyWrites};
-ghost use Rattle.recovery_world.specs.Many.{all_messages, numbered};
+ghost use Rattle.recovery_world.specs.Events.{count_of, ended_now};
+ghost use Rattle.recovery_world.specs.Many.{all_messages, numbered, of_threads};
 ghost use Rattle.system_parts.specs.SystemStanding.{StandsFor};
 ghost use Rattle.plan_script.specs.Rounds.{arrival_events};
 ghost use Rattle.run_command.specs.Running.{IsSomewhere};
@@ -43,12 +44,46 @@ fn add_numbered(
 ) -> Result<(), NoMemory>
     ensures { OnOk result (frames.new.items ≡ frames.old.items ++ numbered kind thread 1 count) }
 {
-    for number in 1..=count {
+    for earlier in 0..count {
         frames.push(FrameName {
             kind,
             thread,
-            number,
+            number: earlier + 1,
         })?;
+    }
+    Ok(())
+}
+
+/// How many frames of a kind a thread has in the past.
+fn count<P: Program>(system: &System<P>, kind: Kind, thread: u32) -> u64
+    requires { thread < system.now.parts.inputs.threads }
+    ensures { (s : Setting P.Value) (w : SystemWorld P.Value)
+        → StandsFor (P.meaning system.now.parts.program) s w system.now.parts
+        → result ≡ count_of kind (ended_now w) thread }
+{
+    let counts = system.counts(thread);
+    match kind {
+        Kind::Log => counts.entries,
+        Kind::Out => counts.outputs,
+    }
+}
+
+/// The names of all frames of a kind, by thread, then number, are put behind the others.
+fn add_kind<P: Program>(
+    frames: &mut Vec<FrameName>,
+    system: &System<P>,
+    kind: Kind,
+    threads: u32,
+) -> Result<(), NoMemory>
+    requires { threads ≡ system.now.parts.inputs.threads }
+    ensures { OnOk result ((s : Setting P.Value) (w : SystemWorld P.Value)
+        → StandsFor (P.meaning system.now.parts.program) s w system.now.parts
+        → frames.new.items
+        ≡ frames.old.items ++ of_threads kind (count_of kind (ended_now w)) 0 threads) }
+{
+    for thread in 0..threads {
+        let count = count(system, kind, thread);
+        add_numbered(frames, kind, u64::from(thread), count)?;
     }
     Ok(())
 }
@@ -65,14 +100,8 @@ fn all_frames<P: Program>(
         → frames.items ≡ all_messages s w) }
 {
     let mut frames = Vec::new(alloc);
-    for thread in 0..threads {
-        let count = system.counts(thread).entries;
-        add_numbered(&mut frames, Kind::Log, u64::from(thread), count)?;
-    }
-    for thread in 0..threads {
-        let count = system.counts(thread).outputs;
-        add_numbered(&mut frames, Kind::Out, u64::from(thread), count)?;
-    }
+    add_kind(&mut frames, system, Kind::Log, threads)?;
+    add_kind(&mut frames, system, Kind::Out, threads)?;
     Ok(frames)
 }
 
@@ -112,17 +141,26 @@ fn feed_rest<P: Program, W: World>(
         → WritingFailed W.ledger W.healthy world.old world.new }
 {
     let left = system.left();
-    if !system.up() {
-        tell(
+    if system.up() {
+        return tell(
             alloc,
             world,
             files,
             lines,
             script,
             system,
-            &Event::Recover,
-        )?;
+            &Event::Feed(left),
+        );
     }
+    tell(
+        alloc,
+        world,
+        files,
+        lines,
+        script,
+        system,
+        &Event::Recover,
+    )?;
     tell(
         alloc,
         world,

@@ -1,6 +1,7 @@
 use Rattle.std.proofs.Common.{◌≡◌, ◌∷◌, [], Err, refl, rules}
 use Rattle.run_command.proofs.Going.{on_ended, somewhere_again}
 use Rattle.live_command.proofs.TellingSteps.{err_goes, open_still, threads_kept}
+use Rattle.live_command.proofs.MovesTold.{moves_again}
 use Rattle.live_command.proofs.performing.tell.Goals as goal
 
 pub leave-requires-clause-short : goal.leave-requires-clause-short
@@ -37,3 +38,8 @@ returns-clause-runs g c = on_ended _ _ _ c.leave.ensures.ended c.perform-perform
 
 pub returns-clause-program : goal.returns-clause-program
 returns-clause-program g c = on_ended _ _ _ c.leave.ensures.ended c.perform-performed.ensures.program
+
+pub returns-clause-moves : goal.returns-clause-moves
+returns-clause-moves g c =
+    moves_again _ (g.P.Program.meaning c.args.system.now.parts.program) c.args.event.now _ _ c.args.system.now
+    c.perform-performed.new.system c.leave.ensures.ended c.perform-performed.ensures.comes

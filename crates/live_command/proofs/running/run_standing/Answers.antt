@@ -1,0 +1,22 @@
+use Rattle.std.proofs.Common.{◌≡◌, ap, sym, ◌∙◌, rules, Err, refl}
+use Rattle.output_files.proofs.OnlyWriting.{OnlyWrites-failed, OnlyWrites-trans}
+use Rattle.live_command.proofs.EventsGone.{lived_same, still_open}
+use Rattle.live_command.proofs.RunsTold.{opened, runs_to_end}
+use Rattle.live_command.proofs.running.run_standing.Goals as goal
+
+pub returns-in_err-system-clause-told : goal.returns-in_err-system-clause-told
+returns-in_err-system-clause-told g c told s names before draws apart is at few w =
+    let e : c.from_residual.result ≡ Err c.in_err-system.field-0.0 = search rules in
+    rw e (c.in_err-system.ensures.told told s names before draws apart is
+    (opened _ s names c.args.standing.system _ _ before _ apart c.new-lines.ensures c.new-script.ensures at few w))
+
+pub returns-clause-told : goal.returns-clause-told
+returns-clause-told g c told s names before draws apart is at few w = ?
+
+pub returns-clause-only_writes : goal.returns-clause-only_writes
+returns-clause-only_writes g c =
+    OnlyWrites-trans _ _ _ _ _ _ _ c.in_ok-system.ensures.only_writes c.close.ensures.only_writes
+
+pub returns-clause-cause : goal.returns-clause-cause
+returns-clause-cause g c fault =
+    OnlyWrites-failed _ _ _ _ _ _ _ c.in_ok-system.ensures.only_writes (c.close.ensures.cause fault)
