@@ -1,6 +1,6 @@
 -- Lines of a plan go on: what each came to, and what it makes of the script so far.
-use Rattle.std.proofs.Common.{◌≡◌, ℕ, ◌+◌, ◌<◌, ◌≤◌, List, [], ◌∷◌, ◌++◌, refl, sym, ap, ◌∙◌, subst, inl, inr, Result, Ok}
-use Rattle.std.proofs.Common.{Err, add-one, append-nil, append_assoc, cond, nat_eq, Some, None, Option, take, drop, length, get_or}
+use Rattle.std.proofs.Common.{◌≡◌, ℕ, ◌+◌, ◌<◌, ◌≤◌, List, [], ◌∷◌, ◌++◌, refl, sym, ap, ◌∙◌, subst, inl, inr, Result}
+use Rattle.std.proofs.Common.{Ok, Err, add-one, append-nil, cond, nat_eq, Some, Option, take, drop, length, get_or}
 use Rattle.std.proofs.Common.{zero, suc, arith, true, false}
 use Rattle.std.specs.Prelude.{IfErr, IfOk, OnOk}
 use Rattle.rand_pcg.specs.Lcg.{Lcg}
@@ -19,11 +19,11 @@ use Rattle.plan_script.specs.Begun.{AreFirstOf, BeginsHere, BeginsPart, BeginsSc
 use Rattle.plan_script.specs.Orders.{Orders, but, no_orders, orders_after}
 use Rattle.plan_script.specs.Rounds.{Does}
 use Rattle.plan_script.specs.Scripts.{orders_through}
-use Rattle.plan_script.proofs.Performing.{begins_behind, begins_whole, orders_append}
+use Rattle.plan_script.proofs.Performing.{begins_behind, orders_append}
 use Rattle.live_workers.specs.Draws.{generators_of}
 use Rattle.live_writes.specs.Outputs.{LiveOutputs}
 use Rattle.live_writes.specs.Script.{Scripted}
-use Rattle.live_writes.specs.Told.{FailsLive, HasBegunLive, HasTold}
+use Rattle.live_writes.specs.Told.{FailsLive, HasBegunLive}
 use Rattle.live_command.specs.declared.standing.Standing.{Standing}
 use Rattle.live_command.specs.Going.{GoesLine, GoesOver, GoesRound, GoesSettle, GoesToldRound, HasLivedTo, SameOrders}
 use Rattle.live_command.specs.Going.{standing_in}

@@ -1,8 +1,7 @@
 -- A run by a plan from its opening to its end, and the files that it leaves.
 use Rattle.std.proofs.Common.{◌≡◌, ℕ, ◌≤◌, List, [], ◌∷◌, ◌++◌, refl, sym, ap, ◌∙◌, append-nil, subst, inl, inr, Result}
-use Rattle.std.proofs.Common.{Ok, Err, Some, Option, length, true, false}
+use Rattle.std.proofs.Common.{Ok, Err, Some}
 use Rattle.std.specs.Prelude.{⊤, OnOk}
-use Rattle.std.specs.Str.{bytes_eq}
 use Rattle.std.proofs.lemmas.List.Elements.{All-nil}
 use Rattle.plain_text.specs.declared.limit.Limit.{Limit}
 use Rattle.plain_text.specs.declared.limit.TheConstants.{MOST_EVENTS, MOST_FILE_BYTES}
@@ -15,8 +14,7 @@ use Rattle.recovery_world.specs.Files.{packets_of}
 use Rattle.recovery_core.specs.Systems.{Systemed}
 use Rattle.output_files.specs.declared.error.OutputError.{OutputError}
 use Rattle.output_files.specs.declared.error.OutputError.TheVariants as output
-use Rattle.output_files.specs.Writes.{report_file, Write, Creates, Appends, after_writes, reported, HasWritten, HasBegun}
-use Rattle.output_files.specs.Writes.{HasGathered, IsPrefix}
+use Rattle.output_files.specs.Writes.{report_file, Write, Creates, after_writes, reported, HasWritten, HasBegun}
 use Rattle.output_files.proofs.Effects.{Compared, IsSame, Differs, compared, after_more, reported_more, begun_all}
 use Rattle.output_files.proofs.Effects.{none_gathered}
 use Rattle.run_writes.specs.declared.error.RunError.{RunError}
@@ -27,19 +25,19 @@ use Rattle.run_writes.specs.Run.{FitsRecord, Finishes, HasBegunRun, HasFiles, op
 use Rattle.run_writes.proofs.RunWrites.{captured, has_run, has_stopped, kept, lines_are, same_name, scheduled}
 use Rattle.run_writes.proofs.ScriptAnswers.{answers_perform, answers_release}
 use Rattle.run_command.specs.Running.{HasCome, IsSystemAt}
-use Rattle.script_text.specs.Scripts.{FitWords, FitsWords, script_text}
+use Rattle.script_text.specs.Scripts.{FitsWords, script_text}
 use Rattle.plan_script.specs.declared.plan.PlanLine.{PlanLine}
-use Rattle.plan_script.specs.Begun.{BeginsNone, BeginsScript}
+use Rattle.plan_script.specs.Begun.{BeginsNone}
 use Rattle.plan_script.specs.Orders.{no_orders}
 use Rattle.plan_script.proofs.Performing.{begins_whole}
 use Rattle.live_workers.specs.Draws.{generators_of}
 use Rattle.live_writes.specs.Outputs.{AreApart, LiveOutputs, holding}
 use Rattle.live_writes.specs.Script.{Scripted, SpareName, no_script}
-use Rattle.live_writes.specs.Told.{FailsLive, HasBegunLive, HasTold, IsHalted, IsPaused, IsStopped}
-use Rattle.live_writes.specs.Whole.{BeginsLive, HaltsLive, HasLived, HasPaused, live_opening}
+use Rattle.live_writes.specs.Told.{FailsLive, HasBegunLive, HasTold, IsHalted, IsPaused}
+use Rattle.live_writes.specs.Whole.{HaltsLive, HasPaused, live_opening}
 use Rattle.live_writes.proofs.ScriptSteps.{spared}
 use Rattle.live_command.specs.Going.{HasLivedTo}
-use Rattle.live_command.specs.Plans.{EndsPlan, GoesPlan, LivesInOrder, LivesToLimit, LivesWhole, RunsPlan}
+use Rattle.live_command.specs.Plans.{EndsPlan, LivesInOrder, LivesToLimit, LivesWhole, RunsPlan}
 use Rattle.live_command.specs.Telling.{IsLiveScript}
 use Rattle.live_command.proofs.ScriptsTold.{live_script}
 use Rattle.live_command.proofs.WritingSteps.{all_ahead, text_prefix}

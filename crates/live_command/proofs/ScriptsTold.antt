@@ -1,5 +1,5 @@
 -- What racing threads made of a plan is a script of it, line by line.
-use Rattle.std.proofs.Common.{◌≡◌, ℕ, inl, inr, List, [], ◌∷◌, ◌++◌, append_assoc, append-nil, sym, subst}
+use Rattle.std.proofs.Common.{ℕ, inl, inr, List, [], ◌∷◌, ◌++◌, append_assoc, append-nil, sym, subst}
 use Rattle.rand_pcg.specs.Lcg.{Lcg}
 use Rattle.recovery_world.specs.declared.event.Event.{Event}
 use Rattle.recovery_world.specs.World.{Setting, World}

@@ -1,4 +1,4 @@
-use Rattle.std.proofs.Common.{◌≡◌, ◌<◌, ◌≤◌, ap, sym, ◌∙◌, arith, rules, length, take, Err, Ok, refl}
+use Rattle.std.proofs.Common.{◌≡◌, ◌<◌, ap, sym, ◌∙◌, arith, rules, length, take, Err, Ok, refl}
 use Rattle.output_files.proofs.OnlyWriting.{OnlyWrites-same, OnlyWrites-trans}
 use Rattle.frame_intake.specs.Orders.{orders_of}
 use Rattle.plan_script.specs.Orders.{no_orders}

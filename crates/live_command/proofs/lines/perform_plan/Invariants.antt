@@ -1,4 +1,4 @@
-use Rattle.std.proofs.Common.{◌≡◌, ◌≤◌, take, false, List, length, []}
+use Rattle.std.proofs.Common.{◌≡◌, ◌≤◌, take, false, length, []}
 use Rattle.std.specs.Prelude.{IsTrue}
 use Rattle.plain_text.specs.declared.limit.TheConstants.{MOST_EVENTS as most_events}
 use Rattle.plain_text.specs.declared.limit.TheConstants.{MOST_FILE_BYTES as most_bytes}

@@ -1,4 +1,4 @@
-use Rattle.std.proofs.Common.{◌≡◌, sym, ◌∙◌, refl}
+use Rattle.std.proofs.Common.{sym, ◌∙◌, refl}
 use Rattle.live_command.proofs.LinesGone.{round_down, round_up}
 use Rattle.live_command.proofs.lines.race_if_up.Goals as goal
 

@@ -1,4 +1,4 @@
-use Rattle.std.proofs.Common.{◌≡◌, ap, sym, ◌∙◌, rules, Err, refl}
+use Rattle.std.proofs.Common.{◌≡◌, ap, sym, rules, Err, refl}
 use Rattle.output_files.proofs.OnlyWriting.{OnlyWrites-failed, OnlyWrites-trans}
 use Rattle.live_command.proofs.EventsGone.{lived_same, still_open}
 use Rattle.live_command.proofs.RunsTold.{opened, runs_to_end}
@@ -11,7 +11,15 @@ returns-in_err-system-clause-told g c told s names before draws apart is at few 
     (opened _ s names c.args.standing.system _ _ before _ apart c.new-lines.ensures c.new-script.ensures at few w))
 
 pub returns-clause-told : goal.returns-clause-told
-returns-clause-told g c told s names before draws apart is at few w = ?
+returns-clause-told g c told s names before draws apart is at few w =
+    let went = c.in_ok-system.ensures.told told s names before draws apart is
+    (opened _ s names c.args.standing.system _ _ before _ apart c.new-lines.ensures c.new-script.ensures at few w) in
+    let ended = c.close.ensures.told told s names went.0 went.1 before apart
+    (still_open names _ _ _ _ _ (c.in_ok-system.ensures.only_writes.outputs told) is)
+    (lived_same _ _ s names went.0 went.0 went.1 _ _ _ before _
+    (ap g.P.Program.meaning (sym c.in_ok-system.ensures.program)) refl went.3) in
+    runs_to_end s (g.C.Clock.may c.args.clock.now) c.args.plan.now names before _ c.close.result c.close.ensures.no_limit
+    went.0 went.1 _ went.2 ended
 
 pub returns-clause-only_writes : goal.returns-clause-only_writes
 returns-clause-only_writes g c =
