@@ -35,7 +35,7 @@ plants:
 
 # Runs a box on a packet, the one of the program's stored run, and checks what it wrote; and runs a box on two threads by a script of single
 # events, and the NAT on packets of two hosts. Shows what was written. Last, the NAT crashes when a host's first packet has left: both its
-# packets are to have left from one port. And two threads of the monitor race, with a crash between their rounds.
+# packets are to have left from one port.
 example: build/ftmb
 	scripts/example build/ftmb build/example $(addprefix crates/ftmb/data/,box capture script)
 	scripts/example_check build/ftmb build/example
@@ -43,7 +43,6 @@ example: build/ftmb
 	scripts/example build/ftmb build/example/nat $(addprefix crates/ftmb_runs/data/,box_nat capture_two_hosts script_nat)
 	scripts/example build/ftmb build/example/nat_crash $(addprefix crates/ftmb_runs/data/,box_nat_crash capture_one_host script_nat_crash)
 	scripts/example_port build/ftmb build/example/nat_crash
-	scripts/example_live build/ftmb build/example/live $(addprefix crates/ftmb_runs/data/,box_monitor_two_threads capture_two_packets)
 
 # The bytes summed and the packets rewritten in a second; the packets made and run in a second; the moves that a master makes in a
 # second, beside those of the plain player; the frames written and read, the log entries held, the outputs released, the touches that
@@ -53,11 +52,9 @@ bench: build/ftmb build/bench
 	scripts/bench build/bench
 	scripts/bench_run build/ftmb build/bench build/measured
 
-# Runs of chosen events with crashes from 1,000 seeds, each accepted by the check; and 500 plans of racing threads, each run again by the
-# script that it wrote.
+# Runs of chosen events with crashes from 1,000 seeds, each accepted by the check.
 soak: build/ftmb
 	scripts/soak build/ftmb build/soak
-	scripts/soak_live build/ftmb build/soak_live
 
 # Runs the program on captures in all four forms and on pcapng captures, and has tcpdump and Wireshark's tools read what was released;
 # and has tshark verify the checksums of generated packets.

@@ -12,12 +12,10 @@ use job_commands::Status;
 use job_top::ftmb;
 use output_files::{OutputError, report};
 use plain_text::Text;
+use std::alloc::Global;
 use std::env::Args;
 use std::io;
-use std::sync::Wait;
-use std::thread::Threads;
-use var_locks::Gate;
-use world_io::{Clock, World};
+use world_io::World;
 
 /// Prints a text where the report goes.
 #[tactic(auto, using(crate::proofs::Printed::prints_prefix, crate::proofs::Printed::prints_whole))]
@@ -39,27 +37,16 @@ fn print<W: World>(world: &mut W, text: &str) -> Status
 
 /// Does what the words ask for: prints the help or the version where the one and only word is
 /// `--help` or `--version`, and else runs the command that they name.
-pub fn perform<
-    W: World,
-    C: Clock + Sync,
-    G: Gate + Sync,
-    R: AllocGlobal + Threads + Wait + Sync,
->(
-    rt: &R,
-    words: &[Text],
-    world: &mut W,
-    clock: &C,
-    gate: &G,
-) -> Status
+pub fn perform<W: World>(alloc: Global, words: &[Text], world: &mut W) -> Status
     requires room { (W.ledger world.old).given < 2 ^ 31 }
-    ensures performs { IsTrue W.tells → Performs (W.healthy world.old) (C.may clock.now) words.now result
+    ensures performs { IsTrue W.tells → Performs (W.healthy world.old) words.now result
         (W.shown world.old) (W.shown world.new) }
     ensures bad_words { result ≡ Status.BadWords
         → (asked words.now ≡ None) × (asked_text words.now ≡ None) }
     ensures no_command { asked words.now ≡ None → asked_text words.now ≡ None
         → result ≡ Status.BadWords }
     ensures nothing_asked { result ≡ Status.BadWords → world.new ≡ world.old }
-    ensures given { (W.ledger world.new).given ≤ (W.ledger world.old).given + 6 }
+    ensures given { (W.ledger world.new).given ≤ (W.ledger world.old).given + 5 }
     ensures read_fault { result ≡ Status.ReadFault
         → Rose (W.ledger world.old).read_faults (W.ledger world.new).read_faults }
     ensures write_fault { result ≡ Status.WriteFault
@@ -68,7 +55,7 @@ pub fn perform<
     match read_request(words) {
         Request::Help => print(world, help()),
         Request::Version => print(world, version()),
-        Request::Command => ftmb(rt, words, world, clock, gate),
+        Request::Command => ftmb(alloc, words, world),
     }
 }
 
@@ -77,24 +64,13 @@ pub fn perform<
 ///
 /// Where there are no arguments, since one of them is not UTF-8, or no memory to copy them, the
 /// world stays as it is.
-pub fn answer<
-    W: World,
-    C: Clock + Sync,
-    G: Gate + Sync,
-    R: AllocGlobal + Threads + Wait + Sync,
->(
-    rt: &R,
-    arguments: io::Result<Args>,
-    world: &mut W,
-    clock: &C,
-    gate: &G,
-) -> Status
+pub fn answer<W: World>(alloc: Global, arguments: io::Result<Args>, world: &mut W) -> Status
     requires room { (W.ledger world.old).given < 2 ^ 31 }
     ensures not_text { IfErr arguments (λ error.
         Refuses (error_kind error) result × (world.new ≡ world.old)) }
     ensures performs { IsTrue W.tells → IfOk arguments (λ all.
         ((result ≡ Status.NoMemory) × (world.new ≡ world.old))
-        ⊎ Performs (W.healthy world.old) (C.may clock.now) (words_of all) result
+        ⊎ Performs (W.healthy world.old) (words_of all) result
         (W.shown world.old) (W.shown world.new)) }
     ensures bad_words { IfOk arguments (λ all.
         asked (words_of all) ≡ None → asked_text (words_of all) ≡ None
@@ -105,8 +81,8 @@ pub fn answer<
     ensures write_fault { result ≡ Status.WriteFault
         → WritingFailed W.ledger W.healthy world.old world.new }
 {
-    match read_words(rt.alloc(), arguments) {
-        Ok(words) => perform(rt, words.as_slice(), world, clock, gate),
+    match read_words(alloc, arguments) {
+        Ok(words) => perform(alloc, words.as_slice(), world),
         Err(status) => status,
     }
 }

@@ -7,27 +7,16 @@ use crate::{answer, exit_of};
 use job_commands::{Status, StatusText};
 use std::env;
 use std::process::ExitCode;
-use std::rt::{self, Env, Files};
-use std::sync::Wait;
-use std::thread::Threads;
-use var_locks::OpenGate;
-use world_real::{RealClock, RealWorld};
+use std::rt::{Env, Files};
+use world_real::RealWorld;
 
-/// The program: performs what its arguments ask for over the files of the system, by its clock and
-/// on its threads, tells what was not done, and ends with the number of the status.
-pub fn run_program<
-    R: Env + AllocGlobal + Files + Print + Eprint + Threads + Wait + Sync + rt::Clock + Clone + Drop,
->(
-    rt: &R,
-) -> ExitCode
+/// The program: performs what its arguments ask for over the files of the system, tells what was not
+/// done, and ends with the number of the status.
+pub fn run_program<R: Env + AllocGlobal + Files + Print + Eprint>(rt: &R) -> ExitCode
     ensures number { (status : Status) × (exit_status result ≡ exit_code_of status) }
 {
-    let Ok(own) = rt.clone() else {
-        return exit_of(tell(rt, Status::NoMemory));
-    };
-    let clock = RealClock::new(own);
     let mut world = RealWorld::new(rt.alloc(), rt);
-    let status = answer(rt, env::args(rt), &mut world, &clock, &OpenGate);
+    let status = answer(rt.alloc(), env::args(rt), &mut world);
     exit_of(tell(rt, status))
 }
 

@@ -20,17 +20,6 @@ what it released is written, and then its line of the report.
   RELEASED  capture of the packets that were released, written
   SCHEDULE  text of the moves of the run in which it ends, written
 
-ftmb live BOX CAPTURE PLAN RELEASED SCHEDULE SCRIPT
-
-Runs the box as the plan says, its threads beside each other, and writes the
-script of what happened. `run` with this script leaves the same report,
-RELEASED and SCHEDULE.
-
-  PLAN      text of what is asked, a line each, read: `feed N`, `limit T M`,
-            `take T F`, `lose log T N`, `lose out T N`, `round`, `snap`,
-            `store`, `crash`, `recover`, `settle`
-  SCRIPT    text of the events that happened, written
-
 ftmb play BOX CAPTURE SCHEDULE OUT
 
 Plays a schedule on the whole capture, with a box that logs nothing and never

@@ -13,16 +13,8 @@
 use command_line::{StatusText, answer};
 use std::alloc::{AllocError, Global};
 use std::env::Args;
-use std::rt::Files;
-use std::sync::Wait;
-use std::thread::Threads;
 use std::{env, fs, io};
-use var_locks::OpenGate;
-use world_io::FixedClock;
 use world_real::RealWorld;
-
-/// What the clock answers in each session, in microseconds.
-const TIME: u64 = 100_000_006;
 
 /// The arguments of a program that is called with these words, of which the first is its name.
 fn arguments(alloc: Global, words: &str) -> Result<Args, AllocError> {
@@ -34,19 +26,16 @@ fn arguments(alloc: Global, words: &str) -> Result<Args, AllocError> {
 }
 
 /// Performs a command, and prints the number and the text of the status that the program ends with.
-fn run<R: AllocGlobal + Files + Print + Threads + Wait + Sync>(
-    rt: &R,
-    words: &str,
-) -> io::Result<()> {
+fn run(rt: &HostRuntime, words: &str) -> io::Result<()> {
     let arguments = arguments(rt.alloc(), words)?;
     let mut world = RealWorld::new(rt.alloc(), rt);
-    let status = answer(rt, Ok(arguments), &mut world, &FixedClock(TIME), &OpenGate);
+    let status = answer(rt.alloc(), Ok(arguments), &mut world);
     let number = status.exit_code();
     println!(rt; "{number}: {}", StatusText(status))
 }
 
 /// Writes a file: its name, and behind a colon its lines.
-fn write<R: AllocGlobal + Files + Print>(rt: &R, file: &str) -> io::Result<()> {
+fn write(rt: &HostRuntime, file: &str) -> io::Result<()> {
     let Some((name, lines)) = file.split_once(": ") else {
         return println!(rt; "no name");
     };
@@ -58,7 +47,7 @@ fn write<R: AllocGlobal + Files + Print>(rt: &R, file: &str) -> io::Result<()> {
 }
 
 /// Prints the lines of a file.
-fn show_text<R: AllocGlobal + Files + Print>(rt: &R, name: &str) -> io::Result<()> {
+fn show_text(rt: &HostRuntime, name: &str) -> io::Result<()> {
     let Ok(text) = fs::read_to_string(rt, name) else {
         return println!(rt; "{name} is not there");
     };
@@ -70,7 +59,7 @@ fn show_text<R: AllocGlobal + Files + Print>(rt: &R, name: &str) -> io::Result<(
 }
 
 /// Prints the bytes of a file.
-fn show_bytes<R: AllocGlobal + Files + Print>(rt: &R, name: &str) -> io::Result<()> {
+fn show_bytes(rt: &HostRuntime, name: &str) -> io::Result<()> {
     let Ok(bytes) = fs::read(rt, name) else {
         return println!(rt; "{name} is not there");
     };
@@ -81,10 +70,7 @@ fn show_bytes<R: AllocGlobal + Files + Print>(rt: &R, name: &str) -> io::Result<
 }
 
 /// Does what a line of a session says.
-fn perform<R: AllocGlobal + Files + Print + Threads + Wait + Sync>(
-    rt: &R,
-    line: &str,
-) -> io::Result<()> {
+fn perform(rt: &HostRuntime, line: &str) -> io::Result<()> {
     match line.split_once(' ') {
         Some(("$", words)) => run(rt, words),
         Some(("write", file)) => write(rt, file),

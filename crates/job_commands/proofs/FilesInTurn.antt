@@ -1,59 +1,103 @@
 -- The files of a schedule, judged in their turn: what is true of them, and that they decide one status.
-use Rattle.std.proofs.Common.{◌≡◌, List, refl, ◌⊎◌, inl, inr, Err}
+use Rattle.std.proofs.Common.{◌≡◌, List, refl, ◌⊎◌, inl, inr, Ok, Err}
+use Rattle.plain_text.specs.declared.fault.LineFault.{LineFault}
 use Rattle.pcapng_io.specs.declared.fault.AnyFault.{AnyFault}
 use Rattle.plain_machine.specs.declared.plain_move.PlainMove.{PlainMove}
 use Rattle.box_conf.specs.declared.kind.BoxConf.{BoxConf}
 use Rattle.world_io.specs.World.{Shown}
 use Rattle.input_files.specs.declared.capture_file.Capture.{Capture}
 use Rattle.input_files.specs.declared.errors.InputError.{InputError}
-use Rattle.input_files.specs.Answers.{SaysCapture, SaysSchedule}
-use Rattle.input_files.specs.Judging.{JudgesCapture}
-use Rattle.input_files.proofs.OneAnswer.{one_answer, one_capture, one_schedule}
+use Rattle.input_files.specs.Answers.{SaysBox, SaysCapture, SaysSchedule}
+use Rattle.input_files.specs.Judging.{JudgesBox, JudgesCapture, JudgesSchedule}
+use Rattle.input_files.proofs.OneAnswer.{one_answer, one_box, one_capture, one_schedule}
 use Rattle.job_commands.specs.declared.schedule_inputs.ScheduleInputs.{ScheduleInputs}
 use Rattle.job_commands.specs.declared.schedule_inputs.CheckInputs.{CheckInputs}
 use Rattle.job_commands.specs.declared.status.Status.{Status}
 use Rattle.job_commands.specs.declared.status.Status.TheVariants as status
 use Rattle.job_commands.specs.Judging.{IsDecided}
-use Rattle.job_commands.specs.Schedules.{AcceptsScheduleInputs, AcceptsCheckInputs, JudgesThree, JudgesFour}
-use Rattle.job_commands.specs.Schedules.{schedule_third}
-use Rattle.job_commands.specs.Status.{of_released_error}
-use Rattle.job_commands.specs.Turns.{InTurn}
+use Rattle.job_commands.specs.Schedules.{AcceptsScheduleInputs, AcceptsCheckInputs, InTurn, JudgesThree, JudgesFour}
+use Rattle.job_commands.specs.Status.{of_box_error, of_capture_error, of_schedule_error, of_released_error}
 use Rattle.job_commands.specs.Words.{ScheduleNames, CheckNames}
-use Rattle.job_commands.proofs.ThreeFiles.{accepted, refused, one_status, all_pass}
-use Rattle.job_commands.proofs.Turns.{one_in_turn, passes, schedule_decides, released_decides}
+use Rattle.job_commands.proofs.Turns.{one_in_turn, passes, box_decides, capture_decides, schedule_decides}
+use Rattle.job_commands.proofs.Turns.{released_decides}
 
 module _ (healthy : Type 0) (names : ScheduleNames) (shown : Shown) (behind : ScheduleInputs → Status → Type 0) where
-  abbrev Behind : BoxConf → Capture → List PlainMove → Status → Type 0
-  Behind conf capture schedule = behind (record { conf = conf; capture = capture; schedule = schedule })
+  -- the first file that is not accepted decides
+  pub box_refused : (e : InputError LineFault) → JudgesBox healthy names.box_file (Err e) shown
+      → JudgesThree healthy names behind (of_box_error e) shown
+  box_refused e h = inl (e, h, refl)
+
+  pub capture_refused : (conf : BoxConf) (e : InputError AnyFault) → JudgesBox healthy names.box_file (Ok conf) shown
+      → JudgesCapture healthy names.capture (Err e) shown → JudgesThree healthy names behind (of_capture_error e) shown
+  capture_refused conf e box h = inr (conf, box, inl (e, h, refl))
+
+  pub schedule_refused : (conf : BoxConf) (capture : Capture) (e : InputError LineFault)
+      → JudgesBox healthy names.box_file (Ok conf) shown → JudgesCapture healthy names.capture (Ok capture) shown
+      → JudgesSchedule healthy names.schedule (Err e) shown
+      → JudgesThree healthy names behind (of_schedule_error e) shown
+  schedule_refused conf capture e box accepted h = inr (conf, box, inr (capture, accepted, inl (e, h, refl)))
 
   -- all are accepted, and what stands behind decides
   pub three_accepted : (inputs : ScheduleInputs) (s : Status) → AcceptsScheduleInputs names inputs shown
       → behind inputs s → JudgesThree healthy names behind s shown
-  three_accepted inputs s a h =
-      accepted healthy names.box_file names.capture shown (schedule_third healthy names shown) Behind inputs.conf
-      inputs.capture inputs.schedule s a.box_accepted a.capture_accepted a.schedule_accepted h
+  three_accepted inputs s a h = inr (
+    inputs.conf,
+    a.box_accepted,
+    inr (inputs.capture, a.capture_accepted, inr (inputs.schedule, a.schedule_accepted, h)),
+  )
 
   pub three_refused : (s : Status) → JudgesThree healthy names (λ inputs other. ⊥) s shown
       → JudgesThree healthy names behind s shown
-  three_refused s h =
-      refused healthy names.box_file names.capture shown (schedule_third healthy names shown) Behind s h
+  three_refused s (inl h) = inl h
+  three_refused s (inr (conf, box, inl h)) = inr (conf, box, inl h)
+  three_refused s (inr (conf, box, inr (capture, accepted, inl h))) = inr (conf, box, inr (capture, accepted, inl h))
+  three_refused s (inr (conf, box, inr (capture, accepted, inr (schedule, legal, h)))) = absurd h
+
+  -- what is judged behind the box file, and behind the capture
+  abbrev BehindCapture : BoxConf → Capture → List PlainMove → Status → Type 0
+  BehindCapture conf capture schedule = behind (record { conf = conf; capture = capture; schedule = schedule })
+
+  abbrev BehindBox : BoxConf → Capture → Status → Type 0
+  BehindBox conf capture =
+      InTurn (λ r. JudgesSchedule healthy names.schedule r shown) of_schedule_error (BehindCapture conf capture)
+
+  abbrev Behind : BoxConf → Status → Type 0
+  Behind conf = InTurn (λ r. JudgesCapture healthy names.capture r shown) of_capture_error (BehindBox conf)
 
   -- they decide one status
   pub three_one : ((inputs : ScheduleInputs) (s r : Status) → IsDecided healthy s → IsDecided healthy r
       → behind inputs s → behind inputs r → s ≡ r) → (s r : Status) → IsDecided healthy s → IsDecided healthy r
       → JudgesThree healthy names behind s shown → JudgesThree healthy names behind r shown → s ≡ r
   three_one next =
-      one_status healthy names.box_file names.capture shown (schedule_third healthy names shown) Behind
-      (one_answer SaysSchedule one_schedule healthy names.schedule shown) (schedule_decides healthy)
-      (λ conf capture schedule. next (record { conf = conf; capture = capture; schedule = schedule }))
+      one_in_turn healthy (λ r. JudgesBox healthy names.box_file r shown) of_box_error Behind
+      (one_answer SaysBox one_box healthy names.box_file shown) (box_decides healthy)
+      (λ conf. one_in_turn healthy (λ r. JudgesCapture healthy names.capture r shown) of_capture_error (BehindBox conf)
+      (one_answer SaysCapture one_capture healthy names.capture shown) (capture_decides healthy)
+      (λ capture. one_in_turn healthy (λ r. JudgesSchedule healthy names.schedule r shown) of_schedule_error
+      (BehindCapture conf capture) (one_answer SaysSchedule one_schedule healthy names.schedule shown)
+      (schedule_decides healthy) (λ schedule. next (record { conf = conf; capture = capture; schedule = schedule }))))
 
   -- In a healthy world, where they are accepted, what stands behind decides, unless memory ran out.
   pub three_pass : healthy → (inputs : ScheduleInputs) → AcceptsScheduleInputs names inputs shown → (s : Status)
       → JudgesThree healthy names behind s shown → (s ≡ status.NoMemory) ⊎ behind inputs s
-  three_pass ok inputs a s h =
-      all_pass healthy names.box_file names.capture shown (schedule_third healthy names shown) Behind
-      (one_answer SaysSchedule one_schedule healthy names.schedule shown) ok refl inputs.conf inputs.capture
-      inputs.schedule a.box_accepted a.capture_accepted a.schedule_accepted s h
+  three_pass ok inputs a s h = third (second (first h))
+    where
+      first : JudgesThree healthy names behind s shown → (s ≡ status.NoMemory) ⊎ Behind inputs.conf s
+      first = passes healthy (λ r. JudgesBox healthy names.box_file r shown) of_box_error Behind
+          (one_answer SaysBox one_box healthy names.box_file shown) ok inputs.conf a.box_accepted s
+
+      second : (s ≡ status.NoMemory) ⊎ Behind inputs.conf s
+          → (s ≡ status.NoMemory) ⊎ BehindBox inputs.conf inputs.capture s
+      second (inl q) = inl q
+      second (inr h) =
+          passes healthy (λ r. JudgesCapture healthy names.capture r shown) of_capture_error (BehindBox inputs.conf)
+          (one_answer SaysCapture one_capture healthy names.capture shown) ok inputs.capture a.capture_accepted s h
+
+      third : (s ≡ status.NoMemory) ⊎ BehindBox inputs.conf inputs.capture s → (s ≡ status.NoMemory) ⊎ behind inputs s
+      third (inl q) = inl q
+      third (inr h) = passes healthy (λ r. JudgesSchedule healthy names.schedule r shown) of_schedule_error
+          (BehindCapture inputs.conf inputs.capture) (one_answer SaysSchedule one_schedule healthy names.schedule shown)
+          ok inputs.schedule a.schedule_accepted s h
 
 module _ (healthy : Type 0) (names : CheckNames) (shown : Shown) (behind : CheckInputs → Status → Type 0) where
   abbrev BehindThree : ScheduleInputs → Status → Type 0

@@ -12,5 +12,3 @@ pub mod Plays
 pub mod Finds
 pub mod RunChecked
 pub mod Failing
-pub mod ThreeFiles
-pub mod LiveFiles

@@ -13,16 +13,15 @@ use Rattle.input_files.specs.declared.errors.InputError.TheVariants as error
 use Rattle.input_files.specs.declared.capture_file.Capture.{Capture}
 use Rattle.input_files.specs.Answers.{SaysBox, SaysCapture, SaysScript}
 use Rattle.input_files.specs.Judging.{JudgesBox, JudgesCapture, JudgesScript, AcceptsBox, AcceptsCapture, AcceptsScript}
-use Rattle.input_files.specs.Judging.{ScriptTooLarge, IsDecided as FileDecides}
+use Rattle.input_files.specs.Judging.{IsDecided as FileDecides}
 use Rattle.input_files.proofs.OneAnswer.{one_answer, one_box, one_capture, one_script}
 use Rattle.job_commands.specs.declared.inputs.Inputs.{Inputs}
 use Rattle.job_commands.specs.declared.status.Status.{Status}
 use Rattle.job_commands.specs.declared.status.Status.TheVariants as status
 use Rattle.job_commands.specs.declared.status.InputFault.TheVariants as input
-use Rattle.job_commands.specs.Judging.{Judges, IsDecided, AreAccepted}
+use Rattle.job_commands.specs.Judging.{Judges, IsDecided, AreAccepted, FirstIsMissing, FirstIsTooLarge}
 use Rattle.job_commands.specs.Run.{AcceptsInputs, EndsRun, StopsRun, setting_for}
 use Rattle.job_commands.specs.Status.{Completes, of_box_error, of_capture_error, of_script_error}
-use Rattle.job_commands.specs.Turns.{FirstIsMissing, FirstIsTooLarge}
 use Rattle.job_commands.specs.Words.{RunNames}
 
 abbrev box_ok : BoxConf → Result BoxConf (InputError LineFault)
@@ -67,15 +66,13 @@ module _ (healthy : Type 0) (names : RunNames) (shown : Shown) where
     OfLimit : (inputs : Inputs) → AcceptsInputs names inputs shown → (limit : Limit) → StopsRun inputs limit
         → s ≡ status.TooLarge limit → Verdict s
 
-  missing : FirstIsMissing names.box_file names.capture names.script shown → healthy → Verdict status.ReadFault
+  missing : FirstIsMissing names shown → healthy → Verdict status.ReadFault
   missing (inl box) ok = OfBox error.ReadFault ok (λ _. box) refl
   missing (inr (inl (conf, box, capture))) ok = OfCapture conf box error.ReadFault ok (λ _. capture) refl
   missing (inr (inr (conf, box, (capture, accepted, script)))) ok =
       OfScript conf box capture accepted error.ReadFault ok (λ _. script) refl
 
-  too_large : (limit : Limit)
-      → FirstIsTooLarge names.box_file names.capture (ScriptTooLarge names.script limit shown) limit shown
-      → Verdict (status.TooLarge limit)
+  too_large : (limit : Limit) → FirstIsTooLarge names limit shown → Verdict (status.TooLarge limit)
   too_large limit (inl box) = OfBox (error.TooLarge limit) tt box refl
   too_large limit (inr (inl (conf, box, capture))) = OfCapture conf box (error.TooLarge limit) tt capture refl
   too_large limit (inr (inr (conf, box, (capture, accepted, script)))) =
@@ -95,7 +92,6 @@ module _ (healthy : Type 0) (names : RunNames) (shown : Shown) where
       OfCapture conf box (error.Fault (any.Ng fault)) tt h refl
   verdict (status.BadInput (input.Script fault)) decided (conf, box, (capture, accepted, h)) =
       OfScript conf box capture accepted (error.Fault fault) tt h refl
-  verdict (status.BadInput (input.Plan fault)) decided h = absurd h
   verdict (status.BadInput (input.Schedule fault)) decided h = absurd h
   verdict (status.BadInput (input.Moves fault)) decided h = absurd h
   verdict (status.BadInput (input.Released fault)) decided h = absurd h

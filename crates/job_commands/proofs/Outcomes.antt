@@ -42,7 +42,7 @@ module _ (a b c : Shown) (keeps : KeepsOutputs a b) where
   begun_writes_since writes begun =
       record { done = begun.done; cut = begun.cut; written = written_since begun.done begun.written }
 
-  pub files_since : (names : OutputNames) (u : FractionUnit) (released : List Packet) (schedule report : List ℕ)
+  files_since : (names : OutputNames) (u : FractionUnit) (released : List Packet) (schedule report : List ℕ)
       → HasFiles names u released schedule report b c → HasFiles names u released schedule report a c
   files_since names u released schedule report f = record {
     released_is = f.released_is;

@@ -6,9 +6,8 @@ use Rattle.input_files.specs.declared.errors.InputError.TheVariants as error
 use Rattle.input_files.specs.Judging.{Judges as JudgesFile, IsDecided as FileDecides}
 use Rattle.job_commands.specs.declared.status.Status.{Status}
 use Rattle.job_commands.specs.Judging.{IsDecided}
-use Rattle.job_commands.specs.Status.{of_box_error, of_capture_error, of_plan_error, of_schedule_error}
-use Rattle.job_commands.specs.Status.{of_released_error}
-use Rattle.job_commands.specs.Turns.{InTurn}
+use Rattle.job_commands.specs.Schedules.{InTurn}
+use Rattle.job_commands.specs.Status.{of_box_error, of_capture_error, of_schedule_error, of_released_error}
 
 -- the two answers to one file are the same
 abbrev pub OneAnswer : {A F : Type 0} → Type 0 → (Result A (InputError F) → Type 0) → Type 0
@@ -72,12 +71,6 @@ capture_decides healthy (error.Fault fault) d = tt
 capture_decides healthy (error.TooLarge limit) d = tt
 capture_decides healthy error.ReadFault d = d.1.0 refl
 capture_decides healthy error.NoMemory d = absurd (d.0 refl)
-
-pub plan_decides : (healthy : Type 0) → Decides healthy of_plan_error
-plan_decides healthy (error.Fault fault) d = tt
-plan_decides healthy (error.TooLarge limit) d = tt
-plan_decides healthy error.ReadFault d = d.1.0 refl
-plan_decides healthy error.NoMemory d = absurd (d.0 refl)
 
 pub schedule_decides : (healthy : Type 0) → Decides healthy of_schedule_error
 schedule_decides healthy (error.Fault fault) d = tt

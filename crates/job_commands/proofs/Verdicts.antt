@@ -1,5 +1,5 @@
 -- The verdict on all inputs, from those on each of them.
-use Rattle.std.proofs.Common.{◌≡◌, ℕ, List, sym, ap, subst, ◌∙◌, inl, inr, Err}
+use Rattle.std.proofs.Common.{◌≡◌, ℕ, List, sym, ap, ◌∙◌, inl, inr, Err}
 use Rattle.plain_text.specs.declared.fault.LineFault.{LineFault}
 use Rattle.pcapng_io.specs.declared.fault.AnyFault.{AnyFault}
 use Rattle.pcapng_io.specs.declared.fault.AnyFault.TheVariants as any
@@ -12,39 +12,18 @@ use Rattle.input_files.specs.declared.capture_file.Capture.{Capture}
 use Rattle.input_files.specs.Files.{IsMissing}
 use Rattle.input_files.specs.Judging.{IsToldOf, JudgesBox, JudgesCapture, JudgesScript, AcceptsBox, AcceptsCapture}
 use Rattle.input_files.specs.Judging.{AcceptsScript}
-use Rattle.job_commands.specs.declared.status.Status.{Status}
 use Rattle.job_commands.specs.Judging.{JudgesInputs}
 use Rattle.job_commands.specs.Run.{AcceptsInputs}
 use Rattle.job_commands.specs.Status.{of_box_error, of_capture_error, of_script_error}
-use Rattle.job_commands.specs.Turns.{JudgesTwo}
 use Rattle.job_commands.specs.Words.{RunNames}
 
--- the box file or the capture is not accepted
-module _ (healthy : Type 0) (names : RunNames) (shown : Shown) where
-  box_refused : (e : InputError LineFault) → JudgesBox healthy names.box_file (Err e) shown
-      → JudgesInputs healthy names (Err (of_box_error e)) shown
-  box_refused (error.Fault fault) h = h
-  box_refused (error.TooLarge limit) h = inl (inl h)
-  box_refused error.ReadFault h = (λ ok. inl (h ok))
-  box_refused error.NoMemory h = tt
-
-  capture_refused : (conf : BoxConf) (e : InputError AnyFault) → AcceptsBox names.box_file conf shown
-      → JudgesCapture healthy names.capture (Err e) shown
-      → JudgesInputs healthy names (Err (of_capture_error e)) shown
-  capture_refused conf (error.Fault (any.Capture fault)) box h = (conf, box, h)
-  capture_refused conf (error.Fault (any.Ng fault)) box h = (conf, box, h)
-  capture_refused conf (error.TooLarge limit) box h = inl (inr (inl (conf, box, h)))
-  capture_refused conf error.ReadFault box h = (λ ok. inr (inl (conf, box, h ok)))
-  capture_refused conf error.NoMemory box h = tt
-
-  pub first_refused : (s : Status)
-      → JudgesTwo healthy names.box_file names.capture (λ conf capture other. ⊥) s shown
-      → JudgesInputs healthy names (Err s) shown
-  first_refused s (inl (e, h, q)) =
-      subst (λ (t : Status). JudgesInputs healthy names (Err t) shown) (sym q) (box_refused e h)
-  first_refused s (inr (conf, box, inl (e, h, q))) =
-      subst (λ (t : Status). JudgesInputs healthy names (Err t) shown) (sym q) (capture_refused conf e box h)
-  first_refused s (inr (conf, box, inr (capture, captured, h))) = absurd h
+-- the box file is not accepted
+pub box_refused : (healthy : Type 0) (names : RunNames) (shown : Shown) (e : InputError LineFault)
+    → JudgesBox healthy names.box_file (Err e) shown → JudgesInputs healthy names (Err (of_box_error e)) shown
+box_refused healthy names shown (error.Fault fault) h = h
+box_refused healthy names shown (error.TooLarge limit) h = inl (inl h)
+box_refused healthy names shown error.ReadFault h = (λ ok. inl (h ok))
+box_refused healthy names shown error.NoMemory h = tt
 
 -- What stands under a name in one moment stands there in another, where the names are as they were. So the files that
 -- are read one after another are judged as they stood at first.
@@ -58,6 +37,19 @@ module _ (healthy later : Type 0) (stays : healthy → later) (names : RunNames)
 
   is_missing : (name : List ℕ) → IsMissing name b → IsMissing name a
   is_missing name h = named name ∙ h
+
+  pub accepts_capture : (capture : Capture) → AcceptsCapture names.capture capture b
+      → AcceptsCapture names.capture capture a
+  accepts_capture capture h = told_before names.capture _ h
+
+  -- the capture is not accepted behind the box file
+  pub capture_refused : (e : InputError AnyFault) (conf : BoxConf) → AcceptsBox names.box_file conf a
+      → JudgesCapture later names.capture (Err e) b → JudgesInputs healthy names (Err (of_capture_error e)) a
+  capture_refused (error.Fault (any.Capture fault)) conf box h = (conf, box, told_before names.capture _ h)
+  capture_refused (error.Fault (any.Ng fault)) conf box h = (conf, box, told_before names.capture _ h)
+  capture_refused (error.TooLarge limit) conf box h = inl (inr (inl (conf, box, told_before names.capture _ h)))
+  capture_refused error.ReadFault conf box h = (λ ok. inr (inl (conf, box, is_missing names.capture (h (stays ok)))))
+  capture_refused error.NoMemory conf box h = tt
 
   -- the script is not accepted behind both
   pub script_refused : (e : InputError LineFault) (conf : BoxConf) (capture : Capture)

@@ -5,39 +5,61 @@
 use Rattle.std.specs.Prelude.{◌≡◌, ◌⊎◌, Result, Ok, Err}
 use Rattle.plain_text.specs.declared.limit.Limit.{Limit}
 use Rattle.pcapng_io.specs.declared.fault.AnyFault.TheVariants as any
+use Rattle.box_conf.specs.declared.kind.BoxConf.{BoxConf}
 use Rattle.world_io.specs.World.{Shown}
-use Rattle.input_files.specs.Judging.{FaultsBox, FaultsCapture, FaultsScript, ScriptTooLarge}
+use Rattle.input_files.specs.declared.capture_file.Capture.{Capture}
+use Rattle.input_files.specs.Files.{IsMissing}
+use Rattle.input_files.specs.Judging.{AcceptsBox, FaultsBox, BoxTooLarge, AcceptsCapture, FaultsCapture}
+use Rattle.input_files.specs.Judging.{CaptureTooLarge, FaultsScript, ScriptTooLarge}
 use Rattle.job_commands.specs.declared.inputs.Inputs.{Inputs}
 use Rattle.job_commands.specs.declared.status.Status.{Status}
 use Rattle.job_commands.specs.declared.status.Status.TheVariants as status
 use Rattle.job_commands.specs.declared.status.InputFault.TheVariants as input
 use Rattle.job_commands.specs.Run.{AcceptsInputs, EndsRun, StopsRun}
-use Rattle.job_commands.specs.Turns.{BehindBox, BehindCapture, FirstIsMissing, FirstIsTooLarge}
 use Rattle.job_commands.specs.Words.{RunNames}
+
+-- the box file is accepted, and this stands behind it
+abbrev pub BehindBox : RunNames → Shown → Type 0 → Type 0
+BehindBox names shown P = (conf : BoxConf) × AcceptsBox names.box_file conf shown × P
+
+-- the box file and the capture are accepted, and this stands behind them
+abbrev pub BehindCapture : RunNames → Shown → Type 0 → Type 0
+BehindCapture names shown P =
+    BehindBox names shown ((capture : Capture) × AcceptsCapture names.capture capture shown × P)
+
+-- the first file that is not accepted is not there
+abbrev pub FirstIsMissing : RunNames → Shown → Type 0
+FirstIsMissing names shown =
+    IsMissing names.box_file shown ⊎ (BehindBox names shown (IsMissing names.capture shown)
+    ⊎ BehindCapture names shown (IsMissing names.script shown))
+
+-- the first file that is not accepted passes a limit
+abbrev pub FirstIsTooLarge : RunNames → Limit → Shown → Type 0
+FirstIsTooLarge names limit shown =
+    BoxTooLarge names.box_file limit shown ⊎ (BehindBox names shown (CaptureTooLarge names.capture limit shown)
+    ⊎ BehindCapture names shown (ScriptTooLarge names.script limit shown))
 
 -- What a status says. Running out of memory says nothing, nor does a fault of reading in a world that is not healthy.
 abbrev pub Judges : Type 0 → RunNames → Status → Shown → Type 0
 Judges healthy names status.Done shown = (inputs : Inputs) × AcceptsInputs names inputs shown × EndsRun inputs
 Judges healthy names (status.Refuted refutation) shown = ⊥
 Judges healthy names status.BadWords shown = ⊥
-Judges healthy names status.ReadFault shown = healthy → FirstIsMissing names.box_file names.capture names.script shown
+Judges healthy names status.ReadFault shown = healthy → FirstIsMissing names shown
 Judges healthy names status.WriteFault shown = (healthy → ⊥) × (inputs : Inputs) × AcceptsInputs names inputs shown
 Judges healthy names status.NoMemory shown = Unit {0}
 Judges healthy names (status.BadInput (input.BoxFile fault)) shown = FaultsBox names.box_file fault shown
 Judges healthy names (status.BadInput (input.Capture fault)) shown =
-    BehindBox names.box_file shown (FaultsCapture names.capture (any.Capture fault) shown)
+    BehindBox names shown (FaultsCapture names.capture (any.Capture fault) shown)
 Judges healthy names (status.BadInput (input.NgCapture fault)) shown =
-    BehindBox names.box_file shown (FaultsCapture names.capture (any.Ng fault) shown)
+    BehindBox names shown (FaultsCapture names.capture (any.Ng fault) shown)
 Judges healthy names (status.BadInput (input.Script fault)) shown =
-    BehindCapture names.box_file names.capture shown (FaultsScript names.script fault shown)
-Judges healthy names (status.BadInput (input.Plan fault)) shown = ⊥
+    BehindCapture names shown (FaultsScript names.script fault shown)
 Judges healthy names (status.BadInput (input.Schedule fault)) shown = ⊥
 Judges healthy names (status.BadInput (input.Moves fault)) shown = ⊥
 Judges healthy names (status.BadInput (input.Released fault)) shown = ⊥
 Judges healthy names (status.BadInput (input.NgReleased fault)) shown = ⊥
 Judges healthy names (status.TooLarge limit) shown =
-    FirstIsTooLarge names.box_file names.capture (ScriptTooLarge names.script limit shown) limit shown
-    ⊎ ((inputs : Inputs) × AcceptsInputs names inputs shown × StopsRun inputs limit)
+    FirstIsTooLarge names limit shown ⊎ ((inputs : Inputs) × AcceptsInputs names inputs shown × StopsRun inputs limit)
 
 -- what reading all inputs answers: they are accepted, or the status that ends the command
 abbrev pub JudgesInputs : Type 0 → RunNames → Result Inputs Status → Shown → Type 0

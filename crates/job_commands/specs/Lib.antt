@@ -4,7 +4,5 @@ pub mod Status
 pub mod Text
 pub mod Judging
 pub mod Run
-pub mod Turns
 pub mod Schedules
-pub mod Live
 pub mod Checked

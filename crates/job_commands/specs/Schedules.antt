@@ -3,8 +3,6 @@
 -- The input files are judged one after another: the first that is not accepted decides the status. Where all are
 -- accepted, the schedule decides it, and then the released packets.
 use Rattle.std.specs.Prelude.{◌≡◌, ◌⊎◌, List, length, Result, Ok, Err, ⊤, IsErrOf}
-use Rattle.plain_text.specs.declared.fault.LineFault.{LineFault}
-use Rattle.plain_machine.specs.declared.plain_move.PlainMove.{PlainMove}
 use Rattle.plain_machine.specs.declared.plain_move.PlayFault.{PlayFault}
 use Rattle.plain_machine.specs.History.{Step}
 use Rattle.box_conf.specs.Kinds.{meaning_of}
@@ -18,13 +16,14 @@ use Rattle.schedule_commands.specs.Runs.{outcome_of}
 use Rattle.schedule_commands.specs.Playing.{SaysPlay, HasPlayed, HasBegunPlay}
 use Rattle.schedule_commands.specs.Checking.{IsFound, SaysCheck, found_writes}
 use Rattle.run_writes.specs.Run.{KeepsShown}
-use Rattle.input_files.specs.Judging.{JudgesCapture, JudgesSchedule, AcceptsBox, AcceptsCapture, AcceptsSchedule}
+use Rattle.input_files.specs.declared.errors.InputError.{InputError}
+use Rattle.input_files.specs.Judging.{JudgesBox, JudgesCapture, JudgesSchedule, AcceptsBox, AcceptsCapture}
+use Rattle.input_files.specs.Judging.{AcceptsSchedule}
 use Rattle.job_commands.specs.declared.schedule_inputs.ScheduleInputs.{ScheduleInputs}
 use Rattle.job_commands.specs.declared.schedule_inputs.CheckInputs.{CheckInputs}
 use Rattle.job_commands.specs.declared.status.Status.{Status}
-use Rattle.job_commands.specs.Status.{of_schedule_error, of_released_error}
+use Rattle.job_commands.specs.Status.{of_box_error, of_capture_error, of_schedule_error, of_released_error}
 use Rattle.job_commands.specs.Status.{play_outcome, check_outcome}
-use Rattle.job_commands.specs.Turns.{InTurn, JudgesFiles, Third}
 use Rattle.job_commands.specs.Words.{ScheduleNames, PlayNames, CheckNames}
 
 -- Accepted inputs
@@ -54,16 +53,20 @@ outcome_for inputs = outcome_of (meaning_of inputs.conf.kind).meaning (schedule_
 
 -- What each status says
 
--- the schedule, as the third file
-abbrev pub schedule_third : Type 0 → ScheduleNames → Shown → Third (List PlainMove) LineFault
-schedule_third healthy names shown =
-    record { judged = λ r. JudgesSchedule healthy names.schedule r shown; status_of = of_schedule_error }
+-- A file in its turn: its answer decides the status where it is not accepted, and what stands behind it where it is.
+abbrev pub InTurn : {A F : Type 0} → (Result A (InputError F) → Type 0) → (InputError F → Status)
+    → (A → Status → Type 0) → Status → Type 0
+InTurn {A} {F} judged status_of behind status =
+    ((refused : InputError F) × judged (Err refused) × (status ≡ status_of refused))
+    ⊎ ((value : A) × judged (Ok value) × behind value status)
 
 -- box, capture and schedule, in their turn, and this behind them
 abbrev pub JudgesThree : Type 0 → ScheduleNames → (ScheduleInputs → Status → Type 0) → Status → Shown → Type 0
 JudgesThree healthy names behind status shown =
-    JudgesFiles healthy names.box_file names.capture (schedule_third healthy names shown)
-    (λ conf capture schedule. behind (record { conf = conf; capture = capture; schedule = schedule })) status shown
+    InTurn (λ r. JudgesBox healthy names.box_file r shown) of_box_error (λ conf.
+    InTurn (λ r. JudgesCapture healthy names.capture r shown) of_capture_error (λ capture.
+    InTurn (λ r. JudgesSchedule healthy names.schedule r shown) of_schedule_error (λ schedule.
+    behind (record { conf = conf; capture = capture; schedule = schedule })))) status
 
 -- and the released capture in its turn
 abbrev pub JudgesFour : Type 0 → CheckNames → (CheckInputs → Status → Type 0) → Status → Shown → Type 0

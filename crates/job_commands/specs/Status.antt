@@ -17,7 +17,7 @@ use Rattle.schedule_commands.specs.declared.error.ScheduleError.{ScheduleError}
 use Rattle.schedule_commands.specs.declared.error.ScheduleError.TheVariants as of_schedule
 use Rattle.job_commands.specs.declared.status.InputFault.{InputFault}
 use Rattle.job_commands.specs.declared.status.InputFault.TheVariants.{BoxFile, Capture, NgCapture, Script, Schedule}
-use Rattle.job_commands.specs.declared.status.InputFault.TheVariants.{Plan, Moves, Released, NgReleased}
+use Rattle.job_commands.specs.declared.status.InputFault.TheVariants.{Moves, Released, NgReleased}
 use Rattle.job_commands.specs.declared.status.Status.{Status}
 use Rattle.job_commands.specs.declared.status.Status.TheVariants.{Done, Refuted, BadWords, ReadFault, WriteFault}
 use Rattle.job_commands.specs.declared.status.Status.TheVariants.{NoMemory, BadInput, TooLarge}
@@ -85,12 +85,6 @@ of_script_error of_input.ReadFault = ReadFault
 of_script_error of_input.NoMemory = NoMemory
 of_script_error (of_input.TooLarge limit) = TooLarge limit
 of_script_error (of_input.Fault fault) = BadInput (Script fault)
-
-abbrev pub of_plan_error : InputError LineFault → Status
-of_plan_error of_input.ReadFault = ReadFault
-of_plan_error of_input.NoMemory = NoMemory
-of_plan_error (of_input.TooLarge limit) = TooLarge limit
-of_plan_error (of_input.Fault fault) = BadInput (Plan fault)
 
 abbrev pub of_capture_fault : AnyFault → InputFault
 of_capture_fault (any.Capture fault) = Capture fault

@@ -14,7 +14,7 @@ use Rattle.schedule_check.specs.declared.checking.Refutation.{Refutation}
 use Rattle.schedule_check.specs.declared.checking.Refutation.TheVariants as refuted
 use Rattle.job_commands.specs.declared.status.InputFault.{InputFault}
 use Rattle.job_commands.specs.declared.status.InputFault.TheVariants.{BoxFile, Capture, NgCapture, Script, Schedule}
-use Rattle.job_commands.specs.declared.status.InputFault.TheVariants.{Plan, Moves, Released, NgReleased}
+use Rattle.job_commands.specs.declared.status.InputFault.TheVariants.{Moves, Released, NgReleased}
 use Rattle.job_commands.specs.declared.status.Status.{Status}
 use Rattle.job_commands.specs.declared.status.Status.TheVariants.{Done, Refuted, BadWords, ReadFault, WriteFault}
 use Rattle.job_commands.specs.declared.status.Status.TheVariants.{NoMemory, BadInput, TooLarge}
@@ -67,7 +67,6 @@ fault_text (Capture fault) =
     codes "bad input: capture: offset " ++ decimal fault.offset ++ codes ": " ++ capture_cause_text fault.cause
 fault_text (Script fault) =
     codes "bad input: script: line " ++ decimal fault.line ++ codes ": " ++ cause_text fault.cause
-fault_text (Plan fault) = codes "bad input: plan: line " ++ decimal fault.line ++ codes ": " ++ cause_text fault.cause
 fault_text (NgCapture fault) =
     codes "bad input: capture: offset " ++ decimal fault.offset ++ codes ": " ++ ng_cause_text fault.cause
 fault_text (Schedule fault) =

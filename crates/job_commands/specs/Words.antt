@@ -1,11 +1,9 @@
 -- The words of the commands.
-use Rattle.std.specs.Prelude.{ℕ, Bool, ◌&&◌, not, nat_le, List, [], ◌∷◌, codes, if◌then◌else◌, Option, Some, None}
-use Rattle.std.specs.Prelude.{IfSome}
+use Rattle.std.specs.Prelude.{ℕ, ◌&&◌, not, nat_le, List, [], ◌∷◌, codes, if◌then◌else◌, Option, Some, None, IfSome}
 use Rattle.std.specs.Str.{bytes_eq}
 use Rattle.plain_text.specs.Lines.{number_of}
 use Rattle.plain_text.specs.declared.limit.TheConstants.{MOST_PACKETS}
 use Rattle.job_commands.specs.declared.run_words.RunWords.{RunWords}
-use Rattle.job_commands.specs.declared.live_words.LiveWords.{LiveWords}
 use Rattle.job_commands.specs.declared.make_words.MakeWords.{MakeWords}
 use Rattle.job_commands.specs.declared.schedule_words.ScheduleFiles.{ScheduleFiles}
 use Rattle.job_commands.specs.declared.schedule_words.PlayWords.{PlayWords}
@@ -44,54 +42,6 @@ run_names (command ∷ box_file ∷ capture ∷ script ∷ released ∷ schedule
     (record { box_file = box_file; capture = capture; script = script; released = released; schedule = schedule })
     else None
 run_names (a ∷ b ∷ c ∷ d ∷ e ∷ f ∷ g ∷ more) = None
-
--- the names of the files of a live run
-pub record LiveNames : Type 0 where
-  pub box_file : List ℕ
-  pub capture : List ℕ
-  pub plan : List ℕ
-  pub released : List ℕ
-  pub schedule : List ℕ
-  pub script : List ℕ
-
-abbrev pub live_names_of : LiveWords → LiveNames
-live_names_of w = record {
-  box_file = w.box_file.now;
-  capture = w.capture.now;
-  plan = w.plan.now;
-  released = w.released.now;
-  schedule = w.schedule.now;
-  script = w.script.now;
-}
-
--- no two of the outputs are one
-abbrev pub are_apart : LiveNames → Bool
-are_apart names =
-    not (bytes_eq names.released names.schedule) && not (bytes_eq names.released names.script)
-    && not (bytes_eq names.schedule names.script)
-
--- `live` with six names, of which the three outputs differ
-abbrev pub live_with : List ℕ → LiveNames → Option LiveNames
-live_with command names = if bytes_eq command (codes "live") && are_apart names then Some names else None
-
-abbrev pub live_names : List (List ℕ) → Option LiveNames
-live_names [] = None
-live_names (a ∷ []) = None
-live_names (a ∷ b ∷ []) = None
-live_names (a ∷ b ∷ c ∷ []) = None
-live_names (a ∷ b ∷ c ∷ d ∷ []) = None
-live_names (a ∷ b ∷ c ∷ d ∷ e ∷ []) = None
-live_names (a ∷ b ∷ c ∷ d ∷ e ∷ f ∷ []) = None
-live_names (command ∷ box_file ∷ capture ∷ plan ∷ released ∷ schedule ∷ script ∷ []) =
-    live_with command (record {
-      box_file = box_file;
-      capture = capture;
-      plan = plan;
-      released = released;
-      schedule = schedule;
-      script = script;
-    })
-live_names (a ∷ b ∷ c ∷ d ∷ e ∷ f ∷ g ∷ h ∷ more) = None
 
 -- what a made capture is made of, and the name that it gets
 pub record MakeNames : Type 0 where
@@ -174,25 +124,21 @@ check_names (a ∷ b ∷ c ∷ d ∷ e ∷ f ∷ more) = None
 -- a command, with what its words name
 pub data Asked : Type 0 where
   Runs : RunNames → Asked
-  Lives : LiveNames → Asked
   Makes : MakeNames → Asked
   Plays : PlayNames → Asked
   Checks : CheckNames → Asked
 
 -- the one command whose names are there; no words are those of two
-abbrev pub one_of : Option RunNames → Option LiveNames → Option MakeNames → Option PlayNames → Option CheckNames
-    → Option Asked
-one_of (Some names) live make play check = Some (Runs names)
-one_of None (Some names) make play check = Some (Lives names)
-one_of None None (Some names) play check = Some (Makes names)
-one_of None None None (Some names) check = Some (Plays names)
-one_of None None None None (Some names) = Some (Checks names)
-one_of None None None None None = None
+abbrev pub one_of : Option RunNames → Option MakeNames → Option PlayNames → Option CheckNames → Option Asked
+one_of (Some names) make play check = Some (Runs names)
+one_of None (Some names) play check = Some (Makes names)
+one_of None None (Some names) check = Some (Plays names)
+one_of None None None (Some names) = Some (Checks names)
+one_of None None None None = None
 
--- the command that words ask for: `run`, `live`, `make`, `play` or `check`
+-- the command that words ask for: `run`, `make`, `play` or `check`
 abbrev pub asked : List (List ℕ) → Option Asked
-asked words =
-    one_of (run_names words) (live_names words) (make_names words) (play_names words) (check_names words)
+asked words = one_of (run_names words) (make_names words) (play_names words) (check_names words)
 
 -- where the words ask for a command, this is so of it
 abbrev pub IfAsks : List (List ℕ) → (Asked → Type 0) → Type 0
@@ -200,7 +146,6 @@ IfAsks words Holds = IfSome (asked words) Holds
 
 abbrev pub asked_of : command_words.Command → Asked
 asked_of (words.Run w) = Runs (names_of w)
-asked_of (words.Live w) = Lives (live_names_of w)
 asked_of (words.Make w) = Makes (made_of w)
 asked_of (words.Play w) = Plays (play_names_of w)
 asked_of (words.Check w) = Checks (check_names_of w)

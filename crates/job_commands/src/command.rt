@@ -2,8 +2,8 @@ ghost use Rattle.std.specs.Prelude.{◌≡◌, MatchOption, None, Some};
 ghost use Rattle.job_commands.specs.Words.{asked, asked_of};
 
 use crate::{
-    CheckWords, LiveWords, MakeWords, PlayWords, RunWords, read_check_words, read_live_words,
-    read_make_words, read_play_words, read_run_words,
+    CheckWords, MakeWords, PlayWords, RunWords, read_check_words, read_make_words, read_play_words,
+    read_run_words,
 };
 use plain_text::Text;
 
@@ -11,7 +11,6 @@ use plain_text::Text;
 #[derive(Clone, Copy)]
 pub enum Command<'a> {
     Run(RunWords<'a>),
-    Live(LiveWords<'a>),
     Make(MakeWords<'a>),
     Play(PlayWords<'a>),
     Check(CheckWords<'a>),
@@ -24,9 +23,6 @@ pub fn read_command(words: &[Text]) -> Option<Command<'_>>
 {
     if let Some(names) = read_run_words(words) {
         return Some(Command::Run(names));
-    }
-    if let Some(names) = read_live_words(words) {
-        return Some(Command::Live(names));
     }
     if let Some(names) = read_make_words(words) {
         return Some(Command::Make(names));

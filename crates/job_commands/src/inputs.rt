@@ -7,11 +7,10 @@ ghost use Rattle.job_commands.specs.Run.{script_of};
 ghost use Rattle.job_commands.specs.Status.{AtInputs, ComesAt, EndsReading};
 ghost use Rattle.job_commands.specs.Words.{names_of};
 
-use crate::first_inputs::read_first_inputs;
-use crate::status::script_status;
+use crate::status::{box_status, capture_status, script_status};
 use crate::{RunWords, Status};
 use box_conf::BoxConf;
-use input_files::{Capture, read_script_file};
+use input_files::{Capture, read_box_file, read_capture_file, read_script_file};
 use script_text::Events;
 use std::alloc::Global;
 use world_io::World;
@@ -41,14 +40,18 @@ pub fn read_inputs<W: World>(
     ensures cause { IsErrOf result Status.ReadFault
         → Rose (W.ledger world.old).read_faults (W.ledger world.new).read_faults }
 {
-    let first = match read_first_inputs(alloc, world, names.box_file, names.capture) {
-        Ok(first) => first,
-        Err(status) => return Err(status),
+    let conf = match read_box_file(alloc, world, names.box_file) {
+        Ok(conf) => conf,
+        Err(error) => return Err(box_status(error)),
+    };
+    let capture = match read_capture_file(alloc, world, names.capture) {
+        Ok(capture) => capture,
+        Err(error) => return Err(capture_status(error)),
     };
     match read_script_file(alloc, world, names.script) {
         Ok(events) => Ok(Inputs {
-            conf: first.conf,
-            capture: first.capture,
+            conf,
+            capture,
             events,
         }),
         Err(error) => Err(script_status(error)),

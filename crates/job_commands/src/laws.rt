@@ -1,5 +1,5 @@
 //! Laws of the commands. Each is proved, and does nothing: a caller has it by the call.
-ghost use Rattle.std.specs.Prelude.{◌≡◌, ◌≤◌, ◌↔◌, ℕ, All, Bool, List, IsTrue, Some, Err, length};
+ghost use Rattle.std.specs.Prelude.{◌≡◌, ◌≤◌, ◌↔◌, ℕ, All, Bool, List, IsTrue, Some, length};
 ghost use Rattle.plain_text.specs.Octets.{IsOfBytes};
 ghost use Rattle.plain_text.specs.declared.packet.Packet.{Packet};
 ghost use Rattle.plain_text.specs.declared.limit.TheConstants.{MOST_FILE_BYTES, MOST_PACKETS};
@@ -13,13 +13,12 @@ ghost use Rattle.input_files.specs.declared.capture_file.Capture.{Capture};
 ghost use Rattle.input_files.specs.Judging.{AcceptsCapture};
 ghost use Rattle.job_commands.specs.declared.status.Status.{Status};
 ghost use Rattle.job_commands.specs.Judging.{Judges, IsDecided};
-ghost use Rattle.job_commands.specs.Live.{JudgesLiveInputs, SaysOfFiles};
 ghost use Rattle.job_commands.specs.Schedules.{JudgesCheck, JudgesPlay};
 ghost use Rattle.run_writes.specs.Run.{HasRun};
 ghost use Rattle.job_commands.specs.declared.inputs.Inputs.{Inputs};
 ghost use Rattle.job_commands.specs.Checked.{AreWithinLimits, StillStand, checked};
 ghost use Rattle.job_commands.specs.Run.{AcceptsInputs, outputs_of, setting_for};
-ghost use Rattle.job_commands.specs.Words.{CheckNames, LiveNames, PlayNames, RunNames};
+ghost use Rattle.job_commands.specs.Words.{CheckNames, PlayNames, RunNames};
 
 /// The input files decide the status: of those that they decide at most one is true of them. So each comes exactly
 /// where it is true, unless memory runs out or, in a world that is not healthy, reading or writing fails.
@@ -35,18 +34,6 @@ pub fn one_verdict()
         → IsDecided (IsTrue healthy) s → IsDecided (IsTrue healthy) r
         → JudgesCheck (IsTrue healthy) names s shown
         → JudgesCheck (IsTrue healthy) names r shown → s ≡ r }
-{}
-
-/// A status with which reading the inputs of `live` ends says of the files which is the first that is not accepted, and
-/// why; and of those statuses that they decide at most one is true of them.
-pub fn what_refused_inputs_say()
-    ensures says { (healthy : Bool) (names : LiveNames) (s : Status) (shown : Shown)
-        → JudgesLiveInputs (IsTrue healthy) names (Err s) shown
-        → SaysOfFiles (IsTrue healthy) names s shown }
-    ensures one { (healthy : Bool) (names : LiveNames) (s r : Status) (shown : Shown)
-        → IsDecided (IsTrue healthy) s → IsDecided (IsTrue healthy) r
-        → JudgesLiveInputs (IsTrue healthy) names (Err s) shown
-        → JudgesLiveInputs (IsTrue healthy) names (Err r) shown → s ≡ r }
 {}
 
 /// What `run` leaves is accepted by `check`, with the same box and the same capture: the check of the schedule and the

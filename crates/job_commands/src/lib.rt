@@ -4,11 +4,8 @@
 
 mod checking;
 mod command;
-mod first_inputs;
 mod inputs;
 mod laws;
-mod live_inputs;
-mod live_words;
 mod make_words;
 mod making;
 mod playing;
@@ -22,11 +19,8 @@ pub use checking::check_released;
 pub use command::{Command, read_command};
 pub use inputs::{Inputs, read_inputs};
 pub use laws::{
-    inputs_are_of_bytes, one_verdict, pcapng_captures_are_savefiles, what_refused_inputs_say,
-    what_run_leaves_is_accepted,
+    inputs_are_of_bytes, one_verdict, pcapng_captures_are_savefiles, what_run_leaves_is_accepted,
 };
-pub use live_inputs::{LiveInputs, read_live_inputs};
-pub use live_words::{LiveWords, read_live_words};
 pub use make_words::{MakeWords, read_make_words};
 pub use making::make_capture;
 pub use playing::play_capture;

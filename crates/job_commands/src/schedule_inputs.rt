@@ -6,11 +6,10 @@ ghost use Rattle.job_commands.specs.Schedules.{JudgesScheduleFiles, JudgesCheckF
 ghost use Rattle.job_commands.specs.Status.{AtInputs, ComesAt, EndsReading};
 ghost use Rattle.job_commands.specs.Words.{check_names_of, files_of};
 
-use crate::first_inputs::read_first_inputs;
-use crate::status::{released_status, schedule_status};
+use crate::status::{box_status, capture_status, released_status, schedule_status};
 use crate::{CheckWords, ScheduleFiles, Status};
 use box_conf::BoxConf;
-use input_files::{Capture, read_capture_file, read_schedule_file};
+use input_files::{Capture, read_box_file, read_capture_file, read_schedule_file};
 use plain_machine::Schedule;
 use std::alloc::Global;
 use world_io::World;
@@ -46,14 +45,18 @@ pub fn read_schedule_inputs<W: World>(
     ensures cause { IsErrOf result Status.ReadFault
         → Rose (W.ledger world.old).read_faults (W.ledger world.new).read_faults }
 {
-    let first = match read_first_inputs(alloc, world, files.box_file, files.capture) {
-        Ok(first) => first,
-        Err(status) => return Err(status),
+    let conf = match read_box_file(alloc, world, files.box_file) {
+        Ok(conf) => conf,
+        Err(error) => return Err(box_status(error)),
+    };
+    let capture = match read_capture_file(alloc, world, files.capture) {
+        Ok(capture) => capture,
+        Err(error) => return Err(capture_status(error)),
     };
     match read_schedule_file(alloc, world, files.schedule) {
         Ok(schedule) => Ok(ScheduleInputs {
-            conf: first.conf,
-            capture: first.capture,
+            conf,
+            capture,
             schedule,
         }),
         Err(error) => Err(schedule_status(error)),

@@ -1,7 +1,6 @@
 ghost use Rattle.std.specs.Prelude.{◌≡◌};
 ghost use Rattle.job_commands.specs.Status.{exit_code_of, of_box_error, of_capture_error};
-ghost use Rattle.job_commands.specs.Status.{of_plan_error, of_released_error, of_schedule_error};
-ghost use Rattle.job_commands.specs.Status.{of_script_error};
+ghost use Rattle.job_commands.specs.Status.{of_released_error, of_schedule_error, of_script_error};
 ghost use Rattle.job_commands.specs.Status.{check_outcome as check_outcome_of, outcome_of};
 ghost use Rattle.job_commands.specs.Status.{play_outcome as play_outcome_of};
 ghost use Rattle.job_commands.specs.Status.{run_outcome as run_outcome_of};
@@ -27,8 +26,6 @@ pub enum InputFault {
     NgCapture(NgFault),
     /// The text of the events.
     Script(LineFault),
-    /// The text of the plan.
-    Plan(LineFault),
     /// The text of the schedule.
     Schedule(LineFault),
     /// The schedule that is played is not legal: its first illegal move, and why.
@@ -125,18 +122,6 @@ pub fn script_status(error: InputError<LineFault>) -> Status
         InputError::ReadFault => Status::ReadFault,
         InputError::TooLarge(limit) => Status::TooLarge(limit),
         InputError::Fault(fault) => Status::BadInput(InputFault::Script(fault)),
-        InputError::NoMemory => Status::NoMemory,
-    }
-}
-
-/// What a command comes to whose plan is not accepted.
-pub fn plan_status(error: InputError<LineFault>) -> Status
-    ensures { result ≡ of_plan_error error }
-{
-    match error {
-        InputError::ReadFault => Status::ReadFault,
-        InputError::TooLarge(limit) => Status::TooLarge(limit),
-        InputError::Fault(fault) => Status::BadInput(InputFault::Plan(fault)),
         InputError::NoMemory => Status::NoMemory,
     }
 }

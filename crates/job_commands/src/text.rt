@@ -37,10 +37,6 @@ impl fmt::Display for StatusText {
                 let cause = line_cause(cause);
                 write!(f, "bad input: script: line {line}: {cause}")
             }
-            Status::BadInput(InputFault::Plan(LineFault { line, cause })) => {
-                let cause = line_cause(cause);
-                write!(f, "bad input: plan: line {line}: {cause}")
-            }
             Status::BadInput(InputFault::Schedule(LineFault { line, cause })) => {
                 let cause = line_cause(cause);
                 write!(f, "bad input: schedule: line {line}: {cause}")

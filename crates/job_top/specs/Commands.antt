@@ -9,48 +9,33 @@ use Rattle.schedule_check.specs.declared.checking.Refutation.{Refutation}
 use Rattle.job_commands.specs.declared.schedule_inputs.ScheduleInputs.{ScheduleInputs}
 use Rattle.job_commands.specs.declared.schedule_inputs.CheckInputs.{CheckInputs}
 use Rattle.job_commands.specs.declared.status.Status.{Status}
-use Rattle.job_commands.specs.declared.status.Status.TheVariants.{Refuted, BadInput, TooLarge}
-use Rattle.job_commands.specs.declared.live_inputs.LiveInputs.{LiveInputs}
-use Rattle.job_commands.specs.Live.{AcceptsLiveInputs}
+use Rattle.job_commands.specs.declared.status.Status.TheVariants.{Refuted, BadInput}
 use Rattle.job_commands.specs.declared.status.InputFault.TheVariants.{Moves}
 use Rattle.job_commands.specs.Judging.{AreAccepted, Judges}
 use Rattle.job_commands.specs.Making.{made_writes}
 use Rattle.job_commands.specs.Run.{RunsWhole, RunsToLimit, RunsInOrder, outputs_of}
 use Rattle.job_commands.specs.Schedules.{AcceptsScheduleInputs, AcceptsCheckInputs, JudgesPlay, JudgesCheck, PlaysWhole}
 use Rattle.job_commands.specs.Schedules.{PlaysInOrder, FindsAll, FindsInOrder}
-use Rattle.job_commands.specs.Status.{AtOutputs, ComesAt, Completes, Stage, stage_of, stage_of_limit}
-use Rattle.job_commands.specs.Words.{Asked, Runs, Lives, Makes, Plays, Checks}
-use Rattle.job_top.specs.Live.{JudgesLive, KeepsLiveNames, LivesFiles, LivesLimit, LivesOrder, live_stage}
+use Rattle.job_commands.specs.Status.{AtOutputs, ComesAt, Completes}
+use Rattle.job_commands.specs.Words.{Asked, Runs, Makes, Plays, Checks}
 
--- the outputs have all that the command gives, where the clock may answer these times
-abbrev pub Leaves : (ℕ → Type 0) → Asked → Shown → Shown → Type 0
-Leaves may (Runs names) old new = RunsWhole names old new
-Leaves may (Lives names) old new = LivesFiles may names old new
-Leaves may (Makes names) old new = HasWritten (made_writes names) old new
-Leaves may (Plays names) old new = PlaysWhole names old new
-Leaves may (Checks names) old new = FindsAll names old new
+-- the outputs have all that the command gives
+abbrev pub Leaves : Asked → Shown → Shown → Type 0
+Leaves (Runs names) old new = RunsWhole names old new
+Leaves (Makes names) old new = HasWritten (made_writes names) old new
+Leaves (Plays names) old new = PlaysWhole names old new
+Leaves (Checks names) old new = FindsAll names old new
 
--- What the command leaves that stopped at this limit. Of `run` the limits of runs come once its inputs are accepted;
--- of `live` those of files and events may, too; of no other command one comes then.
+-- the command stopped at this limit once its inputs were accepted, as `run` alone does
 abbrev pub StopsAtLimit : Asked → Limit → Shown → Shown → Type 0
-StopsAtLimit (Runs names) limit old new = stage_of_limit limit ≡ AtOutputs → RunsToLimit names limit old new
-StopsAtLimit (Lives names) limit old new = LivesLimit names limit old new
-StopsAtLimit (Makes names) limit old new = stage_of_limit limit ≡ AtOutputs → ⊥
-StopsAtLimit (Plays names) limit old new = stage_of_limit limit ≡ AtOutputs → ⊥
-StopsAtLimit (Checks names) limit old new = stage_of_limit limit ≡ AtOutputs → ⊥
-
--- the stage at which a status of the command comes; a limit of `live` may be passed at any time
-abbrev pub stage_in : Asked → Status → Stage
-stage_in (Runs names) status = stage_of status
-stage_in (Lives names) status = live_stage status
-stage_in (Makes names) status = stage_of status
-stage_in (Plays names) status = stage_of status
-stage_in (Checks names) status = stage_of status
+StopsAtLimit (Runs names) limit old new = RunsToLimit names limit old new
+StopsAtLimit (Makes names) limit old new = ⊥
+StopsAtLimit (Plays names) limit old new = ⊥
+StopsAtLimit (Checks names) limit old new = ⊥
 
 -- some first part of what the command gives was written, in its order
 abbrev pub LeavesInOrder : Asked → Shown → Shown → Type 0
 LeavesInOrder (Runs names) old new = RunsInOrder names old new
-LeavesInOrder (Lives names) old new = LivesOrder names old new
 LeavesInOrder (Makes names) old new = HasBegun (made_writes names) old new
 LeavesInOrder (Plays names) old new = PlaysInOrder names old new
 LeavesInOrder (Checks names) old new = FindsInOrder names old new
@@ -59,24 +44,21 @@ LeavesInOrder (Checks names) old new = FindsInOrder names old new
 -- has no inputs
 abbrev pub JudgesInputsOf : Type 0 → Asked → Status → Shown → Type 0
 JudgesInputsOf healthy (Runs names) status shown = Judges healthy names status shown
-JudgesInputsOf healthy (Lives names) status shown = JudgesLive healthy names status shown
 JudgesInputsOf healthy (Makes names) status shown = ComesAt AtOutputs status
 JudgesInputsOf healthy (Plays names) status shown = JudgesPlay healthy names status shown
 JudgesInputsOf healthy (Checks names) status shown = JudgesCheck healthy names status shown
 
--- the inputs of the command are there, are accepted and pass no limit, and nor does the run of a script
+-- the inputs of the command are there, are accepted and pass no limit, and nor does its run
 abbrev pub AcceptsInputsOf : Asked → Shown → Type 0
 AcceptsInputsOf (Runs names) shown = AreAccepted names shown
-AcceptsInputsOf (Lives names) shown = (inputs : LiveInputs) × AcceptsLiveInputs names inputs shown
 AcceptsInputsOf (Makes names) shown = Unit {0}
 AcceptsInputsOf (Plays names) shown = (inputs : ScheduleInputs) × AcceptsScheduleInputs names.files inputs shown
 AcceptsInputsOf (Checks names) shown = (inputs : CheckInputs) × AcceptsCheckInputs names inputs shown
 
--- What a command comes to whose inputs are accepted: it is done, or memory ran out; or `live` names a limit, which a
--- script of its plan passes; or `play` the first illegal move of the schedule, or `check` what it refutes.
+-- What a command comes to whose inputs are accepted: it is done, or memory ran out; or `play` names the first illegal
+-- move of the schedule, or `check` what it refutes.
 abbrev pub CompletesAs : Asked → Status → Type 0
 CompletesAs (Runs names) status = Completes status
-CompletesAs (Lives names) status = Completes status ⊎ ((limit : Limit) × (status ≡ TooLarge limit))
 CompletesAs (Makes names) status = Completes status
 CompletesAs (Plays names) status = Completes status ⊎ ((fault : PlayFault) × (status ≡ BadInput (Moves fault)))
 CompletesAs (Checks names) status = Completes status ⊎ ((refutation : Refutation) × (status ≡ Refuted refutation))
@@ -84,7 +66,6 @@ CompletesAs (Checks names) status = Completes status ⊎ ((refutation : Refutati
 -- names that are no output of the command are as they were
 abbrev pub KeepsNames : Asked → Shown → Shown → Type 0
 KeepsNames (Runs names) old new = KeepsOthers (outputs_of names) old new
-KeepsNames (Lives names) old new = KeepsLiveNames names old new
 KeepsNames (Makes names) old new = (name : List ℕ) → ¬ (name ≡ names.capture) → new.names name ≡ old.names name
 KeepsNames (Plays names) old new = (name : List ℕ) → ¬ (name ≡ names.out) → new.names name ≡ old.names name
 KeepsNames (Checks names) old new = (name : List ℕ) → new.names name ≡ old.names name

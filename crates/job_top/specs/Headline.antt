@@ -1,72 +1,41 @@
 -- What a run that is done promises, of the files that it leaves.
-use Rattle.std.specs.Prelude.{◌≡◌, ℕ, List, ◌++◌, Some, Ok}
+use Rattle.std.specs.Prelude.{◌≡◌, ℕ, List, Some, Ok}
 use Rattle.pcap_io.specs.Capture.{written}
-use Rattle.entry_order.specs.Log.{Entry}
-use Rattle.entry_order.specs.Closed.{IsFirstMissing}
 use Rattle.plain_machine.specs.declared.plain_move.PlainMove.{PlainMove}
-use Rattle.plain_machine.specs.History.{Step, log_of, play}
+use Rattle.plain_machine.specs.History.{Step, play}
 use Rattle.plain_player.specs.ScheduleText.{schedule_text}
 use Rattle.box_conf.specs.Kinds.{meaning_of}
 use Rattle.world_io.specs.World.{Shown}
-use Rattle.recovery_world.specs.declared.event.Event.{Event}
-use Rattle.recovery_world.specs.World.{Setting, Sent, World as SystemWorld, opening, all_inputs}
-use Rattle.recovery_world.specs.Events.{IsAmong}
+use Rattle.recovery_world.specs.World.{World as SystemWorld, opening, all_inputs}
 use Rattle.recovery_world.specs.Files.{Performs, packets_of}
 use Rattle.recovery_laws.specs.Ends.{Ends}
-use Rattle.run_writes.specs.Run.{OutputNames}
-use Rattle.script_text.specs.Scripts.{script_text}
-use Rattle.plan_script.specs.Orders.{no_orders}
-use Rattle.plan_script.specs.Scripts.{IsScript}
 use Rattle.job_commands.specs.declared.inputs.Inputs.{Inputs}
-use Rattle.job_commands.specs.declared.live_inputs.LiveInputs.{LiveInputs}
-use Rattle.job_commands.specs.Live.{AcceptsLiveInputs}
-use Rattle.job_commands.specs.Run.{AcceptsInputs, outputs_of, setting_for}
-use Rattle.job_commands.specs.Words.{RunNames, LiveNames, Asked, Runs, Lives, Makes, Plays, Checks}
-use Rattle.job_top.specs.Live.{live_outputs, live_setting}
+use Rattle.job_commands.specs.Run.{AcceptsInputs, setting_for}
+use Rattle.job_commands.specs.Words.{RunNames, Asked, Runs, Makes, Plays, Checks}
 
 -- The written schedule, played by the plain machine on the captured packets, is a legal crash-free run. It performs
 -- every log entry that is held with all its predecessors, in its recorded place and with its recorded value; it sends
 -- out every packet that was released, and each was released once; and an output that arrived waits only while a named
--- log entry is missing, after each of the events.
-pub record KeepsPromise {V : Type 0} (s : Setting V) (names : OutputNames) (events : List Event)
-    (new : Shown) : Type 0 where
-  -- the world to which the events lead
-  pub world : SystemWorld V
+-- log entry is missing.
+pub record KeepsPromise (names : RunNames) (old new : Shown) : Type 0 where
+  pub inputs : Inputs
+  pub accepted : AcceptsInputs names inputs old
+  -- the world to which the script leads
+  pub world : SystemWorld (meaning_of inputs.conf.kind).value
   pub lines : List ℕ
-  pub performs : Performs s (opening V) events lines world
+  pub performs : Performs (setting_for inputs) (opening (meaning_of inputs.conf.kind).value) inputs.events lines world
   -- the written files
   pub schedule : List PlainMove
   pub schedule_written : new.names names.schedule ≡ Some (schedule_text schedule)
-  pub released_written : new.names names.released ≡ Some (written s.fractions (packets_of world.released))
+  pub released_written : new.names names.released ≡ Some (written inputs.capture.unit (packets_of world.released))
   -- the run that the schedule is
-  pub steps : List (Step V)
-  pub plays : play s.meaning (all_inputs s) s.threads schedule ≡ Ok steps
-  pub ends : Ends s world steps
-  -- what waits after each first part of the events
-  pub waits_always : (first rest : List Event) → events ≡ first ++ rest → (early : List ℕ) (w : SystemWorld V)
-      → Performs s (opening V) first early w → (o : Sent) → IsAmong o w.waiting
-      → (e : Entry) × IsFirstMissing (log_of w.past) (log_of w.stored) w.held o.emission.thread o.after e
-
--- the promise of `run`, for the events of its script
-pub record KeepsRunPromise (names : RunNames) (old new : Shown) : Type 0 where
-  pub inputs : Inputs
-  pub accepted : AcceptsInputs names inputs old
-  pub keeps : KeepsPromise (setting_for inputs) (outputs_of names) inputs.events new
-
--- The promise of `live`, for the events of the script that it wrote, which is a script of its plan.
-pub record KeepsLivePromise (names : LiveNames) (old new : Shown) : Type 0 where
-  pub inputs : LiveInputs
-  pub accepted : AcceptsLiveInputs names inputs old
-  pub events : List Event
-  pub there : SystemWorld (meaning_of inputs.conf.kind).value
-  pub of_plan : IsScript (live_setting inputs) (opening (meaning_of inputs.conf.kind).value) no_orders inputs.plan events
-      there
-  pub script_written : new.names names.script ≡ Some (script_text events)
-  pub keeps : KeepsPromise (live_setting inputs) (live_outputs names).outputs events new
+  pub steps : List (Step (meaning_of inputs.conf.kind).value)
+  pub plays : play (meaning_of inputs.conf.kind).meaning (all_inputs (setting_for inputs)) inputs.conf.threads schedule
+      ≡ Ok steps
+  pub ends : Ends (setting_for inputs) world steps
 
 abbrev pub KeepsPromiseOf : Asked → Shown → Shown → Type 0
-KeepsPromiseOf (Runs names) old new = KeepsRunPromise names old new
-KeepsPromiseOf (Lives names) old new = KeepsLivePromise names old new
+KeepsPromiseOf (Runs names) old new = KeepsPromise names old new
 KeepsPromiseOf (Makes names) old new = Unit {0}
 KeepsPromiseOf (Plays names) old new = Unit {0}
 KeepsPromiseOf (Checks names) old new = Unit {0}

@@ -1,8 +1,7 @@
-//! The top call: the commands of FTMB over any world.
+//! The top call: the commands of FTMB, over any world.
 #![tactic(auto)]
 
-mod live;
 mod top;
 
 pub use job_commands::{InputFault, Status};
-pub use top::{ftmb, serial};
+pub use top::ftmb;

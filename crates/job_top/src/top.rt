@@ -5,29 +5,25 @@ ghost use Rattle.world_io.specs.Stream.{Rose};
 ghost use Rattle.output_files.specs.Written.{WritesFiles};
 ghost use Rattle.run_writes.specs.Run.{CanRun, HasBegunRun, HasRun, HasStopped, KeepsShown};
 ghost use Rattle.job_top.specs.Commands.{AcceptsInputsOf, CompletesAs, Leaves, LeavesInOrder};
-ghost use Rattle.job_top.specs.Commands.{JudgesInputsOf, KeepsNames, StopsAtLimit, stage_in};
-ghost use Rattle.job_top.specs.Headline.{KeepsPromiseOf, KeepsRunPromise};
+ghost use Rattle.job_top.specs.Commands.{JudgesInputsOf, KeepsNames, StopsAtLimit};
+ghost use Rattle.job_top.specs.Headline.{KeepsPromise, KeepsPromiseOf};
 ghost use Rattle.job_commands.specs.Judging.{Judges};
 ghost use Rattle.job_commands.specs.Run.{RunsInOrder, RunsToLimit, RunsWhole, outputs_of};
 ghost use Rattle.job_commands.specs.Run.{script_of, setting_for};
 ghost use Rattle.job_commands.specs.Status.{AtInputs, AtOutputs, stage_of, stage_of_limit};
-ghost use Rattle.job_commands.specs.Words.{asked, IfAsks, live_names, names_of};
+ghost use Rattle.job_commands.specs.Words.{asked, IfAsks, names_of};
 ghost use Rattle.world_io.specs.World.{WritingFailed};
 
-use crate::live::live;
 use box_conf::BoxKind;
 use job_commands::{
     Command, Inputs, RunWords, Status, check_released, make_capture, outcome, play_capture,
-    read_command, read_inputs, read_live_words, run_outcome,
+    read_command, read_inputs, run_outcome,
 };
 use plain_text::Text;
 use run_command::run_script;
 use run_writes::{RunError, RunFiles, ScriptRun};
 use std::alloc::Global;
-use std::sync::Wait;
-use std::thread::Threads;
-use var_locks::Gate;
-use world_io::{Clock, World};
+use world_io::World;
 
 /// Runs the box on the inputs, by the events of the script, and writes the outputs.
 fn run_box<W: World>(
@@ -76,7 +72,7 @@ fn run<W: World>(alloc: Global, world: &mut W, names: RunWords<'_>) -> Status
     ensures done { IsTrue W.tells → result ≡ Status.Done
         → RunsWhole (names_of names.entry) (W.shown world.old) (W.shown world.new) }
     ensures headline { IsTrue W.tells → result ≡ Status.Done
-        → KeepsRunPromise (names_of names.entry) (W.shown world.old) (W.shown world.new) }
+        → KeepsPromise (names_of names.entry) (W.shown world.old) (W.shown world.new) }
     ensures limit { IsTrue W.tells → (limit : LimitKind) → result ≡ Status.TooLarge limit
         → stage_of_limit limit ≡ AtOutputs
         → RunsToLimit (names_of names.entry) limit (W.shown world.old) (W.shown world.new) }
@@ -99,20 +95,43 @@ fn run<W: World>(alloc: Global, world: &mut W, names: RunWords<'_>) -> Status
     }
 }
 
-/// The commands that wait for nobody: all but `live`. It does what `ftmb` does for their words.
+/// The top call: does what the words ask of the world, and answers what it came to.
 ///
-/// It takes no runtime that may wait, so it is proved to return.
-pub fn serial<W: World>(alloc: Global, words: &[Text], world: &mut W) -> Status
+/// `run BOX CAPTURE SCRIPT RELEASED SCHEDULE`, five names of files of which the two outputs differ: the box is run on
+/// the packets of the capture by the events of the script. RELEASED is the capture of the packets that were released,
+/// SCHEDULE the moves of the run in which it ends, and the report has a line for each event and a last one. An output
+/// is created only when all input files are accepted; the first that is refused, in the order of the words, decides the
+/// status.
+/// After each event the records of what it released are written, and then its line, so the report never tells of a
+/// packet that RELEASED lacks; SCHEDULE comes at the end, before the last line. Where the run would pass a limit it
+/// stops, and what was released before stays.
+///
+/// `make SEED N CAPTURE`, two numbers of which N is at most 65,536, and the name of a file: N packets are made from the
+/// seed and written to CAPTURE, and then the report says how many.
+///
+/// `play BOX CAPTURE SCHEDULE OUT`, four names: the schedule is played by the box without logs and crashes, on the
+/// whole capture. OUT is the capture of what it sends out, in its order, and the report says how many packets that are.
+/// Where the schedule is not legal, its first illegal move is told as bad input, and nothing is created.
+///
+/// `check BOX CAPTURE SCHEDULE RELEASED`, four names of inputs: is the schedule legal, and has each packet of the
+/// capture RELEASED an emission of its own in it? Then the report says how many packets were found. Else it is refuted:
+/// by the first illegal move, or else by the first such packet.
+///
+/// In a healthy world that tells its bytes, a command whose words are right, whose inputs are there and are accepted,
+/// and that passes no limit, is done, unless memory runs out or the schedule or the released packets are refused. There
+/// a read fault says that the first input that is not accepted is not there.
+///
+/// A world that has given fewer than 2^31 numbers has room for the files of any command, which are five at most.
+pub fn ftmb<W: World>(alloc: Global, words: &[Text], world: &mut W) -> Status
     requires room { (W.ledger world.old).given < 2 ^ 31 }
-    requires no_rounds { live_names words.now ≡ None }
 
     // What is asked: words that ask for no command change nothing.
     ensures bad_words { result ≡ Status.BadWords ↔ asked words.now ≡ None }
     ensures nothing_asked { result ≡ Status.BadWords → world.new ≡ world.old }
 
     // What Done leaves: the outputs, whole.
-    ensures done { IsTrue W.tells → result ≡ Status.Done → IfAsks words.now
-        (λ command. Leaves (λ t. ⊥) command (W.shown world.old) (W.shown world.new)) }
+    ensures done { IsTrue W.tells → result ≡ Status.Done
+        → IfAsks words.now (λ command. Leaves command (W.shown world.old) (W.shown world.new)) }
 
     // The promise: what was released is part of one legal run without crashes.
     ensures headline { IsTrue W.tells → result ≡ Status.Done → IfAsks words.now
@@ -121,12 +140,12 @@ pub fn serial<W: World>(alloc: Global, words: &[Text], world: &mut W) -> Status
     // What any other answer leaves: the outputs up to a limit, a first part of them in their
     // order, or nothing where an input is refused. No other file changes.
     ensures limit { IsTrue W.tells → (limit : LimitKind) → result ≡ Status.TooLarge limit
-        → IfAsks words.now
+        → stage_of_limit limit ≡ AtOutputs → IfAsks words.now
         (λ command. StopsAtLimit command limit (W.shown world.old) (W.shown world.new)) }
     ensures in_order { IsTrue W.tells → IfAsks words.now
         (λ command. LeavesInOrder command (W.shown world.old) (W.shown world.new)) }
-    ensures refused { IsTrue W.tells → IfAsks words.now (λ command.
-        stage_in command result ≡ AtInputs → KeepsShown (W.shown world.old) (W.shown world.new)) }
+    ensures refused { IsTrue W.tells → stage_of result ≡ AtInputs
+        → KeepsShown (W.shown world.old) (W.shown world.new) }
     ensures others { IsTrue W.tells → IfAsks words.now
         (λ command. KeepsNames command (W.shown world.old) (W.shown world.new)) }
 
@@ -149,98 +168,6 @@ pub fn serial<W: World>(alloc: Global, words: &[Text], world: &mut W) -> Status
         Some(Command::Make(words)) => outcome(make_capture(alloc, world, words)),
         Some(Command::Play(names)) => play_capture(alloc, world, names),
         Some(Command::Check(names)) => check_released(alloc, world, names),
-        Some(Command::Live(_)) => unreachable!(),
         None => Status::BadWords,
-    }
-}
-
-/// The top call: does what the words ask of the world, and answers what it came to.
-///
-/// `run BOX CAPTURE SCRIPT RELEASED SCHEDULE`, five names of files of which the two outputs differ: the box is run on
-/// the packets of the capture by the events of the script. RELEASED is the capture of the packets that were released,
-/// SCHEDULE the moves of the run in which it ends, and the report has a line for each event and a last one. An output
-/// is created only when all input files are accepted; the first that is refused, in the order of the words, decides the
-/// status.
-/// After each event the records of what it released are written, and then its line, so the report never tells of a
-/// packet that RELEASED lacks; SCHEDULE comes at the end, before the last line. Where the run would pass a limit it
-/// stops, and what was released before stays.
-///
-/// `live BOX CAPTURE PLAN RELEASED SCHEDULE SCRIPT`, six names of files of which the three outputs differ: the box is
-/// run on the packets of the capture as the plan says, each of its threads by a worker of its own, on as many threads of
-/// the machine as it gives. SCRIPT is the text of the events that happened, and the other outputs and the report are
-/// those that `run` leaves for this script. Each line of SCRIPT is written before what its event leaves. Where the run or
-/// the script would pass a limit the run stops.
-///
-/// `make SEED N CAPTURE`, two numbers of which N is at most 65,536, and the name of a file: N packets are made from the
-/// seed and written to CAPTURE, and then the report says how many.
-///
-/// `play BOX CAPTURE SCHEDULE OUT`, four names: the schedule is played by the box without logs and crashes, on the
-/// whole capture. OUT is the capture of what it sends out, in its order, and the report says how many packets that are.
-/// Where the schedule is not legal, its first illegal move is told as bad input, and nothing is created.
-///
-/// `check BOX CAPTURE SCHEDULE RELEASED`, four names of inputs: is the schedule legal, and has each packet of the
-/// capture RELEASED an emission of its own in it? Then the report says how many packets were found. Else it is refuted:
-/// by the first illegal move, or else by the first such packet.
-///
-/// In a healthy world that tells its bytes, a command whose words are right, whose inputs are there and are accepted,
-/// and that passes no limit, is done, unless memory runs out or the schedule or the released packets are refused. There
-/// a read fault says that the first input that is not accepted is not there.
-///
-/// A world that has given fewer than 2^31 numbers has room for the files of any command, which are six at most.
-pub fn ftmb<
-    W: World,
-    C: Clock + Sync,
-    G: Gate + Sync,
-    R: AllocGlobal + Threads + Wait + Sync,
->(
-    rt: &R,
-    words: &[Text],
-    world: &mut W,
-    clock: &C,
-    gate: &G,
-) -> Status
-    requires room { (W.ledger world.old).given < 2 ^ 31 }
-
-    // What is asked: words that ask for no command change nothing.
-    ensures bad_words { result ≡ Status.BadWords ↔ asked words.now ≡ None }
-    ensures nothing_asked { result ≡ Status.BadWords → world.new ≡ world.old }
-
-    // What Done leaves: the outputs, whole.
-    ensures done { IsTrue W.tells → result ≡ Status.Done → IfAsks words.now
-        (λ command. Leaves (C.may clock.now) command (W.shown world.old) (W.shown world.new)) }
-
-    // The promise: what was released is part of one legal run without crashes.
-    ensures headline { IsTrue W.tells → result ≡ Status.Done → IfAsks words.now
-        (λ command. KeepsPromiseOf command (W.shown world.old) (W.shown world.new)) }
-
-    // What any other answer leaves: the outputs up to a limit, a first part of them in their
-    // order, or nothing where an input is refused. No other file changes.
-    ensures limit { IsTrue W.tells → (limit : LimitKind) → result ≡ Status.TooLarge limit
-        → IfAsks words.now
-        (λ command. StopsAtLimit command limit (W.shown world.old) (W.shown world.new)) }
-    ensures in_order { IsTrue W.tells → IfAsks words.now
-        (λ command. LeavesInOrder command (W.shown world.old) (W.shown world.new)) }
-    ensures refused { IsTrue W.tells → IfAsks words.now (λ command.
-        stage_in command result ≡ AtInputs → KeepsShown (W.shown world.old) (W.shown world.new)) }
-    ensures others { IsTrue W.tells → IfAsks words.now
-        (λ command. KeepsNames command (W.shown world.old) (W.shown world.new)) }
-
-    // The cause of each answer, and when the command is done.
-    ensures judged { IsTrue W.tells → IfAsks words.now
-        (λ command. JudgesInputsOf (W.healthy world.old) command result (W.shown world.old)) }
-    ensures completes { W.healthy world.old → IsTrue W.tells → IfAsks words.now
-        (λ command. AcceptsInputsOf command (W.shown world.old) → CompletesAs command result) }
-    ensures never_fails { W.healthy world.old → ¬ (result ≡ Status.WriteFault) }
-
-    // The world's ledger: which faults rose, and how many files it gave a number.
-    ensures read_fault { result ≡ Status.ReadFault
-        → Rose (W.ledger world.old).read_faults (W.ledger world.new).read_faults }
-    ensures write_fault { result ≡ Status.WriteFault
-        → Rose (W.ledger world.old).write_faults (W.ledger world.new).write_faults }
-    ensures given { (W.ledger world.new).given ≤ (W.ledger world.old).given + 6 }
-{
-    match read_live_words(words) {
-        Some(names) => live(rt, world, names, clock, gate),
-        None => serial(rt.alloc(), words, world),
     }
 }

@@ -1,8 +1,7 @@
 //! Commands on files of a world in memory, and what they come to.
 ghost use Rattle.std.specs.Prelude.{◌≡◌, ◌+◌, ◌≤◌, length};
 
-use job_commands::read_live_words;
-use job_top::{Status, serial};
+use job_top::{Status, ftmb};
 use plain_text::{Bytes, NoMemory, Sequence, Text};
 use std::alloc::Global;
 use world_io::MemoryWorld;
@@ -89,17 +88,13 @@ fn texts_of(alloc: Global, words: &[&str]) -> Result<Sequence<Text>, NoMemory> {
     Ok(texts)
 }
 
-/// What words come to of a command that waits for nobody.
+/// What words come to.
 fn give_words(alloc: Global, world: &mut MemoryWorld, words: &[&str]) -> Result<Status, NoMemory>
     requires { length world.old.files ≤ 1000 }
     ensures { length world.new.files ≤ length world.old.files + 5 }
 {
     let texts = texts_of(alloc, words)?;
-    let texts = texts.as_slice();
-    if read_live_words(texts).is_some() {
-        return Ok(Status::BadWords);
-    }
-    Ok(serial(alloc, texts, world))
+    Ok(ftmb(alloc, texts.as_slice(), world))
 }
 
 /// What the last of these commands comes to, or the first one that is not done. There are ten at most.

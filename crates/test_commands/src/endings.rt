@@ -4,22 +4,19 @@ use job_top::Status;
 use plain_text::{Limit, NoMemory};
 use std::alloc::Global;
 use std::io;
-use std::sync::Wait;
-use std::thread::Threads;
 use std::test::Fail;
-use var_locks::OpenGate;
-use world_io::{FixedClock, MemoryWorld};
+use world_io::MemoryWorld;
 
 /// What the program comes to where std gives no arguments, since one of them is not UTF-8.
-fn answer_to_none<R: AllocGlobal + Threads + Wait + Sync>(rt: &R) -> Result<Status, NoMemory> {
-    let mut world = MemoryWorld::new(rt.alloc())?;
+fn answer_to_none(alloc: Global) -> Result<Status, NoMemory> {
+    let mut world = MemoryWorld::new(alloc)?;
     let none = io::Error::from(io::ErrorKind::InvalidData);
-    Ok(answer(rt, Err(none), &mut world, &FixedClock(0), &OpenGate))
+    Ok(answer(alloc, Err(none), &mut world))
 }
 
 #[test]
 fn a_word_that_is_not_text_is_a_bad_word(rt: HostRuntime) -> Result<(), Fail> {
-    assert!(rt; answer_to_none(&rt)? == Status::BadWords);
+    assert!(rt; answer_to_none(rt.alloc())? == Status::BadWords);
     Ok(())
 }
 

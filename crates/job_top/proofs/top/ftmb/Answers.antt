@@ -6,7 +6,7 @@ use Rattle.job_commands.proofs.OneVerdict.{run_completes}
 use Rattle.job_commands.proofs.Plays.{play_completes}
 use Rattle.job_commands.proofs.Finds.{check_completes}
 use Rattle.job_commands.proofs.Others.{run_others, made_others, play_others, check_others}
-use Rattle.job_top.proofs.top.serial.Goals as goal
+use Rattle.job_top.proofs.top.ftmb.Goals as goal
 
 pub returns-in-Some-Run-clause-done : goal.returns-in-Some-Run-clause-done
 returns-in-Some-Run-clause-done g c told done =
@@ -23,26 +23,13 @@ returns-in-Some-Make-clause-completes g c ok told =
     rw (c.in-Some-Make.ensures, c.in-Some-Make.field-0-is) (λ _. rw c.outcome.ensures
     (made_completes c.make_capture.result (λ fault. (c.make_capture.ensures.cause fault).not_healthy ok)))
 
-pub returns-in-Some-Run-clause-refused : goal.returns-in-Some-Run-clause-refused
-returns-in-Some-Run-clause-refused g c told =
-    rw (c.in-Some-Run.ensures, c.in-Some-Run.field-0-is) (λ e. c.run.ensures.refused told e)
-
 pub returns-in-Some-Make-clause-refused : goal.returns-in-Some-Make-clause-refused
-returns-in-Some-Make-clause-refused g c told =
-    rw (c.in-Some-Make.ensures, c.in-Some-Make.field-0-is)
-    (λ e. absurd (made_not_at_inputs c.make_capture.result (ap stage_of (sym c.outcome.ensures) ∙ e)))
-
-pub returns-in-Some-Play-clause-refused : goal.returns-in-Some-Play-clause-refused
-returns-in-Some-Play-clause-refused g c told =
-    rw (c.in-Some-Play.ensures, c.in-Some-Play.field-0-is) (λ e. c.play_capture.ensures.refused told e)
-
-pub returns-in-Some-Check-clause-refused : goal.returns-in-Some-Check-clause-refused
-returns-in-Some-Check-clause-refused g c told =
-    rw (c.in-Some-Check.ensures, c.in-Some-Check.field-0-is) (λ e. c.check_released.ensures.refused told e)
+returns-in-Some-Make-clause-refused g c told e =
+    absurd (made_not_at_inputs c.make_capture.result (ap stage_of (sym c.outcome.ensures) ∙ e))
 
 pub returns-in-Some-Run-clause-limit : goal.returns-in-Some-Run-clause-limit
-returns-in-Some-Run-clause-limit g c told limit e =
-    rw (c.in-Some-Run.ensures, c.in-Some-Run.field-0-is) (λ stage. c.run.ensures.limit told limit e stage)
+returns-in-Some-Run-clause-limit g c told limit e stage =
+    rw (c.in-Some-Run.ensures, c.in-Some-Run.field-0-is) (c.run.ensures.limit told limit e stage)
 
 pub returns-in-Some-Run-clause-others : goal.returns-in-Some-Run-clause-others
 returns-in-Some-Run-clause-others g c told =
@@ -66,9 +53,7 @@ returns-in-Some-Play-clause-completes g c ok told =
     (g.W.World.shown c.args.world.now) ok accepted c.play_capture.result (c.play_capture.ensures.judged told))
 
 pub returns-in-Some-Play-clause-limit : goal.returns-in-Some-Play-clause-limit
-returns-in-Some-Play-clause-limit g c told limit e =
-    rw (c.in-Some-Play.ensures, c.in-Some-Play.field-0-is)
-    (λ stage. c.play_capture.ensures.no_limit told limit e stage)
+returns-in-Some-Play-clause-limit g c told limit e stage = absurd (c.play_capture.ensures.no_limit told limit e stage)
 
 pub returns-in-Some-Play-clause-others : goal.returns-in-Some-Play-clause-others
 returns-in-Some-Play-clause-others g c told =
@@ -87,9 +72,8 @@ returns-in-Some-Check-clause-completes g c ok told =
     (g.W.World.shown c.args.world.now) ok accepted c.check_released.result (c.check_released.ensures.judged told))
 
 pub returns-in-Some-Check-clause-limit : goal.returns-in-Some-Check-clause-limit
-returns-in-Some-Check-clause-limit g c told limit e =
-    rw (c.in-Some-Check.ensures, c.in-Some-Check.field-0-is)
-    (λ stage. c.check_released.ensures.no_limit told limit e stage)
+returns-in-Some-Check-clause-limit g c told limit e stage =
+    absurd (c.check_released.ensures.no_limit told limit e stage)
 
 pub returns-in-Some-Check-clause-others : goal.returns-in-Some-Check-clause-others
 returns-in-Some-Check-clause-others g c told =

@@ -1,1 +1,0 @@
--- Not written yet.

@@ -1,4 +1,0 @@
-pub mod Telling
-pub mod Going
-pub mod Plans
-pub mod Writing
