@@ -39,12 +39,7 @@ fn print<W: World>(world: &mut W, text: &str) -> Status
 
 /// Does what the words ask for: prints the help or the version where the one and only word is
 /// `--help` or `--version`, and else runs the command that they name.
-pub fn perform<
-    W: World,
-    C: Clock + Sync,
-    G: Gate + Sync,
-    R: AllocGlobal + Threads + Wait + Sync,
->(
+pub fn perform<W: World, C: Clock + Sync, G: Gate + Sync, R: AllocGlobal + Threads + Wait + Sync>(
     rt: &R,
     words: &[Text],
     world: &mut W,
@@ -77,12 +72,7 @@ pub fn perform<
 ///
 /// Where there are no arguments, since one of them is not UTF-8, or no memory to copy them, the
 /// world stays as it is.
-pub fn answer<
-    W: World,
-    C: Clock + Sync,
-    G: Gate + Sync,
-    R: AllocGlobal + Threads + Wait + Sync,
->(
+pub fn answer<W: World, C: Clock + Sync, G: Gate + Sync, R: AllocGlobal + Threads + Wait + Sync>(
     rt: &R,
     arguments: io::Result<Args>,
     world: &mut W,

@@ -16,10 +16,18 @@ use world_real::{RealClock, RealWorld};
 /// The program: performs what its arguments ask for over the files of the system, by its clock and
 /// on its threads, tells what was not done, and ends with the number of the status.
 pub fn run_program<
-    R: Env + AllocGlobal + Files + Print + Eprint + Threads + Wait + Sync + rt::Clock + Clone + Drop,
->(
-    rt: &R,
-) -> ExitCode
+    R: Env
+        + AllocGlobal
+        + Files
+        + Print
+        + Eprint
+        + Threads
+        + Wait
+        + Sync
+        + rt::Clock
+        + Clone
+        + Drop,
+>(rt: &R) -> ExitCode
     ensures number { (status : Status) × (exit_status result ≡ exit_code_of status) }
 {
     let Ok(own) = rt.clone() else {

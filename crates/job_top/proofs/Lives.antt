@@ -158,8 +158,12 @@ module _ (healthy : Type 0) (may : ℕ → Type 0) (names : LiveNames) (inputs :
   live_limit (Ok done) l e limit = absurd (cc)
   live_limit (Err (run_error.Limit k)) l e limit =
       let same : k ≡ l = cc in
-      inr (inputs, accepted, subst (λ (m : Limit).
-      LivesToLimit (live_setting inputs) inputs.plan (live_outputs names) m a c) same (limit k refl))
+      inr (
+        inputs,
+        accepted,
+        subst (λ (m : Limit).
+            LivesToLimit (live_setting inputs) inputs.plan (live_outputs names) m a c) same (limit k refl),
+      )
   live_limit (Err run_error.WriteFault) l e limit = absurd (cc)
   live_limit (Err run_error.NoMemory) l e limit = absurd (cc)
 

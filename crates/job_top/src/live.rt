@@ -24,12 +24,7 @@ use var_locks::Gate;
 use world_io::{Clock, World};
 
 /// Runs the box on the inputs, by the lines of the plan, and writes the outputs.
-fn live_box<
-    W: World,
-    C: Clock + Sync,
-    G: Gate + Sync,
-    R: AllocGlobal + Threads + Wait + Sync,
->(
+fn live_box<W: World, C: Clock + Sync, G: Gate + Sync, R: AllocGlobal + Threads + Wait + Sync>(
     rt: &R,
     world: &mut W,
     names: LiveWords<'_>,
@@ -78,13 +73,7 @@ pub(crate) fn live<
     C: Clock + Sync,
     G: Gate + Sync,
     R: AllocGlobal + Threads + Wait + Sync,
->(
-    rt: &R,
-    world: &mut W,
-    names: LiveWords<'_>,
-    clock: &C,
-    gate: &G,
-) -> Status
+>(rt: &R, world: &mut W, names: LiveWords<'_>, clock: &C, gate: &G) -> Status
     requires room { (W.ledger world.old).given < 2 ^ 31 }
     requires apart { AreApart (live_outputs (live_names_of names.now)) }
     ensures done { IsTrue W.tells → result ≡ Status.Done → LivesFiles (C.may clock.now)

@@ -188,12 +188,7 @@ pub fn serial<W: World>(alloc: Global, words: &[Text], world: &mut W) -> Status
 /// a read fault says that the first input that is not accepted is not there.
 ///
 /// A world that has given fewer than 2^31 numbers has room for the files of any command, which are six at most.
-pub fn ftmb<
-    W: World,
-    C: Clock + Sync,
-    G: Gate + Sync,
-    R: AllocGlobal + Threads + Wait + Sync,
->(
+pub fn ftmb<W: World, C: Clock + Sync, G: Gate + Sync, R: AllocGlobal + Threads + Wait + Sync>(
     rt: &R,
     words: &[Text],
     world: &mut W,

@@ -34,14 +34,6 @@ use Rattle.live_command.proofs.ScriptsTold.{live_more, live_script}
 
 -- Orders
 
-same_then : (a b c : Orders) → SameOrders a b → ((t : ℕ) → t < 16 → b.moves t ≡ c.moves t)
-    → ((t : ℕ) → t < 16 → b.frames t ≡ c.frames t) → b.lost ≡ c.lost → SameOrders a c
-same_then a b c same moves frames lost = record {
-  moves = λ t few. same.moves t few ∙ moves t few;
-  frames = λ t few. same.frames t few ∙ frames t few;
-  lost = same.lost ∙ lost;
-}
-
 -- the same orders, each with one more for the moves of a thread
 pub same_limit : (a b c : Orders) (t n : ℕ) → SameOrders a b
     → ((u : ℕ) → u < 16 → c.moves u ≡ but t n b.moves u) → ((u : ℕ) → c.frames u ≡ b.frames u) → c.lost ≡ b.lost
@@ -241,7 +233,7 @@ module _ {P V : Type 0} (m : Meaning V) (s : Setting V) (names : LiveOutputs) (m
     (orders : Orders) (z : Standing P V) (lines : List ℕ) (x : Scripted) (old now : Shown)
     (far : SoFar m s names may (take i plan) orders z lines x old now) where
   -- one more line was performed
-  pub so_far_more : (y : Standing P V) (after : Orders) (more : List ℕ) (again : Scripted) (new : Shown)
+  so_far_more : (y : Standing P V) (after : Orders) (more : List ℕ) (again : Scripted) (new : Shown)
       → GoesLine (Ok y) m s names may far.world (orders_through (take i plan) no_orders) ln z.draws far.events after
       more again old new
       → SoFar m s names may (take (suc i) plan) after y more again old new
@@ -294,10 +286,3 @@ so_far_all {P} {V} m s names may plan n orders z lines x old now low far = (
       (take_lines plan n low) far.script,
   far.lived,
 )
-
--- the meaning of the same program
-pub so_far_same : {P V : Type 0} (m n : Meaning V) (s : Setting V) (names : LiveOutputs) (may : ℕ → Type 0)
-    (done : List PlanLine) (orders : Orders) (z : Standing P V) (lines : List ℕ) (x : Scripted) (old now : Shown)
-    → m ≡ n → SoFar m s names may done orders z lines x old now → SoFar n s names may done orders z lines x old now
-so_far_same {P} {V} m n s names may done orders z lines x old now same far =
-    subst (λ (k : Meaning V). SoFar k s names may done orders z lines x old now) same far

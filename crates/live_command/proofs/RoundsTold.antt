@@ -113,8 +113,11 @@ module _ {P V : Type 0} (m : Meaning V) (s : Setting V) (w : SystemWorld V) (may
   past_is = ap (λ (x : SystemWorld V). x.past) r.world.world
 
   go : Does s w (step_events r.steps) there
-  go = subst (λ (l : List Event). Does s w l there) r.events_are (lines_noted noted, noted_perform s w noted there
-      r.performs)
+  go = subst (λ (l : List Event). Does s w l there) r.events_are (
+    lines_noted noted,
+    noted_perform s w noted there
+        r.performs,
+  )
 
   -- the race of the round, by the orders that were asked
   pub raced : IsRace s w asked r.steps there arriving

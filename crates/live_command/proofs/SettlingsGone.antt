@@ -74,50 +74,50 @@ not_run P m s names may w draws events old wake fed wakes feeds e lines more x a
 module _ {P V : Type 0} (m : Meaning V) (s : Setting V) (names : LiveOutputs) (may : ℕ → Type 0) (w : SystemWorld V)
     (draws : List Lcg) (events : List Event) (old : Shown) where
   module _ (wake : List Event) (fed : SystemWorld V) (wakes : Wakes w wake) (feeds : Does s w (feeding s w wake) fed)
-      where
-    -- all of it came, or it came to no end while messages arrive
-    pub settled : (r : Result (Standing P V) RunError) (round : List Event) (ran : SystemWorld V)
-        (y : Systemed P V) (between : List Lcg) (lines : List ℕ) (x : Scripted) (now : Shown)
-        → (runs : IsRound s fed no_orders round ran) → AreTold s may fed runs.steps draws between
-        → IfOk r (λ z. z.draws ≡ between)
-        → GoesOver r m s names ran ((events ++ feeding s w wake) ++ round) (arrival_events (all_messages s ran))
-        (standing_in r y) lines x old now
-        → GoesSettle r m s names may w draws events lines x old now
-    settled (Ok z) round ran y between lines x now runs told given (next, arrive, lived) =
-        let fed_and = feeding s w wake in
-        let arrivals = arrival_events (all_messages s ran) in (
-          fed_and ++ (round ++ arrivals),
-          next,
-          record {
-            wake = wake;
-            wakes = wakes;
-            fed = fed;
-            feeds = feeds;
-            round = round;
-            ran = ran;
-            runs = runs;
-            arrive = arrive;
-            events_are = refl;
-          },
-          subst (λ (l : List Lcg). AreTold s may fed runs.steps draws l) (sym given) told,
-          lived_same m m s names (((events ++ fed_and) ++ round) ++ arrivals) (events ++ (fed_and ++ (round ++ arrivals)))
-              next z.system lines x old now refl
-              (append_assoc (events ++ fed_and) round arrivals ∙ append_assoc events fed_and (round ++ arrivals)) lived,
-        )
-    settled (Err e) round ran y between lines x now runs told given (first, is, fails) =
-        let fed_and = feeding s w wake in
-        let arrivals = arrival_events (all_messages s ran) in (
-          fed_and ++ (round ++ first),
-          inr (inr (record {
-            wake = wake;
-            wakes = wakes;
-            fed = fed;
-            feeds = feeds;
-            round = round;
-            ran = ran;
-            runs = runs;
-            first = first_behind fed_and (round ++ arrivals) (round ++ first) (first_behind round arrivals first is);
-          })),
-          fails_same e s names (((events ++ fed_and) ++ round) ++ first) (events ++ (fed_and ++ (round ++ first))) old now
-              (append_assoc (events ++ fed_and) round first ∙ append_assoc events fed_and (round ++ first)) fails,
-        )
+    where
+      -- all of it came, or it came to no end while messages arrive
+      pub settled : (r : Result (Standing P V) RunError) (round : List Event) (ran : SystemWorld V)
+          (y : Systemed P V) (between : List Lcg) (lines : List ℕ) (x : Scripted) (now : Shown)
+          → (runs : IsRound s fed no_orders round ran) → AreTold s may fed runs.steps draws between
+          → IfOk r (λ z. z.draws ≡ between)
+          → GoesOver r m s names ran ((events ++ feeding s w wake) ++ round) (arrival_events (all_messages s ran))
+          (standing_in r y) lines x old now
+          → GoesSettle r m s names may w draws events lines x old now
+      settled (Ok z) round ran y between lines x now runs told given (next, arrive, lived) =
+          let fed_and = feeding s w wake in
+          let arrivals = arrival_events (all_messages s ran) in (
+            fed_and ++ (round ++ arrivals),
+            next,
+            record {
+              wake = wake;
+              wakes = wakes;
+              fed = fed;
+              feeds = feeds;
+              round = round;
+              ran = ran;
+              runs = runs;
+              arrive = arrive;
+              events_are = refl;
+            },
+            subst (λ (l : List Lcg). AreTold s may fed runs.steps draws l) (sym given) told,
+            lived_same m m s names (((events ++ fed_and) ++ round) ++ arrivals) (events ++ (fed_and ++ (round ++ arrivals)))
+                next z.system lines x old now refl
+                (append_assoc (events ++ fed_and) round arrivals ∙ append_assoc events fed_and (round ++ arrivals)) lived,
+          )
+      settled (Err e) round ran y between lines x now runs told given (first, is, fails) =
+          let fed_and = feeding s w wake in
+          let arrivals = arrival_events (all_messages s ran) in (
+            fed_and ++ (round ++ first),
+            inr (inr (record {
+              wake = wake;
+              wakes = wakes;
+              fed = fed;
+              feeds = feeds;
+              round = round;
+              ran = ran;
+              runs = runs;
+              first = first_behind fed_and (round ++ arrivals) (round ++ first) (first_behind round arrivals first is);
+            })),
+            fails_same e s names (((events ++ fed_and) ++ round) ++ first) (events ++ (fed_and ++ (round ++ first))) old now
+                (append_assoc (events ++ fed_and) round first ∙ append_assoc events fed_and (round ++ first)) fails,
+          )

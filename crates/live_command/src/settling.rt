@@ -152,15 +152,7 @@ fn feed_rest<P: Program, W: World>(
             &Event::Feed(left),
         );
     }
-    tell(
-        alloc,
-        world,
-        files,
-        lines,
-        script,
-        system,
-        &Event::Recover,
-    )?;
+    tell(alloc, world, files, lines, script, system, &Event::Recover)?;
     tell(
         alloc,
         world,
@@ -210,7 +202,15 @@ fn arrive_all<P: Program, W: World>(
         → WritingFailed W.ledger W.healthy world.old world.new }
 {
     let frames = all_frames(alloc, system, threads)?;
-    arrive(alloc, world, files, lines, script, system, frames.as_slice())
+    arrive(
+        alloc,
+        world,
+        files,
+        lines,
+        script,
+        system,
+        frames.as_slice(),
+    )
 }
 
 /// The same of a system that is given on.

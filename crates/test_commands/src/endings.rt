@@ -5,8 +5,8 @@ use plain_text::{Limit, NoMemory};
 use std::alloc::Global;
 use std::io;
 use std::sync::Wait;
-use std::thread::Threads;
 use std::test::Fail;
+use std::thread::Threads;
 use var_locks::OpenGate;
 use world_io::{FixedClock, MemoryWorld};
 

@@ -15,8 +15,7 @@ live-requires-clause-apart g c κs within = record {
 pub returns-in-Some-clause-bad_words : goal.returns-in-Some-clause-bad_words
 returns-in-Some-clause-bad_words g c =
     let is : asked c.args.words.now ≡ Some (Lives (live_names_of c.in-Some.names)) =
-    lives_asked c.args.words.now (live_names_of c.in-Some.names) c.in-Some.ensures.names in
-    (
+    lives_asked c.args.words.now (live_names_of c.in-Some.names) c.in-Some.ensures.names in (
       (λ e. absurd (c.live.ensures.words e)),
       (λ none. let no : Some (Lives (live_names_of c.in-Some.names)) ≡ None = sym is ∙ none in absurd (cc)),
     )

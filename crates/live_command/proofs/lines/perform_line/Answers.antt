@@ -66,24 +66,33 @@ pub returns-in-Store-clause-told : goal.returns-in-Store-clause-told
 returns-in-Store-clause-told g c told s names events w asked before same apart is lived =
     rw c.in-Store.is (line_one _ s names (g.C.Clock.may c.args.clock.now) w asked c.args.standing.draws events
     (orders_of c.args.orders.now) c.tell_one-in-Store.new.lines c.tell_one-in-Store.new.script before _
-    c.tell_one-in-Store.result line.Store event.Store c.args.standing.system (λ next end does kept. ((refl, does),
-    kept)) (λ first begins. begins) same c.tell_one-in-Store.ensures.given (c.tell_one-in-Store.ensures.told told s
+    c.tell_one-in-Store.result line.Store event.Store c.args.standing.system (λ next end does kept. (
+      (refl, does),
+      kept,
+    )) (λ first begins. begins) same c.tell_one-in-Store.ensures.given (c.tell_one-in-Store.ensures.told told s
     names events w before apart is lived))
 
 pub returns-in-Crash-clause-told : goal.returns-in-Crash-clause-told
 returns-in-Crash-clause-told g c told s names events w asked before same apart is lived =
     rw c.in-Crash.is (line_one _ s names (g.C.Clock.may c.args.clock.now) w asked c.args.standing.draws events
     (orders_of c.args.orders.now) c.tell_one-in-Crash.new.lines c.tell_one-in-Crash.new.script before _
-    c.tell_one-in-Crash.result line.Crash event.Crash c.args.standing.system (λ next end does kept. ((refl, does),
-    kept)) (λ first begins. begins) same c.tell_one-in-Crash.ensures.given (c.tell_one-in-Crash.ensures.told told s
+    c.tell_one-in-Crash.result line.Crash event.Crash c.args.standing.system (λ next end does kept. (
+      (refl, does),
+      kept,
+    )) (λ first begins. begins) same c.tell_one-in-Crash.ensures.given (c.tell_one-in-Crash.ensures.told told s
     names events w before apart is lived))
 
 pub returns-in-Recover-clause-told : goal.returns-in-Recover-clause-told
 returns-in-Recover-clause-told g c told s names events w asked before same apart is lived =
     rw c.in-Recover.is (line_one _ s names (g.C.Clock.may c.args.clock.now) w asked c.args.standing.draws events
     (orders_of c.args.orders.now) c.tell_one-in-Recover.new.lines c.tell_one-in-Recover.new.script before _
-    c.tell_one-in-Recover.result line.Recover event.Recover c.args.standing.system (λ next end does kept. ((refl,
-    does), kept)) (λ first begins. begins) same c.tell_one-in-Recover.ensures.given
+    c.tell_one-in-Recover.result line.Recover event.Recover c.args.standing.system (λ next end does kept. (
+      (
+        refl,
+        does,
+      ),
+      kept,
+    )) (λ first begins. begins) same c.tell_one-in-Recover.ensures.given
     (c.tell_one-in-Recover.ensures.told told s names events w before apart is lived))
 
 pub returns-in-Settle-clause-told : goal.returns-in-Settle-clause-told

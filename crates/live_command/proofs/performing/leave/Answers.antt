@@ -36,7 +36,7 @@ returns-in_ok-line-in-Ok-clause-told g c told m s names events w old new before 
     subst (λ r. ComesTo m ev r outputs old new) c.in-Ok.is comes in
     let empty : length outputs ≡ 0 = grind arith in
     let said : (freed : List Sent) → c.in-Ok.reply.released ≡ sent_names freed
-        → line ≡ reply_line ev c.in-Ok.reply.outcome freed =
+    → line ≡ reply_line ev c.in-Ok.reply.outcome freed =
     λ freed names. search rules in
     let q = is_quiet m s w ev c.in-Ok.reply outputs old new line came at (no_outputs outputs empty) said in
     quiet_goes c.gather.result _ m s names w q.0 events ev line new _ _ before _ c.written.ensures q.1 q.2 few
