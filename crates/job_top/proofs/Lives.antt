@@ -1,5 +1,5 @@
 -- What the status of `live` says, and what it leaves: from before its inputs were read.
-use Rattle.std.proofs.Common.{◌≡◌, ◌⊎◌, ℕ, List, [], ◌∷◌, ◌++◌, Option, Some, refl, sym, ap, ◌∙◌, subst, inl, inr, Result}
+use Rattle.std.proofs.Common.{◌≡◌, ◌⊎◌, ℕ, List, [], ◌∷◌, ◌++◌, Option, None, Some, refl, sym, ap, ◌∙◌, subst, inl, inr, Result}
 use Rattle.std.proofs.Common.{Ok, Err, if◌then◌else◌}
 use Rattle.std.specs.Prelude.{⊤, IsErrOf, OnOk}
 use Rattle.std.specs.Str.{bytes_eq}
@@ -27,7 +27,7 @@ use Rattle.job_commands.specs.declared.status.Status.{Status}
 use Rattle.job_commands.specs.declared.status.Status.TheVariants as status
 use Rattle.job_commands.specs.Live.{AcceptsLiveInputs, JudgesLiveFiles, JudgesLiveInputs}
 use Rattle.job_commands.specs.Status.{AtAnyTime, AtInputs, Completes, run_outcome, stage_of}
-use Rattle.job_commands.specs.Words.{LiveNames, Lives, asked, live_names}
+use Rattle.job_commands.specs.Words.{CheckNames, LiveNames, Lives, MakeNames, PlayNames, RunNames, asked, live_names, one_of}
 use Rattle.job_commands.proofs.LiveFiles.{live_pass}
 use Rattle.job_commands.proofs.Outcomes.{begun_since, begun_writes_since, run_since, stopped_since, files_since}
 use Rattle.job_top.specs.Live.{JudgesLive, KeepsLiveNames, LivesFiles, LivesLimit, LivesOrder, SaysOfRun, live_outputs, live_setting, live_stage}
@@ -222,6 +222,17 @@ lives_asked (a ∷ b ∷ c ∷ d ∷ e ∷ []) names h = absurd (cc)
 lives_asked (a ∷ b ∷ c ∷ d ∷ e ∷ f ∷ []) names h = absurd (cc)
 lives_asked (a ∷ b ∷ c ∷ d ∷ e ∷ f ∷ g ∷ []) names h = rw h refl
 lives_asked (a ∷ b ∷ c ∷ d ∷ e ∷ f ∷ g ∷ i ∷ more) names h = absurd (cc)
+
+-- words that are not those of `live` do not ask for it
+pub not_lives : (run : Option RunNames) (live : Option LiveNames) (make : Option MakeNames) (play : Option PlayNames)
+    (check : Option CheckNames) (names : LiveNames) → live ≡ None
+    → one_of run live make play check ≡ Some (Lives names) → ⊥
+not_lives run (Some l) make play check names none is = absurd (cc)
+not_lives (Some r) None make play check names none is = absurd (cc)
+not_lives None None (Some m) play check names none is = absurd (cc)
+not_lives None None None (Some p) check names none is = absurd (cc)
+not_lives None None None None (Some c) names none is = absurd (cc)
+not_lives None None None None None names none is = absurd (cc)
 
 -- where all inputs are accepted, in a healthy world
 pub live_completes : (healthy : Type 0) (names : LiveNames) (shown : Shown) → healthy → (inputs : LiveInputs)

@@ -1,12 +1,21 @@
-use Rattle.std.proofs.Common.{ap, sym, ◌∙◌}
+use Rattle.std.proofs.Common.{ap, sym, ◌∙◌, Some}
 use Rattle.job_commands.specs.Status.{stage_of}
-use Rattle.job_commands.specs.Words.{check_names_of, made_of, names_of, play_names_of}
+use Rattle.job_commands.specs.Words.{asked_of, check_names, check_names_of, live_names, live_names_of, made_of, make_names}
+use Rattle.job_commands.specs.Words.{names_of, play_names, play_names_of, run_names}
 use Rattle.job_commands.proofs.Outcomes.{made_completes, made_not_at_inputs}
 use Rattle.job_commands.proofs.OneVerdict.{run_completes}
 use Rattle.job_commands.proofs.Plays.{play_completes}
 use Rattle.job_commands.proofs.Finds.{check_completes}
 use Rattle.job_commands.proofs.Others.{run_others, made_others, play_others, check_others}
+use Rattle.job_top.proofs.Lives.{not_lives}
 use Rattle.job_top.proofs.top.serial.Goals as goal
+
+pub unreachable-requires : goal.unreachable-requires
+unreachable-requires g c =
+    let words = c.args.words.now in
+    not_lives (run_names words) (live_names words) (make_names words) (play_names words) (check_names words)
+    (live_names_of c.in-Some-Live.field-0-0) c.requires.no_rounds
+    (c.in-Some-Live.ensures ∙ ap (λ z. Some (asked_of z)) c.in-Some-Live.field-0-is)
 
 pub returns-in-Some-Run-clause-done : goal.returns-in-Some-Run-clause-done
 returns-in-Some-Run-clause-done g c told done may =
