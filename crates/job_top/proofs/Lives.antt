@@ -30,7 +30,7 @@ use Rattle.job_commands.specs.Status.{AtAnyTime, AtInputs, Completes, run_outcom
 use Rattle.job_commands.specs.Words.{CheckNames, LiveNames, Lives, MakeNames, PlayNames, RunNames, asked, live_names, one_of}
 use Rattle.job_commands.proofs.LiveFiles.{live_pass}
 use Rattle.job_commands.proofs.Outcomes.{begun_since, begun_writes_since, run_since, stopped_since, files_since}
-use Rattle.job_top.specs.Live.{JudgesLive, KeepsLiveNames, LivesFiles, LivesLimit, LivesOrder, SaysOfRun, live_outputs, live_setting, live_stage}
+use Rattle.job_top.specs.Live.{EventsStop, JudgesLive, KeepsLiveNames, LivesFiles, LivesLimit, LivesOrder, SaysOfRun, live_outputs, live_setting, live_stage}
 
 -- The files are as they were when the inputs had been read.
 module _ (a b c : Shown) (keeps : KeepsOutputs a b) where
@@ -131,7 +131,10 @@ module _ (healthy : Type 0) (may : ℕ → Type 0) (names : LiveNames) (inputs :
     whole.events,
     whole.world,
     live_script (live_setting inputs) may _ _ _ _ _ _ _ whole.script,
-    (whole.lived.run.report, whole.lived.run.released, whole.lived.run.schedule, whole.lived.run.leaves),
+    whole.lived.run.report,
+    whole.lived.run.released,
+    whole.lived.run.schedule,
+    whole.lived.run.leaves,
   )
   live_judged (Err (run_error.Limit l)) never whole limit = behind (status.TooLarge l) (
     (limit l refl).events,
@@ -139,7 +142,8 @@ module _ (healthy : Type 0) (may : ℕ → Type 0) (names : LiveNames) (inputs :
     go (limit l refl).events (limit l refl).halts,
   )
     where
-      go : (events : List Event) → HaltsLive (live_setting inputs) (live_outputs names) events l a c → _
+      go : (events : List Event) → HaltsLive (live_setting inputs) (live_outputs names) events l a c
+          → EventsStop inputs events l
       go events (inl (script_is, stopped)) = inl (stopped.report, stopped.released, stopped.leaves)
       go events (inr (before, next, is, paused)) = inr (before, next, is, rw is paused.passes)
   live_judged (Err run_error.WriteFault) never whole limit = behind status.WriteFault (λ ok. never ok refl)
@@ -174,7 +178,7 @@ live_refused healthy names s a (inl box) = inl box
 live_refused healthy names s a (inr (conf, box, inl capture)) = inr (conf, box, inl capture)
 live_refused healthy names s a (inr (conf, box, inr (capture, at, inl plan))) =
     inr (conf, box, inr (capture, at, inl plan))
-live_refused healthy names s a (inr (conf, box, inr (capture, at, inr (plan, accepted, no)))) = absurd no
+live_refused healthy names s a (inr (conf, box, inr (capture, at, inr (plan, accepted, none)))) = absurd none
 
 -- Other names
 

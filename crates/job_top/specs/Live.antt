@@ -54,15 +54,19 @@ EndsLive inputs =
     × (report : List ℕ) × (released : List Packet) × (schedule : List PlainMove)
     × Leaves (live_setting inputs) events report released schedule
 
--- Some first part of a script of the plan stops at this limit of runs, or has one event more than a script may have by
--- this limit.
+-- These events stop at this limit of runs, or a script has one event more with them than it may have by this limit.
+abbrev pub EventsStop : LiveInputs → List Event → Limit → Type 0
+EventsStop inputs events limit =
+    ((report : List ℕ) × (released : List Packet) × LeavesAt (live_setting inputs) events limit report released)
+    ⊎ ((before : List Event) × (next : Event) × (events ≡ before ++ next ∷ [])
+    × PassesScript limit (length before) (length (script_text events)))
+
+-- some first part of a script of the plan does
 abbrev pub StopsLive : LiveInputs → Limit → Type 0
 StopsLive inputs limit =
     (events : List Event)
     × BeginsScript (live_setting inputs) (opening (meaning_of inputs.conf.kind).value) no_orders inputs.plan events
-    × (((report : List ℕ) × (released : List Packet) × LeavesAt (live_setting inputs) events limit report released)
-    ⊎ ((before : List Event) × (next : Event) × (events ≡ before ++ next ∷ [])
-    × PassesScript limit (length before) (length (script_text events))))
+    × EventsStop inputs events limit
 
 -- what a status says of the run, once all inputs are accepted
 abbrev pub SaysOfRun : Type 0 → LiveInputs → Status → Type 0

@@ -34,7 +34,7 @@ fn live_box<W: World, C: Clock + Sync, G: Gate + Sync, R: AllocGlobal + Threads 
 ) -> Result<(), RunError>
     requires inputs { CanLive (plan_of inputs) }
     requires room { (W.ledger world.old).given < 2 ^ 32 - 3 }
-    requires apart { AreApart (live_outputs (live_names_of names.now)) }
+    requires apart { AreApart (live_outputs (live_names_of names)) }
     ensures whole { IsTrue W.tells → OnOk result (LivesWhole (live_setting inputs)
         (C.may clock.now) inputs.plan (live_outputs (live_names_of names.entry))
         (W.shown world.old) (W.shown world.new)) }
@@ -75,7 +75,7 @@ pub(crate) fn live<
     R: AllocGlobal + Threads + Wait + Sync,
 >(rt: &R, world: &mut W, names: LiveWords<'_>, clock: &C, gate: &G) -> Status
     requires room { (W.ledger world.old).given < 2 ^ 31 }
-    requires apart { AreApart (live_outputs (live_names_of names.now)) }
+    requires apart { AreApart (live_outputs (live_names_of names)) }
     ensures done { IsTrue W.tells → result ≡ Status.Done → LivesFiles (C.may clock.now)
         (live_names_of names.entry) (W.shown world.old) (W.shown world.new) }
     ensures headline { IsTrue W.tells → result ≡ Status.Done
