@@ -1,5 +1,5 @@
 ghost use Rattle.std.specs.Prelude.{◌≡◌, ◌+◌, ◌<◌, ◌≤◌, ◌-◌, ◌^◌, ◌↔◌, None, Err, IsTrue, OnOk};
-ghost use Rattle.std.specs.Prelude.{IsErrOf, ℕ};
+ghost use Rattle.std.specs.Prelude.{IsErrOf};
 ghost use Rattle.plain_text.specs.declared.limit.Limit.{Limit as LimitKind};
 ghost use Rattle.world_io.specs.Stream.{Rose};
 ghost use Rattle.output_files.specs.Written.{WritesFiles};
@@ -111,9 +111,8 @@ pub fn serial<W: World>(alloc: Global, words: &[Text], world: &mut W) -> Status
     ensures nothing_asked { result ≡ Status.BadWords → world.new ≡ world.old }
 
     // What Done leaves: the outputs, whole.
-    ensures done { IsTrue W.tells → result ≡ Status.Done → (may : ℕ → Type 0)
-        → IfAsks words.now
-        (λ command. Leaves may command (W.shown world.old) (W.shown world.new)) }
+    ensures done { IsTrue W.tells → result ≡ Status.Done → IfAsks words.now
+        (λ command. Leaves (λ t. ⊥) command (W.shown world.old) (W.shown world.new)) }
 
     // The promise: what was released is part of one legal run without crashes.
     ensures headline { IsTrue W.tells → result ≡ Status.Done → IfAsks words.now

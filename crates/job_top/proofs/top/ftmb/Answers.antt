@@ -1,6 +1,6 @@
 use Rattle.std.proofs.Common.{◌≡◌, ap, sym, ◌∙◌, None, Some}
 use Rattle.job_commands.specs.Words.{Lives, asked, live_names_of}
-use Rattle.job_top.proofs.Lives.{at_inputs, live_completes, live_others, lives_asked, no_limit_at_inputs}
+use Rattle.job_top.proofs.Lives.{at_inputs, leaves_any, live_completes, live_others, lives_asked, no_limit_at_inputs}
 use Rattle.job_top.proofs.top.ftmb.Goals as goal
 
 -- words of `live`
@@ -85,4 +85,6 @@ pub serial-requires-clause-no_rounds : goal.serial-requires-clause-no_rounds
 serial-requires-clause-no_rounds g c κs within = c.in-None.ensures.names
 
 pub returns-in-None-clause-done : goal.returns-in-None-clause-done
-returns-in-None-clause-done g c told done = c.serial.ensures.done told done (g.C.Clock.may c.args.clock.now)
+returns-in-None-clause-done g c told done =
+    leaves_any (g.C.Clock.may c.args.clock.now) c.args.words.now (g.W.World.shown c.args.world.now)
+    (g.W.World.shown c.serial.new.world) c.in-None.ensures.names (c.serial.ensures.done told done)

@@ -18,7 +18,7 @@ unreachable-requires g c =
     (c.in-Some-Live.ensures ∙ ap (λ z. Some (asked_of z)) c.in-Some-Live.field-0-is)
 
 pub returns-in-Some-Run-clause-done : goal.returns-in-Some-Run-clause-done
-returns-in-Some-Run-clause-done g c told done may =
+returns-in-Some-Run-clause-done g c told done =
     rw (c.in-Some-Run.ensures, c.in-Some-Run.field-0-is) (c.run.ensures.done told done)
 
 pub returns-in-Some-Run-clause-completes : goal.returns-in-Some-Run-clause-completes
@@ -65,7 +65,7 @@ returns-in-Some-Make-clause-others g c told =
     (g.W.World.shown c.make_capture.new.world) (c.make_capture.ensures.told told))
 
 pub returns-in-Some-Play-clause-done : goal.returns-in-Some-Play-clause-done
-returns-in-Some-Play-clause-done g c told done may =
+returns-in-Some-Play-clause-done g c told done =
     rw (c.in-Some-Play.ensures, c.in-Some-Play.field-0-is) (c.play_capture.ensures.done told done)
 
 pub returns-in-Some-Play-clause-completes : goal.returns-in-Some-Play-clause-completes
@@ -86,7 +86,7 @@ returns-in-Some-Play-clause-others g c told =
     (g.W.World.shown c.play_capture.new.world) (c.play_capture.ensures.in_order told))
 
 pub returns-in-Some-Check-clause-done : goal.returns-in-Some-Check-clause-done
-returns-in-Some-Check-clause-done g c told done may =
+returns-in-Some-Check-clause-done g c told done =
     rw (c.in-Some-Check.ensures, c.in-Some-Check.field-0-is) (c.check_released.ensures.done told done)
 
 pub returns-in-Some-Check-clause-completes : goal.returns-in-Some-Check-clause-completes
