@@ -82,7 +82,7 @@ returns-in-Some-clause-write_fault g c e = (c.live.ensures.write_fault e).rose
 -- other words
 
 pub serial-requires-clause-no_rounds : goal.serial-requires-clause-no_rounds
-serial-requires-clause-no_rounds g c κs within = c.in-None.ensures.names
+serial-requires-clause-no_rounds g c = c.in-None.ensures.names
 
 pub returns-in-None-clause-done : goal.returns-in-None-clause-done
 returns-in-None-clause-done g c told done =
