@@ -62,7 +62,7 @@ fn add_file(
 }
 
 /// Sets the bytes of these names, in turn.
-fn add_files(
+pub fn add_files(
     alloc: Global,
     world: &mut MemoryWorld,
     files: &[(&str, &[u8])],
@@ -83,14 +83,14 @@ fn push_words(alloc: Global, texts: &mut Sequence<Text>, words: &[&str]) -> Resu
 }
 
 /// The words as texts.
-fn texts_of(alloc: Global, words: &[&str]) -> Result<Sequence<Text>, NoMemory> {
+pub fn texts_of(alloc: Global, words: &[&str]) -> Result<Sequence<Text>, NoMemory> {
     let mut texts = Sequence::new(alloc);
     push_words(alloc, &mut texts, words)?;
     Ok(texts)
 }
 
 /// What words come to of a command that waits for nobody.
-fn give_words(alloc: Global, world: &mut MemoryWorld, words: &[&str]) -> Result<Status, NoMemory>
+pub fn give_words(alloc: Global, world: &mut MemoryWorld, words: &[&str]) -> Result<Status, NoMemory>
     requires { length world.old.files ≤ 1000 }
     ensures { length world.new.files ≤ length world.old.files + 5 }
 {
