@@ -39,6 +39,7 @@ use Rattle.recovery_laws.proofs.Worlds.{LineOf, line_of, known_here, fed_found}
 use Rattle.recovery_laws.proofs.Sets.{predecessors, predecessors_closed, outside, outside_in, in_outside, inside_if}
 use Rattle.recovery_laws.proofs.Sets.{inside, inside_in, in_inside}
 use Rattle.recovery_laws.proofs.KeptWorlds.{recovers_sound, line_entries, entries_line}
+use Rattle.recovery_laws.proofs.OneFinish.{finish_one}
 
 pub sends_thread : {V : Type 0} (m : Meaning V) (inputs : ℕ → List Packet) (threads : ℕ) (steps : List (Step V))
     (o : Emission) (n : ℕ) → IsHistory m inputs threads steps → SendsAfter steps o n
@@ -232,9 +233,9 @@ module _ {V : Type 0} (s : Setting V) (w : World V) (h : Firm s w) where
           kept_there e j =
               subst (λ (x : List Entry). IsIn e x) (sym same) (of_line line l e (known_here s w h e (k.known e j)))
 
-  -- There is a line.
-  pub line_there : (line : List (Step V)) × IsLine s w line
-  line_there =
+  -- There is a line, and it takes only inputs that were fed.
+  fed_line : (line : List (Step V)) × IsLine s w line × IsHistory s.meaning (inputs_fed s w.fed) s.threads line
+  fed_line =
       made (sorted s.threads (h.more ++ log_of w.past) h.log low h.more (λ g i. in_left g h.more (log_of w.past) i))
     where
       first : LineOf s w h h.more
@@ -246,7 +247,8 @@ module _ {V : Type 0} (s : Setting V) (w : World V) (h : Firm s w) where
 
       made : ((more : List Entry)
           × ((g : Entry) → IsIn g more ↔ IsIn g h.more)
-          × IsByWeight (h.more ++ log_of w.past) more) → (line : List (Step V)) × IsLine s w line
+          × IsByWeight (h.more ++ log_of w.past) more)
+          → (line : List (Step V)) × IsLine s w line × IsHistory s.meaning (inputs_fed s w.fed) s.threads line
       made (more, members, by) = (
         l.line,
         record {
@@ -257,6 +259,7 @@ module _ {V : Type 0} (s : Setting V) (w : World V) (h : Firm s w) where
               (by_moves more (λ e i. in_left e h.more (log_of w.past) ((members e).0 i)) by);
           led = l.led;
         },
+        l.history,
       )
         where
           good : IsLog (more ++ log_of w.past)
@@ -298,30 +301,33 @@ module _ {V : Type 0} (s : Setting V) (w : World V) (h : Firm s w) where
             by_moves xs (λ f i. sub f (inr i)) b.1,
           )
 
+  pub line_there : (line : List (Step V)) × IsLine s w line
+  line_there = (fed_line.0, fed_line.1)
+
   -- One thread can go on.
   goes_there : (line : List (Step V)) → IsLine s w line → (t : ℕ) (mid : List (Step V))
-      → IsHistory s.meaning (all_inputs s) s.threads mid → log_of mid ≡ log_of line
-      → (to : List (Step V)) × IsHistory s.meaning (all_inputs s) s.threads to × GoesOn t (greatest t w.released) mid to
+      → IsHistory s.meaning (inputs_fed s w.fed) s.threads mid → log_of mid ≡ log_of line
+      → (to : List (Step V)) × IsHistory s.meaning (inputs_fed s w.fed) s.threads to × GoesOn t (greatest t w.released) mid to
   goes_there line l t mid hm same = go (cases_lt (outputs t (sent_of mid)) (greatest t w.released))
     where
       stay : greatest t w.released ≤ outputs t (sent_of mid)
           → (to : List (Step V))
-          × IsHistory s.meaning (all_inputs s) s.threads to
+          × IsHistory s.meaning (inputs_fed s w.fed) s.threads to
           × GoesOn t (greatest t w.released) mid to
       stay k =
           (mid, hm, record { quiet = stays_quietly t mid; enough = k; soonest = λ x a b c. earlier_same mid x a b })
 
       go : (outputs t (sent_of mid) < greatest t w.released) ⊎ (greatest t w.released ≤ outputs t (sent_of mid)) → (to :
-          List (Step V)) × IsHistory s.meaning (all_inputs s) s.threads to × GoesOn t (greatest t w.released) mid to
+          List (Step V)) × IsHistory s.meaning (inputs_fed s w.fed) s.threads to × GoesOn t (greatest t w.released) mid to
       go (inr k) = stay k
       go (inl low) = found (greatest_there t w.released (omega (arith, low)))
         where
           found : ((o : Sent) × IsAmong o w.released × (o.emission.thread ≡ t)
               × (o.emission.number ≡ greatest t w.released))
               → (to : List (Step V))
-              × IsHistory s.meaning (all_inputs s) s.threads to
+              × IsHistory s.meaning (inputs_fed s w.fed) s.threads to
               × GoesOn t (greatest t w.released) mid to
-          found (o, i, th, n) = fin (comes_again s.meaning (all_inputs s) s.threads k.run mid (all_of k.run k.history)
+          found (o, i, th, n) = fin (comes_again s.meaning (inputs_fed s w.fed) s.threads k.run mid k.history
               hm k.before k.closed_there k.of_run
               (λ e j.
               subst (λ (x : List Entry). IsIn e x) (sym same) (of_line line l e (known_here s w h e (k.known e j))))
@@ -331,15 +337,15 @@ module _ {V : Type 0} (s : Setting V) (w : World V) (h : Firm s w) where
               k = h.released o i
 
               fin : SendsAfter mid o.emission o.after
-                  ⊎ ((to : List (Step V)) × (y : Step V) × IsHistory s.meaning (all_inputs s) s.threads (y ∷ to)
+                  ⊎ ((to : List (Step V)) × (y : Step V) × IsHistory s.meaning (inputs_fed s w.fed) s.threads (y ∷ to)
                   × GoesQuietly mid o.emission.thread to × (y.thread ≡ o.emission.thread) × (y.act ≡ Emitted o.emission)
                   × (entries o.emission.thread (log_of to) ≡ o.after))
                   → (to : List (Step V))
-                  × IsHistory s.meaning (all_inputs s) s.threads to
+                  × IsHistory s.meaning (inputs_fed s w.fed) s.threads to
                   × GoesOn t (greatest t w.released) mid to
               fin (inl sends) =
                   let r = sends_at mid o.emission o.after sends in
-                  let made = (earlier_history s.meaning (all_inputs s) s.threads (r.0 ∷ r.1) mid r.2 hm).0 in
+                  let made = (earlier_history s.meaning (inputs_fed s w.fed) s.threads (r.0 ∷ r.1) mid r.2 hm).0 in
                   let d = did_emission r.0.thread r.0.after.taken r.1 made.2 o.emission (sym made.4 ∙ r.3) in
                   let count : outputs t (sent_of (r.0 ∷ r.1)) ≡ outputs t (sent_of r.1) + 1 =
                   let q : nat_eq o.emission.thread t ≡ true = grind (arith, nat_tests) in rw r.3 (rw q refl) in
@@ -374,16 +380,16 @@ module _ {V : Type 0} (s : Setting V) (w : World V) (h : Firm s w) where
                   soonest x (inl q) c = q
                   soonest x (inr q) c = let g = earlier_outputs t x to q in absurd (omega (arith, g, c, d.1, u, n))
 
-  all_go_there : (line : List (Step V)) → IsLine s w line → (n : ℕ)
-      → (steps : List (Step V)) × IsHistory s.meaning (all_inputs s) s.threads steps × AllGoOn w.released n line steps
-  all_go_there line l zero = (line, l.history, refl)
-  all_go_there line l (suc n) = go (all_go_there line l n)
+  all_go_there : (line : List (Step V)) → IsLine s w line → IsHistory s.meaning (inputs_fed s w.fed) s.threads line
+      → (n : ℕ) → (steps : List (Step V)) × IsHistory s.meaning (inputs_fed s w.fed) s.threads steps × AllGoOn w.released n line steps
+  all_go_there line l hl zero = (line, hl, refl)
+  all_go_there line l hl (suc n) = go (all_go_there line l hl n)
     where
       go : ((steps : List (Step V))
-          × IsHistory s.meaning (all_inputs s) s.threads steps
+          × IsHistory s.meaning (inputs_fed s w.fed) s.threads steps
           × AllGoOn w.released n line steps)
           → (steps : List (Step V))
-          × IsHistory s.meaning (all_inputs s) s.threads steps
+          × IsHistory s.meaning (inputs_fed s w.fed) s.threads steps
           × AllGoOn w.released (suc n) line steps
       go (mid, hm, all) =
           let r = goes_there line l n mid hm (go_log w.released n line mid all) in (r.0, r.1, (mid, all, r.2))
@@ -592,11 +598,50 @@ up_known : {V : Type 0} (s : Setting V) (w up : World V) → Sound s w → Wakes
 up_known {V} s w up h (inl (is, same)) e k preds = subst (λ (z : World V). IsKnown z e) (sym same) k
 up_known s w up h (inr (down, r)) e k preds = stays_known s w h.firm up r e k preds
 
+-- Each world ends in one, which takes only inputs that were fed.
+fed_finish_of : {V : Type 0} (s : Setting V) (w up : World V) → Firm s up → Wakes w up
+    → (steps : List (Step V)) × IsFinish s w steps × IsHistory s.meaning (inputs_fed s up.fed) s.threads steps
+fed_finish_of s w up h is =
+    let l = fed_line s up h in
+    let r = all_go_there s up h l.0 l.1 l.2 s.threads in
+    (
+      r.0,
+      record {
+        up = up;
+        up_is = is;
+        line = l.0;
+        line_is = l.1;
+        history = all_of s up h r.0 r.1;
+        goes_on = r.2;
+      },
+      r.1,
+    )
+
+fed_finish : {V : Type 0} (s : Setting V) (w : World V) → Sound s w
+    → (steps : List (Step V)) × IsFinish s w steps × IsHistory s.meaning (inputs_fed s w.fed) s.threads steps
+fed_finish {V} s w h = go w.up refl
+  where
+    go : (b : Bool) → w.up ≡ b
+        → (steps : List (Step V)) × IsFinish s w steps × IsHistory s.meaning (inputs_fed s w.fed) s.threads steps
+    go true is = fed_finish_of s w w h.firm (inl (is, refl))
+    go false is =
+        let r = recovers_there s w h.firm in
+        let f = fed_finish_of s w r.0 (recovers_sound s w h.firm is r.0 r.1).firm (inr (is, r.1)) in
+        let same : r.0.fed ≡ w.fed = ap (λ (z : World V). z.fed) r.1.new_is in
+        (f.0, f.1, subst (λ (n : ℕ). IsHistory s.meaning (inputs_fed s n) s.threads f.0) same f.2)
+
+pub finish_there : {V : Type 0} (s : Setting V) (w : World V) → Sound s w → (steps : List (Step V)) × IsFinish s w steps
+finish_there s w h = let f = fed_finish s w h in (f.0, f.1)
+
 -- Each run in which a world ends keeps what must not be lost.
 pub finish_ends : {V : Type 0} (s : Setting V) (w : World V) (steps : List (Step V)) → Sound s w → IsFinish s w steps
     → Ends s w steps
 finish_ends {V} s w steps h f = record {
   legal = history_played s.meaning (all_inputs s) s.threads steps f.history;
+  fed =
+      let g = fed_finish s w h in
+      subst (λ (l : List (Step V)). IsHistory s.meaning (inputs_fed s w.fed) s.threads l)
+      (finish_one s w g.0 steps g.1 f) g.2;
   keeps = λ e k preds.
       subst (λ (l : List Entry). IsIn e l) (sym (go_log f.up.released s.threads f.line steps f.goes_on)) (of_line s f.up
       up.0.firm f.line f.line_is e (known_here s f.up up.0.firm e (up_known s w f.up h f.up_is e k preds)));
@@ -608,20 +653,3 @@ finish_ends {V} s w steps h f = record {
   where
     up : Sound s f.up × (f.up.released ≡ w.released)
     up = up_sound s w f.up h f.up_is
-
-finish_of : {V : Type 0} (s : Setting V) (w up : World V) → Firm s up → Wakes w up
-    → (steps : List (Step V)) × IsFinish s w steps
-finish_of s w up h is =
-    let l = line_there s up h in
-    let r = all_go_there s up h l.0 l.1 s.threads in
-    (r.0, record { up = up; up_is = is; line = l.0; line_is = l.1; history = r.1; goes_on = r.2 })
-
--- Each world ends in one.
-pub finish_there : {V : Type 0} (s : Setting V) (w : World V) → Sound s w → (steps : List (Step V)) × IsFinish s w steps
-finish_there {V} s w h = go w.up refl
-  where
-    go : (b : Bool) → w.up ≡ b → (steps : List (Step V)) × IsFinish s w steps
-    go true is = finish_of s w w h.firm (inl (is, refl))
-    go false is =
-        let r = recovers_there s w h.firm in
-        finish_of s w r.0 (recovers_sound s w h.firm is r.0 r.1).firm (inr (is, r.1))

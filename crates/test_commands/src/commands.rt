@@ -120,6 +120,13 @@ fn give_all(
     Ok(status)
 }
 
+/// Whether both names have the same bytes.
+pub fn are_same(alloc: Global, world: &MemoryWorld, one: &str, other: &str) -> Result<bool, NoMemory> {
+    let one = Text::of(alloc, one)?;
+    let other = Text::of(alloc, other)?;
+    Ok(world.bytes(&one) == world.bytes(&other))
+}
+
 /// Whether each name has these bytes, or is not there.
 fn has_files(
     alloc: Global,

@@ -249,6 +249,31 @@ fn a_crash_at_each_event(rt: HostRuntime) -> Result<(), Fail> {
     Ok(())
 }
 
+/// The times and the first look for a mapping arrive, and the new master crashes behind the first move of each thread.
+const LOGGED_AT_THE_CRASH: Ending<'static> = Ending {
+    events: b"log 0 1\nlog 0 2\nlog 1 1\ncrash\nrecover\nstep 0\nstep 1\ncrash\nsettle\n",
+    last: b"done fed 2 epoch 3 released 2\nfound 2\n",
+};
+
+/// The least number of moves, 17 at most, behind which such a crash does not leave both packets from port 39278.
+fn first_wrong_in_replay(alloc: Global) -> Result<Option<usize>, NoMemory> {
+    for place in 0..18 {
+        let script = script_of(alloc, &MOVES[..place], LOGGED_AT_THE_CRASH)?;
+        let last = LOGGED_AT_THE_CRASH.last;
+        if !is_accepted(alloc, script.as_slice(), FROM_ONE_PORT, last)? {
+            return Ok(Some(place));
+        }
+    }
+    Ok(None)
+}
+
+#[test]
+fn a_crash_in_each_replay(rt: HostRuntime) -> Result<(), Fail> {
+    let wrong = first_wrong_in_replay(rt.alloc())?;
+    assert!(rt; wrong.is_none(), "{wrong:?}");
+    Ok(())
+}
+
 /// Takes and stores a snapshot behind each move.
 fn add_snapshots(events: &mut Vec<&'static str>) -> Result<(), NoMemory> {
     for event in MOVES {

@@ -1,10 +1,13 @@
-//! Large runs from a number: 20,000 generated packets, 90,000 chosen events, and three crashes among them, on four
-//! threads.
-use crate::commands::{Case, Fault, comes_to};
+//! Large runs: 20,000 generated packets, 90,000 events chosen from a number, and three crashes among them, on four
+//! threads; and as many moves as a run may have.
+ghost use Rattle.std.specs.Prelude.{◌≡◌, length};
+
+use crate::commands::{Case, Fault, add_files, are_same, comes_to, give_words};
 use job_top::Status;
-use plain_text::NoMemory;
+use plain_text::{Limit, NoMemory, Text};
 use std::alloc::Global;
 use std::test::Fail;
+use world_io::MemoryWorld;
 
 const SCRIPT: &[u8] =
     b"auto 1 30000\ncrash\nrecover\nauto 2 30000\ncrash\nrecover\nauto 3 30000\ncrash\nrecover\nsettle\n";
@@ -49,5 +52,49 @@ fn large_runs_are_accepted(rt: HostRuntime) -> Result<(), Fail> {
     for (place, (box_file, lines)) in RUNS.iter().enumerate() {
         assert!(rt; ends_with(rt.alloc(), box_file, lines)?, "{place}");
     }
+    Ok(())
+}
+
+/// Six times all 65,536 packets are settled and the master crashes, which has 1,966,080 moves in all.
+const SETTLED: &[u8] =
+    b"settle\ncrash\nsettle\ncrash\nsettle\ncrash\nsettle\ncrash\nsettle\ncrash\nsettle\ncrash\nsettle\ncrash\n";
+
+/// The lines of the report before the limit of 2,000,000 moves.
+const SETTLED_REPORT: &[u8] =
+    b"settle moves 327680 released 65536 epoch 1\ncrash done\nsettle moves 327680 released 0 epoch 2\ncrash done\nsettle moves 327680 released 0 epoch 3\ncrash done\nsettle moves 327680 released 0 epoch 4\ncrash done\nsettle moves 327680 released 0 epoch 5\ncrash done\nsettle moves 327680 released 0 epoch 6\ncrash done\n";
+
+/// How many bytes a name has.
+fn length_of(alloc: Global, world: &MemoryWorld, name: &str) -> Result<usize, NoMemory> {
+    let name = Text::of(alloc, name)?;
+    Ok(match world.bytes(&name) {
+        Some(bytes) => bytes.len(),
+        None => 0,
+    })
+}
+
+/// Whether the run stops at its limit, and has released each packet once and unchanged.
+fn stops_in(alloc: Global, world: &mut MemoryWorld) -> Result<bool, NoMemory>
+    requires { length world.old.files ≡ 0 }
+{
+    add_files(alloc, world, &[("box", b"box monitor\n"), ("script", SETTLED)])?;
+    give_words(alloc, world, &["make", "1", "65536", "in"])?;
+    let made = world.report().len();
+    let run = ["run", "box", "in", "script", "out", "moves"];
+    let is_stopped = give_words(alloc, world, &run)? == Status::TooLarge(Limit::Moves)
+        && &world.report()[made..] == SETTLED_REPORT;
+    Ok(is_stopped
+        && length_of(alloc, world, "out")? == 4_980_760
+        && are_same(alloc, world, "in", "out")?)
+}
+
+/// Whether it does in a world of its own.
+fn stops(alloc: Global) -> Result<bool, NoMemory> {
+    let mut world = MemoryWorld::new(alloc)?;
+    stops_in(alloc, &mut world)
+}
+
+#[test]
+fn a_run_stops_at_2_000_000_moves(rt: HostRuntime) -> Result<(), Fail> {
+    assert!(rt; stops(rt.alloc())?);
     Ok(())
 }

@@ -1,7 +1,7 @@
 //! Plans, on more threads than one: `run` of the script that `live` writes leaves what `live` left, byte for byte.
 ghost use Rattle.std.specs.Prelude.{◌≡◌, ◌+◌, ◌≤◌, length};
 
-use crate::commands::{add_files, give_words, texts_of};
+use crate::commands::{add_files, are_same, give_words, texts_of};
 use crate::gates::WaitingGate;
 use job_top::{Status, ftmb};
 use plain_text::{Bytes, Limit, NoMemory, Text};
@@ -47,13 +47,6 @@ fn race_by_words<G: Gate + Sync, R: AllocGlobal + Threads + Wait + Sync>(
     Ok(ftmb(rt, texts.as_slice(), world, &FixedClock(100_000_006), gate))
 }
 
-/// Whether both names have the same bytes.
-fn are_same(alloc: Global, world: &MemoryWorld, one: &str, other: &str) -> Result<bool, NoMemory> {
-    let one = Text::of(alloc, one)?;
-    let other = Text::of(alloc, other)?;
-    Ok(world.bytes(&one) == world.bytes(&other))
-}
-
 /// Sets the files of a race.
 fn prepare(alloc: Global, world: &mut MemoryWorld, race: &Race<'_>) -> Result<(), NoMemory>
     requires { length world.old.files ≤ 500 }
@@ -69,7 +62,7 @@ fn prepare(alloc: Global, world: &mut MemoryWorld, race: &Race<'_>) -> Result<()
     Ok(())
 }
 
-/// Whether the threads race as told, and the report of `live` ends as told. Also its report.
+/// The report of `live`, where the threads race as told and it ends as told.
 fn race_as_told<G: Gate + Sync, R: AllocGlobal + Threads + Wait + Sync>(
     rt: &R,
     gate: &G,
@@ -80,8 +73,11 @@ fn race_as_told<G: Gate + Sync, R: AllocGlobal + Threads + Wait + Sync>(
     ensures { length world.new.files ≤ length world.old.files + 6 }
 {
     let words = ["live", "box", "in", "plan", "out", "moves", "script"];
+    let before = world.report().len();
     let status = race_by_words(rt, gate, world, &words)?;
-    let report = world.report();
+    let Some(report) = world.report().get(before..) else {
+        return Ok(None);
+    };
     if status != race.status || !report.ends_with(race.last) {
         return Ok(None);
     }
@@ -99,10 +95,11 @@ fn runs_the_same(
     ensures { length world.new.files ≤ length world.old.files + 5 }
 {
     let words = ["run", "box", "in", "script", "out_again", "moves_again"];
+    let before = world.report().len();
     let is_same = give_words(alloc, world, &words)? == status
         && are_same(alloc, world, "out", "out_again")?
         && are_same(alloc, world, "moves", "moves_again")?;
-    Ok(is_same && world.report().strip_prefix(report) == Some(report))
+    Ok(is_same && world.report().get(before..) == Some(report))
 }
 
 /// Whether `check` finds each packet that was released in a run by the schedule.

@@ -175,6 +175,42 @@ fn a_fault_is_told_with_its_place(rt: HostRuntime) -> Result<(), Fail> {
     Ok(())
 }
 
+/// A capture in nanoseconds, of one packet that was cut.
+const SHORT: [&[u8]; 3] = [
+    BIG_NANO,
+    b"\0\0\0\x01\0\0\0\x07\0\0\0\x0e\0\0\0\x3c",
+    CUT,
+];
+
+/// What the first bytes of it come to, as many as this.
+fn told_of_first(alloc: Global, length: usize) -> Result<String, NoMemory> {
+    Ok(match length {
+        0..24 => format!(in alloc; "offset {length}: short header")?,
+        24 => format!(in alloc; "0 packets")?,
+        25..54 => format!(in alloc; "offset 24: short record")?,
+        _ => format!(in alloc; "1 packets")?,
+    })
+}
+
+/// The least number of its first bytes that do not come to what they should.
+fn first_wrong_length(alloc: Global) -> Result<Option<usize>, NoMemory> {
+    let capture = joined(alloc, &SHORT)?;
+    for length in 0..capture.len() + 1 {
+        let wanted = told_of_first(alloc, length)?;
+        if !come_to(alloc, &capture.as_slice()[..length], &wanted)? {
+            return Ok(Some(length));
+        }
+    }
+    Ok(None)
+}
+
+#[test]
+fn each_first_part_has_its_fault(rt: HostRuntime) -> Result<(), Fail> {
+    let wrong = first_wrong_length(rt.alloc())?;
+    assert!(rt; wrong.is_none(), "{wrong:?}");
+    Ok(())
+}
+
 /// Whether a reader is begun in this unit and gives one packet, and then fails to read.
 fn fails_in_the_second(alloc: Global, reader: &mut Reader, source: &mut Pieces<'_>) -> bool {
     reader.unit() == Unit::Micro

@@ -342,3 +342,18 @@ fn chooses_events(rt: HostRuntime) {
         assert!(rt; chosen == *event, "at {a} and {b}");
     }
 }
+
+/// A thread is chosen though it has made nothing, and one of the last four entries of the other.
+#[test]
+fn chooses_by_what_each_thread_made(rt: HostRuntime) {
+    let step = Event::Step {
+        thread: 1,
+        answer: None,
+    };
+    let log = Event::Log {
+        thread: 1,
+        number: 3,
+    };
+    assert!(rt; auto_event(0, 1, &[0, 0], &[0, 0]) == step);
+    assert!(rt; auto_event(19, 33, &[0, 5], &[0, 0]) == log);
+}
