@@ -1,2 +1,3 @@
 mod Printed
 pub mod NoCommand
+mod ExitCodes

@@ -1,6 +1,7 @@
-ghost use Rattle.std.specs.Prelude.{◌≡◌, ◌<◌, ◌≤◌, ◌+◌, ◌^◌, ◌⊎◌, None, IsTrue, IfErr, IfOk};
+ghost use Rattle.std.specs.Prelude.{◌≡◌, ◌<◌, ◌≤◌, ◌+◌, ◌^◌, ◌⊎◌, None, IsTrue, IfErr, IfOk, IfSome};
 ghost use Rattle.std.specs.IoError.{error_kind};
 ghost use Rattle.world_io.specs.Stream.{Rose};
+ghost use Rattle.job_commands.specs.Status.{IsRefusal};
 ghost use Rattle.job_commands.specs.Words.{asked};
 ghost use Rattle.command_line.specs.Performing.{Performs};
 ghost use Rattle.command_line.specs.Printing.{Prints, asked_text};
@@ -49,11 +50,15 @@ pub fn perform<W: World, C: Clock + Sync, G: Gate + Sync, R: AllocGlobal + Threa
     requires room { (W.ledger world.old).given < 2 ^ 31 }
     ensures performs { IsTrue W.tells → Performs (W.healthy world.old) (C.may clock.now) words.now result
         (W.shown world.old) (W.shown world.new) }
+    ensures printed { IfSome (asked_text words.now) (λ text. (result ≡ Status.Done)
+        ⊎ ((result ≡ Status.WriteFault) ⊎ (result ≡ Status.NoMemory))) }
     ensures bad_words { result ≡ Status.BadWords
         → (asked words.now ≡ None) × (asked_text words.now ≡ None) }
     ensures no_command { asked words.now ≡ None → asked_text words.now ≡ None
         → result ≡ Status.BadWords }
     ensures nothing_asked { result ≡ Status.BadWords → world.new ≡ world.old }
+    ensures creates_nothing { IsRefusal result
+        → (W.ledger world.new).created ≡ (W.ledger world.old).created }
     ensures given { (W.ledger world.new).given ≤ (W.ledger world.old).given + 6 }
     ensures read_fault { result ≡ Status.ReadFault
         → Rose (W.ledger world.old).read_faults (W.ledger world.new).read_faults }
@@ -86,10 +91,15 @@ pub fn answer<W: World, C: Clock + Sync, G: Gate + Sync, R: AllocGlobal + Thread
         ((result ≡ Status.NoMemory) × (world.new ≡ world.old))
         ⊎ Performs (W.healthy world.old) (C.may clock.now) (words_of all) result
         (W.shown world.old) (W.shown world.new)) }
+    ensures printed { IfOk arguments (λ all. IfSome (asked_text (words_of all))
+        (λ text. (result ≡ Status.Done)
+        ⊎ ((result ≡ Status.WriteFault) ⊎ (result ≡ Status.NoMemory)))) }
     ensures bad_words { IfOk arguments (λ all.
         asked (words_of all) ≡ None → asked_text (words_of all) ≡ None
         → (result ≡ Status.BadWords) ⊎ (result ≡ Status.NoMemory)) }
     ensures nothing_asked { result ≡ Status.BadWords → world.new ≡ world.old }
+    ensures creates_nothing { IsRefusal result
+        → (W.ledger world.new).created ≡ (W.ledger world.old).created }
     ensures read_fault { result ≡ Status.ReadFault
         → Rose (W.ledger world.old).read_faults (W.ledger world.new).read_faults }
     ensures write_fault { result ≡ Status.WriteFault

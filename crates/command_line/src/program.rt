@@ -1,7 +1,5 @@
-ghost use Rattle.std.specs.Prelude.{◌≡◌, ◌⊎◌};
+ghost use Rattle.std.specs.Prelude.{◌≡◌, ◌≤◌, ◌⊎◌};
 ghost use Rattle.std.specs.Process.{exit_status};
-ghost use Rattle.job_commands.specs.Status.{exit_code_of};
-ghost use Rattle.job_commands.specs.declared.status.Status.{Status};
 
 use crate::{answer, exit_of};
 use job_commands::{Status, StatusText};
@@ -14,7 +12,9 @@ use var_locks::OpenGate;
 use world_real::{RealClock, RealWorld};
 
 /// The program: performs what its arguments ask for over the files of the system, by its clock and
-/// on its threads, tells what was not done, and ends with the number of the status.
+/// on its threads, tells what was not done, and ends with the number of the status, which is 7 at
+/// most.
+#[tactic(auto, using(crate::proofs::ExitCodes::most_exit_code))]
 pub fn run_program<
     R: Env
         + AllocGlobal
@@ -28,7 +28,7 @@ pub fn run_program<
         + Clone
         + Drop,
 >(rt: &R) -> ExitCode
-    ensures number { (status : Status) × (exit_status result ≡ exit_code_of status) }
+    ensures number { exit_status result ≤ 7 }
 {
     let Ok(own) = rt.clone() else {
         return exit_of(tell(rt, Status::NoMemory));

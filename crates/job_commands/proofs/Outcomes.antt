@@ -20,7 +20,7 @@ use Rattle.job_commands.specs.declared.status.Status.TheVariants as status
 use Rattle.job_commands.specs.Judging.{Judges}
 use Rattle.job_commands.specs.Run.{AcceptsInputs, RunsWhole, RunsToLimit, outputs_of, setting_for}
 use Rattle.job_commands.specs.Status.{AtInputs, AtOutputs, ComesAt, Completes, stage_of, stage_of_limit, outcome_of}
-use Rattle.job_commands.specs.Status.{run_outcome}
+use Rattle.job_commands.specs.Status.{run_outcome, IsRefusal}
 use Rattle.job_commands.specs.Words.{RunNames}
 use Rattle.job_commands.proofs.RunLimits.{stops_are}
 
@@ -155,6 +155,12 @@ run_fault (Err (run_error.Limit l)) e = absurd (cc)
 run_fault (Err run_error.WriteFault) e = refl
 run_fault (Err run_error.NoMemory) e = absurd (cc)
 
+pub run_refuses : (r : Result ⊤ RunError) → IsRefusal (run_outcome r) → ⊥
+run_refuses (Ok done) e = e
+run_refuses (Err (run_error.Limit l)) e = e
+run_refuses (Err run_error.WriteFault) e = e
+run_refuses (Err run_error.NoMemory) e = e
+
 pub not_of_run : (s : Status) (limit : Limit) → s ≡ status.TooLarge limit → stage_of_limit limit ≡ AtOutputs
     → ComesAt AtInputs s → ⊥
 not_of_run s limit e stage h = go (subst (λ (s : Status). ComesAt AtInputs s) e h)
@@ -169,6 +175,11 @@ pub made_completes : (r : Result ⊤ OutputError) → ¬ IsErrOf r output.WriteF
 made_completes (Ok done) never = inl refl
 made_completes (Err output.WriteFault) never = absurd (never refl)
 made_completes (Err output.NoMemory) never = inr refl
+
+pub made_refuses : (r : Result ⊤ OutputError) → IsRefusal (outcome_of r) → ⊥
+made_refuses (Ok done) e = e
+made_refuses (Err output.WriteFault) e = e
+made_refuses (Err output.NoMemory) e = e
 
 pub made_not_at_inputs : (r : Result ⊤ OutputError) → stage_of (outcome_of r) ≡ AtInputs → ⊥
 made_not_at_inputs (Ok done) e = cc

@@ -17,7 +17,7 @@ use Rattle.job_commands.specs.declared.status.InputFault.TheVariants as input
 use Rattle.job_commands.specs.Judging.{IsDecided}
 use Rattle.job_commands.specs.Schedules.{AcceptsScheduleInputs, EndsPlay, JudgesPlay, PlaysWhole, PlaysInOrder}
 use Rattle.job_commands.specs.Schedules.{outcome_for}
-use Rattle.job_commands.specs.Status.{AtInputs, Completes, play_outcome, stage_of}
+use Rattle.job_commands.specs.Status.{AtInputs, Completes, IsRefusal, play_outcome, stage_of}
 use Rattle.job_commands.specs.Words.{PlayNames}
 use Rattle.job_commands.proofs.Outcomes.{written_since, begun_writes_since, kept_shown}
 use Rattle.job_commands.proofs.FilesInTurn.{three_accepted, three_one, three_pass}
@@ -91,6 +91,13 @@ play_fault (Ok done) e = absurd (cc)
 play_fault (Err (error.Refused fault)) e = absurd (cc)
 play_fault (Err error.WriteFault) e = refl
 play_fault (Err error.NoMemory) e = absurd (cc)
+
+pub play_refuses : (r : Result ⊤ (ScheduleError PlayFault)) → IsRefusal (play_outcome r)
+    → (fault : PlayFault) × (r ≡ Err (error.Refused fault))
+play_refuses (Ok done) e = absurd e
+play_refuses (Err (error.Refused fault)) e = (fault, refl)
+play_refuses (Err error.WriteFault) e = absurd e
+play_refuses (Err error.NoMemory) e = absurd e
 
 -- The inputs decide the status.
 

@@ -59,6 +59,18 @@ stage_of NoMemory = AtAnyTime
 stage_of (BadInput fault) = AtInputs
 stage_of (TooLarge limit) = stage_of_limit limit
 
+-- An input file could not be read, or what the inputs say is refused. A limit that is passed is none of these: it may
+-- be one of the run.
+abbrev pub IsRefusal : Status → Type 0
+IsRefusal Done = ⊥
+IsRefusal (Refuted refutation) = Unit {0}
+IsRefusal BadWords = ⊥
+IsRefusal ReadFault = Unit {0}
+IsRefusal WriteFault = ⊥
+IsRefusal NoMemory = ⊥
+IsRefusal (BadInput fault) = Unit {0}
+IsRefusal (TooLarge limit) = ⊥
+
 -- the status comes at this stage, or says that memory ran out
 abbrev pub ComesAt : Stage → Status → Type 0
 ComesAt stage status = (stage_of status ≡ stage) ⊎ (stage_of status ≡ AtAnyTime)

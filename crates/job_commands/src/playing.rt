@@ -8,7 +8,7 @@ ghost use Rattle.schedule_commands.specs.Runs.{CanPlay};
 ghost use Rattle.run_writes.specs.Run.{KeepsShown};
 ghost use Rattle.job_commands.specs.Schedules.{JudgesPlay, PlaysInOrder, PlaysWhole, outcome_for};
 ghost use Rattle.job_commands.specs.Schedules.{schedule_of};
-ghost use Rattle.job_commands.specs.Status.{AtInputs, AtOutputs, stage_of, stage_of_limit};
+ghost use Rattle.job_commands.specs.Status.{AtInputs, AtOutputs, IsRefusal, stage_of, stage_of_limit};
 ghost use Rattle.job_commands.specs.Words.{play_names_of};
 ghost use Rattle.world_io.specs.World.{WritingFailed};
 
@@ -69,6 +69,8 @@ pub fn play_capture<W: World>(alloc: Global, world: &mut W, names: PlayWords<'_>
         → PlaysInOrder (play_names_of names.entry) (W.shown world.old) (W.shown world.new) }
     ensures refused { IsTrue W.tells → stage_of result ≡ AtInputs
         → KeepsShown (W.shown world.old) (W.shown world.new) }
+    ensures creates_nothing { IsRefusal result
+        → (W.ledger world.new).created ≡ (W.ledger world.old).created }
     ensures words { result ≡ Status.BadWords → ⊥ }
     ensures given { (W.ledger world.new).given ≤ (W.ledger world.old).given + 4 }
     ensures read_fault { result ≡ Status.ReadFault

@@ -6,7 +6,7 @@ ghost use Rattle.output_files.specs.Written.{WritesFiles};
 ghost use Rattle.run_writes.specs.Run.{KeepsShown};
 ghost use Rattle.live_writes.specs.Outputs.{AreApart, CanLive};
 ghost use Rattle.live_command.specs.Plans.{LivesInOrder, LivesToLimit, LivesWhole};
-ghost use Rattle.job_commands.specs.Status.{AtInputs, stage_of};
+ghost use Rattle.job_commands.specs.Status.{AtInputs, IsRefusal, stage_of};
 ghost use Rattle.job_commands.specs.Words.{live_names_of};
 ghost use Rattle.job_commands.specs.declared.status.Status.TheVariants as status;
 ghost use Rattle.job_top.specs.Live.{JudgesLive, LivesFiles, LivesLimit, LivesOrder};
@@ -89,6 +89,8 @@ pub(crate) fn live<
     ensures refused { IsTrue W.tells → stage_of result ≡ AtInputs
         → ((limit : LimitKind) → result ≡ Status.TooLarge limit → ⊥)
         → KeepsShown (W.shown world.old) (W.shown world.new) }
+    ensures creates_nothing { IsRefusal result
+        → (W.ledger world.new).created ≡ (W.ledger world.old).created }
     ensures words { result ≡ Status.BadWords → ⊥ }
     ensures given { (W.ledger world.new).given ≤ (W.ledger world.old).given + 6 }
     ensures read_fault { result ≡ Status.ReadFault

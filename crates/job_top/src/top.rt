@@ -10,7 +10,7 @@ ghost use Rattle.job_top.specs.Headline.{KeepsPromiseOf, KeepsRunPromise};
 ghost use Rattle.job_commands.specs.Judging.{Judges};
 ghost use Rattle.job_commands.specs.Run.{RunsInOrder, RunsToLimit, RunsWhole, outputs_of};
 ghost use Rattle.job_commands.specs.Run.{script_of, setting_for};
-ghost use Rattle.job_commands.specs.Status.{AtInputs, AtOutputs, stage_of, stage_of_limit};
+ghost use Rattle.job_commands.specs.Status.{AtInputs, AtOutputs, IsRefusal, stage_of, stage_of_limit};
 ghost use Rattle.job_commands.specs.Words.{asked, IfAsks, live_names, names_of};
 ghost use Rattle.world_io.specs.World.{WritingFailed};
 
@@ -86,6 +86,8 @@ fn run<W: World>(alloc: Global, world: &mut W, names: RunWords<'_>) -> Status
         → RunsInOrder (names_of names.entry) (W.shown world.old) (W.shown world.new) }
     ensures refused { IsTrue W.tells → stage_of result ≡ AtInputs
         → KeepsShown (W.shown world.old) (W.shown world.new) }
+    ensures creates_nothing { IsRefusal result
+        → (W.ledger world.new).created ≡ (W.ledger world.old).created }
     ensures words { result ≡ Status.BadWords → ⊥ }
     ensures given { (W.ledger world.new).given ≤ (W.ledger world.old).given + 5 }
     ensures read_fault { result ≡ Status.ReadFault
@@ -119,7 +121,8 @@ pub fn serial<W: World>(alloc: Global, words: &[Text], world: &mut W) -> Status
         (λ command. KeepsPromiseOf command (W.shown world.old) (W.shown world.new)) }
 
     // What any other answer leaves: the outputs up to a limit, a first part of them in their
-    // order, or nothing where an input is refused. No other file changes.
+    // order, or nothing where an input is refused, when also a world that does not tell its bytes
+    // created nothing. No other file changes.
     ensures limit { IsTrue W.tells → (limit : LimitKind) → result ≡ Status.TooLarge limit
         → IfAsks words.now
         (λ command. StopsAtLimit command limit (W.shown world.old) (W.shown world.new)) }
@@ -127,6 +130,8 @@ pub fn serial<W: World>(alloc: Global, words: &[Text], world: &mut W) -> Status
         (λ command. LeavesInOrder command (W.shown world.old) (W.shown world.new)) }
     ensures refused { IsTrue W.tells → IfAsks words.now (λ command.
         stage_in command result ≡ AtInputs → KeepsShown (W.shown world.old) (W.shown world.new)) }
+    ensures creates_nothing { IsRefusal result
+        → (W.ledger world.new).created ≡ (W.ledger world.old).created }
     ensures others { IsTrue W.tells → IfAsks words.now
         (λ command. KeepsNames command (W.shown world.old) (W.shown world.new)) }
 
@@ -209,7 +214,8 @@ pub fn ftmb<W: World, C: Clock + Sync, G: Gate + Sync, R: AllocGlobal + Threads 
         (λ command. KeepsPromiseOf command (W.shown world.old) (W.shown world.new)) }
 
     // What any other answer leaves: the outputs up to a limit, a first part of them in their
-    // order, or nothing where an input is refused. No other file changes.
+    // order, or nothing where an input is refused, when also a world that does not tell its bytes
+    // created nothing. No other file changes.
     ensures limit { IsTrue W.tells → (limit : LimitKind) → result ≡ Status.TooLarge limit
         → IfAsks words.now
         (λ command. StopsAtLimit command limit (W.shown world.old) (W.shown world.new)) }
@@ -217,6 +223,8 @@ pub fn ftmb<W: World, C: Clock + Sync, G: Gate + Sync, R: AllocGlobal + Threads 
         (λ command. LeavesInOrder command (W.shown world.old) (W.shown world.new)) }
     ensures refused { IsTrue W.tells → IfAsks words.now (λ command.
         stage_in command result ≡ AtInputs → KeepsShown (W.shown world.old) (W.shown world.new)) }
+    ensures creates_nothing { IsRefusal result
+        → (W.ledger world.new).created ≡ (W.ledger world.old).created }
     ensures others { IsTrue W.tells → IfAsks words.now
         (λ command. KeepsNames command (W.shown world.old) (W.shown world.new)) }
 

@@ -1,7 +1,8 @@
 use Rattle.std.proofs.Common.{◌≡◌}
+use Rattle.command_line.specs.Printing.{asked_text}
 use Rattle.command_line.specs.Request.{request_of}
 use Rattle.command_line.specs.declared.request.Request.TheVariants.{Command}
-use Rattle.command_line.proofs.NoCommand.{prints_nothing}
+use Rattle.command_line.proofs.NoCommand.{any_text, no_text, printed_refuses, prints_nothing}
 use Rattle.command_line.proofs.answering.perform.Goals as goal
 
 pub returns-in-Command-clause-performs : goal.returns-in-Command-clause-performs
@@ -22,3 +23,24 @@ returns-in-Command-clause-performs g c told =
       judged = done.judged told;
       completes = λ ok. done.completes ok told;
     }
+
+pub returns-in-Command-clause-printed : goal.returns-in-Command-clause-printed
+returns-in-Command-clause-printed g c =
+    let asks = c.in-Command.ensures in
+    let here = c.in-Command.is in
+    let is : request_of c.args.words.now ≡ Command = cc in
+    no_text c.args.words.now _ is
+
+pub returns-in-Help-clause-printed : goal.returns-in-Help-clause-printed
+returns-in-Help-clause-printed g c = any_text (asked_text c.args.words.now) _ c.print-in-Help.ensures.outcome
+
+pub returns-in-Help-clause-creates_nothing : goal.returns-in-Help-clause-creates_nothing
+returns-in-Help-clause-creates_nothing g c e =
+    absurd (printed_refuses c.print-in-Help.result c.print-in-Help.ensures.outcome e)
+
+pub returns-in-Version-clause-printed : goal.returns-in-Version-clause-printed
+returns-in-Version-clause-printed g c = any_text (asked_text c.args.words.now) _ c.print-in-Version.ensures.outcome
+
+pub returns-in-Version-clause-creates_nothing : goal.returns-in-Version-clause-creates_nothing
+returns-in-Version-clause-creates_nothing g c e =
+    absurd (printed_refuses c.print-in-Version.result c.print-in-Version.ensures.outcome e)

@@ -43,6 +43,10 @@ returns-in-Ok-clause-refused g c told e =
     (ap stage_of (sym c.check_outcome.ensures) ∙ e)
     (λ x is. ap g.W.World.shown (sym (c.check_box.ensures.refused x is)))
 
+pub returns-in-Ok-clause-creates_nothing : goal.returns-in-Ok-clause-creates_nothing
+returns-in-Ok-clause-creates_nothing g c e =
+    c.check_box.ensures.only_writes.ledger.created ∙ c.in-Ok.ensures.only_reads.ledger.created
+
 pub returns-in-Ok-clause-words : goal.returns-in-Ok-clause-words
 returns-in-Ok-clause-words g c e = check_words c.check_box.result (sym c.check_outcome.ensures ∙ e)
 
@@ -55,6 +59,9 @@ returns-in-Ok-clause-write_fault g c e =
     (c.check_box.ensures.cause (check_fault c.check_box.result (sym c.check_outcome.ensures ∙ e)))
 
 -- an input is refused
+
+pub returns-in-Err-clause-creates_nothing : goal.returns-in-Err-clause-creates_nothing
+returns-in-Err-clause-creates_nothing g c e = c.in-Err.ensures.only_reads.ledger.created
 
 pub returns-in-Err-clause-done : goal.returns-in-Err-clause-done
 returns-in-Err-clause-done g c told e = absurd (quiet_done c.in-Err.status e c.in-Err.ensures.quiet)

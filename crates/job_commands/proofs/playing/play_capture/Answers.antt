@@ -1,11 +1,12 @@
-use Rattle.std.proofs.Common.{ap, sym, ◌∙◌, inl, inr}
-use Rattle.job_commands.specs.Status.{stage_of}
+use Rattle.std.proofs.Common.{ap, sym, subst, ◌∙◌, inl, inr}
+use Rattle.job_commands.specs.declared.status.Status.{Status}
+use Rattle.job_commands.specs.Status.{IsRefusal, stage_of}
 use Rattle.job_commands.specs.Words.{play_names_of}
 use Rattle.job_commands.proofs.Outcomes.{kept, not_of_run}
 use Rattle.job_commands.proofs.Stages.{quiet_words, quiet_writing, quiet_done}
 use Rattle.job_commands.proofs.FilesInTurn.{three_refused}
 use Rattle.job_commands.proofs.Plays.{play_judged, play_done, play_in_order, play_refused, play_limit, play_words}
-use Rattle.job_commands.proofs.Plays.{play_reads, play_fault}
+use Rattle.job_commands.proofs.Plays.{play_reads, play_refuses, play_fault}
 use Rattle.job_commands.specs.Schedules.{EndsPlay}
 use Rattle.job_commands.proofs.Failing.{failed_since}
 use Rattle.job_commands.proofs.playing.play_capture.Goals as goal
@@ -41,6 +42,12 @@ returns-in-Ok-clause-refused g c told e =
     (c.in-Ok.ensures.only_reads.outputs told) (c.in-Ok.ensures.judged told) c.play_box.result
     (ap stage_of (sym c.play_outcome.ensures) ∙ e) (λ x is. ap g.W.World.shown (sym (c.play_box.ensures.refused x is)))
 
+pub returns-in-Ok-clause-creates_nothing : goal.returns-in-Ok-clause-creates_nothing
+returns-in-Ok-clause-creates_nothing g c e =
+    let r = play_refuses c.play_box.result (subst (λ (s : Status). IsRefusal s) c.play_outcome.ensures e) in
+    ap (λ z. (g.W.World.ledger z).created) (c.play_box.ensures.refused r.0 r.1)
+    ∙ c.in-Ok.ensures.only_reads.ledger.created
+
 pub returns-in-Ok-clause-words : goal.returns-in-Ok-clause-words
 returns-in-Ok-clause-words g c e = play_words c.play_box.result (sym c.play_outcome.ensures ∙ e)
 
@@ -53,6 +60,9 @@ returns-in-Ok-clause-write_fault g c e =
     (c.play_box.ensures.cause (play_fault c.play_box.result (sym c.play_outcome.ensures ∙ e)))
 
 -- an input is refused
+
+pub returns-in-Err-clause-creates_nothing : goal.returns-in-Err-clause-creates_nothing
+returns-in-Err-clause-creates_nothing g c e = c.in-Err.ensures.only_reads.ledger.created
 
 pub returns-in-Err-clause-done : goal.returns-in-Err-clause-done
 returns-in-Err-clause-done g c told e = absurd (quiet_done c.in-Err.status e c.in-Err.ensures.quiet)

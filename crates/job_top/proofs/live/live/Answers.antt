@@ -1,8 +1,9 @@
-use Rattle.std.proofs.Common.{ap, sym, ◌∙◌, inl, inr}
+use Rattle.std.proofs.Common.{ap, sym, subst, ◌∙◌, inl, inr}
 use Rattle.live_writes.specs.Outputs.{AreApart}
-use Rattle.job_commands.specs.Status.{stage_of}
+use Rattle.job_commands.specs.declared.status.Status.{Status}
+use Rattle.job_commands.specs.Status.{IsRefusal, stage_of}
 use Rattle.job_commands.specs.Words.{live_names_of}
-use Rattle.job_commands.proofs.Outcomes.{kept, run_words, run_reads, run_fault}
+use Rattle.job_commands.proofs.Outcomes.{kept, run_words, run_reads, run_refuses, run_fault}
 use Rattle.job_commands.proofs.Stages.{quiet_words, quiet_writing, quiet_done}
 use Rattle.job_commands.proofs.Failing.{failed_since}
 use Rattle.job_top.specs.Live.{live_outputs, live_setting}
@@ -65,6 +66,10 @@ returns-in-Ok-clause-in_order g c told =
           (c.live_box.ensures.in_order told),
     )
 
+pub returns-in-Ok-clause-creates_nothing : goal.returns-in-Ok-clause-creates_nothing
+returns-in-Ok-clause-creates_nothing g c e =
+    absurd (run_refuses c.live_box.result (subst (λ (s : Status). IsRefusal s) c.run_outcome.ensures e))
+
 pub returns-in-Ok-clause-words : goal.returns-in-Ok-clause-words
 returns-in-Ok-clause-words g c e = run_words c.live_box.result (sym c.run_outcome.ensures ∙ e)
 
@@ -77,6 +82,9 @@ returns-in-Ok-clause-write_fault g c e =
     (c.live_box.ensures.cause (run_fault c.live_box.result (sym c.run_outcome.ensures ∙ e)))
 
 -- an input is refused
+
+pub returns-in-Err-clause-creates_nothing : goal.returns-in-Err-clause-creates_nothing
+returns-in-Err-clause-creates_nothing g c e = c.in-Err.ensures.only_reads.ledger.created
 
 pub returns-in-Err-clause-done : goal.returns-in-Err-clause-done
 returns-in-Err-clause-done g c told e = absurd (quiet_done c.in-Err.status e c.in-Err.ensures.quiet)

@@ -1,9 +1,10 @@
-use Rattle.std.proofs.Common.{ap, sym, ◌∙◌, inl, inr}
+use Rattle.std.proofs.Common.{ap, sym, subst, ◌∙◌, inl, inr}
 use Rattle.job_commands.specs.Run.{outputs_of, setting_for}
-use Rattle.job_commands.specs.Status.{stage_of}
+use Rattle.job_commands.specs.declared.status.Status.{Status}
+use Rattle.job_commands.specs.Status.{IsRefusal, stage_of}
 use Rattle.job_commands.specs.Words.{names_of}
 use Rattle.job_commands.proofs.Outcomes.{whole_since, stopped_since, begun_since, kept, run_judged, run_done, run_limit}
-use Rattle.job_commands.proofs.Outcomes.{not_at_inputs, run_words, run_reads, run_fault, not_of_run}
+use Rattle.job_commands.proofs.Outcomes.{not_at_inputs, run_words, run_reads, run_refuses, run_fault, not_of_run}
 use Rattle.job_commands.proofs.Stages.{quiet_words, quiet_writing, quiet_done}
 use Rattle.job_commands.proofs.Failing.{failed_since}
 use Rattle.job_top.proofs.Promise.{promise}
@@ -70,6 +71,10 @@ returns-in-Ok-clause-refused g c told e =
     (λ l is. stopped_since _ _ _ (c.in-Ok.ensures.only_reads.outputs told) (setting_for i)
     (outputs_of (names_of c.args.names)) i.events l (c.run_box.ensures.limit told l is)))
 
+pub returns-in-Ok-clause-creates_nothing : goal.returns-in-Ok-clause-creates_nothing
+returns-in-Ok-clause-creates_nothing g c e =
+    absurd (run_refuses c.run_box.result (subst (λ (s : Status). IsRefusal s) c.run_outcome.ensures e))
+
 pub returns-in-Ok-clause-words : goal.returns-in-Ok-clause-words
 returns-in-Ok-clause-words g c e = run_words c.run_box.result (sym c.run_outcome.ensures ∙ e)
 
@@ -82,6 +87,9 @@ returns-in-Ok-clause-write_fault g c e =
     (c.run_box.ensures.cause (run_fault c.run_box.result (sym c.run_outcome.ensures ∙ e)))
 
 -- an input is refused
+
+pub returns-in-Err-clause-creates_nothing : goal.returns-in-Err-clause-creates_nothing
+returns-in-Err-clause-creates_nothing g c e = c.in-Err.ensures.only_reads.ledger.created
 
 pub returns-in-Err-clause-done : goal.returns-in-Err-clause-done
 returns-in-Err-clause-done g c told e = absurd (quiet_done c.in-Err.status e c.in-Err.ensures.quiet)

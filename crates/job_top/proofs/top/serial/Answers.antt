@@ -1,8 +1,9 @@
-use Rattle.std.proofs.Common.{ap, sym, ◌∙◌, Some}
-use Rattle.job_commands.specs.Status.{stage_of}
+use Rattle.std.proofs.Common.{ap, sym, subst, ◌∙◌, Some}
+use Rattle.job_commands.specs.declared.status.Status.{Status}
+use Rattle.job_commands.specs.Status.{IsRefusal, stage_of}
 use Rattle.job_commands.specs.Words.{asked_of, check_names, check_names_of, live_names, live_names_of, made_of, make_names}
 use Rattle.job_commands.specs.Words.{names_of, play_names, play_names_of, run_names}
-use Rattle.job_commands.proofs.Outcomes.{made_completes, made_not_at_inputs}
+use Rattle.job_commands.proofs.Outcomes.{made_completes, made_refuses, made_not_at_inputs}
 use Rattle.job_commands.proofs.OneVerdict.{run_completes}
 use Rattle.job_commands.proofs.Plays.{play_completes}
 use Rattle.job_commands.proofs.Finds.{check_completes}
@@ -40,6 +41,10 @@ pub returns-in-Some-Make-clause-refused : goal.returns-in-Some-Make-clause-refus
 returns-in-Some-Make-clause-refused g c told =
     rw (c.in-Some-Make.ensures, c.in-Some-Make.field-0-is)
     (λ e. absurd (made_not_at_inputs c.make_capture.result (ap stage_of (sym c.outcome.ensures) ∙ e)))
+
+pub returns-in-Some-Make-clause-creates_nothing : goal.returns-in-Some-Make-clause-creates_nothing
+returns-in-Some-Make-clause-creates_nothing g c e =
+    absurd (made_refuses c.make_capture.result (subst (λ (s : Status). IsRefusal s) c.outcome.ensures e))
 
 pub returns-in-Some-Play-clause-refused : goal.returns-in-Some-Play-clause-refused
 returns-in-Some-Play-clause-refused g c told =
