@@ -1,5 +1,6 @@
 //! An event is performed and told: its line goes to the script, and what it leaves to the other outputs.
-ghost use Rattle.std.specs.Prelude.{◌≡◌, ◌∷◌, ◌++◌, ◌≤◌, [], List, ℕ, All, OnOk, IsTrue, IsErrOf, false};
+ghost use Rattle.std.specs.Prelude.{◌≡◌, ◌∷◌, ◌++◌, ◌≤◌, [], List, ℕ, All, length, OnOk, IsTrue, IsErrOf};
+ghost use Rattle.std.specs.Prelude.{false};
 ghost use Rattle.plain_text.specs.Packets.{IsShort};
 ghost use Rattle.plain_text.specs.declared.limit.TheConstants.{MOST_EVENTS as most_events};
 ghost use Rattle.plain_text.specs.declared.limit.TheConstants.{MOST_FILE_BYTES as most_bytes};
@@ -52,6 +53,8 @@ fn leave<P: Program, W: World>(
         → IsSystemAt m s w old → s.threads ≤ 16
         → GoesOver result m s names w events (event.now ∷ []) new lines.new script.new before
         (W.shown world.new) }
+    ensures gathered { OnOk result
+        ((length lines.new ≤ 65536) × (length script.new.text ≤ 65536)) }
     ensures ended { OnOk result (IsOk performed.now.reply) }
     ensures count { script.new.count ≡ script.old.count }
     ensures size { script.new.size ≡ script.old.size }
@@ -95,6 +98,8 @@ pub(crate) fn tell<P: Program, W: World>(
         script.old before (W.shown world.old)
         → GoesOver result (P.meaning system.old.parts.program) s names w events
         (event.now ∷ []) system.new lines.new script.new before (W.shown world.new) }
+    ensures gathered { OnOk result
+        ((length lines.new ≤ 65536) × (length script.new.text ≤ 65536)) }
     ensures few { script.new.count ≤ most_events }
     ensures short { script.new.size ≤ most_bytes }
     ensures runs { OnOk result (system.new.stopped ≡ false) }

@@ -1,5 +1,6 @@
 //! The steps of a round are told.
-ghost use Rattle.std.specs.Prelude.{◌≡◌, ◌∷◌, ◌++◌, ◌≤◌, [], List, ℕ, IfOk, IsTrue, IsErrOf};
+ghost use Rattle.std.specs.Prelude.{◌≡◌, ◌∷◌, ◌++◌, ◌≤◌, [], List, ℕ, length, IfOk, OnOk, IsTrue};
+ghost use Rattle.std.specs.Prelude.{IsErrOf};
 ghost use Rattle.std.specs.String.{string_bytes};
 ghost use Rattle.recovery_world.specs.Files.{reply_line};
 ghost use Rattle.plain_text.specs.declared.limit.TheConstants.{MOST_EVENTS as most_events};
@@ -56,6 +57,8 @@ fn tell_step<X, W: World>(
         → OnWithin s w (event_noted step.now) step.now.outcome [] next
         → NotesOver result s names events (event_noted step.now ∷ []) next lines.new script.new
         before (W.shown world.new) }
+    ensures gathered { OnOk result
+        ((length lines.new ≤ 65536) × (length script.new.text ≤ 65536)) }
     ensures few { script.new.count ≤ most_events }
     ensures short { script.new.size ≤ most_bytes }
     ensures only_writes { OnlyWrites W.tells W.shown W.ledger W.healthy world.old world.new }

@@ -1,5 +1,5 @@
 //! Lines of the report and of the script are gathered, and written where something else is to be written behind them.
-ghost use Rattle.std.specs.Prelude.{◌≡◌, ◌∷◌, ◌++◌, ◌≤◌, [], List, ℕ, OnOk, IsTrue, IsErrOf};
+ghost use Rattle.std.specs.Prelude.{◌≡◌, ◌∷◌, ◌++◌, ◌≤◌, [], List, ℕ, length, OnOk, IsTrue, IsErrOf};
 ghost use Rattle.plain_text.specs.declared.limit.Limit.{Limit as LimitKind};
 ghost use Rattle.plain_text.specs.declared.limit.TheConstants.{MOST_EVENTS as most_events};
 ghost use Rattle.plain_text.specs.declared.limit.TheConstants.{MOST_FILE_BYTES as most_bytes};
@@ -122,6 +122,8 @@ pub(crate) fn gather<X, W: World>(
         (W.shown world.old) → IsQuiet s w ev line.now next
         → Keeps result s names (events ++ ev ∷ []) (events ++ ev ∷ []) next lines.new
         script.new before (W.shown world.new) }
+    ensures gathered { OnOk result
+        ((length lines.new ≤ 65536) × (length script.new.text ≤ 65536)) }
     ensures count { script.new.count ≡ script.old.count }
     ensures size { script.new.size ≡ script.old.size }
     ensures only_writes { OnlyWrites W.tells W.shown W.ledger W.healthy world.old world.new }

@@ -1,4 +1,4 @@
-ghost use Rattle.std.specs.Prelude.{◌≡◌, ◌++◌, ℕ, All, List, OnOk, IsTrue, IsErrOf};
+ghost use Rattle.std.specs.Prelude.{◌≡◌, ◌≤◌, ◌++◌, ℕ, All, List, length, OnOk, IsTrue, IsErrOf};
 ghost use Rattle.std.specs.Result.{IsOk};
 ghost use Rattle.plain_text.specs.Packets.{IsShort};
 ghost use Rattle.recovery_world.specs.World.{Sent};
@@ -40,6 +40,7 @@ fn write_answer<W: World>(
           released = packets_in outputs.now;
           line = reply_line event.now reply.now.outcome freed;
         })) lines.new before (W.shown world.new) }
+    ensures gathered { OnOk result (length lines.new ≤ 65536) }
     ensures fit_records { OnOk result (All FitsRecord (packets_in outputs.now)) }
     ensures only_writes { OnlyWrites W.tells W.shown W.ledger W.healthy world.old world.new }
     ensures cause { IsErrOf result OutputError.WriteFault
@@ -67,6 +68,7 @@ pub fn write_performed<W: World>(
         → HasGathered writes lines.old before (W.shown world.old)
         → WritesPerformed result performed.now.reply event.now (packets_in performed.now.outputs)
         writes name lines.new before (W.shown world.new) }
+    ensures gathered { OnOk result (length lines.new ≤ 65536) }
     ensures ended { OnOk result (IsOk performed.now.reply) }
     ensures only_writes { OnlyWrites W.tells W.shown W.ledger W.healthy world.old world.new }
     ensures cause { IsErrOf result RunError.WriteFault

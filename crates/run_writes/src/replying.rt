@@ -1,4 +1,5 @@
-ghost use Rattle.std.specs.Prelude.{◌≡◌, ◌<◌, ◌^◌, ◌∷◌, ◌++◌, [], ℕ, All, List, IfOk, OnOk, OnErr};
+ghost use Rattle.std.specs.Prelude.{◌≡◌, ◌<◌, ◌≤◌, ◌^◌, ◌∷◌, ◌++◌, [], ℕ, All, List, length, IfOk, OnOk};
+ghost use Rattle.std.specs.Prelude.{OnErr};
 ghost use Rattle.std.specs.Prelude.{IsTrue, IsErrOf};
 ghost use Rattle.plain_text.specs.Octets.{AreBytes};
 ghost use Rattle.plain_text.specs.Packets.{IsShort};
@@ -84,6 +85,7 @@ fn write_both<W: World>(
         → HasGathered writes lines.old before (W.shown world.old)
         → WritesGathered result (writes ++ (Appends name records.now ∷ Reports line.now ∷ []))
         lines.new before (W.shown world.new) }
+    ensures gathered { OnOk result (length lines.new ≤ 65536) }
     ensures only_writes { OnlyWrites W.tells W.shown W.ledger W.healthy world.old world.new }
     ensures cause { IsErrOf result OutputError.WriteFault
         → WritingFailed W.ledger W.healthy world.old world.new }
@@ -97,7 +99,7 @@ fn write_both<W: World>(
 }
 
 /// Writes what an event that was performed leaves: the records of what it released, and then its line, which may be
-/// gathered.
+/// gathered: 65,536 bytes at most.
 pub fn write_reply<W: World>(
     alloc: Global,
     world: &mut W,
@@ -115,6 +117,7 @@ pub fn write_reply<W: World>(
           released = packets_in outputs.now;
           line = line.now;
         })) lines.new before (W.shown world.new) }
+    ensures gathered { OnOk result (length lines.new ≤ 65536) }
     ensures fit_records { OnOk result (All FitsRecord (packets_in outputs.now)) }
     ensures only_writes { OnlyWrites W.tells W.shown W.ledger W.healthy world.old world.new }
     ensures cause { IsErrOf result OutputError.WriteFault
