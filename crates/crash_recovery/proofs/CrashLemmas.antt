@@ -42,8 +42,7 @@ module _ {P V : Type 0} (m : Meaning V) (s : Setting V) (w : World V) (y : Parts
         bytes = st.master.bytes;
       };
       snapshots = record {
-        first =
-            subst (λ (x : Snapshot V). IsSnapshot s y.sent y.logger.released w.stored x) (sym same) st.snapshots.first;
+        first = subst (λ (x : Snapshot V). IsSnapshot s w.stored x) (sym same) st.snapshots.first;
         copied = λ moment is. absurd (cc);
         none = λ is. none;
       };

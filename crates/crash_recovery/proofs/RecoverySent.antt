@@ -6,11 +6,8 @@ use Rattle.std.proofs.lemmas.Bool.{cases_lt}
 use Rattle.std.proofs.lemmas.List.{length-take-le}
 use Rattle.plain_text.specs.declared.packet.Packet.{Packet}
 use Rattle.plain_text.specs.declared.kind.Kind.TheVariants.{Log, Out}
-use Rattle.entry_order.specs.Log.{Entry, entries, IsLog, IsIn}
-use Rattle.entry_order.specs.Stamps.{IsStamp, IsOutputStamp}
-use Rattle.entry_order.proofs.Order.{number_within, entry_there}
-use Rattle.entry_order.proofs.Joins.{output_stamp_is, output_stamp_of, zero_first, first_is_zero}
-use Rattle.line_order.proofs.OneLine.{closed_stamp}
+use Rattle.entry_order.specs.Log.{Entry, entries, IsIn}
+use Rattle.entry_order.proofs.Order.{number_within}
 use Rattle.line_order.proofs.QuietMoves.{sends_later}
 use Rattle.access_log.specs.declared.entry.Output.{Output}
 use Rattle.access_log.specs.Held.{Lane, lane}
@@ -25,7 +22,8 @@ use Rattle.plain_machine.specs.Agree.{IsEarlier, SendsAfter}
 use Rattle.plain_machine.proofs.Histories.{history_log, earlier_history, earlier_log, earlier_outputs}
 use Rattle.plain_machine.proofs.LoggedEffects.{entry_thread}
 use Rattle.master_core.specs.declared.parts.ThreadPart.{ThreadPart}
-use Rattle.master_core.proofs.Moments.{moment_closed, none_past_threads}
+use Rattle.master_core.proofs.Moments.{none_past_threads}
+use Rattle.master_core.specs.Mastered.{Mastered}
 use Rattle.output_logger.specs.Logger.{IsAmong}
 use Rattle.snapshot_store.specs.Stored.{Snapshot}
 use Rattle.recovery_world.specs.World.{Setting, Sent, World, inputs_fed}
@@ -36,7 +34,9 @@ use Rattle.recovery_laws.proofs.Finishes.{sends_thread}
 use Rattle.recovery_laws.proofs.OneOutcome.{output_one}
 use Rattle.sent_frames.specs.Sending.{Sending, lengths_of, length_at, entry_size, output_size, entry_address}
 use Rattle.sent_frames.specs.Sending.{output_address, HasOutputFrame}
-use Rattle.system_parts.specs.SystemStanding.{IsSentEntry, IsSentOutput, HasSent, IsKeptOutput, IsSnapshot}
+use Rattle.system_parts.specs.SystemStanding.{IsSentEntry, IsSentOutput, HasSent, IsSnapshot}
+use Rattle.crash_recovery.proofs.EarlierStamps.{stamp_back, output_back, few_entries}
+use Rattle.crash_recovery.proofs.UnreleasedLemmas.{IsKeptOutput, AreSentAgain}
 use Rattle.crash_recovery.specs.Recovering.{TurnsLinks, SendsRest}
 use Rattle.system_parts.proofs.OutputNumbers.{output_there}
 
@@ -67,53 +67,11 @@ no_outputs m inputs threads steps t h high = go (cases_lt 0 (outputs t (sent_of 
         let own : g.0.thread ≡ t = g.3 in
         absurd (omega (arith, low, own, high))
 
--- Stamps of an earlier moment
-module _ {V : Type 0} (m : Meaning V) (inputs : ℕ → List Packet) (threads : ℕ) (past stored : List (Step V))
-    (legal : IsHistory m inputs threads past) (early : IsEarlier stored past) where
-  stored_legal : IsHistory m inputs threads stored
-  stored_legal = earlier_history m inputs threads stored past early legal
-
-  stored_log : IsLog (log_of stored)
-  stored_log = history_log m inputs threads stored stored_legal
-
-  past_log : IsLog (log_of past)
-  past_log = history_log m inputs threads past legal
-
-  stamp_back : (e : Entry) (r : ℕ → ℕ) → IsIn e (log_of stored) → IsStamp (log_of past) e r
-      → IsStamp (log_of stored) e r
-  stamp_back e r i st =
-      closed_stamp (log_of past) (log_of stored) (log_of stored) e r
-      (moment_closed m inputs threads past stored legal early) (λ x k. earlier_log stored past x early k)
-      (λ x y a b n. a) (λ x k. k) i st
-
-  output_back : (t n : ℕ) (r : ℕ → ℕ) → n ≤ entries t (log_of stored) → IsOutputStamp (log_of past) t n r
-      → IsOutputStamp (log_of stored) t n r
-  output_back t zero r low st = first_is_zero (log_of stored) t r stored_log (zero_first (log_of past) t r past_log st)
-  output_back t (suc n) r low st =
-      let k = entry_there (log_of stored) t (suc n) stored_log (omega arith) low in
-      output_stamp_is (log_of stored) t (suc n) k.0 r stored_log k.1 k.2 k.3 (stamp_back k.0 r k.1
-      (output_stamp_of (log_of past) t (suc n) k.0 r past_log (earlier_log stored past k.0 early k.1) k.2 k.3 st))
-
-  few_entries : (t : ℕ) → entries t (log_of stored) ≤ entries t (log_of past)
-  few_entries t = go (cases_lt (entries t (log_of past)) (entries t (log_of stored)))
-    where
-      go : (entries t (log_of past) < entries t (log_of stored)) ⊎ (entries t (log_of stored) ≤ entries t (log_of past))
-          → entries t (log_of stored) ≤ entries t (log_of past)
-      go (inr low) = low
-      go (inl high) =
-          let g =
-          entry_there (log_of stored) t (entries t (log_of stored)) stored_log (omega (arith, high)) (omega arith) in
-          let k = (number_within (log_of past) g.0 past_log (earlier_log stored past g.0 early g.1)).1 in
-          let most : g.0.number ≤ entries t (log_of past) =
-          subst (λ (u : ℕ). g.0.number ≤ entries u (log_of past)) g.2 k in
-          let is : g.0.number ≡ entries t (log_of stored) = g.3 in
-          absurd (omega (arith, most, is, high))
-
 -- What was sent
 module _ {V : Type 0} (s : Setting V) (w : World V) (sound : Sound s w) (held now_held : List Lane)
-    (released now_released : List Numbers) (old mid new : Sending) (snap : Snapshot V)
-    (kept : IsSnapshot s old released w.stored snap) (turns : TurnsLinks snap.master s.threads old mid)
-    (rest : SendsRest now_released snap.outbox mid new)
+    (released now_released : List Numbers) (old mid new : Sending) (snap : Snapshot V) (outbox : List Output)
+    (kept : IsSnapshot s w.stored snap) (turns : TurnsLinks snap.master s.threads old mid)
+    (again : AreSentAgain w old released outbox) (rest : SendsRest now_released outbox mid new)
     (marks : (t n : ℕ) → WasMarked released t n → WasMarked now_released t n)
     (covered : (t : ℕ) → (lane now_held t).covered ≡ entries t (log_of w.stored))
     (h : HasSent w.epoch w.past held released old) where
@@ -182,7 +140,7 @@ module _ {V : Type 0} (s : Setting V) (w : World V) (sound : Sound s w) (held no
       go (inr k) = absurd (let no = k.1 in cc)
 
   output_again : (o : Sent) → SendsAfter w.stored o.emission o.after → IsSentOutput (log_of w.stored) now_released new o
-  output_again o sends = go (kept.has o sends)
+  output_again o sends = go (again.has o sends)
     where
       was : IsSentOutput (log_of w.past) released old o
       was = h.output_sent o (sends_later w.stored w.past o.emission o.after sound.firm.stored sends)
@@ -234,11 +192,11 @@ module _ {V : Type 0} (s : Setting V) (w : World V) (sound : Sound s w) (held no
 
       pick : (x : Output) → IsKeptOutput (log_of w.stored) old x o
           → WasMarked now_released x.thread x.number
-          ⊎ ((v : Output) × IsAmong v snap.outbox × (v.thread ≡ x.thread) × (v.number ≡ x.number)
+          ⊎ ((v : Output) × IsAmong v outbox × (v.thread ≡ x.thread) × (v.number ≡ x.number)
           × HasOutputFrame new v) → IsSentOutput (log_of w.stored) now_released new o
       pick x k (inl marked) = let_go (subst (λ (q : Emission). WasMarked now_released q.thread q.number) k.plain marked)
       pick x k (inr (v, i, t, n, frame)) =
-          let own = kept.each v i in
+          let own = again.each v i in
           let t_is : own.0.emission.thread ≡ o.emission.thread =
           ap (λ (q : Emission). q.thread) (sym own.2.plain) ∙ (t ∙ ap (λ (q : Emission). q.thread) k.plain) in
           let n_is : own.0.emission.number ≡ o.emission.number =
@@ -249,7 +207,7 @@ module _ {V : Type 0} (s : Setting V) (w : World V) (sound : Sound s w) (held no
           sent_again v own.0 same own.2 frame
 
       go : WasMarked released o.emission.thread o.emission.number
-          ⊎ ((x : Output) × IsAmong x snap.outbox × IsKeptOutput (log_of w.stored) old x o)
+          ⊎ ((x : Output) × IsAmong x outbox × IsKeptOutput (log_of w.stored) old x o)
           → IsSentOutput (log_of w.stored) now_released new o
       go (inl was_marked) = let_go (marks o.emission.thread o.emission.number was_marked)
       go (inr (x, i, k)) = pick x k (rest.there x i)
@@ -300,41 +258,11 @@ module _ {V : Type 0} (s : Setting V) (w : World V) (sound : Sound s w) (held no
       last a later (inr k) =
           let e = k.0 in let is = epoch_is in let r = rest.epoch in absurd (omega (arith, later, e, is, r))
 
-  -- the stored snapshot is one of the new epoch
-  pub snapshot_again : IsSnapshot s new now_released w.stored snap
-  snapshot_again = record {
-    stands = kept.stands;
-    moves_are = kept.moves_are;
-    each = λ x i. let k = kept.each x i in (k.0, k.1, still k.0 x k.1 k.2);
-    has = λ o sends. go o sends (kept.has o sends);
-  }
-    where
-      still : (o : Sent) (x : Output) → SendsAfter w.stored o.emission o.after → IsKeptOutput (log_of w.stored) old x o
-          → IsKeptOutput (log_of w.stored) new x o
-      still o x sends k = record {
-        plain = k.plain;
-        stamp = k.stamp;
-        size = length_cut old.outputs new.outputs o.emission.thread o.emission.number
-            (outputs o.emission.thread (sent_of w.stored)) (output_size x)
-            (cut_outputs o.emission.thread
-            (sends_thread s.meaning (inputs_fed s w.fed) s.threads w.stored o.emission o.after first_legal sends).0)
-            (number_high s.meaning (inputs_fed s w.fed) s.threads w.stored o.emission o.after first_legal sends) k.size;
-        can = subst (λ (n : ℕ). CanPutOutput 1 n x) (sym (rest.threads ∙ turns.threads)) k.can;
-      }
-
-      go : (o : Sent) → SendsAfter w.stored o.emission o.after
-          → WasMarked released o.emission.thread o.emission.number
-          ⊎ ((x : Output) × IsAmong x snap.outbox × IsKeptOutput (log_of w.stored) old x o)
-          → WasMarked now_released o.emission.thread o.emission.number
-          ⊎ ((x : Output) × IsAmong x snap.outbox × IsKeptOutput (log_of w.stored) new x o)
-      go o sends (inl marked) = inl (marks o.emission.thread o.emission.number marked)
-      go o sends (inr (x, i, k)) = inr (x, i, still o x sends k)
-
--- what the snapshot keeps can be sent in each epoch
-pub can_again : {V : Type 0} (s : Setting V) (moment : List (Step V)) (old mid : Sending) (released : List Numbers)
-    (snap : Snapshot V) (count : ℕ) → IsSnapshot s old released moment snap → TurnsLinks snap.master count old mid
-    → (x : Output) → IsAmong x snap.outbox → CanPutOutput mid.epoch mid.threads x
-can_again s moment old mid released snap count kept turns x i = record {
+-- what is sent again can be sent in each epoch
+pub can_again : {V : Type 0} (w : World V) (old mid : Sending) (released : List Numbers) (master : Mastered V)
+    (outbox : List Output) (count : ℕ) → AreSentAgain w old released outbox → TurnsLinks master count old mid
+    → (x : Output) → IsAmong x outbox → CanPutOutput mid.epoch mid.threads x
+can_again w old mid released master outbox count again turns x i = record {
   sent = record {
     epoch_from = let e = turns.epoch in omega (arith, e);
     threads_from = there.sent.threads_from;
@@ -348,4 +276,4 @@ can_again s moment old mid released snap count kept turns x i = record {
 }
   where
     there : CanPutOutput 1 mid.threads x
-    there = subst (λ (n : ℕ). CanPutOutput 1 n x) (sym turns.threads) (kept.each x i).2.can
+    there = subst (λ (n : ℕ). CanPutOutput 1 n x) (sym turns.threads) (again.each x i).2.can

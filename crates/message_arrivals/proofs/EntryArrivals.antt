@@ -47,7 +47,7 @@ use Rattle.system_parts.specs.SystemStanding.{IsSentEntry, IsSentOutput, AreOutp
 use Rattle.output_releases.specs.Released.{names_of, NotesReleased}
 use Rattle.system_parts.proofs.LineLemmas.{line_log, past_in, past_stamp, past_of_line, holds_log, known_there}
 use Rattle.system_parts.proofs.LineLemmas.{there_known, frontiers}
-use Rattle.system_parts.proofs.SnapshotLemmas.{marks_stay, snapshots_on}
+use Rattle.system_parts.proofs.SnapshotLemmas.{marks_stay}
 use Rattle.output_releases.proofs.OutputLists.{parts_world, names_as, names_more, noted_more, releases_as}
 use Rattle.output_releases.proofs.Answering.{AnswersTo, in_setting, stays}
 
@@ -385,9 +385,7 @@ module _ {P V : Type 0} (m : Meaning V) (s : Setting V) (w : World V) (y : Parts
             clock = st.inputs.clock;
             generator = st.inputs.generator;
           };
-          snapshots = snapshots_on y.sent links y.logger.released now.released forgets.threads
-              (λ u k size is. ap (λ (l : List (List ℕ)). length_at l u k) forgets.outputs ∙ is) marks s w.stored w.copy
-              y.store st.snapshots;
+          snapshots = st.snapshots;
           ended = st.ended;
           guide = st.guide;
           master = record {

@@ -41,7 +41,7 @@ use Rattle.output_releases.proofs.ReleasedLists.{releases_none}
 use Rattle.system_parts.proofs.OutputNumbers.{output_from_one}
 use Rattle.system_parts.proofs.OutputsSent.{there_sent}
 use Rattle.system_parts.proofs.LineLemmas.{frontiers}
-use Rattle.system_parts.proofs.SnapshotLemmas.{marks_stay, snapshots_on}
+use Rattle.system_parts.proofs.SnapshotLemmas.{marks_stay}
 use Rattle.link_store.specs.Links.{frame_at}
 use Rattle.output_releases.proofs.Answering.{AnswersTo, in_setting, stays}
 
@@ -284,8 +284,7 @@ module _ {P V : Type 0} (m : Meaning V) (s : Setting V) (w : World V) (y : Parts
             clock = st.inputs.clock;
             generator = st.inputs.generator;
           };
-          snapshots = snapshots_on y.sent y.sent y.logger.released now.released refl (λ u k size i. i) marks s w.stored
-              w.copy y.store st.snapshots;
+          snapshots = st.snapshots;
           ended = st.ended;
           guide = st.guide;
           master = record {
@@ -379,8 +378,7 @@ module _ {P V : Type 0} (m : Meaning V) (s : Setting V) (w : World V) (y : Parts
             clock = st.inputs.clock;
             generator = st.inputs.generator;
           };
-          snapshots = snapshots_on y.sent y.sent y.logger.released now.released refl (λ u k size i. i) marks s w.stored
-              w.copy y.store st.snapshots;
+          snapshots = st.snapshots;
           ended = st.ended;
           guide = st.guide;
           master = record {

@@ -16,7 +16,7 @@ use Rattle.output_releases.specs.Released.{ForgetsReleased, AreForgotten}
 use Rattle.system_parts.specs.Parts.{Parts}
 use Rattle.system_parts.specs.SystemStanding.{IsSentEntry, IsSentOutput, HasSent, StandsFor}
 use Rattle.system_parts.proofs.SentLemmas.{entry_stays_sent, output_stays_sent}
-use Rattle.system_parts.proofs.SnapshotLemmas.{address_or, snapshots_on}
+use Rattle.system_parts.proofs.SnapshotLemmas.{address_or}
 
 -- What is forgotten by several calls
 
@@ -159,9 +159,7 @@ stands_forgotten {P} {V} m s w y links forgets st = record {
     moves = st.master.moves;
     bytes = st.master.bytes;
   };
-  snapshots = snapshots_on y.sent links y.logger.released y.logger.released forgets.threads
-      (λ t n k is. ap (λ (l : List (List ℕ)). length_at l t n) forgets.outputs ∙ is) (λ t n was. was) s w.stored w.copy
-      y.store st.snapshots;
+  snapshots = st.snapshots;
   ended = st.ended;
   guide = st.guide;
   sent = sent_still y.sent links y.logger.released forgets w.epoch w.past y.logger.held st.sent;

@@ -1,3 +1,2 @@
-pub mod UnreleasedLemmas
 pub mod TakingLemmas
 pub mod StoreLemmas

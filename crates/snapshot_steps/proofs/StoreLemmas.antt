@@ -52,7 +52,7 @@ use Rattle.sent_frames.specs.Sending.{HasOutputFrame, ForgetsCovered}
 use Rattle.output_releases.specs.Released.{names_of}
 use Rattle.system_parts.proofs.LineLemmas.{line_log, past_in, past_good, holds_log, holds_moves}
 use Rattle.system_parts.proofs.SentLemmas.{entry_frame_stays, output_frame_stays}
-use Rattle.system_parts.proofs.SnapshotLemmas.{marks_stay, snapshot_on}
+use Rattle.system_parts.proofs.SnapshotLemmas.{marks_stay}
 use Rattle.output_releases.proofs.OutputLists.{parts_world, names_as, names_more, noted_more, releases_as}
 use Rattle.output_releases.proofs.Answering.{AnswersTo}
 use Rattle.snapshot_store.specs.Stored.{Snapshot, Snapshots}
@@ -99,7 +99,7 @@ module _ {P V : Type 0} (m : Meaning V) (s : Setting V) (w : World V) (y : Parts
   stored_copy e i = earlier_log w.stored copy e moments.0 i
 
   -- how many entries of each thread the snapshot has
-  module _ (snap : Snapshot V) (has : IsSnapshot s y.sent y.logger.released copy snap) (counts : List ℕ)
+  module _ (snap : Snapshot V) (has : IsSnapshot s copy snap) (counts : List ℕ)
       (counted : HasCounts snap.master.threads counts) where
     pub counts_are : (t : ℕ) → slice_index counts t ≡ entries t (log_of copy)
     counts_are t = go (cases_lt t s.threads)
@@ -355,10 +355,7 @@ module _ {P V : Type 0} (m : Meaning V) (s : Setting V) (w : World V) (y : Parts
               bytes = st.master.bytes;
             };
             snapshots = record {
-              first = subst (λ (x : Snapshot V). IsSnapshot s links now.released copy x) (sym stored)
-                  (snapshot_on y.sent links y.logger.released now.released forgets.threads
-                  (λ u k size i. ap (λ (l : List (List ℕ)). length_at l u k) forgets.outputs ∙ i) marks s copy
-                  snap has);
+              first = subst (λ (x : Snapshot V). IsSnapshot s copy x) (sym stored) has;
               copied = λ moment gone. absurd (cc);
               none = λ gone. none;
             };
@@ -418,16 +415,16 @@ no_copy {P} {V} m s w y st none = go w.copy refl
 -- and one is where one is
 pub some_copy : {P V : Type 0} (m : Meaning V) (s : Setting V) (w : World V) (y : Parts P V) (x : Snapshot V)
     → StandsFor m s w y → y.store.copy ≡ Some x
-    → (copy : List (Step V)) × (w.copy ≡ Some copy) × IsSnapshot s y.sent y.logger.released copy x
+    → (copy : List (Step V)) × (w.copy ≡ Some copy) × IsSnapshot s copy x
 some_copy {P} {V} m s w y x st there = go w.copy refl
   where
     go : (o : Option (List (Step V))) → w.copy ≡ o
-        → (copy : List (Step V)) × (w.copy ≡ Some copy) × IsSnapshot s y.sent y.logger.released copy x
+        → (copy : List (Step V)) × (w.copy ≡ Some copy) × IsSnapshot s copy x
     go None is = let none = st.snapshots.none is in absurd (cc)
     go (Some moment) is =
         let k = st.snapshots.copied moment is in
         let same : k.0 ≡ x = let a = k.1 in cc in
-        (moment, is, subst (λ (q : Snapshot V). IsSnapshot s y.sent y.logger.released moment q) same k.2)
+        (moment, is, subst (λ (q : Snapshot V). IsSnapshot s moment q) same k.2)
 
 -- a snapshot is under way where its counts came
 pub copy_there : {V : Type 0} (copy : Option (Snapshot V)) (r : Option (List ℕ)) (counts : List ℕ)

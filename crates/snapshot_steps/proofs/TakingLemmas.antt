@@ -7,11 +7,8 @@ use Rattle.std.proofs.lemmas.Bool.{cases_lt}
 use Rattle.plain_text.specs.declared.limit.TheConstants.{MOST_MOVES}
 use Rattle.input_logger.specs.Inputs.{Fed}
 use Rattle.entry_order.specs.Log.{entries}
-use Rattle.access_log.specs.declared.entry.Output.{Output}
-use Rattle.dup_filter.specs.Numbers.{WasMarked}
-use Rattle.output_logger.specs.Logger.{IsAmong}
 use Rattle.plain_machine.specs.Program.{Meaning}
-use Rattle.plain_machine.specs.History.{Step, log_of, sent_of, outputs, IsHistory}
+use Rattle.plain_machine.specs.History.{Step, log_of, IsHistory}
 use Rattle.box_program.specs.Hands.{FitsProgram}
 use Rattle.master_core.specs.declared.parts.ThreadPart.{ThreadPart}
 use Rattle.master_core.specs.Mastered.{value_of}
@@ -20,16 +17,14 @@ use Rattle.master_core.proofs.Moments.{none_past_threads}
 use Rattle.snapshot_store.specs.Stored.{Snapshot, Snapshots, HasTaken}
 use Rattle.recovery_world.specs.declared.event.Event.TheVariants as event
 use Rattle.recovery_world.specs.declared.event.Outcome.TheVariants as outcome
-use Rattle.recovery_world.specs.World.{Setting, Sent, World, inputs_fed}
+use Rattle.recovery_world.specs.World.{Setting, World, inputs_fed}
 use Rattle.recovery_world.specs.Limits.{OnWithin}
 use Rattle.recovery_laws.proofs.KeptWorlds.{within_sound}
 use Rattle.recovery_laws.proofs.AcceptedRuns.{made_length}
 use Rattle.system_parts.specs.Parts.{Parts, AreParts}
-use Rattle.system_parts.specs.SystemStanding.{IsKeptOutput, IsSnapshot, StandsFor}
-use Rattle.snapshot_steps.specs.Unreleased.{AreUnreleased}
+use Rattle.system_parts.specs.SystemStanding.{IsSnapshot, StandsFor}
 use Rattle.system_parts.specs.Performing.{MovesOn, ComesTo}
 use Rattle.snapshot_steps.proofs.StoreLemmas.{log_short, total_is}
-use Rattle.snapshot_steps.proofs.UnreleasedLemmas.{keeps_each, keeps_all}
 
 module _ {P V : Type 0} (m : Meaning V) (s : Setting V) (w : World V) (y : Parts P V) (st : StandsFor m s w y) where
   legal : IsHistory s.meaning (inputs_fed s w.fed) s.threads w.past
@@ -69,36 +64,23 @@ module _ {P V : Type 0} (m : Meaning V) (s : Setting V) (w : World V) (y : Parts
       is (omega (arith, all, short, past, made, moves, most)) ∙ all
 
   -- the snapshot of now
-  snapshot_now : (moves : ℕ) (outbox : List Output) (copy : Option (Snapshot V))
-      → (taken : HasTaken s.meaning y.store.stored y.master moves outbox copy) → moves ≡ length y.schedule
-      → AreUnreleased y.sent y.logger.released s.threads (λ (t : ℕ). outputs t (sent_of w.past)) outbox
-      → IsSnapshot s y.sent y.logger.released w.past taken.copy
-  snapshot_now moves outbox copy taken count are = record {
+  snapshot_now : (moves : ℕ) (copy : Option (Snapshot V))
+      → (taken : HasTaken s.meaning y.store.stored y.master moves copy) → moves ≡ length y.schedule
+      → IsSnapshot s w.past taken.copy
+  snapshot_now moves copy taken count = record {
     stands = taken.stands s.threads w.stored w.past st.snapshots.first.stands st.master.stands st.sound.firm.stored;
     moves_are = taken.moves_are ∙ count ∙ ap length st.master.schedule ∙ made_length w.past;
-    each = λ x i. keeps_each m s w y st outbox are x (subst (λ (l : List Output). IsAmong x l) taken.outbox_is i);
-    has = λ o sends. on o (keeps_all m s w y st outbox are o sends);
   }
-    where
-      on : (o : Sent)
-          → WasMarked y.logger.released o.emission.thread o.emission.number
-          ⊎ ((x : Output) × IsAmong x outbox × IsKeptOutput (log_of w.past) y.sent x o)
-          → WasMarked y.logger.released o.emission.thread o.emission.number
-          ⊎ ((x : Output) × IsAmong x taken.copy.outbox × IsKeptOutput (log_of w.past) y.sent x o)
-      on o (inl was) = inl was
-      on o (inr (x, i, k)) = inr (x, subst (λ (l : List Output). IsAmong x l) (sym taken.outbox_is) i, k)
 
   -- one that is up is copied
-  pub snaps : (store : Snapshots V) (moves n : ℕ) (outbox : List Output) (counts : List ℕ) → y.up ≡ true
-      → HasTaken s.meaning y.store.stored y.master moves outbox store.copy → store.stored ≡ y.store.stored
-      → moves ≡ length y.schedule
-      → AreUnreleased y.sent y.logger.released s.threads (λ (t : ℕ). outputs t (sent_of w.past)) outbox
-      → HasCounts y.master.threads counts → length counts ≡ 16 → (sum counts < 2 ^ 64 → n ≡ sum counts)
+  pub snaps : (store : Snapshots V) (moves n : ℕ) (counts : List ℕ) → y.up ≡ true
+      → HasTaken s.meaning y.store.stored y.master moves store.copy → store.stored ≡ y.store.stored
+      → moves ≡ length y.schedule → HasCounts y.master.threads counts → length counts ≡ 16 → (sum counts < 2 ^ 64 → n ≡ sum counts)
       → y.inputs.threads ≤ 16 → y.moves ≤ MOST_MOVES
       → (next : World V)
       × ComesTo event.Snap (outcome.Copied n) s w next
       × StandsFor m s next (record y { store = store })
-  snaps store moves n outbox counts up taken same count are counted long is few most = (
+  snaps store moves n counts up taken same count counted long is few most = (
     next,
     on,
     record {
@@ -121,13 +103,12 @@ module _ {P V : Type 0} (m : Meaning V) (s : Setting V) (w : World V) (y : Parts
         bytes = st.master.bytes;
       };
       snapshots = record {
-        first =
-            subst (λ (x : Snapshot V). IsSnapshot s y.sent y.logger.released w.stored x) (sym same) st.snapshots.first;
+        first = subst (λ (x : Snapshot V). IsSnapshot s w.stored x) (sym same) st.snapshots.first;
         copied = λ moment this. (
           taken.copy,
           taken.is,
-          subst (λ (l : List (Step V)). IsSnapshot s y.sent y.logger.released l taken.copy)
-              (same_moment w.past moment this) (snapshot_now moves outbox store.copy taken count are),
+          subst (λ (l : List (Step V)). IsSnapshot s l taken.copy) (same_moment w.past moment this)
+              (snapshot_now moves store.copy taken count),
         );
         none = λ gone. absurd (cc);
       };
@@ -166,38 +147,27 @@ module _ {P V : Type 0} (m : Meaning V) (s : Setting V) (w : World V) (y : Parts
 
 -- the same, for the parts as they were
 pub snap_moves : {P V : Type 0} (meaning : P → Meaning V) (y old : Parts P V) (store : Snapshots V) (moves n : ℕ)
-    (outbox : List Output) (counts : List ℕ) → y ≡ old → y.up ≡ true
-    → HasTaken (meaning y.program) y.store.stored y.master moves outbox store.copy → store.stored ≡ y.store.stored
-    → moves ≡ length y.schedule
-    → ((s : Setting V) (w : World V) → StandsFor (meaning old.program) s w old
-    → AreUnreleased old.sent old.logger.released s.threads (λ (t : ℕ). outputs t (sent_of w.past)) outbox)
-    → HasCounts y.master.threads counts → length counts ≡ 16 → (sum counts < 2 ^ 64 → n ≡ sum counts)
-    → y.inputs.threads ≤ 16 → y.moves ≤ MOST_MOVES
+    (counts : List ℕ) → y ≡ old → y.up ≡ true
+    → HasTaken (meaning y.program) y.store.stored y.master moves store.copy → store.stored ≡ y.store.stored
+    → moves ≡ length y.schedule → HasCounts y.master.threads counts → length counts ≡ 16
+    → (sum counts < 2 ^ 64 → n ≡ sum counts) → y.inputs.threads ≤ 16 → y.moves ≤ MOST_MOVES
     → MovesOn (meaning old.program) (ComesTo event.Snap (outcome.Copied n)) old (record y { store = store })
-snap_moves {P} {V} meaning y old store moves n outbox counts same up taken kept count are counted long is few most =
+snap_moves {P} {V} meaning y old store moves n counts same up taken kept count counted long is few most =
     subst (λ (z : Parts P V).
     MovesOn (meaning z.program) (ComesTo event.Snap (outcome.Copied n)) z (record y { store = store })) same (
       refl,
       λ s w st.
-          snaps (meaning y.program) s w y st store moves n outbox counts up
-          (subst (λ (k : Meaning V). HasTaken k y.store.stored y.master moves outbox store.copy)
-          (sym st.inputs.meaning) taken) kept count (all s w st) counted long is few most,
+          snaps (meaning y.program) s w y st store moves n counts up
+          (subst (λ (k : Meaning V). HasTaken k y.store.stored y.master moves store.copy) (sym st.inputs.meaning) taken)
+          kept count counted long is few most,
     )
-  where
-    all : (s : Setting V) (w : World V) → StandsFor (meaning y.program) s w y
-        → AreUnreleased y.sent y.logger.released s.threads (λ (t : ℕ). outputs t (sent_of w.past)) outbox
-    all = subst (λ (z : Parts P V).
-        (s : Setting V) (w : World V) → StandsFor (meaning z.program) s w z
-        → AreUnreleased z.sent z.logger.released s.threads (λ (t : ℕ). outputs t (sent_of w.past)) outbox)
-        (sym same) are
 
 -- the parts stay such where a snapshot is made
 pub parts_taken : {P V : Type 0} (m : Meaning V) (may_have : ℕ → V → Type 0) (y : Parts P V) (store : Snapshots V)
-    (moves : ℕ) (outbox : List Output) → AreParts m may_have y
-    → HasTaken m y.store.stored y.master moves outbox store.copy
+    (moves : ℕ) → AreParts m may_have y → HasTaken m y.store.stored y.master moves store.copy
     → ForSome store.copy (λ c. FitsProgram m may_have value_of c.master.vars) → store.stored ≡ y.store.stored
     → AreParts m may_have (record y { store = store })
-parts_taken {P} {V} m may_have y store moves outbox are taken fits same = record {
+parts_taken {P} {V} m may_have y store moves are taken fits same = record {
   fits = are.fits;
   some_threads = are.some_threads;
   few_threads = are.few_threads;

@@ -3,7 +3,6 @@ use Rattle.std.proofs.Common.{◌≡◌, ◌≢◌, ℕ, List, [], length, refl,
 use Rattle.std.proofs.Common.{Some, None, unwrap_or}
 use Rattle.std.specs.Prelude.{slice_index_or, nat_eq}
 use Rattle.entry_order.proofs.Order.{is_or}
-use Rattle.access_log.specs.declared.entry.Output.{Output}
 use Rattle.plain_machine.specs.Program.{Meaning}
 use Rattle.plain_machine.proofs.Histories.{is_eq, not_eq}
 use Rattle.box_program.specs.Hands.{FitsProgram}
@@ -24,15 +23,15 @@ delta_length {V} base now delta is same = subst (λ (d : Mastered (Option V)). l
     (length-changed base.vars now.vars same ∙ sym same)
 
 -- the snapshot that is kept as this delta
-abbrev pub snapshot_by : {V : Type 0} → Mastered V → Mastered (Option V) → ℕ → List Output → Snapshot V
-snapshot_by base delta moves outbox = record { master = applied base delta; moves = moves; outbox = outbox }
+abbrev pub snapshot_by : {V : Type 0} → Mastered V → Mastered (Option V) → ℕ → Snapshot V
+snapshot_by base delta moves = record { master = applied base delta; moves = moves }
 
 pub has_taken : {V : Type 0} (m : Meaning V) (stored : Snapshot V) (master : Mastered V) (moves : ℕ)
-    (outbox : List Output) (delta : Mastered (Option V)) → delta ≡ delta_of stored.master master
+    (delta : Mastered (Option V)) → delta ≡ delta_of stored.master master
     → length master.vars ≡ m.vars → length stored.master.vars ≡ length master.vars
-    → HasTaken m stored master moves outbox (Some (snapshot_by stored.master delta moves outbox))
-has_taken {V} m stored master moves outbox delta is count same = record {
-  copy = snapshot_by stored.master delta moves outbox;
+    → HasTaken m stored master moves (Some (snapshot_by stored.master delta moves))
+has_taken {V} m stored master moves delta is count same = record {
+  copy = snapshot_by stored.master delta moves;
   is = refl;
   stands = λ threads earlier now a b e.
       stands_after stored.master delta (delta_length stored.master master delta is same) m threads earlier now a
@@ -40,7 +39,6 @@ has_taken {V} m stored master moves outbox delta is count same = record {
       (delta_leads m stored.master master count same threads earlier now a b e));
   threads_are = rw is refl;
   moves_are = refl;
-  outbox_is = refl;
 }
 
 one_fits : {V : Type 0} (fits : V → Type 0) (b x : VarPart V) → fits b.value → fits x.value

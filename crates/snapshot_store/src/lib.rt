@@ -2,7 +2,6 @@
 //! under way to the store.
 #![tactic(auto)]
 
-mod outbox;
 mod store;
 
 pub use store::{Restored, Store};

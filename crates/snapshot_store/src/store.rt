@@ -7,8 +7,6 @@ ghost use Rattle.master_core.specs.MasterStanding.{Stands};
 ghost use Rattle.master_core.specs.Deltas.{delta_of, HasCounts};
 ghost use Rattle.snapshot_store.specs.Stored.{HasTaken};
 
-use crate::outbox::copy_outputs;
-use access_log::Outputs;
 use box_program::Program;
 use master_core::{Delta, Master};
 use plain_text::NoMemory;
@@ -16,16 +14,13 @@ use std::alloc::Global;
 use std::marker::Model;
 use thread_clock::Stamp;
 
-/// What a recovery starts from: a master as it was stored, how many moves it had made, and its outputs that were not
-/// released then.
+/// What a recovery starts from: a master as it was stored, and how many moves it had made.
 #[derive(Drop)]
 pub struct Restored<P: Program> {
     /// A master of its own, which moves apart from the stored one.
     pub master: Master<P>,
     /// How many moves it had made.
     pub moves: u64,
-    /// The outputs that are to be sent again.
-    pub outbox: Outputs,
 }
 
 /// A snapshot under way: what changed in the master since the stored one.
@@ -33,18 +28,17 @@ pub struct Restored<P: Program> {
 struct Taken<P: Program> {
     delta: Delta<P>,
     moves: u64,
-    outbox: Outputs,
 }
 
 /// The last snapshot of a master that was stored, and perhaps one that is under way to the store.
 ///
 /// Of the snapshot under way it keeps what changed since the stored one: the values of the variables that were touched,
-/// and no other values.
+/// and no other values. Of the packets that the master sent out it keeps how many they are alone: those that were not
+/// released are on the links, where a recovery finds them.
 #[derive(Drop)]
 pub struct Store<P: Program> {
     master: Master<P>,
     moves: u64,
-    outbox: Outputs,
     taken: Option<Taken<P>>,
 }
 
@@ -57,11 +51,10 @@ impl<P: Program> Model for Store<P> {
     ghost Value = { Snapshots P.Value };
 
     ghost view = { λ s. record {
-      stored = record { master = s.master; moves = s.moves; outbox = s.outbox };
+      stored = record { master = s.master; moves = s.moves };
       copy = option_map (λ t. record {
         master = applied s.master t.delta;
         moves = t.moves;
-        outbox = t.outbox;
       }) s.taken;
     } };
 
@@ -69,7 +62,7 @@ impl<P: Program> Model for Store<P> {
 }
 
 impl<P: Program> Store<P> {
-    /// A store that holds a fresh master of 1 to 16 threads, which made no move and has no outputs.
+    /// A store that holds a fresh master of 1 to 16 threads, which made no move.
     pub fn new(alloc: Global, program: &P, threads: u32) -> Result<Self, NoMemory>
         requires some { 1 ≤ threads }
         requires few { threads ≤ 16 }
@@ -78,19 +71,17 @@ impl<P: Program> Store<P> {
         ensures fits { IfOk result (λ store. FitsProgram (P.meaning program.now)
             (P.fits program.now) value_of store.stored.master.vars) }
         ensures moves { IfOk result (λ store. store.stored.moves ≡ 0) }
-        ensures outbox { IfOk result (λ store. store.stored.outbox ≡ []) }
         ensures no_copy { IfOk result (λ store. store.copy ≡ None) }
     {
         Ok(Store {
             master: Master::fresh(alloc, program, threads)?,
             moves: 0,
-            outbox: Outputs::new(alloc),
             taken: None,
         })
     }
 
-    /// Takes a snapshot of a master, which replaces one that was under way: the master made this number of moves, and
-    /// these outputs of it are not released yet. The stored snapshot is to be one of an earlier moment of the master.
+    /// Takes a snapshot of a master, which made this number of moves. It replaces one that was under way. The stored
+    /// snapshot is to be one of an earlier moment of the master.
     ///
     /// After `NoMemory` the store is unchanged.
     pub fn take(
@@ -99,20 +90,19 @@ impl<P: Program> Store<P> {
         program: &P,
         master: &Master<P>,
         moves: u64,
-        outbox: &Outputs,
     ) -> Result<(), NoMemory>
         requires master { FitsProgram (P.meaning program.now) (P.fits program.now)
             value_of master.now.vars }
         requires stored { FitsProgram (P.meaning program.now) (P.fits program.now)
             value_of self.old.stored.master.vars }
         ensures taken { OnOk result (HasTaken (P.meaning program.now)
-            self.old.stored master.now moves outbox.now self.new.copy) }
+            self.old.stored master.now moves self.new.copy) }
         ensures fits { OnOk result (ForSome self.new.copy (λ copy.
             FitsProgram (P.meaning program.now) (P.fits program.now) value_of copy.master.vars)) }
         ensures stored { self.new.stored ≡ self.old.stored }
         ensures unchanged { OnErr result (self.new ≡ self.old) }
     {
-        let taken = taken_since(alloc, program, &self.master, master, moves, outbox)?;
+        let taken = taken_since(alloc, program, &self.master, master, moves)?;
         self.taken = Some(taken);
         Ok(())
     }
@@ -137,7 +127,6 @@ impl<P: Program> Store<P> {
         let taken = self.taken.take()?;
         self.master.apply(taken.delta);
         self.moves = taken.moves;
-        self.outbox = taken.outbox;
         Some(self.master.entry_counts())
     }
 
@@ -155,12 +144,10 @@ impl<P: Program> Store<P> {
             value_of self.now.stored.master.vars }
         ensures master { IfOk result (λ restored. restored.master ≡ self.now.stored.master) }
         ensures moves { IfOk result (λ restored. restored.moves ≡ self.now.stored.moves) }
-        ensures outbox { IfOk result (λ restored. restored.outbox ≡ self.now.stored.outbox) }
     {
         Ok(Restored {
             master: self.master.copy(alloc, program)?,
             moves: self.moves,
-            outbox: copy_outputs(alloc, &self.outbox)?,
         })
     }
 
@@ -186,18 +173,15 @@ fn taken_since<P: Program>(
     stored: &Master<P>,
     master: &Master<P>,
     moves: u64,
-    outbox: &Outputs,
 ) -> Result<Taken<P>, NoMemory>
     requires program { FitsProgram (P.meaning program.now) (P.fits program.now)
         value_of master.now.vars }
     requires stored { length stored.now.vars ≡ length master.now.vars }
     ensures delta { IfOk result (λ taken. taken.delta ≡ delta_of stored.now master.now) }
     ensures moves { IfOk result (λ taken. taken.moves ≡ moves) }
-    ensures outbox { IfOk result (λ taken. taken.outbox ≡ outbox.now) }
 {
     Ok(Taken {
         delta: master.delta(alloc, program, stored)?,
         moves,
-        outbox: copy_outputs(alloc, outbox)?,
     })
 }

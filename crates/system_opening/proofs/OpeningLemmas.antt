@@ -32,7 +32,6 @@ use Rattle.system_parts.specs.SystemStanding.{HasLogger, HasSent, HasSnapshots, 
 pub record IsFreshStore {V : Type 0} (m : Meaning V) (threads : ℕ) (store : Snapshots V) : Type 0 where
   pub stands : Stands m threads [] store.stored.master
   pub moves : store.stored.moves ≡ 0
-  pub outbox : store.stored.outbox ≡ []
   pub none : store.copy ≡ None
 
 -- where all items are one, each read gives it
@@ -79,16 +78,11 @@ opening_sent V threads held released sent unsent = record {
 }
 
 -- no snapshot was made, and no epoch ended
-opening_snapshots : {V : Type 0} (s : Setting V) (sent : Sending) (released : List Numbers) (store : Snapshots V)
-    → Stands s.meaning s.threads [] store.stored.master → store.stored.moves ≡ 0 → store.stored.outbox ≡ []
-    → store.copy ≡ None → HasSnapshots s (opening V).stored None sent released store
-opening_snapshots {V} s sent released store stands moves outbox none = record {
-  first = record {
-    stands = stands;
-    moves_are = moves;
-    each = λ x i. absurd (subst (λ (l : List Output). IsAmongOutputs x l) outbox i);
-    has = λ o sends. absurd sends;
-  };
+opening_snapshots : {V : Type 0} (s : Setting V) (store : Snapshots V)
+    → Stands s.meaning s.threads [] store.stored.master → store.stored.moves ≡ 0 → store.copy ≡ None
+    → HasSnapshots s (opening V).stored None store
+opening_snapshots {V} s store stands moves none = record {
+  first = record { stands = stands; moves_are = moves };
   copied = λ moment is. absurd (cc);
   none = λ is. none;
 }
@@ -128,8 +122,8 @@ opening_stands {P} {V} m threads seed fractions packets y fractions_are clock ge
         generator = generator;
       };
       snapshots = opening_snapshots
-          (record { meaning = m; threads = threads; fractions = fractions; packets = packets; seed = seed }) y.sent
-          y.logger.released y.store store.stands store.moves store.outbox store.none;
+          (record { meaning = m; threads = threads; fractions = fractions; packets = packets; seed = seed }) y.store
+          store.stands store.moves store.none;
       ended = opening_ended threads y.ended ended;
       guide = opening_guide y.guide guide;
       master =

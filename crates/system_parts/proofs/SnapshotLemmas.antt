@@ -1,14 +1,10 @@
--- Snapshots that a system keeps, as it goes on.
+-- Released outputs stay so, and frames of entries that a stored snapshot covers are forgotten.
 use Rattle.std.proofs.Common.{◌≡◌, ◌≢◌, ◌<◌, ◌≤◌, arith, ℕ, List, refl, sym, ap, ◌∙◌, subst, inl, inr, ◌⊎◌, Option}
 use Rattle.std.proofs.Common.{Some, None}
 use Rattle.entry_order.specs.Log.{Entry}
 use Rattle.access_log.specs.declared.entry.Output.{Output}
 use Rattle.dup_filter.specs.Numbers.{Numbers, WasMarked}
-use Rattle.output_logger.specs.Logger.{ReleasesOnce, IsAmong as IsAmongOutputs}
-use Rattle.wire_frames.specs.Writing.{CanPutOutput}
-use Rattle.plain_machine.specs.History.{Step, log_of}
-use Rattle.snapshot_store.specs.Stored.{Snapshot, Snapshots}
-use Rattle.recovery_world.specs.World.{Setting, Sent}
+use Rattle.output_logger.specs.Logger.{ReleasesOnce}
 use Rattle.plain_text.specs.declared.kind.Kind.{Kind}
 use Rattle.plain_text.specs.declared.kind.Kind.TheVariants.{Log, Out}
 use Rattle.std.specs.Prelude.{slice_index}
@@ -17,49 +13,11 @@ use Rattle.entry_order.proofs.Order.{is_or}
 use Rattle.link_store.specs.declared.address.Address.{Address}
 use Rattle.link_store.specs.Links.{frame_at, IsUpTo}
 use Rattle.sent_frames.specs.Sending.{Sending, length_at, entry_address, ForgetsEntries, ForgetsCovered}
-use Rattle.system_parts.specs.SystemStanding.{IsKeptOutput, IsSnapshot, HasSnapshots}
 
 -- what was released stays so
 pub marks_stay : (old new : List Numbers) (go : List Output) → ReleasesOnce old new go → (t n : ℕ) → WasMarked old t n
     → WasMarked new t n
 marks_stay old new go once t n was = (once.marked t n).1 (inr was)
-
--- Lengths of outputs stay, and what was released stays so.
-module _ (old new : Sending) (before after : List Numbers) (threads : new.threads ≡ old.threads)
-    (sizes : (t n k : ℕ) → length_at old.outputs t n ≡ Some k → length_at new.outputs t n ≡ Some k)
-    (marks : (t n : ℕ) → WasMarked before t n → WasMarked after t n) where
-  pub kept_on : (log : List Entry) (x : Output) (o : Sent) → IsKeptOutput log old x o → IsKeptOutput log new x o
-  kept_on log x o h = record {
-    plain = h.plain;
-    stamp = h.stamp;
-    size = sizes o.emission.thread o.emission.number _ h.size;
-    can = subst (λ (k : ℕ). CanPutOutput 1 k x) (sym threads) h.can;
-  }
-
-  pub snapshot_on : {V : Type 0} (s : Setting V) (moment : List (Step V)) (snap : Snapshot V)
-      → IsSnapshot s old before moment snap → IsSnapshot s new after moment snap
-  snapshot_on {V} s moment snap h = record {
-    stands = h.stands;
-    moves_are = h.moves_are;
-    each = λ x i. let k = h.each x i in (k.0, k.1, kept_on (log_of moment) x k.0 k.2);
-    has = λ o sends. go o (h.has o sends);
-  }
-    where
-      go : (o : Sent)
-          → WasMarked before o.emission.thread o.emission.number
-          ⊎ ((x : Output) × IsAmongOutputs x snap.outbox × IsKeptOutput (log_of moment) old x o)
-          → WasMarked after o.emission.thread o.emission.number
-          ⊎ ((x : Output) × IsAmongOutputs x snap.outbox × IsKeptOutput (log_of moment) new x o)
-      go o (inl was) = inl (marks o.emission.thread o.emission.number was)
-      go o (inr (x, i, k)) = inr (x, i, kept_on (log_of moment) x o k)
-
-  pub snapshots_on : {V : Type 0} (s : Setting V) (stored : List (Step V)) (copy : Option (List (Step V)))
-      (store : Snapshots V) → HasSnapshots s stored copy old before store → HasSnapshots s stored copy new after store
-  snapshots_on s stored copy store h = record {
-    first = snapshot_on s stored store.stored h.first;
-    copied = λ moment is. let k = h.copied moment is in (k.0, k.1, snapshot_on s moment k.0 k.2);
-    none = h.none;
-  }
 
 -- Frames of entries that are covered
 

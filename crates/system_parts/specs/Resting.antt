@@ -23,7 +23,7 @@ pub record RestsFor {P V : Type 0} (m : Meaning V) (s : Setting V) (w : World V)
   pub within : IsWithin w
   pub inputs : HasInputs m s w y
   pub moved : HasMoves w y
-  pub snapshots : HasSnapshots s w.stored w.copy y.sent y.logger.released y.store
+  pub snapshots : HasSnapshots s w.stored w.copy y.store
   pub ended : HasEnded s.threads w.epoch w.ended y.ended
   pub guide : HasGuide w.followed w.past y.guide
   pub sent : HasSent w.epoch w.past y.logger.held y.logger.released y.sent

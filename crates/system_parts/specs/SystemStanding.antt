@@ -13,13 +13,12 @@ use Rattle.link_store.specs.Links.{frame_at}
 use Rattle.plain_machine.specs.Program.{Meaning}
 use Rattle.plain_machine.specs.History.{Step, log_of, sent_of, outputs}
 use Rattle.plain_machine.specs.Agree.{SendsAfter}
-use Rattle.wire_frames.specs.Writing.{CanPutOutput}
 use Rattle.master_core.specs.declared.parts.Counts.{Counts}
 use Rattle.master_core.specs.MasterStanding.{Stands}
 use Rattle.snapshot_store.specs.Stored.{Snapshot, Snapshots}
 use Rattle.master_core.specs.Stepping.{plain_entry, emission_of_output}
 use Rattle.master_core.specs.Holding.{held_entries, HoldsOf}
-use Rattle.output_logger.specs.Logger.{Logger, IsAmong as IsAmongOutputs}
+use Rattle.output_logger.specs.Logger.{Logger}
 use Rattle.replay_guide.specs.Worlds.{Guides}
 use Rattle.recovery_world.specs.World.{Setting, Sent, Ended as EndedEpoch, World}
 use Rattle.recovery_world.specs.Events.{HasNumber, IsAmong, entries_of_line}
@@ -80,32 +79,17 @@ pub record HasSent {V : Type 0} (now : ℕ) (past : List (Step V)) (held : List 
   pub output_counts : (t : ℕ) → length (lengths_of sent.outputs t) ≡ outputs t (sent_of past)
   pub none_later : (a : Address) → now < a.epoch → frame_at sent.frames a ≡ None
 
--- An output that a snapshot keeps: it has the stamp of its predecessors, is as long as its frame was, and can be sent
--- again.
-pub record IsKeptOutput (log : List Entry) (sent : Sending) (x : Output) (o : Sent) : Type 0 where
-  pub plain : emission_of_output x ≡ o.emission
-  pub stamp : IsOutputStamp log o.emission.thread o.after (λ u. slice_index x.stamp u)
-  pub size : length_at sent.outputs o.emission.thread o.emission.number ≡ Some (output_size x)
-  pub can : CanPutOutput 1 sent.threads x
-
--- The snapshot is that of a moment of the past: its master is where the machine was then, and it keeps each output that
--- was not released.
-pub record IsSnapshot {V : Type 0} (s : Setting V) (sent : Sending) (released : List Numbers) (moment : List (Step V))
-    (snap : Snapshot V) : Type 0 where
+-- The snapshot is that of a moment of the past: its master is where the machine was then.
+pub record IsSnapshot {V : Type 0} (s : Setting V) (moment : List (Step V)) (snap : Snapshot V) : Type 0 where
   pub stands : Stands s.meaning s.threads moment snap.master
   pub moves_are : snap.moves ≡ length moment
-  pub each : (x : Output) → IsAmongOutputs x snap.outbox
-      → (o : Sent) × SendsAfter moment o.emission o.after × IsKeptOutput (log_of moment) sent x o
-  pub has : (o : Sent) → SendsAfter moment o.emission o.after
-      → WasMarked released o.emission.thread o.emission.number
-      ⊎ ((x : Output) × IsAmongOutputs x snap.outbox × IsKeptOutput (log_of moment) sent x o)
 
 -- the stored snapshot, and the one that is under way, if there is one
 pub record HasSnapshots {V : Type 0} (s : Setting V) (stored : List (Step V)) (copy : Option (List (Step V)))
-    (sent : Sending) (released : List Numbers) (store : Snapshots V) : Type 0 where
-  pub first : IsSnapshot s sent released stored store.stored
+    (store : Snapshots V) : Type 0 where
+  pub first : IsSnapshot s stored store.stored
   pub copied : (moment : List (Step V)) → copy ≡ Some moment
-      → (x : Snapshot V) × (store.copy ≡ Some x) × IsSnapshot s sent released moment x
+      → (x : Snapshot V) × (store.copy ≡ Some x) × IsSnapshot s moment x
   pub none : copy ≡ None → store.copy ≡ None
 
 -- how much each thread did until the end of an epoch
@@ -157,7 +141,7 @@ pub record StandsFor {P V : Type 0} (m : Meaning V) (s : Setting V) (w : World V
   pub within : IsWithin w
   pub inputs : HasInputs m s w y
   pub master : HasMaster s w y
-  pub snapshots : HasSnapshots s w.stored w.copy y.sent y.logger.released y.store
+  pub snapshots : HasSnapshots s w.stored w.copy y.store
   pub ended : HasEnded s.threads w.epoch w.ended y.ended
   pub guide : HasGuide w.followed w.past y.guide
   pub sent : HasSent w.epoch w.past y.logger.held y.logger.released y.sent

@@ -5,7 +5,7 @@ ghost use Rattle.test_logs.specs.Scene.{HasMaster, HasStored};
 
 use crate::master::packet;
 use crate::pinned::{PINNED_BOX, PinnedBox};
-use access_log::{Outputs, Turn};
+use access_log::Turn;
 use master_core::{Master, Stepped};
 use plain_text::{NoMemory, Packet};
 use snapshot_store::Store;
@@ -58,7 +58,7 @@ fn stores(
     ensures stored { HasStored pinned_meaning (λ _ n. IsCounter n) store.new }
 {
     let passed = pass(alloc, program, master, input);
-    store.take(alloc, program, master, moves, &Outputs::new(alloc))?;
+    store.take(alloc, program, master, moves)?;
     Ok(passed && store.store().is_some() && store.moves() == moves)
 }
 

@@ -40,7 +40,6 @@ use Rattle.system_parts.specs.Parts.{Parts}
 use Rattle.system_parts.specs.SystemStanding.{AreOutputs, HasSnapshots, StandsFor}
 use Rattle.system_parts.specs.Resting.{RestsFor}
 use Rattle.system_parts.proofs.LineLemmas.{holds_later_line}
-use Rattle.system_parts.proofs.SnapshotLemmas.{snapshots_on}
 use Rattle.system_parts.proofs.SentLemmas.{SentOf, length_stays, after_step, sent_took, sent_did, sent_emitted}
 use Rattle.system_parts.proofs.SentLemmas.{sent_ended}
 use Rattle.thread_steps.specs.Stepping.{with_move, AddsEntry, AddsOutput, NotesAs, Notes, NotesFor, PassesFor}
@@ -177,7 +176,7 @@ module _ {P V : Type 0} (m : Meaning V) (s : Setting V) (w : World V) (y : Parts
       goes : (o : Outcome) (bytes : ℕ) (sent : Sending) → o ≡ move_outcome step.act → bytes ≡ bytes_sent step.act
           → limit_passed (y.moves + 1) (y.bytes + bytes) ≡ None
           → SentOf new (record (with_move t answer bytes mid) { sent = sent })
-          → HasSnapshots s w.stored w.copy sent y.logger.released y.store
+          → HasSnapshots s w.stored w.copy y.store
           → GoesOnTo o (record (with_move t answer bytes mid) { sent = sent })
       goes o bytes sent is size within has snaps = (
         ((on o is, refl), inside),
@@ -296,9 +295,7 @@ module _ {P V : Type 0} (m : Meaning V) (s : Setting V) (w : World V) (y : Parts
             is,
             subst (λ (z : Parts P V). GoesOnTo to z) (sym note.new_is)
                 (goes to 0 after.sent is (ap bytes_sent (sym act)) note.within has
-                (snapshots_on y.sent after.sent y.logger.released y.logger.released note.sends.1.threads
-                (λ u k size i. subst (λ (l : List (List ℕ)). length_at l u k ≡ Some size) (sym note.sends.1.outputs) i)
-                (λ u k i. i) s w.stored w.copy y.store st.snapshots)),
+                st.snapshots),
           )
       noted (stepped.Emitted o) f (Err x) after n = tt
       noted (stepped.Emitted o) f (Ok to) after n =
@@ -319,10 +316,7 @@ module _ {P V : Type 0} (m : Meaning V) (s : Setting V) (w : World V) (y : Parts
             is,
             subst (λ (z : Parts P V). GoesOnTo to z) (sym note.new_is)
                 (goes to (length o.packet.bytes) after.sent is (ap bytes_sent (sym act)) note.within has
-                (snapshots_on y.sent after.sent y.logger.released y.logger.released note.sends.1.threads
-                (λ u k size i. subst (λ (l : List (List ℕ)). length_at l u k ≡ Some size) (sym note.sends.1.outputs)
-                (length_stays y.sent.outputs o.thread (output_size o) u k size note.sends.0 i)) (λ u k i. i) s w.stored
-                w.copy y.store st.snapshots)),
+                st.snapshots),
           )
       noted (stepped.Ended k) f (Err e) after n = tt
       noted (stepped.Ended k) f (Ok to) after n =

@@ -49,7 +49,6 @@ use Rattle.system_parts.specs.SystemStanding.{AreOutputs, HasSnapshots, HasGuide
 use Rattle.run_end.proofs.InputLemmas.{hand_is, input_there}
 use Rattle.thread_steps.specs.Following.{HasTurnBy}
 use Rattle.system_parts.proofs.LineLemmas.{holds_later_line}
-use Rattle.system_parts.proofs.SnapshotLemmas.{snapshots_on}
 use Rattle.access_log.specs.declared.entry.Turn.{Turn}
 use Rattle.access_log.specs.declared.entry.Turn.TheVariants as turn_of
 use Rattle.plain_machine.specs.declared.local.Local.{Local}

@@ -11,7 +11,6 @@ invariant_of-result g c =
     c.in_ok-inputs.ensures c.in_ok-master.ensures.stands refl refl c.in_ok-sent.ensures c.in_ok-logger.ensures (record {
       stands = c.in_ok-store.ensures.fresh;
       moves = c.in_ok-store.ensures.moves;
-      outbox = c.in_ok-store.ensures.outbox;
       none = c.in_ok-store.ensures.no_copy;
     }) c.in_ok-store.ensures.fits (omega arith)
 
@@ -26,7 +25,6 @@ returns-clause-stands g c =
     (record {
       stands = c.in_ok-store.ensures.fresh;
       moves = c.in_ok-store.ensures.moves;
-      outbox = c.in_ok-store.ensures.outbox;
       none = c.in_ok-store.ensures.no_copy;
     })
     c.new-6.ensures.items refl refl c.in_ok-sent.ensures c.in_ok-logger.ensures c.new-7.ensures

@@ -20,10 +20,10 @@ returns-clause-taken g c =
     let m = g.P.Program.meaning c.args.program.now in
     let same : length c.self.inside.master.vars ≡ length c.args.master.now.vars = search rules in
     let stored : Snapshot g.row.P-Value.Denot =
-    record { master = c.self.inside.master; moves = c.self.inside.moves; outbox = c.self.inside.outbox } in
-    rw (← c.self.view_is, c.in_ok-taken.ensures.moves, c.in_ok-taken.ensures.outbox)
-    (has_taken m stored c.args.master.now c.args.moves c.args.outbox.now c.in_ok-taken.taken.delta
-    c.in_ok-taken.ensures.delta c.requires.master.count same)
+    record { master = c.self.inside.master; moves = c.self.inside.moves } in
+    rw (← c.self.view_is, c.in_ok-taken.ensures.moves)
+    (has_taken m stored c.args.master.now c.args.moves c.in_ok-taken.taken.delta c.in_ok-taken.ensures.delta
+    c.requires.master.count same)
 
 pub returns-clause-fits : goal.returns-clause-fits
 returns-clause-fits g c =

@@ -1,6 +1,6 @@
 use Rattle.std.proofs.Common.{ap, ◌∙◌, arith}
-use Rattle.snapshot_steps.proofs.UnreleasedLemmas.{rest_is, gathers_none, gathers_more, gathers_all}
-use Rattle.snapshot_steps.proofs.snapshots.unreleased.Goals as goal
+use Rattle.crash_recovery.proofs.UnreleasedLemmas.{rest_is, gathers_none, gathers_more, gathers_all}
+use Rattle.crash_recovery.proofs.crashing.unreleased.Goals as goal
 
 pub loop-thread-init : goal.loop-thread-init
 loop-thread-init g c = record {
@@ -13,8 +13,9 @@ add_unreleased-requires g c =
     let low = c.loop-thread-test.true in
     let end = c.threads-thread-end.ensures.value in
     record {
-      there = rw c.released.ensures (rest_is (g.P.Program.meaning c.args.core.now.program) _ _ c.loop-thread.thread
-          c.counts-count.result c.core.view_is c.requires.stands (omega (arith, low, end)) c.counts-count.ensures);
+      there = rw c.released.ensures (rest_is (g.P.Program.meaning c.args.core.now.program) _ _ c.args.master.now
+          c.loop-thread.thread c.counts-count.result c.core.view_is c.requires.stands c.requires.stored
+          (omega (arith, low, end)) c.counts-count.ensures);
     }
 
 pub loop-thread-preserved : goal.loop-thread-preserved
@@ -22,8 +23,8 @@ loop-thread-preserved g c =
     let low = c.loop-thread-test.true in
     let end = c.threads-thread-end.ensures.value in
     record {
-      all = gathers_more (g.P.Program.meaning c.args.core.now.program) _ _ c.loop-thread.thread c.counts-count.result _
-          _ c.core.view_is (omega (arith, low, end)) c.counts-count.ensures
+      all = gathers_more (g.P.Program.meaning c.args.core.now.program) _ _ c.args.master.now c.loop-thread.thread
+          c.counts-count.result _ _ c.core.view_is c.requires.stored (omega (arith, low, end)) c.counts-count.ensures
           (rw c.released.ensures at c.in_ok-add_unreleased.ensures.adds) c.loop-thread.invariant.all;
       end = c.loop-thread.invariant.end;
     }

@@ -1,7 +1,9 @@
--- The outputs that are not released are gathered, thread by thread, for a snapshot.
+-- The outputs of the stored snapshot that are not released are gathered, thread by thread, to be sent again.
 use Rattle.std.proofs.Common.{◌≡◌, ℕ, ◌+◌, ◌<◌, ◌≤◌, ◌≢◌, List, [], ◌∷◌, ◌++◌, refl, sym, ap, ◌∙◌, subst, inl, inr, ◌⊎◌}
 use Rattle.std.proofs.Common.{Option, Some, None, arith}
-use Rattle.std.specs.Prelude.{HoldsAt}
+use Rattle.std.specs.Prelude.{HoldsAt, slice_index, slice_index_or}
+use Rattle.entry_order.specs.Log.{Entry}
+use Rattle.entry_order.specs.Stamps.{IsOutputStamp}
 use Rattle.entry_order.proofs.Order.{is_or}
 use Rattle.access_log.specs.declared.entry.Output.{Output}
 use Rattle.dup_filter.specs.Numbers.{Numbers, numbers, WasMarked}
@@ -10,21 +12,28 @@ use Rattle.output_logger.proofs.OutputLists.{among_left, among_last, among_eithe
 use Rattle.plain_machine.specs.declared.emission.Emission.{Emission}
 use Rattle.plain_machine.specs.Program.{Meaning}
 use Rattle.plain_machine.specs.History.{log_of, sent_of, outputs, IsHistory}
-use Rattle.plain_machine.specs.Agree.{SendsAfter}
+use Rattle.plain_machine.specs.Agree.{SendsAfter, IsEarlier}
+use Rattle.plain_machine.proofs.Histories.{earlier_history, earlier_outputs}
+use Rattle.wire_frames.specs.Writing.{CanPutOutput}
+use Rattle.master_core.specs.Mastered.{Mastered}
+use Rattle.master_core.specs.Stepping.{emission_of_output}
+use Rattle.line_order.proofs.QuietMoves.{sends_later}
+use Rattle.recovery_laws.proofs.SoundParts.{sent_after}
 use Rattle.master_core.specs.declared.parts.Counts.{Counts}
 use Rattle.master_core.specs.declared.parts.ThreadPart.{ThreadPart}
 use Rattle.recovery_world.specs.World.{Setting, Sent, World, inputs_fed}
 use Rattle.recovery_world.specs.Events.{HasNumber}
 use Rattle.recovery_laws.proofs.Settlings.{number_high}
 use Rattle.link_store.specs.Links.{frame_at}
-use Rattle.sent_frames.specs.Sending.{Sending, output_address, HasOutputFrame}
+use Rattle.sent_frames.specs.Sending.{Sending, length_at, output_size, output_address, HasOutputFrame}
 use Rattle.system_parts.specs.Parts.{Parts}
-use Rattle.system_parts.specs.SystemStanding.{IsSentOutput, IsKeptOutput, StandsFor, StandsForSome}
-use Rattle.snapshot_steps.specs.Unreleased.{IsUnreleased, Lists, HasFrameOf, HasRest, AddsUnreleased, AreUnreleased}
+use Rattle.system_parts.specs.SystemStanding.{IsSentOutput, StandsFor, StandsForSome}
+use Rattle.crash_recovery.specs.Unreleased.{IsUnreleased, Lists, HasFrameOf, HasRest, AddsUnreleased, AreUnreleased}
 use Rattle.recovery_laws.proofs.Finishes.{sends_thread}
 use Rattle.input_logger.specs.Inputs.{Fed}
 use Rattle.system_parts.proofs.OutputsSent.{there_sent}
-use Rattle.system_parts.proofs.ReadLemmas.{counts_stand}
+use Rattle.system_parts.proofs.OutputNumbers.{HasOutput, output_there}
+use Rattle.crash_recovery.proofs.EarlierStamps.{output_back}
 
 -- One thread's
 
@@ -153,13 +162,39 @@ gathered_more sent released t most counts old new is adds h = record {
 abbrev pub Gathers : {P V : Type 0} → Meaning V → Parts P V → ℕ → List Output → Type 0
 Gathers {P} {V} m y threads outbox =
     (s : Setting V) (w : World V) → StandsFor m s w y
-    → AreUnreleased y.sent y.logger.released threads (λ (t : ℕ). outputs t (sent_of w.past)) outbox
+    → AreUnreleased y.sent y.logger.released threads (λ (t : ℕ). outputs t (sent_of w.stored)) outbox
+
+-- An output that is sent again: it has the stamp of its predecessors, is as long as its frame was, and can be sent.
+pub record IsKeptOutput (log : List Entry) (sent : Sending) (x : Output) (o : Sent) : Type 0 where
+  pub plain : emission_of_output x ≡ o.emission
+  pub stamp : IsOutputStamp log o.emission.thread o.after (λ u. slice_index x.stamp u)
+  pub size : length_at sent.outputs o.emission.thread o.emission.number ≡ Some (output_size x)
+  pub can : CanPutOutput 1 sent.threads x
+
+-- What is sent again: each output of the stored snapshot that was not released.
+pub record AreSentAgain {V : Type 0} (w : World V) (sent : Sending) (released : List Numbers)
+    (outbox : List Output) : Type 0 where
+  pub each : (x : Output) → IsAmong x outbox
+      → (o : Sent) × SendsAfter w.stored o.emission o.after × IsKeptOutput (log_of w.stored) sent x o
+  pub has : (o : Sent) → SendsAfter w.stored o.emission o.after
+      → WasMarked released o.emission.thread o.emission.number
+      ⊎ ((x : Output) × IsAmong x outbox × IsKeptOutput (log_of w.stored) sent x o)
 
 module _ {P V : Type 0} (m : Meaning V) (s : Setting V) (w : World V) (y : Parts P V) (st : StandsFor m s w y) where
-  -- each output of the past was released, or its frame is there
-  pub rest_there : (t most : ℕ) → t < y.inputs.threads → most ≡ outputs t (sent_of w.past)
-      → HasRest y.sent y.logger.released t most
-  rest_there t most low is n from few = go (there_sent m s w y st t n from (omega (arith, few, is)))
+  legal : IsHistory s.meaning (inputs_fed s w.fed) s.threads w.past
+  legal = st.sound.firm.legal
+
+  early : IsEarlier w.stored w.past
+  early = st.sound.firm.stored
+
+  stored_legal : IsHistory s.meaning (inputs_fed s w.fed) s.threads w.stored
+  stored_legal = earlier_history s.meaning (inputs_fed s w.fed) s.threads w.stored w.past early legal
+
+  -- each output of the stored snapshot was released, or its frame is there
+  pub rest_there : (t most : ℕ) → most ≡ outputs t (sent_of w.stored) → HasRest y.sent y.logger.released t most
+  rest_there t most is n from few =
+      let less = earlier_outputs t w.stored w.past early in
+      go (there_sent m s w y st t n from (omega (arith, few, is, less)))
     where
       go : (o : Sent) × SendsAfter w.past o.emission o.after × HasNumber t n o
           × IsSentOutput (log_of w.past) y.logger.released y.sent o
@@ -179,26 +214,32 @@ module _ {P V : Type 0} (m : Meaning V) (s : Setting V) (w : World V) (y : Parts
           at (inr (none, was)) = inl (subst (λ (k : ℕ). WasMarked y.logger.released t k) named.1
               (subst (λ (u : ℕ). WasMarked y.logger.released u o.emission.number) named.0 was))
 
-  -- what was gathered are the outputs that a snapshot of now keeps
+  -- what was gathered is what is sent again
   module _ (outbox : List Output)
-      (are : AreUnreleased y.sent y.logger.released s.threads (λ (t : ℕ). outputs t (sent_of w.past)) outbox) where
-    -- where the frame of an output of the past is there, one in the list is the same
-    kept_one : (o : Sent) (x : Output) → IsSentOutput (log_of w.past) y.logger.released y.sent o → IsAmong x outbox
-        → x.thread ≡ o.emission.thread → x.number ≡ o.emission.number → IsKeptOutput (log_of w.past) y.sent x o
-    kept_one o x sent i own same = at sent.there
+      (are : AreUnreleased y.sent y.logger.released s.threads (λ (t : ℕ). outputs t (sent_of w.stored)) outbox) where
+    -- where the frame of an output of the snapshot is there, one in the list is the same
+    kept_one : (o : Sent) (x : Output) → SendsAfter w.stored o.emission o.after → IsAmong x outbox
+        → x.thread ≡ o.emission.thread → x.number ≡ o.emission.number → IsKeptOutput (log_of w.stored) y.sent x o
+    kept_one o x sends i own same = at sent.there
       where
-        of : IsUnreleased y.sent y.logger.released x.thread (outputs x.thread (sent_of w.past)) x
+        sent : IsSentOutput (log_of w.past) y.logger.released y.sent o
+        sent = st.sent.output_sent o (sends_later w.stored w.past o.emission o.after early sends)
+
+        of : IsUnreleased y.sent y.logger.released x.thread (outputs x.thread (sent_of w.stored)) x
         of = (are.each x i).1
 
         at : HasOutputFrame y.sent sent.stamped
             ⊎ ((frame_at y.sent.frames (output_address y.sent o.emission.thread o.emission.number) ≡ None)
-            × WasMarked y.logger.released o.emission.thread o.emission.number) → IsKeptOutput (log_of w.past) y.sent x o
+            × WasMarked y.logger.released o.emission.thread o.emission.number)
+            → IsKeptOutput (log_of w.stored) y.sent x o
         at (inl frame) =
             let it = of.only sent.stamped frame (ap (λ (z : Emission). z.thread) sent.plain ∙ sym own)
             (ap (λ (z : Emission). z.number) sent.plain ∙ sym same) in
-            subst (λ (z : Output). IsKeptOutput (log_of w.past) y.sent z o) it (record {
+            subst (λ (z : Output). IsKeptOutput (log_of w.stored) y.sent z o) it (record {
               plain = sent.plain;
-              stamp = sent.stamp;
+              stamp = output_back s.meaning (inputs_fed s w.fed) s.threads w.past w.stored legal early
+                  o.emission.thread o.after (λ u. slice_index sent.stamped.stamp u)
+                  (sent_after w.stored o.emission o.after sends) sent.stamp;
               size = sent.size;
               can = record {
                 sent = record {
@@ -216,73 +257,88 @@ module _ {P V : Type 0} (m : Meaning V) (s : Setting V) (w : World V) (y : Parts
         at (inr (none, was)) = absurd (of.fresh (subst (λ (k : ℕ). WasMarked y.logger.released x.thread k) (sym same)
             (subst (λ (u : ℕ). WasMarked y.logger.released u o.emission.number) (sym own) was)))
 
-    pub keeps_each : (x : Output) → IsAmong x outbox
-        → (o : Sent) × SendsAfter w.past o.emission o.after × IsKeptOutput (log_of w.past) y.sent x o
-    keeps_each x i =
-        let k = are.each x i in
-        let threads = ap (λ (f : Fed). f.threads) st.inputs.inputs in
-        let low = k.0 in
-        let r = there_sent m s w y st x.thread x.number k.1.first k.1.last in
-        (r.0, r.1, kept_one r.0 x r.3 i (sym r.2.0) (sym r.2.1))
-
-    pub keeps_all : (o : Sent) → SendsAfter w.past o.emission o.after
-        → WasMarked y.logger.released o.emission.thread o.emission.number
-        ⊎ ((x : Output) × IsAmong x outbox × IsKeptOutput (log_of w.past) y.sent x o)
-    keeps_all o sends = go (are.has o.emission.thread o.emission.number at.0 at.1
-        (number_high s.meaning (inputs_fed s w.fed) s.threads w.past o.emission o.after legal sends))
+    keeps_each : (x : Output) → IsAmong x outbox
+        → (o : Sent) × SendsAfter w.stored o.emission o.after × IsKeptOutput (log_of w.stored) y.sent x o
+    keeps_each x i = go (output_there s.meaning (inputs_fed s w.fed) s.threads w.stored x.thread x.number stored_legal
+        (are.each x i).1.first (are.each x i).1.last)
       where
-        legal : IsHistory s.meaning (inputs_fed s w.fed) s.threads w.past
-        legal = st.sound.firm.legal
+        go : HasOutput w.stored x.thread x.number
+            → (o : Sent) × SendsAfter w.stored o.emission o.after × IsKeptOutput (log_of w.stored) y.sent x o
+        go (o, k, sends, a, b) =
+            let here : Sent = record { emission = o; after = k } in
+            (here, sends, kept_one here x sends i (sym a) (sym b))
 
+    keeps_all : (o : Sent) → SendsAfter w.stored o.emission o.after
+        → WasMarked y.logger.released o.emission.thread o.emission.number
+        ⊎ ((x : Output) × IsAmong x outbox × IsKeptOutput (log_of w.stored) y.sent x o)
+    keeps_all o sends = go (are.has o.emission.thread o.emission.number at.0 at.1
+        (number_high s.meaning (inputs_fed s w.fed) s.threads w.stored o.emission o.after stored_legal sends))
+      where
         at : (o.emission.thread < s.threads) × (1 ≤ o.emission.number)
-        at = sends_thread s.meaning (inputs_fed s w.fed) s.threads w.past o.emission o.after legal sends
+        at = sends_thread s.meaning (inputs_fed s w.fed) s.threads w.stored o.emission o.after stored_legal sends
 
         go : WasMarked y.logger.released o.emission.thread o.emission.number
             ⊎ Lists outbox o.emission.thread o.emission.number
             → WasMarked y.logger.released o.emission.thread o.emission.number
-            ⊎ ((x : Output) × IsAmong x outbox × IsKeptOutput (log_of w.past) y.sent x o)
+            ⊎ ((x : Output) × IsAmong x outbox × IsKeptOutput (log_of w.stored) y.sent x o)
         go (inl was) = inl was
-        go (inr (x, i, own, same)) = inr (x, i, kept_one o x (st.sent.output_sent o sends) i own same)
+        go (inr (x, i, own, same)) = inr (x, i, kept_one o x sends i own same)
+
+    pub sends_again : AreSentAgain w y.sent y.logger.released outbox
+    sends_again = record { each = keeps_each; has = keeps_all }
 
 -- The calls, and what they tell
 
--- how much a thread sent out
-pub sent_count : {P V : Type 0} (m : Meaning V) (s : Setting V) (w : World V) (y : Parts P V) (t : ℕ) (counts : Counts)
-    → StandsFor m s w y → t < y.inputs.threads
-    → HoldsAt (λ (part : ThreadPart). counts ≡ part.counts) y.master.threads t
-    → counts.outputs ≡ outputs t (sent_of w.past)
-sent_count {P} {V} m s w y t counts st low at = (counts_stand m t counts refl low at s w st).2
+-- how much a thread had sent out when the snapshot was taken
+pub sent_count : {P V : Type 0} (m : Meaning V) (s : Setting V) (w : World V) (y : Parts P V) (master : Mastered V)
+    (t : ℕ) (counts : Counts) → StandsFor m s w y → master ≡ y.store.stored.master → t < y.inputs.threads
+    → HoldsAt (λ (part : ThreadPart). counts ≡ part.counts) master.threads t
+    → counts.outputs ≡ outputs t (sent_of w.stored)
+sent_count {P} {V} m s w y master t counts st is low at =
+    ap (λ (c : Counts). c.outputs) here ∙ (st.snapshots.first.stands.thread t none few).outputs
+  where
+    none : ThreadPart
+    none = record { counts = counts; hand = None; stamp = [] }
 
--- each output of the thread was released, or its frame is there
-pub rest_is : {P V : Type 0} (m : Meaning V) (view now : Parts P V) (t : ℕ) (counts : Counts) → view ≡ now
-    → StandsForSome m now → t < view.inputs.threads
-    → HoldsAt (λ (part : ThreadPart). counts ≡ part.counts) view.master.threads t
+    few : t < s.threads
+    few = subst (λ (f : Fed). t < f.threads) st.inputs.inputs low
+
+    here : counts ≡ (slice_index_or y.store.stored.master.threads t none).counts
+    here = at none ∙ ap (λ (q : Mastered V). (slice_index_or q.threads t none).counts) is
+
+-- each of these outputs of the thread was released, or its frame is there
+pub rest_is : {P V : Type 0} (m : Meaning V) (view now : Parts P V) (master : Mastered V) (t : ℕ) (counts : Counts)
+    → view ≡ now → StandsForSome m now → master ≡ now.store.stored.master → t < view.inputs.threads
+    → HoldsAt (λ (part : ThreadPart). counts ≡ part.counts) master.threads t
     → HasRest view.sent view.logger.released t counts.outputs
-rest_is {P} {V} m view now t counts same some low at =
+rest_is {P} {V} m view now master t counts same some is low at =
     let st : StandsFor m some.0 some.1 view =
     subst (λ (q : Parts P V). StandsFor m some.0 some.1 q) (sym same) some.2 in
-    rest_there m some.0 some.1 view st t counts.outputs low (sent_count m some.0 some.1 view t counts st low at)
+    let stored : master ≡ view.store.stored.master = is ∙ ap (λ (q : Parts P V). q.store.stored.master) (sym same) in
+    rest_there m some.0 some.1 view st t counts.outputs
+    (sent_count m some.0 some.1 view master t counts st stored low at)
 
 pub gathers_none : {P V : Type 0} (m : Meaning V) (y : Parts P V) (outbox : List Output) → outbox ≡ []
     → Gathers m y 0 outbox
 gathers_none {P} {V} m y outbox none s w st =
-    subst (λ (l : List Output). AreUnreleased y.sent y.logger.released 0 (λ (t : ℕ). outputs t (sent_of w.past)) l)
-    (sym none) (gathered_none y.sent y.logger.released (λ (t : ℕ). outputs t (sent_of w.past)))
+    subst (λ (l : List Output). AreUnreleased y.sent y.logger.released 0 (λ (t : ℕ). outputs t (sent_of w.stored)) l)
+    (sym none) (gathered_none y.sent y.logger.released (λ (t : ℕ). outputs t (sent_of w.stored)))
 
-pub gathers_more : {P V : Type 0} (m : Meaning V) (view now : Parts P V) (t : ℕ) (counts : Counts)
-    (old new : List Output) → view ≡ now → t < view.inputs.threads
-    → HoldsAt (λ (part : ThreadPart). counts ≡ part.counts) view.master.threads t
+pub gathers_more : {P V : Type 0} (m : Meaning V) (view now : Parts P V) (master : Mastered V) (t : ℕ)
+    (counts : Counts) (old new : List Output) → view ≡ now → master ≡ now.store.stored.master
+    → t < view.inputs.threads → HoldsAt (λ (part : ThreadPart). counts ≡ part.counts) master.threads t
     → AddsUnreleased view.sent view.logger.released t counts.outputs old new → Gathers m now t old
     → Gathers m now (t + 1) new
-gathers_more {P} {V} m view now t counts old new same low at adds rest =
+gathers_more {P} {V} m view now master t counts old new same is low at adds rest =
+    let stored : master ≡ view.store.stored.master = is ∙ ap (λ (q : Parts P V). q.store.stored.master) (sym same) in
     subst (λ (q : Parts P V). Gathers m q (t + 1) new) same (λ s w st.
-    gathered_more view.sent view.logger.released t counts.outputs (λ (u : ℕ). outputs u (sent_of w.past)) old new
-    (sent_count m s w view t counts st low at) adds
+    gathered_more view.sent view.logger.released t counts.outputs (λ (u : ℕ). outputs u (sent_of w.stored)) old new
+    (sent_count m s w view master t counts st stored low at) adds
     (subst (λ (q : Parts P V). Gathers m q t old) (sym same) rest s w st))
 
 pub gathers_all : {P V : Type 0} (m : Meaning V) (y : Parts P V) (threads : ℕ) (outbox : List Output)
     → threads ≡ y.inputs.threads → Gathers m y threads outbox → (s : Setting V) (w : World V) → StandsFor m s w y
-    → AreUnreleased y.sent y.logger.released s.threads (λ (t : ℕ). outputs t (sent_of w.past)) outbox
+    → AreUnreleased y.sent y.logger.released s.threads (λ (t : ℕ). outputs t (sent_of w.stored)) outbox
 gathers_all {P} {V} m y threads outbox is all s w st =
-    subst (λ (n : ℕ). AreUnreleased y.sent y.logger.released n (λ (t : ℕ). outputs t (sent_of w.past)) outbox)
+    subst (λ (n : ℕ). AreUnreleased y.sent y.logger.released n (λ (t : ℕ). outputs t (sent_of w.stored)) outbox)
     (is ∙ ap (λ (f : Fed). f.threads) st.inputs.inputs) (all s w st)

@@ -1,9 +1,9 @@
 use Rattle.std.proofs.Common.{◌+◌, List, sym, ◌∙◌, subst, arith}
 use Rattle.access_log.specs.declared.entry.Output.{Output}
-use Rattle.snapshot_steps.proofs.UnreleasedLemmas.{AddedSoFar, added_none, added_past, found_is, added_more}
-use Rattle.snapshot_steps.proofs.snapshots.add_unreleased.Goals as goal
-use Rattle.snapshot_steps.proofs.snapshots.add_unreleased.Goals.{then-not-seen+in_ok-output+in-Some+in_ok-push}
-use Rattle.snapshot_steps.proofs.snapshots.add_unreleased.Goals.{then-not-seen+in_ok-output+in_default, else-not-seen}
+use Rattle.crash_recovery.proofs.UnreleasedLemmas.{AddedSoFar, added_none, added_past, found_is, added_more}
+use Rattle.crash_recovery.proofs.crashing.add_unreleased.Goals as goal
+use Rattle.crash_recovery.proofs.crashing.add_unreleased.Goals.{then-not-seen+in_ok-output+in-Some+in_ok-push}
+use Rattle.crash_recovery.proofs.crashing.add_unreleased.Goals.{then-not-seen+in_ok-output+in_default, else-not-seen}
 
 pub loop-earlier-init : goal.loop-earlier-init
 loop-earlier-init c = added_none _ _ _ _ _ _ c.floor-earlier.ensures

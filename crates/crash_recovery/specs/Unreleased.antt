@@ -1,4 +1,4 @@
--- The outputs of a master that are not released: what a snapshot keeps of them.
+-- The outputs of a stored snapshot that are not released: a recovery finds them on the links, and sends them again.
 use Rattle.std.specs.Prelude.{◌≡◌, ℕ, ◌≤◌, ◌<◌, ◌⊎◌, List}
 use Rattle.access_log.specs.declared.entry.Output.{Output}
 use Rattle.dup_filter.specs.Numbers.{Numbers, WasMarked}

@@ -1,5 +1,5 @@
-use Rattle.snapshot_steps.proofs.UnreleasedLemmas.{AddedSoFar}
-use Rattle.snapshot_steps.proofs.snapshots.add_unreleased.Given as goal
+use Rattle.crash_recovery.proofs.UnreleasedLemmas.{AddedSoFar}
+use Rattle.crash_recovery.proofs.crashing.add_unreleased.Given as goal
 
 -- those up to the number before this one are there
 abbrev pub invariant-loop-earlier : goal.invariant-loop-earlier

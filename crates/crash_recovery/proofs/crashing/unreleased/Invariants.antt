@@ -1,6 +1,6 @@
 use Rattle.std.proofs.Common.{◌≡◌}
-use Rattle.snapshot_steps.proofs.UnreleasedLemmas.{Gathers}
-use Rattle.snapshot_steps.proofs.snapshots.unreleased.Given as goal
+use Rattle.crash_recovery.proofs.UnreleasedLemmas.{Gathers}
+use Rattle.crash_recovery.proofs.crashing.unreleased.Given as goal
 
 -- those of the threads before this one are there
 abbrev pub invariant-loop-thread : goal.invariant-loop-thread
