@@ -1,5 +1,5 @@
 -- What is marked and what has room, as one number or all change.
-use Rattle.std.proofs.Common.{◌≡◌, ℕ, zero, suc, ◌≤◌, ◌<◌, ◌≢◌, ◌↔◌, ◌⊎◌, Bool, true, false, cond, List, [], ◌∷◌}
+use Rattle.std.proofs.Common.{◌≡◌, ℕ, zero, suc, ◌+◌, ◌≤◌, ◌<◌, ◌≢◌, ◌↔◌, ◌⊎◌, Bool, true, false, cond, List, [], ◌∷◌}
 use Rattle.std.proofs.Common.{Option, Some, None, IsSome, Result, Ok, Err, OnOk, OnErr, max, length, refl, sym, ap, ◌∙◌}
 use Rattle.std.proofs.Common.{subst, inl, inr, ⊎_elim, arith}
 use Rattle.std.specs.Map.{lookup, keys_of}
@@ -15,7 +15,7 @@ use Rattle.std.proofs.lemmas.Cmp.{eq_by_cmp_equiv}
 use Rattle.std.proofs.lemmas.Map.Keys.{IsDistinct-from_sorted}
 use Rattle.std.proofs.lemmas.Map.Entries.{lookup-filter-values, option_filter}
 use Rattle.dup_filter.specs.Numbers.{Numbers, no_numbers, numbers, above_at, IsMarked, HasRoom, IsGreatest, Marks}
-use Rattle.dup_filter.specs.Numbers.{KeepsRoom, GivesUpRooms, AreNumbers}
+use Rattle.dup_filter.specs.Numbers.{KeepsRoom, GivesUpRooms, AreNumbers, IsTight}
 
 is_at-same : (n : ℕ) → is_at (nat_cmp n) n ≡ true
 is_at-same n = grind (arith, common_steps, nat_tests)
@@ -128,6 +128,12 @@ pub greatest_same : (old new : Numbers) (top : ℕ) → IsGreatest old top → (
     → IsGreatest new top
 greatest_same old new top g same =
     record { most = λ k m. g.most k ((same k).0 m); marked = ⊎_elim (λ z. inl z) (λ m. inr ((same top).1 m)) g.marked }
+
+-- with the same floor, and the same numbers marked, the one behind the floor is still not marked
+pub tight_same : (old new : Numbers) → new.floor ≡ old.floor → ((n : ℕ) → IsMarked new n ↔ IsMarked old n)
+    → IsTight old → IsTight new
+tight_same old new floor same tight m =
+    tight (subst (λ (f : ℕ). IsMarked old (f + 1)) floor ((same (new.floor + 1)).0 m))
 
 -- The marked ones above the floor are kept, and no others.
 abbrev is_marked : ℕ × Bool → Bool

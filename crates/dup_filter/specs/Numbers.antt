@@ -1,5 +1,5 @@
 -- The numbers that were marked, thread by thread, and those that room is kept for.
-use Rattle.std.specs.Prelude.{◌≡◌, ◌≢◌, ℕ, ◌≤◌, ◌<◌, ◌⊎◌, ◌↔◌, Bool, true, false, List, [], Option, Some, IsSome}
+use Rattle.std.specs.Prelude.{◌≡◌, ◌≢◌, ℕ, ◌+◌, ◌≤◌, ◌<◌, ◌⊎◌, ◌↔◌, Bool, true, false, List, [], Option, Some, IsSome}
 use Rattle.std.specs.Prelude.{slice_index_or}
 use Rattle.std.specs.Map.{lookup}
 use Rattle.std.specs.BTreeMap.{is_at}
@@ -43,6 +43,11 @@ IsAwaited released t n = HasRoom (numbers released t) n
 abbrev pub AreApart : List Numbers → Type 0
 AreApart released = (t n : ℕ) → IsAwaited released t n → WasMarked released t n → ⊥
 
+-- The number up to which all are marked is kept as that: the number behind it is not marked. So what is kept above it
+-- are the marked numbers past the first one that lacks, and those that room is kept for.
+abbrev pub IsTight : Numbers → Type 0
+IsTight s = IsMarked s (s.floor + 1) → ⊥
+
 -- the greatest number that was marked, or 0 where none was
 pub record IsGreatest (s : Numbers) (n : ℕ) : Type 0 where
   pub most : (k : ℕ) → IsMarked s k → k ≤ n
@@ -63,8 +68,9 @@ pub record GivesUpRooms (old new : Numbers) : Type 0 where
   pub marked : (n : ℕ) → IsMarked new n ↔ IsMarked old n
   pub room : (n : ℕ) → HasRoom new n → ⊥
 
--- What is true of the numbers of every thread: those kept above the floor are above it, and this is the greatest marked
--- one.
+-- What is true of the numbers of every thread: those kept above the floor are above it, the one behind it is not marked,
+-- and this is the greatest marked one.
 pub record AreNumbers (s : Numbers) (top : ℕ) : Type 0 where
   pub past : (n : ℕ) → IsSome (above_at s n) → s.floor < n
+  pub tight : IsTight s
   pub greatest : IsGreatest s top

@@ -1,7 +1,7 @@
 ghost use Rattle.std.specs.Prelude.{◌≡◌, ℕ, ◌<◌, ◌≤◌, ◌↔◌, IsTrue, IsSome, OnOk, OnErr};
 ghost use Rattle.std.specs.BTreeMap.{get};
 ghost use Rattle.std.specs.Ordering.{nat_cmp};
-ghost use Rattle.dup_filter.specs.Numbers.{no_numbers, above_at, IsMarked, HasRoom, IsGreatest};
+ghost use Rattle.dup_filter.specs.Numbers.{no_numbers, above_at, IsMarked, HasRoom, IsTight, IsGreatest};
 ghost use Rattle.dup_filter.specs.Numbers.{Marks, KeepsRoom, GivesUpRooms};
 
 use plain_text::NoMemory;
@@ -34,6 +34,7 @@ impl Model for Numbers {
 fn raise(from: u64, above: &mut BTreeMap<u64, bool>) -> u64
     requires { (n : ℕ) → IsSome (get nat_cmp above.old n) → from < n }
     ensures past { (n : ℕ) → IsSome (get nat_cmp above.new n) → result < n }
+    ensures tight { IsTight (record { floor = result; above = above.new.entries }) }
     ensures marked { (n : ℕ) → IsMarked (record { floor = result; above = above.new.entries }) n
         ↔ IsMarked (record { floor = from; above = above.old.entries }) n }
     ensures room { (n : ℕ) → HasRoom (record { floor = result; above = above.new.entries }) n
@@ -74,7 +75,8 @@ impl Numbers {
 
     /// The number up to which all are marked.
     pub fn floor(&self) -> u64
-        ensures { result ≡ self.now.floor }
+        ensures value { result ≡ self.now.floor }
+        ensures tight { IsTight self.now }
     {
         self.floor
     }

@@ -1,4 +1,4 @@
-ghost use Rattle.std.specs.Prelude.{◌≡◌, ℕ, ◌<◌, ◌≤◌, ◌↔◌, ◌≢◌, IsTrue, IfOk, OnOk, OnErr, length};
+ghost use Rattle.std.specs.Prelude.{◌≡◌, ℕ, ◌+◌, ◌<◌, ◌≤◌, ◌↔◌, ◌≢◌, IsTrue, IfOk, OnOk, OnErr, length};
 ghost use Rattle.std.specs.Prelude.{replicate};
 ghost use Rattle.dup_filter.specs.Numbers.{no_numbers, numbers, WasMarked, IsAwaited, AreApart};
 ghost use Rattle.dup_filter.specs.Numbers.{IsGreatest, Marks, KeepsRoom, GivesUpRooms};
@@ -71,10 +71,11 @@ impl Released {
         }
     }
 
-    /// The number up to which all numbers of the thread were marked, as far as they are kept as one. It takes no
-    /// memory.
+    /// The number up to which all numbers of the thread were marked: the one behind it was not. It takes no memory.
     pub fn floor(&self, thread: u32) -> u64
-        ensures { result ≡ (numbers self.now thread).floor }
+        ensures value { result ≡ (numbers self.now thread).floor }
+        ensures all { (n : ℕ) → 1 ≤ n → n ≤ result → WasMarked self.now thread n }
+        ensures behind { WasMarked self.now thread (result + 1) → ⊥ }
     {
         match self.threads.get(thread as usize) {
             Some(numbers) => numbers.floor(),

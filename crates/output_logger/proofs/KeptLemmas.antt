@@ -20,8 +20,8 @@ use Rattle.dup_filter.specs.Numbers.{Numbers, numbers, HasRoom, WasMarked, IsAwa
 use Rattle.output_logger.specs.Logger.{Logger, IsDue, IsCalled, IsNamed, IsAmong, AreApart, Parts, appended}
 use Rattle.output_logger.specs.Logger.{ReleasesOnce, ReleasesDue}
 use Rattle.output_logger.specs.Reach.{AreFrontiers}
-use Rattle.output_logger.specs.Kept.{arrived, IsReady, IsWaiting, IsIndexed, IsDueBy, HaveNames, PartsBy, Arrives}
-use Rattle.output_logger.specs.Kept.{IsNoted, Gone, AreKept}
+use Rattle.output_logger.specs.Kept.{arrived, IsReady, IsWaiting, IsIndexed, IndexesOnly, IsDueBy, HaveNames, PartsBy}
+use Rattle.output_logger.specs.Kept.{Arrives, IsNoted, Gone, AreKept}
 use Rattle.output_logger.proofs.KeyLemmas.{at_same, at_apart}
 use Rattle.output_logger.proofs.ArrivalLemmas.{some_of, arrived_head, arrived_tail, arrived_above}
 use Rattle.output_logger.proofs.ReachLemmas.{not_covered}
@@ -150,9 +150,10 @@ pub kept_after : (count : ℕ) (old new : List Lane) (before after : List Number
     → AreKept count old before es index → AreFrontiers old from → AreFrontiers new reached
     → ((u : ℕ) → slice_index from u ≤ slice_index reached u) → ((a : ℕ) → IsReady ready a ↔ IsDueBy es reached a)
     → Gone es rest before after ready go
-    → ((u n a : ℕ) → IsSome (arrived rest a) → IsIndexed index u n a → IsIndexed keys u n a) → length new ≡ length old
-    → AreKept count new after rest keys
-kept_after count old new before after es rest index keys ready go from reached kept are will rise due gone keeps same =
+    → ((u n a : ℕ) → IsSome (arrived rest a) → IsIndexed index u n a → IsIndexed keys u n a)
+    → (IndexesOnly index es → IndexesOnly keys rest) → length new ≡ length old → AreKept count new after rest keys
+kept_after count old new before after es rest index keys ready go from reached kept are will rise due gone keeps only
+    same =
     record {
       counted = kept.counted ∙ sym same;
       threads = gone.threads ∙ kept.threads ∙ sym same;
@@ -163,6 +164,7 @@ kept_after count old new before after es rest index keys ready go from reached k
           let up = rise u in
           keeps u (slice_index o.stamp u) a (some_of _ o h)
           (kept.indexed a o u (slice_index from u) (gone.stays a o h).0 (are u) (omega arith));
+      only = only kept.only;
       awaited = gone.awaited;
       apart = λ a b o p q r. kept.apart a b o p (gone.stays a o q).0 (gone.stays b p r).0;
       none_due = λ a o h is.
@@ -195,6 +197,7 @@ kept_noted count held before after es index o kept noted fresh same = record {
   sorted = kept.sorted;
   small = kept.small;
   indexed = kept.indexed;
+  only = kept.only;
   awaited = λ t n. let step = noted_awaited before after o noted t n in (
     λ h. (kept.awaited t n).0 (step.0 h).0,
     λ w. step.1 (
@@ -258,8 +261,9 @@ pub kept_pushed : (count : ℕ) (held : List Lane) (before after : List Numbers)
     → (IsAwaited before o.thread o.number → ⊥) → (IsDue held o → ⊥) → AreFrontiers held from
     → ((u : ℕ) → slice_index from u < slice_index o.stamp u → IsIndexed keys u (slice_index o.stamp u) a)
     → ((u n b : ℕ) → IsSome (arrived old b) → IsIndexed index u n b → IsIndexed keys u n b)
-    → AreKept count held after new keys
-kept_pushed count held before after old new index keys a o from kept is room others same fresh early are enters keeps =
+    → (IndexesOnly index old → IndexesOnly keys new) → AreKept count held after new keys
+kept_pushed count held before after old new index keys a o from kept is room others same fresh early are enters keeps
+    only =
     let split = arrives_some old new a o is in
     let alone : (b : ℕ) (p : Output) → arrived old b ≡ Some p → p.thread ≡ o.thread → p.number ≡ o.number → ⊥ =
     λ b p h q r. fresh ((kept.awaited o.thread o.number).1 (b, p, h, (q, r))) in
@@ -278,6 +282,7 @@ kept_pushed count held before after old new index keys a o from kept is room oth
           (subst (λ (n : ℕ). IsIndexed keys u n a) (sym stamp) entered))
           (λ q. keeps u (slice_index p.stamp u) b (some_of _ p q) (kept.indexed b p u f q frontier above))
           (split b p h);
+      only = only kept.only;
       awaited = λ t n. let step = room_awaited before after o room others t n in (
         λ h. ⊎_elim (λ called. (a, o, arrives_here old new a o is, called))
             (λ was. let w = (kept.awaited t n).0 was in (w.0, w.1, arrives_old old new a o is w.0 w.1 w.2, w.3))
@@ -297,13 +302,37 @@ kept_pushed count held before after old new index keys a o from kept is room oth
           (λ q. kept.none_due b p q due) (split b p h);
     }
 
+-- The output that waited last was taken back, and no room was kept for it.
+pub kept_back : (count : ℕ) (held : List Lane) (before after : List Numbers) (es rest : Arrivals)
+    (index keys : List (ℕ × ℕ × ℕ)) → AreKept count held before es index → after ≡ before → rest ≡ es
+    → ((u n a : ℕ) → IsSome (arrived rest a) → IsIndexed index u n a → IsIndexed keys u n a) → IndexesOnly keys rest
+    → AreKept count held after rest keys
+kept_back count held before after es rest index keys kept same back keeps only =
+    let now : AreKept count held before rest index =
+    subst (λ (l : Arrivals). AreKept count held before l index) (sym back) kept in
+    subst (λ (l : List Numbers). AreKept count held l rest keys) (sym same) (record {
+      counted = now.counted;
+      threads = now.threads;
+      sorted = now.sorted;
+      small = now.small;
+      indexed = λ a o u f h is above. keeps u (slice_index o.stamp u) a (some_of _ o h) (now.indexed a o u f h is above);
+      only = only;
+      awaited = now.awaited;
+      apart = now.apart;
+      none_due = now.none_due;
+    })
+
 -- Nothing waits
+
+pub only_none : (index : List (ℕ × ℕ × ℕ)) (outputs : Arrivals) → index ≡ [] → IndexesOnly index outputs
+only_none index outputs none u n a is =
+    let in_none : IsIndexed [] u n a = subst (λ (l : List (ℕ × ℕ × ℕ)). IsIndexed l u n a) none is in absurd cc
 
 pub kept_empty : (count : ℕ) (held : List Lane) (released : List Numbers) (outputs : Arrivals)
     (index : List (ℕ × ℕ × ℕ)) → outputs ≡ [] → IsStrictlySortedBy nat_cmp (keys_of outputs) → count ≡ length held
-    → length released ≡ length held → ((t n : ℕ) → IsAwaited released t n → ⊥)
+    → length released ≡ length held → ((t n : ℕ) → IsAwaited released t n → ⊥) → IndexesOnly index outputs
     → AreKept count held released outputs index
-kept_empty count held released outputs index none sorted counted threads rooms =
+kept_empty count held released outputs index none sorted counted threads rooms only =
     let no : (b : ℕ) (p : Output) → arrived outputs b ≡ Some p → ⊥ =
     λ b p h. let q : None ≡ Some p = sym (ap (λ (l : Arrivals). arrived l b) none) ∙ h in cc in
     record {
@@ -312,6 +341,7 @@ kept_empty count held released outputs index none sorted counted threads rooms =
       sorted = sorted;
       small = λ b p h. absurd (no b p h);
       indexed = λ b p u f h. absurd (no b p h);
+      only = only;
       awaited = λ t n. (λ h. absurd (rooms t n h), λ w. absurd (no w.0 w.1 w.2));
       apart = λ a b o p h. absurd (no a o h);
       none_due = λ b p h. absurd (no b p h);
@@ -363,6 +393,7 @@ kept_alone count old new released [] index kept none same = record {
   sorted = kept.sorted;
   small = kept.small;
   indexed = λ a o u f h is above. absurd (cc);
+  only = kept.only;
   awaited = kept.awaited;
   apart = kept.apart;
   none_due = λ a o h is. absurd (cc);

@@ -99,6 +99,39 @@ pub indexed_less : (old new : List Key) (k : Key)
 indexed_less old new k h u n a apart was =
     h (u, n, a) ∙ unless (is_at (key_cmp k) (u, n, a)) _ (key_apart k (u, n, a) apart) was
 
+pub indexed_only : (old new : List Key) (k : Key)
+    → ((q : Key)
+    → list_any (is_at (key_cmp q)) new ≡ cond (is_at (key_cmp k) q) true (list_any (is_at (key_cmp q)) old))
+    → (u n a : ℕ) → IsIndexed new u n a → IsIndexed old u n a ⊎ ((k.0 ≡ u) × (k.1 ≡ n) × (k.2 ≡ a))
+indexed_only old new k h u n a is =
+    let both : cond (is_at (key_cmp k) (u, n, a)) true (list_any (is_at (key_cmp (u, n, a))) old) ≡ true =
+    sym (h (u, n, a)) ∙ is in
+    elim (is_at (key_cmp k) (u, n, a)) as
+    (λ b.
+    is_at (key_cmp k) (u, n, a) ≡ b → cond b true (list_any (is_at (key_cmp (u, n, a))) old) ≡ true
+    → IsIndexed old u n a ⊎ ((k.0 ≡ u) × (k.1 ≡ n) × (k.2 ≡ a)))
+    [ true ↦ λ e q. inr (key_equal k (u, n, a) e) | false ↦ λ e q. inl q ] refl both
+
+pub indexed_was : (old new : List Key) (k : Key)
+    → ((q : Key)
+    → list_any (is_at (key_cmp q)) new ≡ cond (is_at (key_cmp k) q) false (list_any (is_at (key_cmp q)) old))
+    → (u n a : ℕ) → IsIndexed new u n a → IsIndexed old u n a
+indexed_was old new k h u n a is =
+    let both : cond (is_at (key_cmp k) (u, n, a)) false (list_any (is_at (key_cmp (u, n, a))) old) ≡ true =
+    sym (h (u, n, a)) ∙ is in
+    elim (is_at (key_cmp k) (u, n, a)) as
+    (λ b. cond b false (list_any (is_at (key_cmp (u, n, a))) old) ≡ true → IsIndexed old u n a)
+    [ true ↦ λ q. absurd cc | false ↦ λ q. q ] both
+
+pub indexed_not : (old new : List Key) (k : Key)
+    → ((q : Key)
+    → list_any (is_at (key_cmp q)) new ≡ cond (is_at (key_cmp k) q) false (list_any (is_at (key_cmp q)) old))
+    → IsIndexed new k.0 k.1 k.2 → ⊥
+indexed_not old new k h is =
+    let none : list_any (is_at (key_cmp k)) new ≡ false =
+    h k ∙ ap (λ b. cond b false (list_any (is_at (key_cmp k)) old)) (key_same k) in
+    cc
+
 key_is : (t n a : ℕ) (k : Key) → t ≡ k.0 → n ≡ k.1 → a ≡ k.2 → (t, n, a) ≡ k
 key_is t n a k p q r = rw (p, q, r) refl
 

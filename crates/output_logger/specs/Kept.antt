@@ -29,6 +29,17 @@ key_cmp x y = ordering_then (ordering_then (nat_cmp x.0 y.0) (nat_cmp x.1 y.1)) 
 abbrev pub IsIndexed : List (ℕ × ℕ × ℕ) → ℕ → ℕ → ℕ → Type 0
 IsIndexed index u n a = list_any (is_at (key_cmp (u, n, a))) index ≡ true
 
+-- An output that waits has this arrival number, and this number of the thread is in its stamp.
+pub record NamesEntry (outputs : List (ℕ × Output)) (u n a : ℕ) : Type 0 where
+  pub few : u < 16
+  pub output : Output
+  pub there : arrived outputs a ≡ Some output
+  pub named : slice_index output.stamp u ≡ n
+
+-- The index has nothing but waiting outputs, each under entries that its stamp names: at most one of each thread.
+abbrev pub IndexesOnly : List (ℕ × ℕ × ℕ) → List (ℕ × Output) → Type 0
+IndexesOnly index outputs = (u n a : ℕ) → IsIndexed index u n a → NamesEntry outputs u n a
+
 -- the arrival number is in the list
 abbrev pub IsReady : List ℕ → ℕ → Type 0
 IsReady ready a = list_any (is_at (nat_cmp a)) ready ≡ true
@@ -52,6 +63,7 @@ pub record AreKept (count : ℕ) (held : List Lane) (released : List Numbers) (o
   pub small : (a : ℕ) (o : Output) → arrived outputs a ≡ Some o → a < 2 ^ 64 - 1
   pub indexed : (a : ℕ) (o : Output) (u f : ℕ) → arrived outputs a ≡ Some o → IsFrontier (lane held u) f
       → f < slice_index o.stamp u → IsIndexed index u (slice_index o.stamp u) a
+  pub only : IndexesOnly index outputs
   pub awaited : (t n : ℕ) → IsAwaited released t n ↔ IsWaiting outputs t n
   pub apart : HaveNames outputs
   pub none_due : (a : ℕ) (o : Output) → arrived outputs a ≡ Some o → IsDue held o → ⊥

@@ -9,7 +9,7 @@ ghost use Rattle.std.specs.Map.{remove_entry, keys_of};
 ghost use Rattle.access_log.specs.declared.entry.Output.{Output};
 ghost use Rattle.dup_filter.specs.Numbers.{IsAwaited};
 ghost use Rattle.output_logger.specs.Logger.{appended};
-ghost use Rattle.output_logger.specs.Kept.{arrived, IsWaiting, IsIndexed, IsReady, IsDueBy};
+ghost use Rattle.output_logger.specs.Kept.{arrived, IsWaiting, IsIndexed, IndexesOnly, IsReady, IsDueBy};
 ghost use Rattle.output_logger.specs.Kept.{HaveNames, Arrives, IsNoted, Gone};
 
 use access_log::Output;
@@ -20,7 +20,7 @@ use std::collections::{BTreeMap, BTreeSet};
 use thread_clock::Stamp;
 
 /// The waiting outputs by the order in which they arrived. An index has each under every log entry that it waits for,
-/// by thread, number and arrival; and maybe under others.
+/// by thread, number and arrival; and maybe under others of its stamp.
 #[derive(Debug, Drop)]
 pub struct Waiting {
     /// By the number of its arrival, from 0.
@@ -55,6 +55,8 @@ fn enter(
     ensures keeps { (u n a : ℕ) → IsIndexed index.old.keys u n a → IsIndexed index.new.keys u n a }
     ensures enters { OnOk result ((u : ℕ) → slice_index frontiers.now u < slice_index stamp.now u
         → IsIndexed index.new.keys u (slice_index stamp.now u) arrival) }
+    ensures only { (u n a : ℕ) → IsIndexed index.new.keys u n a → IsIndexed index.old.keys u n a
+        ⊎ ((u < 16) × (n ≡ slice_index stamp.now u) × (a ≡ arrival)) }
 {
     let _few = frontiers.components();
     let _same = stamp.components();
@@ -69,8 +71,11 @@ fn enter(
 
 /// Takes an output out of the index.
 fn leave(index: &mut BTreeSet<(u32, u64, u64)>, stamp: &Stamp, arrival: u64)
-    ensures { (u n a : ℕ) → a ≢ arrival → IsIndexed index.old.keys u n a
+    ensures keeps { (u n a : ℕ) → a ≢ arrival → IsIndexed index.old.keys u n a
         → IsIndexed index.new.keys u n a }
+    ensures only { (u n a : ℕ) → IsIndexed index.new.keys u n a → IsIndexed index.old.keys u n a }
+    ensures gone { (u : ℕ) → u < 16
+        → IsIndexed index.new.keys u (slice_index stamp.now u) arrival → ⊥ }
 {
     for thread in 0..16 {
         index.remove(&(thread, stamp.get(thread), arrival));
@@ -127,6 +132,8 @@ fn release_one(waiting: &mut Waiting, released: &mut Released, arrival: u64, out
     ensures sorted { IsStrictlySortedBy nat_cmp (keys_of waiting.new.outputs.entries) }
     ensures index { (u n a : ℕ) → a ≢ arrival → IsIndexed waiting.old.index.keys u n a
         → IsIndexed waiting.new.index.keys u n a }
+    ensures only { IndexesOnly waiting.old.index.keys waiting.old.outputs.entries
+        → IndexesOnly waiting.new.index.keys waiting.new.outputs.entries }
     ensures threads { length released.new ≡ length released.old }
     ensures len { vec_len out.new ≡ vec_len out.old + 1 }
     ensures capacity { vec_capacity out.new ≡ vec_capacity out.old }
@@ -159,6 +166,8 @@ impl Waiting {
             → IsIndexed self.new.index.keys u (slice_index output.stamp u) a) }
         ensures keeps { (u n a : ℕ) → IsSome (arrived self.old.outputs.entries a)
             → IsIndexed self.old.index.keys u n a → IsIndexed self.new.index.keys u n a }
+        ensures only { IndexesOnly self.old.index.keys self.old.outputs.entries
+            → IndexesOnly self.new.index.keys self.new.outputs.entries }
         ensures err { OnErr result (self.new.outputs.entries ≡ self.old.outputs.entries) }
     {
         let arrival = next_arrival(&self.outputs)?;
@@ -178,6 +187,8 @@ impl Waiting {
             → self.old.outputs.entries ≡ outputs ++ last ∷ [] → self.new.outputs.entries ≡ outputs }
         ensures keeps { (u n a : ℕ) → IsSome (arrived self.new.outputs.entries a)
             → IsIndexed self.old.index.keys u n a → IsIndexed self.new.index.keys u n a }
+        ensures only { IndexesOnly self.old.index.keys self.old.outputs.entries
+            → IndexesOnly self.new.index.keys self.new.outputs.entries }
     {
         if let Some((arrival, output)) = self.outputs.pop_last() {
             leave(&mut self.index, &output.stamp, arrival);
@@ -187,6 +198,7 @@ impl Waiting {
     /// Lets no output wait any more. It takes no memory.
     pub fn clear(&mut self)
         ensures outputs { self.new.outputs.entries ≡ [] }
+        ensures index { self.new.index.keys ≡ [] }
         ensures sorted { IsStrictlySortedBy nat_cmp (keys_of self.new.outputs.entries) }
     {
         self.outputs.clear();
@@ -231,6 +243,8 @@ impl Waiting {
         ensures appends { out.new.items ≡ out.old.items ++ appended out.old.items out.new.items }
         ensures keeps { (u n a : ℕ) → IsSome (arrived self.new.outputs.entries a)
             → IsIndexed self.old.index.keys u n a → IsIndexed self.new.index.keys u n a }
+        ensures only { IndexesOnly self.old.index.keys self.old.outputs.entries
+            → IndexesOnly self.new.index.keys self.new.outputs.entries }
     {
         for arrival in ready {
             release_one(self, released, *arrival, out);

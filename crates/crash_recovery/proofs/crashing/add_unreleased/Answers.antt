@@ -6,7 +6,7 @@ use Rattle.crash_recovery.proofs.crashing.add_unreleased.Goals.{then-not-seen+in
 use Rattle.crash_recovery.proofs.crashing.add_unreleased.Goals.{then-not-seen+in_ok-output+in_default, else-not-seen}
 
 pub loop-earlier-init : goal.loop-earlier-init
-loop-earlier-init c = added_none _ _ _ _ _ _ c.floor-earlier.ensures
+loop-earlier-init c = added_none _ _ _ _ _ _ c.floor-earlier.ensures.value
 
 pub loop-earlier-preserved : goal.loop-earlier-preserved
 loop-earlier-preserved c =

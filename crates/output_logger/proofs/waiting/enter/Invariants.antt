@@ -1,4 +1,4 @@
-use Rattle.std.proofs.Common.{ℕ, ◌<◌, slice_index}
+use Rattle.std.proofs.Common.{◌≡◌, ℕ, ◌<◌, ◌⊎◌, slice_index}
 use Rattle.output_logger.specs.Kept.{IsIndexed}
 use Rattle.output_logger.proofs.waiting.enter.Given as goal
 
@@ -7,4 +7,6 @@ invariant-loop-thread l = record {
   keeps : (u n a : ℕ) → IsIndexed l.initial.index.keys u n a → IsIndexed l.index.keys u n a;
   enters : (u : ℕ) → u < l.thread → slice_index l.frontiers u < slice_index l.stamp u
       → IsIndexed l.index.keys u (slice_index l.stamp u) l.arrival;
+  only : (u n a : ℕ) → IsIndexed l.index.keys u n a
+      → IsIndexed l.initial.index.keys u n a ⊎ ((u < 16) × (n ≡ slice_index l.stamp u) × (a ≡ l.arrival));
 }

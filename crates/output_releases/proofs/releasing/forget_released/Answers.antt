@@ -7,8 +7,8 @@ loop-thread-init c = record { only = forgets_none _ _; all = λ t n less low. ab
 
 pub loop-thread-preserved : goal.loop-thread-preserved
 loop-thread-preserved c = record {
-  only = forgets_more _ _ _ _ c.loop-thread.thread _ c.floor.ensures c.loop-thread.invariant.only
+  only = forgets_more _ _ _ _ c.loop-thread.thread _ c.floor.ensures.value c.loop-thread.invariant.only
       c.forget_outputs.ensures.forgets;
-  all = forgotten_more _ _ _ c.loop-thread.thread _ c.floor.ensures c.loop-thread.invariant.all
+  all = forgotten_more _ _ _ c.loop-thread.thread _ c.floor.ensures.value c.loop-thread.invariant.all
       c.forget_outputs.ensures.forgets;
 }

@@ -1,6 +1,6 @@
 use Rattle.std.proofs.Common.{false}
 use Rattle.dup_filter.specs.Numbers.{Numbers, IsMarked}
-use Rattle.dup_filter.proofs.NumberLemmas.{Puts, puts, puts_past, fresh_past, keeps_marked, greatest_same}
+use Rattle.dup_filter.proofs.NumberLemmas.{Puts, puts, puts_past, fresh_past, keeps_marked, greatest_same, tight_same}
 use Rattle.dup_filter.proofs.numbers.Numbers.keep_room.Goals as goal
 
 pub invariant_of-self-2 : goal.invariant_of-self-2
@@ -14,6 +14,7 @@ invariant_of-self-2 c =
     record {
       past = puts_past old put s.greatest c.args.number false c.self.invariant p
           (fresh_past old c.args.number c.requires.numbered fresh);
+      tight = tight_same old put p.floor (keeps_marked old put c.args.number p fresh) c.self.invariant.tight;
       greatest =
           greatest_same old put s.greatest c.self.invariant.greatest (keeps_marked old put c.args.number p fresh);
     }

@@ -18,5 +18,6 @@ invariant_of-self c =
     marks old put new c.args.number p c.raise-self-inside.ensures.marked c.raise-self-inside.ensures.room in
     rw c.max-self-inside.ensures (record {
       past = c.raise-self-inside.ensures.past;
+      tight = c.raise-self-inside.ensures.tight;
       greatest = greatest_after old new s.greatest c.args.number c.self.invariant.greatest m;
     })

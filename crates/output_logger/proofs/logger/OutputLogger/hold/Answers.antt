@@ -22,7 +22,7 @@ invariant_of-self-2 c =
     kept_after s.threads s.held new s.released c.release.new.released s.waiting.outputs.entries
     c.release.new.self.outputs.entries s.waiting.index.keys c.release.new.self.index.keys c.in_ok-ready.ready.keys _
     c.frontiers-from.result c.in_ok-reached.reached c.self.invariant are will rise c.in_ok-ready.ensures.due
-    c.release.ensures.gone c.release.ensures.keeps c.in_ok-_added.ensures.threads
+    c.release.ensures.gone c.release.ensures.keeps c.release.ensures.only c.in_ok-_added.ensures.threads
 
 pub returns-clause-released : goal.returns-clause-released
 returns-clause-released c =

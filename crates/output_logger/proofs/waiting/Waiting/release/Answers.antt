@@ -19,6 +19,7 @@ loop-arrival-init c =
       appends = appends_none out;
       room = rw keys c.requires.room;
       keeps = λ u n a none was. was;
+      only = λ h. h;
     }
 
 pub release_one-requires-clause-there : goal.release_one-requires-clause-there
@@ -73,4 +74,5 @@ loop-arrival-preserved c =
           let not : IsReady (done ++ k ∷ []) a → ⊥ = rw more at none in
           let apart : a ≢ k = λ same. not (b.1 (inr same)) in
           c.release_one.ensures.index u n a apart (c.loop-arrival.invariant.keeps u n a (λ r. not (b.1 (inl r))) was);
+      only = λ h. c.release_one.ensures.only (c.loop-arrival.invariant.only h);
     }
