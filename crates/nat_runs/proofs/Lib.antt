@@ -1,0 +1,4 @@
+pub mod TableEntries
+pub mod ThreadMoves
+pub mod Knowing
+pub mod Staying

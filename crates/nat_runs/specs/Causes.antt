@@ -1,0 +1,87 @@
+-- Why a packet is counted as dropped, by the reason of the count.
+use Rattle.std.specs.Prelude.{◌≡◌, ℕ, ◌+◌, ◌-◌, ◌%◌, ◌^◌, ◌⊎◌, List, ◌∷◌, Option, Some, None, Ok, Err, slice_index}
+use Rattle.std.specs.Prelude.{slice_set}
+use Rattle.plain_text.specs.declared.packet.Packet.{Packet}
+use Rattle.packet_headers.specs.declared.flow.Flow.{Flow}
+use Rattle.packet_headers.specs.declared.flow.NotFlow.{NotFlow}
+use Rattle.packet_headers.specs.View.{viewed}
+use Rattle.entry_order.specs.Log.{Entry}
+use Rattle.entry_order.specs.declared.what.What.TheVariants.{Access}
+use Rattle.plain_machine.specs.Machine.{Hand}
+use Rattle.plain_machine.specs.History.{Did, Step, thread_after, value_after, IsHistory}
+use Rattle.nat_tables.specs.declared.entries.Endpoint.{Endpoint}
+use Rattle.nat_tables.specs.declared.entries.PortKey.{PortKey}
+use Rattle.nat_tables.specs.declared.slot.Slot.{Slot}
+use Rattle.nat_tables.specs.Keys.{port_key}
+use Rattle.nat_tables.specs.Ports.{PoolPorts, free_of}
+use Rattle.nat_tables.specs.Forwards.{Forwards}
+use Rattle.nat_tables.specs.Reverses.{Reverses}
+use Rattle.nat_box.specs.declared.value.Drops.{Drops}
+use Rattle.nat_box.specs.declared.value.NatValue.{NatValue}
+use Rattle.nat_box.specs.declared.value.NatValue.TheVariants.{Dropped}
+use Rattle.nat_box.specs.Places.{endpoint}
+use Rattle.nat_box.specs.Nat.{Settings, class_of_flow, reason_of, nat_meaning}
+use Rattle.nat_box.specs.Lawful.{AreSettings}
+use Rattle.nat_box.specs.Sentences.{Has}
+use Rattle.nat_box.specs.Emissions.{HaveBytes}
+use Rattle.nat_runs.specs.Met.{Met, met_of}
+use Rattle.nat_runs.specs.Idle.{IsIdle}
+
+-- 1 to 6: the frame is no flow
+abbrev pub IsNoFlow : Packet → ℕ → Type 0
+IsNoFlow p reason = (answer : NotFlow) × (viewed p.bytes p.original ≡ Err answer) × (reason ≡ reason_of answer)
+
+abbrev pub IsFlow : Packet → Flow → Type 0
+IsFlow p flow = viewed p.bytes p.original ≡ Ok flow
+
+-- 9: the flow neither comes from inside nor goes to the outside address, or goes from inside to inside
+abbrev pub IsStray : Settings → Packet → ℕ → Type 0
+IsStray s p reason =
+    (flow : Flow) × IsFlow p flow × (class_of_flow s flow.source flow.dest ≡ None) × (reason ≡ 9)
+
+-- 8: when it touched the pool, no port of its protocol was free
+abbrev pub FoundNoPort : Packet → Met → ℕ → Type 0
+FoundNoPort p met reason =
+    (flow : Flow) × IsFlow p flow × (pool : PoolPorts) × (met.pool ≡ Some pool)
+    × ((port : ℕ) → free_of flow.protocol port pool ≡ 0) × (reason ≡ 8)
+
+-- nothing is bound to the port
+abbrev pub IsFreeIn : Reverses → PortKey → Type 0
+IsFreeIn bs port = (key : Endpoint) → Has bs (port, key) → ⊥
+
+-- the endpoint has no mapping to the port that is not idle
+abbrev pub AreIdle : Forwards → Endpoint → ℕ → ℕ → Type 0
+AreIdle es key port now = (slot : Slot) → Has es (key, slot) → slot.port ≡ port → IsIdle now key slot
+
+-- an endpoint is bound to the port, and the forward table that was read has no mapping of it to the port, or an idle one
+abbrev pub FoundIdle : Flow → Met → Reverses → Type 0
+FoundIdle flow met bs =
+    (key : Endpoint) × (es : Forwards) × (now : ℕ) × Has bs (port_key flow.protocol flow.dest_port, key)
+    × (met.forward ≡ Some es) × (met.clock ≡ Some now)
+    × AreIdle es (endpoint flow.protocol key.address key.port) flow.dest_port now
+
+-- 7: when it read the reverse table of the port that it goes to, nothing was bound to it, or only an idle mapping was
+abbrev pub FoundNoMapping : Packet → Met → ℕ → Type 0
+FoundNoMapping p met reason =
+    (flow : Flow) × IsFlow p flow × (bs : Reverses) × (met.reverse ≡ Some bs)
+    × (IsFreeIn bs (port_key flow.protocol flow.dest_port) ⊎ FoundIdle flow met bs) × (reason ≡ 7)
+
+abbrev pub Cause : Settings → Packet → Met → ℕ → Type 0
+Cause s p met reason =
+    IsNoFlow p reason ⊎ (IsStray s p reason ⊎ (FoundNoPort p met reason ⊎ FoundNoMapping p met reason))
+
+-- one drop more for the reason
+abbrev pub one_more : ℕ → Drops → Drops
+one_more reason d =
+    record { counts = slice_set d.counts (reason - 1) ((slice_index d.counts (reason - 1) + 1) % 2 ^ 64) }
+
+-- Each touch of variable 0 counts the packet in hand, for a reason that has its cause.
+abbrev pub DropsHaveCauses : Type 0
+DropsHaveCauses =
+    (s : Settings) (threads : ℕ) (inputs : ℕ → List Packet) (x : Step NatValue) (earlier : List (Step NatValue))
+    (entry : Entry) (left : Option NatValue) (place : ℕ) → AreSettings s → HaveBytes inputs
+    → IsHistory (nat_meaning s) inputs threads (x ∷ earlier) → x.act ≡ Did entry left → entry.what ≡ Access 0 place
+    → (h : Hand) × (d : Drops) × (reason : ℕ) × ((thread_after earlier x.thread).hand ≡ Some h)
+    × (value_after (nat_meaning s) earlier 0 ≡ Dropped d)
+    × (value_after (nat_meaning s) (x ∷ earlier) 0 ≡ Dropped (one_more reason d))
+    × Cause s h.packet (met_of s x.thread earlier) reason
