@@ -2,3 +2,8 @@ pub mod TableEntries
 pub mod ThreadMoves
 pub mod Knowing
 pub mod Staying
+pub mod Used
+pub mod Inbound
+pub mod DropCounts
+pub mod Causes
+pub mod Passing

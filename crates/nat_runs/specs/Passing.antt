@@ -1,11 +1,11 @@
 -- No packet vanishes: each one that was taken was sent out, was counted as dropped, or is in hand and will be.
 use Rattle.std.specs.Prelude.{◌≡◌, ℕ, ◌+◌, ◌%◌, ◌^◌, ◌<◌, List, [], ◌∷◌, length, Option, None}
 use Rattle.plain_text.specs.declared.packet.Packet.{Packet}
-use Rattle.entry_order.specs.declared.what.What.{What}
-use Rattle.plain_machine.specs.History.{Act, Took, Did, Emitted, Ended, Step, sent_of, thread_after, value_after, IsHistory}
+use Rattle.plain_machine.specs.Machine.{Thread}
+use Rattle.plain_machine.specs.History.{Act, Took, Did, Emitted, Ended, Step, sent_of, thread_after, value_after}
+use Rattle.plain_machine.specs.History.{IsHistory}
 use Rattle.nat_box.specs.declared.place.Place.{Place}
 use Rattle.nat_box.specs.declared.place.Place.TheVariants.{Ends}
-use Rattle.nat_box.specs.declared.place.Noted.{Noted}
 use Rattle.nat_box.specs.declared.value.NatValue.{NatValue}
 use Rattle.nat_box.specs.declared.value.NatValue.TheVariants.{Dropped, Free, Mapped, Taken}
 use Rattle.nat_box.specs.Nat.{Settings, nat_meaning}
@@ -41,16 +41,20 @@ drops_in (Mapped es) = 0
 drops_in (Taken bs) = 0
 
 -- 1 for a packet in hand that is neither sent out nor counted yet
-abbrev pub waits : Place → Noted → ℕ
-waits Ends n = 0
-waits _ n = 1
+
+abbrev pub waits_at : Place → ℕ
+waits_at Ends = 0
+waits_at _ = 1
+
+abbrev pub waiting : ℕ → (ℕ → Thread) → ℕ
+waiting threads thread = in_hands (λ place n. waits_at place) threads thread
 
 -- The counts wrap at 2^64, so this is said modulo 2^64.
 abbrev pub NoneVanishes : Type 0
 NoneVanishes =
     (s : Settings) (threads : ℕ) (inputs : ℕ → List Packet) (steps : List (Step NatValue)) → AreSettings s
     → IsHistory (nat_meaning s) inputs threads steps
-    → (sent_in steps + drops_in (value_after (nat_meaning s) steps 0) + in_hands waits threads (thread_after steps))
+    → (sent_in steps + drops_in (value_after (nat_meaning s) steps 0) + waiting threads (thread_after steps))
     % 2 ^ 64
     ≡ taken_in steps % 2 ^ 64
 

@@ -3,4 +3,7 @@
 
 mod laws;
 
-pub use laws::{mappings_stay_until_idle, no_packet_vanishes};
+pub use laws::{
+    drops_have_their_causes, inbound_packets_change_no_table, mappings_stay_until_idle, no_packet_vanishes,
+    what_comes_in_found_a_used_mapping,
+};
