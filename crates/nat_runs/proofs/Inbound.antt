@@ -43,8 +43,8 @@ touches_counts s m p _ _ n (gives_freed pool) i k = absurd (not_on_way s m p n i
 touches_counts s m p _ _ n (reserves pool) i k = absurd (not_on_way s m p n i k)
 touches_counts s m p _ _ n (binds bs) i k = absurd (not_on_way s m p n i k)
 touches_counts s m p _ _ n (finds_or_binds es) i k = absurd (not_on_way s m p n i k)
-touches_counts s m p _ _ n (unbinds_lost bs) i k = absurd (not_on_way s m p n i k)
-touches_counts s m p _ _ n (gives_lost pool) i k = absurd (not_on_way s m p n i k)
+touches_counts s m p _ _ n (unbinds_lost bs) i k = absurd (not_on_way s m p n i k.0)
+touches_counts s m p _ _ n (gives_lost pool) i k = absurd (not_on_way s m p n i k.0)
 touches_counts s m p _ _ n (counts d) i k = refl
 
 module _ (s : Settings) (is : AreSettings s) (packets : List Packet) (value : ℕ → NatValue) (t : ℕ)

@@ -1,5 +1,5 @@
 -- What is known of a packet in hand, by where it is and by what its moves met.
-use Rattle.std.proofs.Common.{◌≡◌, ◌≢◌, ℕ, ◌+◌, ◌*◌, ◌%◌, ◌^◌, ◌<◌, ◌≤◌, Bool, true, false, List, [], ◌∷◌, refl, sym, ap}
+use Rattle.std.proofs.Common.{◌≡◌, ◌≢◌, ℕ, ◌+◌, ◌*◌, ◌%◌, ◌^◌, ◌<◌, ◌≤◌, Bool, true, false, List, [], ◌∷◌, ◌++◌, refl, sym, ap}
 use Rattle.std.proofs.Common.{◌∙◌, subst, ◌⊎◌, inl, inr, arith, Option, Some, None}
 use Rattle.std.specs.Prelude.{slice_get, Result, Ok, Err}
 use Rattle.plain_text.specs.declared.packet.Packet.{Packet}
@@ -8,7 +8,7 @@ use Rattle.packet_headers.specs.declared.flow.Flow.{Flow}
 use Rattle.packet_headers.specs.declared.flow.NotFlow.{NotFlow}
 use Rattle.packet_headers.specs.declared.flow.NotFlow.TheVariants.{Short, NotIpv4, BadHeaderLength, Fragment}
 use Rattle.packet_headers.specs.declared.flow.NotFlow.TheVariants.{OtherProtocol, BadTotalLength}
-use Rattle.packet_headers.specs.Fields.{AreBytes, word_at, header_end}
+use Rattle.packet_headers.specs.Fields.{AreBytes, word_at, long_at, header_end}
 use Rattle.packet_headers.specs.View.{viewed, flow_of, failures}
 use Rattle.packet_headers.proofs.FirstFailure.{pass_from_ok}
 use Rattle.plain_machine.specs.declared.local.Move.TheVariants.{Access, Read}
@@ -18,13 +18,14 @@ use Rattle.plain_machine.proofs.Histories.{not_eq, is_eq}
 use Rattle.plain_machine.proofs.Bounds.{values_fit}
 use Rattle.nat_tables.specs.declared.entries.Endpoint.{Endpoint}
 use Rattle.nat_tables.specs.declared.entries.PortKey.{PortKey}
+use Rattle.nat_tables.specs.declared.slot.Slot.{Slot}
 use Rattle.nat_tables.specs.declared.entries.Find.{Find}
 use Rattle.nat_tables.specs.declared.entries.Find.TheVariants.{Live, Absent}
-use Rattle.nat_tables.specs.declared.entries.Bind.{Bind}
 use Rattle.nat_tables.specs.declared.entries.Bind.TheVariants.{Bound, Other}
 use Rattle.nat_tables.specs.Keys.{port_key}
 use Rattle.nat_tables.specs.Ports.{PoolPorts, reserve, free_of}
-use Rattle.nat_tables.specs.Forwards.{Forwards, find, find_or_bind, lives}
+use Rattle.nat_tables.specs.Forwards.{Forwards, refresh, refreshed, is_idle, slot_of, first_idle, found_there, found, bound}
+use Rattle.nat_tables.specs.Forwards.{find_or_bind, port_of, lives}
 use Rattle.nat_tables.specs.Reverses.{Reverses, endpoint_of}
 use Rattle.nat_box.specs.declared.place.Place.{Place}
 use Rattle.nat_box.specs.declared.place.Place.TheVariants.{HearsTime, FindsMapping, UnbindsFreed, GivesBackFreed}
@@ -38,17 +39,21 @@ use Rattle.nat_box.specs.declared.value.NatValue.{NatValue}
 use Rattle.nat_box.specs.declared.value.NatValue.TheVariants.{Dropped, Free, Mapped, Taken}
 use Rattle.nat_box.specs.Places.{place_numbered, noted, dest_key, endpoint, local_of}
 use Rattle.nat_box.specs.declared.place.Goes.{Goes}
-use Rattle.nat_box.specs.Nat.{Settings, goes, next_move, class_of_flow, noted_flow, nothing_noted, reason_of, begun_as}
+use Rattle.nat_box.specs.Nat.{Settings, goes, forward_table, reverse_table, class_of_flow, noted_flow, nothing_noted, reason_of, begun_as}
 use Rattle.nat_box.specs.Nat.{begun, mapped, after_find, after_reserve, after_bind, touched, after_endpoint, looked_by}
 use Rattle.nat_box.specs.Nat.{looked, after_time, told, local_at, nat_meaning, MayMap, MayBind, Fits}
 use Rattle.nat_box.specs.Noting.{place_again, class_again, IsNoted, is_noted, noted_again}
-use Rattle.nat_box.specs.Lawful.{AreSettings, nat_lawful}
-use Rattle.nat_box.specs.Sentences.{Has}
+use Rattle.nat_box.specs.Lawful.{AreSettings, var_of, touches_it, reads_it, nat_lawful}
+use Rattle.nat_box.specs.PortStanding.{free_at}
+use Rattle.nat_box.specs.Sentences.{Has, mappings_in, bound_in, IsMapping}
+use Rattle.nat_box.specs.Emissions.{source_of}
 use Rattle.nat_box.proofs.Noting.{touched_noted}
 use Rattle.nat_box.proofs.Making.{goes_on, comes_to}
 use Rattle.nat_runs.specs.Met.{Met, nothing_met, met_by_touch, met_by_read, met_by, met_of}
-use Rattle.nat_runs.specs.Causes.{IsFreeIn, AreIdle, FoundIdle, Cause}
-use Rattle.nat_runs.proofs.TableEntries.{endpoint_in, free_in_table, lives_not, may_endpoint, none_free}
+use Rattle.nat_runs.specs.Idle.{IsIdle}
+use Rattle.nat_runs.specs.Causes.{IsUnbound, HasNoneUsed, FoundNoneUsed, Cause}
+use Rattle.nat_runs.proofs.TableEntries.{endpoint_in, not_bound, AreIdle, lives_not, may_endpoint, may_mapping}
+use Rattle.nat_runs.proofs.TableEntries.{none_free, slot_refreshed, slot_bound}
 use Rattle.nat_runs.proofs.ThreadMoves.{TouchKind, finds, unbinds_freed, gives_freed, reserves, binds, finds_or_binds}
 use Rattle.nat_runs.proofs.ThreadMoves.{unbinds_lost, gives_lost, counts, LookKind, finds_endpoint, asks, touch_kind}
 use Rattle.nat_runs.proofs.ThreadMoves.{look_kind, at_clock, at_draw, at, touched_below, read_below, by_move}
@@ -57,7 +62,7 @@ pub record IsBase (s : Settings) (p : Packet) (n : Noted) : Type 0 where
   pub flow : Flow
   pub seen : viewed p.bytes p.original ≡ Ok flow
   pub class : class_of_flow s flow.source flow.dest ≡ Some n.class
-  pub protocol : AreBytes p.bytes → n.source.protocol ≡ flow.protocol
+  pub source : AreBytes p.bytes → n.source ≡ source_of flow
   pub dest_port : AreBytes p.bytes → n.dest_port ≡ flow.dest_port
 
 abbrev pub IsOutward : Class → Type 0
@@ -65,14 +70,28 @@ IsOutward Outbound = Unit {0}
 IsOutward Hairpin = Unit {0}
 IsOutward Inbound = ⊥
 
+abbrev pub IfOutward : Class → Type 0 → Type 0
+IfOutward Outbound X = X
+IfOutward Hairpin X = X
+IfOutward Inbound X = Unit {0}
+
+-- it knows the time
+abbrev pub IsTold : Settings → Met → Packet → Noted → Type 0
+IsTold s m p n = IsBase s p n × (m.clock ≡ Some n.time)
+
 -- on its way to a mapping of its source
 abbrev pub IsOnWay : Settings → Met → Packet → Noted → Type 0
 IsOnWay s m p n = IsBase s p n × (m.clock ≡ Some n.time) × IsOutward n.class
 
+-- the mapping of its source was used at its time or later
+abbrev pub Refreshed : Met → Noted → Type 0
+Refreshed m n =
+    (es : Forwards) × (slot : Slot) × (m.left ≡ Some es) × (slot_of n.source es ≡ Some slot) × (n.time ≤ slot.last)
+
 abbrev pub IsBoundTo : Met → Noted → Type 0
 IsBoundTo m n =
-    (bs : Reverses) × (key : Endpoint) × (m.reverse ≡ Some bs) × Has bs (dest_key n, key)
-    × (n.target ≡ endpoint n.source.protocol key.address key.port)
+    (value : ℕ → NatValue) × (v : ℕ) × (key : Endpoint) × (m.at_reverse ≡ Some value)
+    × Has (bound_in (value v)) (dest_key n, key) × (n.target ≡ endpoint n.source.protocol key.address key.port)
 
 abbrev pub IsToCount : Settings → Met → Packet → Noted → Type 0
 IsToCount s m p n = (1 ≤ n.word) × (n.word ≤ 9) × (AreBytes p.bytes → Cause s p m n.word)
@@ -86,12 +105,12 @@ KnownAt s m p DrawsWord n = IsOnWay s m p n
 KnownAt s m p ReservesPort n = IsOnWay s m p n
 KnownAt s m p BindsPort n = IsOnWay s m p n
 KnownAt s m p FindsOrBinds n = IsOnWay s m p n
-KnownAt s m p UnbindsLost n = IsOnWay s m p n
-KnownAt s m p GivesBackLost n = IsOnWay s m p n
-KnownAt s m p FindsEndpoint n = IsBase s p n × (m.clock ≡ Some n.time)
-KnownAt s m p AsksIfLives n = IsBase s p n × (m.clock ≡ Some n.time) × IsBoundTo m n
+KnownAt s m p UnbindsLost n = IsOnWay s m p n × Refreshed m n
+KnownAt s m p GivesBackLost n = IsOnWay s m p n × Refreshed m n
+KnownAt s m p FindsEndpoint n = IsTold s m p n × IfOutward n.class (Refreshed m n)
+KnownAt s m p AsksIfLives n = IsTold s m p n × IfOutward n.class (Refreshed m n) × IsBoundTo m n
 KnownAt s m p CountsDrop n = IsToCount s m p n
-KnownAt s m p SendsOut n = Unit {0}
+KnownAt s m p SendsOut n = IsTold s m p n × IfOutward n.class (Refreshed m n)
 KnownAt s m p Ends n = Unit {0}
 
 abbrev pub Known : Settings → Met → Option Hand → Type 0
@@ -184,6 +203,33 @@ looked_noted s v _ _ n (asks es) fits is = by (lives n.target n.dest_port n.time
     by true = is
     by false = worded n 7 is
 
+-- The variable of an entry
+
+bound_at : (s : Settings) (v : ℕ) (x : NatValue) (port : PortKey) (key : Endpoint) → Fits s v x
+    → Has (bound_in x) (port, key) → v ≡ reverse_table s port
+bound_at s v (Dropped d) port key fits h = absurd h
+bound_at s v (Free pool) port key fits h = absurd h
+bound_at s v (Mapped es) port key fits h = absurd h
+bound_at s v (Taken bs) port key fits h = (may_endpoint (MayBind s v) port key bs fits.1 h).0
+
+mapping_at : (s : Settings) (v : ℕ) (x : NatValue) (key : Endpoint) (slot : Slot) → Fits s v x
+    → Has (mappings_in x) (key, slot) → v ≡ forward_table s key
+mapping_at s v (Dropped d) key slot fits h = absurd h
+mapping_at s v (Free pool) key slot fits h = absurd h
+mapping_at s v (Mapped es) key slot fits h = (may_mapping (MayMap s v) key slot es fits.2 h).0
+mapping_at s v (Taken bs) key slot fits h = absurd h
+
+free_elsewhere : (s : Settings) (v : ℕ) (x : NatValue) (k : PortKey) → Fits s v x → v ≢ 1 → free_at k x ≡ 0
+free_elsewhere s v (Dropped d) k fits other = refl
+free_elsewhere s v (Free pool) k fits other = absurd (other fits.0)
+free_elsewhere s v (Mapped es) k fits other = refl
+free_elsewhere s v (Taken bs) k fits other = refl
+
+given_outward : (c : Class) (X : Type 0) → X → IfOutward c X
+given_outward Outbound X x = x
+given_outward Hairpin X x = x
+given_outward Inbound X x = tt
+
 module _ (s : Settings) (p : Packet) where
   base_on : (n o : Noted) → o.class ≡ n.class → o.source ≡ n.source → o.dest_port ≡ n.dest_port → IsBase s p n
       → IsBase s p o
@@ -191,123 +237,192 @@ module _ (s : Settings) (p : Packet) where
     flow = b.flow;
     seen = b.seen;
     class = b.class ∙ ap Some (sym c);
-    protocol = λ bytes. ap (λ (k : Endpoint). k.protocol) f ∙ b.protocol bytes;
+    source = λ bytes. f ∙ b.source bytes;
     dest_port = λ bytes. d ∙ b.dest_port bytes;
   }
 
-  mapped_known : (m : Met) (n : Noted) (c : Class) → IsOnWay s m p n
+  mapped_known : (m : Met) (n : Noted) (c : Class) → IsOnWay s m p n → Refreshed m n
       → KnownAt s m p (mapped n c).place (mapped n c).noted
-  mapped_known m n Outbound k = tt
-  mapped_known m n Hairpin k = (k.0, k.1)
-  mapped_known m n Inbound k = tt
+  mapped_known m n Outbound k r = ((k.0, k.1), given_outward n.class (Refreshed m n) r)
+  mapped_known m n Hairpin k r = ((k.0, k.1), given_outward n.class (Refreshed m n) r)
+  mapped_known m n Inbound k r = ((k.0, k.1), given_outward n.class (Refreshed m n) r)
 
-  found_known : (m : Met) (n : Noted) (f : Find) → IsOnWay s m p n
-      → KnownAt s m p (after_find n f).place (after_find n f).noted
-  found_known m n (Live port) k =
-      let o : Noted = record n { port = port } in
-      mapped_known m o o.class (base_on n o refl refl refl k.0, k.1, k.2)
-  found_known m n (Absent (Some freed)) k = (base_on n (record n { freed = freed }) refl refl refl k.0, k.1, k.2)
-  found_known m n (Absent None) k = k
+  module _ (m : Met) (n : Noted) (es : Forwards) (k : IsOnWay s m p n) where
+    abbrev leaving : Forwards → Met
+    leaving left = record m { left = Some left }
 
-  bound_known : (m : Met) (n : Noted) (b : Bind) → IsOnWay s m p n
-      → KnownAt s m p (after_bind n b).place (after_bind n b).noted
-  bound_known m n Bound k = mapped_known m n n.class k
-  bound_known m n (Other port) k =
-      (base_on n (after_bind n (Other port)).noted refl refl refl k.0, k.1, k.2)
+    refreshes : (slot : Slot) → slot_of n.source es ≡ Some slot → Refreshed (leaving (refresh n.source n.time es)) n
+    refreshes slot is =
+        (refresh n.source n.time es, refreshed n.time slot, refl, slot_refreshed n.source n.time slot es is, omega arith)
 
-  reserved_known : (m : Met) (n : Noted) (pool : PoolPorts) (o : Option ℕ)
-      → (reserve n.source.protocol n.source.port n.word pool).0 ≡ o → IsOnWay s m p n
-      → KnownAt s (met_by_touch (Free pool) m) p (after_reserve n o).place (after_reserve n o).noted
-  reserved_known m n pool (Some port) e k = (base_on n (record n { port = port }) refl refl refl k.0, k.1, k.2)
-  reserved_known m n pool None e k = (omega arith, omega arith, cause)
-    where
-      cause : AreBytes p.bytes → Cause s p (met_by_touch (Free pool) m) 8
-      cause bytes =
-          let none : (port : ℕ) → free_of n.source.protocol port pool ≡ 0 =
-          none_free n.source.protocol n.source.port n.word pool e in
-          inr (inr (inl (
-            k.0.flow,
-            k.0.seen,
-            pool,
-            refl,
-            subst (λ (protocol : ℕ). (port : ℕ) → free_of protocol port pool ≡ 0) (k.0.protocol bytes) none,
-            refl,
-          )))
+    there_known : (slot : Slot) (idle : Bool) → slot_of n.source es ≡ Some slot
+        → (let f = found_there n.source n.time es slot idle in
+        KnownAt s (leaving f.1) p (after_find n f.0).place (after_find n f.0).noted)
+    there_known slot true is =
+        (base_on n (record n { freed = port_of (n.source, slot) }) refl refl refl k.0, k.1, k.2)
+    there_known slot false is =
+        let o : Noted = record n { port = slot.port } in
+        mapped_known (leaving (refresh n.source n.time es)) o o.class (base_on n o refl refl refl k.0, k.1, k.2)
+        (refreshes slot is)
 
-  touch_known : (m : Met) (place : Place) (x : NatValue) (n : Noted) → TouchKind place x → KnownAt s m p place n
-      → KnownAt s (met_by_touch x m) p (touched place x n).1.place (touched place x n).1.noted
-  touch_known m _ _ n (finds es) k = found_known m n (find n.source n.time es).0 k
-  touch_known m _ _ n (unbinds_freed bs) k = k
-  touch_known m _ _ n (gives_freed pool) k = k
-  touch_known m _ _ n (reserves pool) k =
-      reserved_known m n pool (reserve n.source.protocol n.source.port n.word pool).0 refl k
-  touch_known m _ _ n (binds bs) k = k
-  touch_known m _ _ n (finds_or_binds es) k = bound_known m n (find_or_bind n.source n.port n.time es).0 k
-  touch_known m _ _ n (unbinds_lost bs) k = k
-  touch_known m _ _ n (gives_lost pool) k = mapped_known (met_by_touch (Free pool) m) n n.class k
-  touch_known m _ _ n (counts d) k = tt
+    found_known : (a : Option Slot) (b : Option (Endpoint × Slot)) → slot_of n.source es ≡ a
+        → (let f = found n.source n.time es a b in
+        KnownAt s (leaving f.1) p (after_find n f.0).place (after_find n f.0).noted)
+    found_known (Some slot) b is = there_known slot (is_idle n.time (n.source, slot)) is
+    found_known None (Some gone) is = (base_on n (record n { freed = port_of gone }) refl refl refl k.0, k.1, k.2)
+    found_known None None is = k
 
-  -- a read
+    bound_known : (a : Option Slot) → slot_of n.source es ≡ a
+        → (let f = bound n.source n.port n.time es a in
+        KnownAt s (leaving f.1) p (after_bind n f.0).place (after_bind n f.0).noted)
+    bound_known (Some slot) is =
+        ((base_on n (after_bind n (Other slot.port)).noted refl refl refl k.0, k.1, k.2), refreshes slot is)
+    bound_known None is =
+        let slot : Slot = record { port = n.port; last = n.time } in
+        let left : Forwards = es ++ (n.source, slot) ∷ [] in
+        mapped_known (leaving left) n n.class k (left, slot, refl, slot_bound n.source slot es is, omega arith)
 
-  endpoint_known : (m : Met) (n : Noted) (bs : Reverses) (o : Option Endpoint) → endpoint_of (dest_key n) bs ≡ o
-      → KnownAt s m p FindsEndpoint n
-      → KnownAt s (met_by_read (Taken bs) m) p (after_endpoint n o).place (after_endpoint n o).noted
-  endpoint_known m n bs (Some key) e k = (
-    base_on n (after_endpoint n (Some key)).noted refl refl refl k.0,
-    k.1,
-    (bs, key, refl, endpoint_in (dest_key n) key bs e, refl),
-  )
-  endpoint_known m n bs None e k = (omega arith, omega arith, cause)
-    where
-      cause : AreBytes p.bytes → Cause s p (met_by_read (Taken bs) m) 7
-      cause bytes =
-          let flow : Flow = k.0.flow in
-          let none : IsFreeIn bs (dest_key n) = free_in_table (dest_key n) bs e in
-          let same : dest_key n ≡ port_key flow.protocol flow.dest_port =
-          (λ i. port_key (k.0.protocol bytes i) (k.0.dest_port bytes i)) in
-          inr (inr (inr (flow, k.0.seen, bs, refl, inl (subst (IsFreeIn bs) same none), refl)))
+  -- a touch, and a read, of variables with these values
+  module _ (value : ℕ → NatValue) (fits : (v : ℕ) → v < 2 + 2 * s.shards → Fits s v (value v)) where
+    none_anywhere : (n : Noted) (pool : PoolPorts) (w : ℕ) → value w ≡ Free pool → 1 ≡ w
+        → (reserve n.source.protocol n.source.port n.word pool).0 ≡ None → (v port : ℕ) → v < 2 + 2 * s.shards
+        → free_at (port_key n.source.protocol port) (value v) ≡ 0
+    none_anywhere n pool w is at e v port below = by (is_or v 1)
+      where
+        by : (v ≡ 1) ⊎ (v ≢ 1) → free_at (port_key n.source.protocol port) (value v) ≡ 0
+        by (inl q) =
+            ap (λ (u : ℕ). free_at (port_key n.source.protocol port) (value u)) (q ∙ at)
+            ∙ ap (free_at (port_key n.source.protocol port)) is
+            ∙ none_free n.source.protocol n.source.port n.word pool e port
+        by (inr q) = free_elsewhere s v (value v) (port_key n.source.protocol port) (fits v below) q
 
-  lives_known : (m : Met) (n : Noted) (v : ℕ) (es : Forwards) (b : Bool) → Fits s v (Mapped es)
-      → lives n.target n.dest_port n.time es ≡ b → KnownAt s m p AsksIfLives n
-      → KnownAt s (met_by_read (Mapped es) m) p (looked_by n b).place (looked_by n b).noted
-  lives_known m n v es true fits e k = tt
-  lives_known m n v es false fits e k = (omega arith, omega arith, cause)
-    where
-      cause : AreBytes p.bytes → Cause s p (met_by_read (Mapped es) m) 7
-      cause bytes =
-          let flow : Flow = k.0.flow in
-          let bound : IsBoundTo m n = k.2 in
-          let same : dest_key n ≡ port_key flow.protocol flow.dest_port =
-          (λ i. port_key (k.0.protocol bytes i) (k.0.dest_port bytes i)) in
-          let to : n.target ≡ endpoint flow.protocol bound.1.address bound.1.port =
-          bound.4 ∙ ap (λ (q : ℕ). endpoint q bound.1.address bound.1.port) (k.0.protocol bytes) in
-          let idle : AreIdle es n.target n.dest_port n.time =
-          lives_not (MayMap s v) n.target n.dest_port n.time es fits.2 e in
-          let there : AreIdle es (endpoint flow.protocol bound.1.address bound.1.port) flow.dest_port n.time =
-          subst (λ (port : ℕ). AreIdle es (endpoint flow.protocol bound.1.address bound.1.port) port n.time)
-          (k.0.dest_port bytes) (subst (λ (q : Endpoint). AreIdle es q n.dest_port n.time) to idle) in
-          let idle_there : FoundIdle flow (met_by_read (Mapped es) m) bound.0 = (
-            bound.1,
-            es,
-            n.time,
-            subst (λ (q : PortKey). Has bound.0 (q, bound.1)) same bound.3,
-            refl,
-            k.1,
-            there,
-          ) in
-          inr (inr (inr (flow, k.0.seen, bound.0, bound.2, inr idle_there, refl)))
+    reserved_known : (m : Met) (n : Noted) (pool : PoolPorts) (w : ℕ) (o : Option ℕ) → value w ≡ Free pool → 1 ≡ w
+        → (reserve n.source.protocol n.source.port n.word pool).0 ≡ o → IsOnWay s m p n
+        → KnownAt s (record m { at_pool = Some value }) p (after_reserve n o).place (after_reserve n o).noted
+    reserved_known m n pool w (Some port) is at e k =
+        (base_on n (record n { port = port }) refl refl refl k.0, k.1, k.2)
+    reserved_known m n pool w None is at e k = (omega arith, omega arith, cause)
+      where
+        cause : AreBytes p.bytes → Cause s p (record m { at_pool = Some value }) 8
+        cause bytes = inr (inr (inl (
+          k.0.flow,
+          k.0.seen,
+          value,
+          refl,
+          subst (λ (q : ℕ). (v port : ℕ) → v < 2 + 2 * s.shards → free_at (port_key q port) (value v) ≡ 0)
+              (ap (λ (q : Endpoint). q.protocol) (k.0.source bytes)) (none_anywhere n pool w is at e),
+          refl,
+        )))
 
-  look_known : (m : Met) (v : ℕ) (place : Place) (x : NatValue) (n : Noted) → LookKind place x → Fits s v x
-      → KnownAt s m p place n → KnownAt s (met_by_read x m) p (looked place x n).place (looked place x n).noted
-  look_known m v _ _ n (finds_endpoint bs) fits k = endpoint_known m n bs (endpoint_of (dest_key n) bs) refl k
-  look_known m v _ _ n (asks es) fits k =
-      lives_known m n v es (lives n.target n.dest_port n.time es) fits refl k
+    touch_known : (m : Met) (w : ℕ) (place : Place) (x : NatValue) (n : Noted) → value w ≡ x → TouchKind place x
+        → var_of s place n ≡ w → KnownAt s m p place n
+        → (let r = touched place x n in
+        KnownAt s (met_by_touch value x (Some r.0) m) p r.1.place r.1.noted)
+    touch_known m w _ _ n is (finds es) at k =
+        found_known m n es k (slot_of n.source es) (first_idle n.time es) refl
+    touch_known m w _ _ n is (unbinds_freed bs) at k = k
+    touch_known m w _ _ n is (gives_freed pool) at k = k
+    touch_known m w _ _ n is (reserves pool) at k =
+        reserved_known m n pool w (reserve n.source.protocol n.source.port n.word pool).0 is at refl k
+    touch_known m w _ _ n is (binds bs) at k = k
+    touch_known m w _ _ n is (finds_or_binds es) at k = bound_known m n es k (slot_of n.source es) refl
+    touch_known m w _ _ n is (unbinds_lost bs) at k = k
+    touch_known m w _ _ n is (gives_lost pool) at k =
+        mapped_known (record m { at_pool = Some value }) n n.class k.0 k.1
+    touch_known m w _ _ n is (counts d) at k = tt
+
+    same_port_key : (n : Noted) (base : IsBase s p n) → AreBytes p.bytes
+        → dest_key n ≡ port_key base.flow.protocol base.flow.dest_port
+    same_port_key n base bytes =
+        λ i. port_key (ap (λ (q : Endpoint). q.protocol) (base.source bytes) i) (base.dest_port bytes i)
+
+    endpoint_known : (m : Met) (n : Noted) (bs : Reverses) (w : ℕ) (o : Option Endpoint) → value w ≡ Taken bs
+        → reverse_table s (dest_key n) ≡ w → endpoint_of (dest_key n) bs ≡ o → KnownAt s m p FindsEndpoint n
+        → KnownAt s (record m { at_reverse = Some value }) p (after_endpoint n o).place (after_endpoint n o).noted
+    endpoint_known m n bs w (Some key) is at e k = (
+      (base_on n (after_endpoint n (Some key)).noted refl refl refl k.0.0, k.0.1),
+      k.1,
+      (
+        value,
+        w,
+        key,
+        refl,
+        subst (λ (x : NatValue). Has (bound_in x) (dest_key n, key)) (sym is) (endpoint_in (dest_key n) key bs e),
+        refl,
+      ),
+    )
+    endpoint_known m n bs w None is at e k = (omega arith, omega arith, cause)
+      where
+        unbound : IsUnbound s value (dest_key n)
+        unbound v key below h =
+            let there : v ≡ w = bound_at s v (value v) (dest_key n) key (fits v below) h ∙ at in
+            not_bound (dest_key n) bs e key
+            (subst (λ (x : NatValue). Has (bound_in x) (dest_key n, key)) (ap value there ∙ is) h)
+
+        cause : AreBytes p.bytes → Cause s p (record m { at_reverse = Some value }) 7
+        cause bytes = inr (inr (inr (
+          k.0.0.flow,
+          k.0.0.seen,
+          value,
+          refl,
+          inl (subst (IsUnbound s value) (same_port_key n k.0.0 bytes) unbound),
+          refl,
+        )))
+
+    lives_known : (m : Met) (n : Noted) (w : ℕ) (es : Forwards) (b : Bool) → value w ≡ Mapped es
+        → w < 2 + 2 * s.shards → forward_table s n.target ≡ w → lives n.target n.dest_port n.time es ≡ b
+        → KnownAt s m p AsksIfLives n
+        → KnownAt s (record m { at_forward = Some value }) p (looked_by n b).place (looked_by n b).noted
+    lives_known m n w es true is low at e k = (k.0, k.1)
+    lives_known m n w es false is low at e k = (omega arith, omega arith, cause)
+      where
+        idle : AreIdle es n.target n.dest_port n.time
+        idle =
+            lives_not (MayMap s w) n.target n.dest_port n.time es (subst (Fits s w) is (fits w low)).2 e
+
+        none : HasNoneUsed s value n.target n.dest_port n.time
+        none v slot h port =
+            let there : v ≡ w = mapping_at s v (value v) n.target slot (fits v h.0) h.1 ∙ at in
+            idle slot (subst (λ (x : NatValue). Has (mappings_in x) (n.target, slot)) (ap value there ∙ is) h.1) port
+
+        cause : AreBytes p.bytes → Cause s p (record m { at_forward = Some value }) 7
+        cause bytes =
+            let base : IsBase s p n = k.0.0 in
+            let to : IsBoundTo m n = k.2 in
+            let protocol : n.source.protocol ≡ base.flow.protocol =
+            ap (λ (q : Endpoint). q.protocol) (base.source bytes) in
+            let target : n.target ≡ endpoint base.flow.protocol to.2.address to.2.port =
+            to.5 ∙ ap (λ (q : ℕ). endpoint q to.2.address to.2.port) protocol in
+            let there : HasNoneUsed s value (endpoint base.flow.protocol to.2.address to.2.port) base.flow.dest_port
+                n.time =
+            subst (λ (port : ℕ). HasNoneUsed s value (endpoint base.flow.protocol to.2.address to.2.port) port n.time)
+            (base.dest_port bytes) (subst (λ (q : Endpoint). HasNoneUsed s value q n.dest_port n.time) target none) in
+            let found : FoundNoneUsed s base.flow (record m { at_forward = Some value }) to.0 = (
+              to.1,
+              to.2,
+              subst (λ (q : PortKey). Has (bound_in (to.0 to.1)) (q, to.2)) (same_port_key n base bytes) to.4,
+              value,
+              n.time,
+              refl,
+              k.0.1,
+              there,
+            ) in
+            inr (inr (inr (base.flow, base.seen, to.0, to.3, inr found, refl)))
+
+    look_known : (m : Met) (w : ℕ) (place : Place) (x : NatValue) (n : Noted) → value w ≡ x → LookKind place x
+        → w < 2 + 2 * s.shards → var_of s place n ≡ w → KnownAt s m p place n
+        → KnownAt s (met_by_read value x m) p (looked place x n).place (looked place x n).noted
+    look_known m w _ _ n is (finds_endpoint bs) low at k =
+        endpoint_known m n bs w (endpoint_of (dest_key n) bs) is at refl k
+    look_known m w _ _ n is (asks es) low at k =
+        lives_known m n w es (lives n.target n.dest_port n.time es) is low at refl k
 
   time_known : (m : Met) (n : Noted) (c : Class) → n.class ≡ c → IsBase s p n → m.clock ≡ Some n.time
       → KnownAt s m p (after_time n c).place (after_time n c).noted
   time_known m n Outbound is base clock = (base, clock, subst IsOutward (sym is) tt)
   time_known m n Hairpin is base clock = (base, clock, subst IsOutward (sym is) tt)
-  time_known m n Inbound is base clock = (base, clock)
+  time_known m n Inbound is base clock =
+      ((base, clock), subst (λ (c : Class). IfOutward c (Refreshed m n)) (sym is) tt)
 
 -- The beginning
 
@@ -322,6 +437,10 @@ reason_low BadTotalLength = (omega arith, omega arith)
 word_fits : (frame : List ℕ) (place : ℕ) → AreBytes frame → word_at frame place < 2 ^ 16
 word_fits frame place bytes = let a = bytes place in let b = bytes (place + 1) in omega arith
 
+long_fits : (frame : List ℕ) (place : ℕ) → AreBytes frame → long_at frame place < 2 ^ 32
+long_fits frame place bytes =
+    let a = word_fits frame place bytes in let b = word_fits frame (place + 2) bytes in omega arith
+
 module _ (s : Settings) (p : Packet) where
   -- the fields of a flow of bytes, as they are noted
   base_begun : (flow : Flow) (class : Class) → viewed p.bytes p.original ≡ Ok flow
@@ -331,17 +450,25 @@ module _ (s : Settings) (p : Packet) where
     flow = flow;
     seen = seen;
     class = is ∙ ap Some (sym (class_again class));
-    protocol = protocol;
+    source = source;
     dest_port = dest_port;
   }
     where
       same : flow_of p.bytes ≡ flow
       same = (pass_from_ok (failures p.bytes p.original) (flow_of p.bytes) flow seen).1
 
-      protocol : AreBytes p.bytes → flow.protocol % 2 ^ 8 ≡ flow.protocol
-      protocol bytes =
-          let a : (flow_of p.bytes).protocol < 2 ^ 8 = bytes 23 in
-          let b : flow.protocol < 2 ^ 8 = subst (λ (f : Flow). f.protocol < 2 ^ 8) same a in omega arith
+      source : AreBytes p.bytes
+          → endpoint (flow.protocol % 2 ^ 8) (flow.source % 2 ^ 32) (flow.source_port % 2 ^ 16) ≡ source_of flow
+      source bytes =
+          let a : flow.protocol < 2 ^ 8 = subst (λ (f : Flow). f.protocol < 2 ^ 8) same (bytes 23) in
+          let b : flow.source < 2 ^ 32 =
+          subst (λ (f : Flow). f.source < 2 ^ 32) same (long_fits p.bytes 26 bytes) in
+          let c : flow.source_port < 2 ^ 16 =
+          subst (λ (f : Flow). f.source_port < 2 ^ 16) same (word_fits p.bytes (header_end p.bytes) bytes) in
+          let d : flow.protocol % 2 ^ 8 ≡ flow.protocol = omega arith in
+          let e : flow.source % 2 ^ 32 ≡ flow.source = omega arith in
+          let f : flow.source_port % 2 ^ 16 ≡ flow.source_port = omega arith in
+          λ i. endpoint (d i) (e i) (f i)
 
       dest_port : AreBytes p.bytes → flow.dest_port % 2 ^ 16 ≡ flow.dest_port
       dest_port bytes =
@@ -395,16 +522,19 @@ module _ (s : Settings) (is : AreSettings s) (packets : List Packet) (value : �
       by_move s packets value taken Keeps (λ p input k. begun_known s p (viewed p.bytes p.original) refl)
       (λ h v w k.
       let below = touched_below s is h v w in
-      known_on s (met_by_touch (value v) m) h (touched (at h) (value v) (noted h.place)).1
+      let r = touched (at h) (value v) (noted h.place) in
+      known_on s (met_by_touch value (value v) (Some r.0) m) h r.1
       (touched_noted s (at h) (value v) (noted h.place) v (is_noted h.place) (fits v below))
-      (touch_known s h.packet m (at h) (value v) (noted h.place)
-      (touch_kind s is.some (noted h.place) v (value v) (fits v below) (at h) w) k))
+      (touch_known s h.packet value fits m v (at h) (value v) (noted h.place) refl
+      (touch_kind s is.some (noted h.place) v (value v) (fits v below) (at h) w)
+      (touches_it s (at h) (noted h.place) v w) k))
       (λ h v w k.
       let below = read_below s is h v w in
       let kind = look_kind s is.some (noted h.place) v (value v) (fits v below) (at h) w in
-      known_on s (met_by_read (value v) m) h (looked (at h) (value v) (noted h.place))
+      known_on s (met_by_read value (value v) m) h (looked (at h) (value v) (noted h.place))
       (looked_noted s v (at h) (value v) (noted h.place) kind (fits v below) (is_noted h.place))
-      (look_known s h.packet m v (at h) (value v) (noted h.place) kind (fits v below) k))
+      (look_known s h.packet value fits m v (at h) (value v) (noted h.place) refl kind below
+      (reads_it s (at h) (noted h.place) v w) k))
       (λ h x w k. told_time h x (at h) (at_clock s (at h) (noted h.place) w) k)
       (λ h x w k. told_word h x (at h) (at_draw s (at h) (noted h.place) w) k)
       (λ h w k. known_on s m h (goes Ends (noted h.place)) (is_noted h.place) tt) (λ h w k. tt) after d hand a e

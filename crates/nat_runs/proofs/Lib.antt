@@ -7,3 +7,4 @@ pub mod Inbound
 pub mod DropCounts
 pub mod Causes
 pub mod Passing
+pub mod Refreshing

@@ -16,7 +16,6 @@ use Rattle.nat_tables.specs.Reverses.{Reverses, endpoint_of, AreBound}
 use Rattle.nat_tables.proofs.Counting.{same_is, port_is}
 use Rattle.nat_box.specs.Sentences.{Has}
 use Rattle.nat_runs.specs.Idle.{IsIdle, IsUsed}
-use Rattle.nat_runs.specs.Causes.{IsFreeIn, AreIdle}
 
 same_self : (e : Endpoint) → same_endpoint e e ≡ true
 same_self e =
@@ -102,6 +101,10 @@ idle_at key port now slot e p =
     by true p false e = absurd (cc)
     by false p b e = absurd (cc)
 
+-- the endpoint has no mapping to the port there, or an idle one
+abbrev pub AreIdle : Forwards → Endpoint → ℕ → ℕ → Type 0
+AreIdle es key port now = (slot : Slot) → Has es (key, slot) → slot.port ≡ port → IsIdle now key slot
+
 pub lives_not : (May : Endpoint → ℕ → Type 0) (key : Endpoint) (port now : ℕ) (es : Forwards) → AreMappings May es
     → lives key port now es ≡ false → AreIdle es key port now
 lives_not May key port now es all e slot h p =
@@ -121,9 +124,9 @@ endpoint_in port key (x ∷ bs) e = by (same_port port x.0) refl e (endpoint_in 
         let k : x.0 ≡ port = sym (port_is port x.0 q) in let z : x.1 ≡ key = cc in inl (λ i. (k i, z i))
     by false q e rest = inr (rest e)
 
-pub free_in_table : (port : PortKey) (bs : Reverses) → endpoint_of port bs ≡ None → IsFreeIn bs port
-free_in_table port [] e key h = h
-free_in_table port (x ∷ bs) e key h = by (same_port port x.0) refl e h (λ r. free_in_table port bs r key)
+pub not_bound : (port : PortKey) (bs : Reverses) → endpoint_of port bs ≡ None → (key : Endpoint) → Has bs (port, key) → ⊥
+not_bound port [] e key h = h
+not_bound port (x ∷ bs) e key h = by (same_port port x.0) refl e h (λ r. not_bound port bs r key)
   where
     by : (b : Bool) → same_port port x.0 ≡ b → (if b then Some x.1 else endpoint_of port bs) ≡ None
         → Has (x ∷ bs) (port, key) → (endpoint_of port bs ≡ None → Has bs (port, key) → ⊥) → ⊥
@@ -176,6 +179,84 @@ refreshed_in key now (x ∷ es) e h =
     by true (inr h) rest = (e.1, inr h, refl, omega arith, inl refl)
     by false (inl p) rest = (e.1, inl p, refl, omega arith, inl refl)
     by false (inr h) rest = let r = rest h in (r.0, inr r.1, r.2, r.3, r.4)
+
+pub slot_refreshed : (key : Endpoint) (now : ℕ) (slot : Slot) (es : Forwards) → slot_of key es ≡ Some slot
+    → slot_of key (refresh key now es) ≡ Some (refreshed now slot)
+slot_refreshed key now slot [] is = absurd (cc)
+slot_refreshed key now slot (e ∷ es) is = by (same_endpoint key e.0) refl is (slot_refreshed key now slot es)
+  where
+    by : (b : Bool) → same_endpoint key e.0 ≡ b → (if b then Some e.1 else slot_of key es) ≡ Some slot
+        → (slot_of key es ≡ Some slot → slot_of key (refresh key now es) ≡ Some (refreshed now slot))
+        → slot_of key (refresh key now (e ∷ es)) ≡ Some (refreshed now slot)
+    by true q is rest = let s : e.1 ≡ slot = cc in rw (q, q) (ap (λ (t : Slot). Some (refreshed now t)) s)
+    by false q is rest = rw (q, q) (rest is)
+
+pub slot_bound : (key : Endpoint) (slot : Slot) (es : Forwards) → slot_of key es ≡ None
+    → slot_of key (es ++ (key, slot) ∷ []) ≡ Some slot
+slot_bound key slot [] is = rw (same_self key) refl
+slot_bound key slot (e ∷ es) is = by (same_endpoint key e.0) refl is (λ h. slot_bound key slot es h)
+  where
+    by : (b : Bool) → same_endpoint key e.0 ≡ b → (if b then Some e.1 else slot_of key es) ≡ None
+        → (slot_of key es ≡ None → slot_of key (es ++ (key, slot) ∷ []) ≡ Some slot)
+        → slot_of key ((e ∷ es) ++ (key, slot) ∷ []) ≡ Some slot
+    by true q is rest = absurd (cc)
+    by false q is rest = rw q (rest is)
+
+-- what a change leaves was there, or is of the endpoint of the change
+abbrev pub WasOr : Endpoint → Endpoint × Slot → Forwards → Type 0
+WasOr key e es = Has es e ⊎ (key ≡ e.0)
+
+pub refresh_was : (key : Endpoint) (now : ℕ) (es : Forwards) (e : Endpoint × Slot) → Has (refresh key now es) e
+    → WasOr key e es
+refresh_was key now [] e h = absurd h
+refresh_was key now (x ∷ es) e h = by (same_endpoint key x.0) refl h (refresh_was key now es e)
+  where
+    by : (b : Bool) → same_endpoint key x.0 ≡ b → Has (if b then (x.0, refreshed now x.1) ∷ es else x ∷ refresh key now es) e
+        → (Has (refresh key now es) e → WasOr key e es) → WasOr key e (x ∷ es)
+    by true q (inl p) rest = inr (same_is key x.0 q ∙ ap (λ (z : Endpoint × Slot). z.0) p)
+    by true q (inr h) rest = inl (inr h)
+    by false q (inl p) rest = inl (inl p)
+    by false q (inr h) rest = on (rest h)
+      where
+        on : WasOr key e es → WasOr key e (x ∷ es)
+        on (inl k) = inl (inr k)
+        on (inr k) = inr k
+
+pub bound_was : (key : Endpoint) (slot : Slot) (es : Forwards) (e : Endpoint × Slot)
+    → Has (es ++ (key, slot) ∷ []) e → WasOr key e es
+bound_was key slot [] e (inl p) = inr (ap (λ (z : Endpoint × Slot). z.0) p)
+bound_was key slot [] e (inr h) = absurd h
+bound_was key slot (x ∷ es) e (inl p) = inl (inl p)
+bound_was key slot (x ∷ es) e (inr h) = on (bound_was key slot es e h)
+  where
+    on : WasOr key e es → WasOr key e (x ∷ es)
+    on (inl k) = inl (inr k)
+    on (inr k) = inr k
+
+pub without_was : (key : Endpoint) (es : Forwards) (e : Endpoint × Slot) → Has (without key es) e → Has es e
+without_was key [] e h = absurd h
+without_was key (x ∷ es) e h = by (same_endpoint key x.0) h (without_was key es e)
+  where
+    by : (b : Bool) → Has (if b then es else x ∷ without key es) e → (Has (without key es) e → Has es e) → Has (x ∷ es) e
+    by true h rest = inr h
+    by false (inl p) rest = inl p
+    by false (inr h) rest = inr (rest h)
+
+pub without_idle_was : (now : ℕ) (es : Forwards) (e : Endpoint × Slot) → Has (without_idle now es) e → Has es e
+without_idle_was now [] e h = absurd h
+without_idle_was now (x ∷ es) e h = by (is_idle now x) h (without_idle_was now es e)
+  where
+    by : (b : Bool) → Has (if b then es else x ∷ without_idle now es) e → (Has (without_idle now es) e → Has es e)
+        → Has (x ∷ es) e
+    by true h rest = inr h
+    by false (inl p) rest = inl p
+    by false (inr h) rest = inr (rest h)
+
+pub may_mapping : (May : Endpoint → ℕ → Type 0) (key : Endpoint) (slot : Slot) (es : Forwards) → AreMappings May es
+    → Has es (key, slot) → May key slot.port
+may_mapping May key slot [] all h = absurd h
+may_mapping May key slot (x ∷ es) all (inl p) = subst (λ (z : Endpoint × Slot). May z.0 z.1.port) p all.0
+may_mapping May key slot (x ∷ es) all (inr h) = may_mapping May key slot es all.2 h
 
 pub in_front : (e : Endpoint × Slot) (es fs : Forwards) → Has es e → Has (es ++ fs) e
 in_front e [] fs h = absurd h

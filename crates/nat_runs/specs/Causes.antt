@@ -1,5 +1,5 @@
 -- Why a packet is counted as dropped, by the reason of the count.
-use Rattle.std.specs.Prelude.{◌≡◌, ℕ, ◌+◌, ◌-◌, ◌%◌, ◌^◌, ◌⊎◌, List, ◌∷◌, Option, Some, None, Ok, Err, slice_index}
+use Rattle.std.specs.Prelude.{◌≡◌, ℕ, ◌+◌, ◌*◌, ◌-◌, ◌%◌, ◌^◌, ◌<◌, ◌⊎◌, List, ◌∷◌, Option, Some, None, Ok, Err, slice_index}
 use Rattle.std.specs.Prelude.{slice_set}
 use Rattle.plain_text.specs.declared.packet.Packet.{Packet}
 use Rattle.packet_headers.specs.declared.flow.Flow.{Flow}
@@ -13,16 +13,14 @@ use Rattle.nat_tables.specs.declared.entries.Endpoint.{Endpoint}
 use Rattle.nat_tables.specs.declared.entries.PortKey.{PortKey}
 use Rattle.nat_tables.specs.declared.slot.Slot.{Slot}
 use Rattle.nat_tables.specs.Keys.{port_key}
-use Rattle.nat_tables.specs.Ports.{PoolPorts, free_of}
-use Rattle.nat_tables.specs.Forwards.{Forwards}
-use Rattle.nat_tables.specs.Reverses.{Reverses}
 use Rattle.nat_box.specs.declared.value.Drops.{Drops}
 use Rattle.nat_box.specs.declared.value.NatValue.{NatValue}
 use Rattle.nat_box.specs.declared.value.NatValue.TheVariants.{Dropped}
 use Rattle.nat_box.specs.Places.{endpoint}
 use Rattle.nat_box.specs.Nat.{Settings, class_of_flow, reason_of, nat_meaning}
 use Rattle.nat_box.specs.Lawful.{AreSettings}
-use Rattle.nat_box.specs.Sentences.{Has}
+use Rattle.nat_box.specs.PortStanding.{free_at}
+use Rattle.nat_box.specs.Sentences.{Has, bound_in, IsMapping}
 use Rattle.nat_box.specs.Emissions.{HaveBytes}
 use Rattle.nat_runs.specs.Met.{Met, met_of}
 use Rattle.nat_runs.specs.Idle.{IsIdle}
@@ -40,35 +38,37 @@ IsStray s p reason =
     (flow : Flow) × IsFlow p flow × (class_of_flow s flow.source flow.dest ≡ None) × (reason ≡ 9)
 
 -- 8: when it touched the pool, no port of its protocol was free
-abbrev pub FoundNoPort : Packet → Met → ℕ → Type 0
-FoundNoPort p met reason =
-    (flow : Flow) × IsFlow p flow × (pool : PoolPorts) × (met.pool ≡ Some pool)
-    × ((port : ℕ) → free_of flow.protocol port pool ≡ 0) × (reason ≡ 8)
+abbrev pub FoundNoPort : Settings → Packet → Met → ℕ → Type 0
+FoundNoPort s p met reason =
+    (flow : Flow) × IsFlow p flow × (value : ℕ → NatValue) × (met.at_pool ≡ Some value)
+    × ((v port : ℕ) → v < 2 + 2 * s.shards → free_at (port_key flow.protocol port) (value v) ≡ 0) × (reason ≡ 8)
 
--- nothing is bound to the port
-abbrev pub IsFreeIn : Reverses → PortKey → Type 0
-IsFreeIn bs port = (key : Endpoint) → Has bs (port, key) → ⊥
+-- nothing is bound to the port, in no table
+abbrev pub IsUnbound : Settings → (ℕ → NatValue) → PortKey → Type 0
+IsUnbound s value port =
+    (v : ℕ) (key : Endpoint) → v < 2 + 2 * s.shards → Has (bound_in (value v)) (port, key) → ⊥
 
--- the endpoint has no mapping to the port that is not idle
-abbrev pub AreIdle : Forwards → Endpoint → ℕ → ℕ → Type 0
-AreIdle es key port now = (slot : Slot) → Has es (key, slot) → slot.port ≡ port → IsIdle now key slot
+-- the endpoint has no mapping to the port, or an idle one
+abbrev pub HasNoneUsed : Settings → (ℕ → NatValue) → Endpoint → ℕ → ℕ → Type 0
+HasNoneUsed s value key port now =
+    (v : ℕ) (slot : Slot) → IsMapping s value v (key, slot) → slot.port ≡ port → IsIdle now key slot
 
--- an endpoint is bound to the port, and the forward table that was read has no mapping of it to the port, or an idle one
-abbrev pub FoundIdle : Flow → Met → Reverses → Type 0
-FoundIdle flow met bs =
-    (key : Endpoint) × (es : Forwards) × (now : ℕ) × Has bs (port_key flow.protocol flow.dest_port, key)
-    × (met.forward ≡ Some es) × (met.clock ≡ Some now)
-    × AreIdle es (endpoint flow.protocol key.address key.port) flow.dest_port now
+-- an endpoint was bound to the port, and when the packet read a forward table, it had no mapping to it, or an idle one
+abbrev pub FoundNoneUsed : Settings → Flow → Met → (ℕ → NatValue) → Type 0
+FoundNoneUsed s flow met bound =
+    (v : ℕ) × (key : Endpoint) × Has (bound_in (bound v)) (port_key flow.protocol flow.dest_port, key)
+    × (value : ℕ → NatValue) × (now : ℕ) × (met.at_forward ≡ Some value) × (met.clock ≡ Some now)
+    × HasNoneUsed s value (endpoint flow.protocol key.address key.port) flow.dest_port now
 
--- 7: when it read the reverse table of the port that it goes to, nothing was bound to it, or only an idle mapping was
-abbrev pub FoundNoMapping : Packet → Met → ℕ → Type 0
-FoundNoMapping p met reason =
-    (flow : Flow) × IsFlow p flow × (bs : Reverses) × (met.reverse ≡ Some bs)
-    × (IsFreeIn bs (port_key flow.protocol flow.dest_port) ⊎ FoundIdle flow met bs) × (reason ≡ 7)
+-- 7: when it read a reverse table, nothing was bound to the port that it goes to, or only an idle mapping was
+abbrev pub FoundNoMapping : Settings → Packet → Met → ℕ → Type 0
+FoundNoMapping s p met reason =
+    (flow : Flow) × IsFlow p flow × (bound : ℕ → NatValue) × (met.at_reverse ≡ Some bound)
+    × (IsUnbound s bound (port_key flow.protocol flow.dest_port) ⊎ FoundNoneUsed s flow met bound) × (reason ≡ 7)
 
 abbrev pub Cause : Settings → Packet → Met → ℕ → Type 0
 Cause s p met reason =
-    IsNoFlow p reason ⊎ (IsStray s p reason ⊎ (FoundNoPort p met reason ⊎ FoundNoMapping p met reason))
+    IsNoFlow p reason ⊎ (IsStray s p reason ⊎ (FoundNoPort s p met reason ⊎ FoundNoMapping s p met reason))
 
 -- one drop more for the reason
 abbrev pub one_more : ℕ → Drops → Drops

@@ -5,3 +5,4 @@ pub mod Staying
 pub mod Used
 pub mod Causes
 pub mod Inbound
+pub mod Refreshing

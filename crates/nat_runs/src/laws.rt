@@ -4,6 +4,7 @@ ghost use Rattle.nat_runs.specs.Staying.{MappingsStay};
 ghost use Rattle.nat_runs.specs.Used.{ComesInByUsed};
 ghost use Rattle.nat_runs.specs.Causes.{DropsHaveCauses};
 ghost use Rattle.nat_runs.specs.Inbound.{InboundChangesNoTable};
+ghost use Rattle.nat_runs.specs.Refreshing.{HostsRefresh, SentRefresh};
 
 /// After each move of each run, whatever its threads, its inputs and the order of its moves: each packet that was
 /// taken was sent out, or is counted as dropped under its reason, or is in hand and will be. So with no packet in
@@ -37,4 +38,12 @@ pub fn drops_have_their_causes()
 /// A step of an inbound packet leaves each table and the pool as they were: it refreshes no mapping (RFC 4787, REQ-6).
 pub fn inbound_packets_change_no_table()
     ensures { InboundChangesNoTable }
+{}
+
+/// A mapping is made, and refreshed, by packets from its own inside endpoint alone (`hosts`); and each packet from
+/// inside that is sent out has refreshed the mapping of its endpoint at the time that it was told (`sent`): RFC 4787,
+/// REQ-6, the outbound refresh.
+pub fn hosts_refresh_their_own_mappings()
+    ensures hosts { HostsRefresh }
+    ensures sent { SentRefresh }
 {}
