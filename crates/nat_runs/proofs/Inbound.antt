@@ -1,17 +1,15 @@
 -- An inbound packet changes no table and not the pool.
-use Rattle.std.proofs.Common.{◌≡◌, ◌≢◌, ℕ, ◌+◌, ◌*◌, ◌<◌, ◌≤◌, Bool, true, false, List, ◌∷◌, refl, sym, ap, ◌∙◌, subst}
-use Rattle.std.proofs.Common.{◌⊎◌, inl, inr, arith, Option, Some, None}
-use Rattle.std.specs.Prelude.{slice_get, cond, nat_eq, Ok}
+use Rattle.std.proofs.Common.{◌≡◌, ℕ, ◌+◌, ◌*◌, ◌<◌, ◌≤◌, Bool, false, List, refl, sym, ap, ◌∙◌, subst}
+use Rattle.std.proofs.Common.{arith, Option, Some, None}
+use Rattle.std.specs.Prelude.{cond, nat_eq, Ok}
 use Rattle.plain_text.specs.declared.packet.Packet.{Packet}
 use Rattle.packet_headers.specs.declared.flow.Flow.{Flow}
-use Rattle.packet_headers.specs.View.{viewed}
 use Rattle.plain_machine.specs.declared.local.Move.TheVariants.{Access}
 use Rattle.plain_machine.specs.Machine.{Hand, Thread, Effect, Moves, held_move}
-use Rattle.plain_machine.specs.History.{Step, act_of, left_by, thread_after, value_after, IsHistory}
+use Rattle.plain_machine.specs.History.{Step, act_of, left_by, thread_after, value_after}
 use Rattle.plain_machine.proofs.Histories.{not_eq}
 use Rattle.plain_machine.proofs.Bounds.{values_fit}
 use Rattle.nat_box.specs.declared.place.Place.{Place}
-use Rattle.nat_box.specs.declared.place.Class.{Class}
 use Rattle.nat_box.specs.declared.place.Class.TheVariants.{Inbound}
 use Rattle.nat_box.specs.declared.place.Noted.{Noted}
 use Rattle.nat_box.specs.declared.value.NatValue.{NatValue}
@@ -23,7 +21,7 @@ use Rattle.nat_runs.specs.Met.{Met, met_of}
 use Rattle.nat_runs.specs.Inbound.{IsInbound, InboundChangesNoTable}
 use Rattle.nat_runs.proofs.ThreadMoves.{TouchKind, finds, unbinds_freed, gives_freed, reserves, binds, finds_or_binds}
 use Rattle.nat_runs.proofs.ThreadMoves.{unbinds_lost, gives_lost, counts, touch_kind, at, touched_below, by_move}
-use Rattle.nat_runs.proofs.Knowing.{IsBase, IsOutward, IsOnWay, KnownAt, Known, run_known}
+use Rattle.nat_runs.proofs.Knowing.{IsOutward, IsOnWay, KnownAt, Known, run_known}
 
 -- an inbound packet is not on its way to a mapping of its source
 not_on_way : (s : Settings) (m : Met) (p : Packet) (n : Noted) → IsInbound s p → IsOnWay s m p n → ⊥

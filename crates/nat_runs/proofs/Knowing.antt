@@ -1,7 +1,7 @@
 -- What is known of a packet in hand, by where it is and by what its moves met.
 use Rattle.std.proofs.Common.{◌≡◌, ◌≢◌, ℕ, ◌+◌, ◌*◌, ◌%◌, ◌^◌, ◌<◌, ◌≤◌, Bool, true, false, List, [], ◌∷◌, ◌++◌, refl, sym, ap}
 use Rattle.std.proofs.Common.{◌∙◌, subst, ◌⊎◌, inl, inr, arith, Option, Some, None}
-use Rattle.std.specs.Prelude.{slice_get, Result, Ok, Err}
+use Rattle.std.specs.Prelude.{Result, Ok, Err}
 use Rattle.plain_text.specs.declared.packet.Packet.{Packet}
 use Rattle.entry_order.proofs.Order.{is_or}
 use Rattle.packet_headers.specs.declared.flow.Flow.{Flow}
@@ -11,7 +11,6 @@ use Rattle.packet_headers.specs.declared.flow.NotFlow.TheVariants.{OtherProtocol
 use Rattle.packet_headers.specs.Fields.{AreBytes, word_at, long_at, header_end}
 use Rattle.packet_headers.specs.View.{viewed, flow_of, failures}
 use Rattle.packet_headers.proofs.FirstFailure.{pass_from_ok}
-use Rattle.plain_machine.specs.declared.local.Move.TheVariants.{Access, Read}
 use Rattle.plain_machine.specs.Machine.{Hand, Thread, Effect, Moves, held_move}
 use Rattle.plain_machine.specs.History.{Step, act_of, thread_after, value_after, IsHistory}
 use Rattle.plain_machine.proofs.Histories.{not_eq, is_eq}
@@ -19,13 +18,11 @@ use Rattle.plain_machine.proofs.Bounds.{values_fit}
 use Rattle.nat_tables.specs.declared.entries.Endpoint.{Endpoint}
 use Rattle.nat_tables.specs.declared.entries.PortKey.{PortKey}
 use Rattle.nat_tables.specs.declared.slot.Slot.{Slot}
-use Rattle.nat_tables.specs.declared.entries.Find.{Find}
-use Rattle.nat_tables.specs.declared.entries.Find.TheVariants.{Live, Absent}
-use Rattle.nat_tables.specs.declared.entries.Bind.TheVariants.{Bound, Other}
+use Rattle.nat_tables.specs.declared.entries.Bind.TheVariants.{Other}
 use Rattle.nat_tables.specs.Keys.{port_key}
-use Rattle.nat_tables.specs.Ports.{PoolPorts, reserve, free_of}
+use Rattle.nat_tables.specs.Ports.{PoolPorts, reserve}
 use Rattle.nat_tables.specs.Forwards.{Forwards, refresh, refreshed, is_idle, slot_of, first_idle, found_there, found, bound}
-use Rattle.nat_tables.specs.Forwards.{find_or_bind, port_of, lives}
+use Rattle.nat_tables.specs.Forwards.{port_of, lives}
 use Rattle.nat_tables.specs.Reverses.{Reverses, endpoint_of}
 use Rattle.nat_box.specs.declared.place.Place.{Place}
 use Rattle.nat_box.specs.declared.place.Place.TheVariants.{HearsTime, FindsMapping, UnbindsFreed, GivesBackFreed}
@@ -45,12 +42,11 @@ use Rattle.nat_box.specs.Nat.{looked, after_time, told, local_at, nat_meaning, M
 use Rattle.nat_box.specs.Noting.{place_again, class_again, IsNoted, is_noted, noted_again}
 use Rattle.nat_box.specs.Lawful.{AreSettings, var_of, touches_it, reads_it, nat_lawful}
 use Rattle.nat_box.specs.PortStanding.{free_at}
-use Rattle.nat_box.specs.Sentences.{Has, mappings_in, bound_in, IsMapping}
+use Rattle.nat_box.specs.Sentences.{Has, mappings_in, bound_in}
 use Rattle.nat_box.specs.Emissions.{source_of}
 use Rattle.nat_box.proofs.Noting.{touched_noted}
-use Rattle.nat_box.proofs.Making.{goes_on, comes_to}
+use Rattle.nat_box.proofs.Making.{goes_on}
 use Rattle.nat_runs.specs.Met.{Met, nothing_met, met_by_touch, met_by_read, met_by, met_of}
-use Rattle.nat_runs.specs.Idle.{IsIdle}
 use Rattle.nat_runs.specs.Causes.{IsUnbound, HasNoneUsed, FoundNoneUsed, Cause}
 use Rattle.nat_runs.proofs.TableEntries.{endpoint_in, not_bound, AreIdle, lives_not, may_endpoint, may_mapping}
 use Rattle.nat_runs.proofs.TableEntries.{none_free, slot_refreshed, slot_bound}
@@ -394,7 +390,7 @@ module _ (s : Settings) (p : Packet) where
             let target : n.target ≡ endpoint base.flow.protocol to.2.address to.2.port =
             to.5 ∙ ap (λ (q : ℕ). endpoint q to.2.address to.2.port) protocol in
             let there : HasNoneUsed s value (endpoint base.flow.protocol to.2.address to.2.port) base.flow.dest_port
-                n.time =
+            n.time =
             subst (λ (port : ℕ). HasNoneUsed s value (endpoint base.flow.protocol to.2.address to.2.port) port n.time)
             (base.dest_port bytes) (subst (λ (q : Endpoint). HasNoneUsed s value q n.dest_port n.time) target none) in
             let found : FoundNoneUsed s base.flow (record m { at_forward = Some value }) to.0 = (

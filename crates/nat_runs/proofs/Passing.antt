@@ -1,14 +1,14 @@
 -- No packet vanishes.
 use Rattle.std.proofs.Common.{◌≡◌, ◌≢◌, ℕ, zero, suc, ◌+◌, ◌*◌, ◌%◌, ◌^◌, ◌<◌, ◌≤◌, Bool, true, false, List, [], ◌∷◌}
 use Rattle.std.proofs.Common.{length, refl, sym, ap, ◌∙◌, subst, ◌⊎◌, inl, inr, arith, Option, Some, None}
-use Rattle.std.specs.Prelude.{slice_get, cond, nat_eq, Result, Ok, Err}
+use Rattle.std.specs.Prelude.{cond, nat_eq, Result, Ok, Err}
 use Rattle.plain_text.specs.declared.packet.Packet.{Packet}
 use Rattle.entry_order.specs.Stamps.{sum_below}
 use Rattle.entry_order.proofs.Order.{is_or}
 use Rattle.packet_headers.specs.declared.flow.Flow.{Flow}
 use Rattle.packet_headers.specs.declared.flow.NotFlow.{NotFlow}
 use Rattle.packet_headers.specs.View.{viewed}
-use Rattle.plain_machine.specs.declared.local.Move.TheVariants.{Access, Read}
+use Rattle.plain_machine.specs.declared.local.Move.TheVariants.{Access}
 use Rattle.plain_machine.specs.Machine.{Hand, Thread, Effect, Moves, held_move}
 use Rattle.plain_machine.specs.History.{Step, act_of, sent_more, sent_of, left_by, thread_after, value_after, IsHistory}
 use Rattle.plain_machine.proofs.Histories.{not_eq, is_eq}
@@ -22,32 +22,31 @@ use Rattle.nat_tables.specs.Ports.{reserve}
 use Rattle.nat_tables.specs.Forwards.{find, find_or_bind, lives}
 use Rattle.nat_tables.specs.Reverses.{endpoint_of}
 use Rattle.nat_box.specs.declared.place.Place.{Place}
-use Rattle.nat_box.specs.declared.place.Place.TheVariants.{HearsTime, DrawsWord, CountsDrop, SendsOut, Ends}
+use Rattle.nat_box.specs.declared.place.Place.TheVariants.{HearsTime, DrawsWord}
 use Rattle.nat_box.specs.declared.place.Class.{Class}
 use Rattle.nat_box.specs.declared.place.Class.TheVariants.{Outbound, Hairpin, Inbound}
 use Rattle.nat_box.specs.declared.place.Noted.{Noted}
 use Rattle.nat_box.specs.declared.value.Drops.{Drops}
 use Rattle.nat_box.specs.declared.value.NatValue.{NatValue}
 use Rattle.nat_box.specs.declared.value.NatValue.TheVariants.{Dropped, Free, Mapped, Taken}
-use Rattle.nat_box.specs.Places.{place_numbered, noted, dest_key}
+use Rattle.nat_box.specs.Places.{noted, dest_key}
 use Rattle.nat_box.specs.declared.place.Goes.{Goes}
 use Rattle.nat_box.specs.Nat.{Settings, class_of_flow, begun_as, begun, mapped, after_find, after_reserve, after_bind}
-use Rattle.nat_box.specs.Nat.{touched, after_endpoint, looked_by, looked, after_time, told, local_at, nat_meaning, Fits}
+use Rattle.nat_box.specs.Nat.{touched, after_endpoint, looked_by, looked, after_time, told, nat_meaning, Fits}
 use Rattle.nat_box.specs.Noting.{place_again}
 use Rattle.nat_box.specs.Lawful.{AreSettings, var_of, touches_it, nat_lawful}
 use Rattle.nat_box.specs.PortStanding.{in_hand}
 use Rattle.nat_box.proofs.Summing.{one_changes, sum_of_none, term_of_sum}
 use Rattle.nat_box.proofs.Making.{comes_to, goes_on}
 use Rattle.nat_runs.specs.Met.{Met, met_of}
-use Rattle.nat_runs.specs.Passing.{taken_by, taken_in, drops_in, sum_of, waits_at, waiting, NoneVanishes}
+use Rattle.nat_runs.specs.Passing.{taken_by, taken_in, drops_in, waits_at, waiting, NoneVanishes}
 use Rattle.nat_runs.specs.Passing.{NoneVanishesAtRest}
-use Rattle.nat_runs.specs.Causes.{one_more}
-use Rattle.nat_runs.proofs.DropCounts.{count_at, drop_is, one_more_long, one_more_sum}
+use Rattle.nat_runs.proofs.DropCounts.{drop_is, one_more_long, one_more_sum}
 use Rattle.nat_runs.proofs.ThreadMoves.{TouchKind, finds, unbinds_freed, gives_freed, reserves, binds, finds_or_binds}
 use Rattle.nat_runs.proofs.ThreadMoves.{unbinds_lost, gives_lost, counts, LookKind, finds_endpoint, asks, touch_kind}
 use Rattle.nat_runs.proofs.ThreadMoves.{look_kind, at_clock, at_draw, at_emit, at_end, at, touched_below, read_below}
 use Rattle.nat_runs.proofs.ThreadMoves.{by_move}
-use Rattle.nat_runs.proofs.Knowing.{IsToCount, KnownAt, Known, run_known}
+use Rattle.nat_runs.proofs.Knowing.{KnownAt, Known, run_known}
 
 -- Who waits
 

@@ -1,12 +1,12 @@
 -- A mapping stays until it is idle.
-use Rattle.std.proofs.Common.{◌≡◌, ◌≢◌, ℕ, ◌+◌, ◌*◌, ◌<◌, ◌≤◌, Bool, true, false, List, ◌∷◌, refl, sym, ap, ◌∙◌, subst}
+use Rattle.std.proofs.Common.{◌≡◌, ◌≢◌, ℕ, ◌+◌, ◌*◌, ◌<◌, Bool, true, false, List, refl, sym, ap, ◌∙◌, subst}
 use Rattle.std.proofs.Common.{◌⊎◌, inl, inr, arith, Option, Some, None}
-use Rattle.std.specs.Prelude.{slice_get, cond, nat_eq}
+use Rattle.std.specs.Prelude.{cond, nat_eq}
 use Rattle.plain_text.specs.declared.packet.Packet.{Packet}
 use Rattle.entry_order.proofs.Order.{is_or}
 use Rattle.plain_machine.specs.declared.local.Move.TheVariants.{Access}
 use Rattle.plain_machine.specs.Machine.{Hand, Thread, Effect, Moves, held_move}
-use Rattle.plain_machine.specs.History.{Step, act_of, left_by, thread_after, value_after, IsHistory}
+use Rattle.plain_machine.specs.History.{Step, act_of, left_by, thread_after, value_after}
 use Rattle.plain_machine.proofs.Histories.{not_eq, is_eq}
 use Rattle.plain_machine.proofs.Bounds.{values_fit}
 use Rattle.nat_tables.specs.declared.entries.Endpoint.{Endpoint}
@@ -15,16 +15,16 @@ use Rattle.nat_tables.specs.Forwards.{Forwards, is_idle, slot_of, first_idle, fo
 use Rattle.nat_box.specs.declared.place.Place.{Place}
 use Rattle.nat_box.specs.declared.place.Noted.{Noted}
 use Rattle.nat_box.specs.declared.value.NatValue.{NatValue}
-use Rattle.nat_box.specs.declared.value.NatValue.TheVariants.{Dropped, Free, Mapped, Taken}
+use Rattle.nat_box.specs.declared.value.NatValue.TheVariants.{Mapped}
 use Rattle.nat_box.specs.Places.{noted}
 use Rattle.nat_box.specs.Nat.{Settings, touched, nat_meaning, MayMap, Fits}
 use Rattle.nat_box.specs.Lawful.{AreSettings, nat_lawful}
 use Rattle.nat_box.specs.Sentences.{Has, mappings_in}
-use Rattle.nat_box.proofs.Making.{comes_to, goes_on}
+use Rattle.nat_box.proofs.Making.{comes_to}
 use Rattle.nat_runs.specs.Met.{Met, met_of}
 use Rattle.nat_runs.specs.Idle.{IsIdle}
 use Rattle.nat_runs.specs.Staying.{Stays, IsGoneIdle, MappingsStay}
-use Rattle.nat_runs.proofs.TableEntries.{idle_is, IsLater, IsLeftOr, as_it_was, refreshed_in, in_front, left_without}
+use Rattle.nat_runs.proofs.TableEntries.{idle_is, IsLater, IsLeftOr, refreshed_in, in_front, left_without}
 use Rattle.nat_runs.proofs.TableEntries.{left_without_idle, own_slot}
 use Rattle.nat_runs.proofs.ThreadMoves.{TouchKind, finds, unbinds_freed, gives_freed, reserves, binds, finds_or_binds}
 use Rattle.nat_runs.proofs.ThreadMoves.{unbinds_lost, gives_lost, counts, touch_kind, at, touched_below, by_move}
@@ -51,23 +51,23 @@ module _ (m : Met) (e : Endpoint × Slot) where
     stays_or Why es idle (inr k) = inr (now, clock, idle k.0, k.1)
 
     module _ (May : Endpoint → ℕ → Type 0) (es : Forwards) (all : AreMappings May es) (h : Has es e) (key : Endpoint)
-        where
-      there_keeps : (slot : Slot) (i : Bool) → slot_of key es ≡ Some slot → is_idle now (key, slot) ≡ i
-          → Kept (Mapped (found_there key now es slot i).1)
-      there_keeps slot true q i =
-          stays_or _ _ (λ same. subst (λ (z : Endpoint × Slot). IsIdle now z.0 z.1)
-          (own_slot May key slot es e all h q same) (idle_is now (key, slot) i)) (left_without May key es e all h)
-      there_keeps slot false q i = stays _ (refreshed_in key now es e h)
+      where
+        there_keeps : (slot : Slot) (i : Bool) → slot_of key es ≡ Some slot → is_idle now (key, slot) ≡ i
+            → Kept (Mapped (found_there key now es slot i).1)
+        there_keeps slot true q i =
+            stays_or _ _ (λ same. subst (λ (z : Endpoint × Slot). IsIdle now z.0 z.1)
+            (own_slot May key slot es e all h q same) (idle_is now (key, slot) i)) (left_without May key es e all h)
+        there_keeps slot false q i = stays _ (refreshed_in key now es e h)
 
-      found_keeps : (a : Option Slot) (b : Option (Endpoint × Slot)) → slot_of key es ≡ a
-          → Kept (Mapped (found key now es a b).1)
-      found_keeps (Some slot) b q = there_keeps slot (is_idle now (key, slot)) q refl
-      found_keeps None (Some x) q = stays_or _ _ (idle_is now e) (left_without_idle May now es e all h)
-      found_keeps None None q = unchanged (Mapped es) h
+        found_keeps : (a : Option Slot) (b : Option (Endpoint × Slot)) → slot_of key es ≡ a
+            → Kept (Mapped (found key now es a b).1)
+        found_keeps (Some slot) b q = there_keeps slot (is_idle now (key, slot)) q refl
+        found_keeps None (Some x) q = stays_or _ _ (idle_is now e) (left_without_idle May now es e all h)
+        found_keeps None None q = unchanged (Mapped es) h
 
-      bound_keeps : (port : ℕ) (a : Option Slot) → Kept (Mapped (bound key port now es a).1)
-      bound_keeps port (Some slot) = stays _ (refreshed_in key now es e h)
-      bound_keeps port None = unchanged (Mapped _) (in_front e es _ h)
+        bound_keeps : (port : ℕ) (a : Option Slot) → Kept (Mapped (bound key port now es a).1)
+        bound_keeps port (Some slot) = stays _ (refreshed_in key now es e h)
+        bound_keeps port None = unchanged (Mapped _) (in_front e es _ h)
 
   module _ (s : Settings) (p : Packet) where
     touch_keeps : (v : ℕ) (place : Place) (x : NatValue) (n : Noted) → TouchKind place x → Fits s v x

@@ -1,5 +1,5 @@
 -- Single entries of tables, before and after the moves that change them, and as the tests of tables find them.
-use Rattle.std.proofs.Common.{◌≡◌, ℕ, ◌+◌, ◌<◌, ◌≤◌, Bool, true, false, List, [], ◌∷◌, ◌++◌, refl, sym, ap, ◌∙◌, subst}
+use Rattle.std.proofs.Common.{◌≡◌, ℕ, ◌<◌, ◌≤◌, Bool, true, false, List, [], ◌∷◌, ◌++◌, refl, sym, ap, ◌∙◌, subst}
 use Rattle.std.proofs.Common.{◌⊎◌, inl, inr, arith, Option, Some, None}
 use Rattle.std.specs.Prelude.{◌==◌, ◌&&◌, not, nat_lt, max, if◌then◌else◌}
 use Rattle.std.proofs.lemmas.Bool.{eqb-true}
@@ -88,7 +88,7 @@ lives_is key port now es e = by (slot_of key es) refl e
       slot_in key slot es q,
       eqb-true _ _ (and_left (slot.port == port) (not (is_idle now (key, slot))) e),
       used_is now (key, slot) (not_true (is_idle now (key, slot))
-      (and_right (slot.port == port) (not (is_idle now (key, slot))) e)),
+          (and_right (slot.port == port) (not (is_idle now (key, slot))) e)),
     )
 
 idle_at : (key : Endpoint) (port now : ℕ) (slot : Slot) → lives_at key port now (Some slot) ≡ false → slot.port ≡ port
@@ -363,13 +363,13 @@ none_in port draw ports e p = by (is_even port) refl
     by : (b : Bool) → is_even port ≡ b → free_in p ports ≡ 0
     by true q =
         let f : (of_even ports (chosen draw ports.even) (chosen draw ports.odd)).0 ≡ None = subst
-            (λ (b : Bool). (if b then of_even ports (chosen draw ports.even) (chosen draw ports.odd)
-            else of_odd ports (chosen draw ports.even) (chosen draw ports.odd)).0 ≡ None) q e in
+        (λ (b : Bool). (if b then of_even ports (chosen draw ports.even) (chosen draw ports.odd)
+        else of_odd ports (chosen draw ports.even) (chosen draw ports.odd)).0 ≡ None) q e in
         both (even_none ports (chosen draw ports.even) (chosen draw ports.odd) f)
     by false q =
         let f : (of_odd ports (chosen draw ports.even) (chosen draw ports.odd)).0 ≡ None = subst
-            (λ (b : Bool). (if b then of_even ports (chosen draw ports.even) (chosen draw ports.odd)
-            else of_odd ports (chosen draw ports.even) (chosen draw ports.odd)).0 ≡ None) q e in
+        (λ (b : Bool). (if b then of_even ports (chosen draw ports.even) (chosen draw ports.odd)
+        else of_odd ports (chosen draw ports.even) (chosen draw ports.odd)).0 ≡ None) q e in
         both (odd_none ports (chosen draw ports.even) (chosen draw ports.odd) f)
 
 pub none_free : (protocol port draw : ℕ) (pool : PoolPorts) → (reserve protocol port draw pool).0 ≡ None → (p : ℕ)

@@ -1,5 +1,5 @@
 -- The moves of a thread of the box: where its packet is before each, and the kind of the value that it finds.
-use Rattle.std.proofs.Common.{◌≡◌, ℕ, ◌+◌, ◌*◌, ◌%◌, ◌<◌, ◌≤◌, List, refl, sym, subst, arith, Option, Some, None}
+use Rattle.std.proofs.Common.{◌≡◌, ℕ, ◌+◌, ◌*◌, ◌<◌, ◌≤◌, List, refl, subst, arith, Option, Some, None}
 use Rattle.std.specs.Prelude.{slice_get}
 use Rattle.plain_text.specs.declared.packet.Packet.{Packet}
 use Rattle.packet_headers.specs.View.{viewed}
@@ -20,7 +20,6 @@ use Rattle.nat_box.specs.declared.value.Drops.{Drops}
 use Rattle.nat_box.specs.declared.value.NatValue.{NatValue}
 use Rattle.nat_box.specs.declared.value.NatValue.TheVariants.{Dropped, Free, Mapped, Taken}
 use Rattle.nat_box.specs.Places.{place_numbered, noted}
-use Rattle.nat_box.specs.declared.place.Goes.{Goes}
 use Rattle.nat_box.specs.Nat.{Settings, goes, next_move, begun, touched, looked, told, local_at, nat_meaning, Fits}
 use Rattle.nat_box.specs.Lawful.{AreSettings, var_of, touches_it, reads_it, below_all}
 use Rattle.nat_box.proofs.Making.{goes_on, comes_to}
@@ -66,7 +65,6 @@ is_taken s v (Dropped d) low fits = absurd (omega arith)
 is_taken s v (Free pool) low fits = let a = fits.0 in absurd (omega arith)
 is_taken s v (Mapped es) low fits = let a = fits.1 in absurd (omega arith)
 is_taken s v (Taken bs) low fits = (bs, refl)
-
 
 module _ (s : Settings) (some : 1 ≤ s.shards) (n : Noted) (v : ℕ) (x : NatValue) (fits : Fits s v x) where
   mapped_kind : (p : Place) → (2 ≤ v) × (v < 2 + s.shards) → ((es : Forwards) → TouchKind p (Mapped es)) → TouchKind p x

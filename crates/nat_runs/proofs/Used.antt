@@ -1,5 +1,5 @@
 -- What comes in found a mapping that is not idle.
-use Rattle.std.proofs.Common.{◌≡◌, ℕ, List, Option, Some, None}
+use Rattle.std.proofs.Common.{ℕ, List, Option, Some, None}
 use Rattle.plain_text.specs.declared.packet.Packet.{Packet}
 use Rattle.packet_headers.specs.declared.flow.Flow.{Flow}
 use Rattle.nat_tables.specs.declared.entries.Endpoint.{Endpoint}

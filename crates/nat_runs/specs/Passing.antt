@@ -1,5 +1,5 @@
 -- No packet vanishes: each one that was taken was sent out, was counted as dropped, or is in hand and will be.
-use Rattle.std.specs.Prelude.{◌≡◌, ℕ, ◌+◌, ◌%◌, ◌^◌, ◌<◌, List, [], ◌∷◌, length, Option, None}
+use Rattle.std.specs.Prelude.{◌≡◌, ℕ, ◌+◌, ◌%◌, ◌^◌, ◌<◌, List, [], ◌∷◌, length, None}
 use Rattle.plain_text.specs.declared.packet.Packet.{Packet}
 use Rattle.plain_machine.specs.Machine.{Thread}
 use Rattle.plain_machine.specs.History.{Act, Took, Did, Emitted, Ended, Step, sent_of, thread_after, value_after}
