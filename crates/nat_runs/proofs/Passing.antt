@@ -1,7 +1,7 @@
 -- No packet vanishes.
 use Rattle.std.proofs.Common.{◌≡◌, ◌≢◌, ℕ, zero, suc, ◌+◌, ◌*◌, ◌%◌, ◌^◌, ◌<◌, ◌≤◌, Bool, true, false, List, [], ◌∷◌}
 use Rattle.std.proofs.Common.{length, refl, sym, ap, ◌∙◌, subst, ◌⊎◌, inl, inr, arith, Option, Some, None}
-use Rattle.std.specs.Prelude.{cond, nat_eq, Result, Ok, Err}
+use Rattle.std.specs.Prelude.{cond, nat_eq, ◌==◌, if◌then◌else◌, Result, Ok, Err}
 use Rattle.plain_text.specs.declared.packet.Packet.{Packet}
 use Rattle.entry_order.specs.Stamps.{sum_below}
 use Rattle.entry_order.proofs.Order.{is_or}
@@ -9,8 +9,9 @@ use Rattle.packet_headers.specs.declared.flow.Flow.{Flow}
 use Rattle.packet_headers.specs.declared.flow.NotFlow.{NotFlow}
 use Rattle.packet_headers.specs.View.{viewed}
 use Rattle.plain_machine.specs.declared.local.Move.TheVariants.{Access}
-use Rattle.plain_machine.specs.Machine.{Hand, Thread, Effect, Moves, held_move}
-use Rattle.plain_machine.specs.History.{Step, act_of, sent_more, sent_of, left_by, thread_after, value_after, IsHistory}
+use Rattle.plain_machine.specs.Machine.{Hand, Thread, Effect, Takes, Touches, Looks, HearsClock, HearsDraw, Sends}
+use Rattle.plain_machine.specs.Machine.{Ends as EndsIt, Moves, held_move}
+use Rattle.plain_machine.specs.History.{Step, act_of, sent_more, sent_of, outputs, left_by, thread_after, value_after, IsHistory}
 use Rattle.plain_machine.proofs.Histories.{not_eq, is_eq}
 use Rattle.plain_machine.proofs.Bounds.{values_fit}
 use Rattle.nat_tables.specs.declared.entries.Endpoint.{Endpoint}
@@ -35,23 +36,19 @@ use Rattle.nat_box.specs.Nat.{Settings, class_of_flow, begun_as, begun, mapped, 
 use Rattle.nat_box.specs.Nat.{touched, after_endpoint, looked_by, looked, after_time, told, nat_meaning, Fits}
 use Rattle.nat_box.specs.Noting.{place_again}
 use Rattle.nat_box.specs.Lawful.{AreSettings, var_of, touches_it, nat_lawful}
-use Rattle.nat_box.specs.PortStanding.{in_hand}
 use Rattle.nat_box.proofs.Summing.{one_changes, sum_of_none, term_of_sum}
 use Rattle.nat_box.proofs.Making.{comes_to, goes_on}
 use Rattle.nat_runs.specs.Met.{Met, met_of}
-use Rattle.nat_runs.specs.Passing.{taken_by, taken_in, drops_in, waits_at, waiting, NoneVanishes}
-use Rattle.nat_runs.specs.Passing.{NoneVanishesAtRest}
+use Rattle.nat_runs.specs.Passing.{taken_by, taken_in, drops_in, waits_at, waits, waiting, counted_by}
+use Rattle.nat_runs.specs.Passing.{HasPassed, EachPasses, NoneVanishes, NoneVanishesAtRest}
 use Rattle.nat_runs.proofs.DropCounts.{drop_is, one_more_long, one_more_sum}
 use Rattle.nat_runs.proofs.ThreadMoves.{TouchKind, finds, unbinds_freed, gives_freed, reserves, binds, finds_or_binds}
 use Rattle.nat_runs.proofs.ThreadMoves.{unbinds_lost, gives_lost, counts, LookKind, finds_endpoint, asks, touch_kind}
 use Rattle.nat_runs.proofs.ThreadMoves.{look_kind, at_clock, at_draw, at_emit, at_end, at, touched_below, read_below}
-use Rattle.nat_runs.proofs.ThreadMoves.{by_move}
+use Rattle.nat_runs.proofs.ThreadMoves.{begins_with, by_thread_move, by_move}
 use Rattle.nat_runs.proofs.Knowing.{KnownAt, Known, run_known}
 
 -- Who waits
-
-abbrev waits : Option Hand → ℕ
-waits hand = in_hand (λ place n. waits_at place) hand
 
 waits_on : (h : Hand) (g : Goes) → waits (goes_on h g) ≡ waits_at g.place
 waits_on h g = ap waits_at (place_again g.place)
@@ -204,9 +201,9 @@ module _ (s : Settings) (is : AreSettings s) (packets : List Packet) (value : �
           (subst (λ (u : ℕ). Sums after left (value u) (waits_at (at h))) q sums)
       by (inr q) =
           let both = touch_waits s (at h) (value w) n kind (λ e. q (sym it ∙ e)) in
-          let then : after ≡ 1 = waits_on h (touched (at h) (value w) n).1 ∙ both.1 in
+          let later : after ≡ 1 = waits_on h (touched (at h) (value w) n).1 ∙ both.1 in
           subst (λ (b : Bool). Sums after (cond b left (value 0)) (value 0) (waits_at (at h))) (sym (not_eq w 0 q))
-          (nine, same_sum (waits_at (at h)) after (both.0 ∙ sym then))
+          (nine, same_sum (waits_at (at h)) after (both.0 ∙ sym later))
 
   pub move_adds : (after : Thread) (d : Effect NatValue) (hand : Option Hand) (a : Option ℕ)
       → held_move (nat_meaning s) packets value taken a hand ≡ Moves after d → Adds hand after.hand d
@@ -220,16 +217,16 @@ module _ (s : Settings) (is : AreSettings s) (packets : List Packet) (value : �
       (λ h w c k.
       let kind = look_kind s is.some (noted h.place) w (value w) (fits w (read_below s is h w c)) (at h) c in
       let both = look_waits (at h) (value w) (noted h.place) kind in
-      let then = waits_on h (looked (at h) (value w) (noted h.place)) ∙ both.1 in
-      (nine, same_sum _ _ (both.0 ∙ sym then)))
+      let later = waits_on h (looked (at h) (value w) (noted h.place)) ∙ both.1 in
+      (nine, same_sum _ _ (both.0 ∙ sym later)))
       (λ h x c k.
       let both = told_waits (at h) x (noted h.place) (inl (at_clock s (at h) (noted h.place) c)) in
-      let then = waits_on h (told (at h) x (noted h.place)) ∙ both.1 in
-      (nine, same_sum _ _ (both.0 ∙ sym then)))
+      let later = waits_on h (told (at h) x (noted h.place)) ∙ both.1 in
+      (nine, same_sum _ _ (both.0 ∙ sym later)))
       (λ h x c k.
       let both = told_waits (at h) x (noted h.place) (inr (at_draw s (at h) (noted h.place) c)) in
-      let then = waits_on h (told (at h) x (noted h.place)) ∙ both.1 in
-      (nine, same_sum _ _ (both.0 ∙ sym then)))
+      let later = waits_on h (told (at h) x (noted h.place)) ∙ both.1 in
+      (nine, same_sum _ _ (both.0 ∙ sym later)))
       (λ h c k.
       let one : waits_at (at h) ≡ 1 = ap waits_at (at_emit s (at h) (noted h.place) c) in
       (nine, omega (arith, one)))
@@ -278,6 +275,138 @@ run_counts s threads inputs (x ∷ earlier) is h =
     term_of_sum threads x.thread (λ u. waits (thread_after earlier u).hand) h.0.0 in
     let step = waiting_step threads x.thread x.after (thread_after earlier) h.0.0 in
     rw h.0.4 (adds.0, add_up _ _ _ _ _ _ _ _ _ _ step low adds.1 old.1)
+
+-- Each thread
+
+module _ (s : Settings) (is : AreSettings s) (packets : List Packet) (value : ℕ → NatValue) (t : ℕ)
+    (earlier : List (Step NatValue)) (taken taken_then : ℕ)
+    (fits : (v : ℕ) → v < 2 + 2 * s.shards → Fits s v (value v)) where
+  abbrev Passes : Option Hand → Thread → Effect NatValue → Type 0
+  Passes before after d =
+      outputs t (sent_more (act_of t earlier taken_then d) (sent_of earlier))
+      + counted_by (act_of t earlier taken_then d)
+      + waits after.hand
+      + taken
+      ≡ outputs t (sent_of earlier) + waits before + after.taken
+
+  passes_on : (sent counted after before : ℕ) → counted + after ≡ before
+      → sent + counted + after + taken ≡ sent + before + taken
+  passes_on sent counted after before e = omega arith
+
+  abbrev once : ℕ → ℕ
+  once w = if w == 0 then 1 else 0
+
+  touch_passes : (h : Hand) (w : ℕ) → comes_to s h (Access w)
+      → once w + waits (goes_on h (touched (at h) (value w) (noted h.place)).1) ≡ waits_at (at h)
+  touch_passes h w move = by (is_or w 0)
+    where
+      n : Noted
+      n = noted h.place
+
+      g : Goes
+      g = (touched (at h) (value w) n).1
+
+      it : var_of s (at h) n ≡ w
+      it = touches_it s (at h) n w move
+
+      kind : TouchKind (at h) (value w)
+      kind = touch_kind s is.some n w (value w) (fits w (touched_below s is h w move)) (at h) move
+
+      counted : (place : Place) (x : NatValue) → TouchKind place x → var_of s place n ≡ 0
+          → (waits_at place ≡ 1) × (waits_at (touched place x n).1.place ≡ 0)
+      counted _ _ (finds es) e = absurd (omega arith)
+      counted _ _ (unbinds_freed bs) e = absurd (omega arith)
+      counted _ _ (gives_freed pool) e = absurd (omega arith)
+      counted _ _ (reserves pool) e = absurd (omega arith)
+      counted _ _ (binds bs) e = absurd (omega arith)
+      counted _ _ (finds_or_binds es) e = absurd (omega arith)
+      counted _ _ (unbinds_lost bs) e = absurd (omega arith)
+      counted _ _ (gives_lost pool) e = absurd (omega arith)
+      counted _ _ (counts d) e = (refl, refl)
+
+      by : (w ≡ 0) ⊎ (w ≢ 0) → once w + waits (goes_on h g) ≡ waits_at (at h)
+      by (inl q) =
+          let both = counted (at h) (value w) kind (it ∙ q) in
+          let after : waits (goes_on h g) ≡ 0 = waits_on h g ∙ both.1 in
+          let one : once w ≡ 1 = ap (λ (b : Bool). if b then 1 else 0) (is_eq w 0 q) in
+          omega (arith, both.0, after, one)
+      by (inr q) =
+          let both = touch_waits s (at h) (value w) n kind (λ e. q (sym it ∙ e)) in
+          let after : waits (goes_on h g) ≡ 1 = waits_on h g ∙ both.1 in
+          let none : once w ≡ 0 = ap (λ (b : Bool). if b then 1 else 0) (not_eq w 0 q) in
+          omega (arith, both.0, after, none)
+
+  pub move_passes : (after : Thread) (d : Effect NatValue) (hand : Option Hand) (a : Option ℕ)
+      → held_move (nat_meaning s) packets value taken a hand ≡ Moves after d → Passes hand after d
+  move_passes after d hand a move =
+      by_thread_move s packets value taken Passes
+      (λ p input.
+      let one : waits (begins_with s p) ≡ 1 =
+      ap waits_at (place_again (begun s (viewed p.bytes p.original)).place)
+      ∙ begun_waits s (viewed p.bytes p.original) in
+      omega (arith, one))
+      (λ h w c. passes_on _ _ _ _ (touch_passes h w c))
+      (λ h w c.
+      let kind = look_kind s is.some (noted h.place) w (value w) (fits w (read_below s is h w c)) (at h) c in
+      let both = look_waits (at h) (value w) (noted h.place) kind in
+      let later = waits_on h (looked (at h) (value w) (noted h.place)) ∙ both.1 in
+      passes_on _ 0 _ _ (omega (arith, both.0, later)))
+      (λ h x c.
+      let both = told_waits (at h) x (noted h.place) (inl (at_clock s (at h) (noted h.place) c)) in
+      let later = waits_on h (told (at h) x (noted h.place)) ∙ both.1 in
+      passes_on _ 0 _ _ (omega (arith, both.0, later)))
+      (λ h x c.
+      let both = told_waits (at h) x (noted h.place) (inr (at_draw s (at h) (noted h.place) c)) in
+      let later = waits_on h (told (at h) x (noted h.place)) ∙ both.1 in
+      passes_on _ 0 _ _ (omega (arith, both.0, later)))
+      (λ h c.
+      let one : waits_at (at h) ≡ 1 = ap waits_at (at_emit s (at h) (noted h.place) c) in
+      let sent : cond (nat_eq t t) (outputs t (sent_of earlier) + 1) (outputs t (sent_of earlier))
+      ≡ outputs t (sent_of earlier) + 1 =
+      ap (λ (b : Bool). cond b (outputs t (sent_of earlier) + 1) (outputs t (sent_of earlier))) (is_eq t t refl) in
+      omega (arith, one, sent))
+      (λ h c.
+      let none : waits_at (at h) ≡ 0 = ap waits_at (at_end s (at h) (noted h.place) c) in
+      omega (arith, none))
+      after d hand a move
+
+-- the steps of another thread
+outputs_other : (t u taken : ℕ) (earlier : List (Step NatValue)) (d : Effect NatValue) → u ≢ t
+    → outputs t (sent_more (act_of u earlier taken d) (sent_of earlier)) ≡ outputs t (sent_of earlier)
+outputs_other t u taken earlier Takes other = refl
+outputs_other t u taken earlier (Touches v left) other = refl
+outputs_other t u taken earlier (Looks v) other = refl
+outputs_other t u taken earlier (HearsClock a) other = refl
+outputs_other t u taken earlier (HearsDraw a) other = refl
+outputs_other t u taken earlier (Sends q) other =
+    ap (λ (b : Bool). cond b (outputs t (sent_of earlier) + 1) (outputs t (sent_of earlier))) (not_eq u t other)
+outputs_other t u taken earlier EndsIt other = refl
+
+pass_on : (sent sent_then counted one before after taken taken_then : ℕ)
+    → sent_then + one + after + taken ≡ sent + before + taken_then → sent + counted + before ≡ taken
+    → sent_then + (one + counted) + after ≡ taken_then
+pass_on sent sent_then counted one before after taken taken_then a b = omega arith
+
+pub each_passes : EachPasses
+each_passes s threads inputs [] is h t = refl
+each_passes s threads inputs (x ∷ earlier) is h t =
+    by (is_or x.thread t) (each_passes s threads inputs earlier is h.1 x.thread)
+    (each_passes s threads inputs earlier is h.1 t)
+  where
+    own : HasPassed x.thread earlier → HasPassed x.thread (x ∷ earlier)
+    own old =
+        let fits = values_fit (nat_meaning s) (Fits s) (nat_lawful s is) inputs threads earlier h.1 in
+        let before : Thread = thread_after earlier x.thread in
+        let passes = move_passes s is (inputs x.thread) (value_after (nat_meaning s) earlier) x.thread earlier
+        before.taken x.after.taken fits x.after h.0.2 before.hand h.0.1 h.0.3 in
+        rw (is_eq x.thread x.thread refl, h.0.4) (pass_on _ _ _ _ _ _ _ _ passes old)
+
+    by : (x.thread ≡ t) ⊎ (x.thread ≢ t) → HasPassed x.thread earlier → HasPassed t earlier
+        → HasPassed t (x ∷ earlier)
+    by (inl q) old other = subst (λ (u : ℕ). HasPassed u (x ∷ earlier)) q (own old)
+    by (inr q) old other =
+        let sent = outputs_other t x.thread x.after.taken earlier h.0.2 q in
+        rw (not_eq x.thread t q, h.0.4, sent) other
 
 pub none_vanishes : NoneVanishes
 none_vanishes s threads inputs steps is h = (run_counts s threads inputs steps is h).1

@@ -207,29 +207,31 @@ read_below s is h v e = subst (λ (u : ℕ). u < 2 + 2 * s.shards) (reads_it s (
 abbrev pub begins_with : Settings → Packet → Option Hand
 begins_with s p = Some (record { packet = p; place = local_at (begun s (viewed p.bytes p.original)) })
 
+-- Of the thread after it
 module _ (s : Settings) (packets : List Packet) (value : ℕ → NatValue) (taken : ℕ)
-    (P : Option Hand → Option Hand → Effect NatValue → Type 0)
-    (take : (p : Packet) → slice_get packets taken ≡ Some p → P None (begins_with s p) Takes)
+    (P : Option Hand → Thread → Effect NatValue → Type 0)
+    (take : (p : Packet) → slice_get packets taken ≡ Some p
+    → P None (holding (taken + 1) p (local_at (begun s (viewed p.bytes p.original)))) Takes)
     (touch : (h : Hand) (v : ℕ) → comes_to s h (Access v)
-    → P (Some h) (goes_on h (touched (at h) (value v) (noted h.place)).1)
+    → P (Some h) (holding taken h.packet (local_at (touched (at h) (value v) (noted h.place)).1))
     (Touches v (touched (at h) (value v) (noted h.place)).0))
     (look : (h : Hand) (v : ℕ) → comes_to s h (Read v)
-    → P (Some h) (goes_on h (looked (at h) (value v) (noted h.place))) (Looks v))
+    → P (Some h) (holding taken h.packet (local_at (looked (at h) (value v) (noted h.place)))) (Looks v))
     (clock : (h : Hand) (a : ℕ) → comes_to s h Clock
-    → P (Some h) (goes_on h (told (at h) a (noted h.place))) (HearsClock a))
+    → P (Some h) (holding taken h.packet (local_at (told (at h) a (noted h.place)))) (HearsClock a))
     (draw : (h : Hand) (a : ℕ) → comes_to s h Draw
-    → P (Some h) (goes_on h (told (at h) a (noted h.place))) (HearsDraw a))
+    → P (Some h) (holding taken h.packet (local_at (told (at h) a (noted h.place)))) (HearsDraw a))
     (send : (h : Hand) → comes_to s h Emit
-    → P (Some h) (goes_on h (goes Ends (noted h.place))) (Sends (sent_packet (nat_meaning s) h)))
-    (end : (h : Hand) → comes_to s h End → P (Some h) None EndsIt) where
+    → P (Some h) (holding taken h.packet (local_at (goes Ends (noted h.place)))) (Sends (sent_packet (nat_meaning s) h)))
+    (end : (h : Hand) → comes_to s h End → P (Some h) (record { taken = taken; hand = None }) EndsIt) where
   module _ (after : Thread) (d : Effect NatValue) where
-    along : (before : Option Hand) (th : Thread) (u : Effect NatValue) → th ≡ after → u ≡ d → P before th.hand u
-        → P before after.hand d
-    along before th u q r h = subst (λ (x : Effect NatValue). P before after.hand x) r
-        (subst (λ (x : Thread). P before x.hand u) q h)
+    along : (before : Option Hand) (th : Thread) (u : Effect NatValue) → th ≡ after → u ≡ d → P before th u
+        → P before after d
+    along before th u q r h =
+        subst (λ (x : Effect NatValue). P before after x) r (subst (λ (x : Thread). P before x u) q h)
 
     of_hand : (h : Hand) (a : Option ℕ) (w : Move) → comes_to s h w
-        → hand_move (nat_meaning s) value taken h a w ≡ Moves after d → P (Some h) after.hand d
+        → hand_move (nat_meaning s) value taken h a w ≡ Moves after d → P (Some h) after d
     of_hand h None (Access v) w e =
         along (Some h) (holding taken h.packet ((nat_meaning s).touch v (value v) h.place).1)
         (Touches v ((nat_meaning s).touch v (value v) h.place).0) (cc) (cc) (touch h v w)
@@ -251,13 +253,35 @@ module _ (s : Settings) (packets : List Packet) (value : ℕ → NatValue) (take
     of_hand h None Draw w e = absurd (cc)
 
     of_none : (a : Option ℕ) (i : Option Packet) → slice_get packets taken ≡ i
-        → take_move (nat_meaning s) taken a i ≡ Moves after d → P None after.hand d
+        → take_move (nat_meaning s) taken a i ≡ Moves after d → P None after d
     of_none (Some a) i is e = absurd (cc)
     of_none None None is e = absurd (cc)
     of_none None (Some p) is e =
         along None (holding (taken + 1) p ((nat_meaning s).begin p)) Takes (cc) (cc) (take p is)
 
-    pub by_move : (hand : Option Hand) (a : Option ℕ)
-        → held_move (nat_meaning s) packets value taken a hand ≡ Moves after d → P hand after.hand d
-    by_move None a e = of_none a (slice_get packets taken) refl e
-    by_move (Some h) a e = of_hand h a (next_move s (place_numbered h.place.at) (noted h.place)) refl e
+    pub by_thread_move : (hand : Option Hand) (a : Option ℕ)
+        → held_move (nat_meaning s) packets value taken a hand ≡ Moves after d → P hand after d
+    by_thread_move None a e = of_none a (slice_get packets taken) refl e
+    by_thread_move (Some h) a e = of_hand h a (next_move s (place_numbered h.place.at) (noted h.place)) refl e
+
+-- and of the hand after it
+module _ (s : Settings) (packets : List Packet) (value : ℕ → NatValue) (taken : ℕ)
+    (P : Option Hand → Option Hand → Effect NatValue → Type 0)
+    (take : (p : Packet) → slice_get packets taken ≡ Some p → P None (begins_with s p) Takes)
+    (touch : (h : Hand) (v : ℕ) → comes_to s h (Access v)
+    → P (Some h) (goes_on h (touched (at h) (value v) (noted h.place)).1)
+    (Touches v (touched (at h) (value v) (noted h.place)).0))
+    (look : (h : Hand) (v : ℕ) → comes_to s h (Read v)
+    → P (Some h) (goes_on h (looked (at h) (value v) (noted h.place))) (Looks v))
+    (clock : (h : Hand) (a : ℕ) → comes_to s h Clock
+    → P (Some h) (goes_on h (told (at h) a (noted h.place))) (HearsClock a))
+    (draw : (h : Hand) (a : ℕ) → comes_to s h Draw
+    → P (Some h) (goes_on h (told (at h) a (noted h.place))) (HearsDraw a))
+    (send : (h : Hand) → comes_to s h Emit
+    → P (Some h) (goes_on h (goes Ends (noted h.place))) (Sends (sent_packet (nat_meaning s) h)))
+    (end : (h : Hand) → comes_to s h End → P (Some h) None EndsIt) where
+  pub by_move : (after : Thread) (d : Effect NatValue) (hand : Option Hand) (a : Option ℕ)
+      → held_move (nat_meaning s) packets value taken a hand ≡ Moves after d → P hand after.hand d
+  by_move after d hand a e =
+      by_thread_move s packets value taken (λ before th u. P before th.hand u) take touch look clock draw send end after
+      d hand a e

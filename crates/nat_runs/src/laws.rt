@@ -1,15 +1,17 @@
 //! The laws on every run of the box. Each is proved, and does nothing: a caller has it by the call.
-ghost use Rattle.nat_runs.specs.Passing.{NoneVanishes, NoneVanishesAtRest};
+ghost use Rattle.nat_runs.specs.Passing.{EachPasses, NoneVanishes, NoneVanishesAtRest};
 ghost use Rattle.nat_runs.specs.Staying.{MappingsStay};
 ghost use Rattle.nat_runs.specs.Used.{ComesInByUsed};
 ghost use Rattle.nat_runs.specs.Causes.{DropsHaveCauses};
 ghost use Rattle.nat_runs.specs.Inbound.{InboundChangesNoTable};
 ghost use Rattle.nat_runs.specs.Refreshing.{HostsRefresh, SentRefresh};
 
-/// After each move of each run, whatever its threads, its inputs and the order of its moves: each packet that was
-/// taken was sent out, or is counted as dropped under its reason, or is in hand and will be. So with no packet in
-/// hand, those taken are those sent out and those counted (modulo 2^64, where the counts wrap).
+/// After each move of each run, whatever its threads, its inputs and the order of its moves: each packet that a thread
+/// took was sent out once, or counted once as dropped, or is the one in hand and will be (`each`). So over all threads
+/// the packets taken are those sent out, those that variable 0 counts, and those in hand (`always`); with no packet in
+/// hand, those sent out and those counted (`at_rest`). The counts wrap at 2^64.
 pub fn no_packet_vanishes()
+    ensures each { EachPasses }
     ensures always { NoneVanishes }
     ensures at_rest { NoneVanishesAtRest }
 {}
