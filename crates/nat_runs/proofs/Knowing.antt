@@ -1,0 +1,556 @@
+-- What is known of a packet in hand, by where it is and by what its moves met.
+use Rattle.std.proofs.Common.{◌≡◌, ◌≢◌, ℕ, ◌+◌, ◌*◌, ◌%◌, ◌^◌, ◌<◌, ◌≤◌, Bool, true, false, List, [], ◌∷◌, ◌++◌, refl, sym, ap}
+use Rattle.std.proofs.Common.{◌∙◌, subst, ◌⊎◌, inl, inr, arith, Option, Some, None}
+use Rattle.std.specs.Prelude.{Result, Ok, Err}
+use Rattle.plain_text.specs.declared.packet.Packet.{Packet}
+use Rattle.entry_order.proofs.Order.{is_or}
+use Rattle.packet_headers.specs.declared.flow.Flow.{Flow}
+use Rattle.packet_headers.specs.declared.flow.NotFlow.{NotFlow}
+use Rattle.packet_headers.specs.declared.flow.NotFlow.TheVariants.{Short, NotIpv4, BadHeaderLength, Fragment}
+use Rattle.packet_headers.specs.declared.flow.NotFlow.TheVariants.{OtherProtocol, BadTotalLength}
+use Rattle.packet_headers.specs.Fields.{AreBytes, word_at, long_at, header_end}
+use Rattle.packet_headers.specs.View.{viewed, flow_of, failures}
+use Rattle.packet_headers.proofs.FirstFailure.{pass_from_ok}
+use Rattle.plain_machine.specs.Machine.{Hand, Thread, Effect, Moves, held_move}
+use Rattle.plain_machine.specs.History.{Step, act_of, thread_after, value_after, IsHistory}
+use Rattle.plain_machine.proofs.Histories.{not_eq, is_eq}
+use Rattle.plain_machine.proofs.Bounds.{values_fit}
+use Rattle.nat_tables.specs.declared.entries.Endpoint.{Endpoint}
+use Rattle.nat_tables.specs.declared.entries.PortKey.{PortKey}
+use Rattle.nat_tables.specs.declared.slot.Slot.{Slot}
+use Rattle.nat_tables.specs.declared.entries.Bind.TheVariants.{Other}
+use Rattle.nat_tables.specs.Keys.{port_key}
+use Rattle.nat_tables.specs.Ports.{PoolPorts, reserve}
+use Rattle.nat_tables.specs.Forwards.{Forwards, refresh, refreshed, is_idle, slot_of, first_idle, found_there, found, bound}
+use Rattle.nat_tables.specs.Forwards.{port_of, lives}
+use Rattle.nat_tables.specs.Reverses.{Reverses, endpoint_of}
+use Rattle.nat_box.specs.declared.place.Place.{Place}
+use Rattle.nat_box.specs.declared.place.Place.TheVariants.{HearsTime, FindsMapping, UnbindsFreed, GivesBackFreed}
+use Rattle.nat_box.specs.declared.place.Place.TheVariants.{DrawsWord, ReservesPort, BindsPort, FindsOrBinds}
+use Rattle.nat_box.specs.declared.place.Place.TheVariants.{UnbindsLost, GivesBackLost, FindsEndpoint, AsksIfLives}
+use Rattle.nat_box.specs.declared.place.Place.TheVariants.{CountsDrop, SendsOut, Ends}
+use Rattle.nat_box.specs.declared.place.Class.{Class}
+use Rattle.nat_box.specs.declared.place.Class.TheVariants.{Outbound, Hairpin, Inbound}
+use Rattle.nat_box.specs.declared.place.Noted.{Noted}
+use Rattle.nat_box.specs.declared.value.NatValue.{NatValue}
+use Rattle.nat_box.specs.declared.value.NatValue.TheVariants.{Dropped, Free, Mapped, Taken}
+use Rattle.nat_box.specs.Places.{place_numbered, noted, dest_key, endpoint, local_of}
+use Rattle.nat_box.specs.declared.place.Goes.{Goes}
+use Rattle.nat_box.specs.Nat.{Settings, goes, forward_table, reverse_table, class_of_flow, noted_flow, nothing_noted, reason_of, begun_as}
+use Rattle.nat_box.specs.Nat.{begun, mapped, after_find, after_reserve, after_bind, touched, after_endpoint, looked_by}
+use Rattle.nat_box.specs.Nat.{looked, after_time, told, local_at, nat_meaning, MayMap, MayBind, Fits}
+use Rattle.nat_box.specs.Noting.{place_again, class_again, IsNoted, is_noted, noted_again}
+use Rattle.nat_box.specs.Lawful.{AreSettings, var_of, touches_it, reads_it, nat_lawful}
+use Rattle.nat_box.specs.PortStanding.{free_at}
+use Rattle.nat_box.specs.Sentences.{Has, mappings_in, bound_in}
+use Rattle.nat_box.specs.Emissions.{source_of}
+use Rattle.nat_box.proofs.Noting.{touched_noted}
+use Rattle.nat_box.proofs.Making.{goes_on}
+use Rattle.nat_runs.specs.Met.{Met, nothing_met, met_by_touch, met_by_read, met_by, met_of}
+use Rattle.nat_runs.specs.Causes.{IsUnbound, HasNoneUsed, FoundNoneUsed, Cause}
+use Rattle.nat_runs.proofs.TableEntries.{endpoint_in, not_bound, AreIdle, lives_not, may_endpoint, may_mapping}
+use Rattle.nat_runs.proofs.TableEntries.{none_free, slot_refreshed, slot_bound}
+use Rattle.nat_runs.proofs.ThreadMoves.{TouchKind, finds, unbinds_freed, gives_freed, reserves, binds, finds_or_binds}
+use Rattle.nat_runs.proofs.ThreadMoves.{unbinds_lost, gives_lost, counts, LookKind, finds_endpoint, asks, touch_kind}
+use Rattle.nat_runs.proofs.ThreadMoves.{look_kind, at_clock, at_draw, at, touched_below, read_below, by_move}
+
+pub record IsBase (s : Settings) (p : Packet) (n : Noted) : Type 0 where
+  pub flow : Flow
+  pub seen : viewed p.bytes p.original ≡ Ok flow
+  pub class : class_of_flow s flow.source flow.dest ≡ Some n.class
+  pub source : AreBytes p.bytes → n.source ≡ source_of flow
+  pub dest_port : AreBytes p.bytes → n.dest_port ≡ flow.dest_port
+
+abbrev pub IsOutward : Class → Type 0
+IsOutward Outbound = Unit {0}
+IsOutward Hairpin = Unit {0}
+IsOutward Inbound = ⊥
+
+abbrev pub IfOutward : Class → Type 0 → Type 0
+IfOutward Outbound X = X
+IfOutward Hairpin X = X
+IfOutward Inbound X = Unit {0}
+
+-- it knows the time
+abbrev pub IsTold : Settings → Met → Packet → Noted → Type 0
+IsTold s m p n = IsBase s p n × (m.clock ≡ Some n.time)
+
+-- on its way to a mapping of its source
+abbrev pub IsOnWay : Settings → Met → Packet → Noted → Type 0
+IsOnWay s m p n = IsBase s p n × (m.clock ≡ Some n.time) × IsOutward n.class
+
+-- the mapping of its source was used at its time or later
+abbrev pub Refreshed : Met → Noted → Type 0
+Refreshed m n =
+    (es : Forwards) × (slot : Slot) × (m.left ≡ Some es) × (slot_of n.source es ≡ Some slot) × (n.time ≤ slot.last)
+
+abbrev pub IsBoundTo : Met → Noted → Type 0
+IsBoundTo m n =
+    (value : ℕ → NatValue) × (v : ℕ) × (key : Endpoint) × (m.at_reverse ≡ Some value)
+    × Has (bound_in (value v)) (dest_key n, key) × (n.target ≡ endpoint n.source.protocol key.address key.port)
+
+abbrev pub IsToCount : Settings → Met → Packet → Noted → Type 0
+IsToCount s m p n = (1 ≤ n.word) × (n.word ≤ 9) × (AreBytes p.bytes → Cause s p m n.word)
+
+abbrev pub KnownAt : Settings → Met → Packet → Place → Noted → Type 0
+KnownAt s m p HearsTime n = IsBase s p n
+KnownAt s m p FindsMapping n = IsOnWay s m p n
+KnownAt s m p UnbindsFreed n = IsOnWay s m p n
+KnownAt s m p GivesBackFreed n = IsOnWay s m p n
+KnownAt s m p DrawsWord n = IsOnWay s m p n
+KnownAt s m p ReservesPort n = IsOnWay s m p n
+KnownAt s m p BindsPort n = IsOnWay s m p n
+KnownAt s m p FindsOrBinds n = IsOnWay s m p n
+KnownAt s m p UnbindsLost n = IsOnWay s m p n × Refreshed m n
+KnownAt s m p GivesBackLost n = IsOnWay s m p n × Refreshed m n
+KnownAt s m p FindsEndpoint n = IsTold s m p n × IfOutward n.class (Refreshed m n)
+KnownAt s m p AsksIfLives n = IsTold s m p n × IfOutward n.class (Refreshed m n) × IsBoundTo m n
+KnownAt s m p CountsDrop n = IsToCount s m p n
+KnownAt s m p SendsOut n = IsTold s m p n × IfOutward n.class (Refreshed m n)
+KnownAt s m p Ends n = Unit {0}
+
+abbrev pub Known : Settings → Met → Option Hand → Type 0
+Known s m None = Unit {0}
+Known s m (Some h) = KnownAt s m h.packet (place_numbered h.place.at) (noted h.place)
+
+known_on : (s : Settings) (m : Met) (h : Hand) (g : Goes) → IsNoted g.noted → KnownAt s m h.packet g.place g.noted
+    → Known s m (goes_on h g)
+known_on s m h g is k =
+    let a : place_numbered (local_at g).at ≡ g.place = place_again g.place in
+    let b : noted (local_at g) ≡ g.noted = noted_again g.place g.noted is in
+    rw (a, b) k
+
+-- Numbers fit
+
+timed : (n : Noted) (a : ℕ) → IsNoted n → IsNoted (record n { time = a })
+timed n a is = record {
+  protocol = is.protocol;
+  address = is.address;
+  source_port = is.source_port;
+  dest_port = is.dest_port;
+  port = is.port;
+  freed_protocol = is.freed_protocol;
+  freed_port = is.freed_port;
+  target_protocol = is.target_protocol;
+  target_address = is.target_address;
+  target_port = is.target_port;
+}
+
+worded : (n : Noted) (a : ℕ) → IsNoted n → IsNoted (record n { word = a })
+worded n a is = record {
+  protocol = is.protocol;
+  address = is.address;
+  source_port = is.source_port;
+  dest_port = is.dest_port;
+  port = is.port;
+  freed_protocol = is.freed_protocol;
+  freed_port = is.freed_port;
+  target_protocol = is.target_protocol;
+  target_address = is.target_address;
+  target_port = is.target_port;
+}
+
+targeted : (n : Noted) (key : Endpoint) → key.address < 2 ^ 32 → key.port < 2 ^ 16 → IsNoted n
+    → IsNoted (record n { target = endpoint n.source.protocol key.address key.port })
+targeted n key address port is = record {
+  protocol = is.protocol;
+  address = is.address;
+  source_port = is.source_port;
+  dest_port = is.dest_port;
+  port = is.port;
+  freed_protocol = is.freed_protocol;
+  freed_port = is.freed_port;
+  target_protocol = refl;
+  target_address = address;
+  target_port = port;
+}
+
+nothing_is_noted : (reason : ℕ) → IsNoted (nothing_noted reason)
+nothing_is_noted reason = record {
+  protocol = omega arith;
+  address = omega arith;
+  source_port = omega arith;
+  dest_port = omega arith;
+  port = omega arith;
+  freed_protocol = omega arith;
+  freed_port = omega arith;
+  target_protocol = refl;
+  target_address = omega arith;
+  target_port = omega arith;
+}
+
+time_noted : (n : Noted) (c : Class) → IsNoted n → IsNoted (after_time n c).noted
+time_noted n Outbound is = is
+time_noted n Hairpin is = is
+time_noted n Inbound is = is
+
+looked_noted : (s : Settings) (v : ℕ) (place : Place) (x : NatValue) (n : Noted) → LookKind place x → Fits s v x
+    → IsNoted n → IsNoted (looked place x n).noted
+looked_noted s v _ _ n (finds_endpoint bs) fits is = by (endpoint_of (dest_key n) bs) refl
+  where
+    by : (o : Option Endpoint) → endpoint_of (dest_key n) bs ≡ o → IsNoted (after_endpoint n o).noted
+    by None q = worded n 7 is
+    by (Some key) q =
+        let may = may_endpoint (MayBind s v) (dest_key n) key bs fits.1 (endpoint_in (dest_key n) key bs q) in
+        targeted n key may.1 may.2 is
+looked_noted s v _ _ n (asks es) fits is = by (lives n.target n.dest_port n.time es)
+  where
+    by : (b : Bool) → IsNoted (looked_by n b).noted
+    by true = is
+    by false = worded n 7 is
+
+-- The variable of an entry
+
+bound_at : (s : Settings) (v : ℕ) (x : NatValue) (port : PortKey) (key : Endpoint) → Fits s v x
+    → Has (bound_in x) (port, key) → v ≡ reverse_table s port
+bound_at s v (Dropped d) port key fits h = absurd h
+bound_at s v (Free pool) port key fits h = absurd h
+bound_at s v (Mapped es) port key fits h = absurd h
+bound_at s v (Taken bs) port key fits h = (may_endpoint (MayBind s v) port key bs fits.1 h).0
+
+mapping_at : (s : Settings) (v : ℕ) (x : NatValue) (key : Endpoint) (slot : Slot) → Fits s v x
+    → Has (mappings_in x) (key, slot) → v ≡ forward_table s key
+mapping_at s v (Dropped d) key slot fits h = absurd h
+mapping_at s v (Free pool) key slot fits h = absurd h
+mapping_at s v (Mapped es) key slot fits h = (may_mapping (MayMap s v) key slot es fits.2 h).0
+mapping_at s v (Taken bs) key slot fits h = absurd h
+
+free_elsewhere : (s : Settings) (v : ℕ) (x : NatValue) (k : PortKey) → Fits s v x → v ≢ 1 → free_at k x ≡ 0
+free_elsewhere s v (Dropped d) k fits other = refl
+free_elsewhere s v (Free pool) k fits other = absurd (other fits.0)
+free_elsewhere s v (Mapped es) k fits other = refl
+free_elsewhere s v (Taken bs) k fits other = refl
+
+given_outward : (c : Class) (X : Type 0) → X → IfOutward c X
+given_outward Outbound X x = x
+given_outward Hairpin X x = x
+given_outward Inbound X x = tt
+
+module _ (s : Settings) (p : Packet) where
+  base_on : (n o : Noted) → o.class ≡ n.class → o.source ≡ n.source → o.dest_port ≡ n.dest_port → IsBase s p n
+      → IsBase s p o
+  base_on n o c f d b = record {
+    flow = b.flow;
+    seen = b.seen;
+    class = b.class ∙ ap Some (sym c);
+    source = λ bytes. f ∙ b.source bytes;
+    dest_port = λ bytes. d ∙ b.dest_port bytes;
+  }
+
+  mapped_known : (m : Met) (n : Noted) (c : Class) → IsOnWay s m p n → Refreshed m n
+      → KnownAt s m p (mapped n c).place (mapped n c).noted
+  mapped_known m n Outbound k r = ((k.0, k.1), given_outward n.class (Refreshed m n) r)
+  mapped_known m n Hairpin k r = ((k.0, k.1), given_outward n.class (Refreshed m n) r)
+  mapped_known m n Inbound k r = ((k.0, k.1), given_outward n.class (Refreshed m n) r)
+
+  module _ (m : Met) (n : Noted) (es : Forwards) (k : IsOnWay s m p n) where
+    abbrev leaving : Forwards → Met
+    leaving left = record m { left = Some left }
+
+    refreshes : (slot : Slot) → slot_of n.source es ≡ Some slot → Refreshed (leaving (refresh n.source n.time es)) n
+    refreshes slot is =
+        (refresh n.source n.time es, refreshed n.time slot, refl, slot_refreshed n.source n.time slot es is, omega arith)
+
+    there_known : (slot : Slot) (idle : Bool) → slot_of n.source es ≡ Some slot
+        → (let f = found_there n.source n.time es slot idle in
+        KnownAt s (leaving f.1) p (after_find n f.0).place (after_find n f.0).noted)
+    there_known slot true is =
+        (base_on n (record n { freed = port_of (n.source, slot) }) refl refl refl k.0, k.1, k.2)
+    there_known slot false is =
+        let o : Noted = record n { port = slot.port } in
+        mapped_known (leaving (refresh n.source n.time es)) o o.class (base_on n o refl refl refl k.0, k.1, k.2)
+        (refreshes slot is)
+
+    found_known : (a : Option Slot) (b : Option (Endpoint × Slot)) → slot_of n.source es ≡ a
+        → (let f = found n.source n.time es a b in
+        KnownAt s (leaving f.1) p (after_find n f.0).place (after_find n f.0).noted)
+    found_known (Some slot) b is = there_known slot (is_idle n.time (n.source, slot)) is
+    found_known None (Some gone) is = (base_on n (record n { freed = port_of gone }) refl refl refl k.0, k.1, k.2)
+    found_known None None is = k
+
+    bound_known : (a : Option Slot) → slot_of n.source es ≡ a
+        → (let f = bound n.source n.port n.time es a in
+        KnownAt s (leaving f.1) p (after_bind n f.0).place (after_bind n f.0).noted)
+    bound_known (Some slot) is =
+        ((base_on n (after_bind n (Other slot.port)).noted refl refl refl k.0, k.1, k.2), refreshes slot is)
+    bound_known None is =
+        let slot : Slot = record { port = n.port; last = n.time } in
+        let left : Forwards = es ++ (n.source, slot) ∷ [] in
+        mapped_known (leaving left) n n.class k (left, slot, refl, slot_bound n.source slot es is, omega arith)
+
+  -- a touch, and a read, of variables with these values
+  module _ (value : ℕ → NatValue) (fits : (v : ℕ) → v < 2 + 2 * s.shards → Fits s v (value v)) where
+    none_anywhere : (n : Noted) (pool : PoolPorts) (w : ℕ) → value w ≡ Free pool → 1 ≡ w
+        → (reserve n.source.protocol n.source.port n.word pool).0 ≡ None → (v port : ℕ) → v < 2 + 2 * s.shards
+        → free_at (port_key n.source.protocol port) (value v) ≡ 0
+    none_anywhere n pool w is at e v port below = by (is_or v 1)
+      where
+        by : (v ≡ 1) ⊎ (v ≢ 1) → free_at (port_key n.source.protocol port) (value v) ≡ 0
+        by (inl q) =
+            ap (λ (u : ℕ). free_at (port_key n.source.protocol port) (value u)) (q ∙ at)
+            ∙ ap (free_at (port_key n.source.protocol port)) is
+            ∙ none_free n.source.protocol n.source.port n.word pool e port
+        by (inr q) = free_elsewhere s v (value v) (port_key n.source.protocol port) (fits v below) q
+
+    reserved_known : (m : Met) (n : Noted) (pool : PoolPorts) (w : ℕ) (o : Option ℕ) → value w ≡ Free pool → 1 ≡ w
+        → (reserve n.source.protocol n.source.port n.word pool).0 ≡ o → IsOnWay s m p n
+        → KnownAt s (record m { at_pool = Some value }) p (after_reserve n o).place (after_reserve n o).noted
+    reserved_known m n pool w (Some port) is at e k =
+        (base_on n (record n { port = port }) refl refl refl k.0, k.1, k.2)
+    reserved_known m n pool w None is at e k = (omega arith, omega arith, cause)
+      where
+        cause : AreBytes p.bytes → Cause s p (record m { at_pool = Some value }) 8
+        cause bytes = inr (inr (inl (
+          k.0.flow,
+          k.0.seen,
+          value,
+          refl,
+          subst (λ (q : ℕ). (v port : ℕ) → v < 2 + 2 * s.shards → free_at (port_key q port) (value v) ≡ 0)
+              (ap (λ (q : Endpoint). q.protocol) (k.0.source bytes)) (none_anywhere n pool w is at e),
+          refl,
+        )))
+
+    touch_known : (m : Met) (w : ℕ) (place : Place) (x : NatValue) (n : Noted) → value w ≡ x → TouchKind place x
+        → var_of s place n ≡ w → KnownAt s m p place n
+        → (let r = touched place x n in
+        KnownAt s (met_by_touch value x (Some r.0) m) p r.1.place r.1.noted)
+    touch_known m w _ _ n is (finds es) at k =
+        found_known m n es k (slot_of n.source es) (first_idle n.time es) refl
+    touch_known m w _ _ n is (unbinds_freed bs) at k = k
+    touch_known m w _ _ n is (gives_freed pool) at k = k
+    touch_known m w _ _ n is (reserves pool) at k =
+        reserved_known m n pool w (reserve n.source.protocol n.source.port n.word pool).0 is at refl k
+    touch_known m w _ _ n is (binds bs) at k = k
+    touch_known m w _ _ n is (finds_or_binds es) at k = bound_known m n es k (slot_of n.source es) refl
+    touch_known m w _ _ n is (unbinds_lost bs) at k = k
+    touch_known m w _ _ n is (gives_lost pool) at k =
+        mapped_known (record m { at_pool = Some value }) n n.class k.0 k.1
+    touch_known m w _ _ n is (counts d) at k = tt
+
+    same_port_key : (n : Noted) (base : IsBase s p n) → AreBytes p.bytes
+        → dest_key n ≡ port_key base.flow.protocol base.flow.dest_port
+    same_port_key n base bytes =
+        λ i. port_key (ap (λ (q : Endpoint). q.protocol) (base.source bytes) i) (base.dest_port bytes i)
+
+    endpoint_known : (m : Met) (n : Noted) (bs : Reverses) (w : ℕ) (o : Option Endpoint) → value w ≡ Taken bs
+        → reverse_table s (dest_key n) ≡ w → endpoint_of (dest_key n) bs ≡ o → KnownAt s m p FindsEndpoint n
+        → KnownAt s (record m { at_reverse = Some value }) p (after_endpoint n o).place (after_endpoint n o).noted
+    endpoint_known m n bs w (Some key) is at e k = (
+      (base_on n (after_endpoint n (Some key)).noted refl refl refl k.0.0, k.0.1),
+      k.1,
+      (
+        value,
+        w,
+        key,
+        refl,
+        subst (λ (x : NatValue). Has (bound_in x) (dest_key n, key)) (sym is) (endpoint_in (dest_key n) key bs e),
+        refl,
+      ),
+    )
+    endpoint_known m n bs w None is at e k = (omega arith, omega arith, cause)
+      where
+        unbound : IsUnbound s value (dest_key n)
+        unbound v key below h =
+            let there : v ≡ w = bound_at s v (value v) (dest_key n) key (fits v below) h ∙ at in
+            not_bound (dest_key n) bs e key
+            (subst (λ (x : NatValue). Has (bound_in x) (dest_key n, key)) (ap value there ∙ is) h)
+
+        cause : AreBytes p.bytes → Cause s p (record m { at_reverse = Some value }) 7
+        cause bytes = inr (inr (inr (
+          k.0.0.flow,
+          k.0.0.seen,
+          value,
+          refl,
+          inl (subst (IsUnbound s value) (same_port_key n k.0.0 bytes) unbound),
+          refl,
+        )))
+
+    lives_known : (m : Met) (n : Noted) (w : ℕ) (es : Forwards) (b : Bool) → value w ≡ Mapped es
+        → w < 2 + 2 * s.shards → forward_table s n.target ≡ w → lives n.target n.dest_port n.time es ≡ b
+        → KnownAt s m p AsksIfLives n
+        → KnownAt s (record m { at_forward = Some value }) p (looked_by n b).place (looked_by n b).noted
+    lives_known m n w es true is low at e k = (k.0, k.1)
+    lives_known m n w es false is low at e k = (omega arith, omega arith, cause)
+      where
+        idle : AreIdle es n.target n.dest_port n.time
+        idle =
+            lives_not (MayMap s w) n.target n.dest_port n.time es (subst (Fits s w) is (fits w low)).2 e
+
+        none : HasNoneUsed s value n.target n.dest_port n.time
+        none v slot h port =
+            let there : v ≡ w = mapping_at s v (value v) n.target slot (fits v h.0) h.1 ∙ at in
+            idle slot (subst (λ (x : NatValue). Has (mappings_in x) (n.target, slot)) (ap value there ∙ is) h.1) port
+
+        cause : AreBytes p.bytes → Cause s p (record m { at_forward = Some value }) 7
+        cause bytes =
+            let base : IsBase s p n = k.0.0 in
+            let to : IsBoundTo m n = k.2 in
+            let protocol : n.source.protocol ≡ base.flow.protocol =
+            ap (λ (q : Endpoint). q.protocol) (base.source bytes) in
+            let target : n.target ≡ endpoint base.flow.protocol to.2.address to.2.port =
+            to.5 ∙ ap (λ (q : ℕ). endpoint q to.2.address to.2.port) protocol in
+            let there : HasNoneUsed s value (endpoint base.flow.protocol to.2.address to.2.port) base.flow.dest_port
+            n.time =
+            subst (λ (port : ℕ). HasNoneUsed s value (endpoint base.flow.protocol to.2.address to.2.port) port n.time)
+            (base.dest_port bytes) (subst (λ (q : Endpoint). HasNoneUsed s value q n.dest_port n.time) target none) in
+            let found : FoundNoneUsed s base.flow (record m { at_forward = Some value }) to.0 = (
+              to.1,
+              to.2,
+              subst (λ (q : PortKey). Has (bound_in (to.0 to.1)) (q, to.2)) (same_port_key n base bytes) to.4,
+              value,
+              n.time,
+              refl,
+              k.0.1,
+              there,
+            ) in
+            inr (inr (inr (base.flow, base.seen, to.0, to.3, inr found, refl)))
+
+    look_known : (m : Met) (w : ℕ) (place : Place) (x : NatValue) (n : Noted) → value w ≡ x → LookKind place x
+        → w < 2 + 2 * s.shards → var_of s place n ≡ w → KnownAt s m p place n
+        → KnownAt s (met_by_read value x m) p (looked place x n).place (looked place x n).noted
+    look_known m w _ _ n is (finds_endpoint bs) low at k =
+        endpoint_known m n bs w (endpoint_of (dest_key n) bs) is at refl k
+    look_known m w _ _ n is (asks es) low at k =
+        lives_known m n w es (lives n.target n.dest_port n.time es) is low at refl k
+
+  time_known : (m : Met) (n : Noted) (c : Class) → n.class ≡ c → IsBase s p n → m.clock ≡ Some n.time
+      → KnownAt s m p (after_time n c).place (after_time n c).noted
+  time_known m n Outbound is base clock = (base, clock, subst IsOutward (sym is) tt)
+  time_known m n Hairpin is base clock = (base, clock, subst IsOutward (sym is) tt)
+  time_known m n Inbound is base clock =
+      ((base, clock), subst (λ (c : Class). IfOutward c (Refreshed m n)) (sym is) tt)
+
+-- The beginning
+
+reason_low : (answer : NotFlow) → (1 ≤ reason_of answer) × (reason_of answer ≤ 9)
+reason_low Short = (omega arith, omega arith)
+reason_low NotIpv4 = (omega arith, omega arith)
+reason_low BadHeaderLength = (omega arith, omega arith)
+reason_low Fragment = (omega arith, omega arith)
+reason_low OtherProtocol = (omega arith, omega arith)
+reason_low BadTotalLength = (omega arith, omega arith)
+
+word_fits : (frame : List ℕ) (place : ℕ) → AreBytes frame → word_at frame place < 2 ^ 16
+word_fits frame place bytes = let a = bytes place in let b = bytes (place + 1) in omega arith
+
+long_fits : (frame : List ℕ) (place : ℕ) → AreBytes frame → long_at frame place < 2 ^ 32
+long_fits frame place bytes =
+    let a = word_fits frame place bytes in let b = word_fits frame (place + 2) bytes in omega arith
+
+module _ (s : Settings) (p : Packet) where
+  -- the fields of a flow of bytes, as they are noted
+  base_begun : (flow : Flow) (class : Class) → viewed p.bytes p.original ≡ Ok flow
+      → class_of_flow s flow.source flow.dest ≡ Some class
+      → IsBase s p (noted (local_of HearsTime (noted_flow flow class)))
+  base_begun flow class seen is = record {
+    flow = flow;
+    seen = seen;
+    class = is ∙ ap Some (sym (class_again class));
+    source = source;
+    dest_port = dest_port;
+  }
+    where
+      same : flow_of p.bytes ≡ flow
+      same = (pass_from_ok (failures p.bytes p.original) (flow_of p.bytes) flow seen).1
+
+      source : AreBytes p.bytes
+          → endpoint (flow.protocol % 2 ^ 8) (flow.source % 2 ^ 32) (flow.source_port % 2 ^ 16) ≡ source_of flow
+      source bytes =
+          let a : flow.protocol < 2 ^ 8 = subst (λ (f : Flow). f.protocol < 2 ^ 8) same (bytes 23) in
+          let b : flow.source < 2 ^ 32 =
+          subst (λ (f : Flow). f.source < 2 ^ 32) same (long_fits p.bytes 26 bytes) in
+          let c : flow.source_port < 2 ^ 16 =
+          subst (λ (f : Flow). f.source_port < 2 ^ 16) same (word_fits p.bytes (header_end p.bytes) bytes) in
+          let d : flow.protocol % 2 ^ 8 ≡ flow.protocol = omega arith in
+          let e : flow.source % 2 ^ 32 ≡ flow.source = omega arith in
+          let f : flow.source_port % 2 ^ 16 ≡ flow.source_port = omega arith in
+          λ i. endpoint (d i) (e i) (f i)
+
+      dest_port : AreBytes p.bytes → flow.dest_port % 2 ^ 16 ≡ flow.dest_port
+      dest_port bytes =
+          let a : (flow_of p.bytes).dest_port < 2 ^ 16 = word_fits p.bytes (header_end p.bytes + 2) bytes in
+          let b : flow.dest_port < 2 ^ 16 = subst (λ (f : Flow). f.dest_port < 2 ^ 16) same a in omega arith
+
+  begun_known : (seen : Result Flow NotFlow) → viewed p.bytes p.original ≡ seen
+      → Known s nothing_met (Some (record { packet = p; place = local_at (begun s seen) }))
+  begun_known (Err answer) is =
+      let low = reason_low answer in (low.0, low.1, λ bytes. inl (answer, is, refl))
+  begun_known (Ok flow) is = by (class_of_flow s flow.source flow.dest) refl
+    where
+      by : (o : Option Class) → class_of_flow s flow.source flow.dest ≡ o
+          → Known s nothing_met (Some (record { packet = p; place = local_at (begun_as flow o) }))
+      by None q = (omega arith, omega arith, λ bytes. inr (inl (flow, is, q, refl)))
+      by (Some class) q = base_begun flow class is q
+
+-- Each move
+
+module _ (s : Settings) (is : AreSettings s) (packets : List Packet) (value : ℕ → NatValue) (t : ℕ)
+    (earlier : List (Step NatValue)) (taken taken_then : ℕ)
+    (fits : (v : ℕ) → v < 2 + 2 * s.shards → Fits s v (value v)) (m : Met) where
+  abbrev Keeps : Option Hand → Option Hand → Effect NatValue → Type 0
+  Keeps before after d = Known s m before → Known s (met_by value (act_of t earlier taken_then d) m) after
+
+  told_time : (h : Hand) (a : ℕ) (place : Place) → place ≡ HearsTime → KnownAt s m h.packet place (noted h.place)
+      → Known s (record m { clock = Some a }) (goes_on h (told place a (noted h.place)))
+  told_time h a place q k =
+      let n : Noted = noted h.place in
+      let o : Noted = record n { time = a } in
+      let base : IsBase s h.packet n = subst (λ (z : Place). KnownAt s m h.packet z n) q k in
+      subst (λ (z : Place). Known s (record m { clock = Some a }) (goes_on h (told z a n))) (sym q)
+      (known_on s (record m { clock = Some a }) h (after_time o o.class)
+      (time_noted o o.class (timed n a (is_noted h.place)))
+      (time_known s h.packet (record m { clock = Some a }) o o.class refl
+      (base_on s h.packet n o refl refl refl base) refl))
+
+  told_word : (h : Hand) (a : ℕ) (place : Place) → place ≡ DrawsWord → KnownAt s m h.packet place (noted h.place)
+      → Known s m (goes_on h (told place a (noted h.place)))
+  told_word h a place q k =
+      let n : Noted = noted h.place in
+      let o : Noted = record n { word = a } in
+      let on : IsOnWay s m h.packet n = subst (λ (z : Place). KnownAt s m h.packet z n) q k in
+      subst (λ (z : Place). Known s m (goes_on h (told z a n))) (sym q)
+      (known_on s m h (goes ReservesPort o) (worded n a (is_noted h.place))
+      (base_on s h.packet n o refl refl refl on.0, on.1, on.2))
+
+  pub move_keeps : (after : Thread) (d : Effect NatValue) (hand : Option Hand) (a : Option ℕ)
+      → held_move (nat_meaning s) packets value taken a hand ≡ Moves after d → Keeps hand after.hand d
+  move_keeps after d hand a e =
+      by_move s packets value taken Keeps (λ p input k. begun_known s p (viewed p.bytes p.original) refl)
+      (λ h v w k.
+      let below = touched_below s is h v w in
+      let r = touched (at h) (value v) (noted h.place) in
+      known_on s (met_by_touch value (value v) (Some r.0) m) h r.1
+      (touched_noted s (at h) (value v) (noted h.place) v (is_noted h.place) (fits v below))
+      (touch_known s h.packet value fits m v (at h) (value v) (noted h.place) refl
+      (touch_kind s is.some (noted h.place) v (value v) (fits v below) (at h) w)
+      (touches_it s (at h) (noted h.place) v w) k))
+      (λ h v w k.
+      let below = read_below s is h v w in
+      let kind = look_kind s is.some (noted h.place) v (value v) (fits v below) (at h) w in
+      known_on s (met_by_read value (value v) m) h (looked (at h) (value v) (noted h.place))
+      (looked_noted s v (at h) (value v) (noted h.place) kind (fits v below) (is_noted h.place))
+      (look_known s h.packet value fits m v (at h) (value v) (noted h.place) refl kind below
+      (reads_it s (at h) (noted h.place) v w) k))
+      (λ h x w k. told_time h x (at h) (at_clock s (at h) (noted h.place) w) k)
+      (λ h x w k. told_word h x (at h) (at_draw s (at h) (noted h.place) w) k)
+      (λ h w k. known_on s m h (goes Ends (noted h.place)) (is_noted h.place) tt) (λ h w k. tt) after d hand a e
+
+pub run_known : (s : Settings) (threads : ℕ) (inputs : ℕ → List Packet) (steps : List (Step NatValue)) → AreSettings s
+    → IsHistory (nat_meaning s) inputs threads steps → (t : ℕ)
+    → Known s (met_of s t steps) (thread_after steps t).hand
+run_known s threads inputs [] is h t = tt
+run_known s threads inputs (x ∷ earlier) is h t =
+    let fits = values_fit (nat_meaning s) (Fits s) (nat_lawful s is) inputs threads earlier h.1 in
+    let new = move_keeps s is (inputs x.thread) (value_after (nat_meaning s) earlier) x.thread earlier
+    (thread_after earlier x.thread).taken x.after.taken fits (met_of s x.thread earlier) x.after h.0.2
+    (thread_after earlier x.thread).hand h.0.1 h.0.3 (run_known s threads inputs earlier is h.1 x.thread) in
+    by (is_or x.thread t) new (run_known s threads inputs earlier is h.1 t)
+  where
+    by : (x.thread ≡ t) ⊎ (x.thread ≢ t)
+        → Known s (met_by (value_after (nat_meaning s) earlier) (act_of x.thread earlier x.after.taken h.0.2)
+        (met_of s x.thread earlier)) x.after.hand → Known s (met_of s t earlier) (thread_after earlier t).hand
+        → Known s (met_of s t (x ∷ earlier)) (thread_after (x ∷ earlier) t).hand
+    by (inl e) new old =
+        subst (λ (u : ℕ). Known s (met_of s u (x ∷ earlier)) (thread_after (x ∷ earlier) u).hand) e
+        (rw (is_eq x.thread x.thread refl, h.0.4) new)
+    by (inr e) new old = rw (not_eq x.thread t e) old

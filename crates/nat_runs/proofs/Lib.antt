@@ -1,0 +1,10 @@
+pub mod TableEntries
+pub mod ThreadMoves
+pub mod Knowing
+pub mod Staying
+pub mod Used
+pub mod Inbound
+pub mod DropCounts
+pub mod Causes
+pub mod Passing
+pub mod Refreshing

@@ -1,0 +1,87 @@
+-- Why a packet is counted as dropped, by the reason of the count.
+use Rattle.std.specs.Prelude.{◌≡◌, ℕ, ◌+◌, ◌*◌, ◌-◌, ◌%◌, ◌^◌, ◌<◌, ◌⊎◌, List, ◌∷◌, Option, Some, None, Ok, Err, slice_index}
+use Rattle.std.specs.Prelude.{slice_set}
+use Rattle.plain_text.specs.declared.packet.Packet.{Packet}
+use Rattle.packet_headers.specs.declared.flow.Flow.{Flow}
+use Rattle.packet_headers.specs.declared.flow.NotFlow.{NotFlow}
+use Rattle.packet_headers.specs.View.{viewed}
+use Rattle.entry_order.specs.Log.{Entry}
+use Rattle.entry_order.specs.declared.what.What.TheVariants.{Access}
+use Rattle.plain_machine.specs.Machine.{Hand}
+use Rattle.plain_machine.specs.History.{Did, Step, thread_after, value_after, IsHistory}
+use Rattle.nat_tables.specs.declared.entries.Endpoint.{Endpoint}
+use Rattle.nat_tables.specs.declared.entries.PortKey.{PortKey}
+use Rattle.nat_tables.specs.declared.slot.Slot.{Slot}
+use Rattle.nat_tables.specs.Keys.{port_key}
+use Rattle.nat_box.specs.declared.value.Drops.{Drops}
+use Rattle.nat_box.specs.declared.value.NatValue.{NatValue}
+use Rattle.nat_box.specs.declared.value.NatValue.TheVariants.{Dropped}
+use Rattle.nat_box.specs.Places.{endpoint}
+use Rattle.nat_box.specs.Nat.{Settings, class_of_flow, reason_of, nat_meaning}
+use Rattle.nat_box.specs.Lawful.{AreSettings}
+use Rattle.nat_box.specs.PortStanding.{free_at}
+use Rattle.nat_box.specs.Sentences.{Has, bound_in, IsMapping}
+use Rattle.nat_box.specs.Emissions.{HaveBytes}
+use Rattle.nat_runs.specs.Met.{Met, met_of}
+use Rattle.nat_runs.specs.Idle.{IsIdle}
+
+-- 1 to 6: the frame is no flow
+abbrev pub IsNoFlow : Packet → ℕ → Type 0
+IsNoFlow p reason = (answer : NotFlow) × (viewed p.bytes p.original ≡ Err answer) × (reason ≡ reason_of answer)
+
+abbrev pub IsFlow : Packet → Flow → Type 0
+IsFlow p flow = viewed p.bytes p.original ≡ Ok flow
+
+-- 9: the flow neither comes from inside nor goes to the outside address, or goes from inside to inside
+abbrev pub IsStray : Settings → Packet → ℕ → Type 0
+IsStray s p reason =
+    (flow : Flow) × IsFlow p flow × (class_of_flow s flow.source flow.dest ≡ None) × (reason ≡ 9)
+
+-- 8: when it touched the pool, no port of its protocol was free
+abbrev pub FoundNoPort : Settings → Packet → Met → ℕ → Type 0
+FoundNoPort s p met reason =
+    (flow : Flow) × IsFlow p flow × (value : ℕ → NatValue) × (met.at_pool ≡ Some value)
+    × ((v port : ℕ) → v < 2 + 2 * s.shards → free_at (port_key flow.protocol port) (value v) ≡ 0) × (reason ≡ 8)
+
+-- nothing is bound to the port, in no table
+abbrev pub IsUnbound : Settings → (ℕ → NatValue) → PortKey → Type 0
+IsUnbound s value port =
+    (v : ℕ) (key : Endpoint) → v < 2 + 2 * s.shards → Has (bound_in (value v)) (port, key) → ⊥
+
+-- the endpoint has no mapping to the port, or an idle one
+abbrev pub HasNoneUsed : Settings → (ℕ → NatValue) → Endpoint → ℕ → ℕ → Type 0
+HasNoneUsed s value key port now =
+    (v : ℕ) (slot : Slot) → IsMapping s value v (key, slot) → slot.port ≡ port → IsIdle now key slot
+
+-- an endpoint was bound to the port, and when the packet read a forward table, it had no mapping to it, or an idle one
+abbrev pub FoundNoneUsed : Settings → Flow → Met → (ℕ → NatValue) → Type 0
+FoundNoneUsed s flow met bound =
+    (v : ℕ) × (key : Endpoint) × Has (bound_in (bound v)) (port_key flow.protocol flow.dest_port, key)
+    × (value : ℕ → NatValue) × (now : ℕ) × (met.at_forward ≡ Some value) × (met.clock ≡ Some now)
+    × HasNoneUsed s value (endpoint flow.protocol key.address key.port) flow.dest_port now
+
+-- 7: when it read a reverse table, nothing was bound to the port that it goes to, or only an idle mapping was
+abbrev pub FoundNoMapping : Settings → Packet → Met → ℕ → Type 0
+FoundNoMapping s p met reason =
+    (flow : Flow) × IsFlow p flow × (bound : ℕ → NatValue) × (met.at_reverse ≡ Some bound)
+    × (IsUnbound s bound (port_key flow.protocol flow.dest_port) ⊎ FoundNoneUsed s flow met bound) × (reason ≡ 7)
+
+abbrev pub Cause : Settings → Packet → Met → ℕ → Type 0
+Cause s p met reason =
+    IsNoFlow p reason ⊎ (IsStray s p reason ⊎ (FoundNoPort s p met reason ⊎ FoundNoMapping s p met reason))
+
+-- one drop more for the reason
+abbrev pub one_more : ℕ → Drops → Drops
+one_more reason d =
+    record { counts = slice_set d.counts (reason - 1) ((slice_index d.counts (reason - 1) + 1) % 2 ^ 64) }
+
+-- Each touch of variable 0 counts the packet in hand, for a reason that has its cause.
+abbrev pub DropsHaveCauses : Type 0
+DropsHaveCauses =
+    (s : Settings) (threads : ℕ) (inputs : ℕ → List Packet) (x : Step NatValue) (earlier : List (Step NatValue))
+    (entry : Entry) (left : Option NatValue) (place : ℕ) → AreSettings s → HaveBytes inputs
+    → IsHistory (nat_meaning s) inputs threads (x ∷ earlier) → x.act ≡ Did entry left → entry.what ≡ Access 0 place
+    → (h : Hand) × (d : Drops) × (reason : ℕ) × ((thread_after earlier x.thread).hand ≡ Some h)
+    × (value_after (nat_meaning s) earlier 0 ≡ Dropped d)
+    × (value_after (nat_meaning s) (x ∷ earlier) 0 ≡ Dropped (one_more reason d))
+    × Cause s h.packet (met_of s x.thread earlier) reason

@@ -1,0 +1,18 @@
+-- When a mapping is idle, in numbers, whatever timers the tables have.
+use Rattle.std.specs.Prelude.{ℕ, ◌+◌, ◌*◌, ◌<◌, ◌≤◌, ◌==◌, if◌then◌else◌}
+use Rattle.nat_tables.specs.declared.entries.Endpoint.{Endpoint}
+use Rattle.nat_tables.specs.declared.slot.Slot.{Slot}
+
+abbrev pub microseconds : ℕ → ℕ
+microseconds seconds = seconds * 1000000
+
+-- 2 hours and 4 minutes of TCP, which is protocol 6 (RFC 5382, REQ-5), and 5 minutes of UDP (RFC 4787, REQ-5)
+abbrev pub idle_after : ℕ → ℕ
+idle_after protocol = if protocol == 6 then microseconds 7440 else microseconds 300
+
+-- the endpoint's mapping was not used for that long
+abbrev pub IsIdle : ℕ → Endpoint → Slot → Type 0
+IsIdle now key slot = slot.last + idle_after key.protocol ≤ now
+
+abbrev pub IsUsed : ℕ → Endpoint → Slot → Type 0
+IsUsed now key slot = now < slot.last + idle_after key.protocol

@@ -1,0 +1,51 @@
+-- What comes in, or goes back inside, found a mapping to its port that is not idle (RFC 4787, REQ-5 and REQ-9).
+use Rattle.std.specs.Prelude.{◌≡◌, ℕ, ◌-◌, List, ◌∷◌, Option, Some, None, Ok, slice_get}
+use Rattle.plain_text.specs.declared.packet.Packet.{Packet}
+use Rattle.packet_headers.specs.declared.flow.Flow.{Flow}
+use Rattle.packet_headers.specs.View.{viewed}
+use Rattle.packet_headers.specs.Rewriting.{with_source, with_dest}
+use Rattle.plain_machine.specs.declared.emission.Emission.{Emission}
+use Rattle.plain_machine.specs.History.{Emitted, Step, IsHistory}
+use Rattle.nat_tables.specs.declared.entries.Endpoint.{Endpoint}
+use Rattle.nat_tables.specs.declared.slot.Slot.{Slot}
+use Rattle.nat_tables.specs.Forwards.{Forwards}
+use Rattle.nat_box.specs.declared.place.Class.{Class}
+use Rattle.nat_box.specs.declared.place.Class.TheVariants.{Outbound, Hairpin, Inbound}
+use Rattle.nat_box.specs.declared.value.NatValue.{NatValue}
+use Rattle.nat_box.specs.declared.value.NatValue.TheVariants.{Mapped}
+use Rattle.nat_box.specs.Nat.{Settings, class_of_flow, nat_meaning}
+use Rattle.nat_box.specs.Lawful.{AreSettings}
+use Rattle.nat_box.specs.Sentences.{Has}
+use Rattle.nat_box.specs.Emissions.{Trail, trail_of, HaveBytes}
+use Rattle.nat_runs.specs.Idle.{IsUsed}
+
+-- The forward table that the packet read last has a mapping of the endpoint to the port, and it was not idle at the time
+-- that the packet was told.
+abbrev pub FoundUsed : Trail → Endpoint → ℕ → Type 0
+FoundUsed r key port =
+    (es : Forwards) × (slot : Slot) × (now : ℕ) × (r.read ≡ Some (Mapped es)) × (r.clock ≡ Some now)
+    × Has es (key, slot) × (slot.port ≡ port) × IsUsed now key slot
+
+-- the frame goes to the endpoint of such a mapping
+abbrev pub GoesToUsed : Settings → List ℕ → Flow → Trail → List ℕ → Class → Type 0
+GoesToUsed s bytes flow r sent Outbound = Unit {0}
+GoesToUsed s bytes flow r sent Inbound =
+    (key : Endpoint) × (key.protocol ≡ flow.protocol) × FoundUsed r key flow.dest_port
+    × (sent ≡ with_dest bytes flow key.address key.port)
+GoesToUsed s bytes flow r sent Hairpin =
+    (port : ℕ) × (key : Endpoint) × (key.protocol ≡ flow.protocol) × FoundUsed r key flow.dest_port
+    × (sent ≡ with_dest (with_source bytes flow s.outside port) flow key.address key.port)
+
+abbrev pub WentToUsed : Settings → Trail → List ℕ → Option Packet → Type 0
+WentToUsed s r sent None = ⊥
+WentToUsed s r sent (Some p) =
+    (flow : Flow) × (class : Class) × (viewed p.bytes p.original ≡ Ok flow)
+    × (class_of_flow s flow.source flow.dest ≡ Some class) × GoesToUsed s p.bytes flow r sent class
+
+-- of each emission, and the thread's input of its number
+abbrev pub ComesInByUsed : Type 0
+ComesInByUsed =
+    (s : Settings) (threads : ℕ) (inputs : ℕ → List Packet) (x : Step NatValue) (earlier : List (Step NatValue))
+    (o : Emission) → AreSettings s → HaveBytes inputs → IsHistory (nat_meaning s) inputs threads (x ∷ earlier)
+    → x.act ≡ Emitted o
+    → WentToUsed s (trail_of s x.thread earlier) o.packet.bytes (slice_get (inputs x.thread) (o.input - 1))

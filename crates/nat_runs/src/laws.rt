@@ -1,0 +1,51 @@
+//! The laws on every run of the box. Each is proved, and does nothing: a caller has it by the call.
+ghost use Rattle.nat_runs.specs.Passing.{EachPasses, NoneVanishes, NoneVanishesAtRest};
+ghost use Rattle.nat_runs.specs.Staying.{MappingsStay};
+ghost use Rattle.nat_runs.specs.Used.{ComesInByUsed};
+ghost use Rattle.nat_runs.specs.Causes.{DropsHaveCauses};
+ghost use Rattle.nat_runs.specs.Inbound.{InboundChangesNoTable};
+ghost use Rattle.nat_runs.specs.Refreshing.{HostsRefresh, SentRefresh};
+
+/// After each move of each run, whatever its threads, its inputs and the order of its moves: each packet that a thread
+/// took was sent out once, or counted once as dropped, or is the one in hand and will be (`each`). So over all threads
+/// the packets taken are those sent out, those that variable 0 counts, and those in hand (`always`); with no packet in
+/// hand, those sent out and those counted (`at_rest`). The counts wrap at 2^64.
+pub fn no_packet_vanishes()
+    ensures each { EachPasses }
+    ensures always { NoneVanishes }
+    ensures at_rest { NoneVanishesAtRest }
+{}
+
+/// At each step each mapping stays, with its port, or it was idle at the time that the packet was told: not used for 300
+/// s of UDP (RFC 4787, REQ-5), for 7,440 s of TCP (RFC 5382, REQ-5). So an inside endpoint that goes on has the same
+/// port toward every remote endpoint (RFC 4787, REQ-1).
+pub fn mappings_stay_until_idle()
+    ensures { MappingsStay }
+{}
+
+/// What goes back inside, of an inbound or a hairpin packet (RFC 4787, REQ-9), goes to an endpoint that has a mapping to
+/// the packet's port, and this mapping is not idle: it was used less than 300 s of UDP, 7,440 s of TCP before the time
+/// that the packet was told.
+pub fn what_comes_in_found_a_used_mapping()
+    ensures { ComesInByUsed }
+{}
+
+/// Each drop that is counted has the cause of its reason: the frame is no flow (1 to 6), or a stray (9); no port of its
+/// protocol was free (8); nothing was bound to the port that it goes to, or only an idle mapping (7). So what comes to
+/// a port with a used mapping is let in, whatever its source (RFC 4787, REQ-8, endpoint-independent filtering).
+pub fn drops_have_their_causes()
+    ensures { DropsHaveCauses }
+{}
+
+/// A step of an inbound packet leaves each table and the pool as they were: it refreshes no mapping (RFC 4787, REQ-6).
+pub fn inbound_packets_change_no_table()
+    ensures { InboundChangesNoTable }
+{}
+
+/// A mapping is made, and refreshed, by packets from its own inside endpoint alone (`hosts`); and each packet from
+/// inside that is sent out has refreshed the mapping of its endpoint at the time that it was told (`sent`): RFC 4787,
+/// REQ-6, the outbound refresh.
+pub fn hosts_refresh_their_own_mappings()
+    ensures hosts { HostsRefresh }
+    ensures sent { SentRefresh }
+{}

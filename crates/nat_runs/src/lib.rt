@@ -1,0 +1,9 @@
+//! Laws on every run of the box `nat`.
+#![tactic(auto)]
+
+mod laws;
+
+pub use laws::{
+    drops_have_their_causes, hosts_refresh_their_own_mappings, inbound_packets_change_no_table,
+    mappings_stay_until_idle, no_packet_vanishes, what_comes_in_found_a_used_mapping,
+};
