@@ -1,0 +1,3 @@
+pub mod Settling
+pub mod Vanishing
+pub mod Tables

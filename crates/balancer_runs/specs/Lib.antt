@@ -1,0 +1,4 @@
+pub mod Packets
+pub mod Staying
+pub mod Causes
+pub mod Choosing
