@@ -1,3 +1,6 @@
 pub mod Settling
 pub mod Vanishing
 pub mod Tables
+pub mod Knowing
+pub mod Connections
+pub mod DropCauses

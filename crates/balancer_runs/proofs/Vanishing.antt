@@ -37,7 +37,7 @@ use Rattle.balancer_runs.proofs.Settling.{at_end, placed_step, run_placed, waits
 
 -- One drop more
 
-counted_once : (reason : ℕ) (d : Drops) → IsReason reason
+pub counted_once : (reason : ℕ) (d : Drops) → IsReason reason
     → (with_drop reason d).counts
     ≡ slice_set d.counts (reason - 1) ((slice_index d.counts (reason - 1) + 1) % 2 ^ 64)
 counted_once reason d is =
@@ -54,7 +54,7 @@ one_more counts at low =
     omega arith
 
 -- variable 0 has a count for each of nine reasons
-abbrev HasNine : BalancerValue → Type 0
+abbrev pub HasNine : BalancerValue → Type 0
 HasNine (Dropped d) = length d.counts ≡ 9
 HasNine (Loaded loads) = ⊥
 HasNine (Connected es) = ⊥
@@ -201,7 +201,7 @@ module _ (s : Settings) (is : AreSettings s) (threads t : ℕ) (low : t < thread
             HasNine y × (sum (drop_counts y) % 2 ^ 64 ≡ (sum (drop_counts (value 0)) + 1) % 2 ^ 64)) same more in
             rw on (last.0, dropped_kept left old was now last.1)
 
-run_kept : (s : Settings) (threads : ℕ) (inputs : ℕ → List Packet) (steps : List (Step BalancerValue))
+pub run_kept : (s : Settings) (threads : ℕ) (inputs : ℕ → List Packet) (steps : List (Step BalancerValue))
     → AreSettings s → IsHistory (balancer_meaning s) inputs threads steps
     → HasNine (value_after (balancer_meaning s) steps 0)
     × (packets_taken steps % 2 ^ 64

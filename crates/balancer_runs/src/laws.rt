@@ -1,4 +1,7 @@
 ghost use Rattle.balancer_runs.specs.Packets.{NoPacketVanishes, NoPacketVanishesAtRest};
+ghost use Rattle.balancer_runs.specs.Staying.{ConnectionsStay};
+ghost use Rattle.balancer_runs.specs.Causes.{DropsHaveCauses};
+ghost use Rattle.balancer_runs.specs.Choosing.{NewConnectionsHaveLeastLoad};
 
 /// In each run, whatever its threads, its inputs and the order of its moves: each packet that was taken went out, was
 /// counted as dropped, or is in hand and neither yet. So where no packet is in hand, the packets taken are those that
@@ -6,4 +9,24 @@ ghost use Rattle.balancer_runs.specs.Packets.{NoPacketVanishes, NoPacketVanishes
 pub fn no_packet_vanishes()
     ensures moving { NoPacketVanishes }
     ensures at_rest { NoPacketVanishesAtRest }
+{}
+
+/// At each step of each run on packets of bytes, a connection that is there stays, with its backend, unless it is idle
+/// at the time that the step's packet was told, 7,440 s after its last use with TCP and 300 s with UDP, or this packet
+/// resets it. Its last use stays, or becomes that time.
+pub fn connections_stay_until_idle_or_reset()
+    ensures { ConnectionsStay }
+{}
+
+/// In each run on packets of bytes, each touch of the counts of drops counts one drop more, of a packet that has the
+/// cause of its reason: its frame is no flow, or it neither goes to the virtual address and port nor comes from a
+/// backend, or it is of no connection that lives.
+pub fn drops_have_their_causes()
+    ensures { DropsHaveCauses }
+{}
+
+/// At each step of each run on packets of bytes, a connection that begins is one to the backend of least load, the
+/// first of equals, in the loads as the client's packet met and raised them.
+pub fn new_connections_have_least_load()
+    ensures { NewConnectionsHaveLeastLoad }
 {}

@@ -4,4 +4,7 @@
 
 mod laws;
 
-pub use laws::no_packet_vanishes;
+pub use laws::{
+    connections_stay_until_idle_or_reset, drops_have_their_causes, new_connections_have_least_load,
+    no_packet_vanishes,
+};
