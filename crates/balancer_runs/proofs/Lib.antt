@@ -4,3 +4,4 @@ pub mod Tables
 pub mod Knowing
 pub mod Connections
 pub mod DropCauses
+pub mod BusyConnections

@@ -2,3 +2,4 @@ pub mod Packets
 pub mod Staying
 pub mod Causes
 pub mod Choosing
+pub mod Answering

@@ -1,3 +1,4 @@
+ghost use Rattle.balancer_runs.specs.Answering.{AnswersComeBeforeIdle};
 ghost use Rattle.balancer_runs.specs.Packets.{NoPacketVanishes, NoPacketVanishesAtRest};
 ghost use Rattle.balancer_runs.specs.Staying.{ConnectionsStay};
 ghost use Rattle.balancer_runs.specs.Causes.{DropsHaveCauses};
@@ -29,4 +30,10 @@ pub fn drops_have_their_causes()
 /// first of equals, in the loads as the client's packet met and raised them.
 pub fn new_connections_have_least_load()
     ensures { NewConnectionsHaveLeastLoad }
+{}
+
+/// In each run on packets of bytes, an answer that goes out is one to a client whose connection to the answer's backend
+/// was used less than 7,440 s before with TCP, and 300 s with UDP, at the time that the answer was told.
+pub fn answers_come_before_idle()
+    ensures { AnswersComeBeforeIdle }
 {}

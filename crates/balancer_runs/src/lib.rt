@@ -5,6 +5,6 @@
 mod laws;
 
 pub use laws::{
-    connections_stay_until_idle_or_reset, drops_have_their_causes, new_connections_have_least_load,
-    no_packet_vanishes,
+    answers_come_before_idle, connections_stay_until_idle_or_reset, drops_have_their_causes,
+    new_connections_have_least_load, no_packet_vanishes,
 };
