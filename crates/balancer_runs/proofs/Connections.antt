@@ -1,5 +1,5 @@
 -- A connection stays until it is idle or reset, and a new one is to a backend of least load.
-use Rattle.std.proofs.Common.{◌≡◌, ℕ, ◌+◌, ◌<◌, Bool, true, false, List, [], ◌∷◌, ◌++◌, refl, sym, ap, ◌∙◌, subst, ◌⊎◌}
+use Rattle.std.proofs.Common.{◌≡◌, ℕ, Bool, true, false, List, [], ◌∷◌, refl, sym, ap, ◌∙◌, subst, ◌⊎◌}
 use Rattle.std.proofs.Common.{inl, inr, arith, ◌≤◌, Option, Some, None}
 use Rattle.std.specs.Prelude.{nat_eq, cond, ◌&&◌}
 use Rattle.std.proofs.lemmas.Bool.{eqb-true}
@@ -11,7 +11,7 @@ use Rattle.plain_machine.specs.History.{Step, act_of, left_by, thread_after, val
 use Rattle.plain_machine.proofs.Bounds.{values_fit}
 use Rattle.nat_tables.specs.declared.entries.Endpoint.{Endpoint}
 use Rattle.nat_tables.specs.declared.slot.Slot.{Slot}
-use Rattle.nat_tables.specs.Forwards.{Forwards, is_idle, slot_of, refresh, without, first_idle, found_there, found, bound}
+use Rattle.nat_tables.specs.Forwards.{Forwards, is_idle, slot_of, refresh, first_idle, found_there, found, bound}
 use Rattle.nat_tables.specs.Forwards.{lives, AreMappings}
 use Rattle.balancer_box.specs.declared.place.Place.{Place}
 use Rattle.balancer_box.specs.declared.place.Place.TheVariants.{HearsTime, FindsConnection, LowersIdle, RaisesLeast}
@@ -26,10 +26,10 @@ use Rattle.balancer_box.specs.Places.{place_numbered}
 use Rattle.balancer_box.specs.Balancer.{Settings, next_move, touched, noted_by, balancer_meaning, MayConnect, Fits}
 use Rattle.balancer_box.specs.Lawful.{AreSettings, balancer_lawful}
 use Rattle.balancer_box.specs.Entries.{connections_in}
-use Rattle.balancer_box.specs.Emissions.{Trail, trail_of, source_of, dest_of}
+use Rattle.balancer_box.specs.Emissions.{Trail, trail_of}
 use Rattle.balancer_box.proofs.ConnectionLemmas.{without_refreshed, lives_there}
 use Rattle.balancer_box.proofs.Making.{Made, made}
-use Rattle.balancer_runs.specs.Staying.{WasIdle, Resets, WasReset, Stays, ConnectionsStay}
+use Rattle.balancer_runs.specs.Staying.{WasIdle, Resets, Stays, ConnectionsStay}
 use Rattle.balancer_runs.specs.Choosing.{loads_met, WasChosen, IsFromClient, NewConnectionsHaveLeastLoad}
 use Rattle.balancer_runs.proofs.Tables.{idle_is, Goes, GoAll, all_stay, all_used, all_without, all_without_idle}
 use Rattle.balancer_runs.proofs.Tables.{all_append, NoneComes, none_by_refresh, none_by_without, none_by_without_idle}
@@ -63,8 +63,12 @@ module _ (s : Settings) (r : Trail) (met : Option (List ℕ × List ℕ)) (p : P
   of_answer_reset slot told is port =
       let base : IsBase s p n = told.base in
       let of = answer_of s p n base told.is_class in
-      inr (base.flow, base.seen, has_reset base.flow n base.reset is,
-      inr (of.0, of.2 ∙ ap Some (sym port), of.1))
+      inr (
+        base.flow,
+        base.seen,
+        has_reset base.flow n base.reset is,
+        inr (of.0, of.2 ∙ ap Some (sym port), of.1),
+      )
 
   abbrev AllGo : Forwards → Forwards → Type 0
   AllGo = GoAll Gone n.time
@@ -254,7 +258,9 @@ module _ (s : Settings) (is : AreSettings s) (packets : List Packet) (t taken ta
       × (left ≡ (touched (place_numbered h.place.at) (value v) (noted_by s h.place)).0)
       × KnownAt s r met h.packet (place_numbered h.place.at) (noted_by s h.place)
   touch_is w left m e = (
-    m.0, m.1, m.2 ∙ ap Access e,
+    m.0,
+    m.1,
+    m.2 ∙ ap Access e,
     m.3 ∙ ap (λ (u : ℕ). (touched (place_numbered m.0.place.at) (value u) (noted_by s m.0.place)).0) e,
     subst (Known s r met) m.1 known,
   )
@@ -284,7 +290,8 @@ module _ (s : Settings) (is : AreSettings s) (packets : List Packet) (t taken ta
           let goes = touch_goes s r met h.packet n (place_numbered h.place.at) (value v) v fits k.4 client slot at in
           let there = goes_stays s r met h n client slot
           (slot_of client (connections_in (touched (place_numbered h.place.at) (value v) n).0)) clock goes in
-          subst (λ (y : BalancerValue). Stays s r.clock before client slot (slot_of client (connections_in y))) (sym k.3)
+          subst (λ (y : BalancerValue). Stays s r.clock before client slot (slot_of client (connections_in y)))
+          (sym k.3)
           (subst (λ (y : Option Hand). Stays s r.clock y client slot
           (slot_of client (connections_in (touched (place_numbered h.place.at) (value v) n).0))) (sym k.1) there)
 
@@ -326,7 +333,8 @@ module _ (s : Settings) (is : AreSettings s) (packets : List Packet) (t taken ta
           let h : Hand = k.0 in
           let n : Noted = noted_by s h.place in
           let there = subst (λ (y : BalancerValue). slot_of client (connections_in y) ≡ Some slot) k.3 at in
-          let new = touch_brings s r met h.packet n (place_numbered h.place.at) (value v) v fits client slot none there in
+          let new =
+          touch_brings s r met h.packet n (place_numbered h.place.at) (value v) v fits client slot none there in
           fresh_of h client slot (place_numbered h.place.at) k.1 new.0 k.4 new.1
 
 pub connections_stay : ConnectionsStay

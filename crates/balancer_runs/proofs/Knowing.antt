@@ -1,5 +1,5 @@
 -- What is known of a packet in hand at each place, by what its own moves met.
-use Rattle.std.proofs.Common.{◌≡◌, ◌≢◌, ℕ, ◌+◌, ◌-◌, ◌%◌, ◌^◌, ◌≤◌, ◌<◌, Bool, true, false, List, [], ◌∷◌, length, refl}
+use Rattle.std.proofs.Common.{◌≡◌, ◌≢◌, ℕ, ◌+◌, ◌^◌, ◌<◌, Bool, true, false, List, [], ◌∷◌, length, refl}
 use Rattle.std.proofs.Common.{sym, ap, ◌∙◌, subst, ◌⊎◌, inl, inr, arith, Option, Some, None}
 use Rattle.std.specs.Prelude.{◌==◌, ◌&&◌, slice_get, nat_eq, nat_lt, cond, not, bit_and, Result, Ok, Err}
 use Rattle.std.specs.List.{position_or_len}
@@ -34,7 +34,7 @@ use Rattle.balancer_box.specs.declared.value.BalancerValue.{BalancerValue}
 use Rattle.balancer_box.specs.declared.value.BalancerValue.TheVariants.{Dropped, Loaded, Connected}
 use Rattle.balancer_box.specs.declared.backends.Backend.{Backend}
 use Rattle.balancer_box.specs.declared.place.Goes.{Goes}
-use Rattle.balancer_box.specs.Loads.{raised, least_loaded, HasLeastLoad}
+use Rattle.balancer_box.specs.Loads.{least_loaded}
 use Rattle.balancer_box.specs.Connections.{without_if, find_connection}
 use Rattle.balancer_box.specs.Places.{place_numbered}
 use Rattle.balancer_box.specs.Balancer.{Settings, goes, next_move, resets, is_virtual, backend_at, nothing_noted}
@@ -46,9 +46,9 @@ use Rattle.balancer_box.specs.Lawful.{AreSettings, var_of, touches_it, below_all
 use Rattle.balancer_box.specs.Emissions.{Trail, no_trail, trail_of_touch, trail_by, trail_of, source_of, dest_of}
 use Rattle.balancer_box.proofs.LoadLemmas.{has_least}
 use Rattle.balancer_box.proofs.Noting.{touched_noted, told_noted}
-use Rattle.balancer_box.proofs.Making.{goes_on, comes_to, Made, made}
-use Rattle.balancer_runs.specs.Staying.{IsIdleAt, HasReset}
-use Rattle.balancer_runs.specs.Causes.{HasNone, HasNoneTo, IsUnconnected, HasCause}
+use Rattle.balancer_box.proofs.Making.{goes_on, Made, made}
+use Rattle.balancer_runs.specs.Staying.{HasReset}
+use Rattle.balancer_runs.specs.Causes.{HasNone, HasNoneTo, HasCause}
 use Rattle.balancer_runs.specs.Choosing.{loads_met_in, loads_met_by, loads_met, WasChosen}
 use Rattle.balancer_runs.proofs.Tables.{idle_is}
 
@@ -148,9 +148,20 @@ module _ (s : Settings) (p : Packet) where
       let of : IsOf s base.flow n Client = client_of n base told.is_class in
       let has : HasNone (source_of base.flow) n.time (slot_of (source_of base.flow) none.0) =
       subst (λ (k : Endpoint). HasNone k n.time (slot_of k none.0)) of.1 none.2 in
-      inr (base.flow, base.seen, inr (refl, (
-        none.0, n.time, none.1, told.clock, inl (of.0, has_reset base.flow n base.reset q, has),
-      )))
+      inr (
+        base.flow,
+        base.seen,
+        inr (
+          refl,
+          (
+            none.0,
+            n.time,
+            none.1,
+            told.clock,
+            inl (of.0, has_reset base.flow n base.reset q, has),
+          ),
+        ),
+      )
 
   goes_known : (r : Trail) (met : Option (List ℕ × List ℕ)) (n : Noted) (b : Bool) (backend : ℕ)
       → KnownAt s r met p (goes_to n b backend).place (goes_to n b backend).noted
@@ -214,9 +225,20 @@ module _ (s : Settings) (p : Packet) where
       not_lives n.client n.backend n.time (slot_of n.client es) is in
       let has : HasNoneTo n.backend (dest_of base.flow) n.time (slot_of (dest_of base.flow) es) =
       subst (λ (k : Endpoint). HasNoneTo n.backend k n.time (slot_of k es)) of.1 none in
-      inr (base.flow, base.seen, inr (refl, (
-        es, n.time, refl, told.clock, inr (of.0, n.backend, of.2, has),
-      )))
+      inr (
+        base.flow,
+        base.seen,
+        inr (
+          refl,
+          (
+            es,
+            n.time,
+            refl,
+            told.clock,
+            inr (of.0, n.backend, of.2, has),
+          ),
+        ),
+      )
 
   -- each touch; what it left of the loads matters where one is chosen
   touch_known : (r : Trail) (met later : Option (List ℕ × List ℕ)) (place : Place) (x : BalancerValue) (n : Noted)

@@ -1,7 +1,7 @@
 -- Where a packet in hand stands tells whether it went out or was counted as dropped.
-use Rattle.std.proofs.Common.{◌≡◌, ◌≢◌, ℕ, ◌+◌, ◌≤◌, ◌<◌, Bool, true, false, List, [], ◌∷◌, length, refl, sym, ap, ◌∙◌}
+use Rattle.std.proofs.Common.{◌≡◌, ◌≢◌, ℕ, ◌+◌, ◌≤◌, ◌<◌, Bool, true, false, List, [], ◌∷◌, refl, sym, ap, ◌∙◌}
 use Rattle.std.proofs.Common.{subst, ◌⊎◌, inl, inr, arith, Option, Some, None}
-use Rattle.std.specs.Prelude.{nat_eq, cond, not, if◌then◌else◌, Result, Ok, Err}
+use Rattle.std.specs.Prelude.{nat_eq, cond, not, Result, Ok, Err}
 use Rattle.plain_text.specs.declared.packet.Packet.{Packet}
 use Rattle.packet_headers.specs.declared.flow.Flow.{Flow}
 use Rattle.packet_headers.specs.declared.flow.NotFlow.{NotFlow}
@@ -10,7 +10,7 @@ use Rattle.packet_headers.specs.declared.flow.NotFlow.TheVariants.{OtherProtocol
 use Rattle.packet_headers.specs.View.{viewed}
 use Rattle.entry_order.proofs.Order.{is_or}
 use Rattle.plain_machine.specs.declared.local.Move.TheVariants.{Access, Clock, Emit, End}
-use Rattle.plain_machine.specs.Machine.{Hand, Thread, Effect, Takes, Touches, Looks, HearsClock, HearsDraw, Sends}
+use Rattle.plain_machine.specs.Machine.{Hand, Effect, Takes, Touches, Looks, HearsClock, HearsDraw, Sends}
 use Rattle.plain_machine.specs.Machine.{Ends as EndsIt}
 use Rattle.plain_machine.specs.History.{Step, act_of, thread_after, value_after, IsHistory}
 use Rattle.plain_machine.proofs.Histories.{not_eq, is_eq}
@@ -150,19 +150,22 @@ touch_counted s is LowersIdle (Loaded loads) n v e at fits =
     inl (λ q. absurd (omega (arith, fits.0)), refl, begins_on n n.resets)
 touch_counted s is LowersIdle (Connected es) n v e at fits = absurd (omega (arith, at, fits.0, fits.1, is.some))
 touch_counted s is RaisesLeast (Dropped d) n v e at fits = absurd (omega (arith, at, fits, is.some))
-touch_counted s is RaisesLeast (Loaded loads) n v e at fits = inl (λ q. absurd (omega (arith, fits.0)), refl, (refl, tt))
+touch_counted s is RaisesLeast (Loaded loads) n v e at fits =
+    inl (λ q. absurd (omega (arith, fits.0)), refl, (refl, tt))
 touch_counted s is RaisesLeast (Connected es) n v e at fits = absurd (omega (arith, at, fits.0, fits.1, is.some))
 touch_counted s is Connects (Dropped d) n v e at fits = absurd (omega (arith, at, fits, is.some))
 touch_counted s is Connects (Loaded loads) n v e at fits = absurd (omega (arith, at, fits.0, is.some))
 touch_counted s is Connects (Connected es) n v e at fits =
     inl (λ q. absurd (omega (arith, fits.0)), refl, bind_on n (find_or_bind n.client n.backend n.time es).0)
 touch_counted s is LowersSpare (Dropped d) n v e at fits = absurd (omega (arith, at, fits, is.some))
-touch_counted s is LowersSpare (Loaded loads) n v e at fits = inl (λ q. absurd (omega (arith, fits.0)), refl, (refl, tt))
+touch_counted s is LowersSpare (Loaded loads) n v e at fits =
+    inl (λ q. absurd (omega (arith, fits.0)), refl, (refl, tt))
 touch_counted s is LowersSpare (Connected es) n v e at fits = absurd (omega (arith, at, fits.0, fits.1, is.some))
 touch_counted s is ChecksConnection (Dropped d) n v e at fits = absurd (omega (arith, at, fits, is.some))
 touch_counted s is ChecksConnection (Loaded loads) n v e at fits = absurd (omega (arith, at, fits.0, is.some))
 touch_counted s is ChecksConnection (Connected es) n v e at fits =
-    inl (λ q. absurd (omega (arith, fits.0)), refl, check_on n (check_connection n.resets n.client n.backend n.time es).0)
+    let there = check_connection n.resets n.client n.backend n.time es in
+    inl (λ q. absurd (omega (arith, fits.0)), refl, check_on n there.0)
 touch_counted s is CountsDrop (Dropped d) n v e at fits = inr (sym at, refl, refl, tt)
 touch_counted s is CountsDrop (Loaded loads) n v e at fits = absurd (omega (arith, at, fits.0, is.some))
 touch_counted s is CountsDrop (Connected es) n v e at fits = absurd (omega (arith, at, fits.0, fits.1, is.some))

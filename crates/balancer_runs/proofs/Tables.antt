@@ -1,15 +1,15 @@
 -- What becomes of each connection of a table: by a refresh, a removal, and a new connection.
-use Rattle.std.proofs.Common.{◌≡◌, ◌≢◌, ℕ, ◌+◌, ◌-◌, ◌<◌, ◌≤◌, Bool, true, false, [], ◌∷◌, ◌++◌, refl, sym, ap, ◌∙◌}
+use Rattle.std.proofs.Common.{◌≡◌, ◌≢◌, ℕ, ◌+◌, ◌<◌, ◌≤◌, Bool, true, false, [], ◌∷◌, ◌++◌, refl, sym, ap}
 use Rattle.std.proofs.Common.{subst, ◌⊎◌, inl, inr, arith, Option, Some, None}
-use Rattle.std.specs.Prelude.{max, nat_lt, not, ◌==◌, ◌&&◌, if◌then◌else◌}
+use Rattle.std.specs.Prelude.{max, nat_lt, not, ◌==◌, if◌then◌else◌}
 use Rattle.std.proofs.lemmas.Bool.Decides.{nat_tests}
 use Rattle.nat_tables.specs.declared.entries.Endpoint.{Endpoint}
 use Rattle.nat_tables.specs.declared.slot.Slot.{Slot}
 use Rattle.nat_tables.specs.Keys.{same_endpoint}
-use Rattle.nat_tables.specs.Forwards.{Forwards, timer, is_idle, slot_of, refreshed, refresh, without, without_idle, Misses}
-use Rattle.nat_tables.specs.Forwards.{AreMappings}
+use Rattle.nat_tables.specs.Forwards.{Forwards, timer, is_idle, slot_of, refreshed, refresh, without, without_idle}
+use Rattle.nat_tables.specs.Forwards.{Misses, AreMappings}
 use Rattle.nat_tables.proofs.Counting.{same_is}
-use Rattle.balancer_box.proofs.ConnectionLemmas.{without_refreshed, missed}
+use Rattle.balancer_box.proofs.ConnectionLemmas.{missed}
 use Rattle.balancer_runs.specs.Staying.{IsIdleAt}
 
 -- Idle connections, in numbers

@@ -1,13 +1,11 @@
 -- Each packet that a run took went out, was counted as dropped, or is in hand.
-use Rattle.std.proofs.Common.{◌≡◌, ◌≢◌, ℕ, zero, suc, ◌+◌, ◌-◌, ◌%◌, ◌^◌, ◌≤◌, ◌<◌, Bool, true, false, List, [], ◌∷◌}
-use Rattle.std.proofs.Common.{length, refl, sym, ap, ◌∙◌, subst, ◌⊎◌, inl, inr, arith, length-set, Option, Some, None}
-use Rattle.std.specs.Prelude.{nat_eq, nat_lt, cond, not, ◌&&◌, sum, slice_index, slice_set}
+use Rattle.std.proofs.Common.{◌≡◌, ℕ, zero, suc, ◌+◌, ◌-◌, ◌%◌, ◌^◌, ◌<◌, Bool, true, false, List, [], ◌∷◌}
+use Rattle.std.proofs.Common.{length, refl, sym, ap, ◌∙◌, subst, inl, inr, arith, length-set, Option, Some, None}
+use Rattle.std.specs.Prelude.{nat_eq, nat_lt, cond, not, sum, slice_index, slice_set}
 use Rattle.std.proofs.lemmas.Bool.Decides.{nat_tests}
 use Rattle.std.proofs.lemmas.List.Sums.{sum_by-set}
 use Rattle.plain_text.specs.declared.packet.Packet.{Packet}
 use Rattle.entry_order.specs.Stamps.{sum_below}
-use Rattle.entry_order.proofs.Order.{is_or}
-use Rattle.plain_machine.specs.declared.local.Move.TheVariants.{Access, Clock, Emit, End}
 use Rattle.plain_machine.specs.Machine.{Hand, Thread, Effect, Takes, Touches, Looks, HearsClock, HearsDraw, Sends}
 use Rattle.plain_machine.specs.Machine.{Ends as EndsIt}
 use Rattle.plain_machine.specs.History.{Step, act_of, left_by, thread_after, value_after, IsHistory}
@@ -24,11 +22,11 @@ use Rattle.balancer_box.specs.declared.place.Goes.{Goes}
 use Rattle.balancer_box.specs.declared.value.BalancerValue.{BalancerValue}
 use Rattle.balancer_box.specs.declared.value.BalancerValue.TheVariants.{Dropped, Loaded, Connected}
 use Rattle.balancer_box.specs.Places.{place_numbered}
-use Rattle.balancer_box.specs.Balancer.{Settings, goes, begun, touched, told, local_at, noted_by, balancer_meaning}
+use Rattle.balancer_box.specs.Balancer.{Settings, touched, told, local_at, noted_by, balancer_meaning}
 use Rattle.balancer_box.specs.Balancer.{Fits}
 use Rattle.balancer_box.specs.Noting.{place_again}
 use Rattle.balancer_box.specs.Lawful.{AreSettings, balancer_lawful}
-use Rattle.balancer_box.proofs.Making.{comes_to, Made, made}
+use Rattle.balancer_box.proofs.Making.{Made, made}
 use Rattle.balancer_runs.specs.Packets.{taken_by, packets_taken, sent_by, packets_sent, drop_counts, packets_dropped}
 use Rattle.balancer_runs.specs.Packets.{settled_by, is_settled, waits, packets_waiting, NoPacketVanishes}
 use Rattle.balancer_runs.specs.Packets.{NoPacketVanishesAtRest}
@@ -187,7 +185,8 @@ module _ (s : Settings) (is : AreSettings s) (threads t : ℕ) (low : t < thread
         by (inr k) =
             let on : nat_eq v 0 ≡ true = is_eq v 0 k.0 in
             let at : place_numbered h.place.at ≡ CountsDrop = k.1 in
-            let was : waits before.hand settled ≡ 1 = waits_at s settled before.hand h false placed m.1 (ap is_over at) in
+            let was : waits before.hand settled ≡ 1 =
+            waits_at s settled before.hand h false placed m.1 (ap is_over at) in
             let now : waits after.hand true ≡ 0 = ap (λ (y : Option Hand). waits y true) m.4 in
             let known : IsPlaced settled (place_numbered h.place.at) (noted_by s h.place).reason =
             subst (Placed s settled) m.1 placed in

@@ -4,7 +4,7 @@ use Rattle.std.specs.Prelude.{◌∷◌, sum, Option, Some, None}
 use Rattle.plain_text.specs.declared.packet.Packet.{Packet}
 use Rattle.entry_order.specs.Log.{touches}
 use Rattle.entry_order.specs.Stamps.{sum_below}
-use Rattle.plain_machine.specs.Machine.{Hand, Thread}
+use Rattle.plain_machine.specs.Machine.{Hand}
 use Rattle.plain_machine.specs.History.{Act, Took, Did, Emitted, Ended, Step, thread_after, value_after, IsHistory}
 use Rattle.nat_tables.specs.Ports.{one_if}
 use Rattle.balancer_box.specs.declared.value.BalancerValue.{BalancerValue}

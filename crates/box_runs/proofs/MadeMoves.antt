@@ -1,6 +1,6 @@
 -- The moves of a thread of any program, each with what it found and where it goes.
-use Rattle.std.proofs.Common.{◌≡◌, ◌≢◌, ℕ, ◌+◌, ◌-◌, ◌≤◌, List, [], ◌∷◌, refl, sym, ap, ◌∙◌, subst, ◌⊎◌, inl, inr, arith}
-use Rattle.std.proofs.Common.{Option, Some, None}
+use Rattle.std.proofs.Common.{◌≡◌, ◌≢◌, ℕ, ◌+◌, ◌-◌, ◌≤◌, List, [], ◌∷◌, refl, sym, ap, ◌∙◌, subst, ◌⊎◌, inl, inr}
+use Rattle.std.proofs.Common.{arith, Option, Some, None}
 use Rattle.std.specs.Prelude.{slice_get}
 use Rattle.plain_text.specs.declared.packet.Packet.{Packet}
 use Rattle.entry_order.proofs.Order.{is_or}
@@ -11,7 +11,8 @@ use Rattle.plain_machine.specs.declared.local.Move.TheVariants.{Access, Read, Cl
 use Rattle.plain_machine.specs.Program.{Meaning}
 use Rattle.plain_machine.specs.Machine.{Hand, Thread, Effect, Takes, Touches, Looks, HearsClock, HearsDraw, Sends, Ends}
 use Rattle.plain_machine.specs.Machine.{Moves, holding, sent_packet, take_move, hand_move, held_move}
-use Rattle.plain_machine.specs.History.{Emitted, Step, sent_of, act_of, emission_of, thread_after, value_after, IsHistory}
+use Rattle.plain_machine.specs.History.{Emitted, Step, sent_of, act_of, emission_of, thread_after, value_after}
+use Rattle.plain_machine.specs.History.{IsHistory}
 use Rattle.plain_machine.proofs.Histories.{not_eq, is_eq}
 use Rattle.box_runs.specs.Outputs.{IsInput}
 
@@ -154,4 +155,6 @@ module _ {V : Type 0} (m : Meaning V) where
           let packet : q ≡ o.packet = ap (λ (y : Emission). y.packet) same in
           let taken : th.taken ≡ x.after.taken = ap (λ (y : Thread). y.taken) goes in
           let there : IsHeld (inputs x.thread) th.taken (Some h) = subst (IsHeld (inputs x.thread) th.taken) is held in
-          (h, is, next, sym (leaves ∙ packet), subst (λ (k : ℕ). IsInput inputs x.thread k h.packet) (taken ∙ input) there)
+          let number : IsInput inputs x.thread o.input h.packet =
+          subst (λ (k : ℕ). IsInput inputs x.thread k h.packet) (taken ∙ input) there in
+          (h, is, next, sym (leaves ∙ packet), number)

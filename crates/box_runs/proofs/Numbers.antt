@@ -1,16 +1,15 @@
 -- The counting box writes into each packet which touch it made.
-use Rattle.std.proofs.Common.{◌≡◌, ◌≢◌, ℕ, zero, suc, ◌+◌, ◌%◌, ◌/◌, ◌^◌, ◌<◌, ◌≤◌, Bool, true, false, List, [], ◌∷◌}
-use Rattle.std.proofs.Common.{refl, sym, ap, ◌∙◌, subst, ◌⊎◌, inl, inr, arith, length, get_or-set_same, Option, Some, None}
+use Rattle.std.proofs.Common.{◌≡◌, ◌≢◌, ℕ, zero, suc, ◌+◌, ◌%◌, ◌/◌, ◌^◌, ◌<◌, true, false, List, [], ◌∷◌}
+use Rattle.std.proofs.Common.{refl, sym, ap, ◌∙◌, subst, ◌⊎◌, inl, inr, arith, length, get_or-set_same, Option, Some}
+use Rattle.std.proofs.Common.{None}
 use Rattle.std.specs.Prelude.{cond, nat_eq, nat_lt, slice_index, slice_set}
 use Rattle.std.proofs.lemmas.Bool.Decides.{nat_tests}
 use Rattle.plain_text.specs.declared.packet.Packet.{Packet}
 use Rattle.entry_order.specs.Log.{places}
 use Rattle.entry_order.proofs.Order.{is_or}
-use Rattle.plain_machine.specs.declared.emission.Emission.{Emission}
 use Rattle.plain_machine.specs.declared.local.Local.{Local}
-use Rattle.plain_machine.specs.declared.local.Move.TheVariants.{Access, Read, Clock, Draw, Emit, End}
+use Rattle.plain_machine.specs.declared.local.Move.TheVariants.{Access, Emit}
 use Rattle.plain_machine.specs.Machine.{Hand, Thread, Effect, Takes, Touches, Looks, HearsClock, HearsDraw, Sends, Ends}
-use Rattle.plain_machine.specs.Machine.{holding, sent_packet}
 use Rattle.plain_machine.specs.History.{Step, log_more, log_of, act_of, left_by, thread_after, value_after, IsHistory}
 use Rattle.plain_machine.proofs.Histories.{not_eq, is_eq}
 use Rattle.box_program.specs.Count.{count_next, one_more, numbered, count_meaning}

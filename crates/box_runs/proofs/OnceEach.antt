@@ -1,6 +1,6 @@
 -- A program that sends each packet out between its take and its end sends out each input once.
-use Rattle.std.proofs.Common.{◌≡◌, ◌≢◌, ℕ, ◌+◌, ◌≤◌, ◌<◌, List, [], ◌∷◌, refl, sym, ap, ◌∙◌, subst, ◌⊎◌, inl, inr, arith}
-use Rattle.std.proofs.Common.{Option, Some, None}
+use Rattle.std.proofs.Common.{◌≡◌, ◌≢◌, ℕ, ◌+◌, ◌≤◌, ◌<◌, List, [], ◌∷◌, refl, sym, ap, ◌∙◌, subst, ◌⊎◌, inl, inr}
+use Rattle.std.proofs.Common.{arith, Option, Some, None}
 use Rattle.std.specs.Prelude.{cond, nat_eq}
 use Rattle.plain_text.specs.declared.packet.Packet.{Packet}
 use Rattle.entry_order.proofs.Order.{is_or}
@@ -106,7 +106,8 @@ module _ {V : Type 0} (m : Meaning V) (Went : Local → Type 0) (each : SendsEac
 
   sent_stands : (th : Thread) (h : Hand) (times : ℕ → ℕ) → th.hand ≡ Some h → m.next h.place ≡ Emit
       → Stands Went th times
-      → Stands Went (holding th.taken h.packet (m.emitted h.place)) (λ j. cond (nat_eq th.taken j) (times j + 1) (times j))
+      → Stands Went (holding th.taken h.packet (m.emitted h.place))
+      (λ j. cond (nat_eq th.taken j) (times j + 1) (times j))
   sent_stands th h times is next old = record {
     past = λ j some low. rw (not_eq th.taken j (λ e. absurd (omega arith))) (old.past j some low);
     last = (out.0, inr (each.after_emission h.place next, rw (is_eq th.taken th.taken refl) (by out.1)));
