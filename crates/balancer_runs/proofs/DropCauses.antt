@@ -1,6 +1,6 @@
 -- Each drop has the cause of its reason.
 use Rattle.std.proofs.Common.{◌≡◌, ℕ, ◌-◌, ◌+◌, ◌%◌, ◌^◌, ◌<◌, List, refl, sym, ap, ◌∙◌, subst, inl}
-use Rattle.std.proofs.Common.{inr, Bool, Option, Some}
+use Rattle.std.proofs.Common.{inr, Option, Some}
 use Rattle.std.specs.Prelude.{slice_index, slice_set}
 use Rattle.plain_text.specs.declared.packet.Packet.{Packet}
 use Rattle.entry_order.specs.declared.what.What.TheVariants.{Access}
@@ -19,7 +19,7 @@ use Rattle.balancer_box.specs.Balancer.{Settings, touched, noted_by, balancer_me
 use Rattle.balancer_box.specs.Lawful.{AreSettings, balancer_lawful}
 use Rattle.balancer_box.specs.Emissions.{Trail, trail_of}
 use Rattle.balancer_box.proofs.Making.{Made, made}
-use Rattle.balancer_runs.specs.Packets.{drop_counts, is_settled}
+use Rattle.balancer_runs.specs.Packets.{drop_counts, outcomes}
 use Rattle.balancer_runs.specs.Causes.{HasCause, DropsHaveCauses}
 use Rattle.balancer_runs.specs.Choosing.{loads_met}
 use Rattle.balancer_runs.proofs.Settling.{IsReason, IsPlaced, Placed, IsCounted, touch_of, run_placed}
@@ -36,32 +36,32 @@ counts_more (Dropped d) n nine is = counted_once n.reason d is
 counts_more (Loaded loads) n nine is = absurd nine
 counts_more (Connected es) n nine is = absurd nine
 
--- a touch of variable 0 is the effect of its step
-touches_drops : {V : Type 0} (t taken : ℕ) (earlier : List (Step V)) (d : Effect V) (entry : Entry) (place : ℕ)
-    (left : V) → act_of t earlier taken d ≡ Did entry (Some left) → entry.what ≡ Access 0 place → d ≡ Touches 0 left
-touches_drops t taken earlier Takes entry place left e w = absurd (cc)
-touches_drops t taken earlier (Touches v x) entry place left e w =
-    let k : entry_of t (log_of earlier) (Access v (places v (log_of earlier) + 1)) ≡ entry = cc in
-    let q : Access v (places v (log_of earlier) + 1) ≡ Access 0 place = ap (λ (f : Entry). f.what) k ∙ w in
-    let a : v ≡ 0 = cc in
+-- a touch of a variable is the effect of its step
+pub touches_it : {V : Type 0} (t taken v : ℕ) (earlier : List (Step V)) (d : Effect V) (entry : Entry) (place : ℕ)
+    (left : V) → act_of t earlier taken d ≡ Did entry (Some left) → entry.what ≡ Access v place → d ≡ Touches v left
+touches_it t taken v earlier Takes entry place left e w = absurd (cc)
+touches_it t taken v earlier (Touches u x) entry place left e w =
+    let k : entry_of t (log_of earlier) (Access u (places u (log_of earlier) + 1)) ≡ entry = cc in
+    let q : Access u (places u (log_of earlier) + 1) ≡ Access v place = ap (λ (f : Entry). f.what) k ∙ w in
+    let a : u ≡ v = cc in
     let b : x ≡ left = cc in
     λ i. Touches (a i) (b i)
-touches_drops t taken earlier (Looks v) entry place left e w = absurd (cc)
-touches_drops t taken earlier (HearsClock a) entry place left e w = absurd (cc)
-touches_drops t taken earlier (HearsDraw a) entry place left e w = absurd (cc)
-touches_drops t taken earlier (Sends q) entry place left e w = absurd (cc)
-touches_drops t taken earlier EndsIt entry place left e w = absurd (cc)
+touches_it t taken v earlier (Looks u) entry place left e w = absurd (cc)
+touches_it t taken v earlier (HearsClock a) entry place left e w = absurd (cc)
+touches_it t taken v earlier (HearsDraw a) entry place left e w = absurd (cc)
+touches_it t taken v earlier (Sends q) entry place left e w = absurd (cc)
+touches_it t taken v earlier EndsIt entry place left e w = absurd (cc)
 
 module _ (s : Settings) (is : AreSettings s) (packets : List Packet) (t taken taken_then : ℕ)
     (earlier : List (Step BalancerValue)) (value : ℕ → BalancerValue)
-    (fits : (v : ℕ) → v < 2 + s.shards → Fits s v (value v)) (before after : Option Hand) (settled : Bool) (r : Trail)
-    (met : Option (List ℕ × List ℕ)) (nine : HasNine (value 0)) (placed : Placed s settled before)
+    (fits : (v : ℕ) → v < 2 + s.shards → Fits s v (value v)) (before after : Option Hand) (had : ℕ) (r : Trail)
+    (met : Option (List ℕ × List ℕ)) (nine : HasNine (value 0)) (placed : Placed s had before)
     (known : Known s r met before) where
   deed_causes : (left : BalancerValue) → Made s packets taken value before after (Touches 0 left)
       → (h : Hand) × (reason : ℕ) × (before ≡ Some h) × HasCause s r h.packet reason
       × IsOneMore reason (drop_counts (value 0)) (drop_counts left)
   deed_causes left m =
-      by (touch_of s is packets t taken taken_then earlier value fits before after settled m.0 0 m.2)
+      by (touch_of s is packets t taken taken_then earlier value fits before after had m.0 0 m.2)
     where
       h : Hand
       h = m.0
@@ -75,8 +75,8 @@ module _ (s : Settings) (is : AreSettings s) (packets : List Packet) (t taken ta
       by (inl k) = absurd (k.0 refl)
       by (inr k) =
           let at : place_numbered h.place.at ≡ CountsDrop = k.1 in
-          let here : IsPlaced settled (place_numbered h.place.at) n.reason = subst (Placed s settled) m.1 placed in
-          let reason : IsReason n.reason = (subst (λ (p : Place). IsPlaced settled p n.reason) at here).1 in
+          let here : IsPlaced had (place_numbered h.place.at) n.reason = subst (Placed s had) m.1 placed in
+          let reason : IsReason n.reason = (subst (λ (p : Place). IsPlaced had p n.reason) at here).1 in
           let cause : HasCause s r h.packet n.reason =
           subst (λ (p : Place). KnownAt s r met h.packet p n) at (subst (Known s r met) m.1 known) in
           let same : left ≡ (touched CountsDrop (value 0) n).0 =
@@ -92,10 +92,10 @@ drops_have s threads inputs x earlier entry place left is bytes h act what =
     let m = made s (inputs x.thread) value old.taken x.after h.0.2 old.hand h.0.1 h.0.3 in
     let fits = values_fit (balancer_meaning s) (Fits s) (balancer_lawful s is) inputs threads earlier h.1 in
     let same : h.0.2 ≡ Touches 0 left =
-    touches_drops x.thread x.after.taken earlier h.0.2 entry place left (sym h.0.4 ∙ act) what in
+    touches_it x.thread x.after.taken 0 earlier h.0.2 entry place left (sym h.0.4 ∙ act) what in
     let touch : Made s (inputs x.thread) old.taken value old.hand x.after.hand (Touches 0 left) =
     subst (λ (d : Effect BalancerValue). Made s (inputs x.thread) old.taken value old.hand x.after.hand d) same m in
     deed_causes s is (inputs x.thread) x.thread old.taken x.after.taken earlier value fits old.hand x.after.hand
-    (is_settled x.thread earlier) (trail_of s x.thread earlier) (loads_met s x.thread earlier)
+    (outcomes x.thread earlier) (trail_of s x.thread earlier) (loads_met s x.thread earlier)
     (run_kept s threads inputs earlier is h.1).0 (run_placed s threads inputs earlier is h.1 x.thread)
     (run_known s threads inputs earlier is bytes h.1 x.thread) left touch

@@ -5,3 +5,4 @@ pub mod Knowing
 pub mod Connections
 pub mod DropCauses
 pub mod BusyConnections
+pub mod LoadTouches

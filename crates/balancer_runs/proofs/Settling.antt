@@ -1,7 +1,7 @@
 -- Where a packet in hand stands tells whether it went out or was counted as dropped.
 use Rattle.std.proofs.Common.{◌≡◌, ◌≢◌, ℕ, ◌+◌, ◌≤◌, ◌<◌, Bool, true, false, List, [], ◌∷◌, refl, sym, ap, ◌∙◌}
 use Rattle.std.proofs.Common.{subst, ◌⊎◌, inl, inr, arith, Option, Some, None}
-use Rattle.std.specs.Prelude.{nat_eq, cond, not, Result, Ok, Err}
+use Rattle.std.specs.Prelude.{nat_eq, cond, ◌==◌, not, Result, Ok, Err}
 use Rattle.plain_text.specs.declared.packet.Packet.{Packet}
 use Rattle.packet_headers.specs.declared.flow.Flow.{Flow}
 use Rattle.packet_headers.specs.declared.flow.NotFlow.{NotFlow}
@@ -12,7 +12,7 @@ use Rattle.entry_order.proofs.Order.{is_or}
 use Rattle.plain_machine.specs.declared.local.Move.TheVariants.{Access, Clock, Emit, End}
 use Rattle.plain_machine.specs.Machine.{Hand, Effect, Takes, Touches, Looks, HearsClock, HearsDraw, Sends}
 use Rattle.plain_machine.specs.Machine.{Ends as EndsIt}
-use Rattle.plain_machine.specs.History.{Step, act_of, thread_after, value_after, IsHistory}
+use Rattle.plain_machine.specs.History.{Ended, Step, act_of, thread_after, value_after, IsHistory}
 use Rattle.plain_machine.proofs.Histories.{not_eq, is_eq}
 use Rattle.plain_machine.proofs.Bounds.{values_fit}
 use Rattle.nat_tables.specs.declared.entries.Find.{Find}
@@ -40,7 +40,7 @@ use Rattle.balancer_box.specs.Balancer.{after_time, told, local_at, noted_by, ba
 use Rattle.balancer_box.specs.Noting.{place_again}
 use Rattle.balancer_box.specs.Lawful.{AreSettings, var_of, touches_it, below_all, balancer_lawful}
 use Rattle.balancer_box.proofs.Making.{goes_on, comes_to, Made, made}
-use Rattle.balancer_runs.specs.Packets.{settled_by, is_settled, waits}
+use Rattle.balancer_runs.specs.Packets.{outcomes_by, outcomes, waits, EachHasOneOutcome}
 
 -- A packet went out or was counted from place Ends on. One that is to be counted has a reason from 1 to 9.
 
@@ -71,21 +71,24 @@ HasReason CountsDrop reason = IsReason reason
 HasReason SendsOut reason = Unit {0}
 HasReason Ends reason = Unit {0}
 
+abbrev over_at : Place → ℕ
+over_at place = one_if (is_over place)
+
 -- it goes on, and is not over
 abbrev GoesOn : Goes → Type 0
 GoesOn g = (is_over g.place ≡ false) × HasReason g.place g.noted.reason
 
-abbrev pub IsPlaced : Bool → Place → ℕ → Type 0
-IsPlaced settled place reason = (settled ≡ is_over place) × HasReason place reason
+abbrev pub IsPlaced : ℕ → Place → ℕ → Type 0
+IsPlaced n place reason = (n ≡ one_if (is_over place)) × HasReason place reason
 
-abbrev pub Placed : Settings → Bool → Option Hand → Type 0
-Placed s settled None = Unit {0}
-Placed s settled (Some h) = IsPlaced settled (place_numbered h.place.at) (noted_by s h.place).reason
+abbrev pub Placed : Settings → ℕ → Option Hand → Type 0
+Placed s n None = Unit {0}
+Placed s n (Some h) = IsPlaced n (place_numbered h.place.at) (noted_by s h.place).reason
 
-placed_on : (s : Settings) (settled : Bool) (h : Hand) (g : Goes) → IsPlaced settled g.place g.noted.reason
-    → Placed s settled (goes_on h g)
-placed_on s settled h g is =
-    subst (λ (p : Place). IsPlaced settled p g.noted.reason) (sym (place_again g.place)) is
+placed_on : (s : Settings) (had : ℕ) (h : Hand) (g : Goes) → IsPlaced had g.place g.noted.reason
+    → Placed s had (goes_on h g)
+placed_on s had h g is =
+    subst (λ (p : Place). IsPlaced had p g.noted.reason) (sym (place_again g.place)) is
 
 -- the beginning
 
@@ -219,7 +222,7 @@ at_end s Ends n e = refl
 
 module _ (s : Settings) (is : AreSettings s) (packets : List Packet) (t taken taken_then : ℕ)
     (earlier : List (Step BalancerValue)) (value : ℕ → BalancerValue)
-    (fits : (v : ℕ) → v < 2 + s.shards → Fits s v (value v)) (before after : Option Hand) (settled : Bool) where
+    (fits : (v : ℕ) → v < 2 + s.shards → Fits s v (value v)) (before after : Option Hand) (had : ℕ) where
   pub touch_of : (h : Hand) (v : ℕ) → comes_to s h (Access v)
       → IsCounted v (place_numbered h.place.at) (value v) (noted_by s h.place)
       (touched (place_numbered h.place.at) (value v) (noted_by s h.place))
@@ -230,44 +233,56 @@ module _ (s : Settings) (is : AreSettings s) (packets : List Packet) (t taken ta
       let below : v < 2 + s.shards = subst (λ (u : ℕ). u < 2 + s.shards) at (below_all s p n is.some) in
       touch_counted s is p (value v) n v next at (fits v below)
 
-  pub placed_step : (d : Effect BalancerValue) → Placed s settled before
-      → Made s packets taken value before after d → Placed s (settled_by (act_of t earlier taken_then d) settled) after
+  pub placed_step : (d : Effect BalancerValue) → Placed s had before
+      → Made s packets taken value before after d → Placed s (outcomes_by (act_of t earlier taken_then d) had) after
   placed_step Takes old m =
       let b = begun_goes_on s (viewed m.1.bytes m.1.original) in
       let h : Hand = record { packet = m.1; place = local_at (begun s (viewed m.1.bytes m.1.original)) } in
-      subst (Placed s false) (sym m.3)
-      (placed_on s false h (begun s (viewed m.1.bytes m.1.original)) (sym b.0, b.1))
+      subst (Placed s 0) (sym m.3)
+      (placed_on s 0 h (begun s (viewed m.1.bytes m.1.original)) (sym (ap one_if b.0), b.1))
   placed_step (Touches v left) old m =
       let h : Hand = m.0 in
       let r = touched (place_numbered h.place.at) (value v) (noted_by s h.place) in
-      let known : Placed s settled (Some h) = subst (Placed s settled) m.1 old in
-      subst (Placed s (cond (nat_eq v 0) true settled)) (sym m.4)
-      (placed_on s (cond (nat_eq v 0) true settled) h r.1 (by h (touch_of h v m.2) known.0))
+      let known : Placed s had (Some h) = subst (Placed s had) m.1 old in
+      subst (Placed s (cond (nat_eq v 0) (had + 1) had)) (sym m.4)
+      (placed_on s (cond (nat_eq v 0) (had + 1) had) h r.1 (by h (touch_of h v m.2) known.0))
     where
       by : (h : Hand)
           → IsCounted v (place_numbered h.place.at) (value v) (noted_by s h.place)
           (touched (place_numbered h.place.at) (value v) (noted_by s h.place))
-          → settled ≡ is_over (place_numbered h.place.at)
+          → had ≡ one_if (is_over (place_numbered h.place.at))
           → (let r = touched (place_numbered h.place.at) (value v) (noted_by s h.place) in
-          IsPlaced (cond (nat_eq v 0) true settled) r.1.place r.1.noted.reason)
-      by h (inl k) was = (ap (λ b. cond b true settled) (not_eq v 0 k.0) ∙ was ∙ k.1 ∙ sym k.2.0, k.2.1)
-      by h (inr k) was = (ap (λ b. cond b true settled) (is_eq v 0 k.0) ∙ sym k.2, k.3)
+          IsPlaced (cond (nat_eq v 0) (had + 1) had) r.1.place r.1.noted.reason)
+      by h (inl k) was = (
+        ap (λ b. cond b (had + 1) had) (not_eq v 0 k.0) ∙ was ∙ ap one_if (k.1 ∙ sym k.2.0),
+        k.2.1,
+      )
+      by h (inr k) was = (
+        ap (λ b. cond b (had + 1) had) (is_eq v 0 k.0) ∙ ap (λ n. n + 1) (was ∙ ap over_at k.1)
+            ∙ sym (ap one_if k.2),
+        k.3,
+      )
   placed_step (Looks v) old m = absurd m
   placed_step (HearsClock a) old m =
       let h : Hand = m.0 in
       let c = clock_on s (place_numbered h.place.at) a (noted_by s h.place) m.2 in
-      let known : Placed s settled (Some h) = subst (Placed s settled) m.1 old in
-      subst (Placed s settled) (sym m.3)
-      (placed_on s settled h (told (place_numbered h.place.at) a (noted_by s h.place))
-      (known.0 ∙ c.0 ∙ sym c.1.0, c.1.1))
+      let known : Placed s had (Some h) = subst (Placed s had) m.1 old in
+      subst (Placed s had) (sym m.3)
+      (placed_on s had h (told (place_numbered h.place.at) a (noted_by s h.place))
+      (known.0 ∙ ap one_if (c.0 ∙ sym c.1.0), c.1.1))
   placed_step (HearsDraw a) old m = absurd m
   placed_step (Sends q) old m =
-      subst (Placed s true) (sym m.4) (placed_on s true m.0 (goes Ends (noted_by s m.0.place)) (refl, tt))
-  placed_step EndsIt old m = subst (Placed s settled) (sym m.3) tt
+      let h : Hand = m.0 in
+      let known : Placed s had (Some h) = subst (Placed s had) m.1 old in
+      let at = at_send s (place_numbered h.place.at) (noted_by s h.place) m.2 in
+      let one : had + 1 ≡ 1 = ap (λ n. n + 1) (known.0 ∙ ap over_at at) in
+      subst (Placed s (had + 1)) (sym m.4)
+      (placed_on s (had + 1) h (goes Ends (noted_by s h.place)) (one, tt))
+  placed_step EndsIt old m = subst (Placed s had) (sym m.3) tt
 
 pub run_placed : (s : Settings) (threads : ℕ) (inputs : ℕ → List Packet) (steps : List (Step BalancerValue))
     → AreSettings s → IsHistory (balancer_meaning s) inputs threads steps → (t : ℕ)
-    → Placed s (is_settled t steps) (thread_after steps t).hand
+    → Placed s (outcomes t steps) (thread_after steps t).hand
 run_placed s threads inputs [] is h t = tt
 run_placed s threads inputs (x ∷ earlier) is h t =
     let m = made s (inputs x.thread) (value_after (balancer_meaning s) earlier) (thread_after earlier x.thread).taken
@@ -275,21 +290,50 @@ run_placed s threads inputs (x ∷ earlier) is h t =
     let fits = values_fit (balancer_meaning s) (Fits s) (balancer_lawful s is) inputs threads earlier h.1 in
     let new = placed_step s is (inputs x.thread) x.thread (thread_after earlier x.thread).taken x.after.taken earlier
     (value_after (balancer_meaning s) earlier) fits (thread_after earlier x.thread).hand x.after.hand
-    (is_settled x.thread earlier) h.0.2 (run_placed s threads inputs earlier is h.1 x.thread) m in
+    (outcomes x.thread earlier) h.0.2 (run_placed s threads inputs earlier is h.1 x.thread) m in
     by (is_or x.thread t) new (run_placed s threads inputs earlier is h.1 t)
   where
     by : (x.thread ≡ t) ⊎ (x.thread ≢ t)
-        → Placed s (settled_by (act_of x.thread earlier x.after.taken h.0.2) (is_settled x.thread earlier)) x.after.hand
-        → Placed s (is_settled t earlier) (thread_after earlier t).hand
-        → Placed s (is_settled t (x ∷ earlier)) (thread_after (x ∷ earlier) t).hand
+        → Placed s (outcomes_by (act_of x.thread earlier x.after.taken h.0.2) (outcomes x.thread earlier)) x.after.hand
+        → Placed s (outcomes t earlier) (thread_after earlier t).hand
+        → Placed s (outcomes t (x ∷ earlier)) (thread_after (x ∷ earlier) t).hand
     by (inl e) new old =
-        subst (λ (u : ℕ). Placed s (is_settled u (x ∷ earlier)) (thread_after (x ∷ earlier) u).hand) e
+        subst (λ (u : ℕ). Placed s (outcomes u (x ∷ earlier)) (thread_after (x ∷ earlier) u).hand) e
         (rw (is_eq x.thread x.thread refl, h.0.4) new)
     by (inr e) new old = rw (not_eq x.thread t e) old
 
+-- a packet on which the work ends had one outcome
+ended_once : (s : Settings) (packets : List Packet) (t taken taken_then k had : ℕ)
+    (earlier : List (Step BalancerValue)) (value : ℕ → BalancerValue) (before after : Option Hand)
+    (d : Effect BalancerValue) → Placed s had before → Made s packets taken value before after d
+    → act_of t earlier taken_then d ≡ Ended k → had ≡ 1
+ended_once s packets t taken taken_then k had earlier value before after Takes placed m e = absurd (cc)
+ended_once s packets t taken taken_then k had earlier value before after (Touches v left) placed m e = absurd (cc)
+ended_once s packets t taken taken_then k had earlier value before after (Looks v) placed m e = absurd m
+ended_once s packets t taken taken_then k had earlier value before after (HearsClock a) placed m e = absurd (cc)
+ended_once s packets t taken taken_then k had earlier value before after (HearsDraw a) placed m e = absurd m
+ended_once s packets t taken taken_then k had earlier value before after (Sends q) placed m e = absurd (cc)
+ended_once s packets t taken taken_then k had earlier value before after EndsIt placed m e =
+    let h : Hand = m.0 in
+    let known : Placed s had (Some h) = subst (Placed s had) m.1 placed in
+    known.0 ∙ ap over_at (at_end s (place_numbered h.place.at) (noted_by s h.place) m.2)
+
+pub each_has_one : EachHasOneOutcome
+each_has_one s threads inputs x earlier k is h act =
+    let m = made s (inputs x.thread) (value_after (balancer_meaning s) earlier) (thread_after earlier x.thread).taken
+    x.after h.0.2 (thread_after earlier x.thread).hand h.0.1 h.0.3 in
+    ended_once s (inputs x.thread) x.thread (thread_after earlier x.thread).taken x.after.taken k
+    (outcomes x.thread earlier) earlier (value_after (balancer_meaning s) earlier)
+    (thread_after earlier x.thread).hand x.after.hand h.0.2 (run_placed s threads inputs earlier is h.1 x.thread) m
+    (sym h.0.4 ∙ act)
+
 -- a packet in hand waits until it is over
-pub waits_at : (s : Settings) (settled : Bool) (hand : Option Hand) (h : Hand) (over : Bool) → Placed s settled hand
-    → hand ≡ Some h → is_over (place_numbered h.place.at) ≡ over → waits hand settled ≡ one_if (not over)
-waits_at s settled hand h over placed is at =
-    let known : Placed s settled (Some h) = subst (Placed s settled) is placed in
-    ap (λ (y : Option Hand). waits y settled) is ∙ ap (λ (b : Bool). one_if (not b)) (known.0 ∙ at)
+pub waits_at : (s : Settings) (n : ℕ) (hand : Option Hand) (h : Hand) (over : Bool) → Placed s n hand
+    → hand ≡ Some h → is_over (place_numbered h.place.at) ≡ over → waits hand n ≡ one_if (not over)
+waits_at s n hand h over placed is at =
+    let known : Placed s n (Some h) = subst (Placed s n) is placed in
+    ap (λ (y : Option Hand). waits y n) is ∙ ap (λ (k : ℕ). one_if (k == 0)) (known.0 ∙ ap one_if at) ∙ by over
+  where
+    by : (b : Bool) → one_if (one_if b == 0) ≡ one_if (not b)
+    by true = refl
+    by false = refl

@@ -16,19 +16,19 @@ use Rattle.nat_box.specs.declared.value.Drops.{Drops}
 use Rattle.nat_box.specs.Nat.{with_drop}
 use Rattle.nat_box.proofs.Summing.{one_changes, sum_of_none}
 use Rattle.balancer_box.specs.declared.place.Place.{Place}
-use Rattle.balancer_box.specs.declared.place.Place.TheVariants.{CountsDrop}
+use Rattle.balancer_box.specs.declared.place.Place.TheVariants.{CountsDrop, Ends}
 use Rattle.balancer_box.specs.declared.place.Noted.{Noted}
 use Rattle.balancer_box.specs.declared.place.Goes.{Goes}
 use Rattle.balancer_box.specs.declared.value.BalancerValue.{BalancerValue}
 use Rattle.balancer_box.specs.declared.value.BalancerValue.TheVariants.{Dropped, Loaded, Connected}
 use Rattle.balancer_box.specs.Places.{place_numbered}
-use Rattle.balancer_box.specs.Balancer.{Settings, touched, told, local_at, noted_by, balancer_meaning}
+use Rattle.balancer_box.specs.Balancer.{Settings, goes, touched, told, local_at, noted_by, balancer_meaning}
 use Rattle.balancer_box.specs.Balancer.{Fits}
 use Rattle.balancer_box.specs.Noting.{place_again}
 use Rattle.balancer_box.specs.Lawful.{AreSettings, balancer_lawful}
 use Rattle.balancer_box.proofs.Making.{Made, made}
 use Rattle.balancer_runs.specs.Packets.{taken_by, packets_taken, sent_by, packets_sent, drop_counts, packets_dropped}
-use Rattle.balancer_runs.specs.Packets.{settled_by, is_settled, waits, packets_waiting, NoPacketVanishes}
+use Rattle.balancer_runs.specs.Packets.{outcomes_by, outcomes, waits, packets_waiting, NoPacketVanishes}
 use Rattle.balancer_runs.specs.Packets.{NoPacketVanishesAtRest}
 use Rattle.balancer_runs.proofs.Settling.{is_over, IsReason, IsPlaced, Placed, IsCounted, touch_of, clock_on, at_send}
 use Rattle.balancer_runs.proofs.Settling.{at_end, placed_step, run_placed, waits_at}
@@ -79,23 +79,23 @@ module _ (s : Settings) (is : AreSettings s) (threads t : ℕ) (low : t < thread
   abbrev before : Thread
   before = thread_after earlier t
 
-  abbrev settled : Bool
-  settled = is_settled t earlier
+  abbrev had : ℕ
+  had = outcomes t earlier
 
-  abbrev waiting_then : (Bool → Bool) → ℕ
+  abbrev waiting_then : (ℕ → ℕ) → ℕ
   waiting_then now = sum_below threads (λ u.
       waits (cond (nat_eq t u) after (thread_after earlier u)).hand
-      (cond (nat_eq t u) (now (is_settled u earlier)) (is_settled u earlier)))
+      (cond (nat_eq t u) (now (outcomes u earlier)) (outcomes u earlier)))
 
-  waiting_step : (now : Bool → Bool)
-      → waiting_then now + waits before.hand settled ≡ packets_waiting threads earlier + waits after.hand (now settled)
+  waiting_step : (now : ℕ → ℕ)
+      → waiting_then now + waits before.hand had ≡ packets_waiting threads earlier + waits after.hand (now had)
   waiting_step now =
       let f : ℕ → ℕ = λ u. waits (cond (nat_eq t u) after (thread_after earlier u)).hand
-      (cond (nat_eq t u) (now (is_settled u earlier)) (is_settled u earlier)) in
-      let g : ℕ → ℕ = λ u. waits (thread_after earlier u).hand (is_settled u earlier) in
+      (cond (nat_eq t u) (now (outcomes u earlier)) (outcomes u earlier)) in
+      let g : ℕ → ℕ = λ u. waits (thread_after earlier u).hand (outcomes u earlier) in
       let one : sum_below threads f + g t ≡ sum_below threads g + f t =
       one_changes threads t f g low (λ u h. rw (not_eq t u (λ k. h (sym k))) refl) in
-      let new : f t ≡ waits after.hand (now settled) = rw (is_eq t t refl) refl in
+      let new : f t ≡ waits after.hand (now had) = rw (is_eq t t refl) refl in
       omega arith
 
   -- taken, sent and dropped packets after an effect
@@ -105,35 +105,35 @@ module _ (s : Settings) (is : AreSettings s) (threads t : ℕ) (low : t < thread
       × ((taken_by (act_of t earlier after.taken d) + packets_taken earlier) % 2 ^ 64
       ≡ (sent_by (act_of t earlier after.taken d) + packets_sent earlier
       + sum (drop_counts (left_by 0 (act_of t earlier after.taken d) (value 0)))
-      + waiting_then (settled_by (act_of t earlier after.taken d))) % 2 ^ 64)
+      + waiting_then (outcomes_by (act_of t earlier after.taken d))) % 2 ^ 64)
 
   abbrev Balanced : Type 0
   Balanced = packets_taken earlier % 2 ^ 64
       ≡ (packets_sent earlier + packets_dropped earlier s + packets_waiting threads earlier) % 2 ^ 64
 
-  taken_kept : Balanced → waits before.hand settled ≡ 0 → waits after.hand false ≡ 1 → Kept Takes
-  taken_kept old was now = let a = waiting_step (λ b. false) in (nine, omega arith)
+  taken_kept : Balanced → waits before.hand had ≡ 0 → waits after.hand 0 ≡ 1 → Kept Takes
+  taken_kept old was now = let a = waiting_step (λ n. 0) in (nine, omega arith)
 
-  still_kept : (now : Bool → Bool) → Balanced → waits before.hand settled ≡ waits after.hand (now settled)
+  still_kept : (now : ℕ → ℕ) → Balanced → waits before.hand had ≡ waits after.hand (now had)
       → (0 + packets_taken earlier) % 2 ^ 64
       ≡ (0 + packets_sent earlier + packets_dropped earlier s + waiting_then now) % 2 ^ 64
   still_kept now old same = let a = waiting_step now in omega arith
 
-  sent_kept : (q : Packet) → Balanced → waits before.hand settled ≡ 1 → waits after.hand true ≡ 0 → Kept (Sends q)
-  sent_kept q old was now = let a = waiting_step (λ b. true) in (nine, omega arith)
+  sent_kept : (q : Packet) → Balanced → waits before.hand had ≡ 1 → waits after.hand (had + 1) ≡ 0 → Kept (Sends q)
+  sent_kept q old was now = let a = waiting_step (λ n. n + 1) in (nine, omega arith)
 
-  dropped_kept : (left : BalancerValue) → Balanced → waits before.hand settled ≡ 1 → waits after.hand true ≡ 0
+  dropped_kept : (left : BalancerValue) → Balanced → waits before.hand had ≡ 1 → waits after.hand (had + 1) ≡ 0
       → sum (drop_counts left) % 2 ^ 64 ≡ (sum (drop_counts (value 0)) + 1) % 2 ^ 64
       → (0 + packets_taken earlier) % 2 ^ 64
-      ≡ (0 + packets_sent earlier + sum (drop_counts left) + waiting_then (λ b. true)) % 2 ^ 64
-  dropped_kept left old was now more = let a = waiting_step (λ b. true) in omega arith
+      ≡ (0 + packets_sent earlier + sum (drop_counts left) + waiting_then (λ n. n + 1)) % 2 ^ 64
+  dropped_kept left old was now more = let a = waiting_step (λ n. n + 1) in omega arith
 
-  module _ (placed : Placed s settled before.hand) where
+  module _ (placed : Placed s had before.hand) where
     abbrev Then : Effect BalancerValue → Type 0
-    Then d = Placed s (settled_by (act_of t earlier after.taken d) settled) after.hand
+    Then d = Placed s (outcomes_by (act_of t earlier after.taken d) had) after.hand
 
     -- what a packet waits for where it goes on from here
-    waits_then : (now : Bool) (h : Hand) (g : Goes) (over : Bool) → Placed s now after.hand
+    waits_then : (now : ℕ) (h : Hand) (g : Goes) (over : Bool) → Placed s now after.hand
         → after.hand ≡ Some (record { packet = h.packet; place = local_at g }) → is_over g.place ≡ over
         → waits after.hand now ≡ one_if (not over)
     waits_then now h g over new is at =
@@ -143,30 +143,31 @@ module _ (s : Settings) (is : AreSettings s) (threads t : ℕ) (low : t < thread
     step_kept : (d : Effect BalancerValue) → Balanced → Then d → Made s packets taken value before.hand after.hand d
         → Kept d
     step_kept Takes old new m =
-        taken_kept old (ap (λ (y : Option Hand). waits y settled) m.0) (ap (λ (y : Option Hand). waits y false) m.3)
+        taken_kept old (ap (λ (y : Option Hand). waits y had) m.0) (ap (λ (y : Option Hand). waits y 0) m.3)
     step_kept (Looks v) old new m = absurd m
     step_kept (HearsDraw a) old new m = absurd m
     step_kept (HearsClock a) old new m =
         let h : Hand = m.0 in
         let g : Goes = told (place_numbered h.place.at) a (noted_by s h.place) in
         let c = clock_on s (place_numbered h.place.at) a (noted_by s h.place) m.2 in
-        let was : waits before.hand settled ≡ 1 = waits_at s settled before.hand h false placed m.1 c.0 in
-        let now : waits after.hand settled ≡ 1 = waits_then settled h g false new m.3 c.1.0 in
-        (nine, still_kept (λ b. b) old (was ∙ sym now))
+        let was : waits before.hand had ≡ 1 = waits_at s had before.hand h false placed m.1 c.0 in
+        let now : waits after.hand had ≡ 1 = waits_then had h g false new m.3 c.1.0 in
+        (nine, still_kept (λ n. n) old (was ∙ sym now))
     step_kept (Sends q) old new m =
         let h : Hand = m.0 in
         let at = at_send s (place_numbered h.place.at) (noted_by s h.place) m.2 in
-        let was : waits before.hand settled ≡ 1 = waits_at s settled before.hand h false placed m.1 (ap is_over at) in
-        let now : waits after.hand true ≡ 0 = ap (λ (y : Option Hand). waits y true) m.4 in
+        let was : waits before.hand had ≡ 1 = waits_at s had before.hand h false placed m.1 (ap is_over at) in
+        let g : Goes = goes Ends (noted_by s h.place) in
+        let now : waits after.hand (had + 1) ≡ 0 = waits_then (had + 1) h g true new m.4 refl in
         sent_kept q old was now
     step_kept EndsIt old new m =
         let h : Hand = m.0 in
         let at = at_end s (place_numbered h.place.at) (noted_by s h.place) m.2 in
-        let was : waits before.hand settled ≡ 0 = waits_at s settled before.hand h true placed m.1 (ap is_over at) in
-        let now : waits after.hand settled ≡ 0 = ap (λ (y : Option Hand). waits y settled) m.3 in
-        (nine, still_kept (λ b. b) old (was ∙ sym now))
+        let was : waits before.hand had ≡ 0 = waits_at s had before.hand h true placed m.1 (ap is_over at) in
+        let now : waits after.hand had ≡ 0 = ap (λ (y : Option Hand). waits y had) m.3 in
+        (nine, still_kept (λ n. n) old (was ∙ sym now))
     step_kept (Touches v left) old new m =
-        by (touch_of s is packets t taken after.taken earlier value fits before.hand after.hand settled m.0 v m.2)
+        by (touch_of s is packets t taken after.taken earlier value fits before.hand after.hand had m.0 v m.2)
       where
         h : Hand
         h = m.0
@@ -177,21 +178,23 @@ module _ (s : Settings) (is : AreSettings s) (threads t : ℕ) (low : t < thread
         by : IsCounted v (place_numbered h.place.at) (value v) (noted_by s h.place) r → Kept (Touches v left)
         by (inl k) =
             let off : nat_eq v 0 ≡ false = not_eq v 0 k.0 in
-            let new' : Placed s settled after.hand =
-            subst (λ b. Placed s (cond b true settled) after.hand) off new in
-            let was : waits before.hand settled ≡ 1 = waits_at s settled before.hand h false placed m.1 k.1 in
-            let now : waits after.hand settled ≡ 1 = waits_then settled h r.1 false new' m.4 k.2.0 in
-            rw off (nine, still_kept (λ b. b) old (was ∙ sym now))
+            let new' : Placed s had after.hand =
+            subst (λ b. Placed s (cond b (had + 1) had) after.hand) off new in
+            let was : waits before.hand had ≡ 1 = waits_at s had before.hand h false placed m.1 k.1 in
+            let now : waits after.hand had ≡ 1 = waits_then had h r.1 false new' m.4 k.2.0 in
+            rw off (nine, still_kept (λ n. n) old (was ∙ sym now))
         by (inr k) =
             let on : nat_eq v 0 ≡ true = is_eq v 0 k.0 in
             let at : place_numbered h.place.at ≡ CountsDrop = k.1 in
-            let was : waits before.hand settled ≡ 1 =
-            waits_at s settled before.hand h false placed m.1 (ap is_over at) in
-            let now : waits after.hand true ≡ 0 = ap (λ (y : Option Hand). waits y true) m.4 in
-            let known : IsPlaced settled (place_numbered h.place.at) (noted_by s h.place).reason =
-            subst (Placed s settled) m.1 placed in
+            let was : waits before.hand had ≡ 1 =
+            waits_at s had before.hand h false placed m.1 (ap is_over at) in
+            let new' : Placed s (had + 1) after.hand =
+            subst (λ b. Placed s (cond b (had + 1) had) after.hand) on new in
+            let now : waits after.hand (had + 1) ≡ 0 = waits_then (had + 1) h r.1 true new' m.4 k.2 in
+            let known : IsPlaced had (place_numbered h.place.at) (noted_by s h.place).reason =
+            subst (Placed s had) m.1 placed in
             let reason : IsReason (noted_by s h.place).reason =
-            (subst (λ (p : Place). IsPlaced settled p (noted_by s h.place).reason) at known).1 in
+            (subst (λ (p : Place). IsPlaced had p (noted_by s h.place).reason) at known).1 in
             let more = drop_more (value 0) (noted_by s h.place) nine reason in
             let same : (touched CountsDrop (value 0) (noted_by s h.place)).0 ≡ left =
             sym (ap (λ (u : ℕ). (touched CountsDrop (value u) (noted_by s h.place)).0) k.0)
@@ -215,7 +218,7 @@ run_kept s threads inputs (x ∷ earlier) is h =
     let fits = values_fit (balancer_meaning s) (Fits s) (balancer_lawful s is) inputs threads earlier h.1 in
     let new = placed_step s is (inputs x.thread) x.thread (thread_after earlier x.thread).taken x.after.taken earlier
     (value_after (balancer_meaning s) earlier) fits (thread_after earlier x.thread).hand x.after.hand
-    (is_settled x.thread earlier) h.0.2 placed m in
+    (outcomes x.thread earlier) h.0.2 placed m in
     rw h.0.4 (step_kept s is threads x.thread h.0.0 (inputs x.thread) (thread_after earlier x.thread).taken x.after
     earlier old.0 fits placed h.0.2 old.1 new m)
 
@@ -229,10 +232,10 @@ none_vanishes_at_rest s threads inputs steps is h rest =
     omega arith
   where
     nothing : (n : ℕ) → ((t : ℕ) → t < n → (thread_after steps t).hand ≡ None)
-        → sum_below n (λ t. waits (thread_after steps t).hand (is_settled t steps)) ≡ 0
+        → sum_below n (λ t. waits (thread_after steps t).hand (outcomes t steps)) ≡ 0
     nothing zero free = refl
     nothing (suc n) free =
         let a = nothing n (λ t low. free t (omega arith)) in
-        let b : waits (thread_after steps n).hand (is_settled n steps) ≡ 0 =
-        ap (λ (y : Option Hand). waits y (is_settled n steps)) (free n (omega arith)) in
+        let b : waits (thread_after steps n).hand (outcomes n steps) ≡ 0 =
+        ap (λ (y : Option Hand). waits y (outcomes n steps)) (free n (omega arith)) in
         omega arith

@@ -1,10 +1,11 @@
 -- A new connection is one to a backend of least load, in the loads as its own packet found them.
-use Rattle.std.specs.Prelude.{◌≡◌, ℕ, ◌+◌, ◌<◌, true, cond, nat_eq, if◌then◌else◌, List, [], ◌∷◌, Option, Some, None}
+use Rattle.std.specs.Prelude.{◌≡◌, ℕ, ◌+◌, ◌<◌, ◌⊎◌, true, cond, nat_eq, if◌then◌else◌, List, [], ◌∷◌, Option, Some, None}
 use Rattle.std.specs.Prelude.{Ok}
 use Rattle.plain_text.specs.declared.packet.Packet.{Packet}
 use Rattle.packet_headers.specs.declared.flow.Flow.{Flow}
 use Rattle.packet_headers.specs.View.{viewed}
-use Rattle.entry_order.specs.Log.{touches}
+use Rattle.entry_order.specs.declared.what.What.TheVariants.{Access}
+use Rattle.entry_order.specs.Log.{Entry, touches}
 use Rattle.plain_machine.specs.Machine.{Hand}
 use Rattle.plain_machine.specs.History.{Act, Took, Did, Emitted, Ended, Step, thread_after, value_after, IsHistory}
 use Rattle.nat_tables.specs.declared.entries.Endpoint.{Endpoint}
@@ -13,7 +14,7 @@ use Rattle.nat_tables.specs.Forwards.{slot_of}
 use Rattle.nat_box.specs.Emissions.{HaveBytes}
 use Rattle.balancer_box.specs.declared.value.BalancerValue.{BalancerValue}
 use Rattle.balancer_box.specs.declared.value.BalancerValue.TheVariants.{Dropped, Loaded, Connected}
-use Rattle.balancer_box.specs.Loads.{raised, HasLeastLoad}
+use Rattle.balancer_box.specs.Loads.{raised, lowered, HasLeastLoad}
 use Rattle.balancer_box.specs.Balancer.{Settings, is_virtual, balancer_meaning}
 use Rattle.balancer_box.specs.Lawful.{AreSettings}
 use Rattle.balancer_box.specs.Entries.{connections_in}
@@ -42,6 +43,17 @@ loads_met s t [] = None
 loads_met s t (x ∷ earlier) =
     cond (nat_eq x.thread t)
     (loads_met_by (value_after (balancer_meaning s) earlier 1) x.act (loads_met s t earlier)) (loads_met s t earlier)
+
+-- Each touch of the loads raises that of a backend of least load, the first of equals, or lowers one.
+abbrev pub LeastLoadsAreRaised : Type 0
+LeastLoadsAreRaised =
+    (s : Settings) (threads : ℕ) (inputs : ℕ → List Packet) (x : Step BalancerValue)
+    (earlier : List (Step BalancerValue)) (entry : Entry) (place : ℕ) (left : BalancerValue) → AreSettings s
+    → IsHistory (balancer_meaning s) inputs threads (x ∷ earlier)
+    → x.act ≡ Did entry (Some left) → entry.what ≡ Access 1 place
+    → (loads : List ℕ) × (backend : ℕ) × (value_after (balancer_meaning s) earlier 1 ≡ Loaded loads)
+    × ((HasLeastLoad loads backend × (left ≡ Loaded (raised backend loads)))
+    ⊎ (left ≡ Loaded (lowered backend loads)))
 
 -- in that touch a backend of least load was chosen, the first of equals, and its load was raised by 1
 abbrev pub WasChosen : Option (List ℕ × List ℕ) → ℕ → Type 0

@@ -1,5 +1,5 @@
 -- Where the packets of a run are: sent out, counted as dropped, or in hand.
-use Rattle.std.specs.Prelude.{◌≡◌, ℕ, ◌+◌, ◌%◌, ◌^◌, ◌<◌, Bool, true, false, not, cond, nat_eq, if◌then◌else◌, List, []}
+use Rattle.std.specs.Prelude.{◌≡◌, ℕ, ◌+◌, ◌%◌, ◌^◌, ◌<◌, ◌==◌, cond, nat_eq, if◌then◌else◌, List, []}
 use Rattle.std.specs.Prelude.{◌∷◌, sum, Option, Some, None}
 use Rattle.plain_text.specs.declared.packet.Packet.{Packet}
 use Rattle.entry_order.specs.Log.{touches}
@@ -44,25 +44,25 @@ drop_counts (Connected es) = []
 abbrev pub packets_dropped : List (Step BalancerValue) → Settings → ℕ
 packets_dropped steps s = sum (drop_counts (value_after (balancer_meaning s) steps 0))
 
--- Whether the packet that the thread took last went out, or was counted as dropped in variable 0
+-- How often the packet that the thread took last went out or was counted as dropped, which is a touch of variable 0
 
-abbrev pub settled_by : Act BalancerValue → Bool → Bool
-settled_by (Took k) old = false
-settled_by (Did entry left) old = if touches 0 entry.what then true else old
-settled_by (Emitted o) old = true
-settled_by (Ended k) old = old
+abbrev pub outcomes_by : Act BalancerValue → ℕ → ℕ
+outcomes_by (Took k) n = 0
+outcomes_by (Did entry left) n = if touches 0 entry.what then n + 1 else n
+outcomes_by (Emitted o) n = n + 1
+outcomes_by (Ended k) n = n
 
-abbrev pub is_settled : ℕ → List (Step BalancerValue) → Bool
-is_settled t [] = false
-is_settled t (x ∷ earlier) = cond (nat_eq x.thread t) (settled_by x.act (is_settled t earlier)) (is_settled t earlier)
+abbrev pub outcomes : ℕ → List (Step BalancerValue) → ℕ
+outcomes t [] = 0
+outcomes t (x ∷ earlier) = cond (nat_eq x.thread t) (outcomes_by x.act (outcomes t earlier)) (outcomes t earlier)
 
--- the packets in hand of which neither is so
-abbrev pub waits : Option Hand → Bool → ℕ
-waits None settled = 0
-waits (Some h) settled = one_if (not settled)
+-- the packets in hand that neither went out nor were counted yet
+abbrev pub waits : Option Hand → ℕ → ℕ
+waits None n = 0
+waits (Some h) n = one_if (n == 0)
 
 abbrev pub packets_waiting : ℕ → List (Step BalancerValue) → ℕ
-packets_waiting threads steps = sum_below threads (λ t. waits (thread_after steps t).hand (is_settled t steps))
+packets_waiting threads steps = sum_below threads (λ t. waits (thread_after steps t).hand (outcomes t steps))
 
 -- Each packet that a run took went out, was counted as dropped, or is in hand. Counts are modulo 2^64.
 abbrev pub NoPacketVanishes : Type 0
@@ -79,3 +79,11 @@ NoPacketVanishesAtRest =
     → AreSettings s → IsHistory (balancer_meaning s) inputs threads steps
     → ((t : ℕ) → t < threads → (thread_after steps t).hand ≡ None)
     → packets_taken steps % 2 ^ 64 ≡ (packets_sent steps + packets_dropped steps s) % 2 ^ 64
+
+-- and of each packet: when the work on it ends, it went out once or was counted once as dropped
+abbrev pub EachHasOneOutcome : Type 0
+EachHasOneOutcome =
+    (s : Settings) (threads : ℕ) (inputs : ℕ → List Packet) (x : Step BalancerValue)
+    (earlier : List (Step BalancerValue)) (k : ℕ) → AreSettings s
+    → IsHistory (balancer_meaning s) inputs threads (x ∷ earlier) → x.act ≡ Ended k
+    → outcomes x.thread earlier ≡ 1
