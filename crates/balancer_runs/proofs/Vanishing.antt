@@ -109,14 +109,14 @@ module _ (s : Settings) (is : AreSettings s) (threads t : ℕ) (low : t < thread
 
   abbrev Balanced : Type 0
   Balanced = packets_taken earlier % 2 ^ 64
-      ≡ (packets_sent earlier + packets_dropped earlier s + packets_waiting threads earlier) % 2 ^ 64
+      ≡ (packets_sent earlier + packets_dropped s earlier + packets_waiting threads earlier) % 2 ^ 64
 
   taken_kept : Balanced → waits before.hand had ≡ 0 → waits after.hand 0 ≡ 1 → Kept Takes
   taken_kept old was now = let a = waiting_step (λ n. 0) in (nine, omega arith)
 
   still_kept : (now : ℕ → ℕ) → Balanced → waits before.hand had ≡ waits after.hand (now had)
       → (0 + packets_taken earlier) % 2 ^ 64
-      ≡ (0 + packets_sent earlier + packets_dropped earlier s + waiting_then now) % 2 ^ 64
+      ≡ (0 + packets_sent earlier + packets_dropped s earlier + waiting_then now) % 2 ^ 64
   still_kept now old same = let a = waiting_step now in omega arith
 
   sent_kept : (q : Packet) → Balanced → waits before.hand had ≡ 1 → waits after.hand (had + 1) ≡ 0 → Kept (Sends q)
@@ -207,7 +207,7 @@ pub run_kept : (s : Settings) (threads : ℕ) (inputs : ℕ → List Packet) (st
     → AreSettings s → IsHistory (balancer_meaning s) inputs threads steps
     → HasNine (value_after (balancer_meaning s) steps 0)
     × (packets_taken steps % 2 ^ 64
-    ≡ (packets_sent steps + packets_dropped steps s + packets_waiting threads steps) % 2 ^ 64)
+    ≡ (packets_sent steps + packets_dropped s steps + packets_waiting threads steps) % 2 ^ 64)
 run_kept s threads inputs [] is h =
     let none : packets_waiting threads [] ≡ 0 = sum_of_none threads _ (λ t. refl) in (refl, rw none refl)
 run_kept s threads inputs (x ∷ earlier) is h =

@@ -41,8 +41,8 @@ drop_counts (Dropped d) = d.counts
 drop_counts (Loaded loads) = []
 drop_counts (Connected es) = []
 
-abbrev pub packets_dropped : List (Step BalancerValue) → Settings → ℕ
-packets_dropped steps s = sum (drop_counts (value_after (balancer_meaning s) steps 0))
+abbrev pub packets_dropped : Settings → List (Step BalancerValue) → ℕ
+packets_dropped s steps = sum (drop_counts (value_after (balancer_meaning s) steps 0))
 
 -- How often the packet that the thread took last went out or was counted as dropped, which is a touch of variable 0
 
@@ -70,7 +70,7 @@ NoPacketVanishes =
     (s : Settings) (threads : ℕ) (inputs : ℕ → List Packet) (steps : List (Step BalancerValue))
     → AreSettings s → IsHistory (balancer_meaning s) inputs threads steps
     → packets_taken steps % 2 ^ 64
-    ≡ (packets_sent steps + packets_dropped steps s + packets_waiting threads steps) % 2 ^ 64
+    ≡ (packets_sent steps + packets_dropped s steps + packets_waiting threads steps) % 2 ^ 64
 
 -- so where no packet is in hand, each went out or was counted as dropped
 abbrev pub NoPacketVanishesAtRest : Type 0
@@ -78,7 +78,7 @@ NoPacketVanishesAtRest =
     (s : Settings) (threads : ℕ) (inputs : ℕ → List Packet) (steps : List (Step BalancerValue))
     → AreSettings s → IsHistory (balancer_meaning s) inputs threads steps
     → ((t : ℕ) → t < threads → (thread_after steps t).hand ≡ None)
-    → packets_taken steps % 2 ^ 64 ≡ (packets_sent steps + packets_dropped steps s) % 2 ^ 64
+    → packets_taken steps % 2 ^ 64 ≡ (packets_sent steps + packets_dropped s steps) % 2 ^ 64
 
 -- and of each packet: when the work on it ends, it went out once or was counted once as dropped
 abbrev pub EachHasOneOutcome : Type 0
