@@ -1,0 +1,5 @@
+pub mod Packets
+pub mod Staying
+pub mod Causes
+pub mod Choosing
+pub mod Answering

@@ -1,0 +1,43 @@
+ghost use Rattle.balancer_runs.specs.Answering.{AnswersComeBeforeIdle};
+ghost use Rattle.balancer_runs.specs.Packets.{NoPacketVanishes, NoPacketVanishesAtRest, EachHasOneOutcome};
+ghost use Rattle.balancer_runs.specs.Staying.{ConnectionsStay};
+ghost use Rattle.balancer_runs.specs.Causes.{DropsHaveCauses};
+ghost use Rattle.balancer_runs.specs.Choosing.{LeastLoadsAreRaised, NewConnectionsHaveLeastLoad};
+
+/// In each run, whatever its threads, its inputs and the order of its moves: each packet that was taken went out, was
+/// counted as dropped, or is in hand and neither yet. So where no packet is in hand, the packets taken are those that
+/// went out and those that were counted as dropped. All is modulo 2^64. And each packet on which the work ends went out
+/// once, or was counted once as dropped.
+pub fn no_packet_vanishes()
+    ensures moving { NoPacketVanishes }
+    ensures at_rest { NoPacketVanishesAtRest }
+    ensures each { EachHasOneOutcome }
+{}
+
+/// At each step of each run on packets of bytes, a connection that is there stays, with its backend, unless it is idle
+/// at the time that the step's packet was told, 7,440 s after its last use with TCP and 300 s with UDP, or this packet
+/// resets it. Its last use stays, or becomes that time.
+pub fn connections_stay_until_idle_or_reset()
+    ensures { ConnectionsStay }
+{}
+
+/// In each run on packets of bytes, each touch of the counts of drops counts one drop more, of a packet that has the
+/// cause of its reason: its frame is no flow, or it neither goes to the virtual address and port nor comes from a
+/// backend, or it is of no connection that lives.
+pub fn drops_have_their_causes()
+    ensures { DropsHaveCauses }
+{}
+
+/// In each run, a touch of the loads raises that of a backend of least load, the first of equals, or lowers one. And on
+/// packets of bytes, a connection that begins is one to the backend that the client's packet chose in its touch of the
+/// loads.
+pub fn new_connections_have_least_load()
+    ensures chosen { LeastLoadsAreRaised }
+    ensures bound { NewConnectionsHaveLeastLoad }
+{}
+
+/// In each run on packets of bytes, an answer that goes out is one to a client whose connection to the answer's backend
+/// was used less than 7,440 s before with TCP, and 300 s with UDP, at the time that the answer was told.
+pub fn answers_come_before_idle()
+    ensures { AnswersComeBeforeIdle }
+{}

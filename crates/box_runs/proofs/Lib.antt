@@ -1,0 +1,4 @@
+pub mod MadeMoves
+pub mod OnceEach
+pub mod BoxMoves
+pub mod Numbers
