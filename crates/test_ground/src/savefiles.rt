@@ -55,7 +55,9 @@ impl<'a> Source for Pieces<'a> {
 
     ghost reads_told = { λ _ _ _ told _. Prim.cc };
 
-    ghost reads_honest = { λ _ _ _ _ never _. absurd never };
+    ghost reads_before = { λ _ _ _ _ never _. never };
+
+    ghost reads_shown = { λ _ _ _ _ never _. absurd never };
 
     fn fill(&mut self, piece: &mut [u8]) -> Filled {
         if self.before_fault == 0 {

@@ -40,7 +40,9 @@ impl<'a> Source for Counting<'a> {
 
     ghost reads_told = { λ a b taken _ r. r };
 
-    ghost reads_honest = { λ _ a b taken _ r. (tt, r) };
+    ghost reads_before = { λ _ _ _ _ _ _. tt };
+
+    ghost reads_shown = { λ _ a b taken _ r. r };
 
     fn fill(&mut self, piece: &mut [u8]) -> Filled {
         self.calls = self.calls.wrapping_add(1);

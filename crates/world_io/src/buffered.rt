@@ -124,9 +124,10 @@ impl<S: Source> Source for BufferedSource<S> {
     ghost reads_told = { λ a b taken told r. TakesThrough-told S.reads S.left taken a b r
         (S.reads_told a.0 b.0 r.fetched told r.below) };
 
-    ghost reads_honest = { λ p a b taken h r.
-        let below = S.reads_honest p a.0 b.0 r.fetched h r.below in
-        (below.0, TakesThrough-told S.reads (S.remains p) taken a b r below.1) };
+    ghost reads_before = { λ p a b taken h r. S.reads_before p a.0 b.0 r.fetched h r.below };
+
+    ghost reads_shown = { λ p a b taken h r. TakesThrough-told S.reads (S.remains p) taken a b r
+        (S.reads_shown p a.0 b.0 r.fetched h r.below) };
 
     fn fill(&mut self, piece: &mut [u8]) -> Filled {
         if self.held() > 0 {

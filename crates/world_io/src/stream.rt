@@ -76,8 +76,11 @@ pub trait Source {
     ghost reads_told: { (a b : Self) (taken : List ℕ)
         → IsTrue tells → reads a taken b → left a ≡ taken ++ left b };
 
-    ghost reads_honest: { (p : Start) (a b : Self) (taken : List ℕ) → honest p b
-        → reads a taken b → honest p a × (remains p a ≡ taken ++ remains p b) };
+    ghost reads_before: { (p : Start) (a b : Self) (taken : List ℕ)
+        → honest p b → reads a taken b → honest p a };
+
+    ghost reads_shown: { (p : Start) (a b : Self) (taken : List ℕ)
+        → honest p b → reads a taken b → remains p a ≡ taken ++ remains p b };
 }
 
 /// A place to append bytes to. A sink may say that it is healthy: then no call fails, and it stays
@@ -120,8 +123,11 @@ pub trait Sink {
     ghost writes_told: { (a b : Self) (added : List ℕ)
         → IsTrue tells → writes a added b → written b ≡ written a ++ added };
 
-    ghost writes_honest: { (p : Start) (a b : Self) (added : List ℕ) → honest p b
-        → writes a added b → honest p a × (holds p b ≡ holds p a ++ added) };
+    ghost writes_before: { (p : Start) (a b : Self) (added : List ℕ)
+        → honest p b → writes a added b → honest p a };
+
+    ghost writes_shown: { (p : Start) (a b : Self) (added : List ℕ)
+        → honest p b → writes a added b → holds p b ≡ holds p a ++ added };
 }
 
 /// A source that is lent is a source. What it read is known of the source afterwards.
@@ -150,7 +156,9 @@ impl<'a, S: Source> Source for &'a mut S {
 
     ghost reads_told = { λ a b taken told r. S.reads_told a.now b.now taken told r.1 };
 
-    ghost reads_honest = { λ p a b taken h r. S.reads_honest p a.now b.now taken h r.1 };
+    ghost reads_before = { λ p a b taken h r. S.reads_before p a.now b.now taken h r.1 };
+
+    ghost reads_shown = { λ p a b taken h r. S.reads_shown p a.now b.now taken h r.1 };
 
     fn fill(&mut self, piece: &mut [u8]) -> Filled {
         (**self).fill(piece)
@@ -183,7 +191,9 @@ impl<'a, K: Sink> Sink for &'a mut K {
 
     ghost writes_told = { λ a b added told r. K.writes_told a.now b.now added told r.1 };
 
-    ghost writes_honest = { λ p a b added h r. K.writes_honest p a.now b.now added h r.1 };
+    ghost writes_before = { λ p a b added h r. K.writes_before p a.now b.now added h r.1 };
+
+    ghost writes_shown = { λ p a b added h r. K.writes_shown p a.now b.now added h r.1 };
 
     fn put(&mut self, piece: &[u8]) -> Put {
         (**self).put(piece)
@@ -238,7 +248,9 @@ impl<'a> Source for SliceSource<'a> {
 
     ghost reads_told = { λ a b taken _ r. r };
 
-    ghost reads_honest = { λ _ a b taken _ r. (tt, r) };
+    ghost reads_before = { λ _ _ _ _ _ _. tt };
+
+    ghost reads_shown = { λ _ a b taken _ r. r };
 
     fn fill(&mut self, piece: &mut [u8]) -> Filled {
         if self.rest.is_empty() {

@@ -67,10 +67,10 @@ impl<'a, W: World> Source for WorldSource<'a, W> {
     ghost reads_told = { λ a b taken told r. (r.1.1.shown_read told).left
         ∙ ap (λ k. taken ++ (W.shown b.world.now).left k) (sym r.1.0) };
 
-    ghost reads_honest = { λ p a b taken h r. let one = r.1.1.honest_read p h in (
-      one.0,
-      one.1.left ∙ ap (λ k. taken ++ (W.shows p b.world.now).left k) (sym r.1.0),
-    ) };
+    ghost reads_before = { λ p a b taken h r. (r.1.1.honest_read p h).0 };
+
+    ghost reads_shown = { λ p a b taken h r. (r.1.1.honest_read p h).1.left
+        ∙ ap (λ k. taken ++ (W.shows p b.world.now).left k) (sym r.1.0) };
 
     fn fill(&mut self, piece: &mut [u8]) -> Filled {
         self.world.fill(self.file, piece)
@@ -135,10 +135,10 @@ impl<'a, W: World> Sink for WorldSink<'a, W> {
     ghost writes_told = { λ a b added told r.
         ap (λ k. (W.shown b.world.now).sent k) r.1.0 ∙ (r.1.1.shown_written told).sent };
 
-    ghost writes_honest = { λ p a b added h r. let one = r.1.1.honest_written p h in (
-      one.0,
-      ap (λ k. (W.shows p b.world.now).sent k) r.1.0 ∙ one.1.sent,
-    ) };
+    ghost writes_before = { λ p a b added h r. (r.1.1.honest_written p h).0 };
+
+    ghost writes_shown = { λ p a b added h r.
+        ap (λ k. (W.shows p b.world.now).sent k) r.1.0 ∙ (r.1.1.honest_written p h).1.sent };
 
     fn put(&mut self, piece: &[u8]) -> Put {
         self.world.put(self.file, piece)

@@ -68,12 +68,12 @@ returns-then-kept-count-clause-end g c = λ told.
 
 pub returns-in-End-clause-ends : goal.returns-in-End-clause-ends
 returns-in-End-clause-ends g c p h =
-    let told = g.met.S.Source.reads_honest in
-    let last = told p _ _ _ h c.in-End.ensures.reads in
-    let first = told p _ _ _ last.0 c.loop-bytes.invariant.reads in
+    let reads = c.in-End.ensures.reads in
+    let before = g.met.S.Source.reads_before p _ _ _ h reads in
+    let first = g.met.S.Source.reads_shown p _ _ _ before c.loop-bytes.invariant.reads in
     let nothing = c.in-End.ensures.ends p h refl in (
-      first.1 ∙ ap (λ l. c.loop-bytes.bytes ++ l) nothing ∙ append-nil c.loop-bytes.bytes,
-      sym last.1 ∙ nothing,
+      first ∙ ap (λ l. c.loop-bytes.bytes ++ l) nothing ∙ append-nil c.loop-bytes.bytes,
+      sym (g.met.S.Source.reads_shown p _ _ _ h reads) ∙ nothing,
     )
 
 pub returns-then-kept-count-clause-ends : goal.returns-then-kept-count-clause-ends
@@ -88,13 +88,13 @@ returns-then-kept-count-clause-ends g c = λ p h.
     let first = c.in_ok-keep-in-Got.ensures.ok in
     let next = drop kept (take count piece) in
     let both =
-    g.met.S.Source.reads_honest p _ _ _ h (g.met.S.Source.reads_more _ _ _ _ _ inv.reads c.in-Got.ensures.reads) in
+    g.met.S.Source.reads_shown p _ _ _ h (g.met.S.Source.reads_more _ _ _ _ _ inv.reads c.in-Got.ensures.reads) in
     let parts : c.keep.new.bytes ++ next ≡ c.loop-bytes.bytes ++ take count piece =
     ap (λ l. l ++ next) first ∙ parts_of_piece c.loop-bytes.bytes piece tail count kept less within in
     let size = kept_length c.keep.new.bytes c.loop-bytes.bytes piece tail kept first (omega (arith, less, within)) in
     let more = left_of_piece piece count kept within in
     is_front c.keep.new.bytes next (g.S.Source.remains p c.fill.new.self) _ c.args.limit
-    (both.1 ∙ ap (λ l. l ++ g.S.Source.remains p c.fill.new.self) (sym parts)) (grind (arith, common_steps, size))
+    (both ∙ ap (λ l. l ++ g.S.Source.remains p c.fill.new.self) (sym parts)) (grind (arith, common_steps, size))
     (grind (arith, common_steps, more))
 
 pub loop-bytes-preserved : goal.loop-bytes-preserved

@@ -31,4 +31,4 @@ returns-in-Failed-clause-taken g c =
 
 pub returns-in-End-clause-runs_out : goal.returns-in-End-clause-runs_out
 returns-in-End-clause-runs_out g c p h short =
-    sym (g.met.S.Source.reads_honest p _ _ _ h c.in-End.ensures.reads).1 ∙ c.in-End.ensures.ends p h refl
+    sym (g.met.S.Source.reads_shown p _ _ _ h c.in-End.ensures.reads) ∙ c.in-End.ensures.ends p h refl
