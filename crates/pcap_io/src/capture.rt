@@ -1,5 +1,6 @@
 ghost use Rattle.std.specs.Prelude.{◌≡◌, IsTrue};
 ghost use Rattle.world_io.specs.Stream.{GoesOn, HasFailed};
+ghost use Rattle.world_io.specs.World.{Start};
 ghost use Rattle.pcap_io.specs.Captured.{Says, TakesCapture, EndsAt, CapturesBytes};
 
 use crate::{CaptureFault, Next, Reader, Started};
@@ -30,6 +31,8 @@ pub fn read_capture<S: Source>(alloc: Global, source: &mut S) -> Captured
     ensures goes_on { GoesOn S.faults S.healthy source.old source.new }
     ensures cause { result ≡ Captured.ReadFault
         → HasFailed S.faults S.healthy source.old source.new }
+    ensures shows { (p : Start) → S.honest p source.new → Says (S.remains p source.old) result }
+    ensures ends { (p : Start) → S.honest p source.new → EndsAt result (S.remains p source.new) }
 {
     let mut reader = match Reader::start(source) {
         Started::Reader(reader) => reader,

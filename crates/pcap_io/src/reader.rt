@@ -1,5 +1,6 @@
 ghost use Rattle.std.specs.Prelude.{◌≡◌, ◌≢◌, ◌≤◌, ◌↔◌, true, IsTrue};
 ghost use Rattle.world_io.specs.Stream.{GoesOn, HasFailed};
+ghost use Rattle.world_io.specs.World.{Start};
 ghost use Rattle.pcap_io.specs.Limits.{room_at, limit_at};
 ghost use Rattle.pcap_io.specs.Reader.{AnswersAt, Takes, IsGiven, GivesBytes, after};
 ghost use Rattle.pcap_io.specs.Started.{Starts, TakesHeader, IsFresh};
@@ -57,6 +58,8 @@ impl Reader {
         ensures cause { result ≡ Started.ReadFault
             → HasFailed S.faults S.healthy source.old source.new }
         ensures memory { result ≢ Started.NoMemory }
+        ensures shows { (p : Start) → S.honest p source.new
+            → Starts (S.remains p source.old) result }
     {
         let mut head = [0u8; FILE_HEADER];
         let Some(had) = fill_piece(source, &mut head) else {
@@ -99,6 +102,8 @@ impl Reader {
         ensures goes_on { GoesOn S.faults S.healthy source.old source.new }
         ensures cause { result ≡ Next.ReadFault
             → HasFailed S.faults S.healthy source.old source.new }
+        ensures shows { (p : Start) → S.honest p source.new
+            → AnswersAt self.old (S.remains p source.old) result }
     {
         if self.over {
             return Next::Over;

@@ -1,5 +1,6 @@
 ghost use Rattle.std.specs.Prelude.{◌≡◌, ◌≢◌, ◌≤◌, ◌+◌, ◌++◌, IsTrue, OnOk, OnErr, length};
 ghost use Rattle.world_io.specs.Stream.{GoesOn, HasFailed};
+ghost use Rattle.world_io.specs.World.{Start};
 ghost use Rattle.pcap_io.specs.Capture.{record_of};
 ghost use Rattle.pcap_io.specs.Reader.{Answers, Takes, IsGiven, GivesBytes};
 ghost use Rattle.pcap_io.specs.Record.{TakesBody};
@@ -34,6 +35,8 @@ impl Place {
         ensures goes_on { GoesOn S.faults S.healthy source.old source.new }
         ensures cause { result ≡ Next.ReadFault
             → HasFailed S.faults S.healthy source.old source.new }
+        ensures shows { (p : Start) → S.honest p source.new
+            → Answers self.order self.offset self.room self.limit (S.remains p source.old) result }
     {
         let mut head = [0u8; RECORD_HEADER];
         let Some(had) = fill_piece(source, &mut head) else {
@@ -63,6 +66,9 @@ impl Place {
         ensures goes_on { GoesOn S.faults S.healthy source.old source.new }
         ensures cause { result ≡ Next.ReadFault
             → HasFailed S.faults S.healthy source.old source.new }
+        ensures shows { (p : Start) → S.honest p source.new
+            → Answers self.order self.offset self.room self.limit
+            (head.now ++ S.remains p source.old) result }
     {
         let captured = self.order.read_u32(&head[8..]);
         if captured > MOST_CAPTURED {

@@ -39,6 +39,10 @@ impl<'a> Source for Pieces<'a> {
 
     ghost left = { λ _. [] };
 
+    ghost honest = { λ _ _. ⊥ };
+
+    ghost remains = { λ _ _. [] };
+
     ghost faults = { λ s. s.faults };
 
     ghost healthy = { λ _. ⊥ };
@@ -50,6 +54,10 @@ impl<'a> Source for Pieces<'a> {
     ghost reads_more = { λ _ _ _ _ _ _ _. tt };
 
     ghost reads_told = { λ _ _ _ told _. Prim.cc };
+
+    ghost reads_before = { λ _ _ _ _ never _. never };
+
+    ghost reads_shown = { λ _ _ _ _ never _. absurd never };
 
     fn fill(&mut self, piece: &mut [u8]) -> Filled {
         if self.before_fault == 0 {

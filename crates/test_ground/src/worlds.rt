@@ -23,6 +23,10 @@ impl<'a> Source for Counting<'a> {
 
     ghost left = { λ s. s.below };
 
+    ghost honest = { λ _ _. ⊤ };
+
+    ghost remains = { λ _ s. s.below };
+
     ghost faults = { λ _. 0 };
 
     ghost healthy = { λ _. ⊤ };
@@ -35,6 +39,10 @@ impl<'a> Source for Counting<'a> {
         r ∙ ap (λ l. first ++ l) s ∙ sym (append_assoc first more c.below) };
 
     ghost reads_told = { λ a b taken _ r. r };
+
+    ghost reads_before = { λ _ _ _ _ _ _. tt };
+
+    ghost reads_shown = { λ _ a b taken _ r. r };
 
     fn fill(&mut self, piece: &mut [u8]) -> Filled {
         self.calls = self.calls.wrapping_add(1);

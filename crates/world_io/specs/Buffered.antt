@@ -33,9 +33,9 @@ module _ {S : Type 0} (reads : S → List ℕ → S → Type 0) where
         ∙ ap (λ l. first ++ l) s.held ∙ sym (append_assoc first more c.1);
   }
 
-  pub TakesThrough-told : (left : S → List ℕ)
-      (reads_told : (a b : S) (taken : List ℕ) → reads a taken b → left a ≡ taken ++ left b) (taken : List ℕ)
-      (a b : S × List ℕ) → TakesThrough reads taken a b → a.1 ++ left a.0 ≡ taken ++ (b.1 ++ left b.0)
-  TakesThrough-told left reads_told taken a b r =
-      ap (λ l. a.1 ++ l) (reads_told a.0 b.0 r.fetched r.below) ∙ sym (append_assoc a.1 r.fetched (left b.0))
+  -- by what the source below had left, before and after
+  pub TakesThrough-told : (left : S → List ℕ) (taken : List ℕ) (a b : S × List ℕ) (r : TakesThrough reads taken a b)
+      → left a.0 ≡ r.fetched ++ left b.0 → a.1 ++ left a.0 ≡ taken ++ (b.1 ++ left b.0)
+  TakesThrough-told left taken a b r below =
+      ap (λ l. a.1 ++ l) below ∙ sym (append_assoc a.1 r.fetched (left b.0))
       ∙ ap (λ l. l ++ left b.0) r.held ∙ append_assoc taken b.1 (left b.0)

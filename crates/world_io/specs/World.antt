@@ -6,6 +6,10 @@ use Rattle.world_io.specs.declared.stream.Filled.TheVariants.{Got, End, Failed}
 use Rattle.world_io.specs.declared.stream.Put.{Put}
 use Rattle.world_io.specs.declared.stream.Put.TheVariants as put
 
+-- what stands under each name at the beginning; no code can read it
+abbrev pub Start : Type 0
+Start = List ℕ → Option (List ℕ)
+
 -- the bytes that a world tells: under each name, left in each file that was opened, and sent to each file that was
 -- created, of which 0 is the report; and the name of each file that was created
 pub record Shown : Type 0 where

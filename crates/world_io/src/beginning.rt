@@ -2,6 +2,7 @@ ghost use Rattle.std.specs.Prelude.{◌≡◌, ◌++◌, IsTrue, IsErrOf, IfOk, 
 ghost use Rattle.plain_text.specs.Octets.{AreBytes};
 ghost use Rattle.world_io.specs.Beginning.{ReadsFront, IsFront, FrontIsBytes};
 ghost use Rattle.world_io.specs.Stream.{GoesOn, HasFailed};
+ghost use Rattle.world_io.specs.World.{Start};
 
 use crate::{Filled, Source};
 use plain_text::{Bytes, NoMemory};
@@ -50,6 +51,8 @@ pub fn read_front<S: Source>(alloc: Global, source: &mut S, limit: u64) -> Resul
     ensures goes_on { GoesOn S.faults S.healthy source.old source.new }
     ensures cause { IsErrOf result FrontError.Failed
         → HasFailed S.faults S.healthy source.old source.new }
+    ensures ends { (p : Start) → S.honest p source.new
+        → IsFront result limit (S.remains p source.old) (S.remains p source.new) }
 {
     let mut bytes = Bytes::new(alloc);
     let mut room = limit;

@@ -1,6 +1,7 @@
 ghost use Rattle.std.specs.Prelude.{◌≡◌, ◌<◌, ◌++◌, [], length, min, take, vec_len, IsTrue};
 ghost use Rattle.world_io.specs.Stream.{GoesOn, HasFailed, EndsAtEnd};
 ghost use Rattle.world_io.specs.Buffered.{HoldsSome};
+ghost use Rattle.world_io.specs.World.{Start};
 
 use crate::{Filled, Source};
 use std::marker::Model;
@@ -83,6 +84,8 @@ impl<S: Source> BufferedSource<S> {
         ensures goes_on { GoesOn S.faults S.healthy self.old.0 self.new.0 }
         ensures cause { result ≡ Filled.Failed
             → HasFailed S.faults S.healthy self.old.0 self.new.0 }
+        ensures ends { (p : Start) → S.honest p self.new.0
+            → result ≡ Filled.End → S.remains p self.old.0 ≡ [] }
     {
         let filled = self.source.fill(self.buffer.as_mut_slice());
         self.given = 0;
@@ -103,6 +106,10 @@ impl<S: Source> Source for BufferedSource<S> {
 
     ghost left = { λ b. b.1 ++ S.left b.0 };
 
+    ghost honest = { λ p b. S.honest p b.0 };
+
+    ghost remains = { λ p b. b.1 ++ S.remains p b.0 };
+
     ghost faults = { λ b. S.faults b.0 };
 
     ghost healthy = { λ b. S.healthy b.0 };
@@ -114,8 +121,13 @@ impl<S: Source> Source for BufferedSource<S> {
     ghost reads_more = { λ a b c first more r s.
         TakesThrough-more S.reads S.reads_more first more a b c r s };
 
-    ghost reads_told = { λ a b taken told r.
-        TakesThrough-told S.reads S.left (λ s t bytes. S.reads_told s t bytes told) taken a b r };
+    ghost reads_told = { λ a b taken told r. TakesThrough-told S.reads S.left taken a b r
+        (S.reads_told a.0 b.0 r.fetched told r.below) };
+
+    ghost reads_before = { λ p a b taken h r. S.reads_before p a.0 b.0 r.fetched h r.below };
+
+    ghost reads_shown = { λ p a b taken h r. TakesThrough-told S.reads (S.remains p) taken a b r
+        (S.reads_shown p a.0 b.0 r.fetched h r.below) };
 
     fn fill(&mut self, piece: &mut [u8]) -> Filled {
         if self.held() > 0 {

@@ -191,12 +191,17 @@ impl MemoryWorld {
 }
 
 impl World for MemoryWorld {
-    ghost use Rattle.std.specs.Prelude.{true};
+    ghost use Rattle.std.specs.Prelude.{true, ⊤};
     ghost use Rattle.world_io.specs.Memory.{IsHealthy, shown_of, ledger_of};
 
     ghost tells = { true };
 
     ghost shown = { shown_of };
+
+    // It shows its own bytes, whatever the beginning.
+    ghost honest = { λ _ _. ⊤ };
+
+    ghost shows = { λ _ w. shown_of w };
 
     ghost ledger = { ledger_of };
 

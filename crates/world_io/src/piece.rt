@@ -3,6 +3,7 @@ ghost use Rattle.std.specs.Prelude.{MatchOption, List, ℕ, length, take};
 ghost use Rattle.plain_text.specs.Octets.{AreBytes};
 ghost use Rattle.world_io.specs.Beginning.{ReadsBehind};
 ghost use Rattle.world_io.specs.Stream.{GoesOn, HasFailed};
+ghost use Rattle.world_io.specs.World.{Start};
 
 use crate::{Filled, FrontError, Source};
 use plain_text::Bytes;
@@ -19,6 +20,8 @@ pub fn fill_piece<S: Source>(source: &mut S, piece: &mut [u8]) -> Option<usize>
     ensures octets { AreBytes piece.new }
     ensures goes_on { GoesOn S.faults S.healthy source.old source.new }
     ensures cause { IsNone result → HasFailed S.faults S.healthy source.old source.new }
+    ensures runs_out { (p : Start) → S.honest p source.new
+        → IfSome result (λ n. n < length piece.new → S.remains p source.new ≡ []) }
 {
     let mut done = 0;
     while done < piece.len() {
@@ -44,6 +47,8 @@ pub fn fill_behind<S: Source>(source: &mut S, first: &[u8], piece: &mut [u8]) ->
     ensures octets { AreBytes piece.new }
     ensures goes_on { GoesOn S.faults S.healthy source.old source.new }
     ensures cause { IsNone result → HasFailed S.faults S.healthy source.old source.new }
+    ensures runs_out { (p : Start) → S.honest p source.new
+        → IfSome result (λ n. n < length piece.new → S.remains p source.new ≡ []) }
 {
     let start = first.len();
     piece[..start].copy_from_slice(first);
@@ -70,6 +75,8 @@ pub fn read_behind<S: Source>(
     ensures goes_on { GoesOn S.faults S.healthy source.old source.new }
     ensures cause { IsErrOf result FrontError.Failed
         → HasFailed S.faults S.healthy source.old source.new }
+    ensures runs_out { (p : Start) → S.honest p source.new
+        → IfOk result (λ bytes. length bytes < count → S.remains p source.new ≡ []) }
 {
     let Ok(mut bytes) = vec![in alloc; 0u8; count] else {
         return Err(FrontError::NoMemory);

@@ -1,6 +1,7 @@
 ghost use Rattle.std.specs.Prelude.{◌≡◌, ◌++◌, [], Bool, true, IsTrue, List, ℕ, length};
 ghost use Rattle.world_io.specs.Stream.{GoesOn, HasFailed, FillCount, filled_bytes, EndsAtEnd};
 ghost use Rattle.world_io.specs.Stream.{PutCount, put_bytes};
+ghost use Rattle.world_io.specs.World.{Start};
 
 use std::marker::Model;
 
@@ -31,14 +32,21 @@ pub enum Put {
 /// Bytes to be read in order, in pieces of any size.
 ///
 /// A source may tell its bytes or not, as a real file. What a call took is known either way, since
-/// it stands in the piece; what is left is known only where it is told. A source may say that it is
-/// healthy: then no call fails, and it stays healthy.
+/// it stands in the piece; what is left is known only where it is told, or by a beginning of which
+/// all answers so far are honest. A source may say that it is healthy: then no call fails, and it
+/// stays healthy.
 pub trait Source {
     /// Whether it tells its bytes.
     ghost tells: { Bool };
 
     /// The bytes left, where told.
     ghost left: { Self → List ℕ };
+
+    /// That each answer so far is that of files which held these bytes at the beginning.
+    ghost honest: { Start → Self → Type 0 };
+
+    /// The bytes left, by this beginning, where all answers are honest.
+    ghost remains: { Start → Self → List ℕ };
 
     /// How often reading failed. A count at 2^64 - 1 stays there.
     ghost faults: { Self → ℕ };
@@ -56,7 +64,9 @@ pub trait Source {
         ensures reads { reads self.old (filled_bytes result piece.new) self.new }
         ensures end { IsTrue tells → EndsAtEnd result (left self.old) }
         ensures goes_on { GoesOn faults healthy self.old self.new }
-        ensures cause { result ≡ Filled.Failed → HasFailed faults healthy self.old self.new };
+        ensures cause { result ≡ Filled.Failed → HasFailed faults healthy self.old self.new }
+        ensures ends { (p : Start) → honest p self.new
+            → result ≡ Filled.End → remains p self.old ≡ [] };
 
     ghost reads_nothing: { (s : Self) → reads s [] s };
 
@@ -65,6 +75,12 @@ pub trait Source {
 
     ghost reads_told: { (a b : Self) (taken : List ℕ)
         → IsTrue tells → reads a taken b → left a ≡ taken ++ left b };
+
+    ghost reads_before: { (p : Start) (a b : Self) (taken : List ℕ)
+        → honest p b → reads a taken b → honest p a };
+
+    ghost reads_shown: { (p : Start) (a b : Self) (taken : List ℕ)
+        → honest p b → reads a taken b → remains p a ≡ taken ++ remains p b };
 }
 
 /// A place to append bytes to. A sink may say that it is healthy: then no call fails, and it stays
@@ -75,6 +91,12 @@ pub trait Sink {
 
     /// The bytes written, where told.
     ghost written: { Self → List ℕ };
+
+    /// That each answer so far is that of files which held these bytes at the beginning.
+    ghost honest: { Start → Self → Type 0 };
+
+    /// The bytes written, by this beginning, where all answers are honest.
+    ghost holds: { Start → Self → List ℕ };
 
     /// How often writing failed. A count at 2^64 - 1 stays there.
     ghost faults: { Self → ℕ };
@@ -100,6 +122,12 @@ pub trait Sink {
 
     ghost writes_told: { (a b : Self) (added : List ℕ)
         → IsTrue tells → writes a added b → written b ≡ written a ++ added };
+
+    ghost writes_before: { (p : Start) (a b : Self) (added : List ℕ)
+        → honest p b → writes a added b → honest p a };
+
+    ghost writes_shown: { (p : Start) (a b : Self) (added : List ℕ)
+        → honest p b → writes a added b → holds p b ≡ holds p a ++ added };
 }
 
 /// A source that is lent is a source. What it read is known of the source afterwards.
@@ -110,6 +138,10 @@ impl<'a, S: Source> Source for &'a mut S {
     ghost tells = { S.tells };
 
     ghost left = { λ s. S.left s.now };
+
+    ghost honest = { λ p s. S.honest p s.now };
+
+    ghost remains = { λ p s. S.remains p s.now };
 
     ghost faults = { λ s. S.faults s.now };
 
@@ -123,6 +155,10 @@ impl<'a, S: Source> Source for &'a mut S {
         (s.0 ∙ r.0, S.reads_more a.now b.now c.now first more r.1 s.1) };
 
     ghost reads_told = { λ a b taken told r. S.reads_told a.now b.now taken told r.1 };
+
+    ghost reads_before = { λ p a b taken h r. S.reads_before p a.now b.now taken h r.1 };
+
+    ghost reads_shown = { λ p a b taken h r. S.reads_shown p a.now b.now taken h r.1 };
 
     fn fill(&mut self, piece: &mut [u8]) -> Filled {
         (**self).fill(piece)
@@ -138,6 +174,10 @@ impl<'a, K: Sink> Sink for &'a mut K {
 
     ghost written = { λ s. K.written s.now };
 
+    ghost honest = { λ p s. K.honest p s.now };
+
+    ghost holds = { λ p s. K.holds p s.now };
+
     ghost faults = { λ s. K.faults s.now };
 
     ghost healthy = { λ s. K.healthy s.now };
@@ -150,6 +190,10 @@ impl<'a, K: Sink> Sink for &'a mut K {
         (s.0 ∙ r.0, K.writes_more a.now b.now c.now first more r.1 s.1) };
 
     ghost writes_told = { λ a b added told r. K.writes_told a.now b.now added told r.1 };
+
+    ghost writes_before = { λ p a b added h r. K.writes_before p a.now b.now added h r.1 };
+
+    ghost writes_shown = { λ p a b added h r. K.writes_shown p a.now b.now added h r.1 };
 
     fn put(&mut self, piece: &[u8]) -> Put {
         (**self).put(piece)
@@ -187,6 +231,10 @@ impl<'a> Source for SliceSource<'a> {
 
     ghost left = { λ s. s };
 
+    ghost honest = { λ _ _. ⊤ };
+
+    ghost remains = { λ _ s. s };
+
     ghost faults = { λ _. 0 };
 
     ghost healthy = { λ _. ⊤ };
@@ -199,6 +247,10 @@ impl<'a> Source for SliceSource<'a> {
         r ∙ ap (λ l. first ++ l) s ∙ sym (append_assoc first more c) };
 
     ghost reads_told = { λ a b taken _ r. r };
+
+    ghost reads_before = { λ _ _ _ _ _ _. tt };
+
+    ghost reads_shown = { λ _ a b taken _ r. r };
 
     fn fill(&mut self, piece: &mut [u8]) -> Filled {
         if self.rest.is_empty() {

@@ -1,8 +1,9 @@
-ghost use Rattle.std.specs.Prelude.{◌≡◌, ◌<◌, ◌-◌, ◌^◌, Bool, IsTrue, length, IfOk, OnErr, IsErrOf};
-ghost use Rattle.std.specs.Prelude.{None};
+ghost use Rattle.std.specs.Prelude.{◌≡◌, ◌<◌, ◌-◌, ◌^◌, [], Bool, IsTrue, length, IfOk, OnErr};
+ghost use Rattle.std.specs.Prelude.{IsErrOf, None};
 ghost use Rattle.world_io.specs.Stream.{Rose, FillCount, filled_bytes, EndsAtEnd, PutCount};
 ghost use Rattle.world_io.specs.Stream.{put_bytes};
-ghost use Rattle.world_io.specs.World.{Shown, Ledger, KeepsLedgerReading, KeepsLedgerWriting};
+ghost use Rattle.world_io.specs.World.{Start, Shown, Ledger, KeepsLedgerReading};
+ghost use Rattle.world_io.specs.World.{KeepsLedgerWriting};
 ghost use Rattle.world_io.specs.World.{ReadsOn, WritesOn, ReadingFailed, WritingFailed};
 ghost use Rattle.world_io.specs.World.{GivesOpened, GivesCreated, OpensFile, ReadsFile};
 ghost use Rattle.world_io.specs.World.{CreatesFile, CreatesNothing, WritesFile, FilledNothing};
@@ -36,6 +37,10 @@ impl From<NoMemory> for OpenFault {
 /// which numbers it gave to files that it opened and created, and how often reading and writing
 /// failed. A count that stands at 2^64 - 1 stays there.
 ///
+/// What a world shows is also known by a beginning, where its answers are honest: where each is that
+/// of files which held these bytes at first. So something is known of the real files, whose bytes
+/// no contract can name: whatever they held, if they answer as files do.
+///
 /// A world may say that it is healthy: then no call fails, but for opening a name that is not
 /// there, and it stays healthy. The world of the real files never says so.
 pub trait World {
@@ -44,6 +49,12 @@ pub trait World {
 
     /// The bytes, where told.
     ghost shown: { Self → Shown };
+
+    /// That each answer so far is that of files which held these bytes at the beginning.
+    ghost honest: { Start → Self → Type 0 };
+
+    /// The bytes, by this beginning, where all answers are honest.
+    ghost shows: { Start → Self → Shown };
 
     /// The numbers that it gave, and the counts of its faults.
     ghost ledger: { Self → Ledger };
@@ -63,7 +74,14 @@ pub trait World {
             → Rose (ledger self.old).read_faults (ledger self.new).read_faults }
         ensures there { healthy self.old → IsTrue tells
             → IsErrOf result OpenFault.Failed → (shown self.old).names name.now ≡ None }
-        ensures stays_healthy { healthy self.old → healthy self.new };
+        ensures stays_healthy { healthy self.old → healthy self.new }
+        ensures shows { (p : Start) → honest p self.new
+            → IfOk result (λ file. OpensFile name.now file (shows p self.old) (shows p self.new)) }
+        ensures shows_err { (p : Start) → honest p self.new
+            → OnErr result (shows p self.new ≡ shows p self.old) }
+        ensures missing { healthy self.old → (p : Start) → honest p self.new
+            → IsErrOf result OpenFault.Failed → (shows p self.old).names name.now ≡ None }
+        ensures before { (p : Start) → honest p self.new → honest p self.old };
 
     /// Takes the next bytes of an opened file into the piece, from its first byte on.
     fn fill(&mut self, file: u32, piece: &mut [u8]) -> Filled
@@ -75,7 +93,14 @@ pub trait World {
             → FilledNothing result → shown self.new ≡ shown self.old }
         ensures end { IsTrue tells → EndsAtEnd result ((shown self.old).left file) }
         ensures reads_on { ReadsOn ledger healthy self.old self.new }
-        ensures cause { result ≡ Filled.Failed → ReadingFailed ledger healthy self.old self.new };
+        ensures cause { result ≡ Filled.Failed → ReadingFailed ledger healthy self.old self.new }
+        ensures shows { (p : Start) → honest p self.new
+            → ReadsFile file (filled_bytes result piece.new) (shows p self.old) (shows p self.new) }
+        ensures shows_nothing { (p : Start) → honest p self.new
+            → FilledNothing result → shows p self.new ≡ shows p self.old }
+        ensures ends { (p : Start) → honest p self.new
+            → result ≡ Filled.End → (shows p self.old).left file ≡ [] }
+        ensures before { (p : Start) → honest p self.new → honest p self.old };
 
     /// Makes the name's bytes empty, and starts writing them. The file has a number of its own,
     /// which is not 0.
@@ -90,7 +115,12 @@ pub trait World {
         ensures not_given { OnErr result (KeepsLedgerWriting (ledger self.old) (ledger self.new)) }
         ensures cause { IsErrOf result OpenFault.Failed
             → WritingFailed ledger healthy self.old self.new }
-        ensures stays_healthy { healthy self.old → healthy self.new };
+        ensures stays_healthy { healthy self.old → healthy self.new }
+        ensures shows { (p : Start) → honest p self.new
+            → IfOk result (λ file. CreatesFile name.now file (shows p self.old) (shows p self.new)) }
+        ensures shows_err { (p : Start) → honest p self.new
+            → OnErr result (CreatesNothing name.now (shows p self.old) (shows p self.new)) }
+        ensures before { (p : Start) → honest p self.new → honest p self.old };
 
     /// Appends the first bytes of the piece to a created file, or to the report.
     fn put(&mut self, file: u32, piece: &[u8]) -> Put
@@ -100,5 +130,10 @@ pub trait World {
             → WritesFile file (put_bytes result piece.now) (shown self.old) (shown self.new) }
         ensures told_nothing { IsTrue tells → PutNothing result → shown self.new ≡ shown self.old }
         ensures writes_on { WritesOn ledger healthy self.old self.new }
-        ensures cause { result ≡ Put.Failed → WritingFailed ledger healthy self.old self.new };
+        ensures cause { result ≡ Put.Failed → WritingFailed ledger healthy self.old self.new }
+        ensures shows { (p : Start) → honest p self.new
+            → WritesFile file (put_bytes result piece.now) (shows p self.old) (shows p self.new) }
+        ensures shows_nothing { (p : Start) → honest p self.new
+            → PutNothing result → shows p self.new ≡ shows p self.old }
+        ensures before { (p : Start) → honest p self.new → honest p self.old };
 }

@@ -18,9 +18,9 @@ use world_io::{Filled, OpenFault, Put, World};
 
 /// The files of the system, by their paths, and standard output as the report.
 ///
-/// It tells no bytes: contracts see the numbers that it gave, which count from 1 and are given
-/// once, and how often reading and writing failed. It never says that it is healthy: any call may
-/// fail.
+/// It tells no bytes, and none by a beginning: contracts see the numbers that it gave, which count
+/// from 1 and are given once, and how often reading and writing failed. It never says that it is
+/// healthy: any call may fail.
 #[derive(Drop)]
 pub struct RealWorld<R: Files + Print + Drop> {
     rt: R,
@@ -82,6 +82,10 @@ impl<R: Files + Print + Drop> World for RealWorld<R> {
     ghost tells = { false };
 
     ghost shown = { λ _. nothing_shown };
+
+    ghost honest = { λ _ _. ⊥ };
+
+    ghost shows = { λ _ _. nothing_shown };
 
     ghost ledger = { real_ledger };
 

@@ -42,3 +42,48 @@ returns-clause-told g c told =
     then_writes _
     (Creates c.args.name.now ∷ Appends c.args.name.now c.args.header.now ∷ Appends c.args.name.now c.args.body.now ∷ [])
     _ _ _ _ second (c.report.ensures.told told)
+
+pub returns-in_err-file-clause-shows : goal.returns-in_err-file-clause-shows
+returns-in_err-file-clause-shows g c p h =
+    err_writes _ _ _ _ c.from_residual.ensures.0
+    (begun_before (Creates c.args.name.now ∷ []) _ _ _ (c.in_err-file.ensures.shows p h))
+
+pub returns-in_err-append-clause-shows : goal.returns-in_err-append-clause-shows
+returns-in_err-append-clause-shows g c p h =
+    let h0 = c.in_err-append.ensures.before p h in
+    let created = c.in_ok-file.ensures.shows p h0 in
+    err_writes _ _ _ _ c.from_residual-in_err-append.ensures.0
+    (begun_behind (Creates c.args.name.now ∷ []) _ _ _ _ created
+    (begun_before (Appends c.args.name.now c.args.header.now ∷ []) _ _ _
+    (c.in_err-append.ensures.shows p h c.args.name.now (c.in_ok-file.ensures.shows_output p h0))))
+
+pub returns-in_err-append-2-clause-shows : goal.returns-in_err-append-2-clause-shows
+returns-in_err-append-2-clause-shows g c p h =
+    let h1 = c.in_err-append-2.ensures.before p h in
+    let h0 = c.in_ok-append.ensures.before p h1 in
+    let created = c.in_ok-file.ensures.shows p h0 in
+    let is = c.in_ok-file.ensures.shows_output p h0 in
+    let header = c.in_ok-append.ensures.shows p h1 c.args.name.now is in
+    let first =
+    written_more (Creates c.args.name.now ∷ []) (Appends c.args.name.now c.args.header.now ∷ []) _ _ _ created header in
+    err_writes _ _ _ _ c.from_residual-in_err-append-2.ensures.0
+    (begun_behind (Creates c.args.name.now ∷ Appends c.args.name.now c.args.header.now ∷ []) _ _ _ _ first
+    (begun_before (Appends c.args.name.now c.args.body.now ∷ []) _ _ _
+    (c.in_err-append-2.ensures.shows p h c.args.name.now (c.in_ok-append.ensures.keeps p h1 _ _ is))))
+
+pub returns-clause-shows : goal.returns-clause-shows
+returns-clause-shows g c p h =
+    let h2 = c.report.ensures.before p h in
+    let h1 = c.in_ok-append-2.ensures.before p h2 in
+    let h0 = c.in_ok-append.ensures.before p h1 in
+    let created = c.in_ok-file.ensures.shows p h0 in
+    let is = c.in_ok-file.ensures.shows_output p h0 in
+    let header = c.in_ok-append.ensures.shows p h1 c.args.name.now is in
+    let body = c.in_ok-append-2.ensures.shows p h2 c.args.name.now (c.in_ok-append.ensures.keeps p h1 _ _ is) in
+    let first =
+    written_more (Creates c.args.name.now ∷ []) (Appends c.args.name.now c.args.header.now ∷ []) _ _ _ created header in
+    let second = written_more (Creates c.args.name.now ∷ Appends c.args.name.now c.args.header.now ∷ [])
+    (Appends c.args.name.now c.args.body.now ∷ []) _ _ _ first body in
+    then_writes _
+    (Creates c.args.name.now ∷ Appends c.args.name.now c.args.header.now ∷ Appends c.args.name.now c.args.body.now ∷ [])
+    _ _ _ _ second (c.report.ensures.shows p h)

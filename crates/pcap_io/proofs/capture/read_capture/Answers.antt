@@ -1,4 +1,4 @@
-use Rattle.std.proofs.Common.{◌≡◌, inl, ap, ◌∙◌}
+use Rattle.std.proofs.Common.{◌≡◌, inl, ap, sym, ◌∙◌}
 use Rattle.std.proofs.lemmas.List.Elements.{All-push}
 use Rattle.plain_text.specs.Octets.{IsOfBytes}
 use Rattle.pcap_io.specs.Reading.{Reading}
@@ -76,3 +76,41 @@ returns-in-ReadFault-next_packet-clause-taken g c = taken_more g.S.Source.reads 
 pub returns-in-NoMemory-next_packet-clause-taken : goal.returns-in-NoMemory-next_packet-clause-taken
 returns-in-NoMemory-next_packet-clause-taken g c = taken_more g.S.Source.reads g.met.S.Source.reads_more _ _ _ _ _ _
     c.records.invariant.taken c.in-NoMemory-next_packet.ensures.taken
+
+pub returns-in-Refused-clause-shows : goal.returns-in-Refused-clause-shows
+returns-in-Refused-clause-shows g c p h =
+    let faulty = c.in-Refused.ensures.shows p h in
+    (inl faulty, λ limit passes. header_passes_none _ _ limit faulty passes)
+
+pub returns-in-Refused-next_packet-clause-shows : goal.returns-in-Refused-next_packet-clause-shows
+returns-in-Refused-next_packet-clause-shows g c p h =
+    let inv = c.records.invariant in
+    let answer = c.in-Refused-next_packet.ensures in
+    let before = g.met.S.Source.reads_before p _ _ _ h answer.taken.1 in
+    let begins = begins_read _ _ _ _ _ _ inv.taken.unused_length inv.stands.each
+    (g.met.S.Source.reads_shown p _ _ _ before inv.taken.taken) in
+    refused_says _ _ _ _ inv.stands begins _ (answer.shows p h)
+
+pub returns-in-TooLarge-clause-shows : goal.returns-in-TooLarge-clause-shows
+returns-in-TooLarge-clause-shows g c p h =
+    let inv = c.records.invariant in
+    let answer = c.in-TooLarge.ensures in
+    let before = g.met.S.Source.reads_before p _ _ _ h answer.taken.1 in
+    let begins = begins_read _ _ _ _ _ _ inv.taken.unused_length inv.stands.each
+    (g.met.S.Source.reads_shown p _ _ _ before inv.taken.taken) in
+    too_large_says _ _ _ _ inv.stands begins _ (answer.shows p h)
+
+pub returns-clause-shows : goal.returns-clause-shows
+returns-clause-shows g c p h =
+    let inv = c.records.invariant in
+    let answer = c.in-End.ensures in
+    let before = g.met.S.Source.reads_before p _ _ _ h answer.taken in
+    let begins = begins_read _ _ _ _ _ _ inv.taken.unused_length inv.stands.each
+    (g.met.S.Source.reads_shown p _ _ _ before inv.taken.taken) in
+    let same : c.unit.result ≡ c.records.reader.unit =
+    c.unit.ensures ∙ ap (λ (r : Reading). r.unit) answer.after in
+    rw same (begun_capture _ _ _ _ inv.stands begins (answer.shows p h))
+
+pub returns-clause-ends : goal.returns-clause-ends
+returns-clause-ends g c p h =
+    sym (g.met.S.Source.reads_shown p _ _ _ h c.in-End.ensures.taken) ∙ c.in-End.ensures.shows p h

@@ -1,4 +1,5 @@
 use Rattle.std.proofs.Common.{◌≡◌, ◌≤◌, ◌++◌, [], length, take, drop, arith, append-nil, ap, ◌∙◌, sym, subst, List, ℕ}
+use Rattle.std.proofs.Common.{refl}
 use Rattle.std.proofs.lemmas.Grind.{common_steps}
 use Rattle.plain_text.proofs.Octets.{AreBytes-append}
 use Rattle.world_io.proofs.Fronts.{no_memory, parts_of_piece, whole_piece, left_of_piece, kept_length, is_front}
@@ -63,6 +64,37 @@ returns-then-kept-count-clause-end g c = λ told.
     let more = left_of_piece piece count kept within in
     is_front c.keep.new.bytes next (g.S.Source.left c.fill.new.self) _ c.args.limit
     (both ∙ ap (λ l. l ++ g.S.Source.left c.fill.new.self) (sym parts)) (grind (arith, common_steps, size))
+    (grind (arith, common_steps, more))
+
+pub returns-in-End-clause-ends : goal.returns-in-End-clause-ends
+returns-in-End-clause-ends g c p h =
+    let reads = c.in-End.ensures.reads in
+    let before = g.met.S.Source.reads_before p _ _ _ h reads in
+    let first = g.met.S.Source.reads_shown p _ _ _ before c.loop-bytes.invariant.reads in
+    let nothing = c.in-End.ensures.ends p h refl in (
+      first ∙ ap (λ l. c.loop-bytes.bytes ++ l) nothing ∙ append-nil c.loop-bytes.bytes,
+      sym (g.met.S.Source.reads_shown p _ _ _ h reads) ∙ nothing,
+    )
+
+pub returns-then-kept-count-clause-ends : goal.returns-then-kept-count-clause-ends
+returns-then-kept-count-clause-ends g c = λ p h.
+    let inv = c.loop-bytes.invariant in
+    let count = c.in-Got.count in
+    let kept = c.min-kept.result in
+    let piece = c.fill.new.piece in
+    let tail = drop c.min-want.result c.loop-bytes.piece in
+    let within : count ≤ length piece = omega (arith, c.in-Got.ensures.count.0, c.fill.auto.piece) in
+    let less : kept ≤ count = omega (arith, c.min-kept.ensures) in
+    let first = c.in_ok-keep-in-Got.ensures.ok in
+    let next = drop kept (take count piece) in
+    let both =
+    g.met.S.Source.reads_shown p _ _ _ h (g.met.S.Source.reads_more _ _ _ _ _ inv.reads c.in-Got.ensures.reads) in
+    let parts : c.keep.new.bytes ++ next ≡ c.loop-bytes.bytes ++ take count piece =
+    ap (λ l. l ++ next) first ∙ parts_of_piece c.loop-bytes.bytes piece tail count kept less within in
+    let size = kept_length c.keep.new.bytes c.loop-bytes.bytes piece tail kept first (omega (arith, less, within)) in
+    let more = left_of_piece piece count kept within in
+    is_front c.keep.new.bytes next (g.S.Source.remains p c.fill.new.self) _ c.args.limit
+    (both ∙ ap (λ l. l ++ g.S.Source.remains p c.fill.new.self) (sym parts)) (grind (arith, common_steps, size))
     (grind (arith, common_steps, more))
 
 pub loop-bytes-preserved : goal.loop-bytes-preserved

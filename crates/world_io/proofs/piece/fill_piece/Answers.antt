@@ -1,4 +1,4 @@
-use Rattle.std.proofs.Common.{List, ℕ, sym, subst, arith}
+use Rattle.std.proofs.Common.{List, ℕ, sym, subst, arith, refl, ◌∙◌}
 use Rattle.std.proofs.lemmas.Grind.{common_steps}
 use Rattle.world_io.proofs.Filling.{take-put_mid_more, take-put_mid}
 use Rattle.world_io.proofs.GoingOn.{GoesOn-trans}
@@ -28,3 +28,7 @@ returns-in-End-clause-taken g c =
 pub returns-in-Failed-clause-taken : goal.returns-in-Failed-clause-taken
 returns-in-Failed-clause-taken g c =
     (_, g.met.S.Source.reads_more _ _ _ _ _ c.loop-done.invariant.taken c.in-Failed.ensures.reads)
+
+pub returns-in-End-clause-runs_out : goal.returns-in-End-clause-runs_out
+returns-in-End-clause-runs_out g c p h short =
+    sym (g.met.S.Source.reads_shown p _ _ _ h c.in-End.ensures.reads) ∙ c.in-End.ensures.ends p h refl
