@@ -59,9 +59,10 @@ soak: build/ftmb
 	scripts/soak build/ftmb build/soak
 	scripts/soak_live build/ftmb build/soak_live
 
-# Runs the program on captures in all four forms and on pcapng captures, and has tcpdump and Wireshark's tools read what was released;
-# and has tshark verify the checksums of generated packets.
+# Runs the program so that it ends with each of its statuses; on captures in all four forms and on pcapng captures, and has tcpdump and Wireshark's tools read what was released;
+# and has tshark verify the checksums of generated packets, and of those that four racing threads sent through the NAT.
 interop: build/ftmb
+	scripts/statuses build/ftmb build/statuses
 	scripts/interop build/ftmb build/interop
 
 # The program and its manual page, for all users.
