@@ -59,8 +59,9 @@ soak: build/ftmb
 	scripts/soak build/ftmb build/soak
 	scripts/soak_live build/ftmb build/soak_live
 
-# Runs the program so that it ends with each of its statuses; on captures in all four forms and on pcapng captures, and has tcpdump and Wireshark's tools read what was released;
-# and has tshark verify the checksums of generated packets, and of those that four racing threads sent through the NAT.
+# Runs the program so that it ends with each of its statuses, and compares what it tells. Runs it on captures in all four forms and on
+# pcapng captures, and has tcpdump and Wireshark's tools read what was released; and has tshark verify the checksums of generated packets,
+# and of those that four racing threads sent through the NAT.
 interop: build/ftmb
 	scripts/statuses build/ftmb build/statuses
 	scripts/interop build/ftmb build/interop
