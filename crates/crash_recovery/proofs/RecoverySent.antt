@@ -18,7 +18,7 @@ use Rattle.wire_frames.specs.Writing.{CanPutOutput}
 use Rattle.plain_machine.specs.declared.emission.Emission.{Emission}
 use Rattle.plain_machine.specs.Program.{Meaning}
 use Rattle.plain_machine.specs.History.{Step, log_of, sent_of, outputs, IsHistory}
-use Rattle.plain_machine.specs.Agree.{IsEarlier, SendsAfter}
+use Rattle.plain_machine.specs.Agree.{SendsAfter}
 use Rattle.plain_machine.proofs.Histories.{history_log, earlier_history, earlier_log, earlier_outputs}
 use Rattle.plain_machine.proofs.LoggedEffects.{entry_thread}
 use Rattle.master_core.specs.declared.parts.ThreadPart.{ThreadPart}

@@ -3,11 +3,6 @@ use Rattle.replay_guide.specs.Following.{CanBeFollowed}
 use Rattle.crash_recovery.proofs.RecoveryWorlds.{start_moves_as, starts_then, sends_then, follows_then}
 use Rattle.crash_recovery.proofs.crashing.start_over.Goals as goal
 
-pub unreleased-requires : goal.unreleased-requires
-unreleased-requires g c = record {
-  stored = c.in_ok-restored.ensures.master ∙ ap (λ y. y.store.stored.master) c.core.view_is;
-}
-
 pub of-requires : goal.of-requires
 of-requires g c =
     subst (λ held. CanBeFollowed held) (sym c.held.ensures) (follows_then g.P.Program.meaning _ _ c.fence-kept.new.self
