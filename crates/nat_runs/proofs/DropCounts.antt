@@ -1,4 +1,4 @@
--- The counts of drops: where they are touched, and what one drop more comes to.
+-- The counts of drops: what one drop more comes to.
 use Rattle.std.proofs.Common.{◌≡◌, ℕ, zero, suc, ◌+◌, ◌-◌, ◌%◌, ◌^◌, ◌<◌, ◌≤◌, Bool, true, List, [], ◌∷◌, length}
 use Rattle.std.proofs.Common.{◌∙◌, sym, refl, ap, arith}
 use Rattle.std.specs.Prelude.{◌&&◌, nat_lt, slice_index, slice_set, if◌then◌else◌}
@@ -6,30 +6,9 @@ use Rattle.std.proofs.lemmas.Bool.Decides.{nat_tests}
 use Rattle.std.specs.List.{sum}
 use Rattle.std.proofs.lemmas.List.{length-set}
 use Rattle.std.proofs.lemmas.List.Sums.{sum_by-cons}
-use Rattle.nat_box.specs.declared.place.Place.{Place}
-use Rattle.nat_box.specs.declared.place.Place.TheVariants.{CountsDrop}
-use Rattle.nat_box.specs.declared.place.Noted.{Noted}
 use Rattle.nat_box.specs.declared.value.Drops.{Drops}
-use Rattle.nat_box.specs.declared.value.NatValue.{NatValue}
-use Rattle.nat_box.specs.declared.value.NatValue.TheVariants.{Dropped}
-use Rattle.nat_box.specs.Nat.{Settings, with_drop}
-use Rattle.nat_box.specs.Lawful.{var_of}
+use Rattle.nat_box.specs.Nat.{with_drop}
 use Rattle.nat_runs.specs.Causes.{one_more}
-use Rattle.nat_runs.proofs.ThreadMoves.{TouchKind, finds, unbinds_freed, gives_freed, reserves, binds, finds_or_binds}
-use Rattle.nat_runs.proofs.ThreadMoves.{unbinds_lost, gives_lost, counts}
-
--- variable 0 is touched where a packet is counted, and nowhere else
-pub count_at : (s : Settings) (place : Place) (x : NatValue) (n : Noted) → TouchKind place x → var_of s place n ≡ 0
-    → (d : Drops) × (x ≡ Dropped d) × (place ≡ CountsDrop)
-count_at s _ _ n (finds es) e = absurd (omega arith)
-count_at s _ _ n (unbinds_freed bs) e = absurd (omega arith)
-count_at s _ _ n (gives_freed pool) e = absurd (omega arith)
-count_at s _ _ n (reserves pool) e = absurd (omega arith)
-count_at s _ _ n (binds bs) e = absurd (omega arith)
-count_at s _ _ n (finds_or_binds es) e = absurd (omega arith)
-count_at s _ _ n (unbinds_lost bs) e = absurd (omega arith)
-count_at s _ _ n (gives_lost pool) e = absurd (omega arith)
-count_at s _ _ n (counts d) e = (d, refl, refl)
 
 pub drop_is : (reason : ℕ) (d : Drops) → 1 ≤ reason → reason ≤ 9 → with_drop reason d ≡ one_more reason d
 drop_is reason d low high =
