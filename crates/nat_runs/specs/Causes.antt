@@ -44,7 +44,7 @@ FoundNoPort s p met reason =
     (flow : Flow) × IsFlow p flow × IsFromInside s flow × (value : ℕ → NatValue) × (met.at_pool ≡ Some value)
     × ((v port : ℕ) → v < 2 + 2 * s.shards → free_at (port_key flow.protocol port) (value v) ≡ 0) × (reason ≡ 8)
 
--- nothing is bound to the port, in no table
+-- nothing is bound to the port, in any table
 abbrev pub IsUnbound : Settings → (ℕ → NatValue) → PortKey → Type 0
 IsUnbound s value port =
     (v : ℕ) (key : Endpoint) → v < 2 + 2 * s.shards → Has (bound_in (value v)) (port, key) → ⊥
