@@ -1,34 +1,14 @@
--- The counts of drops: where they are touched, and what one drop more comes to.
+-- The counts of drops: what one drop more comes to.
 use Rattle.std.proofs.Common.{◌≡◌, ℕ, zero, suc, ◌+◌, ◌-◌, ◌%◌, ◌^◌, ◌<◌, ◌≤◌, Bool, true, List, [], ◌∷◌, length}
-use Rattle.std.proofs.Common.{refl, ap, arith}
+use Rattle.std.proofs.Common.{◌∙◌, sym, refl, ap, arith}
 use Rattle.std.specs.Prelude.{◌&&◌, nat_lt, slice_index, slice_set, if◌then◌else◌}
 use Rattle.std.proofs.lemmas.Bool.Decides.{nat_tests}
+use Rattle.std.specs.List.{sum}
 use Rattle.std.proofs.lemmas.List.{length-set}
-use Rattle.nat_box.specs.declared.place.Place.{Place}
-use Rattle.nat_box.specs.declared.place.Place.TheVariants.{CountsDrop}
-use Rattle.nat_box.specs.declared.place.Noted.{Noted}
+use Rattle.std.proofs.lemmas.List.Sums.{sum_by-cons}
 use Rattle.nat_box.specs.declared.value.Drops.{Drops}
-use Rattle.nat_box.specs.declared.value.NatValue.{NatValue}
-use Rattle.nat_box.specs.declared.value.NatValue.TheVariants.{Dropped}
-use Rattle.nat_box.specs.Nat.{Settings, with_drop}
-use Rattle.nat_box.specs.Lawful.{var_of}
-use Rattle.nat_runs.specs.Passing.{sum_of}
+use Rattle.nat_box.specs.Nat.{with_drop}
 use Rattle.nat_runs.specs.Causes.{one_more}
-use Rattle.nat_runs.proofs.ThreadMoves.{TouchKind, finds, unbinds_freed, gives_freed, reserves, binds, finds_or_binds}
-use Rattle.nat_runs.proofs.ThreadMoves.{unbinds_lost, gives_lost, counts}
-
--- variable 0 is touched where a packet is counted, and nowhere else
-pub count_at : (s : Settings) (place : Place) (x : NatValue) (n : Noted) → TouchKind place x → var_of s place n ≡ 0
-    → (d : Drops) × (x ≡ Dropped d) × (place ≡ CountsDrop)
-count_at s _ _ n (finds es) e = absurd (omega arith)
-count_at s _ _ n (unbinds_freed bs) e = absurd (omega arith)
-count_at s _ _ n (gives_freed pool) e = absurd (omega arith)
-count_at s _ _ n (reserves pool) e = absurd (omega arith)
-count_at s _ _ n (binds bs) e = absurd (omega arith)
-count_at s _ _ n (finds_or_binds es) e = absurd (omega arith)
-count_at s _ _ n (unbinds_lost bs) e = absurd (omega arith)
-count_at s _ _ n (gives_lost pool) e = absurd (omega arith)
-count_at s _ _ n (counts d) e = (d, refl, refl)
 
 pub drop_is : (reason : ℕ) (d : Drops) → 1 ≤ reason → reason ≤ 9 → with_drop reason d ≡ one_more reason d
 drop_is reason d low high =
@@ -47,12 +27,17 @@ sum_front : (n a b : ℕ) → a % 2 ^ 64 ≡ (b + 1) % 2 ^ 64 → (n + a) % 2 ^ 
 sum_front n a b e = omega arith
 
 sum_set : (ns : List ℕ) (i : ℕ) → i < length ns
-    → sum_of (slice_set ns i ((slice_index ns i + 1) % 2 ^ 64)) % 2 ^ 64 ≡ (sum_of ns + 1) % 2 ^ 64
+    → sum (slice_set ns i ((slice_index ns i + 1) % 2 ^ 64)) % 2 ^ 64 ≡ (sum ns + 1) % 2 ^ 64
 sum_set [] i low = absurd (omega arith)
-sum_set (n ∷ ns) zero low = sum_wraps n (sum_of ns)
+sum_set (n ∷ ns) zero low =
+    ap (λ m. m % 2 ^ 64) (sum_by-cons (λ m. m) ((n + 1) % 2 ^ 64) ns) ∙ sum_wraps n (sum ns)
+    ∙ ap (λ m. (m + 1) % 2 ^ 64) (sym (sum_by-cons (λ m. m) n ns))
 sum_set (n ∷ ns) (suc i) low =
-    sum_front n (sum_of (slice_set ns i ((slice_index ns i + 1) % 2 ^ 64))) (sum_of ns) (sum_set ns i (omega arith))
+    let left : List ℕ = slice_set ns i ((slice_index ns i + 1) % 2 ^ 64) in
+    ap (λ m. m % 2 ^ 64) (sum_by-cons (λ m. m) n left)
+    ∙ sum_front n (sum left) (sum ns) (sum_set ns i (omega arith))
+    ∙ ap (λ m. (m + 1) % 2 ^ 64) (sym (sum_by-cons (λ m. m) n ns))
 
 pub one_more_sum : (reason : ℕ) (d : Drops) → 1 ≤ reason → reason ≤ 9 → length d.counts ≡ 9
-    → sum_of (one_more reason d).counts % 2 ^ 64 ≡ (sum_of d.counts + 1) % 2 ^ 64
+    → sum (one_more reason d).counts % 2 ^ 64 ≡ (sum d.counts + 1) % 2 ^ 64
 one_more_sum reason d low high nine = sum_set d.counts (reason - 1) (omega arith)

@@ -46,6 +46,7 @@ use Rattle.nat_box.specs.Sentences.{Has, mappings_in, bound_in}
 use Rattle.nat_box.specs.Emissions.{source_of}
 use Rattle.nat_box.proofs.Noting.{touched_noted}
 use Rattle.nat_box.proofs.Making.{goes_on}
+use Rattle.nat_runs.specs.Classes.{IsFromInside, GoesInside}
 use Rattle.nat_runs.specs.Met.{Met, nothing_met, met_by_touch, met_by_read, met_by, met_of}
 use Rattle.nat_runs.specs.Causes.{IsUnbound, HasNoneUsed, FoundNoneUsed, Cause}
 use Rattle.nat_runs.proofs.TableEntries.{endpoint_in, not_bound, AreIdle, lives_not, may_endpoint, may_mapping}
@@ -65,6 +66,11 @@ abbrev pub IsOutward : Class → Type 0
 IsOutward Outbound = Unit {0}
 IsOutward Hairpin = Unit {0}
 IsOutward Inbound = ⊥
+
+abbrev pub IsInward : Class → Type 0
+IsInward Outbound = ⊥
+IsInward Hairpin = Unit {0}
+IsInward Inbound = Unit {0}
 
 abbrev pub IfOutward : Class → Type 0 → Type 0
 IfOutward Outbound X = X
@@ -103,8 +109,8 @@ KnownAt s m p BindsPort n = IsOnWay s m p n
 KnownAt s m p FindsOrBinds n = IsOnWay s m p n
 KnownAt s m p UnbindsLost n = IsOnWay s m p n × Refreshed m n
 KnownAt s m p GivesBackLost n = IsOnWay s m p n × Refreshed m n
-KnownAt s m p FindsEndpoint n = IsTold s m p n × IfOutward n.class (Refreshed m n)
-KnownAt s m p AsksIfLives n = IsTold s m p n × IfOutward n.class (Refreshed m n) × IsBoundTo m n
+KnownAt s m p FindsEndpoint n = IsTold s m p n × IsInward n.class × IfOutward n.class (Refreshed m n)
+KnownAt s m p AsksIfLives n = IsTold s m p n × IsInward n.class × IfOutward n.class (Refreshed m n) × IsBoundTo m n
 KnownAt s m p CountsDrop n = IsToCount s m p n
 KnownAt s m p SendsOut n = IsTold s m p n × IfOutward n.class (Refreshed m n)
 KnownAt s m p Ends n = Unit {0}
@@ -221,6 +227,23 @@ free_elsewhere s v (Free pool) k fits other = absurd (other fits.0)
 free_elsewhere s v (Mapped es) k fits other = refl
 free_elsewhere s v (Taken bs) k fits other = refl
 
+pub from_inside : (s : Settings) (p : Packet) (n : Noted) (base : IsBase s p n) → IsOutward n.class
+    → IsFromInside s base.flow
+from_inside s p n base out = by (class_of_flow s base.flow.source base.flow.dest) n.class base.class out
+  where
+    by : (o : Option Class) (c : Class) → o ≡ Some c → IsOutward c → (o ≡ Some Outbound) ⊎ (o ≡ Some Hairpin)
+    by o Outbound e out = inl e
+    by o Hairpin e out = inr e
+    by o Inbound e out = absurd out
+
+goes_inside : (s : Settings) (p : Packet) (n : Noted) (base : IsBase s p n) → IsInward n.class → GoesInside s base.flow
+goes_inside s p n base inward = by (class_of_flow s base.flow.source base.flow.dest) n.class base.class inward
+  where
+    by : (o : Option Class) (c : Class) → o ≡ Some c → IsInward c → (o ≡ Some Inbound) ⊎ (o ≡ Some Hairpin)
+    by o Outbound e inward = absurd inward
+    by o Hairpin e inward = inr e
+    by o Inbound e inward = inl e
+
 given_outward : (c : Class) (X : Type 0) → X → IfOutward c X
 given_outward Outbound X x = x
 given_outward Hairpin X x = x
@@ -237,11 +260,12 @@ module _ (s : Settings) (p : Packet) where
     dest_port = λ bytes. d ∙ b.dest_port bytes;
   }
 
-  mapped_known : (m : Met) (n : Noted) (c : Class) → IsOnWay s m p n → Refreshed m n
+  mapped_known : (m : Met) (n : Noted) (c : Class) → n.class ≡ c → IsOnWay s m p n → Refreshed m n
       → KnownAt s m p (mapped n c).place (mapped n c).noted
-  mapped_known m n Outbound k r = ((k.0, k.1), given_outward n.class (Refreshed m n) r)
-  mapped_known m n Hairpin k r = ((k.0, k.1), given_outward n.class (Refreshed m n) r)
-  mapped_known m n Inbound k r = ((k.0, k.1), given_outward n.class (Refreshed m n) r)
+  mapped_known m n Outbound is k r = ((k.0, k.1), given_outward n.class (Refreshed m n) r)
+  mapped_known m n Hairpin is k r =
+      ((k.0, k.1), subst IsInward (sym is) tt, given_outward n.class (Refreshed m n) r)
+  mapped_known m n Inbound is k r = ((k.0, k.1), given_outward n.class (Refreshed m n) r)
 
   module _ (m : Met) (n : Noted) (es : Forwards) (k : IsOnWay s m p n) where
     abbrev leaving : Forwards → Met
@@ -258,7 +282,7 @@ module _ (s : Settings) (p : Packet) where
         (base_on n (record n { freed = port_of (n.source, slot) }) refl refl refl k.0, k.1, k.2)
     there_known slot false is =
         let o : Noted = record n { port = slot.port } in
-        mapped_known (leaving (refresh n.source n.time es)) o o.class (base_on n o refl refl refl k.0, k.1, k.2)
+        mapped_known (leaving (refresh n.source n.time es)) o o.class refl (base_on n o refl refl refl k.0, k.1, k.2)
         (refreshes slot is)
 
     found_known : (a : Option Slot) (b : Option (Endpoint × Slot)) → slot_of n.source es ≡ a
@@ -276,7 +300,7 @@ module _ (s : Settings) (p : Packet) where
     bound_known None is =
         let slot : Slot = record { port = n.port; last = n.time } in
         let left : Forwards = es ++ (n.source, slot) ∷ [] in
-        mapped_known (leaving left) n n.class k (left, slot, refl, slot_bound n.source slot es is, omega arith)
+        mapped_known (leaving left) n n.class refl k (left, slot, refl, slot_bound n.source slot es is, omega arith)
 
   -- a touch, and a read, of variables with these values
   module _ (value : ℕ → NatValue) (fits : (v : ℕ) → v < 2 + 2 * s.shards → Fits s v (value v)) where
@@ -303,6 +327,7 @@ module _ (s : Settings) (p : Packet) where
         cause bytes = inr (inr (inl (
           k.0.flow,
           k.0.seen,
+          from_inside s p n k.0 k.2,
           value,
           refl,
           subst (λ (q : ℕ). (v port : ℕ) → v < 2 + 2 * s.shards → free_at (port_key q port) (value v) ≡ 0)
@@ -324,7 +349,7 @@ module _ (s : Settings) (p : Packet) where
     touch_known m w _ _ n is (finds_or_binds es) at k = bound_known m n es k (slot_of n.source es) refl
     touch_known m w _ _ n is (unbinds_lost bs) at k = k
     touch_known m w _ _ n is (gives_lost pool) at k =
-        mapped_known (record m { at_pool = Some value }) n n.class k.0 k.1
+        mapped_known (record m { at_pool = Some value }) n n.class refl k.0 k.1
     touch_known m w _ _ n is (counts d) at k = tt
 
     same_port_key : (n : Noted) (base : IsBase s p n) → AreBytes p.bytes
@@ -338,6 +363,7 @@ module _ (s : Settings) (p : Packet) where
     endpoint_known m n bs w (Some key) is at e k = (
       (base_on n (after_endpoint n (Some key)).noted refl refl refl k.0.0, k.0.1),
       k.1,
+      k.2,
       (
         value,
         w,
@@ -359,6 +385,7 @@ module _ (s : Settings) (p : Packet) where
         cause bytes = inr (inr (inr (
           k.0.0.flow,
           k.0.0.seen,
+          goes_inside s p n k.0.0 k.1,
           value,
           refl,
           inl (subst (IsUnbound s value) (same_port_key n k.0.0 bytes) unbound),
@@ -369,7 +396,7 @@ module _ (s : Settings) (p : Packet) where
         → w < 2 + 2 * s.shards → forward_table s n.target ≡ w → lives n.target n.dest_port n.time es ≡ b
         → KnownAt s m p AsksIfLives n
         → KnownAt s (record m { at_forward = Some value }) p (looked_by n b).place (looked_by n b).noted
-    lives_known m n w es true is low at e k = (k.0, k.1)
+    lives_known m n w es true is low at e k = (k.0, k.2)
     lives_known m n w es false is low at e k = (omega arith, omega arith, cause)
       where
         idle : AreIdle es n.target n.dest_port n.time
@@ -384,7 +411,7 @@ module _ (s : Settings) (p : Packet) where
         cause : AreBytes p.bytes → Cause s p (record m { at_forward = Some value }) 7
         cause bytes =
             let base : IsBase s p n = k.0.0 in
-            let to : IsBoundTo m n = k.2 in
+            let to : IsBoundTo m n = k.3 in
             let protocol : n.source.protocol ≡ base.flow.protocol =
             ap (λ (q : Endpoint). q.protocol) (base.source bytes) in
             let target : n.target ≡ endpoint base.flow.protocol to.2.address to.2.port =
@@ -403,7 +430,7 @@ module _ (s : Settings) (p : Packet) where
               k.0.1,
               there,
             ) in
-            inr (inr (inr (base.flow, base.seen, to.0, to.3, inr found, refl)))
+            inr (inr (inr (base.flow, base.seen, goes_inside s p n base k.1, to.0, to.3, inr found, refl)))
 
     look_known : (m : Met) (w : ℕ) (place : Place) (x : NatValue) (n : Noted) → value w ≡ x → LookKind place x
         → w < 2 + 2 * s.shards → var_of s place n ≡ w → KnownAt s m p place n
@@ -418,7 +445,7 @@ module _ (s : Settings) (p : Packet) where
   time_known m n Outbound is base clock = (base, clock, subst IsOutward (sym is) tt)
   time_known m n Hairpin is base clock = (base, clock, subst IsOutward (sym is) tt)
   time_known m n Inbound is base clock =
-      ((base, clock), subst (λ (c : Class). IfOutward c (Refreshed m n)) (sym is) tt)
+      ((base, clock), subst IsInward (sym is) tt, subst (λ (c : Class). IfOutward c (Refreshed m n)) (sym is) tt)
 
 -- The beginning
 

@@ -18,7 +18,7 @@ use Rattle.nat_tables.specs.Forwards.{Forwards, is_idle, slot_of, first_idle, fo
 use Rattle.nat_box.specs.declared.place.Place.{Place}
 use Rattle.nat_box.specs.declared.place.Place.TheVariants.{SendsOut}
 use Rattle.nat_box.specs.declared.place.Class.{Class}
-use Rattle.nat_box.specs.declared.place.Class.TheVariants.{Outbound, Hairpin, Inbound}
+use Rattle.nat_box.specs.declared.place.Class.TheVariants.{Outbound, Hairpin}
 use Rattle.nat_box.specs.declared.place.Noted.{Noted}
 use Rattle.nat_box.specs.declared.value.NatValue.{NatValue}
 use Rattle.nat_box.specs.declared.value.NatValue.TheVariants.{Mapped}
@@ -34,7 +34,7 @@ use Rattle.nat_runs.specs.Refreshing.{ComesFrom, HostsRefresh, HasRefreshed, Sen
 use Rattle.nat_runs.proofs.TableEntries.{slot_in, WasOr, refresh_was, bound_was, without_was, without_idle_was}
 use Rattle.nat_runs.proofs.ThreadMoves.{TouchKind, finds, unbinds_freed, gives_freed, reserves, binds, finds_or_binds}
 use Rattle.nat_runs.proofs.ThreadMoves.{unbinds_lost, gives_lost, counts, touch_kind, at_emit, at, touched_below, by_move}
-use Rattle.nat_runs.proofs.Knowing.{IsBase, IsOutward, IfOutward, Refreshed, IsOnWay, KnownAt, Known, run_known}
+use Rattle.nat_runs.proofs.Knowing.{from_inside, IsBase, IfOutward, Refreshed, IsOnWay, KnownAt, Known, run_known}
 
 -- What a touch leaves
 
@@ -54,11 +54,6 @@ bind_was : (key : Endpoint) (port now : ℕ) (es : Forwards) (a : Option Slot) (
 bind_was key port now es (Some slot) e h = refresh_was key now es e h
 bind_was key port now es None e h = bound_was key _ es e h
 
-outward_is : (o : Option Class) (c : Class) → o ≡ Some c → IsOutward c → (o ≡ Some Outbound) ⊎ (o ≡ Some Hairpin)
-outward_is o Outbound e out = inl e
-outward_is o Hairpin e out = inr e
-outward_is o Inbound e out = absurd out
-
 module _ (s : Settings) (m : Met) (p : Packet) (e : Endpoint × Slot) where
   -- it was there, or the packet comes from its endpoint
   abbrev Was : NatValue → Type 0
@@ -71,7 +66,7 @@ module _ (s : Settings) (m : Met) (p : Packet) (e : Endpoint × Slot) where
         k.0.flow,
         k.0.seen,
         sym (k.0.source bytes) ∙ q,
-        outward_is (class_of_flow s k.0.flow.source k.0.flow.dest) n.class k.0.class k.2,
+        from_inside s p n k.0 k.2,
       ))
 
   touch_was : (place : Place) (x : NatValue) (n : Noted) → TouchKind place x → KnownAt s m p place n

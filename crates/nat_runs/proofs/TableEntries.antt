@@ -151,9 +151,6 @@ IsLater now e es =
     (later : Slot) × Has es (e.0, later) × (later.port ≡ e.1.port) × (e.1.last ≤ later.last)
     × ((later.last ≡ e.1.last) ⊎ (now ≡ later.last))
 
-pub as_it_was : (now : ℕ) (e : Endpoint × Slot) (es : Forwards) → Has es e → IsLater now e es
-as_it_was now e es h = (e.1, h, refl, omega arith, inl refl)
-
 max_is : (a b : ℕ) → (max a b ≡ a) ⊎ (b ≡ max a b)
 max_is a b = by (nat_lt a b) refl
   where

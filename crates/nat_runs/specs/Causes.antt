@@ -22,6 +22,7 @@ use Rattle.nat_box.specs.Lawful.{AreSettings}
 use Rattle.nat_box.specs.PortStanding.{free_at}
 use Rattle.nat_box.specs.Sentences.{Has, bound_in, IsMapping}
 use Rattle.nat_box.specs.Emissions.{HaveBytes}
+use Rattle.nat_runs.specs.Classes.{IsFromInside, GoesInside}
 use Rattle.nat_runs.specs.Met.{Met, met_of}
 use Rattle.nat_runs.specs.Idle.{IsIdle}
 
@@ -37,13 +38,13 @@ abbrev pub IsStray : Settings → Packet → ℕ → Type 0
 IsStray s p reason =
     (flow : Flow) × IsFlow p flow × (class_of_flow s flow.source flow.dest ≡ None) × (reason ≡ 9)
 
--- 8: when it touched the pool, no port of its protocol was free
+-- 8: it comes from inside, and when it touched the pool, no port of its protocol was free
 abbrev pub FoundNoPort : Settings → Packet → Met → ℕ → Type 0
 FoundNoPort s p met reason =
-    (flow : Flow) × IsFlow p flow × (value : ℕ → NatValue) × (met.at_pool ≡ Some value)
+    (flow : Flow) × IsFlow p flow × IsFromInside s flow × (value : ℕ → NatValue) × (met.at_pool ≡ Some value)
     × ((v port : ℕ) → v < 2 + 2 * s.shards → free_at (port_key flow.protocol port) (value v) ≡ 0) × (reason ≡ 8)
 
--- nothing is bound to the port, in no table
+-- nothing is bound to the port, in any table
 abbrev pub IsUnbound : Settings → (ℕ → NatValue) → PortKey → Type 0
 IsUnbound s value port =
     (v : ℕ) (key : Endpoint) → v < 2 + 2 * s.shards → Has (bound_in (value v)) (port, key) → ⊥
@@ -60,10 +61,11 @@ FoundNoneUsed s flow met bound =
     × (value : ℕ → NatValue) × (now : ℕ) × (met.at_forward ≡ Some value) × (met.clock ≡ Some now)
     × HasNoneUsed s value (endpoint flow.protocol key.address key.port) flow.dest_port now
 
--- 7: when it read a reverse table, nothing was bound to the port that it goes to, or only an idle mapping was
+-- 7: it goes inside, and when it read a reverse table, nothing was bound to the port that it goes to, or no mapping that
+-- is not idle
 abbrev pub FoundNoMapping : Settings → Packet → Met → ℕ → Type 0
 FoundNoMapping s p met reason =
-    (flow : Flow) × IsFlow p flow × (bound : ℕ → NatValue) × (met.at_reverse ≡ Some bound)
+    (flow : Flow) × IsFlow p flow × GoesInside s flow × (bound : ℕ → NatValue) × (met.at_reverse ≡ Some bound)
     × (IsUnbound s bound (port_key flow.protocol flow.dest_port) ⊎ FoundNoneUsed s flow met bound) × (reason ≡ 7)
 
 abbrev pub Cause : Settings → Packet → Met → ℕ → Type 0

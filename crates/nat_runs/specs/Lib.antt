@@ -1,3 +1,4 @@
+pub mod Classes
 pub mod Met
 pub mod Idle
 pub mod Passing

@@ -1,6 +1,7 @@
--- No packet vanishes: each one that was taken was sent out, was counted as dropped, or is in hand and will be.
+-- No packet vanishes: each one that was taken was sent out, was counted as dropped, or is in hand and neither yet.
 use Rattle.std.specs.Prelude.{◌≡◌, ℕ, ◌+◌, ◌%◌, ◌^◌, ◌<◌, ◌==◌, List, [], ◌∷◌, length, Option, None, nat_eq, cond}
 use Rattle.std.specs.Prelude.{if◌then◌else◌}
+use Rattle.std.specs.List.{sum}
 use Rattle.plain_text.specs.declared.packet.Packet.{Packet}
 use Rattle.entry_order.specs.declared.what.What.{What}
 use Rattle.entry_order.specs.declared.what.What.TheVariants.{Access, Read, Clock, Draw}
@@ -32,13 +33,8 @@ abbrev pub sent_in : List (Step NatValue) → ℕ
 sent_in steps = length (sent_of steps)
 
 -- how many packets were counted as dropped, whatever the reason
-
-abbrev pub sum_of : List ℕ → ℕ
-sum_of [] = 0
-sum_of (n ∷ ns) = n + sum_of ns
-
 abbrev pub drops_in : NatValue → ℕ
-drops_in (Dropped d) = sum_of d.counts
+drops_in (Dropped d) = sum d.counts
 drops_in (Free pool) = 0
 drops_in (Mapped es) = 0
 drops_in (Taken bs) = 0

@@ -9,19 +9,18 @@ use Rattle.plain_machine.specs.History.{Emitted, Step, thread_after, value_after
 use Rattle.nat_tables.specs.declared.entries.Endpoint.{Endpoint}
 use Rattle.nat_tables.specs.declared.slot.Slot.{Slot}
 use Rattle.nat_tables.specs.Forwards.{Forwards}
-use Rattle.nat_box.specs.declared.place.Class.TheVariants.{Outbound, Hairpin}
 use Rattle.nat_box.specs.declared.value.NatValue.{NatValue}
-use Rattle.nat_box.specs.Nat.{Settings, class_of_flow, nat_meaning}
+use Rattle.nat_box.specs.Nat.{Settings, nat_meaning}
 use Rattle.nat_box.specs.Lawful.{AreSettings}
 use Rattle.nat_box.specs.Sentences.{Has, mappings_in}
 use Rattle.nat_box.specs.Emissions.{source_of, HaveBytes}
+use Rattle.nat_runs.specs.Classes.{IsFromInside}
 use Rattle.nat_runs.specs.Met.{Met, met_of}
 
 -- the packet is from inside, from this endpoint
 abbrev pub ComesFrom : Settings → Endpoint → Packet → Type 0
 ComesFrom s key p =
-    (flow : Flow) × (viewed p.bytes p.original ≡ Ok flow) × (source_of flow ≡ key)
-    × ((class_of_flow s flow.source flow.dest ≡ Some Outbound) ⊎ (class_of_flow s flow.source flow.dest ≡ Some Hairpin))
+    (flow : Flow) × (viewed p.bytes p.original ≡ Ok flow) × (source_of flow ≡ key) × IsFromInside s flow
 
 -- Each mapping that is there after a step was there before it, with the same time of its last use, or the packet in hand
 -- comes from its endpoint.

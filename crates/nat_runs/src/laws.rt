@@ -7,8 +7,8 @@ ghost use Rattle.nat_runs.specs.Inbound.{InboundChangesNoTable};
 ghost use Rattle.nat_runs.specs.Refreshing.{HostsRefresh, SentRefresh};
 
 /// After each move of each run, whatever its threads, its inputs and the order of its moves: each packet that a thread
-/// took was sent out once, or counted once as dropped, or is the one in hand and will be (`each`). So over all threads
-/// the packets taken are those sent out, those that variable 0 counts, and those in hand (`always`); with no packet in
+/// took was sent out once, or counted once as dropped, or is the one in hand and neither yet (`each`). So over all
+/// threads the packets taken are those sent out, those that variable 0 counts, and those in hand (`always`); with no packet in
 /// hand, those sent out and those counted (`at_rest`). The counts wrap at 2^64.
 pub fn no_packet_vanishes()
     ensures each { EachPasses }
