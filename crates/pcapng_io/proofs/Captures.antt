@@ -255,8 +255,11 @@ unit_kept r capture.ReadFault = refl
 unit_kept r capture.NoMemory = refl
 unit_kept r capture.Over = refl
 
-module _ {S : Type 0} (reads : S → List ℕ → S → Type 0) (left_of : S → List ℕ)
-    (told : (a b : S) (taken : List ℕ) → reads a taken b → left_of a ≡ taken ++ left_of b) (old now : S) where
+-- where the bytes left are told, here and so before
+module _ {S : Type 0} (reads : S → List ℕ → S → Type 0) (left_of : S → List ℕ) (honest : S → Type 0)
+    (before : (a b : S) (taken : List ℕ) → honest b → reads a taken b → honest a)
+    (told : (a b : S) (taken : List ℕ) → honest b → reads a taken b → left_of a ≡ taken ++ left_of b)
+    (old now : S) (here : honest now) where
   reached : (r : NgReading) (ps : List Packet) → begins_ng (left_of old) ≡ true → HasReadNg reads old now r ps
       → ReachedNg (left_of old) r ps (left_of now)
   reached r ps begins has =
@@ -265,8 +268,8 @@ module _ {S : Type 0} (reads : S → List ℕ → S → Type 0) (left_of : S →
         passed = moves.passed;
         passes = moves.passes;
         parts =
-            told old has.begun (held_type true) has.first
-            ∙ ap (λ l. held_type true ++ l) (told has.begun now moves.taken moves.read)
+            told old has.begun (held_type true) (before has.begun now moves.taken here moves.read) has.first
+            ∙ ap (λ l. held_type true ++ l) (told has.begun now moves.taken here moves.read)
             ∙ sym (append_assoc (held_type true) moves.taken (left_of now))
             ∙ ap (λ l. l ++ left_of now) moves.parts
             ∙ append_assoc moves.passed (held_type r.typed) (left_of now);
@@ -278,7 +281,7 @@ module _ {S : Type 0} (reads : S → List ℕ → S → Type 0) (left_of : S →
   module _ (r : Reading) (ps : List Packet) (has : HasReadSavefile reads old now r ps) where
     started_at : Begins (left_of old) r.order r.unit ps (left_of now)
     started_at = begins_read r.order r.unit ps has.taken.unused (left_of old) (left_of now) has.taken.unused_length
-        has.stands.each (told old now _ has.taken.taken)
+        has.stands.each (told old now _ here has.taken.taken)
 
     savefile_refused : (f : AnyFault) (n : Next) → next.Refused f ≡ any_next n → AnswersAt r (left_of now) n
         → (c : Captured) × (any.Refused f ≡ any_captured c) × Says (left_of old) c

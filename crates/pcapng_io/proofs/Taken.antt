@@ -41,7 +41,7 @@ module _ {S : Type 0} (reads : S → List ℕ → S → Type 0) where
   some_of_ng next.NoMemory old new from to takes = takes.0
   some_of_ng next.Over old new from to takes = (_, takes.0)
 
-  some_of_any : (answer : AnyNext) (old new : S) (from to : Format) → TakesAny reads answer old new from to
+  pub some_of_any : (answer : AnyNext) (old new : S) (from to : Format) → TakesAny reads answer old new from to
       → TakesSome reads old new
   some_of_any answer old new (form.Capture r) to takes = some_of_savefile r.order takes.0 old new takes.2
   some_of_any answer old new (form.Ng r) to takes = some_of_ng answer old new r takes.0 takes.2

@@ -1,5 +1,6 @@
 ghost use Rattle.std.specs.Prelude.{◌≡◌, ◌≢◌, ◌≤◌, ◌↔◌, true, length, IsTrue};
 ghost use Rattle.world_io.specs.Stream.{GoesOn, HasFailed};
+ghost use Rattle.world_io.specs.World.{Start};
 ghost use Rattle.pcap_io.specs.Started.{Starts, IsFresh};
 ghost use Rattle.pcapng_io.specs.Capture.{begins_ng};
 ghost use Rattle.pcapng_io.specs.Reader.{GivesAny};
@@ -65,6 +66,8 @@ pub fn open_capture<S: Source>(alloc: Global, source: &mut S) -> AnyStarted
     ensures cause { result ≡ AnyStarted.ReadFault
         → HasFailed S.faults S.healthy source.old source.new }
     ensures memory { result ≢ AnyStarted.NoMemory }
+    ensures shows { (p : Start) → S.honest p source.new
+        → StartsAny (S.remains p source.old) result }
 {
     let mut first = [0u8; 4];
     let Some(had) = fill_piece(source, &mut first) else {
@@ -139,6 +142,8 @@ impl AnyReader {
         ensures goes_on { GoesOn S.faults S.healthy source.old source.new }
         ensures cause { result ≡ AnyNext.ReadFault
             → HasFailed S.faults S.healthy source.old source.new }
+        ensures shows { (p : Start) → S.honest p source.new
+            → AnswersAny self.old (S.remains p source.old) result }
     {
         match &mut self.format {
             Format::Capture(reader) => AnyNext::of(reader.next_packet(self.alloc, source)),

@@ -1,5 +1,6 @@
 ghost use Rattle.std.specs.Prelude.{◌≡◌, IsTrue};
 ghost use Rattle.world_io.specs.Stream.{GoesOn, HasFailed};
+ghost use Rattle.world_io.specs.World.{Start};
 ghost use Rattle.world_io.specs.Taking.{TakesSome};
 ghost use Rattle.pcapng_io.specs.Captured.{SaysAny, CapturesPackets};
 
@@ -30,6 +31,7 @@ pub fn read_any_capture<S: Source>(alloc: Global, source: &mut S) -> AnyCaptured
     ensures goes_on { GoesOn S.faults S.healthy source.old source.new }
     ensures cause { result ≡ AnyCaptured.ReadFault
         → HasFailed S.faults S.healthy source.old source.new }
+    ensures shows { (p : Start) → S.honest p source.new → SaysAny (S.remains p source.old) result }
 {
     let mut reader = match open_capture(alloc, source) {
         AnyStarted::Reader(reader) => reader,

@@ -1,6 +1,7 @@
 ghost use Rattle.std.specs.Prelude.{◌≡◌, ◌≢◌, ◌≤◌, ◌&&◌, ◌++◌, false, [], List, ℕ, length, IsTrue};
 ghost use Rattle.std.specs.Prelude.{IfOk, IfErr, IsErrOf};
 ghost use Rattle.world_io.specs.Stream.{GoesOn, HasFailed};
+ghost use Rattle.world_io.specs.World.{Start};
 ghost use Rattle.pcapng_io.specs.Blocks.{order_of, order_in};
 ghost use Rattle.pcapng_io.specs.Limits.{shows_packet};
 ghost use Rattle.pcapng_io.specs.Stops.{held_type, StopsHere, StandsHere, TakesBlock, PassesRest};
@@ -63,6 +64,8 @@ impl Place {
         ensures goes_on { GoesOn S.faults S.healthy source.old source.new }
         ensures cause { IsErrOf result Stop.ReadFault
             → HasFailed S.faults S.healthy source.old source.new }
+        ensures shows { (p : Start) → S.honest p source.new
+            → IfErr result (StopsHere self (held_type self.typed ++ S.remains p source.old)) }
     {
         let mut head = [0u8; BLOCK_HEAD];
         let Some(had) = fill_behind(source, held_type(self.typed), &mut head) else {
@@ -87,6 +90,8 @@ impl Place {
         ensures goes_on { GoesOn S.faults S.healthy source.old source.new }
         ensures cause { IsErrOf result Stop.ReadFault
             → HasFailed S.faults S.healthy source.old source.new }
+        ensures shows { (p : Start) → S.honest p source.new
+            → IfErr result (StopsHere self (head.now ++ S.remains p source.old)) }
     {
         let number = read_u32(self.order, head);
         let kind = BlockKind::of(number);
@@ -129,6 +134,8 @@ impl Place {
         ensures goes_on { GoesOn S.faults S.healthy source.old source.new }
         ensures cause { result ≡ Stop.ReadFault
             → HasFailed S.faults S.healthy source.old source.new }
+        ensures shows { (p : Start) → S.honest p source.new
+            → PassesRest self.room total (S.remains p source.old) result }
     {
         let rest = u64::from(total).saturating_sub(12);
         let room = self.room - 12;

@@ -1,6 +1,7 @@
 ghost use Rattle.std.specs.Prelude.{◌≡◌, ◌≤◌, ◌<◌, [], IsTrue, IsNone, IfSome, MatchOption, List};
 ghost use Rattle.std.specs.Prelude.{ℕ, length};
 ghost use Rattle.world_io.specs.Stream.{GoesOn, HasFailed};
+ghost use Rattle.world_io.specs.World.{Start};
 
 use world_io::{Filled, Source};
 
@@ -16,6 +17,8 @@ pub(crate) fn read_past<S: Source>(source: &mut S, count: u64) -> Option<u64>
     ensures short { IsTrue S.tells → IfSome result (λ n. n < count → S.left source.new ≡ []) }
     ensures goes_on { GoesOn S.faults S.healthy source.old source.new }
     ensures cause { IsNone result → HasFailed S.faults S.healthy source.old source.new }
+    ensures runs_out { (p : Start) → S.honest p source.new
+        → IfSome result (λ n. n < count → S.remains p source.new ≡ []) }
 {
     let mut piece = [0u8; PAST];
     let mut done = 0;

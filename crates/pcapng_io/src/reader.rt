@@ -3,6 +3,7 @@ ghost use Rattle.std.specs.Prelude.{OnOk, IfErr, IsErrOf};
 ghost use Rattle.plain_text.specs.declared.limit.TheConstants.{MOST_FILE_BYTES, MOST_PACKETS};
 ghost use Rattle.pcap_io.specs.declared.order.Order.TheVariants.{Little};
 ghost use Rattle.world_io.specs.Stream.{GoesOn, HasFailed};
+ghost use Rattle.world_io.specs.World.{Start};
 ghost use Rattle.pcapng_io.specs.Reader.{section_of, MovesOn, StopsAt, AnswersNg, TakesNg};
 ghost use Rattle.pcapng_io.specs.Reader.{GivesAny, answer_of};
 ghost use Rattle.pcapng_io.specs.Stops.{held_type};
@@ -86,6 +87,8 @@ impl NgReader {
         ensures goes_on { GoesOn S.faults S.healthy source.old source.new }
         ensures cause { result ≡ AnyNext.ReadFault
             → HasFailed S.faults S.healthy source.old source.new }
+        ensures shows { (p : Start) → S.honest p source.new
+            → AnswersNg self.old (held_type self.old.typed ++ S.remains p source.old) result }
     {
         if self.over {
             return AnyNext::Over;
@@ -118,6 +121,9 @@ impl NgReader {
         ensures goes_on { GoesOn S.faults S.healthy source.old source.new }
         ensures cause { IsErrOf result Stop.ReadFault
             → HasFailed S.faults S.healthy source.old source.new }
+        ensures shows { (p : Start) → S.honest p source.new
+            → IfErr result (StopsAt (section_of self.old) self.old.count self.old.offset
+            (held_type self.old.typed ++ S.remains p source.old)) }
     {
         let block = match self.place().read_block(alloc, source) {
             Ok(block) => block,

@@ -3,6 +3,7 @@ use Rattle.std.specs.Prelude.{IsTrue, All}
 use Rattle.plain_text.specs.declared.limit.TheConstants.{MOST_PACKETS}
 use Rattle.plain_text.specs.Octets.{IsOfBytes}
 use Rattle.world_io.specs.Taking.{TakesSome}
+use Rattle.world_io.specs.World.{Start}
 use Rattle.pcapng_io.proofs.Captures.{HasReadAny, IsFormatOf}
 use Rattle.world_io.specs.Stream.{GoesOn}
 use Rattle.pcapng_io.proofs.capture.read_any_capture.Given as goal
@@ -14,6 +15,7 @@ invariant-records g l =
     record {
       read : HasReadAny source.reads l.fn.source l.source l.reader l.packets;
       format : IsTrue source.tells → IsFormatOf (source.left l.fn.source) l.reader;
+      shows : (p : Start) → source.honest p l.source → IsFormatOf (source.remains p l.fn.source) l.reader;
       some : TakesSome source.reads l.fn.source l.source;
       octets : All IsOfBytes l.packets;
       goes_on : GoesOn source.faults source.healthy l.fn.source l.source;

@@ -1,4 +1,4 @@
-use Rattle.std.proofs.Common.{[], ◌++◌, take, arith, length-append}
+use Rattle.std.proofs.Common.{[], ◌++◌, take, arith, length-append, sym, ◌∙◌, refl}
 use Rattle.std.proofs.lemmas.Grind.{common_steps}
 use Rattle.std.proofs.lemmas.List.{length-take}
 use Rattle.world_io.proofs.GoingOn.{GoesOn-trans}
@@ -36,3 +36,7 @@ returns-in-End-clause-taken g c =
 pub returns-in-Failed-clause-taken : goal.returns-in-Failed-clause-taken
 returns-in-Failed-clause-taken g c =
     (_, g.met.S.Source.reads_more _ _ _ _ _ c.loop-done.invariant.taken.1 c.in-Failed.ensures.reads)
+
+pub returns-in-End-clause-runs_out : goal.returns-in-End-clause-runs_out
+returns-in-End-clause-runs_out g c p h fewer =
+    sym (g.met.S.Source.reads_shown p _ _ _ h c.in-End.ensures.reads) ∙ c.in-End.ensures.ends p h refl

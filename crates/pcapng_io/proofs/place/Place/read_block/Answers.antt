@@ -30,6 +30,21 @@ returns-in-Err-clause-told g c = λ told.
     subst Stops parts (c.in-Err.ensures.stops left (λ few. c.in-Some.ensures.short told
     (grind (arith, common_steps, length-take c.in-Some.had head, c.fill_behind.auto.piece, few))))
 
+pub returns-in-Err-clause-shows : goal.returns-in-Err-clause-shows
+returns-in-Err-clause-shows g c = λ p h.
+    let taken = c.in-Some.ensures.taken in
+    let head = c.fill_behind.new.piece in
+    let left = g.S.Source.remains p c.fill_behind.new.source in
+    let parts : take c.in-Some.had head ++ left
+    ≡ held_type c.args.self.typed ++ g.S.Source.remains p c.args.source.now =
+    ap (λ l. l ++ left) (sym taken.2)
+    ∙ ap (λ l. (l ++ taken.0) ++ left) c.held_type.ensures
+    ∙ append_assoc (held_type c.args.self.typed) taken.0 left
+    ∙ ap (λ l. held_type c.args.self.typed ++ l) (sym (g.met.S.Source.reads_shown p _ _ _ h taken.1)) in
+    let Stops : List ℕ → Type 0 = λ bytes. StopsHere c.args.self bytes c.in-Err.why in
+    subst Stops parts (c.in-Err.ensures.stops left (λ few. c.in-Some.ensures.runs_out p h
+    (grind (arith, common_steps, length-take c.in-Some.had head, c.fill_behind.auto.piece, few))))
+
 pub returns-in-Err-clause-ended : goal.returns-in-Err-clause-ended
 returns-in-Err-clause-ended g c = λ ends.
     let taken = c.in-Some.ensures.taken in
