@@ -1,7 +1,8 @@
 ghost use Rattle.std.specs.Prelude.{◌<◌, ◌≤◌, ◌-◌, ◌^◌, IsTrue, IfOk, IsErrOf, List, ℕ};
 ghost use Rattle.world_io.specs.Stream.{Rose};
+ghost use Rattle.world_io.specs.World.{Start};
 ghost use Rattle.input_files.specs.Answers.{SaysBox};
-ghost use Rattle.input_files.specs.Files.{OnlyReads};
+ghost use Rattle.input_files.specs.Files.{KeepsOutputs, OnlyReads};
 ghost use Rattle.input_files.specs.Judging.{JudgesBox};
 ghost use Rattle.input_files.specs.Texts.{IsFrontOf};
 
@@ -28,6 +29,11 @@ pub fn read_box_file<W: World>(
     ensures only_reads { OnlyReads W.tells W.shown W.ledger W.healthy 1 world.old world.new }
     ensures cause { IsErrOf result InputError.ReadFault
         → Rose (W.ledger world.old).read_faults (W.ledger world.new).read_faults }
+    ensures judges { (p : Start) → W.honest p world.new
+        → JudgesBox (W.healthy world.old) name.now result (W.shows p world.old) }
+    ensures keeps { (p : Start) → W.honest p world.new
+        → KeepsOutputs (W.shows p world.old) (W.shows p world.new) }
+    ensures before { (p : Start) → W.honest p world.new → W.honest p world.old }
 {
     let front = read_front_of(alloc, world, name)?;
     judge_box(&front)

@@ -5,9 +5,10 @@ ghost use Rattle.plain_text.specs.Octets.{IsOfBytes};
 ghost use Rattle.plain_text.specs.Packets.{IsShort};
 ghost use Rattle.pcapng_io.specs.Captured.{SaysAny, CapturesPackets};
 ghost use Rattle.world_io.specs.Stream.{Rose, GoesOn, HasFailed};
+ghost use Rattle.world_io.specs.World.{Start};
 ghost use Rattle.world_io.specs.Taking.{TakesSome};
 ghost use Rattle.input_files.specs.Answers.{SaysCapture};
-ghost use Rattle.input_files.specs.Files.{OnlyReads};
+ghost use Rattle.input_files.specs.Files.{KeepsOutputs, OnlyReads};
 ghost use Rattle.input_files.specs.Judging.{JudgesCapture};
 
 use crate::InputError;
@@ -43,6 +44,11 @@ pub fn read_capture_file<W: World>(
     ensures only_reads { OnlyReads W.tells W.shown W.ledger W.healthy 1 world.old world.new }
     ensures cause { IsErrOf result InputError.ReadFault
         → Rose (W.ledger world.old).read_faults (W.ledger world.new).read_faults }
+    ensures judges { (p : Start) → W.honest p world.new
+        → JudgesCapture (W.healthy world.old) name.now result (W.shows p world.old) }
+    ensures keeps { (p : Start) → W.honest p world.new
+        → KeepsOutputs (W.shows p world.old) (W.shows p world.new) }
+    ensures before { (p : Start) → W.honest p world.new → W.honest p world.old }
 {
     let file = match world.open_file(name) {
         Ok(file) => file,
@@ -91,6 +97,7 @@ fn read_buffered<S: Source>(alloc: Global, source: &mut S, buffer: Vec<u8>) -> A
     ensures goes_on { GoesOn S.faults S.healthy source.old source.new }
     ensures cause { result ≡ AnyCaptured.ReadFault
         → HasFailed S.faults S.healthy source.old source.new }
+    ensures shows { (p : Start) → S.honest p source.new → SaysAny (S.remains p source.old) result }
 {
     let mut buffered = BufferedSource::of(source, buffer);
     let captured = read_any_capture(alloc, &mut buffered);

@@ -1,6 +1,7 @@
 ghost use Rattle.std.specs.Prelude.{◌<◌, ◌-◌, ◌^◌, IsTrue, IsErrOf};
 ghost use Rattle.world_io.specs.Stream.{Rose};
-ghost use Rattle.input_files.specs.Files.{OnlyReads};
+ghost use Rattle.world_io.specs.World.{Start};
+ghost use Rattle.input_files.specs.Files.{KeepsOutputs, OnlyReads};
 ghost use Rattle.input_files.specs.Judging.{JudgesPlan};
 
 use crate::InputError;
@@ -25,6 +26,11 @@ pub fn read_plan_file<W: World>(
     ensures only_reads { OnlyReads W.tells W.shown W.ledger W.healthy 1 world.old world.new }
     ensures cause { IsErrOf result InputError.ReadFault
         → Rose (W.ledger world.old).read_faults (W.ledger world.new).read_faults }
+    ensures judges { (p : Start) → W.honest p world.new
+        → JudgesPlan (W.healthy world.old) name.now result (W.shows p world.old) }
+    ensures keeps { (p : Start) → W.honest p world.new
+        → KeepsOutputs (W.shows p world.old) (W.shows p world.new) }
+    ensures before { (p : Start) → W.honest p world.new → W.honest p world.old }
 {
     read_lines_file::<W, Plans>(alloc, world, name)
 }

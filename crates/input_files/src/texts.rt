@@ -1,6 +1,7 @@
 ghost use Rattle.std.specs.Prelude.{◌≡◌, ◌<◌, ◌-◌, ◌^◌, IsTrue, IsErrOf};
 ghost use Rattle.world_io.specs.Stream.{Rose};
-ghost use Rattle.input_files.specs.Files.{ReadsFrontOf, OnlyReads};
+ghost use Rattle.world_io.specs.World.{Start};
+ghost use Rattle.input_files.specs.Files.{ReadsFrontOf, KeepsOutputs, OnlyReads};
 ghost use Rattle.input_files.specs.Texts.{whole_lines};
 
 use plain_text::{MOST_FILE_BYTES, Text};
@@ -19,6 +20,11 @@ pub(crate) fn read_front_of<W: World>(
     ensures only_reads { OnlyReads W.tells W.shown W.ledger W.healthy 1 world.old world.new }
     ensures cause { IsErrOf result FrontError.Failed
         → Rose (W.ledger world.old).read_faults (W.ledger world.new).read_faults }
+    ensures judges { (p : Start) → W.honest p world.new
+        → ReadsFrontOf (W.healthy world.old) name.now result (W.shows p world.old) }
+    ensures keeps { (p : Start) → W.honest p world.new
+        → KeepsOutputs (W.shows p world.old) (W.shows p world.new) }
+    ensures before { (p : Start) → W.honest p world.new → W.honest p world.old }
 {
     let file = match world.open_file(name) {
         Ok(file) => file,

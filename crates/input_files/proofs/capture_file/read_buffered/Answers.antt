@@ -57,3 +57,15 @@ returns-clause-cause g c = λ fault.
       rose = subst (λ s. Rose (g.S.Source.faults c.args.source.now) (g.S.Source.faults s)) last rose;
       not_healthy = λ healthy. failed.not_healthy (subst g.S.Source.healthy (sym start) healthy);
     }
+
+pub returns-clause-shows : goal.returns-clause-shows
+returns-clause-shows g c = λ p h.
+    let start = ap (λ b. b.1 ++ g.S.Source.remains p b.0.now) c.of-buffered.ensures in
+    let name =
+    ap (λ b. b.0.ghost_name) (sym c.of-buffered.ensures)
+    ∙ sym c.read_any_capture-captured.ensures.reads.1.below.0
+    ∙ ap (λ s. s.ghost_name) (sym c.into_inner-below.ensures) in
+    let last = ap (λ s. s.now) (sym c.into_inner-below.ensures) ∙ sym (c.source-1.given.1 name) in
+    let here = subst (λ s. g.S.Source.honest p s) (sym last) h in
+    subst (λ (left : List ℕ). SaysAny left c.read_any_capture-captured.result) start
+    (c.read_any_capture-captured.ensures.shows p here)

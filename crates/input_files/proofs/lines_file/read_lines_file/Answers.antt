@@ -7,3 +7,10 @@ returns-clause-judged g c = λ told.
     file_judged g.F.LineFile.form (g.W.World.healthy c.args.world.now) c.args.name.now
     (g.W.World.shown c.args.world.now)
     c.judge_front.result (read.0, read.1, c.judge_front.ensures.says read.0 read.2)
+
+pub returns-clause-judges : goal.returns-clause-judges
+returns-clause-judges g c = λ p h.
+    let read = c.in_ok-front.ensures.judges p h in
+    file_judged g.F.LineFile.form (g.W.World.healthy c.args.world.now) c.args.name.now
+    (g.W.World.shows p c.args.world.now)
+    c.judge_front.result (read.0, read.1, c.judge_front.ensures.says read.0 read.2)
