@@ -1,4 +1,4 @@
-ghost use Rattle.std.specs.Prelude.{◌≡◌, ◌<◌, ◌≤◌, ◌+◌, ◌^◌, ◌⊎◌, None, IsTrue, IfErr, IfOk, IfSome};
+ghost use Rattle.std.specs.Prelude.{◌≡◌, ◌<◌, ◌≤◌, ◌+◌, ◌^◌, ◌⊎◌, None, IfErr, IfOk, IfSome};
 ghost use Rattle.std.specs.IoError.{error_kind};
 ghost use Rattle.world_io.specs.Stream.{Rose};
 ghost use Rattle.job_commands.specs.Status.{IsRefusal};
@@ -6,7 +6,7 @@ ghost use Rattle.job_commands.specs.Words.{asked};
 ghost use Rattle.command_line.specs.Performing.{Performs};
 ghost use Rattle.command_line.specs.Printing.{Prints, asked_text};
 ghost use Rattle.command_line.specs.Words.{Refuses, words_of};
-ghost use Rattle.world_io.specs.World.{WritingFailed};
+ghost use Rattle.world_io.specs.World.{Start, WritingFailed};
 
 use crate::{Request, help, read_request, read_words, version};
 use job_commands::Status;
@@ -23,13 +23,14 @@ use world_io::{Clock, World};
 /// Prints a text where the report goes.
 #[tactic(auto, using(crate::proofs::Printed::prints_prefix, crate::proofs::Printed::prints_whole))]
 fn print<W: World>(world: &mut W, text: &str) -> Status
-    ensures prints { IsTrue W.tells
-        → Prints text.now result (W.shown world.old) (W.shown world.new) }
+    ensures prints { (p : Start) → W.honest p world.new
+        → Prints text.now result (W.shows p world.old) (W.shows p world.new) }
     ensures outcome { (result ≡ Status.Done)
         ⊎ ((result ≡ Status.WriteFault) ⊎ (result ≡ Status.NoMemory)) }
     ensures given { (W.ledger world.new).given ≡ (W.ledger world.old).given }
     ensures write_fault { result ≡ Status.WriteFault
         → WritingFailed W.ledger W.healthy world.old world.new }
+    ensures before { (p : Start) → W.honest p world.new → W.honest p world.old }
 {
     match report(world, text.as_bytes()) {
         Ok(()) => Status::Done,
@@ -48,8 +49,8 @@ pub fn perform<W: World, C: Clock + Sync, G: Gate + Sync, R: AllocGlobal + Threa
     gate: &G,
 ) -> Status
     requires room { (W.ledger world.old).given < 2 ^ 31 }
-    ensures performs { IsTrue W.tells → Performs (W.healthy world.old) (C.may clock.now) words.now result
-        (W.shown world.old) (W.shown world.new) }
+    ensures performs { (p : Start) → W.honest p world.new → Performs (W.healthy world.old)
+        (C.may clock.now) words.now result (W.shows p world.old) (W.shows p world.new) }
     ensures printed { IfSome (asked_text words.now) (λ text. (result ≡ Status.Done)
         ⊎ ((result ≡ Status.WriteFault) ⊎ (result ≡ Status.NoMemory))) }
     ensures bad_words { result ≡ Status.BadWords
@@ -64,6 +65,7 @@ pub fn perform<W: World, C: Clock + Sync, G: Gate + Sync, R: AllocGlobal + Threa
         → Rose (W.ledger world.old).read_faults (W.ledger world.new).read_faults }
     ensures write_fault { result ≡ Status.WriteFault
         → WritingFailed W.ledger W.healthy world.old world.new }
+    ensures before { (p : Start) → W.honest p world.new → W.honest p world.old }
 {
     match read_request(words) {
         Request::Help => print(world, help()),
@@ -87,10 +89,9 @@ pub fn answer<W: World, C: Clock + Sync, G: Gate + Sync, R: AllocGlobal + Thread
     requires room { (W.ledger world.old).given < 2 ^ 31 }
     ensures not_text { IfErr arguments (λ error.
         Refuses (error_kind error) result × (world.new ≡ world.old)) }
-    ensures performs { IsTrue W.tells → IfOk arguments (λ all.
-        ((result ≡ Status.NoMemory) × (world.new ≡ world.old))
-        ⊎ Performs (W.healthy world.old) (C.may clock.now) (words_of all) result
-        (W.shown world.old) (W.shown world.new)) }
+    ensures performs { (p : Start) → W.honest p world.new → IfOk arguments (λ all.
+        ((result ≡ Status.NoMemory) × (world.new ≡ world.old)) ⊎ Performs (W.healthy world.old)
+        (C.may clock.now) (words_of all) result (W.shows p world.old) (W.shows p world.new)) }
     ensures printed { IfOk arguments (λ all. IfSome (asked_text (words_of all))
         (λ text. (result ≡ Status.Done)
         ⊎ ((result ≡ Status.WriteFault) ⊎ (result ≡ Status.NoMemory)))) }
@@ -104,6 +105,7 @@ pub fn answer<W: World, C: Clock + Sync, G: Gate + Sync, R: AllocGlobal + Thread
         → Rose (W.ledger world.old).read_faults (W.ledger world.new).read_faults }
     ensures write_fault { result ≡ Status.WriteFault
         → WritingFailed W.ledger W.healthy world.old world.new }
+    ensures before { (p : Start) → W.honest p world.new → W.honest p world.old }
 {
     match read_words(rt.alloc(), arguments) {
         Ok(words) => perform(rt, words.as_slice(), world, clock, gate),

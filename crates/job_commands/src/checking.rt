@@ -3,7 +3,7 @@ ghost use Rattle.std.specs.Prelude.{length};
 ghost use Rattle.plain_text.specs.declared.limit.Limit.{Limit as LimitKind};
 ghost use Rattle.schedule_check.specs.declared.checking.Refutation as refuted;
 ghost use Rattle.world_io.specs.Stream.{Rose};
-ghost use Rattle.world_io.specs.World.{WritingFailed};
+ghost use Rattle.world_io.specs.World.{Start, WritingFailed};
 ghost use Rattle.output_files.specs.Writes.{HasBegun, HasWritten};
 ghost use Rattle.schedule_commands.specs.Checking.{SaysCheck, found_writes};
 ghost use Rattle.schedule_commands.specs.Runs.{CanPlay};
@@ -41,6 +41,13 @@ fn check_box<W: World>(
     ensures only_writes { OnlyWrites W.tells W.shown W.ledger W.healthy world.old world.new }
     ensures cause { IsErrOf result ScheduleError.WriteFault
         → WritingFailed W.ledger W.healthy world.old world.new }
+    ensures shows_reported { (p : Start) → W.honest p world.new → OnOk result (HasWritten
+        (found_writes (length inputs.released.packets))
+        (W.shows p world.old) (W.shows p world.new)) }
+    ensures shows_in_order { (p : Start) → W.honest p world.new → (world.new ≡ world.old)
+        ⊎ (AreFound inputs × HasBegun (found_writes (length inputs.released.packets))
+        (W.shows p world.old) (W.shows p world.new)) }
+    ensures before { (p : Start) → W.honest p world.new → W.honest p world.old }
 {
     let played = inputs.played;
     let run = ScheduleRun {
@@ -82,6 +89,17 @@ pub fn check_released<W: World>(alloc: Global, world: &mut W, names: CheckWords<
         → Rose (W.ledger world.old).read_faults (W.ledger world.new).read_faults }
     ensures write_fault { result ≡ Status.WriteFault
         → WritingFailed W.ledger W.healthy world.old world.new }
+    ensures shows_done { (p : Start) → W.honest p world.new → result ≡ Status.Done → FindsAll
+        (check_names_of names.entry) (W.shows p world.old) (W.shows p world.new) }
+    ensures shows_no_limit { (p : Start) → W.honest p world.new → (limit : LimitKind) → result ≡
+        Status.TooLarge limit → stage_of_limit limit ≡ AtOutputs → ⊥ }
+    ensures judges { (p : Start) → W.honest p world.new → JudgesCheck (W.healthy world.old)
+        (check_names_of names.entry) result (W.shows p world.old) }
+    ensures shows_in_order { (p : Start) → W.honest p world.new → FindsInOrder
+        (check_names_of names.entry) (W.shows p world.old) (W.shows p world.new) }
+    ensures shows_refused { (p : Start) → W.honest p world.new → stage_of result ≡ AtInputs
+        → KeepsShown (W.shows p world.old) (W.shows p world.new) }
+    ensures before { (p : Start) → W.honest p world.new → W.honest p world.old }
 {
     match read_check_inputs(alloc, world, names) {
         Ok(inputs) => check_outcome(check_box(alloc, world, inputs)),

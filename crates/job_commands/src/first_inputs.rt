@@ -1,9 +1,10 @@
 ghost use Rattle.std.specs.Prelude.{◌<◌, ◌≤◌, ◌^◌, All, IsTrue, IfOk, IfErr, IsErrOf};
 ghost use Rattle.plain_text.specs.Packets.{IsShort};
 ghost use Rattle.world_io.specs.Stream.{Rose};
-ghost use Rattle.input_files.specs.Files.{OnlyReads};
+ghost use Rattle.input_files.specs.Files.{KeepsOutputs, OnlyReads};
 ghost use Rattle.job_commands.specs.Status.{AtInputs, ComesAt, EndsReading};
 ghost use Rattle.job_commands.specs.Turns.{JudgesFirst};
+ghost use Rattle.world_io.specs.World.{Start};
 
 use crate::Status;
 use crate::status::{box_status, capture_status};
@@ -38,6 +39,12 @@ pub(crate) fn read_first_inputs<W: World>(
     ensures only_reads { OnlyReads W.tells W.shown W.ledger W.healthy 2 world.old world.new }
     ensures cause { IsErrOf result Status.ReadFault
         → Rose (W.ledger world.old).read_faults (W.ledger world.new).read_faults }
+    ensures judges { (p : Start) → W.honest p world.new → JudgesFirst (W.healthy world.old)
+        box_file.now capture.now result (W.shows p world.old) }
+    ensures shows_stage { (p : Start) → W.honest p world.new → IfErr result (ComesAt AtInputs) }
+    ensures keeps { (p : Start) → W.honest p world.new → KeepsOutputs
+        (W.shows p world.old) (W.shows p world.new) }
+    ensures before { (p : Start) → W.honest p world.new → W.honest p world.old }
 {
     let conf = match read_box_file(alloc, world, box_file) {
         Ok(conf) => conf,

@@ -1,11 +1,12 @@
 ghost use Rattle.std.specs.Prelude.{◌<◌, ◌-◌, ◌^◌, IsTrue, IfOk, IfErr, IsErrOf};
 ghost use Rattle.world_io.specs.Stream.{Rose};
 ghost use Rattle.run_writes.specs.Run.{CanRun};
-ghost use Rattle.input_files.specs.Files.{OnlyReads};
+ghost use Rattle.input_files.specs.Files.{KeepsOutputs, OnlyReads};
 ghost use Rattle.job_commands.specs.Judging.{JudgesInputs};
 ghost use Rattle.job_commands.specs.Run.{script_of};
 ghost use Rattle.job_commands.specs.Status.{AtInputs, ComesAt, EndsReading};
 ghost use Rattle.job_commands.specs.Words.{names_of};
+ghost use Rattle.world_io.specs.World.{Start};
 
 use crate::first_inputs::read_first_inputs;
 use crate::status::script_status;
@@ -40,6 +41,12 @@ pub fn read_inputs<W: World>(
     ensures only_reads { OnlyReads W.tells W.shown W.ledger W.healthy 3 world.old world.new }
     ensures cause { IsErrOf result Status.ReadFault
         → Rose (W.ledger world.old).read_faults (W.ledger world.new).read_faults }
+    ensures judges { (p : Start) → W.honest p world.new → JudgesInputs (W.healthy world.old)
+        (names_of names.entry) result (W.shows p world.old) }
+    ensures shows_stage { (p : Start) → W.honest p world.new → IfErr result (ComesAt AtInputs) }
+    ensures keeps { (p : Start) → W.honest p world.new → KeepsOutputs
+        (W.shows p world.old) (W.shows p world.new) }
+    ensures before { (p : Start) → W.honest p world.new → W.honest p world.old }
 {
     let first = match read_first_inputs(alloc, world, names.box_file, names.capture) {
         Ok(first) => first,

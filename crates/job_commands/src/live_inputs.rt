@@ -1,10 +1,11 @@
 ghost use Rattle.std.specs.Prelude.{◌<◌, ◌≤◌, ◌^◌, All, IsTrue, IfOk, IfErr, IsErrOf};
 ghost use Rattle.plain_text.specs.Packets.{IsShort};
 ghost use Rattle.world_io.specs.Stream.{Rose};
-ghost use Rattle.input_files.specs.Files.{OnlyReads};
+ghost use Rattle.input_files.specs.Files.{KeepsOutputs, OnlyReads};
 ghost use Rattle.job_commands.specs.Live.{JudgesLiveInputs};
 ghost use Rattle.job_commands.specs.Status.{AtInputs, ComesAt, EndsReading};
 ghost use Rattle.job_commands.specs.Words.{live_names_of};
+ghost use Rattle.world_io.specs.World.{Start};
 
 use crate::first_inputs::read_first_inputs;
 use crate::status::plan_status;
@@ -41,6 +42,12 @@ pub fn read_live_inputs<W: World>(
     ensures only_reads { OnlyReads W.tells W.shown W.ledger W.healthy 3 world.old world.new }
     ensures cause { IsErrOf result Status.ReadFault
         → Rose (W.ledger world.old).read_faults (W.ledger world.new).read_faults }
+    ensures judges { (p : Start) → W.honest p world.new → JudgesLiveInputs (W.healthy world.old)
+        (live_names_of names.entry) result (W.shows p world.old) }
+    ensures shows_stage { (p : Start) → W.honest p world.new → IfErr result (ComesAt AtInputs) }
+    ensures keeps { (p : Start) → W.honest p world.new → KeepsOutputs
+        (W.shows p world.old) (W.shows p world.new) }
+    ensures before { (p : Start) → W.honest p world.new → W.honest p world.old }
 {
     let first = match read_first_inputs(alloc, world, names.box_file, names.capture) {
         Ok(first) => first,

@@ -6,7 +6,7 @@ ghost use Rattle.traffic_gen.specs.Generated.{generated};
 ghost use Rattle.output_files.specs.Written.{Writes, WritesFiles};
 ghost use Rattle.job_commands.specs.Making.{made_writes};
 ghost use Rattle.job_commands.specs.Words.{made_of};
-ghost use Rattle.world_io.specs.World.{WritingFailed};
+ghost use Rattle.world_io.specs.World.{Start, WritingFailed};
 
 use crate::MakeWords;
 use output_files::{OutputError, write_output};
@@ -39,6 +39,9 @@ pub fn make_capture<W: World>(
     ensures writes_files { WritesFiles W.ledger W.healthy 1 world.old world.new }
     ensures cause { IsErrOf result OutputError.WriteFault
         → WritingFailed W.ledger W.healthy world.old world.new }
+    ensures shows { (p : Start) → W.honest p world.new → Writes result (made_writes
+        (made_of words.entry)) (W.shows p world.old) (W.shows p world.new) }
+    ensures before { (p : Start) → W.honest p world.new → W.honest p world.old }
 {
     let records = make_records(alloc, words.seed, words.count)?;
     let report = put_count(alloc, b"made ", words.count)?;

@@ -10,7 +10,7 @@ ghost use Rattle.job_commands.specs.Schedules.{JudgesPlay, PlaysInOrder, PlaysWh
 ghost use Rattle.job_commands.specs.Schedules.{schedule_of};
 ghost use Rattle.job_commands.specs.Status.{AtInputs, AtOutputs, IsRefusal, stage_of, stage_of_limit};
 ghost use Rattle.job_commands.specs.Words.{play_names_of};
-ghost use Rattle.world_io.specs.World.{WritingFailed};
+ghost use Rattle.world_io.specs.World.{Start, WritingFailed};
 
 use crate::status::play_outcome;
 use crate::{PlayWords, ScheduleInputs, Status, read_schedule_inputs};
@@ -41,6 +41,13 @@ fn play_box<W: World>(
     ensures writes_files { WritesFiles W.ledger W.healthy 1 world.old world.new }
     ensures cause { IsErrOf result ScheduleError.WriteFault
         → WritingFailed W.ledger W.healthy world.old world.new }
+    ensures shows_played { (p : Start) → W.honest p world.new → OnOk result (HasPlayed
+        (outcome_for inputs) out.now inputs.capture.unit
+        (W.shows p world.old) (W.shows p world.new)) }
+    ensures shows_in_order { (p : Start) → W.honest p world.new → (world.new ≡ world.old)
+        ⊎ HasBegunPlay (outcome_for inputs) out.now inputs.capture.unit
+        (W.shows p world.old) (W.shows p world.new) }
+    ensures before { (p : Start) → W.honest p world.new → W.honest p world.old }
 {
     let run = ScheduleRun {
         threads: inputs.conf.threads,
@@ -77,6 +84,17 @@ pub fn play_capture<W: World>(alloc: Global, world: &mut W, names: PlayWords<'_>
         → Rose (W.ledger world.old).read_faults (W.ledger world.new).read_faults }
     ensures write_fault { result ≡ Status.WriteFault
         → WritingFailed W.ledger W.healthy world.old world.new }
+    ensures shows_done { (p : Start) → W.honest p world.new → result ≡ Status.Done → PlaysWhole
+        (play_names_of names.entry) (W.shows p world.old) (W.shows p world.new) }
+    ensures shows_no_limit { (p : Start) → W.honest p world.new → (limit : LimitKind) → result ≡
+        Status.TooLarge limit → stage_of_limit limit ≡ AtOutputs → ⊥ }
+    ensures judges { (p : Start) → W.honest p world.new → JudgesPlay (W.healthy world.old)
+        (play_names_of names.entry) result (W.shows p world.old) }
+    ensures shows_in_order { (p : Start) → W.honest p world.new → PlaysInOrder
+        (play_names_of names.entry) (W.shows p world.old) (W.shows p world.new) }
+    ensures shows_refused { (p : Start) → W.honest p world.new → stage_of result ≡ AtInputs
+        → KeepsShown (W.shows p world.old) (W.shows p world.new) }
+    ensures before { (p : Start) → W.honest p world.new → W.honest p world.old }
 {
     match read_schedule_inputs(alloc, world, names.files) {
         Ok(inputs) => play_outcome(play_box(alloc, world, names.out, inputs)),

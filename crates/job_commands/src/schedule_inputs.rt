@@ -1,10 +1,11 @@
 ghost use Rattle.std.specs.Prelude.{◌<◌, ◌^◌, IsTrue, IfOk, IfErr, IsErrOf};
 ghost use Rattle.world_io.specs.Stream.{Rose};
 ghost use Rattle.schedule_commands.specs.Runs.{CanPlay};
-ghost use Rattle.input_files.specs.Files.{OnlyReads};
+ghost use Rattle.input_files.specs.Files.{KeepsOutputs, OnlyReads};
 ghost use Rattle.job_commands.specs.Schedules.{JudgesScheduleFiles, JudgesCheckFiles, schedule_of};
 ghost use Rattle.job_commands.specs.Status.{AtInputs, ComesAt, EndsReading};
 ghost use Rattle.job_commands.specs.Words.{check_names_of, files_of};
+ghost use Rattle.world_io.specs.World.{Start};
 
 use crate::first_inputs::read_first_inputs;
 use crate::status::{released_status, schedule_status};
@@ -45,6 +46,12 @@ pub fn read_schedule_inputs<W: World>(
     ensures only_reads { OnlyReads W.tells W.shown W.ledger W.healthy 3 world.old world.new }
     ensures cause { IsErrOf result Status.ReadFault
         → Rose (W.ledger world.old).read_faults (W.ledger world.new).read_faults }
+    ensures judges { (p : Start) → W.honest p world.new → JudgesScheduleFiles (W.healthy world.old)
+        (files_of files.entry) result (W.shows p world.old) }
+    ensures shows_stage { (p : Start) → W.honest p world.new → IfErr result (ComesAt AtInputs) }
+    ensures keeps { (p : Start) → W.honest p world.new → KeepsOutputs
+        (W.shows p world.old) (W.shows p world.new) }
+    ensures before { (p : Start) → W.honest p world.new → W.honest p world.old }
 {
     let first = match read_first_inputs(alloc, world, files.box_file, files.capture) {
         Ok(first) => first,
@@ -75,6 +82,12 @@ pub fn read_check_inputs<W: World>(
     ensures only_reads { OnlyReads W.tells W.shown W.ledger W.healthy 4 world.old world.new }
     ensures cause { IsErrOf result Status.ReadFault
         → Rose (W.ledger world.old).read_faults (W.ledger world.new).read_faults }
+    ensures judges { (p : Start) → W.honest p world.new → JudgesCheckFiles (W.healthy world.old)
+        (check_names_of names.entry) result (W.shows p world.old) }
+    ensures shows_stage { (p : Start) → W.honest p world.new → IfErr result (ComesAt AtInputs) }
+    ensures keeps { (p : Start) → W.honest p world.new → KeepsOutputs
+        (W.shows p world.old) (W.shows p world.new) }
+    ensures before { (p : Start) → W.honest p world.new → W.honest p world.old }
 {
     let played = match read_schedule_inputs(alloc, world, names.files) {
         Ok(played) => played,

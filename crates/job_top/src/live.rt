@@ -1,7 +1,7 @@
-ghost use Rattle.std.specs.Prelude.{◌≡◌, ◌+◌, ◌<◌, ◌≤◌, ◌-◌, ◌^◌, Err, IsTrue, OnOk, IsErrOf};
+ghost use Rattle.std.specs.Prelude.{◌≡◌, ◌+◌, ◌<◌, ◌≤◌, ◌-◌, ◌^◌, Err, OnOk, IsErrOf};
 ghost use Rattle.plain_text.specs.declared.limit.Limit.{Limit as LimitKind};
 ghost use Rattle.world_io.specs.Stream.{Rose};
-ghost use Rattle.world_io.specs.World.{WritingFailed};
+ghost use Rattle.world_io.specs.World.{Start, WritingFailed};
 ghost use Rattle.output_files.specs.Written.{WritesFiles};
 ghost use Rattle.run_writes.specs.Run.{KeepsShown};
 ghost use Rattle.live_writes.specs.Outputs.{AreApart, CanLive};
@@ -35,17 +35,20 @@ fn live_box<W: World, C: Clock + Sync, G: Gate + Sync, R: AllocGlobal + Threads 
     requires inputs { CanLive (plan_of inputs) }
     requires room { (W.ledger world.old).given < 2 ^ 32 - 3 }
     requires apart { AreApart (live_outputs (live_names_of names)) }
-    ensures whole { IsTrue W.tells → OnOk result (LivesWhole (live_setting inputs)
-        (C.may clock.now) inputs.plan (live_outputs (live_names_of names.entry))
-        (W.shown world.old) (W.shown world.new)) }
-    ensures limit { IsTrue W.tells → (limit : LimitKind) → result ≡ Err (RunError.Limit limit)
-        → LivesToLimit (live_setting inputs) inputs.plan (live_outputs (live_names_of names.entry))
-        limit (W.shown world.old) (W.shown world.new) }
-    ensures in_order { IsTrue W.tells → LivesInOrder (live_setting inputs) inputs.plan
-        (live_outputs (live_names_of names.entry)) (W.shown world.old) (W.shown world.new) }
+    ensures whole { (p : Start) → W.honest p world.new → OnOk result (LivesWhole
+        (live_setting inputs) (C.may clock.now) inputs.plan (live_outputs
+        (live_names_of names.entry)) (W.shows p world.old) (W.shows p world.new)) }
+    ensures limit { (p : Start) → W.honest p world.new → (limit : LimitKind)
+        → result ≡ Err (RunError.Limit limit) → LivesToLimit (live_setting inputs) inputs.plan
+        (live_outputs (live_names_of names.entry)) limit
+        (W.shows p world.old) (W.shows p world.new) }
+    ensures in_order { (p : Start) → W.honest p world.new → LivesInOrder (live_setting inputs)
+        inputs.plan (live_outputs (live_names_of names.entry))
+        (W.shows p world.old) (W.shows p world.new) }
     ensures writes_files { WritesFiles W.ledger W.healthy 3 world.old world.new }
     ensures cause { IsErrOf result RunError.WriteFault
         → WritingFailed W.ledger W.healthy world.old world.new }
+    ensures before { (p : Start) → W.honest p world.new → W.honest p world.old }
 {
     let files = LiveFiles {
         released: names.released,
@@ -76,19 +79,20 @@ pub(crate) fn live<
 >(rt: &R, world: &mut W, names: LiveWords<'_>, clock: &C, gate: &G) -> Status
     requires room { (W.ledger world.old).given < 2 ^ 31 }
     requires apart { AreApart (live_outputs (live_names_of names)) }
-    ensures done { IsTrue W.tells → result ≡ Status.Done → LivesFiles (C.may clock.now)
-        (live_names_of names.entry) (W.shown world.old) (W.shown world.new) }
-    ensures headline { IsTrue W.tells → result ≡ Status.Done
-        → KeepsLivePromise (live_names_of names.entry) (W.shown world.old) (W.shown world.new) }
-    ensures limit { IsTrue W.tells → (limit : LimitKind) → result ≡ Status.TooLarge limit
-        → LivesLimit (live_names_of names.entry) limit (W.shown world.old) (W.shown world.new) }
-    ensures judged { IsTrue W.tells → JudgesLive (W.healthy world.old) (live_names_of names.entry)
-        result (W.shown world.old) }
-    ensures in_order { IsTrue W.tells
-        → LivesOrder (live_names_of names.entry) (W.shown world.old) (W.shown world.new) }
-    ensures refused { IsTrue W.tells → stage_of result ≡ AtInputs
+    ensures done { (p : Start) → W.honest p world.new → result ≡ Status.Done → LivesFiles
+        (C.may clock.now) (live_names_of names.entry) (W.shows p world.old) (W.shows p world.new) }
+    ensures headline { (p : Start) → W.honest p world.new → result ≡ Status.Done
+        → KeepsLivePromise (live_names_of names.entry) (W.shows p world.old) (W.shows p world.new) }
+    ensures limit { (p : Start) → W.honest p world.new → (limit : LimitKind)
+        → result ≡ Status.TooLarge limit
+        → LivesLimit (live_names_of names.entry) limit (W.shows p world.old) (W.shows p world.new) }
+    ensures judged { (p : Start) → W.honest p world.new → JudgesLive (W.healthy world.old)
+        (live_names_of names.entry) result (W.shows p world.old) }
+    ensures in_order { (p : Start) → W.honest p world.new
+        → LivesOrder (live_names_of names.entry) (W.shows p world.old) (W.shows p world.new) }
+    ensures refused { (p : Start) → W.honest p world.new → stage_of result ≡ AtInputs
         → ((limit : LimitKind) → result ≡ Status.TooLarge limit → ⊥)
-        → KeepsShown (W.shown world.old) (W.shown world.new) }
+        → KeepsShown (W.shows p world.old) (W.shows p world.new) }
     ensures creates_nothing { IsRefusal result
         → (W.ledger world.new).created ≡ (W.ledger world.old).created }
     ensures words { result ≡ Status.BadWords → ⊥ }
@@ -97,6 +101,7 @@ pub(crate) fn live<
         → Rose (W.ledger world.old).read_faults (W.ledger world.new).read_faults }
     ensures write_fault { result ≡ Status.WriteFault
         → WritingFailed W.ledger W.healthy world.old world.new }
+    ensures before { (p : Start) → W.honest p world.new → W.honest p world.old }
 {
     match read_live_inputs(rt.alloc(), world, names) {
         Ok(inputs) => run_outcome(live_box(rt, world, names, inputs, clock, gate)),

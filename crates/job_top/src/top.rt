@@ -1,4 +1,4 @@
-ghost use Rattle.std.specs.Prelude.{◌≡◌, ◌+◌, ◌<◌, ◌≤◌, ◌-◌, ◌^◌, ◌↔◌, None, Err, IsTrue, OnOk};
+ghost use Rattle.std.specs.Prelude.{◌≡◌, ◌+◌, ◌<◌, ◌≤◌, ◌-◌, ◌^◌, ◌↔◌, None, Err, OnOk};
 ghost use Rattle.std.specs.Prelude.{IsErrOf};
 ghost use Rattle.plain_text.specs.declared.limit.Limit.{Limit as LimitKind};
 ghost use Rattle.world_io.specs.Stream.{Rose};
@@ -12,7 +12,7 @@ ghost use Rattle.job_commands.specs.Run.{RunsInOrder, RunsToLimit, RunsWhole, ou
 ghost use Rattle.job_commands.specs.Run.{script_of, setting_for};
 ghost use Rattle.job_commands.specs.Status.{AtInputs, AtOutputs, IsRefusal, stage_of, stage_of_limit};
 ghost use Rattle.job_commands.specs.Words.{asked, IfAsks, live_names, names_of};
-ghost use Rattle.world_io.specs.World.{WritingFailed};
+ghost use Rattle.world_io.specs.World.{Start, WritingFailed};
 
 use crate::live::live;
 use box_conf::BoxKind;
@@ -39,16 +39,19 @@ fn run_box<W: World>(
     requires inputs { CanRun (script_of inputs) }
     requires room { (W.ledger world.old).given < 2 ^ 32 - 2 }
     requires apart { names.released.now ≡ names.schedule.now → ⊥ }
-    ensures whole { IsTrue W.tells → OnOk result (HasRun (setting_for inputs)
-        (outputs_of (names_of names.entry)) inputs.events (W.shown world.old) (W.shown world.new)) }
-    ensures limit { IsTrue W.tells → (limit : LimitKind) → result ≡ Err (RunError.Limit limit)
-        → HasStopped (setting_for inputs) (outputs_of (names_of names.entry)) inputs.events limit
-        (W.shown world.old) (W.shown world.new) }
-    ensures in_order { IsTrue W.tells → HasBegunRun (setting_for inputs)
-        (outputs_of (names_of names.entry)) inputs.events (W.shown world.old) (W.shown world.new) }
+    ensures whole { (p : Start) → W.honest p world.new → OnOk result (HasRun (setting_for inputs)
+        (outputs_of (names_of names.entry)) inputs.events
+        (W.shows p world.old) (W.shows p world.new)) }
+    ensures limit { (p : Start) → W.honest p world.new → (limit : LimitKind)
+        → result ≡ Err (RunError.Limit limit) → HasStopped (setting_for inputs) (outputs_of
+        (names_of names.entry)) inputs.events limit (W.shows p world.old) (W.shows p world.new) }
+    ensures in_order { (p : Start) → W.honest p world.new → HasBegunRun (setting_for inputs)
+        (outputs_of (names_of names.entry)) inputs.events
+        (W.shows p world.old) (W.shows p world.new) }
     ensures writes_files { WritesFiles W.ledger W.healthy 2 world.old world.new }
     ensures cause { IsErrOf result RunError.WriteFault
         → WritingFailed W.ledger W.healthy world.old world.new }
+    ensures before { (p : Start) → W.honest p world.new → W.honest p world.old }
 {
     let files = RunFiles {
         released: names.released,
@@ -73,19 +76,19 @@ fn run_box<W: World>(
 fn run<W: World>(alloc: Global, world: &mut W, names: RunWords<'_>) -> Status
     requires room { (W.ledger world.old).given < 2 ^ 31 }
     requires apart { names.released.now ≡ names.schedule.now → ⊥ }
-    ensures done { IsTrue W.tells → result ≡ Status.Done
-        → RunsWhole (names_of names.entry) (W.shown world.old) (W.shown world.new) }
-    ensures headline { IsTrue W.tells → result ≡ Status.Done
-        → KeepsRunPromise (names_of names.entry) (W.shown world.old) (W.shown world.new) }
-    ensures limit { IsTrue W.tells → (limit : LimitKind) → result ≡ Status.TooLarge limit
-        → stage_of_limit limit ≡ AtOutputs
-        → RunsToLimit (names_of names.entry) limit (W.shown world.old) (W.shown world.new) }
-    ensures judged { IsTrue W.tells
-        → Judges (W.healthy world.old) (names_of names.entry) result (W.shown world.old) }
-    ensures in_order { IsTrue W.tells
-        → RunsInOrder (names_of names.entry) (W.shown world.old) (W.shown world.new) }
-    ensures refused { IsTrue W.tells → stage_of result ≡ AtInputs
-        → KeepsShown (W.shown world.old) (W.shown world.new) }
+    ensures done { (p : Start) → W.honest p world.new → result ≡ Status.Done
+        → RunsWhole (names_of names.entry) (W.shows p world.old) (W.shows p world.new) }
+    ensures headline { (p : Start) → W.honest p world.new → result ≡ Status.Done
+        → KeepsRunPromise (names_of names.entry) (W.shows p world.old) (W.shows p world.new) }
+    ensures limit { (p : Start) → W.honest p world.new → (limit : LimitKind)
+        → result ≡ Status.TooLarge limit → stage_of_limit limit ≡ AtOutputs
+        → RunsToLimit (names_of names.entry) limit (W.shows p world.old) (W.shows p world.new) }
+    ensures judged { (p : Start) → W.honest p world.new
+        → Judges (W.healthy world.old) (names_of names.entry) result (W.shows p world.old) }
+    ensures in_order { (p : Start) → W.honest p world.new
+        → RunsInOrder (names_of names.entry) (W.shows p world.old) (W.shows p world.new) }
+    ensures refused { (p : Start) → W.honest p world.new → stage_of result ≡ AtInputs
+        → KeepsShown (W.shows p world.old) (W.shows p world.new) }
     ensures creates_nothing { IsRefusal result
         → (W.ledger world.new).created ≡ (W.ledger world.old).created }
     ensures words { result ≡ Status.BadWords → ⊥ }
@@ -94,6 +97,7 @@ fn run<W: World>(alloc: Global, world: &mut W, names: RunWords<'_>) -> Status
         → Rose (W.ledger world.old).read_faults (W.ledger world.new).read_faults }
     ensures write_fault { result ≡ Status.WriteFault
         → WritingFailed W.ledger W.healthy world.old world.new }
+    ensures before { (p : Start) → W.honest p world.new → W.honest p world.old }
 {
     match read_inputs(alloc, world, names) {
         Ok(inputs) => run_outcome(run_box(alloc, world, names, inputs)),
@@ -113,33 +117,35 @@ pub fn serial<W: World>(alloc: Global, words: &[Text], world: &mut W) -> Status
     ensures nothing_asked { result ≡ Status.BadWords → world.new ≡ world.old }
 
     // What Done leaves: the outputs, whole.
-    ensures done { IsTrue W.tells → result ≡ Status.Done → IfAsks words.now
-        (λ command. Leaves (λ t. ⊥) command (W.shown world.old) (W.shown world.new)) }
+    ensures done { (p : Start) → W.honest p world.new → result ≡ Status.Done → IfAsks words.now
+        (λ command. Leaves (λ t. ⊥) command (W.shows p world.old) (W.shows p world.new)) }
 
     // The promise: what was released is part of one legal run without crashes.
-    ensures headline { IsTrue W.tells → result ≡ Status.Done → IfAsks words.now
-        (λ command. KeepsPromiseOf command (W.shown world.old) (W.shown world.new)) }
+    ensures headline { (p : Start) → W.honest p world.new → result ≡ Status.Done → IfAsks words.now
+        (λ command. KeepsPromiseOf command (W.shows p world.old) (W.shows p world.new)) }
 
     // What any other answer leaves: the outputs up to a limit, a first part of them in their
     // order, or nothing where an input is refused, when also a world that does not tell its bytes
     // created nothing. No other file changes.
-    ensures limit { IsTrue W.tells → (limit : LimitKind) → result ≡ Status.TooLarge limit
-        → IfAsks words.now
-        (λ command. StopsAtLimit command limit (W.shown world.old) (W.shown world.new)) }
-    ensures in_order { IsTrue W.tells → IfAsks words.now
-        (λ command. LeavesInOrder command (W.shown world.old) (W.shown world.new)) }
-    ensures refused { IsTrue W.tells → IfAsks words.now (λ command.
-        stage_in command result ≡ AtInputs → KeepsShown (W.shown world.old) (W.shown world.new)) }
+    ensures limit { (p : Start) → W.honest p world.new → (limit : LimitKind)
+        → result ≡ Status.TooLarge limit → IfAsks words.now
+        (λ command. StopsAtLimit command limit (W.shows p world.old) (W.shows p world.new)) }
+    ensures in_order { (p : Start) → W.honest p world.new → IfAsks words.now
+        (λ command. LeavesInOrder command (W.shows p world.old) (W.shows p world.new)) }
+    ensures refused { (p : Start) → W.honest p world.new
+        → IfAsks words.now (λ command. stage_in command result ≡ AtInputs
+        → KeepsShown (W.shows p world.old) (W.shows p world.new)) }
     ensures creates_nothing { IsRefusal result
         → (W.ledger world.new).created ≡ (W.ledger world.old).created }
-    ensures others { IsTrue W.tells → IfAsks words.now
-        (λ command. KeepsNames command (W.shown world.old) (W.shown world.new)) }
+    ensures others { (p : Start) → W.honest p world.new → IfAsks words.now
+        (λ command. KeepsNames command (W.shows p world.old) (W.shows p world.new)) }
 
     // The cause of each answer, and when the command is done.
-    ensures judged { IsTrue W.tells → IfAsks words.now
-        (λ command. JudgesInputsOf (W.healthy world.old) command result (W.shown world.old)) }
-    ensures completes { W.healthy world.old → IsTrue W.tells → IfAsks words.now
-        (λ command. AcceptsInputsOf command (W.shown world.old) → CompletesAs command result) }
+    ensures judged { (p : Start) → W.honest p world.new → IfAsks words.now
+        (λ command. JudgesInputsOf (W.healthy world.old) command result (W.shows p world.old)) }
+    ensures completes { W.healthy world.old → (p : Start) → W.honest p world.new
+        → IfAsks words.now (λ command. AcceptsInputsOf command (W.shows p world.old)
+        → CompletesAs command result) }
     ensures never_fails { W.healthy world.old → ¬ (result ≡ Status.WriteFault) }
 
     // The world's ledger: which faults rose, and how many files it gave a number.
@@ -148,6 +154,7 @@ pub fn serial<W: World>(alloc: Global, words: &[Text], world: &mut W) -> Status
     ensures write_fault { result ≡ Status.WriteFault
         → Rose (W.ledger world.old).write_faults (W.ledger world.new).write_faults }
     ensures given { (W.ledger world.new).given ≤ (W.ledger world.old).given + 5 }
+    ensures before { (p : Start) → W.honest p world.new → W.honest p world.old }
 {
     match read_command(words) {
         Some(Command::Run(names)) => run(alloc, world, names),
@@ -206,33 +213,35 @@ pub fn ftmb<W: World, C: Clock + Sync, G: Gate + Sync, R: AllocGlobal + Threads 
     ensures nothing_asked { result ≡ Status.BadWords → world.new ≡ world.old }
 
     // What Done leaves: the outputs, whole.
-    ensures done { IsTrue W.tells → result ≡ Status.Done → IfAsks words.now
-        (λ command. Leaves (C.may clock.now) command (W.shown world.old) (W.shown world.new)) }
+    ensures done { (p : Start) → W.honest p world.new → result ≡ Status.Done → IfAsks words.now
+        (λ command. Leaves (C.may clock.now) command (W.shows p world.old) (W.shows p world.new)) }
 
     // The promise: what was released is part of one legal run without crashes.
-    ensures headline { IsTrue W.tells → result ≡ Status.Done → IfAsks words.now
-        (λ command. KeepsPromiseOf command (W.shown world.old) (W.shown world.new)) }
+    ensures headline { (p : Start) → W.honest p world.new → result ≡ Status.Done → IfAsks words.now
+        (λ command. KeepsPromiseOf command (W.shows p world.old) (W.shows p world.new)) }
 
     // What any other answer leaves: the outputs up to a limit, a first part of them in their
     // order, or nothing where an input is refused, when also a world that does not tell its bytes
     // created nothing. No other file changes.
-    ensures limit { IsTrue W.tells → (limit : LimitKind) → result ≡ Status.TooLarge limit
-        → IfAsks words.now
-        (λ command. StopsAtLimit command limit (W.shown world.old) (W.shown world.new)) }
-    ensures in_order { IsTrue W.tells → IfAsks words.now
-        (λ command. LeavesInOrder command (W.shown world.old) (W.shown world.new)) }
-    ensures refused { IsTrue W.tells → IfAsks words.now (λ command.
-        stage_in command result ≡ AtInputs → KeepsShown (W.shown world.old) (W.shown world.new)) }
+    ensures limit { (p : Start) → W.honest p world.new → (limit : LimitKind)
+        → result ≡ Status.TooLarge limit → IfAsks words.now
+        (λ command. StopsAtLimit command limit (W.shows p world.old) (W.shows p world.new)) }
+    ensures in_order { (p : Start) → W.honest p world.new → IfAsks words.now
+        (λ command. LeavesInOrder command (W.shows p world.old) (W.shows p world.new)) }
+    ensures refused { (p : Start) → W.honest p world.new
+        → IfAsks words.now (λ command. stage_in command result ≡ AtInputs
+        → KeepsShown (W.shows p world.old) (W.shows p world.new)) }
     ensures creates_nothing { IsRefusal result
         → (W.ledger world.new).created ≡ (W.ledger world.old).created }
-    ensures others { IsTrue W.tells → IfAsks words.now
-        (λ command. KeepsNames command (W.shown world.old) (W.shown world.new)) }
+    ensures others { (p : Start) → W.honest p world.new → IfAsks words.now
+        (λ command. KeepsNames command (W.shows p world.old) (W.shows p world.new)) }
 
     // The cause of each answer, and when the command is done.
-    ensures judged { IsTrue W.tells → IfAsks words.now
-        (λ command. JudgesInputsOf (W.healthy world.old) command result (W.shown world.old)) }
-    ensures completes { W.healthy world.old → IsTrue W.tells → IfAsks words.now
-        (λ command. AcceptsInputsOf command (W.shown world.old) → CompletesAs command result) }
+    ensures judged { (p : Start) → W.honest p world.new → IfAsks words.now
+        (λ command. JudgesInputsOf (W.healthy world.old) command result (W.shows p world.old)) }
+    ensures completes { W.healthy world.old → (p : Start) → W.honest p world.new
+        → IfAsks words.now (λ command. AcceptsInputsOf command (W.shows p world.old)
+        → CompletesAs command result) }
     ensures never_fails { W.healthy world.old → ¬ (result ≡ Status.WriteFault) }
 
     // The world's ledger: which faults rose, and how many files it gave a number.
@@ -241,6 +250,7 @@ pub fn ftmb<W: World, C: Clock + Sync, G: Gate + Sync, R: AllocGlobal + Threads 
     ensures write_fault { result ≡ Status.WriteFault
         → Rose (W.ledger world.old).write_faults (W.ledger world.new).write_faults }
     ensures given { (W.ledger world.new).given ≤ (W.ledger world.old).given + 6 }
+    ensures before { (p : Start) → W.honest p world.new → W.honest p world.old }
 {
     match read_live_words(words) {
         Some(names) => live(rt, world, names, clock, gate),

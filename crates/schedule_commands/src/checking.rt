@@ -1,6 +1,6 @@
 ghost use Rattle.std.specs.Prelude.{◌≡◌, ◌⊎◌, Err, IfOk, IsTrue, OnOk, IsErrOf, length};
 ghost use Rattle.schedule_check.specs.declared.checking.Refutation as refuted;
-ghost use Rattle.world_io.specs.World.{WritingFailed};
+ghost use Rattle.world_io.specs.World.{Start, WritingFailed};
 ghost use Rattle.output_files.specs.Writes.{HasBegun, HasWritten};
 ghost use Rattle.output_files.specs.Written.{Writes, OnlyWrites};
 ghost use Rattle.schedule_commands.specs.Checking.{IsFound, SaysCheck, found_writes};
@@ -52,6 +52,9 @@ fn report_found<W: World>(alloc: Global, world: &mut W, count: u64) -> Result<()
     ensures only_writes { OnlyWrites W.tells W.shown W.ledger W.healthy world.old world.new }
     ensures cause { IsErrOf result OutputError.WriteFault
         → WritingFailed W.ledger W.healthy world.old world.new }
+    ensures shows { (p : Start) → W.honest p world.new → Writes result (found_writes count)
+        (W.shows p world.old) (W.shows p world.new) }
+    ensures before { (p : Start) → W.honest p world.new → W.honest p world.old }
 {
     let text = put_count(alloc, b"found ", count)?;
     report(world, text.as_slice())
@@ -83,6 +86,12 @@ pub fn check_schedule<P: Program, W: World>(
     ensures only_writes { OnlyWrites W.tells W.shown W.ledger W.healthy world.old world.new }
     ensures cause { IsErrOf result ScheduleError.WriteFault
         → WritingFailed W.ledger W.healthy world.old world.new }
+    ensures shows_reported { (p : Start) → W.honest p world.new → OnOk result (HasWritten
+        (found_writes (length released.now)) (W.shows p world.old) (W.shows p world.new)) }
+    ensures shows_in_order { (p : Start) → W.honest p world.new → (world.new ≡ world.old) ⊎ (IsFound
+        (outcome_of (P.meaning program.now) run) run.unit released.now released_unit × HasBegun
+        (found_writes (length released.now)) (W.shows p world.old) (W.shows p world.new)) }
+    ensures before { (p : Start) → W.honest p world.new → W.honest p world.old }
 {
     let count = match find_released(alloc, run, released, released_unit, program) {
         Ok(count) => count,

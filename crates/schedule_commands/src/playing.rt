@@ -5,7 +5,7 @@ ghost use Rattle.output_files.specs.Written.{Writes, WritesFiles};
 ghost use Rattle.schedule_check.specs.Checking.{IsEmitted};
 ghost use Rattle.schedule_commands.specs.Playing.{HasBegunPlay, HasPlayed, SaysPlay, packet_writes};
 ghost use Rattle.schedule_commands.specs.Runs.{CanPlay, outcome_of};
-ghost use Rattle.world_io.specs.World.{WritingFailed};
+ghost use Rattle.world_io.specs.World.{Start, WritingFailed};
 
 use crate::{ScheduleError, ScheduleRun, put_count, put_records};
 use box_program::Program;
@@ -47,6 +47,9 @@ fn write_packets<W: World>(
     ensures writes_files { WritesFiles W.ledger W.healthy 1 world.old world.new }
     ensures cause { IsErrOf result OutputError.WriteFault
         → WritingFailed W.ledger W.healthy world.old world.new }
+    ensures shows { (p : Start) → W.honest p world.new → Writes result
+        (packet_writes out.now unit packets.now) (W.shows p world.old) (W.shows p world.new) }
+    ensures before { (p : Start) → W.honest p world.new → W.honest p world.old }
 {
     let records = put_records(alloc, packets)?;
     let report = put_count(alloc, b"emitted ", packets.len() as u64)?;
@@ -79,6 +82,12 @@ pub fn play_schedule<P: Program, W: World>(
     ensures writes_files { WritesFiles W.ledger W.healthy 1 world.old world.new }
     ensures cause { IsErrOf result ScheduleError.WriteFault
         → WritingFailed W.ledger W.healthy world.old world.new }
+    ensures shows_played { (p : Start) → W.honest p world.new → OnOk result (HasPlayed (outcome_of
+        (P.meaning program.now) run) out.now run.unit (W.shows p world.old) (W.shows p world.new)) }
+    ensures shows_in_order { (p : Start) → W.honest p world.new → (world.new ≡ world.old)
+        ⊎ HasBegunPlay (outcome_of (P.meaning program.now) run) out.now run.unit
+        (W.shows p world.old) (W.shows p world.new) }
+    ensures before { (p : Start) → W.honest p world.new → W.honest p world.old }
 {
     let unit = run.unit;
     let packets = match play_whole(alloc, run, program) {

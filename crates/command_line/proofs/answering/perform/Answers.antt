@@ -6,22 +6,22 @@ use Rattle.command_line.proofs.NoCommand.{any_text, no_text, printed_refuses, pr
 use Rattle.command_line.proofs.answering.perform.Goals as goal
 
 pub returns-in-Command-clause-performs : goal.returns-in-Command-clause-performs
-returns-in-Command-clause-performs g c told =
+returns-in-Command-clause-performs g c p q =
     let done = c.ftmb.ensures in
     let asks = c.in-Command.ensures in
     let here = c.in-Command.is in
     let is : request_of c.args.words.now ≡ Command = cc in
     record {
-      prints = prints_nothing c.args.words.now c.ftmb.result (g.W.World.shown c.args.world.now)
-          (g.W.World.shown c.ftmb.new.world) is;
-      done = done.done told;
-      headline = done.headline told;
-      limit = done.limit told;
-      in_order = done.in_order told;
-      refused = done.refused told;
-      others = done.others told;
-      judged = done.judged told;
-      completes = λ ok. done.completes ok told;
+      prints = prints_nothing c.args.words.now c.ftmb.result (g.W.World.shows p c.args.world.now)
+          (g.W.World.shows p c.ftmb.new.world) is;
+      done = done.done p q;
+      headline = done.headline p q;
+      limit = done.limit p q;
+      in_order = done.in_order p q;
+      refused = done.refused p q;
+      others = done.others p q;
+      judged = done.judged p q;
+      completes = λ ok. done.completes ok p q;
     }
 
 pub returns-in-Command-clause-printed : goal.returns-in-Command-clause-printed

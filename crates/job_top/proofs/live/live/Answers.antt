@@ -15,55 +15,60 @@ use Rattle.job_top.proofs.live.live.Goals as goal
 -- its inputs are accepted
 
 pub returns-in-Ok-clause-done : goal.returns-in-Ok-clause-done
-returns-in-Ok-clause-done g c told done =
+returns-in-Ok-clause-done g c p q done =
+    let q1 = c.live_box.ensures.before p q in
     let i = c.in-Ok.inputs in
     live_done (g.W.World.healthy c.args.world.now) (g.C.Clock.may c.args.clock.now) (live_names_of c.args.names) i
-    (g.W.World.shown c.args.world.now) (g.W.World.shown c.live_box.new.world) (c.in-Ok.ensures.judged told)
+    (g.W.World.shows p c.args.world.now) (g.W.World.shows p c.live_box.new.world) (c.in-Ok.ensures.judges p q1)
     c.live_box.result (sym c.run_outcome.ensures ∙ done)
-    (whole_lived _ _ _ (c.in-Ok.ensures.only_reads.outputs told) (live_setting i) _ _ _ c.live_box.result
-    (c.live_box.ensures.whole told))
+    (whole_lived _ _ _ (c.in-Ok.ensures.keeps p q1) (live_setting i) _ _ _ c.live_box.result
+    (c.live_box.ensures.whole p q))
 
 pub returns-in-Ok-clause-headline : goal.returns-in-Ok-clause-headline
-returns-in-Ok-clause-headline g c told done =
+returns-in-Ok-clause-headline g c p q done =
+    let q1 = c.live_box.ensures.before p q in
     let i = c.in-Ok.inputs in
-    live_promise (g.C.Clock.may c.args.clock.now) (live_names_of c.args.names) (g.W.World.shown c.args.world.now)
-    (g.W.World.shown c.live_box.new.world)
+    live_promise (g.C.Clock.may c.args.clock.now) (live_names_of c.args.names) (g.W.World.shows p c.args.world.now)
+    (g.W.World.shows p c.live_box.new.world)
     (live_done (g.W.World.healthy c.args.world.now) (g.C.Clock.may c.args.clock.now) (live_names_of c.args.names) i
-    (g.W.World.shown c.args.world.now) (g.W.World.shown c.live_box.new.world) (c.in-Ok.ensures.judged told)
+    (g.W.World.shows p c.args.world.now) (g.W.World.shows p c.live_box.new.world) (c.in-Ok.ensures.judges p q1)
     c.live_box.result (sym c.run_outcome.ensures ∙ done)
-    (whole_lived _ _ _ (c.in-Ok.ensures.only_reads.outputs told) (live_setting i) _ _ _ c.live_box.result
-    (c.live_box.ensures.whole told)))
+    (whole_lived _ _ _ (c.in-Ok.ensures.keeps p q1) (live_setting i) _ _ _ c.live_box.result
+    (c.live_box.ensures.whole p q)))
 
 pub returns-in-Ok-clause-limit : goal.returns-in-Ok-clause-limit
-returns-in-Ok-clause-limit g c told limit e =
+returns-in-Ok-clause-limit g c p q limit e =
+    let q1 = c.live_box.ensures.before p q in
     let i = c.in-Ok.inputs in
     live_limit (g.W.World.healthy c.args.world.now) (g.C.Clock.may c.args.clock.now) (live_names_of c.args.names) i
-    (g.W.World.shown c.args.world.now) (g.W.World.shown c.live_box.new.world) (c.in-Ok.ensures.judged told)
+    (g.W.World.shows p c.args.world.now) (g.W.World.shows p c.live_box.new.world) (c.in-Ok.ensures.judges p q1)
     c.live_box.result limit (sym c.run_outcome.ensures ∙ e)
-    (λ l is. limit_lived _ _ _ (c.in-Ok.ensures.only_reads.outputs told) (live_setting i) _ _ l
-    (c.live_box.ensures.limit told l is))
+    (λ l is. limit_lived _ _ _ (c.in-Ok.ensures.keeps p q1) (live_setting i) _ _ l
+    (c.live_box.ensures.limit p q l is))
 
 pub returns-in-Ok-clause-judged : goal.returns-in-Ok-clause-judged
-returns-in-Ok-clause-judged g c told =
+returns-in-Ok-clause-judged g c p q =
+    let q1 = c.live_box.ensures.before p q in
     let i = c.in-Ok.inputs in
     rw c.run_outcome.ensures
     (live_judged (g.W.World.healthy c.args.world.now) (g.C.Clock.may c.args.clock.now) (live_names_of c.args.names) i
-    (g.W.World.shown c.args.world.now) (g.W.World.shown c.live_box.new.world) (c.in-Ok.ensures.judged told)
+    (g.W.World.shows p c.args.world.now) (g.W.World.shows p c.live_box.new.world) (c.in-Ok.ensures.judges p q1)
     c.live_box.result
     (λ ok fault. (c.live_box.ensures.cause fault).not_healthy (c.in-Ok.ensures.only_reads.stays_healthy ok))
-    (whole_lived _ _ _ (c.in-Ok.ensures.only_reads.outputs told) (live_setting i) _ _ _ c.live_box.result
-    (c.live_box.ensures.whole told))
-    (λ l is. limit_lived _ _ _ (c.in-Ok.ensures.only_reads.outputs told) (live_setting i) _ _ l
-    (c.live_box.ensures.limit told l is)))
+    (whole_lived _ _ _ (c.in-Ok.ensures.keeps p q1) (live_setting i) _ _ _ c.live_box.result
+    (c.live_box.ensures.whole p q))
+    (λ l is. limit_lived _ _ _ (c.in-Ok.ensures.keeps p q1) (live_setting i) _ _ l
+    (c.live_box.ensures.limit p q l is)))
 
 pub returns-in-Ok-clause-in_order : goal.returns-in-Ok-clause-in_order
-returns-in-Ok-clause-in_order g c told =
+returns-in-Ok-clause-in_order g c p q =
+    let q1 = c.live_box.ensures.before p q in
     let i = c.in-Ok.inputs in
     inr (
       i,
-      c.in-Ok.ensures.judged told,
-      order_lived _ _ _ (c.in-Ok.ensures.only_reads.outputs told) (live_setting i) _ _
-          (c.live_box.ensures.in_order told),
+      c.in-Ok.ensures.judges p q1,
+      order_lived _ _ _ (c.in-Ok.ensures.keeps p q1) (live_setting i) _ _
+          (c.live_box.ensures.in_order p q),
     )
 
 pub returns-in-Ok-clause-creates_nothing : goal.returns-in-Ok-clause-creates_nothing
@@ -87,16 +92,16 @@ pub returns-in-Err-clause-creates_nothing : goal.returns-in-Err-clause-creates_n
 returns-in-Err-clause-creates_nothing g c e = c.in-Err.ensures.only_reads.ledger.created
 
 pub returns-in-Err-clause-done : goal.returns-in-Err-clause-done
-returns-in-Err-clause-done g c told e = absurd (quiet_done c.in-Err.status e c.in-Err.ensures.quiet)
+returns-in-Err-clause-done g c p q e = absurd (quiet_done c.in-Err.status e c.in-Err.ensures.quiet)
 
 pub returns-in-Err-clause-headline : goal.returns-in-Err-clause-headline
-returns-in-Err-clause-headline g c told e = absurd (quiet_done c.in-Err.status e c.in-Err.ensures.quiet)
+returns-in-Err-clause-headline g c p q e = absurd (quiet_done c.in-Err.status e c.in-Err.ensures.quiet)
 
 pub returns-in-Err-clause-limit : goal.returns-in-Err-clause-limit
-returns-in-Err-clause-limit g c told limit e = inl (kept _ _ (c.in-Err.ensures.only_reads.outputs told))
+returns-in-Err-clause-limit g c p q limit e = inl (kept _ _ (c.in-Err.ensures.keeps p q))
 
 pub returns-in-Err-clause-in_order : goal.returns-in-Err-clause-in_order
-returns-in-Err-clause-in_order g c told = inl (kept _ _ (c.in-Err.ensures.only_reads.outputs told))
+returns-in-Err-clause-in_order g c p q = inl (kept _ _ (c.in-Err.ensures.keeps p q))
 
 pub returns-in-Err-clause-words : goal.returns-in-Err-clause-words
 returns-in-Err-clause-words g c e = quiet_words c.in-Err.status e c.in-Err.ensures.quiet
@@ -105,6 +110,6 @@ pub returns-in-Err-clause-write_fault : goal.returns-in-Err-clause-write_fault
 returns-in-Err-clause-write_fault g c e = absurd (quiet_writing c.in-Err.status e c.in-Err.ensures.quiet)
 
 pub returns-in-Err-clause-judged : goal.returns-in-Err-clause-judged
-returns-in-Err-clause-judged g c told =
+returns-in-Err-clause-judged g c p q =
     live_refused (g.W.World.healthy c.args.world.now) (live_names_of c.args.names) c.in-Err.status
-    (g.W.World.shown c.args.world.now) (c.in-Err.ensures.judged told)
+    (g.W.World.shows p c.args.world.now) (c.in-Err.ensures.judges p q)

@@ -24,54 +24,54 @@ pub returns-in-Some-clause-nothing_asked : goal.returns-in-Some-clause-nothing_a
 returns-in-Some-clause-nothing_asked g c e = absurd (c.live.ensures.words e)
 
 pub returns-in-Some-clause-done : goal.returns-in-Some-clause-done
-returns-in-Some-clause-done g c told done =
+returns-in-Some-clause-done g c p q done =
     let is : asked c.args.words.now ≡ Some (Lives (live_names_of c.in-Some.names)) =
     lives_asked c.args.words.now (live_names_of c.in-Some.names) c.in-Some.ensures.names in
-    rw is (c.live.ensures.done told done)
+    rw is (c.live.ensures.done p q done)
 
 pub returns-in-Some-clause-headline : goal.returns-in-Some-clause-headline
-returns-in-Some-clause-headline g c told done =
+returns-in-Some-clause-headline g c p q done =
     let is : asked c.args.words.now ≡ Some (Lives (live_names_of c.in-Some.names)) =
     lives_asked c.args.words.now (live_names_of c.in-Some.names) c.in-Some.ensures.names in
-    rw is (c.live.ensures.headline told done)
+    rw is (c.live.ensures.headline p q done)
 
 pub returns-in-Some-clause-limit : goal.returns-in-Some-clause-limit
-returns-in-Some-clause-limit g c told limit e =
+returns-in-Some-clause-limit g c p q limit e =
     let is : asked c.args.words.now ≡ Some (Lives (live_names_of c.in-Some.names)) =
     lives_asked c.args.words.now (live_names_of c.in-Some.names) c.in-Some.ensures.names in
-    rw is (c.live.ensures.limit told limit e)
+    rw is (c.live.ensures.limit p q limit e)
 
 pub returns-in-Some-clause-in_order : goal.returns-in-Some-clause-in_order
-returns-in-Some-clause-in_order g c told =
+returns-in-Some-clause-in_order g c p q =
     let is : asked c.args.words.now ≡ Some (Lives (live_names_of c.in-Some.names)) =
     lives_asked c.args.words.now (live_names_of c.in-Some.names) c.in-Some.ensures.names in
-    rw is (c.live.ensures.in_order told)
+    rw is (c.live.ensures.in_order p q)
 
 pub returns-in-Some-clause-refused : goal.returns-in-Some-clause-refused
-returns-in-Some-clause-refused g c told =
+returns-in-Some-clause-refused g c p q =
     let is : asked c.args.words.now ≡ Some (Lives (live_names_of c.in-Some.names)) =
     lives_asked c.args.words.now (live_names_of c.in-Some.names) c.in-Some.ensures.names in
-    rw is (λ e. c.live.ensures.refused told (at_inputs c.live.result e) (no_limit_at_inputs c.live.result e))
+    rw is (λ e. c.live.ensures.refused p q (at_inputs c.live.result e) (no_limit_at_inputs c.live.result e))
 
 pub returns-in-Some-clause-others : goal.returns-in-Some-clause-others
-returns-in-Some-clause-others g c told =
+returns-in-Some-clause-others g c p q =
     let is : asked c.args.words.now ≡ Some (Lives (live_names_of c.in-Some.names)) =
     lives_asked c.args.words.now (live_names_of c.in-Some.names) c.in-Some.ensures.names in
-    rw is (live_others (live_names_of c.in-Some.names) (g.W.World.shown c.args.world.now)
-    (g.W.World.shown c.live.new.world) (c.live.ensures.in_order told))
+    rw is (live_others (live_names_of c.in-Some.names) (g.W.World.shows p c.args.world.now)
+    (g.W.World.shows p c.live.new.world) (c.live.ensures.in_order p q))
 
 pub returns-in-Some-clause-judged : goal.returns-in-Some-clause-judged
-returns-in-Some-clause-judged g c told =
+returns-in-Some-clause-judged g c p q =
     let is : asked c.args.words.now ≡ Some (Lives (live_names_of c.in-Some.names)) =
     lives_asked c.args.words.now (live_names_of c.in-Some.names) c.in-Some.ensures.names in
-    rw is (c.live.ensures.judged told)
+    rw is (c.live.ensures.judged p q)
 
 pub returns-in-Some-clause-completes : goal.returns-in-Some-clause-completes
-returns-in-Some-clause-completes g c ok told =
+returns-in-Some-clause-completes g c ok p q =
     let is : asked c.args.words.now ≡ Some (Lives (live_names_of c.in-Some.names)) =
     lives_asked c.args.words.now (live_names_of c.in-Some.names) c.in-Some.ensures.names in
     rw is (λ accepted. live_completes (g.W.World.healthy c.args.world.now) (live_names_of c.in-Some.names)
-    (g.W.World.shown c.args.world.now) ok accepted.0 accepted.1 c.live.result (c.live.ensures.judged told))
+    (g.W.World.shows p c.args.world.now) ok accepted.0 accepted.1 c.live.result (c.live.ensures.judged p q))
 
 pub returns-in-Some-clause-never_fails : goal.returns-in-Some-clause-never_fails
 returns-in-Some-clause-never_fails g c ok e = (c.live.ensures.write_fault e).not_healthy ok
@@ -85,6 +85,6 @@ pub serial-requires-clause-no_rounds : goal.serial-requires-clause-no_rounds
 serial-requires-clause-no_rounds g c = c.in-None.ensures.names
 
 pub returns-in-None-clause-done : goal.returns-in-None-clause-done
-returns-in-None-clause-done g c told done =
-    leaves_any (g.C.Clock.may c.args.clock.now) c.args.words.now (g.W.World.shown c.args.world.now)
-    (g.W.World.shown c.serial.new.world) c.in-None.ensures.names (c.serial.ensures.done told done)
+returns-in-None-clause-done g c p q done =
+    leaves_any (g.C.Clock.may c.args.clock.now) c.args.words.now (g.W.World.shows p c.args.world.now)
+    (g.W.World.shows p c.serial.new.world) c.in-None.ensures.names (c.serial.ensures.done p q done)

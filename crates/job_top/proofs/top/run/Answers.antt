@@ -13,63 +13,69 @@ use Rattle.job_top.proofs.top.run.Goals as goal
 -- its inputs are accepted
 
 pub returns-in-Ok-clause-done : goal.returns-in-Ok-clause-done
-returns-in-Ok-clause-done g c told done =
+returns-in-Ok-clause-done g c p q done =
+    let q1 = c.run_box.ensures.before p q in
     let i = c.in-Ok.inputs in
-    run_done (g.W.World.healthy c.args.world.now) (names_of c.args.names) i (g.W.World.shown c.args.world.now)
-    (g.W.World.shown c.run_box.new.world) (c.in-Ok.ensures.judged told) c.run_box.result
+    run_done (g.W.World.healthy c.args.world.now) (names_of c.args.names) i (g.W.World.shows p c.args.world.now)
+    (g.W.World.shows p c.run_box.new.world) (c.in-Ok.ensures.judges p q1) c.run_box.result
     (sym c.run_outcome.ensures ∙ done)
-    (whole_since _ _ _ (c.in-Ok.ensures.only_reads.outputs told) (setting_for i) (outputs_of (names_of c.args.names))
-    i.events c.run_box.result (c.run_box.ensures.whole told))
+    (whole_since _ _ _ (c.in-Ok.ensures.keeps p q1) (setting_for i) (outputs_of (names_of c.args.names))
+    i.events c.run_box.result (c.run_box.ensures.whole p q))
 
 pub returns-in-Ok-clause-headline : goal.returns-in-Ok-clause-headline
-returns-in-Ok-clause-headline g c told done =
+returns-in-Ok-clause-headline g c p q done =
+    let q1 = c.run_box.ensures.before p q in
     let i = c.in-Ok.inputs in
-    promise (names_of c.args.names) (g.W.World.shown c.args.world.now) (g.W.World.shown c.run_box.new.world)
-    (run_done (g.W.World.healthy c.args.world.now) (names_of c.args.names) i (g.W.World.shown c.args.world.now)
-    (g.W.World.shown c.run_box.new.world) (c.in-Ok.ensures.judged told) c.run_box.result
+    promise (names_of c.args.names) (g.W.World.shows p c.args.world.now) (g.W.World.shows p c.run_box.new.world)
+    (run_done (g.W.World.healthy c.args.world.now) (names_of c.args.names) i (g.W.World.shows p c.args.world.now)
+    (g.W.World.shows p c.run_box.new.world) (c.in-Ok.ensures.judges p q1) c.run_box.result
     (sym c.run_outcome.ensures ∙ done)
-    (whole_since _ _ _ (c.in-Ok.ensures.only_reads.outputs told) (setting_for i) (outputs_of (names_of c.args.names))
-    i.events c.run_box.result (c.run_box.ensures.whole told)))
+    (whole_since _ _ _ (c.in-Ok.ensures.keeps p q1) (setting_for i) (outputs_of (names_of c.args.names))
+    i.events c.run_box.result (c.run_box.ensures.whole p q)))
 
 pub returns-in-Ok-clause-limit : goal.returns-in-Ok-clause-limit
-returns-in-Ok-clause-limit g c told limit e stage =
+returns-in-Ok-clause-limit g c p q limit e stage =
+    let q1 = c.run_box.ensures.before p q in
     let i = c.in-Ok.inputs in
-    run_limit (g.W.World.healthy c.args.world.now) (names_of c.args.names) i (g.W.World.shown c.args.world.now)
-    (g.W.World.shown c.run_box.new.world) (c.in-Ok.ensures.judged told) c.run_box.result limit
+    run_limit (g.W.World.healthy c.args.world.now) (names_of c.args.names) i (g.W.World.shows p c.args.world.now)
+    (g.W.World.shows p c.run_box.new.world) (c.in-Ok.ensures.judges p q1) c.run_box.result limit
     (sym c.run_outcome.ensures ∙ e)
-    (λ l is. stopped_since _ _ _ (c.in-Ok.ensures.only_reads.outputs told) (setting_for i)
-    (outputs_of (names_of c.args.names)) i.events l (c.run_box.ensures.limit told l is))
+    (λ l is. stopped_since _ _ _ (c.in-Ok.ensures.keeps p q1) (setting_for i)
+    (outputs_of (names_of c.args.names)) i.events l (c.run_box.ensures.limit p q l is))
 
 pub returns-in-Ok-clause-judged : goal.returns-in-Ok-clause-judged
-returns-in-Ok-clause-judged g c told =
+returns-in-Ok-clause-judged g c p q =
+    let q1 = c.run_box.ensures.before p q in
     let i = c.in-Ok.inputs in
     rw c.run_outcome.ensures
-    (run_judged (g.W.World.healthy c.args.world.now) (names_of c.args.names) i (g.W.World.shown c.args.world.now)
-    (g.W.World.shown c.run_box.new.world) (c.in-Ok.ensures.judged told) c.run_box.result
+    (run_judged (g.W.World.healthy c.args.world.now) (names_of c.args.names) i (g.W.World.shows p c.args.world.now)
+    (g.W.World.shows p c.run_box.new.world) (c.in-Ok.ensures.judges p q1) c.run_box.result
     (λ ok fault. (c.run_box.ensures.cause fault).not_healthy (c.in-Ok.ensures.only_reads.stays_healthy ok))
-    (whole_since _ _ _ (c.in-Ok.ensures.only_reads.outputs told) (setting_for i) (outputs_of (names_of c.args.names))
-    i.events c.run_box.result (c.run_box.ensures.whole told))
-    (λ l is. stopped_since _ _ _ (c.in-Ok.ensures.only_reads.outputs told) (setting_for i)
-    (outputs_of (names_of c.args.names)) i.events l (c.run_box.ensures.limit told l is)))
+    (whole_since _ _ _ (c.in-Ok.ensures.keeps p q1) (setting_for i) (outputs_of (names_of c.args.names))
+    i.events c.run_box.result (c.run_box.ensures.whole p q))
+    (λ l is. stopped_since _ _ _ (c.in-Ok.ensures.keeps p q1) (setting_for i)
+    (outputs_of (names_of c.args.names)) i.events l (c.run_box.ensures.limit p q l is)))
 
 pub returns-in-Ok-clause-in_order : goal.returns-in-Ok-clause-in_order
-returns-in-Ok-clause-in_order g c told =
+returns-in-Ok-clause-in_order g c p q =
+    let q1 = c.run_box.ensures.before p q in
     let i = c.in-Ok.inputs in
     inr (
       i,
-      c.in-Ok.ensures.judged told,
-      begun_since _ _ _ (c.in-Ok.ensures.only_reads.outputs told) (setting_for i) (outputs_of (names_of c.args.names))
-          i.events (c.run_box.ensures.in_order told),
+      c.in-Ok.ensures.judges p q1,
+      begun_since _ _ _ (c.in-Ok.ensures.keeps p q1) (setting_for i) (outputs_of (names_of c.args.names))
+          i.events (c.run_box.ensures.in_order p q),
     )
 
 pub returns-in-Ok-clause-refused : goal.returns-in-Ok-clause-refused
-returns-in-Ok-clause-refused g c told e =
+returns-in-Ok-clause-refused g c p q e =
+    let q1 = c.run_box.ensures.before p q in
     let i = c.in-Ok.inputs in
     absurd (not_at_inputs (g.W.World.healthy c.args.world.now) (names_of c.args.names) i
-    (g.W.World.shown c.args.world.now) (g.W.World.shown c.run_box.new.world) (c.in-Ok.ensures.judged told)
+    (g.W.World.shows p c.args.world.now) (g.W.World.shows p c.run_box.new.world) (c.in-Ok.ensures.judges p q1)
     c.run_box.result (ap stage_of (sym c.run_outcome.ensures) ∙ e)
-    (λ l is. stopped_since _ _ _ (c.in-Ok.ensures.only_reads.outputs told) (setting_for i)
-    (outputs_of (names_of c.args.names)) i.events l (c.run_box.ensures.limit told l is)))
+    (λ l is. stopped_since _ _ _ (c.in-Ok.ensures.keeps p q1) (setting_for i)
+    (outputs_of (names_of c.args.names)) i.events l (c.run_box.ensures.limit p q l is)))
 
 pub returns-in-Ok-clause-creates_nothing : goal.returns-in-Ok-clause-creates_nothing
 returns-in-Ok-clause-creates_nothing g c e =
@@ -92,17 +98,17 @@ pub returns-in-Err-clause-creates_nothing : goal.returns-in-Err-clause-creates_n
 returns-in-Err-clause-creates_nothing g c e = c.in-Err.ensures.only_reads.ledger.created
 
 pub returns-in-Err-clause-done : goal.returns-in-Err-clause-done
-returns-in-Err-clause-done g c told e = absurd (quiet_done c.in-Err.status e c.in-Err.ensures.quiet)
+returns-in-Err-clause-done g c p q e = absurd (quiet_done c.in-Err.status e c.in-Err.ensures.quiet)
 
 pub returns-in-Err-clause-headline : goal.returns-in-Err-clause-headline
-returns-in-Err-clause-headline g c told e = absurd (quiet_done c.in-Err.status e c.in-Err.ensures.quiet)
+returns-in-Err-clause-headline g c p q e = absurd (quiet_done c.in-Err.status e c.in-Err.ensures.quiet)
 
 pub returns-in-Err-clause-limit : goal.returns-in-Err-clause-limit
-returns-in-Err-clause-limit g c told limit e stage =
-    absurd (not_of_run c.in-Err.status limit e stage (c.in-Err.ensures.stage told))
+returns-in-Err-clause-limit g c p q limit e stage =
+    absurd (not_of_run c.in-Err.status limit e stage (c.in-Err.ensures.shows_stage p q))
 
 pub returns-in-Err-clause-in_order : goal.returns-in-Err-clause-in_order
-returns-in-Err-clause-in_order g c told = inl (kept _ _ (c.in-Err.ensures.only_reads.outputs told))
+returns-in-Err-clause-in_order g c p q = inl (kept _ _ (c.in-Err.ensures.keeps p q))
 
 pub returns-in-Err-clause-words : goal.returns-in-Err-clause-words
 returns-in-Err-clause-words g c e = quiet_words c.in-Err.status e c.in-Err.ensures.quiet

@@ -19,26 +19,26 @@ unreachable-requires g c =
     (c.in-Some-Live.ensures ∙ ap (λ z. Some (asked_of z)) c.in-Some-Live.field-0-is)
 
 pub returns-in-Some-Run-clause-done : goal.returns-in-Some-Run-clause-done
-returns-in-Some-Run-clause-done g c told done =
-    rw (c.in-Some-Run.ensures, c.in-Some-Run.field-0-is) (c.run.ensures.done told done)
+returns-in-Some-Run-clause-done g c p q done =
+    rw (c.in-Some-Run.ensures, c.in-Some-Run.field-0-is) (c.run.ensures.done p q done)
 
 pub returns-in-Some-Run-clause-completes : goal.returns-in-Some-Run-clause-completes
-returns-in-Some-Run-clause-completes g c ok told =
+returns-in-Some-Run-clause-completes g c ok p q =
     rw (c.in-Some-Run.ensures, c.in-Some-Run.field-0-is)
     (λ accepted. run_completes (g.W.World.healthy c.args.world.now) (names_of c.in-Some-Run.names)
-    (g.W.World.shown c.args.world.now) ok accepted c.run.result (c.run.ensures.judged told))
+    (g.W.World.shows p c.args.world.now) ok accepted c.run.result (c.run.ensures.judged p q))
 
 pub returns-in-Some-Make-clause-completes : goal.returns-in-Some-Make-clause-completes
-returns-in-Some-Make-clause-completes g c ok told =
+returns-in-Some-Make-clause-completes g c ok p q =
     rw (c.in-Some-Make.ensures, c.in-Some-Make.field-0-is) (λ _. rw c.outcome.ensures
     (made_completes c.make_capture.result (λ fault. (c.make_capture.ensures.cause fault).not_healthy ok)))
 
 pub returns-in-Some-Run-clause-refused : goal.returns-in-Some-Run-clause-refused
-returns-in-Some-Run-clause-refused g c told =
-    rw (c.in-Some-Run.ensures, c.in-Some-Run.field-0-is) (λ e. c.run.ensures.refused told e)
+returns-in-Some-Run-clause-refused g c p q =
+    rw (c.in-Some-Run.ensures, c.in-Some-Run.field-0-is) (λ e. c.run.ensures.refused p q e)
 
 pub returns-in-Some-Make-clause-refused : goal.returns-in-Some-Make-clause-refused
-returns-in-Some-Make-clause-refused g c told =
+returns-in-Some-Make-clause-refused g c p q =
     rw (c.in-Some-Make.ensures, c.in-Some-Make.field-0-is)
     (λ e. absurd (made_not_at_inputs c.make_capture.result (ap stage_of (sym c.outcome.ensures) ∙ e)))
 
@@ -47,69 +47,69 @@ returns-in-Some-Make-clause-creates_nothing g c e =
     absurd (made_refuses c.make_capture.result (subst (λ (s : Status). IsRefusal s) c.outcome.ensures e))
 
 pub returns-in-Some-Play-clause-refused : goal.returns-in-Some-Play-clause-refused
-returns-in-Some-Play-clause-refused g c told =
-    rw (c.in-Some-Play.ensures, c.in-Some-Play.field-0-is) (λ e. c.play_capture.ensures.refused told e)
+returns-in-Some-Play-clause-refused g c p q =
+    rw (c.in-Some-Play.ensures, c.in-Some-Play.field-0-is) (λ e. c.play_capture.ensures.shows_refused p q e)
 
 pub returns-in-Some-Check-clause-refused : goal.returns-in-Some-Check-clause-refused
-returns-in-Some-Check-clause-refused g c told =
-    rw (c.in-Some-Check.ensures, c.in-Some-Check.field-0-is) (λ e. c.check_released.ensures.refused told e)
+returns-in-Some-Check-clause-refused g c p q =
+    rw (c.in-Some-Check.ensures, c.in-Some-Check.field-0-is) (λ e. c.check_released.ensures.shows_refused p q e)
 
 pub returns-in-Some-Run-clause-limit : goal.returns-in-Some-Run-clause-limit
-returns-in-Some-Run-clause-limit g c told limit e =
-    rw (c.in-Some-Run.ensures, c.in-Some-Run.field-0-is) (λ stage. c.run.ensures.limit told limit e stage)
+returns-in-Some-Run-clause-limit g c p q limit e =
+    rw (c.in-Some-Run.ensures, c.in-Some-Run.field-0-is) (λ stage. c.run.ensures.limit p q limit e stage)
 
 pub returns-in-Some-Run-clause-others : goal.returns-in-Some-Run-clause-others
-returns-in-Some-Run-clause-others g c told =
+returns-in-Some-Run-clause-others g c p q =
     rw (c.in-Some-Run.ensures, c.in-Some-Run.field-0-is) (run_others (names_of c.in-Some-Run.names)
-    (g.W.World.shown c.args.world.now) (g.W.World.shown c.run.new.world) (c.run.ensures.in_order told))
+    (g.W.World.shows p c.args.world.now) (g.W.World.shows p c.run.new.world) (c.run.ensures.in_order p q))
 
 pub returns-in-Some-Make-clause-others : goal.returns-in-Some-Make-clause-others
-returns-in-Some-Make-clause-others g c told =
+returns-in-Some-Make-clause-others g c p q =
     rw (c.in-Some-Make.ensures, c.in-Some-Make.field-0-is)
-    (made_others (made_of c.in-Some-Make.words) c.make_capture.result (g.W.World.shown c.args.world.now)
-    (g.W.World.shown c.make_capture.new.world) (c.make_capture.ensures.told told))
+    (made_others (made_of c.in-Some-Make.words) c.make_capture.result (g.W.World.shows p c.args.world.now)
+    (g.W.World.shows p c.make_capture.new.world) (c.make_capture.ensures.shows p q))
 
 pub returns-in-Some-Play-clause-done : goal.returns-in-Some-Play-clause-done
-returns-in-Some-Play-clause-done g c told done =
-    rw (c.in-Some-Play.ensures, c.in-Some-Play.field-0-is) (c.play_capture.ensures.done told done)
+returns-in-Some-Play-clause-done g c p q done =
+    rw (c.in-Some-Play.ensures, c.in-Some-Play.field-0-is) (c.play_capture.ensures.shows_done p q done)
 
 pub returns-in-Some-Play-clause-completes : goal.returns-in-Some-Play-clause-completes
-returns-in-Some-Play-clause-completes g c ok told =
+returns-in-Some-Play-clause-completes g c ok p q =
     rw (c.in-Some-Play.ensures, c.in-Some-Play.field-0-is)
     (λ accepted. play_completes (g.W.World.healthy c.args.world.now) (play_names_of c.in-Some-Play.names)
-    (g.W.World.shown c.args.world.now) ok accepted c.play_capture.result (c.play_capture.ensures.judged told))
+    (g.W.World.shows p c.args.world.now) ok accepted c.play_capture.result (c.play_capture.ensures.judges p q))
 
 pub returns-in-Some-Play-clause-limit : goal.returns-in-Some-Play-clause-limit
-returns-in-Some-Play-clause-limit g c told limit e =
+returns-in-Some-Play-clause-limit g c p q limit e =
     rw (c.in-Some-Play.ensures, c.in-Some-Play.field-0-is)
-    (λ stage. c.play_capture.ensures.no_limit told limit e stage)
+    (λ stage. c.play_capture.ensures.shows_no_limit p q limit e stage)
 
 pub returns-in-Some-Play-clause-others : goal.returns-in-Some-Play-clause-others
-returns-in-Some-Play-clause-others g c told =
+returns-in-Some-Play-clause-others g c p q =
     rw (c.in-Some-Play.ensures, c.in-Some-Play.field-0-is)
-    (play_others (play_names_of c.in-Some-Play.names) (g.W.World.shown c.args.world.now)
-    (g.W.World.shown c.play_capture.new.world) (c.play_capture.ensures.in_order told))
+    (play_others (play_names_of c.in-Some-Play.names) (g.W.World.shows p c.args.world.now)
+    (g.W.World.shows p c.play_capture.new.world) (c.play_capture.ensures.shows_in_order p q))
 
 pub returns-in-Some-Check-clause-done : goal.returns-in-Some-Check-clause-done
-returns-in-Some-Check-clause-done g c told done =
-    rw (c.in-Some-Check.ensures, c.in-Some-Check.field-0-is) (c.check_released.ensures.done told done)
+returns-in-Some-Check-clause-done g c p q done =
+    rw (c.in-Some-Check.ensures, c.in-Some-Check.field-0-is) (c.check_released.ensures.shows_done p q done)
 
 pub returns-in-Some-Check-clause-completes : goal.returns-in-Some-Check-clause-completes
-returns-in-Some-Check-clause-completes g c ok told =
+returns-in-Some-Check-clause-completes g c ok p q =
     rw (c.in-Some-Check.ensures, c.in-Some-Check.field-0-is)
     (λ accepted. check_completes (g.W.World.healthy c.args.world.now) (check_names_of c.in-Some-Check.names)
-    (g.W.World.shown c.args.world.now) ok accepted c.check_released.result (c.check_released.ensures.judged told))
+    (g.W.World.shows p c.args.world.now) ok accepted c.check_released.result (c.check_released.ensures.judges p q))
 
 pub returns-in-Some-Check-clause-limit : goal.returns-in-Some-Check-clause-limit
-returns-in-Some-Check-clause-limit g c told limit e =
+returns-in-Some-Check-clause-limit g c p q limit e =
     rw (c.in-Some-Check.ensures, c.in-Some-Check.field-0-is)
-    (λ stage. c.check_released.ensures.no_limit told limit e stage)
+    (λ stage. c.check_released.ensures.shows_no_limit p q limit e stage)
 
 pub returns-in-Some-Check-clause-others : goal.returns-in-Some-Check-clause-others
-returns-in-Some-Check-clause-others g c told =
+returns-in-Some-Check-clause-others g c p q =
     rw (c.in-Some-Check.ensures, c.in-Some-Check.field-0-is)
-    (check_others (check_names_of c.in-Some-Check.names) (g.W.World.shown c.args.world.now)
-    (g.W.World.shown c.check_released.new.world) (c.check_released.ensures.in_order told))
+    (check_others (check_names_of c.in-Some-Check.names) (g.W.World.shows p c.args.world.now)
+    (g.W.World.shows p c.check_released.new.world) (c.check_released.ensures.shows_in_order p q))
 
 pub returns-in-Some-Run-clause-write_fault : goal.returns-in-Some-Run-clause-write_fault
 returns-in-Some-Run-clause-write_fault g c e = (c.run.ensures.write_fault e).rose
