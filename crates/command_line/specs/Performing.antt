@@ -1,5 +1,5 @@
--- What the program does with its words, in a world that tells its bytes and may be healthy, where the clock may answer
--- these times.
+-- What the program does with its words, in a world that shows its bytes by a beginning and may be healthy, where the
+-- clock may answer these times.
 use Rattle.std.specs.Prelude.{◌≡◌, ℕ, List, IfSome}
 use Rattle.world_io.specs.World.{Shown}
 use Rattle.job_commands.specs.declared.status.Status.{Status}

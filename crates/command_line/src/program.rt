@@ -10,10 +10,15 @@ use std::sync::Wait;
 use std::thread::Threads;
 use var_locks::OpenGate;
 use world_real::{RealClock, RealWorld};
+use world_told::Told;
 
 /// The program: performs what its arguments ask for over the files of the system, by its clock and
 /// on its threads, tells what was not done, and ends with the number of the status, which is 7 at
 /// most.
+///
+/// The files stand in a world with a record of its calls. So what `answer` promises by a beginning
+/// holds of the program: whatever bytes stood under the names when it began, if the system answered
+/// its reads as files with those bytes do.
 #[tactic(auto, using(crate::proofs::ExitCodes::most_exit_code))]
 pub fn run_program<
     R: Env
@@ -34,7 +39,7 @@ pub fn run_program<
         return exit_of(tell(rt, Status::NoMemory));
     };
     let clock = RealClock::new(own);
-    let mut world = RealWorld::new(rt.alloc(), rt);
+    let mut world = Told::of(RealWorld::new(rt.alloc(), rt));
     let status = answer(rt, env::args(rt), &mut world, &clock, &OpenGate);
     exit_of(tell(rt, status))
 }
