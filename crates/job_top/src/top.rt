@@ -125,8 +125,8 @@ pub fn serial<W: World>(alloc: Global, words: &[Text], world: &mut W) -> Status
         (λ command. KeepsPromiseOf command (W.shows p world.old) (W.shows p world.new)) }
 
     // What any other answer leaves: the outputs up to a limit, a first part of them in their
-    // order, or nothing where an input is refused, when also a world that does not tell its bytes
-    // created nothing. No other file changes.
+    // order, or nothing where an input is refused; then nothing is created either, whatever the
+    // world answered. No other file changes.
     ensures limit { (p : Start) → W.honest p world.new → (limit : LimitKind)
         → result ≡ Status.TooLarge limit → IfAsks words.now
         (λ command. StopsAtLimit command limit (W.shows p world.old) (W.shows p world.new)) }
@@ -194,7 +194,10 @@ pub fn serial<W: World>(alloc: Global, words: &[Text], world: &mut W) -> Status
 /// capture RELEASED an emission of its own in it? Then the report says how many packets were found. Else it is refuted:
 /// by the first illegal move, or else by the first such packet.
 ///
-/// In a healthy world that tells its bytes, a command whose words are right, whose inputs are there and are accepted,
+/// What the clauses say of bytes they say by each beginning, the bytes that stood under each name then, for which the
+/// world's answers were honest: those of files with these bytes.
+///
+/// In a healthy world, a command whose words are right, whose inputs are there and are accepted,
 /// and that passes no limit, is done, unless memory runs out or the schedule or the released packets are refused. There
 /// a read fault says that the first input that is not accepted is not there.
 ///
@@ -221,8 +224,8 @@ pub fn ftmb<W: World, C: Clock + Sync, G: Gate + Sync, R: AllocGlobal + Threads 
         (λ command. KeepsPromiseOf command (W.shows p world.old) (W.shows p world.new)) }
 
     // What any other answer leaves: the outputs up to a limit, a first part of them in their
-    // order, or nothing where an input is refused, when also a world that does not tell its bytes
-    // created nothing. No other file changes.
+    // order, or nothing where an input is refused; then nothing is created either, whatever the
+    // world answered. No other file changes.
     ensures limit { (p : Start) → W.honest p world.new → (limit : LimitKind)
         → result ≡ Status.TooLarge limit → IfAsks words.now
         (λ command. StopsAtLimit command limit (W.shows p world.old) (W.shows p world.new)) }

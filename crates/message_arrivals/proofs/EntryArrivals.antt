@@ -15,7 +15,7 @@ use Rattle.entry_order.proofs.Missing.{due_within, within_due}
 use Rattle.entry_order.proofs.Order.{is_or, number_within, entry_there}
 use Rattle.access_log.specs.declared.entry.StampedEntry.{StampedEntry}
 use Rattle.access_log.specs.declared.entry.Output.{Output}
-use Rattle.access_log.specs.Held.{Lane, lane, IsFrontier, IsKnown as IsKnownLane}
+use Rattle.access_log.specs.Held.{Lane, lane, IsKnown as IsKnownLane}
 use Rattle.access_log.specs.Lanes.{PutsEntry}
 use Rattle.link_store.specs.declared.address.Address.{Address}
 use Rattle.link_store.specs.Links.{address, frame_at, IsUpTo}
@@ -65,7 +65,7 @@ Kept held sent x =
     ⊎ ((frame_at sent.frames (entry_address sent x.thread x.number) ≡ None) × IsKnownLane (lane held x.thread) x.number)
 
 module _ (held now_held : List Lane) (sent now_sent : Sending) (t known : ℕ)
-    (forgets : ForgetsEntries sent now_sent t known) (frontier : IsFrontier (lane now_held t) known)
+    (forgets : ForgetsEntries sent now_sent t known) (reached : (n : ℕ) → n ≤ known → IsKnownLane (lane now_held t) n)
     (grows : (u n : ℕ) → IsKnownLane (lane held u) n → IsKnownLane (lane now_held u) n) (noted now_noted : List Numbers)
     (marks : (u n : ℕ) → WasMarked noted u n → WasMarked now_noted u n) where
   entry_stays : (x : StampedEntry) → (IsUpTo (entry_address sent t known) (entry_address sent x.thread x.number) → ⊥)
@@ -92,7 +92,7 @@ module _ (held now_held : List Lane) (sent now_sent : Sending) (t known : ℕ)
         ap (λ (k : ℕ). frame_at now_sent.frames (address k Log x.thread x.number)) forgets.epoch
             ∙ forgets.forgets.forgotten (entry_address sent x.thread x.number)
             (record { epoch = refl; kind = refl; thread = own; number = low }),
-        subst (λ (u : ℕ). IsKnownLane (lane now_held u) x.number) (sym own) (frontier.reached x.number low),
+        subst (λ (u : ℕ). IsKnownLane (lane now_held u) x.number) (sym own) (reached x.number low),
       )
 
       kept_there : (IsUpTo (entry_address sent t known) (entry_address sent x.thread x.number) → ⊥) → Kept held sent x
@@ -357,11 +357,11 @@ module _ {P V : Type 0} (m : Meaning V) (s : Setting V) (w : World V) (y : Parts
       -- it is held now, and what is due then is released
       pub log_new : (links : Sending) (known : ℕ) (before out go : List Output) (reply : Reply) → out ≡ before ++ go
           → now.epoch ≡ y.logger.epoch → LoggerParts (IsDue now.held) y.logger.waiting go now.waiting
-          → ReleasesOnce y.logger.released now.released go → IsFrontier (lane now.held t) known
-          → ForgetsEntries y.sent links t known → reply ≡ record { outcome = outcome.New; released = names_of go }
+          → ReleasesOnce y.logger.released now.released go
+          → ((k : ℕ) → k ≤ known → IsKnownLane (lane now.held t) k) → ForgetsEntries y.sent links t known → reply ≡ record { outcome = outcome.New; released = names_of go }
           → AnswersTo m s w (event.Log t n) reply before out
           (record y { sent = links; logger = now; released = y.released ++ names_of go })
-      log_new links known before out go reply appends epoch parts once frontier forgets is = (
+      log_new links known before out go reply appends epoch parts once reached forgets is = (
         next,
         (
           (
@@ -398,9 +398,9 @@ module _ {P V : Type 0} (m : Meaning V) (s : Setting V) (w : World V) (y : Parts
           };
           sent = record {
             epoch = forgets.epoch ∙ st.sent.epoch;
-            entry_sent = λ e i. entry_still y.logger.held now.held y.sent links t known forgets frontier grows
+            entry_sent = λ e i. entry_still y.logger.held now.held y.sent links t known forgets reached grows
                 y.logger.released now.released marks (log_of w.past) e (st.sent.entry_sent e i);
-            output_sent = λ o sends. output_still y.logger.held now.held y.sent links t known forgets frontier grows
+            output_sent = λ o sends. output_still y.logger.held now.held y.sent links t known forgets reached grows
                 y.logger.released now.released marks (log_of w.past) o (st.sent.output_sent o sends);
             entry_counts =
                 λ u. ap (λ (l : List (List ℕ)). length (lengths_of l u)) forgets.entries ∙ st.sent.entry_counts u;

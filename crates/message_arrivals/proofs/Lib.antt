@@ -1,4 +1,5 @@
 pub mod EntryArrivals
 pub mod OutputArrivals
 pub mod Arrivals
+pub mod Forgetting
 pub mod ThreadCounts

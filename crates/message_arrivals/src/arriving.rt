@@ -1,7 +1,7 @@
 ghost use Rattle.std.specs.Prelude.{◌≡◌, ◌<◌, ◌≤◌, ◌++◌, ◌↔◌, IsTrue, [], IfOk, OnOk, length};
 ghost use Rattle.recovery_world.specs.declared.event.Event.TheVariants as event_is;
 ghost use Rattle.system_parts.specs.SystemStanding.{StandsForSome};
-ghost use Rattle.message_arrivals.specs.Arriving.{HadSent, arrival_of};
+ghost use Rattle.message_arrivals.specs.Arriving.{HadSent, arrival_of, ForgetsTaken};
 ghost use Rattle.system_parts.specs.Performing.{Appends, MovesOn, Releasing, Replies};
 
 use access_log::Outputs;
@@ -28,6 +28,7 @@ fn take_entry<P: Program>(
         (Releasing out.old out.new (Replies (event_is.Log thread number) reply))
         core.old core.new) }
     ensures appends { Appends out.old out.new }
+    ensures forgets { IfOk result (λ reply. ForgetsTaken thread reply core.new) }
 {
     if number == 0 || number > core.master.counts(thread).entries {
         return Ok(only(core.alloc, Outcome::Nothing));
@@ -72,6 +73,7 @@ fn take_output<P: Program>(
         (Releasing out.old out.new (Replies (event_is.Out thread number) reply))
         core.old core.new) }
     ensures appends { Appends out.old out.new }
+    ensures forgets { IfOk result (λ reply. ForgetsTaken thread reply core.new) }
 {
     if number == 0 || number > core.master.counts(thread).outputs {
         return Ok(only(core.alloc, Outcome::Nothing));
@@ -112,6 +114,7 @@ pub fn arrive<P: Program>(
         (Releasing out.old out.new (Replies (arrival_of kind thread number) reply))
         core.old core.new) }
     ensures appends { Appends out.old out.new }
+    ensures forgets { IfOk result (λ reply. ForgetsTaken thread reply core.new) }
 {
     if thread >= u64::from(core.inputs.threads()) {
         return Ok(only(core.alloc, Outcome::Nothing));
@@ -156,6 +159,7 @@ pub fn arrive_late<P: Program>(
         (Releasing out.old out.new (Replies (event_is.Late epoch kind thread number) reply))
         core.old core.new) }
     ensures appends { Appends out.old out.new }
+    ensures forgets { IfOk result (λ reply. ForgetsTaken thread reply core.new) }
 {
     if epoch == u64::from(core.logger.epoch()) {
         return arrive(core, kind, thread, number, out);
@@ -180,6 +184,7 @@ pub fn arrive_cut<P: Program>(
         (Releasing out.old out.new (Replies (event_is.Cut kind thread number length) reply))
         core.old core.new) }
     ensures appends { Appends out.old out.new }
+    ensures forgets { IfOk result (λ reply. ForgetsTaken thread reply core.new) }
 {
     if thread >= u64::from(core.inputs.threads()) {
         return Ok(only(core.alloc, Outcome::Nothing));

@@ -1,6 +1,6 @@
 //! The followed touches and reads, by the variable and its number of touches before them.
 ghost use Rattle.std.specs.Prelude.{◌≡◌, ℕ, ◌+◌, ◌<◌, ◌≤◌, List, [], None, IfSome, IfNone};
-ghost use Rattle.std.specs.Prelude.{MatchOption, OnOk, slice_index};
+ghost use Rattle.std.specs.Prelude.{MatchOption, OnOk, slice_index, true};
 ghost use Rattle.access_log.specs.declared.entry.StampedEntry as stamped;
 ghost use Rattle.replay_guide.specs.Turns.{GoesFirst};
 ghost use Rattle.replay_guide.specs.Indexes.{touch_after, HasRead, AddsEntry};
@@ -32,6 +32,14 @@ impl Index {
             touches: BTreeMap::new(alloc),
             reads: BTreeSet::new(alloc),
         }
+    }
+
+    /// Whether there are no touches and no reads.
+    pub fn is_empty(&self) -> bool
+        ensures touches { result ≡ true → self.now.touches.entries ≡ [] }
+        ensures reads { result ≡ true → self.now.reads.keys ≡ [] }
+    {
+        self.touches.is_empty() && self.reads.is_empty()
     }
 
     /// Adds a log entry; those that neither touch nor read a variable change nothing.

@@ -5,6 +5,7 @@ use Rattle.message_arrivals.specs.Arriving.{arrival_of}
 use Rattle.system_parts.specs.Performing.{MovesOn, Releasing, Replies}
 use Rattle.output_releases.proofs.Answering.{came, stays}
 use Rattle.message_arrivals.proofs.Arrivals.{arrives_nowhere}
+use Rattle.message_arrivals.proofs.Forgetting.{forgets_none}
 use Rattle.message_arrivals.proofs.arriving.arrive.Goals as goal
 
 pub returns-then-thread-from-clause-on : goal.returns-then-thread-from-clause-on
@@ -28,3 +29,7 @@ returns-in-Out-clause-on g c =
     subst (λ k. IfOk c.take_output.result (λ reply. MovesOn (g.P.Program.meaning c.args.core.now.program)
     (Releasing c.args.out.now c.take_output.new.out (Replies (arrival_of k c.args.thread c.args.number) reply))
     c.args.core.now c.take_output.new.core)) (sym c.in-Out.is) c.take_output.ensures.on
+
+pub returns-then-thread-from-clause-forgets : goal.returns-then-thread-from-clause-forgets
+returns-then-thread-from-clause-forgets g c =
+    forgets_none c.args.thread outcome.Nothing c.only.result _ c.only.ensures (λ h. cc) (λ h. cc)

@@ -5,6 +5,7 @@ use Rattle.recovery_world.specs.declared.event.Outcome.TheVariants as outcome
 use Rattle.message_arrivals.specs.Arriving.{arrival_of}
 use Rattle.output_releases.proofs.Answering.{came, stays}
 use Rattle.message_arrivals.proofs.Arrivals.{moves_as, cut_nowhere, cut_nothing, cut_short, cut_whole}
+use Rattle.message_arrivals.proofs.Forgetting.{forgets_none}
 use Rattle.message_arrivals.proofs.arriving.arrive_cut.Goals as goal
 
 pub returns-then-thread-from-clause-on : goal.returns-then-thread-from-clause-on
@@ -53,3 +54,15 @@ returns-clause-on g c =
     omega (arith, c.if-thread-from.false, c.from.ensures, c.threads.ensures.value) in
     cut_whole _ s w _ st c.args.kind c.args.thread c.args.number c.args.length c.in-Some.whole low
     c.in-Some.ensures.entry c.in-Some.ensures.output c.if-length-whole.false) moves) c.arrive.ensures.on
+
+pub returns-then-thread-from-clause-forgets : goal.returns-then-thread-from-clause-forgets
+returns-then-thread-from-clause-forgets g c =
+    forgets_none c.args.thread outcome.Nothing c.only.result _ c.only.ensures (λ h. cc) (λ h. cc)
+
+pub returns-in_default-clause-forgets : goal.returns-in_default-clause-forgets
+returns-in_default-clause-forgets g c =
+    forgets_none c.args.thread outcome.Nothing c.only-in_default.result _ c.only-in_default.ensures (λ h. cc) (λ h. cc)
+
+pub returns-then-length-whole-clause-forgets : goal.returns-then-length-whole-clause-forgets
+returns-then-length-whole-clause-forgets g c =
+    forgets_none c.args.thread outcome.Short c.only-then-length-whole.result _ c.only-then-length-whole.ensures (λ h. cc) (λ h. cc)

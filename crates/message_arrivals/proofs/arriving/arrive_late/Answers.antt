@@ -5,6 +5,7 @@ use Rattle.recovery_world.specs.declared.event.Outcome.TheVariants as outcome
 use Rattle.message_arrivals.specs.Arriving.{HadSent, arrival_of}
 use Rattle.output_releases.proofs.Answering.{came, stays}
 use Rattle.message_arrivals.proofs.Arrivals.{moves_as, late_now, late_old, late_never}
+use Rattle.message_arrivals.proofs.Forgetting.{forgets_none}
 use Rattle.message_arrivals.proofs.arriving.arrive_late.Goals as goal
 
 pub returns-then-epoch-from-clause-on : goal.returns-then-epoch-from-clause-on
@@ -43,3 +44,11 @@ returns-clause-on g c =
     let t = c.was_sent.ensures.1
     (subst (λ e. HadSent e c.args.epoch c.args.kind c.args.thread c.args.number) (sym c.deref.ensures.value) h) in
     let f = c.if-was_sent.false in cc)))
+
+pub returns-then-was_sent-clause-forgets : goal.returns-then-was_sent-clause-forgets
+returns-then-was_sent-clause-forgets g c =
+    forgets_none c.args.thread outcome.Old c.only.result _ c.only.ensures (λ h. cc) (λ h. cc)
+
+pub returns-clause-forgets : goal.returns-clause-forgets
+returns-clause-forgets g c =
+    forgets_none c.args.thread outcome.Nothing c.only-2.result _ c.only-2.ensures (λ h. cc) (λ h. cc)

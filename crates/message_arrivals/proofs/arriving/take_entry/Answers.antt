@@ -6,11 +6,12 @@ use Rattle.dup_filter.specs.Numbers.{Numbers}
 use Rattle.output_logger.specs.Logger.{appended}
 use Rattle.recovery_world.specs.declared.event.Outcome.TheVariants as outcome
 use Rattle.recovery_world.specs.declared.event.Event.TheVariants as event_is
-use Rattle.output_releases.specs.Released.{ForgetsReleased}
+use Rattle.output_releases.specs.Released.{ForgetsReleased, AreForgotten}
 use Rattle.output_releases.proofs.ForgottenOutputs.{stands_forgotten}
 use Rattle.output_releases.proofs.Answering.{counted, at_view, came, came_none}
 use Rattle.message_arrivals.proofs.EntryArrivals.{parts_still, log_none, log_old, log_found, log_known, log_new}
 use Rattle.message_arrivals.proofs.EntryArrivals.{not_known, was_known, same_parts, noted_new}
+use Rattle.message_arrivals.proofs.Forgetting.{forgets_none, forgets_new}
 use Rattle.output_releases.proofs.OutputLists.{behind}
 use Rattle.output_releases.proofs.ReleasedLists.{appends_same}
 use Rattle.message_arrivals.proofs.arriving.take_entry.Goals as goal
@@ -65,6 +66,8 @@ entry-requires-2-clause-numbered g c =
 pub returns-in_ok-released-in-New-clause-on : goal.returns-in_ok-released-in-New-clause-on
 returns-in_ok-released-in-New-clause-on g c =
     let took = c.in_ok-entry-2.was ∙ ap Ok c.in-New.is in
+    let frontier = subst (λ (held : List Lane). IsFrontier (lane held c.args.thread) c.frontier-known.result)
+    c.held.ensures c.frontier-known.ensures in
     let noted = noted_new _ _ _ c.forget_some.new.sent c.entry-2.new.self _ (appended c.args.out.now c.entry-2.new.out)
     c.in_ok-released-in-New.released c.core.view_is
     (behind c.as_slice.result.now c.entry-2.new.out c.args.out.now c.len-before.result c.as_slice.ensures
@@ -80,12 +83,11 @@ returns-in_ok-released-in-New-clause-on g c =
     let to =
     log_new _ s w _ st c.args.thread c.args.number low c.in-Some.entry of c.entry-2.new.self
     (λ k. absurd (not_known _ took (c.entry-2.ensures.known.1 (c.epoch-epoch.ensures, k)))) (c.entry-2.ensures.new took)
-    c.entry-2.ensures.others c.forget_entries.new.self c.frontier-known.result c.args.out.now c.entry-2.new.out
+    c.entry-2.ensures.others c.forget_entries.new.self _ c.args.out.now c.entry-2.new.out
     (appended c.args.out.now c.entry-2.new.out)
     (record { outcome = outcome.New; released = c.in_ok-released-in-New.released }) c.entry-2.ensures.appends
     c.entry-2.ensures.epoch (c.entry-2.ensures.released took) c.entry-2.ensures.once
-    (subst (λ (held : List Lane). IsFrontier (lane held c.args.thread) c.frontier-known.result) c.held.ensures
-    c.frontier-known.ensures) c.forget_entries.ensures.forgets
+    (λ k up_to. frontier.reached k (omega (arith, up_to))) c.forget_entries.ensures.forgets
     (ap (λ (l : List (ℕ × ℕ)). record { outcome = outcome.New; released = l }) noted.0) in
     let forgets = subst (λ (l : List Numbers). ForgetsReleased c.forget_entries.new.self c.forget_some.new.sent l)
     c.released.ensures c.forget_some.ensures.only in
@@ -108,7 +110,29 @@ returns-in-Known g c =
           log_known _ s w _ st c.args.thread c.args.number low c.in-Some.entry of (c.entry-2.ensures.known.0 took.0).1
           c.only-in-Known.result c.args.out.now c.only-in-Known.ensures);
       appends = appends_same c.args.out.now c.entry-2.new.out (c.entry-2.ensures.none took.1);
+      forgets = forgets_none c.args.thread outcome.Known c.only-in-Known.result _ c.only-in-Known.ensures (λ h. cc)
+          (λ h. cc);
     }
+
+pub returns-then-number-eq0-clause-forgets : goal.returns-then-number-eq0-clause-forgets
+returns-then-number-eq0-clause-forgets g c =
+    forgets_none c.args.thread outcome.Nothing c.only.result _ c.only.ensures (λ h. cc) (λ h. cc)
+
+pub returns-in_default-clause-forgets : goal.returns-in_default-clause-forgets
+returns-in_default-clause-forgets g c =
+    forgets_none c.args.thread outcome.Known c.only-in_default.result _ c.only-in_default.ensures (λ h. cc) (λ h. cc)
+
+pub returns-in_ok-released-in-New-clause-forgets : goal.returns-in_ok-released-in-New-clause-forgets
+returns-in_ok-released-in-New-clause-forgets g c =
+    let frontier = subst (λ (held : List Lane). IsFrontier (lane held c.args.thread) c.frontier-known.result)
+    c.held.ensures c.frontier-known.ensures in
+    let only = subst (λ (l : List Numbers). ForgetsReleased c.forget_entries.new.self c.forget_some.new.sent l)
+    c.released.ensures c.forget_some.ensures.only in
+    forgets_new _ c.forget_entries.new.self c.forget_some.new.sent c.entry-2.new.self c.args.thread
+    c.frontier-known.result frontier c.forget_entries.ensures.forgets only _ _ _ c.threads.result _ _ c.core.view_is
+    c.threads.ensures.value
+    (λ some. subst (λ (l : List Numbers). AreForgotten c.forget_some.new.sent l c.threads.result) c.released.ensures
+    (c.forget_some.ensures.all some)) c.in_ok-released-in-New.ensures
 
 pub invariant_of-core-in-New : goal.invariant_of-core-in-New
 invariant_of-core-in-New g c =

@@ -9,6 +9,7 @@ use Rattle.message_arrivals.proofs.OutputArrivals.{out_none, out_old, out_is, ow
 use Rattle.message_arrivals.proofs.OutputArrivals.{out_released, out_waits, was_again, not_again_released}
 use Rattle.message_arrivals.proofs.OutputArrivals.{not_again_waits, waits_not_released, pushed_parts}
 use Rattle.output_releases.proofs.ForgottenOutputs.{forgets_own, stands_forgotten}
+use Rattle.message_arrivals.proofs.Forgetting.{forgets_none, forgets_released}
 use Rattle.message_arrivals.proofs.arriving.take_output.Goals as goal
 use Rattle.message_arrivals.proofs.arriving.take_output.Goals.{then-number-eq0-via-then-number-eq0}
 use Rattle.message_arrivals.proofs.arriving.take_output.Goals.{then-number-eq0-via-else-number-eq0+then-number-counts}
@@ -132,3 +133,25 @@ returns-in-Again-clause-on g c =
     c.in_ok-output.ensures.there c.in_ok-output.ensures.forgotten c.in-Some.is (omega arith) (omega (arith, count.1)) in
     out_again _ s w _ st c.args.thread c.args.number low c.in-Some.output of (c.output-2.ensures.again.0 took.0).1
     c.only-in-Again.result c.args.out.now c.only-in-Again.ensures)
+
+pub returns-then-number-eq0-clause-forgets : goal.returns-then-number-eq0-clause-forgets
+returns-then-number-eq0-clause-forgets g c =
+    forgets_none c.args.thread outcome.Nothing c.only.result _ c.only.ensures (λ h. cc) (λ h. cc)
+
+pub returns-in_default-clause-forgets : goal.returns-in_default-clause-forgets
+returns-in_default-clause-forgets g c =
+    forgets_none c.args.thread outcome.Again c.only-in_default.result _ c.only-in_default.ensures (λ h. cc) (λ h. cc)
+
+pub returns-in-Wait-clause-forgets : goal.returns-in-Wait-clause-forgets
+returns-in-Wait-clause-forgets g c =
+    forgets_none c.args.thread _ c.only-in-Wait.result _ c.only-in-Wait.ensures (λ h. cc) (λ h. cc)
+
+pub returns-in-Again-clause-forgets : goal.returns-in-Again-clause-forgets
+returns-in-Again-clause-forgets g c =
+    forgets_none c.args.thread outcome.Again c.only-in-Again.result _ c.only-in-Again.ensures (λ h. cc) (λ h. cc)
+
+pub returns-in_ok-push-in-Release-clause-forgets : goal.returns-in_ok-push-in-Release-clause-forgets
+returns-in_ok-push-in-Release-clause-forgets g c =
+    forgets_released c.args.thread c.floor-floor.result c.only-in-Release.result _ _ c.only-in-Release.ensures
+    (c.floor-floor.ensures.value ∙ ap (λ (l : List Numbers). (numbers l c.args.thread).floor) c.released.ensures)
+    c.forget_outputs.ensures.forgets
