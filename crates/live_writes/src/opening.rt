@@ -1,5 +1,5 @@
 ghost use Rattle.std.specs.Prelude.{◌≡◌, ◌<◌, ◌-◌, ◌^◌, IfOk, IsTrue, IsErrOf};
-ghost use Rattle.world_io.specs.World.{is_writable, WritingFailed};
+ghost use Rattle.world_io.specs.World.{Start, is_writable, WritingFailed};
 ghost use Rattle.output_files.specs.Written.{Writes, WritesFiles};
 ghost use Rattle.live_writes.specs.Outputs.{AreApart, names_of};
 ghost use Rattle.live_writes.specs.Told.{AreOpen};
@@ -67,6 +67,13 @@ pub fn open_live<W: World>(
     ensures writes_files { WritesFiles W.ledger W.healthy 3 world.old world.new }
     ensures cause { IsErrOf result OutputError.WriteFault
         → WritingFailed W.ledger W.healthy world.old world.new }
+    ensures shows { (p : Start) → W.honest p world.new
+        → Writes result (live_opening (names_of files.entry) unit)
+        (W.shows p world.old) (W.shows p world.new) }
+    ensures shows_open { (p : Start) → W.honest p world.new
+        → IfOk result (λ o. AreOpen (names_of files.entry)
+        o.released o.schedule o.script (W.shows p world.new)) }
+    ensures before { (p : Start) → W.honest p world.new → W.honest p world.old }
 {
     let outputs = open_outputs(
         world,

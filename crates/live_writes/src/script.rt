@@ -2,8 +2,8 @@ ghost use Rattle.std.specs.Prelude.{◌≡◌, ◌≤◌, ◌+◌, ◌∷◌, []
 ghost use Rattle.plain_text.specs.declared.limit.Limit.{Limit as LimitKind};
 ghost use Rattle.plain_text.specs.declared.limit.TheConstants.{MOST_EVENTS as most_events};
 ghost use Rattle.plain_text.specs.declared.limit.TheConstants.{MOST_FILE_BYTES as most_bytes};
-ghost use Rattle.world_io.specs.World.{is_writable, WritingFailed};
-ghost use Rattle.output_files.specs.Writes.{Appends, IsOutput};
+ghost use Rattle.world_io.specs.World.{Start, is_writable, WritingFailed};
+ghost use Rattle.output_files.specs.Writes.{Appends, IsOutput, KeepsOutputs};
 ghost use Rattle.output_files.specs.Written.{OnlyWrites, Writes};
 ghost use Rattle.std.specs.String.{string_bytes};
 ghost use Rattle.script_text.specs.Scripts.{FitsWords};
@@ -110,6 +110,13 @@ impl Script {
         ensures only_writes { OnlyWrites W.tells W.shown W.ledger W.healthy world.old world.new }
         ensures cause { IsErrOf result OutputError.WriteFault
             → WritingFailed W.ledger W.healthy world.old world.new }
+        ensures shows { (p : Start) → W.honest p world.new
+            → (name : List ℕ) → IsOutput file name (W.shows p world.old)
+            → Writes result (Appends name self.old.text ∷ []) (W.shows p world.old)
+            (W.shows p world.new) }
+        ensures keeps { (p : Start) → W.honest p world.new
+            → KeepsOutputs (W.shows p world.old) (W.shows p world.new) }
+        ensures before { (p : Start) → W.honest p world.new → W.honest p world.old }
     {
         append(world, file, self.text.as_slice())?;
         self.text.truncate(0);

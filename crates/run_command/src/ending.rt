@@ -1,10 +1,10 @@
 ghost use Rattle.std.specs.Prelude.{◌≡◌, [], IfOk, OnOk, List, IsTrue, IsErrOf, false};
 ghost use Rattle.plain_player.specs.ScheduleText.{schedule_text};
 ghost use Rattle.plain_player.specs.Schedules.{FitLines};
-ghost use Rattle.world_io.specs.World.{Shown, is_writable, WritingFailed};
+ghost use Rattle.world_io.specs.World.{Start, Shown, is_writable, WritingFailed};
 ghost use Rattle.recovery_world.specs.declared.event.Event.{Event as EventKind};
 ghost use Rattle.recovery_world.specs.World.{Setting};
-ghost use Rattle.output_files.specs.Writes.{IsOutput};
+ghost use Rattle.output_files.specs.Writes.{IsOutput, KeepsOutputs};
 ghost use Rattle.output_files.specs.Written.{OnlyWrites};
 ghost use Rattle.run_writes.specs.Run.{OutputNames, Finishes, counts_line};
 ghost use Rattle.run_command.specs.Running.{HasCome};
@@ -57,6 +57,16 @@ pub fn close_run<P: Program, W: World>(
     ensures only_writes { OnlyWrites W.tells W.shown W.ledger W.healthy world.old world.new }
     ensures cause { IsErrOf result OutputError.WriteFault
         → WritingFailed W.ledger W.healthy world.old world.new }
+    ensures shows { (p : Start) → W.honest p world.new
+        → (s : Setting P.Value) (names : OutputNames)
+        (events : List EventKind) (before : Shown)
+        → IsOutput file names.schedule (W.shows p world.old)
+        → HasCome (P.meaning system.parts.program) s names events system lines.old before
+        (W.shows p world.old)
+        → Finishes result s names events before (W.shows p world.new) }
+    ensures keeps { (p : Start) → W.honest p world.new
+        → KeepsOutputs (W.shows p world.old) (W.shows p world.new) }
+    ensures before { (p : Start) → W.honest p world.new → W.honest p world.old }
 {
     let finished = system.finish()?;
     let closing = put_closing(alloc, &finished)?;

@@ -3,8 +3,8 @@ ghost use Rattle.std.specs.Result.{IsOk};
 ghost use Rattle.plain_text.specs.Packets.{IsShort};
 ghost use Rattle.recovery_world.specs.World.{Sent};
 ghost use Rattle.recovery_world.specs.Files.{reply_line, sent_names};
-ghost use Rattle.world_io.specs.World.{Shown, is_writable, WritingFailed};
-ghost use Rattle.output_files.specs.Writes.{Write, HasGathered, IsOutput};
+ghost use Rattle.world_io.specs.World.{Start, Shown, is_writable, WritingFailed};
+ghost use Rattle.output_files.specs.Writes.{Write, HasGathered, IsOutput, KeepsOutputs};
 ghost use Rattle.output_files.specs.Written.{WritesGathered, OnlyWrites};
 ghost use Rattle.run_writes.specs.Replies.{packets_in};
 ghost use Rattle.run_writes.specs.Run.{FitsRecord, reply_writes};
@@ -45,6 +45,18 @@ fn write_answer<W: World>(
     ensures only_writes { OnlyWrites W.tells W.shown W.ledger W.healthy world.old world.new }
     ensures cause { IsErrOf result OutputError.WriteFault
         → WritingFailed W.ledger W.healthy world.old world.new }
+    ensures shows { (p : Start) → W.honest p world.new
+        → (before : Shown) (writes : List Write) (name : List ℕ)
+        (freed : List Sent) → IsOutput file name (W.shows p world.old)
+        → reply.now.released ≡ sent_names freed
+        → HasGathered writes lines.old before (W.shows p world.old)
+        → WritesGathered result (writes ++ reply_writes name (record {
+          released = packets_in outputs.now;
+          line = reply_line event.now reply.now.outcome freed;
+        })) lines.new before (W.shows p world.new) }
+    ensures keeps { (p : Start) → W.honest p world.new
+        → KeepsOutputs (W.shows p world.old) (W.shows p world.new) }
+    ensures before { (p : Start) → W.honest p world.new → W.honest p world.old }
 {
     let line = put_line(alloc, event, reply)?;
     let line = line.as_str().as_bytes();
@@ -73,6 +85,15 @@ pub fn write_performed<W: World>(
     ensures only_writes { OnlyWrites W.tells W.shown W.ledger W.healthy world.old world.new }
     ensures cause { IsErrOf result RunError.WriteFault
         → WritingFailed W.ledger W.healthy world.old world.new }
+    ensures shows { (p : Start) → W.honest p world.new
+        → (before : Shown) (writes : List Write) (name : List ℕ)
+        → IsOutput file name (W.shows p world.old)
+        → HasGathered writes lines.old before (W.shows p world.old)
+        → WritesPerformed result performed.now.reply event.now (packets_in performed.now.outputs)
+        writes name lines.new before (W.shows p world.new) }
+    ensures keeps { (p : Start) → W.honest p world.new
+        → KeepsOutputs (W.shows p world.old) (W.shows p world.new) }
+    ensures before { (p : Start) → W.honest p world.new → W.honest p world.old }
 {
     let outputs = performed.outputs.as_slice();
     match &performed.reply {

@@ -1,7 +1,7 @@
 ghost use Rattle.std.specs.Prelude.{◌≡◌, ◌<◌, ◌-◌, ◌^◌, [], IfOk, IsTrue, OnOk, IsErrOf, Err};
 ghost use Rattle.std.specs.Prelude.{false};
 ghost use Rattle.plain_text.specs.declared.limit.Limit.{Limit as LimitKind};
-ghost use Rattle.world_io.specs.World.{is_writable, WritingFailed};
+ghost use Rattle.world_io.specs.World.{Start, is_writable, WritingFailed};
 ghost use Rattle.recovery_world.specs.World.{Setting, opening};
 ghost use Rattle.output_files.specs.Writes.{IsOutput};
 ghost use Rattle.output_files.specs.Written.{WritesFiles};
@@ -46,6 +46,15 @@ fn write_events<P: Program, W: World>(
     ensures writes_files { WritesFiles W.ledger W.healthy 2 world.old world.new }
     ensures cause { IsErrOf result RunError.WriteFault
         → WritingFailed W.ledger W.healthy world.old world.new }
+    ensures shows { (p : Start) → W.honest p world.new
+        → (s : Setting P.Value) → s.fractions ≡ unit
+        → IsSystemAt (P.meaning system.old.parts.program) s (opening P.Value) system.old
+        → GoesOn result (P.meaning system.old.parts.program) s (names_of files.entry) events.now
+        system.new lines.new (W.shows p world.old) (W.shows p world.new) }
+    ensures shows_schedule { (p : Start) → W.honest p world.new
+        → IfOk result
+        (λ file. IsOutput file (names_of files.entry).schedule (W.shows p world.new)) }
+    ensures before { (p : Start) → W.honest p world.new → W.honest p world.old }
 {
     let outputs = open_outputs(world, files, unit)?;
     perform_events(alloc, world, outputs.released, system, events, lines)?;
@@ -77,6 +86,17 @@ pub fn run_script<P: Program, W: World>(
     ensures writes_files { WritesFiles W.ledger W.healthy 2 world.old world.new }
     ensures cause { IsErrOf result RunError.WriteFault
         → WritingFailed W.ledger W.healthy world.old world.new }
+    ensures shows_whole { (p : Start) → W.honest p world.new
+        → OnOk result (HasRun (setting_of (P.meaning program) run)
+        (names_of files.entry) run.events (W.shows p world.old) (W.shows p world.new)) }
+    ensures shows_limit { (p : Start) → W.honest p world.new
+        → (limit : LimitKind) → result ≡ Err (RunError.Limit limit)
+        → HasStopped (setting_of (P.meaning program) run) (names_of files.entry) run.events limit
+        (W.shows p world.old) (W.shows p world.new) }
+    ensures shows_in_order { (p : Start) → W.honest p world.new
+        → HasBegunRun (setting_of (P.meaning program) run)
+        (names_of files.entry) run.events (W.shows p world.old) (W.shows p world.new) }
+    ensures before { (p : Start) → W.honest p world.new → W.honest p world.old }
 {
     let mut system = System::new(alloc, program, run.threads, run.seed, run.unit, run.packets)?;
     let mut lines = Bytes::new(alloc);

@@ -1,8 +1,8 @@
 ghost use Rattle.std.specs.Prelude.{◌≡◌, ◌∷◌, ◌++◌, [], List, IsTrue, OnOk, IsErrOf, false};
-ghost use Rattle.world_io.specs.World.{Shown, is_writable, WritingFailed};
+ghost use Rattle.world_io.specs.World.{Start, Shown, is_writable, WritingFailed};
 ghost use Rattle.recovery_world.specs.declared.event.Event.{Event as EventKind};
 ghost use Rattle.recovery_world.specs.World.{Setting};
-ghost use Rattle.output_files.specs.Writes.{IsOutput};
+ghost use Rattle.output_files.specs.Writes.{IsOutput, KeepsOutputs};
 ghost use Rattle.output_files.specs.Written.{OnlyWrites};
 ghost use Rattle.run_writes.specs.Run.{OutputNames};
 ghost use Rattle.run_command.specs.Running.{GoesOn, HasCome, IsSomewhere};
@@ -43,6 +43,17 @@ pub fn perform_event<P: Program, W: World>(
     ensures only_writes { OnlyWrites W.tells W.shown W.ledger W.healthy world.old world.new }
     ensures cause { IsErrOf result RunError.WriteFault
         → WritingFailed W.ledger W.healthy world.old world.new }
+    ensures shows { (p : Start) → W.honest p world.new
+        → (s : Setting P.Value) (names : OutputNames)
+        (events : List EventKind) (before : Shown)
+        → IsOutput file names.released (W.shows p world.old)
+        → HasCome (P.meaning system.old.parts.program) s names events system.old lines.old before
+        (W.shows p world.old)
+        → GoesOn result (P.meaning system.old.parts.program) s names (events ++ event.now ∷ [])
+        system.new lines.new before (W.shows p world.new) }
+    ensures keeps { (p : Start) → W.honest p world.new
+        → KeepsOutputs (W.shows p world.old) (W.shows p world.new) }
+    ensures before { (p : Start) → W.honest p world.new → W.honest p world.old }
 {
     let performed = perform(system, event);
     write_performed(alloc, world, file, lines, event, &performed)
@@ -71,6 +82,16 @@ pub fn perform_events<P: Program, W: World>(
     ensures only_writes { OnlyWrites W.tells W.shown W.ledger W.healthy world.old world.new }
     ensures cause { IsErrOf result RunError.WriteFault
         → WritingFailed W.ledger W.healthy world.old world.new }
+    ensures shows { (p : Start) → W.honest p world.new
+        → (s : Setting P.Value) (names : OutputNames) (before : Shown)
+        → IsOutput file names.released (W.shows p world.old)
+        → HasCome (P.meaning system.old.parts.program) s names [] system.old lines.old before
+        (W.shows p world.old)
+        → GoesOn result (P.meaning system.old.parts.program) s names events.now
+        system.new lines.new before (W.shows p world.new) }
+    ensures keeps { (p : Start) → W.honest p world.new
+        → KeepsOutputs (W.shows p world.old) (W.shows p world.new) }
+    ensures before { (p : Start) → W.honest p world.new → W.honest p world.old }
 {
     for event in events {
         perform_event(alloc, world, file, system, event, lines)?;

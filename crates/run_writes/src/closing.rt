@@ -1,6 +1,6 @@
 ghost use Rattle.std.specs.Prelude.{◌≡◌, ◌∷◌, ◌++◌, [], List, ℕ, IfOk, OnOk, IsTrue, IsErrOf};
-ghost use Rattle.world_io.specs.World.{Shown, is_writable, WritingFailed};
-ghost use Rattle.output_files.specs.Writes.{Write, Appends, Reports, HasGathered, IsOutput};
+ghost use Rattle.world_io.specs.World.{Start, Shown, is_writable, WritingFailed};
+ghost use Rattle.output_files.specs.Writes.{Write, Appends, Reports, HasGathered, IsOutput, KeepsOutputs};
 ghost use Rattle.output_files.specs.Written.{Writes, OnlyWrites};
 ghost use Rattle.run_writes.specs.Run.{counts_line};
 
@@ -48,6 +48,15 @@ pub fn write_closing<W: World>(
     ensures only_writes { OnlyWrites W.tells W.shown W.ledger W.healthy world.old world.new }
     ensures cause { IsErrOf result OutputError.WriteFault
         → WritingFailed W.ledger W.healthy world.old world.new }
+    ensures shows { (p : Start) → W.honest p world.new
+        → (before : Shown) (writes : List Write) (name : List ℕ)
+        → IsOutput file name (W.shows p world.old)
+        → HasGathered writes lines.old before (W.shows p world.old)
+        → Writes result (writes ++ (Appends name schedule.now ∷ Reports last.now ∷ [])) before
+        (W.shows p world.new) }
+    ensures keeps { (p : Start) → W.honest p world.new
+        → KeepsOutputs (W.shows p world.old) (W.shows p world.new) }
+    ensures before { (p : Start) → W.honest p world.new → W.honest p world.old }
 {
     write_lines(world, lines)?;
     append(world, file, schedule)?;

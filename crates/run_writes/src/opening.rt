@@ -1,5 +1,5 @@
 ghost use Rattle.std.specs.Prelude.{◌≡◌, ◌<◌, ◌-◌, ◌^◌, IfOk, IsTrue, IsErrOf};
-ghost use Rattle.world_io.specs.World.{is_writable, WritingFailed};
+ghost use Rattle.world_io.specs.World.{Start, is_writable, WritingFailed};
 ghost use Rattle.output_files.specs.Writes.{IsOutput};
 ghost use Rattle.output_files.specs.Written.{Writes, WritesFiles};
 ghost use Rattle.run_writes.specs.Run.{names_of, opening_writes};
@@ -64,6 +64,16 @@ pub fn open_outputs<W: World>(
     ensures writes_files { WritesFiles W.ledger W.healthy 2 world.old world.new }
     ensures cause { IsErrOf result OutputError.WriteFault
         → WritingFailed W.ledger W.healthy world.old world.new }
+    ensures shows { (p : Start) → W.honest p world.new
+        → Writes result (opening_writes (names_of files.entry) unit)
+        (W.shows p world.old) (W.shows p world.new) }
+    ensures shows_released { (p : Start) → W.honest p world.new
+        → IfOk result
+        (λ o. IsOutput o.released (names_of files.entry).released (W.shows p world.new)) }
+    ensures shows_schedule { (p : Start) → W.honest p world.new
+        → IfOk result
+        (λ o. IsOutput o.schedule (names_of files.entry).schedule (W.shows p world.new)) }
+    ensures before { (p : Start) → W.honest p world.new → W.honest p world.old }
 {
     let released = create(world, files.released)?;
     append(world, released, &put_header(unit))?;

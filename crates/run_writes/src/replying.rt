@@ -5,8 +5,8 @@ ghost use Rattle.plain_text.specs.Octets.{AreBytes};
 ghost use Rattle.plain_text.specs.Packets.{IsShort};
 ghost use Rattle.pcap_io.specs.Capture.{record_of, records_of};
 ghost use Rattle.pcap_io.specs.declared.order.Order.TheVariants as order;
-ghost use Rattle.world_io.specs.World.{Shown, is_writable, WritingFailed};
-ghost use Rattle.output_files.specs.Writes.{Write, Appends, Reports, HasGathered, IsOutput};
+ghost use Rattle.world_io.specs.World.{Start, Shown, is_writable, WritingFailed};
+ghost use Rattle.output_files.specs.Writes.{Write, Appends, Reports, HasGathered, IsOutput, KeepsOutputs};
 ghost use Rattle.output_files.specs.Written.{Writes, WritesGathered, OnlyWrites};
 ghost use Rattle.run_writes.specs.Replies.{packets_in};
 ghost use Rattle.run_writes.specs.Run.{FitsRecord, release_writes, reply_writes};
@@ -89,6 +89,15 @@ fn write_both<W: World>(
     ensures only_writes { OnlyWrites W.tells W.shown W.ledger W.healthy world.old world.new }
     ensures cause { IsErrOf result OutputError.WriteFault
         → WritingFailed W.ledger W.healthy world.old world.new }
+    ensures shows { (p : Start) → W.honest p world.new
+        → (before : Shown) (writes : List Write) (name : List ℕ)
+        → IsOutput file name (W.shows p world.old)
+        → HasGathered writes lines.old before (W.shows p world.old)
+        → WritesGathered result (writes ++ (Appends name records.now ∷ Reports line.now ∷ []))
+        lines.new before (W.shows p world.new) }
+    ensures keeps { (p : Start) → W.honest p world.new
+        → KeepsOutputs (W.shows p world.old) (W.shows p world.new) }
+    ensures before { (p : Start) → W.honest p world.new → W.honest p world.old }
 {
     write_records(world, file, lines, records)?;
     lines.extend(line)?;
@@ -122,6 +131,17 @@ pub fn write_reply<W: World>(
     ensures only_writes { OnlyWrites W.tells W.shown W.ledger W.healthy world.old world.new }
     ensures cause { IsErrOf result OutputError.WriteFault
         → WritingFailed W.ledger W.healthy world.old world.new }
+    ensures shows { (p : Start) → W.honest p world.new
+        → (before : Shown) (writes : List Write) (name : List ℕ)
+        → IsOutput file name (W.shows p world.old)
+        → HasGathered writes lines.old before (W.shows p world.old)
+        → WritesGathered result (writes ++ reply_writes name (record {
+          released = packets_in outputs.now;
+          line = line.now;
+        })) lines.new before (W.shows p world.new) }
+    ensures keeps { (p : Start) → W.honest p world.new
+        → KeepsOutputs (W.shows p world.old) (W.shows p world.new) }
+    ensures before { (p : Start) → W.honest p world.new → W.honest p world.old }
 {
     let released = put_outputs(alloc, outputs)?;
     write_both(world, file, lines, released.as_slice(), line)
@@ -145,6 +165,15 @@ pub fn write_stopped<W: World>(
     ensures only_writes { OnlyWrites W.tells W.shown W.ledger W.healthy world.old world.new }
     ensures cause { IsErrOf result OutputError.WriteFault
         → WritingFailed W.ledger W.healthy world.old world.new }
+    ensures shows { (p : Start) → W.honest p world.new
+        → (before : Shown) (writes : List Write) (name : List ℕ)
+        → IsOutput file name (W.shows p world.old)
+        → HasGathered writes lines.old before (W.shows p world.old)
+        → Writes result (writes ++ release_writes name (packets_in outputs.now)) before
+        (W.shows p world.new) }
+    ensures keeps { (p : Start) → W.honest p world.new
+        → KeepsOutputs (W.shows p world.old) (W.shows p world.new) }
+    ensures before { (p : Start) → W.honest p world.new → W.honest p world.old }
 {
     let records = put_outputs(alloc, outputs)?;
     write_records(world, file, lines, records.as_slice())?;
