@@ -19,3 +19,18 @@ pub returns-clause-told : goal.returns-clause-told
 returns-clause-told g c told =
     written_more (opening_writes (names_of c.args.files).outputs c.args.unit) (Creates c.args.files.script.now ∷ []) _ _ _
     (c.in_ok-outputs.ensures.told told) (c.in_ok-script.ensures.told told)
+
+pub returns-in_err-outputs-clause-shows : goal.returns-in_err-outputs-clause-shows
+returns-in_err-outputs-clause-shows g c p h = err_writes _ _ _ _ c.from_residual.ensures.0
+    (begun_before (opening_writes (names_of c.args.files).outputs c.args.unit) (Creates c.args.files.script.now ∷ []) _ _
+    (c.in_err-outputs.ensures.shows p h))
+
+pub returns-in_err-script-clause-shows : goal.returns-in_err-script-clause-shows
+returns-in_err-script-clause-shows g c p h = err_writes _ _ _ _ c.from_residual-in_err-script.ensures.0
+    (begun_behind (opening_writes (names_of c.args.files).outputs c.args.unit) (Creates c.args.files.script.now ∷ []) _ _ _
+    (c.in_ok-outputs.ensures.shows p (c.in_err-script.ensures.before p h)) (c.in_err-script.ensures.shows p h))
+
+pub returns-clause-shows : goal.returns-clause-shows
+returns-clause-shows g c p h =
+    written_more (opening_writes (names_of c.args.files).outputs c.args.unit) (Creates c.args.files.script.now ∷ []) _ _ _
+    (c.in_ok-outputs.ensures.shows p (c.in_ok-script.ensures.before p h)) (c.in_ok-script.ensures.shows p h)

@@ -7,3 +7,8 @@ pub returns-clause-told : goal.returns-clause-told
 returns-clause-told g c told name is =
     same_append name _ _ _ _ (c.as_slice.ensures ∙ ap (λ (x : Scripted). x.text) c.self.view_is)
     (c.in_ok-append.ensures.told told name is)
+
+pub returns-clause-shows : goal.returns-clause-shows
+returns-clause-shows g c p h name is =
+    same_append name _ _ _ _ (c.as_slice.ensures ∙ ap (λ (x : Scripted). x.text) c.self.view_is)
+    (c.in_ok-append.ensures.shows p h name is)
