@@ -2,10 +2,11 @@
 ghost use Rattle.std.specs.Prelude.{◌≡◌, ◌≤◌, List, ℕ, OnOk, IsTrue, IsErrOf, false};
 ghost use Rattle.plain_text.specs.declared.limit.TheConstants.{MOST_EVENTS as most_events};
 ghost use Rattle.plain_text.specs.declared.limit.TheConstants.{MOST_FILE_BYTES as most_bytes};
-ghost use Rattle.world_io.specs.World.{Shown, is_writable, WritingFailed};
+ghost use Rattle.world_io.specs.World.{Start, Shown, is_writable, WritingFailed};
 ghost use Rattle.recovery_world.specs.declared.event.Event.{Event as EventKind};
 ghost use Rattle.recovery_world.specs.Many.{arrival};
 ghost use Rattle.recovery_world.specs.World.{Setting, World as SystemWorld};
+ghost use Rattle.output_files.specs.Writes.{KeepsOutputs};
 ghost use Rattle.output_files.specs.Written.{OnlyWrites};
 ghost use Rattle.plan_script.specs.Rounds.{arrival_events};
 ghost use Rattle.run_command.specs.Running.{IsSomewhere};
@@ -56,14 +57,14 @@ pub(crate) fn arrive<P: Program, W: World>(
     requires script { IsTrue (is_writable (W.ledger world.old) files.script) }
     requires few { script.old.count ≤ most_events }
     requires short { script.old.size ≤ most_bytes }
-    ensures told { IsTrue W.tells → (s : Setting P.Value) (names : LiveOutputs)
+    ensures told { (p : Start) → W.honest p world.new → (s : Setting P.Value) (names : LiveOutputs)
         (events : List EventKind) (w : SystemWorld P.Value) (before : Shown) → AreApart names
-        → AreOpen names files.released files.schedule files.script (W.shown world.old)
+        → AreOpen names files.released files.schedule files.script (W.shows p world.old)
         → HasLivedTo (P.meaning system.old.parts.program) s names events w system.old lines.old
-        script.old before (W.shown world.old)
+        script.old before (W.shows p world.old)
         → GoesOver result (P.meaning system.old.parts.program) s names w events
         (arrival_events frames.now) system.new lines.new script.new before
-        (W.shown world.new) }
+        (W.shows p world.new) }
     ensures few { script.new.count ≤ most_events }
     ensures short { script.new.size ≤ most_bytes }
     ensures runs { OnOk result (system.new.stopped ≡ false) }
@@ -75,6 +76,9 @@ pub(crate) fn arrive<P: Program, W: World>(
     ensures only_writes { OnlyWrites W.tells W.shown W.ledger W.healthy world.old world.new }
     ensures cause { IsErrOf result RunError.WriteFault
         → WritingFailed W.ledger W.healthy world.old world.new }
+    ensures keeps { (p : Start) → W.honest p world.new
+        → KeepsOutputs (W.shows p world.old) (W.shows p world.new) }
+    ensures before { (p : Start) → W.honest p world.new → W.honest p world.old }
 {
     for frame in frames {
         let event = arrival_of(*frame);

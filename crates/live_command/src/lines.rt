@@ -3,9 +3,10 @@ ghost use Rattle.std.specs.Prelude.{◌≡◌, ◌∷◌, ◌++◌, ◌≤◌, [
 ghost use Rattle.std.specs.Prelude.{false, true, IfErr};
 ghost use Rattle.plain_text.specs.declared.limit.TheConstants.{MOST_EVENTS as most_events};
 ghost use Rattle.plain_text.specs.declared.limit.TheConstants.{MOST_FILE_BYTES as most_bytes};
-ghost use Rattle.world_io.specs.World.{Shown, is_writable, WritingFailed};
+ghost use Rattle.world_io.specs.World.{Start, Shown, is_writable, WritingFailed};
 ghost use Rattle.recovery_world.specs.declared.event.Event.{Event as EventKind};
 ghost use Rattle.recovery_world.specs.World.{Setting, World as SystemWorld};
+ghost use Rattle.output_files.specs.Writes.{KeepsOutputs};
 ghost use Rattle.output_files.specs.Written.{OnlyWrites};
 ghost use Rattle.frame_intake.specs.Orders.{orders_of};
 ghost use Rattle.plan_script.specs.Orders.{Orders};
@@ -53,14 +54,14 @@ fn tell_one<P: Program, W: World>(
     requires script { IsTrue (is_writable (W.ledger world.old) files.script) }
     requires few { script.old.count ≤ most_events }
     requires short { script.old.size ≤ most_bytes }
-    ensures told { IsTrue W.tells → (s : Setting P.Value) (names : LiveOutputs)
+    ensures told { (p : Start) → W.honest p world.new → (s : Setting P.Value) (names : LiveOutputs)
         (events : List EventKind) (w : SystemWorld P.Value) (before : Shown) → AreApart names
-        → AreOpen names files.released files.schedule files.script (W.shown world.old)
+        → AreOpen names files.released files.schedule files.script (W.shows p world.old)
         → HasLivedTo (P.meaning standing.system.parts.program) s names events w standing.system
-        lines.old script.old before (W.shown world.old)
+        lines.old script.old before (W.shows p world.old)
         → GoesOver result (P.meaning standing.system.parts.program) s names w events
         (event.now ∷ []) (standing_in result standing.system) lines.new script.new before
-        (W.shown world.new) }
+        (W.shows p world.new) }
     ensures few { script.new.count ≤ most_events }
     ensures short { script.new.size ≤ most_bytes }
     ensures runs { IfOk result (λ y. y.system.stopped ≡ false) }
@@ -75,6 +76,9 @@ fn tell_one<P: Program, W: World>(
     ensures only_writes { OnlyWrites W.tells W.shown W.ledger W.healthy world.old world.new }
     ensures cause { IsErrOf result RunError.WriteFault
         → WritingFailed W.ledger W.healthy world.old world.new }
+    ensures keeps { (p : Start) → W.honest p world.new
+        → KeepsOutputs (W.shows p world.old) (W.shows p world.new) }
+    ensures before { (p : Start) → W.honest p world.new → W.honest p world.old }
 {
     let Standing { mut system, draws } = standing;
     match tell(alloc, world, files, lines, script, &mut system, event) {
@@ -111,15 +115,15 @@ fn race_if_up<
     requires script { IsTrue (is_writable (W.ledger world.old) files.script) }
     requires few { script.old.count ≤ most_events }
     requires short { script.old.size ≤ most_bytes }
-    ensures told { IsTrue W.tells → (s : Setting P.Value) (names : LiveOutputs)
+    ensures told { (p : Start) → W.honest p world.new → (s : Setting P.Value) (names : LiveOutputs)
         (events : List EventKind) (w : SystemWorld P.Value) (asked : Orders) (before : Shown)
         → SameOrders asked (orders_of orders.now) → AreApart names
-        → AreOpen names files.released files.schedule files.script (W.shown world.old)
+        → AreOpen names files.released files.schedule files.script (W.shows p world.old)
         → HasLivedTo (P.meaning standing.system.parts.program) s names events w standing.system
-        lines.old script.old before (W.shown world.old)
+        lines.old script.old before (W.shows p world.old)
         → GoesToldRound result (P.meaning standing.system.parts.program) s names
         (C.may clock.now) w asked standing.draws events lines.new script.new before
-        (W.shown world.new) }
+        (W.shows p world.new) }
     ensures few { script.new.count ≤ most_events }
     ensures short { script.new.size ≤ most_bytes }
     ensures runs { IfOk result (λ y. y.system.stopped ≡ false) }
@@ -133,6 +137,9 @@ fn race_if_up<
     ensures only_writes { OnlyWrites W.tells W.shown W.ledger W.healthy world.old world.new }
     ensures cause { IsErrOf result RunError.WriteFault
         → WritingFailed W.ledger W.healthy world.old world.new }
+    ensures keeps { (p : Start) → W.honest p world.new
+        → KeepsOutputs (W.shows p world.old) (W.shows p world.new) }
+    ensures before { (p : Start) → W.honest p world.new → W.honest p world.old }
 {
     if !standing.system.up() {
         return Ok(standing);
@@ -170,15 +177,15 @@ fn perform_line<
     requires script { IsTrue (is_writable (W.ledger world.old) files.script) }
     requires few { script.old.count ≤ most_events }
     requires short { script.old.size ≤ most_bytes }
-    ensures told { IsTrue W.tells → (s : Setting P.Value) (names : LiveOutputs)
+    ensures told { (p : Start) → W.honest p world.new → (s : Setting P.Value) (names : LiveOutputs)
         (events : List EventKind) (w : SystemWorld P.Value) (asked : Orders) (before : Shown)
         → SameOrders asked (orders_of orders.old) → AreApart names
-        → AreOpen names files.released files.schedule files.script (W.shown world.old)
+        → AreOpen names files.released files.schedule files.script (W.shows p world.old)
         → HasLivedTo (P.meaning standing.system.parts.program) s names events w standing.system
-        lines.old script.old before (W.shown world.old)
+        lines.old script.old before (W.shows p world.old)
         → GoesLine result (P.meaning standing.system.parts.program) s names (C.may clock.now) w
         asked line standing.draws events (orders_of orders.new) lines.new script.new before
-        (W.shown world.new) }
+        (W.shows p world.new) }
     ensures few { script.new.count ≤ most_events }
     ensures short { script.new.size ≤ most_bytes }
     ensures runs { IfOk result (λ y. y.system.stopped ≡ false) }
@@ -192,6 +199,9 @@ fn perform_line<
     ensures only_writes { OnlyWrites W.tells W.shown W.ledger W.healthy world.old world.new }
     ensures cause { IsErrOf result RunError.WriteFault
         → WritingFailed W.ledger W.healthy world.old world.new }
+    ensures keeps { (p : Start) → W.honest p world.new
+        → KeepsOutputs (W.shows p world.old) (W.shows p world.new) }
+    ensures before { (p : Start) → W.honest p world.new → W.honest p world.old }
 {
     let alloc = rt.alloc();
     match line {
@@ -301,13 +311,14 @@ pub(crate) fn perform_plan<
     requires script { IsTrue (is_writable (W.ledger world.old) files.script) }
     requires few { script.old.count ≤ most_events }
     requires short { script.old.size ≤ most_bytes }
-    ensures told { IsTrue W.tells → (s : Setting P.Value) (names : LiveOutputs) (before : Shown)
+    ensures told { (p : Start) → W.honest p world.new
+        → (s : Setting P.Value) (names : LiveOutputs) (before : Shown)
         → standing.draws ≡ generators_of s.seed 0 s.threads → AreApart names
-        → AreOpen names files.released files.schedule files.script (W.shown world.old)
+        → AreOpen names files.released files.schedule files.script (W.shows p world.old)
         → HasLivedTo (P.meaning standing.system.parts.program) s names [] (opening P.Value)
-        standing.system lines.old script.old before (W.shown world.old)
+        standing.system lines.old script.old before (W.shows p world.old)
         → GoesPlan result (P.meaning standing.system.parts.program) s names (C.may clock.now)
-        plan.now lines.new script.new before (W.shown world.new) }
+        plan.now lines.new script.new before (W.shows p world.new) }
     ensures few { script.new.count ≤ most_events }
     ensures short { script.new.size ≤ most_bytes }
     ensures runs { IfOk result (λ y. y.system.stopped ≡ false) }
@@ -321,6 +332,9 @@ pub(crate) fn perform_plan<
     ensures only_writes { OnlyWrites W.tells W.shown W.ledger W.healthy world.old world.new }
     ensures cause { IsErrOf result RunError.WriteFault
         → WritingFailed W.ledger W.healthy world.old world.new }
+    ensures keeps { (p : Start) → W.honest p world.new
+        → KeepsOutputs (W.shows p world.old) (W.shows p world.new) }
+    ensures before { (p : Start) → W.honest p world.new → W.honest p world.old }
 {
     let mut orders = RoundOrders::none(rt.alloc());
     let mut reached = standing;

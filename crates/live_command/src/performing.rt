@@ -4,12 +4,13 @@ ghost use Rattle.std.specs.Prelude.{false};
 ghost use Rattle.plain_text.specs.Packets.{IsShort};
 ghost use Rattle.plain_text.specs.declared.limit.TheConstants.{MOST_EVENTS as most_events};
 ghost use Rattle.plain_text.specs.declared.limit.TheConstants.{MOST_FILE_BYTES as most_bytes};
-ghost use Rattle.world_io.specs.World.{Shown, is_writable, WritingFailed};
+ghost use Rattle.world_io.specs.World.{Start, Shown, is_writable, WritingFailed};
 ghost use Rattle.recovery_world.specs.declared.event.Event.{Event as EventKind};
 ghost use Rattle.recovery_world.specs.World.{Setting, World as SystemWorld};
 ghost use Rattle.std.specs.Result.{IsOk};
 ghost use Rattle.plain_machine.specs.Program.{Meaning};
 ghost use Rattle.recovery_core.specs.Systems.{Systemed};
+ghost use Rattle.output_files.specs.Writes.{KeepsOutputs};
 ghost use Rattle.output_files.specs.Written.{OnlyWrites};
 ghost use Rattle.run_writes.specs.Replies.{packets_in};
 ghost use Rattle.run_command.specs.Running.{ComesTo, IsSomewhere, IsSystemAt};
@@ -43,16 +44,16 @@ fn leave<P: Program, W: World>(
     requires short { All IsShort (packets_in performed.now.outputs) }
     requires released { IsTrue (is_writable (W.ledger world.old) files.released) }
     requires script { IsTrue (is_writable (W.ledger world.old) files.script) }
-    ensures told { IsTrue W.tells → (m : Meaning P.Value) (s : Setting P.Value)
+    ensures told { (p : Start) → W.honest p world.new → (m : Meaning P.Value) (s : Setting P.Value)
         (names : LiveOutputs) (events : List EventKind) (w : SystemWorld P.Value)
         (old new : Systemed P P.Value) (before : Shown) → AreApart names
-        → AreOpen names files.released files.schedule files.script (W.shown world.old)
+        → AreOpen names files.released files.schedule files.script (W.shows p world.old)
         → HasTold s names events (events ++ event.now ∷ []) w lines.old script.old before
-        (W.shown world.old)
+        (W.shows p world.old)
         → ComesTo m event.now performed.now.reply performed.now.outputs old new
         → IsSystemAt m s w old → s.threads ≤ 16
         → GoesOver result m s names w events (event.now ∷ []) new lines.new script.new before
-        (W.shown world.new) }
+        (W.shows p world.new) }
     ensures gathered { OnOk result
         ((length lines.new ≤ 65536) × (length script.new.text ≤ 65536)) }
     ensures ended { OnOk result (IsOk performed.now.reply) }
@@ -61,6 +62,9 @@ fn leave<P: Program, W: World>(
     ensures only_writes { OnlyWrites W.tells W.shown W.ledger W.healthy world.old world.new }
     ensures cause { IsErrOf result RunError.WriteFault
         → WritingFailed W.ledger W.healthy world.old world.new }
+    ensures keeps { (p : Start) → W.honest p world.new
+        → KeepsOutputs (W.shows p world.old) (W.shows p world.new) }
+    ensures before { (p : Start) → W.honest p world.new → W.honest p world.old }
 {
     match &performed.reply {
         Ok(reply) if performed.outputs.is_empty() => {
@@ -91,13 +95,13 @@ pub(crate) fn tell<P: Program, W: World>(
     requires script { IsTrue (is_writable (W.ledger world.old) files.script) }
     requires few { script.old.count ≤ most_events }
     requires short { script.old.size ≤ most_bytes }
-    ensures told { IsTrue W.tells → (s : Setting P.Value) (names : LiveOutputs)
+    ensures told { (p : Start) → W.honest p world.new → (s : Setting P.Value) (names : LiveOutputs)
         (events : List EventKind) (w : SystemWorld P.Value) (before : Shown) → AreApart names
-        → AreOpen names files.released files.schedule files.script (W.shown world.old)
+        → AreOpen names files.released files.schedule files.script (W.shows p world.old)
         → HasLivedTo (P.meaning system.old.parts.program) s names events w system.old lines.old
-        script.old before (W.shown world.old)
+        script.old before (W.shows p world.old)
         → GoesOver result (P.meaning system.old.parts.program) s names w events
-        (event.now ∷ []) system.new lines.new script.new before (W.shown world.new) }
+        (event.now ∷ []) system.new lines.new script.new before (W.shows p world.new) }
     ensures gathered { OnOk result
         ((length lines.new ≤ 65536) × (length script.new.text ≤ 65536)) }
     ensures few { script.new.count ≤ most_events }
@@ -113,6 +117,9 @@ pub(crate) fn tell<P: Program, W: World>(
     ensures only_writes { OnlyWrites W.tells W.shown W.ledger W.healthy world.old world.new }
     ensures cause { IsErrOf result RunError.WriteFault
         → WritingFailed W.ledger W.healthy world.old world.new }
+    ensures keeps { (p : Start) → W.honest p world.new
+        → KeepsOutputs (W.shows p world.old) (W.shows p world.new) }
+    ensures before { (p : Start) → W.honest p world.new → W.honest p world.old }
 {
     let performed = perform(system, event);
     add_line::<P::Value, W>(world, files.script, lines, script, event)?;

@@ -3,11 +3,11 @@ ghost use Rattle.std.specs.Prelude.{◌≡◌, ◌∷◌, ◌++◌, ◌≤◌, [
 ghost use Rattle.std.specs.Prelude.{false, true};
 ghost use Rattle.plain_text.specs.declared.limit.TheConstants.{MOST_EVENTS as most_events};
 ghost use Rattle.plain_text.specs.declared.limit.TheConstants.{MOST_FILE_BYTES as most_bytes};
-ghost use Rattle.world_io.specs.World.{Shown, is_writable, WritingFailed};
+ghost use Rattle.world_io.specs.World.{Start, Shown, is_writable, WritingFailed};
 ghost use Rattle.recovery_world.specs.declared.event.Event.{Event as EventKind};
 ghost use Rattle.recovery_world.specs.World.{Setting, World as SystemWorld};
 ghost use Rattle.output_files.specs.Written.{OnlyWrites};
-ghost use Rattle.output_files.specs.Writes.{IsOutput};
+ghost use Rattle.output_files.specs.Writes.{IsOutput, KeepsOutputs};
 ghost use Rattle.frame_intake.specs.Orders.{orders_of};
 ghost use Rattle.plan_script.specs.Orders.{Orders};
 ghost use Rattle.run_command.specs.Running.{IsSomewhere, IsSystemAt};
@@ -52,17 +52,21 @@ fn tell_stop<X, W: World>(
     requires writable { IsTrue (is_writable (W.ledger world.old) file) }
     requires few { script.old.count ≤ most_events }
     requires short { script.old.size ≤ most_bytes }
-    ensures told { IsTrue W.tells → (s : Setting X) (names : LiveOutputs) (events : List EventKind)
+    ensures told { (p : Start) → W.honest p world.new
+        → (s : Setting X) (names : LiveOutputs) (events : List EventKind)
         (w : SystemWorld X) (limit : LimitKind) (before : Shown) → AreApart names
-        → IsOutput file names.script (W.shown world.old)
-        → HasTold s names events events w lines.old script.old before (W.shown world.old)
+        → IsOutput file names.script (W.shows p world.old)
+        → HasTold s names events events w lines.old script.old before (W.shows p world.old)
         → StopsAtStep s w limit steps.now next
-        → StopsRace result s names w limit events before (W.shown world.new) }
+        → StopsRace result s names w limit events before (W.shows p world.new) }
     ensures few { script.new.count ≤ most_events }
     ensures short { script.new.size ≤ most_bytes }
     ensures only_writes { OnlyWrites W.tells W.shown W.ledger W.healthy world.old world.new }
     ensures cause { IsErrOf result RunError.WriteFault
         → WritingFailed W.ledger W.healthy world.old world.new }
+    ensures keeps { (p : Start) → W.honest p world.new
+        → KeepsOutputs (W.shows p world.old) (W.shows p world.new) }
+    ensures before { (p : Start) → W.honest p world.new → W.honest p world.old }
 {
     tell_steps::<X, W>(alloc, world, file, lines, script, steps)?;
     let event = Event::Step {
@@ -91,17 +95,17 @@ fn tell_race<P: Program, W: World>(
     requires script { IsTrue (is_writable (W.ledger world.old) files.script) }
     requires few { script.old.count ≤ most_events }
     requires short { script.old.size ≤ most_bytes }
-    ensures told { IsTrue W.tells → (s : Setting P.Value) (names : LiveOutputs)
+    ensures told { (p : Start) → W.honest p world.new → (s : Setting P.Value) (names : LiveOutputs)
         (events : List EventKind) (w there : SystemWorld P.Value) (before : Shown)
         → AreApart names
-        → AreOpen names files.released files.schedule files.script (W.shown world.old)
-        → HasTold s names events events w lines.old script.old before (W.shown world.old)
+        → AreOpen names files.released files.schedule files.script (W.shows p world.old)
+        → HasTold s names events events w lines.old script.old before (W.shows p world.old)
         → PerformsNoted s w steps.now there
         → IsSystemAt (P.meaning system.old.parts.program) s there system.old
         → s.threads ≤ 16
         → GoesRace result (P.meaning system.old.parts.program) s names there events
         (events_noted steps.now) arriving.now system.new lines.new script.new before
-        (W.shown world.new) }
+        (W.shows p world.new) }
     ensures few { script.new.count ≤ most_events }
     ensures short { script.new.size ≤ most_bytes }
     ensures runs { OnOk result (system.new.stopped ≡ false) }
@@ -113,6 +117,9 @@ fn tell_race<P: Program, W: World>(
     ensures only_writes { OnlyWrites W.tells W.shown W.ledger W.healthy world.old world.new }
     ensures cause { IsErrOf result RunError.WriteFault
         → WritingFailed W.ledger W.healthy world.old world.new }
+    ensures keeps { (p : Start) → W.honest p world.new
+        → KeepsOutputs (W.shows p world.old) (W.shows p world.new) }
+    ensures before { (p : Start) → W.honest p world.new → W.honest p world.old }
 {
     tell_steps::<P::Value, W>(alloc, world, files.script, lines, script, steps)?;
     arrive(alloc, world, files, lines, script, system, arriving)
@@ -134,17 +141,17 @@ fn tell_round<P: Program, W: World>(
     requires script { IsTrue (is_writable (W.ledger world.old) files.script) }
     requires few { script.old.count ≤ most_events }
     requires short { script.old.size ≤ most_bytes }
-    ensures told { IsTrue W.tells → (s : Setting P.Value) (names : LiveOutputs)
+    ensures told { (p : Start) → W.honest p world.new → (s : Setting P.Value) (names : LiveOutputs)
         (events : List EventKind) (w there : SystemWorld P.Value) (before : Shown)
         → AreApart names
-        → AreOpen names files.released files.schedule files.script (W.shown world.old)
-        → HasTold s names events events w lines.old script.old before (W.shown world.old)
+        → AreOpen names files.released files.schedule files.script (W.shows p world.old)
+        → HasTold s names events events w lines.old script.old before (W.shows p world.old)
         → PerformsNoted s w done.steps.items there
         → IsSystemAt (P.meaning done.system.parts.program) s there done.system
         → s.threads ≤ 16
         → GoesRace result (P.meaning done.system.parts.program) s names there events
         (events_noted done.steps.items) done.arriving.items (standing_in result done.system)
-        lines.new script.new before (W.shown world.new) }
+        lines.new script.new before (W.shows p world.new) }
     ensures few { script.new.count ≤ most_events }
     ensures short { script.new.size ≤ most_bytes }
     ensures runs { IfOk result (λ y. y.system.stopped ≡ false) }
@@ -159,6 +166,9 @@ fn tell_round<P: Program, W: World>(
     ensures only_writes { OnlyWrites W.tells W.shown W.ledger W.healthy world.old world.new }
     ensures cause { IsErrOf result RunError.WriteFault
         → WritingFailed W.ledger W.healthy world.old world.new }
+    ensures keeps { (p : Start) → W.honest p world.new
+        → KeepsOutputs (W.shows p world.old) (W.shows p world.new) }
+    ensures before { (p : Start) → W.honest p world.new → W.honest p world.old }
 {
     let RoundDone {
         mut system,
@@ -213,14 +223,14 @@ pub(crate) fn race<
     requires script { IsTrue (is_writable (W.ledger world.old) files.script) }
     requires few { script.old.count ≤ most_events }
     requires short { script.old.size ≤ most_bytes }
-    ensures told { IsTrue W.tells → (s : Setting P.Value) (names : LiveOutputs)
+    ensures told { (p : Start) → W.honest p world.new → (s : Setting P.Value) (names : LiveOutputs)
         (events : List EventKind) (w : SystemWorld P.Value) (asked : Orders) (before : Shown)
         → SameOrders asked (orders_of orders.now) → AreApart names
-        → AreOpen names files.released files.schedule files.script (W.shown world.old)
+        → AreOpen names files.released files.schedule files.script (W.shows p world.old)
         → HasLivedTo (P.meaning standing.system.parts.program) s names events w standing.system
-        lines.old script.old before (W.shown world.old)
+        lines.old script.old before (W.shows p world.old)
         → GoesRound result (P.meaning standing.system.parts.program) s names (C.may clock.now) w
-        asked standing.draws events lines.new script.new before (W.shown world.new) }
+        asked standing.draws events lines.new script.new before (W.shows p world.new) }
     ensures few { script.new.count ≤ most_events }
     ensures short { script.new.size ≤ most_bytes }
     ensures runs { IfOk result (λ y. y.system.stopped ≡ false) }
@@ -234,6 +244,9 @@ pub(crate) fn race<
     ensures only_writes { OnlyWrites W.tells W.shown W.ledger W.healthy world.old world.new }
     ensures cause { IsErrOf result RunError.WriteFault
         → WritingFailed W.ledger W.healthy world.old world.new }
+    ensures keeps { (p : Start) → W.honest p world.new
+        → KeepsOutputs (W.shows p world.old) (W.shows p world.new) }
+    ensures before { (p : Start) → W.honest p world.new → W.honest p world.old }
 {
     let alloc = rt.alloc();
     let Standing { system, draws } = standing;

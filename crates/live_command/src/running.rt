@@ -3,7 +3,7 @@ ghost use Rattle.std.specs.Prelude.{◌≡◌, ◌∷◌, ◌++◌, ◌≤◌, [
 ghost use Rattle.std.specs.Prelude.{false, true};
 ghost use Rattle.plain_text.specs.declared.limit.TheConstants.{MOST_EVENTS as most_events};
 ghost use Rattle.plain_text.specs.declared.limit.TheConstants.{MOST_FILE_BYTES as most_bytes};
-ghost use Rattle.world_io.specs.World.{Shown, is_writable, WritingFailed};
+ghost use Rattle.world_io.specs.World.{Start, Shown, is_writable, WritingFailed};
 ghost use Rattle.recovery_world.specs.declared.event.Event.{Event as EventKind};
 ghost use Rattle.recovery_world.specs.World.{Setting, World as SystemWorld};
 ghost use Rattle.output_files.specs.Written.{OnlyWrites};
@@ -54,16 +54,17 @@ fn close<P: Program, W: World>(
     requires script { IsTrue (is_writable (W.ledger world.old) files.script) }
     requires few { script.old.count ≤ most_events }
     requires short { script.old.size ≤ most_bytes }
-    ensures told { IsTrue W.tells → (s : Setting P.Value) (names : LiveOutputs)
+    ensures told { (p : Start) → W.honest p world.new → (s : Setting P.Value) (names : LiveOutputs)
         (events : List EventKind) (w : SystemWorld P.Value) (before : Shown) → AreApart names
-        → AreOpen names files.released files.schedule files.script (W.shown world.old)
+        → AreOpen names files.released files.schedule files.script (W.shows p world.old)
         → HasLivedTo (P.meaning system.parts.program) s names events w system lines.old
-        script.old before (W.shown world.old)
-        → EndsPlan result s names events before (W.shown world.new) }
+        script.old before (W.shows p world.old)
+        → EndsPlan result s names events before (W.shows p world.new) }
     ensures no_limit { (limit : LimitKind) → result ≡ Err (RunError.Limit limit) → ⊥ }
     ensures only_writes { OnlyWrites W.tells W.shown W.ledger W.healthy world.old world.new }
     ensures cause { IsErrOf result RunError.WriteFault
         → WritingFailed W.ledger W.healthy world.old world.new }
+    ensures before { (p : Start) → W.honest p world.new → W.honest p world.old }
 {
     if let Err(error) = write_script::<P::Value, W>(world, files.script, script) {
         system.discard();
@@ -97,15 +98,17 @@ fn run_standing<
     requires released { IsTrue (is_writable (W.ledger world.old) files.released) }
     requires schedule { IsTrue (is_writable (W.ledger world.old) files.schedule) }
     requires script { IsTrue (is_writable (W.ledger world.old) files.script) }
-    ensures told { IsTrue W.tells → (s : Setting P.Value) (names : LiveOutputs) (before : Shown)
+    ensures told { (p : Start) → W.honest p world.new
+        → (s : Setting P.Value) (names : LiveOutputs) (before : Shown)
         → standing.draws ≡ generators_of s.seed 0 s.threads → AreApart names
-        → AreOpen names files.released files.schedule files.script (W.shown world.old)
+        → AreOpen names files.released files.schedule files.script (W.shows p world.old)
         → IsSystemAt (P.meaning standing.system.parts.program) s (opening P.Value) standing.system
-        → s.threads ≤ 16 → HasWritten (live_opening names s.fractions) before (W.shown world.old)
-        → RunsPlan result s (C.may clock.now) plan.now names before (W.shown world.new) }
+        → s.threads ≤ 16 → HasWritten (live_opening names s.fractions) before (W.shows p world.old)
+        → RunsPlan result s (C.may clock.now) plan.now names before (W.shows p world.new) }
     ensures only_writes { OnlyWrites W.tells W.shown W.ledger W.healthy world.old world.new }
     ensures cause { IsErrOf result RunError.WriteFault
         → WritingFailed W.ledger W.healthy world.old world.new }
+    ensures before { (p : Start) → W.honest p world.new → W.honest p world.old }
 {
     let mut lines = Bytes::new(rt.alloc());
     let mut script = Script::new(rt.alloc());
@@ -151,17 +154,21 @@ pub fn run_plan<
     requires inputs { CanLive run }
     requires room { (W.ledger world.old).given < 2 ^ 32 - 3 }
     requires apart { AreApart (names_of files) }
-    ensures whole { IsTrue W.tells → OnOk result (LivesWhole (setting_of (P.meaning program) run)
+    ensures whole { (p : Start) → W.honest p world.new
+        → OnOk result (LivesWhole (setting_of (P.meaning program) run)
         (C.may clock.now) run.plan (names_of files.entry)
-        (W.shown world.old) (W.shown world.new)) }
-    ensures limit { IsTrue W.tells → (limit : LimitKind) → result ≡ Err (RunError.Limit limit)
+        (W.shows p world.old) (W.shows p world.new)) }
+    ensures limit { (p : Start) → W.honest p world.new → (limit : LimitKind)
+        → result ≡ Err (RunError.Limit limit)
         → LivesToLimit (setting_of (P.meaning program) run) run.plan (names_of files.entry) limit
-        (W.shown world.old) (W.shown world.new) }
-    ensures in_order { IsTrue W.tells → LivesInOrder (setting_of (P.meaning program) run)
-        run.plan (names_of files.entry) (W.shown world.old) (W.shown world.new) }
+        (W.shows p world.old) (W.shows p world.new) }
+    ensures in_order { (p : Start) → W.honest p world.new
+        → LivesInOrder (setting_of (P.meaning program) run)
+        run.plan (names_of files.entry) (W.shows p world.old) (W.shows p world.new) }
     ensures writes_files { WritesFiles W.ledger W.healthy 3 world.old world.new }
     ensures cause { IsErrOf result RunError.WriteFault
         → WritingFailed W.ledger W.healthy world.old world.new }
+    ensures before { (p : Start) → W.honest p world.new → W.honest p world.old }
 {
     let alloc = rt.alloc();
     let draws = Draws::new(alloc, run.seed, run.threads)?;

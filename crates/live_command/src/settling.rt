@@ -4,9 +4,10 @@ ghost use Rattle.std.specs.Prelude.{◌≡◌, ◌∷◌, ◌++◌, ◌≤◌, �
 ghost use Rattle.std.specs.Prelude.{false, true};
 ghost use Rattle.plain_text.specs.declared.limit.TheConstants.{MOST_EVENTS as most_events};
 ghost use Rattle.plain_text.specs.declared.limit.TheConstants.{MOST_FILE_BYTES as most_bytes};
-ghost use Rattle.world_io.specs.World.{Shown, is_writable, WritingFailed};
+ghost use Rattle.world_io.specs.World.{Start, Shown, is_writable, WritingFailed};
 ghost use Rattle.recovery_world.specs.declared.event.Event.{Event as EventKind};
 ghost use Rattle.recovery_world.specs.World.{Setting, World as SystemWorld};
+ghost use Rattle.output_files.specs.Writes.{KeepsOutputs};
 ghost use Rattle.output_files.specs.Written.{OnlyWrites};
 ghost use Rattle.recovery_world.specs.Events.{count_of, ended_now};
 ghost use Rattle.recovery_world.specs.Many.{all_messages, numbered, of_threads};
@@ -120,13 +121,13 @@ fn feed_rest<P: Program, W: World>(
     requires script { IsTrue (is_writable (W.ledger world.old) files.script) }
     requires few { script.old.count ≤ most_events }
     requires short { script.old.size ≤ most_bytes }
-    ensures told { IsTrue W.tells → (s : Setting P.Value) (names : LiveOutputs)
+    ensures told { (p : Start) → W.honest p world.new → (s : Setting P.Value) (names : LiveOutputs)
         (events : List EventKind) (w : SystemWorld P.Value) (before : Shown) → AreApart names
-        → AreOpen names files.released files.schedule files.script (W.shown world.old)
+        → AreOpen names files.released files.schedule files.script (W.shows p world.old)
         → HasLivedTo (P.meaning system.old.parts.program) s names events w system.old lines.old
-        script.old before (W.shown world.old)
+        script.old before (W.shows p world.old)
         → GoesFed result (P.meaning system.old.parts.program) s names w events system.new
-        lines.new script.new before (W.shown world.new) }
+        lines.new script.new before (W.shows p world.new) }
     ensures few { script.new.count ≤ most_events }
     ensures short { script.new.size ≤ most_bytes }
     ensures runs { OnOk result (system.new.stopped ≡ false) }
@@ -139,6 +140,9 @@ fn feed_rest<P: Program, W: World>(
     ensures only_writes { OnlyWrites W.tells W.shown W.ledger W.healthy world.old world.new }
     ensures cause { IsErrOf result RunError.WriteFault
         → WritingFailed W.ledger W.healthy world.old world.new }
+    ensures keeps { (p : Start) → W.honest p world.new
+        → KeepsOutputs (W.shows p world.old) (W.shows p world.new) }
+    ensures before { (p : Start) → W.honest p world.new → W.honest p world.old }
 {
     let left = system.left();
     if system.up() {
@@ -181,14 +185,14 @@ fn arrive_all<P: Program, W: World>(
     requires script { IsTrue (is_writable (W.ledger world.old) files.script) }
     requires few { script.old.count ≤ most_events }
     requires short { script.old.size ≤ most_bytes }
-    ensures told { IsTrue W.tells → (s : Setting P.Value) (names : LiveOutputs)
+    ensures told { (p : Start) → W.honest p world.new → (s : Setting P.Value) (names : LiveOutputs)
         (events : List EventKind) (w : SystemWorld P.Value) (before : Shown) → AreApart names
-        → AreOpen names files.released files.schedule files.script (W.shown world.old)
+        → AreOpen names files.released files.schedule files.script (W.shows p world.old)
         → HasLivedTo (P.meaning system.old.parts.program) s names events w system.old lines.old
-        script.old before (W.shown world.old)
+        script.old before (W.shows p world.old)
         → GoesOver result (P.meaning system.old.parts.program) s names w events
         (arrival_events (all_messages s w)) system.new lines.new script.new before
-        (W.shown world.new) }
+        (W.shows p world.new) }
     ensures few { script.new.count ≤ most_events }
     ensures short { script.new.size ≤ most_bytes }
     ensures runs { OnOk result (system.new.stopped ≡ false) }
@@ -200,6 +204,9 @@ fn arrive_all<P: Program, W: World>(
     ensures only_writes { OnlyWrites W.tells W.shown W.ledger W.healthy world.old world.new }
     ensures cause { IsErrOf result RunError.WriteFault
         → WritingFailed W.ledger W.healthy world.old world.new }
+    ensures keeps { (p : Start) → W.honest p world.new
+        → KeepsOutputs (W.shows p world.old) (W.shows p world.new) }
+    ensures before { (p : Start) → W.honest p world.new → W.honest p world.old }
 {
     let frames = all_frames(alloc, system, threads)?;
     arrive(
@@ -231,14 +238,14 @@ fn arrive_last<P: Program, W: World>(
     requires script { IsTrue (is_writable (W.ledger world.old) files.script) }
     requires few { script.old.count ≤ most_events }
     requires short { script.old.size ≤ most_bytes }
-    ensures told { IsTrue W.tells → (s : Setting P.Value) (names : LiveOutputs)
+    ensures told { (p : Start) → W.honest p world.new → (s : Setting P.Value) (names : LiveOutputs)
         (events : List EventKind) (w : SystemWorld P.Value) (before : Shown) → AreApart names
-        → AreOpen names files.released files.schedule files.script (W.shown world.old)
+        → AreOpen names files.released files.schedule files.script (W.shows p world.old)
         → HasLivedTo (P.meaning standing.system.parts.program) s names events w standing.system
-        lines.old script.old before (W.shown world.old)
+        lines.old script.old before (W.shows p world.old)
         → GoesOver result (P.meaning standing.system.parts.program) s names w events
         (arrival_events (all_messages s w)) (standing_in result standing.system) lines.new
-        script.new before (W.shown world.new) }
+        script.new before (W.shows p world.new) }
     ensures few { script.new.count ≤ most_events }
     ensures short { script.new.size ≤ most_bytes }
     ensures runs { IfOk result (λ y. y.system.stopped ≡ false) }
@@ -253,6 +260,9 @@ fn arrive_last<P: Program, W: World>(
     ensures only_writes { OnlyWrites W.tells W.shown W.ledger W.healthy world.old world.new }
     ensures cause { IsErrOf result RunError.WriteFault
         → WritingFailed W.ledger W.healthy world.old world.new }
+    ensures keeps { (p : Start) → W.honest p world.new
+        → KeepsOutputs (W.shows p world.old) (W.shows p world.new) }
+    ensures before { (p : Start) → W.honest p world.new → W.honest p world.old }
 {
     let Standing { mut system, draws } = standing;
     match arrive_all(alloc, world, files, lines, script, &mut system, threads) {
@@ -290,13 +300,13 @@ pub(crate) fn settle<
     requires script { IsTrue (is_writable (W.ledger world.old) files.script) }
     requires few { script.old.count ≤ most_events }
     requires short { script.old.size ≤ most_bytes }
-    ensures told { IsTrue W.tells → (s : Setting P.Value) (names : LiveOutputs)
+    ensures told { (p : Start) → W.honest p world.new → (s : Setting P.Value) (names : LiveOutputs)
         (events : List EventKind) (w : SystemWorld P.Value) (before : Shown) → AreApart names
-        → AreOpen names files.released files.schedule files.script (W.shown world.old)
+        → AreOpen names files.released files.schedule files.script (W.shows p world.old)
         → HasLivedTo (P.meaning standing.system.parts.program) s names events w standing.system
-        lines.old script.old before (W.shown world.old)
+        lines.old script.old before (W.shows p world.old)
         → GoesSettle result (P.meaning standing.system.parts.program) s names (C.may clock.now) w
-        standing.draws events lines.new script.new before (W.shown world.new) }
+        standing.draws events lines.new script.new before (W.shows p world.new) }
     ensures few { script.new.count ≤ most_events }
     ensures short { script.new.size ≤ most_bytes }
     ensures runs { IfOk result (λ y. y.system.stopped ≡ false) }
@@ -310,6 +320,9 @@ pub(crate) fn settle<
     ensures only_writes { OnlyWrites W.tells W.shown W.ledger W.healthy world.old world.new }
     ensures cause { IsErrOf result RunError.WriteFault
         → WritingFailed W.ledger W.healthy world.old world.new }
+    ensures keeps { (p : Start) → W.honest p world.new
+        → KeepsOutputs (W.shows p world.old) (W.shows p world.new) }
+    ensures before { (p : Start) → W.honest p world.new → W.honest p world.old }
 {
     let alloc = rt.alloc();
     let Standing { mut system, draws } = standing;

@@ -5,11 +5,11 @@ ghost use Rattle.std.specs.String.{string_bytes};
 ghost use Rattle.recovery_world.specs.Files.{reply_line};
 ghost use Rattle.plain_text.specs.declared.limit.TheConstants.{MOST_EVENTS as most_events};
 ghost use Rattle.plain_text.specs.declared.limit.TheConstants.{MOST_FILE_BYTES as most_bytes};
-ghost use Rattle.world_io.specs.World.{Shown, is_writable, WritingFailed};
+ghost use Rattle.world_io.specs.World.{Start, Shown, is_writable, WritingFailed};
 ghost use Rattle.recovery_world.specs.declared.event.Event.{Event as EventKind};
 ghost use Rattle.recovery_world.specs.World.{Setting, World as SystemWorld};
 ghost use Rattle.recovery_world.specs.Limits.{OnWithin};
-ghost use Rattle.output_files.specs.Writes.{IsOutput};
+ghost use Rattle.output_files.specs.Writes.{IsOutput, KeepsOutputs};
 ghost use Rattle.output_files.specs.Written.{OnlyWrites};
 ghost use Rattle.round_join.specs.Racing.{PerformsNoted, event_noted, events_noted};
 ghost use Rattle.live_writes.specs.Outputs.{AreApart, LiveOutputs};
@@ -50,13 +50,14 @@ fn tell_step<X, W: World>(
     requires writable { IsTrue (is_writable (W.ledger world.old) file) }
     requires few { script.old.count ≤ most_events }
     requires short { script.old.size ≤ most_bytes }
-    ensures told { IsTrue W.tells → (s : Setting X) (names : LiveOutputs) (events : List EventKind)
+    ensures told { (p : Start) → W.honest p world.new
+        → (s : Setting X) (names : LiveOutputs) (events : List EventKind)
         (w next : SystemWorld X) (before : Shown) → AreApart names
-        → IsOutput file names.script (W.shown world.old)
-        → HasTold s names events events w lines.old script.old before (W.shown world.old)
+        → IsOutput file names.script (W.shows p world.old)
+        → HasTold s names events events w lines.old script.old before (W.shows p world.old)
         → OnWithin s w (event_noted step.now) step.now.outcome [] next
         → NotesOver result s names events (event_noted step.now ∷ []) next lines.new script.new
-        before (W.shown world.new) }
+        before (W.shows p world.new) }
     ensures gathered { OnOk result
         ((length lines.new ≤ 65536) × (length script.new.text ≤ 65536)) }
     ensures few { script.new.count ≤ most_events }
@@ -64,6 +65,9 @@ fn tell_step<X, W: World>(
     ensures only_writes { OnlyWrites W.tells W.shown W.ledger W.healthy world.old world.new }
     ensures cause { IsErrOf result RunError.WriteFault
         → WritingFailed W.ledger W.healthy world.old world.new }
+    ensures keeps { (p : Start) → W.honest p world.new
+        → KeepsOutputs (W.shows p world.old) (W.shows p world.new) }
+    ensures before { (p : Start) → W.honest p world.new → W.honest p world.old }
 {
     let event = Event::Step {
         thread: u64::from(step.thread),
@@ -87,18 +91,22 @@ pub(crate) fn tell_steps<X, W: World>(
     requires writable { IsTrue (is_writable (W.ledger world.old) file) }
     requires few { script.old.count ≤ most_events }
     requires short { script.old.size ≤ most_bytes }
-    ensures told { IsTrue W.tells → (s : Setting X) (names : LiveOutputs) (events : List EventKind)
+    ensures told { (p : Start) → W.honest p world.new
+        → (s : Setting X) (names : LiveOutputs) (events : List EventKind)
         (w there : SystemWorld X) (before : Shown) → AreApart names
-        → IsOutput file names.script (W.shown world.old)
-        → HasTold s names events events w lines.old script.old before (W.shown world.old)
+        → IsOutput file names.script (W.shows p world.old)
+        → HasTold s names events events w lines.old script.old before (W.shows p world.old)
         → PerformsNoted s w steps.now there
         → NotesOver result s names events (events_noted steps.now) there lines.new script.new
-        before (W.shown world.new) }
+        before (W.shows p world.new) }
     ensures few { script.new.count ≤ most_events }
     ensures short { script.new.size ≤ most_bytes }
     ensures only_writes { OnlyWrites W.tells W.shown W.ledger W.healthy world.old world.new }
     ensures cause { IsErrOf result RunError.WriteFault
         → WritingFailed W.ledger W.healthy world.old world.new }
+    ensures keeps { (p : Start) → W.honest p world.new
+        → KeepsOutputs (W.shows p world.old) (W.shows p world.new) }
+    ensures before { (p : Start) → W.honest p world.new → W.honest p world.old }
 {
     for step in steps {
         tell_step::<X, W>(alloc, world, file, lines, script, step)?;

@@ -10,15 +10,15 @@ use Rattle.live_command.proofs.SettlingsGone.{none_given}
 use Rattle.live_command.proofs.lines.perform_line.Goals as goal
 
 pub returns-in-Feed-clause-told : goal.returns-in-Feed-clause-told
-returns-in-Feed-clause-told g c told s names events w asked before same apart is lived =
+returns-in-Feed-clause-told g c p honest s names events w asked before same apart is lived =
     rw c.in-Feed.is (line_one _ s names (g.C.Clock.may c.args.clock.now) w asked c.args.standing.draws events
     (orders_of c.args.orders.now) c.tell_one.new.lines c.tell_one.new.script before _ c.tell_one.result (line.Feed
     c.in-Feed.count) (event.Feed c.in-Feed.count) c.args.standing.system (λ next end does kept. ((refl, does), kept))
-    (λ first begins. begins) same c.tell_one.ensures.given (c.tell_one.ensures.told told s names events w before apart
+    (λ first begins. begins) same c.tell_one.ensures.given (c.tell_one.ensures.told p honest s names events w before apart
     is lived))
 
 pub returns-in-Limit-clause-told : goal.returns-in-Limit-clause-told
-returns-in-Limit-clause-told g c told s names events w asked before same apart is lived =
+returns-in-Limit-clause-told g c p honest s names events w asked before same apart is lived =
     rw c.in-Limit.is (line_none _ s names (g.C.Clock.may c.args.clock.now) w asked c.args.standing.draws events
     (orders_of c.limit.new.self) c.args.lines.now c.args.script.now before _ c.args.standing (line.Limit
     c.in-Limit.thread c.in-Limit.moves) ((refl, refl), refl) (same_limit asked (orders_of c.args.orders.now)
@@ -26,7 +26,7 @@ returns-in-Limit-clause-told g c told s names events w asked before same apart i
     c.limit.ensures.lost) lived)
 
 pub returns-in-Take-clause-told : goal.returns-in-Take-clause-told
-returns-in-Take-clause-told g c told s names events w asked before same apart is lived =
+returns-in-Take-clause-told g c p honest s names events w asked before same apart is lived =
     rw c.in-Take.is (line_none _ s names (g.C.Clock.may c.args.clock.now) w asked c.args.standing.draws events
     (orders_of c.take.new.self) c.args.lines.now c.args.script.now before _ c.args.standing
     (line.Take c.in-Take.thread c.in-Take.frames) ((refl, refl), refl)
@@ -34,7 +34,7 @@ returns-in-Take-clause-told g c told s names events w asked before same apart is
     c.take.ensures.frames c.take.ensures.moves c.take.ensures.lost) lived)
 
 pub returns-in-Lose-clause-told : goal.returns-in-Lose-clause-told
-returns-in-Lose-clause-told g c told s names events w asked before same apart is lived =
+returns-in-Lose-clause-told g c p honest s names events w asked before same apart is lived =
     rw c.in-Lose.is (line_lose _ s names (g.C.Clock.may c.args.clock.now) w asked c.args.standing.draws events
     (orders_of c.lose.new.orders) c.args.lines.now c.args.script.now before _ c.lose.result
     (record { kind = c.in-Lose.kind; thread = c.in-Lose.thread; number = c.in-Lose.number })
@@ -46,44 +46,44 @@ returns-in-Lose-clause-somewhere g c =
     if_given c.lose.result c.args.standing _ c.lose.ensures.same c.requires.somewhere
 
 pub returns-in-Round-clause-told : goal.returns-in-Round-clause-told
-returns-in-Round-clause-told g c told s names events w asked before same apart is lived =
+returns-in-Round-clause-told g c p honest s names events w asked before same apart is lived =
     rw c.in-Round.is (line_round _ s names (g.C.Clock.may c.args.clock.now) w asked c.args.standing.draws events
     (orders_of c.replace-asked.new.dest) c.race_if_up.new.lines c.race_if_up.new.script before _ c.race_if_up.result
     (subst (λ (o : InMemory). SameOrders no_orders (orders_of o)) (sym c.replace-asked.ensures.after) (none_given
     (orders_of c.none.result) c.none.ensures.moves c.none.ensures.frames c.none.ensures.lost))
-    (c.race_if_up.ensures.told told s names events w asked before (subst (λ (o : InMemory). SameOrders asked
+    (c.race_if_up.ensures.told p honest s names events w asked before (subst (λ (o : InMemory). SameOrders asked
     (orders_of o)) (sym c.replace-asked.ensures.value) same) apart is lived))
 
 pub returns-in-Snap-clause-told : goal.returns-in-Snap-clause-told
-returns-in-Snap-clause-told g c told s names events w asked before same apart is lived =
+returns-in-Snap-clause-told g c p honest s names events w asked before same apart is lived =
     rw c.in-Snap.is (line_one _ s names (g.C.Clock.may c.args.clock.now) w asked c.args.standing.draws events
     (orders_of c.args.orders.now) c.tell_one-in-Snap.new.lines c.tell_one-in-Snap.new.script before _
     c.tell_one-in-Snap.result line.Snap event.Snap c.args.standing.system (λ next end does kept. ((refl, does), kept))
-    (λ first begins. begins) same c.tell_one-in-Snap.ensures.given (c.tell_one-in-Snap.ensures.told told s names
+    (λ first begins. begins) same c.tell_one-in-Snap.ensures.given (c.tell_one-in-Snap.ensures.told p honest s names
     events w before apart is lived))
 
 pub returns-in-Store-clause-told : goal.returns-in-Store-clause-told
-returns-in-Store-clause-told g c told s names events w asked before same apart is lived =
+returns-in-Store-clause-told g c p honest s names events w asked before same apart is lived =
     rw c.in-Store.is (line_one _ s names (g.C.Clock.may c.args.clock.now) w asked c.args.standing.draws events
     (orders_of c.args.orders.now) c.tell_one-in-Store.new.lines c.tell_one-in-Store.new.script before _
     c.tell_one-in-Store.result line.Store event.Store c.args.standing.system (λ next end does kept. (
       (refl, does),
       kept,
-    )) (λ first begins. begins) same c.tell_one-in-Store.ensures.given (c.tell_one-in-Store.ensures.told told s
+    )) (λ first begins. begins) same c.tell_one-in-Store.ensures.given (c.tell_one-in-Store.ensures.told p honest s
     names events w before apart is lived))
 
 pub returns-in-Crash-clause-told : goal.returns-in-Crash-clause-told
-returns-in-Crash-clause-told g c told s names events w asked before same apart is lived =
+returns-in-Crash-clause-told g c p honest s names events w asked before same apart is lived =
     rw c.in-Crash.is (line_one _ s names (g.C.Clock.may c.args.clock.now) w asked c.args.standing.draws events
     (orders_of c.args.orders.now) c.tell_one-in-Crash.new.lines c.tell_one-in-Crash.new.script before _
     c.tell_one-in-Crash.result line.Crash event.Crash c.args.standing.system (λ next end does kept. (
       (refl, does),
       kept,
-    )) (λ first begins. begins) same c.tell_one-in-Crash.ensures.given (c.tell_one-in-Crash.ensures.told told s
+    )) (λ first begins. begins) same c.tell_one-in-Crash.ensures.given (c.tell_one-in-Crash.ensures.told p honest s
     names events w before apart is lived))
 
 pub returns-in-Recover-clause-told : goal.returns-in-Recover-clause-told
-returns-in-Recover-clause-told g c told s names events w asked before same apart is lived =
+returns-in-Recover-clause-told g c p honest s names events w asked before same apart is lived =
     rw c.in-Recover.is (line_one _ s names (g.C.Clock.may c.args.clock.now) w asked c.args.standing.draws events
     (orders_of c.args.orders.now) c.tell_one-in-Recover.new.lines c.tell_one-in-Recover.new.script before _
     c.tell_one-in-Recover.result line.Recover event.Recover c.args.standing.system (λ next end does kept. (
@@ -93,11 +93,11 @@ returns-in-Recover-clause-told g c told s names events w asked before same apart
       ),
       kept,
     )) (λ first begins. begins) same c.tell_one-in-Recover.ensures.given
-    (c.tell_one-in-Recover.ensures.told told s names events w before apart is lived))
+    (c.tell_one-in-Recover.ensures.told p honest s names events w before apart is lived))
 
 pub returns-in-Settle-clause-told : goal.returns-in-Settle-clause-told
-returns-in-Settle-clause-told g c told s names events w asked before same apart is lived =
+returns-in-Settle-clause-told g c p honest s names events w asked before same apart is lived =
     rw c.in-Settle.is (line_settle _ s names (g.C.Clock.may c.args.clock.now) w asked c.args.standing.draws events
     (orders_of c.none-in-Settle.result) c.settle.new.lines c.settle.new.script before _ c.settle.result
     (none_given (orders_of c.none-in-Settle.result) c.none-in-Settle.ensures.moves c.none-in-Settle.ensures.frames
-    c.none-in-Settle.ensures.lost) (c.settle.ensures.told told s names events w before apart is lived))
+    c.none-in-Settle.ensures.lost) (c.settle.ensures.told p honest s names events w before apart is lived))

@@ -1,9 +1,9 @@
 use Rattle.std.proofs.Common.{◌≡◌, ◌≤◌, take, false, length, []}
-use Rattle.std.specs.Prelude.{IsTrue}
 use Rattle.plain_text.specs.declared.limit.TheConstants.{MOST_EVENTS as most_events}
 use Rattle.plain_text.specs.declared.limit.TheConstants.{MOST_FILE_BYTES as most_bytes}
-use Rattle.world_io.specs.World.{Shown}
+use Rattle.world_io.specs.World.{Start, Shown}
 use Rattle.recovery_world.specs.World.{Setting, opening}
+use Rattle.output_files.specs.Writes.{KeepsOutputs}
 use Rattle.output_files.specs.Written.{OnlyWrites}
 use Rattle.frame_intake.specs.Orders.{orders_of}
 use Rattle.live_workers.specs.Draws.{generators_of}
@@ -19,6 +19,8 @@ abbrev pub invariant-loop-line : goal.invariant-loop-line
 invariant-loop-line g l =
     let m = g.P.Program.meaning l.fn.standing.system.parts.program in
     let shown = g.W.World.shown in
+    let shows = g.W.World.shows in
+    let honest = g.W.World.honest in
     record {
       runs : l.reached.system.stopped ≡ false;
       program : l.reached.system.parts.program ≡ l.fn.standing.system.parts.program;
@@ -28,11 +30,14 @@ invariant-loop-line g l =
       few : l.script.count ≤ most_events;
       short : l.script.size ≤ most_bytes;
       only_writes : OnlyWrites g.W.World.tells shown g.W.World.ledger g.W.World.healthy l.fn.world l.world;
-      told : IsTrue g.W.World.tells → (s : Setting g.row.P-Value.Denot) (names : LiveOutputs) (before : Shown)
+      before : (p : Start) → honest p l.world → honest p l.fn.world;
+      keeps : (p : Start) → honest p l.world → KeepsOutputs (shows p l.fn.world) (shows p l.world);
+      told : (p : Start) → honest p l.world
+          → (s : Setting g.row.P-Value.Denot) (names : LiveOutputs) (before : Shown)
           → l.fn.standing.draws ≡ generators_of s.seed 0 s.threads → AreApart names
-          → AreOpen names l.files.released l.files.schedule l.files.script (shown l.fn.world)
+          → AreOpen names l.files.released l.files.schedule l.files.script (shows p l.fn.world)
           → HasLivedTo m s names [] (opening g.row.P-Value.Denot) l.fn.standing.system l.fn.lines l.fn.script before
-          (shown l.fn.world)
+          (shows p l.fn.world)
           → SoFar m s names (g.C.Clock.may l.clock) (take l.line-index l.plan) (orders_of l.orders) l.reached l.lines
-          l.script before (shown l.world);
+          l.script before (shows p l.world);
     }

@@ -10,17 +10,18 @@ leave-requires-clause-short g c κs within =
     c.perform-performed.ensures.short here.0 here.1 here.2 here.3
 
 pub returns-in_err-add_line-clause-told : goal.returns-in_err-add_line-clause-told
-returns-in_err-add_line-clause-told g c told s names events w before apart opened lived =
+returns-in_err-add_line-clause-told g c p honest s names events w before apart opened lived =
     let made : c.from_residual.result ≡ Err c.in_err-add_line.field-0.0 = search rules in
     let ev = c.args.event.now in
     err_goes _ c.in_err-add_line.field-0.0 _ s names w events (ev ∷ []) (ev ∷ []) _ _ _ before _ made ([], refl)
-    (c.in_err-add_line.ensures.told told s names events w before apart opened.script lived.told)
+    (c.in_err-add_line.ensures.told p honest s names events w before apart opened.script lived.told)
 
 pub returns-clause-told : goal.returns-clause-told
-returns-clause-told g c told s names events w before apart opened lived =
-    c.leave.ensures.told told _ s names events w c.args.system.now c.perform-performed.new.system before apart
-    (open_still names _ _ _ _ _ opened (c.in_ok-add_line.ensures.only_writes.outputs told))
-    (c.in_ok-add_line.ensures.told told s names events w before apart opened.script lived.told)
+returns-clause-told g c p honest s names events w before apart opened lived =
+    let earlier = c.leave.ensures.before p honest in
+    c.leave.ensures.told p honest _ s names events w c.args.system.now c.perform-performed.new.system before apart
+    (open_still names _ _ _ _ _ opened (c.in_ok-add_line.ensures.keeps p earlier))
+    (c.in_ok-add_line.ensures.told p earlier s names events w before apart opened.script lived.told)
     c.perform-performed.ensures.comes lived.at lived.few
 
 pub returns-clause-somewhere : goal.returns-clause-somewhere

@@ -7,20 +7,21 @@ use Rattle.live_command.proofs.RunsTold.{come_beside, ends}
 use Rattle.live_command.proofs.running.close.Goals as goal
 
 pub returns-in-Err-clause-told : goal.returns-in-Err-clause-told
-returns-in-Err-clause-told g c told s names events w before apart is lived =
-    c.in-Err.ensures.told told s names events events w c.args.lines.now before apart is.script lived.told
+returns-in-Err-clause-told g c p honest s names events w before apart is lived =
+    c.in-Err.ensures.told p honest s names events events w c.args.lines.now before apart is.script lived.told
 
 pub returns-clause-told : goal.returns-clause-told
-returns-clause-told g c told s names events w before apart is lived =
+returns-clause-told g c p honest s names events w before apart is lived =
+    let earlier = c.close_run-ended.ensures.before p honest in
     let kept = c.in_default.ensures in
-    let k = kept.told told s names events events w c.args.lines.now before apart is.script lived.told in
+    let k = kept.told p earlier s names events events w c.args.lines.now before apart is.script lived.told in
     let few = subst (λ (n : ℕ). n ≤ most_events) (sym kept.count) c.requires.few in
     let short = subst (λ (n : ℕ). n ≤ most_bytes) (sym kept.size) c.requires.short in
     rw c.written.ensures
     (ends (g.P.Program.meaning c.args.system.parts.program) s names apart events w c.args.system before c.args.lines.now c.write_script.new.script _ k kept.none few short
     _ c.close_run-ended.result
-    (c.close_run-ended.ensures.told told s names.outputs events (holding names.script k.written before)
-    (kept.only_writes.outputs told _ _ is.schedule)
+    (c.close_run-ended.ensures.shows p honest s names.outputs events (holding names.script k.written before)
+    (kept.keeps p earlier _ _ is.schedule)
     (come_beside (g.P.Program.meaning c.args.system.parts.program) s names apart events w c.args.system before c.args.lines.now c.write_script.new.script _ k kept.none
     lived.at)))
 

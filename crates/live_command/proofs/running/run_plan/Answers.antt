@@ -26,19 +26,19 @@ plan_same {V} r s may plan other names old new same h =
     subst (λ (l : List PlanLine). RunsPlan r s may l names old new) same h
 
 pub returns-in_err-draws-clause-in_order : goal.returns-in_err-draws-clause-in_order
-returns-in_err-draws-clause-in_order g c told =
+returns-in_err-draws-clause-in_order g c p honest =
     opens_in_order (setting_of (g.P.Program.meaning c.args.program) c.args.run) c.args.run.plan (names_of c.args.files) _ _
     (begun_none _ _)
 
 pub returns-in_err-system-clause-in_order : goal.returns-in_err-system-clause-in_order
-returns-in_err-system-clause-in_order g c told =
+returns-in_err-system-clause-in_order g c p honest =
     opens_in_order (setting_of (g.P.Program.meaning c.args.program) c.args.run) c.args.run.plan (names_of c.args.files) _ _
     (begun_none _ _)
 
 pub returns-in-Err-clause-in_order : goal.returns-in-Err-clause-in_order
-returns-in-Err-clause-in_order g c told =
+returns-in-Err-clause-in_order g c p honest =
     opens_in_order (setting_of (g.P.Program.meaning c.args.program) c.args.run) c.args.run.plan (names_of c.args.files) _ _
-    (c.in-Err.ensures.told told)
+    (c.in-Err.ensures.shows p honest)
 
 pub run_standing-requires-clause-somewhere : goal.run_standing-requires-clause-somewhere
 run_standing-requires-clause-somewhere g c κs within =
@@ -56,37 +56,40 @@ run_standing-requires-clause-draws g c κs within =
     ∙ sym (ap (λ z. z.threads) c.in_ok-system.ensures.stands.parts.inputs.inputs)
 
 pub returns-clause-whole : goal.returns-clause-whole
-returns-clause-whole g c told =
+returns-clause-whole g c p honest =
+    let earlier = c.run_standing.ensures.before p honest in
     let s = setting_of (g.P.Program.meaning c.args.program) c.args.run in
     let names = names_of c.args.files in
     let may = g.C.Clock.may c.args.clock.now in
     let at = at_same _ _ s _ c.in_ok-system.system (ap g.P.Program.meaning (sym c.in_ok-system.ensures.program))
     (opens_at _ s c.in_ok-system.system c.in_ok-system.ensures.stands c.in_ok-system.ensures.none) in
-    let ran = c.run_standing.ensures.told told s names _ c.in_ok-draws.ensures c.requires.apart (c.in-Ok.ensures.open told)
-    at c.requires.inputs.few_threads (c.in-Ok.ensures.told told) in
+    let ran = c.run_standing.ensures.told p honest s names _ c.in_ok-draws.ensures c.requires.apart (c.in-Ok.ensures.shows_open p earlier)
+    at c.requires.inputs.few_threads (c.in-Ok.ensures.shows p earlier) in
     runs_whole s names c.requires.apart _ _ may c.args.run.plan c.run_standing.result
     (plan_same c.run_standing.result s may _ c.args.run.plan names _ _ c.as_slice.ensures ran)
 
 pub returns-clause-limit : goal.returns-clause-limit
-returns-clause-limit g c told limit is =
+returns-clause-limit g c p honest limit is =
+    let earlier = c.run_standing.ensures.before p honest in
     let s = setting_of (g.P.Program.meaning c.args.program) c.args.run in
     let names = names_of c.args.files in
     let may = g.C.Clock.may c.args.clock.now in
     let at = at_same _ _ s _ c.in_ok-system.system (ap g.P.Program.meaning (sym c.in_ok-system.ensures.program))
     (opens_at _ s c.in_ok-system.system c.in_ok-system.ensures.stands c.in_ok-system.ensures.none) in
-    let ran = c.run_standing.ensures.told told s names _ c.in_ok-draws.ensures c.requires.apart (c.in-Ok.ensures.open told)
-    at c.requires.inputs.few_threads (c.in-Ok.ensures.told told) in
+    let ran = c.run_standing.ensures.told p honest s names _ c.in_ok-draws.ensures c.requires.apart (c.in-Ok.ensures.shows_open p earlier)
+    at c.requires.inputs.few_threads (c.in-Ok.ensures.shows p earlier) in
     runs_to_limit s names c.requires.apart _ _ may c.args.run.plan c.run_standing.result limit
     (plan_same c.run_standing.result s may _ c.args.run.plan names _ _ c.as_slice.ensures ran) is
 
 pub returns-clause-in_order : goal.returns-clause-in_order
-returns-clause-in_order g c told =
+returns-clause-in_order g c p honest =
+    let earlier = c.run_standing.ensures.before p honest in
     let s = setting_of (g.P.Program.meaning c.args.program) c.args.run in
     let names = names_of c.args.files in
     let may = g.C.Clock.may c.args.clock.now in
     let at = at_same _ _ s _ c.in_ok-system.system (ap g.P.Program.meaning (sym c.in_ok-system.ensures.program))
     (opens_at _ s c.in_ok-system.system c.in_ok-system.ensures.stands c.in_ok-system.ensures.none) in
-    let ran = c.run_standing.ensures.told told s names _ c.in_ok-draws.ensures c.requires.apart (c.in-Ok.ensures.open told)
-    at c.requires.inputs.few_threads (c.in-Ok.ensures.told told) in
+    let ran = c.run_standing.ensures.told p honest s names _ c.in_ok-draws.ensures c.requires.apart (c.in-Ok.ensures.shows_open p earlier)
+    at c.requires.inputs.few_threads (c.in-Ok.ensures.shows p earlier) in
     runs_in_order s names c.requires.apart _ _ may c.args.run.plan c.run_standing.result
     (plan_same c.run_standing.result s may _ c.args.run.plan names _ _ c.as_slice.ensures ran)

@@ -5,7 +5,7 @@ use Rattle.live_command.proofs.LinesGone.{lived_begun}
 use Rattle.live_command.proofs.settling.arrive_all.Goals as goal
 
 pub returns-in_err-frames-clause-told : goal.returns-in_err-frames-clause-told
-returns-in_err-frames-clause-told g c told s names events w before apart is lived =
+returns-in_err-frames-clause-told g c p honest s names events w before apart is lived =
     let e : c.from_residual.result ≡ Err run.NoMemory = search rules in
     rw e (
       [],

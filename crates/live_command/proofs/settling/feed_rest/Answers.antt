@@ -8,11 +8,11 @@ use Rattle.live_command.proofs.Feeding.{fed_awake, fed_woken, not_woken, ok_up_f
 use Rattle.live_command.proofs.settling.feed_rest.Goals as goal
 
 pub returns-then-up-clause-told : goal.returns-then-up-clause-told
-returns-then-up-clause-told g c told s names events w before apart is lived =
+returns-then-up-clause-told g c p honest s names events w before apart is lived =
     let stands = lived.at.stands.parts in
     fed_awake _ s names w events before c.tell.result c.left-left.result c.tell.new.system c.tell.new.lines
     c.tell.new.script _ (c.left-left.ensures s w stands) (sym (c.up.ensures c.requires.runs s w stands) ∙ c.if-up.true)
-    (c.tell.ensures.told told s names events w before apart is lived)
+    (c.tell.ensures.told p honest s names events w before apart is lived)
 
 pub returns-then-up-clause-up : goal.returns-then-up-clause-up
 returns-then-up-clause-up g c =
@@ -22,13 +22,13 @@ returns-then-up-clause-up g c =
     (stands.master.up ∙ sym (c.up.ensures c.requires.runs here.0 here.1 stands) ∙ c.if-up.true)
 
 pub returns-in_err-tell-clause-told : goal.returns-in_err-tell-clause-told
-returns-in_err-tell-clause-told g c told s names events w before apart is lived =
+returns-in_err-tell-clause-told g c p honest s names events w before apart is lived =
     let stands = lived.at.stands.parts in
     let m = g.P.Program.meaning c.args.system.now.parts.program in
     let e : c.from_residual.result ≡ Err c.in_err-tell.field-0.0 = search rules in
     rw e (not_woken ⊤ ⊤ m s names w events before c.in_err-tell.field-0.0 c.tell-2.new.system c.tell-2.new.lines
     c.tell-2.new.script _ (sym (c.up.ensures c.requires.runs s w stands) ∙ c.if-up.false)
-    (c.in_err-tell.ensures.told told s names events w before apart is lived))
+    (c.in_err-tell.ensures.told p honest s names events w before apart is lived))
 
 pub tell-requires-3-clause-somewhere : goal.tell-requires-3-clause-somewhere
 tell-requires-3-clause-somewhere g c κs within =
@@ -36,18 +36,19 @@ tell-requires-3-clause-somewhere g c κs within =
     c.in_ok-tell.ensures.somewhere
 
 pub returns-clause-told : goal.returns-clause-told
-returns-clause-told g c told s names events w before apart is lived =
+returns-clause-told g c p honest s names events w before apart is lived =
+    let earlier = c.tell-3.ensures.before p honest in
     let stands = lived.at.stands.parts in
     let same = ap g.P.Program.meaning c.in_ok-tell.ensures.program in
     let m = g.P.Program.meaning c.args.system.now.parts.program in
-    let woken = c.in_ok-tell.ensures.told told s names events w before apart is lived in
+    let woken = c.in_ok-tell.ensures.told p earlier s names events w before apart is lived in
     fed_woken m s names w events before c.tell-3.result c.left-left.result woken.0 c.tell-3.new.system c.tell-3.new.lines
     c.tell-3.new.script _ (c.left-left.ensures s w stands)
     (sym (c.up.ensures c.requires.runs s w stands) ∙ c.if-up.false) woken.1
     (over_same c.tell-3.result _ m s names woken.0 (events ++ event.Recover ∷ []) _ _ c.tell-3.new.system
     c.tell-3.new.lines c.tell-3.new.script before _ same refl
-    (c.tell-3.ensures.told told s names (events ++ event.Recover ∷ []) woken.0 before apart
-    (still_open names _ _ _ _ _ (c.in_ok-tell.ensures.only_writes.outputs told) is)
+    (c.tell-3.ensures.told p honest s names (events ++ event.Recover ∷ []) woken.0 before apart
+    (still_open names _ _ _ _ _ (c.in_ok-tell.ensures.keeps p earlier) is)
     (lived_same _ _ s names _ _ woken.0 c.tell-2.new.system c.tell-2.new.lines c.tell-2.new.script before _ (sym same)
     refl woken.2)))
 

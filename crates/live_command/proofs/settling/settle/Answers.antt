@@ -12,37 +12,40 @@ use Rattle.live_command.proofs.SettlingsGone.{none_given, not_fed, not_run, roun
 use Rattle.live_command.proofs.settling.settle.Goals as goal
 
 pub returns-in-Err-clause-told : goal.returns-in-Err-clause-told
-returns-in-Err-clause-told g c told s names events w before apart is lived =
+returns-in-Err-clause-told g c p honest s names events w before apart is lived =
     not_fed ⊤ (g.P.Program.meaning c.args.standing.system.parts.program) s names (g.C.Clock.may c.args.clock.now) w
     c.args.standing.draws events before c.in-Err.error c.feed_rest.new.system c.feed_rest.new.lines
     c.feed_rest.new.lines c.feed_rest.new.script c.feed_rest.new.script _
-    (c.in-Err.ensures.told told s names events w before apart is lived)
+    (c.in-Err.ensures.told p honest s names events w before apart is lived)
 
 pub returns-in_err-ran-clause-told : goal.returns-in_err-ran-clause-told
-returns-in_err-ran-clause-told g c told s names events w before apart is lived =
+returns-in_err-ran-clause-told g c p honest s names events w before apart is lived =
+    let earlier = c.in_err-ran.ensures.before p honest in
     let m = g.P.Program.meaning c.args.standing.system.parts.program in
     let same = ap g.P.Program.meaning c.in_default.ensures.program in
     let may = g.C.Clock.may c.args.clock.now in
-    let f = c.in_default.ensures.told told s names events w before apart is lived in
+    let f = c.in_default.ensures.told p earlier s names events w before apart is lived in
     let e : c.from_residual.result ≡ Err c.in_err-ran.field-0.0 = search rules in
     rw e (not_run g.row.P.Denot m s names may w c.args.standing.draws events before f.0 f.1 f.2 f.3
     c.in_err-ran.field-0.0 c.race.new.lines c.race.new.lines c.race.new.script c.race.new.script _
-    (c.in_err-ran.ensures.told told s names (events ++ feeding s w f.0) f.1 no_orders before
+    (c.in_err-ran.ensures.told p honest s names (events ++ feeding s w f.0) f.1 no_orders before
     (none_given (orders_of c.none-orders.result) c.none-orders.ensures.moves c.none-orders.ensures.frames
-    c.none-orders.ensures.lost) apart (still_open names _ _ _ _ _ (c.in_default.ensures.only_writes.outputs told) is)
+    c.none-orders.ensures.lost) apart (still_open names _ _ _ _ _ (c.in_default.ensures.keeps p earlier) is)
     (lived_same _ _ s names _ _ f.1 c.feed_rest.new.system c.feed_rest.new.lines c.feed_rest.new.script before _
     (sym same) refl f.5)))
 
 pub returns-clause-told : goal.returns-clause-told
-returns-clause-told g c told s names events w before apart is lived =
+returns-clause-told g c p honest s names events w before apart is lived =
+    let later = c.arrive_last.ensures.before p honest in
+    let earlier = c.in_ok-ran.ensures.before p later in
     let m = g.P.Program.meaning c.args.standing.system.parts.program in
     let same = ap g.P.Program.meaning c.in_default.ensures.program in
     let ran = c.in_ok-ran.ran in
     let again = ap g.P.Program.meaning c.in_ok-ran.ensures.program in
     let may = g.C.Clock.may c.args.clock.now in
-    let f = c.in_default.ensures.told told s names events w before apart is lived in
-    let here = still_open names _ _ _ _ _ (c.in_default.ensures.only_writes.outputs told) is in
-    let r = c.in_ok-ran.ensures.told told s names (events ++ feeding s w f.0) f.1 no_orders before
+    let f = c.in_default.ensures.told p earlier s names events w before apart is lived in
+    let here = still_open names _ _ _ _ _ (c.in_default.ensures.keeps p earlier) is in
+    let r = c.in_ok-ran.ensures.told p later s names (events ++ feeding s w f.0) f.1 no_orders before
     (none_given (orders_of c.none-orders.result) c.none-orders.ensures.moves c.none-orders.ensures.frames
     c.none-orders.ensures.lost) apart here
     (lived_same _ _ s names _ _ f.1 c.feed_rest.new.system c.feed_rest.new.lines c.feed_rest.new.script before _
@@ -52,8 +55,8 @@ returns-clause-told g c told s names events w before apart is lived =
     (over_same c.arrive_last.result _ m s names r.1 ((events ++ feeding s w f.0) ++ r.0)
     (arrival_events (all_messages s r.1)) (arrival_events (all_messages s r.1)) _ c.arrive_last.new.lines
     c.arrive_last.new.script before _ (again ∙ same) refl
-    (c.arrive_last.ensures.told told s names ((events ++ feeding s w f.0) ++ r.0) r.1 before apart
-    (still_open names _ _ _ _ _ (c.in_ok-ran.ensures.only_writes.outputs told) here)
+    (c.arrive_last.ensures.told p honest s names ((events ++ feeding s w f.0) ++ r.0) r.1 before apart
+    (still_open names _ _ _ _ _ (c.in_ok-ran.ensures.keeps p later) here)
     (lived_same _ _ s names _ _ r.1 ran.system c.race.new.lines c.race.new.script before _ (sym again) refl r.4)))
 
 pub race-requires-clause-somewhere : goal.race-requires-clause-somewhere

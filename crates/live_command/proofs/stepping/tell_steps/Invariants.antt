@@ -1,10 +1,9 @@
 use Rattle.std.proofs.Common.{◌≡◌, ◌≤◌, ◌++◌, List, take, drop}
-use Rattle.std.specs.Prelude.{IsTrue}
 use Rattle.plain_text.specs.declared.limit.TheConstants.{MOST_EVENTS, MOST_FILE_BYTES}
-use Rattle.world_io.specs.World.{Shown}
+use Rattle.world_io.specs.World.{Start, Shown}
 use Rattle.recovery_world.specs.declared.event.Event.{Event}
 use Rattle.recovery_world.specs.World.{Setting, World as SystemWorld}
-use Rattle.output_files.specs.Writes.{IsOutput}
+use Rattle.output_files.specs.Writes.{IsOutput, KeepsOutputs}
 use Rattle.output_files.specs.Written.{OnlyWrites}
 use Rattle.round_join.specs.Racing.{PerformsNoted, events_noted}
 use Rattle.live_writes.specs.Outputs.{AreApart, LiveOutputs}
@@ -18,13 +17,17 @@ invariant-loop-step g l = record {
   few : l.script.count ≤ MOST_EVENTS;
   short : l.script.size ≤ MOST_FILE_BYTES;
   only_writes : OnlyWrites g.W.World.tells g.W.World.shown g.W.World.ledger g.W.World.healthy l.fn.world l.world;
-  told : IsTrue g.W.World.tells → (s : Setting g.row.X.Denot) (names : LiveOutputs) (events : List Event)
+  before : (p : Start) → g.W.World.honest p l.world → g.W.World.honest p l.fn.world;
+  keeps : (p : Start) → g.W.World.honest p l.world
+      → KeepsOutputs (g.W.World.shows p l.fn.world) (g.W.World.shows p l.world);
+  told : (p : Start) → g.W.World.honest p l.world
+      → (s : Setting g.row.X.Denot) (names : LiveOutputs) (events : List Event)
       (w there : SystemWorld g.row.X.Denot) (before : Shown) → AreApart names
-      → IsOutput l.file names.script (g.W.World.shown l.fn.world)
-      → HasTold s names events events w l.fn.lines l.fn.script before (g.W.World.shown l.fn.world)
+      → IsOutput l.file names.script (g.W.World.shows p l.fn.world)
+      → HasTold s names events events w l.fn.lines l.fn.script before (g.W.World.shows p l.fn.world)
       → PerformsNoted s w l.steps there
       → (mid : SystemWorld g.row.X.Denot)
       × HasTold s names (events ++ events_noted (take l.step-index l.steps))
-      (events ++ events_noted (take l.step-index l.steps)) mid l.lines l.script before (g.W.World.shown l.world)
+      (events ++ events_noted (take l.step-index l.steps)) mid l.lines l.script before (g.W.World.shows p l.world)
       × PerformsFrom s mid (drop l.step-index l.steps) there;
 }
