@@ -11,3 +11,13 @@ returns-in-Ok-clause-told g c told before writes name is gathered =
 pub returns-in-Err-NoMemory-clause-told : goal.returns-in-Err-NoMemory-clause-told
 returns-in-Err-NoMemory-clause-told g c told before writes name is gathered =
     nothing_written _ _ _ writes name _ _ before _ (search rules) gathered
+
+pub returns-in-Ok-clause-shows : goal.returns-in-Ok-clause-shows
+returns-in-Ok-clause-shows g c p h before writes name is gathered =
+    answer_written _ c.args.event.now _ _ writes name _ before _ c.as_slice-outputs.ensures c.in-Ok.reply _
+    c.write_answer-files.result c.in-Ok.is c.written.ensures c.write_answer-files.ensures.fit_records
+    (λ freed names. c.write_answer-files.ensures.shows p h before writes name freed is names gathered)
+
+pub returns-in-Err-NoMemory-clause-shows : goal.returns-in-Err-NoMemory-clause-shows
+returns-in-Err-NoMemory-clause-shows g c p h before writes name is gathered =
+    nothing_written _ _ _ writes name _ _ before _ (search rules) gathered

@@ -76,3 +76,58 @@ returns-clause-in_order g c told =
     stopped_begun s (names_of c.args.files) c.args.run.events c.requires.apart _ _ _ _ _ c.in-Err.error
     (goes_same {A = ℕ} (Err c.in-Err.error) _ _ s _ _ c.args.run.events _ _ _ _ refl c.as_slice-events.ensures
     (c.in-Err.ensures.told told s refl at))
+
+pub returns-in_err-system-clause-shows_in_order : goal.returns-in_err-system-clause-shows_in_order
+returns-in_err-system-clause-shows_in_order g c p h = nothing_begun _ _ _ _ _ (begun_none _ _)
+
+pub returns-in-Ok-clause-shows_whole : goal.returns-in-Ok-clause-shows_whole
+returns-in-Ok-clause-shows_whole g c p h =
+    let h0 = c.close_run-ended.ensures.before p h in
+    let s = setting_of (g.P.Program.meaning c.args.program) c.args.run in
+    let names = names_of c.args.files in
+    let at = at_same _ _ s _ c.in_ok-system.system (ap g.P.Program.meaning (sym c.in_ok-system.ensures.program))
+    (opens_at _ s c.in_ok-system.system c.in_ok-system.ensures.stands c.in_ok-system.ensures.none) in
+    let come = goes_same (Ok c.in-Ok.schedule) _ _ s names _ c.args.run.events _ _ _ _
+    (ap g.P.Program.meaning (sym c.in-Ok.ensures.program)) c.as_slice-events.ensures
+    (c.in-Ok.ensures.shows p h0 s refl at) in
+    rw c.written.ensures
+    (finished_whole s names c.args.run.events c.requires.apart _ _ c.close_run-ended.result
+    (c.close_run-ended.ensures.shows p h s names c.args.run.events _ (c.in-Ok.ensures.shows_schedule p h0) come))
+
+pub returns-in-Ok-clause-shows_limit : goal.returns-in-Ok-clause-shows_limit
+returns-in-Ok-clause-shows_limit g c p h limit e =
+    absurd (no_limit c.close_run-ended.result limit (sym c.written.ensures ∙ e))
+
+pub returns-in-Ok-clause-shows_in_order : goal.returns-in-Ok-clause-shows_in_order
+returns-in-Ok-clause-shows_in_order g c p h =
+    let h0 = c.close_run-ended.ensures.before p h in
+    let s = setting_of (g.P.Program.meaning c.args.program) c.args.run in
+    let names = names_of c.args.files in
+    let at = at_same _ _ s _ c.in_ok-system.system (ap g.P.Program.meaning (sym c.in_ok-system.ensures.program))
+    (opens_at _ s c.in_ok-system.system c.in_ok-system.ensures.stands c.in_ok-system.ensures.none) in
+    let come = goes_same (Ok c.in-Ok.schedule) _ _ s names _ c.args.run.events _ _ _ _
+    (ap g.P.Program.meaning (sym c.in-Ok.ensures.program)) c.as_slice-events.ensures
+    (c.in-Ok.ensures.shows p h0 s refl at) in
+    finished_begun s names c.args.run.events c.requires.apart _ _ c.close_run-ended.result
+    (c.close_run-ended.ensures.shows p h s names c.args.run.events _ (c.in-Ok.ensures.shows_schedule p h0) come)
+
+pub returns-clause-shows_limit : goal.returns-clause-shows_limit
+returns-clause-shows_limit g c p h limit e =
+    let s = setting_of (g.P.Program.meaning c.args.program) c.args.run in
+    let at = at_same _ _ s _ c.in_ok-system.system (ap g.P.Program.meaning (sym c.in_ok-system.ensures.program))
+    (opens_at _ s c.in_ok-system.system c.in_ok-system.ensures.stands c.in_ok-system.ensures.none) in
+    stopped_limit s (names_of c.args.files) c.args.run.events c.requires.apart _ _ _ _ _ c.in-Err.error limit
+    (goes_same {A = ℕ} (Err c.in-Err.error) _ _ s _ _ c.args.run.events _ _ _ _ refl c.as_slice-events.ensures
+    (c.in-Err.ensures.shows p h s refl at)) e
+
+pub returns-clause-shows_in_order : goal.returns-clause-shows_in_order
+returns-clause-shows_in_order g c p h =
+    let s = setting_of (g.P.Program.meaning c.args.program) c.args.run in
+    let at = at_same _ _ s _ c.in_ok-system.system (ap g.P.Program.meaning (sym c.in_ok-system.ensures.program))
+    (opens_at _ s c.in_ok-system.system c.in_ok-system.ensures.stands c.in_ok-system.ensures.none) in
+    stopped_begun s (names_of c.args.files) c.args.run.events c.requires.apart _ _ _ _ _ c.in-Err.error
+    (goes_same {A = ℕ} (Err c.in-Err.error) _ _ s _ _ c.args.run.events _ _ _ _ refl c.as_slice-events.ensures
+    (c.in-Err.ensures.shows p h s refl at))
+
+pub returns-in-Ok-clause-before : goal.returns-in-Ok-clause-before
+returns-in-Ok-clause-before g c p h = c.in-Ok.ensures.before p (c.close_run-ended.ensures.before p h)

@@ -53,3 +53,29 @@ pub returns-clause-writes_files : goal.returns-clause-writes_files
 returns-clause-writes_files g c =
     WritesFiles-trans _ _ 2 0 _ _ _ c.in_ok-outputs.ensures.writes_files
     (OnlyWrites-files _ _ _ _ 0 _ _ c.in_ok-perform_events.ensures.only_writes)
+
+pub returns-in_err-outputs-clause-shows : goal.returns-in_err-outputs-clause-shows
+returns-in_err-outputs-clause-shows g c p h s unit at =
+    let made : c.from_residual.result ≡ Err (run_error_of c.in_err-outputs.field-0.0) = search rules in
+    not_opened _ c.in_err-outputs.field-0.0 _ s _ _ _ _ _ _ _ made unit (c.in_err-outputs.ensures.shows p h)
+
+pub returns-in_err-perform_events-clause-shows : goal.returns-in_err-perform_events-clause-shows
+returns-in_err-perform_events-clause-shows g c p h s unit at =
+    let h0 = c.in_err-perform_events.ensures.before p h in
+    let names = names_of c.args.files in
+    let made : c.from_residual-in_err-perform_events.result ≡ Err c.in_err-perform_events.field-0.0 = search rules in
+    let first = opens _ s names c.args.system.now _ _ _ _ c.requires.none at unit (c.in_ok-outputs.ensures.shows p h0) in
+    same_error _ c.in_err-perform_events.field-0.0 _ s names _ _ _ _ _ made
+    (c.in_err-perform_events.ensures.shows p h s names _ (c.in_ok-outputs.ensures.shows_released p h0) first)
+
+pub returns-clause-shows : goal.returns-clause-shows
+returns-clause-shows g c p h s unit at =
+    let h0 = c.in_ok-perform_events.ensures.before p h in
+    let names = names_of c.args.files in
+    let first = opens _ s names c.args.system.now _ _ _ _ c.requires.none at unit (c.in_ok-outputs.ensures.shows p h0) in
+    c.in_ok-perform_events.ensures.shows p h s names _ (c.in_ok-outputs.ensures.shows_released p h0) first
+
+pub returns-clause-shows_schedule : goal.returns-clause-shows_schedule
+returns-clause-shows_schedule g c p h =
+    c.in_ok-perform_events.ensures.keeps p h _ _
+    (c.in_ok-outputs.ensures.shows_schedule p (c.in_ok-perform_events.ensures.before p h))

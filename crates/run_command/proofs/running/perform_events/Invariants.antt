@@ -1,8 +1,8 @@
 use Rattle.std.proofs.Common.{◌≡◌, [], take, false}
 use Rattle.std.specs.Prelude.{IsTrue}
-use Rattle.world_io.specs.World.{Shown}
+use Rattle.world_io.specs.World.{Start, Shown}
 use Rattle.recovery_world.specs.World.{Setting}
-use Rattle.output_files.specs.Writes.{IsOutput}
+use Rattle.output_files.specs.Writes.{IsOutput, KeepsOutputs}
 use Rattle.output_files.specs.Written.{OnlyWrites}
 use Rattle.run_writes.specs.Run.{OutputNames}
 use Rattle.run_command.specs.Running.{HasCome, IsSomewhere}
@@ -21,4 +21,11 @@ invariant-loop-event g l =
           → IsOutput l.file names.released (g.W.World.shown l.fn.world)
           → HasCome m s names [] l.fn.system l.fn.lines before (g.W.World.shown l.fn.world)
           → HasCome m s names (take l.event-index l.events) l.system l.lines before (g.W.World.shown l.world);
+      shows : (p : Start) → g.W.World.honest p l.world → (s : Setting g.row.P-Value.Denot) (names : OutputNames)
+          (before : Shown) → IsOutput l.file names.released (g.W.World.shows p l.fn.world)
+          → HasCome m s names [] l.fn.system l.fn.lines before (g.W.World.shows p l.fn.world)
+          → HasCome m s names (take l.event-index l.events) l.system l.lines before (g.W.World.shows p l.world);
+      keeps : (p : Start) → g.W.World.honest p l.world
+          → KeepsOutputs (g.W.World.shows p l.fn.world) (g.W.World.shows p l.world);
+      before : (p : Start) → g.W.World.honest p l.world → g.W.World.honest p l.fn.world;
     }
