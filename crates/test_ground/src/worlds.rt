@@ -7,6 +7,7 @@ use world_io::{
     BufferedSource, Filled, Front, FrontError, MemoryWorld, OpenFault, SliceSource, Source, World,
     WorldSink, WorldSource, WriteError, read_front, write_all,
 };
+use world_told::Told;
 
 /// The bytes of a slice, and how often they were asked for.
 #[derive(Drop)]
@@ -191,6 +192,37 @@ fn fails_where_writing_is_told_to(rt: HostRuntime) {
             "call {nth}"
         );
     }
+}
+
+/// Whether "hello" is read of a name through a told world.
+fn told_begins_in(alloc: Global, world: MemoryWorld, name: &Text) -> bool
+    requires { length world.files ≡ 0 }
+{
+    let mut told = Told::of(world);
+    let front = read_front_of(alloc, &mut told, name, 10);
+    is_front(front, Some(("hello", true)))
+}
+
+/// Whether it is of "in" in a world of its own.
+fn told_begins(alloc: Global) -> Result<bool, NoMemory> {
+    let mut world = MemoryWorld::new(alloc)?;
+    let name = add_hello(alloc, &mut world)?;
+    Ok(told_begins_in(alloc, world, &name))
+}
+
+/// How many bytes "out" has in the world below after it was written through a told one.
+fn told_length(alloc: Global) -> Result<Option<usize>, NoMemory> {
+    let name = Text::of(alloc, "out")?;
+    let mut told = Told::of(MemoryWorld::new(alloc)?);
+    let _ = write_name(&mut told, &name, b"bye");
+    let below = told.into_inner();
+    Ok(below.bytes(&name).map(|bytes| bytes.len()))
+}
+
+#[test]
+fn a_told_world_passes_its_calls_on(rt: HostRuntime) {
+    assert!(rt; matches!(told_begins(rt.alloc()), Ok(true)));
+    assert!(rt; matches!(told_length(rt.alloc()), Ok(Some(3))));
 }
 
 /// Whether bytes can be written to the report.
