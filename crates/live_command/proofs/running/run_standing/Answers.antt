@@ -29,3 +29,6 @@ returns-clause-only_writes g c =
 pub returns-clause-cause : goal.returns-clause-cause
 returns-clause-cause g c fault =
     OnlyWrites-failed _ _ _ _ _ _ _ c.in_ok-system.ensures.only_writes (c.close.ensures.cause fault)
+
+pub returns-clause-before : goal.returns-clause-before
+returns-clause-before g c p honest = c.in_ok-system.ensures.before p (c.close.ensures.before p honest)

@@ -87,3 +87,22 @@ pub returns-clause-cause : goal.returns-clause-cause
 returns-clause-cause g c fault =
     OnlyWrites-failed _ _ _ _ _ _ _ c.in_default.ensures.only_writes
     (OnlyWrites-failed _ _ _ _ _ _ _ c.in_ok-ran.ensures.only_writes (c.arrive_last.ensures.cause fault))
+
+pub returns-in_err-ran-clause-before : goal.returns-in_err-ran-clause-before
+returns-in_err-ran-clause-before g c p honest = c.in_default.ensures.before p (c.in_err-ran.ensures.before p honest)
+
+pub returns-in_err-ran-clause-keeps : goal.returns-in_err-ran-clause-keeps
+returns-in_err-ran-clause-keeps g c p honest file name is =
+    c.in_err-ran.ensures.keeps p honest file name
+    (c.in_default.ensures.keeps p (c.in_err-ran.ensures.before p honest) file name is)
+
+pub returns-clause-before : goal.returns-clause-before
+returns-clause-before g c p honest =
+    c.in_default.ensures.before p (c.in_ok-ran.ensures.before p (c.arrive_last.ensures.before p honest))
+
+pub returns-clause-keeps : goal.returns-clause-keeps
+returns-clause-keeps g c p honest file name is =
+    let later = c.arrive_last.ensures.before p honest in
+    let earlier = c.in_ok-ran.ensures.before p later in
+    c.arrive_last.ensures.keeps p honest file name
+    (c.in_ok-ran.ensures.keeps p later file name (c.in_default.ensures.keeps p earlier file name is))
