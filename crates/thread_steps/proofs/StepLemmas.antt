@@ -481,10 +481,13 @@ module _ {P V : Type 0} (m : Meaning V) (y old : Parts P V) (same : y ≡ old) (
   pub step_logs : (e : StampedEntry) → r ≡ stepped.Did e → (s : Setting V) (w : World V) → StandsFor m s w y
       → (to : Outcome) (next : World V) → ComesTo (event.Step t given) to s w next
       → (log_of next.past ≡ plain_entry e ∷ log_of w.past) × (next.waiting ≡ w.waiting)
+      × IsStamp (log_of next.past) (plain_entry e) (λ u. slice_index e.stamp u)
   step_logs e is s w st to next comes = (
     ap (λ (z : World V). log_of z.past) same_next
         ∙ ap (λ (a : Act V). log_more a (log_of w.past)) f.does.0.1,
     ap (λ (z : World V). z.waiting) same_next,
+    subst (λ (z : World V). IsStamp (log_of z.past) (plain_entry e) (λ u. slice_index e.stamp u)) (sym same_next)
+        f.does.1,
   )
     where
       told : (drawn : ℕ)

@@ -1,6 +1,7 @@
 -- What taking note of a master's move does to the parts of a system.
 use Rattle.std.specs.Prelude.{◌≡◌, ℕ, ◌+◌, ◌<◌, true, [], ◌∷◌, ◌++◌, length, Option, Some, None, Result, Ok, Err}
-use Rattle.std.specs.Prelude.{IfOk}
+use Rattle.std.specs.Prelude.{IfOk, slice_index}
+use Rattle.entry_order.specs.Stamps.{IsStamp}
 use Rattle.access_log.specs.declared.entry.StampedEntry.{StampedEntry}
 use Rattle.access_log.specs.declared.entry.Output.{Output}
 use Rattle.plain_text.specs.declared.limit.Limit.{Limit}
@@ -119,3 +120,4 @@ pub record MakesNext {P V : Type 0} (m : Meaning V) (t : ℕ) (given answer : Op
   pub logs : (e : StampedEntry) → r ≡ stepped.Did e → (s : Setting V) (w : World V) → StandsFor m s w old
       → (to : Outcome) (next : World V) → ComesTo (event.Step t given) to s w next
       → (log_of next.past ≡ plain_entry e ∷ log_of w.past) × (next.waiting ≡ w.waiting)
+      × IsStamp (log_of next.past) (plain_entry e) (λ u. slice_index e.stamp u)
