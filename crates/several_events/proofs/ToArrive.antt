@@ -127,11 +127,13 @@ threads_out : (e : Entry) (count : ℕ → ℕ) (t many : ℕ)
 threads_out e count t zero h = h
 threads_out e count t (suc many) h =
     go (either (entry_message e) (numbered kind.Out t 1 (count t)) (of_threads kind.Out count (t + 1) many) h)
+    (λ i. threads_out e count (t + 1) many i)
   where
     go : IsToArrive (entry_message e) (numbered kind.Out t 1 (count t))
-        ⊎ IsToArrive (entry_message e) (of_threads kind.Out count (t + 1) many) → ⊥
-    go (inl i) = numbered_out e t 1 (count t) i
-    go (inr i) = threads_out e count (t + 1) many i
+        ⊎ IsToArrive (entry_message e) (of_threads kind.Out count (t + 1) many)
+        → (IsToArrive (entry_message e) (of_threads kind.Out count (t + 1) many) → ⊥) → ⊥
+    go (inl i) later = numbered_out e t 1 (count t) i
+    go (inr i) later = later i
 
 -- the first of some entries is an entry
 abbrev AreEntries : List Message → Type 0
