@@ -1,4 +1,5 @@
 -- Frames as they are sent, and what comes back.
+use Rattle.std.specs.Prelude.{slice_index, ◌^◌}
 use Rattle.std.proofs.Common.{◌≡◌, ℕ, ◌<◌, List, [], ◌∷◌, ◌++◌, length, refl, sym, ap, ◌∙◌, subst, Option, Some, Result}
 use Rattle.std.proofs.Common.{Err, arith}
 use Rattle.std.specs.Prelude.{slice_set, slice_index_or}
@@ -13,11 +14,14 @@ use Rattle.wire_frames.specs.declared.frame.Frame.TheVariants as frame
 use Rattle.wire_frames.specs.declared.frame.FrameError.{FrameError}
 use Rattle.wire_frames.specs.declared.frame.FrameError.TheVariants as error
 use Rattle.wire_frames.specs.declared.frame.FrameFault.{FrameFault}
-use Rattle.wire_frames.specs.Layout.{IsFrame}
-use Rattle.wire_frames.specs.Writing.{CanPutOutput}
+use Rattle.wire_frames.specs.Layout.{IsFrame, written}
+use Rattle.wire_frames.specs.Parts.{FitsWord}
+use Rattle.wire_frames.proofs.Ranges.{is_sent, is_done}
+use Rattle.wire_frames.proofs.Whole.{is_written}
+use Rattle.wire_frames.specs.Writing.{CanPutEntry, CanPutOutput}
 use Rattle.wire_frames.specs.Faults.{Gives}
 use Rattle.sent_frames.specs.Sending.{Sending, HasEntryFrame, HasOutputFrame, SendsEntry, SendsOutput, SendsAgain}
-use Rattle.sent_frames.specs.Sending.{entry_address, output_address, lengths_of}
+use Rattle.sent_frames.specs.Sending.{CountsEntry, entry_size, entry_address, output_address, lengths_of}
 use Rattle.sent_frames.specs.Spelled.{IsEntryFrame, IsOutputFrame}
 
 -- a frame is not at fault
@@ -148,6 +152,27 @@ module _ (old now : Sending) (frames : List (Address × List ℕ)) (bytes length
         let more = subst (λ (k : ℕ). lengths ≡ lengths_of old.outputs k ++ length bytes ∷ []) (sym t_is) longer in
         subst (λ (k : ℕ). SendsOutput now (sent_output old frames k lengths) o) t_is
         (output_sent o there threaded more)
+
+-- one more that counts as sent
+pub counts_entry : (old now : Sending) (e : StampedEntry) (lengths : List ℕ) → old ≡ now
+    → CanPutEntry old.epoch old.threads e → old.epoch < 2 ^ 32 → e.number < 2 ^ 64 → FitsWord e.what
+    → length e.stamp ≡ 16 → ((u : ℕ) → slice_index e.stamp u < 2 ^ 64)
+    → lengths ≡ lengths_of old.entries e.thread ++ entry_size e ∷ []
+    → CountsEntry now (sent_entry old old.frames e.thread lengths) e
+counts_entry old now e lengths as_now can epoch number word all fit longer =
+    subst (λ (q : Sending). CountsEntry q (sent_entry old old.frames e.thread lengths) e) as_now (record {
+      can = can;
+      bytes = written (frame.Entry old.epoch old.threads e);
+      is = is_written (frame.Entry old.epoch old.threads e) (
+        is_sent old.epoch old.threads e.thread e.number e.stamp can.sent epoch number all fit,
+        is_done e.what can.what word,
+      );
+      frames = refl;
+      entries = ap (λ (l : List ℕ). slice_set old.entries e.thread l) longer;
+      outputs = refl;
+      epoch = refl;
+      threads = refl;
+    })
 
 -- the same, of an output of which the length is known
 pub sends_again : (old now : Sending) (frames : List (Address × List ℕ)) (o : Output) (bytes : List ℕ) → old ≡ now

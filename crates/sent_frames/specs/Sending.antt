@@ -67,6 +67,17 @@ pub record SendsEntry (old new : Sending) (e : StampedEntry) : Type 0 where
   pub epoch : new.epoch ≡ old.epoch
   pub threads : new.threads ≡ old.threads
 
+-- One more entry counts as sent: it has a frame, which is not there.
+pub record CountsEntry (old new : Sending) (e : StampedEntry) : Type 0 where
+  pub can : CanPutEntry old.epoch old.threads e
+  pub bytes : List ℕ
+  pub is : IsFrame bytes (frame_of.Entry old.epoch old.threads e)
+  pub frames : new.frames ≡ old.frames
+  pub entries : new.entries ≡ one_longer old.entries e.thread (entry_size e)
+  pub outputs : new.outputs ≡ old.outputs
+  pub epoch : new.epoch ≡ old.epoch
+  pub threads : new.threads ≡ old.threads
+
 pub record SendsOutput (old new : Sending) (o : Output) : Type 0 where
   pub frame : HasOutputFrame new o
   pub sends : Sends old.frames new.frames (output_address old o.thread o.number) frame.bytes

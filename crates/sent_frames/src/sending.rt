@@ -1,5 +1,6 @@
 ghost use Rattle.std.specs.Prelude.{◌≡◌, ◌<◌, ◌≤◌, ◌+◌, ◌-◌, ◌^◌, ℕ, [], None, Some, IfOk, OnOk};
-ghost use Rattle.std.specs.Prelude.{length, replicate};
+ghost use Rattle.std.specs.Prelude.{length, replicate, slice_index};
+ghost use Rattle.wire_frames.specs.Parts.{FitsWord};
 ghost use Rattle.access_log.specs.declared.entry.StampedEntry.{StampedEntry};
 ghost use Rattle.access_log.specs.declared.entry.Output.{Output as OutputValue};
 ghost use Rattle.wire_frames.specs.declared.frame.Frame.{Frame as FrameValue};
@@ -9,17 +10,18 @@ ghost use Rattle.wire_frames.specs.Writing.{CanPutEntry, CanPutOutput};
 ghost use Rattle.wire_frames.specs.declared.frame.Frame.TheVariants as frame_is;
 ghost use Rattle.wire_frames.specs.Layout.{IsFrame};
 ghost use Rattle.sent_frames.specs.Sending.{IsUnsent, SendsEntry, SendsOutput, SendsAgain};
+ghost use Rattle.sent_frames.specs.Sending.{CountsEntry};
 ghost use Rattle.sent_frames.specs.Sending.{ForgetsEntries, ForgetsOutputs, BeginsEpoch, TurnsBack};
 ghost use Rattle.sent_frames.specs.Sending.{HasEntryFrame, HasOutputFrame, entry_address};
 ghost use Rattle.sent_frames.specs.Sending.{output_address, length_at};
 ghost use Rattle.sent_frames.specs.Spelled.{IsEntryFrame, IsOutputFrame};
 
-use access_log::{Output, StampedEntry, copy_output};
+use access_log::{Output, StampedEntry, What, copy_output};
 use link_store::Links;
 use plain_text::{Bytes, Kind, NoMemory, Sequence};
 use std::alloc::Global;
 use std::marker::Model;
-use wire_frames::{Frame, FrameError, put_entry, put_output, take_frame};
+use wire_frames::{Frame, FrameError, entry_length, put_entry, put_output, take_frame};
 
 /// What a master sends on its links: each entry and each output as a frame, and how long each frame was.
 ///
@@ -119,6 +121,32 @@ fn length_in(lengths: &[Sequence<u32>], thread: u32, number: u64) -> Option<u64>
     Some(u64::from(*length))
 }
 
+/// The place or the value of an entry is a word.
+fn word_of(what: What) -> u64
+    ensures fits { FitsWord what }
+{
+    match what {
+        What::Access { var: _, place } => place,
+        What::Read { var: _, after } => after,
+        What::Clock(value) => value,
+        What::Draw(value) => value,
+    }
+}
+
+/// Each component of a stamp is one.
+fn fit_words(components: &[u64])
+    ensures { (u : ℕ) → slice_index components.now u < 2 ^ 64 }
+{
+    let _all = components.len();
+}
+
+/// And each number; an epoch is half of one.
+fn fits_word(epoch: u32, number: u64)
+    ensures epoch { epoch < 2 ^ 32 }
+    ensures number { number < 2 ^ 64 }
+{
+}
+
 impl SentFrames {
     /// Nothing was sent, in epoch 1.
     pub fn new(alloc: Global, threads: u32) -> Result<Self, NoMemory>
@@ -179,6 +207,22 @@ impl SentFrames {
         self.entries[thread as usize].push(frame.len() as u32)?;
         self.links
             .send(self.epoch, Kind::Log, thread, number, frame)
+    }
+
+    /// Counts an entry as its thread's next one. Its frame is neither written nor sent.
+    pub fn count_entry(&mut self, entry: &StampedEntry) -> Result<(), NoMemory>
+        requires can { CanPutEntry self.old.epoch self.old.threads entry.now }
+        ensures ok { OnOk result (CountsEntry self.old self.new entry.now) }
+        ensures there { entry.now.thread < length self.old.entries }
+        ensures threads { self.new.threads ≡ self.old.threads }
+    {
+        let _word = word_of(entry.what);
+        let components = entry.stamp.components();
+        fit_words(components);
+        fits_word(self.epoch, entry.number);
+        let size = entry_length(entry);
+        self.entries[entry.thread as usize].push(size as u32)?;
+        Ok(())
     }
 
     /// Sends an output as its thread's next frame, in the buffer of its packet. After `NoMemory` the links are of no

@@ -23,7 +23,8 @@ use Rattle.several_events.specs.declared.progress.Progress.{Progress}
 use Rattle.several_events.specs.declared.progress.Progress.TheVariants as progress
 use Rattle.single_events.specs.Single.{IsSingle}
 use Rattle.several_events.specs.Progressing.{messages_from, to_arrive, to_do, after_turn, after_of, IsInPhase, IsOver}
-use Rattle.several_events.specs.Progressing.{IsNext, IsMessage, NoMessage}
+use Rattle.several_events.specs.Progressing.{IsNext, IsMessage, NoMessage, IsOfTurns, IsOfEntries, Leads}
+use Rattle.early_arrivals.specs.Early.{OfThread, OfPackets}
 use Rattle.several_events.proofs.MessageLists.{messages_whole}
 
 -- What arrives leaves the past and the moves
@@ -34,7 +35,7 @@ arrival_past s w kind.Log t n to freed new h = (log_keeps s w new t n to freed h
 arrival_past s w kind.Out t n to freed new h = (out_keeps s w new t n to freed h).past
 
 -- what is to come depends on the past alone
-messages_same : {V : Type 0} (s : Setting V) (w new : World V) (k : Kind) (t arrived : ℕ) → new.past ≡ w.past
+pub messages_same : {V : Type 0} (s : Setting V) (w new : World V) (k : Kind) (t arrived : ℕ) → new.past ≡ w.past
     → messages_from s new k t arrived ≡ messages_from s w k t arrived
 messages_same {V} s w new kind.Log t arrived same = rw same refl
 messages_same {V} s w new kind.Out t arrived same = rw same refl
@@ -63,9 +64,15 @@ next_arrival {P} {V} m y k t arrived which u number ev is message =
           let threads = threads_of_setting m s w y st in
           subst (λ (n : ℕ). to_arrive n which u number < to_arrive n k t arrived) (sym threads) (message s w st).less;
       turn = tt;
+      leads = leads_arrival k;
       single = single_arrival y.up which u number;
     })
   where
+    leads_arrival : (i : Kind)
+        → Leads (progress.Arrives i t arrived) (arrival_of which u number) (progress.Arrives which u number)
+    leads_arrival kind.Log = refl
+    leads_arrival kind.Out = tt
+
     single_arrival : (up : Bool) (i : Kind) (v n : ℕ) → IsSingle up (arrival_of i v n)
     single_arrival up kind.Log v n = tt
     single_arrival up kind.Out v n = tt
@@ -100,6 +107,7 @@ next_step {P} {V} m y left t u moved same low few =
           let most = few_moves new.moves new.bytes on.1 in
           less w.moves new.moves to most (kinds w new to (step_kind s w new t to here at.1 on.0.0)) packets;
       turn = low;
+      leads = OfThread t None;
       single = tt;
     })
   where
@@ -178,6 +186,7 @@ next_feed {P} {V} m y left t moved over some few more = record {
   falls = λ s w q st at to freed new on packets.
       less w.moves new.moves packets moved (ap (λ (z : World V). z.moves) on.0.2);
   turn = omega (arith, some);
+  leads = OfPackets 1;
   single = tt;
 }
   where
@@ -210,9 +219,16 @@ next_at_rest {P} {V} m y left t moved ev further over none next = record {
       let k = next.falls s w (Arrives (messages_from s w kind.Log 0 0)) st refl to freed new on packets in
       less w.moves (to_do y.inputs.threads packets new.moves (after_of y.inputs.threads further ev to)) moved k;
   turn = next.turn;
+  leads = of_turns further next.leads;
   single = next.single;
 }
   where
+    of_turns : (there : Progress) → IsOfEntries ev there → IsOfTurns ev there
+    of_turns progress.Wakes h = absurd h
+    of_turns (progress.Steps other u was) h = absurd h
+    of_turns (progress.Arrives k u n) h = h
+    of_turns (progress.Chooses words many) h = absurd h
+
     less : (moves n : ℕ) (was : Bool) → n < to_do y.inputs.threads (length y.left) moves (progress.Arrives kind.Log 0 0)
         → n < to_do y.inputs.threads (length y.left) moves (progress.Steps left t was)
     less moves n true h = omega (arith, h)
@@ -244,6 +260,7 @@ next_wake {P} {V} m y left is some few = record {
   );
   falls = λ s w q st at to freed new on packets. less w.moves new.moves packets (recover_up w to new on.0.0).1;
   turn = omega (arith, some);
+  leads = tt;
   single = tt;
 }
   where
@@ -274,6 +291,7 @@ next_chosen {P} {V} m y words further left ev more which further_is single = rec
       subst (λ (g : Progress). to_do y.inputs.threads packets new.moves g < left) (sym (same ev to))
       (omega (arith, more));
   turn = tt;
+  leads = tt;
   single = single y.up;
 }
   where

@@ -2,3 +2,6 @@ pub mod ChoosingLemmas
 pub mod MessageLists
 pub mod Choices
 pub mod Following
+pub mod SameSets
+pub mod ToArrive
+pub mod Ahead

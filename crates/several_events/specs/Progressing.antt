@@ -16,7 +16,8 @@ use Rattle.recovery_world.specs.World.{Setting, Sent, World}
 use Rattle.recovery_world.specs.Limits.{OnWithin}
 use Rattle.recovery_world.specs.Strategies.{Choice, Follows}
 use Rattle.recovery_world.specs.Many.{Message, numbered, of_threads, Phase, Wakes, Steps, Arrives, Chooses, rests}
-use Rattle.recovery_world.specs.Many.{goes_on, begins, summary_of}
+use Rattle.recovery_world.specs.Many.{goes_on, begins, summary_of, arrival_of}
+use Rattle.early_arrivals.specs.Early.{IsMoving}
 use Rattle.system_parts.specs.Parts.{Parts}
 use Rattle.system_parts.specs.SystemStanding.{StandsFor}
 use Rattle.several_events.specs.declared.progress.Progress.{Progress}
@@ -98,6 +99,26 @@ abbrev pub IsOver : {P V : Type 0} → Meaning V → Parts P V → Progress → 
 IsOver {P} {V} m y at =
     (s : Setting V) (w : World V) (q : Phase) → StandsFor m s w y → IsInPhase s w at q → goes_on s q w ≡ None
 
+-- which events come from where: a step and a packet while threads take turns, and the message that arrives next
+abbrev pub IsOfTurns : Event → Progress → Type 0
+IsOfTurns ev progress.Wakes = ⊥
+IsOfTurns ev (progress.Steps left t moved) = IsMoving ev
+IsOfTurns ev (progress.Arrives k t n) = ev ≡ arrival_of k t n
+IsOfTurns ev (progress.Chooses words left) = ⊥
+
+abbrev pub IsOfEntries : Event → Progress → Type 0
+IsOfEntries ev progress.Wakes = ⊥
+IsOfEntries ev (progress.Steps left t moved) = ⊥
+IsOfEntries ev (progress.Arrives k t n) = ev ≡ arrival_of k t n
+IsOfEntries ev (progress.Chooses words left) = ⊥
+
+abbrev pub Leads : Progress → Event → Progress → Type 0
+Leads progress.Wakes ev further = Unit {0}
+Leads (progress.Steps left t moved) ev further = IsOfTurns ev further
+Leads (progress.Arrives kind.Log t arrived) ev further = IsOfEntries ev further
+Leads (progress.Arrives kind.Out t arrived) ev further = Unit {0}
+Leads (progress.Chooses words left) ev further = Unit {0}
+
 -- The strategy chooses this event, behind which it goes on from there, and less is to be done.
 pub record IsNext {P V : Type 0} (m : Meaning V) (y : Parts P V) (at : Progress) (ev : Event)
     (further : Progress) : Type 0 where
@@ -110,6 +131,7 @@ pub record IsNext {P V : Type 0} (m : Meaning V) (y : Parts P V) (at : Progress)
       → (packets : ℕ) → to_do y.inputs.threads packets new.moves (after_of y.inputs.threads further ev to)
       < to_do y.inputs.threads (length y.left) w.moves at
   pub turn : IsTurn y.inputs.threads further
+  pub leads : Leads at ev further
   pub single : IsSingle y.up ev
 
 -- The message of this kind that comes next, and what is to come behind it.

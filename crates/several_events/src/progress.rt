@@ -1,4 +1,6 @@
-ghost use Rattle.std.specs.Prelude.{◌≡◌};
+ghost use Rattle.std.specs.Prelude.{◌≡◌, IfSome, None};
+ghost use Rattle.recovery_world.specs.declared.event.Event.TheVariants as event_is;
+ghost use Rattle.several_events.specs.Ahead.{HasTurns};
 ghost use Rattle.several_events.specs.declared.progress.Progress.TheVariants as progress_is;
 ghost use Rattle.several_events.specs.Progressing.{IsTurn, after_turn, after_of};
 
@@ -63,6 +65,23 @@ fn after_step(left: u64, thread: u32, moved: bool, threads: u32, outcome: &Outco
 }
 
 impl Progress {
+    /// The thread of this event, where it is a step that is told nothing, and threads take turns.
+    pub fn turn_in(&self, event: Event) -> Option<u64>
+        ensures turns { IfSome result (λ _. HasTurns self.now) }
+        ensures step { IfSome result (λ thread. event ≡ event_is.Step thread None) }
+    {
+        match self {
+            Progress::Steps { .. } => match event {
+                Event::Step { thread, answer } => match answer {
+                    None => Some(thread),
+                    Some(_) => None,
+                },
+                _ => None,
+            },
+            _ => None,
+        }
+    }
+
     /// How it goes on behind this event with this outcome.
     pub fn after(self, threads: u32, event: Event, outcome: &Outcome) -> Self
         requires { IsTurn threads self }

@@ -1,10 +1,12 @@
 ghost use Rattle.std.specs.Prelude.{◌≡◌, IfOk, OnOk, Err, IfSome, Some, None};
 ghost use Rattle.plain_text.specs.declared.limit.Limit.{Limit as LimitKind};
 ghost use Rattle.several_events.specs.declared.progress.Progress.TheVariants as progress_is;
-ghost use Rattle.system_parts.specs.Performing.{Appends, MovesOn, StopsAt, Releasing};
+ghost use Rattle.system_parts.specs.SystemStanding.{StandsForSome};
+ghost use Rattle.system_parts.specs.Performing.{Appends, MovesOn, StopsAt, Releasing, WouldPass};
 ghost use Rattle.single_events.specs.Single.{IsSingle};
 ghost use Rattle.several_events.specs.Progressing.{IsBegun, IsNext, IsOver, StandsAt, Comes};
 ghost use Rattle.several_events.specs.Progressing.{SumsUp};
+ghost use Rattle.several_events.specs.Ahead.{Performs};
 
 use crate::choosing::choose_next;
 use crate::messages::next_message;
@@ -12,6 +14,7 @@ use crate::progress::Progress;
 use access_log::Outputs;
 use box_program::Program;
 use event_replies::Stop;
+use held_steps::step_held;
 use plain_text::Kind;
 use rand_pcg::Pcg32;
 use recovery_world::{Event, Outcome};
@@ -140,6 +143,30 @@ fn choose<P: Program>(core: &Core<P>, at: Progress) -> Option<(Event, Progress)>
     }
 }
 
+/// The event is performed, behind which the strategy goes on from there. While threads take turns, the entry of a move
+/// arrives as soon as it is made.
+fn perform_next<P: Program>(
+    core: &mut Core<P>,
+    further: &Progress,
+    event: Event,
+    out: &mut Outputs,
+) -> Result<Outcome, Stop>
+    requires stands { StandsForSome (P.meaning core.old.program) core.old }
+    requires single { IsSingle core.old.up event }
+    ensures on { IfOk result (λ to. MovesOn (P.meaning core.old.program)
+        (Releasing out.old out.new (Performs further.now event to)) core.old core.new) }
+    ensures limit { (limit : LimitKind) → result ≡ Err (Stop.Limit limit)
+        → StopsAt (P.meaning core.old.program)
+        (Releasing out.old out.new (WouldPass event limit)) core.old core.new }
+    ensures appends { Appends out.old out.new }
+{
+    if let Some(thread) = further.turn_in(event) {
+        return step_held(core, thread, out);
+    }
+    let reply = perform_single(core, event, out)?;
+    Ok(reply.outcome)
+}
+
 /// The events that the strategy chooses are performed, one after another.
 fn follow<P: Program>(core: &mut Core<P>, from: Progress, out: &mut Outputs) -> Result<(), Stop>
     requires begun { StandsAt (P.meaning core.old.program) core.old from }
@@ -155,8 +182,8 @@ fn follow<P: Program>(core: &mut Core<P>, from: Progress, out: &mut Outputs) -> 
         match choose(core, at) {
             None => return Ok(()),
             Some((event, further)) => {
-                let reply = perform_single(core, event, out)?;
-                at = further.after(core.inputs.threads(), event, &reply.outcome);
+                let outcome = perform_next(core, &further, event, out)?;
+                at = further.after(core.inputs.threads(), event, &outcome);
             }
         }
     }

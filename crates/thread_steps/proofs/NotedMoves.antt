@@ -131,11 +131,11 @@ module _ {P V : Type 0} (m : Meaning V) (s : Setting V) (w : World V) (y : Parts
       (moves : plain_move s.meaning (inputs_fed s w.fed) s.threads w.past (record { thread = t; answer = answer })
       ≡ Ok (step ∷ w.past))
     where
-      abbrev new : World V
+      abbrev pub new : World V
       new = after_step w step drawn
 
       -- the event is that of the definitions
-      on : (o : Outcome) → o ≡ move_outcome step.act → OnStep s w t given o new
+      pub on : (o : Outcome) → o ≡ move_outcome step.act → OnStep s w t given o new
       on o is = inr (inr (inr (inr (
         low,
         up,

@@ -54,10 +54,13 @@ use Rattle.access_log.specs.declared.entry.Turn.TheVariants as turn_of
 use Rattle.plain_machine.specs.declared.local.Local.{Local}
 use Rattle.plain_machine.specs.Agree.{IsEarlier}
 use Rattle.recovery_laws.specs.Sound.{Sound}
-use Rattle.thread_steps.specs.Stepping.{with_move, AddsEntry, AddsOutput, NotesAs, Notes, CanNote}
+use Rattle.thread_steps.specs.Stepping.{with_move, AddsEntry, AddsOutput, NotesAs, Notes, CanNote, MakesNext}
+use Rattle.access_log.specs.declared.entry.StampedEntry.{StampedEntry}
+use Rattle.master_core.specs.Stepping.{plain_entry, Makes, DidEntry}
+use Rattle.recovery_laws.proofs.OneOutcome.{on_one}
 use Rattle.system_parts.specs.Performing.{MovesOn, StopsAt, ComesTo, WouldPass}
 use Rattle.system_parts.proofs.SentLemmas.{after_step}
-use Rattle.thread_steps.proofs.NotedMoves.{Answer, but_master, with_master, noted, passes}
+use Rattle.thread_steps.proofs.NotedMoves.{Answer, but_master, with_master, noted, passes, on as on_made}
 use Rattle.thread_steps.proofs.MoveLemmas.{has_room, place_is, can_put_entry, can_put_output}
 
 -- an answer has one outcome
@@ -474,6 +477,39 @@ module _ {P V : Type 0} (m : Meaning V) (y old : Parts P V) (same : y ≡ old) (
       stops_at m s w y st t given (low_now m s w y t st calls.low) g q answer told.0 told.1 told.2 (up_is s w st) r
       (had_turn s w st) (follows_is s w st) res after n limit is
 
+  -- an entry that was logged is of the past then
+  pub step_logs : (e : StampedEntry) → r ≡ stepped.Did e → (s : Setting V) (w : World V) → StandsFor m s w y
+      → (to : Outcome) (next : World V) → ComesTo (event.Step t given) to s w next
+      → (log_of next.past ≡ plain_entry e ∷ log_of w.past) × (next.waiting ≡ w.waiting)
+      × IsStamp (log_of next.past) (plain_entry e) (λ u. slice_index e.stamp u)
+  step_logs e is s w st to next comes = (
+    ap (λ (z : World V). log_of z.past) same_next
+        ∙ ap (λ (a : Act V). log_more a (log_of w.past)) f.does.0.1,
+    ap (λ (z : World V). z.waiting) same_next,
+    subst (λ (z : World V). IsStamp (log_of z.past) (plain_entry e) (λ u. slice_index e.stamp u)) (sym same_next)
+        f.does.1,
+  )
+    where
+      told : (drawn : ℕ)
+          × TellsHand s w t given answer drawn (thread_after w.past t).hand
+          × (g ≡ generator_after s.seed drawn)
+      told = told_is s w st
+
+      f : Makes s.meaning (inputs_fed s w.fed) s.threads w.past (record { thread = t; answer = answer }) q
+          (DidEntry w.past e)
+      f = subst (λ (x : Stepped).
+          Follows s.meaning (inputs_fed s w.fed) s.threads w.past (record { thread = t; answer = answer }) x q) is
+          (follows_is s w st)
+
+      here : OnStep s w t given (move_outcome f.step.act) (after_step w f.step told.0)
+      here = on_made m s w y (but_master m s w y st) t given (low_now m s w y t st calls.low) g q answer told.0 told.1
+          told.2 (up_is s w st) (had_turn s w st (subst (λ (x : Stepped). MadeOne x) (sym is) tt)) f.step f.plain_is
+          (move_outcome f.step.act) refl
+
+      same_next : next ≡ after_step w f.step told.0
+      same_next = (on_one s w st.sound (event.Step t given) to (move_outcome f.step.act) [] [] next
+          (after_step w f.step told.0) comes.0 (here, refl)).new_is
+
   pub step_can : (fits : ℕ → V → Type 0) (s : Setting V) (w : World V) → IsLawful m fits → StandsFor m s w y
       → y.sent.threads ≡ y.inputs.threads → 1 ≤ y.inputs.threads → y.inputs.threads ≤ 16 → All IsShort y.inputs.packets
       → ((o : Output) (p : Packet) → r ≡ stepped.Emitted o → i ≡ Some p → length o.packet.bytes ≡ length p.bytes)
@@ -507,3 +543,20 @@ pub stopped_at : {P V : Type 0} (meaning : P → Meaning V) (y old after : Parts
     → StopsAt (meaning old.program) (WouldPass (event.Step t given) limit) old after
 stopped_at {P} {V} meaning y old after t given res limit same stops =
     subst (λ (z : Parts P V). StopsAt (meaning z.program) (WouldPass (event.Step t given) limit) z after) same stops
+
+-- The master made a move, which is not noted yet.
+pub makes_next : {P V : Type 0} (meaning : P → Meaning V) (y old : Parts P V) (same : y ≡ old) (t : ℕ)
+    (given answer : Option ℕ) (g : Lcg) (i : Option Packet) (r : Stepped) (q : Mastered V)
+    → Calls (meaning y.program) y t given answer g i r q
+    → MakesNext (meaning old.program) t given answer r old (record y { generator = g; master = q })
+makes_next {P} {V} meaning y old same t given answer g i r q calls = record {
+  goes = λ res after n.
+      moved_on meaning y old after t given res same (keeps t answer r (record y { generator = g; master = q }) after res n)
+      (λ s w st. step_goes (meaning y.program) y old same t given answer g i r q calls s w st res after n);
+  stops = λ res after n limit is.
+      stopped_at meaning y old after t given res limit same
+      (λ s w st. step_stops (meaning y.program) y old same t given answer g i r q calls s w st res after n limit is);
+  logs = λ e is s w st.
+      step_logs (meaning y.program) y old same t given answer g i r q calls e is s w
+      (subst (λ (z : Parts P V). StandsFor (meaning z.program) s w z) (sym same) st);
+}

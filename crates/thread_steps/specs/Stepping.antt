@@ -1,11 +1,13 @@
 -- What taking note of a master's move does to the parts of a system.
 use Rattle.std.specs.Prelude.{◌≡◌, ℕ, ◌+◌, ◌<◌, true, [], ◌∷◌, ◌++◌, length, Option, Some, None, Result, Ok, Err}
+use Rattle.std.specs.Prelude.{IfOk, slice_index}
+use Rattle.entry_order.specs.Stamps.{IsStamp}
 use Rattle.access_log.specs.declared.entry.StampedEntry.{StampedEntry}
 use Rattle.access_log.specs.declared.entry.Output.{Output}
 use Rattle.plain_text.specs.declared.limit.Limit.{Limit}
 use Rattle.plain_machine.specs.Program.{Meaning}
-use Rattle.plain_machine.specs.History.{Step}
-use Rattle.master_core.specs.Stepping.{Shows}
+use Rattle.plain_machine.specs.History.{Step, log_of}
+use Rattle.master_core.specs.Stepping.{Shows, plain_entry}
 use Rattle.master_core.specs.declared.step.Stepped.{Stepped}
 use Rattle.master_core.specs.declared.step.Stepped.TheVariants as stepped
 use Rattle.wire_frames.specs.Writing.{CanPutEntry, CanPutOutput}
@@ -21,6 +23,8 @@ use Rattle.event_replies.specs.declared.reply.Stop.TheVariants as stop
 use Rattle.sent_frames.specs.Sending.{Sending, SendsEntry, SendsOutput}
 use Rattle.system_parts.specs.Parts.{Parts}
 use Rattle.system_parts.specs.Resting.{RestsFor}
+use Rattle.system_parts.specs.SystemStanding.{StandsFor}
+use Rattle.system_parts.specs.Performing.{MovesOn, StopsAt, ComesTo, WouldPass}
 
 -- with one more move of the master, by which it sent out this number of bytes
 abbrev pub with_move : {P V : Type 0} → ℕ → Option ℕ → ℕ → Parts P V → Parts P V
@@ -104,3 +108,16 @@ abbrev pub PassesFor : {P V : Type 0} → Meaning V → Setting V → World V �
 PassesFor m s w t answer stepped step limit old =
     RestsFor m s w old → w.up ≡ true → CanMake s w t answer step → Shows w.past stepped step
     → Passes s w (event.Step t answer) limit
+
+-- The master made the next move of the thread, or none, which is not noted yet. Whatever comes of noting it is what the
+-- event makes of the world, or stops at its limit; and what was logged is an entry of the past then.
+pub record MakesNext {P V : Type 0} (m : Meaning V) (t : ℕ) (given answer : Option ℕ) (r : Stepped)
+    (old new : Parts P V) : Type 0 where
+  pub goes : (result : Result Outcome Stop) (noted : Parts P V) → Notes t answer r new result noted
+      → IfOk result (λ (to : Outcome). MovesOn m (ComesTo (event.Step t given) to) old noted)
+  pub stops : (result : Result Outcome Stop) (noted : Parts P V) → Notes t answer r new result noted → (limit : Limit)
+      → result ≡ Err (stop.Limit limit) → StopsAt m (WouldPass (event.Step t given) limit) old noted
+  pub logs : (e : StampedEntry) → r ≡ stepped.Did e → (s : Setting V) (w : World V) → StandsFor m s w old
+      → (to : Outcome) (next : World V) → ComesTo (event.Step t given) to s w next
+      → (log_of next.past ≡ plain_entry e ∷ log_of w.past) × (next.waiting ≡ w.waiting)
+      × IsStamp (log_of next.past) (plain_entry e) (λ u. slice_index e.stamp u)

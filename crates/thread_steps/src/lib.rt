@@ -3,4 +3,4 @@
 
 mod stepping;
 
-pub use stepping::{note, note_kept, step};
+pub use stepping::{entry_outcome, make_move, note, note_kept, note_move, step};

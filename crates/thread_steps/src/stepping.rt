@@ -1,4 +1,4 @@
-ghost use Rattle.std.specs.Prelude.{◌≡◌, ◌<◌, ◌≤◌, ◌+◌, ℕ, IfOk, OnOk, OnErr, Some, Err, length};
+ghost use Rattle.std.specs.Prelude.{◌≡◌, ◌<◌, ◌≤◌, ◌+◌, ℕ, IfOk, OnOk, OnErr, Some, Err, length, true};
 ghost use Rattle.std.specs.Option.{unwrap_or};
 ghost use Rattle.random_words.specs.Words.{generator_after};
 ghost use Rattle.plain_text.specs.declared.limit.Limit.{Limit as LimitKind};
@@ -19,7 +19,7 @@ ghost use Rattle.replay_guide.specs.Following.{recorded};
 ghost use Rattle.access_log.specs.Held.{lane, entry_at};
 ghost use Rattle.system_parts.specs.Performing.{MovesOn, StopsAt, ComesTo, WouldPass};
 ghost use Rattle.kept_moves.specs.Keeping.{IsFor, shown};
-ghost use Rattle.thread_steps.specs.Stepping.{CanNote, Notes, NotesMove};
+ghost use Rattle.thread_steps.specs.Stepping.{CanNote, Notes, NotesMove, MakesNext};
 
 use access_log::{Turn, What};
 use box_program::Program;
@@ -37,7 +37,7 @@ use std::boxed::Box;
 use system_parts::Core;
 
 /// The outcome of a logged move.
-fn entry_outcome(number: u64, what: What) -> Outcome
+pub fn entry_outcome(number: u64, what: What) -> Outcome
     ensures { result ≡ outcome_is number what }
 {
     match what {
@@ -149,7 +149,7 @@ fn told<P: Program>(
 }
 
 /// Takes note of a move that the master made, by which it sent out this number of bytes.
-fn note_move<P: Program>(
+pub fn note_move<P: Program>(
     core: &mut Core<P>,
     thread: u32,
     answer: Option<u64>,
@@ -257,6 +257,42 @@ pub fn note_kept<P: Program>(
     }
 }
 
+/// The master makes the next move of a thread that is there; a clock or a draw is told the given answer, if there is
+/// one. The move is not noted yet: what the thread was told, and what the master answers.
+pub fn make_move<P: Program>(
+    core: &mut Core<P>,
+    thread: u32,
+    given: Option<u64>,
+) -> (Option<u64>, Stepped)
+    requires stands { StandsForSome (P.meaning core.old.program) core.old }
+    requires up { core.old.up ≡ true }
+    requires thread_in { thread < core.old.inputs.threads }
+    ensures can { CanNote core.new result.1 }
+    ensures made { MakesNext (P.meaning core.old.program) thread given result.0 result.1
+        core.old core.new }
+{
+    let turn = turn_of(core, thread);
+    let answer = told(
+        &core.program,
+        &core.master,
+        &core.guide,
+        &mut core.generator,
+        core.clock,
+        thread,
+        given,
+    );
+    let input = input_of(&core.inputs, &core.master, thread);
+    let stepped = core.master.step(
+        core.alloc,
+        &core.program,
+        thread,
+        turn,
+        answer.unwrap_or(0),
+        input,
+    );
+    (answer, stepped)
+}
+
 /// The master makes the next move of a thread; a clock or a draw is told the given answer, if there is one.
 pub fn step<P: Program>(
     core: &mut Core<P>,
@@ -278,24 +314,6 @@ pub fn step<P: Program>(
         return Ok(Outcome::Down);
     }
     let thread = thread as u32;
-    let turn = turn_of(core, thread);
-    let answer = told(
-        &core.program,
-        &core.master,
-        &core.guide,
-        &mut core.generator,
-        core.clock,
-        thread,
-        given,
-    );
-    let input = input_of(&core.inputs, &core.master, thread);
-    let stepped = core.master.step(
-        core.alloc,
-        &core.program,
-        thread,
-        turn,
-        answer.unwrap_or(0),
-        input,
-    );
+    let (answer, stepped) = make_move(core, thread, given);
     note(core, thread, answer, stepped)
 }

@@ -1,0 +1,2 @@
+pub mod EarlyWorlds
+pub mod EarlyRuns

@@ -1,0 +1,3 @@
+pub mod MadeEntries
+pub mod MadeArrivals
+pub mod HeldSteps

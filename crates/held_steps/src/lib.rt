@@ -1,0 +1,7 @@
+//! A thread of the master makes its next move, and the entry that it logs arrives at once.
+#![tactic(auto)]
+
+mod holding;
+mod stepping;
+
+pub use stepping::step_held;
