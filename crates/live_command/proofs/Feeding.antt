@@ -1,5 +1,5 @@
 -- The first events of a settling: the master is up, and the rest of the capture is fed.
-use Rattle.std.proofs.Common.{◌≡◌, ℕ, ◌-◌, List, [], ◌∷◌, ◌++◌, drop, length, refl, sym, ap, ◌∙◌, true, false, Option}
+use Rattle.std.proofs.Common.{◌≡◌, ℕ, ◌-◌, List, [], ◌∷◌, ◌++◌, drop, length, refl, sym, ap, ◌∙◌, true, false}
 use Rattle.std.proofs.Common.{subst, inl, inr, Result, Ok, Err, None, length-drop, append_assoc}
 use Rattle.plain_machine.specs.Program.{Meaning}
 use Rattle.world_io.specs.World.{Shown}
@@ -8,15 +8,14 @@ use Rattle.recovery_world.specs.declared.event.Event.TheVariants as event
 use Rattle.recovery_world.specs.declared.event.Outcome.{Outcome}
 use Rattle.recovery_world.specs.Events.{On, OnRecover}
 use Rattle.recovery_world.specs.Files.{Goes, Rests}
-use Rattle.recovery_world.specs.Many.{OnAny, Phase, Several, Single, begins}
+use Rattle.recovery_world.specs.Many.{OnAny, Several, Single, begins}
 use Rattle.recovery_world.specs.World.{Setting, Sent, World as SystemWorld}
 use Rattle.recovery_core.specs.Systems.{Systemed}
 use Rattle.run_writes.specs.declared.error.RunError.{RunError}
 use Rattle.std.specs.Prelude.{OnOk}
 use Rattle.run_command.specs.Running.{IsSomewhere, IsSystemAt}
-use Rattle.plan_script.specs.Begun.{AreFirstOf}
 use Rattle.plan_script.specs.Rounds.{Does}
-use Rattle.plan_script.specs.Scripts.{Wakes, feeding}
+use Rattle.plan_script.specs.Scripts.{feeding}
 use Rattle.plan_script.proofs.Performing.{does_append}
 use Rattle.live_writes.specs.Outputs.{LiveOutputs}
 use Rattle.live_writes.specs.Script.{Scripted}

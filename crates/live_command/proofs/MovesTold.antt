@@ -1,5 +1,5 @@
 -- Where an event ended, the system is at the world of it.
-use Rattle.std.proofs.Common.{◌≡◌, List, [], ◌∷◌, Result, Ok, Err}
+use Rattle.std.proofs.Common.{List, [], ◌∷◌, Result, Ok, Err}
 use Rattle.std.specs.Prelude.{OnOk}
 use Rattle.std.specs.Result.{IsOk}
 use Rattle.access_log.specs.declared.entry.Output.{Output}

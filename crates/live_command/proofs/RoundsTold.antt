@@ -1,12 +1,11 @@
 -- A round is told.
 use Rattle.std.proofs.Common.{◌≡◌, ◌⊎◌, ℕ, ◌<◌, ◌≤◌, true, List, [], ◌∷◌, ◌++◌, length, take, refl, sym, ap, ◌∙◌, subst}
-use Rattle.std.proofs.Common.{inl, inr, append-nil, append_assoc, Result, Ok, Err, Option, Some, None, cond, nat_eq, arith}
-use Rattle.std.specs.Prelude.{⊤, All, IfOk, OnOk}
+use Rattle.std.proofs.Common.{inl, inr, append-nil, append_assoc, Result, Ok, Err, Option, Some, None, nat_eq, arith}
+use Rattle.std.specs.Prelude.{⊤, IfOk, OnOk}
 use Rattle.std.proofs.lemmas.List.{drop_all}
 use Rattle.std.proofs.Common.{false, zero, suc}
 use Rattle.std.proofs.lemmas.Bool.Decides.{nat_tests}
 use Rattle.rand_pcg.specs.Lcg.{Lcg}
-use Rattle.plain_text.specs.Packets.{IsShort}
 use Rattle.plain_text.specs.declared.packet.Packet.{Packet}
 use Rattle.plain_text.specs.declared.limit.Limit.{Limit}
 use Rattle.input_logger.specs.Inputs.{Fed}
@@ -25,12 +24,11 @@ use Rattle.output_files.specs.declared.error.OutputError.{OutputError}
 use Rattle.output_files.specs.declared.error.OutputError.TheVariants as output
 use Rattle.output_files.specs.Writes.{HasWritten, Write}
 use Rattle.output_files.proofs.Effects.{nothing_gathered}
-use Rattle.run_writes.specs.Errors.{run_error_of, run_result_of}
+use Rattle.run_writes.specs.Errors.{run_result_of}
 use Rattle.run_writes.specs.Replies.{newly_released}
 use Rattle.run_writes.specs.Run.{WritesUntil, release_writes, writes_of}
 use Rattle.script_text.specs.Scripts.{script_text}
 use Rattle.run_writes.specs.declared.error.RunError.{RunError}
-use Rattle.run_writes.specs.declared.error.RunError.TheVariants as run
 use Rattle.run_command.specs.Running.{IsSomewhere, IsSystemAt}
 use Rattle.round_join.specs.declared.noting.Noted.{Noted}
 use Rattle.round_join.specs.Racing.{StoppedAt, events_noted, lines_noted}
@@ -39,8 +37,7 @@ use Rattle.plan_script.specs.Orders.{AreLeft, Orders, first_ones}
 use Rattle.plan_script.specs.Rounds.{AreWoven, Does, HasStopped, IsRace, IsRound, arrival_events, frames_of, of_thread}
 use Rattle.plan_script.specs.Rounds.{step_events}
 use Rattle.plan_script.specs.Begun.{AreFirstOf, BeginsRound, IsCutRace}
-use Rattle.live_workers.specs.Rounds.{IsRoundTo, Rounds, StopsRound}
-use Rattle.live_workers.specs.declared.rounds.RoundStop.TheVariants as stop
+use Rattle.live_workers.specs.Rounds.{IsRoundTo, Rounds}
 use Rattle.live_writes.specs.Outputs.{LiveOutputs, holding}
 use Rattle.live_writes.specs.Script.{Scripted}
 use Rattle.live_writes.specs.Told.{FailsLive, HasBegunLive, HasTold, IsStopped}

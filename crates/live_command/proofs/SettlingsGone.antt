@@ -1,5 +1,5 @@
 -- A settling goes from its feed over its round to its arrivals.
-use Rattle.std.proofs.Common.{◌≡◌, ℕ, List, [], ◌∷◌, ◌++◌, refl, sym, ap, ◌∙◌, subst, inl, inr, Result, Ok, Err}
+use Rattle.std.proofs.Common.{◌≡◌, ℕ, List, ◌++◌, refl, sym, ◌∙◌, subst, inl, inr, Result, Ok, Err}
 use Rattle.std.proofs.Common.{append_assoc}
 use Rattle.std.specs.Prelude.{IfOk}
 use Rattle.rand_pcg.specs.Lcg.{Lcg}
@@ -10,14 +10,13 @@ use Rattle.recovery_world.specs.Many.{all_messages}
 use Rattle.recovery_world.specs.World.{Setting, World as SystemWorld}
 use Rattle.recovery_core.specs.Systems.{Systemed}
 use Rattle.run_writes.specs.declared.error.RunError.{RunError}
-use Rattle.plan_script.specs.Begun.{AreFirstOf, BeginsSettle}
 use Rattle.plan_script.specs.Orders.{Orders, no_orders}
 use Rattle.plan_script.specs.Rounds.{Does, IsRound, arrival_events}
-use Rattle.plan_script.specs.Scripts.{OnSettle, Wakes, feeding}
+use Rattle.plan_script.specs.Scripts.{Wakes, feeding}
 use Rattle.live_writes.specs.Outputs.{LiveOutputs}
 use Rattle.live_writes.specs.Script.{Scripted}
 use Rattle.live_command.specs.declared.standing.Standing.{Standing}
-use Rattle.live_command.specs.Going.{GoesFed, GoesOver, GoesRound, GoesSettle, HasLivedTo, SameOrders, standing_in}
+use Rattle.live_command.specs.Going.{GoesFed, GoesOver, GoesRound, GoesSettle, SameOrders, standing_in}
 use Rattle.live_command.specs.Telling.{AreTold}
 use Rattle.live_command.proofs.EventsGone.{fails_same, first_behind, lived_same}
 

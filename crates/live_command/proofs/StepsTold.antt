@@ -1,6 +1,6 @@
 -- The steps of a round are told, one after another.
-use Rattle.std.proofs.Common.{◌≡◌, ℕ, ◌+◌, ◌<◌, List, [], ◌∷◌, ◌++◌, take, drop, length, refl, sym, ap, ◌∙◌, subst, inl}
-use Rattle.std.proofs.Common.{inr, append-nil, append_assoc, Result, Ok, Err, Option, zero, suc, arith, ◌≤◌, get_or}
+use Rattle.std.proofs.Common.{◌≡◌, ℕ, ◌<◌, List, [], ◌∷◌, ◌++◌, take, drop, length, refl, sym, ap, ◌∙◌, subst, inl}
+use Rattle.std.proofs.Common.{inr, append_assoc, Result, Ok, Err, Option, zero, suc, arith, ◌≤◌, get_or}
 use Rattle.std.specs.Prelude.{⊤}
 use Rattle.std.proofs.lemmas.List.{drop_all}
 use Rattle.world_io.specs.World.{Shown}
@@ -22,7 +22,7 @@ use Rattle.live_writes.specs.Outputs.{LiveOutputs}
 use Rattle.live_writes.specs.Script.{Scripted}
 use Rattle.live_writes.specs.Told.{FailsLive, HasTold}
 use Rattle.live_command.specs.Going.{NotesOver}
-use Rattle.live_command.specs.Writing.{Adds, IsQuiet, Keeps}
+use Rattle.live_command.specs.Writing.{IsQuiet, Keeps}
 
 -- a step releases nothing
 step_releases : {V : Type 0} (s : Setting V) (w new : SystemWorld V) (t : ℕ) (given : Option ℕ) (to : Outcome)

@@ -22,7 +22,6 @@ use Rattle.output_files.specs.Writes.{Write, HasBegun, HasWritten}
 use Rattle.output_files.specs.Written.{Writes, WritesGathered}
 use Rattle.output_files.proofs.Effects.{gathered_begun}
 use Rattle.run_writes.specs.declared.error.RunError.{RunError}
-use Rattle.run_writes.specs.declared.error.RunError.TheVariants as run
 use Rattle.run_writes.specs.Errors.{run_result_of, stopped_result}
 use Rattle.run_writes.specs.Replies.{Reply, Answers, Goes, newly_released, packets_in, released_in}
 use Rattle.run_writes.specs.Run.{FitsRecord, HasBegunRun, IsWritten, WritesUntil, release_writes, reply_writes, writes_of}
@@ -33,10 +32,10 @@ use Rattle.run_command.specs.Running.{ComesTo, IsSomewhere, IsSystemAt, WritesPe
 use Rattle.script_text.specs.Scripts.{script_text}
 use Rattle.plan_script.specs.Rounds.{Does}
 use Rattle.live_writes.specs.Outputs.{LiveOutputs, holding}
-use Rattle.live_writes.specs.Script.{Scripted, Beside}
+use Rattle.live_writes.specs.Script.{Scripted}
 use Rattle.output_files.specs.Writes.{KeepsOutputs}
-use Rattle.live_writes.specs.Told.{AreOpen, FailsLive, HasBegunLive, HasTold, IsAhead, IsStopped}
-use Rattle.live_command.specs.Going.{GoesOver, HasLivedTo}
+use Rattle.live_writes.specs.Told.{AreOpen, FailsLive, HasBegunLive, HasTold}
+use Rattle.live_command.specs.Going.{GoesOver}
 use Rattle.plan_script.specs.Begun.{AreFirstOf}
 use Rattle.live_command.specs.Writing.{IsQuiet, Keeps}
 use Rattle.live_command.proofs.WritingSteps.{all_ahead, with_reply}

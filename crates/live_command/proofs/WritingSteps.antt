@@ -1,40 +1,36 @@
 -- Lines of the script and of the report are gathered and written.
-use Rattle.std.proofs.Common.{◌≡◌, ℕ, ◌+◌, ◌<◌, All, List, [], ◌∷◌, ◌++◌, length, refl, sym, ap, ◌∙◌, subst, inl, inr}
-use Rattle.std.proofs.Common.{append-nil, append_assoc, Result, Ok, Err, arith}
+use Rattle.std.proofs.Common.{◌≡◌, ℕ, ◌+◌, All, List, [], ◌∷◌, ◌++◌, length, refl, sym, ap, ◌∙◌, subst, inl, inr}
+use Rattle.std.proofs.Common.{append-nil, append_assoc, Result, Ok, Err}
 use Rattle.std.proofs.lemmas.List.{length-append}
 use Rattle.std.proofs.lemmas.List.Concat.{flat_map-append}
 use Rattle.std.specs.Prelude.{codes, ⊤, OnOk}
 use Rattle.std.proofs.lemmas.List.Elements.{All-append, All-nil, All-cons}
 use Rattle.plain_text.specs.declared.packet.Packet.{Packet}
 use Rattle.plain_text.specs.declared.packet.Unit.{Unit as FractionUnit}
-use Rattle.plain_text.specs.LineFiles.{text_of}
 use Rattle.plain_text.specs.declared.limit.Limit.{Limit}
-use Rattle.plain_text.specs.declared.limit.Limit.TheVariants as limit_of
-use Rattle.plain_machine.specs.declared.plain_move.PlainMove.{PlainMove}
 use Rattle.world_io.specs.World.{Shown}
 use Rattle.recovery_world.specs.declared.event.Event.{Event}
-use Rattle.recovery_world.specs.World.{Setting, Sent, World as SystemWorld}
+use Rattle.recovery_world.specs.World.{Setting, World as SystemWorld}
 use Rattle.recovery_world.specs.Files.{event_words, reply_line}
 use Rattle.output_files.specs.declared.error.OutputError.{OutputError}
 use Rattle.output_files.specs.declared.error.OutputError.TheVariants as output
-use Rattle.output_files.specs.Writes.{report_file, Write, Appends, Reports, IsPrefix, HasBegun, HasGathered, HasWritten}
-use Rattle.output_files.specs.Writes.{AreOnlyReports, after_writes, reported}
+use Rattle.output_files.specs.Writes.{report_file, Write, Appends, IsPrefix, HasBegun, HasGathered, HasWritten}
+use Rattle.output_files.specs.Writes.{after_writes, reported}
 use Rattle.output_files.specs.Written.{Writes}
-use Rattle.output_files.proofs.Effects.{after_more, begun_all, gathered_begun, line_gathered, names_stay, none_gathered}
+use Rattle.output_files.proofs.Effects.{after_more, begun_all, line_gathered, names_stay, none_gathered}
 use Rattle.output_files.proofs.Effects.{nothing_gathered, reported_more}
 use Rattle.run_writes.specs.declared.error.RunError.{RunError}
 use Rattle.run_writes.specs.declared.error.RunError.TheVariants as run
 use Rattle.run_writes.specs.Errors.{run_error_of}
-use Rattle.run_writes.specs.Replies.{Reply, Answers, Goes, newly_released, released_in}
-use Rattle.run_writes.specs.Run.{FitsRecord, HasBegunRun, IsWritten, OutputNames, WritesAll, WritesSome, WritesUntil}
+use Rattle.run_writes.specs.Replies.{Reply, Goes, newly_released, released_in}
+use Rattle.run_writes.specs.Run.{FitsRecord, HasBegunRun, IsWritten, OutputNames}
 use Rattle.run_writes.specs.Run.{closing_writes, opening_writes, release_writes, replies_writes, reply_writes, writes_of}
 use Rattle.run_writes.proofs.ScriptAnswers.{released_more}
 use Rattle.run_command.proofs.Going.{replies_more}
-use Rattle.script_text.specs.Scripts.{FitWords, FitsWords, script_text}
-use Rattle.plan_script.specs.Begun.{AreFirstOf}
+use Rattle.script_text.specs.Scripts.{FitsWords, script_text}
 use Rattle.live_writes.specs.Outputs.{AreApart, LiveOutputs, holding}
 use Rattle.live_writes.specs.Script.{Scripted, AreCounted, Beside, PassesScript, SpareName, line_of, with_line}
-use Rattle.live_writes.specs.Told.{FailsLive, HasBegunLive, HasTold, IsAhead, IsPaused}
+use Rattle.live_writes.specs.Told.{FailsLive, HasBegunLive, HasTold, IsAhead}
 use Rattle.live_writes.proofs.ScriptSteps.{begun_longer, part_appended, spare_both, written_beside}
 use Rattle.live_command.specs.Writing.{Adds, IsQuiet, Keeps}
 

@@ -1,5 +1,5 @@
 -- A run by a plan goes on: what performing its events, its rounds and its lines came to.
-use Rattle.std.specs.Prelude.{◌≡◌, ℕ, ◌<◌, ◌≤◌, true, List, [], ◌∷◌, ◌++◌, Result, Ok, Err}
+use Rattle.std.specs.Prelude.{◌≡◌, ℕ, ◌<◌, ◌≤◌, true, List, ◌++◌, Result, Ok, Err}
 use Rattle.plain_text.specs.declared.limit.Limit.{Limit}
 use Rattle.rand_pcg.specs.Lcg.{Lcg}
 use Rattle.plain_machine.specs.Program.{Meaning}

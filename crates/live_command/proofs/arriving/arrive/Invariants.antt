@@ -7,7 +7,7 @@ use Rattle.recovery_world.specs.declared.event.Event.{Event}
 use Rattle.recovery_world.specs.World.{Setting, World as SystemWorld}
 use Rattle.output_files.specs.Writes.{KeepsOutputs}
 use Rattle.output_files.specs.Written.{OnlyWrites}
-use Rattle.plan_script.specs.Rounds.{Does, arrival_events}
+use Rattle.plan_script.specs.Rounds.{arrival_events}
 use Rattle.run_command.specs.Running.{IsSomewhere}
 use Rattle.live_writes.specs.Outputs.{AreApart, LiveOutputs}
 use Rattle.live_writes.specs.Told.{AreOpen}

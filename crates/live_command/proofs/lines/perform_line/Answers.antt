@@ -14,8 +14,8 @@ returns-in-Feed-clause-told g c p honest s names events w asked before same apar
     rw c.in-Feed.is (line_one _ s names (g.C.Clock.may c.args.clock.now) w asked c.args.standing.draws events
     (orders_of c.args.orders.now) c.tell_one.new.lines c.tell_one.new.script before _ c.tell_one.result (line.Feed
     c.in-Feed.count) (event.Feed c.in-Feed.count) c.args.standing.system (λ next end does kept. ((refl, does), kept))
-    (λ first begins. begins) same c.tell_one.ensures.given (c.tell_one.ensures.told p honest s names events w before apart
-    is lived))
+    (λ first begins. begins) same c.tell_one.ensures.given (c.tell_one.ensures.told p honest s names events w before
+    apart is lived))
 
 pub returns-in-Limit-clause-told : goal.returns-in-Limit-clause-told
 returns-in-Limit-clause-told g c p honest s names events w asked before same apart is lived =

@@ -18,8 +18,8 @@ returns-in_err-line-in-Ok-clause-told g c p honest m s names events w old new be
     (still_begun s names apart events _ w _ _ before _ h)
 
 pub returns-in_err-write_script-in_default-clause-told : goal.returns-in_err-write_script-in_default-clause-told
-returns-in_err-write_script-in_default-clause-told g c p honest m s names events w old new before apart opened h comes at
-    few =
+returns-in_err-write_script-in_default-clause-told g c p honest m s names events w old new before apart opened h comes
+    at few =
     let e = c.in_err-write_script-in_default.field-0.0 in
     let made : c.from_residual-in_err-write_script-in_default.result ≡ Err (run_error_of e) = search rules in
     let ev = c.args.event.now in

@@ -1,4 +1,4 @@
-use Rattle.std.proofs.Common.{◌≡◌, ◌∷◌, ◌++◌, ◌∙◌, [], Err, List, ap, append-nil, inl, rules, subst, sym, length, refl}
+use Rattle.std.proofs.Common.{◌≡◌, ◌∙◌, [], Err, List, ap, append-nil, inl, rules, subst, sym}
 use Rattle.frame_intake.specs.Orders.{orders_of}
 use Rattle.plain_machine.specs.Program.{Meaning}
 use Rattle.run_command.proofs.Going.{somewhere_same}
@@ -64,7 +64,8 @@ returns-in_err-tell_stop-in-Err-Limit-clause-told g c p honest s names events w 
     let e = c.in_err-tell_stop-in-Err-Limit.field-0.0 in
     let made : c.from_residual.result ≡ Err e = search rules in
     stopped_round _ s names _ w asked _ events _ e _ _ before _ made (sym lived.at.stands.parts.master.up ∙ c.requires.up)
-    (c.in_err-tell_stop-in-Err-Limit.ensures.told p honest s names events w c.in-Err-Limit.limit before apart opened.script lived.told
+    (c.in_err-tell_stop-in-Err-Limit.ensures.told p honest s names events w c.in-Err-Limit.limit before apart
+    opened.script lived.told
     (subst (λ (l : List Noted). StopsAtStep s w c.in-Err-Limit.limit l c.in-Err-Limit.next) (sym c.as_slice-steps.ensures.value)
     (subst (λ (stop : RoundStop). StopsRound s w stop) c.in-Err-Limit.field-0-is
     (c.in-Err-Limit.ensures.stops s w lived.at.stands))))
@@ -72,7 +73,8 @@ returns-in_err-tell_stop-in-Err-Limit-clause-told g c p honest s names events w 
 pub returns-in_ok-tell_stop-in-Err-Limit-clause-told : goal.returns-in_ok-tell_stop-in-Err-Limit-clause-told
 returns-in_ok-tell_stop-in-Err-Limit-clause-told g c p honest s names events w asked before same apart opened lived =
     let limit = c.in-Err-Limit.limit in
-    let stopped = c.in_ok-tell_stop-in-Err-Limit.ensures.told p honest s names events w limit before apart opened.script lived.told
+    let stopped = c.in_ok-tell_stop-in-Err-Limit.ensures.told p honest s names events w limit before apart
+    opened.script lived.told
     (subst (λ (l : List Noted). StopsAtStep s w limit l c.in-Err-Limit.next) (sym c.as_slice-steps.ensures.value)
     (subst (λ (stop : RoundStop). StopsRound s w stop) c.in-Err-Limit.field-0-is
     (c.in-Err-Limit.ensures.stops s w lived.at.stands))) in

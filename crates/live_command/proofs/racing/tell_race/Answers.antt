@@ -1,4 +1,4 @@
-use Rattle.std.proofs.Common.{◌≡◌, ◌∷◌, ◌++◌, [], Err, List, ap, rules, subst, length}
+use Rattle.std.proofs.Common.{◌≡◌, ◌++◌, Err, rules}
 use Rattle.round_join.specs.Racing.{events_noted}
 use Rattle.live_command.proofs.RoundsTold.{race_arrived, race_failed}
 use Rattle.live_command.proofs.TellingSteps.{open_still}
@@ -8,7 +8,8 @@ pub returns-in_err-tell_steps-clause-told : goal.returns-in_err-tell_steps-claus
 returns-in_err-tell_steps-clause-told g c p honest s names events w there before apart opened h performs at few =
     let e = c.in_err-tell_steps.field-0.0 in
     let made : c.from_residual.result ≡ Err e = search rules in
-    let failed = c.in_err-tell_steps.ensures.told p honest s names events w there before apart opened.script h performs in
+    let failed = c.in_err-tell_steps.ensures.told p honest s names events w there before apart opened.script h performs
+    in
     race_failed _ e _ s names there events _ failed.0 c.args.arriving.now _ _ _ before _ made failed.1 failed.2
 
 pub returns-clause-told : goal.returns-clause-told

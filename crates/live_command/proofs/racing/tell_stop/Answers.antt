@@ -1,4 +1,4 @@
-use Rattle.std.proofs.Common.{◌≡◌, ◌∷◌, ◌++◌, [], Err, List, ap, rules, subst, length}
+use Rattle.std.proofs.Common.{◌≡◌, ◌∷◌, ◌++◌, [], Err, ap, rules, subst}
 use Rattle.recovery_world.specs.declared.event.Event.{Event}
 use Rattle.recovery_world.specs.declared.event.Event.TheVariants as event
 use Rattle.round_join.specs.Racing.{events_noted}
@@ -11,7 +11,8 @@ returns-in_err-tell_steps-clause-told g c p honest s names events w limit before
     let steps = c.args.steps.now in
     let e = c.in_err-tell_steps.field-0.0 in
     let made : c.from_residual.result ≡ Err e = search rules in
-    let failed = c.in_err-tell_steps.ensures.told p honest s names events w stops.2.there before apart is h stops.2.performs in
+    let failed = c.in_err-tell_steps.ensures.told p honest s names events w stops.2.there before apart is h
+    stops.2.performs in
     steps_failed s names w limit events steps c.args.next stops.0 stops.1 stops.2 before _ _ e made failed.0 failed.1
     failed.2
 
@@ -25,7 +26,8 @@ returns-in_err-add_line-clause-told g c p honest s names events w limit before a
     let same : event.Step c.from.result next.answer ≡ event.Step next.thread next.answer =
     ap (λ t. event.Step t next.answer) c.from.ensures in
     let now = g.W.World.shows p c.add_line.new.world in
-    let here = c.in_ok-tell_steps.ensures.told p earlier s names events w stops.2.there before apart is h stops.2.performs in
+    let here = c.in_ok-tell_steps.ensures.told p earlier s names events w stops.2.there before apart is h
+    stops.2.performs in
     last_failed s names w limit events steps next stops.0 stops.1 stops.2 before now _ e made
     (subst (λ (ev : Event). FailsLive e s names ((events ++ events_noted steps) ++ ev ∷ []) before now) same
     (c.in_err-add_line.ensures.told p honest s names (events ++ events_noted steps) stops.2.there before apart
@@ -42,7 +44,8 @@ returns-clause-told g c p honest s names events w limit before apart is h stops 
     let mid = g.W.World.shows p c.add_line.new.world in
     let part = events ++ events_noted steps in
     let opened = c.in_ok-tell_steps.ensures.keeps p earlier _ _ is in
-    let here = c.in_ok-tell_steps.ensures.told p earlier s names events w stops.2.there before apart is h stops.2.performs in
+    let here = c.in_ok-tell_steps.ensures.told p earlier s names events w stops.2.there before apart is h
+    stops.2.performs in
     let added : HasTold s names part (part ++ event.Step next.thread next.answer ∷ []) stops.2.there c.add_line.new.lines
     c.add_line.new.script before mid =
     subst (λ (ev : Event). HasTold s names part (part ++ ev ∷ []) stops.2.there c.add_line.new.lines

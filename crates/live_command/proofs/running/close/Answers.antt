@@ -1,4 +1,4 @@
-use Rattle.std.proofs.Common.{◌≡◌, ◌≤◌, ℕ, sym, subst}
+use Rattle.std.proofs.Common.{◌≤◌, ℕ, sym, subst}
 use Rattle.plain_text.specs.declared.limit.TheConstants.{MOST_EVENTS as most_events}
 use Rattle.plain_text.specs.declared.limit.TheConstants.{MOST_FILE_BYTES as most_bytes}
 use Rattle.output_files.proofs.OnlyWriting.{OnlyWrites-trans}

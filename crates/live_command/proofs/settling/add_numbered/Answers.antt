@@ -1,4 +1,4 @@
-use Rattle.std.proofs.Common.{◌≡◌, ◌∙◌, rules, refl}
+use Rattle.std.proofs.Common.{◌∙◌, refl}
 use Rattle.live_command.proofs.AllMessages.{numbered_more}
 use Rattle.live_command.proofs.settling.add_numbered.Goals as goal
 

@@ -1,5 +1,5 @@
 use Rattle.std.proofs.Common.{◌≡◌, ◌++◌, ◌∷◌, [], ap, sym, ◌∙◌, rules, Err, refl}
-use Rattle.std.specs.Prelude.{⊤, IsErrOf}
+use Rattle.std.specs.Prelude.{⊤}
 use Rattle.output_files.proofs.OnlyWriting.{OnlyWrites-failed, OnlyWrites-trans}
 use Rattle.recovery_world.specs.declared.event.Event.TheVariants as event
 use Rattle.run_command.proofs.Going.{somewhere_same}

@@ -8,7 +8,7 @@ use Rattle.recovery_world.specs.Many.{all_messages}
 use Rattle.frame_intake.specs.Orders.{orders_of}
 use Rattle.run_command.proofs.Going.{somewhere_same}
 use Rattle.live_command.proofs.EventsGone.{if_same, lived_same, over_same, still_open}
-use Rattle.live_command.proofs.SettlingsGone.{none_given, not_fed, not_run, round_same, settled}
+use Rattle.live_command.proofs.SettlingsGone.{none_given, not_fed, not_run, settled}
 use Rattle.live_command.proofs.settling.settle.Goals as goal
 
 pub returns-in-Err-clause-told : goal.returns-in-Err-clause-told

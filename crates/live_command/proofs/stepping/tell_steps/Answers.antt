@@ -1,10 +1,10 @@
-use Rattle.std.proofs.Common.{◌≡◌, ◌<◌, ◌++◌, ◌∙◌, [], Err, List, add-one, ap, append-nil, append_assoc, arith, length}
+use Rattle.std.proofs.Common.{◌≡◌, ◌<◌, ◌++◌, Err, List, add-one, append-nil, append_assoc, arith, length}
 use Rattle.std.proofs.Common.{rules, subst, sym, take}
 use Rattle.recovery_world.specs.declared.event.Event.{Event}
 use Rattle.output_files.proofs.OnlyWriting.{OnlyWrites-same, OnlyWrites-trans}
 use Rattle.round_join.specs.Racing.{events_noted}
 use Rattle.live_writes.specs.Told.{FailsLive, HasTold}
-use Rattle.live_command.proofs.StepsTold.{all_told, first_noted, from_first, note_failed, noted_take, same_noted}
+use Rattle.live_command.proofs.StepsTold.{all_told, first_noted, from_first, note_failed, noted_take}
 use Rattle.live_command.proofs.StepsTold.{step_on}
 use Rattle.live_command.proofs.stepping.tell_steps.Goals as goal
 
@@ -44,7 +44,8 @@ loop-step-preserved g c =
           let k = inv.told p earlier s names events w there before apart is h performs in
           let on = step_on s k.0 there steps i x low item k.2 in
           let now = g.W.World.shows p c.tell_step.new.world in
-          let done = c.in_ok-tell_step.ensures.told p honest s names (events ++ events_noted (take i steps)) k.0 on.0 before
+          let done = c.in_ok-tell_step.ensures.told p honest s names (events ++ events_noted
+          (take i steps)) k.0 on.0 before
           apart (inv.keeps p earlier _ _ is) k.1 on.1 in
           rw add-one (
             on.0,
@@ -70,7 +71,8 @@ returns-in_err-tell_step-clause-told g c p honest s names events w there before 
     let e = c.in_err-tell_step.field-0.0 in
     let made : c.from_residual.result ≡ Err e = search rules in
     let now = g.W.World.shows p c.tell_step.new.world in
-    let failed = c.in_err-tell_step.ensures.told p honest s names (events ++ events_noted (take i steps)) k.0 on.0 before
+    let failed = c.in_err-tell_step.ensures.told p honest s names (events ++ events_noted
+    (take i steps)) k.0 on.0 before
     apart (inv.keeps p earlier _ _ is) k.1 on.1 in
     note_failed _ e s names events (events_noted steps) (events_noted (take i steps) ++ failed.0) there _ _ before now
     made (first_noted steps i x failed.0 low item failed.1)

@@ -1,4 +1,4 @@
-use Rattle.std.proofs.Common.{◌≡◌, ◌≤◌, ◌++◌, List, take, drop}
+use Rattle.std.proofs.Common.{◌≤◌, ◌++◌, List, take, drop}
 use Rattle.plain_text.specs.declared.limit.TheConstants.{MOST_EVENTS, MOST_FILE_BYTES}
 use Rattle.world_io.specs.World.{Start, Shown}
 use Rattle.recovery_world.specs.declared.event.Event.{Event}

@@ -1,8 +1,8 @@
-use Rattle.std.proofs.Common.{◌≡◌, ◌∷◌, [], Err, rules, ap, subst, sym, List, ℕ}
+use Rattle.std.proofs.Common.{◌≡◌, ◌∷◌, [], Err, rules, subst, sym}
 use Rattle.run_writes.specs.Errors.{run_error_of}
 use Rattle.live_writes.specs.Script.{Scripted}
 use Rattle.live_writes.specs.Told.{HasTold}
-use Rattle.live_command.proofs.WritingSteps.{add_failed, begun_more, line_added, paused_now, still_begun, fails_begun}
+use Rattle.live_command.proofs.WritingSteps.{add_failed, begun_more, line_added, paused_now, still_begun}
 use Rattle.live_command.proofs.writing.add_line.Goals as goal
 
 pub returns-in_err-flush-in-Err-Limit-clause-told : goal.returns-in_err-flush-in-Err-Limit-clause-told

@@ -12,7 +12,8 @@ returns-in_err-write_script-clause-told g c p honest s names events scripted w b
 
 pub returns-clause-told : goal.returns-clause-told
 returns-clause-told g c p honest s names events scripted w before apart is h =
-    let k = c.in_ok-write_script.ensures.told p (c.write_lines.ensures.before p honest) s names events scripted w _ before apart is h in
+    let k = c.in_ok-write_script.ensures.told p (c.write_lines.ensures.before p honest) s names events scripted w _
+    before apart is h in
     lines_kept s names apart events scripted w _ _ before _ k c.in_ok-write_script.ensures.none _ _ _
     (c.write_lines.ensures.shows p honest (holding names.script k.written before)
     (writes_of names.outputs s.fractions k.replies) k.gathered) c.write_lines.ensures.none
