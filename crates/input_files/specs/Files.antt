@@ -1,5 +1,5 @@
 -- What reading the file of a name does to a world, and what it says of the bytes under the name.
-use Rattle.std.specs.Prelude.{◌≡◌, ℕ, ◌+◌, ◌≤◌, Bool, IsTrue, List, Some, None, Result, Ok, Err}
+use Rattle.std.specs.Prelude.{◌≡◌, ℕ, ◌+◌, ◌≤◌, List, Some, None, Result, Ok, Err}
 use Rattle.world_io.specs.World.{Shown, Ledger}
 use Rattle.world_io.specs.declared.beginning.Front.{Front}
 use Rattle.world_io.specs.declared.beginning.FrontError.{FrontError}
@@ -29,10 +29,9 @@ pub record AfterInputs (files : ℕ) (old new : Ledger) : Type 0 where
   pub read_faults : old.read_faults ≤ new.read_faults
   pub write_faults : new.write_faults ≡ old.write_faults
 
--- From the one state of a world to the other only reading has gone on: at most this number of files were opened, the
--- names and what was sent stay, where told, and what was healthy is healthy.
-pub record OnlyReads {W : Type 0} (tells : Bool) (shown_of : W → Shown) (ledger_of : W → Ledger)
-    (healthy_of : W → Type 0) (files : ℕ) (old new : W) : Type 0 where
-  pub outputs : IsTrue tells → KeepsOutputs (shown_of old) (shown_of new)
+-- From the one state of a world to the other only reading has gone on: at most this number of files were opened, and
+-- what was healthy is healthy.
+pub record OnlyReads {W : Type 0} (ledger_of : W → Ledger) (healthy_of : W → Type 0) (files : ℕ)
+    (old new : W) : Type 0 where
   pub ledger : AfterInputs files (ledger_of old) (ledger_of new)
   pub stays_healthy : healthy_of old → healthy_of new

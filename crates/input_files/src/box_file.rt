@@ -1,4 +1,4 @@
-ghost use Rattle.std.specs.Prelude.{◌<◌, ◌≤◌, ◌-◌, ◌^◌, IsTrue, IfOk, IsErrOf, List, ℕ};
+ghost use Rattle.std.specs.Prelude.{◌<◌, ◌≤◌, ◌-◌, ◌^◌, IfOk, IsErrOf, List, ℕ};
 ghost use Rattle.world_io.specs.Stream.{Rose};
 ghost use Rattle.world_io.specs.World.{Start};
 ghost use Rattle.input_files.specs.Answers.{SaysBox};
@@ -23,13 +23,11 @@ pub fn read_box_file<W: World>(
     name: &Text,
 ) -> Result<BoxConf, InputError<LineFault>>
     requires { (W.ledger world.old).given < 2 ^ 32 - 1 }
-    ensures judged { IsTrue W.tells
-        → JudgesBox (W.healthy world.old) name.now result (W.shown world.old) }
     ensures threads { IfOk result (λ conf. (1 ≤ conf.threads) × (conf.threads ≤ 16)) }
-    ensures only_reads { OnlyReads W.tells W.shown W.ledger W.healthy 1 world.old world.new }
+    ensures only_reads { OnlyReads W.ledger W.healthy 1 world.old world.new }
     ensures cause { IsErrOf result InputError.ReadFault
         → Rose (W.ledger world.old).read_faults (W.ledger world.new).read_faults }
-    ensures judges { (p : Start) → W.honest p world.new
+    ensures judged { (p : Start) → W.honest p world.new
         → JudgesBox (W.healthy world.old) name.now result (W.shows p world.old) }
     ensures keeps { (p : Start) → W.honest p world.new
         → KeepsOutputs (W.shows p world.old) (W.shows p world.new) }

@@ -1,4 +1,4 @@
-ghost use Rattle.std.specs.Prelude.{◌≡◌, ◌<◌, ◌≤◌, ◌-◌, ◌^◌, All, length, vec_len, IsTrue, IfOk};
+ghost use Rattle.std.specs.Prelude.{◌≡◌, ◌<◌, ◌≤◌, ◌-◌, ◌^◌, All, length, vec_len, IfOk};
 ghost use Rattle.std.specs.Prelude.{IsErrOf, List, ℕ};
 ghost use Rattle.plain_text.specs.declared.limit.TheConstants.{MOST_PACKETS};
 ghost use Rattle.plain_text.specs.Octets.{IsOfBytes};
@@ -36,15 +36,13 @@ pub fn read_capture_file<W: World>(
     name: &Text,
 ) -> Result<Capture, InputError<AnyFault>>
     requires { (W.ledger world.old).given < 2 ^ 32 - 1 }
-    ensures judged { IsTrue W.tells
-        → JudgesCapture (W.healthy world.old) name.now result (W.shown world.old) }
     ensures few { IfOk result (λ capture. length capture.packets ≤ MOST_PACKETS) }
     ensures short { IfOk result (λ capture. All IsShort capture.packets) }
     ensures bytes { IfOk result (λ capture. All IsOfBytes capture.packets) }
-    ensures only_reads { OnlyReads W.tells W.shown W.ledger W.healthy 1 world.old world.new }
+    ensures only_reads { OnlyReads W.ledger W.healthy 1 world.old world.new }
     ensures cause { IsErrOf result InputError.ReadFault
         → Rose (W.ledger world.old).read_faults (W.ledger world.new).read_faults }
-    ensures judges { (p : Start) → W.honest p world.new
+    ensures judged { (p : Start) → W.honest p world.new
         → JudgesCapture (W.healthy world.old) name.now result (W.shows p world.old) }
     ensures keeps { (p : Start) → W.honest p world.new
         → KeepsOutputs (W.shows p world.old) (W.shows p world.new) }
@@ -91,7 +89,6 @@ fn accepted(captured: AnyCaptured) -> Result<Capture, InputError<AnyFault>>
 /// Reads a capture through a buffer.
 fn read_buffered<S: Source>(alloc: Global, source: &mut S, buffer: Vec<u8>) -> AnyCaptured
     requires { 0 < vec_len buffer }
-    ensures told { IsTrue S.tells → SaysAny (S.left source.old) result }
     ensures reads { TakesSome S.reads source.old source.new }
     ensures packets { CapturesPackets result }
     ensures goes_on { GoesOn S.faults S.healthy source.old source.new }

@@ -1,4 +1,4 @@
-ghost use Rattle.std.specs.Prelude.{◌<◌, ◌-◌, ◌^◌, IsTrue, IsErrOf, List, ℕ};
+ghost use Rattle.std.specs.Prelude.{◌<◌, ◌-◌, ◌^◌, IsErrOf, List, ℕ};
 ghost use Rattle.plain_text.specs.LineFiles.{IsDecisive};
 ghost use Rattle.world_io.specs.Stream.{Rose};
 ghost use Rattle.world_io.specs.World.{Start};
@@ -24,12 +24,10 @@ pub(crate) fn read_lines_file<W: World, F: LineFile>(
 ) -> Result<Sequence<F::Thing>, InputError<LineFault>>
     requires opens { (W.ledger world.old).given < 2 ^ 32 - 1 }
     requires decisive { IsDecisive F.form }
-    ensures judged { IsTrue W.tells
-        → Judges (SaysFile F.form) (W.healthy world.old) name.now result (W.shown world.old) }
-    ensures only_reads { OnlyReads W.tells W.shown W.ledger W.healthy 1 world.old world.new }
+    ensures only_reads { OnlyReads W.ledger W.healthy 1 world.old world.new }
     ensures cause { IsErrOf result InputError.ReadFault
         → Rose (W.ledger world.old).read_faults (W.ledger world.new).read_faults }
-    ensures judges { (p : Start) → W.honest p world.new
+    ensures judged { (p : Start) → W.honest p world.new
         → Judges (SaysFile F.form) (W.healthy world.old) name.now result (W.shows p world.old) }
     ensures keeps { (p : Start) → W.honest p world.new
         → KeepsOutputs (W.shows p world.old) (W.shows p world.new) }

@@ -1,10 +1,10 @@
 -- Writing that failed once the inputs were read has failed since before they were read.
-use Rattle.std.proofs.Common.{ℕ, Bool, arith}
-use Rattle.world_io.specs.World.{Shown, Ledger, WritingFailed}
+use Rattle.std.proofs.Common.{ℕ, arith}
+use Rattle.world_io.specs.World.{Ledger, WritingFailed}
 use Rattle.input_files.specs.Files.{OnlyReads}
 
-module _ {W : Type 0} (tells : Bool) (shown : W → Shown) (ledger : W → Ledger) (healthy : W → Type 0) where
-  pub failed_since : (files : ℕ) (a b c : W) → OnlyReads tells shown ledger healthy files a b
+module _ {W : Type 0} (ledger : W → Ledger) (healthy : W → Type 0) where
+  pub failed_since : (files : ℕ) (a b c : W) → OnlyReads ledger healthy files a b
       → WritingFailed ledger healthy b c → WritingFailed ledger healthy a c
   failed_since files a b c reads failed = record {
     rose = omega (arith, reads.ledger.write_faults, failed.rose);

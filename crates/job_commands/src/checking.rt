@@ -1,4 +1,4 @@
-ghost use Rattle.std.specs.Prelude.{◌≡◌, ◌⊎◌, ◌+◌, ◌<◌, ◌≤◌, ◌^◌, Err, IsTrue, OnOk, IsErrOf};
+ghost use Rattle.std.specs.Prelude.{◌≡◌, ◌⊎◌, ◌+◌, ◌<◌, ◌≤◌, ◌^◌, Err, OnOk, IsErrOf};
 ghost use Rattle.std.specs.Prelude.{length};
 ghost use Rattle.plain_text.specs.declared.limit.Limit.{Limit as LimitKind};
 ghost use Rattle.schedule_check.specs.declared.checking.Refutation as refuted;
@@ -31,20 +31,15 @@ fn check_box<W: World>(
     requires { CanPlay (schedule_of inputs.played) }
     ensures says { SaysCheck (outcome_for inputs.played) inputs.played.capture.unit
         inputs.released.packets inputs.released.unit result }
-    ensures reported { IsTrue W.tells → OnOk result (HasWritten
-        (found_writes (length inputs.released.packets)) (W.shown world.old) (W.shown world.new)) }
-    ensures in_order { IsTrue W.tells → (world.new ≡ world.old)
-        ⊎ (AreFound inputs × HasBegun (found_writes (length inputs.released.packets))
-        (W.shown world.old) (W.shown world.new)) }
     ensures refused { (refutation : refuted.Refutation)
         → result ≡ Err (ScheduleError.Refused refutation) → world.new ≡ world.old }
-    ensures only_writes { OnlyWrites W.tells W.shown W.ledger W.healthy world.old world.new }
+    ensures only_writes { OnlyWrites W.ledger W.healthy world.old world.new }
     ensures cause { IsErrOf result ScheduleError.WriteFault
         → WritingFailed W.ledger W.healthy world.old world.new }
-    ensures shows_reported { (p : Start) → W.honest p world.new → OnOk result (HasWritten
+    ensures reported { (p : Start) → W.honest p world.new → OnOk result (HasWritten
         (found_writes (length inputs.released.packets))
         (W.shows p world.old) (W.shows p world.new)) }
-    ensures shows_in_order { (p : Start) → W.honest p world.new → (world.new ≡ world.old)
+    ensures in_order { (p : Start) → W.honest p world.new → (world.new ≡ world.old)
         ⊎ (AreFound inputs × HasBegun (found_writes (length inputs.released.packets))
         (W.shows p world.old) (W.shows p world.new)) }
     ensures before { (p : Start) → W.honest p world.new → W.honest p world.old }
@@ -71,16 +66,6 @@ fn check_box<W: World>(
 /// The command `check`: all input files are judged, then the schedule, and then the released packets.
 pub fn check_released<W: World>(alloc: Global, world: &mut W, names: CheckWords<'_>) -> Status
     requires { (W.ledger world.old).given < 2 ^ 31 }
-    ensures done { IsTrue W.tells → result ≡ Status.Done
-        → FindsAll (check_names_of names.entry) (W.shown world.old) (W.shown world.new) }
-    ensures no_limit { IsTrue W.tells → (limit : LimitKind) → result ≡ Status.TooLarge limit
-        → stage_of_limit limit ≡ AtOutputs → ⊥ }
-    ensures judged { IsTrue W.tells → JudgesCheck (W.healthy world.old)
-        (check_names_of names.entry) result (W.shown world.old) }
-    ensures in_order { IsTrue W.tells
-        → FindsInOrder (check_names_of names.entry) (W.shown world.old) (W.shown world.new) }
-    ensures refused { IsTrue W.tells → stage_of result ≡ AtInputs
-        → KeepsShown (W.shown world.old) (W.shown world.new) }
     ensures creates_nothing { IsRefusal result
         → (W.ledger world.new).created ≡ (W.ledger world.old).created }
     ensures words { result ≡ Status.BadWords → ⊥ }
@@ -89,15 +74,15 @@ pub fn check_released<W: World>(alloc: Global, world: &mut W, names: CheckWords<
         → Rose (W.ledger world.old).read_faults (W.ledger world.new).read_faults }
     ensures write_fault { result ≡ Status.WriteFault
         → WritingFailed W.ledger W.healthy world.old world.new }
-    ensures shows_done { (p : Start) → W.honest p world.new → result ≡ Status.Done → FindsAll
+    ensures done { (p : Start) → W.honest p world.new → result ≡ Status.Done → FindsAll
         (check_names_of names.entry) (W.shows p world.old) (W.shows p world.new) }
-    ensures shows_no_limit { (p : Start) → W.honest p world.new → (limit : LimitKind) → result ≡
+    ensures no_limit { (p : Start) → W.honest p world.new → (limit : LimitKind) → result ≡
         Status.TooLarge limit → stage_of_limit limit ≡ AtOutputs → ⊥ }
-    ensures judges { (p : Start) → W.honest p world.new → JudgesCheck (W.healthy world.old)
+    ensures judged { (p : Start) → W.honest p world.new → JudgesCheck (W.healthy world.old)
         (check_names_of names.entry) result (W.shows p world.old) }
-    ensures shows_in_order { (p : Start) → W.honest p world.new → FindsInOrder
+    ensures in_order { (p : Start) → W.honest p world.new → FindsInOrder
         (check_names_of names.entry) (W.shows p world.old) (W.shows p world.new) }
-    ensures shows_refused { (p : Start) → W.honest p world.new → stage_of result ≡ AtInputs
+    ensures refused { (p : Start) → W.honest p world.new → stage_of result ≡ AtInputs
         → KeepsShown (W.shows p world.old) (W.shows p world.new) }
     ensures before { (p : Start) → W.honest p world.new → W.honest p world.old }
 {

@@ -1,4 +1,4 @@
-ghost use Rattle.std.specs.Prelude.{◌<◌, ◌≤◌, ◌^◌, All, IsTrue, IfOk, IfErr, IsErrOf};
+ghost use Rattle.std.specs.Prelude.{◌<◌, ◌≤◌, ◌^◌, All, IfOk, IfErr, IsErrOf};
 ghost use Rattle.plain_text.specs.Packets.{IsShort};
 ghost use Rattle.world_io.specs.Stream.{Rose};
 ghost use Rattle.input_files.specs.Files.{KeepsOutputs, OnlyReads};
@@ -29,19 +29,16 @@ pub(crate) fn read_first_inputs<W: World>(
     capture: &Text,
 ) -> Result<FirstInputs, Status>
     requires { (W.ledger world.old).given < 2 ^ 31 }
-    ensures judged { IsTrue W.tells → JudgesFirst (W.healthy world.old) box_file.now capture.now
-        result (W.shown world.old) }
-    ensures stage { IsTrue W.tells → IfErr result (ComesAt AtInputs) }
     ensures quiet { IfErr result EndsReading }
     ensures some_threads { IfOk result (λ first. 1 ≤ first.conf.threads) }
     ensures few_threads { IfOk result (λ first. first.conf.threads ≤ 16) }
     ensures short { IfOk result (λ first. All IsShort first.capture.packets) }
-    ensures only_reads { OnlyReads W.tells W.shown W.ledger W.healthy 2 world.old world.new }
+    ensures only_reads { OnlyReads W.ledger W.healthy 2 world.old world.new }
     ensures cause { IsErrOf result Status.ReadFault
         → Rose (W.ledger world.old).read_faults (W.ledger world.new).read_faults }
-    ensures judges { (p : Start) → W.honest p world.new → JudgesFirst (W.healthy world.old)
+    ensures judged { (p : Start) → W.honest p world.new → JudgesFirst (W.healthy world.old)
         box_file.now capture.now result (W.shows p world.old) }
-    ensures shows_stage { (p : Start) → W.honest p world.new → IfErr result (ComesAt AtInputs) }
+    ensures stage { (p : Start) → W.honest p world.new → IfErr result (ComesAt AtInputs) }
     ensures keeps { (p : Start) → W.honest p world.new → KeepsOutputs
         (W.shows p world.old) (W.shows p world.new) }
     ensures before { (p : Start) → W.honest p world.new → W.honest p world.old }

@@ -1,4 +1,4 @@
-ghost use Rattle.std.specs.Prelude.{◌<◌, ◌-◌, ◌^◌, IsTrue, IfOk, IfErr, IsErrOf};
+ghost use Rattle.std.specs.Prelude.{◌<◌, ◌-◌, ◌^◌, IfOk, IfErr, IsErrOf};
 ghost use Rattle.world_io.specs.Stream.{Rose};
 ghost use Rattle.run_writes.specs.Run.{CanRun};
 ghost use Rattle.input_files.specs.Files.{KeepsOutputs, OnlyReads};
@@ -33,17 +33,14 @@ pub fn read_inputs<W: World>(
     names: RunWords<'_>,
 ) -> Result<Inputs, Status>
     requires { (W.ledger world.old).given < 2 ^ 31 }
-    ensures judged { IsTrue W.tells
-        → JudgesInputs (W.healthy world.old) (names_of names.entry) result (W.shown world.old) }
-    ensures stage { IsTrue W.tells → IfErr result (ComesAt AtInputs) }
     ensures quiet { IfErr result EndsReading }
     ensures can_run { IfOk result (λ inputs. CanRun (script_of inputs)) }
-    ensures only_reads { OnlyReads W.tells W.shown W.ledger W.healthy 3 world.old world.new }
+    ensures only_reads { OnlyReads W.ledger W.healthy 3 world.old world.new }
     ensures cause { IsErrOf result Status.ReadFault
         → Rose (W.ledger world.old).read_faults (W.ledger world.new).read_faults }
-    ensures judges { (p : Start) → W.honest p world.new → JudgesInputs (W.healthy world.old)
+    ensures judged { (p : Start) → W.honest p world.new → JudgesInputs (W.healthy world.old)
         (names_of names.entry) result (W.shows p world.old) }
-    ensures shows_stage { (p : Start) → W.honest p world.new → IfErr result (ComesAt AtInputs) }
+    ensures stage { (p : Start) → W.honest p world.new → IfErr result (ComesAt AtInputs) }
     ensures keeps { (p : Start) → W.honest p world.new → KeepsOutputs
         (W.shows p world.old) (W.shows p world.new) }
     ensures before { (p : Start) → W.honest p world.new → W.honest p world.old }

@@ -1,4 +1,4 @@
-ghost use Rattle.std.specs.Prelude.{◌<◌, ◌≤◌, ◌^◌, All, IsTrue, IfOk, IfErr, IsErrOf};
+ghost use Rattle.std.specs.Prelude.{◌<◌, ◌≤◌, ◌^◌, All, IfOk, IfErr, IsErrOf};
 ghost use Rattle.plain_text.specs.Packets.{IsShort};
 ghost use Rattle.world_io.specs.Stream.{Rose};
 ghost use Rattle.input_files.specs.Files.{KeepsOutputs, OnlyReads};
@@ -32,19 +32,16 @@ pub fn read_live_inputs<W: World>(
     names: LiveWords<'_>,
 ) -> Result<LiveInputs, Status>
     requires { (W.ledger world.old).given < 2 ^ 31 }
-    ensures judged { IsTrue W.tells → JudgesLiveInputs (W.healthy world.old)
-        (live_names_of names.entry) result (W.shown world.old) }
-    ensures stage { IsTrue W.tells → IfErr result (ComesAt AtInputs) }
     ensures quiet { IfErr result EndsReading }
     ensures some_threads { IfOk result (λ inputs. 1 ≤ inputs.conf.threads) }
     ensures few_threads { IfOk result (λ inputs. inputs.conf.threads ≤ 16) }
     ensures short { IfOk result (λ inputs. All IsShort inputs.capture.packets) }
-    ensures only_reads { OnlyReads W.tells W.shown W.ledger W.healthy 3 world.old world.new }
+    ensures only_reads { OnlyReads W.ledger W.healthy 3 world.old world.new }
     ensures cause { IsErrOf result Status.ReadFault
         → Rose (W.ledger world.old).read_faults (W.ledger world.new).read_faults }
-    ensures judges { (p : Start) → W.honest p world.new → JudgesLiveInputs (W.healthy world.old)
+    ensures judged { (p : Start) → W.honest p world.new → JudgesLiveInputs (W.healthy world.old)
         (live_names_of names.entry) result (W.shows p world.old) }
-    ensures shows_stage { (p : Start) → W.honest p world.new → IfErr result (ComesAt AtInputs) }
+    ensures stage { (p : Start) → W.honest p world.new → IfErr result (ComesAt AtInputs) }
     ensures keeps { (p : Start) → W.honest p world.new → KeepsOutputs
         (W.shows p world.old) (W.shows p world.new) }
     ensures before { (p : Start) → W.honest p world.new → W.honest p world.old }

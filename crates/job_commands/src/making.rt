@@ -1,4 +1,4 @@
-ghost use Rattle.std.specs.Prelude.{◌≡◌, ◌<◌, ◌≤◌, ◌-◌, ◌^◌, IsTrue, IfOk, IsErrOf};
+ghost use Rattle.std.specs.Prelude.{◌≡◌, ◌<◌, ◌≤◌, ◌-◌, ◌^◌, IfOk, IsErrOf};
 ghost use Rattle.pcap_io.specs.Capture.{records_of};
 ghost use Rattle.pcap_io.specs.declared.order.Order.TheVariants as order;
 ghost use Rattle.plain_text.specs.declared.limit.TheConstants.{MOST_PACKETS};
@@ -34,8 +34,6 @@ pub fn make_capture<W: World>(
 ) -> Result<(), OutputError>
     requires room { (W.ledger world.old).given < 2 ^ 32 - 1 }
     requires few { words.count ≤ MOST_PACKETS }
-    ensures told { IsTrue W.tells → Writes result (made_writes (made_of words.entry))
-        (W.shown world.old) (W.shown world.new) }
     ensures writes_files { WritesFiles W.ledger W.healthy 1 world.old world.new }
     ensures cause { IsErrOf result OutputError.WriteFault
         → WritingFailed W.ledger W.healthy world.old world.new }

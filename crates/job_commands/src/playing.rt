@@ -1,4 +1,4 @@
-ghost use Rattle.std.specs.Prelude.{◌≡◌, ◌⊎◌, ◌+◌, ◌<◌, ◌≤◌, ◌-◌, ◌^◌, Err, IsTrue, OnOk, IsErrOf};
+ghost use Rattle.std.specs.Prelude.{◌≡◌, ◌⊎◌, ◌+◌, ◌<◌, ◌≤◌, ◌-◌, ◌^◌, Err, OnOk, IsErrOf};
 ghost use Rattle.plain_machine.specs.declared.plain_move.PlayFault as move_fault;
 ghost use Rattle.plain_text.specs.declared.limit.Limit.{Limit as LimitKind};
 ghost use Rattle.world_io.specs.Stream.{Rose};
@@ -31,20 +31,15 @@ fn play_box<W: World>(
     requires inputs { CanPlay (schedule_of inputs) }
     requires room { (W.ledger world.old).given < 2 ^ 32 - 1 }
     ensures says { SaysPlay (outcome_for inputs) result }
-    ensures played { IsTrue W.tells → OnOk result (HasPlayed (outcome_for inputs)
-        out.now inputs.capture.unit (W.shown world.old) (W.shown world.new)) }
-    ensures in_order { IsTrue W.tells → (world.new ≡ world.old)
-        ⊎ HasBegunPlay (outcome_for inputs)
-        out.now inputs.capture.unit (W.shown world.old) (W.shown world.new) }
     ensures refused { (fault : move_fault.PlayFault) → result ≡ Err (ScheduleError.Refused fault)
         → world.new ≡ world.old }
     ensures writes_files { WritesFiles W.ledger W.healthy 1 world.old world.new }
     ensures cause { IsErrOf result ScheduleError.WriteFault
         → WritingFailed W.ledger W.healthy world.old world.new }
-    ensures shows_played { (p : Start) → W.honest p world.new → OnOk result (HasPlayed
+    ensures played { (p : Start) → W.honest p world.new → OnOk result (HasPlayed
         (outcome_for inputs) out.now inputs.capture.unit
         (W.shows p world.old) (W.shows p world.new)) }
-    ensures shows_in_order { (p : Start) → W.honest p world.new → (world.new ≡ world.old)
+    ensures in_order { (p : Start) → W.honest p world.new → (world.new ≡ world.old)
         ⊎ HasBegunPlay (outcome_for inputs) out.now inputs.capture.unit
         (W.shows p world.old) (W.shows p world.new) }
     ensures before { (p : Start) → W.honest p world.new → W.honest p world.old }
@@ -66,16 +61,6 @@ fn play_box<W: World>(
 /// The command `play`: all input files are judged, and then the schedule, before OUT is created.
 pub fn play_capture<W: World>(alloc: Global, world: &mut W, names: PlayWords<'_>) -> Status
     requires { (W.ledger world.old).given < 2 ^ 31 }
-    ensures done { IsTrue W.tells → result ≡ Status.Done
-        → PlaysWhole (play_names_of names.entry) (W.shown world.old) (W.shown world.new) }
-    ensures no_limit { IsTrue W.tells → (limit : LimitKind) → result ≡ Status.TooLarge limit
-        → stage_of_limit limit ≡ AtOutputs → ⊥ }
-    ensures judged { IsTrue W.tells → JudgesPlay (W.healthy world.old)
-        (play_names_of names.entry) result (W.shown world.old) }
-    ensures in_order { IsTrue W.tells
-        → PlaysInOrder (play_names_of names.entry) (W.shown world.old) (W.shown world.new) }
-    ensures refused { IsTrue W.tells → stage_of result ≡ AtInputs
-        → KeepsShown (W.shown world.old) (W.shown world.new) }
     ensures creates_nothing { IsRefusal result
         → (W.ledger world.new).created ≡ (W.ledger world.old).created }
     ensures words { result ≡ Status.BadWords → ⊥ }
@@ -84,15 +69,15 @@ pub fn play_capture<W: World>(alloc: Global, world: &mut W, names: PlayWords<'_>
         → Rose (W.ledger world.old).read_faults (W.ledger world.new).read_faults }
     ensures write_fault { result ≡ Status.WriteFault
         → WritingFailed W.ledger W.healthy world.old world.new }
-    ensures shows_done { (p : Start) → W.honest p world.new → result ≡ Status.Done → PlaysWhole
+    ensures done { (p : Start) → W.honest p world.new → result ≡ Status.Done → PlaysWhole
         (play_names_of names.entry) (W.shows p world.old) (W.shows p world.new) }
-    ensures shows_no_limit { (p : Start) → W.honest p world.new → (limit : LimitKind) → result ≡
+    ensures no_limit { (p : Start) → W.honest p world.new → (limit : LimitKind) → result ≡
         Status.TooLarge limit → stage_of_limit limit ≡ AtOutputs → ⊥ }
-    ensures judges { (p : Start) → W.honest p world.new → JudgesPlay (W.healthy world.old)
+    ensures judged { (p : Start) → W.honest p world.new → JudgesPlay (W.healthy world.old)
         (play_names_of names.entry) result (W.shows p world.old) }
-    ensures shows_in_order { (p : Start) → W.honest p world.new → PlaysInOrder
+    ensures in_order { (p : Start) → W.honest p world.new → PlaysInOrder
         (play_names_of names.entry) (W.shows p world.old) (W.shows p world.new) }
-    ensures shows_refused { (p : Start) → W.honest p world.new → stage_of result ≡ AtInputs
+    ensures refused { (p : Start) → W.honest p world.new → stage_of result ≡ AtInputs
         → KeepsShown (W.shows p world.old) (W.shows p world.new) }
     ensures before { (p : Start) → W.honest p world.new → W.honest p world.old }
 {

@@ -1,4 +1,4 @@
-ghost use Rattle.std.specs.Prelude.{◌<◌, ◌^◌, IsTrue, IfOk, IfErr, IsErrOf};
+ghost use Rattle.std.specs.Prelude.{◌<◌, ◌^◌, IfOk, IfErr, IsErrOf};
 ghost use Rattle.world_io.specs.Stream.{Rose};
 ghost use Rattle.schedule_commands.specs.Runs.{CanPlay};
 ghost use Rattle.input_files.specs.Files.{KeepsOutputs, OnlyReads};
@@ -38,17 +38,14 @@ pub fn read_schedule_inputs<W: World>(
     files: ScheduleFiles<'_>,
 ) -> Result<ScheduleInputs, Status>
     requires { (W.ledger world.old).given < 2 ^ 31 }
-    ensures judged { IsTrue W.tells → JudgesScheduleFiles (W.healthy world.old)
-        (files_of files.entry) result (W.shown world.old) }
-    ensures stage { IsTrue W.tells → IfErr result (ComesAt AtInputs) }
     ensures quiet { IfErr result EndsReading }
     ensures can_play { IfOk result (λ inputs. CanPlay (schedule_of inputs)) }
-    ensures only_reads { OnlyReads W.tells W.shown W.ledger W.healthy 3 world.old world.new }
+    ensures only_reads { OnlyReads W.ledger W.healthy 3 world.old world.new }
     ensures cause { IsErrOf result Status.ReadFault
         → Rose (W.ledger world.old).read_faults (W.ledger world.new).read_faults }
-    ensures judges { (p : Start) → W.honest p world.new → JudgesScheduleFiles (W.healthy world.old)
+    ensures judged { (p : Start) → W.honest p world.new → JudgesScheduleFiles (W.healthy world.old)
         (files_of files.entry) result (W.shows p world.old) }
-    ensures shows_stage { (p : Start) → W.honest p world.new → IfErr result (ComesAt AtInputs) }
+    ensures stage { (p : Start) → W.honest p world.new → IfErr result (ComesAt AtInputs) }
     ensures keeps { (p : Start) → W.honest p world.new → KeepsOutputs
         (W.shows p world.old) (W.shows p world.new) }
     ensures before { (p : Start) → W.honest p world.new → W.honest p world.old }
@@ -74,17 +71,14 @@ pub fn read_check_inputs<W: World>(
     names: CheckWords<'_>,
 ) -> Result<CheckInputs, Status>
     requires { (W.ledger world.old).given < 2 ^ 31 }
-    ensures judged { IsTrue W.tells → JudgesCheckFiles (W.healthy world.old)
-        (check_names_of names.entry) result (W.shown world.old) }
-    ensures stage { IsTrue W.tells → IfErr result (ComesAt AtInputs) }
     ensures quiet { IfErr result EndsReading }
     ensures can_play { IfOk result (λ inputs. CanPlay (schedule_of inputs.played)) }
-    ensures only_reads { OnlyReads W.tells W.shown W.ledger W.healthy 4 world.old world.new }
+    ensures only_reads { OnlyReads W.ledger W.healthy 4 world.old world.new }
     ensures cause { IsErrOf result Status.ReadFault
         → Rose (W.ledger world.old).read_faults (W.ledger world.new).read_faults }
-    ensures judges { (p : Start) → W.honest p world.new → JudgesCheckFiles (W.healthy world.old)
+    ensures judged { (p : Start) → W.honest p world.new → JudgesCheckFiles (W.healthy world.old)
         (check_names_of names.entry) result (W.shows p world.old) }
-    ensures shows_stage { (p : Start) → W.honest p world.new → IfErr result (ComesAt AtInputs) }
+    ensures stage { (p : Start) → W.honest p world.new → IfErr result (ComesAt AtInputs) }
     ensures keeps { (p : Start) → W.honest p world.new → KeepsOutputs
         (W.shows p world.old) (W.shows p world.new) }
     ensures before { (p : Start) → W.honest p world.new → W.honest p world.old }

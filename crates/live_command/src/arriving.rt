@@ -73,7 +73,7 @@ pub(crate) fn arrive<P: Program, W: World>(
     ensures program { OnOk result (system.new.parts.program ≡ system.old.parts.program) }
     ensures threads { OnOk result
         (system.new.parts.inputs.threads ≡ system.old.parts.inputs.threads) }
-    ensures only_writes { OnlyWrites W.tells W.shown W.ledger W.healthy world.old world.new }
+    ensures only_writes { OnlyWrites W.ledger W.healthy world.old world.new }
     ensures cause { IsErrOf result RunError.WriteFault
         → WritingFailed W.ledger W.healthy world.old world.new }
     ensures keeps { (p : Start) → W.honest p world.new

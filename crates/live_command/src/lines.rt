@@ -73,7 +73,7 @@ fn tell_one<P: Program, W: World>(
         y.system.parts.inputs.threads ≡ standing.system.parts.inputs.threads) }
     ensures draws { IfOk result (λ y. length y.draws ≡ y.system.parts.inputs.threads) }
     ensures given { IfOk result (λ y. y.draws ≡ standing.draws) }
-    ensures only_writes { OnlyWrites W.tells W.shown W.ledger W.healthy world.old world.new }
+    ensures only_writes { OnlyWrites W.ledger W.healthy world.old world.new }
     ensures cause { IsErrOf result RunError.WriteFault
         → WritingFailed W.ledger W.healthy world.old world.new }
     ensures keeps { (p : Start) → W.honest p world.new
@@ -134,7 +134,7 @@ fn race_if_up<
     ensures threads { IfOk result (λ y.
         y.system.parts.inputs.threads ≡ standing.system.parts.inputs.threads) }
     ensures draws { IfOk result (λ y. length y.draws ≡ y.system.parts.inputs.threads) }
-    ensures only_writes { OnlyWrites W.tells W.shown W.ledger W.healthy world.old world.new }
+    ensures only_writes { OnlyWrites W.ledger W.healthy world.old world.new }
     ensures cause { IsErrOf result RunError.WriteFault
         → WritingFailed W.ledger W.healthy world.old world.new }
     ensures keeps { (p : Start) → W.honest p world.new
@@ -196,7 +196,7 @@ fn perform_line<
     ensures threads { IfOk result (λ y.
         y.system.parts.inputs.threads ≡ standing.system.parts.inputs.threads) }
     ensures draws { IfOk result (λ y. length y.draws ≡ y.system.parts.inputs.threads) }
-    ensures only_writes { OnlyWrites W.tells W.shown W.ledger W.healthy world.old world.new }
+    ensures only_writes { OnlyWrites W.ledger W.healthy world.old world.new }
     ensures cause { IsErrOf result RunError.WriteFault
         → WritingFailed W.ledger W.healthy world.old world.new }
     ensures keeps { (p : Start) → W.honest p world.new
@@ -329,7 +329,7 @@ pub(crate) fn perform_plan<
     ensures threads { IfOk result (λ y.
         y.system.parts.inputs.threads ≡ standing.system.parts.inputs.threads) }
     ensures draws { IfOk result (λ y. length y.draws ≡ y.system.parts.inputs.threads) }
-    ensures only_writes { OnlyWrites W.tells W.shown W.ledger W.healthy world.old world.new }
+    ensures only_writes { OnlyWrites W.ledger W.healthy world.old world.new }
     ensures cause { IsErrOf result RunError.WriteFault
         → WritingFailed W.ledger W.healthy world.old world.new }
     ensures keeps { (p : Start) → W.honest p world.new

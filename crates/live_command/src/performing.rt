@@ -59,7 +59,7 @@ fn leave<P: Program, W: World>(
     ensures ended { OnOk result (IsOk performed.now.reply) }
     ensures count { script.new.count ≡ script.old.count }
     ensures size { script.new.size ≡ script.old.size }
-    ensures only_writes { OnlyWrites W.tells W.shown W.ledger W.healthy world.old world.new }
+    ensures only_writes { OnlyWrites W.ledger W.healthy world.old world.new }
     ensures cause { IsErrOf result RunError.WriteFault
         → WritingFailed W.ledger W.healthy world.old world.new }
     ensures keeps { (p : Start) → W.honest p world.new
@@ -114,7 +114,7 @@ pub(crate) fn tell<P: Program, W: World>(
         (system.new.parts.inputs.threads ≡ system.old.parts.inputs.threads) }
     ensures moves { OnOk result
         (MovesBy (P.meaning system.old.parts.program) (event.now ∷ []) system.old system.new) }
-    ensures only_writes { OnlyWrites W.tells W.shown W.ledger W.healthy world.old world.new }
+    ensures only_writes { OnlyWrites W.ledger W.healthy world.old world.new }
     ensures cause { IsErrOf result RunError.WriteFault
         → WritingFailed W.ledger W.healthy world.old world.new }
     ensures keeps { (p : Start) → W.honest p world.new

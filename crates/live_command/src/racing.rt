@@ -61,7 +61,7 @@ fn tell_stop<X, W: World>(
         → StopsRace result s names w limit events before (W.shows p world.new) }
     ensures few { script.new.count ≤ most_events }
     ensures short { script.new.size ≤ most_bytes }
-    ensures only_writes { OnlyWrites W.tells W.shown W.ledger W.healthy world.old world.new }
+    ensures only_writes { OnlyWrites W.ledger W.healthy world.old world.new }
     ensures cause { IsErrOf result RunError.WriteFault
         → WritingFailed W.ledger W.healthy world.old world.new }
     ensures keeps { (p : Start) → W.honest p world.new
@@ -114,7 +114,7 @@ fn tell_race<P: Program, W: World>(
     ensures program { OnOk result (system.new.parts.program ≡ system.old.parts.program) }
     ensures threads { OnOk result
         (system.new.parts.inputs.threads ≡ system.old.parts.inputs.threads) }
-    ensures only_writes { OnlyWrites W.tells W.shown W.ledger W.healthy world.old world.new }
+    ensures only_writes { OnlyWrites W.ledger W.healthy world.old world.new }
     ensures cause { IsErrOf result RunError.WriteFault
         → WritingFailed W.ledger W.healthy world.old world.new }
     ensures keeps { (p : Start) → W.honest p world.new
@@ -163,7 +163,7 @@ fn tell_round<P: Program, W: World>(
         y.system.parts.inputs.threads ≡ done.system.parts.inputs.threads) }
     ensures draws { IfOk result (λ y. length y.draws ≡ y.system.parts.inputs.threads) }
     ensures given { IfOk result (λ y. y.draws ≡ done.draws) }
-    ensures only_writes { OnlyWrites W.tells W.shown W.ledger W.healthy world.old world.new }
+    ensures only_writes { OnlyWrites W.ledger W.healthy world.old world.new }
     ensures cause { IsErrOf result RunError.WriteFault
         → WritingFailed W.ledger W.healthy world.old world.new }
     ensures keeps { (p : Start) → W.honest p world.new
@@ -241,7 +241,7 @@ pub(crate) fn race<
     ensures threads { IfOk result (λ y.
         y.system.parts.inputs.threads ≡ standing.system.parts.inputs.threads) }
     ensures draws { IfOk result (λ y. length y.draws ≡ y.system.parts.inputs.threads) }
-    ensures only_writes { OnlyWrites W.tells W.shown W.ledger W.healthy world.old world.new }
+    ensures only_writes { OnlyWrites W.ledger W.healthy world.old world.new }
     ensures cause { IsErrOf result RunError.WriteFault
         → WritingFailed W.ledger W.healthy world.old world.new }
     ensures keeps { (p : Start) → W.honest p world.new

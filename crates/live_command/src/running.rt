@@ -61,7 +61,7 @@ fn close<P: Program, W: World>(
         script.old before (W.shows p world.old)
         → EndsPlan result s names events before (W.shows p world.new) }
     ensures no_limit { (limit : LimitKind) → result ≡ Err (RunError.Limit limit) → ⊥ }
-    ensures only_writes { OnlyWrites W.tells W.shown W.ledger W.healthy world.old world.new }
+    ensures only_writes { OnlyWrites W.ledger W.healthy world.old world.new }
     ensures cause { IsErrOf result RunError.WriteFault
         → WritingFailed W.ledger W.healthy world.old world.new }
     ensures before { (p : Start) → W.honest p world.new → W.honest p world.old }
@@ -105,7 +105,7 @@ fn run_standing<
         → IsSystemAt (P.meaning standing.system.parts.program) s (opening P.Value) standing.system
         → s.threads ≤ 16 → HasWritten (live_opening names s.fractions) before (W.shows p world.old)
         → RunsPlan result s (C.may clock.now) plan.now names before (W.shows p world.new) }
-    ensures only_writes { OnlyWrites W.tells W.shown W.ledger W.healthy world.old world.new }
+    ensures only_writes { OnlyWrites W.ledger W.healthy world.old world.new }
     ensures cause { IsErrOf result RunError.WriteFault
         → WritingFailed W.ledger W.healthy world.old world.new }
     ensures before { (p : Start) → W.honest p world.new → W.honest p world.old }

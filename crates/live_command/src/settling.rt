@@ -137,7 +137,7 @@ fn feed_rest<P: Program, W: World>(
     ensures threads { OnOk result
         (system.new.parts.inputs.threads ≡ system.old.parts.inputs.threads) }
     ensures up { OnOk result (system.new.parts.up ≡ true) }
-    ensures only_writes { OnlyWrites W.tells W.shown W.ledger W.healthy world.old world.new }
+    ensures only_writes { OnlyWrites W.ledger W.healthy world.old world.new }
     ensures cause { IsErrOf result RunError.WriteFault
         → WritingFailed W.ledger W.healthy world.old world.new }
     ensures keeps { (p : Start) → W.honest p world.new
@@ -201,7 +201,7 @@ fn arrive_all<P: Program, W: World>(
     ensures program { OnOk result (system.new.parts.program ≡ system.old.parts.program) }
     ensures threads { OnOk result
         (system.new.parts.inputs.threads ≡ system.old.parts.inputs.threads) }
-    ensures only_writes { OnlyWrites W.tells W.shown W.ledger W.healthy world.old world.new }
+    ensures only_writes { OnlyWrites W.ledger W.healthy world.old world.new }
     ensures cause { IsErrOf result RunError.WriteFault
         → WritingFailed W.ledger W.healthy world.old world.new }
     ensures keeps { (p : Start) → W.honest p world.new
@@ -257,7 +257,7 @@ fn arrive_last<P: Program, W: World>(
         y.system.parts.inputs.threads ≡ standing.system.parts.inputs.threads) }
     ensures draws { IfOk result (λ y. length y.draws ≡ y.system.parts.inputs.threads) }
     ensures given { IfOk result (λ y. y.draws ≡ standing.draws) }
-    ensures only_writes { OnlyWrites W.tells W.shown W.ledger W.healthy world.old world.new }
+    ensures only_writes { OnlyWrites W.ledger W.healthy world.old world.new }
     ensures cause { IsErrOf result RunError.WriteFault
         → WritingFailed W.ledger W.healthy world.old world.new }
     ensures keeps { (p : Start) → W.honest p world.new
@@ -317,7 +317,7 @@ pub(crate) fn settle<
     ensures threads { IfOk result (λ y.
         y.system.parts.inputs.threads ≡ standing.system.parts.inputs.threads) }
     ensures draws { IfOk result (λ y. length y.draws ≡ y.system.parts.inputs.threads) }
-    ensures only_writes { OnlyWrites W.tells W.shown W.ledger W.healthy world.old world.new }
+    ensures only_writes { OnlyWrites W.ledger W.healthy world.old world.new }
     ensures cause { IsErrOf result RunError.WriteFault
         → WritingFailed W.ledger W.healthy world.old world.new }
     ensures keeps { (p : Start) → W.honest p world.new

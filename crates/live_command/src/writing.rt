@@ -37,7 +37,7 @@ pub(crate) fn write_script<X, W: World>(
     ensures none { OnOk result (script.new.text ≡ []) }
     ensures count { script.new.count ≡ script.old.count }
     ensures size { script.new.size ≡ script.old.size }
-    ensures only_writes { OnlyWrites W.tells W.shown W.ledger W.healthy world.old world.new }
+    ensures only_writes { OnlyWrites W.ledger W.healthy world.old world.new }
     ensures cause { IsErrOf result OutputError.WriteFault
         → WritingFailed W.ledger W.healthy world.old world.new }
     ensures keeps { (p : Start) → W.honest p world.new
@@ -65,7 +65,7 @@ pub(crate) fn flush<X, W: World>(
     ensures no_text { OnOk result (script.new.text ≡ []) }
     ensures count { script.new.count ≡ script.old.count }
     ensures size { script.new.size ≡ script.old.size }
-    ensures only_writes { OnlyWrites W.tells W.shown W.ledger W.healthy world.old world.new }
+    ensures only_writes { OnlyWrites W.ledger W.healthy world.old world.new }
     ensures cause { IsErrOf result OutputError.WriteFault
         → WritingFailed W.ledger W.healthy world.old world.new }
     ensures keeps { (p : Start) → W.honest p world.new
@@ -97,7 +97,7 @@ pub(crate) fn add_line<X, W: World>(
         (W.shows p world.new) }
     ensures few { script.new.count ≤ most_events }
     ensures short { script.new.size ≤ most_bytes }
-    ensures only_writes { OnlyWrites W.tells W.shown W.ledger W.healthy world.old world.new }
+    ensures only_writes { OnlyWrites W.ledger W.healthy world.old world.new }
     ensures cause { IsErrOf result RunError.WriteFault
         → WritingFailed W.ledger W.healthy world.old world.new }
     ensures keeps { (p : Start) → W.honest p world.new
@@ -137,7 +137,7 @@ pub(crate) fn gather<X, W: World>(
         ((length lines.new ≤ 65536) × (length script.new.text ≤ 65536)) }
     ensures count { script.new.count ≡ script.old.count }
     ensures size { script.new.size ≡ script.old.size }
-    ensures only_writes { OnlyWrites W.tells W.shown W.ledger W.healthy world.old world.new }
+    ensures only_writes { OnlyWrites W.ledger W.healthy world.old world.new }
     ensures cause { IsErrOf result OutputError.WriteFault
         → WritingFailed W.ledger W.healthy world.old world.new }
     ensures keeps { (p : Start) → W.honest p world.new

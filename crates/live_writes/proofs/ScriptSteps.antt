@@ -1,9 +1,8 @@
 -- Lines go to the script, and what stands beside it stays.
 use Rattle.std.proofs.Common.{◌≡◌, ℕ, List, [], ◌∷◌, ◌++◌, Option, Some, refl, sym, ap, ◌∙◌, subst, inl, inr, append-nil}
 use Rattle.std.proofs.Common.{None}
-use Rattle.std.specs.Str.{bytes_eq}
 use Rattle.world_io.specs.World.{Shown}
-use Rattle.output_files.specs.Writes.{report_file, Write, Creates, Appends, Reports, after_writes, HasBegun, HasGathered}
+use Rattle.output_files.specs.Writes.{report_file, Write, Creates, Appends, Reports, after_writes, HasBegun}
 use Rattle.output_files.specs.Writes.{HasWritten, IsCut, IsPrefix, longer as more}
 use Rattle.output_files.proofs.Effects.{Compared, compared, IsSame, Differs}
 use Rattle.live_writes.specs.Outputs.{holding}

@@ -8,7 +8,7 @@ use Rattle.recovery_world.specs.declared.event.Event.{Event}
 use Rattle.recovery_world.specs.World.{Setting, World as SystemWorld, opening}
 use Rattle.recovery_world.specs.Files.{Performs, packets_of}
 use Rattle.output_files.specs.Writes.{Write, Creates, HasBegun}
-use Rattle.run_writes.specs.Run.{HasFiles, HasRun, HasStopped, KeepsShown, opening_writes}
+use Rattle.run_writes.specs.Run.{HasFiles, HasRun, HasStopped, opening_writes}
 use Rattle.script_text.specs.Scripts.{FitWords, script_text}
 use Rattle.live_writes.specs.Outputs.{LiveOutputs, holding}
 use Rattle.live_writes.specs.Script.{PassesScript}

@@ -57,10 +57,6 @@ pub fn open_live<W: World>(
 ) -> Result<LiveNumbers, OutputError>
     requires room { (W.ledger world.old).given < 2 ^ 32 - 3 }
     requires apart { AreApart (names_of files) }
-    ensures told { IsTrue W.tells → Writes result (live_opening (names_of files.entry) unit)
-        (W.shown world.old) (W.shown world.new) }
-    ensures open { IsTrue W.tells → IfOk result (λ o. AreOpen (names_of files.entry)
-        o.released o.schedule o.script (W.shown world.new)) }
     ensures writable { IfOk result (λ o. IsTrue (is_writable (W.ledger world.new) o.released)
         × IsTrue (is_writable (W.ledger world.new) o.schedule)
         × IsTrue (is_writable (W.ledger world.new) o.script)) }
@@ -70,7 +66,7 @@ pub fn open_live<W: World>(
     ensures shows { (p : Start) → W.honest p world.new
         → Writes result (live_opening (names_of files.entry) unit)
         (W.shows p world.old) (W.shows p world.new) }
-    ensures shows_open { (p : Start) → W.honest p world.new
+    ensures open { (p : Start) → W.honest p world.new
         → IfOk result (λ o. AreOpen (names_of files.entry)
         o.released o.schedule o.script (W.shows p world.new)) }
     ensures before { (p : Start) → W.honest p world.new → W.honest p world.old }

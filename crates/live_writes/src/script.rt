@@ -101,13 +101,10 @@ impl Script {
     /// Appends the gathered lines to the script's file.
     pub fn write<W: World>(&mut self, world: &mut W, file: u32) -> Result<(), OutputError>
         requires { IsTrue (is_writable (W.ledger world.old) file) }
-        ensures told { IsTrue W.tells → (name : List ℕ) → IsOutput file name (W.shown world.old)
-            → Writes result (Appends name self.old.text ∷ []) (W.shown world.old)
-            (W.shown world.new) }
         ensures none { OnOk result (self.new.text ≡ []) }
         ensures count { self.new.count ≡ self.old.count }
         ensures size { self.new.size ≡ self.old.size }
-        ensures only_writes { OnlyWrites W.tells W.shown W.ledger W.healthy world.old world.new }
+        ensures only_writes { OnlyWrites W.ledger W.healthy world.old world.new }
         ensures cause { IsErrOf result OutputError.WriteFault
             → WritingFailed W.ledger W.healthy world.old world.new }
         ensures shows { (p : Start) → W.honest p world.new

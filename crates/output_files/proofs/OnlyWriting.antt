@@ -1,11 +1,9 @@
 -- Where only writing goes on from each state of a world to the next, only writing has gone on from the first to the
 -- last.
-use Rattle.std.proofs.Common.{ℕ, ◌+◌, Bool, List, Result, ◌∙◌, arith}
-use Rattle.std.specs.Prelude.{IsTrue}
-use Rattle.world_io.specs.World.{Shown, Ledger, WritesOn, WritingFailed}
+use Rattle.std.proofs.Common.{ℕ, ◌+◌, ◌∙◌, arith}
+use Rattle.world_io.specs.World.{Ledger, WritesOn, WritingFailed}
 use Rattle.world_io.specs.OneFile.{KeepsLedgerWriting-same, KeepsLedgerWriting-more}
-use Rattle.output_files.specs.Written.{AfterWriting, AppendsTo, OnlyWrites, WritesFiles}
-use Rattle.output_files.proofs.Effects.{keeps_all, keeps_both}
+use Rattle.output_files.specs.Written.{AfterWriting, OnlyWrites, WritesFiles}
 
 AfterWriting-trans : (m n : ℕ) (a b c : Ledger) → AfterWriting m a b → AfterWriting n b c → AfterWriting (m + n) a c
 AfterWriting-trans m n a b c r s = record {
@@ -15,34 +13,26 @@ AfterWriting-trans m n a b c r s = record {
   write_faults = omega (arith, r.write_faults, s.write_faults);
 }
 
-module _ {W : Type 0} (tells : Bool) (shown : W → Shown) (ledger : W → Ledger) (healthy : W → Type 0) where
-  pub OnlyWrites-same : (a : W) → OnlyWrites tells shown ledger healthy a a
+module _ {W : Type 0} (ledger : W → Ledger) (healthy : W → Type 0) where
+  pub OnlyWrites-same : (a : W) → OnlyWrites ledger healthy a a
   OnlyWrites-same a = record {
-    outputs = λ told file name is. is;
     ledger = KeepsLedgerWriting-same (ledger a);
     stays_healthy = λ well. well;
   }
 
-  pub OnlyWrites-trans : (a b c : W) → OnlyWrites tells shown ledger healthy a b
-      → OnlyWrites tells shown ledger healthy b c → OnlyWrites tells shown ledger healthy a c
+  pub OnlyWrites-trans : (a b c : W) → OnlyWrites ledger healthy a b
+      → OnlyWrites ledger healthy b c → OnlyWrites ledger healthy a c
   OnlyWrites-trans a b c r s = record {
-    outputs = λ told. keeps_both (shown a) (shown b) (shown c) (r.outputs told) (s.outputs told);
     ledger = KeepsLedgerWriting-more (ledger a) (ledger b) (ledger c) r.ledger s.ledger;
     stays_healthy = λ well. s.stays_healthy (r.stays_healthy well);
   }
 
   -- bytes were appended to an output or to the report
-  pub OnlyWrites-appended : {A E : Type 0} (r : Result A E) (file : ℕ) (bytes : List ℕ) (a b : W)
-      → (IsTrue tells → AppendsTo r file bytes (shown a) (shown b)) → WritesOn ledger healthy a b
-      → OnlyWrites tells shown ledger healthy a b
-  OnlyWrites-appended r file bytes a b told on = record {
-    outputs = λ here. keeps_all r file bytes (shown a) (shown b) (told here);
-    ledger = on.ledger;
-    stays_healthy = on.stays_healthy;
-  }
+  pub OnlyWrites-on : (a b : W) → WritesOn ledger healthy a b → OnlyWrites ledger healthy a b
+  OnlyWrites-on a b on = record { ledger = on.ledger; stays_healthy = on.stays_healthy }
 
   -- it went on, and then writing failed
-  pub OnlyWrites-failed : (a b c : W) → OnlyWrites tells shown ledger healthy a b → WritingFailed ledger healthy b c
+  pub OnlyWrites-failed : (a b c : W) → OnlyWrites ledger healthy a b → WritingFailed ledger healthy b c
       → WritingFailed ledger healthy a c
   OnlyWrites-failed a b c r s = record {
     rose = omega (arith, r.ledger.write_faults, s.rose);
@@ -50,7 +40,7 @@ module _ {W : Type 0} (tells : Bool) (shown : W → Shown) (ledger : W → Ledge
   }
 
   -- no file is new
-  pub OnlyWrites-files : (n : ℕ) (a b : W) → OnlyWrites tells shown ledger healthy a b
+  pub OnlyWrites-files : (n : ℕ) (a b : W) → OnlyWrites ledger healthy a b
       → WritesFiles ledger healthy n a b
   OnlyWrites-files n a b r = record {
     ledger = record {

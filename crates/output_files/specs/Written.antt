@@ -1,11 +1,11 @@
 -- What the calls that write do to a world.
-use Rattle.std.specs.Prelude.{◌≡◌, ◌+◌, ◌≤◌, Bool, IsTrue, List, [], ◌∷◌, Result, Ok, Err, ℕ, take}
+use Rattle.std.specs.Prelude.{◌≡◌, ◌+◌, ◌≤◌, List, [], ◌∷◌, Result, Ok, Err, ℕ, take}
 use Rattle.world_io.specs.World.{Shown, Ledger, KeepsLedgerWriting, WritesFile}
 use Rattle.world_io.specs.declared.world.OpenFault.{OpenFault}
 use Rattle.world_io.specs.declared.world.OpenFault.TheVariants as opening
 use Rattle.output_files.specs.declared.error.OutputError.{OutputError}
 use Rattle.output_files.specs.declared.error.OutputError.TheVariants as output
-use Rattle.output_files.specs.Writes.{Write, Creates, Appends, Reports, HasWritten, HasBegun, HasGathered, KeepsOutputs}
+use Rattle.output_files.specs.Writes.{Write, Creates, Appends, Reports, HasWritten, HasBegun, HasGathered}
 
 abbrev pub output_error_of : OpenFault → OutputError
 output_error_of opening.Failed = output.WriteFault
@@ -33,11 +33,9 @@ pub record AfterWriting (files : ℕ) (old new : Ledger) : Type 0 where
   pub read_faults : new.read_faults ≡ old.read_faults
   pub write_faults : old.write_faults ≤ new.write_faults
 
--- From the one state of a world to the other only writing has gone on, to outputs that are there: these stay outputs,
--- where told, and what was healthy is healthy.
-pub record OnlyWrites {W : Type 0} (tells : Bool) (shown_of : W → Shown) (ledger_of : W → Ledger)
-    (healthy_of : W → Type 0) (old new : W) : Type 0 where
-  pub outputs : IsTrue tells → KeepsOutputs (shown_of old) (shown_of new)
+-- From the one state of a world to the other only writing has gone on, to outputs that are there, and what was healthy
+-- is healthy.
+pub record OnlyWrites {W : Type 0} (ledger_of : W → Ledger) (healthy_of : W → Type 0) (old new : W) : Type 0 where
   pub ledger : KeepsLedgerWriting (ledger_of old) (ledger_of new)
   pub stays_healthy : healthy_of old → healthy_of new
 

@@ -10,11 +10,8 @@ use world_io::World;
 
 /// Appends the gathered lines to the report, so that none is gathered any more.
 pub fn write_lines<W: World>(world: &mut W, lines: &mut Bytes) -> Result<(), OutputError>
-    ensures told { IsTrue W.tells → (before : Shown) (writes : List Write)
-        → HasGathered writes lines.old before (W.shown world.old)
-        → Writes result writes before (W.shown world.new) }
     ensures none { OnOk result (lines.new ≡ []) }
-    ensures only_writes { OnlyWrites W.tells W.shown W.ledger W.healthy world.old world.new }
+    ensures only_writes { OnlyWrites W.ledger W.healthy world.old world.new }
     ensures cause { IsErrOf result OutputError.WriteFault
         → WritingFailed W.ledger W.healthy world.old world.new }
     ensures shows { (p : Start) → W.honest p world.new → (before : Shown) (writes : List Write)
@@ -37,12 +34,7 @@ pub fn write_records<W: World>(
     records: &[u8],
 ) -> Result<(), OutputError>
     requires { IsTrue (is_writable (W.ledger world.old) file) }
-    ensures told { IsTrue W.tells → (before : Shown) (writes : List Write) (name : List ℕ)
-        → IsOutput file name (W.shown world.old)
-        → HasGathered writes lines.old before (W.shown world.old)
-        → WritesGathered result (writes ++ Appends name records.now ∷ []) lines.new before
-        (W.shown world.new) }
-    ensures only_writes { OnlyWrites W.tells W.shown W.ledger W.healthy world.old world.new }
+    ensures only_writes { OnlyWrites W.ledger W.healthy world.old world.new }
     ensures cause { IsErrOf result OutputError.WriteFault
         → WritingFailed W.ledger W.healthy world.old world.new }
     ensures shows { (p : Start) → W.honest p world.new

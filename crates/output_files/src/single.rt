@@ -1,4 +1,4 @@
-ghost use Rattle.std.specs.Prelude.{◌<◌, ◌-◌, ◌^◌, IsTrue, IsErrOf};
+ghost use Rattle.std.specs.Prelude.{◌<◌, ◌-◌, ◌^◌, IsErrOf};
 ghost use Rattle.output_files.specs.Written.{Writes, single_writes, WritesFiles};
 ghost use Rattle.world_io.specs.World.{Start, WritingFailed};
 
@@ -15,9 +15,6 @@ pub fn write_output<W: World>(
     text: &[u8],
 ) -> Result<(), OutputError>
     requires { (W.ledger world.old).given < 2 ^ 32 - 1 }
-    ensures told { IsTrue W.tells → Writes result
-        (single_writes name.now header.now body.now text.now)
-        (W.shown world.old) (W.shown world.new) }
     ensures writes_files { WritesFiles W.ledger W.healthy 1 world.old world.new }
     ensures cause { IsErrOf result OutputError.WriteFault
         → WritingFailed W.ledger W.healthy world.old world.new }

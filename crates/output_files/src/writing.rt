@@ -15,14 +15,6 @@ pub const REPORT: u32 = 0;
 /// Creates an output under a name, which has no bytes then, and gives its number.
 pub fn create<W: World>(world: &mut W, name: &Text) -> Result<u32, OutputError>
     requires { (W.ledger world.old).given < 2 ^ 32 - 1 }
-    ensures told { IsTrue W.tells
-        → Writes result (Creates name.now ∷ []) (W.shown world.old) (W.shown world.new) }
-    ensures output { IsTrue W.tells
-        → IfOk result (λ file. IsOutput file name.now (W.shown world.new)) }
-    ensures outputs { IsTrue W.tells → (k : ℕ) (other : List ℕ)
-        → IsTrue ((W.ledger world.old).created k) → ¬ (other ≡ name.now)
-        → IsOutput k other (W.shown world.old)
-        → IfOk result (λ file. IsOutput k other (W.shown world.new)) }
     ensures given { IfOk result
         (λ file. GivesCreated file (W.ledger world.old) (W.ledger world.new)) }
     ensures not_given { OnErr result
@@ -32,7 +24,7 @@ pub fn create<W: World>(world: &mut W, name: &Text) -> Result<u32, OutputError>
     ensures stays_healthy { W.healthy world.old → W.healthy world.new }
     ensures shows { (p : Start) → W.honest p world.new
         → Writes result (Creates name.now ∷ []) (W.shows p world.old) (W.shows p world.new) }
-    ensures shows_output { (p : Start) → W.honest p world.new
+    ensures output { (p : Start) → W.honest p world.new
         → IfOk result (λ file. IsOutput file name.now (W.shows p world.new)) }
     ensures keeps { (p : Start) → W.honest p world.new → (k : ℕ) (other : List ℕ)
         → IsTrue ((W.ledger world.old).created k) → ¬ (other ≡ name.now)
@@ -47,8 +39,6 @@ pub fn create<W: World>(world: &mut W, name: &Text) -> Result<u32, OutputError>
 /// Appends all these bytes to a created file, or to the report.
 pub fn put_all<W: World>(world: &mut W, file: u32, bytes: &[u8]) -> Result<(), OutputError>
     requires { IsTrue (is_writable (W.ledger world.old) file) }
-    ensures told { IsTrue W.tells
-        → AppendsTo result file bytes.now (W.shown world.old) (W.shown world.new) }
     ensures writes_on { WritesOn W.ledger W.healthy world.old world.new }
     ensures cause { IsErrOf result OutputError.WriteFault
         → WritingFailed W.ledger W.healthy world.old world.new }
@@ -67,9 +57,7 @@ pub fn put_all<W: World>(world: &mut W, file: u32, bytes: &[u8]) -> Result<(), O
 /// Appends these bytes to an output.
 pub fn append<W: World>(world: &mut W, file: u32, bytes: &[u8]) -> Result<(), OutputError>
     requires { IsTrue (is_writable (W.ledger world.old) file) }
-    ensures told { IsTrue W.tells → (name : List ℕ) → IsOutput file name (W.shown world.old)
-        → Writes result (Appends name bytes.now ∷ []) (W.shown world.old) (W.shown world.new) }
-    ensures only_writes { OnlyWrites W.tells W.shown W.ledger W.healthy world.old world.new }
+    ensures only_writes { OnlyWrites W.ledger W.healthy world.old world.new }
     ensures cause { IsErrOf result OutputError.WriteFault
         → WritingFailed W.ledger W.healthy world.old world.new }
     ensures shows { (p : Start) → W.honest p world.new
@@ -84,9 +72,7 @@ pub fn append<W: World>(world: &mut W, file: u32, bytes: &[u8]) -> Result<(), Ou
 
 /// Appends these bytes to the report.
 pub fn report<W: World>(world: &mut W, bytes: &[u8]) -> Result<(), OutputError>
-    ensures told { IsTrue W.tells
-        → Writes result (Reports bytes.now ∷ []) (W.shown world.old) (W.shown world.new) }
-    ensures only_writes { OnlyWrites W.tells W.shown W.ledger W.healthy world.old world.new }
+    ensures only_writes { OnlyWrites W.ledger W.healthy world.old world.new }
     ensures cause { IsErrOf result OutputError.WriteFault
         → WritingFailed W.ledger W.healthy world.old world.new }
     ensures shows { (p : Start) → W.honest p world.new

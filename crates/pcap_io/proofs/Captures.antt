@@ -71,7 +71,7 @@ stands_on r further ps qs p stands further_is qs_is given =
       running = stands.running;
     })
 
--- where the bytes are told
+-- what an answer says of all the bytes
 module _ (r : Reading) (ps : List Packet) (all left : List ℕ) (stands : StandsAt r ps)
     (begins : Begins all r.order r.unit ps left) where
   pub refused_says : (fault : CaptureFault) → AnswersAt r left (next.Refused fault) → Says all (Refused fault)

@@ -50,8 +50,8 @@ GivesBytes next.ReadFault = Unit {0}
 GivesBytes next.NoMemory = Unit {0}
 GivesBytes next.Over = Unit {0}
 
--- Where the bytes left are told: what each answer says of them, at an offset where a record may take the bytes of
--- the room, or pass this limit.
+-- What each answer says of the bytes left, at an offset where a record may take the bytes of the room, or pass this
+-- limit.
 abbrev pub Answers : Order → ℕ → ℕ → Limit → List ℕ → Next → Type 0
 Answers o offset room limit left (next.Packet p) = Unit {0}
 Answers o offset room limit left next.End = left ≡ []

@@ -5,7 +5,7 @@ use Rattle.pcap_io.specs.declared.started.Started.TheVariants as started
 use Rattle.pcap_io.specs.Capture.{header_of}
 use Rattle.pcap_io.specs.Faults.{header_fault}
 
--- where the bytes left are told
+-- what the answer says of the bytes left
 abbrev pub Starts : List ℕ → Started → Type 0
 Starts left (started.Reader r) = header_fault left ≡ None
 Starts left (started.Refused fault) = header_fault left ≡ Some fault

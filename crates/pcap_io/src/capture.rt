@@ -1,4 +1,4 @@
-ghost use Rattle.std.specs.Prelude.{◌≡◌, IsTrue};
+ghost use Rattle.std.specs.Prelude.{◌≡◌};
 ghost use Rattle.world_io.specs.Stream.{GoesOn, HasFailed};
 ghost use Rattle.world_io.specs.World.{Start};
 ghost use Rattle.pcap_io.specs.Captured.{Says, TakesCapture, EndsAt, CapturesBytes};
@@ -24,9 +24,7 @@ pub enum Captured {
 
 /// Reads a capture to its end.
 pub fn read_capture<S: Source>(alloc: Global, source: &mut S) -> Captured
-    ensures told { IsTrue S.tells → Says (S.left source.old) result }
     ensures taken { TakesCapture S.reads result source.old source.new }
-    ensures whole { IsTrue S.tells → EndsAt result (S.left source.new) }
     ensures bytes { CapturesBytes result }
     ensures goes_on { GoesOn S.faults S.healthy source.old source.new }
     ensures cause { result ≡ Captured.ReadFault

@@ -1,4 +1,4 @@
-ghost use Rattle.std.specs.Prelude.{◌≡◌, ◌≢◌, ◌≤◌, ◌↔◌, true, IsTrue};
+ghost use Rattle.std.specs.Prelude.{◌≡◌, ◌≢◌, ◌≤◌, ◌↔◌, true};
 ghost use Rattle.world_io.specs.Stream.{GoesOn, HasFailed};
 ghost use Rattle.world_io.specs.World.{Start};
 ghost use Rattle.pcap_io.specs.Limits.{room_at, limit_at};
@@ -51,7 +51,6 @@ impl Model for Reader {
 impl Reader {
     /// Reads the file header.
     pub fn start<S: Source>(source: &mut S) -> Started
-        ensures told { IsTrue S.tells → Starts (S.left source.old) result }
         ensures taken { TakesHeader S.reads result source.old source.new }
         ensures fresh { IsFresh result }
         ensures goes_on { GoesOn S.faults S.healthy source.old source.new }
@@ -95,7 +94,6 @@ impl Reader {
     pub fn next_packet<S: Source>(&mut self, alloc: Global, source: &mut S) -> Next
         ensures over { (result ≡ Next.Over) ↔ (self.old.over ≡ true) }
         ensures after { self.new ≡ after self.old result }
-        ensures told { IsTrue S.tells → AnswersAt self.old (S.left source.old) result }
         ensures taken { Takes S.reads self.old.order result source.old source.new }
         ensures given { IsGiven (room_at self.old.count self.old.offset) result }
         ensures bytes { GivesBytes result }

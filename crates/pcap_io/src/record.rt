@@ -1,4 +1,4 @@
-ghost use Rattle.std.specs.Prelude.{◌≡◌, ◌≢◌, ◌≤◌, ◌+◌, ◌++◌, IsTrue, OnOk, OnErr, length};
+ghost use Rattle.std.specs.Prelude.{◌≡◌, ◌≢◌, ◌≤◌, ◌+◌, ◌++◌, OnOk, OnErr, length};
 ghost use Rattle.world_io.specs.Stream.{GoesOn, HasFailed};
 ghost use Rattle.world_io.specs.World.{Start};
 ghost use Rattle.pcap_io.specs.Capture.{record_of};
@@ -26,8 +26,6 @@ pub(crate) struct Place {
 impl Place {
     /// Reads the record that begins here.
     pub(crate) fn read_record<S: Source>(self, alloc: Global, source: &mut S) -> Next
-        ensures told { IsTrue S.tells
-            → Answers self.order self.offset self.room self.limit (S.left source.old) result }
         ensures taken { Takes S.reads self.order result source.old source.new }
         ensures given { IsGiven self.room result }
         ensures bytes { GivesBytes result }
@@ -58,8 +56,6 @@ impl Place {
     fn read_body<S: Source>(self, alloc: Global, head: &[u8], source: &mut S) -> Next
         requires head { length head.now ≡ 16 }
         requires room { 16 ≤ self.room }
-        ensures told { IsTrue S.tells → Answers self.order self.offset self.room self.limit
-            (head.now ++ S.left source.old) result }
         ensures taken { TakesBody S.reads self.order head.now result source.old source.new }
         ensures given { IsGiven self.room result }
         ensures bytes { GivesBytes result }

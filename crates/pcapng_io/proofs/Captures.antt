@@ -59,7 +59,7 @@ abbrev pub HasReadAny : {S : Type 0} → (S → List ℕ → S → Type 0) → S
 HasReadAny reads old now (form.Capture r) ps = HasReadSavefile reads old now r ps
 HasReadAny reads old now (form.Ng r) ps = HasReadNg reads old now r ps
 
--- where the bytes are told: the format is that of the first bytes
+-- the format is that of the first bytes
 abbrev pub IsFormatOf : List ℕ → Format → Type 0
 IsFormatOf all (form.Capture r) = begins_ng all ≡ false
 IsFormatOf all (form.Ng r) = begins_ng all ≡ true
@@ -255,7 +255,7 @@ unit_kept r capture.ReadFault = refl
 unit_kept r capture.NoMemory = refl
 unit_kept r capture.Over = refl
 
--- where the bytes left are told, here and so before
+-- where the answers are honest here, and so before
 module _ {S : Type 0} (reads : S → List ℕ → S → Type 0) (left_of : S → List ℕ) (honest : S → Type 0)
     (before : (a b : S) (taken : List ℕ) → honest b → reads a taken b → honest a)
     (told : (a b : S) (taken : List ℕ) → honest b → reads a taken b → left_of a ≡ taken ++ left_of b)

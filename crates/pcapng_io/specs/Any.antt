@@ -45,7 +45,7 @@ any_started begun.NoMemory = started.NoMemory
 abbrev pub first_reading : NgReading
 first_reading = record { order = Little; interfaces = []; typed = true; offset = 0; count = 0; over = false }
 
--- where the bytes left are told: their first four tell the format
+-- what the answer says of the bytes left, of which the first four tell the format
 abbrev pub StartsAny : List ℕ → AnyStarted → Type 0
 StartsAny left (started.Reader (form.Capture r)) = (begins_ng left ≡ false) × (header_fault left ≡ None)
 StartsAny left (started.Reader (form.Ng r)) = begins_ng left ≡ true
@@ -71,7 +71,7 @@ abbrev pub is_over : Format → Bool
 is_over (form.Capture r) = r.over
 is_over (form.Ng r) = r.over
 
--- where the bytes left are told: what each answer says of them, as the reader of the format has it
+-- what each answer says of the bytes left, as the reader of the format has it
 abbrev pub AnswersAny : Format → List ℕ → AnyNext → Type 0
 AnswersAny (form.Capture r) left answer = (next : Next) × (answer ≡ any_next next) × AnswersAt r left next
 AnswersAny (form.Ng r) left answer = AnswersNg r (held_type r.typed ++ left) answer

@@ -67,7 +67,7 @@ pub record StopsBehind (r : NgReading) (bytes : List ℕ) (offset : ℕ) (why : 
   pub within : offset ≤ MOST_FILE_BYTES
   pub stops : StopsAt last r.count offset rest why
 
--- where the bytes left are told, and those that are held stand before them: what each answer says of them
+-- what each answer says of the bytes left, with those that are held before them
 abbrev pub AnswersNg : NgReading → List ℕ → AnyNext → Type 0
 AnswersNg r bytes (next.Packet p) = Unit {0}
 AnswersNg r bytes next.End = (offset : ℕ) × StopsBehind r bytes offset stop.End

@@ -1,4 +1,4 @@
-ghost use Rattle.std.specs.Prelude.{◌≡◌, ◌≢◌, ◌≤◌, ◌↔◌, true, length, IsTrue};
+ghost use Rattle.std.specs.Prelude.{◌≡◌, ◌≢◌, ◌≤◌, ◌↔◌, true, length};
 ghost use Rattle.world_io.specs.Stream.{GoesOn, HasFailed};
 ghost use Rattle.world_io.specs.World.{Start};
 ghost use Rattle.pcap_io.specs.Started.{Starts, IsFresh};
@@ -60,7 +60,6 @@ pub enum AnyStarted {
 /// Begins to read a capture: a pcapng capture where its first four bytes are 0A 0D 0D 0A, and else a libpcap savefile.
 /// It takes no memory. The faults of a pcapng capture, also of its first block, are told by `next_packet`.
 pub fn open_capture<S: Source>(alloc: Global, source: &mut S) -> AnyStarted
-    ensures told { IsTrue S.tells → StartsAny (S.left source.old) result }
     ensures taken { TakesStart S.reads result source.old source.new }
     ensures goes_on { GoesOn S.faults S.healthy source.old source.new }
     ensures cause { result ≡ AnyStarted.ReadFault
@@ -136,7 +135,6 @@ impl AnyReader {
     /// The next packet, or why there is none. After anything but a packet, NoMemory too, the reader is over.
     pub fn next_packet<S: Source>(&mut self, source: &mut S) -> AnyNext
         ensures over { (result ≡ AnyNext.Over) ↔ (is_over self.old ≡ true) }
-        ensures told { IsTrue S.tells → AnswersAny self.old (S.left source.old) result }
         ensures taken { TakesAny S.reads result source.old source.new self.old self.new }
         ensures given { GivesAny result }
         ensures goes_on { GoesOn S.faults S.healthy source.old source.new }

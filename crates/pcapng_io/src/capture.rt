@@ -1,4 +1,4 @@
-ghost use Rattle.std.specs.Prelude.{◌≡◌, IsTrue};
+ghost use Rattle.std.specs.Prelude.{◌≡◌};
 ghost use Rattle.world_io.specs.Stream.{GoesOn, HasFailed};
 ghost use Rattle.world_io.specs.World.{Start};
 ghost use Rattle.world_io.specs.Taking.{TakesSome};
@@ -25,7 +25,6 @@ pub enum AnyCaptured {
 
 /// Reads a capture of either format to its end.
 pub fn read_any_capture<S: Source>(alloc: Global, source: &mut S) -> AnyCaptured
-    ensures told { IsTrue S.tells → SaysAny (S.left source.old) result }
     ensures reads { TakesSome S.reads source.old source.new }
     ensures packets { CapturesPackets result }
     ensures goes_on { GoesOn S.faults S.healthy source.old source.new }

@@ -1,4 +1,4 @@
-ghost use Rattle.std.specs.Prelude.{◌≡◌, ◌≢◌, ◌≤◌, ◌&&◌, ◌++◌, false, [], List, ℕ, length, IsTrue};
+ghost use Rattle.std.specs.Prelude.{◌≡◌, ◌≢◌, ◌≤◌, ◌&&◌, ◌++◌, false, [], List, ℕ, length};
 ghost use Rattle.std.specs.Prelude.{IfOk, IfErr, IsErrOf};
 ghost use Rattle.world_io.specs.Stream.{GoesOn, HasFailed};
 ghost use Rattle.world_io.specs.World.{Start};
@@ -55,8 +55,6 @@ fn held_type(typed: bool) -> &'static [u8]
 impl Place {
     /// Reads the block that begins here.
     pub(crate) fn read_block<S: Source>(self, alloc: Global, source: &mut S) -> Result<Block, Stop>
-        ensures told { IsTrue S.tells
-            → IfErr result (StopsHere self (held_type self.typed ++ S.left source.old)) }
         ensures taken { TakesBlock S.reads (held_type self.typed) result source.old source.new }
         ensures stands { IfOk result (StandsHere self) }
         ensures ended { IsErrOf result Stop.End
@@ -82,8 +80,6 @@ impl Place {
         requires head { length head.now ≡ 12 }
         requires room { 12 ≤ self.room }
         requires few { self.full && shows_packet self.order self.room head.now ≡ false }
-        ensures told { IsTrue S.tells
-            → IfErr result (StopsHere self (head.now ++ S.left source.old)) }
         ensures taken { TakesBlock S.reads head.now result source.old source.new }
         ensures stands { IfOk result (StandsHere self) }
         ensures some { ¬ IsErrOf result Stop.End }
@@ -128,7 +124,6 @@ impl Place {
     /// Reads past a block of a total length that it cannot have, to see whether it is there.
     fn pass_rest<S: Source>(self, total: u32, source: &mut S) -> Stop
         requires { 12 ≤ self.room }
-        ensures told { IsTrue S.tells → PassesRest self.room total (S.left source.old) result }
         ensures taken { (taken : List ℕ) × S.reads source.old taken source.new }
         ensures some { result ≢ Stop.End }
         ensures goes_on { GoesOn S.faults S.healthy source.old source.new }

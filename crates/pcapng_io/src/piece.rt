@@ -1,4 +1,4 @@
-ghost use Rattle.std.specs.Prelude.{◌≡◌, ◌≤◌, ◌<◌, [], IsTrue, IsNone, IfSome, MatchOption, List};
+ghost use Rattle.std.specs.Prelude.{◌≡◌, ◌≤◌, ◌<◌, [], IsNone, IfSome, MatchOption, List};
 ghost use Rattle.std.specs.Prelude.{ℕ, length};
 ghost use Rattle.world_io.specs.Stream.{GoesOn, HasFailed};
 ghost use Rattle.world_io.specs.World.{Start};
@@ -14,7 +14,6 @@ pub(crate) fn read_past<S: Source>(source: &mut S, count: u64) -> Option<u64>
     ensures taken { MatchOption result ((taken : List ℕ) × S.reads source.old taken source.new)
         (λ n. (taken : List ℕ) × S.reads source.old taken source.new × (length taken ≡ n)) }
     ensures within { IfSome result (λ n. n ≤ count) }
-    ensures short { IsTrue S.tells → IfSome result (λ n. n < count → S.left source.new ≡ []) }
     ensures goes_on { GoesOn S.faults S.healthy source.old source.new }
     ensures cause { IsNone result → HasFailed S.faults S.healthy source.old source.new }
     ensures runs_out { (p : Start) → S.honest p source.new

@@ -1,4 +1,4 @@
-ghost use Rattle.std.specs.Prelude.{◌≡◌, ◌≤◌, ◌<◌, ◌-◌, ◌==◌, ◌↔◌, ◌++◌, true, false, [], IsTrue};
+ghost use Rattle.std.specs.Prelude.{◌≡◌, ◌≤◌, ◌<◌, ◌-◌, ◌==◌, ◌↔◌, ◌++◌, true, false, []};
 ghost use Rattle.std.specs.Prelude.{OnOk, IfErr, IsErrOf};
 ghost use Rattle.plain_text.specs.declared.limit.TheConstants.{MOST_FILE_BYTES, MOST_PACKETS};
 ghost use Rattle.pcap_io.specs.declared.order.Order.TheVariants.{Little};
@@ -78,8 +78,6 @@ impl NgReader {
     /// The next packet, or why there is none. After anything but a packet, NoMemory too, the reader is over.
     pub(crate) fn next_packet<S: Source>(&mut self, alloc: Global, source: &mut S) -> AnyNext
         ensures over { (result ≡ AnyNext.Over) ↔ (self.old.over ≡ true) }
-        ensures told { IsTrue S.tells
-            → AnswersNg self.old (held_type self.old.typed ++ S.left source.old) result }
         ensures taken { TakesNg S.reads result source.old source.new self.old self.new }
         ensures few { self.new.count ≤ MOST_PACKETS }
         ensures small { self.new.offset ≤ MOST_FILE_BYTES }
@@ -111,9 +109,6 @@ impl NgReader {
         alloc: Global,
         source: &mut S,
     ) -> Result<Option<Packet>, Stop>
-        ensures told { IsTrue S.tells
-            → IfErr result (StopsAt (section_of self.old) self.old.count self.old.offset
-            (held_type self.old.typed ++ S.left source.old)) }
         ensures moves { MovesOn S.reads result source.old source.new self.old self.new }
         ensures grows { OnOk result (self.old.offset < self.new.offset) }
         ensures ended { IsErrOf result Stop.End

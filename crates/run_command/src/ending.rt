@@ -1,4 +1,4 @@
-ghost use Rattle.std.specs.Prelude.{◌≡◌, [], IfOk, OnOk, List, IsTrue, IsErrOf, false};
+ghost use Rattle.std.specs.Prelude.{◌≡◌, IfOk, OnOk, List, IsTrue, IsErrOf, false};
 ghost use Rattle.plain_player.specs.ScheduleText.{schedule_text};
 ghost use Rattle.plain_player.specs.Schedules.{FitLines};
 ghost use Rattle.world_io.specs.World.{Start, Shown, is_writable, WritingFailed};
@@ -48,13 +48,7 @@ pub fn close_run<P: Program, W: World>(
 ) -> Result<(), OutputError>
     requires runs { system.stopped ≡ false }
     requires writable { IsTrue (is_writable (W.ledger world.old) file) }
-    ensures told { IsTrue W.tells → (s : Setting P.Value) (names : OutputNames)
-        (events : List EventKind) (before : Shown)
-        → IsOutput file names.schedule (W.shown world.old)
-        → HasCome (P.meaning system.parts.program) s names events system lines.old before
-        (W.shown world.old)
-        → Finishes result s names events before (W.shown world.new) }
-    ensures only_writes { OnlyWrites W.tells W.shown W.ledger W.healthy world.old world.new }
+    ensures only_writes { OnlyWrites W.ledger W.healthy world.old world.new }
     ensures cause { IsErrOf result OutputError.WriteFault
         → WritingFailed W.ledger W.healthy world.old world.new }
     ensures shows { (p : Start) → W.honest p world.new

@@ -32,17 +32,9 @@ fn write_answer<W: World>(
 ) -> Result<(), OutputError>
     requires short { All IsShort (packets_in outputs.now) }
     requires writable { IsTrue (is_writable (W.ledger world.old) file) }
-    ensures told { IsTrue W.tells → (before : Shown) (writes : List Write) (name : List ℕ)
-        (freed : List Sent) → IsOutput file name (W.shown world.old)
-        → reply.now.released ≡ sent_names freed
-        → HasGathered writes lines.old before (W.shown world.old)
-        → WritesGathered result (writes ++ reply_writes name (record {
-          released = packets_in outputs.now;
-          line = reply_line event.now reply.now.outcome freed;
-        })) lines.new before (W.shown world.new) }
     ensures gathered { OnOk result (length lines.new ≤ 65536) }
     ensures fit_records { OnOk result (All FitsRecord (packets_in outputs.now)) }
-    ensures only_writes { OnlyWrites W.tells W.shown W.ledger W.healthy world.old world.new }
+    ensures only_writes { OnlyWrites W.ledger W.healthy world.old world.new }
     ensures cause { IsErrOf result OutputError.WriteFault
         → WritingFailed W.ledger W.healthy world.old world.new }
     ensures shows { (p : Start) → W.honest p world.new
@@ -75,14 +67,9 @@ pub fn write_performed<W: World>(
 ) -> Result<(), RunError>
     requires short { All IsShort (packets_in performed.now.outputs) }
     requires writable { IsTrue (is_writable (W.ledger world.old) file) }
-    ensures told { IsTrue W.tells → (before : Shown) (writes : List Write) (name : List ℕ)
-        → IsOutput file name (W.shown world.old)
-        → HasGathered writes lines.old before (W.shown world.old)
-        → WritesPerformed result performed.now.reply event.now (packets_in performed.now.outputs)
-        writes name lines.new before (W.shown world.new) }
     ensures gathered { OnOk result (length lines.new ≤ 65536) }
     ensures ended { OnOk result (IsOk performed.now.reply) }
-    ensures only_writes { OnlyWrites W.tells W.shown W.ledger W.healthy world.old world.new }
+    ensures only_writes { OnlyWrites W.ledger W.healthy world.old world.new }
     ensures cause { IsErrOf result RunError.WriteFault
         → WritingFailed W.ledger W.healthy world.old world.new }
     ensures shows { (p : Start) → W.honest p world.new

@@ -34,12 +34,6 @@ fn write_events<P: Program, W: World>(
     requires runs { system.old.stopped ≡ false }
     requires somewhere { IsSomewhere (P.meaning system.old.parts.program) system.old }
     requires none { lines.old ≡ [] }
-    ensures told { IsTrue W.tells → (s : Setting P.Value) → s.fractions ≡ unit
-        → IsSystemAt (P.meaning system.old.parts.program) s (opening P.Value) system.old
-        → GoesOn result (P.meaning system.old.parts.program) s (names_of files.entry) events.now
-        system.new lines.new (W.shown world.old) (W.shown world.new) }
-    ensures schedule { IsTrue W.tells → IfOk result
-        (λ file. IsOutput file (names_of files.entry).schedule (W.shown world.new)) }
     ensures writable { IfOk result (λ file. IsTrue (is_writable (W.ledger world.new) file)) }
     ensures runs { OnOk result (system.new.stopped ≡ false) }
     ensures program { OnOk result (system.new.parts.program ≡ system.old.parts.program) }
@@ -51,7 +45,7 @@ fn write_events<P: Program, W: World>(
         → IsSystemAt (P.meaning system.old.parts.program) s (opening P.Value) system.old
         → GoesOn result (P.meaning system.old.parts.program) s (names_of files.entry) events.now
         system.new lines.new (W.shows p world.old) (W.shows p world.new) }
-    ensures shows_schedule { (p : Start) → W.honest p world.new
+    ensures schedule { (p : Start) → W.honest p world.new
         → IfOk result
         (λ file. IsOutput file (names_of files.entry).schedule (W.shows p world.new)) }
     ensures before { (p : Start) → W.honest p world.new → W.honest p world.old }
@@ -76,24 +70,17 @@ pub fn run_script<P: Program, W: World>(
     requires inputs { CanRun run }
     requires room { (W.ledger world.old).given < 2 ^ 32 - 2 }
     requires apart { files.released.now ≡ files.schedule.now → ⊥ }
-    ensures whole { IsTrue W.tells → OnOk result (HasRun (setting_of (P.meaning program) run)
-        (names_of files.entry) run.events (W.shown world.old) (W.shown world.new)) }
-    ensures limit { IsTrue W.tells → (limit : LimitKind) → result ≡ Err (RunError.Limit limit)
-        → HasStopped (setting_of (P.meaning program) run) (names_of files.entry) run.events limit
-        (W.shown world.old) (W.shown world.new) }
-    ensures in_order { IsTrue W.tells → HasBegunRun (setting_of (P.meaning program) run)
-        (names_of files.entry) run.events (W.shown world.old) (W.shown world.new) }
     ensures writes_files { WritesFiles W.ledger W.healthy 2 world.old world.new }
     ensures cause { IsErrOf result RunError.WriteFault
         → WritingFailed W.ledger W.healthy world.old world.new }
-    ensures shows_whole { (p : Start) → W.honest p world.new
+    ensures whole { (p : Start) → W.honest p world.new
         → OnOk result (HasRun (setting_of (P.meaning program) run)
         (names_of files.entry) run.events (W.shows p world.old) (W.shows p world.new)) }
-    ensures shows_limit { (p : Start) → W.honest p world.new
+    ensures limit { (p : Start) → W.honest p world.new
         → (limit : LimitKind) → result ≡ Err (RunError.Limit limit)
         → HasStopped (setting_of (P.meaning program) run) (names_of files.entry) run.events limit
         (W.shows p world.old) (W.shows p world.new) }
-    ensures shows_in_order { (p : Start) → W.honest p world.new
+    ensures in_order { (p : Start) → W.honest p world.new
         → HasBegunRun (setting_of (P.meaning program) run)
         (names_of files.entry) run.events (W.shows p world.old) (W.shows p world.new) }
     ensures before { (p : Start) → W.honest p world.new → W.honest p world.old }

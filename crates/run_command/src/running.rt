@@ -29,18 +29,11 @@ pub fn perform_event<P: Program, W: World>(
     requires runs { system.old.stopped ≡ false }
     requires somewhere { IsSomewhere (P.meaning system.old.parts.program) system.old }
     requires writable { IsTrue (is_writable (W.ledger world.old) file) }
-    ensures told { IsTrue W.tells → (s : Setting P.Value) (names : OutputNames)
-        (events : List EventKind) (before : Shown)
-        → IsOutput file names.released (W.shown world.old)
-        → HasCome (P.meaning system.old.parts.program) s names events system.old lines.old before
-        (W.shown world.old)
-        → GoesOn result (P.meaning system.old.parts.program) s names (events ++ event.now ∷ [])
-        system.new lines.new before (W.shown world.new) }
     ensures runs { OnOk result (system.new.stopped ≡ false) }
     ensures somewhere { OnOk result
         (IsSomewhere (P.meaning system.old.parts.program) system.new) }
     ensures program { OnOk result (system.new.parts.program ≡ system.old.parts.program) }
-    ensures only_writes { OnlyWrites W.tells W.shown W.ledger W.healthy world.old world.new }
+    ensures only_writes { OnlyWrites W.ledger W.healthy world.old world.new }
     ensures cause { IsErrOf result RunError.WriteFault
         → WritingFailed W.ledger W.healthy world.old world.new }
     ensures shows { (p : Start) → W.honest p world.new
@@ -71,15 +64,9 @@ pub fn perform_events<P: Program, W: World>(
     requires runs { system.old.stopped ≡ false }
     requires somewhere { IsSomewhere (P.meaning system.old.parts.program) system.old }
     requires writable { IsTrue (is_writable (W.ledger world.old) file) }
-    ensures told { IsTrue W.tells → (s : Setting P.Value) (names : OutputNames) (before : Shown)
-        → IsOutput file names.released (W.shown world.old)
-        → HasCome (P.meaning system.old.parts.program) s names [] system.old lines.old before
-        (W.shown world.old)
-        → GoesOn result (P.meaning system.old.parts.program) s names events.now
-        system.new lines.new before (W.shown world.new) }
     ensures runs { OnOk result (system.new.stopped ≡ false) }
     ensures program { OnOk result (system.new.parts.program ≡ system.old.parts.program) }
-    ensures only_writes { OnlyWrites W.tells W.shown W.ledger W.healthy world.old world.new }
+    ensures only_writes { OnlyWrites W.ledger W.healthy world.old world.new }
     ensures cause { IsErrOf result RunError.WriteFault
         → WritingFailed W.ledger W.healthy world.old world.new }
     ensures shows { (p : Start) → W.honest p world.new

@@ -40,12 +40,7 @@ pub fn write_closing<W: World>(
     last: &[u8],
 ) -> Result<(), OutputError>
     requires { IsTrue (is_writable (W.ledger world.old) file) }
-    ensures told { IsTrue W.tells → (before : Shown) (writes : List Write) (name : List ℕ)
-        → IsOutput file name (W.shown world.old)
-        → HasGathered writes lines.old before (W.shown world.old)
-        → Writes result (writes ++ (Appends name schedule.now ∷ Reports last.now ∷ [])) before
-        (W.shown world.new) }
-    ensures only_writes { OnlyWrites W.tells W.shown W.ledger W.healthy world.old world.new }
+    ensures only_writes { OnlyWrites W.ledger W.healthy world.old world.new }
     ensures cause { IsErrOf result OutputError.WriteFault
         → WritingFailed W.ledger W.healthy world.old world.new }
     ensures shows { (p : Start) → W.honest p world.new

@@ -52,12 +52,6 @@ pub fn open_outputs<W: World>(
 ) -> Result<OutputFiles, OutputError>
     requires room { (W.ledger world.old).given < 2 ^ 32 - 2 }
     requires apart { files.released.now ≡ files.schedule.now → ⊥ }
-    ensures told { IsTrue W.tells → Writes result (opening_writes (names_of files.entry) unit)
-        (W.shown world.old) (W.shown world.new) }
-    ensures released { IsTrue W.tells → IfOk result
-        (λ o. IsOutput o.released (names_of files.entry).released (W.shown world.new)) }
-    ensures schedule { IsTrue W.tells → IfOk result
-        (λ o. IsOutput o.schedule (names_of files.entry).schedule (W.shown world.new)) }
     ensures writable { IfOk result
         (λ o. IsTrue (is_writable (W.ledger world.new) o.released)
         × IsTrue (is_writable (W.ledger world.new) o.schedule)) }
@@ -67,10 +61,10 @@ pub fn open_outputs<W: World>(
     ensures shows { (p : Start) → W.honest p world.new
         → Writes result (opening_writes (names_of files.entry) unit)
         (W.shows p world.old) (W.shows p world.new) }
-    ensures shows_released { (p : Start) → W.honest p world.new
+    ensures released { (p : Start) → W.honest p world.new
         → IfOk result
         (λ o. IsOutput o.released (names_of files.entry).released (W.shows p world.new)) }
-    ensures shows_schedule { (p : Start) → W.honest p world.new
+    ensures schedule { (p : Start) → W.honest p world.new
         → IfOk result
         (λ o. IsOutput o.schedule (names_of files.entry).schedule (W.shows p world.new)) }
     ensures before { (p : Start) → W.honest p world.new → W.honest p world.old }

@@ -80,13 +80,8 @@ fn write_both<W: World>(
     line: &[u8],
 ) -> Result<(), OutputError>
     requires { IsTrue (is_writable (W.ledger world.old) file) }
-    ensures told { IsTrue W.tells → (before : Shown) (writes : List Write) (name : List ℕ)
-        → IsOutput file name (W.shown world.old)
-        → HasGathered writes lines.old before (W.shown world.old)
-        → WritesGathered result (writes ++ (Appends name records.now ∷ Reports line.now ∷ []))
-        lines.new before (W.shown world.new) }
     ensures gathered { OnOk result (length lines.new ≤ 65536) }
-    ensures only_writes { OnlyWrites W.tells W.shown W.ledger W.healthy world.old world.new }
+    ensures only_writes { OnlyWrites W.ledger W.healthy world.old world.new }
     ensures cause { IsErrOf result OutputError.WriteFault
         → WritingFailed W.ledger W.healthy world.old world.new }
     ensures shows { (p : Start) → W.honest p world.new
@@ -119,16 +114,9 @@ pub fn write_reply<W: World>(
 ) -> Result<(), OutputError>
     requires short { All IsShort (packets_in outputs.now) }
     requires writable { IsTrue (is_writable (W.ledger world.old) file) }
-    ensures told { IsTrue W.tells → (before : Shown) (writes : List Write) (name : List ℕ)
-        → IsOutput file name (W.shown world.old)
-        → HasGathered writes lines.old before (W.shown world.old)
-        → WritesGathered result (writes ++ reply_writes name (record {
-          released = packets_in outputs.now;
-          line = line.now;
-        })) lines.new before (W.shown world.new) }
     ensures gathered { OnOk result (length lines.new ≤ 65536) }
     ensures fit_records { OnOk result (All FitsRecord (packets_in outputs.now)) }
-    ensures only_writes { OnlyWrites W.tells W.shown W.ledger W.healthy world.old world.new }
+    ensures only_writes { OnlyWrites W.ledger W.healthy world.old world.new }
     ensures cause { IsErrOf result OutputError.WriteFault
         → WritingFailed W.ledger W.healthy world.old world.new }
     ensures shows { (p : Start) → W.honest p world.new
@@ -157,12 +145,7 @@ pub fn write_stopped<W: World>(
 ) -> Result<(), OutputError>
     requires short { All IsShort (packets_in outputs.now) }
     requires writable { IsTrue (is_writable (W.ledger world.old) file) }
-    ensures told { IsTrue W.tells → (before : Shown) (writes : List Write) (name : List ℕ)
-        → IsOutput file name (W.shown world.old)
-        → HasGathered writes lines.old before (W.shown world.old)
-        → Writes result (writes ++ release_writes name (packets_in outputs.now)) before
-        (W.shown world.new) }
-    ensures only_writes { OnlyWrites W.tells W.shown W.ledger W.healthy world.old world.new }
+    ensures only_writes { OnlyWrites W.ledger W.healthy world.old world.new }
     ensures cause { IsErrOf result OutputError.WriteFault
         → WritingFailed W.ledger W.healthy world.old world.new }
     ensures shows { (p : Start) → W.honest p world.new

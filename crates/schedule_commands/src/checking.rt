@@ -1,4 +1,4 @@
-ghost use Rattle.std.specs.Prelude.{◌≡◌, ◌⊎◌, Err, IfOk, IsTrue, OnOk, IsErrOf, length};
+ghost use Rattle.std.specs.Prelude.{◌≡◌, ◌⊎◌, Err, IfOk, OnOk, IsErrOf, length};
 ghost use Rattle.schedule_check.specs.declared.checking.Refutation as refuted;
 ghost use Rattle.world_io.specs.World.{Start, WritingFailed};
 ghost use Rattle.output_files.specs.Writes.{HasBegun, HasWritten};
@@ -47,9 +47,7 @@ fn find_released<P: Program>(
 
 /// Reports how many released packets were found.
 fn report_found<W: World>(alloc: Global, world: &mut W, count: u64) -> Result<(), OutputError>
-    ensures told { IsTrue W.tells → Writes result (found_writes count)
-        (W.shown world.old) (W.shown world.new) }
-    ensures only_writes { OnlyWrites W.tells W.shown W.ledger W.healthy world.old world.new }
+    ensures only_writes { OnlyWrites W.ledger W.healthy world.old world.new }
     ensures cause { IsErrOf result OutputError.WriteFault
         → WritingFailed W.ledger W.healthy world.old world.new }
     ensures shows { (p : Start) → W.honest p world.new → Writes result (found_writes count)
@@ -76,19 +74,14 @@ pub fn check_schedule<P: Program, W: World>(
     requires { CanPlay run }
     ensures says { SaysCheck (outcome_of (P.meaning program.now) run) run.unit released.now
         released_unit result }
-    ensures reported { IsTrue W.tells → OnOk result (HasWritten (found_writes (length released.now))
-        (W.shown world.old) (W.shown world.new)) }
-    ensures in_order { IsTrue W.tells → (world.new ≡ world.old)
-        ⊎ (IsFound (outcome_of (P.meaning program.now) run) run.unit released.now released_unit
-        × HasBegun (found_writes (length released.now)) (W.shown world.old) (W.shown world.new)) }
     ensures refused { (refutation : refuted.Refutation)
         → result ≡ Err (ScheduleError.Refused refutation) → world.new ≡ world.old }
-    ensures only_writes { OnlyWrites W.tells W.shown W.ledger W.healthy world.old world.new }
+    ensures only_writes { OnlyWrites W.ledger W.healthy world.old world.new }
     ensures cause { IsErrOf result ScheduleError.WriteFault
         → WritingFailed W.ledger W.healthy world.old world.new }
-    ensures shows_reported { (p : Start) → W.honest p world.new → OnOk result (HasWritten
+    ensures reported { (p : Start) → W.honest p world.new → OnOk result (HasWritten
         (found_writes (length released.now)) (W.shows p world.old) (W.shows p world.new)) }
-    ensures shows_in_order { (p : Start) → W.honest p world.new → (world.new ≡ world.old) ⊎ (IsFound
+    ensures in_order { (p : Start) → W.honest p world.new → (world.new ≡ world.old) ⊎ (IsFound
         (outcome_of (P.meaning program.now) run) run.unit released.now released_unit × HasBegun
         (found_writes (length released.now)) (W.shows p world.old) (W.shows p world.new)) }
     ensures before { (p : Start) → W.honest p world.new → W.honest p world.old }

@@ -1,4 +1,4 @@
-ghost use Rattle.std.specs.Prelude.{◌≡◌, ◌⊎◌, ◌<◌, ◌-◌, ◌^◌, All, Err, IfOk, IsTrue, OnOk, IsErrOf};
+ghost use Rattle.std.specs.Prelude.{◌≡◌, ◌⊎◌, ◌<◌, ◌-◌, ◌^◌, All, Err, IfOk, OnOk, IsErrOf};
 ghost use Rattle.plain_text.specs.Packets.{IsShort};
 ghost use Rattle.plain_machine.specs.declared.plain_move.PlayFault as move_fault;
 ghost use Rattle.output_files.specs.Written.{Writes, WritesFiles};
@@ -42,8 +42,6 @@ fn write_packets<W: World>(
 ) -> Result<(), OutputError>
     requires short { All IsShort packets.now }
     requires room { (W.ledger world.old).given < 2 ^ 32 - 1 }
-    ensures told { IsTrue W.tells → Writes result (packet_writes out.now unit packets.now)
-        (W.shown world.old) (W.shown world.new) }
     ensures writes_files { WritesFiles W.ledger W.healthy 1 world.old world.new }
     ensures cause { IsErrOf result OutputError.WriteFault
         → WritingFailed W.ledger W.healthy world.old world.new }
@@ -71,20 +69,14 @@ pub fn play_schedule<P: Program, W: World>(
     requires inputs { CanPlay run }
     requires room { (W.ledger world.old).given < 2 ^ 32 - 1 }
     ensures says { SaysPlay (outcome_of (P.meaning program.now) run) result }
-    ensures played { IsTrue W.tells → OnOk result (HasPlayed
-        (outcome_of (P.meaning program.now) run) out.now run.unit
-        (W.shown world.old) (W.shown world.new)) }
-    ensures in_order { IsTrue W.tells → (world.new ≡ world.old)
-        ⊎ HasBegunPlay (outcome_of (P.meaning program.now) run)
-        out.now run.unit (W.shown world.old) (W.shown world.new) }
     ensures refused { (fault : move_fault.PlayFault) → result ≡ Err (ScheduleError.Refused fault)
         → world.new ≡ world.old }
     ensures writes_files { WritesFiles W.ledger W.healthy 1 world.old world.new }
     ensures cause { IsErrOf result ScheduleError.WriteFault
         → WritingFailed W.ledger W.healthy world.old world.new }
-    ensures shows_played { (p : Start) → W.honest p world.new → OnOk result (HasPlayed (outcome_of
+    ensures played { (p : Start) → W.honest p world.new → OnOk result (HasPlayed (outcome_of
         (P.meaning program.now) run) out.now run.unit (W.shows p world.old) (W.shows p world.new)) }
-    ensures shows_in_order { (p : Start) → W.honest p world.new → (world.new ≡ world.old)
+    ensures in_order { (p : Start) → W.honest p world.new → (world.new ≡ world.old)
         ⊎ HasBegunPlay (outcome_of (P.meaning program.now) run) out.now run.unit
         (W.shows p world.old) (W.shows p world.new) }
     ensures before { (p : Start) → W.honest p world.new → W.honest p world.old }

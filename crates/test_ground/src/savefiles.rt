@@ -33,11 +33,7 @@ struct Pieces<'a> {
 }
 
 impl<'a> Source for Pieces<'a> {
-    ghost use Rattle.std.specs.Prelude.{◌≡◌, ◌++◌, false, [], List, ℕ};
-
-    ghost tells = { false };
-
-    ghost left = { λ _. [] };
+    ghost use Rattle.std.specs.Prelude.{[]};
 
     ghost honest = { λ _ _. ⊥ };
 
@@ -52,8 +48,6 @@ impl<'a> Source for Pieces<'a> {
     ghost reads_nothing = { λ _. tt };
 
     ghost reads_more = { λ _ _ _ _ _ _ _. tt };
-
-    ghost reads_told = { λ _ _ _ told _. Prim.cc };
 
     ghost reads_before = { λ _ _ _ _ never _. never };
 
@@ -184,11 +178,7 @@ fn a_fault_is_told_with_its_place(rt: HostRuntime) -> Result<(), Fail> {
 }
 
 /// A capture in nanoseconds, of one packet that was cut.
-const SHORT: [&[u8]; 3] = [
-    BIG_NANO,
-    b"\0\0\0\x01\0\0\0\x07\0\0\0\x0e\0\0\0\x3c",
-    CUT,
-];
+const SHORT: [&[u8]; 3] = [BIG_NANO, b"\0\0\0\x01\0\0\0\x07\0\0\0\x0e\0\0\0\x3c", CUT];
 
 /// What the first bytes of it come to, as many as this.
 fn told_of_first(alloc: Global, length: usize) -> Result<String, NoMemory> {

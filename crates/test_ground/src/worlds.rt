@@ -20,10 +20,6 @@ impl<'a> Source for Counting<'a> {
     ghost use Rattle.std.specs.Prelude.{◌≡◌, ◌++◌, true, ⊤, refl};
     ghost use Rattle.std.proofs.Common.{◌∙◌, sym, ap, append_assoc};
 
-    ghost tells = { true };
-
-    ghost left = { λ s. s.below };
-
     ghost honest = { λ _ _. ⊤ };
 
     ghost remains = { λ _ s. s.below };
@@ -38,8 +34,6 @@ impl<'a> Source for Counting<'a> {
 
     ghost reads_more = { λ a b c first more r s.
         r ∙ ap (λ l. first ++ l) s ∙ sym (append_assoc first more c.below) };
-
-    ghost reads_told = { λ a b taken _ r. r };
 
     ghost reads_before = { λ _ _ _ _ _ _. tt };
 

@@ -1,22 +1,18 @@
 -- What a source or a sink over one file of a world does to that world, and that it does so by one call as by two.
-use Rattle.std.specs.Prelude.{◌≡◌, ℕ, Bool, IsTrue, List, [], ◌++◌, Some, refl}
+use Rattle.std.specs.Prelude.{◌≡◌, ℕ, List, [], ◌++◌, Some, refl}
 use Rattle.std.proofs.Common.{sym, ◌∙◌, ap, subst, arith, append_assoc, append-nil}
 use Rattle.world_io.specs.World.{Start, Shown, Ledger, KeepsLedgerReading, KeepsLedgerWriting, ReadsFile, WritesFile}
 
--- These bytes were taken from one file of a world: where told, by the world's own relation, and so by each beginning
--- of which its answers are honest.
-pub record ReadsOneFile {W : Type 0} (tells : Bool) (shown : W → Shown) (honest : Start → W → Type 0)
+-- These bytes were taken from one file of a world, by each beginning of which its answers are honest.
+pub record ReadsOneFile {W : Type 0} (honest : Start → W → Type 0)
     (shows : Start → W → Shown) (ledger : W → Ledger) (file : ℕ) (taken : List ℕ) (old new : W) : Type 0 where
   pub ledger_kept : KeepsLedgerReading (ledger old) (ledger new)
-  pub shown_read : IsTrue tells → ReadsFile file taken (shown old) (shown new)
   pub honest_read : (p : Start) → honest p new → honest p old × ReadsFile file taken (shows p old) (shows p new)
 
--- These bytes were appended to one file of a world: where told, by the world's own relation, and so by each beginning
--- of which its answers are honest.
-pub record WritesOneFile {W : Type 0} (tells : Bool) (shown : W → Shown) (honest : Start → W → Type 0)
+-- These bytes were appended to one file of a world, by each beginning of which its answers are honest.
+pub record WritesOneFile {W : Type 0} (honest : Start → W → Type 0)
     (shows : Start → W → Shown) (ledger : W → Ledger) (file : ℕ) (bytes : List ℕ) (old new : W) : Type 0 where
   pub ledger_kept : KeepsLedgerWriting (ledger old) (ledger new)
-  pub shown_written : IsTrue tells → WritesFile file bytes (shown old) (shown new)
   pub honest_written : (p : Start) → honest p new → honest p old × WritesFile file bytes (shows p old) (shows p new)
 
 pub KeepsLedgerReading-same : (a : Ledger) → KeepsLedgerReading a a
@@ -87,18 +83,17 @@ WritesFile-more file first more a b c r s =
       left = s.left ∙ r.left;
     }
 
-module _ {W : Type 0} (tells : Bool) (shown : W → Shown) (honest : Start → W → Type 0) (shows : Start → W → Shown)
+module _ {W : Type 0} (honest : Start → W → Type 0) (shows : Start → W → Shown)
     (ledger : W → Ledger) where
   abbrev pub Reads : ℕ → List ℕ → W → W → Type 0
-  Reads = ReadsOneFile tells shown honest shows ledger
+  Reads = ReadsOneFile honest shows ledger
 
   abbrev pub Writes : ℕ → List ℕ → W → W → Type 0
-  Writes = WritesOneFile tells shown honest shows ledger
+  Writes = WritesOneFile honest shows ledger
 
   pub ReadsOneFile-nothing : (file : ℕ) (a : W) → Reads file [] a a
   ReadsOneFile-nothing file a = record {
     ledger_kept = KeepsLedgerReading-same (ledger a);
-    shown_read = λ _. ReadsFile-nothing file (shown a);
     honest_read = λ p h. (h, ReadsFile-nothing file (shows p a));
   }
 
@@ -109,8 +104,6 @@ module _ {W : Type 0} (tells : Bool) (shown : W → Shown) (honest : Start → W
       let P : ℕ → Type 0 = λ k. Reads k more b c in
       let t = subst P same s in record {
         ledger_kept = KeepsLedgerReading-more (ledger a) (ledger b) (ledger c) r.ledger_kept t.ledger_kept;
-        shown_read = λ told.
-            ReadsFile-more file first more (shown a) (shown b) (shown c) (r.shown_read told) (t.shown_read told);
         honest_read = λ p h.
             let later = t.honest_read p h in
             let earlier = r.honest_read p later.0 in
@@ -120,7 +113,6 @@ module _ {W : Type 0} (tells : Bool) (shown : W → Shown) (honest : Start → W
   pub WritesOneFile-nothing : (file : ℕ) (a : W) → Writes file [] a a
   WritesOneFile-nothing file a = record {
     ledger_kept = KeepsLedgerWriting-same (ledger a);
-    shown_written = λ _. WritesFile-nothing file (shown a);
     honest_written = λ p h. (h, WritesFile-nothing file (shows p a));
   }
 
@@ -130,8 +122,6 @@ module _ {W : Type 0} (tells : Bool) (shown : W → Shown) (honest : Start → W
       let P : ℕ → Type 0 = λ k. Writes k more b c in
       let t = subst P same s in record {
         ledger_kept = KeepsLedgerWriting-more (ledger a) (ledger b) (ledger c) r.ledger_kept t.ledger_kept;
-        shown_written = λ told.
-            WritesFile-more file first more (shown a) (shown b) (shown c) (r.shown_written told) (t.shown_written told);
         honest_written = λ p h.
             let later = t.honest_written p h in
             let earlier = r.honest_written p later.0 in

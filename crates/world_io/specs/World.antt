@@ -10,7 +10,7 @@ use Rattle.world_io.specs.declared.stream.Put.TheVariants as put
 abbrev pub Start : Type 0
 Start = List ℕ → Option (List ℕ)
 
--- the bytes that a world tells: under each name, left in each file that was opened, and sent to each file that was
+-- the bytes that a world shows: under each name, left in each file that was opened, and sent to each file that was
 -- created, of which 0 is the report; and the name of each file that was created
 pub record Shown : Type 0 where
   pub names : List ℕ → Option (List ℕ)
@@ -18,7 +18,7 @@ pub record Shown : Type 0 where
   pub sent : ℕ → List ℕ
   pub name_of : ℕ → List ℕ
 
--- what a world shows whether it tells its bytes or not: the numbers that it gave, how many, and its faults
+-- what a world shows whatever the beginning: the numbers that it gave, how many, and its faults
 pub record Ledger : Type 0 where
   pub opened : ℕ → Bool
   pub created : ℕ → Bool

@@ -1,4 +1,4 @@
-ghost use Rattle.std.specs.Prelude.{◌≡◌, ◌++◌, IsTrue, IsErrOf, IfOk, OnOk};
+ghost use Rattle.std.specs.Prelude.{◌≡◌, ◌++◌, IsErrOf, IfOk, OnOk};
 ghost use Rattle.plain_text.specs.Octets.{AreBytes};
 ghost use Rattle.world_io.specs.Beginning.{ReadsFront, IsFront, FrontIsBytes};
 ghost use Rattle.world_io.specs.Stream.{GoesOn, HasFailed};
@@ -45,8 +45,6 @@ impl From<NoMemory> for FrontError {
 /// taken, and these are lost.
 pub fn read_front<S: Source>(alloc: Global, source: &mut S, limit: u64) -> Result<Front, FrontError>
     ensures reads { ReadsFront S.reads result limit source.old source.new }
-    ensures end { IsTrue S.tells
-        → IsFront result limit (S.left source.old) (S.left source.new) }
     ensures bytes { IfOk result FrontIsBytes }
     ensures goes_on { GoesOn S.faults S.healthy source.old source.new }
     ensures cause { IsErrOf result FrontError.Failed

@@ -1,5 +1,5 @@
-ghost use Rattle.std.specs.Prelude.{◌≡◌, ◌<◌, ◌++◌, [], length, min, take, vec_len, IsTrue};
-ghost use Rattle.world_io.specs.Stream.{GoesOn, HasFailed, EndsAtEnd};
+ghost use Rattle.std.specs.Prelude.{◌≡◌, ◌<◌, ◌++◌, [], length, min, take, vec_len};
+ghost use Rattle.world_io.specs.Stream.{GoesOn, HasFailed};
 ghost use Rattle.world_io.specs.Buffered.{HoldsSome};
 ghost use Rattle.world_io.specs.World.{Start};
 
@@ -80,7 +80,6 @@ impl<S: Source> BufferedSource<S> {
         requires { length self.old.1 ≡ 0 }
         ensures reads { S.reads self.old.0 self.new.1 self.new.0 }
         ensures holds { HoldsSome result self.new.1 }
-        ensures end { IsTrue S.tells → EndsAtEnd result (S.left self.old.0) }
         ensures goes_on { GoesOn S.faults S.healthy self.old.0 self.new.0 }
         ensures cause { result ≡ Filled.Failed
             → HasFailed S.faults S.healthy self.old.0 self.new.0 }
@@ -102,10 +101,6 @@ impl<S: Source> Source for BufferedSource<S> {
     ghost use Rattle.world_io.specs.Buffered.{TakesThrough, TakesThrough-nothing};
     ghost use Rattle.world_io.specs.Buffered.{TakesThrough-more, TakesThrough-told};
 
-    ghost tells = { S.tells };
-
-    ghost left = { λ b. b.1 ++ S.left b.0 };
-
     ghost honest = { λ p b. S.honest p b.0 };
 
     ghost remains = { λ p b. b.1 ++ S.remains p b.0 };
@@ -120,9 +115,6 @@ impl<S: Source> Source for BufferedSource<S> {
 
     ghost reads_more = { λ a b c first more r s.
         TakesThrough-more S.reads S.reads_more first more a b c r s };
-
-    ghost reads_told = { λ a b taken told r. TakesThrough-told S.reads S.left taken a b r
-        (S.reads_told a.0 b.0 r.fetched told r.below) };
 
     ghost reads_before = { λ p a b taken h r. S.reads_before p a.0 b.0 r.fetched h r.below };
 

@@ -1,7 +1,7 @@
-ghost use Rattle.std.specs.Prelude.{◌≡◌, ◌<◌, ◌-◌, ◌^◌, length, true, IsTrue, IfOk, OnOk, OnErr};
+ghost use Rattle.std.specs.Prelude.{◌≡◌, ◌<◌, ◌-◌, ◌^◌, length, IsTrue, ⊤, IfOk, OnOk, OnErr};
 ghost use Rattle.std.specs.Option.{option_copied};
 ghost use Rattle.world_io.specs.Stream.{FillCount, PutCount, put_bytes};
-ghost use Rattle.world_io.specs.World.{OpensFile, WritesFile, is_writable};
+ghost use Rattle.world_io.specs.World.{Start, OpensFile, WritesFile, is_writable};
 ghost use Rattle.world_io.specs.Names.{bytes_under, SetsName};
 ghost use Rattle.world_io.specs.Calls.{with_failing};
 ghost use Rattle.world_io.specs.Files.{file_of, is_opened, is_created};
@@ -191,12 +191,8 @@ impl MemoryWorld {
 }
 
 impl World for MemoryWorld {
-    ghost use Rattle.std.specs.Prelude.{true, ⊤};
+    ghost use Rattle.std.specs.Prelude.{⊤};
     ghost use Rattle.world_io.specs.Memory.{IsHealthy, shown_of, ledger_of};
-
-    ghost tells = { true };
-
-    ghost shown = { shown_of };
 
     // It shows its own bytes, whatever the beginning.
     ghost honest = { λ _ _. ⊤ };
@@ -212,7 +208,7 @@ impl World for MemoryWorld {
 
     fn open_file(&mut self, name: &Text) -> Result<u32, OpenFault>
         requires { (ledger_of self.old).given < 2 ^ 32 - 1 }
-        ensures told { IsTrue true → IfOk result
+        ensures shows { (p : Start) → ⊤ → IfOk result
             (λ file. OpensFile name.now file (shown_of self.old) (shown_of self.new)) }
         ensures stays_healthy { IsHealthy self.old → IsHealthy self.new }
         ensures opens { Opens self.old name.now result self.new }
@@ -238,7 +234,7 @@ impl World for MemoryWorld {
     fn put(&mut self, file: u32, piece: &[u8]) -> Put
         requires { IsTrue (is_writable (ledger_of self.old) file) }
         ensures count { PutCount result (length piece.now) }
-        ensures told { IsTrue true
+        ensures shows { (p : Start) → ⊤
             → WritesFile file (put_bytes result piece.now) (shown_of self.old) (shown_of self.new) }
         ensures puts { Puts self.old file result piece.now self.new }
     {

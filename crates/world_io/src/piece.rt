@@ -1,4 +1,4 @@
-ghost use Rattle.std.specs.Prelude.{◌≡◌, ◌≤◌, ◌<◌, ◌++◌, [], IsTrue, IsNone, IsErrOf, IfSome, IfOk};
+ghost use Rattle.std.specs.Prelude.{◌≡◌, ◌≤◌, ◌<◌, ◌++◌, [], IsNone, IsErrOf, IfSome, IfOk};
 ghost use Rattle.std.specs.Prelude.{MatchOption, List, ℕ, length, take};
 ghost use Rattle.plain_text.specs.Octets.{AreBytes};
 ghost use Rattle.world_io.specs.Beginning.{ReadsBehind};
@@ -15,8 +15,6 @@ pub fn fill_piece<S: Source>(source: &mut S, piece: &mut [u8]) -> Option<usize>
     ensures taken { MatchOption result ((taken : List ℕ) × S.reads source.old taken source.new)
         (λ n. S.reads source.old (take n piece.new) source.new) }
     ensures within { IfSome result (λ n. n ≤ length piece.new) }
-    ensures short { IsTrue S.tells
-        → IfSome result (λ n. n < length piece.new → S.left source.new ≡ []) }
     ensures octets { AreBytes piece.new }
     ensures goes_on { GoesOn S.faults S.healthy source.old source.new }
     ensures cause { IsNone result → HasFailed S.faults S.healthy source.old source.new }
@@ -42,8 +40,6 @@ pub fn fill_behind<S: Source>(source: &mut S, first: &[u8], piece: &mut [u8]) ->
         (λ n. (taken : List ℕ) × S.reads source.old taken source.new
         × (first.now ++ taken ≡ take n piece.new)) }
     ensures within { IfSome result (λ n. n ≤ length piece.new) }
-    ensures short { IsTrue S.tells
-        → IfSome result (λ n. n < length piece.new → S.left source.new ≡ []) }
     ensures octets { AreBytes piece.new }
     ensures goes_on { GoesOn S.faults S.healthy source.old source.new }
     ensures cause { IsNone result → HasFailed S.faults S.healthy source.old source.new }
@@ -69,8 +65,6 @@ pub fn read_behind<S: Source>(
     requires { length first.now ≤ count }
     ensures reads { ReadsBehind S.reads first.now result source.old source.new }
     ensures within { IfOk result (λ bytes. length bytes ≤ count) }
-    ensures short { IsTrue S.tells
-        → IfOk result (λ bytes. length bytes < count → S.left source.new ≡ []) }
     ensures bytes { IfOk result AreBytes }
     ensures goes_on { GoesOn S.faults S.healthy source.old source.new }
     ensures cause { IsErrOf result FrontError.Failed

@@ -1,5 +1,5 @@
-ghost use Rattle.std.specs.Prelude.{◌≡◌, ◌++◌, [], Bool, true, IsTrue, List, ℕ, length};
-ghost use Rattle.world_io.specs.Stream.{GoesOn, HasFailed, FillCount, filled_bytes, EndsAtEnd};
+ghost use Rattle.std.specs.Prelude.{◌≡◌, ◌++◌, [], List, ℕ, length};
+ghost use Rattle.world_io.specs.Stream.{GoesOn, HasFailed, FillCount, filled_bytes};
 ghost use Rattle.world_io.specs.Stream.{PutCount, put_bytes};
 ghost use Rattle.world_io.specs.World.{Start};
 
@@ -31,17 +31,10 @@ pub enum Put {
 
 /// Bytes to be read in order, in pieces of any size.
 ///
-/// A source may tell its bytes or not, as a real file. What a call took is known either way, since
-/// it stands in the piece; what is left is known only where it is told, or by a beginning of which
-/// all answers so far are honest. A source may say that it is healthy: then no call fails, and it
-/// stays healthy.
+/// What a call took is known, since it stands in the piece. What is left is known by a beginning of
+/// which all answers so far are honest. A source may say that it is healthy: then no call fails,
+/// and it stays healthy.
 pub trait Source {
-    /// Whether it tells its bytes.
-    ghost tells: { Bool };
-
-    /// The bytes left, where told.
-    ghost left: { Self → List ℕ };
-
     /// That each answer so far is that of files which held these bytes at the beginning.
     ghost honest: { Start → Self → Type 0 };
 
@@ -62,7 +55,6 @@ pub trait Source {
     fn fill(&mut self, piece: &mut [u8]) -> Filled
         ensures count { FillCount result (length piece.old) }
         ensures reads { reads self.old (filled_bytes result piece.new) self.new }
-        ensures end { IsTrue tells → EndsAtEnd result (left self.old) }
         ensures goes_on { GoesOn faults healthy self.old self.new }
         ensures cause { result ≡ Filled.Failed → HasFailed faults healthy self.old self.new }
         ensures ends { (p : Start) → honest p self.new
@@ -72,9 +64,6 @@ pub trait Source {
 
     ghost reads_more: { (a b c : Self) (first more : List ℕ)
         → reads a first b → reads b more c → reads a (first ++ more) c };
-
-    ghost reads_told: { (a b : Self) (taken : List ℕ)
-        → IsTrue tells → reads a taken b → left a ≡ taken ++ left b };
 
     ghost reads_before: { (p : Start) (a b : Self) (taken : List ℕ)
         → honest p b → reads a taken b → honest p a };
@@ -86,12 +75,6 @@ pub trait Source {
 /// A place to append bytes to. A sink may say that it is healthy: then no call fails, and it stays
 /// healthy.
 pub trait Sink {
-    /// Whether it tells its bytes.
-    ghost tells: { Bool };
-
-    /// The bytes written, where told.
-    ghost written: { Self → List ℕ };
-
     /// That each answer so far is that of files which held these bytes at the beginning.
     ghost honest: { Start → Self → Type 0 };
 
@@ -120,9 +103,6 @@ pub trait Sink {
     ghost writes_more: { (a b c : Self) (first more : List ℕ)
         → writes a first b → writes b more c → writes a (first ++ more) c };
 
-    ghost writes_told: { (a b : Self) (added : List ℕ)
-        → IsTrue tells → writes a added b → written b ≡ written a ++ added };
-
     ghost writes_before: { (p : Start) (a b : Self) (added : List ℕ)
         → honest p b → writes a added b → honest p a };
 
@@ -134,10 +114,6 @@ pub trait Sink {
 impl<'a, S: Source> Source for &'a mut S {
     ghost use Rattle.std.specs.Prelude.{◌≡◌, refl};
     ghost use Rattle.std.proofs.Common.{◌∙◌};
-
-    ghost tells = { S.tells };
-
-    ghost left = { λ s. S.left s.now };
 
     ghost honest = { λ p s. S.honest p s.now };
 
@@ -154,8 +130,6 @@ impl<'a, S: Source> Source for &'a mut S {
     ghost reads_more = { λ a b c first more r s.
         (s.0 ∙ r.0, S.reads_more a.now b.now c.now first more r.1 s.1) };
 
-    ghost reads_told = { λ a b taken told r. S.reads_told a.now b.now taken told r.1 };
-
     ghost reads_before = { λ p a b taken h r. S.reads_before p a.now b.now taken h r.1 };
 
     ghost reads_shown = { λ p a b taken h r. S.reads_shown p a.now b.now taken h r.1 };
@@ -169,10 +143,6 @@ impl<'a, S: Source> Source for &'a mut S {
 impl<'a, K: Sink> Sink for &'a mut K {
     ghost use Rattle.std.specs.Prelude.{◌≡◌, refl};
     ghost use Rattle.std.proofs.Common.{◌∙◌};
-
-    ghost tells = { K.tells };
-
-    ghost written = { λ s. K.written s.now };
 
     ghost honest = { λ p s. K.honest p s.now };
 
@@ -188,8 +158,6 @@ impl<'a, K: Sink> Sink for &'a mut K {
 
     ghost writes_more = { λ a b c first more r s.
         (s.0 ∙ r.0, K.writes_more a.now b.now c.now first more r.1 s.1) };
-
-    ghost writes_told = { λ a b added told r. K.writes_told a.now b.now added told r.1 };
 
     ghost writes_before = { λ p a b added h r. K.writes_before p a.now b.now added h r.1 };
 
@@ -224,12 +192,8 @@ impl<'a> SliceSource<'a> {
 }
 
 impl<'a> Source for SliceSource<'a> {
-    ghost use Rattle.std.specs.Prelude.{◌≡◌, ◌++◌, true, ⊤, refl};
+    ghost use Rattle.std.specs.Prelude.{◌≡◌, ◌++◌, ⊤, refl};
     ghost use Rattle.std.proofs.Common.{◌∙◌, sym, ap, append_assoc};
-
-    ghost tells = { true };
-
-    ghost left = { λ s. s };
 
     ghost honest = { λ _ _. ⊤ };
 
@@ -245,8 +209,6 @@ impl<'a> Source for SliceSource<'a> {
 
     ghost reads_more = { λ a b c first more r s.
         r ∙ ap (λ l. first ++ l) s ∙ sym (append_assoc first more c) };
-
-    ghost reads_told = { λ a b taken _ r. r };
 
     ghost reads_before = { λ _ _ _ _ _ _. tt };
 

@@ -1,6 +1,6 @@
-ghost use Rattle.std.specs.Prelude.{◌≡◌, ◌<◌, ◌-◌, ◌^◌, [], Bool, IsTrue, length, IfOk, OnErr};
+ghost use Rattle.std.specs.Prelude.{◌≡◌, ◌<◌, ◌-◌, ◌^◌, [], IsTrue, length, IfOk, OnErr};
 ghost use Rattle.std.specs.Prelude.{IsErrOf, None};
-ghost use Rattle.world_io.specs.Stream.{Rose, FillCount, filled_bytes, EndsAtEnd, PutCount};
+ghost use Rattle.world_io.specs.Stream.{Rose, FillCount, filled_bytes, PutCount};
 ghost use Rattle.world_io.specs.Stream.{put_bytes};
 ghost use Rattle.world_io.specs.World.{Start, Shown, Ledger, KeepsLedgerReading};
 ghost use Rattle.world_io.specs.World.{KeepsLedgerWriting};
@@ -33,23 +33,16 @@ impl From<NoMemory> for OpenFault {
 
 /// The outside: named files, and the report, which is file 0 and is always there.
 ///
-/// A world may tell its bytes or not, as that of the real files. Whether it does or not, it shows
-/// which numbers it gave to files that it opened and created, and how often reading and writing
-/// failed. A count that stands at 2^64 - 1 stays there.
+/// It shows which numbers it gave to files that it opened and created, and how often reading and
+/// writing failed. A count that stands at 2^64 - 1 stays there.
 ///
-/// What a world shows is also known by a beginning, where its answers are honest: where each is that
-/// of files which held these bytes at first. So something is known of the real files, whose bytes
-/// no contract can name: whatever they held, if they answer as files do.
+/// Its bytes are known by a beginning, where its answers are honest: where each is that of files
+/// which held these bytes at first. So something is known of the real files, whose bytes no
+/// contract can name: whatever they held, if they answer as files do.
 ///
 /// A world may say that it is healthy: then no call fails, but for opening a name that is not
 /// there, and it stays healthy. The world of the real files never says so.
 pub trait World {
-    /// Whether it tells its bytes.
-    ghost tells: { Bool };
-
-    /// The bytes, where told.
-    ghost shown: { Self → Shown };
-
     /// That each answer so far is that of files which held these bytes at the beginning.
     ghost honest: { Start → Self → Type 0 };
 
@@ -65,15 +58,10 @@ pub trait World {
     /// Starts reading a name at its first byte. The file has a number of its own, which is not 0.
     fn open_file(&mut self, name: &Text) -> Result<u32, OpenFault>
         requires { (ledger self.old).given < 2 ^ 32 - 1 }
-        ensures told { IsTrue tells
-            → IfOk result (λ file. OpensFile name.now file (shown self.old) (shown self.new)) }
-        ensures told_err { IsTrue tells → OnErr result (shown self.new ≡ shown self.old) }
         ensures given { IfOk result (λ file. GivesOpened file (ledger self.old) (ledger self.new)) }
         ensures not_given { OnErr result (KeepsLedgerReading (ledger self.old) (ledger self.new)) }
         ensures cause { IsErrOf result OpenFault.Failed
             → Rose (ledger self.old).read_faults (ledger self.new).read_faults }
-        ensures there { healthy self.old → IsTrue tells
-            → IsErrOf result OpenFault.Failed → (shown self.old).names name.now ≡ None }
         ensures stays_healthy { healthy self.old → healthy self.new }
         ensures shows { (p : Start) → honest p self.new
             → IfOk result (λ file. OpensFile name.now file (shows p self.old) (shows p self.new)) }
@@ -87,11 +75,6 @@ pub trait World {
     fn fill(&mut self, file: u32, piece: &mut [u8]) -> Filled
         requires { IsTrue ((ledger self.old).opened file) }
         ensures count { FillCount result (length piece.old) }
-        ensures told { IsTrue tells
-            → ReadsFile file (filled_bytes result piece.new) (shown self.old) (shown self.new) }
-        ensures told_nothing { IsTrue tells
-            → FilledNothing result → shown self.new ≡ shown self.old }
-        ensures end { IsTrue tells → EndsAtEnd result ((shown self.old).left file) }
         ensures reads_on { ReadsOn ledger healthy self.old self.new }
         ensures cause { result ≡ Filled.Failed → ReadingFailed ledger healthy self.old self.new }
         ensures shows { (p : Start) → honest p self.new
@@ -106,10 +89,6 @@ pub trait World {
     /// which is not 0.
     fn create_file(&mut self, name: &Text) -> Result<u32, OpenFault>
         requires { (ledger self.old).given < 2 ^ 32 - 1 }
-        ensures told { IsTrue tells
-            → IfOk result (λ file. CreatesFile name.now file (shown self.old) (shown self.new)) }
-        ensures told_err { IsTrue tells
-            → OnErr result (CreatesNothing name.now (shown self.old) (shown self.new)) }
         ensures given { IfOk result
             (λ file. GivesCreated file (ledger self.old) (ledger self.new)) }
         ensures not_given { OnErr result (KeepsLedgerWriting (ledger self.old) (ledger self.new)) }
@@ -126,9 +105,6 @@ pub trait World {
     fn put(&mut self, file: u32, piece: &[u8]) -> Put
         requires { IsTrue (is_writable (ledger self.old) file) }
         ensures count { PutCount result (length piece.now) }
-        ensures told { IsTrue tells
-            → WritesFile file (put_bytes result piece.now) (shown self.old) (shown self.new) }
-        ensures told_nothing { IsTrue tells → PutNothing result → shown self.new ≡ shown self.old }
         ensures writes_on { WritesOn ledger healthy self.old self.new }
         ensures cause { result ≡ Put.Failed → WritingFailed ledger healthy self.old self.new }
         ensures shows { (p : Start) → honest p self.new

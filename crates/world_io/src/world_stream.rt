@@ -32,10 +32,6 @@ impl<'a, W: World> WorldSource<'a, W> {
 }
 
 impl<'a, W: World> Source for WorldSource<'a, W> {
-    ghost tells = { W.tells };
-
-    ghost left = { λ s. (W.shown s.world.now).left s.file };
-
     ghost honest = { λ p s. W.honest p s.world.now };
 
     ghost remains = { λ p s. (W.shows p s.world.now).left s.file };
@@ -45,13 +41,13 @@ impl<'a, W: World> Source for WorldSource<'a, W> {
     ghost healthy = { λ s. W.healthy s.world.now };
 
     ghost reads = { λ a taken b. (b.world.ghost_name ≡ a.world.ghost_name) × ((b.file ≡ a.file)
-        × ReadsOneFile W.tells W.shown W.honest W.shows W.ledger a.file taken a.world.now b.world.now) };
+        × ReadsOneFile W.honest W.shows W.ledger a.file taken a.world.now b.world.now) };
 
     ghost reads_nothing = { λ s. (
       refl,
       (
         refl,
-        ReadsOneFile-nothing W.tells W.shown W.honest W.shows W.ledger s.file s.world.now,
+        ReadsOneFile-nothing W.honest W.shows W.ledger s.file s.world.now,
       ),
     ) };
 
@@ -59,13 +55,10 @@ impl<'a, W: World> Source for WorldSource<'a, W> {
       s.0 ∙ r.0,
       (
         s.1.0 ∙ r.1.0,
-        ReadsOneFile-more W.tells W.shown W.honest W.shows W.ledger a.file b.file first more
+        ReadsOneFile-more W.honest W.shows W.ledger a.file b.file first more
             a.world.now b.world.now c.world.now r.1.0 r.1.1 s.1.1,
       ),
     ) };
-
-    ghost reads_told = { λ a b taken told r. (r.1.1.shown_read told).left
-        ∙ ap (λ k. taken ++ (W.shown b.world.now).left k) (sym r.1.0) };
 
     ghost reads_before = { λ p a b taken h r. (r.1.1.honest_read p h).0 };
 
@@ -100,10 +93,6 @@ impl<'a, W: World> WorldSink<'a, W> {
 }
 
 impl<'a, W: World> Sink for WorldSink<'a, W> {
-    ghost tells = { W.tells };
-
-    ghost written = { λ s. (W.shown s.world.now).sent s.file };
-
     ghost honest = { λ p s. W.honest p s.world.now };
 
     ghost holds = { λ p s. (W.shows p s.world.now).sent s.file };
@@ -113,13 +102,13 @@ impl<'a, W: World> Sink for WorldSink<'a, W> {
     ghost healthy = { λ s. W.healthy s.world.now };
 
     ghost writes = { λ a added b. (b.world.ghost_name ≡ a.world.ghost_name) × ((b.file ≡ a.file)
-        × WritesOneFile W.tells W.shown W.honest W.shows W.ledger a.file added a.world.now b.world.now) };
+        × WritesOneFile W.honest W.shows W.ledger a.file added a.world.now b.world.now) };
 
     ghost writes_nothing = { λ s. (
       refl,
       (
         refl,
-        WritesOneFile-nothing W.tells W.shown W.honest W.shows W.ledger s.file s.world.now,
+        WritesOneFile-nothing W.honest W.shows W.ledger s.file s.world.now,
       ),
     ) };
 
@@ -127,13 +116,10 @@ impl<'a, W: World> Sink for WorldSink<'a, W> {
       s.0 ∙ r.0,
       (
         s.1.0 ∙ r.1.0,
-        WritesOneFile-more W.tells W.shown W.honest W.shows W.ledger a.file b.file first more
+        WritesOneFile-more W.honest W.shows W.ledger a.file b.file first more
             a.world.now b.world.now c.world.now r.1.0 r.1.1 s.1.1,
       ),
     ) };
-
-    ghost writes_told = { λ a b added told r.
-        ap (λ k. (W.shown b.world.now).sent k) r.1.0 ∙ (r.1.1.shown_written told).sent };
 
     ghost writes_before = { λ p a b added h r. (r.1.1.honest_written p h).0 };
 

@@ -18,9 +18,9 @@ use world_io::{Filled, OpenFault, Put, World};
 
 /// The files of the system, by their paths, and standard output as the report.
 ///
-/// It tells no bytes, and none by a beginning: contracts see the numbers that it gave, which count
-/// from 1 and are given once, and how often reading and writing failed. It never says that it is
-/// healthy: any call may fail.
+/// It shows no bytes, by no beginning: contracts see the numbers that it gave, which count from 1
+/// and are given once, and how often reading and writing failed. It never says that it is healthy:
+/// any call may fail.
 #[derive(Drop)]
 pub struct RealWorld<R: Files + Print + Drop> {
     rt: R,
@@ -76,12 +76,7 @@ impl<R: Files + Print + Drop> RealWorld<R> {
 }
 
 impl<R: Files + Print + Drop> World for RealWorld<R> {
-    ghost use Rattle.std.specs.Prelude.{false};
     ghost use Rattle.world_real.specs.Real.{nothing_shown, real_ledger};
-
-    ghost tells = { false };
-
-    ghost shown = { λ _. nothing_shown };
 
     ghost honest = { λ _ _. ⊥ };
 

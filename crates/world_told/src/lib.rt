@@ -1,9 +1,9 @@
 //! Any world, with a record of its calls that only contracts read.
 //!
-//! Of a world that tells no bytes, as that of the real files, something is known all the same:
-//! whatever bytes stood under the names at the beginning, if the answers so far are those of files
-//! which held these, then its bytes are those that the calls make of them. The record takes no
-//! memory, and when the program runs it costs an empty call for each call.
+//! Of a world whose bytes no contract can name, as that of the real files, something is known all
+//! the same: whatever bytes stood under the names at the beginning, if the answers so far are those
+//! of files which held these, then its bytes are those that the calls make of them. The record takes
+//! no memory, and when the program runs it costs an empty call for each call.
 //!
 //! To be trusted, beside the world below: that the record is that of the calls made, by two proofs
 //! by hand in `record`, which no other code can change.

@@ -12,8 +12,8 @@ use world_io::{Filled, OpenFault, Put, World};
 
 /// Any world, with a record of its calls and their answers. Contracts see both.
 ///
-/// It passes each call on. It tells no bytes, but shows them by each beginning of which the answers
-/// so far are honest.
+/// It passes each call on, and shows its bytes by each beginning of which the answers so far are
+/// honest.
 #[derive(Drop)]
 pub struct Told<W: World> {
     inner: W,
@@ -48,13 +48,8 @@ impl<W: World> Told<W> {
 }
 
 impl<W: World> World for Told<W> {
-    ghost use Rattle.std.specs.Prelude.{false};
     ghost use Rattle.world_told.specs.Events.{shown_after};
     ghost use Rattle.world_told.specs.Honest.{IsHonest};
-
-    ghost tells = { false };
-
-    ghost shown = { λ t. W.shown t.world };
 
     ghost honest = { λ p t. IsHonest p t.calls };
 

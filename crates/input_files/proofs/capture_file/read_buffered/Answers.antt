@@ -3,12 +3,6 @@ use Rattle.pcapng_io.specs.Captured.{SaysAny}
 use Rattle.world_io.specs.Stream.{Rose}
 use Rattle.input_files.proofs.capture_file.read_buffered.Goals as goal
 
-pub returns-clause-told : goal.returns-clause-told
-returns-clause-told g c = λ told.
-    let start = ap (λ b. b.1 ++ g.S.Source.left b.0.now) c.of-buffered.ensures in
-    subst (λ (left : List ℕ). SaysAny left c.read_any_capture-captured.result) start
-    (c.read_any_capture-captured.ensures.told told)
-
 pub returns-clause-reads : goal.returns-clause-reads
 returns-clause-reads g c =
     let taken = c.read_any_capture-captured.ensures.reads in

@@ -4,23 +4,7 @@ use Rattle.input_files.proofs.Records.{capture_judged}
 use Rattle.input_files.proofs.capture_file.read_capture_file.Goals as goal
 
 pub returns-clause-judged : goal.returns-clause-judged
-returns-clause-judged g c = λ told.
-    let opened = c.in-Ok.ensures.told told in
-    let left = ap (λ w. (g.W.World.shown w).left c.of-source.result.file) c.of-source.ensures.world
-    ∙ ap (λ (file : ℕ). (g.W.World.shown c.open_file.new.self).left file) c.of-source.ensures.file in
-    let says =
-    subst (λ (bytes : List ℕ). SaysAny bytes c.read_buffered.result) left (c.read_buffered.ensures.told told) in
-    capture_judged (g.W.World.healthy c.args.world.now) c.args.name.now (g.W.World.shown c.args.world.now)
-    c.accepted.result
-    (λ read.
-    ((g.W.World.shown c.open_file.new.self).left c.in-Ok.file, opened.left, c.accepted.ensures.says _ says read))
-    (λ healthy failed.
-    let kept =
-    subst (λ w. g.W.World.healthy w) (sym c.of-source.ensures.world) (c.in-Ok.ensures.stays_healthy healthy) in
-    (c.read_buffered.ensures.cause (c.accepted.ensures.failed failed)).not_healthy kept)
-
-pub returns-clause-judges : goal.returns-clause-judges
-returns-clause-judges g c = λ p h.
+returns-clause-judged g c = λ p h.
     let taken = c.read_buffered.ensures.reads in
     let last = c.world-1.given.1 (sym c.of-source.ensures.same_reference ∙ sym taken.1.0) in
     let here = subst (λ w. g.W.World.honest p w) last h in

@@ -2,15 +2,8 @@ use Rattle.input_files.proofs.Verdicts.{file_judged}
 use Rattle.input_files.proofs.lines_file.read_lines_file.Goals as goal
 
 pub returns-clause-judged : goal.returns-clause-judged
-returns-clause-judged g c = λ told.
-    let read = c.in_ok-front.ensures.judged told in
-    file_judged g.F.LineFile.form (g.W.World.healthy c.args.world.now) c.args.name.now
-    (g.W.World.shown c.args.world.now)
-    c.judge_front.result (read.0, read.1, c.judge_front.ensures.says read.0 read.2)
-
-pub returns-clause-judges : goal.returns-clause-judges
-returns-clause-judges g c = λ p h.
-    let read = c.in_ok-front.ensures.judges p h in
+returns-clause-judged g c = λ p h.
+    let read = c.in_ok-front.ensures.judged p h in
     file_judged g.F.LineFile.form (g.W.World.healthy c.args.world.now) c.args.name.now
     (g.W.World.shows p c.args.world.now)
     c.judge_front.result (read.0, read.1, c.judge_front.ensures.says read.0 read.2)

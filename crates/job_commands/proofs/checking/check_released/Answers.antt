@@ -13,68 +13,37 @@ use Rattle.job_commands.proofs.checking.check_released.Goals as goal
 -- its inputs are accepted
 
 pub returns-in-Ok-clause-done : goal.returns-in-Ok-clause-done
-returns-in-Ok-clause-done g c told done =
-    check_done (g.W.World.healthy c.args.world.now) (check_names_of c.args.names) c.in-Ok.inputs _ _ _
-    (c.in-Ok.ensures.only_reads.outputs told) (c.in-Ok.ensures.judged told) c.check_box.result
-    (sym c.check_outcome.ensures ∙ done) c.check_box.ensures.says (c.check_box.ensures.reported told)
-
-pub returns-in-Ok-clause-shows_done : goal.returns-in-Ok-clause-shows_done
-returns-in-Ok-clause-shows_done g c p q done =
+returns-in-Ok-clause-done g c p q done =
     let q1 = c.check_box.ensures.before p q in
     check_done (g.W.World.healthy c.args.world.now) (check_names_of c.args.names) c.in-Ok.inputs _ _ _
-    (c.in-Ok.ensures.keeps p q1) (c.in-Ok.ensures.judges p q1) c.check_box.result
-    (sym c.check_outcome.ensures ∙ done) c.check_box.ensures.says (c.check_box.ensures.shows_reported p q)
+    (c.in-Ok.ensures.keeps p q1) (c.in-Ok.ensures.judged p q1) c.check_box.result
+    (sym c.check_outcome.ensures ∙ done) c.check_box.ensures.says (c.check_box.ensures.reported p q)
 
 pub returns-in-Ok-clause-no_limit : goal.returns-in-Ok-clause-no_limit
-returns-in-Ok-clause-no_limit g c told limit e stage =
-    check_limit c.check_box.result limit (sym c.check_outcome.ensures ∙ e)
-
-pub returns-in-Ok-clause-shows_no_limit : goal.returns-in-Ok-clause-shows_no_limit
-returns-in-Ok-clause-shows_no_limit g c p q limit e stage =
+returns-in-Ok-clause-no_limit g c p q limit e stage =
     check_limit c.check_box.result limit (sym c.check_outcome.ensures ∙ e)
 
 pub returns-in-Ok-clause-judged : goal.returns-in-Ok-clause-judged
-returns-in-Ok-clause-judged g c told =
-    rw c.check_outcome.ensures (check_judged (g.W.World.healthy c.args.world.now) (check_names_of c.args.names)
-    c.in-Ok.inputs (g.W.World.shown c.args.world.now) _ (g.W.World.shown c.check_box.new.world)
-    (c.in-Ok.ensures.only_reads.outputs told) (c.in-Ok.ensures.judged told) c.check_box.result c.check_box.ensures.says
-    (λ ok fault. (c.check_box.ensures.cause fault).not_healthy (c.in-Ok.ensures.only_reads.stays_healthy ok)))
-
-pub returns-in-Ok-clause-judges : goal.returns-in-Ok-clause-judges
-returns-in-Ok-clause-judges g c p q =
+returns-in-Ok-clause-judged g c p q =
     let q1 = c.check_box.ensures.before p q in
     rw c.check_outcome.ensures (check_judged (g.W.World.healthy c.args.world.now) (check_names_of c.args.names)
     c.in-Ok.inputs (g.W.World.shows p c.args.world.now) _ (g.W.World.shows p c.check_box.new.world)
-    (c.in-Ok.ensures.keeps p q1) (c.in-Ok.ensures.judges p q1) c.check_box.result c.check_box.ensures.says
+    (c.in-Ok.ensures.keeps p q1) (c.in-Ok.ensures.judged p q1) c.check_box.result c.check_box.ensures.says
     (λ ok fault. (c.check_box.ensures.cause fault).not_healthy (c.in-Ok.ensures.only_reads.stays_healthy ok)))
 
 pub returns-in-Ok-clause-in_order : goal.returns-in-Ok-clause-in_order
-returns-in-Ok-clause-in_order g c told =
-    check_in_order (g.W.World.healthy c.args.world.now) (check_names_of c.args.names) c.in-Ok.inputs _ _ _
-    (c.in-Ok.ensures.only_reads.outputs told) (c.in-Ok.ensures.judged told)
-    (elim (c.check_box.ensures.in_order told)
-    [ inl same ↦ inl (ap g.W.World.shown (sym same)) | inr begun ↦ inr begun ])
-
-pub returns-in-Ok-clause-shows_in_order : goal.returns-in-Ok-clause-shows_in_order
-returns-in-Ok-clause-shows_in_order g c p q =
+returns-in-Ok-clause-in_order g c p q =
     let q1 = c.check_box.ensures.before p q in
     check_in_order (g.W.World.healthy c.args.world.now) (check_names_of c.args.names) c.in-Ok.inputs _ _ _
-    (c.in-Ok.ensures.keeps p q1) (c.in-Ok.ensures.judges p q1)
-    (elim (c.check_box.ensures.shows_in_order p q)
+    (c.in-Ok.ensures.keeps p q1) (c.in-Ok.ensures.judged p q1)
+    (elim (c.check_box.ensures.in_order p q)
     [ inl same ↦ inl (ap (λ w. g.W.World.shows p w) (sym same)) | inr begun ↦ inr begun ])
 
 pub returns-in-Ok-clause-refused : goal.returns-in-Ok-clause-refused
-returns-in-Ok-clause-refused g c told e =
-    check_refused (g.W.World.healthy c.args.world.now) (check_names_of c.args.names) c.in-Ok.inputs _ _ _
-    (c.in-Ok.ensures.only_reads.outputs told) (c.in-Ok.ensures.judged told) c.check_box.result
-    (ap stage_of (sym c.check_outcome.ensures) ∙ e)
-    (λ x is. ap g.W.World.shown (sym (c.check_box.ensures.refused x is)))
-
-pub returns-in-Ok-clause-shows_refused : goal.returns-in-Ok-clause-shows_refused
-returns-in-Ok-clause-shows_refused g c p q e =
+returns-in-Ok-clause-refused g c p q e =
     let q1 = c.check_box.ensures.before p q in
     check_refused (g.W.World.healthy c.args.world.now) (check_names_of c.args.names) c.in-Ok.inputs _ _ _
-    (c.in-Ok.ensures.keeps p q1) (c.in-Ok.ensures.judges p q1) c.check_box.result
+    (c.in-Ok.ensures.keeps p q1) (c.in-Ok.ensures.judged p q1) c.check_box.result
     (ap stage_of (sym c.check_outcome.ensures) ∙ e)
     (λ x is. ap (λ w. g.W.World.shows p w) (sym (c.check_box.ensures.refused x is)))
 
@@ -90,7 +59,7 @@ returns-in-Ok-clause-read_fault g c e = absurd (check_reads c.check_box.result (
 
 pub returns-in-Ok-clause-write_fault : goal.returns-in-Ok-clause-write_fault
 returns-in-Ok-clause-write_fault g c e =
-    failed_since _ _ _ _ _ _ _ _ c.in-Ok.ensures.only_reads
+    failed_since _ _ _ _ _ _ c.in-Ok.ensures.only_reads
     (c.check_box.ensures.cause (check_fault c.check_box.result (sym c.check_outcome.ensures ∙ e)))
 
 -- an input is refused
@@ -99,34 +68,19 @@ pub returns-in-Err-clause-creates_nothing : goal.returns-in-Err-clause-creates_n
 returns-in-Err-clause-creates_nothing g c e = c.in-Err.ensures.only_reads.ledger.created
 
 pub returns-in-Err-clause-done : goal.returns-in-Err-clause-done
-returns-in-Err-clause-done g c told e = absurd (quiet_done c.in-Err.status e c.in-Err.ensures.quiet)
-
-pub returns-in-Err-clause-shows_done : goal.returns-in-Err-clause-shows_done
-returns-in-Err-clause-shows_done g c p q e = absurd (quiet_done c.in-Err.status e c.in-Err.ensures.quiet)
+returns-in-Err-clause-done g c p q e = absurd (quiet_done c.in-Err.status e c.in-Err.ensures.quiet)
 
 pub returns-in-Err-clause-no_limit : goal.returns-in-Err-clause-no_limit
-returns-in-Err-clause-no_limit g c told limit e stage =
-    not_of_run c.in-Err.status limit e stage (c.in-Err.ensures.stage told)
-
-pub returns-in-Err-clause-shows_no_limit : goal.returns-in-Err-clause-shows_no_limit
-returns-in-Err-clause-shows_no_limit g c p q limit e stage =
-    not_of_run c.in-Err.status limit e stage (c.in-Err.ensures.shows_stage p q)
+returns-in-Err-clause-no_limit g c p q limit e stage =
+    not_of_run c.in-Err.status limit e stage (c.in-Err.ensures.stage p q)
 
 pub returns-in-Err-clause-judged : goal.returns-in-Err-clause-judged
-returns-in-Err-clause-judged g c told =
-    four_refused (g.W.World.healthy c.args.world.now) (check_names_of c.args.names) (g.W.World.shown c.args.world.now)
-    (EndsCheck (g.W.World.healthy c.args.world.now)) c.in-Err.status (c.in-Err.ensures.judged told)
-
-pub returns-in-Err-clause-judges : goal.returns-in-Err-clause-judges
-returns-in-Err-clause-judges g c p q =
+returns-in-Err-clause-judged g c p q =
     four_refused (g.W.World.healthy c.args.world.now) (check_names_of c.args.names) (g.W.World.shows p c.args.world.now)
-    (EndsCheck (g.W.World.healthy c.args.world.now)) c.in-Err.status (c.in-Err.ensures.judges p q)
+    (EndsCheck (g.W.World.healthy c.args.world.now)) c.in-Err.status (c.in-Err.ensures.judged p q)
 
 pub returns-in-Err-clause-in_order : goal.returns-in-Err-clause-in_order
-returns-in-Err-clause-in_order g c told = inl (kept _ _ (c.in-Err.ensures.only_reads.outputs told))
-
-pub returns-in-Err-clause-shows_in_order : goal.returns-in-Err-clause-shows_in_order
-returns-in-Err-clause-shows_in_order g c p q = inl (kept _ _ (c.in-Err.ensures.keeps p q))
+returns-in-Err-clause-in_order g c p q = inl (kept _ _ (c.in-Err.ensures.keeps p q))
 
 pub returns-in-Err-clause-words : goal.returns-in-Err-clause-words
 returns-in-Err-clause-words g c e = quiet_words c.in-Err.status e c.in-Err.ensures.quiet

@@ -6,44 +6,23 @@ use Rattle.job_commands.proofs.Turns.{judged_since}
 use Rattle.job_commands.proofs.first_inputs.read_first_inputs.Goals as goal
 
 pub returns-in-Err-clause-judged : goal.returns-in-Err-clause-judged
-returns-in-Err-clause-judged g c told =
+returns-in-Err-clause-judged g c p q =
     rw c.box_status.ensures (box_refused (g.W.World.healthy c.args.world.now) c.args.box_file.now c.args.capture.now
-    (g.W.World.shown c.args.world.now) (λ conf capture other. ⊥) c.in-Err.error (c.in-Err.ensures.judged told))
-
-pub returns-in-Err-clause-judges : goal.returns-in-Err-clause-judges
-returns-in-Err-clause-judges g c p q =
-    rw c.box_status.ensures (box_refused (g.W.World.healthy c.args.world.now) c.args.box_file.now c.args.capture.now
-    (g.W.World.shows p c.args.world.now) (λ conf capture other. ⊥) c.in-Err.error (c.in-Err.ensures.judges p q))
+    (g.W.World.shows p c.args.world.now) (λ conf capture other. ⊥) c.in-Err.error (c.in-Err.ensures.judged p q))
 
 pub returns-in-Err-read_capture_file-clause-judged : goal.returns-in-Err-read_capture_file-clause-judged
-returns-in-Err-read_capture_file-clause-judged g c told =
-    let h = g.W.World.healthy c.args.world.now in
-    let a = g.W.World.shown c.args.world.now in
-    rw c.capture_status.ensures (capture_refused h c.args.box_file.now c.args.capture.now a (λ conf capture other. ⊥)
-    c.in-Ok.conf c.in-Err-read_capture_file.error (c.in-Ok.ensures.judged told)
-    (judged_since SaysCapture h (g.W.World.healthy c.read_box_file.new.world) c.in-Ok.ensures.only_reads.stays_healthy a
-    (g.W.World.shown c.read_box_file.new.world) (c.in-Ok.ensures.only_reads.outputs told).names c.args.capture.now
-    (Err c.in-Err-read_capture_file.error) (c.in-Err-read_capture_file.ensures.judged told)))
-
-pub returns-in-Err-read_capture_file-clause-judges : goal.returns-in-Err-read_capture_file-clause-judges
-returns-in-Err-read_capture_file-clause-judges g c p q =
+returns-in-Err-read_capture_file-clause-judged g c p q =
     let q1 = c.in-Err-read_capture_file.ensures.before p q in
     let h = g.W.World.healthy c.args.world.now in
     let a = g.W.World.shows p c.args.world.now in
     rw c.capture_status.ensures (capture_refused h c.args.box_file.now c.args.capture.now a (λ conf capture other. ⊥)
-    c.in-Ok.conf c.in-Err-read_capture_file.error (c.in-Ok.ensures.judges p q1)
+    c.in-Ok.conf c.in-Err-read_capture_file.error (c.in-Ok.ensures.judged p q1)
     (judged_since SaysCapture h (g.W.World.healthy c.read_box_file.new.world) c.in-Ok.ensures.only_reads.stays_healthy a
     (g.W.World.shows p c.read_box_file.new.world) (c.in-Ok.ensures.keeps p q1).names c.args.capture.now
-    (Err c.in-Err-read_capture_file.error) (c.in-Err-read_capture_file.ensures.judges p q)))
+    (Err c.in-Err-read_capture_file.error) (c.in-Err-read_capture_file.ensures.judged p q)))
 
 pub returns-in-Err-read_capture_file-clause-stage : goal.returns-in-Err-read_capture_file-clause-stage
-returns-in-Err-read_capture_file-clause-stage g c told =
-    rw c.capture_status.ensures (capture_stage (g.W.World.healthy c.read_box_file.new.world) c.args.capture.now
-    (g.W.World.shown c.read_box_file.new.world) c.in-Err-read_capture_file.error
-    (c.in-Err-read_capture_file.ensures.judged told))
-
-pub returns-in-Err-read_capture_file-clause-shows_stage : goal.returns-in-Err-read_capture_file-clause-shows_stage
-returns-in-Err-read_capture_file-clause-shows_stage g c p q =
+returns-in-Err-read_capture_file-clause-stage g c p q =
     rw c.capture_status.ensures (capture_stage (g.W.World.healthy c.read_box_file.new.world) c.args.capture.now
     (g.W.World.shows p c.read_box_file.new.world) c.in-Err-read_capture_file.error
-    (c.in-Err-read_capture_file.ensures.judges p q))
+    (c.in-Err-read_capture_file.ensures.judged p q))

@@ -3,30 +3,16 @@ use Rattle.job_commands.proofs.Verdicts.{first_refused, script_refused}
 use Rattle.job_commands.proofs.inputs.read_inputs.Goals as goal
 
 pub returns-in-Err-clause-judged : goal.returns-in-Err-clause-judged
-returns-in-Err-clause-judged g c told =
-    first_refused (g.W.World.healthy c.args.world.now) (names_of c.args.names) (g.W.World.shown c.args.world.now)
-    c.in-Err.status (c.in-Err.ensures.judged told)
-
-pub returns-in-Err-clause-judges : goal.returns-in-Err-clause-judges
-returns-in-Err-clause-judges g c p q =
+returns-in-Err-clause-judged g c p q =
     first_refused (g.W.World.healthy c.args.world.now) (names_of c.args.names) (g.W.World.shows p c.args.world.now)
-    c.in-Err.status (c.in-Err.ensures.judges p q)
+    c.in-Err.status (c.in-Err.ensures.judged p q)
 
 pub returns-in-Err-read_script_file-clause-judged : goal.returns-in-Err-read_script_file-clause-judged
-returns-in-Err-read_script_file-clause-judged g c told =
-    let first = c.in-Ok.ensures.judged told in
-    rw c.script_status.ensures (script_refused (g.W.World.healthy c.args.world.now)
-    (g.W.World.healthy c.read_first_inputs.new.world) c.in-Ok.ensures.only_reads.stays_healthy (names_of c.args.names)
-    (g.W.World.shown c.args.world.now) (g.W.World.shown c.read_first_inputs.new.world)
-    (c.in-Ok.ensures.only_reads.outputs told).names c.in-Err-read_script_file.error c.in-Ok.first.conf
-    c.in-Ok.first.capture first.0 first.1 (c.in-Err-read_script_file.ensures.judged told))
-
-pub returns-in-Err-read_script_file-clause-judges : goal.returns-in-Err-read_script_file-clause-judges
-returns-in-Err-read_script_file-clause-judges g c p q =
+returns-in-Err-read_script_file-clause-judged g c p q =
     let q1 = c.in-Err-read_script_file.ensures.before p q in
-    let first = c.in-Ok.ensures.judges p q1 in
+    let first = c.in-Ok.ensures.judged p q1 in
     rw c.script_status.ensures (script_refused (g.W.World.healthy c.args.world.now)
     (g.W.World.healthy c.read_first_inputs.new.world) c.in-Ok.ensures.only_reads.stays_healthy (names_of c.args.names)
     (g.W.World.shows p c.args.world.now) (g.W.World.shows p c.read_first_inputs.new.world)
     (c.in-Ok.ensures.keeps p q1).names c.in-Err-read_script_file.error c.in-Ok.first.conf
-    c.in-Ok.first.capture first.0 first.1 (c.in-Err-read_script_file.ensures.judges p q))
+    c.in-Ok.first.capture first.0 first.1 (c.in-Err-read_script_file.ensures.judged p q))

@@ -7,42 +7,22 @@ use Rattle.job_commands.proofs.Turns.{judged_since}
 use Rattle.job_commands.proofs.schedule_inputs.read_schedule_inputs.Goals as goal
 
 pub returns-in-Err-clause-judged : goal.returns-in-Err-clause-judged
-returns-in-Err-clause-judged g c told =
-    let h = g.W.World.healthy c.args.world.now in
-    let a = g.W.World.shown c.args.world.now in
-    first_refused h c.args.files.box_file.now c.args.files.capture.now a (schedule_third h (files_of c.args.files) a)
-    (λ conf capture value other. ⊥) c.in-Err.status (c.in-Err.ensures.judged told)
-
-pub returns-in-Err-clause-judges : goal.returns-in-Err-clause-judges
-returns-in-Err-clause-judges g c p q =
+returns-in-Err-clause-judged g c p q =
     let h = g.W.World.healthy c.args.world.now in
     let a = g.W.World.shows p c.args.world.now in
     first_refused h c.args.files.box_file.now c.args.files.capture.now a (schedule_third h (files_of c.args.files) a)
-    (λ conf capture value other. ⊥) c.in-Err.status (c.in-Err.ensures.judges p q)
+    (λ conf capture value other. ⊥) c.in-Err.status (c.in-Err.ensures.judged p q)
 
 pub returns-in-Err-read_schedule_file-clause-judged : goal.returns-in-Err-read_schedule_file-clause-judged
-returns-in-Err-read_schedule_file-clause-judged g c told =
-    let h = g.W.World.healthy c.args.world.now in
-    let a = g.W.World.shown c.args.world.now in
-    let first = c.in-Ok.ensures.judged told in
-    rw c.schedule_status.ensures (third_refused h c.args.files.box_file.now c.args.files.capture.now a
-    (schedule_third h (files_of c.args.files) a) (λ conf capture value other. ⊥) c.in-Ok.first.conf
-    c.in-Ok.first.capture c.in-Err-read_schedule_file.error first.0 first.1
-    (judged_since SaysSchedule h (g.W.World.healthy c.read_first_inputs.new.world)
-    c.in-Ok.ensures.only_reads.stays_healthy a (g.W.World.shown c.read_first_inputs.new.world)
-    (c.in-Ok.ensures.only_reads.outputs told).names c.args.files.schedule.now (Err c.in-Err-read_schedule_file.error)
-    (c.in-Err-read_schedule_file.ensures.judged told)))
-
-pub returns-in-Err-read_schedule_file-clause-judges : goal.returns-in-Err-read_schedule_file-clause-judges
-returns-in-Err-read_schedule_file-clause-judges g c p q =
+returns-in-Err-read_schedule_file-clause-judged g c p q =
     let q1 = c.in-Err-read_schedule_file.ensures.before p q in
     let h = g.W.World.healthy c.args.world.now in
     let a = g.W.World.shows p c.args.world.now in
-    let first = c.in-Ok.ensures.judges p q1 in
+    let first = c.in-Ok.ensures.judged p q1 in
     rw c.schedule_status.ensures (third_refused h c.args.files.box_file.now c.args.files.capture.now a
     (schedule_third h (files_of c.args.files) a) (λ conf capture value other. ⊥) c.in-Ok.first.conf
     c.in-Ok.first.capture c.in-Err-read_schedule_file.error first.0 first.1
     (judged_since SaysSchedule h (g.W.World.healthy c.read_first_inputs.new.world)
     c.in-Ok.ensures.only_reads.stays_healthy a (g.W.World.shows p c.read_first_inputs.new.world)
     (c.in-Ok.ensures.keeps p q1).names c.args.files.schedule.now (Err c.in-Err-read_schedule_file.error)
-    (c.in-Err-read_schedule_file.ensures.judges p q)))
+    (c.in-Err-read_schedule_file.ensures.judged p q)))

@@ -19,7 +19,7 @@ returns-in-Ok-clause-done g c p q done =
     let q1 = c.live_box.ensures.before p q in
     let i = c.in-Ok.inputs in
     live_done (g.W.World.healthy c.args.world.now) (g.C.Clock.may c.args.clock.now) (live_names_of c.args.names) i
-    (g.W.World.shows p c.args.world.now) (g.W.World.shows p c.live_box.new.world) (c.in-Ok.ensures.judges p q1)
+    (g.W.World.shows p c.args.world.now) (g.W.World.shows p c.live_box.new.world) (c.in-Ok.ensures.judged p q1)
     c.live_box.result (sym c.run_outcome.ensures ∙ done)
     (whole_lived _ _ _ (c.in-Ok.ensures.keeps p q1) (live_setting i) _ _ _ c.live_box.result
     (c.live_box.ensures.whole p q))
@@ -31,7 +31,7 @@ returns-in-Ok-clause-headline g c p q done =
     live_promise (g.C.Clock.may c.args.clock.now) (live_names_of c.args.names) (g.W.World.shows p c.args.world.now)
     (g.W.World.shows p c.live_box.new.world)
     (live_done (g.W.World.healthy c.args.world.now) (g.C.Clock.may c.args.clock.now) (live_names_of c.args.names) i
-    (g.W.World.shows p c.args.world.now) (g.W.World.shows p c.live_box.new.world) (c.in-Ok.ensures.judges p q1)
+    (g.W.World.shows p c.args.world.now) (g.W.World.shows p c.live_box.new.world) (c.in-Ok.ensures.judged p q1)
     c.live_box.result (sym c.run_outcome.ensures ∙ done)
     (whole_lived _ _ _ (c.in-Ok.ensures.keeps p q1) (live_setting i) _ _ _ c.live_box.result
     (c.live_box.ensures.whole p q)))
@@ -41,7 +41,7 @@ returns-in-Ok-clause-limit g c p q limit e =
     let q1 = c.live_box.ensures.before p q in
     let i = c.in-Ok.inputs in
     live_limit (g.W.World.healthy c.args.world.now) (g.C.Clock.may c.args.clock.now) (live_names_of c.args.names) i
-    (g.W.World.shows p c.args.world.now) (g.W.World.shows p c.live_box.new.world) (c.in-Ok.ensures.judges p q1)
+    (g.W.World.shows p c.args.world.now) (g.W.World.shows p c.live_box.new.world) (c.in-Ok.ensures.judged p q1)
     c.live_box.result limit (sym c.run_outcome.ensures ∙ e)
     (λ l is. limit_lived _ _ _ (c.in-Ok.ensures.keeps p q1) (live_setting i) _ _ l
     (c.live_box.ensures.limit p q l is))
@@ -52,7 +52,7 @@ returns-in-Ok-clause-judged g c p q =
     let i = c.in-Ok.inputs in
     rw c.run_outcome.ensures
     (live_judged (g.W.World.healthy c.args.world.now) (g.C.Clock.may c.args.clock.now) (live_names_of c.args.names) i
-    (g.W.World.shows p c.args.world.now) (g.W.World.shows p c.live_box.new.world) (c.in-Ok.ensures.judges p q1)
+    (g.W.World.shows p c.args.world.now) (g.W.World.shows p c.live_box.new.world) (c.in-Ok.ensures.judged p q1)
     c.live_box.result
     (λ ok fault. (c.live_box.ensures.cause fault).not_healthy (c.in-Ok.ensures.only_reads.stays_healthy ok))
     (whole_lived _ _ _ (c.in-Ok.ensures.keeps p q1) (live_setting i) _ _ _ c.live_box.result
@@ -66,7 +66,7 @@ returns-in-Ok-clause-in_order g c p q =
     let i = c.in-Ok.inputs in
     inr (
       i,
-      c.in-Ok.ensures.judges p q1,
+      c.in-Ok.ensures.judged p q1,
       order_lived _ _ _ (c.in-Ok.ensures.keeps p q1) (live_setting i) _ _
           (c.live_box.ensures.in_order p q),
     )
@@ -112,4 +112,4 @@ returns-in-Err-clause-write_fault g c e = absurd (quiet_writing c.in-Err.status 
 pub returns-in-Err-clause-judged : goal.returns-in-Err-clause-judged
 returns-in-Err-clause-judged g c p q =
     live_refused (g.W.World.healthy c.args.world.now) (live_names_of c.args.names) c.in-Err.status
-    (g.W.World.shows p c.args.world.now) (c.in-Err.ensures.judges p q)
+    (g.W.World.shows p c.args.world.now) (c.in-Err.ensures.judged p q)

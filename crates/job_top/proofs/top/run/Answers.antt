@@ -17,7 +17,7 @@ returns-in-Ok-clause-done g c p q done =
     let q1 = c.run_box.ensures.before p q in
     let i = c.in-Ok.inputs in
     run_done (g.W.World.healthy c.args.world.now) (names_of c.args.names) i (g.W.World.shows p c.args.world.now)
-    (g.W.World.shows p c.run_box.new.world) (c.in-Ok.ensures.judges p q1) c.run_box.result
+    (g.W.World.shows p c.run_box.new.world) (c.in-Ok.ensures.judged p q1) c.run_box.result
     (sym c.run_outcome.ensures ∙ done)
     (whole_since _ _ _ (c.in-Ok.ensures.keeps p q1) (setting_for i) (outputs_of (names_of c.args.names))
     i.events c.run_box.result (c.run_box.ensures.whole p q))
@@ -28,7 +28,7 @@ returns-in-Ok-clause-headline g c p q done =
     let i = c.in-Ok.inputs in
     promise (names_of c.args.names) (g.W.World.shows p c.args.world.now) (g.W.World.shows p c.run_box.new.world)
     (run_done (g.W.World.healthy c.args.world.now) (names_of c.args.names) i (g.W.World.shows p c.args.world.now)
-    (g.W.World.shows p c.run_box.new.world) (c.in-Ok.ensures.judges p q1) c.run_box.result
+    (g.W.World.shows p c.run_box.new.world) (c.in-Ok.ensures.judged p q1) c.run_box.result
     (sym c.run_outcome.ensures ∙ done)
     (whole_since _ _ _ (c.in-Ok.ensures.keeps p q1) (setting_for i) (outputs_of (names_of c.args.names))
     i.events c.run_box.result (c.run_box.ensures.whole p q)))
@@ -38,7 +38,7 @@ returns-in-Ok-clause-limit g c p q limit e stage =
     let q1 = c.run_box.ensures.before p q in
     let i = c.in-Ok.inputs in
     run_limit (g.W.World.healthy c.args.world.now) (names_of c.args.names) i (g.W.World.shows p c.args.world.now)
-    (g.W.World.shows p c.run_box.new.world) (c.in-Ok.ensures.judges p q1) c.run_box.result limit
+    (g.W.World.shows p c.run_box.new.world) (c.in-Ok.ensures.judged p q1) c.run_box.result limit
     (sym c.run_outcome.ensures ∙ e)
     (λ l is. stopped_since _ _ _ (c.in-Ok.ensures.keeps p q1) (setting_for i)
     (outputs_of (names_of c.args.names)) i.events l (c.run_box.ensures.limit p q l is))
@@ -49,7 +49,7 @@ returns-in-Ok-clause-judged g c p q =
     let i = c.in-Ok.inputs in
     rw c.run_outcome.ensures
     (run_judged (g.W.World.healthy c.args.world.now) (names_of c.args.names) i (g.W.World.shows p c.args.world.now)
-    (g.W.World.shows p c.run_box.new.world) (c.in-Ok.ensures.judges p q1) c.run_box.result
+    (g.W.World.shows p c.run_box.new.world) (c.in-Ok.ensures.judged p q1) c.run_box.result
     (λ ok fault. (c.run_box.ensures.cause fault).not_healthy (c.in-Ok.ensures.only_reads.stays_healthy ok))
     (whole_since _ _ _ (c.in-Ok.ensures.keeps p q1) (setting_for i) (outputs_of (names_of c.args.names))
     i.events c.run_box.result (c.run_box.ensures.whole p q))
@@ -62,7 +62,7 @@ returns-in-Ok-clause-in_order g c p q =
     let i = c.in-Ok.inputs in
     inr (
       i,
-      c.in-Ok.ensures.judges p q1,
+      c.in-Ok.ensures.judged p q1,
       begun_since _ _ _ (c.in-Ok.ensures.keeps p q1) (setting_for i) (outputs_of (names_of c.args.names))
           i.events (c.run_box.ensures.in_order p q),
     )
@@ -72,7 +72,7 @@ returns-in-Ok-clause-refused g c p q e =
     let q1 = c.run_box.ensures.before p q in
     let i = c.in-Ok.inputs in
     absurd (not_at_inputs (g.W.World.healthy c.args.world.now) (names_of c.args.names) i
-    (g.W.World.shows p c.args.world.now) (g.W.World.shows p c.run_box.new.world) (c.in-Ok.ensures.judges p q1)
+    (g.W.World.shows p c.args.world.now) (g.W.World.shows p c.run_box.new.world) (c.in-Ok.ensures.judged p q1)
     c.run_box.result (ap stage_of (sym c.run_outcome.ensures) ∙ e)
     (λ l is. stopped_since _ _ _ (c.in-Ok.ensures.keeps p q1) (setting_for i)
     (outputs_of (names_of c.args.names)) i.events l (c.run_box.ensures.limit p q l is)))
@@ -105,7 +105,7 @@ returns-in-Err-clause-headline g c p q e = absurd (quiet_done c.in-Err.status e 
 
 pub returns-in-Err-clause-limit : goal.returns-in-Err-clause-limit
 returns-in-Err-clause-limit g c p q limit e stage =
-    absurd (not_of_run c.in-Err.status limit e stage (c.in-Err.ensures.shows_stage p q))
+    absurd (not_of_run c.in-Err.status limit e stage (c.in-Err.ensures.stage p q))
 
 pub returns-in-Err-clause-in_order : goal.returns-in-Err-clause-in_order
 returns-in-Err-clause-in_order g c p q = inl (kept _ _ (c.in-Err.ensures.keeps p q))

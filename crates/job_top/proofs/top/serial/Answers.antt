@@ -48,11 +48,11 @@ returns-in-Some-Make-clause-creates_nothing g c e =
 
 pub returns-in-Some-Play-clause-refused : goal.returns-in-Some-Play-clause-refused
 returns-in-Some-Play-clause-refused g c p q =
-    rw (c.in-Some-Play.ensures, c.in-Some-Play.field-0-is) (λ e. c.play_capture.ensures.shows_refused p q e)
+    rw (c.in-Some-Play.ensures, c.in-Some-Play.field-0-is) (λ e. c.play_capture.ensures.refused p q e)
 
 pub returns-in-Some-Check-clause-refused : goal.returns-in-Some-Check-clause-refused
 returns-in-Some-Check-clause-refused g c p q =
-    rw (c.in-Some-Check.ensures, c.in-Some-Check.field-0-is) (λ e. c.check_released.ensures.shows_refused p q e)
+    rw (c.in-Some-Check.ensures, c.in-Some-Check.field-0-is) (λ e. c.check_released.ensures.refused p q e)
 
 pub returns-in-Some-Run-clause-limit : goal.returns-in-Some-Run-clause-limit
 returns-in-Some-Run-clause-limit g c p q limit e =
@@ -71,45 +71,45 @@ returns-in-Some-Make-clause-others g c p q =
 
 pub returns-in-Some-Play-clause-done : goal.returns-in-Some-Play-clause-done
 returns-in-Some-Play-clause-done g c p q done =
-    rw (c.in-Some-Play.ensures, c.in-Some-Play.field-0-is) (c.play_capture.ensures.shows_done p q done)
+    rw (c.in-Some-Play.ensures, c.in-Some-Play.field-0-is) (c.play_capture.ensures.done p q done)
 
 pub returns-in-Some-Play-clause-completes : goal.returns-in-Some-Play-clause-completes
 returns-in-Some-Play-clause-completes g c ok p q =
     rw (c.in-Some-Play.ensures, c.in-Some-Play.field-0-is)
     (λ accepted. play_completes (g.W.World.healthy c.args.world.now) (play_names_of c.in-Some-Play.names)
-    (g.W.World.shows p c.args.world.now) ok accepted c.play_capture.result (c.play_capture.ensures.judges p q))
+    (g.W.World.shows p c.args.world.now) ok accepted c.play_capture.result (c.play_capture.ensures.judged p q))
 
 pub returns-in-Some-Play-clause-limit : goal.returns-in-Some-Play-clause-limit
 returns-in-Some-Play-clause-limit g c p q limit e =
     rw (c.in-Some-Play.ensures, c.in-Some-Play.field-0-is)
-    (λ stage. c.play_capture.ensures.shows_no_limit p q limit e stage)
+    (λ stage. c.play_capture.ensures.no_limit p q limit e stage)
 
 pub returns-in-Some-Play-clause-others : goal.returns-in-Some-Play-clause-others
 returns-in-Some-Play-clause-others g c p q =
     rw (c.in-Some-Play.ensures, c.in-Some-Play.field-0-is)
     (play_others (play_names_of c.in-Some-Play.names) (g.W.World.shows p c.args.world.now)
-    (g.W.World.shows p c.play_capture.new.world) (c.play_capture.ensures.shows_in_order p q))
+    (g.W.World.shows p c.play_capture.new.world) (c.play_capture.ensures.in_order p q))
 
 pub returns-in-Some-Check-clause-done : goal.returns-in-Some-Check-clause-done
 returns-in-Some-Check-clause-done g c p q done =
-    rw (c.in-Some-Check.ensures, c.in-Some-Check.field-0-is) (c.check_released.ensures.shows_done p q done)
+    rw (c.in-Some-Check.ensures, c.in-Some-Check.field-0-is) (c.check_released.ensures.done p q done)
 
 pub returns-in-Some-Check-clause-completes : goal.returns-in-Some-Check-clause-completes
 returns-in-Some-Check-clause-completes g c ok p q =
     rw (c.in-Some-Check.ensures, c.in-Some-Check.field-0-is)
     (λ accepted. check_completes (g.W.World.healthy c.args.world.now) (check_names_of c.in-Some-Check.names)
-    (g.W.World.shows p c.args.world.now) ok accepted c.check_released.result (c.check_released.ensures.judges p q))
+    (g.W.World.shows p c.args.world.now) ok accepted c.check_released.result (c.check_released.ensures.judged p q))
 
 pub returns-in-Some-Check-clause-limit : goal.returns-in-Some-Check-clause-limit
 returns-in-Some-Check-clause-limit g c p q limit e =
     rw (c.in-Some-Check.ensures, c.in-Some-Check.field-0-is)
-    (λ stage. c.check_released.ensures.shows_no_limit p q limit e stage)
+    (λ stage. c.check_released.ensures.no_limit p q limit e stage)
 
 pub returns-in-Some-Check-clause-others : goal.returns-in-Some-Check-clause-others
 returns-in-Some-Check-clause-others g c p q =
     rw (c.in-Some-Check.ensures, c.in-Some-Check.field-0-is)
     (check_others (check_names_of c.in-Some-Check.names) (g.W.World.shows p c.args.world.now)
-    (g.W.World.shows p c.check_released.new.world) (c.check_released.ensures.shows_in_order p q))
+    (g.W.World.shows p c.check_released.new.world) (c.check_released.ensures.in_order p q))
 
 pub returns-in-Some-Run-clause-write_fault : goal.returns-in-Some-Run-clause-write_fault
 returns-in-Some-Run-clause-write_fault g c e = (c.run.ensures.write_fault e).rose

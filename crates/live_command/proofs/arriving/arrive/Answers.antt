@@ -21,7 +21,7 @@ loop-frame-init g c = record {
   somewhere = c.requires.somewhere;
   few = c.requires.few;
   short = c.requires.short;
-  only_writes = OnlyWrites-same _ _ _ _ _;
+  only_writes = OnlyWrites-same _ _ _;
   before = λ p honest. honest;
   keeps = λ p honest file name is. is;
   told = λ p honest s names events w before apart is lived.
@@ -42,7 +42,7 @@ loop-frame-preserved g c =
       somewhere = somewhere_same _ _ c.tell.new.system same c.in_ok-tell.ensures.somewhere;
       few = c.in_ok-tell.ensures.few;
       short = c.in_ok-tell.ensures.short;
-      only_writes = OnlyWrites-trans _ _ _ _ _ _ _ inv.only_writes c.in_ok-tell.ensures.only_writes;
+      only_writes = OnlyWrites-trans _ _ _ _ _ inv.only_writes c.in_ok-tell.ensures.only_writes;
       before = λ p honest. inv.before p (c.in_ok-tell.ensures.before p honest);
       keeps = λ p honest file name is.
           c.in_ok-tell.ensures.keeps p honest file name

@@ -24,7 +24,7 @@ loop-line-init g c = record {
   somewhere = c.requires.somewhere;
   few = c.requires.few;
   short = c.requires.short;
-  only_writes = OnlyWrites-same _ _ _ _ _;
+  only_writes = OnlyWrites-same _ _ _;
   before = λ p honest. honest;
   keeps = λ p honest file name is. is;
   told = λ p honest s names before draws apart is lived.
@@ -53,7 +53,7 @@ loop-line-preserved g c =
       somewhere = somewhere_same _ _ y.system same c.in_ok-reached.ensures.somewhere;
       few = c.in_ok-reached.ensures.few;
       short = c.in_ok-reached.ensures.short;
-      only_writes = OnlyWrites-trans _ _ _ _ _ _ _ inv.only_writes c.in_ok-reached.ensures.only_writes;
+      only_writes = OnlyWrites-trans _ _ _ _ _ inv.only_writes c.in_ok-reached.ensures.only_writes;
       before = λ p honest. inv.before p (c.in_ok-reached.ensures.before p honest);
       keeps = λ p honest file name is.
           c.in_ok-reached.ensures.keeps p honest file name
@@ -105,4 +105,4 @@ returns-clause-told g c p honest s names before draws apart is lived =
 
 pub returns-in_err-reached-clause-only_writes : goal.returns-in_err-reached-clause-only_writes
 returns-in_err-reached-clause-only_writes g c =
-    OnlyWrites-trans _ _ _ _ _ _ _ c.loop-line.invariant.only_writes c.in_err-reached.ensures.only_writes
+    OnlyWrites-trans _ _ _ _ _ c.loop-line.invariant.only_writes c.in_err-reached.ensures.only_writes

@@ -18,7 +18,6 @@ use Rattle.live_command.proofs.lines.perform_plan.Given as goal
 abbrev pub invariant-loop-line : goal.invariant-loop-line
 invariant-loop-line g l =
     let m = g.P.Program.meaning l.fn.standing.system.parts.program in
-    let shown = g.W.World.shown in
     let shows = g.W.World.shows in
     let honest = g.W.World.honest in
     record {
@@ -29,7 +28,7 @@ invariant-loop-line g l =
       somewhere : IsSomewhere m l.reached.system;
       few : l.script.count ≤ most_events;
       short : l.script.size ≤ most_bytes;
-      only_writes : OnlyWrites g.W.World.tells shown g.W.World.ledger g.W.World.healthy l.fn.world l.world;
+      only_writes : OnlyWrites g.W.World.ledger g.W.World.healthy l.fn.world l.world;
       before : (p : Start) → honest p l.world → honest p l.fn.world;
       keeps : (p : Start) → honest p l.world → KeepsOutputs (shows p l.fn.world) (shows p l.world);
       told : (p : Start) → honest p l.world

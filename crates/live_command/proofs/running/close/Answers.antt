@@ -27,7 +27,7 @@ returns-clause-told g c p honest s names events w before apart is lived =
 
 pub returns-clause-only_writes : goal.returns-clause-only_writes
 returns-clause-only_writes g c =
-    OnlyWrites-trans _ _ _ _ _ _ _ c.in_default.ensures.only_writes c.close_run-ended.ensures.only_writes
+    OnlyWrites-trans _ _ _ _ _ c.in_default.ensures.only_writes c.close_run-ended.ensures.only_writes
 
 pub returns-clause-before : goal.returns-clause-before
 returns-clause-before g c p honest = c.in_default.ensures.before p (c.close_run-ended.ensures.before p honest)

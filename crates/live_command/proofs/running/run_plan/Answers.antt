@@ -64,7 +64,7 @@ returns-clause-whole g c p honest =
     let at = at_same _ _ s _ c.in_ok-system.system (ap g.P.Program.meaning (sym c.in_ok-system.ensures.program))
     (opens_at _ s c.in_ok-system.system c.in_ok-system.ensures.stands c.in_ok-system.ensures.none) in
     let ran = c.run_standing.ensures.told p honest s names _ c.in_ok-draws.ensures c.requires.apart
-    (c.in-Ok.ensures.shows_open p earlier)
+    (c.in-Ok.ensures.open p earlier)
     at c.requires.inputs.few_threads (c.in-Ok.ensures.shows p earlier) in
     runs_whole s names c.requires.apart _ _ may c.args.run.plan c.run_standing.result
     (plan_same c.run_standing.result s may _ c.args.run.plan names _ _ c.as_slice.ensures ran)
@@ -78,7 +78,7 @@ returns-clause-limit g c p honest limit is =
     let at = at_same _ _ s _ c.in_ok-system.system (ap g.P.Program.meaning (sym c.in_ok-system.ensures.program))
     (opens_at _ s c.in_ok-system.system c.in_ok-system.ensures.stands c.in_ok-system.ensures.none) in
     let ran = c.run_standing.ensures.told p honest s names _ c.in_ok-draws.ensures c.requires.apart
-    (c.in-Ok.ensures.shows_open p earlier)
+    (c.in-Ok.ensures.open p earlier)
     at c.requires.inputs.few_threads (c.in-Ok.ensures.shows p earlier) in
     runs_to_limit s names c.requires.apart _ _ may c.args.run.plan c.run_standing.result limit
     (plan_same c.run_standing.result s may _ c.args.run.plan names _ _ c.as_slice.ensures ran) is
@@ -92,7 +92,7 @@ returns-clause-in_order g c p honest =
     let at = at_same _ _ s _ c.in_ok-system.system (ap g.P.Program.meaning (sym c.in_ok-system.ensures.program))
     (opens_at _ s c.in_ok-system.system c.in_ok-system.ensures.stands c.in_ok-system.ensures.none) in
     let ran = c.run_standing.ensures.told p honest s names _ c.in_ok-draws.ensures c.requires.apart
-    (c.in-Ok.ensures.shows_open p earlier)
+    (c.in-Ok.ensures.open p earlier)
     at c.requires.inputs.few_threads (c.in-Ok.ensures.shows p earlier) in
     runs_in_order s names c.requires.apart _ _ may c.args.run.plan c.run_standing.result
     (plan_same c.run_standing.result s may _ c.args.run.plan names _ _ c.as_slice.ensures ran)

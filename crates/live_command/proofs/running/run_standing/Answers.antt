@@ -24,11 +24,11 @@ returns-clause-told g c p honest s names before draws apart is at few w =
 
 pub returns-clause-only_writes : goal.returns-clause-only_writes
 returns-clause-only_writes g c =
-    OnlyWrites-trans _ _ _ _ _ _ _ c.in_ok-system.ensures.only_writes c.close.ensures.only_writes
+    OnlyWrites-trans _ _ _ _ _ c.in_ok-system.ensures.only_writes c.close.ensures.only_writes
 
 pub returns-clause-cause : goal.returns-clause-cause
 returns-clause-cause g c fault =
-    OnlyWrites-failed _ _ _ _ _ _ _ c.in_ok-system.ensures.only_writes (c.close.ensures.cause fault)
+    OnlyWrites-failed _ _ _ _ _ c.in_ok-system.ensures.only_writes (c.close.ensures.cause fault)
 
 pub returns-clause-before : goal.returns-clause-before
 returns-clause-before g c p honest = c.in_ok-system.ensures.before p (c.close.ensures.before p honest)

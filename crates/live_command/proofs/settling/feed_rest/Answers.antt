@@ -68,8 +68,8 @@ returns-clause-up g c =
 
 pub returns-clause-only_writes : goal.returns-clause-only_writes
 returns-clause-only_writes g c =
-    OnlyWrites-trans _ _ _ _ _ _ _ c.in_ok-tell.ensures.only_writes c.tell-3.ensures.only_writes
+    OnlyWrites-trans _ _ _ _ _ c.in_ok-tell.ensures.only_writes c.tell-3.ensures.only_writes
 
 pub returns-clause-cause : goal.returns-clause-cause
 returns-clause-cause g c fault =
-    OnlyWrites-failed _ _ _ _ _ _ _ c.in_ok-tell.ensures.only_writes (c.tell-3.ensures.cause fault)
+    OnlyWrites-failed _ _ _ _ _ c.in_ok-tell.ensures.only_writes (c.tell-3.ensures.cause fault)

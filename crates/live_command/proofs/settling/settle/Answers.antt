@@ -66,7 +66,7 @@ race-requires-clause-somewhere g c κs within =
 
 pub returns-in_err-ran-clause-only_writes : goal.returns-in_err-ran-clause-only_writes
 returns-in_err-ran-clause-only_writes g c =
-    OnlyWrites-trans _ _ _ _ _ _ _ c.in_default.ensures.only_writes c.in_err-ran.ensures.only_writes
+    OnlyWrites-trans _ _ _ _ _ c.in_default.ensures.only_writes c.in_err-ran.ensures.only_writes
 
 pub arrive_last-requires-clause-somewhere : goal.arrive_last-requires-clause-somewhere
 arrive_last-requires-clause-somewhere g c κs within =
@@ -80,13 +80,13 @@ returns-clause-somewhere g c =
 
 pub returns-clause-only_writes : goal.returns-clause-only_writes
 returns-clause-only_writes g c =
-    OnlyWrites-trans _ _ _ _ _ _ _ c.in_default.ensures.only_writes
-    (OnlyWrites-trans _ _ _ _ _ _ _ c.in_ok-ran.ensures.only_writes c.arrive_last.ensures.only_writes)
+    OnlyWrites-trans _ _ _ _ _ c.in_default.ensures.only_writes
+    (OnlyWrites-trans _ _ _ _ _ c.in_ok-ran.ensures.only_writes c.arrive_last.ensures.only_writes)
 
 pub returns-clause-cause : goal.returns-clause-cause
 returns-clause-cause g c fault =
-    OnlyWrites-failed _ _ _ _ _ _ _ c.in_default.ensures.only_writes
-    (OnlyWrites-failed _ _ _ _ _ _ _ c.in_ok-ran.ensures.only_writes (c.arrive_last.ensures.cause fault))
+    OnlyWrites-failed _ _ _ _ _ c.in_default.ensures.only_writes
+    (OnlyWrites-failed _ _ _ _ _ c.in_ok-ran.ensures.only_writes (c.arrive_last.ensures.cause fault))
 
 pub returns-in_err-ran-clause-before : goal.returns-in_err-ran-clause-before
 returns-in_err-ran-clause-before g c p honest = c.in_default.ensures.before p (c.in_err-ran.ensures.before p honest)

@@ -12,7 +12,7 @@ pub loop-step-init : goal.loop-step-init
 loop-step-init g c = record {
   few = c.requires.few;
   short = c.requires.short;
-  only_writes = OnlyWrites-same _ _ _ _ _;
+  only_writes = OnlyWrites-same _ _ _;
   before = λ p honest. honest;
   keeps = λ p honest file name is. is;
   told = λ p honest s names events w there before apart is h performs. (
@@ -34,7 +34,7 @@ loop-step-preserved g c =
     record {
       few = c.in_ok-tell_step.ensures.few;
       short = c.in_ok-tell_step.ensures.short;
-      only_writes = OnlyWrites-trans _ _ _ _ _ _ _ inv.only_writes c.in_ok-tell_step.ensures.only_writes;
+      only_writes = OnlyWrites-trans _ _ _ _ _ inv.only_writes c.in_ok-tell_step.ensures.only_writes;
       before = λ p honest. inv.before p (c.in_ok-tell_step.ensures.before p honest);
       keeps = λ p honest file name is.
           c.in_ok-tell_step.ensures.keeps p honest file name

@@ -16,7 +16,7 @@ abbrev pub invariant-loop-step : goal.invariant-loop-step
 invariant-loop-step g l = record {
   few : l.script.count ≤ MOST_EVENTS;
   short : l.script.size ≤ MOST_FILE_BYTES;
-  only_writes : OnlyWrites g.W.World.tells g.W.World.shown g.W.World.ledger g.W.World.healthy l.fn.world l.world;
+  only_writes : OnlyWrites g.W.World.ledger g.W.World.healthy l.fn.world l.world;
   before : (p : Start) → g.W.World.honest p l.world → g.W.World.honest p l.fn.world;
   keeps : (p : Start) → g.W.World.honest p l.world
       → KeepsOutputs (g.W.World.shows p l.fn.world) (g.W.World.shows p l.world);

@@ -5,21 +5,6 @@ use Rattle.run_writes.specs.Run.{opening_writes}
 use Rattle.live_writes.specs.Outputs.{names_of}
 use Rattle.live_writes.proofs.opening.open_live.Goals as goal
 
-pub returns-in_err-outputs-clause-told : goal.returns-in_err-outputs-clause-told
-returns-in_err-outputs-clause-told g c told = err_writes _ _ _ _ c.from_residual.ensures.0
-    (begun_before (opening_writes (names_of c.args.files).outputs c.args.unit) (Creates c.args.files.script.now ∷ []) _ _
-    (c.in_err-outputs.ensures.told told))
-
-pub returns-in_err-script-clause-told : goal.returns-in_err-script-clause-told
-returns-in_err-script-clause-told g c told = err_writes _ _ _ _ c.from_residual-in_err-script.ensures.0
-    (begun_behind (opening_writes (names_of c.args.files).outputs c.args.unit) (Creates c.args.files.script.now ∷ []) _ _ _
-    (c.in_ok-outputs.ensures.told told) (c.in_err-script.ensures.told told))
-
-pub returns-clause-told : goal.returns-clause-told
-returns-clause-told g c told =
-    written_more (opening_writes (names_of c.args.files).outputs c.args.unit) (Creates c.args.files.script.now ∷ []) _ _ _
-    (c.in_ok-outputs.ensures.told told) (c.in_ok-script.ensures.told told)
-
 pub returns-in_err-outputs-clause-shows : goal.returns-in_err-outputs-clause-shows
 returns-in_err-outputs-clause-shows g c p h = err_writes _ _ _ _ c.from_residual.ensures.0
     (begun_before (opening_writes (names_of c.args.files).outputs c.args.unit) (Creates c.args.files.script.now ∷ []) _ _

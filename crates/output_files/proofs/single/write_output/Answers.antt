@@ -3,46 +3,6 @@ use Rattle.output_files.specs.Writes.{Creates, Appends}
 use Rattle.output_files.proofs.Effects.{err_writes, begun_before, begun_behind, then_writes, written_more}
 use Rattle.output_files.proofs.single.write_output.Goals as goal
 
-pub returns-in_err-file-clause-told : goal.returns-in_err-file-clause-told
-returns-in_err-file-clause-told g c told =
-    err_writes _ _ _ _ c.from_residual.ensures.0
-    (begun_before (Creates c.args.name.now ∷ []) _ _ _ (c.in_err-file.ensures.told told))
-
-pub returns-in_err-append-clause-told : goal.returns-in_err-append-clause-told
-returns-in_err-append-clause-told g c told =
-    let created = c.in_ok-file.ensures.told told in
-    err_writes _ _ _ _ c.from_residual-in_err-append.ensures.0
-    (begun_behind (Creates c.args.name.now ∷ []) _ _ _ _ created
-    (begun_before (Appends c.args.name.now c.args.header.now ∷ []) _ _ _
-    (c.in_err-append.ensures.told told c.args.name.now (c.in_ok-file.ensures.output told))))
-
-pub returns-in_err-append-2-clause-told : goal.returns-in_err-append-2-clause-told
-returns-in_err-append-2-clause-told g c told =
-    let created = c.in_ok-file.ensures.told told in
-    let is = c.in_ok-file.ensures.output told in
-    let header = c.in_ok-append.ensures.told told c.args.name.now is in
-    let first =
-    written_more (Creates c.args.name.now ∷ []) (Appends c.args.name.now c.args.header.now ∷ []) _ _ _ created header in
-    err_writes _ _ _ _ c.from_residual-in_err-append-2.ensures.0
-    (begun_behind (Creates c.args.name.now ∷ Appends c.args.name.now c.args.header.now ∷ []) _ _ _ _ first
-    (begun_before (Appends c.args.name.now c.args.body.now ∷ []) _ _ _
-    (c.in_err-append-2.ensures.told told c.args.name.now (c.in_ok-append.ensures.only_writes.outputs told _ _ is))))
-
-pub returns-clause-told : goal.returns-clause-told
-returns-clause-told g c told =
-    let created = c.in_ok-file.ensures.told told in
-    let is = c.in_ok-file.ensures.output told in
-    let header = c.in_ok-append.ensures.told told c.args.name.now is in
-    let body =
-    c.in_ok-append-2.ensures.told told c.args.name.now (c.in_ok-append.ensures.only_writes.outputs told _ _ is) in
-    let first =
-    written_more (Creates c.args.name.now ∷ []) (Appends c.args.name.now c.args.header.now ∷ []) _ _ _ created header in
-    let second = written_more (Creates c.args.name.now ∷ Appends c.args.name.now c.args.header.now ∷ [])
-    (Appends c.args.name.now c.args.body.now ∷ []) _ _ _ first body in
-    then_writes _
-    (Creates c.args.name.now ∷ Appends c.args.name.now c.args.header.now ∷ Appends c.args.name.now c.args.body.now ∷ [])
-    _ _ _ _ second (c.report.ensures.told told)
-
 pub returns-in_err-file-clause-shows : goal.returns-in_err-file-clause-shows
 returns-in_err-file-clause-shows g c p h =
     err_writes _ _ _ _ c.from_residual.ensures.0
@@ -55,14 +15,14 @@ returns-in_err-append-clause-shows g c p h =
     err_writes _ _ _ _ c.from_residual-in_err-append.ensures.0
     (begun_behind (Creates c.args.name.now ∷ []) _ _ _ _ created
     (begun_before (Appends c.args.name.now c.args.header.now ∷ []) _ _ _
-    (c.in_err-append.ensures.shows p h c.args.name.now (c.in_ok-file.ensures.shows_output p h0))))
+    (c.in_err-append.ensures.shows p h c.args.name.now (c.in_ok-file.ensures.output p h0))))
 
 pub returns-in_err-append-2-clause-shows : goal.returns-in_err-append-2-clause-shows
 returns-in_err-append-2-clause-shows g c p h =
     let h1 = c.in_err-append-2.ensures.before p h in
     let h0 = c.in_ok-append.ensures.before p h1 in
     let created = c.in_ok-file.ensures.shows p h0 in
-    let is = c.in_ok-file.ensures.shows_output p h0 in
+    let is = c.in_ok-file.ensures.output p h0 in
     let header = c.in_ok-append.ensures.shows p h1 c.args.name.now is in
     let first =
     written_more (Creates c.args.name.now ∷ []) (Appends c.args.name.now c.args.header.now ∷ []) _ _ _ created header in
@@ -77,7 +37,7 @@ returns-clause-shows g c p h =
     let h1 = c.in_ok-append-2.ensures.before p h2 in
     let h0 = c.in_ok-append.ensures.before p h1 in
     let created = c.in_ok-file.ensures.shows p h0 in
-    let is = c.in_ok-file.ensures.shows_output p h0 in
+    let is = c.in_ok-file.ensures.output p h0 in
     let header = c.in_ok-append.ensures.shows p h1 c.args.name.now is in
     let body = c.in_ok-append-2.ensures.shows p h2 c.args.name.now (c.in_ok-append.ensures.keeps p h1 _ _ is) in
     let first =

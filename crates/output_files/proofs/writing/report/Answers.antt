@@ -1,13 +1,10 @@
 use Rattle.output_files.proofs.Effects.{reports_to, keeps_all}
-use Rattle.output_files.proofs.OnlyWriting.{OnlyWrites-appended}
+use Rattle.output_files.proofs.OnlyWriting.{OnlyWrites-on}
 use Rattle.output_files.proofs.writing.report.Goals as goal
-
-pub returns-clause-told : goal.returns-clause-told
-returns-clause-told g c told = reports_to _ _ _ _ (c.put_all.ensures.told told)
 
 pub returns-clause-only_writes : goal.returns-clause-only_writes
 returns-clause-only_writes g c =
-    OnlyWrites-appended _ _ _ _ _ _ _ _ _ c.put_all.ensures.told c.put_all.ensures.writes_on
+    OnlyWrites-on _ _ _ _ c.put_all.ensures.writes_on
 
 pub returns-clause-shows : goal.returns-clause-shows
 returns-clause-shows g c p h = reports_to _ _ _ _ (c.put_all.ensures.shows p h)

@@ -8,11 +8,6 @@ use Rattle.pcap_io.proofs.Verdicts.{header_passes_none}
 use Rattle.world_io.proofs.GoingOn.{GoesOn-trans}
 use Rattle.pcap_io.proofs.capture.read_capture.Goals as goal
 
-pub returns-in-Refused-clause-told : goal.returns-in-Refused-clause-told
-returns-in-Refused-clause-told g c told =
-    let faulty = c.in-Refused.ensures.told told in
-    (inl faulty, λ limit passes. header_passes_none _ _ limit faulty passes)
-
 pub records-preserved : goal.records-preserved
 records-preserved g c =
     let inv = c.records.invariant in
@@ -25,29 +20,6 @@ records-preserved g c =
       bytes = rw c.in-Ok.ensures.ok (All-push IsOfBytes c.records.packets c.in-Packet.packet inv.bytes packet.bytes);
       goes_on = GoesOn-trans g.S.Source.faults g.S.Source.healthy _ _ _ inv.goes_on packet.goes_on;
     }
-
-pub returns-in-Refused-next_packet-clause-told : goal.returns-in-Refused-next_packet-clause-told
-returns-in-Refused-next_packet-clause-told g c told =
-    let inv = c.records.invariant in
-    let begins = begins_read _ _ _ _ _ _ inv.taken.unused_length inv.stands.each
-    (g.met.S.Source.reads_told _ _ _ told inv.taken.taken) in
-    refused_says _ _ _ _ inv.stands begins _ (c.in-Refused-next_packet.ensures.told told)
-
-pub returns-in-TooLarge-clause-told : goal.returns-in-TooLarge-clause-told
-returns-in-TooLarge-clause-told g c told =
-    let inv = c.records.invariant in
-    let begins = begins_read _ _ _ _ _ _ inv.taken.unused_length inv.stands.each
-    (g.met.S.Source.reads_told _ _ _ told inv.taken.taken) in
-    too_large_says _ _ _ _ inv.stands begins _ (c.in-TooLarge.ensures.told told)
-
-pub returns-clause-told : goal.returns-clause-told
-returns-clause-told g c told =
-    let inv = c.records.invariant in
-    let begins = begins_read _ _ _ _ _ _ inv.taken.unused_length inv.stands.each
-    (g.met.S.Source.reads_told _ _ _ told inv.taken.taken) in
-    let same : c.unit.result ≡ c.records.reader.unit =
-    c.unit.ensures ∙ ap (λ (r : Reading). r.unit) c.in-End.ensures.after in
-    rw same (begun_capture _ _ _ _ inv.stands begins (c.in-End.ensures.told told))
 
 pub returns-clause-taken : goal.returns-clause-taken
 returns-clause-taken g c =

@@ -22,39 +22,6 @@ returns-then-is_section_type-clause-shows g c = λ p h.
     ∙ sym c.is_section_type.ensures
     ∙ c.if-is_section_type.true
 
-pub returns-clause-told : goal.returns-clause-told
-returns-clause-told g c = λ told.
-    let first = take c.in-Some.had c.fill_piece.new.piece in
-    let head = take c.in-Some-fill_behind.had c.fill_behind.new.piece in
-    let more = c.in-Some-fill_behind.ensures.taken in
-    let left = g.S.Source.left c.args.source.now in
-    let middle = g.S.Source.left c.fill_piece.new.source in
-    let rest = g.S.Source.left c.fill_behind.new.source in
-    let front : left ≡ first ++ middle = g.met.S.Source.reads_told _ _ _ told c.in-Some.ensures.taken in
-    let behind : middle ≡ more.0 ++ rest = g.met.S.Source.reads_told _ _ _ told more.1 in
-    let whole : left ≡ head ++ rest =
-    front ∙ ap (λ l. first ++ l) behind ∙ sym (append_assoc first more.0 rest) ∙ ap (λ l. l ++ rest) more.2 in
-    let other : begins_ng left ≡ false =
-    ap begins_ng front
-    ∙ begins-front first middle (λ few. c.in-Some.ensures.short told
-    (grind (arith, common_steps, length-take c.in-Some.had c.fill_piece.new.piece, c.fill_piece.auto.piece, few)))
-    ∙ sym c.is_section_type.ensures
-    ∙ c.if-is_section_type.false in
-    let same : header_fault left ≡ header_fault head =
-    ap header_fault whole
-    ∙ header-front head rest
-    (omega (arith, length-take c.in-Some-fill_behind.had c.fill_behind.new.piece, c.fill_behind.auto.piece))
-    (λ few. c.in-Some-fill_behind.ensures.short told (grind (
-      arith,
-      common_steps,
-      length-take c.in-Some-fill_behind.had c.fill_behind.new.piece,
-      c.fill_behind.auto.piece,
-      few,
-    ))) in
-    let Starts : AnyStarted → Type 0 = λ answer. StartsAny left answer in
-    subst Starts (sym c.of-2.ensures)
-    (starts_any left head c.start_savefile.result other same c.start_savefile.ensures.told)
-
 pub returns-clause-shows : goal.returns-clause-shows
 returns-clause-shows g c = λ p h.
     let first = take c.in-Some.had c.fill_piece.new.piece in

@@ -1,5 +1,4 @@
 use Rattle.std.proofs.Common.{List, length, sym, ap, subst, arith}
-use Rattle.std.specs.Prelude.{IsTrue}
 use Rattle.std.proofs.lemmas.List.{length_push}
 use Rattle.std.proofs.lemmas.List.Elements.{All-push}
 use Rattle.plain_text.specs.Octets.{IsOfBytes}
@@ -13,10 +12,6 @@ use Rattle.pcapng_io.proofs.Taken.{some_at_start, some_more, some_of_any}
 use Rattle.world_io.proofs.GoingOn.{GoesOn-trans}
 use Rattle.pcapng_io.proofs.capture.read_any_capture.Goals as goal
 
-pub returns-in-Refused-clause-told : goal.returns-in-Refused-clause-told
-returns-in-Refused-clause-told g c =
-    λ told. refused_start (g.S.Source.left c.args.source.now) c.in-Refused.fault (c.in-Refused.ensures.told told)
-
 pub returns-in-Refused-clause-shows : goal.returns-in-Refused-clause-shows
 returns-in-Refused-clause-shows g c =
     λ p h. refused_start (g.S.Source.remains p c.args.source.now) c.in-Refused.fault (c.in-Refused.ensures.shows p h)
@@ -29,8 +24,6 @@ records-init g c =
       read = subst Has (sym c.new-packets.ensures)
           (any_begins g.S.Source.reads g.met.S.Source.reads_nothing g.met.S.Source.reads_more c.args.source.now
           c.open_capture.new.source c.in-Reader.reader c.in-Reader.ensures.taken);
-      format =
-          λ told. format_start (g.S.Source.left c.args.source.now) c.in-Reader.reader (c.in-Reader.ensures.told told);
       shows = λ p h.
           format_start (g.S.Source.remains p c.args.source.now) c.in-Reader.reader (c.in-Reader.ensures.shows p h);
       some = some_at_start g.S.Source.reads c.open_capture.result c.args.source.now c.open_capture.new.source
@@ -56,9 +49,6 @@ records-preserved g c =
       read = any_on g.S.Source.reads g.met.S.Source.reads_nothing g.met.S.Source.reads_more c.args.source.now
           c.records.source c.next_packet.new.source c.records.reader c.next_packet.new.self c.records.packets
           c.push.new.self c.in-Packet.packet c.in-Ok.ensures.ok inv.read c.in-Packet.ensures.taken;
-      format = λ told.
-          format_on g.S.Source.reads c.records.source c.next_packet.new.source (g.S.Source.left c.args.source.now)
-          c.records.reader c.next_packet.new.self _ (inv.format told) c.in-Packet.ensures.taken;
       shows = λ p h.
           let before = g.met.S.Source.reads_before p _ _ _ h
           (some_of_any g.S.Source.reads _ _ _ _ _ c.next_packet.ensures.taken).1 in
@@ -72,13 +62,6 @@ records-preserved g c =
       goes_on = GoesOn-trans g.S.Source.faults g.S.Source.healthy _ _ _ inv.goes_on c.in-Packet.ensures.goes_on;
     }
 
-pub returns-in-Refused-next_packet-clause-told : goal.returns-in-Refused-next_packet-clause-told
-returns-in-Refused-next_packet-clause-told g c = λ told.
-    let inv = c.records.invariant in
-    any_refused g.S.Source.reads g.S.Source.left (λ _. IsTrue g.S.Source.tells) (λ a b taken here r. here)
-    g.met.S.Source.reads_told c.args.source.now c.records.source told c.records.reader c.records.packets
-    c.in-Refused-next_packet.fault (inv.format told) inv.read (c.in-Refused-next_packet.ensures.told told)
-
 pub returns-in-Refused-next_packet-clause-shows : goal.returns-in-Refused-next_packet-clause-shows
 returns-in-Refused-next_packet-clause-shows g c = λ p h.
     let inv = c.records.invariant in
@@ -88,13 +71,6 @@ returns-in-Refused-next_packet-clause-shows g c = λ p h.
     (g.met.S.Source.reads_shown p) c.args.source.now c.records.source before c.records.reader c.records.packets
     c.in-Refused-next_packet.fault (inv.shows p before) inv.read (c.in-Refused-next_packet.ensures.shows p h)
 
-pub returns-in-TooLarge-clause-told : goal.returns-in-TooLarge-clause-told
-returns-in-TooLarge-clause-told g c = λ told.
-    let inv = c.records.invariant in
-    any_large g.S.Source.reads g.S.Source.left (λ _. IsTrue g.S.Source.tells) (λ a b taken here r. here)
-    g.met.S.Source.reads_told c.args.source.now c.records.source told c.records.reader c.records.packets
-    c.in-TooLarge.limit (inv.format told) inv.read (c.in-TooLarge.ensures.told told)
-
 pub returns-in-TooLarge-clause-shows : goal.returns-in-TooLarge-clause-shows
 returns-in-TooLarge-clause-shows g c = λ p h.
     let inv = c.records.invariant in
@@ -103,16 +79,6 @@ returns-in-TooLarge-clause-shows g c = λ p h.
     any_large g.S.Source.reads (g.S.Source.remains p) (g.S.Source.honest p) (g.met.S.Source.reads_before p)
     (g.met.S.Source.reads_shown p) c.args.source.now c.records.source before c.records.reader c.records.packets
     c.in-TooLarge.limit (inv.shows p before) inv.read (c.in-TooLarge.ensures.shows p h)
-
-pub returns-clause-told : goal.returns-clause-told
-returns-clause-told g c = λ told.
-    let inv = c.records.invariant in
-    let Says_unit : TimeUnit → Type 0 =
-    λ u. SaysAny (g.S.Source.left c.args.source.now) (Capture u c.records.packets) in
-    subst Says_unit (sym c.unit.ensures) (any_end g.S.Source.reads g.S.Source.left (λ _. IsTrue g.S.Source.tells)
-    (λ a b taken here r. here) g.met.S.Source.reads_told c.args.source.now c.records.source told c.records.reader
-    c.next_packet.new.self c.records.packets c.next_packet.new.source (inv.format told) inv.read
-    (c.in-End.ensures.told told) c.in-End.ensures.taken)
 
 pub returns-clause-shows : goal.returns-clause-shows
 returns-clause-shows g c = λ p h.

@@ -1,5 +1,5 @@
 use Rattle.std.proofs.Common.{◌-◌, length}
-use Rattle.std.specs.Prelude.{IsTrue, All}
+use Rattle.std.specs.Prelude.{All}
 use Rattle.plain_text.specs.declared.limit.TheConstants.{MOST_PACKETS}
 use Rattle.plain_text.specs.Octets.{IsOfBytes}
 use Rattle.world_io.specs.Taking.{TakesSome}
@@ -14,7 +14,6 @@ invariant-records g l =
     let source = g.S.Source in
     record {
       read : HasReadAny source.reads l.fn.source l.source l.reader l.packets;
-      format : IsTrue source.tells → IsFormatOf (source.left l.fn.source) l.reader;
       shows : (p : Start) → source.honest p l.source → IsFormatOf (source.remains p l.fn.source) l.reader;
       some : TakesSome source.reads l.fn.source l.source;
       octets : All IsOfBytes l.packets;

@@ -1,10 +1,6 @@
 use Rattle.output_files.proofs.Effects.{err_gathers, gathered_begun}
 use Rattle.run_command.proofs.replying.write_answer.Goals as goal
 
-pub returns-in_err-line-clause-told : goal.returns-in_err-line-clause-told
-returns-in_err-line-clause-told g c told before writes name freed is names gathered =
-    err_gathers _ _ _ before _ c.from_residual.ensures.0 (gathered_begun writes _ _ before _ gathered)
-
 pub returns-in_err-line-clause-shows : goal.returns-in_err-line-clause-shows
 returns-in_err-line-clause-shows g c p h before writes name freed is names gathered =
     err_gathers _ _ _ before _ c.from_residual.ensures.0 (gathered_begun writes _ _ before _ gathered)

@@ -17,71 +17,21 @@ write_events-requires-clause-somewhere g c κs within =
       c.requires.inputs.short,
     )
 
-pub returns-in_err-system-clause-in_order : goal.returns-in_err-system-clause-in_order
-returns-in_err-system-clause-in_order g c told = nothing_begun _ _ _ _ _ (begun_none _ _)
-
-pub returns-in-Ok-clause-whole : goal.returns-in-Ok-clause-whole
-returns-in-Ok-clause-whole g c told =
-    let s = setting_of (g.P.Program.meaning c.args.program) c.args.run in
-    let names = names_of c.args.files in
-    let at = at_same _ _ s _ c.in_ok-system.system (ap g.P.Program.meaning (sym c.in_ok-system.ensures.program))
-    (opens_at _ s c.in_ok-system.system c.in_ok-system.ensures.stands c.in_ok-system.ensures.none) in
-    let come = goes_same (Ok c.in-Ok.schedule) _ _ s names _ c.args.run.events _ _ _ _
-    (ap g.P.Program.meaning (sym c.in-Ok.ensures.program)) c.as_slice-events.ensures
-    (c.in-Ok.ensures.told told s refl at) in
-    rw c.written.ensures
-    (finished_whole s names c.args.run.events c.requires.apart _ _ c.close_run-ended.result
-    (c.close_run-ended.ensures.told told s names c.args.run.events _ (c.in-Ok.ensures.schedule told) come))
-
-pub returns-in-Ok-clause-limit : goal.returns-in-Ok-clause-limit
-returns-in-Ok-clause-limit g c told limit e =
-    absurd (no_limit c.close_run-ended.result limit (sym c.written.ensures ∙ e))
-
-pub returns-in-Ok-clause-in_order : goal.returns-in-Ok-clause-in_order
-returns-in-Ok-clause-in_order g c told =
-    let s = setting_of (g.P.Program.meaning c.args.program) c.args.run in
-    let names = names_of c.args.files in
-    let at = at_same _ _ s _ c.in_ok-system.system (ap g.P.Program.meaning (sym c.in_ok-system.ensures.program))
-    (opens_at _ s c.in_ok-system.system c.in_ok-system.ensures.stands c.in_ok-system.ensures.none) in
-    let come = goes_same (Ok c.in-Ok.schedule) _ _ s names _ c.args.run.events _ _ _ _
-    (ap g.P.Program.meaning (sym c.in-Ok.ensures.program)) c.as_slice-events.ensures
-    (c.in-Ok.ensures.told told s refl at) in
-    finished_begun s names c.args.run.events c.requires.apart _ _ c.close_run-ended.result
-    (c.close_run-ended.ensures.told told s names c.args.run.events _ (c.in-Ok.ensures.schedule told) come)
-
 pub returns-in-Ok-clause-writes_files : goal.returns-in-Ok-clause-writes_files
 returns-in-Ok-clause-writes_files g c =
     WritesFiles-trans _ _ 2 0 _ _ _ c.in-Ok.ensures.writes_files
-    (OnlyWrites-files _ _ _ _ 0 _ _ c.close_run-ended.ensures.only_writes)
+    (OnlyWrites-files _ _ 0 _ _ c.close_run-ended.ensures.only_writes)
 
 pub returns-in-Ok-clause-cause : goal.returns-in-Ok-clause-cause
 returns-in-Ok-clause-cause g c e =
     WritesFiles-failed _ _ 2 _ _ _ c.in-Ok.ensures.writes_files
     (c.close_run-ended.ensures.cause (fault_written c.close_run-ended.result (sym c.written.ensures ∙ e)))
 
-pub returns-clause-limit : goal.returns-clause-limit
-returns-clause-limit g c told limit e =
-    let s = setting_of (g.P.Program.meaning c.args.program) c.args.run in
-    let at = at_same _ _ s _ c.in_ok-system.system (ap g.P.Program.meaning (sym c.in_ok-system.ensures.program))
-    (opens_at _ s c.in_ok-system.system c.in_ok-system.ensures.stands c.in_ok-system.ensures.none) in
-    stopped_limit s (names_of c.args.files) c.args.run.events c.requires.apart _ _ _ _ _ c.in-Err.error limit
-    (goes_same {A = ℕ} (Err c.in-Err.error) _ _ s _ _ c.args.run.events _ _ _ _ refl c.as_slice-events.ensures
-    (c.in-Err.ensures.told told s refl at)) e
+pub returns-in_err-system-clause-in_order : goal.returns-in_err-system-clause-in_order
+returns-in_err-system-clause-in_order g c p h = nothing_begun _ _ _ _ _ (begun_none _ _)
 
-pub returns-clause-in_order : goal.returns-clause-in_order
-returns-clause-in_order g c told =
-    let s = setting_of (g.P.Program.meaning c.args.program) c.args.run in
-    let at = at_same _ _ s _ c.in_ok-system.system (ap g.P.Program.meaning (sym c.in_ok-system.ensures.program))
-    (opens_at _ s c.in_ok-system.system c.in_ok-system.ensures.stands c.in_ok-system.ensures.none) in
-    stopped_begun s (names_of c.args.files) c.args.run.events c.requires.apart _ _ _ _ _ c.in-Err.error
-    (goes_same {A = ℕ} (Err c.in-Err.error) _ _ s _ _ c.args.run.events _ _ _ _ refl c.as_slice-events.ensures
-    (c.in-Err.ensures.told told s refl at))
-
-pub returns-in_err-system-clause-shows_in_order : goal.returns-in_err-system-clause-shows_in_order
-returns-in_err-system-clause-shows_in_order g c p h = nothing_begun _ _ _ _ _ (begun_none _ _)
-
-pub returns-in-Ok-clause-shows_whole : goal.returns-in-Ok-clause-shows_whole
-returns-in-Ok-clause-shows_whole g c p h =
+pub returns-in-Ok-clause-whole : goal.returns-in-Ok-clause-whole
+returns-in-Ok-clause-whole g c p h =
     let h0 = c.close_run-ended.ensures.before p h in
     let s = setting_of (g.P.Program.meaning c.args.program) c.args.run in
     let names = names_of c.args.files in
@@ -92,14 +42,14 @@ returns-in-Ok-clause-shows_whole g c p h =
     (c.in-Ok.ensures.shows p h0 s refl at) in
     rw c.written.ensures
     (finished_whole s names c.args.run.events c.requires.apart _ _ c.close_run-ended.result
-    (c.close_run-ended.ensures.shows p h s names c.args.run.events _ (c.in-Ok.ensures.shows_schedule p h0) come))
+    (c.close_run-ended.ensures.shows p h s names c.args.run.events _ (c.in-Ok.ensures.schedule p h0) come))
 
-pub returns-in-Ok-clause-shows_limit : goal.returns-in-Ok-clause-shows_limit
-returns-in-Ok-clause-shows_limit g c p h limit e =
+pub returns-in-Ok-clause-limit : goal.returns-in-Ok-clause-limit
+returns-in-Ok-clause-limit g c p h limit e =
     absurd (no_limit c.close_run-ended.result limit (sym c.written.ensures ∙ e))
 
-pub returns-in-Ok-clause-shows_in_order : goal.returns-in-Ok-clause-shows_in_order
-returns-in-Ok-clause-shows_in_order g c p h =
+pub returns-in-Ok-clause-in_order : goal.returns-in-Ok-clause-in_order
+returns-in-Ok-clause-in_order g c p h =
     let h0 = c.close_run-ended.ensures.before p h in
     let s = setting_of (g.P.Program.meaning c.args.program) c.args.run in
     let names = names_of c.args.files in
@@ -109,10 +59,10 @@ returns-in-Ok-clause-shows_in_order g c p h =
     (ap g.P.Program.meaning (sym c.in-Ok.ensures.program)) c.as_slice-events.ensures
     (c.in-Ok.ensures.shows p h0 s refl at) in
     finished_begun s names c.args.run.events c.requires.apart _ _ c.close_run-ended.result
-    (c.close_run-ended.ensures.shows p h s names c.args.run.events _ (c.in-Ok.ensures.shows_schedule p h0) come)
+    (c.close_run-ended.ensures.shows p h s names c.args.run.events _ (c.in-Ok.ensures.schedule p h0) come)
 
-pub returns-clause-shows_limit : goal.returns-clause-shows_limit
-returns-clause-shows_limit g c p h limit e =
+pub returns-clause-limit : goal.returns-clause-limit
+returns-clause-limit g c p h limit e =
     let s = setting_of (g.P.Program.meaning c.args.program) c.args.run in
     let at = at_same _ _ s _ c.in_ok-system.system (ap g.P.Program.meaning (sym c.in_ok-system.ensures.program))
     (opens_at _ s c.in_ok-system.system c.in_ok-system.ensures.stands c.in_ok-system.ensures.none) in
@@ -120,8 +70,8 @@ returns-clause-shows_limit g c p h limit e =
     (goes_same {A = ℕ} (Err c.in-Err.error) _ _ s _ _ c.args.run.events _ _ _ _ refl c.as_slice-events.ensures
     (c.in-Err.ensures.shows p h s refl at)) e
 
-pub returns-clause-shows_in_order : goal.returns-clause-shows_in_order
-returns-clause-shows_in_order g c p h =
+pub returns-clause-in_order : goal.returns-clause-in_order
+returns-clause-in_order g c p h =
     let s = setting_of (g.P.Program.meaning c.args.program) c.args.run in
     let at = at_same _ _ s _ c.in_ok-system.system (ap g.P.Program.meaning (sym c.in_ok-system.ensures.program))
     (opens_at _ s c.in_ok-system.system c.in_ok-system.ensures.stands c.in_ok-system.ensures.none) in

@@ -6,24 +6,11 @@ use Rattle.run_writes.proofs.OpeningSteps.{writable_still}
 use Rattle.run_command.proofs.WholeRun.{fault_opened, not_opened, opens, same_error}
 use Rattle.run_command.proofs.run.write_events.Goals as goal
 
-pub returns-in_err-outputs-clause-told : goal.returns-in_err-outputs-clause-told
-returns-in_err-outputs-clause-told g c told s unit at =
-    let made : c.from_residual.result ≡ Err (run_error_of c.in_err-outputs.field-0.0) = search rules in
-    not_opened _ c.in_err-outputs.field-0.0 _ s _ _ _ _ _ _ _ made unit (c.in_err-outputs.ensures.told told)
-
 pub returns-in_err-outputs-clause-cause : goal.returns-in_err-outputs-clause-cause
 returns-in_err-outputs-clause-cause g c fault =
     let made : c.from_residual.result ≡ Err (run_error_of c.in_err-outputs.field-0.0) = search rules in
     let was : c.open_outputs.result ≡ Err c.in_err-outputs.field-0.0 = search rules in
     c.open_outputs.ensures.cause (fault_opened _ _ c.in_err-outputs.field-0.0 made was fault)
-
-pub returns-in_err-perform_events-clause-told : goal.returns-in_err-perform_events-clause-told
-returns-in_err-perform_events-clause-told g c told s unit at =
-    let names = names_of c.args.files in
-    let made : c.from_residual-in_err-perform_events.result ≡ Err c.in_err-perform_events.field-0.0 = search rules in
-    let first = opens _ s names c.args.system.now _ _ _ _ c.requires.none at unit (c.in_ok-outputs.ensures.told told) in
-    same_error _ c.in_err-perform_events.field-0.0 _ s names _ _ _ _ _ made
-    (c.in_err-perform_events.ensures.told told s names _ (c.in_ok-outputs.ensures.released told) first)
 
 pub returns-in_err-perform_events-clause-cause : goal.returns-in_err-perform_events-clause-cause
 returns-in_err-perform_events-clause-cause g c fault =
@@ -33,17 +20,7 @@ returns-in_err-perform_events-clause-cause g c fault =
 pub returns-in_err-perform_events-clause-writes_files : goal.returns-in_err-perform_events-clause-writes_files
 returns-in_err-perform_events-clause-writes_files g c =
     WritesFiles-trans _ _ 2 0 _ _ _ c.in_ok-outputs.ensures.writes_files
-    (OnlyWrites-files _ _ _ _ 0 _ _ c.in_err-perform_events.ensures.only_writes)
-
-pub returns-clause-told : goal.returns-clause-told
-returns-clause-told g c told s unit at =
-    let names = names_of c.args.files in
-    let first = opens _ s names c.args.system.now _ _ _ _ c.requires.none at unit (c.in_ok-outputs.ensures.told told) in
-    c.in_ok-perform_events.ensures.told told s names _ (c.in_ok-outputs.ensures.released told) first
-
-pub returns-clause-schedule : goal.returns-clause-schedule
-returns-clause-schedule g c told =
-    c.in_ok-perform_events.ensures.only_writes.outputs told _ _ (c.in_ok-outputs.ensures.schedule told)
+    (OnlyWrites-files _ _ 0 _ _ c.in_err-perform_events.ensures.only_writes)
 
 pub returns-clause-writable : goal.returns-clause-writable
 returns-clause-writable g c =
@@ -52,7 +29,7 @@ returns-clause-writable g c =
 pub returns-clause-writes_files : goal.returns-clause-writes_files
 returns-clause-writes_files g c =
     WritesFiles-trans _ _ 2 0 _ _ _ c.in_ok-outputs.ensures.writes_files
-    (OnlyWrites-files _ _ _ _ 0 _ _ c.in_ok-perform_events.ensures.only_writes)
+    (OnlyWrites-files _ _ 0 _ _ c.in_ok-perform_events.ensures.only_writes)
 
 pub returns-in_err-outputs-clause-shows : goal.returns-in_err-outputs-clause-shows
 returns-in_err-outputs-clause-shows g c p h s unit at =
@@ -66,16 +43,16 @@ returns-in_err-perform_events-clause-shows g c p h s unit at =
     let made : c.from_residual-in_err-perform_events.result ≡ Err c.in_err-perform_events.field-0.0 = search rules in
     let first = opens _ s names c.args.system.now _ _ _ _ c.requires.none at unit (c.in_ok-outputs.ensures.shows p h0) in
     same_error _ c.in_err-perform_events.field-0.0 _ s names _ _ _ _ _ made
-    (c.in_err-perform_events.ensures.shows p h s names _ (c.in_ok-outputs.ensures.shows_released p h0) first)
+    (c.in_err-perform_events.ensures.shows p h s names _ (c.in_ok-outputs.ensures.released p h0) first)
 
 pub returns-clause-shows : goal.returns-clause-shows
 returns-clause-shows g c p h s unit at =
     let h0 = c.in_ok-perform_events.ensures.before p h in
     let names = names_of c.args.files in
     let first = opens _ s names c.args.system.now _ _ _ _ c.requires.none at unit (c.in_ok-outputs.ensures.shows p h0) in
-    c.in_ok-perform_events.ensures.shows p h s names _ (c.in_ok-outputs.ensures.shows_released p h0) first
+    c.in_ok-perform_events.ensures.shows p h s names _ (c.in_ok-outputs.ensures.released p h0) first
 
-pub returns-clause-shows_schedule : goal.returns-clause-shows_schedule
-returns-clause-shows_schedule g c p h =
+pub returns-clause-schedule : goal.returns-clause-schedule
+returns-clause-schedule g c p h =
     c.in_ok-perform_events.ensures.keeps p h _ _
-    (c.in_ok-outputs.ensures.shows_schedule p (c.in_ok-perform_events.ensures.before p h))
+    (c.in_ok-outputs.ensures.schedule p (c.in_ok-perform_events.ensures.before p h))

@@ -6,12 +6,6 @@ write_performed-requires-clause-short g c =
     let here = c.requires.somewhere in
     c.perform-performed.ensures.short here.0 here.1 here.2 here.3
 
-pub returns-clause-told : goal.returns-clause-told
-returns-clause-told g c told s names events before is come =
-    performed_goes (g.P.Program.meaning c.args.system.now.parts.program) s names events c.args.system.now
-    c.args.lines.now before _ come c.args.event.now _ _ _ c.perform-performed.new.system _ _
-    c.perform-performed.ensures.comes (c.write_performed.ensures.told told before _ names.released is come.gathered)
-
 pub returns-clause-runs : goal.returns-clause-runs
 returns-clause-runs g c = on_ended _ _ _ c.write_performed.ensures.ended c.perform-performed.ensures.goes_on
 

@@ -18,14 +18,7 @@ loop-event-preserved g c =
       program = c.in_ok-perform_event.ensures.program ∙ inv.program;
       somewhere = somewhere_same _ _ c.perform_event.new.system (ap g.P.Program.meaning inv.program)
           c.in_ok-perform_event.ensures.somewhere;
-      only_writes = OnlyWrites-trans _ _ _ _ _ _ _ inv.only_writes c.in_ok-perform_event.ensures.only_writes;
-      come = λ told s names before is come.
-          come_on _ _ s names c.args.events.now c.loop-event.event-index _ _ _ before _
-          (ap g.P.Program.meaning inv.program) low (same_item c.args.events.now c.loop-event.event-index _ low)
-          (c.in_ok-perform_event.ensures.told told s names (take c.loop-event.event-index c.args.events.now) before
-          (inv.only_writes.outputs told _ _ is)
-          (come_same _ _ s names _ c.loop-event.system c.loop-event.lines before _
-          (ap g.P.Program.meaning (sym inv.program)) (inv.come told s names before is come)));
+      only_writes = OnlyWrites-trans _ _ _ _ _ inv.only_writes c.in_ok-perform_event.ensures.only_writes;
       shows = λ p h s names before is come.
           let h0 = c.in_ok-perform_event.ensures.before p h in
           come_on _ _ s names c.args.events.now c.loop-event.event-index _ _ _ before _
@@ -39,25 +32,6 @@ loop-event-preserved g c =
           (c.in_ok-perform_event.ensures.keeps p h);
       before = λ p h. inv.before p (c.in_ok-perform_event.ensures.before p h);
     }
-
-pub returns-in_err-perform_event-clause-told : goal.returns-in_err-perform_event-clause-told
-returns-in_err-perform_event-clause-told g c told s names before is come =
-    let inv = c.loop-event.invariant in
-    let low : c.loop-event.event-index < length c.args.events.now = omega arith in
-    let e : c.from_residual.result ≡ Err c.in_err-perform_event.field-0.0 = search rules in
-    rw e (goes_longer c.in_err-perform_event.field-0.0 _ _ s names _ _ c.args.events.now c.perform_event.new.system _
-    c.perform_event.new.lines _ before _
-    (split_here c.args.events.now c.loop-event.event-index _ low
-    (same_item c.args.events.now c.loop-event.event-index _ low))
-    (c.in_err-perform_event.ensures.told told s names (take c.loop-event.event-index c.args.events.now) before
-    (inv.only_writes.outputs told _ _ is)
-    (come_same _ _ s names _ c.loop-event.system c.loop-event.lines before _ (ap g.P.Program.meaning (sym inv.program))
-    (inv.come told s names before is come))))
-
-pub returns-clause-told : goal.returns-clause-told
-returns-clause-told g c told s names before is come =
-    come_all _ s names c.args.events.now c.loop-event.event-index c.loop-event.system c.loop-event.lines before _
-    (omega arith) (c.loop-event.invariant.come told s names before is come)
 
 pub returns-in_err-perform_event-clause-shows : goal.returns-in_err-perform_event-clause-shows
 returns-in_err-perform_event-clause-shows g c p h s names before is come =

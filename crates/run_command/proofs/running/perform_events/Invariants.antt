@@ -1,5 +1,4 @@
 use Rattle.std.proofs.Common.{◌≡◌, [], take, false}
-use Rattle.std.specs.Prelude.{IsTrue}
 use Rattle.world_io.specs.World.{Start, Shown}
 use Rattle.recovery_world.specs.World.{Setting}
 use Rattle.output_files.specs.Writes.{IsOutput, KeepsOutputs}
@@ -16,11 +15,7 @@ invariant-loop-event g l =
       runs : l.system.stopped ≡ false;
       program : l.system.parts.program ≡ l.fn.system.parts.program;
       somewhere : IsSomewhere m l.system;
-      only_writes : OnlyWrites g.W.World.tells g.W.World.shown g.W.World.ledger g.W.World.healthy l.fn.world l.world;
-      come : IsTrue g.W.World.tells → (s : Setting g.row.P-Value.Denot) (names : OutputNames) (before : Shown)
-          → IsOutput l.file names.released (g.W.World.shown l.fn.world)
-          → HasCome m s names [] l.fn.system l.fn.lines before (g.W.World.shown l.fn.world)
-          → HasCome m s names (take l.event-index l.events) l.system l.lines before (g.W.World.shown l.world);
+      only_writes : OnlyWrites g.W.World.ledger g.W.World.healthy l.fn.world l.world;
       shows : (p : Start) → g.W.World.honest p l.world → (s : Setting g.row.P-Value.Denot) (names : OutputNames)
           (before : Shown) → IsOutput l.file names.released (g.W.World.shows p l.fn.world)
           → HasCome m s names [] l.fn.system l.fn.lines before (g.W.World.shows p l.fn.world)

@@ -45,27 +45,6 @@ returns-then-kept-count-clause-reads g c =
       grind (arith, common_steps, more),
     )
 
-pub returns-then-kept-count-clause-end : goal.returns-then-kept-count-clause-end
-returns-then-kept-count-clause-end g c = λ told.
-    let inv = c.loop-bytes.invariant in
-    let count = c.in-Got.count in
-    let kept = c.min-kept.result in
-    let piece = c.fill.new.piece in
-    let tail = drop c.min-want.result c.loop-bytes.piece in
-    let within : count ≤ length piece = omega (arith, c.in-Got.ensures.count.0, c.fill.auto.piece) in
-    let less : kept ≤ count = omega (arith, c.min-kept.ensures) in
-    let first = c.in_ok-keep-in-Got.ensures.ok in
-    let next = drop kept (take count piece) in
-    let both =
-    g.met.S.Source.reads_told _ _ _ told (g.met.S.Source.reads_more _ _ _ _ _ inv.reads c.in-Got.ensures.reads) in
-    let parts : c.keep.new.bytes ++ next ≡ c.loop-bytes.bytes ++ take count piece =
-    ap (λ l. l ++ next) first ∙ parts_of_piece c.loop-bytes.bytes piece tail count kept less within in
-    let size = kept_length c.keep.new.bytes c.loop-bytes.bytes piece tail kept first (omega (arith, less, within)) in
-    let more = left_of_piece piece count kept within in
-    is_front c.keep.new.bytes next (g.S.Source.left c.fill.new.self) _ c.args.limit
-    (both ∙ ap (λ l. l ++ g.S.Source.left c.fill.new.self) (sym parts)) (grind (arith, common_steps, size))
-    (grind (arith, common_steps, more))
-
 pub returns-in-End-clause-ends : goal.returns-in-End-clause-ends
 returns-in-End-clause-ends g c p h =
     let reads = c.in-End.ensures.reads in

@@ -28,16 +28,6 @@ returns-then-len-self-clause-shows g c p h =
       refl,
     )
 
-pub returns-then-len-captured-clause-told : goal.returns-then-len-captured-clause-told
-returns-then-len-captured-clause-told g c told =
-    let read = c.in-Ok.ensures.reads in
-    let left = g.met.S.Source.reads_told _ _ _ told read.1 in
-    let size = ap length read.2 in
-    let says = c.read_u32-captured.ensures ∙ ap (number c.args.self.order 4) (take_rest c.args.head.now 8) in
-    short_body c.args.self.order c.args.head.now c.requires.head (omega (arith, says)) c.args.self.offset
-    c.args.self.room c.args.self.limit read.0 _ _ _ (omega (arith, c.len.ensures)) (omega (arith, c.len-2.ensures))
-    (c.in-Ok.ensures.short told (omega (arith, c.len-2.ensures))) left c.refused-then-len-captured.ensures
-
 pub returns-then-len-captured-clause-shows : goal.returns-then-len-captured-clause-shows
 returns-then-len-captured-clause-shows g c p h =
     let read = c.in-Ok.ensures.reads in

@@ -16,20 +16,6 @@ returns-in-Ok-clause-taken g c =
     takes_behind g.S.Source.reads g.met.S.Source.reads_more _ taken.0 _ _ _ _ _
     (ap (λ l. l ++ taken.0) (sym c.held_type.ensures) ∙ taken.2 ∙ all) taken.1 c.read_rest.ensures.taken
 
-pub returns-in-Err-clause-told : goal.returns-in-Err-clause-told
-returns-in-Err-clause-told g c = λ told.
-    let taken = c.in-Some.ensures.taken in
-    let head = c.fill_behind.new.piece in
-    let left = g.S.Source.left c.fill_behind.new.source in
-    let parts : take c.in-Some.had head ++ left ≡ held_type c.args.self.typed ++ g.S.Source.left c.args.source.now =
-    ap (λ l. l ++ left) (sym taken.2)
-    ∙ ap (λ l. (l ++ taken.0) ++ left) c.held_type.ensures
-    ∙ append_assoc (held_type c.args.self.typed) taken.0 left
-    ∙ ap (λ l. held_type c.args.self.typed ++ l) (sym (g.met.S.Source.reads_told _ _ _ told taken.1)) in
-    let Stops : List ℕ → Type 0 = λ bytes. StopsHere c.args.self bytes c.in-Err.why in
-    subst Stops parts (c.in-Err.ensures.stops left (λ few. c.in-Some.ensures.short told
-    (grind (arith, common_steps, length-take c.in-Some.had head, c.fill_behind.auto.piece, few))))
-
 pub returns-in-Err-clause-shows : goal.returns-in-Err-clause-shows
 returns-in-Err-clause-shows g c = λ p h.
     let taken = c.in-Some.ensures.taken in

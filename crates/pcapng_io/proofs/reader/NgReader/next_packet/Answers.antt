@@ -40,22 +40,6 @@ blocks-2-preserved g c =
       goes_on = GoesOn-trans g.S.Source.faults g.S.Source.healthy _ _ _ inv.goes_on c.in-Ok-None.ensures.goes_on;
     }
 
-pub returns-in-Err-clause-told : goal.returns-in-Err-clause-told
-returns-in-Err-clause-told g c = λ told.
-    let inv = c.blocks-2.invariant in
-    let r = c.args.self.now in
-    let bytes = held_type r.typed ++ g.S.Source.left c.args.source.now in
-    let same : _ ≡ c.blocks-2.self = c.self-in-blocks-2.view_is ∙ c.in-Err.ensures.moves.1 in
-    let offset : c.self-in-blocks-2.inside.offset ≡ c.blocks-2.self.offset = ap (λ (s : NgReading). s.offset) same in
-    let behind = stops_behind g.S.Source.reads c.args.source.now c.blocks-2.source r c.blocks-2.self inv.moved
-    (g.S.Source.left c.args.source.now) (g.S.Source.left c.blocks-2.source) c.in-Err.why
-    (g.met.S.Source.reads_told _ _ _ told inv.moved.read) (omega (arith, offset, c.self-in-blocks-2.invariant.0))
-    (c.in-Err.ensures.told told) in
-    let Behind : ℕ → Type 0 = λ n. StopsBehind r bytes n c.in-Err.why in
-    let Said : AnyNext → Type 0 = λ answer. AnswersNg r bytes answer in
-    subst Said (sym c.answer.ensures)
-    (answers_stop r bytes c.self-in-blocks-2.inside.offset c.in-Err.why (subst Behind (sym offset) behind))
-
 pub returns-in-Err-clause-shows : goal.returns-in-Err-clause-shows
 returns-in-Err-clause-shows g c = λ p h.
     let inv = c.blocks-2.invariant in

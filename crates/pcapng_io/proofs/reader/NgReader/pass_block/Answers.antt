@@ -37,31 +37,6 @@ invariant_of-self g c =
       c.in-Ok-read_content.ensures.units,
     )
 
-pub returns-in-Err-Fault-clause-told : goal.returns-in-Err-Fault-clause-told
-returns-in-Err-Fault-clause-told g c = λ told.
-    let r = c.args.self.now in
-    let at : IsPlaceOf c.place.result r = record {
-      order = c.place.ensures.order;
-      typed = c.place.ensures.typed;
-      room = c.place.ensures.room;
-      full = c.place.ensures.full;
-    } in
-    let taken = c.in-Ok.ensures.taken in
-    let left = g.S.Source.left c.read_block.new.source in
-    let interfaces : c.self.inside.interfaces ≡ r.interfaces = ap (λ (r : NgReading). r.interfaces) c.self.view_is in
-    let bytes : held_type r.typed ++ g.S.Source.left c.args.source.now ≡ block_bytes c.in-Ok.block ++ left =
-    ap (λ l. held_type r.typed ++ l) (g.met.S.Source.reads_told _ _ _ told taken.1)
-    ∙ sym (append_assoc (held_type r.typed) taken.0 left)
-    ∙ ap (λ t. (held_type t ++ taken.0) ++ left) (sym c.place.ensures.typed)
-    ∙ ap (λ l. l ++ left) taken.2 in
-    let Told : BlockError → Type 0 = λ e. TellsContent
-    (content c.in-Ok.block.order c.self.inside.interfaces (kind_of c.in-Ok.block.number) c.in-Ok.block.body) (Err e)
-    c.self.inside.interfaces c.read_content.new.interfaces in
-    stops_content g.S.Source.reads c.args.source.now c.read_block.new.source c.place.result r at c.in-Ok.block
-    c.in-Ok.ensures.stands _ left c.in-Err-Fault.cause bytes
-    (ap (λ is. content c.in-Ok.block.order is (kind_of c.in-Ok.block.number) c.in-Ok.block.body) (sym interfaces)
-    ∙ (subst Told c.in-Err-Fault.field-0-is c.in-Err-Fault.ensures.content).0)
-
 pub returns-in-Err-Fault-clause-shows : goal.returns-in-Err-Fault-clause-shows
 returns-in-Err-Fault-clause-shows g c = λ p h.
     let r = c.args.self.now in
