@@ -1,6 +1,7 @@
 -- One more entry in the index.
 use Rattle.std.proofs.Common.{◌≡◌, ◌≢◌, ℕ, ◌+◌, ◌<◌, ◌≤◌, ◌⊎◌, ◌↔◌, Bool, true, false, cond, List, [], Option, Some}
-use Rattle.std.proofs.Common.{None, IsSome, Result, Ok, Err, OnOk, OnErr, nat_lt, refl, sym, ap, ◌∙◌, subst, inl, inr, ⊎_elim, arith}
+use Rattle.std.proofs.Common.{None, IsSome, Result, Ok, Err, OnOk, OnErr, nat_lt, refl, sym, ap, ◌∙◌, subst, inl, inr}
+use Rattle.std.proofs.Common.{⊎_elim, arith}
 use Rattle.std.specs.List.{list_any}
 use Rattle.std.specs.Map.{lookup}
 use Rattle.std.specs.BTreeMap.{is_at}
@@ -14,7 +15,8 @@ use Rattle.entry_order.proofs.Order.{touch_only, read_only, is_or}
 use Rattle.access_log.specs.declared.entry.StampedEntry.{StampedEntry}
 use Rattle.access_log.specs.Held.{Lane, lane, entry_at}
 use Rattle.replay_guide.specs.Following.{Follows}
-use Rattle.replay_guide.specs.Indexes.{touch_cmp, read_cmp, touch_after, HasRead, AddsEntry, IsIndexOf, IsPast, AreLasts}
+use Rattle.replay_guide.specs.Indexes.{touch_cmp, read_cmp, touch_after, HasRead, AddsEntry, IsIndexOf, IsPast}
+use Rattle.replay_guide.specs.Indexes.{AreLasts}
 use Rattle.replay_guide.specs.Walks.{FollowsBelow, FollowsDownTo}
 use Rattle.replay_guide.proofs.Keys.{touch_same, touch_equal, read_same, read_equal}
 

@@ -104,9 +104,8 @@ impl Guide {
     /// that are not made yet, the one of the least thread and number first; and both wait for the followed touch that
     /// is next, unless it is their own.
     ///
-    /// It takes no memory. Where the variable was touched more often than before all that is followed of it, one look at
-    /// what is noted of the variable tells. Else its time grows with the number of threads, and with the logarithm of the
-    /// number of followed entries.
+    /// It takes no memory. Where all that is followed of the variable stands at lesser places, one look tells. Else its
+    /// time grows with the number of threads, and with the logarithm of the number of followed entries.
     pub fn turn(
         &self,
         thread: u32,
