@@ -68,8 +68,8 @@ pub record GivesUpRooms (old new : Numbers) : Type 0 where
   pub marked : (n : ℕ) → IsMarked new n ↔ IsMarked old n
   pub room : (n : ℕ) → HasRoom new n → ⊥
 
--- What is true of the numbers of every thread: those kept above the floor are above it, the one behind it is not marked,
--- and this is the greatest marked one.
+-- What is true of the numbers of every thread: those kept above the floor are above it, the one behind it is not
+-- marked, and this is the greatest marked one.
 pub record AreNumbers (s : Numbers) (top : ℕ) : Type 0 where
   pub past : (n : ℕ) → IsSome (above_at s n) → s.floor < n
   pub tight : IsTight s

@@ -1,7 +1,8 @@
 ghost use Rattle.std.specs.Prelude.{◌≡◌, ℕ, ◌<◌, ◌≤◌, ◌↔◌, IsTrue, IsSome, OnOk, OnErr};
 ghost use Rattle.std.specs.BTreeMap.{get};
 ghost use Rattle.std.specs.Ordering.{nat_cmp};
-ghost use Rattle.dup_filter.specs.Numbers.{no_numbers, above_at, IsMarked, HasRoom, IsTight, IsGreatest};
+ghost use Rattle.dup_filter.specs.Numbers.{no_numbers, above_at, IsMarked, HasRoom, IsTight};
+ghost use Rattle.dup_filter.specs.Numbers.{IsGreatest};
 ghost use Rattle.dup_filter.specs.Numbers.{Marks, KeepsRoom, GivesUpRooms};
 
 use plain_text::NoMemory;

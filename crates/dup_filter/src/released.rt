@@ -1,4 +1,5 @@
-ghost use Rattle.std.specs.Prelude.{◌≡◌, ℕ, ◌+◌, ◌<◌, ◌≤◌, ◌↔◌, ◌≢◌, IsTrue, IfOk, OnOk, OnErr, length};
+ghost use Rattle.std.specs.Prelude.{◌≡◌, ℕ, ◌+◌, ◌<◌, ◌≤◌, ◌↔◌, ◌≢◌, IsTrue, IfOk, OnOk, OnErr};
+ghost use Rattle.std.specs.Prelude.{length};
 ghost use Rattle.std.specs.Prelude.{replicate};
 ghost use Rattle.dup_filter.specs.Numbers.{no_numbers, numbers, WasMarked, IsAwaited, AreApart};
 ghost use Rattle.dup_filter.specs.Numbers.{IsGreatest, Marks, KeepsRoom, GivesUpRooms};

@@ -357,8 +357,8 @@ module _ {P V : Type 0} (m : Meaning V) (s : Setting V) (w : World V) (y : Parts
       -- it is held now, and what is due then is released
       pub log_new : (links : Sending) (known : ℕ) (before out go : List Output) (reply : Reply) → out ≡ before ++ go
           → now.epoch ≡ y.logger.epoch → LoggerParts (IsDue now.held) y.logger.waiting go now.waiting
-          → ReleasesOnce y.logger.released now.released go
-          → ((k : ℕ) → k ≤ known → IsKnownLane (lane now.held t) k) → ForgetsEntries y.sent links t known → reply ≡ record { outcome = outcome.New; released = names_of go }
+          → ReleasesOnce y.logger.released now.released go → ((k : ℕ) → k ≤ known → IsKnownLane (lane now.held t) k)
+          → ForgetsEntries y.sent links t known → reply ≡ record { outcome = outcome.New; released = names_of go }
           → AnswersTo m s w (event.Log t n) reply before out
           (record y { sent = links; logger = now; released = y.released ++ names_of go })
       log_new links known before out go reply appends epoch parts once reached forgets is = (

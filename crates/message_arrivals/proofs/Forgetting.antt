@@ -46,7 +46,8 @@ module _ (sent mid links : Sending) (logger : Logger) (t known : ℕ) (frontier 
       gone = ⊎_elim (λ same. same ∙ none) (λ k. k.0) (only.each (entry_address sent t n))
 
   pub forgets_new : {P V : Type 0} (view now new : Parts P V) (threads : ℕ) (outputs : List Output)
-      (list : List (ℕ × ℕ)) → view ≡ now → threads ≡ view.inputs.threads → (1 ≤ length outputs → AreForgotten links logger.released threads)
+      (list : List (ℕ × ℕ)) → view ≡ now → threads ≡ view.inputs.threads
+      → (1 ≤ length outputs → AreForgotten links logger.released threads)
       → NotesReleased outputs list (record view { sent = links; logger = logger }) new
       → ForgetsTaken t (record { outcome = outcome.New; released = list }) new
   forgets_new {P} {V} view now new threads outputs list same count all noted =

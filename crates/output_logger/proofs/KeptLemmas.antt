@@ -315,7 +315,8 @@ kept_back count held before after es rest index keys kept same back keeps only =
       threads = now.threads;
       sorted = now.sorted;
       small = now.small;
-      indexed = λ a o u f h is above. keeps u (slice_index o.stamp u) a (some_of _ o h) (now.indexed a o u f h is above);
+      indexed =
+          λ a o u f h is above. keeps u (slice_index o.stamp u) a (some_of _ o h) (now.indexed a o u f h is above);
       only = only;
       awaited = now.awaited;
       apart = now.apart;

@@ -9,7 +9,8 @@ ghost use Rattle.std.specs.Map.{remove_entry, keys_of};
 ghost use Rattle.access_log.specs.declared.entry.Output.{Output};
 ghost use Rattle.dup_filter.specs.Numbers.{IsAwaited};
 ghost use Rattle.output_logger.specs.Logger.{appended};
-ghost use Rattle.output_logger.specs.Kept.{arrived, IsWaiting, IsIndexed, IndexesOnly, IsReady, IsDueBy};
+ghost use Rattle.output_logger.specs.Kept.{arrived, IsWaiting, IsIndexed, IndexesOnly, IsReady};
+ghost use Rattle.output_logger.specs.Kept.{IsDueBy};
 ghost use Rattle.output_logger.specs.Kept.{HaveNames, Arrives, IsNoted, Gone};
 
 use access_log::Output;

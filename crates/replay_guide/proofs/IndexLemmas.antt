@@ -1,17 +1,22 @@
 -- One more entry in the index.
 use Rattle.std.proofs.Common.{◌≡◌, ◌≢◌, ℕ, ◌+◌, ◌<◌, ◌≤◌, ◌⊎◌, ◌↔◌, Bool, true, false, cond, List, [], Option, Some}
-use Rattle.std.proofs.Common.{None, IsSome, refl, sym, ap, ◌∙◌, subst, inl, inr, ⊎_elim, arith}
+use Rattle.std.proofs.Common.{None, IsSome, Result, Ok, Err, OnOk, OnErr, nat_lt, refl, sym, ap, ◌∙◌, subst, inl, inr}
+use Rattle.std.proofs.Common.{⊎_elim, arith}
 use Rattle.std.specs.List.{list_any}
 use Rattle.std.specs.Map.{lookup}
 use Rattle.std.specs.BTreeMap.{is_at}
+use Rattle.std.specs.Ordering.{nat_cmp}
 use Rattle.std.proofs.lemmas.Bool.{cases_lt}
+use Rattle.std.proofs.lemmas.Bool.Decides.{nat_tests}
+use Rattle.std.proofs.lemmas.Grind.{common_steps}
 use Rattle.entry_order.specs.declared.what.What.{What}
 use Rattle.entry_order.specs.declared.what.What.TheVariants.{Access, Read}
 use Rattle.entry_order.proofs.Order.{touch_only, read_only, is_or}
 use Rattle.access_log.specs.declared.entry.StampedEntry.{StampedEntry}
 use Rattle.access_log.specs.Held.{Lane, lane, entry_at}
 use Rattle.replay_guide.specs.Following.{Follows}
-use Rattle.replay_guide.specs.Indexes.{touch_cmp, read_cmp, touch_after, HasRead, AddsEntry, IsIndexOf}
+use Rattle.replay_guide.specs.Indexes.{touch_cmp, read_cmp, touch_after, HasRead, AddsEntry, IsIndexOf, IsPast}
+use Rattle.replay_guide.specs.Indexes.{AreLasts}
 use Rattle.replay_guide.specs.Walks.{FollowsBelow, FollowsDownTo}
 use Rattle.replay_guide.proofs.Keys.{touch_same, touch_equal, read_same, read_equal}
 
@@ -222,3 +227,65 @@ index_after held thread number touches reads none = IsIndexOf-same (FollowsDownT
     from : (t n : ℕ) (w : What) → FollowsBelow held (thread + 1) t n w → FollowsDownTo held thread number t n w
     from t n w (low, h) = ⊎_elim (λ (q : t ≡ thread). inr (q, above t n w q h, h))
         (λ (q : t ≢ thread). inl (grind arith, h)) (is_or t thread)
+
+-- What is noted of the variables
+
+abbrev Lasts : Type 0
+Lasts = List (ℕ × ℕ)
+
+below_of : (a b : ℕ) → nat_lt a b ≡ true → a < b
+below_of a b h = grind (arith, common_steps, nat_tests)
+
+pub past_some : (lasts : Lasts) (v last places : ℕ) → Some last ≡ lookup (is_at (nat_cmp v)) lasts
+    → nat_lt last places ≡ true → IsPast lasts v places
+past_some lasts v last places is less other h =
+    let both : Some last ≡ Some other = is ∙ h in
+    let same : last ≡ other = cc in
+    let below = below_of last places less in omega (arith, below, same)
+
+pub past_none : (lasts : Lasts) (v places : ℕ) → None ≡ lookup (is_at (nat_cmp v)) lasts → IsPast lasts v places
+past_none lasts v places is last h = absurd (let both : None ≡ Some last = is ∙ h in cc)
+
+-- where greater places are noted
+pub lasts_more : (old now : Lasts) (touches : Touches) (reads : Reads) → AreLasts old touches reads
+    → ((v places : ℕ) → IsPast now v places → IsPast old v places) → AreLasts now touches reads
+lasts_more old now touches reads are more v places past = are v places (more v places past)
+
+-- where a touch was inserted, or not, whose place is noted
+pub lasts_touch : {A E U : Type 0} (r : Result A E) (old now : Lasts) (touches new : Touches) (reads : Reads) (v s : ℕ)
+    (x : ℕ × ℕ) → AreLasts old touches reads → (IsPast now v s → ⊥)
+    → ((w places : ℕ) → IsPast now w places → IsPast old w places) → OnOk r U
+    → (U → (q : ℕ × ℕ)
+    → lookup (is_at (touch_cmp q)) new
+    ≡ cond (is_at (touch_cmp (v, s)) q) (Some x) (lookup (is_at (touch_cmp q)) touches))
+    → OnErr r (new ≡ touches) → AreLasts now new reads
+lasts_touch (Ok a) old now touches new reads v s x are noted more updates found err w places past = (
+  λ y h. ⊎_elim (λ was. (are w places (more w places past)).0 y was)
+      (λ k.
+      let same = touch_equal (v, s) (w, places) k.0 in
+      noted (subst (λ (z : ℕ). IsPast now z s) (sym same.0) (subst (λ (z : ℕ). IsPast now w z) (sym same.1) past)))
+      (cond_some (is_at (touch_cmp (v, s)) (w, places)) x y (touch_after touches w places)
+      (sym (found updates (w, places)) ∙ h)),
+  (are w places (more w places past)).1,
+)
+lasts_touch (Err e) old now touches new reads v s x are noted more updates found err w places past =
+    subst (λ (l : Touches). AreLasts now l reads) (sym err) (lasts_more old now touches reads are more) w places past
+
+-- so for a read
+pub lasts_read : {A E U : Type 0} (r : Result A E) (old now : Lasts) (touches : Touches) (reads new : Reads)
+    (v s t n : ℕ) → AreLasts old touches reads → (IsPast now v s → ⊥)
+    → ((w places : ℕ) → IsPast now w places → IsPast old w places) → OnOk r U
+    → (U → (q : ℕ × ℕ × ℕ × ℕ)
+    → list_any (is_at (read_cmp q)) new
+    ≡ cond (is_at (read_cmp (v, s, t, n)) q) true (list_any (is_at (read_cmp q)) reads))
+    → OnErr r (new ≡ reads) → AreLasts now touches new
+lasts_read (Ok a) old now touches reads new v s t n are noted more updates found err w places past = (
+  (are w places (more w places past)).0,
+  λ u m h. ⊎_elim (λ was. (are w places (more w places past)).1 u m was)
+      (λ k.
+      let same = read_equal (v, s, t, n) (w, places, u, m) k in
+      noted (subst (λ (z : ℕ). IsPast now z s) (sym same.0) (subst (λ (z : ℕ). IsPast now w z) (sym same.1) past)))
+      (cond_true (is_at (read_cmp (v, s, t, n)) (w, places, u, m)) _ (sym (found updates (w, places, u, m)) ∙ h)),
+)
+lasts_read (Err e) old now touches reads new v s t n are noted more updates found err w places past =
+    subst (λ (l : Reads). AreLasts now touches l) (sym err) (lasts_more old now touches reads are more) w places past

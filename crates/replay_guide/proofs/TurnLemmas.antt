@@ -1,5 +1,5 @@
 -- A thread has one turn.
-use Rattle.std.proofs.Common.{◌≡◌, ℕ, ◌+◌, ◌<◌, ◌≤◌, ◌⊎◌, ◌↔◌, Bool, false, List, [], slice_index, Option, Some, None}
+use Rattle.std.proofs.Common.{◌≡◌, ℕ, ◌+◌, ◌<◌, ◌≤◌, ◌⊎◌, ◌↔◌, Bool, false, List, slice_index, Option, Some, None}
 use Rattle.std.proofs.Common.{IsSome, IfSome, IfNone, length, refl, sym, ap, ◌∙◌, subst, inl, inr, ⊎_elim, arith}
 use Rattle.std.proofs.lemmas.Bool.{cases_lt}
 use Rattle.entry_order.specs.declared.what.What.{What}
@@ -174,21 +174,17 @@ guide_of followed lanes touches reads i high low long same is can indexed = reco
     from : (t n : ℕ) (w : What) → Follows followed t n w → Follows lanes t n w
     from t n w (e, here, what) = (e, subst (λ (l : Lane). entry_at l n ≡ Some e) (sym (lanes_same t)) here, what)
 
--- where no touch and no read is indexed, each turn is free
-pub free_of_none : (guide : List Lane) (touches : List ((ℕ × ℕ) × (ℕ × ℕ))) (reads : List (ℕ × ℕ × ℕ × ℕ))
-    (t n v : ℕ) (read : Bool) (places : ℕ) (readers : List ℕ) → IsGuide guide touches reads → touches ≡ []
-    → reads ≡ [] → IsFree guide t n v read places readers
-free_of_none guide touches reads t n v read places readers is no_touches no_reads =
-    let none_read : (u m : ℕ) → Follows guide u m (Read v places) → ⊥ = λ u m h.
-    let there : HasRead [] v places u m =
-    subst (λ (l : List (ℕ × ℕ × ℕ × ℕ)). HasRead l v places u m) no_reads ((is.indexed.read v places u m).1 h) in
-    cc in
-    record {
-      not_own_read = none_read t n;
-      none_pending = λ touch u m pending. none_read u m pending.0;
-      no_touch = λ u m h.
-          let there : IsSome (touch_after [] v places) =
-          subst (λ (l : List ((ℕ × ℕ) × (ℕ × ℕ))). IsSome (touch_after l v places)) no_touches
-          (is.indexed.has_touch v places u m h) in
-          cc;
-    }
+-- where no touch and no read is indexed for which the move might wait, it is free
+pub free_past : (guide : List Lane) (touches : List ((ℕ × ℕ) × (ℕ × ℕ))) (reads : List (ℕ × ℕ × ℕ × ℕ)) (t n v : ℕ)
+    (read : Bool) (places : ℕ) (readers : List ℕ) → IsGuide guide touches reads
+    → ((x : ℕ × ℕ) → touch_after touches v places ≡ Some x → ⊥) → ((u m : ℕ) → HasRead reads v places u m → ⊥)
+    → IsFree guide t n v read places readers
+free_past guide touches reads t n v read places readers is no_touches no_reads = record {
+  not_own_read = λ h. no_reads t n ((is.indexed.read v places t n).1 h);
+  none_pending = λ touch u m pending. no_reads u m ((is.indexed.read v places u m).1 pending.0);
+  no_touch = λ u m h. none (touch_after touches v places) no_touches (is.indexed.has_touch v places u m h);
+}
+  where
+    none : (o : Option (ℕ × ℕ)) → ((x : ℕ × ℕ) → o ≡ Some x → ⊥) → IsSome o → ⊥
+    none None never some = cc
+    none (Some x) never some = never x refl

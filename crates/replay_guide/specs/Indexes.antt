@@ -1,6 +1,6 @@
 -- How the followed touches and reads are found: touches by variable and place, reads by variable, place, thread and
 -- number.
-use Rattle.std.specs.Prelude.{◌≡◌, ℕ, ◌+◌, ◌⊎◌, ◌↔◌, true, List, Option, Some, IsSome}
+use Rattle.std.specs.Prelude.{◌≡◌, ℕ, ◌+◌, ◌<◌, ◌⊎◌, ◌↔◌, true, List, Option, Some, IsSome}
 use Rattle.std.specs.declared.cmp.Ordering.{Ordering}
 use Rattle.std.specs.Ordering.{nat_cmp, ordering_then}
 use Rattle.std.specs.List.{list_any}
@@ -25,6 +25,16 @@ touch_after touches v places = lookup (is_at (touch_cmp (v, places))) touches
 -- entry (t, n) is among the reads of the variable after this number of touches
 abbrev pub HasRead : List (ℕ × ℕ × ℕ × ℕ) → ℕ → ℕ → ℕ → ℕ → Type 0
 HasRead reads v places t n = list_any (is_at (read_cmp (v, places, t, n))) reads ≡ true
+
+-- The greatest place at which a variable is followed is noted, and is less than this one; or none is noted.
+abbrev pub IsPast : List (ℕ × ℕ) → ℕ → ℕ → Type 0
+IsPast lasts v places = (last : ℕ) → lookup (is_at (nat_cmp v)) lasts ≡ Some last → last < places
+
+-- no touch and no read of a variable is indexed past what is noted of it
+abbrev pub AreLasts : List (ℕ × ℕ) → List ((ℕ × ℕ) × (ℕ × ℕ)) → List (ℕ × ℕ × ℕ × ℕ) → Type 0
+AreLasts lasts touches reads =
+    (v places : ℕ) → IsPast lasts v places
+    → ((x : ℕ × ℕ) → touch_after touches v places ≡ Some x → ⊥) × ((t n : ℕ) → HasRead reads v places t n → ⊥)
 
 -- One more entry is indexed: a touch with a place from 1 on, or a read.
 pub record AddsEntry (old_touches new_touches : List ((ℕ × ℕ) × (ℕ × ℕ))) (old_reads new_reads : List (ℕ × ℕ × ℕ × ℕ))

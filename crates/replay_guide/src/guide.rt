@@ -104,8 +104,8 @@ impl Guide {
     /// that are not made yet, the one of the least thread and number first; and both wait for the followed touch that
     /// is next, unless it is their own.
     ///
-    /// It takes no memory. Where no touch and no read is followed it answers at once. Else its time grows with the number
-    /// of threads, and with the logarithm of the number of followed entries.
+    /// It takes no memory. Where all that is followed of the variable stands at lesser places, one look tells. Else its
+    /// time grows with the number of threads, and with the logarithm of the number of followed entries.
     pub fn turn(
         &self,
         thread: u32,
@@ -138,8 +138,8 @@ impl Guide {
     ) -> Turn
         ensures { IsTurn self.now thread number var read places readers.now result }
     {
-        // A master that follows no touch and no read, as most do, is answered at once.
-        if self.index.is_empty() {
+        // Most moves are past all that is followed of their variable.
+        if self.index.is_past(var, places) {
             return Turn::Free;
         }
         if self.follows_read(thread, number, var, places) {

@@ -1,9 +1,9 @@
 //! The followed touches and reads, by the variable and its number of touches before them.
-ghost use Rattle.std.specs.Prelude.{◌≡◌, ℕ, ◌+◌, ◌<◌, ◌≤◌, List, [], None, IfSome, IfNone};
+ghost use Rattle.std.specs.Prelude.{◌≡◌, ℕ, ◌+◌, ◌<◌, ◌≤◌, List, [], None, Some, IfSome, IfNone};
 ghost use Rattle.std.specs.Prelude.{MatchOption, OnOk, slice_index, true};
 ghost use Rattle.access_log.specs.declared.entry.StampedEntry as stamped;
 ghost use Rattle.replay_guide.specs.Turns.{GoesFirst};
-ghost use Rattle.replay_guide.specs.Indexes.{touch_after, HasRead, AddsEntry};
+ghost use Rattle.replay_guide.specs.Indexes.{touch_after, HasRead, AddsEntry, IsPast, AreLasts};
 
 use access_log::{StampedEntry, What};
 use plain_text::NoMemory;
@@ -20,6 +20,23 @@ pub struct Index {
     pub touches: BTreeMap<(u32, u64), (u32, u64)>,
     /// Variable, place, thread and number of each read; the place is the number of touches before it.
     pub reads: BTreeSet<(u32, u64, u32, u64)>,
+    /// The greatest of these places of each variable, or a greater one.
+    lasts: BTreeMap<u32, u64>,
+    ghost lasts_are: { AreLasts lasts.entries touches.entries reads.keys },
+}
+
+/// Notes a place of the variable, unless a greater one is noted.
+fn note_place(lasts: &mut BTreeMap<u32, u64>, var: u32, place: u64) -> Result<(), NoMemory>
+    ensures noted { OnOk result (IsPast lasts.new.entries var place → ⊥) }
+    ensures more { (v places : ℕ) → IsPast lasts.new.entries v places
+        → IsPast lasts.old.entries v places }
+{
+    let last = match lasts.get(&var) {
+        Some(last) => place.max(*last),
+        None => place,
+    };
+    lasts.insert(var, last)?;
+    Ok(())
 }
 
 impl Index {
@@ -31,15 +48,21 @@ impl Index {
         Index {
             touches: BTreeMap::new(alloc),
             reads: BTreeSet::new(alloc),
+            lasts: BTreeMap::new(alloc),
         }
     }
 
-    /// Whether there are no touches and no reads.
-    pub fn is_empty(&self) -> bool
-        ensures touches { result ≡ true → self.now.touches.entries ≡ [] }
-        ensures reads { result ≡ true → self.now.reads.keys ≡ [] }
+    /// Whether one look tells that no touch and no read is here after this number of touches of the variable.
+    pub fn is_past(&self, var: u32, places: u64) -> bool
+        ensures touches { result ≡ true → (x : ℕ × ℕ)
+            → touch_after self.now.touches.entries var places ≡ Some x → ⊥ }
+        ensures reads { result ≡ true → (t n : ℕ)
+            → HasRead self.now.reads.keys var places t n → ⊥ }
     {
-        self.touches.is_empty() && self.reads.is_empty()
+        match self.lasts.get(&var) {
+            Some(last) => *last < places,
+            None => true,
+        }
     }
 
     /// Adds a log entry; those that neither touch nor read a variable change nothing.
@@ -50,11 +73,13 @@ impl Index {
         match entry.what {
             What::Access { var, place } => {
                 if place > 0 {
+                    note_place(&mut self.lasts, var, place - 1)?;
                     self.touches
                         .insert((var, place - 1), (entry.thread, entry.number))?;
                 }
             }
             What::Read { var, after } => {
+                note_place(&mut self.lasts, var, after)?;
                 self.reads.insert((var, after, entry.thread, entry.number))?;
             }
             What::Clock(_) | What::Draw(_) => {}

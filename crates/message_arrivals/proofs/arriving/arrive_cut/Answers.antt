@@ -65,4 +65,5 @@ returns-in_default-clause-forgets g c =
 
 pub returns-then-length-whole-clause-forgets : goal.returns-then-length-whole-clause-forgets
 returns-then-length-whole-clause-forgets g c =
-    forgets_none c.args.thread outcome.Short c.only-then-length-whole.result _ c.only-then-length-whole.ensures (λ h. cc) (λ h. cc)
+    forgets_none c.args.thread outcome.Short c.only-then-length-whole.result _ c.only-then-length-whole.ensures
+    (λ h. cc) (λ h. cc)

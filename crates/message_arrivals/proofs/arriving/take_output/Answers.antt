@@ -96,7 +96,8 @@ returns-in_ok-push-in-Release-clause-on g c =
     (λ h. not_again_released _ took (c.output-2.ensures.again.1 (c.epoch-epoch.ensures, h))) c.args.out.now
     c.output-2.new.out c.only-in-Release.result (c.output-2.ensures.due took) (c.output-2.ensures.waiting took)
     (c.output-2.ensures.released took) c.output-2.ensures.once c.only-in-Release.ensures in
-    let floor = c.floor-floor.ensures.value ∙ ap (λ (l : List Numbers). (numbers l c.args.thread).floor) c.released.ensures in
+    let floor =
+    c.floor-floor.ensures.value ∙ ap (λ (l : List Numbers). (numbers l c.args.thread).floor) c.released.ensures in
     let forgets = forgets_own _ c.forget_outputs.new.self c.output-2.new.self.released c.args.thread
     c.floor-floor.result floor c.forget_outputs.ensures.forgets in
     (to.0, to.1, stands_forgotten _ s to.0 _ c.forget_outputs.new.self forgets to.2))
