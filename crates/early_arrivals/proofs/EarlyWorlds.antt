@@ -46,16 +46,20 @@ step_alike {V} s w new held t given to (inl a) = inl (a.0, a.1, ap (λ (z : Worl
 step_alike {V} s w new held t given to (inr (inl a)) = inr (inl (a.0, a.1, a.2, ap (λ (z : World V). with_held z held) a.3))
 step_alike {V} s w new held t given to (inr (inr (inl a))) = inr (inr (inl (a.0, a.1, a.2, a.3, ap (λ (z : World V). with_held z held) a.4)))
 step_alike {V} s w new held t given to (inr (inr (inr (inl a)))) = inr (inr (inr (inl (a.0, a.1, record { hand = a.2.hand; hand_is = a.2.hand_is; entry = a.2.entry; awaits = a.2.awaits; to_is = a.2.to_is }, ap (λ (z : World V). with_held z held) a.3))))
-step_alike {V} s w new held t given to (inr (inr (inr (inr a)))) = inr (inr (inr (inr (a.0, a.1, record {
-  turn = a.2.turn;
-  answer = a.2.answer;
-  drawn = a.2.drawn;
-  tells = a.2.tells;
-  step = a.2.step;
-  moves = a.2.moves;
-  to_is = a.2.to_is;
-  new_is = ap (λ (z : World V). with_held z held) a.2.new_is;
-}))))
+step_alike {V} s w new held t given to (inr (inr (inr (inr a)))) = inr (inr (inr (inr (
+  a.0,
+  a.1,
+  record {
+    turn = a.2.turn;
+    answer = a.2.answer;
+    drawn = a.2.drawn;
+    tells = a.2.tells;
+    step = a.2.step;
+    moves = a.2.moves;
+    to_is = a.2.to_is;
+    new_is = ap (λ (z : World V). with_held z held) a.2.new_is;
+  },
+))))
 
 same_ahead : {V : Type 0} (w new : World V) (held : List Entry) → new ≡ w → IsAhead w held → IsAhead new held
 same_ahead {V} w new held same a = subst (λ (z : World V). IsAhead z held) (sym same) a
@@ -138,11 +142,14 @@ pub log_early : {V : Type 0} (s : Setting V) (w next : World V) (held : List Ent
 log_early s w next held e to freed h k here unwanted (inl a) = (a.2, record { held = held; same = a.3; ahead = k })
 log_early s w next held e to freed h k here unwanted (inr (low, inl a)) = (a.2, record { held = held; same = a.3; ahead = k })
 log_early s w next held e to freed h k here unwanted (inr (low, inr (inl a))) = (a.4, record { held = held; same = a.5; ahead = k })
-log_early {V} s w next held e to freed h k here unwanted (inr (low, inr (inr a))) = (r.0, record {
-  held = a.0 ∷ held;
-  same = r.1;
-  ahead = record { keeps = λ x i. inr (k.keeps x i); more = more; unwanted = only };
-})
+log_early {V} s w next held e to freed h k here unwanted (inr (low, inr (inr a))) = (
+  r.0,
+  record {
+    held = a.0 ∷ held;
+    same = r.1;
+    ahead = record { keeps = λ x i. inr (k.keeps x i); more = more; unwanted = only };
+  },
+)
   where
     is : a.0 ≡ e
     is = entry_one s (with_held w held) h e.thread e.number a.0 e a.1 (here, refl, refl)

@@ -58,15 +58,18 @@ module _ {P V : Type 0} (m : Meaning V) (t : ℕ) (answer : Option ℕ) (r : Ste
 
       as_noted : Notes t answer (stepped.Did e) mid (Ok (entry_outcome e.number e.what))
           (record noted { sent = spelled e before out noted after h })
-      as_noted = (refl, record {
-        within = notes.within;
-        sends = (
-          subst (λ (z : Parts P V). e.thread < length z.sent.entries) notes.new_is h.there,
-          subst (λ (z : Sending). SendsEntry z (spelled e before out noted after h) e)
-              (ap (λ (z : Parts P V). z.sent) notes.new_is) (sends e before out noted after h),
-        );
-        new_is = ap (λ (z : Parts P V). record z { sent = spelled e before out noted after h }) notes.new_is;
-      })
+      as_noted = (
+        refl,
+        record {
+          within = notes.within;
+          sends = (
+            subst (λ (z : Parts P V). e.thread < length z.sent.entries) notes.new_is h.there,
+            subst (λ (z : Sending). SendsEntry z (spelled e before out noted after h) e)
+                (ap (λ (z : Parts P V). z.sent) notes.new_is) (sends e before out noted after h),
+          );
+          new_is = ap (λ (z : Parts P V). record z { sent = spelled e before out noted after h }) notes.new_is;
+        },
+      )
 
       moved : MovesOn m (ComesTo (event.Step t None) (entry_outcome e.number e.what)) old
           (record noted { sent = spelled e before out noted after h })

@@ -603,8 +603,7 @@ fed_finish_of : {V : Type 0} (s : Setting V) (w up : World V) → Firm s up → 
     → (steps : List (Step V)) × IsFinish s w steps × IsHistory s.meaning (inputs_fed s up.fed) s.threads steps
 fed_finish_of s w up h is =
     let l = fed_line s up h in
-    let r = all_go_there s up h l.0 l.1 l.2 s.threads in
-    (
+    let r = all_go_there s up h l.0 l.1 l.2 s.threads in (
       r.0,
       record {
         up = up;

@@ -144,8 +144,7 @@ fn fit_words(components: &[u64])
 fn fits_word(epoch: u32, number: u64)
     ensures epoch { epoch < 2 ^ 32 }
     ensures number { number < 2 ^ 64 }
-{
-}
+{}
 
 impl SentFrames {
     /// Nothing was sent, in epoch 1.

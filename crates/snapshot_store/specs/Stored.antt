@@ -26,4 +26,3 @@ pub record HasTaken {V : Type 0} (m : Meaning V) (stored : Snapshot V) (master :
       → Stands m threads now master → IsEarlier earlier now → Stands m threads now copy.master
   pub threads_are : copy.master.threads ≡ master.threads
   pub moves_are : copy.moves ≡ moves
-

@@ -90,7 +90,11 @@ pub fn texts_of(alloc: Global, words: &[&str]) -> Result<Sequence<Text>, NoMemor
 }
 
 /// What words come to of a command that waits for nobody.
-pub fn give_words(alloc: Global, world: &mut MemoryWorld, words: &[&str]) -> Result<Status, NoMemory>
+pub fn give_words(
+    alloc: Global,
+    world: &mut MemoryWorld,
+    words: &[&str],
+) -> Result<Status, NoMemory>
     requires { length world.old.files ≤ 1000 }
     ensures { length world.new.files ≤ length world.old.files + 5 }
 {
@@ -121,7 +125,12 @@ fn give_all(
 }
 
 /// Whether both names have the same bytes.
-pub fn are_same(alloc: Global, world: &MemoryWorld, one: &str, other: &str) -> Result<bool, NoMemory> {
+pub fn are_same(
+    alloc: Global,
+    world: &MemoryWorld,
+    one: &str,
+    other: &str,
+) -> Result<bool, NoMemory> {
     let one = Text::of(alloc, one)?;
     let other = Text::of(alloc, other)?;
     Ok(world.bytes(&one) == world.bytes(&other))

@@ -76,15 +76,21 @@ fn length_of(alloc: Global, world: &MemoryWorld, name: &str) -> Result<usize, No
 fn stops_in(alloc: Global, world: &mut MemoryWorld) -> Result<bool, NoMemory>
     requires { length world.old.files ≡ 0 }
 {
-    add_files(alloc, world, &[("box", b"box monitor\n"), ("script", SETTLED)])?;
+    add_files(
+        alloc,
+        world,
+        &[("box", b"box monitor\n"), ("script", SETTLED)],
+    )?;
     give_words(alloc, world, &["make", "1", "65536", "in"])?;
     let made = world.report().len();
     let run = ["run", "box", "in", "script", "out", "moves"];
     let is_stopped = give_words(alloc, world, &run)? == Status::TooLarge(Limit::Moves)
         && &world.report()[made..] == SETTLED_REPORT;
-    Ok(is_stopped
-        && length_of(alloc, world, "out")? == 4_980_760
-        && are_same(alloc, world, "in", "out")?)
+    Ok(
+        is_stopped
+            && length_of(alloc, world, "out")? == 4_980_760
+            && are_same(alloc, world, "in", "out")?,
+    )
 }
 
 /// Whether it does in a world of its own.

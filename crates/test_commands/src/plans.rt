@@ -162,7 +162,8 @@ fn may_crash<R: AllocGlobal + Threads + Wait + Sync>(
     frames: u64,
 ) -> Result<bool, NoMemory> {
     let plan = format!(in rt.alloc();
-        "feed 2\ntake 0 {frames}\nround\ncrash\nrecover\nround\nsettle\n")?;
+        "feed 2\ntake 0 {frames}\nround\ncrash\nrecover\nround\nsettle\n"
+    )?;
     let race = Race {
         box_file: MONITOR,
         capture: Source::Capture(TWO_PACKETS),
@@ -182,7 +183,8 @@ fn a_crash_behind_frames_that_were_taken(rt: HostRuntime) -> Result<(), Fail> {
 }
 
 /// Rounds with crashes, snapshots, limits and losses.
-const MANY_ROUNDS: &[u8] = b"feed 500\nround\nsnap\nstore\nfeed 500\nlimit 0 300\ntake 1 40\nround\ncrash\nrecover\nround\nfeed 500\nlose log 2 900\nlose out 3 260\nround\ncrash\nrecover\nfeed 500\nround\nsettle\n";
+const MANY_ROUNDS: &[u8] =
+    b"feed 500\nround\nsnap\nstore\nfeed 500\nlimit 0 300\ntake 1 40\nround\ncrash\nrecover\nround\nfeed 500\nlose log 2 900\nlose out 3 260\nround\ncrash\nrecover\nfeed 500\nround\nsettle\n";
 
 #[test]
 fn four_threads_race_and_crash_over_the_nat(rt: HostRuntime) -> Result<(), Fail> {
