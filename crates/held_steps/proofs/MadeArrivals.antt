@@ -74,8 +74,8 @@ made_arrives {P} {V} m s w here e before out old new h sound st log waiting stam
         (record old { sent = new.sent; logger = new.logger; released = old.released ++ names_of h.go })
     arrival = log_new m s here (record old { sent = spelled e before out old new h }) st e.thread e.number low e of
         new.logger (next_fresh old.logger.held e h.next) h.puts h.others new.sent h.known before out h.go
-        (record { outcome = outcome.New; released = names_of h.go }) h.appends h.epoch h.parts h.once h.frontier
-        (forgets e before out old new h) refl
+        (record { outcome = outcome.New; released = names_of h.go }) h.appends h.epoch h.parts h.once
+        h.frontier.reached (forgets e before out old new h) refl
 
     go : AnswersTo m s here (event.Log e.thread e.number)
         (record { outcome = outcome.New; released = names_of h.go }) before out
