@@ -83,7 +83,7 @@ returns-in-Ok-clause-read_fault g c e = absurd (run_reads c.live_box.result (sym
 
 pub returns-in-Ok-clause-write_fault : goal.returns-in-Ok-clause-write_fault
 returns-in-Ok-clause-write_fault g c e =
-    failed_since _ _ _ _ _ _ _ _ c.in-Ok.ensures.only_reads
+    failed_since _ _ _ _ _ _ c.in-Ok.ensures.only_reads
     (c.live_box.ensures.cause (run_fault c.live_box.result (sym c.run_outcome.ensures ∙ e)))
 
 -- an input is refused

@@ -89,7 +89,7 @@ returns-in-Ok-clause-read_fault g c e = absurd (run_reads c.run_box.result (sym 
 
 pub returns-in-Ok-clause-write_fault : goal.returns-in-Ok-clause-write_fault
 returns-in-Ok-clause-write_fault g c e =
-    failed_since _ _ _ _ _ _ _ _ c.in-Ok.ensures.only_reads
+    failed_since _ _ _ _ _ _ c.in-Ok.ensures.only_reads
     (c.run_box.ensures.cause (run_fault c.run_box.result (sym c.run_outcome.ensures ∙ e)))
 
 -- an input is refused
