@@ -32,11 +32,11 @@ returns-in-Command-clause-printed g c =
     no_text c.args.words.now _ is
 
 pub returns-in-Help-clause-printed : goal.returns-in-Help-clause-printed
-returns-in-Help-clause-printed g c = any_text (asked_text c.args.words.now) _ c.print-in-Help.ensures.outcome
+returns-in-Help-clause-printed g c = any_text (asked_text c.args.words.now) _ c.print.ensures.outcome
 
 pub returns-in-Help-clause-creates_nothing : goal.returns-in-Help-clause-creates_nothing
 returns-in-Help-clause-creates_nothing g c e =
-    absurd (printed_refuses c.print-in-Help.result c.print-in-Help.ensures.outcome e)
+    absurd (printed_refuses c.print.result c.print.ensures.outcome e)
 
 pub returns-in-Version-clause-printed : goal.returns-in-Version-clause-printed
 returns-in-Version-clause-printed g c = any_text (asked_text c.args.words.now) _ c.print-in-Version.ensures.outcome
