@@ -1,5 +1,6 @@
 -- The file that is mirrored, and taps that see what is sent to it.
-use Rattle.std.specs.Prelude.{◌≡◌, ℕ, ◌==◌, Bool, true, false, List, [], Option, Some, None, Result, Ok, Err, if◌then◌else◌}
+use Rattle.std.specs.Prelude.{◌≡◌, ℕ, ◌==◌, Bool, true, false, List, [], Option, Some, None}
+use Rattle.std.specs.Prelude.{Result, Ok, Err, if◌then◌else◌}
 use Rattle.world_io.specs.declared.world.OpenFault.{OpenFault}
 use Rattle.world_io.specs.World.{Start, Shown, Ledger}
 use Rattle.release_taps.specs.declared.seat.Seat.{Seat}

@@ -34,8 +34,10 @@ pub trait Tap: Drop {
         ensures told { tells self.new → tells self.old }
         ensures seen { tells self.new
             → seen self.new ≡ seen self.old ++ shown_bytes result piece.now }
-        ensures failed { result ≡ Shown.Failed → Rose (fault_count self.old) (fault_count self.new) }
-        ensures lacked { result ≡ Shown.NoMemory → Rose (lack_count self.old) (lack_count self.new) }
+        ensures failed { result ≡ Shown.Failed
+            → Rose (fault_count self.old) (fault_count self.new) }
+        ensures lacked { result ≡ Shown.NoMemory
+            → Rose (lack_count self.old) (lack_count self.new) }
         ensures more_faults { fault_count self.old ≤ fault_count self.new }
         ensures more_lacks { lack_count self.old ≤ lack_count self.new };
 
