@@ -1,0 +1,4 @@
+pub mod Mirrored
+pub mod Recorded
+pub mod Seats
+pub mod Tap

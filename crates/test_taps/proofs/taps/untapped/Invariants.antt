@@ -1,0 +1,5 @@
+use Rattle.std.proofs.Common.{length}
+use Rattle.test_taps.proofs.taps.untapped.Given as goal
+
+abbrev pub ghosts-tapped : goal.ghosts-tapped
+ghosts-tapped a = record { file_name = a.name; seat_count = length a.taps.items }
