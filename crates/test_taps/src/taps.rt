@@ -8,11 +8,7 @@ use std::marker::Brand;
 use world_io::{MemoryWorld, World, WorldSink, write_all};
 
 /// Adds a tap that fails past this many bytes.
-fn add_tap(
-    alloc: Global,
-    taps: &mut Vec<MemoryTap>,
-    fail_past: Option<u64>,
-) -> Result<(), NoMemory>
+fn add_tap(alloc: Global, taps: &mut Vec<MemoryTap>, fail_past: Option<u64>) -> Result<(), NoMemory>
     requires { AreNew taps.old.items }
     ensures { OnOk result (AreNew taps.new.items) }
 {
@@ -77,9 +73,11 @@ fn loses_one(alloc: Global) -> Result<bool, NoMemory> {
     add_tap(alloc, &mut taps, Some(30))?;
     let rest = untapped(alloc, MemoryWorld::new(alloc)?, taps)?;
     let faults = rest.seats.get(1).map(|seat| seat.tap.faults());
-    Ok(faults == Some(1)
-        && has_seen(&rest.seats, 0, 40, Shown::Took)
-        && has_seen(&rest.seats, 1, 20, Shown::Failed))
+    Ok(
+        faults == Some(1)
+            && has_seen(&rest.seats, 0, 40, Shown::Took)
+            && has_seen(&rest.seats, 1, 20, Shown::Failed),
+    )
 }
 
 /// Whether a tap saw nothing in a world whose second call of writing fails.
