@@ -85,7 +85,7 @@ fn stops_in(alloc: Global, world: &mut MemoryWorld) -> Result<bool, NoMemory>
     let made = world.report().len();
     let run = ["run", "box", "in", "script", "out", "moves"];
     let is_stopped = give_words(alloc, world, &run)? == Status::TooLarge(Limit::Moves)
-        && &world.report()[made..] == SETTLED_REPORT;
+        && world.report().get(made..) == Some(SETTLED_REPORT);
     Ok(
         is_stopped
             && length_of(alloc, world, "out")? == 4_980_760
