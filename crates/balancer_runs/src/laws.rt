@@ -1,5 +1,6 @@
 ghost use Rattle.balancer_runs.specs.Answering.{AnswersComeBeforeIdle};
-ghost use Rattle.balancer_runs.specs.Packets.{NoPacketVanishes, NoPacketVanishesAtRest, EachHasOneOutcome};
+ghost use Rattle.balancer_runs.specs.Packets.{NoPacketVanishes, NoPacketVanishesAtRest};
+ghost use Rattle.balancer_runs.specs.Packets.{EachHasOneOutcome};
 ghost use Rattle.balancer_runs.specs.Staying.{ConnectionsStay};
 ghost use Rattle.balancer_runs.specs.Causes.{DropsHaveCauses};
 ghost use Rattle.balancer_runs.specs.Choosing.{LeastLoadsAreRaised, NewConnectionsHaveLeastLoad};

@@ -1,5 +1,6 @@
 -- A world where some entries arrived early, and the one behind it.
-use Rattle.std.proofs.Common.{◌≡◌, ℕ, ◌+◌, ◌≤◌, ◌<◌, List, [], ◌∷◌, ◌++◌, refl, sym, ap, ◌∙◌, subst, inl, inr, ◌⊎◌, arith, Option, Some, None}
+use Rattle.std.proofs.Common.{◌≡◌, ℕ, ◌+◌, ◌≤◌, ◌<◌, List, [], ◌∷◌, ◌++◌, refl, sym, ap, ◌∙◌, subst, inl, inr, ◌⊎◌}
+use Rattle.std.proofs.Common.{arith, Option, Some, None}
 use Rattle.std.specs.Prelude.{◌↔◌}
 use Rattle.entry_order.specs.Log.{Entry, entries, IsLog, IsIn, PrecedesOutput}
 use Rattle.entry_order.proofs.Order.{number_within}
@@ -17,28 +18,37 @@ use Rattle.recovery_world.specs.Limits.{limit_passed, IsWithin, OnWithin, Passes
 use Rattle.recovery_laws.specs.Sound.{Sound}
 use Rattle.recovery_laws.proofs.KeptWorlds.{within_sound}
 use Rattle.recovery_laws.proofs.SoundParts.{sent_after}
-use Rattle.early_arrivals.specs.Early.{with_held, IsAhead, IsEarly, IsSameSet, IsMoving, OfThread, OfPackets, MayArrive, GoesBehind, LogsBehind}
+use Rattle.early_arrivals.specs.Early.{with_held, IsAhead, IsEarly, IsSameSet, IsMoving, OfThread, OfPackets, MayArrive}
+use Rattle.early_arrivals.specs.Early.{GoesBehind, LogsBehind}
 use Rattle.early_arrivals.proofs.EarlyWorlds.{step_alike, step_ahead, log_early, Back, log_back}
 
 -- A move
 
 -- what a step leaves as it was
-step_stays : {V : Type 0} (s : Setting V) (w new : World V) (t : ℕ) (given : Option ℕ) (to : Outcome) → OnStep s w t given to new → (new.held ≡ w.held) × (new.waiting ≡ w.waiting)
+step_stays : {V : Type 0} (s : Setting V) (w new : World V) (t : ℕ) (given : Option ℕ) (to : Outcome)
+    → OnStep s w t given to new → (new.held ≡ w.held) × (new.waiting ≡ w.waiting)
 step_stays {V} s w new t given to (inl a) = (ap (λ (z : World V). z.held) a.2, ap (λ (z : World V). z.waiting) a.2)
-step_stays {V} s w new t given to (inr (inl a)) = (ap (λ (z : World V). z.held) a.3, ap (λ (z : World V). z.waiting) a.3)
-step_stays {V} s w new t given to (inr (inr (inl a))) = (ap (λ (z : World V). z.held) a.4, ap (λ (z : World V). z.waiting) a.4)
-step_stays {V} s w new t given to (inr (inr (inr (inl a)))) = (ap (λ (z : World V). z.held) a.3, ap (λ (z : World V). z.waiting) a.3)
-step_stays {V} s w new t given to (inr (inr (inr (inr a)))) = (ap (λ (z : World V). z.held) a.2.new_is, ap (λ (z : World V). z.waiting) a.2.new_is)
+step_stays {V} s w new t given to (inr (inl a)) =
+    (ap (λ (z : World V). z.held) a.3, ap (λ (z : World V). z.waiting) a.3)
+step_stays {V} s w new t given to (inr (inr (inl a))) =
+    (ap (λ (z : World V). z.held) a.4, ap (λ (z : World V). z.waiting) a.4)
+step_stays {V} s w new t given to (inr (inr (inr (inl a)))) =
+    (ap (λ (z : World V). z.held) a.3, ap (λ (z : World V). z.waiting) a.3)
+step_stays {V} s w new t given to (inr (inr (inr (inr a)))) =
+    (ap (λ (z : World V). z.held) a.2.new_is, ap (λ (z : World V). z.waiting) a.2.new_is)
 
 -- what the world does where the one that is ahead makes a move
-pub record Moves {V : Type 0} (s : Setting V) (w : World V) (held : List Entry) (ev : Event) (to : Outcome) (freed : List Sent) (next : World V) : Type 0 where
+pub record Moves {V : Type 0} (s : Setting V) (w : World V) (held : List Entry) (ev : Event) (to : Outcome)
+    (freed : List Sent) (next : World V) : Type 0 where
   pub new : World V
   pub on : On s w ev to freed new
   pub same : next ≡ with_held new held
   pub ahead : IsAhead new held
   pub waiting : new.waiting ≡ w.waiting
 
-pub move_back : {V : Type 0} (s : Setting V) (w next : World V) (held : List Entry) (ev : Event) (to : Outcome) (freed : List Sent) → Sound s w → IsAhead w held → IsMoving ev → On s (with_held w held) ev to freed next → Moves s w held ev to freed next
+pub move_back : {V : Type 0} (s : Setting V) (w next : World V) (held : List Entry) (ev : Event) (to : Outcome)
+    (freed : List Sent) → Sound s w → IsAhead w held → IsMoving ev → On s (with_held w held) ev to freed next
+    → Moves s w held ev to freed next
 move_back {V} s w next held ev to freed h k (OfThread t given) (a, b) = record {
   new = with_held next w.held;
   on = (on, b);
@@ -61,20 +71,25 @@ move_back {V} s w next held ev to freed h k (OfPackets n) (a, b, same) = record 
 }
 
 -- No output that waits has the entry among its predecessors that was made since.
-pub new_unwanted : {V : Type 0} (s : Setting V) (w new : World V) (e : Entry) → Sound s w → Sound s new → new.waiting ≡ w.waiting → log_of new.past ≡ e ∷ log_of w.past → (o : Sent) → IsAmong o new.waiting → PrecedesOutput (log_of new.past) o.emission.thread o.after e → ⊥
+pub new_unwanted : {V : Type 0} (s : Setting V) (w new : World V) (e : Entry) → Sound s w → Sound s new
+    → new.waiting ≡ w.waiting → log_of new.past ≡ e ∷ log_of w.past → (o : Sent) → IsAmong o new.waiting
+    → PrecedesOutput (log_of new.past) o.emission.thread o.after e → ⊥
 new_unwanted {V} s w new e h hn waiting log o i p = omega (arith, n.1, good.0)
   where
     good : IsLog (e ∷ log_of w.past)
-    good = subst (λ (l : List Entry). IsLog l) log (history_log s.meaning (inputs_fed s new.fed) s.threads new.past hn.firm.legal)
+    good = subst (λ (l : List Entry). IsLog l) log
+        (history_log s.meaning (inputs_fed s new.fed) s.threads new.past hn.firm.legal)
 
     low : o.after ≤ entries o.emission.thread (log_of w.past)
     low = sent_after w.past o.emission o.after (h.firm.sent o (subst (λ (l : List Sent). IsAmong o l) waiting i))
 
     older : PrecedesOutput (log_of w.past) o.emission.thread o.after e
-    older = output_older e (log_of w.past) o.emission.thread o.after e good low (subst (λ (l : List Entry). PrecedesOutput l o.emission.thread o.after e) log p)
+    older = output_older e (log_of w.past) o.emission.thread o.after e good low
+        (subst (λ (l : List Entry). PrecedesOutput l o.emission.thread o.after e) log p)
 
     n : (1 ≤ e.number) × (e.number ≤ entries e.thread (log_of w.past))
-    n = number_within (log_of w.past) e (history_log s.meaning (inputs_fed s w.fed) s.threads w.past h.firm.legal) (output_in (log_of w.past) o.emission.thread o.after e older)
+    n = number_within (log_of w.past) e (history_log s.meaning (inputs_fed s w.fed) s.threads w.past h.firm.legal)
+        (output_in (log_of w.past) o.emission.thread o.after e older)
 
 -- no entry arrived early yet
 pub none_early : {V : Type 0} (w : World V) → IsEarly w w
@@ -166,7 +181,8 @@ logged {V} s w early new t n to freed h hh r on = record {
         (subst (λ (z : World V). On s z (event.Log t n) to freed new) r.same on.0)
 
 -- What is ahead is no more, where each entry of the past is known.
-pub caught_up : {V : Type 0} (w early : World V) → ((e : Entry) → IsIn e (log_of w.past) → IsKnown w e) → IsEarly w early → IsSameSet w early
+pub caught_up : {V : Type 0} (w early : World V) → ((e : Entry) → IsIn e (log_of w.past) → IsKnown w e)
+    → IsEarly w early → IsSameSet w early
 caught_up {V} w early all r = record { held = r.held; same = r.same; members = λ e. (into e, r.ahead.keeps e) }
   where
     into : (e : Entry) → IsIn e r.held → IsIn e w.held

@@ -1,5 +1,6 @@
 -- A system whose master made a move, and held its entry at once, stands for the world after both.
-use Rattle.std.proofs.Common.{◌≡◌, ℕ, List, [], length, ◌<◌, refl, sym, ap, ◌∙◌, subst, inl, inr, ◌⊎◌, Option, None, Result}
+use Rattle.std.proofs.Common.{◌≡◌, ℕ, List, [], length, ◌<◌, refl, sym, ap, ◌∙◌, subst, inl, inr, ◌⊎◌, Option, None}
+use Rattle.std.proofs.Common.{Result}
 use Rattle.std.proofs.Common.{Ok, Err}
 use Rattle.std.specs.Prelude.{IfOk}
 use Rattle.plain_text.specs.declared.limit.Limit.{Limit}

@@ -1,5 +1,6 @@
 -- An entry that was made is held at once.
-use Rattle.std.proofs.Common.{◌≡◌, ◌≢◌, ℕ, ◌+◌, ◌<◌, ◌≤◌, List, [], ◌∷◌, ◌++◌, length, refl, sym, ap, ◌∙◌, subst, inl, inr}
+use Rattle.std.proofs.Common.{◌≡◌, ◌≢◌, ℕ, ◌+◌, ◌<◌, ◌≤◌, List, [], ◌∷◌, ◌++◌, length, refl, sym, ap, ◌∙◌, subst, inl}
+use Rattle.std.proofs.Common.{inr}
 use Rattle.std.proofs.Common.{◌⊎◌, Option, Some, None, arith}
 use Rattle.std.specs.Prelude.{Result, Ok, IsSome}
 use Rattle.std.proofs.lemmas.Bool.{cases_lt}
@@ -21,7 +22,8 @@ use Rattle.sent_frames.specs.Sending.{ForgetsEntries}
 use Rattle.system_parts.specs.Parts.{Parts}
 use Rattle.held_steps.specs.Holding.{IsNextHeld, HoldsMade}
 
-pub is_new : (r : Result EntryTook NoMemory) (took : EntryTook) → r ≡ Ok took → (r ≡ Ok took_of.Known → ⊥) → (r ≡ Ok took_of.OldEpoch → ⊥) → r ≡ Ok took_of.New
+pub is_new : (r : Result EntryTook NoMemory) (took : EntryTook) → r ≡ Ok took → (r ≡ Ok took_of.Known → ⊥)
+    → (r ≡ Ok took_of.OldEpoch → ⊥) → r ≡ Ok took_of.New
 is_new r took_of.New is known old = is
 is_new r took_of.Known is known old = absurd (known is)
 is_new r took_of.OldEpoch is known old = absurd (old is)
@@ -76,8 +78,16 @@ module _ {P V : Type 0} (e : StampedEntry) (before out : List Output) (old new :
 
   pub sends : SendsEntry old.sent spelled e
   sends = record {
-    frame = record { can = h.counts.can; bytes = h.counts.bytes; is = h.counts.is; there = at_head at h.counts.bytes old.sent.frames at refl };
-    sends = record { sent = at_head at h.counts.bytes old.sent.frames at refl; others = λ b ne. past_head at h.counts.bytes old.sent.frames b ne };
+    frame = record {
+      can = h.counts.can;
+      bytes = h.counts.bytes;
+      is = h.counts.is;
+      there = at_head at h.counts.bytes old.sent.frames at refl;
+    };
+    sends = record {
+      sent = at_head at h.counts.bytes old.sent.frames at refl;
+      others = λ b ne. past_head at h.counts.bytes old.sent.frames b ne;
+    };
     entries = refl;
     outputs = refl;
     epoch = refl;
@@ -93,17 +103,24 @@ module _ {P V : Type 0} (e : StampedEntry) (before out : List Output) (old new :
       here : IsKnown (lane new.logger.held e.thread) e.number
       here = inr (subst (λ (o : Option StampedEntry). IsSome o) (sym h.puts.put) refl)
 
-      go : (h.known < e.number) ⊎ (e.number ≤ h.known) → (h.next.0 < h.known + 1) ⊎ (h.known + 1 ≤ h.next.0) → e.number ≤ h.known
+      go : (h.known < e.number) ⊎ (e.number ≤ h.known) → (h.next.0 < h.known + 1) ⊎ (h.known + 1 ≤ h.next.0)
+          → e.number ≤ h.known
       go (inr low) b = low
-      go (inl high) (inr low) = absurd (h.frontier.ends (grows e.thread (h.known + 1) (h.next.1.reached (h.known + 1) low)))
-      go (inl high) (inl more) = let q = h.next.2 in let same : e.number ≡ h.known + 1 = omega (arith, high, more, q) in absurd (h.frontier.ends (subst (λ (n : ℕ). IsKnown (lane new.logger.held e.thread) n) same here))
+      go (inl high) (inr low) =
+          absurd (h.frontier.ends (grows e.thread (h.known + 1) (h.next.1.reached (h.known + 1) low)))
+      go (inl high) (inl more) =
+          let q = h.next.2 in
+          let same : e.number ≡ h.known + 1 = omega (arith, high, more, q) in
+          absurd (h.frontier.ends (subst (λ (n : ℕ). IsKnown (lane new.logger.held e.thread) n) same here))
 
   pub forgets : ForgetsEntries spelled new.sent e.thread h.known
   forgets = record {
     forgets = record {
-      forgotten = λ a up. h.forgets.forgets.forgotten a (subst (λ (k : ℕ). IsUpTo (address k Log e.thread h.known) a) (sym h.counts.epoch) up);
+      forgotten = λ a up. h.forgets.forgets.forgotten a
+          (subst (λ (k : ℕ). IsUpTo (address k Log e.thread h.known) a) (sym h.counts.epoch) up);
       others = λ a apart.
-          h.forgets.forgets.others a (λ up. apart (subst (λ (k : ℕ). IsUpTo (address k Log e.thread h.known) a) h.counts.epoch up))
+          h.forgets.forgets.others a
+          (λ up. apart (subst (λ (k : ℕ). IsUpTo (address k Log e.thread h.known) a) h.counts.epoch up))
           ∙ (ap (λ (l : List (Address × List ℕ)). frame_at l a) h.counts.frames
           ∙ sym (past_head at h.counts.bytes old.sent.frames a (λ same. apart (record {
             epoch = ap (λ (b : Address). b.epoch) same;

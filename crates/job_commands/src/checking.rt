@@ -10,7 +10,8 @@ ghost use Rattle.schedule_commands.specs.Runs.{CanPlay};
 ghost use Rattle.run_writes.specs.Run.{KeepsShown};
 ghost use Rattle.job_commands.specs.Schedules.{AreFound, FindsAll, FindsInOrder, JudgesCheck};
 ghost use Rattle.job_commands.specs.Schedules.{outcome_for, schedule_of};
-ghost use Rattle.job_commands.specs.Status.{AtInputs, AtOutputs, IsRefusal, stage_of, stage_of_limit};
+ghost use Rattle.job_commands.specs.Status.{AtInputs, AtOutputs, IsRefusal, stage_of};
+ghost use Rattle.job_commands.specs.Status.{stage_of_limit};
 ghost use Rattle.job_commands.specs.Words.{check_names_of};
 ghost use Rattle.output_files.specs.Written.{OnlyWrites};
 

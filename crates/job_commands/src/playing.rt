@@ -8,7 +8,8 @@ ghost use Rattle.schedule_commands.specs.Runs.{CanPlay};
 ghost use Rattle.run_writes.specs.Run.{KeepsShown};
 ghost use Rattle.job_commands.specs.Schedules.{JudgesPlay, PlaysInOrder, PlaysWhole, outcome_for};
 ghost use Rattle.job_commands.specs.Schedules.{schedule_of};
-ghost use Rattle.job_commands.specs.Status.{AtInputs, AtOutputs, IsRefusal, stage_of, stage_of_limit};
+ghost use Rattle.job_commands.specs.Status.{AtInputs, AtOutputs, IsRefusal, stage_of};
+ghost use Rattle.job_commands.specs.Status.{stage_of_limit};
 ghost use Rattle.job_commands.specs.Words.{play_names_of};
 ghost use Rattle.world_io.specs.World.{Start, WritingFailed};
 

@@ -1,5 +1,6 @@
 -- What the status of `live` says, and what it leaves: from before its inputs were read.
-use Rattle.std.proofs.Common.{◌≡◌, ◌⊎◌, ℕ, List, [], ◌∷◌, ◌++◌, Option, None, Some, refl, sym, ap, ◌∙◌, subst, inl, inr, Result}
+use Rattle.std.proofs.Common.{◌≡◌, ◌⊎◌, ℕ, List, [], ◌∷◌, ◌++◌, Option, None, Some, refl, sym, ap, ◌∙◌, subst, inl, inr}
+use Rattle.std.proofs.Common.{Result}
 use Rattle.std.proofs.Common.{Ok, Err, if◌then◌else◌}
 use Rattle.std.specs.Prelude.{⊤, IfSome, IsErrOf, OnOk}
 use Rattle.std.specs.Str.{bytes_eq}
@@ -32,7 +33,8 @@ use Rattle.job_commands.specs.Words.{check_names, live_names, make_names, one_of
 use Rattle.job_commands.proofs.LiveFiles.{live_pass}
 use Rattle.job_commands.proofs.Outcomes.{begun_since, begun_writes_since, run_since, stopped_since, files_since}
 use Rattle.job_top.specs.Commands.{Leaves}
-use Rattle.job_top.specs.Live.{EventsStop, JudgesLive, KeepsLiveNames, LivesFiles, LivesLimit, LivesOrder, SaysOfRun, live_outputs, live_setting, live_stage}
+use Rattle.job_top.specs.Live.{EventsStop, JudgesLive, KeepsLiveNames, LivesFiles, LivesLimit, LivesOrder, SaysOfRun}
+use Rattle.job_top.specs.Live.{live_outputs, live_setting, live_stage}
 
 -- The files are as they were when the inputs had been read.
 module _ (a b c : Shown) (keeps : KeepsOutputs a b) where

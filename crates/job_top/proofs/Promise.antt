@@ -37,7 +37,8 @@ keeps {V} s names events old new r =
       performs = r.leaves.performs;
       schedule = r.schedule;
       schedule_written = r.files.schedule_is;
-      released_written = r.files.released_is ∙ ap (λ (l : List Packet). Some (written s.fractions l)) r.leaves.released_is;
+      released_written =
+          r.files.released_is ∙ ap (λ (l : List Packet). Some (written s.fractions l)) r.leaves.released_is;
       steps = r.leaves.steps;
       plays = ends.0;
       ends = ends.1;

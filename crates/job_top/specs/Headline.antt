@@ -59,8 +59,8 @@ pub record KeepsLivePromise (names : LiveNames) (old new : Shown) : Type 0 where
   pub accepted : AcceptsLiveInputs names inputs old
   pub events : List Event
   pub there : SystemWorld (meaning_of inputs.conf.kind).value
-  pub of_plan : IsScript (live_setting inputs) (opening (meaning_of inputs.conf.kind).value) no_orders inputs.plan events
-      there
+  pub of_plan :
+      IsScript (live_setting inputs) (opening (meaning_of inputs.conf.kind).value) no_orders inputs.plan events there
   pub script_written : new.names names.script ≡ Some (script_text events)
   pub keeps : KeepsPromise (live_setting inputs) (live_outputs names).outputs events new
 

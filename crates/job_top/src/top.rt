@@ -10,7 +10,8 @@ ghost use Rattle.job_top.specs.Headline.{KeepsPromiseOf, KeepsRunPromise};
 ghost use Rattle.job_commands.specs.Judging.{Judges};
 ghost use Rattle.job_commands.specs.Run.{RunsInOrder, RunsToLimit, RunsWhole, outputs_of};
 ghost use Rattle.job_commands.specs.Run.{script_of, setting_for};
-ghost use Rattle.job_commands.specs.Status.{AtInputs, AtOutputs, IsRefusal, stage_of, stage_of_limit};
+ghost use Rattle.job_commands.specs.Status.{AtInputs, AtOutputs, IsRefusal, stage_of};
+ghost use Rattle.job_commands.specs.Status.{stage_of_limit};
 ghost use Rattle.job_commands.specs.Words.{asked, IfAsks, live_names, names_of};
 ghost use Rattle.world_io.specs.World.{Start, WritingFailed};
 
@@ -178,10 +179,10 @@ pub fn serial<W: World>(alloc: Global, words: &[Text], world: &mut W) -> Status
 /// stops, and what was released before stays.
 ///
 /// `live BOX CAPTURE PLAN RELEASED SCHEDULE SCRIPT`, six names of files of which the three outputs differ: the box is
-/// run on the packets of the capture as the plan says, each of its threads by a worker of its own, on as many threads of
-/// the machine as it gives. SCRIPT is the text of the events that happened, and the other outputs and the report are
-/// those that `run` leaves for this script. Each line of SCRIPT is written before what its event leaves. Where the run or
-/// the script would pass a limit the run stops.
+/// run on the packets of the capture as the plan says, each of its threads by a worker of its own, on as many threads
+/// of the machine as it gives. SCRIPT is the text of the events that happened, and the other outputs and the report are
+/// those that `run` leaves for this script. Each line of SCRIPT is written before what its event leaves. Where the run
+/// or the script would pass a limit the run stops.
 ///
 /// `make SEED N CAPTURE`, two numbers of which N is at most 65,536, and the name of a file: N packets are made from the
 /// seed and written to CAPTURE, and then the report says how many.

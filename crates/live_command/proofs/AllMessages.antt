@@ -12,9 +12,9 @@ numbered_suc : (k : Kind) (t n many : ℕ)
 numbered_suc k t n zero = let e : n + zero ≡ n = omega arith in rw e refl
 numbered_suc k t n (suc many) =
     let e : n + 1 + many ≡ n + suc many = omega arith in
-    ap (λ l. (record { kind = k; thread = t; number = n }) ∷ l)
-    (subst (λ (i : ℕ). numbered k t (n + 1) (suc many)
-    ≡ numbered k t (n + 1) many ++ (record { kind = k; thread = t; number = i }) ∷ []) e (numbered_suc k t (n + 1) many))
+    ap (λ l. (record { kind = k; thread = t; number = n }) ∷ l) (subst (λ (i : ℕ).
+    numbered k t (n + 1) (suc many) ≡ numbered k t (n + 1) many ++ (record { kind = k; thread = t; number = i }) ∷ []) e
+    (numbered_suc k t (n + 1) many))
 
 threads_suc : (k : Kind) (count : ℕ → ℕ) (t many : ℕ)
     → of_threads k count t (suc many) ≡ of_threads k count t many ++ numbered k (t + many) 1 (count (t + many))
@@ -44,8 +44,9 @@ pub threads_more : (k : Kind) (count : ℕ → ℕ) (many number : ℕ) (old ite
     → more ≡ old ++ of_threads k count 0 (many + 1)
 threads_more k count many number old items more number_is items_are more_are =
     let e : 0 + many ≡ many = omega arith in
-    let next = subst (λ (t : ℕ). of_threads k count 0 (suc many) ≡ of_threads k count 0 many ++ numbered k t 1 (count t))
-    e (threads_suc k count 0 many) in
+    let next =
+    subst (λ (t : ℕ). of_threads k count 0 (suc many) ≡ of_threads k count 0 many ++ numbered k t 1 (count t)) e
+    (threads_suc k count 0 many) in
     more_are
     ∙ rw (items_are, number_is) (append_assoc old (of_threads k count 0 many) (numbered k many 1 (count many))
     ∙ ap (λ l. old ++ l) (sym next ∙ ap (of_threads k count 0) (sym (add-one many))))

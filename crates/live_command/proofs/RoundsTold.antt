@@ -359,8 +359,8 @@ module _ {V : Type 0} (s : Setting V) (names : LiveOutputs) (w : SystemWorld V) 
             → StopsRace (run_result_of files) s names w limit events old now
         go (Ok done) keeps no_lines no_text =
             stop_told x no_text (subst (λ (l : List ℕ).
-            HasTold s names (events ++ events_noted noted) ((events ++ events_noted noted) ++ last ∷ []) stopped.there l x
-            old now) no_lines keeps)
+            HasTold s names (events ++ events_noted noted) ((events ++ events_noted noted) ++ last ∷ []) stopped.there l
+            x old now) no_lines keeps)
         go (Err output.WriteFault) keeps no_lines no_text = (events_noted noted ++ last ∷ [], all, begun keeps)
         go (Err output.NoMemory) keeps no_lines no_text = (events_noted noted ++ last ∷ [], all, begun keeps)
 

@@ -99,9 +99,10 @@ module _ {P V : Type 0} (m : Meaning V) (s : Setting V) (names : LiveOutputs) (m
               events_are = refl;
             },
             subst (λ (l : List Lcg). AreTold s may fed runs.steps draws l) (sym given) told,
-            lived_same m m s names (((events ++ fed_and) ++ round) ++ arrivals) (events ++ (fed_and ++ (round ++ arrivals)))
-                next z.system lines x old now refl
-                (append_assoc (events ++ fed_and) round arrivals ∙ append_assoc events fed_and (round ++ arrivals)) lived,
+            lived_same m m s names (((events ++ fed_and) ++ round) ++ arrivals)
+                (events ++ (fed_and ++ (round ++ arrivals))) next z.system lines x old now refl
+                (append_assoc (events ++ fed_and) round arrivals ∙ append_assoc events fed_and (round ++ arrivals))
+                lived,
           )
       settled (Err e) round ran y between lines x now runs told given (first, is, fails) =
           let fed_and = feeding s w wake in
@@ -117,6 +118,6 @@ module _ {P V : Type 0} (m : Meaning V) (s : Setting V) (names : LiveOutputs) (m
               runs = runs;
               first = first_behind fed_and (round ++ arrivals) (round ++ first) (first_behind round arrivals first is);
             })),
-            fails_same e s names (((events ++ fed_and) ++ round) ++ first) (events ++ (fed_and ++ (round ++ first))) old now
-                (append_assoc (events ++ fed_and) round first ∙ append_assoc events fed_and (round ++ first)) fails,
+            fails_same e s names (((events ++ fed_and) ++ round) ++ first) (events ++ (fed_and ++ (round ++ first))) old
+                now (append_assoc (events ++ fed_and) round first ∙ append_assoc events fed_and (round ++ first)) fails,
           )

@@ -148,13 +148,14 @@ drop_whole (suc n) (y ∷ steps) low = drop_whole n steps (omega (arith, low))
 -- behind the last step
 pub all_told : {V : Type 0} (s : Setting V) (names : LiveOutputs) (events : List Event) (steps : List Noted) (n : ℕ)
     (mid there : SystemWorld V) (lines : List ℕ) (x : Scripted) (old now : Shown) → length steps ≤ n
-    → HasTold s names (events ++ events_noted (take n steps)) (events ++ events_noted (take n steps)) mid lines x old now
-    → PerformsFrom s mid (drop n steps) there
+    → HasTold s names (events ++ events_noted (take n steps)) (events ++ events_noted (take n steps)) mid lines x
+    old now → PerformsFrom s mid (drop n steps) there
     → HasTold s names (events ++ events_noted steps) (events ++ events_noted steps) there lines x old now
 all_told {V} s names events steps n mid there lines x old now low h from =
     let end : there ≡ mid =
     subst (λ (l : List Noted). PerformsFrom s mid l there) (drop_whole n steps low) from in
-    subst (λ (z : SystemWorld V). HasTold s names (events ++ events_noted steps) (events ++ events_noted steps) z lines x
-    old now) (sym end)
-    (subst (λ (l : List Noted). HasTold s names (events ++ events_noted l) (events ++ events_noted l) mid lines x old now)
+    subst (λ (z : SystemWorld V).
+    HasTold s names (events ++ events_noted steps) (events ++ events_noted steps) z lines x old now) (sym end)
+    (subst
+    (λ (l : List Noted). HasTold s names (events ++ events_noted l) (events ++ events_noted l) mid lines x old now)
     (take_whole n steps low) h)

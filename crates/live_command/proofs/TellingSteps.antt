@@ -1,5 +1,6 @@
 -- An event was performed, and what it left was written.
-use Rattle.std.proofs.Common.{◌≡◌, ℕ, ◌≤◌, List, [], ◌∷◌, ◌++◌, refl, sym, ap, ◌∙◌, subst, inl, inr, append-nil, Result, Ok}
+use Rattle.std.proofs.Common.{◌≡◌, ℕ, ◌≤◌, List, [], ◌∷◌, ◌++◌, refl, sym, ap, ◌∙◌, subst, inl, inr, append-nil, Result}
+use Rattle.std.proofs.Common.{Ok}
 use Rattle.std.proofs.Common.{Err, arith, length}
 use Rattle.std.specs.Prelude.{⊤, All, OnOk}
 use Rattle.std.proofs.lemmas.List.Elements.{All-append}
@@ -24,7 +25,8 @@ use Rattle.output_files.proofs.Effects.{gathered_begun}
 use Rattle.run_writes.specs.declared.error.RunError.{RunError}
 use Rattle.run_writes.specs.Errors.{run_result_of, stopped_result}
 use Rattle.run_writes.specs.Replies.{Reply, Answers, Goes, newly_released, packets_in, released_in}
-use Rattle.run_writes.specs.Run.{FitsRecord, HasBegunRun, IsWritten, WritesUntil, release_writes, reply_writes, writes_of}
+use Rattle.run_writes.specs.Run.{FitsRecord, HasBegunRun, IsWritten, WritesUntil, release_writes, reply_writes}
+use Rattle.run_writes.specs.Run.{writes_of}
 use Rattle.run_writes.proofs.ScriptAnswers.{released_more}
 use Rattle.std.specs.Result.{IsOk}
 use Rattle.input_logger.specs.Inputs.{Fed}
@@ -157,7 +159,8 @@ module _ {V : Type 0} (s : Setting V) (names : LiveOutputs) (events : List Event
 
     -- it stopped at a limit
     module _ (limit : Limit) (outputs : List Output) (comes : ComesTo m ev (Err (stop.Limit limit)) outputs y new) where
-      abbrev pub stopped : (next : SystemWorld V) × Stops s w ev limit next × (packets_in outputs ≡ newly_released w next)
+      abbrev pub stopped :
+          (next : SystemWorld V) × Stops s w ev limit next × (packets_in outputs ≡ newly_released w next)
       stopped = comes s w at
 
       abbrev pub till : List Write

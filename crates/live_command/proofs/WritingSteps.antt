@@ -24,7 +24,8 @@ use Rattle.run_writes.specs.declared.error.RunError.TheVariants as run
 use Rattle.run_writes.specs.Errors.{run_error_of}
 use Rattle.run_writes.specs.Replies.{Reply, Goes, newly_released, released_in}
 use Rattle.run_writes.specs.Run.{FitsRecord, HasBegunRun, IsWritten, OutputNames}
-use Rattle.run_writes.specs.Run.{closing_writes, opening_writes, release_writes, replies_writes, reply_writes, writes_of}
+use Rattle.run_writes.specs.Run.{closing_writes, opening_writes, release_writes, replies_writes, reply_writes}
+use Rattle.run_writes.specs.Run.{writes_of}
 use Rattle.run_writes.proofs.ScriptAnswers.{released_more}
 use Rattle.run_command.proofs.Going.{replies_more}
 use Rattle.script_text.specs.Scripts.{FitsWords, script_text}
@@ -83,7 +84,8 @@ module _ {V : Type 0} (s : Setting V) (names : LiveOutputs) (apart : AreApart na
       a.begun.0,
       a.begun.1,
       begun_longer names.script written part old now new a.begun.0
-          (spare_run s names.outputs names.script apart.released apart.schedule a.first a.begun.0 a.begun.1) a.begun.2 w,
+          (spare_run s names.outputs names.script apart.released apart.schedule a.first a.begun.0 a.begun.1)
+          a.begun.2 w,
     );
   }
 
@@ -276,8 +278,8 @@ module _ {V : Type 0} (s : Setting V) (names : LiveOutputs) (events : List Event
 
   -- it would pass a limit, and all before it was written
   pub paused : (h : HasTold s names events events w [] x old now) → x.text ≡ [] → (ev : Event) (limit : Limit)
-      → PassesScript limit x.count (x.size + length (line_of ev)) → FailsLive (run.Limit limit) s names (events ++ ev ∷ [])
-      old now
+      → PassesScript limit x.count (x.size + length (line_of ev))
+      → FailsLive (run.Limit limit) s names (events ++ ev ∷ []) old now
   paused h none ev limit passes = inr (
     events,
     ev,
@@ -305,7 +307,8 @@ pub with_reply : (names : OutputNames) (u : FractionUnit) (replies : List Reply)
     → writes_of names u (replies ++ r ∷ []) ≡ writes_of names u replies ++ reply_writes names.released r
 with_reply names u replies r =
     ap (λ (l : List Write). opening_writes names u ++ l) (replies_more names.released replies r)
-    ∙ sym (append_assoc (opening_writes names u) (replies_writes names.released replies) (reply_writes names.released r))
+    ∙ sym (append_assoc (opening_writes names u) (replies_writes names.released replies)
+    (reply_writes names.released r))
 
 module _ {V : Type 0} (s : Setting V) (names : LiveOutputs) (events : List Event) (w : SystemWorld V) (lines : List ℕ)
     (x : Scripted) (old now : Shown) (ev : Event)
@@ -321,8 +324,9 @@ module _ {V : Type 0} (s : Setting V) (names : LiveOutputs) (events : List Event
       record {
         replies = h.replies ++ r ∷ [];
         answers = Goes ev q.to q.freed h.answers q.on;
-        fit_records = subst (All FitsRecord) (sym (released_more h.replies r)) (All-append FitsRecord
-            (released_in h.replies) r.released h.fit_records (subst (All FitsRecord) (sym q.none) (All-nil FitsRecord)));
+        fit_records =
+            subst (All FitsRecord) (sym (released_more h.replies r)) (All-append FitsRecord (released_in h.replies)
+            r.released h.fit_records (subst (All FitsRecord) (sym q.none) (All-nil FitsRecord)));
         behind = ([], sym (append-nil (events ++ ev ∷ [])));
         fit_words = h.fit_words;
         written = h.written;

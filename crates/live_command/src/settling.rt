@@ -1,6 +1,7 @@
-//! A settling: the master recovers if it is down, the rest of the capture is fed, a round without orders is run, and then
-//! all that was made arrives.
-ghost use Rattle.std.specs.Prelude.{◌≡◌, ◌∷◌, ◌++◌, ◌≤◌, ◌<◌, [], List, ℕ, length, IfOk, OnOk, IsTrue, IsErrOf};
+//! A settling: the master recovers if it is down, the rest of the capture is fed, a round without orders is run, and
+//! then all that was made arrives.
+ghost use Rattle.std.specs.Prelude.{◌≡◌, ◌∷◌, ◌++◌, ◌≤◌, ◌<◌, [], List, ℕ, length, IfOk, OnOk};
+ghost use Rattle.std.specs.Prelude.{IsTrue, IsErrOf};
 ghost use Rattle.std.specs.Prelude.{false, true};
 ghost use Rattle.plain_text.specs.declared.limit.TheConstants.{MOST_EVENTS as most_events};
 ghost use Rattle.plain_text.specs.declared.limit.TheConstants.{MOST_FILE_BYTES as most_bytes};

@@ -1,5 +1,6 @@
 //! Lines of the report and of the script are gathered, and written where something else is to be written behind them.
-ghost use Rattle.std.specs.Prelude.{◌≡◌, ◌∷◌, ◌++◌, ◌≤◌, [], List, ℕ, length, OnOk, IsTrue, IsErrOf};
+ghost use Rattle.std.specs.Prelude.{◌≡◌, ◌∷◌, ◌++◌, ◌≤◌, [], List, ℕ, length, OnOk, IsTrue};
+ghost use Rattle.std.specs.Prelude.{IsErrOf};
 ghost use Rattle.plain_text.specs.declared.limit.Limit.{Limit as LimitKind};
 ghost use Rattle.plain_text.specs.declared.limit.TheConstants.{MOST_EVENTS as most_events};
 ghost use Rattle.plain_text.specs.declared.limit.TheConstants.{MOST_FILE_BYTES as most_bytes};
@@ -115,8 +116,8 @@ pub(crate) fn add_line<X, W: World>(
     }
 }
 
-/// Gathers the report's line of an event that released nothing, behind its line of the script. Where much is gathered it
-/// is written.
+/// Gathers the report's line of an event that released nothing, behind its line of the script. Where much is gathered
+/// it is written.
 pub(crate) fn gather<X, W: World>(
     world: &mut W,
     file: u32,

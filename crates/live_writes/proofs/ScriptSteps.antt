@@ -1,5 +1,6 @@
 -- Lines go to the script, and what stands beside it stays.
-use Rattle.std.proofs.Common.{◌≡◌, ℕ, List, [], ◌∷◌, ◌++◌, Option, Some, refl, sym, ap, ◌∙◌, subst, inl, inr, append-nil}
+use Rattle.std.proofs.Common.{◌≡◌, ℕ, List, [], ◌∷◌, ◌++◌, Option, Some, refl, sym, ap, ◌∙◌, subst, inl, inr}
+use Rattle.std.proofs.Common.{append-nil}
 use Rattle.std.proofs.Common.{None}
 use Rattle.world_io.specs.World.{Shown}
 use Rattle.output_files.specs.Writes.{report_file, Write, Creates, Appends, Reports, after_writes, HasBegun}

@@ -42,8 +42,8 @@ pub record CanLive (run : PlanRun) : Type 0 where
   pub few_threads : run.threads ≤ 16
   pub short : All IsShort run.packets
 
--- What was shown, but with these bytes under a name. The outputs of `live` beside its script are those that `run` leaves
--- where the script stands there.
+-- What was shown, but with these bytes under a name. The outputs of `live` beside its script are those that `run`
+-- leaves where the script stands there.
 abbrev pub holding : List ℕ → List ℕ → Shown → Shown
 holding name bytes shown =
     record shown { names = λ other. if bytes_eq name other then Some bytes else shown.names other }

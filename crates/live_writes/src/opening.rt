@@ -11,8 +11,8 @@ use plan_script::Plan;
 use run_writes::{RunFiles, open_outputs};
 use world_io::World;
 
-/// What is run by a plan: the packets of a capture, on 1 to 16 threads. Random words of thread t come from the generator
-/// of the seed on stream 55 + t.
+/// What is run by a plan: the packets of a capture, on 1 to 16 threads. Random words of thread t come from the
+/// generator of the seed on stream 55 + t.
 #[derive(Drop)]
 pub struct PlanRun {
     /// The number of threads, 1 to 16.

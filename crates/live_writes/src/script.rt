@@ -1,4 +1,5 @@
-ghost use Rattle.std.specs.Prelude.{◌≡◌, ◌≤◌, ◌+◌, ◌∷◌, [], List, ℕ, length, IsTrue, IsErrOf, OnOk, Err};
+ghost use Rattle.std.specs.Prelude.{◌≡◌, ◌≤◌, ◌+◌, ◌∷◌, [], List, ℕ, length, IsTrue, IsErrOf, OnOk};
+ghost use Rattle.std.specs.Prelude.{Err};
 ghost use Rattle.plain_text.specs.declared.limit.Limit.{Limit as LimitKind};
 ghost use Rattle.plain_text.specs.declared.limit.TheConstants.{MOST_EVENTS as most_events};
 ghost use Rattle.plain_text.specs.declared.limit.TheConstants.{MOST_FILE_BYTES as most_bytes};
@@ -18,8 +19,8 @@ use std::alloc::Global;
 use std::marker::Model;
 use world_io::World;
 
-/// The script that is written while a plan is performed: the lines that are gathered, and how long it is with those that
-/// were written before.
+/// The script that is written while a plan is performed: the lines that are gathered, and how long it is with those
+/// that were written before.
 #[derive(Drop)]
 pub struct Script {
     text: Bytes,
@@ -68,8 +69,8 @@ impl Script {
         self.text.len()
     }
 
-    /// Gathers the line of one more event. Where the script would have more than `MOST_EVENTS` lines with it, or more than
-    /// `MOST_FILE_BYTES` bytes, it stays as it is.
+    /// Gathers the line of one more event. Where the script would have more than `MOST_EVENTS` lines with it, or more
+    /// than `MOST_FILE_BYTES` bytes, it stays as it is.
     pub fn add(&mut self, event: &Event) -> Result<(), RunError>
         requires few { self.old.count ≤ most_events }
         requires short { self.old.size ≤ most_bytes }

@@ -1,5 +1,6 @@
 -- What is known of a packet in hand, by where it is and by what its moves met.
-use Rattle.std.proofs.Common.{◌≡◌, ◌≢◌, ℕ, ◌+◌, ◌*◌, ◌%◌, ◌^◌, ◌<◌, ◌≤◌, Bool, true, false, List, [], ◌∷◌, ◌++◌, refl, sym, ap}
+use Rattle.std.proofs.Common.{◌≡◌, ◌≢◌, ℕ, ◌+◌, ◌*◌, ◌%◌, ◌^◌, ◌<◌, ◌≤◌, Bool, true, false, List, [], ◌∷◌, ◌++◌, refl}
+use Rattle.std.proofs.Common.{sym, ap}
 use Rattle.std.proofs.Common.{◌∙◌, subst, ◌⊎◌, inl, inr, arith, Option, Some, None}
 use Rattle.std.specs.Prelude.{Result, Ok, Err}
 use Rattle.plain_text.specs.declared.packet.Packet.{Packet}
@@ -21,7 +22,8 @@ use Rattle.nat_tables.specs.declared.slot.Slot.{Slot}
 use Rattle.nat_tables.specs.declared.entries.Bind.TheVariants.{Other}
 use Rattle.nat_tables.specs.Keys.{port_key}
 use Rattle.nat_tables.specs.Ports.{PoolPorts, reserve}
-use Rattle.nat_tables.specs.Forwards.{Forwards, refresh, refreshed, is_idle, slot_of, first_idle, found_there, found, bound}
+use Rattle.nat_tables.specs.Forwards.{Forwards, refresh, refreshed, is_idle, slot_of, first_idle, found_there, found}
+use Rattle.nat_tables.specs.Forwards.{bound}
 use Rattle.nat_tables.specs.Forwards.{port_of, lives}
 use Rattle.nat_tables.specs.Reverses.{Reverses, endpoint_of}
 use Rattle.nat_box.specs.declared.place.Place.{Place}
@@ -36,7 +38,8 @@ use Rattle.nat_box.specs.declared.value.NatValue.{NatValue}
 use Rattle.nat_box.specs.declared.value.NatValue.TheVariants.{Dropped, Free, Mapped, Taken}
 use Rattle.nat_box.specs.Places.{place_numbered, noted, dest_key, endpoint, local_of}
 use Rattle.nat_box.specs.declared.place.Goes.{Goes}
-use Rattle.nat_box.specs.Nat.{Settings, goes, forward_table, reverse_table, class_of_flow, noted_flow, nothing_noted, reason_of, begun_as}
+use Rattle.nat_box.specs.Nat.{Settings, goes, forward_table, reverse_table, class_of_flow, noted_flow, nothing_noted}
+use Rattle.nat_box.specs.Nat.{reason_of, begun_as}
 use Rattle.nat_box.specs.Nat.{begun, mapped, after_find, after_reserve, after_bind, touched, after_endpoint, looked_by}
 use Rattle.nat_box.specs.Nat.{looked, after_time, told, local_at, nat_meaning, MayMap, MayBind, Fits}
 use Rattle.nat_box.specs.Noting.{place_again, class_again, IsNoted, is_noted, noted_again}
@@ -272,8 +275,13 @@ module _ (s : Settings) (p : Packet) where
     leaving left = record m { left = Some left }
 
     refreshes : (slot : Slot) → slot_of n.source es ≡ Some slot → Refreshed (leaving (refresh n.source n.time es)) n
-    refreshes slot is =
-        (refresh n.source n.time es, refreshed n.time slot, refl, slot_refreshed n.source n.time slot es is, omega arith)
+    refreshes slot is = (
+      refresh n.source n.time es,
+      refreshed n.time slot,
+      refl,
+      slot_refreshed n.source n.time slot es is,
+      omega arith,
+    )
 
     there_known : (slot : Slot) (idle : Bool) → slot_of n.source es ≡ Some slot
         → (let f = found_there n.source n.time es slot idle in

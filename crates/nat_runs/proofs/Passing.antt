@@ -11,7 +11,8 @@ use Rattle.packet_headers.specs.View.{viewed}
 use Rattle.plain_machine.specs.declared.local.Move.TheVariants.{Access}
 use Rattle.plain_machine.specs.Machine.{Hand, Thread, Effect, Takes, Touches, Looks, HearsClock, HearsDraw, Sends}
 use Rattle.plain_machine.specs.Machine.{Ends as EndsIt, Moves, held_move}
-use Rattle.plain_machine.specs.History.{Step, act_of, sent_more, sent_of, outputs, left_by, thread_after, value_after, IsHistory}
+use Rattle.plain_machine.specs.History.{Step, act_of, sent_more, sent_of, outputs, left_by, thread_after, value_after}
+use Rattle.plain_machine.specs.History.{IsHistory}
 use Rattle.plain_machine.proofs.Histories.{not_eq, is_eq}
 use Rattle.plain_machine.proofs.Bounds.{values_fit}
 use Rattle.nat_tables.specs.declared.entries.Endpoint.{Endpoint}

@@ -33,7 +33,8 @@ use Rattle.nat_runs.specs.Met.{Met, met_of}
 use Rattle.nat_runs.specs.Refreshing.{ComesFrom, HostsRefresh, HasRefreshed, SentRefresh}
 use Rattle.nat_runs.proofs.TableEntries.{slot_in, WasOr, refresh_was, bound_was, without_was, without_idle_was}
 use Rattle.nat_runs.proofs.ThreadMoves.{TouchKind, finds, unbinds_freed, gives_freed, reserves, binds, finds_or_binds}
-use Rattle.nat_runs.proofs.ThreadMoves.{unbinds_lost, gives_lost, counts, touch_kind, at_emit, at, touched_below, by_move}
+use Rattle.nat_runs.proofs.ThreadMoves.{unbinds_lost, gives_lost, counts, touch_kind, at_emit, at, touched_below}
+use Rattle.nat_runs.proofs.ThreadMoves.{by_move}
 use Rattle.nat_runs.proofs.Knowing.{from_inside, IsBase, IfOutward, Refreshed, IsOnWay, KnownAt, Known, run_known}
 
 -- What a touch leaves

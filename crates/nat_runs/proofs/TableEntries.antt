@@ -10,7 +10,8 @@ use Rattle.nat_tables.specs.declared.slot.Slot.{Slot}
 use Rattle.nat_tables.specs.Keys.{same_endpoint, same_port}
 use Rattle.nat_tables.specs.Ports.{Ports, PoolPorts, chosen, of_even, of_odd, is_even, reserved_of, reserve, count_port}
 use Rattle.nat_tables.specs.Ports.{free_in, free_of}
-use Rattle.nat_tables.specs.Forwards.{Forwards, is_idle, refreshed, slot_of, refresh, without, without_idle, lives_at, lives}
+use Rattle.nat_tables.specs.Forwards.{Forwards, is_idle, refreshed, slot_of, refresh, without, without_idle, lives_at}
+use Rattle.nat_tables.specs.Forwards.{lives}
 use Rattle.nat_tables.specs.Forwards.{Misses, AreMappings}
 use Rattle.nat_tables.specs.Reverses.{Reverses, endpoint_of, AreBound}
 use Rattle.nat_tables.proofs.Counting.{same_is, port_is}
@@ -38,7 +39,8 @@ used_is now e q = grind (arith, nat_tests)
 
 -- Entries as they are found
 
-missed : (es : Forwards) (key : Endpoint) (f : Endpoint × Slot) → Misses es key → Has es f → same_endpoint f.0 key ≡ false
+missed : (es : Forwards) (key : Endpoint) (f : Endpoint × Slot) → Misses es key → Has es f
+    → same_endpoint f.0 key ≡ false
 missed [] key f m h = absurd h
 missed (y ∷ es) key f m (inl p) = subst (λ (z : Endpoint × Slot). same_endpoint z.0 key ≡ false) p m.0
 missed (y ∷ es) key f m (inr h) = missed es key f m.1 h
@@ -94,7 +96,8 @@ lives_is key port now es e = by (slot_of key es) refl e
 idle_at : (key : Endpoint) (port now : ℕ) (slot : Slot) → lives_at key port now (Some slot) ≡ false → slot.port ≡ port
     → is_idle now (key, slot) ≡ true
 idle_at key port now slot e p =
-    let a : (slot.port == port) ≡ true = grind (arith, nat_tests) in by (slot.port == port) a (is_idle now (key, slot)) e
+    let a : (slot.port == port) ≡ true = grind (arith, nat_tests) in
+    by (slot.port == port) a (is_idle now (key, slot)) e
   where
     by : (a : Bool) → a ≡ true → (b : Bool) → (a && not b) ≡ false → b ≡ true
     by true p true e = refl
@@ -124,7 +127,8 @@ endpoint_in port key (x ∷ bs) e = by (same_port port x.0) refl e (endpoint_in 
         let k : x.0 ≡ port = sym (port_is port x.0 q) in let z : x.1 ≡ key = cc in inl (λ i. (k i, z i))
     by false q e rest = inr (rest e)
 
-pub not_bound : (port : PortKey) (bs : Reverses) → endpoint_of port bs ≡ None → (key : Endpoint) → Has bs (port, key) → ⊥
+pub not_bound : (port : PortKey) (bs : Reverses) → endpoint_of port bs ≡ None → (key : Endpoint)
+    → Has bs (port, key) → ⊥
 not_bound port [] e key h = h
 not_bound port (x ∷ bs) e key h = by (same_port port x.0) refl e h (λ r. not_bound port bs r key)
   where
@@ -138,8 +142,8 @@ not_bound port (x ∷ bs) e key h = by (same_port port x.0) refl e h (λ r. not_
     by false q e (inr h) rest = rest e h
 
 -- what a reverse table may have of an endpoint
-pub may_endpoint : (May : PortKey → Endpoint → Type 0) (port : PortKey) (key : Endpoint) (bs : Reverses) → AreBound May bs
-    → Has bs (port, key) → May port key
+pub may_endpoint : (May : PortKey → Endpoint → Type 0) (port : PortKey) (key : Endpoint) (bs : Reverses)
+    → AreBound May bs → Has bs (port, key) → May port key
 may_endpoint May port key [] all h = absurd h
 may_endpoint May port key (x ∷ bs) all (inl p) = subst (λ (z : PortKey × Endpoint). May z.0 z.1) p all.0
 may_endpoint May port key (x ∷ bs) all (inr h) = may_endpoint May port key bs all.2 h
@@ -208,7 +212,8 @@ pub refresh_was : (key : Endpoint) (now : ℕ) (es : Forwards) (e : Endpoint × 
 refresh_was key now [] e h = absurd h
 refresh_was key now (x ∷ es) e h = by (same_endpoint key x.0) refl h (refresh_was key now es e)
   where
-    by : (b : Bool) → same_endpoint key x.0 ≡ b → Has (if b then (x.0, refreshed now x.1) ∷ es else x ∷ refresh key now es) e
+    by : (b : Bool) → same_endpoint key x.0 ≡ b
+        → Has (if b then (x.0, refreshed now x.1) ∷ es else x ∷ refresh key now es) e
         → (Has (refresh key now es) e → WasOr key e es) → WasOr key e (x ∷ es)
     by true q (inl p) rest = inr (same_is key x.0 q ∙ ap (λ (z : Endpoint × Slot). z.0) p)
     by true q (inr h) rest = inl (inr h)
@@ -234,7 +239,8 @@ pub without_was : (key : Endpoint) (es : Forwards) (e : Endpoint × Slot) → Ha
 without_was key [] e h = absurd h
 without_was key (x ∷ es) e h = by (same_endpoint key x.0) h (without_was key es e)
   where
-    by : (b : Bool) → Has (if b then es else x ∷ without key es) e → (Has (without key es) e → Has es e) → Has (x ∷ es) e
+    by : (b : Bool) → Has (if b then es else x ∷ without key es) e → (Has (without key es) e → Has es e)
+        → Has (x ∷ es) e
     by true h rest = inr h
     by false (inl p) rest = inl p
     by false (inr h) rest = inr (rest h)

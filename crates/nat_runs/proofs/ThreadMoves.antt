@@ -222,7 +222,8 @@ module _ (s : Settings) (packets : List Packet) (value : ℕ → NatValue) (take
     (draw : (h : Hand) (a : ℕ) → comes_to s h Draw
     → P (Some h) (holding taken h.packet (local_at (told (at h) a (noted h.place)))) (HearsDraw a))
     (send : (h : Hand) → comes_to s h Emit
-    → P (Some h) (holding taken h.packet (local_at (goes Ends (noted h.place)))) (Sends (sent_packet (nat_meaning s) h)))
+    → P (Some h) (holding taken h.packet (local_at (goes Ends (noted h.place))))
+    (Sends (sent_packet (nat_meaning s) h)))
     (end : (h : Hand) → comes_to s h End → P (Some h) (record { taken = taken; hand = None }) EndsIt) where
   module _ (after : Thread) (d : Effect NatValue) where
     along : (before : Option Hand) (th : Thread) (u : Effect NatValue) → th ≡ after → u ≡ d → P before th u

@@ -1,5 +1,6 @@
 -- Why a packet is counted as dropped, by the reason of the count.
-use Rattle.std.specs.Prelude.{◌≡◌, ℕ, ◌+◌, ◌*◌, ◌-◌, ◌%◌, ◌^◌, ◌<◌, ◌⊎◌, List, ◌∷◌, Option, Some, None, Ok, Err, slice_index}
+use Rattle.std.specs.Prelude.{◌≡◌, ℕ, ◌+◌, ◌*◌, ◌-◌, ◌%◌, ◌^◌, ◌<◌, ◌⊎◌, List, ◌∷◌, Option, Some, None, Ok, Err}
+use Rattle.std.specs.Prelude.{slice_index}
 use Rattle.std.specs.Prelude.{slice_set}
 use Rattle.plain_text.specs.declared.packet.Packet.{Packet}
 use Rattle.packet_headers.specs.declared.flow.Flow.{Flow}
@@ -61,8 +62,8 @@ FoundNoneUsed s flow met bound =
     × (value : ℕ → NatValue) × (now : ℕ) × (met.at_forward ≡ Some value) × (met.clock ≡ Some now)
     × HasNoneUsed s value (endpoint flow.protocol key.address key.port) flow.dest_port now
 
--- 7: it goes inside, and when it read a reverse table, nothing was bound to the port that it goes to, or no mapping that
--- is not idle
+-- 7: it goes inside, and when it read a reverse table, nothing was bound to the port that it goes to, or no mapping
+-- that is not idle
 abbrev pub FoundNoMapping : Settings → Packet → Met → ℕ → Type 0
 FoundNoMapping s p met reason =
     (flow : Flow) × IsFlow p flow × GoesInside s flow × (bound : ℕ → NatValue) × (met.at_reverse ≡ Some bound)

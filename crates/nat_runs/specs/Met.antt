@@ -10,7 +10,8 @@ use Rattle.nat_box.specs.Nat.{Settings, nat_meaning}
 use Rattle.nat_box.specs.Emissions.{left_forward}
 
 pub record Met : Type 0 where
-  -- the values of the variables when it touched the pool, when it read a reverse table, and when it read a forward table
+  -- the values of the variables when it touched the pool, when it read a reverse table, and when it read a forward
+  -- table
   pub at_pool : Option (ℕ → NatValue)
   pub at_reverse : Option (ℕ → NatValue)
   pub at_forward : Option (ℕ → NatValue)

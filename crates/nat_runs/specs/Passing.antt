@@ -6,7 +6,8 @@ use Rattle.plain_text.specs.declared.packet.Packet.{Packet}
 use Rattle.entry_order.specs.declared.what.What.{What}
 use Rattle.entry_order.specs.declared.what.What.TheVariants.{Access, Read, Clock, Draw}
 use Rattle.plain_machine.specs.Machine.{Hand, Thread}
-use Rattle.plain_machine.specs.History.{Act, Took, Did, Emitted, Ended, Step, sent_of, outputs, thread_after, value_after}
+use Rattle.plain_machine.specs.History.{Act, Took, Did, Emitted, Ended, Step, sent_of, outputs, thread_after}
+use Rattle.plain_machine.specs.History.{value_after}
 use Rattle.plain_machine.specs.History.{IsHistory}
 use Rattle.nat_box.specs.declared.place.Place.{Place}
 use Rattle.nat_box.specs.declared.place.Place.TheVariants.{Ends}
@@ -69,7 +70,8 @@ abbrev pub counted_of : ℕ → List (Step NatValue) → ℕ
 counted_of t [] = 0
 counted_of t (x ∷ earlier) = cond (nat_eq x.thread t) (counted_by x.act + counted_of t earlier) (counted_of t earlier)
 
--- The packets that a thread took are those that it sent out, those that it counted, and the one in hand that is neither.
+-- The packets that a thread took are those that it sent out, those that it counted, and the one in hand that is
+-- neither.
 abbrev pub HasPassed : ℕ → List (Step NatValue) → Type 0
 HasPassed t steps =
     outputs t (sent_of steps) + counted_of t steps + waits (thread_after steps t).hand ≡ (thread_after steps t).taken

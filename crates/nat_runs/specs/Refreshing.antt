@@ -22,8 +22,8 @@ abbrev pub ComesFrom : Settings → Endpoint → Packet → Type 0
 ComesFrom s key p =
     (flow : Flow) × (viewed p.bytes p.original ≡ Ok flow) × (source_of flow ≡ key) × IsFromInside s flow
 
--- Each mapping that is there after a step was there before it, with the same time of its last use, or the packet in hand
--- comes from its endpoint.
+-- Each mapping that is there after a step was there before it, with the same time of its last use, or the packet in
+-- hand comes from its endpoint.
 abbrev pub HostsRefresh : Type 0
 HostsRefresh =
     (s : Settings) (threads : ℕ) (inputs : ℕ → List Packet) (x : Step NatValue) (earlier : List (Step NatValue)) (v : ℕ)

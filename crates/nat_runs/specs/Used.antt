@@ -19,8 +19,8 @@ use Rattle.nat_box.specs.Sentences.{Has}
 use Rattle.nat_box.specs.Emissions.{Trail, trail_of, HaveBytes}
 use Rattle.nat_runs.specs.Idle.{IsUsed}
 
--- The forward table that the packet read last has a mapping of the endpoint to the port, and it was not idle at the time
--- that the packet was told.
+-- The forward table that the packet read last has a mapping of the endpoint to the port, and it was not idle at the
+-- time that the packet was told.
 abbrev pub FoundUsed : Trail → Endpoint → ℕ → Type 0
 FoundUsed r key port =
     (es : Forwards) × (slot : Slot) × (now : ℕ) × (r.read ≡ Some (Mapped es)) × (r.clock ≡ Some now)

@@ -8,24 +8,24 @@ ghost use Rattle.nat_runs.specs.Refreshing.{HostsRefresh, SentRefresh};
 
 /// After each move of each run, whatever its threads, its inputs and the order of its moves: each packet that a thread
 /// took was sent out once, or counted once as dropped, or is the one in hand and neither yet (`each`). So over all
-/// threads the packets taken are those sent out, those that variable 0 counts, and those in hand (`always`); with no packet in
-/// hand, those sent out and those counted (`at_rest`). The counts wrap at 2^64.
+/// threads the packets taken are those sent out, those that variable 0 counts, and those in hand (`always`); with no
+/// packet in hand, those sent out and those counted (`at_rest`). The counts wrap at 2^64.
 pub fn no_packet_vanishes()
     ensures each { EachPasses }
     ensures always { NoneVanishes }
     ensures at_rest { NoneVanishesAtRest }
 {}
 
-/// At each step each mapping stays, with its port, or it was idle at the time that the packet was told: not used for 300
-/// s of UDP (RFC 4787, REQ-5), for 7,440 s of TCP (RFC 5382, REQ-5). So an inside endpoint that goes on has the same
-/// port toward every remote endpoint (RFC 4787, REQ-1).
+/// At each step each mapping stays, with its port, or it was idle at the time that the packet was told: not used for
+/// 300 s of UDP (RFC 4787, REQ-5), for 7,440 s of TCP (RFC 5382, REQ-5). So an inside endpoint that goes on has the
+/// same port toward every remote endpoint (RFC 4787, REQ-1).
 pub fn mappings_stay_until_idle()
     ensures { MappingsStay }
 {}
 
-/// What goes back inside, of an inbound or a hairpin packet (RFC 4787, REQ-9), goes to an endpoint that has a mapping to
-/// the packet's port, and this mapping is not idle: it was used less than 300 s of UDP, 7,440 s of TCP before the time
-/// that the packet was told.
+/// What goes back inside, of an inbound or a hairpin packet (RFC 4787, REQ-9), goes to an endpoint that has a mapping
+/// to the packet's port, and this mapping is not idle: it was used less than 300 s of UDP, 7,440 s of TCP before the
+/// time that the packet was told.
 pub fn what_comes_in_found_a_used_mapping()
     ensures { ComesInByUsed }
 {}

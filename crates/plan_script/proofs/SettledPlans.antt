@@ -16,7 +16,8 @@ use Rattle.recovery_world.specs.Turns.{Awaits}
 use Rattle.recovery_world.specs.Events.{On, OnStep, WaitsFor, WantsMore}
 use Rattle.recovery_world.specs.Finish.{IsFinish}
 use Rattle.recovery_world.specs.Limits.{OnWithin}
-use Rattle.recovery_world.specs.Many.{Arrives, Message, OnAny, Phase, Several, Single, all_messages, arrival, arrival_of}
+use Rattle.recovery_world.specs.Many.{Arrives, Message, OnAny, Phase, Several, Single, all_messages, arrival}
+use Rattle.recovery_world.specs.Many.{arrival_of}
 use Rattle.recovery_world.specs.Many.{begins, goes_on}
 use Rattle.recovery_world.specs.Strategies.{Ends as NoMore, Follows, Goes as Chosen}
 use Rattle.recovery_world.specs.Files.{Goes as Performed, Leaves, Performs, Rests}

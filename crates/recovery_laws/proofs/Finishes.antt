@@ -307,7 +307,9 @@ module _ {V : Type 0} (s : Setting V) (w : World V) (h : Firm s w) where
   -- One thread can go on.
   goes_there : (line : List (Step V)) → IsLine s w line → (t : ℕ) (mid : List (Step V))
       → IsHistory s.meaning (inputs_fed s w.fed) s.threads mid → log_of mid ≡ log_of line
-      → (to : List (Step V)) × IsHistory s.meaning (inputs_fed s w.fed) s.threads to × GoesOn t (greatest t w.released) mid to
+      → (to : List (Step V))
+      × IsHistory s.meaning (inputs_fed s w.fed) s.threads to
+      × GoesOn t (greatest t w.released) mid to
   goes_there line l t mid hm same = go (cases_lt (outputs t (sent_of mid)) (greatest t w.released))
     where
       stay : greatest t w.released ≤ outputs t (sent_of mid)
@@ -317,8 +319,10 @@ module _ {V : Type 0} (s : Setting V) (w : World V) (h : Firm s w) where
       stay k =
           (mid, hm, record { quiet = stays_quietly t mid; enough = k; soonest = λ x a b c. earlier_same mid x a b })
 
-      go : (outputs t (sent_of mid) < greatest t w.released) ⊎ (greatest t w.released ≤ outputs t (sent_of mid)) → (to :
-          List (Step V)) × IsHistory s.meaning (inputs_fed s w.fed) s.threads to × GoesOn t (greatest t w.released) mid to
+      go : (outputs t (sent_of mid) < greatest t w.released) ⊎ (greatest t w.released ≤ outputs t (sent_of mid))
+          → (to : List (Step V))
+          × IsHistory s.meaning (inputs_fed s w.fed) s.threads to
+          × GoesOn t (greatest t w.released) mid to
       go (inr k) = stay k
       go (inl low) = found (greatest_there t w.released (omega (arith, low)))
         where
@@ -381,7 +385,10 @@ module _ {V : Type 0} (s : Setting V) (w : World V) (h : Firm s w) where
                   soonest x (inr q) c = let g = earlier_outputs t x to q in absurd (omega (arith, g, c, d.1, u, n))
 
   all_go_there : (line : List (Step V)) → IsLine s w line → IsHistory s.meaning (inputs_fed s w.fed) s.threads line
-      → (n : ℕ) → (steps : List (Step V)) × IsHistory s.meaning (inputs_fed s w.fed) s.threads steps × AllGoOn w.released n line steps
+      → (n : ℕ)
+      → (steps : List (Step V))
+      × IsHistory s.meaning (inputs_fed s w.fed) s.threads steps
+      × AllGoOn w.released n line steps
   all_go_there line l hl zero = (line, hl, refl)
   all_go_there line l hl (suc n) = go (all_go_there line l hl n)
     where

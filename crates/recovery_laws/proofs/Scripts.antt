@@ -133,8 +133,8 @@ any_one {V} s w ev to other freed rest new next h (Several e q o n at f is) (Sev
     (subst (λ (x : Phase). Follows s (goes_on s) x w None next) p f2)).1 in
     record { outcome_is = is ∙ (ap (λ (z : World V). summary_of w z) one ∙ sym is2); freed_is = refl; new_is = one }
 
-pub performs_one : {V : Type 0} (s : Setting V) (w a b : World V) (events : List Event) (lines other : List ℕ) → Sound s w
-    → Performs s w events lines a → Performs s w events other b → (lines ≡ other) × (a ≡ b)
+pub performs_one : {V : Type 0} (s : Setting V) (w a b : World V) (events : List Event) (lines other : List ℕ)
+    → Sound s w → Performs s w events lines a → Performs s w events other b → (lines ≡ other) × (a ≡ b)
 performs_one s w a b events lines other h (NoMore same) (NoMore same2) = (refl, refl)
 performs_one {V} s w a b events lines other h (Writes {mid = mid} {events = later} {lines = l} ev to freed on rest)
     (Writes {mid = mid2} {lines = l2} ev2 to2 freed2 on2 rest2) =

@@ -1,5 +1,6 @@
 -- What a call of the world below does to what the taps mirror.
-use Rattle.std.proofs.Common.{◌≡◌, ℕ, zero, suc, ◌==◌, Bool, true, false, List, [], ◌∷◌, ◌++◌, length, take, Option, Some, None}
+use Rattle.std.proofs.Common.{◌≡◌, ℕ, zero, suc, ◌==◌, Bool, true, false, List, [], ◌∷◌, ◌++◌, length, take, Option}
+use Rattle.std.proofs.Common.{Some, None}
 use Rattle.std.proofs.Common.{refl, sym, ap, ◌∙◌, subst, append-nil, inl, inr}
 use Rattle.std.proofs.lemmas.Bool.{cases_Bool, eqb-true, eqb-false}
 use Rattle.std.proofs.lemmas.Slice.Eq.{bytes_eq-Decides}
@@ -165,8 +166,8 @@ module _ {W T : Type 0} (honest : Start → W → Type 0) (shows : Start → W �
   mirroring-create (Some k) old new before seats asked named (Err e) is says given none creates nothing =
       mirroring-none (Some k) old new before seats is asked none nothing
   mirroring-create None old new before seats asked true (Ok file) is says given none creates nothing =
-      mirroring-first old new before seats asked file given creates None refl ((bytes_eq-Decides asked name).0 (sym says))
-      is
+      mirroring-first old new before seats asked file given creates None refl
+      ((bytes_eq-Decides asked name).0 (sym says)) is
   mirroring-create None old new before seats asked true (Err e) is says given none creates nothing =
       mirroring-none None old new before seats is asked none nothing
   mirroring-create None old new before seats asked false (Ok file) is says given none creates nothing =

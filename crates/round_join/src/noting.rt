@@ -208,7 +208,8 @@ fn note_turns<P: Program>(
 
 /// The end of a round: the moves of its threads are noted in the woven order, one after another.
 ///
-/// The lists keep their room. After `Limit` those before it were noted. After `NoMemory` the rest is of no use any more.
+/// The lists keep their room. After `Limit` those before it were noted. After `NoMemory` the rest is of no use any
+/// more.
 pub fn note_round<P: Program>(
     alloc: Global,
     rest: &mut Rest<P>,

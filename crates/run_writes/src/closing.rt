@@ -1,6 +1,7 @@
 ghost use Rattle.std.specs.Prelude.{◌≡◌, ◌∷◌, ◌++◌, [], List, ℕ, IfOk, OnOk, IsTrue, IsErrOf};
 ghost use Rattle.world_io.specs.World.{Start, Shown, is_writable, WritingFailed};
-ghost use Rattle.output_files.specs.Writes.{Write, Appends, Reports, HasGathered, IsOutput, KeepsOutputs};
+ghost use Rattle.output_files.specs.Writes.{Write, Appends, Reports, HasGathered, IsOutput};
+ghost use Rattle.output_files.specs.Writes.{KeepsOutputs};
 ghost use Rattle.output_files.specs.Written.{Writes, OnlyWrites};
 ghost use Rattle.run_writes.specs.Run.{counts_line};
 

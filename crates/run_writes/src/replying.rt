@@ -1,4 +1,5 @@
-ghost use Rattle.std.specs.Prelude.{◌≡◌, ◌<◌, ◌≤◌, ◌^◌, ◌∷◌, ◌++◌, [], ℕ, All, List, length, IfOk, OnOk};
+ghost use Rattle.std.specs.Prelude.{◌≡◌, ◌<◌, ◌≤◌, ◌^◌, ◌∷◌, ◌++◌, [], ℕ, All, List, length, IfOk};
+ghost use Rattle.std.specs.Prelude.{OnOk};
 ghost use Rattle.std.specs.Prelude.{OnErr};
 ghost use Rattle.std.specs.Prelude.{IsTrue, IsErrOf};
 ghost use Rattle.plain_text.specs.Octets.{AreBytes};
@@ -6,7 +7,8 @@ ghost use Rattle.plain_text.specs.Packets.{IsShort};
 ghost use Rattle.pcap_io.specs.Capture.{record_of, records_of};
 ghost use Rattle.pcap_io.specs.declared.order.Order.TheVariants as order;
 ghost use Rattle.world_io.specs.World.{Start, Shown, is_writable, WritingFailed};
-ghost use Rattle.output_files.specs.Writes.{Write, Appends, Reports, HasGathered, IsOutput, KeepsOutputs};
+ghost use Rattle.output_files.specs.Writes.{Write, Appends, Reports, HasGathered, IsOutput};
+ghost use Rattle.output_files.specs.Writes.{KeepsOutputs};
 ghost use Rattle.output_files.specs.Written.{Writes, WritesGathered, OnlyWrites};
 ghost use Rattle.run_writes.specs.Replies.{packets_in};
 ghost use Rattle.run_writes.specs.Run.{FitsRecord, release_writes, reply_writes};

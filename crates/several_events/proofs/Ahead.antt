@@ -1,5 +1,6 @@
 -- A system that is ahead of the strategy goes on as the strategy does.
-use Rattle.std.proofs.Common.{◌≡◌, ℕ, zero, suc, ◌+◌, ◌<◌, ◌||◌, nat_lt, not, if◌then◌else◌, Bool, true, false, List, []}
+use Rattle.std.proofs.Common.{◌≡◌, ℕ, zero, suc, ◌+◌, ◌<◌, ◌||◌, nat_lt, not, if◌then◌else◌, Bool, true, false, List}
+use Rattle.std.proofs.Common.{[]}
 use Rattle.std.proofs.Common.{◌∷◌, length, Some, None, refl, sym, ap, ◌∙◌, subst, inl, inr, ◌⊎◌, Option, arith}
 use Rattle.plain_text.specs.declared.kind.Kind.{Kind}
 use Rattle.plain_text.specs.declared.kind.Kind.TheVariants as kind
@@ -20,7 +21,8 @@ use Rattle.recovery_world.specs.Many.{rests, first_of, at_rest, after_step, goes
 use Rattle.recovery_laws.specs.Sound.{Sound}
 use Rattle.recovery_laws.proofs.KeptWorlds.{within_sound}
 use Rattle.recovery_laws.proofs.Settlings.{Kept, log_keeps}
-use Rattle.early_arrivals.specs.Early.{with_held, IsEarly, IsSameSet, IsMoving, OfThread, OfPackets, MayArrive, GoesBehind}
+use Rattle.early_arrivals.specs.Early.{with_held, IsEarly, IsSameSet, IsMoving, OfThread, OfPackets, MayArrive}
+use Rattle.early_arrivals.specs.Early.{GoesBehind}
 use Rattle.early_arrivals.specs.Early.{LogsBehind}
 use Rattle.early_arrivals.proofs.EarlyRuns.{none_early, went, passes_back, logged, caught_up}
 use Rattle.system_parts.specs.Parts.{Parts}
@@ -36,7 +38,8 @@ use Rattle.recovery_world.specs.declared.event.Outcome.TheVariants as outcome
 use Rattle.output_releases.proofs.ReleasedLists.{releases_none, releases_then, releases_after}
 use Rattle.several_events.specs.declared.progress.Progress.{Progress}
 use Rattle.several_events.specs.declared.progress.Progress.TheVariants as progress
-use Rattle.several_events.specs.Progressing.{messages_from, after_turn, after_of, to_do, IsInPhase, IsOver, IsNext, Reaches}
+use Rattle.several_events.specs.Progressing.{messages_from, after_turn, after_of, to_do, IsInPhase, IsOver, IsNext}
+use Rattle.several_events.specs.Progressing.{Reaches}
 use Rattle.several_events.specs.Progressing.{Comes, StandsAt, Leads}
 use Rattle.several_events.specs.Ahead.{HasTurns, Performs, AllArrive, IsAhead, GoesAhead}
 use Rattle.several_events.proofs.Choices.{messages_same}
@@ -280,23 +283,25 @@ module _ {P V : Type 0} (m : Meaning V) (s : Setting V) (w : World V) (y : Parts
       → StandsFor m s early y → Sound s here → IsEarly here early → here.up ≡ true → Reaches from at s w here
       → (freed : List Sent) (mid next : World V) → OnWithin s early ev to freed mid → MayArrive s early mid next
       → GoesAhead from onward s w next
-  moving_on at left t moved onward ev to chosen is moving here early st h r up reach freed mid next on arrives = record {
-    here = gone.new;
-    reaches = reaches_on at onward here gone.new ev to freed reach (λ q i.
-        let c = chosen.chosen s early q st (phase_same s here early at q (early_past here early r)
-        (early_up here early r) i) in (
-          c.0,
-          sym (goes_early s here early q r) ∙ c.1,
-          c.2,
-          subst (λ (g : Progress). IsInPhase s gone.new g (c.0.leads_to to)) (sym is)
-              (phase_same s mid gone.new (after_of y.inputs.threads (progress.Steps left t moved) ev to)
-              (c.0.leads_to to) past ups (c.3 to freed mid on)),
-        )) gone.on;
-    sound = λ k. gone.sound;
-    ahead = inr (subst (λ (g : Progress). IsAhead s g gone.new next) (sym is)
-        (moving_ahead s gone.new next y.inputs.threads left t moved ev to moving gone.is_early
-        (ups ∙ (moving_up s early mid ev to freed moving on.0 ∙ (early_up here early r ∙ up)))));
-  }
+  moving_on at left t moved onward ev to chosen is moving here early st h r up reach freed mid next on arrives =
+      record {
+        here = gone.new;
+        reaches = reaches_on at onward here gone.new ev to freed reach
+            (λ q i.
+            let c = chosen.chosen s early q st
+            (phase_same s here early at q (early_past here early r) (early_up here early r) i) in (
+              c.0,
+              sym (goes_early s here early q r) ∙ c.1,
+              c.2,
+              subst (λ (g : Progress). IsInPhase s gone.new g (c.0.leads_to to)) (sym is)
+                  (phase_same s mid gone.new (after_of y.inputs.threads (progress.Steps left t moved) ev to)
+                  (c.0.leads_to to) past ups (c.3 to freed mid on)),
+            )) gone.on;
+        sound = λ k. gone.sound;
+        ahead = inr (subst (λ (g : Progress). IsAhead s g gone.new next) (sym is)
+            (moving_ahead s gone.new next y.inputs.threads left t moved ev to moving gone.is_early
+            (ups ∙ (moving_up s early mid ev to freed moving on.0 ∙ (early_up here early r ∙ up)))));
+      }
     where
       gone : GoesBehind s here ev to freed next
       gone = went s here early mid next ev to freed h st.sound r moving on arrives
@@ -319,7 +324,9 @@ module _ {P V : Type 0} (m : Meaning V) (s : Setting V) (w : World V) (y : Parts
 
     abbrev Done : Progress → World V → Type 0
     Done onward early =
-        (next : World V) × (GoesAhead from onward s w next × ReleasesInto before out early next) × StandsFor m s next new
+        (next : World V)
+        × (GoesAhead from onward s w next × ReleasesInto before out early next)
+        × StandsFor m s next new
 
     -- the system was not ahead, and may be now
     held_on : (at further onward : Progress) (ev : Event) (to : Outcome) → IsNext m y at ev further
@@ -336,7 +343,8 @@ module _ {P V : Type 0} (m : Meaning V) (s : Setting V) (w : World V) (y : Parts
         (subst (λ (e : Event). IsMoving e) (sym ev_is) (OfThread t None)) here here st st.sound (none_early here)
         (made_up s here mid t None to arrives.0 on.0.0 arrives.1) r [] mid next
         (subst (λ (e : Event). OnWithin s here e to [] mid) (sym ev_is) on) (inr arrives)
-    held_on at (progress.Arrives k u n) onward ev to chosen is turns here st r t ev_is mid next on arrives = absurd turns
+    held_on at (progress.Arrives k u n) onward ev to chosen is turns here st r t ev_is mid next on arrives =
+        absurd turns
     held_on at (progress.Chooses words left) onward ev to chosen is turns here st r t ev_is mid next on arrives =
         absurd turns
 
@@ -535,11 +543,11 @@ module _ {P V : Type 0} (m : Meaning V) (s : Setting V) (w : World V) (y : Parts
         doing
     ahead_done (progress.Steps left t moved) (progress.Arrives k u n) onward ev to chosen is leads here early st h a
         reach doing =
-        message_done (progress.Steps left t moved) u n onward ev to here early st h a.0 reach 0 0 (whole here h) k chosen
-        is leads (Steps left t moved) (refl, early_up here early a.0 ∙ a.1)
+        message_done (progress.Steps left t moved) u n onward ev to here early st h a.0 reach 0 0 (whole here h) k
+        chosen is leads (Steps left t moved) (refl, early_up here early a.0 ∙ a.1)
         (λ q c i goes e. first_steps left t moved u n here early k q c i goes e) doing
-    ahead_done (progress.Steps left t moved) (progress.Chooses words many) onward ev to chosen is leads here early st h a
-        reach doing = absurd leads
+    ahead_done (progress.Steps left t moved) (progress.Chooses words many) onward ev to chosen is leads here early st h
+        a reach doing = absurd leads
     ahead_done (progress.Arrives kind.Log t arrived) progress.Wakes onward ev to chosen is leads here early st h a reach
         doing = absurd leads
     ahead_done (progress.Arrives kind.Log t arrived) (progress.Steps more u was) onward ev to chosen is leads here early
@@ -549,11 +557,13 @@ module _ {P V : Type 0} (m : Meaning V) (s : Setting V) (w : World V) (y : Parts
         message_done (progress.Arrives kind.Log t arrived) u n onward ev to here early st h a.0 reach t arrived a.1 k
         chosen is leads (Arrives (messages_from s early kind.Log t arrived)) refl
         (λ q c i goes e. first_arrives t arrived u n here early (early_past here early a.0) k q c i goes e) doing
-    ahead_done (progress.Arrives kind.Log t arrived) (progress.Chooses words many) onward ev to chosen is leads here early
-        st h a reach doing = absurd leads
-    ahead_done (progress.Arrives kind.Out t arrived) further onward ev to chosen is leads here early st h a reach doing =
+    ahead_done (progress.Arrives kind.Log t arrived) (progress.Chooses words many) onward ev to chosen is leads here
+        early st h a reach doing = absurd leads
+    ahead_done (progress.Arrives kind.Out t arrived) further onward ev to chosen is leads here early st h a
+        reach doing =
         absurd a
-    ahead_done (progress.Chooses words left) further onward ev to chosen is leads here early st h a reach doing = absurd a
+    ahead_done (progress.Chooses words left) further onward ev to chosen is leads here early st h a reach doing =
+        absurd a
 
     pub goes_done : (at further onward : Progress) (ev : Event) (to : Outcome) → IsNext m y at ev further
         → onward ≡ after_of y.inputs.threads further ev to → (early : World V) → StandsFor m s early y
@@ -811,7 +821,8 @@ pub ahead_falls : {P V : Type 0} (m n : Meaning V) (old mid new : Parts P V) (fr
     → onward ≡ after_of mid.inputs.threads further ev to → StandsAt m old from
     → MovesOn m (Releasing list before (GoesAhead from at)) old mid
     → MovesOn n (Releasing before out (Performs further ev to)) mid new
-    → to_do new.inputs.threads (length new.left) new.moves onward < to_do mid.inputs.threads (length mid.left) mid.moves at
+    → to_do new.inputs.threads (length new.left) new.moves onward
+    < to_do mid.inputs.threads (length mid.left) mid.moves at
 ahead_falls {P} {V} m n old mid new from at further onward ev to list before out is chosen as_then begun a b =
     let s = begun.0 in
     let w = begun.1 in

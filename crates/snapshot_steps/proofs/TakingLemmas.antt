@@ -75,8 +75,8 @@ module _ {P V : Type 0} (m : Meaning V) (s : Setting V) (w : World V) (y : Parts
   -- one that is up is copied
   pub snaps : (store : Snapshots V) (moves n : ℕ) (counts : List ℕ) → y.up ≡ true
       → HasTaken s.meaning y.store.stored y.master moves store.copy → store.stored ≡ y.store.stored
-      → moves ≡ length y.schedule → HasCounts y.master.threads counts → length counts ≡ 16 → (sum counts < 2 ^ 64 → n ≡ sum counts)
-      → y.inputs.threads ≤ 16 → y.moves ≤ MOST_MOVES
+      → moves ≡ length y.schedule → HasCounts y.master.threads counts → length counts ≡ 16
+      → (sum counts < 2 ^ 64 → n ≡ sum counts) → y.inputs.threads ≤ 16 → y.moves ≤ MOST_MOVES
       → (next : World V)
       × ComesTo event.Snap (outcome.Copied n) s w next
       × StandsFor m s next (record y { store = store })

@@ -120,7 +120,8 @@ impl<P: Program> Rest<P> {
     }
 
     /// Takes note of a move that a thread of the master made while it was out, with what the thread was told, and sends
-    /// what it logged or sent out, as the frame in which it was kept if this is one of these links. After `NoMemory` the rest is of no use any more.
+    /// what it logged or sent out, as the frame in which it was kept if this is one of these links. After `NoMemory`
+    /// the rest is of no use any more.
     pub fn note(
         &mut self,
         thread: u32,

@@ -65,8 +65,8 @@ fn has_mappings(alloc: Global) -> Result<bool, NoMemory> {
     Ok(binds(&mut table)? && shows_mapping(alloc, &table, "tcp 10.0.0.5:5000 11 300000003")?)
 }
 
-/// Binds 200 endpoints after one of TCP, and 200 others when they are idle. Answers whether each of those made room, the
-/// first one first.
+/// Binds 200 endpoints after one of TCP, and 200 others when they are idle. Answers whether each of those made room,
+/// the first one first.
 fn bind_again(table: &mut Forward) -> Result<bool, NoMemory> {
     table.find_or_bind(&endpoint(6, 1), 1, 0)?;
     for port in 0..200 {

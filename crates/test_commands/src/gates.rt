@@ -7,8 +7,8 @@ use var_locks::Gate;
 /// How often a thread looks at most whether what it waits for has come.
 const TURNS: u32 = 100_000_000;
 
-/// Thread 0 about to touch variable 1, and thread 1 about to touch variable 2, wait for each other. Then thread 0, about
-/// to touch variable 0, waits until its first entry is taken.
+/// Thread 0 about to touch variable 1, and thread 1 about to touch variable 2, wait for each other. Then thread 0,
+/// about to touch variable 0, waits until its first entry is taken.
 ///
 /// So both threads move at the same time, each holds a variable of its own while the other does, and frames are taken
 /// while their thread still moves.

@@ -551,7 +551,8 @@ pub makes_next : {P V : Type 0} (meaning : P → Meaning V) (y old : Parts P V) 
     → MakesNext (meaning old.program) t given answer r old (record y { generator = g; master = q })
 makes_next {P} {V} meaning y old same t given answer g i r q calls = record {
   goes = λ res after n.
-      moved_on meaning y old after t given res same (keeps t answer r (record y { generator = g; master = q }) after res n)
+      moved_on meaning y old after t given res same
+      (keeps t answer r (record y { generator = g; master = q }) after res n)
       (λ s w st. step_goes (meaning y.program) y old same t given answer g i r q calls s w st res after n);
   stops = λ res after n limit is.
       stopped_at meaning y old after t given res limit same

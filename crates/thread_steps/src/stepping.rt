@@ -1,4 +1,5 @@
-ghost use Rattle.std.specs.Prelude.{◌≡◌, ◌<◌, ◌≤◌, ◌+◌, ℕ, IfOk, OnOk, OnErr, Some, Err, length, true};
+ghost use Rattle.std.specs.Prelude.{◌≡◌, ◌<◌, ◌≤◌, ◌+◌, ℕ, IfOk, OnOk, OnErr, Some, Err, length};
+ghost use Rattle.std.specs.Prelude.{true};
 ghost use Rattle.std.specs.Option.{unwrap_or};
 ghost use Rattle.random_words.specs.Words.{generator_after};
 ghost use Rattle.plain_text.specs.declared.limit.Limit.{Limit as LimitKind};
@@ -212,8 +213,8 @@ pub fn note<P: Program>(
     }
 }
 
-/// Takes note of a move that was kept: of what its call showed. What it logged or sent out is sent as the frame in which
-/// it is kept.
+/// Takes note of a move that was kept: of what its call showed. What it logged or sent out is sent as the frame in
+/// which it is kept.
 pub fn note_kept<P: Program>(
     core: &mut Core<P>,
     thread: u32,

@@ -37,14 +37,16 @@ returns-in-Ok-clause-in_order g c p q =
     let q1 = c.play_box.ensures.before p q in
     play_in_order (g.W.World.healthy c.args.world.now) (play_names_of c.args.names) c.in-Ok.inputs _ _ _
     (c.in-Ok.ensures.keeps p q1) (c.in-Ok.ensures.judged p q1)
-    (elim (c.play_box.ensures.in_order p q) [ inl same ↦ inl (ap (λ w. g.W.World.shows p w) (sym same)) | inr begun ↦ inr begun ])
+    (elim (c.play_box.ensures.in_order p q)
+    [ inl same ↦ inl (ap (λ w. g.W.World.shows p w) (sym same)) | inr begun ↦ inr begun ])
 
 pub returns-in-Ok-clause-refused : goal.returns-in-Ok-clause-refused
 returns-in-Ok-clause-refused g c p q e =
     let q1 = c.play_box.ensures.before p q in
     play_refused (g.W.World.healthy c.args.world.now) (play_names_of c.args.names) c.in-Ok.inputs _ _ _
     (c.in-Ok.ensures.keeps p q1) (c.in-Ok.ensures.judged p q1) c.play_box.result
-    (ap stage_of (sym c.play_outcome.ensures) ∙ e) (λ x is. ap (λ w. g.W.World.shows p w) (sym (c.play_box.ensures.refused x is)))
+    (ap stage_of (sym c.play_outcome.ensures) ∙ e)
+    (λ x is. ap (λ w. g.W.World.shows p w) (sym (c.play_box.ensures.refused x is)))
 
 pub returns-in-Ok-clause-creates_nothing : goal.returns-in-Ok-clause-creates_nothing
 returns-in-Ok-clause-creates_nothing g c e =

@@ -1,7 +1,8 @@
 use Rattle.std.proofs.Common.{ap, sym, subst, ◌∙◌, Some}
 use Rattle.job_commands.specs.declared.status.Status.{Status}
 use Rattle.job_commands.specs.Status.{IsRefusal, stage_of}
-use Rattle.job_commands.specs.Words.{asked_of, check_names, check_names_of, live_names, live_names_of, made_of, make_names}
+use Rattle.job_commands.specs.Words.{asked_of, check_names, check_names_of, live_names, live_names_of, made_of}
+use Rattle.job_commands.specs.Words.{make_names}
 use Rattle.job_commands.specs.Words.{names_of, play_names, play_names_of, run_names}
 use Rattle.job_commands.proofs.Outcomes.{made_completes, made_refuses, made_not_at_inputs}
 use Rattle.job_commands.proofs.OneVerdict.{run_completes}

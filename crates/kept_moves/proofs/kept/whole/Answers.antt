@@ -21,4 +21,5 @@ returns-in-Sent c =
     let f = frame.Output c.args.epoch c.args.threads (output_in c.in-Sent.thread c.in-Sent.number c.in-Sent.frame) in
     let same : c.in-Sent.frame ≡ c.as_slice-in-Sent.result.now = cc in
     let is = subst (λ (q : List ℕ). IsFrame q f) same kept.0.is in
-    IfOk-weaker c.told_in-in-Sent.result _ _ (λ r told. told f is ∙ sym (ap shown c.in-Sent.is)) c.told_in-in-Sent.ensures
+    IfOk-weaker c.told_in-in-Sent.result _ _ (λ r told. told f is ∙ sym (ap shown c.in-Sent.is))
+    c.told_in-in-Sent.ensures

@@ -51,15 +51,16 @@ loop-frame-preserved g c =
           let earlier = c.in_ok-tell.ensures.before p honest in
           let so = inv.told p earlier s names events w before apart is lived in
           let first = arrival_events (take i frames) in
-          over_same {A = ⊤} (Ok tt) _ _ s names w events _ _ c.tell.new.system c.tell.new.lines c.tell.new.script before _
-          refl (arrivals_on frames i c.frame-item.result c.arrival_of-event.result low c.frame-item.is
+          over_same {A = ⊤} (Ok tt) _ _ s names w events _ _ c.tell.new.system c.tell.new.lines c.tell.new.script before
+          _ refl
+          (arrivals_on frames i c.frame-item.result c.arrival_of-event.result low c.frame-item.is
           c.arrival_of-event.ensures)
           (over_append {A = ⊤} s names w events first (c.arrival_of-event.result ∷ []) before (Ok tt) _ _ so.0
           c.tell.new.system c.tell.new.lines c.tell.new.script _ same so.1
           (c.in_ok-tell.ensures.told p honest s names (events ++ first) so.0 before apart
           (still_open names _ _ _ _ _ (inv.keeps p earlier) is)
-          (lived_same _ _ s names _ _ so.0 c.loop-frame.system c.loop-frame.lines c.loop-frame.script before _ (sym same)
-          refl so.2)));
+          (lived_same _ _ s names _ _ so.0 c.loop-frame.system c.loop-frame.lines c.loop-frame.script before _
+          (sym same) refl so.2)));
     }
 
 pub returns-in_err-tell-clause-told : goal.returns-in_err-tell-clause-told
@@ -90,6 +91,6 @@ returns-in_err-tell-clause-told g c p honest s names events w before apart is li
 
 pub returns-clause-told : goal.returns-clause-told
 returns-clause-told g c p honest s names events w before apart is lived =
-    over_same {A = ⊤} (Ok tt) _ _ s names w events _ _ c.loop-frame.system c.loop-frame.lines c.loop-frame.script before _ refl
-    (arrivals_all c.args.frames.now c.loop-frame.frame-index (omega arith))
+    over_same {A = ⊤} (Ok tt) _ _ s names w events _ _ c.loop-frame.system c.loop-frame.lines c.loop-frame.script before
+    _ refl (arrivals_all c.args.frames.now c.loop-frame.frame-index (omega arith))
     (c.loop-frame.invariant.told p honest s names events w before apart is lived)

@@ -54,8 +54,8 @@ returns-in-Ok-clause-told g c p honest s names events w asked before same apart 
     c.requires.up c.tell_round.result c.tell_round.new.lines c.tell_round.new.script before
     (g.W.World.shows p c.tell_round.new.world) (drawn_on c.tell_round.result _ c.tell_round.ensures.given)
     (subst (λ (k : Meaning _). GoesRace c.tell_round.result k s names rounds.0 events (events_noted done.steps.items)
-    done.arriving.items (standing_in c.tell_round.result done.system) c.tell_round.new.lines c.tell_round.new.script before
-    (g.W.World.shows p c.tell_round.new.world)) is
+    done.arriving.items (standing_in c.tell_round.result done.system) c.tell_round.new.lines c.tell_round.new.script
+    before (g.W.World.shows p c.tell_round.new.world)) is
     (c.tell_round.ensures.told p honest s names events w rounds.0 before apart opened lived.told rounds.1.performs
     (subst (λ (k : Meaning _). IsSystemAt k s rounds.0 done.system) (sym is) at) lived.few))
 
@@ -63,10 +63,12 @@ pub returns-in_err-tell_stop-in-Err-Limit-clause-told : goal.returns-in_err-tell
 returns-in_err-tell_stop-in-Err-Limit-clause-told g c p honest s names events w asked before same apart opened lived =
     let e = c.in_err-tell_stop-in-Err-Limit.field-0.0 in
     let made : c.from_residual.result ≡ Err e = search rules in
-    stopped_round _ s names _ w asked _ events _ e _ _ before _ made (sym lived.at.stands.parts.master.up ∙ c.requires.up)
+    stopped_round _ s names _ w asked _ events _ e _ _ before _ made
+    (sym lived.at.stands.parts.master.up ∙ c.requires.up)
     (c.in_err-tell_stop-in-Err-Limit.ensures.told p honest s names events w c.in-Err-Limit.limit before apart
     opened.script lived.told
-    (subst (λ (l : List Noted). StopsAtStep s w c.in-Err-Limit.limit l c.in-Err-Limit.next) (sym c.as_slice-steps.ensures.value)
+    (subst (λ (l : List Noted). StopsAtStep s w c.in-Err-Limit.limit l c.in-Err-Limit.next)
+    (sym c.as_slice-steps.ensures.value)
     (subst (λ (stop : RoundStop). StopsRound s w stop) c.in-Err-Limit.field-0-is
     (c.in-Err-Limit.ensures.stops s w lived.at.stands))))
 

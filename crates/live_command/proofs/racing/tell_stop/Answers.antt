@@ -46,12 +46,13 @@ returns-clause-told g c p honest s names events w limit before apart is h stops 
     let opened = c.in_ok-tell_steps.ensures.keeps p earlier _ _ is in
     let here = c.in_ok-tell_steps.ensures.told p earlier s names events w stops.2.there before apart is h
     stops.2.performs in
-    let added : HasTold s names part (part ++ event.Step next.thread next.answer ∷ []) stops.2.there c.add_line.new.lines
-    c.add_line.new.script before mid =
-    subst (λ (ev : Event). HasTold s names part (part ++ ev ∷ []) stops.2.there c.add_line.new.lines
-    c.add_line.new.script before mid) same
+    let added : HasTold s names part (part ++ event.Step next.thread next.answer ∷ []) stops.2.there
+    c.add_line.new.lines c.add_line.new.script before mid =
+    subst (λ (ev : Event).
+    HasTold s names part (part ++ ev ∷ []) stops.2.there c.add_line.new.lines c.add_line.new.script before mid) same
     (c.in_ok-add_line.ensures.told p later s names part stops.2.there before apart opened here) in
-    flushed s names w limit events steps next stops.0 stops.1 stops.2 before _ c.flush-files.result _ _ _ c.written.ensures
+    flushed s names w limit events steps next stops.0 stops.1 stops.2 before _ c.flush-files.result _ _ _
+    c.written.ensures
     (c.flush-files.ensures.told p honest s names part _ stops.2.there before apart
     (c.in_ok-add_line.ensures.keeps p later _ _ opened) added) c.flush-files.ensures.no_lines
     c.flush-files.ensures.no_text

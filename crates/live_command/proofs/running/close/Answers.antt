@@ -17,13 +17,12 @@ returns-clause-told g c p honest s names events w before apart is lived =
     let k = kept.told p earlier s names events events w c.args.lines.now before apart is.script lived.told in
     let few = subst (λ (n : ℕ). n ≤ most_events) (sym kept.count) c.requires.few in
     let short = subst (λ (n : ℕ). n ≤ most_bytes) (sym kept.size) c.requires.short in
-    rw c.written.ensures
-    (ends (g.P.Program.meaning c.args.system.parts.program) s names apart events w c.args.system before c.args.lines.now c.write_script.new.script _ k kept.none few short
-    _ c.close_run-ended.result
+    rw c.written.ensures (ends (g.P.Program.meaning c.args.system.parts.program) s names apart events w c.args.system
+    before c.args.lines.now c.write_script.new.script _ k kept.none few short _ c.close_run-ended.result
     (c.close_run-ended.ensures.shows p honest s names.outputs events (holding names.script k.written before)
     (kept.keeps p earlier _ _ is.schedule)
-    (come_beside (g.P.Program.meaning c.args.system.parts.program) s names apart events w c.args.system before c.args.lines.now c.write_script.new.script _ k kept.none
-    lived.at)))
+    (come_beside (g.P.Program.meaning c.args.system.parts.program) s names apart events w c.args.system before
+    c.args.lines.now c.write_script.new.script _ k kept.none lived.at)))
 
 pub returns-clause-only_writes : goal.returns-clause-only_writes
 returns-clause-only_writes g c =

@@ -27,18 +27,18 @@ plan_same {V} r s may plan other names old new same h =
 
 pub returns-in_err-draws-clause-in_order : goal.returns-in_err-draws-clause-in_order
 returns-in_err-draws-clause-in_order g c p honest =
-    opens_in_order (setting_of (g.P.Program.meaning c.args.program) c.args.run) c.args.run.plan (names_of c.args.files) _ _
-    (begun_none _ _)
+    opens_in_order (setting_of (g.P.Program.meaning c.args.program) c.args.run) c.args.run.plan (names_of c.args.files)
+    _ _ (begun_none _ _)
 
 pub returns-in_err-system-clause-in_order : goal.returns-in_err-system-clause-in_order
 returns-in_err-system-clause-in_order g c p honest =
-    opens_in_order (setting_of (g.P.Program.meaning c.args.program) c.args.run) c.args.run.plan (names_of c.args.files) _ _
-    (begun_none _ _)
+    opens_in_order (setting_of (g.P.Program.meaning c.args.program) c.args.run) c.args.run.plan (names_of c.args.files)
+    _ _ (begun_none _ _)
 
 pub returns-in-Err-clause-in_order : goal.returns-in-Err-clause-in_order
 returns-in-Err-clause-in_order g c p honest =
-    opens_in_order (setting_of (g.P.Program.meaning c.args.program) c.args.run) c.args.run.plan (names_of c.args.files) _ _
-    (c.in-Err.ensures.shows p honest)
+    opens_in_order (setting_of (g.P.Program.meaning c.args.program) c.args.run) c.args.run.plan (names_of c.args.files)
+    _ _ (c.in-Err.ensures.shows p honest)
 
 pub run_standing-requires-clause-somewhere : goal.run_standing-requires-clause-somewhere
 run_standing-requires-clause-somewhere g c κs within =

@@ -19,8 +19,8 @@ returns-clause-told g c p honest s names before draws apart is at few w =
     (still_open names _ _ _ _ _ (c.in_ok-system.ensures.keeps p earlier) is)
     (lived_same _ _ s names went.0 went.0 went.1 _ _ _ before _
     (ap g.P.Program.meaning (sym c.in_ok-system.ensures.program)) refl went.3) in
-    runs_to_end s (g.C.Clock.may c.args.clock.now) c.args.plan.now names before _ c.close.result c.close.ensures.no_limit
-    went.0 went.1 _ went.2 ended
+    runs_to_end s (g.C.Clock.may c.args.clock.now) c.args.plan.now names before _ c.close.result
+    c.close.ensures.no_limit went.0 went.1 _ went.2 ended
 
 pub returns-clause-only_writes : goal.returns-clause-only_writes
 returns-clause-only_writes g c =

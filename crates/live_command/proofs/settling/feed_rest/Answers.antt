@@ -42,8 +42,8 @@ returns-clause-told g c p honest s names events w before apart is lived =
     let same = ap g.P.Program.meaning c.in_ok-tell.ensures.program in
     let m = g.P.Program.meaning c.args.system.now.parts.program in
     let woken = c.in_ok-tell.ensures.told p earlier s names events w before apart is lived in
-    fed_woken m s names w events before c.tell-3.result c.left-left.result woken.0 c.tell-3.new.system c.tell-3.new.lines
-    c.tell-3.new.script _ (c.left-left.ensures s w stands)
+    fed_woken m s names w events before c.tell-3.result c.left-left.result woken.0 c.tell-3.new.system
+    c.tell-3.new.lines c.tell-3.new.script _ (c.left-left.ensures s w stands)
     (sym (c.up.ensures c.requires.runs s w stands) ∙ c.if-up.false) woken.1
     (over_same c.tell-3.result _ m s names woken.0 (events ++ event.Recover ∷ []) _ _ c.tell-3.new.system
     c.tell-3.new.lines c.tell-3.new.script before _ same refl

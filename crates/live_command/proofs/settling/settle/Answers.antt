@@ -76,7 +76,8 @@ arrive_last-requires-clause-somewhere g c κs within =
 pub returns-clause-somewhere : goal.returns-clause-somewhere
 returns-clause-somewhere g c =
     if_same c.arrive_last.result _ _
-    (ap g.P.Program.meaning (c.in_ok-ran.ensures.program ∙ c.in_default.ensures.program)) c.arrive_last.ensures.somewhere
+    (ap g.P.Program.meaning (c.in_ok-ran.ensures.program ∙ c.in_default.ensures.program))
+    c.arrive_last.ensures.somewhere
 
 pub returns-clause-only_writes : goal.returns-clause-only_writes
 returns-clause-only_writes g c =

@@ -3,4 +3,5 @@ use Rattle.release_taps.proofs.seat.show_each.Given as goal
 
 abbrev pub invariant-loop-seat : goal.invariant-loop-seat
 invariant-loop-seat g l =
-    AreShownTo g.T.Tap.tells g.T.Tap.seen g.T.Tap.fault_count g.T.Tap.lack_count l.piece l.seat-index l.initial.seats l.seats
+    AreShownTo g.T.Tap.tells g.T.Tap.seen g.T.Tap.fault_count g.T.Tap.lack_count l.piece l.seat-index
+    l.initial.seats l.seats

@@ -12,10 +12,10 @@ loop-turn-init g c = record {
   program = refl;
   can = c.requires.draws;
   went = λ s w new drawn draws rests up pending.
-      subst (λ l. Went (g.P.Program.meaning c.args.rest.now.program) s w c.args.moves.now.items (reverse c.args.turns.now)
-      drawn new l c.args.rest.now) (sym c.requires.none)
-      (went_none (g.P.Program.meaning c.args.rest.now.program) s w c.args.moves.now.items (reverse c.args.turns.now) drawn
-      new c.args.rest.now draws rests up pending);
+      subst (λ l. Went (g.P.Program.meaning c.args.rest.now.program) s w c.args.moves.now.items
+      (reverse c.args.turns.now) drawn new l c.args.rest.now) (sym c.requires.none)
+      (went_none (g.P.Program.meaning c.args.rest.now.program) s w c.args.moves.now.items (reverse c.args.turns.now)
+      drawn new c.args.rest.now draws rests up pending);
 }
 
 pub index_mut-requires : goal.index_mut-requires

@@ -41,7 +41,8 @@ returns-in_err-perform_events-clause-shows g c p h s unit at =
     let h0 = c.in_err-perform_events.ensures.before p h in
     let names = names_of c.args.files in
     let made : c.from_residual-in_err-perform_events.result ≡ Err c.in_err-perform_events.field-0.0 = search rules in
-    let first = opens _ s names c.args.system.now _ _ _ _ c.requires.none at unit (c.in_ok-outputs.ensures.shows p h0) in
+    let first =
+    opens _ s names c.args.system.now _ _ _ _ c.requires.none at unit (c.in_ok-outputs.ensures.shows p h0) in
     same_error _ c.in_err-perform_events.field-0.0 _ s names _ _ _ _ _ made
     (c.in_err-perform_events.ensures.shows p h s names _ (c.in_ok-outputs.ensures.released p h0) first)
 
@@ -49,7 +50,8 @@ pub returns-clause-shows : goal.returns-clause-shows
 returns-clause-shows g c p h s unit at =
     let h0 = c.in_ok-perform_events.ensures.before p h in
     let names = names_of c.args.files in
-    let first = opens _ s names c.args.system.now _ _ _ _ c.requires.none at unit (c.in_ok-outputs.ensures.shows p h0) in
+    let first =
+    opens _ s names c.args.system.now _ _ _ _ c.requires.none at unit (c.in_ok-outputs.ensures.shows p h0) in
     c.in_ok-perform_events.ensures.shows p h s names _ (c.in_ok-outputs.ensures.released p h0) first
 
 pub returns-clause-schedule : goal.returns-clause-schedule
