@@ -1,0 +1,41 @@
+-- What the top call promises of words, from the world before to the world after.
+use Rattle.std.specs.Prelude.{◌≡◌, ◌+◌, ◌≤◌, ◌↔◌, ℕ, List, None}
+use Rattle.plain_text.specs.declared.limit.Limit.{Limit}
+use Rattle.world_io.specs.Stream.{Rose}
+use Rattle.world_io.specs.World.{Start, Shown, Ledger}
+use Rattle.run_writes.specs.Run.{KeepsShown}
+use Rattle.job_commands.specs.declared.status.Status.{Status}
+use Rattle.job_commands.specs.declared.status.Status.TheVariants.{BadWords, Done, ReadFault, TooLarge, WriteFault}
+use Rattle.job_commands.specs.Status.{AtInputs, IsRefusal}
+use Rattle.job_commands.specs.Words.{IfAsks, asked}
+use Rattle.job_top.specs.Commands.{AcceptsInputsOf, CompletesAs, JudgesInputsOf, KeepsNames, Leaves, LeavesInOrder}
+use Rattle.job_top.specs.Commands.{StopsAtLimit, stage_in}
+use Rattle.job_top.specs.Headline.{KeepsPromiseOf}
+
+-- what is said of the bytes, by one beginning of which the answers were honest
+pub record AnswersBytes (healthy : Type 0) (may : ℕ → Type 0) (words : List (List ℕ)) (status : Status)
+    (old new : Shown) : Type 0 where
+  -- what Done leaves, and the promise
+  pub done : status ≡ Done → IfAsks words (λ command. Leaves may command old new)
+  pub headline : status ≡ Done → IfAsks words (λ command. KeepsPromiseOf command old new)
+  -- what any other answer leaves
+  pub limit : (limit : Limit) → status ≡ TooLarge limit → IfAsks words (λ command. StopsAtLimit command limit old new)
+  pub in_order : IfAsks words (λ command. LeavesInOrder command old new)
+  pub refused : IfAsks words (λ command. stage_in command status ≡ AtInputs → KeepsShown old new)
+  pub others : IfAsks words (λ command. KeepsNames command old new)
+  -- the cause of each answer, and when the command is done
+  pub judged : IfAsks words (λ command. JudgesInputsOf healthy command status old)
+  pub completes : healthy → IfAsks words (λ command. AcceptsInputsOf command old → CompletesAs command status)
+
+-- Each clause of the top call, for a world of which these are the four views.
+pub record Answers {W : Type 0} (honest : Start → W → Type 0) (shows : Start → W → Shown) (ledger : W → Ledger)
+    (healthy : W → Type 0) (may : ℕ → Type 0) (words : List (List ℕ)) (status : Status) (old new : W) : Type 0 where
+  pub bad_words : status ≡ BadWords ↔ asked words ≡ None
+  pub nothing_asked : status ≡ BadWords → new ≡ old
+  pub bytes : (p : Start) → honest p new → AnswersBytes (healthy old) may words status (shows p old) (shows p new)
+  pub creates_nothing : IsRefusal status → (ledger new).created ≡ (ledger old).created
+  pub never_fails : healthy old → ¬ (status ≡ WriteFault)
+  pub read_fault : status ≡ ReadFault → Rose (ledger old).read_faults (ledger new).read_faults
+  pub write_fault : status ≡ WriteFault → Rose (ledger old).write_faults (ledger new).write_faults
+  pub given : (ledger new).given ≤ (ledger old).given + 6
+  pub before : (p : Start) → honest p new → honest p old
