@@ -14,14 +14,6 @@ use Rattle.command_line.specs.declared.request.Request.{Request}
 use Rattle.command_line.specs.declared.request.Request.TheVariants.{Command}
 use Rattle.command_line.specs.Words.{words_of}
 
-pub no_command : {Y Z E : Type 0} (arguments : Result (IntoIter (String Y) Z) E) (texts words : List (List ℕ))
-    (s : Status) → IfOk arguments (λ all. texts ≡ words_of all) → words ≡ texts
-    → (asked words ≡ None → asked_text words ≡ None → s ≡ BadWords)
-    → IfOk arguments
-    (λ all. asked (words_of all) ≡ None → asked_text (words_of all) ≡ None → (s ≡ BadWords) ⊎ (s ≡ NoMemory))
-no_command (Ok all) texts words s same copied none =
-    λ command text. inl (none (ap asked (copied ∙ same) ∙ command) (ap asked_text (copied ∙ same) ∙ text))
-no_command (Err error) texts words s same copied none = tt
 
 -- Of help and version: what the status is.
 
@@ -32,17 +24,7 @@ any_text (Some text) X x = x
 pub no_text : (words : List (List ℕ)) (X : Type 0) → request_of words ≡ Command → IfSome (asked_text words) (λ it. X)
 no_text words X is = subst (λ (r : Request). IfSome (text_for r) (λ it. X)) (sym is) tt
 
-pub text_of_words : {Y Z E : Type 0} (arguments : Result (IntoIter (String Y) Z) E) (texts words : List (List ℕ))
-    (X : Type 0) → IfOk arguments (λ all. texts ≡ words_of all) → words ≡ texts → IfSome (asked_text words) (λ it. X)
-    → IfOk arguments (λ all. IfSome (asked_text (words_of all)) (λ it. X))
-text_of_words (Ok all) texts words X same copied h =
-    subst (λ (l : List (List ℕ)). IfSome (asked_text l) (λ it. X)) (copied ∙ same) h
-text_of_words (Err error) texts words X same copied h = tt
 
-pub any_arguments : {A E : Type 0} (arguments : Result A E) (text : A → Option (List ℕ)) (X : Type 0)
-    → IfOk arguments (λ all. X) → IfOk arguments (λ all. IfSome (text all) (λ it. X))
-any_arguments (Ok all) text X x = any_text (text all) X x
-any_arguments (Err error) text X x = tt
 
 pub printed_refuses : (s : Status) → (s ≡ Done) ⊎ ((s ≡ WriteFault) ⊎ (s ≡ NoMemory)) → IsRefusal s → ⊥
 printed_refuses s (inl is) e = subst (λ (s : Status). IsRefusal s) is e

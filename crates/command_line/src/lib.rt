@@ -9,13 +9,15 @@ mod answering;
 mod ending;
 mod program;
 mod request;
+mod running;
 mod usage;
 mod words;
 
-pub use answering::{answer, perform};
+pub use answering::perform;
 pub use ending::exit_of;
 pub use job_commands::StatusText;
 pub use program::run_program;
 pub use request::{Request, read_request};
+pub use running::run_words;
 pub use usage::{help, version};
 pub use words::read_words;

@@ -1,7 +1,7 @@
 ghost use Rattle.std.specs.Prelude.{◌≡◌, ◌≤◌, ◌⊎◌};
 ghost use Rattle.std.specs.Process.{exit_status};
 
-use crate::{answer, exit_of};
+use crate::{exit_of, read_words, run_words};
 use job_commands::{Status, StatusText};
 use std::env;
 use std::process::ExitCode;
@@ -9,16 +9,11 @@ use std::rt::{self, Env, Files};
 use std::sync::Wait;
 use std::thread::Threads;
 use var_locks::OpenGate;
-use world_real::{RealClock, RealWorld};
-use world_told::Told;
+use world_real::RealClock;
 
-/// The program: performs what its arguments ask for over the files of the system, by its clock and
-/// on its threads, tells what was not done, and ends with the number of the status, which is 7 at
+/// The program: does what its arguments ask for over the files of the system, by its clock and on
+/// its threads, tells what was not done, and ends with the number of the status, which is 7 at
 /// most.
-///
-/// The files stand in a world with a record of its calls. So what `answer` promises by a beginning
-/// holds of the program: whatever bytes stood under the names when it began, if the system answered
-/// its reads as files with those bytes do.
 #[tactic(auto, using(crate::proofs::ExitCodes::most_exit_code))]
 pub fn run_program<
     R: Env
@@ -39,8 +34,10 @@ pub fn run_program<
         return exit_of(tell(rt, Status::NoMemory));
     };
     let clock = RealClock::new(own);
-    let mut world = Told::of(RealWorld::new(rt.alloc(), rt));
-    let status = answer(rt, env::args(rt), &mut world, &clock, &OpenGate);
+    let status = match read_words(rt.alloc(), env::args(rt)) {
+        Ok(words) => run_words(rt, words.as_slice(), &clock, &OpenGate),
+        Err(status) => status,
+    };
     exit_of(tell(rt, status))
 }
 

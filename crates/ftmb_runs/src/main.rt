@@ -19,8 +19,6 @@ use std::thread::Threads;
 use std::{env, fs, io};
 use var_locks::OpenGate;
 use world_io::FixedClock;
-use world_real::RealWorld;
-use world_told::Told;
 
 /// What the clock answers in each session, in microseconds.
 const TIME: u64 = 100_000_006;
@@ -40,8 +38,10 @@ fn run<R: AllocGlobal + Files + Print + Threads + Wait + Sync>(
     words: &str,
 ) -> io::Result<()> {
     let arguments = arguments(rt.alloc(), words)?;
-    let mut world = Told::of(RealWorld::new(rt.alloc(), rt));
-    let status = answer(rt, Ok(arguments), &mut world, &FixedClock(TIME), &OpenGate);
+    let status = match read_words(rt.alloc(), Ok(arguments)) {
+        Ok(words) => run_words(rt, words.as_slice(), &FixedClock(TIME), &OpenGate),
+        Err(status) => status,
+    };
     let number = status.exit_code();
     println!(rt; "{number}: {}", StatusText(status))
 }

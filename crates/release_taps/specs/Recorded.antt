@@ -1,6 +1,7 @@
 -- A tap in memory, as plain data, and what showing does to it.
-use Rattle.std.specs.Prelude.{◌≡◌, ℕ, ◌+◌, ◌<◌, List, ◌++◌, Option, Some, None, length}
+use Rattle.std.specs.Prelude.{◌≡◌, ℕ, ◌+◌, ◌<◌, List, ◌++◌, Option, Some, None, length, ⊤}
 use Rattle.world_io.specs.Calls.{counted}
+use Rattle.release_taps.specs.Seats.{AllFresh}
 use Rattle.release_taps.specs.declared.tap.Shown.{Shown}
 use Rattle.release_taps.specs.declared.tap.Shown.TheVariants.{Took, Failed, NoMemory}
 
@@ -24,3 +25,7 @@ Records old piece Failed new =
     IsPast old.limit (length old.bytes + length piece) × (new ≡ record old { faults = counted old.faults })
 Records old piece NoMemory new =
     ¬ IsPast old.limit (length old.bytes + length piece) × (new ≡ record old { lacks = counted old.lacks })
+
+-- taps in memory that were shown nothing
+abbrev pub AreUnused : List Recorded → Type 0
+AreUnused taps = AllFresh {T = Recorded} (λ _. ⊤) (λ t. t.bytes) (λ t. t.faults) (λ t. t.lacks) taps

@@ -23,7 +23,7 @@ released_place = 4
 
 -- the name of the released capture that the run line behind this many pairs has
 abbrev pub released_name : ℕ → List (List ℕ) → List ℕ
-released_name pairs words = slice_index_or [] words (2 * pairs + released_place)
+released_name pairs words = slice_index_or words (2 * pairs + released_place) []
 
 -- no other word is the one at this place
 abbrev pub IsAlone : List (List ℕ) → ℕ → Type 0

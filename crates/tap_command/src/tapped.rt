@@ -1,7 +1,7 @@
 ghost use Rattle.std.specs.Prelude.{◌≡◌, ◌<◌, ◌*◌, ◌^◌, ℕ, false, length, IfOk};
 ghost use Rattle.release_taps.specs.Mirrored.{IsMirroring};
 ghost use Rattle.release_taps.specs.Seats.{AllFresh};
-ghost use Rattle.tap_command.specs.Answers.{Answers};
+ghost use Rattle.job_top.specs.Answers.{Answers};
 ghost use Rattle.tap_command.specs.Split.{AsksForTaps, behind_pairs, released_name};
 
 use job_commands::Status;

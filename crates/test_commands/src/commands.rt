@@ -32,7 +32,7 @@ pub enum Fault {
 }
 
 /// Makes a call fail in a world.
-fn add_fault(world: &mut MemoryWorld, fault: Fault) -> Result<(), NoMemory>
+pub fn add_fault(world: &mut MemoryWorld, fault: Fault) -> Result<(), NoMemory>
     ensures { length world.new.files ≡ length world.old.files }
 {
     match fault {

@@ -1,25 +1,20 @@
 //! How the program ends where no session can lead it.
-use command_line::{StatusText, answer};
+use command_line::{StatusText, read_words};
 use job_top::Status;
 use plain_text::{Limit, NoMemory};
 use std::alloc::Global;
 use std::io;
-use std::sync::Wait;
 use std::test::Fail;
-use std::thread::Threads;
-use var_locks::OpenGate;
-use world_io::{FixedClock, MemoryWorld};
 
 /// What the program comes to where std gives no arguments, since one of them is not UTF-8.
-fn answer_to_none<R: AllocGlobal + Threads + Wait + Sync>(rt: &R) -> Result<Status, NoMemory> {
-    let mut world = MemoryWorld::new(rt.alloc())?;
+fn refusal_of_none(alloc: Global) -> Option<Status> {
     let none = io::Error::from(io::ErrorKind::InvalidData);
-    Ok(answer(rt, Err(none), &mut world, &FixedClock(0), &OpenGate))
+    read_words(alloc, Err(none)).err()
 }
 
 #[test]
 fn a_word_that_is_not_text_is_a_bad_word(rt: HostRuntime) -> Result<(), Fail> {
-    assert!(rt; answer_to_none(&rt)? == Status::BadWords);
+    assert!(rt; refusal_of_none(rt.alloc()) == Some(Status::BadWords));
     Ok(())
 }
 

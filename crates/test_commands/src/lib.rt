@@ -20,3 +20,5 @@ mod large;
 mod limits;
 #[cfg(test)]
 mod plans;
+#[cfg(test)]
+mod taps;

@@ -1,5 +1,5 @@
 ghost use Rattle.std.specs.Prelude.{◌≡◌, length, OnOk};
-ghost use Rattle.test_taps.specs.Taps.{AreNew};
+ghost use Rattle.release_taps.specs.Recorded.{AreUnused};
 
 use plain_text::{NoMemory, Text};
 use release_taps::{MemoryTap, Seat, Seating, Shown, Tap, TapWorld, Untapped};
@@ -9,8 +9,8 @@ use world_io::{MemoryWorld, World, WorldSink, write_all};
 
 /// Adds a tap that fails past this many bytes.
 fn add_tap(alloc: Global, taps: &mut Vec<MemoryTap>, fail_past: Option<u64>) -> Result<(), NoMemory>
-    requires { AreNew taps.old.items }
-    ensures { OnOk result (AreNew taps.new.items) }
+    requires { AreUnused taps.old.items }
+    ensures { OnOk result (AreUnused taps.new.items) }
 {
     taps.push(MemoryTap::new(alloc, fail_past)?)?;
     Ok(())
@@ -35,7 +35,7 @@ fn tapped<S: Seating>(
     taps: Vec<MemoryTap>,
 ) -> Result<Untapped<MemoryWorld, MemoryTap>, NoMemory>
     requires empty { length world.files ≡ 0 }
-    requires fresh { AreNew taps.items }
+    requires fresh { AreUnused taps.items }
     requires name { name ≡ S.file_name }
     requires count { length taps.items ≡ S.seat_count }
 {
@@ -52,7 +52,7 @@ fn untapped(
     taps: Vec<MemoryTap>,
 ) -> Result<Untapped<MemoryWorld, MemoryTap>, NoMemory>
     requires empty { length world.files ≡ 0 }
-    requires fresh { AreNew taps.items }
+    requires fresh { AreUnused taps.items }
 {
     let name = Text::of(alloc, "out")?;
     tapped::<Brand>(alloc, world, name, taps)

@@ -7,6 +7,7 @@
 //! takes what follows, and that `write` appends what it says it took.
 #![tactic(auto)]
 
+mod file_tap;
 mod pieces;
 mod real_clock;
 mod real_file;
@@ -14,5 +15,6 @@ mod real_world;
 #[cfg(test)]
 mod tests;
 
+pub use file_tap::FileTap;
 pub use real_clock::RealClock;
 pub use real_world::RealWorld;

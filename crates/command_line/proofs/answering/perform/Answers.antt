@@ -14,14 +14,16 @@ returns-in-Command-clause-performs g c p q =
     record {
       prints = prints_nothing c.args.words.now c.ftmb.result (g.W.World.shows p c.args.world.now)
           (g.W.World.shows p c.ftmb.new.world) is;
-      done = done.done p q;
-      headline = done.headline p q;
-      limit = done.limit p q;
-      in_order = done.in_order p q;
-      refused = done.refused p q;
-      others = done.others p q;
-      judged = done.judged p q;
-      completes = λ ok. done.completes ok p q;
+      answers = record {
+        done = done.done p q;
+        headline = done.headline p q;
+        limit = done.limit p q;
+        in_order = done.in_order p q;
+        refused = done.refused p q;
+        others = done.others p q;
+        judged = done.judged p q;
+        completes = λ ok. done.completes ok p q;
+      };
     }
 
 pub returns-in-Command-clause-printed : goal.returns-in-Command-clause-printed

@@ -1,0 +1,87 @@
+ghost use Rattle.std.specs.Prelude.{◌≡◌, ◌≤◌, ◌*◌, ℕ, IfOk, IfErr, None, length};
+ghost use Rattle.job_commands.specs.Words.{asked};
+ghost use Rattle.command_line.specs.Printing.{asked_text};
+ghost use Rattle.tap_command.specs.Split.{AsksForTaps, BeginsWithTap};
+ghost use Rattle.release_taps.specs.Seats.{AllFresh};
+
+use crate::perform;
+use job_commands::Status;
+use plain_text::{NoMemory, Text};
+use std::rt::Files;
+use std::sync::Wait;
+use std::thread::Threads;
+use tap_command::{Split, split_taps, tapped};
+use var_locks::Gate;
+use world_io::Clock;
+use world_real::{FileTap, RealWorld};
+use world_told::Told;
+
+/// Does what the words ask for over the files of the system: performs them, or, where pairs
+/// `tap NAME` stand in front, runs what stands behind them and mirrors the released capture under
+/// each name.
+///
+/// The files stand in a world with a record of its calls. So what `perform` and `tapped` promise by
+/// a beginning holds of the program: whatever bytes stood under the names when it began, if the
+/// system answered its reads as files with those bytes do.
+pub fn run_words<
+    C: Clock + Sync,
+    G: Gate + Sync,
+    R: AllocGlobal + Files + Print + Threads + Wait + Sync,
+>(rt: &R, words: &[Text], clock: &C, gate: &G) -> Status
+    ensures bad_taps { BeginsWithTap words.now → ((pairs : ℕ) → ¬ AsksForTaps words.now pairs)
+        → result ≡ Status.BadWords }
+    ensures no_command { ¬ BeginsWithTap words.now
+        → asked words.now ≡ None → asked_text words.now ≡ None → result ≡ Status.BadWords }
+{
+    match split_taps(words) {
+        Split::Plain => {
+            let mut world = Told::of(RealWorld::new(rt.alloc(), rt));
+            perform(rt, words, &mut world, clock, gate)
+        }
+        Split::Bad => Status::BadWords,
+        Split::Taps { pairs, .. } => run_tapped(rt, words, pairs, clock, gate),
+    }
+}
+
+/// Runs what stands behind the pairs. Each tap writes to the file of its name, which is created
+/// before the command begins.
+fn run_tapped<
+    C: Clock + Sync,
+    G: Gate + Sync,
+    R: AllocGlobal + Files + Print + Threads + Wait + Sync,
+>(rt: &R, words: &[Text], pairs: usize, clock: &C, gate: &G) -> Status
+    requires { AsksForTaps words.now pairs }
+{
+    let taps = match create_taps(rt, words, pairs) {
+        Ok(taps) => taps,
+        Err(status) => return status,
+    };
+    let world = Told::of(RealWorld::new(rt.alloc(), rt));
+    match tapped(rt, words, world, taps, clock, gate) {
+        Ok(run) => run.status,
+        Err(NoMemory) => Status::NoMemory,
+    }
+}
+
+/// A tap on a file for each name, in order.
+fn create_taps<R: AllocGlobal + Files>(
+    rt: &R,
+    words: &[Text],
+    pairs: usize,
+) -> Result<Vec<FileTap<R>>, Status>
+    requires { 2 * pairs ≤ length words.now }
+    ensures count { IfOk result (λ taps. length taps.items ≡ pairs) }
+    ensures fresh { IfOk result (λ taps. AllFresh (λ _. ⊥) (λ _. []) (λ t. t.faults) (λ _. 0) taps.items) }
+    ensures status { IfErr result (λ status. (status ≡ Status.WriteFault) ⊎ (status ≡ Status.NoMemory)) }
+{
+    let mut taps = Vec::new(rt.alloc());
+    for pair in 0..pairs {
+        let Ok(tap) = FileTap::create(rt, &words[2 * pair + 1]) else {
+            return Err(Status::WriteFault);
+        };
+        if taps.push(tap).is_err() {
+            return Err(Status::NoMemory);
+        }
+    }
+    Ok(taps)
+}
