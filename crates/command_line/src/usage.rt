@@ -31,6 +31,14 @@ RELEASED and SCHEDULE.
             `store`, `crash`, `recover`, `settle`
   SCRIPT    text of the events that happened, written
 
+ftmb tap NAME .. run BOX CAPTURE SCRIPT RELEASED SCHEDULE
+ftmb tap NAME .. live BOX CAPTURE PLAN RELEASED SCHEDULE SCRIPT
+
+Does what stands behind the taps. What RELEASED took is written to each NAME
+too. One that fails is written no more, and the run goes on.
+
+  NAME      copy of RELEASED, written; 1 to 64 times `tap NAME`
+
 ftmb play BOX CAPTURE SCHEDULE OUT
 
 Plays a schedule on the whole capture, with a box that logs nothing and never

@@ -46,13 +46,7 @@ fn run_mirrored<
     G: Gate + Sync,
     R: AllocGlobal + Threads + Wait + Sync,
     S: Seating,
->(
-    rt: &R,
-    words: &[Text],
-    world: TapWorld<W, T, S>,
-    clock: &C,
-    gate: &G,
-) -> TappedRun<W, T>
+>(rt: &R, words: &[Text], world: TapWorld<W, T, S>, clock: &C, gate: &G) -> TappedRun<W, T>
     requires room { (W.ledger world.world).given < 2 ^ 31 }
     ensures answers { Answers W.honest W.shows W.ledger W.healthy
         (C.may clock.now) words.now result.status world.world result.rest.world }

@@ -159,7 +159,12 @@ fn words_ask_for_taps(rt: HostRuntime) -> Result<(), Fail> {
     assert!(rt; one == Split::Taps { pairs: 1, name: 6 });
     assert!(rt; split(alloc, RUN)? == Split::Plain);
     assert!(rt; split(alloc, &["tap", "r", "run", "b", "c", "s", "r", "m"])? == Split::Bad);
-    assert!(rt; split(alloc, &["tap", "t", "tap", "t", "run", "b", "c", "s", "r", "m"])? == Split::Bad);
+    assert!(rt;
+        split(
+            alloc,
+            &["tap", "t", "tap", "t", "run", "b", "c", "s", "r", "m"]
+        )? == Split::Bad
+    );
     assert!(rt; split(alloc, &["tap", "t", "play", "b", "c", "s", "o"])? == Split::Bad);
     assert!(rt; split(alloc, &["tap", "t"])? == Split::Bad);
     let many = tapped_words(alloc, MOST_TAPS + 1)?;

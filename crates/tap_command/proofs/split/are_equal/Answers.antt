@@ -11,5 +11,5 @@ returns c =
     let same = bytes_eq-Decides c.as_str.result.now c.as_str-2.result.now in (
       (λ true. first ∙ ap Some (sym c.as_str.ensures ∙ same.0 (sym c.eq.ensures ∙ true) ∙ c.as_str-2.ensures) ∙ sym second),
       (λ e. c.eq.ensures
-      ∙ same.1 (c.as_str.ensures ∙ some_one _ _ (sym first ∙ e ∙ second) ∙ sym c.as_str-2.ensures)),
+          ∙ same.1 (c.as_str.ensures ∙ some_one _ _ (sym first ∙ e ∙ second) ∙ sym c.as_str-2.ensures)),
     )

@@ -9,7 +9,7 @@ loop-other-preserved c =
     below_next (λ j. ¬ (j ≡ c.args.place) → ¬ (slice_get c.args.words.now j ≡ slice_get c.args.words.now c.args.place))
     c.loop-other.other c.loop-other.invariant
     (λ apart e. elim c.else-other-place.branch [
-      else-other-place-via-then-other-place+else-are_equal w ↦
-        let true = w.are_equal.ensures.1 e in let false = w.if-are_equal.false in absurd (cc)
-    | else-other-place-via-else-other-place w ↦ absurd (apart w.if-other-place.false)
+      | else-other-place-via-then-other-place+else-are_equal w ↦
+          let true = w.are_equal.ensures.1 e in let false = w.if-are_equal.false in absurd (cc)
+      | else-other-place-via-else-other-place w ↦ absurd (apart w.if-other-place.false)
     ])
