@@ -70,7 +70,7 @@ module _ {W T : Type 0} (honest : Start → W → Type 0) (shows : Start → W �
 
     -- a name was opened, or not
     pub mirroring-open : (asked : List ℕ) (result : Result ℕ OpenFault)
-        → IfOk result (λ file. GivesOpened file (ledger old) (ledger new))
+        → IfOk result (λ file. GivesOpened asked file (ledger old) (ledger new))
         → OnErr result (KeepsLedgerReading (ledger old) (ledger new))
         → ((p : Start) → honest p new → IfOk result (λ file. OpensFile asked file (shows p old) (shows p new)))
         → ((p : Start) → honest p new → OnErr result (shows p new ≡ shows p old)) → Is m new seats

@@ -16,11 +16,12 @@ use Rattle.world_io.specs.Files.{file_of, is_opened, is_created, left_in, sent_t
 use Rattle.world_io.specs.Calls.{CallCount, next_fails, after_call, after_fault, NoneIsToFail}
 use Rattle.world_io.specs.World.{Shown, Ledger}
 
--- the names with their bytes, the files in the order of their numbers, the report, and the calls of reading and of
--- writing
+-- the names with their bytes, the files in the order of their numbers, the names of the opened ones in the order of
+-- opening, the report, and the calls of reading and of writing
 pub record Memory : Type 0 where
   pub names : List NamedBytes
   pub files : List MemoryFile
+  pub opened_names : List (List ℕ)
   pub report : List ℕ
   pub reading : CallCount
   pub writing : CallCount
@@ -29,7 +30,7 @@ abbrev pub no_calls : CallCount
 no_calls = record { made = 0; failing = []; faults = 0 }
 
 abbrev pub empty_memory : Memory
-empty_memory = record { names = []; files = []; report = []; reading = no_calls; writing = no_calls }
+empty_memory = record { names = []; files = []; opened_names = []; report = []; reading = no_calls; writing = no_calls }
 
 -- no call that is still to come was told to fail
 abbrev pub IsHealthy : Memory → Type 0
@@ -48,6 +49,7 @@ ledger_of m = record {
   opened = λ k. is_opened (file_of m.files k);
   created = λ k. is_created (file_of m.files k);
   given = length m.files;
+  opened_names = m.opened_names;
   read_faults = m.reading.faults;
   write_faults = m.writing.faults;
 }
@@ -69,7 +71,10 @@ abbrev pub Opens : Memory → List ℕ → Result ℕ OpenFault → Memory → T
 Opens old name (Ok file) new =
     (next_fails old.reading ≡ false) × (file ≡ length old.files + 1) × ((bytes : List ℕ)
     × (bytes_under old.names name ≡ Some bytes)
-    × (new ≡ record (after_read old) { files = old.files ++ Opened bytes ∷ [] }))
+    × (new ≡ record (after_read old) {
+      files = old.files ++ Opened bytes ∷ [];
+      opened_names = old.opened_names ++ name ∷ [];
+    }))
 Opens old name (Err Failed) new =
     ((next_fails old.reading ≡ true) ⊎ (bytes_under old.names name ≡ None)) × (new ≡ after_read_fault old)
 Opens old name (Err NoMemory) new = (next_fails old.reading ≡ false) × (new ≡ after_read old)

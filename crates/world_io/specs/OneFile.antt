@@ -17,7 +17,14 @@ pub record WritesOneFile {W : Type 0} (honest : Start → W → Type 0)
 
 pub KeepsLedgerReading-same : (a : Ledger) → KeepsLedgerReading a a
 KeepsLedgerReading-same a =
-    record { opened = refl; created = refl; given = refl; read_faults = omega arith; write_faults = refl }
+    record {
+      opened = refl;
+      created = refl;
+      given = refl;
+      opened_names = refl;
+      read_faults = omega arith;
+      write_faults = refl;
+    }
 
 pub KeepsLedgerReading-more : (a b c : Ledger) → KeepsLedgerReading a b → KeepsLedgerReading b c
     → KeepsLedgerReading a c
@@ -25,13 +32,21 @@ KeepsLedgerReading-more a b c r s = record {
   opened = s.opened ∙ r.opened;
   created = s.created ∙ r.created;
   given = s.given ∙ r.given;
+  opened_names = s.opened_names ∙ r.opened_names;
   read_faults = omega (arith, r.read_faults, s.read_faults);
   write_faults = s.write_faults ∙ r.write_faults;
 }
 
 pub KeepsLedgerWriting-same : (a : Ledger) → KeepsLedgerWriting a a
 KeepsLedgerWriting-same a =
-    record { opened = refl; created = refl; given = refl; read_faults = refl; write_faults = omega arith }
+    record {
+      opened = refl;
+      created = refl;
+      given = refl;
+      opened_names = refl;
+      read_faults = refl;
+      write_faults = omega arith;
+    }
 
 pub KeepsLedgerWriting-more : (a b c : Ledger) → KeepsLedgerWriting a b → KeepsLedgerWriting b c
     → KeepsLedgerWriting a c
@@ -39,6 +54,7 @@ KeepsLedgerWriting-more a b c r s = record {
   opened = s.opened ∙ r.opened;
   created = s.created ∙ r.created;
   given = s.given ∙ r.given;
+  opened_names = s.opened_names ∙ r.opened_names;
   read_faults = s.read_faults ∙ r.read_faults;
   write_faults = omega (arith, r.write_faults, s.write_faults);
 }

@@ -1,5 +1,5 @@
 -- What a world of files shows, and what its calls do to it.
-use Rattle.std.specs.Prelude.{◌≡◌, ◌⊎◌, ◌||◌, nat_eq, ℕ, ◌+◌, ◌≤◌, Bool, true, false, List, [], ◌++◌, Option, Some}
+use Rattle.std.specs.Prelude.{◌≡◌, ◌⊎◌, ◌||◌, nat_eq, ℕ, ◌+◌, ◌≤◌, Bool, true, false, List, [], ◌∷◌, ◌++◌, Option, Some}
 use Rattle.world_io.specs.Stream.{Rose}
 use Rattle.world_io.specs.declared.stream.Filled.{Filled}
 use Rattle.world_io.specs.declared.stream.Filled.TheVariants.{Got, End, Failed}
@@ -18,11 +18,13 @@ pub record Shown : Type 0 where
   pub sent : ℕ → List ℕ
   pub name_of : ℕ → List ℕ
 
--- what a world shows whatever the beginning: the numbers that it gave, how many, and its faults
+-- what a world shows whatever the beginning: the numbers that it gave, how many, the names of the files that were
+-- opened, in order, and its faults
 pub record Ledger : Type 0 where
   pub opened : ℕ → Bool
   pub created : ℕ → Bool
   pub given : ℕ
+  pub opened_names : List (List ℕ)
   pub read_faults : ℕ
   pub write_faults : ℕ
 
@@ -35,6 +37,7 @@ pub record KeepsLedgerReading (old new : Ledger) : Type 0 where
   pub opened : new.opened ≡ old.opened
   pub created : new.created ≡ old.created
   pub given : new.given ≡ old.given
+  pub opened_names : new.opened_names ≡ old.opened_names
   pub read_faults : old.read_faults ≤ new.read_faults
   pub write_faults : new.write_faults ≡ old.write_faults
 
@@ -43,6 +46,7 @@ pub record KeepsLedgerWriting (old new : Ledger) : Type 0 where
   pub opened : new.opened ≡ old.opened
   pub created : new.created ≡ old.created
   pub given : new.given ≡ old.given
+  pub opened_names : new.opened_names ≡ old.opened_names
   pub read_faults : new.read_faults ≡ old.read_faults
   pub write_faults : old.write_faults ≤ new.write_faults
 
@@ -74,13 +78,14 @@ pub record IsNew (file : ℕ) (ledger : Ledger) : Type 0 where
   pub not_opened : ledger.opened file ≡ false
   pub not_created : ledger.created file ≡ false
 
--- a new number was given to an opened file
-pub record GivesOpened (file : ℕ) (old new : Ledger) : Type 0 where
+-- a new number was given to the opened file of a name
+pub record GivesOpened (name : List ℕ) (file : ℕ) (old new : Ledger) : Type 0 where
   pub fresh : IsNew file old
   pub opened : new.opened file ≡ true
   pub others : (k : ℕ) → ¬ (k ≡ file) → new.opened k ≡ old.opened k
   pub created : new.created ≡ old.created
   pub given : new.given ≡ old.given + 1
+  pub opened_names : new.opened_names ≡ old.opened_names ++ name ∷ []
   pub read_faults : old.read_faults ≤ new.read_faults
   pub write_faults : new.write_faults ≡ old.write_faults
 
@@ -91,6 +96,7 @@ pub record GivesCreated (file : ℕ) (old new : Ledger) : Type 0 where
   pub others : (k : ℕ) → ¬ (k ≡ file) → new.created k ≡ old.created k
   pub opened : new.opened ≡ old.opened
   pub given : new.given ≡ old.given + 1
+  pub opened_names : new.opened_names ≡ old.opened_names
   pub read_faults : new.read_faults ≡ old.read_faults
   pub write_faults : old.write_faults ≤ new.write_faults
 

@@ -29,6 +29,7 @@ pub struct MemoryWorld {
     alloc: Global,
     names: Names,
     files: Files,
+    opened_names: Vec<Text>,
     report: Bytes,
     reading: Calls,
     writing: Calls,
@@ -42,6 +43,7 @@ impl Model for MemoryWorld {
     ghost view = { λ w. record {
       names = w.names;
       files = w.files;
+      opened_names = w.opened_names.items;
       report = w.report;
       reading = w.reading;
       writing = w.writing;
@@ -58,6 +60,7 @@ impl MemoryWorld {
             alloc,
             names: Names::new(alloc),
             files: Files::new(alloc),
+            opened_names: Vec::new(alloc),
             report: Bytes::new(alloc),
             reading: Calls::new(alloc),
             writing: Calls::new(alloc),
@@ -118,7 +121,12 @@ impl MemoryWorld {
             return Err(OpenFault::Failed);
         };
         let bytes = Bytes::of(self.alloc, bytes)?;
+        let copy = Text::of(self.alloc, name.as_str())?;
+        if self.opened_names.reserve(1).is_err() {
+            return Err(OpenFault::NoMemory);
+        }
         self.files.open(bytes)?;
+        self.opened_names.push(copy).unwrap();
         Ok(self.files.len() as u32)
     }
 

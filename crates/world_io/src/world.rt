@@ -33,8 +33,9 @@ impl From<NoMemory> for OpenFault {
 
 /// The outside: named files, and the report, which is file 0 and is always there.
 ///
-/// It shows which numbers it gave to files that it opened and created, and how often reading and
-/// writing failed. A count that stands at 2^64 - 1 stays there.
+/// It shows which numbers it gave to files that it opened and created, the names of those that it
+/// opened, in order, and how often reading and writing failed. A count that stands at 2^64 - 1
+/// stays there.
 ///
 /// Its bytes are known by a beginning, where its answers are honest: where each is that of files
 /// which held these bytes at first. So something is known of the real files, whose bytes no
@@ -58,7 +59,7 @@ pub trait World {
     /// Starts reading a name at its first byte. The file has a number of its own, which is not 0.
     fn open_file(&mut self, name: &Text) -> Result<u32, OpenFault>
         requires { (ledger self.old).given < 2 ^ 32 - 1 }
-        ensures given { IfOk result (λ file. GivesOpened file (ledger self.old) (ledger self.new)) }
+        ensures given { IfOk result (λ file. GivesOpened name.now file (ledger self.old) (ledger self.new)) }
         ensures not_given { OnErr result (KeepsLedgerReading (ledger self.old) (ledger self.new)) }
         ensures cause { IsErrOf result OpenFault.Failed
             → Rose (ledger self.old).read_faults (ledger self.new).read_faults }

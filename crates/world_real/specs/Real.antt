@@ -1,4 +1,4 @@
--- What the real world shows: the numbers that it gave and its counts of faults, and no bytes.
+-- What the real world shows: the numbers that it gave, the names that it opened and its counts of faults, and no bytes.
 use Rattle.std.specs.Prelude.{◌≡◌, ℕ, zero, suc, Bool, true, false, List, [], length, Option, Some, None, slice_get}
 use Rattle.world_real.specs.declared.real_file.RealFile.{RealFile}
 use Rattle.world_real.specs.declared.real_file.RealFile.TheVariants.{Reading, Writing}
@@ -29,9 +29,11 @@ held_in contents None = None
 held_in contents (Some (Reading f)) = None
 held_in contents (Some (Writing f)) = contents f
 
--- the files in the order of their numbers, which count from 1, and how often reading and writing failed
+-- the files in the order of their numbers, which count from 1, the names of the opened ones in the order of opening, and
+-- how often reading and writing failed
 pub record Real (F : Type 0) : Type 0 where
   pub files : List (RealFile F)
+  pub opened_names : List (List ℕ)
   pub read_faults : ℕ
   pub write_faults : ℕ
 
@@ -40,6 +42,7 @@ real_ledger w = record {
   opened = λ k. is_reading (file_at w.files k);
   created = λ k. is_writing (file_at w.files k);
   given = length w.files;
+  opened_names = w.opened_names;
   read_faults = w.read_faults;
   write_faults = w.write_faults;
 }
@@ -55,10 +58,11 @@ held_at contents w file = held_in contents (file_at w.files file)
 abbrev pub nothing_shown : Shown
 nothing_shown = record { names = λ _. None; left = λ _. []; sent = λ _. []; name_of = λ _. [] }
 
--- no number was given, and nothing failed
+-- no number was given, no name was opened, and nothing failed
 pub record IsUnused (ledger : Ledger) : Type 0 where
   pub opened : (k : ℕ) → ledger.opened k ≡ false
   pub created : (k : ℕ) → ledger.created k ≡ false
   pub given : ledger.given ≡ 0
+  pub opened_names : ledger.opened_names ≡ []
   pub read_faults : ledger.read_faults ≡ 0
   pub write_faults : ledger.write_faults ≡ 0

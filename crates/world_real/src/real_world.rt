@@ -19,12 +19,14 @@ use world_io::{Filled, OpenFault, Put, World};
 /// The files of the system, by their paths, and standard output as the report.
 ///
 /// It shows no bytes, by no beginning: contracts see the numbers that it gave, which count from 1
-/// and are given once, and how often reading and writing failed. It never says that it is healthy:
-/// any call may fail.
+/// and are given once, the names of the opened files, in order, and how often reading and writing
+/// failed. It never says that it is healthy: any call may fail.
 #[derive(Drop)]
 pub struct RealWorld<R: Files + Print + Drop> {
+    alloc: Global,
     rt: R,
     files: Vec<RealFile<R::File>>,
+    opened_names: Vec<Text>,
     read_faults: u64,
     write_faults: u64,
 }
@@ -36,6 +38,7 @@ impl<R: Files + Print + Drop> Model for RealWorld<R> {
 
     ghost view = { λ w. record {
       files = w.files.items;
+      opened_names = w.opened_names.items;
       read_faults = w.read_faults;
       write_faults = w.write_faults;
     } };
@@ -47,8 +50,10 @@ impl<R: Files + Print + Drop> RealWorld<R> {
         ensures { IsUnused (real_ledger result) }
     {
         RealWorld {
+            alloc,
             rt,
             files: Vec::new(alloc),
+            opened_names: Vec::new(alloc),
             read_faults: 0,
             write_faults: 0,
         }
@@ -89,7 +94,7 @@ impl<R: Files + Print + Drop> World for RealWorld<R> {
     fn open_file(&mut self, name: &Text) -> Result<u32, OpenFault>
         requires { (real_ledger self.old).given < 2 ^ 32 - 1 }
         ensures given { IfOk result
-            (λ file. GivesOpened file (real_ledger self.old) (real_ledger self.new)) }
+            (λ file. GivesOpened name.now file (real_ledger self.old) (real_ledger self.new)) }
         ensures not_given { OnErr result
             (KeepsLedgerReading (real_ledger self.old) (real_ledger self.new)) }
         ensures cause { IsErrOf result OpenFault.Failed
@@ -98,7 +103,8 @@ impl<R: Files + Print + Drop> World for RealWorld<R> {
         // Beyond any world: the number is the next.
         ensures number { IfOk result (λ file. file ≡ length self.new.files) }
     {
-        if self.files.reserve(1).is_err() {
+        let copy = Text::of(self.alloc, name.as_str())?;
+        if self.files.reserve(1).is_err() || self.opened_names.reserve(1).is_err() {
             return Err(OpenFault::NoMemory);
         }
         let Ok(file) = fs::open(&self.rt, name.as_str()) else {
@@ -106,6 +112,7 @@ impl<R: Files + Print + Drop> World for RealWorld<R> {
             return Err(OpenFault::Failed);
         };
         self.files.push(RealFile::Reading(file)).unwrap();
+        self.opened_names.push(copy).unwrap();
         Ok(self.files.len() as u32)
     }
 

@@ -65,7 +65,7 @@ impl<W: World> World for Told<W> {
     fn open_file(&mut self, name: &Text) -> Result<u32, OpenFault>
         requires { (W.ledger self.old.world).given < 2 ^ 32 - 1 }
         ensures given { IfOk result
-            (λ file. GivesOpened file (W.ledger self.old.world) (W.ledger self.new.world)) }
+            (λ file. GivesOpened name.now file (W.ledger self.old.world) (W.ledger self.new.world)) }
         ensures not_given { OnErr result
             (KeepsLedgerReading (W.ledger self.old.world) (W.ledger self.new.world)) }
         ensures cause { IsErrOf result OpenFault.Failed
