@@ -1,6 +1,7 @@
 ghost use Rattle.std.specs.Prelude.{◌≡◌, ◌↔◌, ◌<◌, ◌≤◌, ◌+◌, ◌*◌, ℕ, IsTrue, Some, codes, length};
 ghost use Rattle.std.specs.Prelude.{slice_get};
-ghost use Rattle.tap_command.specs.Split.{IsAlone, IsRunLine, Splits};
+ghost use Rattle.tap_command.specs.Split.{AsksForTaps, IsAlone, IsRunLine, Splits, behind_pairs};
+ghost use Rattle.tap_command.specs.Split.{released_name};
 
 use plain_text::Text;
 
@@ -108,4 +109,22 @@ fn is_alone(words: &[Text], place: usize) -> bool
         }
     }
     true
+}
+
+/// The words behind this many pairs.
+#[tactic(auto, using(crate::proofs::Counting::enough, crate::proofs::Counting::behind_is))]
+pub(crate) fn run_line(words: &[Text], pairs: usize) -> &[Text]
+    requires { AsksForTaps words.now pairs }
+    ensures { result.now ≡ behind_pairs pairs words.now }
+{
+    &words[2 * pairs..]
+}
+
+/// The name of the released capture that stands behind this many pairs.
+#[tactic(auto, using(crate::proofs::Counting::enough))]
+pub(crate) fn mirrored_name(words: &[Text], pairs: usize) -> &Text
+    requires { AsksForTaps words.now pairs }
+    ensures { result.now ≡ released_name pairs words.now }
+{
+    &words[2 * pairs + 4]
 }

@@ -4,6 +4,7 @@ ghost use Rattle.release_taps.specs.Seats.{AllFresh};
 ghost use Rattle.job_top.specs.Answers.{Answers};
 ghost use Rattle.tap_command.specs.Split.{AsksForTaps, behind_pairs, released_name};
 
+use crate::split::{mirrored_name, run_line};
 use job_commands::Status;
 use job_top::ftmb;
 use plain_text::{NoMemory, Text};
@@ -20,22 +21,6 @@ pub struct TappedRun<W, T> {
     pub status: Status,
     /// What is left when the taps are taken off.
     pub rest: Untapped<W, T>,
-}
-
-/// The words behind this many pairs.
-fn run_line(words: &[Text], pairs: usize) -> &[Text]
-    requires { AsksForTaps words.now pairs }
-    ensures { result.now ≡ behind_pairs pairs words.now }
-{
-    &words[2 * pairs..]
-}
-
-/// The name of the released capture that stands behind this many pairs.
-fn mirrored_name(words: &[Text], pairs: usize) -> &Text
-    requires { AsksForTaps words.now pairs }
-    ensures { result.now ≡ released_name pairs words.now }
-{
-    &words[2 * pairs + 4]
 }
 
 /// Runs the words over a world whose file of this name is mirrored.

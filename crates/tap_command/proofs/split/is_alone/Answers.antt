@@ -1,4 +1,4 @@
-use Rattle.std.proofs.Common.{◌≡◌, ◌<◌, slice_get}
+use Rattle.std.proofs.Common.{◌≡◌, slice_get}
 use Rattle.tap_command.proofs.Counting.{below_next}
 use Rattle.tap_command.proofs.split.is_alone.Goals as goal
 use Rattle.tap_command.proofs.split.is_alone.Goals.{else-other-place-via-then-other-place+else-are_equal}

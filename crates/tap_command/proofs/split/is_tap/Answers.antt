@@ -1,4 +1,4 @@
-use Rattle.std.proofs.Common.{◌≡◌, ◌<◌, ap, sym, ◌∙◌, Some, arith, codes, length}
+use Rattle.std.proofs.Common.{◌<◌, ap, sym, ◌∙◌, Some, arith, codes, length}
 use Rattle.std.proofs.lemmas.Option.{slice_get_within}
 use Rattle.std.proofs.lemmas.Slice.Eq.{bytes_eq-Decides}
 use Rattle.tap_command.proofs.Counting.{some_one, word_at}

@@ -1,4 +1,4 @@
-use Rattle.std.proofs.Common.{◌≡◌, ℕ, ◌*◌, ◌≤◌, List, drop, sym, subst, arith, refl}
+use Rattle.std.proofs.Common.{◌*◌, drop, sym, subst, arith}
 use Rattle.tap_command.specs.Split.{IsRunLine}
 use Rattle.tap_command.proofs.Counting.{Counts, behind_is, counted}
 use Rattle.tap_command.proofs.split.split_taps.Goals as goal
