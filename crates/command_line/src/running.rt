@@ -71,8 +71,10 @@ fn create_taps<R: AllocGlobal + Files>(
 ) -> Result<Vec<FileTap<R>>, Status>
     requires { 2 * pairs ≤ length words.now }
     ensures count { IfOk result (λ taps. length taps.items ≡ pairs) }
-    ensures fresh { IfOk result (λ taps. AllFresh (λ _. ⊥) (λ _. []) (λ t. t.faults) (λ _. 0) taps.items) }
-    ensures status { IfErr result (λ status. (status ≡ Status.WriteFault) ⊎ (status ≡ Status.NoMemory)) }
+    ensures fresh { IfOk result
+        (λ taps. AllFresh (λ _. ⊥) (λ _. []) (λ t. t.faults) (λ _. 0) taps.items) }
+    ensures status { IfErr result
+        (λ status. (status ≡ Status.WriteFault) ⊎ (status ≡ Status.NoMemory)) }
 {
     let mut taps = Vec::new(rt.alloc());
     for pair in 0..pairs {

@@ -1,6 +1,7 @@
 -- Words ask for as many taps as pairs stand in front.
 use Rattle.std.proofs.Common.{◌≡◌, ◌⊎◌, ℕ, zero, suc, ◌+◌, ◌*◌, ◌<◌, ◌≤◌, List, [], ◌∷◌, Some, codes}
-use Rattle.std.proofs.Common.{length, drop, take, ◌-◌, get_or, slice_get, ap, sym, ◌∙◌, inl, inr, refl, length-drop, arith, subst}
+use Rattle.std.proofs.Common.{length, drop, take, ◌-◌, get_or, slice_get, ap, sym, ◌∙◌, inl, inr, refl, length-drop}
+use Rattle.std.proofs.Common.{arith, subst}
 use Rattle.std.proofs.Math.Seq.{take-length}
 use Rattle.std.proofs.lemmas.Bool.{cases_lt}
 use Rattle.std.proofs.lemmas.Option.{slice_get-get_or}
@@ -75,4 +76,5 @@ behind_is n words = ap (λ k. take k (drop n words)) (sym (length-drop n words))
 -- words that ask for taps are long enough for the run line behind them
 pub enough : (words : List (List ℕ)) (pairs : ℕ) → AsksForTaps words pairs → 2 * pairs + 6 ≤ length words
 enough words pairs asks =
-    let long = (first_of_run (behind_pairs pairs words) asks.run).1 in omega (arith, long, length-drop (2 * pairs) words)
+    let long = (first_of_run (behind_pairs pairs words) asks.run).1 in
+    omega (arith, long, length-drop (2 * pairs) words)

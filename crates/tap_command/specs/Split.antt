@@ -1,5 +1,6 @@
 -- Words that ask for taps: pairs of `tap` and a name in front of the words of a run.
-use Rattle.std.specs.Prelude.{◌≡◌, ◌⊎◌, ℕ, ◌+◌, ◌*◌, ◌<◌, ◌≤◌, List, [], ◌∷◌, codes, length, drop, slice_get, slice_index_or, Some}
+use Rattle.std.specs.Prelude.{◌≡◌, ◌⊎◌, ℕ, ◌+◌, ◌*◌, ◌<◌, ◌≤◌, List, [], ◌∷◌, codes, length, drop, slice_get}
+use Rattle.std.specs.Prelude.{slice_index_or, Some}
 use Rattle.tap_command.specs.declared.split.Split.{Split}
 use Rattle.tap_command.specs.declared.split.Split.TheVariants.{Plain, Bad, Taps}
 
@@ -29,8 +30,8 @@ released_name pairs words = slice_index_or words (2 * pairs + released_place) []
 abbrev pub IsAlone : List (List ℕ) → ℕ → Type 0
 IsAlone words place = (j : ℕ) → j < length words → ¬ (j ≡ place) → ¬ (slice_get words j ≡ slice_get words place)
 
--- The words are 1 to 64 pairs of `tap` and a name, and behind them `run` or `live` with its names; and no tap has a name
--- that is another word of the line.
+-- The words are 1 to 64 pairs of `tap` and a name, and behind them `run` or `live` with its names; and no tap has a
+-- name that is another word of the line.
 pub record AsksForTaps (words : List (List ℕ)) (pairs : ℕ) : Type 0 where
   pub some : 1 ≤ pairs
   pub most : pairs ≤ 64

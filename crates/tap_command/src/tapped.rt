@@ -25,7 +25,7 @@ pub struct TappedRun<W, T> {
 
 /// Runs the words over a world whose file of this name is mirrored.
 fn run_mirrored<
-    W: World,
+    W: World + Drop,
     T: Tap,
     C: Clock + Sync,
     G: Gate + Sync,
@@ -49,7 +49,7 @@ fn run_mirrored<
 
 /// Seats the taps on the file of this name, and runs the words.
 fn seat_and_run<
-    W: World,
+    W: World + Drop,
     T: Tap,
     C: Clock + Sync,
     G: Gate + Sync,
@@ -87,7 +87,7 @@ fn seat_and_run<
 /// status and its files are those that `ftmb` promises of the words behind the pairs. The world has
 /// created no file before. After want of memory, world and taps are gone, and nothing was done.
 pub fn tapped<
-    W: World,
+    W: World + Drop,
     T: Tap,
     C: Clock + Sync,
     G: Gate + Sync,

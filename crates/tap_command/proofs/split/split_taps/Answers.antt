@@ -11,7 +11,8 @@ returns-then-pairs-eq0 c = (
   c.is_tap.ensures.0 c.if-not-is_tap.false,
   (λ asked asks.
       let pairs = c.count_pairs-pairs.result in
-      let counts : Counts c.args.words.now pairs = record { taps = c.count_pairs-pairs.ensures.taps; last = c.count_pairs-pairs.ensures.last } in
+      let counts : Counts c.args.words.now pairs =
+      record { taps = c.count_pairs-pairs.ensures.taps; last = c.count_pairs-pairs.ensures.last } in
       let same = counted c.args.words.now pairs asked counts asks in
       let some = asks.some in
       let most = asks.most in
@@ -31,7 +32,8 @@ returns-then-not-are_alone c = (
   c.is_tap.ensures.0 c.if-not-is_tap.false,
   (λ asked asks.
       let pairs = c.count_pairs-pairs.result in
-      let counts : Counts c.args.words.now pairs = record { taps = c.count_pairs-pairs.ensures.taps; last = c.count_pairs-pairs.ensures.last } in
+      let counts : Counts c.args.words.now pairs =
+      record { taps = c.count_pairs-pairs.ensures.taps; last = c.count_pairs-pairs.ensures.last } in
       let same = counted c.args.words.now pairs asked counts asks in
       let true = c.are_alone.ensures.1 (λ k within. asks.alone k (omega (arith, within, same))) in
       let false = c.if-not-are_alone.true in absurd (cc)),
