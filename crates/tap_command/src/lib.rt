@@ -2,8 +2,8 @@
 //! bytes which the released capture took.
 #![tactic(auto)]
 
+mod running;
 mod split;
-mod tapped;
 
+pub use running::{TappedRun, tapped};
 pub use split::{MOST_TAPS, Split, split_taps};
-pub use tapped::{TappedRun, tapped};
