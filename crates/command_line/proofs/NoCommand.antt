@@ -1,13 +1,15 @@
--- Words that no command has are bad words; and words of a command print no text.
-use Rattle.std.proofs.Common.{◌≡◌, ℕ, List, ap, sym, subst, ◌∙◌, ◌⊎◌, inl, inr, Option, None, Some, Result, Ok, Err}
+-- Words that no command has are bad words; words of a command print no text; and which files are opened.
+use Rattle.std.proofs.Common.{◌≡◌, ℕ, List, ap, refl, sym, subst, ◌∙◌, ◌⊎◌, inl, inr, Option, None, Some, Result, Ok, Err}
 use Rattle.std.specs.Prelude.{IfOk, IfSome}
 use Rattle.std.specs.declared.string.String.{String}
 use Rattle.std.specs.declared.vec.IntoIter.{IntoIter}
+use Rattle.input_files.specs.Files.{OpensFirst}
+use Rattle.input_files.proofs.OnlyReading.{OpensFirst-none}
 use Rattle.job_commands.specs.declared.status.Status.{Status}
 use Rattle.job_commands.specs.declared.status.Status.TheVariants.{BadWords, Done, NoMemory, WriteFault}
 use Rattle.job_commands.specs.Status.{IsRefusal}
-use Rattle.job_commands.specs.Words.{asked}
-use Rattle.world_io.specs.World.{Shown}
+use Rattle.job_commands.specs.Words.{Asked, IfAsks, asked, inputs_of}
+use Rattle.world_io.specs.World.{Ledger, Shown}
 use Rattle.command_line.specs.Printing.{Prints, asked_text, text_for}
 use Rattle.command_line.specs.Request.{request_of}
 use Rattle.command_line.specs.declared.request.Request.{Request}
@@ -53,3 +55,23 @@ pub prints_nothing : (words : List (List ℕ)) (status : Status) (old new : Show
     → IfSome (asked_text words) (λ text. Prints text status old new)
 prints_nothing words status old new is =
     subst (λ (r : Request). IfSome (text_for r) (λ text. Prints text status old new)) (sym is) tt
+
+-- Which files are opened: none, or those of the command, by the words that were copied.
+
+pub opens_none : (asks : Option Asked) (a b : Ledger) → b.opened_names ≡ a.opened_names
+    → IfSome asks (λ command. OpensFirst (inputs_of command) a b)
+opens_none None a b same = tt
+opens_none (Some command) a b same = OpensFirst-none (inputs_of command) a b same
+
+pub opens_still : {Y Z E : Type 0} (arguments : Result (IntoIter (String Y) Z) E) (a : Ledger)
+    → IfOk arguments (λ all. IfAsks (words_of all) (λ command. OpensFirst (inputs_of command) a a))
+opens_still (Ok all) a = opens_none (asked (words_of all)) a a refl
+opens_still (Err error) a = tt
+
+pub opens_of_words : {Y Z E : Type 0} (arguments : Result (IntoIter (String Y) Z) E) (texts words : List (List ℕ))
+    (a b : Ledger) → IfOk arguments (λ all. texts ≡ words_of all) → words ≡ texts
+    → IfAsks words (λ command. OpensFirst (inputs_of command) a b)
+    → IfOk arguments (λ all. IfAsks (words_of all) (λ command. OpensFirst (inputs_of command) a b))
+opens_of_words (Ok all) texts words a b same copied h =
+    subst (λ (l : List (List ℕ)). IfAsks l (λ command. OpensFirst (inputs_of command) a b)) (copied ∙ same) h
+opens_of_words (Err error) texts words a b same copied h = tt
