@@ -1,8 +1,8 @@
 -- What opens files of a list of names, and of more of them behind.
-use Rattle.std.proofs.Common.{◌≡◌, ℕ, ◌+◌, ◌≤◌, List, [], ◌∷◌, ◌++◌, length, refl, sym, ap, ◌∙◌, arith, append-nil}
-use Rattle.std.proofs.Common.{append_assoc, length-append}
-use Rattle.world_io.specs.World.{Ledger, KeepsLedgerReading, GivesOpened}
-use Rattle.input_files.specs.Files.{OpensAll, OpensFirst, AfterInputs, OnlyReads}
+use Rattle.std.proofs.Common.{◌≡◌, ℕ, List, [], ◌++◌, refl, sym, ap, ◌∙◌, arith, append-nil, append_assoc}
+use Rattle.std.proofs.Common.{length-append}
+use Rattle.world_io.specs.World.{Ledger}
+use Rattle.input_files.specs.Files.{OpensAll, OpensFirst, OnlyReads}
 
 -- a list of names is a first part of itself with more behind it
 pub OpensFirst-more : (names more : List (List ℕ)) (a b : Ledger) → OpensFirst names a b → OpensFirst (names ++ more) a b
@@ -35,31 +35,6 @@ OpensFirst-none names a b same =
 pub OpensFirst-all : (names : List (List ℕ)) (a b : Ledger) → OpensAll names a b → OpensFirst names a b
 OpensFirst-all names a b all =
     record { first = names; rest = []; names_are = sym (append-nil names); opened = all }
-
--- the file of the name was not opened
-pub inputs_none : (name : List ℕ) (a b : Ledger) → KeepsLedgerReading a b → AfterInputs (name ∷ []) a b
-inputs_none name a b r = record {
-  created = r.created;
-  given = omega (arith, r.given);
-  opened = OpensFirst-none (name ∷ []) a b r.opened_names;
-  read_faults = r.read_faults;
-  write_faults = r.write_faults;
-}
-
--- it was, and then was read
-pub opened_one : (name : List ℕ) (file : ℕ) (a b c : Ledger) → GivesOpened name file a b → KeepsLedgerReading b c
-    → OpensAll (name ∷ []) a c
-opened_one name file a b c gives r = r.opened_names ∙ gives.opened_names
-
-pub inputs_one : (name : List ℕ) (file : ℕ) (a b c : Ledger) → GivesOpened name file a b → KeepsLedgerReading b c
-    → AfterInputs (name ∷ []) a c
-inputs_one name file a b c gives r = record {
-  created = r.created ∙ gives.created;
-  given = omega (arith, r.given, gives.given);
-  opened = OpensFirst-all (name ∷ []) a c (opened_one name file a b c gives r);
-  read_faults = omega (arith, r.read_faults, gives.read_faults);
-  write_faults = r.write_faults ∙ gives.write_faults;
-}
 
 module _ {W : Type 0} (ledger : W → Ledger) (healthy : W → Type 0) where
   -- fewer files of the same names
