@@ -1,8 +1,9 @@
 ghost use Rattle.std.specs.Prelude.{◌≡◌, ◌<◌, ◌≤◌, ◌+◌, ◌^◌, ◌⊎◌, None, IfErr, IfOk, IfSome};
 ghost use Rattle.std.specs.IoError.{error_kind};
 ghost use Rattle.world_io.specs.Stream.{Rose};
+ghost use Rattle.input_files.specs.Files.{OpensAll, OpensFirst};
 ghost use Rattle.job_commands.specs.Status.{IsRefusal};
-ghost use Rattle.job_commands.specs.Words.{asked};
+ghost use Rattle.job_commands.specs.Words.{asked, IfAsks, inputs_of};
 ghost use Rattle.command_line.specs.Performing.{Performs};
 ghost use Rattle.command_line.specs.Printing.{Prints, asked_text};
 ghost use Rattle.command_line.specs.Words.{Refuses, words_of};
@@ -28,6 +29,7 @@ fn print<W: World>(world: &mut W, text: &str) -> Status
     ensures outcome { (result ≡ Status.Done)
         ⊎ ((result ≡ Status.WriteFault) ⊎ (result ≡ Status.NoMemory)) }
     ensures given { (W.ledger world.new).given ≡ (W.ledger world.old).given }
+    ensures opens_nothing { (W.ledger world.new).opened_names ≡ (W.ledger world.old).opened_names }
     ensures write_fault { result ≡ Status.WriteFault
         → WritingFailed W.ledger W.healthy world.old world.new }
     ensures before { (p : Start) → W.honest p world.new → W.honest p world.old }
@@ -60,6 +62,12 @@ pub fn perform<W: World, C: Clock + Sync, G: Gate + Sync, R: AllocGlobal + Threa
     ensures nothing_asked { result ≡ Status.BadWords → world.new ≡ world.old }
     ensures creates_nothing { IsRefusal result
         → (W.ledger world.new).created ≡ (W.ledger world.old).created }
+    ensures opens_in_order { IfAsks words.now (λ command.
+        OpensFirst (inputs_of command) (W.ledger world.old) (W.ledger world.new)) }
+    ensures opens_all { result ≡ Status.Done → IfAsks words.now (λ command.
+        OpensAll (inputs_of command) (W.ledger world.old) (W.ledger world.new)) }
+    ensures opens_nothing { asked words.now ≡ None
+        → (W.ledger world.new).opened_names ≡ (W.ledger world.old).opened_names }
     ensures given { (W.ledger world.new).given ≤ (W.ledger world.old).given + 6 }
     ensures read_fault { result ≡ Status.ReadFault
         → Rose (W.ledger world.old).read_faults (W.ledger world.new).read_faults }

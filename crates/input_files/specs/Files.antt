@@ -1,5 +1,5 @@
 -- What reading the file of a name does to a world, and what it says of the bytes under the name.
-use Rattle.std.specs.Prelude.{◌≡◌, ℕ, ◌+◌, ◌≤◌, List, Some, None, Result, Ok, Err}
+use Rattle.std.specs.Prelude.{◌≡◌, ℕ, ◌+◌, ◌≤◌, List, ◌++◌, length, Some, None, Result, Ok, Err}
 use Rattle.world_io.specs.World.{Shown, Ledger}
 use Rattle.world_io.specs.declared.beginning.Front.{Front}
 use Rattle.world_io.specs.declared.beginning.FrontError.{FrontError}
@@ -22,16 +22,29 @@ pub record KeepsOutputs (old new : Shown) : Type 0 where
   pub sent : new.sent ≡ old.sent
   pub name_of : new.name_of ≡ old.name_of
 
--- at most this number of files were opened, none was created, and only the count of faults of reading may have risen
-pub record AfterInputs (files : ℕ) (old new : Ledger) : Type 0 where
+-- files of all these names were opened, in this order, and no others
+abbrev pub OpensAll : List (List ℕ) → Ledger → Ledger → Type 0
+OpensAll names old new = new.opened_names ≡ old.opened_names ++ names
+
+-- files of a first part of these names were opened, in this order, and no others
+pub record OpensFirst (names : List (List ℕ)) (old new : Ledger) : Type 0 where
+  pub first : List (List ℕ)
+  pub rest : List (List ℕ)
+  pub names_are : names ≡ first ++ rest
+  pub opened : OpensAll first old new
+
+-- files of a first part of these names were opened, each at most once, none was created, and only the count of faults of
+-- reading may have risen
+pub record AfterInputs (names : List (List ℕ)) (old new : Ledger) : Type 0 where
   pub created : new.created ≡ old.created
-  pub given : new.given ≤ old.given + files
+  pub given : new.given ≤ old.given + length names
+  pub opened : OpensFirst names old new
   pub read_faults : old.read_faults ≤ new.read_faults
   pub write_faults : new.write_faults ≡ old.write_faults
 
--- From the one state of a world to the other only reading has gone on: at most this number of files were opened, and
--- what was healthy is healthy.
-pub record OnlyReads {W : Type 0} (ledger_of : W → Ledger) (healthy_of : W → Type 0) (files : ℕ)
+-- From the one state of a world to the other only reading has gone on: files of a first part of these names were opened,
+-- in this order, and what was healthy is healthy.
+pub record OnlyReads {W : Type 0} (ledger_of : W → Ledger) (healthy_of : W → Type 0) (names : List (List ℕ))
     (old new : W) : Type 0 where
-  pub ledger : AfterInputs files (ledger_of old) (ledger_of new)
+  pub ledger : AfterInputs names (ledger_of old) (ledger_of new)
   pub stays_healthy : healthy_of old → healthy_of new

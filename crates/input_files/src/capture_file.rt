@@ -1,5 +1,5 @@
 ghost use Rattle.std.specs.Prelude.{◌≡◌, ◌<◌, ◌≤◌, ◌-◌, ◌^◌, All, length, vec_len, IfOk};
-ghost use Rattle.std.specs.Prelude.{IsErrOf, List, ℕ};
+ghost use Rattle.std.specs.Prelude.{◌∷◌, [], OnOk, IsErrOf, List, ℕ};
 ghost use Rattle.plain_text.specs.declared.limit.TheConstants.{MOST_PACKETS};
 ghost use Rattle.plain_text.specs.Octets.{IsOfBytes};
 ghost use Rattle.plain_text.specs.Packets.{IsShort};
@@ -8,7 +8,7 @@ ghost use Rattle.world_io.specs.Stream.{Rose, GoesOn, HasFailed};
 ghost use Rattle.world_io.specs.World.{Start};
 ghost use Rattle.world_io.specs.Taking.{TakesSome};
 ghost use Rattle.input_files.specs.Answers.{SaysCapture};
-ghost use Rattle.input_files.specs.Files.{KeepsOutputs, OnlyReads};
+ghost use Rattle.input_files.specs.Files.{KeepsOutputs, OnlyReads, OpensAll};
 ghost use Rattle.input_files.specs.Judging.{JudgesCapture};
 
 use crate::InputError;
@@ -39,7 +39,9 @@ pub fn read_capture_file<W: World>(
     ensures few { IfOk result (λ capture. length capture.packets ≤ MOST_PACKETS) }
     ensures short { IfOk result (λ capture. All IsShort capture.packets) }
     ensures bytes { IfOk result (λ capture. All IsOfBytes capture.packets) }
-    ensures only_reads { OnlyReads W.ledger W.healthy 1 world.old world.new }
+    ensures only_reads { OnlyReads W.ledger W.healthy (name.now ∷ []) world.old world.new }
+    ensures opened { OnOk result
+        (OpensAll (name.now ∷ []) (W.ledger world.old) (W.ledger world.new)) }
     ensures cause { IsErrOf result InputError.ReadFault
         → Rose (W.ledger world.old).read_faults (W.ledger world.new).read_faults }
     ensures judged { (p : Start) → W.honest p world.new

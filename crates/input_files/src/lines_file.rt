@@ -1,9 +1,9 @@
-ghost use Rattle.std.specs.Prelude.{◌<◌, ◌-◌, ◌^◌, IsErrOf, List, ℕ};
+ghost use Rattle.std.specs.Prelude.{◌<◌, ◌-◌, ◌^◌, ◌∷◌, [], OnOk, IsErrOf, List, ℕ};
 ghost use Rattle.plain_text.specs.LineFiles.{IsDecisive};
 ghost use Rattle.world_io.specs.Stream.{Rose};
 ghost use Rattle.world_io.specs.World.{Start};
 ghost use Rattle.input_files.specs.Answers.{SaysFile, SaysLines};
-ghost use Rattle.input_files.specs.Files.{KeepsOutputs, OnlyReads};
+ghost use Rattle.input_files.specs.Files.{KeepsOutputs, OnlyReads, OpensAll};
 ghost use Rattle.input_files.specs.Judging.{Judges};
 ghost use Rattle.input_files.specs.Texts.{IsFrontOf};
 
@@ -24,7 +24,9 @@ pub(crate) fn read_lines_file<W: World, F: LineFile>(
 ) -> Result<Sequence<F::Thing>, InputError<LineFault>>
     requires opens { (W.ledger world.old).given < 2 ^ 32 - 1 }
     requires decisive { IsDecisive F.form }
-    ensures only_reads { OnlyReads W.ledger W.healthy 1 world.old world.new }
+    ensures only_reads { OnlyReads W.ledger W.healthy (name.now ∷ []) world.old world.new }
+    ensures opened { OnOk result
+        (OpensAll (name.now ∷ []) (W.ledger world.old) (W.ledger world.new)) }
     ensures cause { IsErrOf result InputError.ReadFault
         → Rose (W.ledger world.old).read_faults (W.ledger world.new).read_faults }
     ensures judged { (p : Start) → W.honest p world.new

@@ -1,7 +1,7 @@
-ghost use Rattle.std.specs.Prelude.{◌<◌, ◌-◌, ◌^◌, IsErrOf};
+ghost use Rattle.std.specs.Prelude.{◌<◌, ◌-◌, ◌^◌, ◌∷◌, [], OnOk, IsErrOf};
 ghost use Rattle.world_io.specs.Stream.{Rose};
 ghost use Rattle.world_io.specs.World.{Start};
-ghost use Rattle.input_files.specs.Files.{KeepsOutputs, OnlyReads};
+ghost use Rattle.input_files.specs.Files.{KeepsOutputs, OnlyReads, OpensAll};
 ghost use Rattle.input_files.specs.Judging.{JudgesScript};
 
 use crate::InputError;
@@ -21,7 +21,9 @@ pub fn read_script_file<W: World>(
     name: &Text,
 ) -> Result<Events, InputError<LineFault>>
     requires { (W.ledger world.old).given < 2 ^ 32 - 1 }
-    ensures only_reads { OnlyReads W.ledger W.healthy 1 world.old world.new }
+    ensures only_reads { OnlyReads W.ledger W.healthy (name.now ∷ []) world.old world.new }
+    ensures opened { OnOk result
+        (OpensAll (name.now ∷ []) (W.ledger world.old) (W.ledger world.new)) }
     ensures cause { IsErrOf result InputError.ReadFault
         → Rose (W.ledger world.old).read_faults (W.ledger world.new).read_faults }
     ensures judged { (p : Start) → W.honest p world.new

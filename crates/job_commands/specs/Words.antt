@@ -1,5 +1,5 @@
 -- The words of the commands.
-use Rattle.std.specs.Prelude.{ℕ, Bool, ◌&&◌, not, nat_le, List, [], ◌∷◌, codes, if◌then◌else◌, Option, Some, None}
+use Rattle.std.specs.Prelude.{ℕ, Bool, ◌&&◌, not, nat_le, List, [], ◌∷◌, ◌++◌, codes, if◌then◌else◌, Option, Some, None}
 use Rattle.std.specs.Prelude.{IfSome}
 use Rattle.std.specs.Str.{bytes_eq}
 use Rattle.plain_text.specs.Lines.{number_of}
@@ -204,3 +204,25 @@ asked_of (words.Live w) = Lives (live_names_of w)
 asked_of (words.Make w) = Makes (made_of w)
 asked_of (words.Play w) = Plays (play_names_of w)
 asked_of (words.Check w) = Checks (check_names_of w)
+
+-- The names of the input files of a command, in the order of its words, which is the order in which they are read
+
+abbrev pub run_inputs : RunNames → List (List ℕ)
+run_inputs names = names.box_file ∷ names.capture ∷ names.script ∷ []
+
+abbrev pub live_inputs : LiveNames → List (List ℕ)
+live_inputs names = names.box_file ∷ names.capture ∷ names.plan ∷ []
+
+abbrev pub schedule_inputs : ScheduleNames → List (List ℕ)
+schedule_inputs names = names.box_file ∷ names.capture ∷ names.schedule ∷ []
+
+abbrev pub check_inputs : CheckNames → List (List ℕ)
+check_inputs names = schedule_inputs names.files ++ names.released ∷ []
+
+-- `make` has none
+abbrev pub inputs_of : Asked → List (List ℕ)
+inputs_of (Runs names) = run_inputs names
+inputs_of (Lives names) = live_inputs names
+inputs_of (Makes names) = []
+inputs_of (Plays names) = schedule_inputs names.files
+inputs_of (Checks names) = check_inputs names

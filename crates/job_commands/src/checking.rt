@@ -12,7 +12,8 @@ ghost use Rattle.job_commands.specs.Schedules.{AreFound, FindsAll, FindsInOrder,
 ghost use Rattle.job_commands.specs.Schedules.{outcome_for, schedule_of};
 ghost use Rattle.job_commands.specs.Status.{AtInputs, AtOutputs, IsRefusal, stage_of};
 ghost use Rattle.job_commands.specs.Status.{stage_of_limit};
-ghost use Rattle.job_commands.specs.Words.{check_names_of};
+ghost use Rattle.job_commands.specs.Words.{check_inputs, check_names_of};
+ghost use Rattle.input_files.specs.Files.{OpensAll, OpensFirst};
 ghost use Rattle.output_files.specs.Written.{OnlyWrites};
 
 use crate::status::check_outcome;
@@ -70,6 +71,10 @@ pub fn check_released<W: World>(alloc: Global, world: &mut W, names: CheckWords<
     ensures creates_nothing { IsRefusal result
         → (W.ledger world.new).created ≡ (W.ledger world.old).created }
     ensures words { result ≡ Status.BadWords → ⊥ }
+    ensures opens_in_order { OpensFirst (check_inputs (check_names_of names.entry))
+        (W.ledger world.old) (W.ledger world.new) }
+    ensures opens_all { result ≡ Status.Done → OpensAll (check_inputs (check_names_of names.entry))
+        (W.ledger world.old) (W.ledger world.new) }
     ensures given { (W.ledger world.new).given ≤ (W.ledger world.old).given + 4 }
     ensures read_fault { result ≡ Status.ReadFault
         → Rose (W.ledger world.old).read_faults (W.ledger world.new).read_faults }

@@ -1,7 +1,7 @@
-ghost use Rattle.std.specs.Prelude.{◌<◌, ◌≤◌, ◌^◌, All, IfOk, IfErr, IsErrOf};
+ghost use Rattle.std.specs.Prelude.{◌<◌, ◌≤◌, ◌^◌, ◌∷◌, [], All, IfOk, IfErr, IsErrOf, OnOk};
 ghost use Rattle.plain_text.specs.Packets.{IsShort};
 ghost use Rattle.world_io.specs.Stream.{Rose};
-ghost use Rattle.input_files.specs.Files.{KeepsOutputs, OnlyReads};
+ghost use Rattle.input_files.specs.Files.{KeepsOutputs, OnlyReads, OpensAll};
 ghost use Rattle.job_commands.specs.Status.{AtInputs, ComesAt, EndsReading};
 ghost use Rattle.job_commands.specs.Turns.{JudgesFirst};
 ghost use Rattle.world_io.specs.World.{Start};
@@ -33,7 +33,10 @@ pub(crate) fn read_first_inputs<W: World>(
     ensures some_threads { IfOk result (λ first. 1 ≤ first.conf.threads) }
     ensures few_threads { IfOk result (λ first. first.conf.threads ≤ 16) }
     ensures short { IfOk result (λ first. All IsShort first.capture.packets) }
-    ensures only_reads { OnlyReads W.ledger W.healthy 2 world.old world.new }
+    ensures only_reads { OnlyReads W.ledger W.healthy (box_file.now ∷ capture.now ∷ [])
+        world.old world.new }
+    ensures opened { OnOk result (OpensAll (box_file.now ∷ capture.now ∷ [])
+        (W.ledger world.old) (W.ledger world.new)) }
     ensures cause { IsErrOf result Status.ReadFault
         → Rose (W.ledger world.old).read_faults (W.ledger world.new).read_faults }
     ensures judged { (p : Start) → W.honest p world.new → JudgesFirst (W.healthy world.old)

@@ -1,11 +1,11 @@
-ghost use Rattle.std.specs.Prelude.{◌<◌, ◌-◌, ◌^◌, IfOk, IfErr, IsErrOf};
+ghost use Rattle.std.specs.Prelude.{◌<◌, ◌-◌, ◌^◌, IfOk, IfErr, IsErrOf, OnOk};
 ghost use Rattle.world_io.specs.Stream.{Rose};
 ghost use Rattle.run_writes.specs.Run.{CanRun};
-ghost use Rattle.input_files.specs.Files.{KeepsOutputs, OnlyReads};
+ghost use Rattle.input_files.specs.Files.{KeepsOutputs, OnlyReads, OpensAll};
 ghost use Rattle.job_commands.specs.Judging.{JudgesInputs};
 ghost use Rattle.job_commands.specs.Run.{script_of};
 ghost use Rattle.job_commands.specs.Status.{AtInputs, ComesAt, EndsReading};
-ghost use Rattle.job_commands.specs.Words.{names_of};
+ghost use Rattle.job_commands.specs.Words.{names_of, run_inputs};
 ghost use Rattle.world_io.specs.World.{Start};
 
 use crate::first_inputs::read_first_inputs;
@@ -35,7 +35,10 @@ pub fn read_inputs<W: World>(
     requires { (W.ledger world.old).given < 2 ^ 31 }
     ensures quiet { IfErr result EndsReading }
     ensures can_run { IfOk result (λ inputs. CanRun (script_of inputs)) }
-    ensures only_reads { OnlyReads W.ledger W.healthy 3 world.old world.new }
+    ensures only_reads { OnlyReads W.ledger W.healthy (run_inputs (names_of names.entry))
+        world.old world.new }
+    ensures opened { OnOk result (OpensAll (run_inputs (names_of names.entry))
+        (W.ledger world.old) (W.ledger world.new)) }
     ensures cause { IsErrOf result Status.ReadFault
         → Rose (W.ledger world.old).read_faults (W.ledger world.new).read_faults }
     ensures judged { (p : Start) → W.honest p world.new → JudgesInputs (W.healthy world.old)

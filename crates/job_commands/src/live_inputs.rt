@@ -1,10 +1,10 @@
-ghost use Rattle.std.specs.Prelude.{◌<◌, ◌≤◌, ◌^◌, All, IfOk, IfErr, IsErrOf};
+ghost use Rattle.std.specs.Prelude.{◌<◌, ◌≤◌, ◌^◌, All, IfOk, IfErr, IsErrOf, OnOk};
 ghost use Rattle.plain_text.specs.Packets.{IsShort};
 ghost use Rattle.world_io.specs.Stream.{Rose};
-ghost use Rattle.input_files.specs.Files.{KeepsOutputs, OnlyReads};
+ghost use Rattle.input_files.specs.Files.{KeepsOutputs, OnlyReads, OpensAll};
 ghost use Rattle.job_commands.specs.Live.{JudgesLiveInputs};
 ghost use Rattle.job_commands.specs.Status.{AtInputs, ComesAt, EndsReading};
-ghost use Rattle.job_commands.specs.Words.{live_names_of};
+ghost use Rattle.job_commands.specs.Words.{live_inputs, live_names_of};
 ghost use Rattle.world_io.specs.World.{Start};
 
 use crate::first_inputs::read_first_inputs;
@@ -36,7 +36,10 @@ pub fn read_live_inputs<W: World>(
     ensures some_threads { IfOk result (λ inputs. 1 ≤ inputs.conf.threads) }
     ensures few_threads { IfOk result (λ inputs. inputs.conf.threads ≤ 16) }
     ensures short { IfOk result (λ inputs. All IsShort inputs.capture.packets) }
-    ensures only_reads { OnlyReads W.ledger W.healthy 3 world.old world.new }
+    ensures only_reads { OnlyReads W.ledger W.healthy (live_inputs (live_names_of names.entry))
+        world.old world.new }
+    ensures opened { OnOk result (OpensAll (live_inputs (live_names_of names.entry))
+        (W.ledger world.old) (W.ledger world.new)) }
     ensures cause { IsErrOf result Status.ReadFault
         → Rose (W.ledger world.old).read_faults (W.ledger world.new).read_faults }
     ensures judged { (p : Start) → W.honest p world.new → JudgesLiveInputs (W.healthy world.old)

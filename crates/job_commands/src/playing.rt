@@ -2,6 +2,7 @@ ghost use Rattle.std.specs.Prelude.{◌≡◌, ◌⊎◌, ◌+◌, ◌<◌, ◌�
 ghost use Rattle.plain_machine.specs.declared.plain_move.PlayFault as move_fault;
 ghost use Rattle.plain_text.specs.declared.limit.Limit.{Limit as LimitKind};
 ghost use Rattle.world_io.specs.Stream.{Rose};
+ghost use Rattle.input_files.specs.Files.{OpensAll, OpensFirst};
 ghost use Rattle.output_files.specs.Written.{WritesFiles};
 ghost use Rattle.schedule_commands.specs.Playing.{HasBegunPlay, HasPlayed, SaysPlay};
 ghost use Rattle.schedule_commands.specs.Runs.{CanPlay};
@@ -10,7 +11,7 @@ ghost use Rattle.job_commands.specs.Schedules.{JudgesPlay, PlaysInOrder, PlaysWh
 ghost use Rattle.job_commands.specs.Schedules.{schedule_of};
 ghost use Rattle.job_commands.specs.Status.{AtInputs, AtOutputs, IsRefusal, stage_of};
 ghost use Rattle.job_commands.specs.Status.{stage_of_limit};
-ghost use Rattle.job_commands.specs.Words.{play_names_of};
+ghost use Rattle.job_commands.specs.Words.{files_of, play_names_of, schedule_inputs};
 ghost use Rattle.world_io.specs.World.{Start, WritingFailed};
 
 use crate::status::play_outcome;
@@ -65,6 +66,10 @@ pub fn play_capture<W: World>(alloc: Global, world: &mut W, names: PlayWords<'_>
     ensures creates_nothing { IsRefusal result
         → (W.ledger world.new).created ≡ (W.ledger world.old).created }
     ensures words { result ≡ Status.BadWords → ⊥ }
+    ensures opens_in_order { OpensFirst (schedule_inputs (files_of names.entry.files))
+        (W.ledger world.old) (W.ledger world.new) }
+    ensures opens_all { result ≡ Status.Done → OpensAll (schedule_inputs (files_of names.entry.files))
+        (W.ledger world.old) (W.ledger world.new) }
     ensures given { (W.ledger world.new).given ≤ (W.ledger world.old).given + 4 }
     ensures read_fault { result ≡ Status.ReadFault
         → Rose (W.ledger world.old).read_faults (W.ledger world.new).read_faults }

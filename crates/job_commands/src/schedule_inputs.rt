@@ -1,10 +1,10 @@
-ghost use Rattle.std.specs.Prelude.{◌<◌, ◌^◌, IfOk, IfErr, IsErrOf};
+ghost use Rattle.std.specs.Prelude.{◌<◌, ◌^◌, IfOk, IfErr, IsErrOf, OnOk};
 ghost use Rattle.world_io.specs.Stream.{Rose};
 ghost use Rattle.schedule_commands.specs.Runs.{CanPlay};
-ghost use Rattle.input_files.specs.Files.{KeepsOutputs, OnlyReads};
+ghost use Rattle.input_files.specs.Files.{KeepsOutputs, OnlyReads, OpensAll};
 ghost use Rattle.job_commands.specs.Schedules.{JudgesScheduleFiles, JudgesCheckFiles, schedule_of};
 ghost use Rattle.job_commands.specs.Status.{AtInputs, ComesAt, EndsReading};
-ghost use Rattle.job_commands.specs.Words.{check_names_of, files_of};
+ghost use Rattle.job_commands.specs.Words.{check_inputs, check_names_of, files_of, schedule_inputs};
 ghost use Rattle.world_io.specs.World.{Start};
 
 use crate::first_inputs::read_first_inputs;
@@ -40,7 +40,10 @@ pub fn read_schedule_inputs<W: World>(
     requires { (W.ledger world.old).given < 2 ^ 31 }
     ensures quiet { IfErr result EndsReading }
     ensures can_play { IfOk result (λ inputs. CanPlay (schedule_of inputs)) }
-    ensures only_reads { OnlyReads W.ledger W.healthy 3 world.old world.new }
+    ensures only_reads { OnlyReads W.ledger W.healthy (schedule_inputs (files_of files.entry))
+        world.old world.new }
+    ensures opened { OnOk result (OpensAll (schedule_inputs (files_of files.entry))
+        (W.ledger world.old) (W.ledger world.new)) }
     ensures cause { IsErrOf result Status.ReadFault
         → Rose (W.ledger world.old).read_faults (W.ledger world.new).read_faults }
     ensures judged { (p : Start) → W.honest p world.new → JudgesScheduleFiles (W.healthy world.old)
@@ -73,7 +76,10 @@ pub fn read_check_inputs<W: World>(
     requires { (W.ledger world.old).given < 2 ^ 31 }
     ensures quiet { IfErr result EndsReading }
     ensures can_play { IfOk result (λ inputs. CanPlay (schedule_of inputs.played)) }
-    ensures only_reads { OnlyReads W.ledger W.healthy 4 world.old world.new }
+    ensures only_reads { OnlyReads W.ledger W.healthy (check_inputs (check_names_of names.entry))
+        world.old world.new }
+    ensures opened { OnOk result (OpensAll (check_inputs (check_names_of names.entry))
+        (W.ledger world.old) (W.ledger world.new)) }
     ensures cause { IsErrOf result Status.ReadFault
         → Rose (W.ledger world.old).read_faults (W.ledger world.new).read_faults }
     ensures judged { (p : Start) → W.honest p world.new → JudgesCheckFiles (W.healthy world.old)

@@ -3,11 +3,12 @@ use Rattle.std.specs.Prelude.{◌≡◌, ◌+◌, ◌≤◌, ◌↔◌, ℕ, Lis
 use Rattle.plain_text.specs.declared.limit.Limit.{Limit}
 use Rattle.world_io.specs.Stream.{Rose}
 use Rattle.world_io.specs.World.{Start, Shown, Ledger}
+use Rattle.input_files.specs.Files.{OpensAll, OpensFirst}
 use Rattle.run_writes.specs.Run.{KeepsShown}
 use Rattle.job_commands.specs.declared.status.Status.{Status}
 use Rattle.job_commands.specs.declared.status.Status.TheVariants.{BadWords, Done, ReadFault, TooLarge, WriteFault}
 use Rattle.job_commands.specs.Status.{AtInputs, IsRefusal}
-use Rattle.job_commands.specs.Words.{IfAsks, asked}
+use Rattle.job_commands.specs.Words.{IfAsks, asked, inputs_of}
 use Rattle.job_top.specs.Commands.{AcceptsInputsOf, CompletesAs, JudgesInputsOf, KeepsNames, Leaves, LeavesInOrder}
 use Rattle.job_top.specs.Commands.{StopsAtLimit, stage_in}
 use Rattle.job_top.specs.Headline.{KeepsPromiseOf}
@@ -37,5 +38,7 @@ pub record Answers {W : Type 0} (honest : Start → W → Type 0) (shows : Start
   pub never_fails : healthy old → ¬ (status ≡ WriteFault)
   pub read_fault : status ≡ ReadFault → Rose (ledger old).read_faults (ledger new).read_faults
   pub write_fault : status ≡ WriteFault → Rose (ledger old).write_faults (ledger new).write_faults
+  pub opens_in_order : IfAsks words (λ command. OpensFirst (inputs_of command) (ledger old) (ledger new))
+  pub opens_all : status ≡ Done → IfAsks words (λ command. OpensAll (inputs_of command) (ledger old) (ledger new))
   pub given : (ledger new).given ≤ (ledger old).given + 6
   pub before : (p : Start) → honest p new → honest p old

@@ -2,12 +2,13 @@ ghost use Rattle.std.specs.Prelude.{◌≡◌, ◌+◌, ◌<◌, ◌≤◌, ◌-
 ghost use Rattle.plain_text.specs.declared.limit.Limit.{Limit as LimitKind};
 ghost use Rattle.world_io.specs.Stream.{Rose};
 ghost use Rattle.world_io.specs.World.{Start, WritingFailed};
+ghost use Rattle.input_files.specs.Files.{OpensAll, OpensFirst};
 ghost use Rattle.output_files.specs.Written.{WritesFiles};
 ghost use Rattle.run_writes.specs.Run.{KeepsShown};
 ghost use Rattle.live_writes.specs.Outputs.{AreApart, CanLive};
 ghost use Rattle.live_command.specs.Plans.{LivesInOrder, LivesToLimit, LivesWhole};
 ghost use Rattle.job_commands.specs.Status.{AtInputs, IsRefusal, stage_of};
-ghost use Rattle.job_commands.specs.Words.{live_names_of};
+ghost use Rattle.job_commands.specs.Words.{live_inputs, live_names_of};
 ghost use Rattle.job_commands.specs.declared.status.Status.TheVariants as status;
 ghost use Rattle.job_top.specs.Live.{JudgesLive, LivesFiles, LivesLimit, LivesOrder};
 ghost use Rattle.job_top.specs.Live.{live_outputs, live_setting, plan_of};
@@ -96,6 +97,10 @@ pub(crate) fn live<
     ensures creates_nothing { IsRefusal result
         → (W.ledger world.new).created ≡ (W.ledger world.old).created }
     ensures words { result ≡ Status.BadWords → ⊥ }
+    ensures opens_in_order { OpensFirst (live_inputs (live_names_of names.entry))
+        (W.ledger world.old) (W.ledger world.new) }
+    ensures opens_all { result ≡ Status.Done → OpensAll (live_inputs (live_names_of names.entry))
+        (W.ledger world.old) (W.ledger world.new) }
     ensures given { (W.ledger world.new).given ≤ (W.ledger world.old).given + 6 }
     ensures read_fault { result ≡ Status.ReadFault
         → Rose (W.ledger world.old).read_faults (W.ledger world.new).read_faults }

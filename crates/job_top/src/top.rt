@@ -2,6 +2,7 @@ ghost use Rattle.std.specs.Prelude.{◌≡◌, ◌+◌, ◌<◌, ◌≤◌, ◌-
 ghost use Rattle.std.specs.Prelude.{IsErrOf};
 ghost use Rattle.plain_text.specs.declared.limit.Limit.{Limit as LimitKind};
 ghost use Rattle.world_io.specs.Stream.{Rose};
+ghost use Rattle.input_files.specs.Files.{OpensAll, OpensFirst};
 ghost use Rattle.output_files.specs.Written.{WritesFiles};
 ghost use Rattle.run_writes.specs.Run.{CanRun, HasBegunRun, HasRun, HasStopped, KeepsShown};
 ghost use Rattle.job_top.specs.Commands.{AcceptsInputsOf, CompletesAs, Leaves, LeavesInOrder};
@@ -12,7 +13,8 @@ ghost use Rattle.job_commands.specs.Run.{RunsInOrder, RunsToLimit, RunsWhole, ou
 ghost use Rattle.job_commands.specs.Run.{script_of, setting_for};
 ghost use Rattle.job_commands.specs.Status.{AtInputs, AtOutputs, IsRefusal, stage_of};
 ghost use Rattle.job_commands.specs.Status.{stage_of_limit};
-ghost use Rattle.job_commands.specs.Words.{asked, IfAsks, live_names, names_of};
+ghost use Rattle.job_commands.specs.Words.{asked, IfAsks, inputs_of, live_names};
+ghost use Rattle.job_commands.specs.Words.{names_of, run_inputs};
 ghost use Rattle.world_io.specs.World.{Start, WritingFailed};
 
 use crate::live::live;
@@ -93,6 +95,10 @@ fn run<W: World>(alloc: Global, world: &mut W, names: RunWords<'_>) -> Status
     ensures creates_nothing { IsRefusal result
         → (W.ledger world.new).created ≡ (W.ledger world.old).created }
     ensures words { result ≡ Status.BadWords → ⊥ }
+    ensures opens_in_order { OpensFirst (run_inputs (names_of names.entry))
+        (W.ledger world.old) (W.ledger world.new) }
+    ensures opens_all { result ≡ Status.Done → OpensAll (run_inputs (names_of names.entry))
+        (W.ledger world.old) (W.ledger world.new) }
     ensures given { (W.ledger world.new).given ≤ (W.ledger world.old).given + 5 }
     ensures read_fault { result ≡ Status.ReadFault
         → Rose (W.ledger world.old).read_faults (W.ledger world.new).read_faults }
@@ -149,11 +155,16 @@ pub fn serial<W: World>(alloc: Global, words: &[Text], world: &mut W) -> Status
         → CompletesAs command result) }
     ensures never_fails { W.healthy world.old → ¬ (result ≡ Status.WriteFault) }
 
-    // The world's ledger: which faults rose, and how many files it gave a number.
+    // The world's ledger: which faults rose, how many files it gave a number, and that the input
+    // files were opened in the order of the words: a first part of them, and all for Done.
     ensures read_fault { result ≡ Status.ReadFault
         → Rose (W.ledger world.old).read_faults (W.ledger world.new).read_faults }
     ensures write_fault { result ≡ Status.WriteFault
         → Rose (W.ledger world.old).write_faults (W.ledger world.new).write_faults }
+    ensures opens_in_order { IfAsks words.now (λ command.
+        OpensFirst (inputs_of command) (W.ledger world.old) (W.ledger world.new)) }
+    ensures opens_all { result ≡ Status.Done → IfAsks words.now (λ command.
+        OpensAll (inputs_of command) (W.ledger world.old) (W.ledger world.new)) }
     ensures given { (W.ledger world.new).given ≤ (W.ledger world.old).given + 5 }
     ensures before { (p : Start) → W.honest p world.new → W.honest p world.old }
 {
@@ -248,11 +259,16 @@ pub fn ftmb<W: World, C: Clock + Sync, G: Gate + Sync, R: AllocGlobal + Threads 
         → CompletesAs command result) }
     ensures never_fails { W.healthy world.old → ¬ (result ≡ Status.WriteFault) }
 
-    // The world's ledger: which faults rose, and how many files it gave a number.
+    // The world's ledger: which faults rose, how many files it gave a number, and that the input
+    // files were opened in the order of the words: a first part of them, and all for Done.
     ensures read_fault { result ≡ Status.ReadFault
         → Rose (W.ledger world.old).read_faults (W.ledger world.new).read_faults }
     ensures write_fault { result ≡ Status.WriteFault
         → Rose (W.ledger world.old).write_faults (W.ledger world.new).write_faults }
+    ensures opens_in_order { IfAsks words.now (λ command.
+        OpensFirst (inputs_of command) (W.ledger world.old) (W.ledger world.new)) }
+    ensures opens_all { result ≡ Status.Done → IfAsks words.now (λ command.
+        OpensAll (inputs_of command) (W.ledger world.old) (W.ledger world.new)) }
     ensures given { (W.ledger world.new).given ≤ (W.ledger world.old).given + 6 }
     ensures before { (p : Start) → W.honest p world.new → W.honest p world.old }
 {

@@ -59,7 +59,8 @@ pub trait World {
     /// Starts reading a name at its first byte. The file has a number of its own, which is not 0.
     fn open_file(&mut self, name: &Text) -> Result<u32, OpenFault>
         requires { (ledger self.old).given < 2 ^ 32 - 1 }
-        ensures given { IfOk result (λ file. GivesOpened name.now file (ledger self.old) (ledger self.new)) }
+        ensures given { IfOk result
+            (λ file. GivesOpened name.now file (ledger self.old) (ledger self.new)) }
         ensures not_given { OnErr result (KeepsLedgerReading (ledger self.old) (ledger self.new)) }
         ensures cause { IsErrOf result OpenFault.Failed
             → Rose (ledger self.old).read_faults (ledger self.new).read_faults }

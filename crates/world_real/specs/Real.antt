@@ -29,8 +29,8 @@ held_in contents None = None
 held_in contents (Some (Reading f)) = None
 held_in contents (Some (Writing f)) = contents f
 
--- the files in the order of their numbers, which count from 1, the names of the opened ones in the order of opening, and
--- how often reading and writing failed
+-- the files in the order of their numbers, which count from 1, the names of the opened ones in the order of opening,
+-- and how often reading and writing failed
 pub record Real (F : Type 0) : Type 0 where
   pub files : List (RealFile F)
   pub opened_names : List (List ℕ)

@@ -1,4 +1,5 @@
 use Rattle.std.proofs.Common.{ap, sym, ◌∙◌, inl, inr}
+use Rattle.input_files.proofs.OnlyReading.{OpensFirst-all}
 use Rattle.job_commands.specs.Status.{stage_of}
 use Rattle.job_commands.specs.Words.{check_names_of}
 use Rattle.job_commands.proofs.Outcomes.{kept, not_of_run}
@@ -62,6 +63,12 @@ returns-in-Ok-clause-write_fault g c e =
     failed_since _ _ _ _ _ _ c.in-Ok.ensures.only_reads
     (c.check_box.ensures.cause (check_fault c.check_box.result (sym c.check_outcome.ensures ∙ e)))
 
+pub returns-in-Ok-clause-opens_in_order : goal.returns-in-Ok-clause-opens_in_order
+returns-in-Ok-clause-opens_in_order g c = OpensFirst-all _ _ _ (c.check_box.ensures.only_writes.ledger.opened_names ∙ c.in-Ok.ensures.opened)
+
+pub returns-in-Ok-clause-opens_all : goal.returns-in-Ok-clause-opens_all
+returns-in-Ok-clause-opens_all g c e = c.check_box.ensures.only_writes.ledger.opened_names ∙ c.in-Ok.ensures.opened
+
 -- an input is refused
 
 pub returns-in-Err-clause-creates_nothing : goal.returns-in-Err-clause-creates_nothing
@@ -87,3 +94,9 @@ returns-in-Err-clause-words g c e = quiet_words c.in-Err.status e c.in-Err.ensur
 
 pub returns-in-Err-clause-write_fault : goal.returns-in-Err-clause-write_fault
 returns-in-Err-clause-write_fault g c e = absurd (quiet_writing c.in-Err.status e c.in-Err.ensures.quiet)
+
+pub returns-in-Err-clause-opens_in_order : goal.returns-in-Err-clause-opens_in_order
+returns-in-Err-clause-opens_in_order g c = c.in-Err.ensures.only_reads.ledger.opened
+
+pub returns-in-Err-clause-opens_all : goal.returns-in-Err-clause-opens_all
+returns-in-Err-clause-opens_all g c e = absurd (quiet_done c.in-Err.status e c.in-Err.ensures.quiet)

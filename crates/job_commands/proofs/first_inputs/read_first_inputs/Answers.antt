@@ -1,5 +1,6 @@
-use Rattle.std.proofs.Common.{Err}
+use Rattle.std.proofs.Common.{◌∷◌, [], Err}
 use Rattle.input_files.specs.Answers.{SaysCapture}
+use Rattle.input_files.proofs.OnlyReading.{OnlyReads-more, OnlyReads-then, OpensAll-then}
 use Rattle.job_commands.proofs.Stages.{capture_stage}
 use Rattle.job_commands.proofs.ThreeFiles.{box_refused, capture_refused}
 use Rattle.job_commands.proofs.Turns.{judged_since}
@@ -26,3 +27,21 @@ returns-in-Err-read_capture_file-clause-stage g c p q =
     rw c.capture_status.ensures (capture_stage (g.W.World.healthy c.read_box_file.new.world) c.args.capture.now
     (g.W.World.shows p c.read_box_file.new.world) c.in-Err-read_capture_file.error
     (c.in-Err-read_capture_file.ensures.judged p q))
+
+pub returns-in-Err-clause-only_reads : goal.returns-in-Err-clause-only_reads
+returns-in-Err-clause-only_reads g c =
+    OnlyReads-more _ _ (c.args.box_file.now ∷ []) (c.args.capture.now ∷ []) _ _ c.in-Err.ensures.only_reads
+
+pub returns-in-Err-read_capture_file-clause-only_reads : goal.returns-in-Err-read_capture_file-clause-only_reads
+returns-in-Err-read_capture_file-clause-only_reads g c =
+    OnlyReads-then _ _ (c.args.box_file.now ∷ []) (c.args.capture.now ∷ []) _ _ _ c.in-Ok.ensures.only_reads c.in-Ok.ensures.opened
+    c.in-Err-read_capture_file.ensures.only_reads
+
+pub returns-in-Ok-read_capture_file-clause-only_reads : goal.returns-in-Ok-read_capture_file-clause-only_reads
+returns-in-Ok-read_capture_file-clause-only_reads g c =
+    OnlyReads-then _ _ (c.args.box_file.now ∷ []) (c.args.capture.now ∷ []) _ _ _ c.in-Ok.ensures.only_reads c.in-Ok.ensures.opened
+    c.in-Ok-read_capture_file.ensures.only_reads
+
+pub returns-in-Ok-read_capture_file-clause-opened : goal.returns-in-Ok-read_capture_file-clause-opened
+returns-in-Ok-read_capture_file-clause-opened g c =
+    OpensAll-then (c.args.box_file.now ∷ []) (c.args.capture.now ∷ []) _ _ _ c.in-Ok.ensures.opened c.in-Ok-read_capture_file.ensures.opened

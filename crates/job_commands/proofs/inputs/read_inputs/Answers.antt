@@ -1,3 +1,5 @@
+use Rattle.std.proofs.Common.{◌∷◌, []}
+use Rattle.input_files.proofs.OnlyReading.{OnlyReads-more, OnlyReads-then, OpensAll-then}
 use Rattle.job_commands.specs.Words.{names_of}
 use Rattle.job_commands.proofs.Verdicts.{first_refused, script_refused}
 use Rattle.job_commands.proofs.inputs.read_inputs.Goals as goal
@@ -16,3 +18,21 @@ returns-in-Err-read_script_file-clause-judged g c p q =
     (g.W.World.shows p c.args.world.now) (g.W.World.shows p c.read_first_inputs.new.world)
     (c.in-Ok.ensures.keeps p q1).names c.in-Err-read_script_file.error c.in-Ok.first.conf
     c.in-Ok.first.capture first.0 first.1 (c.in-Err-read_script_file.ensures.judged p q))
+
+pub returns-in-Err-clause-only_reads : goal.returns-in-Err-clause-only_reads
+returns-in-Err-clause-only_reads g c =
+    OnlyReads-more _ _ (c.args.names.box_file.now ∷ c.args.names.capture.now ∷ []) (c.args.names.script.now ∷ []) _ _ c.in-Err.ensures.only_reads
+
+pub returns-in-Err-read_script_file-clause-only_reads : goal.returns-in-Err-read_script_file-clause-only_reads
+returns-in-Err-read_script_file-clause-only_reads g c =
+    OnlyReads-then _ _ (c.args.names.box_file.now ∷ c.args.names.capture.now ∷ []) (c.args.names.script.now ∷ []) _ _ _ c.in-Ok.ensures.only_reads c.in-Ok.ensures.opened
+    c.in-Err-read_script_file.ensures.only_reads
+
+pub returns-in-Ok-read_script_file-clause-only_reads : goal.returns-in-Ok-read_script_file-clause-only_reads
+returns-in-Ok-read_script_file-clause-only_reads g c =
+    OnlyReads-then _ _ (c.args.names.box_file.now ∷ c.args.names.capture.now ∷ []) (c.args.names.script.now ∷ []) _ _ _ c.in-Ok.ensures.only_reads c.in-Ok.ensures.opened
+    c.in-Ok-read_script_file.ensures.only_reads
+
+pub returns-in-Ok-read_script_file-clause-opened : goal.returns-in-Ok-read_script_file-clause-opened
+returns-in-Ok-read_script_file-clause-opened g c =
+    OpensAll-then (c.args.names.box_file.now ∷ c.args.names.capture.now ∷ []) (c.args.names.script.now ∷ []) _ _ _ c.in-Ok.ensures.opened c.in-Ok-read_script_file.ensures.opened

@@ -1,5 +1,6 @@
-use Rattle.std.proofs.Common.{Err}
+use Rattle.std.proofs.Common.{◌∷◌, [], Err}
 use Rattle.input_files.specs.Answers.{SaysPlan}
+use Rattle.input_files.proofs.OnlyReading.{OnlyReads-more, OnlyReads-then, OpensAll-then}
 use Rattle.job_commands.specs.Live.{plan_third}
 use Rattle.job_commands.specs.Words.{live_names_of}
 use Rattle.job_commands.proofs.ThreeFiles.{first_refused, third_refused}
@@ -25,3 +26,21 @@ returns-in-Err-read_plan_file-clause-judged g c p q =
     (judged_since SaysPlan h (g.W.World.healthy c.read_first_inputs.new.world) c.in-Ok.ensures.only_reads.stays_healthy
     a (g.W.World.shows p c.read_first_inputs.new.world) (c.in-Ok.ensures.keeps p q1).names
     c.args.names.plan.now (Err c.in-Err-read_plan_file.error) (c.in-Err-read_plan_file.ensures.judged p q)))
+
+pub returns-in-Err-clause-only_reads : goal.returns-in-Err-clause-only_reads
+returns-in-Err-clause-only_reads g c =
+    OnlyReads-more _ _ (c.args.names.box_file.now ∷ c.args.names.capture.now ∷ []) (c.args.names.plan.now ∷ []) _ _ c.in-Err.ensures.only_reads
+
+pub returns-in-Err-read_plan_file-clause-only_reads : goal.returns-in-Err-read_plan_file-clause-only_reads
+returns-in-Err-read_plan_file-clause-only_reads g c =
+    OnlyReads-then _ _ (c.args.names.box_file.now ∷ c.args.names.capture.now ∷ []) (c.args.names.plan.now ∷ []) _ _ _ c.in-Ok.ensures.only_reads c.in-Ok.ensures.opened
+    c.in-Err-read_plan_file.ensures.only_reads
+
+pub returns-in-Ok-read_plan_file-clause-only_reads : goal.returns-in-Ok-read_plan_file-clause-only_reads
+returns-in-Ok-read_plan_file-clause-only_reads g c =
+    OnlyReads-then _ _ (c.args.names.box_file.now ∷ c.args.names.capture.now ∷ []) (c.args.names.plan.now ∷ []) _ _ _ c.in-Ok.ensures.only_reads c.in-Ok.ensures.opened
+    c.in-Ok-read_plan_file.ensures.only_reads
+
+pub returns-in-Ok-read_plan_file-clause-opened : goal.returns-in-Ok-read_plan_file-clause-opened
+returns-in-Ok-read_plan_file-clause-opened g c =
+    OpensAll-then (c.args.names.box_file.now ∷ c.args.names.capture.now ∷ []) (c.args.names.plan.now ∷ []) _ _ _ c.in-Ok.ensures.opened c.in-Ok-read_plan_file.ensures.opened

@@ -1,4 +1,5 @@
 use Rattle.std.proofs.Common.{ap, sym, subst, ◌∙◌, inl, inr}
+use Rattle.input_files.proofs.OnlyReading.{OpensFirst-all}
 use Rattle.job_commands.specs.declared.status.Status.{Status}
 use Rattle.job_commands.specs.Status.{IsRefusal, stage_of}
 use Rattle.job_commands.specs.Words.{play_names_of}
@@ -65,6 +66,12 @@ returns-in-Ok-clause-write_fault g c e =
     failed_since _ _ _ _ _ _ c.in-Ok.ensures.only_reads
     (c.play_box.ensures.cause (play_fault c.play_box.result (sym c.play_outcome.ensures ∙ e)))
 
+pub returns-in-Ok-clause-opens_in_order : goal.returns-in-Ok-clause-opens_in_order
+returns-in-Ok-clause-opens_in_order g c = OpensFirst-all _ _ _ (c.play_box.ensures.writes_files.ledger.opened_names ∙ c.in-Ok.ensures.opened)
+
+pub returns-in-Ok-clause-opens_all : goal.returns-in-Ok-clause-opens_all
+returns-in-Ok-clause-opens_all g c e = c.play_box.ensures.writes_files.ledger.opened_names ∙ c.in-Ok.ensures.opened
+
 -- an input is refused
 
 pub returns-in-Err-clause-creates_nothing : goal.returns-in-Err-clause-creates_nothing
@@ -91,3 +98,9 @@ returns-in-Err-clause-words g c e = quiet_words c.in-Err.status e c.in-Err.ensur
 
 pub returns-in-Err-clause-write_fault : goal.returns-in-Err-clause-write_fault
 returns-in-Err-clause-write_fault g c e = absurd (quiet_writing c.in-Err.status e c.in-Err.ensures.quiet)
+
+pub returns-in-Err-clause-opens_in_order : goal.returns-in-Err-clause-opens_in_order
+returns-in-Err-clause-opens_in_order g c = c.in-Err.ensures.only_reads.ledger.opened
+
+pub returns-in-Err-clause-opens_all : goal.returns-in-Err-clause-opens_all
+returns-in-Err-clause-opens_all g c e = absurd (quiet_done c.in-Err.status e c.in-Err.ensures.quiet)

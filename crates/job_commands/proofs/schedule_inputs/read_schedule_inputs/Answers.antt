@@ -1,5 +1,6 @@
-use Rattle.std.proofs.Common.{Err}
+use Rattle.std.proofs.Common.{◌∷◌, [], Err}
 use Rattle.input_files.specs.Answers.{SaysSchedule}
+use Rattle.input_files.proofs.OnlyReading.{OnlyReads-more, OnlyReads-then, OpensAll-then}
 use Rattle.job_commands.specs.Schedules.{schedule_third}
 use Rattle.job_commands.specs.Words.{files_of}
 use Rattle.job_commands.proofs.ThreeFiles.{first_refused, third_refused}
@@ -26,3 +27,21 @@ returns-in-Err-read_schedule_file-clause-judged g c p q =
     c.in-Ok.ensures.only_reads.stays_healthy a (g.W.World.shows p c.read_first_inputs.new.world)
     (c.in-Ok.ensures.keeps p q1).names c.args.files.schedule.now (Err c.in-Err-read_schedule_file.error)
     (c.in-Err-read_schedule_file.ensures.judged p q)))
+
+pub returns-in-Err-clause-only_reads : goal.returns-in-Err-clause-only_reads
+returns-in-Err-clause-only_reads g c =
+    OnlyReads-more _ _ (c.args.files.box_file.now ∷ c.args.files.capture.now ∷ []) (c.args.files.schedule.now ∷ []) _ _ c.in-Err.ensures.only_reads
+
+pub returns-in-Err-read_schedule_file-clause-only_reads : goal.returns-in-Err-read_schedule_file-clause-only_reads
+returns-in-Err-read_schedule_file-clause-only_reads g c =
+    OnlyReads-then _ _ (c.args.files.box_file.now ∷ c.args.files.capture.now ∷ []) (c.args.files.schedule.now ∷ []) _ _ _ c.in-Ok.ensures.only_reads c.in-Ok.ensures.opened
+    c.in-Err-read_schedule_file.ensures.only_reads
+
+pub returns-in-Ok-read_schedule_file-clause-only_reads : goal.returns-in-Ok-read_schedule_file-clause-only_reads
+returns-in-Ok-read_schedule_file-clause-only_reads g c =
+    OnlyReads-then _ _ (c.args.files.box_file.now ∷ c.args.files.capture.now ∷ []) (c.args.files.schedule.now ∷ []) _ _ _ c.in-Ok.ensures.only_reads c.in-Ok.ensures.opened
+    c.in-Ok-read_schedule_file.ensures.only_reads
+
+pub returns-in-Ok-read_schedule_file-clause-opened : goal.returns-in-Ok-read_schedule_file-clause-opened
+returns-in-Ok-read_schedule_file-clause-opened g c =
+    OpensAll-then (c.args.files.box_file.now ∷ c.args.files.capture.now ∷ []) (c.args.files.schedule.now ∷ []) _ _ _ c.in-Ok.ensures.opened c.in-Ok-read_schedule_file.ensures.opened

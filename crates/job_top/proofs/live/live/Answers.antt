@@ -1,5 +1,6 @@
 use Rattle.std.proofs.Common.{ap, sym, subst, ◌∙◌, inl, inr}
 use Rattle.live_writes.specs.Outputs.{AreApart}
+use Rattle.input_files.proofs.OnlyReading.{OpensFirst-all}
 use Rattle.job_commands.specs.declared.status.Status.{Status}
 use Rattle.job_commands.specs.Status.{IsRefusal, stage_of}
 use Rattle.job_commands.specs.Words.{live_names_of}
@@ -86,6 +87,13 @@ returns-in-Ok-clause-write_fault g c e =
     failed_since _ _ _ _ _ _ c.in-Ok.ensures.only_reads
     (c.live_box.ensures.cause (run_fault c.live_box.result (sym c.run_outcome.ensures ∙ e)))
 
+pub returns-in-Ok-clause-opens_in_order : goal.returns-in-Ok-clause-opens_in_order
+returns-in-Ok-clause-opens_in_order g c =
+    OpensFirst-all _ _ _ (c.live_box.ensures.writes_files.ledger.opened_names ∙ c.in-Ok.ensures.opened)
+
+pub returns-in-Ok-clause-opens_all : goal.returns-in-Ok-clause-opens_all
+returns-in-Ok-clause-opens_all g c e = c.live_box.ensures.writes_files.ledger.opened_names ∙ c.in-Ok.ensures.opened
+
 -- an input is refused
 
 pub returns-in-Err-clause-creates_nothing : goal.returns-in-Err-clause-creates_nothing
@@ -113,3 +121,9 @@ pub returns-in-Err-clause-judged : goal.returns-in-Err-clause-judged
 returns-in-Err-clause-judged g c p q =
     live_refused (g.W.World.healthy c.args.world.now) (live_names_of c.args.names) c.in-Err.status
     (g.W.World.shows p c.args.world.now) (c.in-Err.ensures.judged p q)
+
+pub returns-in-Err-clause-opens_in_order : goal.returns-in-Err-clause-opens_in_order
+returns-in-Err-clause-opens_in_order g c = c.in-Err.ensures.only_reads.ledger.opened
+
+pub returns-in-Err-clause-opens_all : goal.returns-in-Err-clause-opens_all
+returns-in-Err-clause-opens_all g c e = absurd (quiet_done c.in-Err.status e c.in-Err.ensures.quiet)

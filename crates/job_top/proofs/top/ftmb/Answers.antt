@@ -79,6 +79,18 @@ returns-in-Some-clause-never_fails g c ok e = (c.live.ensures.write_fault e).not
 pub returns-in-Some-clause-write_fault : goal.returns-in-Some-clause-write_fault
 returns-in-Some-clause-write_fault g c e = (c.live.ensures.write_fault e).rose
 
+pub returns-in-Some-clause-opens_in_order : goal.returns-in-Some-clause-opens_in_order
+returns-in-Some-clause-opens_in_order g c =
+    let is : asked c.args.words.now ≡ Some (Lives (live_names_of c.in-Some.names)) =
+    lives_asked c.args.words.now (live_names_of c.in-Some.names) c.in-Some.ensures.names in
+    rw is c.live.ensures.opens_in_order
+
+pub returns-in-Some-clause-opens_all : goal.returns-in-Some-clause-opens_all
+returns-in-Some-clause-opens_all g c done =
+    let is : asked c.args.words.now ≡ Some (Lives (live_names_of c.in-Some.names)) =
+    lives_asked c.args.words.now (live_names_of c.in-Some.names) c.in-Some.ensures.names in
+    rw is (c.live.ensures.opens_all done)
+
 -- other words
 
 pub serial-requires-clause-no_rounds : goal.serial-requires-clause-no_rounds

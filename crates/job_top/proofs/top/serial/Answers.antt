@@ -1,4 +1,5 @@
-use Rattle.std.proofs.Common.{ap, sym, subst, ◌∙◌, Some}
+use Rattle.std.proofs.Common.{[], append-nil, ap, sym, subst, ◌∙◌, Some}
+use Rattle.input_files.proofs.OnlyReading.{OpensFirst-none}
 use Rattle.job_commands.specs.declared.status.Status.{Status}
 use Rattle.job_commands.specs.Status.{IsRefusal, stage_of}
 use Rattle.job_commands.specs.Words.{asked_of, check_names, check_names_of, live_names, live_names_of, made_of}
@@ -129,3 +130,37 @@ returns-in-Some-Check-clause-write_fault g c e = (c.check_released.ensures.write
 
 pub returns-in-Some-Check-clause-never_fails : goal.returns-in-Some-Check-clause-never_fails
 returns-in-Some-Check-clause-never_fails g c ok e = (c.check_released.ensures.write_fault e).not_healthy ok
+
+pub returns-in-Some-Run-clause-opens_in_order : goal.returns-in-Some-Run-clause-opens_in_order
+returns-in-Some-Run-clause-opens_in_order g c =
+    rw (c.in-Some-Run.ensures, c.in-Some-Run.field-0-is) c.run.ensures.opens_in_order
+
+pub returns-in-Some-Run-clause-opens_all : goal.returns-in-Some-Run-clause-opens_all
+returns-in-Some-Run-clause-opens_all g c done =
+    rw (c.in-Some-Run.ensures, c.in-Some-Run.field-0-is) (c.run.ensures.opens_all done)
+
+pub returns-in-Some-Play-clause-opens_in_order : goal.returns-in-Some-Play-clause-opens_in_order
+returns-in-Some-Play-clause-opens_in_order g c =
+    rw (c.in-Some-Play.ensures, c.in-Some-Play.field-0-is) c.play_capture.ensures.opens_in_order
+
+pub returns-in-Some-Play-clause-opens_all : goal.returns-in-Some-Play-clause-opens_all
+returns-in-Some-Play-clause-opens_all g c done =
+    rw (c.in-Some-Play.ensures, c.in-Some-Play.field-0-is) (c.play_capture.ensures.opens_all done)
+
+pub returns-in-Some-Check-clause-opens_in_order : goal.returns-in-Some-Check-clause-opens_in_order
+returns-in-Some-Check-clause-opens_in_order g c =
+    rw (c.in-Some-Check.ensures, c.in-Some-Check.field-0-is) c.check_released.ensures.opens_in_order
+
+pub returns-in-Some-Check-clause-opens_all : goal.returns-in-Some-Check-clause-opens_all
+returns-in-Some-Check-clause-opens_all g c done =
+    rw (c.in-Some-Check.ensures, c.in-Some-Check.field-0-is) (c.check_released.ensures.opens_all done)
+
+pub returns-in-Some-Make-clause-opens_in_order : goal.returns-in-Some-Make-clause-opens_in_order
+returns-in-Some-Make-clause-opens_in_order g c =
+    rw (c.in-Some-Make.ensures, c.in-Some-Make.field-0-is)
+    (OpensFirst-none [] _ _ c.make_capture.ensures.writes_files.ledger.opened_names)
+
+pub returns-in-Some-Make-clause-opens_all : goal.returns-in-Some-Make-clause-opens_all
+returns-in-Some-Make-clause-opens_all g c done =
+    rw (c.in-Some-Make.ensures, c.in-Some-Make.field-0-is)
+    (c.make_capture.ensures.writes_files.ledger.opened_names ∙ sym (append-nil _))

@@ -12,7 +12,14 @@ returns-then-is_err-clause-err c =
     let files = CutsFile-sent c.args.file c.len-sent.result c.args.piece.now c.created.result.now w.files
     c.send.new.self c.cut.new.self c.created.ensures c.len-sent.ensures c.in_ok-send.ensures.ok c.cut.ensures in
     let with : List NamedBytes → List MemoryFile → Memory =
-    λ n f. record { names = n; files = f; opened_names = w.opened_names.items; report = w.report; reading = w.reading; writing = w.writing } in
+    λ n f. record {
+      names = n;
+      files = f;
+      opened_names = w.opened_names.items;
+      report = w.report;
+      reading = w.reading;
+      writing = w.writing;
+    } in
     ap (λ n. with n c.cut.new.self) names ∙ ap (with w.names) files ∙ c.self.view_is
 
 pub returns-clause-ok : goal.returns-clause-ok
