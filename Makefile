@@ -54,11 +54,12 @@ bench: build/ftmb build/bench
 	scripts/bench build/bench
 	scripts/bench_run build/ftmb build/bench build/measured
 
-# Runs of chosen events with crashes from 1,000 seeds, each accepted by the check; and 500 plans of racing threads, each run again by the
-# script that it wrote.
+# Random scripts with crashes from 2,000 seeds, each performed twice and accepted by the check; 500 plans of racing threads, each run again by
+# the script that it wrote; and runs of which each request for memory is refused in turn.
 soak: build/ftmb
 	scripts/soak build/ftmb build/soak
 	scripts/soak_live build/ftmb build/soak_live
+	scripts/soak_memory build/ftmb build/soak_memory
 
 # Runs the program so that it ends with each of its statuses, and compares what it tells. Runs it on captures in all four forms and on
 # pcapng captures, and has tcpdump and Wireshark's tools read what was released; and has tshark verify the checksums of generated packets,
