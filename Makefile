@@ -35,7 +35,7 @@ plants:
 
 # Runs a box on a packet, the one of the program's stored run, and checks what it wrote; and runs a box on two threads by a script of single
 # events, and the NAT on packets of two hosts. Shows what was written. Last, the NAT crashes when a host's first packet has left: both its
-# packets are to have left from one port. And two threads of the monitor race, with a crash between their rounds.
+# packets are to have left from one port. And two threads of the monitor race, with a crash between their rounds. Another middlebox is judged.
 example: build/ftmb
 	scripts/example build/ftmb build/example $(addprefix crates/ftmb/data/,box capture script)
 	scripts/example_check build/ftmb build/example
@@ -44,6 +44,7 @@ example: build/ftmb
 	scripts/example build/ftmb build/example/nat_crash $(addprefix crates/ftmb_runs/data/,box_nat_crash capture_one_host script_nat_crash)
 	scripts/example_port build/ftmb build/example/nat_crash
 	scripts/example_live build/ftmb build/example/live $(addprefix crates/ftmb_runs/data/,box_monitor_two_threads capture_two_packets)
+	scripts/example_other build/ftmb build/example/other
 
 # The bytes summed and the packets rewritten in a second; the packets made and run in a second; the moves that a master makes in a
 # second, beside those of the plain player; the frames written and read, the log entries held, the outputs released, the touches that
@@ -53,11 +54,12 @@ bench: build/ftmb build/bench
 	scripts/bench build/bench
 	scripts/bench_run build/ftmb build/bench build/measured
 
-# Runs of chosen events with crashes from 1,000 seeds, each accepted by the check; and 500 plans of racing threads, each run again by the
-# script that it wrote.
+# Random scripts with crashes from 2,000 seeds, each performed twice and accepted by the check; 500 plans of racing threads, each run again by
+# the script that it wrote; and runs of which each request for memory is refused in turn.
 soak: build/ftmb
 	scripts/soak build/ftmb build/soak
 	scripts/soak_live build/ftmb build/soak_live
+	scripts/soak_memory build/ftmb build/soak_memory
 
 # Runs the program so that it ends with each of its statuses, and compares what it tells. Runs it on captures in all four forms and on
 # pcapng captures, and has tcpdump and Wireshark's tools read what was released; and has tshark verify the checksums of generated packets,
