@@ -1,21 +1,17 @@
-ghost use Rattle.std.specs.Prelude.{◌≡◌, ◌<◌, ◌≤◌, ◌+◌, ◌^◌, ◌⊎◌, None, IfErr, IfOk, IfSome};
-ghost use Rattle.std.specs.IoError.{error_kind};
+ghost use Rattle.std.specs.Prelude.{◌≡◌, ◌<◌, ◌≤◌, ◌+◌, ◌^◌, ◌⊎◌, None, IfSome};
 ghost use Rattle.world_io.specs.Stream.{Rose};
 ghost use Rattle.input_files.specs.Files.{OpensAll, OpensFirst};
 ghost use Rattle.job_commands.specs.Status.{IsRefusal};
 ghost use Rattle.job_commands.specs.Words.{asked, IfAsks, inputs_of};
 ghost use Rattle.command_line.specs.Performing.{Performs};
 ghost use Rattle.command_line.specs.Printing.{Prints, asked_text};
-ghost use Rattle.command_line.specs.Words.{Refuses, words_of};
 ghost use Rattle.world_io.specs.World.{Start, WritingFailed};
 
-use crate::{Request, help, read_request, read_words, version};
+use crate::{Request, help, read_request, version};
 use job_commands::Status;
 use job_top::ftmb;
 use output_files::{OutputError, report};
 use plain_text::Text;
-use std::env::Args;
-use std::io;
 use std::sync::Wait;
 use std::thread::Threads;
 use var_locks::Gate;
