@@ -1,0 +1,4 @@
+pub mod Along
+pub mod Placing
+pub mod Reading
+pub mod Windows

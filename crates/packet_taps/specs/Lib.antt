@@ -1,0 +1,4 @@
+pub mod Places
+pub mod Watching
+pub mod Windows
+pub mod Words

@@ -1,0 +1,21 @@
+//! Packet taps: objects that are shown whole packets of a capture, each in a window of its own.
+//!
+//! A deck seats them, shows them each packet in turn, and gives a tap back, so that it can be seated again between two
+//! captures. A tap that fails is shown nothing more, and the others go on.
+#![tactic(auto)]
+
+mod boxed_tap;
+mod command;
+mod deck;
+mod laws;
+mod place;
+mod showing;
+mod tap;
+mod words;
+
+pub use deck::{Deck, Unseated};
+pub use laws::window_goes_on;
+pub use place::{LostPacket, Place, Taken};
+pub use tap::PacketTap;
+pub use command::{Watched, watch};
+pub use words::{WatchWords, read_watch_words};
