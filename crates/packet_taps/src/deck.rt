@@ -1,5 +1,5 @@
-ghost use Rattle.std.specs.Prelude.{◌≡◌, ◌↔◌, ◌<◌, ◌-◌, ◌^◌, ◌++◌, ◌∷◌, [], length, IfOk, IfErr, OnErr};
-ghost use Rattle.std.specs.Prelude.{IsTrue, MatchOption, Some, slice_get};
+ghost use Rattle.std.specs.Prelude.{◌≡◌, ◌<◌, ◌-◌, ◌^◌, ◌++◌, ◌∷◌, [], length, IfOk, IfErr, OnErr};
+ghost use Rattle.std.specs.Prelude.{MatchOption, Some, slice_get};
 ghost use Rattle.packet_taps.specs.Places.{AreShown, IsLostAt, IsSeatedAt, TakesOut};
 
 use crate::{LostPacket, PacketTap, Place, Taken};
@@ -73,14 +73,12 @@ impl<T: PacketTap> Deck<T> {
 
     /// Takes the tap of a seat out, with what is left of its window. None where no tap sits there: the number was not
     /// given, or its tap was taken out before or lost.
+    #[tactic(auto, using(std::proofs::lemmas::Option::slice_get_within))]
     pub fn take_out(&mut self, seat: u32) -> Option<Taken<T>>
         ensures { TakesOut seat result self.old self.new }
     {
-        let place = seat as usize;
-        if !is_seated(&self.places, place) {
-            return None;
-        }
-        match mem::replace(&mut self.places[place], Place::Out) {
+        let _seated = self.seated(seat)?;
+        match mem::replace(&mut self.places[seat as usize], Place::Out) {
             Place::Seated(taken) => Some(taken),
             Place::Lost(_) | Place::Out => unreachable!(),
         }
@@ -93,6 +91,17 @@ impl<T: PacketTap> Deck<T> {
         self.places.as_slice()
     }
 
+    /// The tap that sits in a seat. None where none does.
+    pub fn seated(&self, seat: u32) -> Option<&Taken<T>>
+        ensures { MatchOption result (¬ IsSeatedAt self.now seat)
+            (λ taken. slice_get self.now seat ≡ Some (Place.Seated taken.now)) }
+    {
+        match self.places.get(seat as usize) {
+            Some(Place::Seated(taken)) => Some(taken),
+            Some(Place::Lost(_)) | Some(Place::Out) | None => None,
+        }
+    }
+
     /// The tap that was lost from a seat. None where none was.
     pub fn lost(&self, seat: u32) -> Option<&LostPacket<T>>
         ensures { MatchOption result (¬ IsLostAt self.now seat)
@@ -103,13 +112,6 @@ impl<T: PacketTap> Deck<T> {
             Some(Place::Seated(_)) | Some(Place::Out) | None => None,
         }
     }
-}
-
-/// Whether a tap sits in this place.
-fn is_seated<T>(places: &[Place<T>], place: usize) -> bool
-    ensures { IsTrue result ↔ IsSeatedAt places.now place }
-{
-    matches!(places.get(place), Some(Place::Seated(_)))
 }
 
 /// Shows a packet to the tap of each place, in order.

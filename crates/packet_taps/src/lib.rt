@@ -8,14 +8,18 @@ mod boxed_tap;
 mod command;
 mod deck;
 mod laws;
+mod line_tap;
 mod place;
+mod printing;
 mod showing;
 mod tap;
 mod words;
 
 pub use deck::{Deck, Unseated};
 pub use laws::window_goes_on;
+pub use line_tap::LineTap;
 pub use place::{LostPacket, Place, Taken};
+pub use printing::{Printed, print_watched};
 pub use tap::PacketTap;
 pub use command::{Watched, watch};
 pub use words::{WatchWords, read_watch_words};
