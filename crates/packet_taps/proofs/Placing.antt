@@ -1,5 +1,6 @@
 -- What becomes of taps when packets are shown, and then more.
-use Rattle.std.proofs.Common.{◌≡◌, ◌<◌, ◌≤◌, ◌+◌, ◌-◌, ℕ, zero, suc, true, false, List, [], ◌∷◌, ◌++◌, length, take, refl}
+use Rattle.std.proofs.Common.{◌≡◌, ◌<◌, ◌≤◌, ◌+◌, ◌-◌, ℕ, zero, suc, true, false, List, [], ◌∷◌, ◌++◌, length, take}
+use Rattle.std.proofs.Common.{refl}
 use Rattle.std.proofs.Common.{sym, ap, ◌∙◌, subst, arith, append_assoc, append-nil, length-append, Some}
 use Rattle.std.proofs.Math.Seq.{take-append-add}
 use Rattle.std.proofs.lemmas.List.{take-append-le}
@@ -24,7 +25,8 @@ module _ {T : Type 0} (tells : T → Type 0) (seen : T → List Packet) (faults 
       (record { tap = tap; skip = skip - 1; quota = quota })
   passes_by tap skip quota packet some = record {
     told = λ t. t;
-    seen_window = λ _. sym (append-nil (seen tap)) ∙ ap (λ l. seen tap ++ l) (sym (window-passes skip quota packet some));
+    seen_window =
+        λ _. sym (append-nil (seen tap)) ∙ ap (λ l. seen tap ++ l) (sym (window-passes skip quota packet some));
     faults_kept = omega arith;
     lacks_kept = omega arith;
     skip = refl;
@@ -78,7 +80,7 @@ module _ {T : Type 0} (tells : T → Type 0) (seen : T → List Packet) (faults 
         ∙ ap (λ n. window a.skip a.quota p ++ window n (quota_behind a.skip a.quota (length p)) q) (sym s.skip)
         ∙ ap (λ n. window a.skip a.quota p ++ window b.skip n q) (sym s.quota)
 
-    stays_on : (b c : Taken T) → Stays tells seen faults lacks p a b → Stays tells seen faults lacks q b c
+    pub stays_on : (b c : Taken T) → Stays tells seen faults lacks p a b → Stays tells seen faults lacks q b c
         → Stays tells seen faults lacks (p ++ q) a c
     stays_on b c s t = record {
       told = λ h. s.told (t.told h);
@@ -93,13 +95,17 @@ module _ {T : Type 0} (tells : T → Type 0) (seen : T → List Packet) (faults 
       quota = omega (arith, s.quota, t.quota, s.skip, length-append p q);
     }
 
-    lost_later : (b : Taken T) (lost : LostPacket T) → Stays tells seen faults lacks p a b
+    pub lost_later : (b : Taken T) (lost : LostPacket T) → Stays tells seen faults lacks p a b
         → IsLost tells seen faults lacks q b lost → IsLost tells seen faults lacks (p ++ q) a lost
     lost_later b lost s t = record {
       told = λ h. s.told (t.told h);
       count = length (window a.skip a.quota p) + t.count;
-      within = omega (arith, t.within, ap length (seams b s),
-          length-append (window a.skip a.quota p) (window b.skip b.quota q));
+      within = omega (
+        arith,
+        t.within,
+        ap length (seams b s),
+        length-append (window a.skip a.quota p) (window b.skip b.quota q),
+      );
       seen_first = λ h.
           t.seen_first h
           ∙ ap (λ l. l ++ take t.count (window b.skip b.quota q)) (s.seen_window (t.told h))

@@ -1,5 +1,6 @@
 -- What windows give of a list in two parts.
-use Rattle.std.proofs.Common.{◌≡◌, ◌<◌, ◌+◌, ◌-◌, ℕ, zero, suc, List, [], ◌∷◌, ◌++◌, length, take, drop, refl, sym, ap, ◌∙◌}
+use Rattle.std.proofs.Common.{◌≡◌, ◌<◌, ◌+◌, ◌-◌, ℕ, zero, suc, List, [], ◌∷◌, ◌++◌, length, take, drop, refl, sym, ap}
+use Rattle.std.proofs.Common.{◌∙◌}
 use Rattle.std.proofs.Common.{subst, arith}
 use Rattle.packet_taps.specs.Windows.{window, skip_behind, quota_behind}
 
@@ -30,8 +31,10 @@ module _ {A : Type 0} where
   same_window skip skip' quota quota' items s q =
       ap (λ n. window n quota items) s ∙ ap (λ n. window skip' n items) q
 
-  pub window-append : (skip quota : ℕ) (first rest : List A) → window skip quota (first ++ rest)
-      ≡ window skip quota first ++ window (skip_behind skip (length first)) (quota_behind skip quota (length first)) rest
+  pub window-append : (skip quota : ℕ) (first rest : List A)
+      → window skip quota (first ++ rest)
+      ≡ window skip quota first
+      ++ window (skip_behind skip (length first)) (quota_behind skip quota (length first)) rest
   window-append skip quota [] rest =
       let s : skip ≡ skip - 0 = omega arith in
       let q : quota ≡ quota - (0 - skip) = omega arith in
@@ -42,10 +45,11 @@ module _ {A : Type 0} where
       let s : skip - count ≡ suc skip - suc count = omega arith in
       let q : quota - (count - skip) ≡ quota - (suc count - suc skip) = omega arith in
       window-append skip quota first rest
-      ∙ ap (λ l. window skip quota first ++ l) (same_window (skip - count) (suc skip - suc count) (quota - (count - skip))
-      (quota - (suc count - suc skip)) rest s q)
+      ∙ ap (λ l. window skip quota first ++ l) (same_window (skip - count) (suc skip - suc count)
+      (quota - (count - skip)) (quota - (suc count - suc skip)) rest s q)
   window-append zero zero (x ∷ first) rest =
-      ap (λ n. take n (drop (0 - suc (length first)) rest)) (let none : 0 ≡ 0 - (suc (length first) - 0) = omega arith in none)
+      ap (λ n. take n (drop (0 - suc (length first)) rest))
+      (let none : 0 ≡ 0 - (suc (length first) - 0) = omega arith in none)
   window-append zero (suc quota) (x ∷ first) rest =
       let count = length first in
       let s : 0 - count ≡ 0 - suc count = omega arith in

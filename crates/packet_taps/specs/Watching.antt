@@ -10,7 +10,8 @@ use Rattle.pcapng_io.specs.Capture.{Section, Reaches, begins_ng}
 use Rattle.pcapng_io.specs.Captured.{SaysAny}
 use Rattle.world_io.specs.World.{Shown, Ledger}
 use Rattle.packet_taps.specs.declared.command.Watched.{Watched}
-use Rattle.packet_taps.specs.declared.command.Watched.TheVariants.{Done, BadWords, ReadFault, NoMemory, BadInput, TooLarge}
+use Rattle.packet_taps.specs.declared.command.Watched.TheVariants.{Done, BadWords, ReadFault, NoMemory, BadInput}
+use Rattle.packet_taps.specs.declared.command.Watched.TheVariants.{TooLarge}
 
 -- the bytes begin with the header of a savefile and the records of these packets
 pub record BeginsSavefile (bytes : List ℕ) (packets : List Packet) : Type 0 where

@@ -15,11 +15,11 @@ mod showing;
 mod tap;
 mod words;
 
+pub use command::{Watched, watch};
 pub use deck::{Deck, Unseated};
-pub use laws::window_goes_on;
+pub use laws::{seating_again_goes_on, window_goes_on};
 pub use line_tap::LineTap;
 pub use place::{LostPacket, Place, Taken};
 pub use printing::{Printed, print_watched};
 pub use tap::PacketTap;
-pub use command::{Watched, watch};
 pub use words::{WatchWords, read_watch_words};

@@ -106,12 +106,12 @@ returns-in-Refused-next_packet-clause-shown g c =
           let before = g.met.S.Source.reads_before p _ _ _ h
           (some_of_any g.S.Source.reads _ _ _ _ _ c.next_packet.ensures.taken).1 in (
             any_refused g.S.Source.reads (g.S.Source.remains p) (g.S.Source.honest p) (g.met.S.Source.reads_before p)
-            (g.met.S.Source.reads_shown p) c.args.source.now c.records.source before c.records.reader inv.packets
-            c.in-Refused-next_packet.fault (inv.format p before) inv.read
-            (c.in-Refused-next_packet.ensures.shows p h),
+                (g.met.S.Source.reads_shown p) c.args.source.now c.records.source before c.records.reader inv.packets
+                c.in-Refused-next_packet.fault (inv.format p before) inv.read
+                (c.in-Refused-next_packet.ensures.shows p h),
             are_first g.S.Source.reads (g.S.Source.remains p) (g.S.Source.honest p) (g.met.S.Source.reads_before p)
-            (g.met.S.Source.reads_shown p) c.args.source.now c.records.source before c.records.reader inv.packets
-            (inv.format p before) inv.read,
+                (g.met.S.Source.reads_shown p) c.args.source.now c.records.source before c.records.reader inv.packets
+                (inv.format p before) inv.read,
           );
     }
 
@@ -125,11 +125,11 @@ returns-in-TooLarge-clause-shown g c =
           let before = g.met.S.Source.reads_before p _ _ _ h
           (some_of_any g.S.Source.reads _ _ _ _ _ c.next_packet.ensures.taken).1 in (
             any_large g.S.Source.reads (g.S.Source.remains p) (g.S.Source.honest p) (g.met.S.Source.reads_before p)
-            (g.met.S.Source.reads_shown p) c.args.source.now c.records.source before c.records.reader inv.packets
-            c.in-TooLarge.limit (inv.format p before) inv.read (c.in-TooLarge.ensures.shows p h),
+                (g.met.S.Source.reads_shown p) c.args.source.now c.records.source before c.records.reader inv.packets
+                c.in-TooLarge.limit (inv.format p before) inv.read (c.in-TooLarge.ensures.shows p h),
             are_first g.S.Source.reads (g.S.Source.remains p) (g.S.Source.honest p) (g.met.S.Source.reads_before p)
-            (g.met.S.Source.reads_shown p) c.args.source.now c.records.source before c.records.reader inv.packets
-            (inv.format p before) inv.read,
+                (g.met.S.Source.reads_shown p) c.args.source.now c.records.source before c.records.reader inv.packets
+                (inv.format p before) inv.read,
           );
     }
 
