@@ -10,6 +10,7 @@ mod ending;
 mod program;
 mod request;
 mod usage;
+mod watching;
 mod words;
 
 pub use answering::{answer, perform};
@@ -18,4 +19,5 @@ pub use job_commands::StatusText;
 pub use program::run_program;
 pub use request::{Request, read_request};
 pub use usage::{help, version};
+pub use watching::{answer_watch, asks_watch};
 pub use words::read_words;

@@ -1,7 +1,7 @@
 ghost use Rattle.std.specs.Prelude.{◌≡◌, ◌≤◌, ◌⊎◌};
 ghost use Rattle.std.specs.Process.{exit_status};
 
-use crate::{answer, exit_of};
+use crate::{answer, answer_watch, asks_watch, exit_of};
 use job_commands::{Status, StatusText};
 use std::env;
 use std::process::ExitCode;
@@ -16,8 +16,10 @@ use world_told::Told;
 /// on its threads, tells what was not done, and ends with the number of the status, which is 7 at
 /// most.
 ///
-/// The files stand in a world with a record of its calls. So what `answer` promises by a beginning
-/// holds of the program: whatever bytes stood under the names when it began, if the system answered
+/// Where the first word is `watch`, it prints the lines of packets in a world that is there for nothing else.
+///
+/// The files stand in a world with a record of its calls. So what `answer` and `answer_watch` promise by a beginning
+/// hold of the program: whatever bytes stood under the names when it began, if the system answered
 /// its reads as files with those bytes do.
 #[tactic(auto, using(crate::proofs::ExitCodes::most_exit_code))]
 pub fn run_program<
@@ -40,7 +42,12 @@ pub fn run_program<
     };
     let clock = RealClock::new(own);
     let mut world = Told::of(RealWorld::new(rt.alloc(), rt));
-    let status = answer(rt, env::args(rt), &mut world, &clock, &OpenGate);
+    let status = if asks_watch(env::args(rt)) {
+        let out = RealWorld::new(rt.alloc(), rt);
+        answer_watch(rt.alloc(), env::args(rt), &mut world, out)
+    } else {
+        answer(rt, env::args(rt), &mut world, &clock, &OpenGate)
+    };
     exit_of(tell(rt, status))
 }
 

@@ -10,7 +10,7 @@
 //! All other lines are for whoever reads the session.
 #![tactic(auto)]
 
-use command_line::{StatusText, answer};
+use command_line::{StatusText, answer, answer_watch, asks_watch};
 use std::alloc::{AllocError, Global};
 use std::env::Args;
 use std::rt::Files;
@@ -39,9 +39,14 @@ fn run<R: AllocGlobal + Files + Print + Threads + Wait + Sync>(
     rt: &R,
     words: &str,
 ) -> io::Result<()> {
-    let arguments = arguments(rt.alloc(), words)?;
+    let given = arguments(rt.alloc(), words)?;
     let mut world = Told::of(RealWorld::new(rt.alloc(), rt));
-    let status = answer(rt, Ok(arguments), &mut world, &FixedClock(TIME), &OpenGate);
+    let status = if asks_watch(Ok(arguments(rt.alloc(), words)?)) {
+        let out = RealWorld::new(rt.alloc(), rt);
+        answer_watch(rt.alloc(), Ok(given), &mut world, out)
+    } else {
+        answer(rt, Ok(given), &mut world, &FixedClock(TIME), &OpenGate)
+    };
     let number = status.exit_code();
     println!(rt; "{number}: {}", StatusText(status))
 }
