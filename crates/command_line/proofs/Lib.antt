@@ -1,3 +1,4 @@
 mod Printed
 pub mod NoCommand
 mod ExitCodes
+pub mod WatchedWords

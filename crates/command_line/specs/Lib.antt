@@ -1,4 +1,5 @@
 pub mod Performing
 pub mod Printing
 pub mod Request
+pub mod Watching
 pub mod Words

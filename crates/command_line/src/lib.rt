@@ -11,6 +11,7 @@ mod program;
 mod request;
 mod running;
 mod usage;
+mod watching;
 mod words;
 
 pub use answering::perform;
@@ -20,4 +21,5 @@ pub use program::run_program;
 pub use request::{Request, read_request};
 pub use running::run_words;
 pub use usage::{help, version};
+pub use watching::{asks_watch, watch_words};
 pub use words::read_words;

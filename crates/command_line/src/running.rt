@@ -1,10 +1,11 @@
-ghost use Rattle.std.specs.Prelude.{◌≡◌, ◌≤◌, ◌*◌, ℕ, IfOk, IfErr, None, length};
+ghost use Rattle.std.specs.Prelude.{◌≡◌, ◌≤◌, ◌*◌, ℕ, IfOk, IfErr, None, false, length};
 ghost use Rattle.job_commands.specs.Words.{asked};
 ghost use Rattle.command_line.specs.Printing.{asked_text};
+ghost use Rattle.command_line.specs.Watching.{begins_watch};
 ghost use Rattle.tap_command.specs.Split.{AsksForTaps, BeginsWithTap};
 ghost use Rattle.release_taps.specs.Seats.{AllFresh};
 
-use crate::perform;
+use crate::{asks_watch, perform, watch_words};
 use job_commands::Status;
 use plain_text::{NoMemory, Text};
 use std::rt::Files;
@@ -16,12 +17,12 @@ use world_io::Clock;
 use world_real::{FileTap, RealWorld};
 use world_told::Told;
 
-/// Does what the words ask for over the files of the system: performs them, or, where pairs
+/// Does what the words ask for over the files of the system: performs them; or, where pairs
 /// `tap NAME` stand in front, runs what stands behind them and mirrors the released capture under
-/// each name.
+/// each name; or, where the first word is `watch`, prints a line for each packet of a window.
 ///
-/// The files stand in a world with a record of its calls. So what `perform` and `tapped` promise by
-/// a beginning holds of the program: whatever bytes stood under the names when it began, if the
+/// The files stand in a world with a record of its calls. So what `perform`, `tapped` and
+/// `watch_words` promise by a beginning holds of the program: whatever bytes stood under the names when it began, if the
 /// system answered its reads as files with those bytes do.
 pub fn run_words<
     C: Clock + Sync,
@@ -31,16 +32,31 @@ pub fn run_words<
     ensures bad_taps { BeginsWithTap words.now → ((pairs : ℕ) → ¬ AsksForTaps words.now pairs)
         → result ≡ Status.BadWords }
     ensures no_command { ¬ BeginsWithTap words.now
-        → asked words.now ≡ None → asked_text words.now ≡ None → result ≡ Status.BadWords }
+        → asked words.now ≡ None → asked_text words.now ≡ None
+        → begins_watch words.now ≡ false → result ≡ Status.BadWords }
 {
     match split_taps(words) {
-        Split::Plain => {
-            let mut world = Told::of(RealWorld::new(rt.alloc(), rt));
-            perform(rt, words, &mut world, clock, gate)
-        }
+        Split::Plain => run_plain(rt, words, clock, gate),
         Split::Bad => Status::BadWords,
         Split::Taps { pairs, .. } => run_tapped(rt, words, pairs, clock, gate),
     }
+}
+
+/// Performs the words, or watches a capture. What is watched is printed through a world that is
+/// there for nothing else.
+fn run_plain<
+    C: Clock + Sync,
+    G: Gate + Sync,
+    R: AllocGlobal + Files + Print + Threads + Wait + Sync,
+>(rt: &R, words: &[Text], clock: &C, gate: &G) -> Status
+    ensures no_command { asked words.now ≡ None → asked_text words.now ≡ None
+        → begins_watch words.now ≡ false → result ≡ Status.BadWords }
+{
+    let mut world = Told::of(RealWorld::new(rt.alloc(), rt));
+    if asks_watch(words) {
+        return watch_words(rt.alloc(), words, &mut world, RealWorld::new(rt.alloc(), rt));
+    }
+    perform(rt, words, &mut world, clock, gate)
 }
 
 /// Runs what stands behind the pairs. Each tap writes to the file of its name, which is created

@@ -60,6 +60,11 @@ Makes N packets, at most 65,536, from a number, always the same ones.
 
   CAPTURE   libpcap savefile of the packets, written
 
+ftmb watch CAPTURE SKIP QUOTA
+
+Prints a line `SECONDS FRACTION LENGTH` for each packet behind the first SKIP,
+for QUOTA packets at most, as they are read.
+
 The report is written on standard output.
 
 Exit status: 0 done, 1 refuted, 2 bad words, 3 read fault, 4 write fault, 5 no memory,

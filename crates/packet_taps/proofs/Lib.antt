@@ -1,0 +1,5 @@
+pub mod Along
+pub mod Ended
+pub mod Placing
+pub mod Reading
+pub mod Windows
