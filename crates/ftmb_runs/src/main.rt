@@ -10,7 +10,7 @@
 //! All other lines are for whoever reads the session.
 #![tactic(auto)]
 
-use command_line::{StatusText, answer};
+use command_line::{StatusText, read_words, run_words};
 use std::alloc::{AllocError, Global};
 use std::env::Args;
 use std::rt::Files;
