@@ -23,10 +23,9 @@ OpensFirst-then names more a b c all o = record {
   opened = o.opened ∙ ap (λ l. l ++ o.first) all ∙ append_assoc a.opened_names names o.first;
 }
 
-pub OpensAll-then : (names more : List (List ℕ)) (a b c : Ledger) → OpensAll names a b → OpensAll more b c
-    → OpensAll (names ++ more) a c
-OpensAll-then names more a b c first then =
-    then ∙ ap (λ l. l ++ more) first ∙ append_assoc a.opened_names names more
+-- the same of the lists of all the names, with all of the others behind
+pub opened_then : (names more a b c : List (List ℕ)) → b ≡ a ++ names → c ≡ b ++ more → c ≡ a ++ (names ++ more)
+opened_then names more a b c first then = then ∙ ap (λ l. l ++ more) first ∙ append_assoc a names more
 
 pub OpensFirst-none : (names : List (List ℕ)) (a b : Ledger) → b.opened_names ≡ a.opened_names → OpensFirst names a b
 OpensFirst-none names a b same =

@@ -1,6 +1,6 @@
 use Rattle.std.proofs.Common.{◌∷◌, [], Err}
 use Rattle.input_files.specs.Answers.{SaysCapture}
-use Rattle.input_files.proofs.OnlyReading.{OnlyReads-more, OnlyReads-then, OpensAll-then}
+use Rattle.input_files.proofs.OnlyReading.{OnlyReads-more, OnlyReads-then, opened_then}
 use Rattle.job_commands.proofs.Stages.{capture_stage}
 use Rattle.job_commands.proofs.ThreeFiles.{box_refused, capture_refused}
 use Rattle.job_commands.proofs.Turns.{judged_since}
@@ -44,4 +44,4 @@ returns-in-Ok-read_capture_file-clause-only_reads g c =
 
 pub returns-in-Ok-read_capture_file-clause-opened : goal.returns-in-Ok-read_capture_file-clause-opened
 returns-in-Ok-read_capture_file-clause-opened g c =
-    OpensAll-then (c.args.box_file.now ∷ []) (c.args.capture.now ∷ []) _ _ _ c.in-Ok.ensures.opened c.in-Ok-read_capture_file.ensures.opened
+    opened_then (c.args.box_file.now ∷ []) (c.args.capture.now ∷ []) _ _ _ c.in-Ok.ensures.opened c.in-Ok-read_capture_file.ensures.opened

@@ -1,5 +1,5 @@
 use Rattle.std.proofs.Common.{◌∷◌, []}
-use Rattle.input_files.proofs.OnlyReading.{OnlyReads-more, OnlyReads-then, OpensAll-then}
+use Rattle.input_files.proofs.OnlyReading.{OnlyReads-more, OnlyReads-then, opened_then}
 use Rattle.job_commands.specs.Words.{names_of}
 use Rattle.job_commands.proofs.Verdicts.{first_refused, script_refused}
 use Rattle.job_commands.proofs.inputs.read_inputs.Goals as goal
@@ -35,4 +35,4 @@ returns-in-Ok-read_script_file-clause-only_reads g c =
 
 pub returns-in-Ok-read_script_file-clause-opened : goal.returns-in-Ok-read_script_file-clause-opened
 returns-in-Ok-read_script_file-clause-opened g c =
-    OpensAll-then (c.args.names.box_file.now ∷ c.args.names.capture.now ∷ []) (c.args.names.script.now ∷ []) _ _ _ c.in-Ok.ensures.opened c.in-Ok-read_script_file.ensures.opened
+    opened_then (c.args.names.box_file.now ∷ c.args.names.capture.now ∷ []) (c.args.names.script.now ∷ []) _ _ _ c.in-Ok.ensures.opened c.in-Ok-read_script_file.ensures.opened

@@ -1,6 +1,6 @@
 use Rattle.std.proofs.Common.{◌∷◌, [], Err}
 use Rattle.input_files.specs.Answers.{SaysPlan}
-use Rattle.input_files.proofs.OnlyReading.{OnlyReads-more, OnlyReads-then, OpensAll-then}
+use Rattle.input_files.proofs.OnlyReading.{OnlyReads-more, OnlyReads-then, opened_then}
 use Rattle.job_commands.specs.Live.{plan_third}
 use Rattle.job_commands.specs.Words.{live_names_of}
 use Rattle.job_commands.proofs.ThreeFiles.{first_refused, third_refused}
@@ -43,4 +43,4 @@ returns-in-Ok-read_plan_file-clause-only_reads g c =
 
 pub returns-in-Ok-read_plan_file-clause-opened : goal.returns-in-Ok-read_plan_file-clause-opened
 returns-in-Ok-read_plan_file-clause-opened g c =
-    OpensAll-then (c.args.names.box_file.now ∷ c.args.names.capture.now ∷ []) (c.args.names.plan.now ∷ []) _ _ _ c.in-Ok.ensures.opened c.in-Ok-read_plan_file.ensures.opened
+    opened_then (c.args.names.box_file.now ∷ c.args.names.capture.now ∷ []) (c.args.names.plan.now ∷ []) _ _ _ c.in-Ok.ensures.opened c.in-Ok-read_plan_file.ensures.opened

@@ -1,6 +1,6 @@
 use Rattle.std.proofs.Common.{◌∷◌, [], Err}
 use Rattle.input_files.specs.Answers.{SaysCapture}
-use Rattle.input_files.proofs.OnlyReading.{OnlyReads-more, OnlyReads-then, OpensAll-then}
+use Rattle.input_files.proofs.OnlyReading.{OnlyReads-more, OnlyReads-then, opened_then}
 use Rattle.job_commands.specs.Words.{check_names_of, files_of, schedule_inputs}
 use Rattle.job_commands.proofs.FilesInTurn.{released_refused, three_end}
 use Rattle.job_commands.proofs.Stages.{released_stage}
@@ -45,4 +45,4 @@ returns-in-Ok-read_capture_file-clause-only_reads g c =
 
 pub returns-in-Ok-read_capture_file-clause-opened : goal.returns-in-Ok-read_capture_file-clause-opened
 returns-in-Ok-read_capture_file-clause-opened g c =
-    OpensAll-then (schedule_inputs (files_of c.args.names.files)) (c.args.names.released.now ∷ []) _ _ _ c.in-Ok.ensures.opened c.in-Ok-read_capture_file.ensures.opened
+    opened_then (schedule_inputs (files_of c.args.names.files)) (c.args.names.released.now ∷ []) _ _ _ c.in-Ok.ensures.opened c.in-Ok-read_capture_file.ensures.opened

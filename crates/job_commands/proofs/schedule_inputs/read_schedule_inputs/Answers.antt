@@ -1,6 +1,6 @@
 use Rattle.std.proofs.Common.{◌∷◌, [], Err}
 use Rattle.input_files.specs.Answers.{SaysSchedule}
-use Rattle.input_files.proofs.OnlyReading.{OnlyReads-more, OnlyReads-then, OpensAll-then}
+use Rattle.input_files.proofs.OnlyReading.{OnlyReads-more, OnlyReads-then, opened_then}
 use Rattle.job_commands.specs.Schedules.{schedule_third}
 use Rattle.job_commands.specs.Words.{files_of}
 use Rattle.job_commands.proofs.ThreeFiles.{first_refused, third_refused}
@@ -44,4 +44,4 @@ returns-in-Ok-read_schedule_file-clause-only_reads g c =
 
 pub returns-in-Ok-read_schedule_file-clause-opened : goal.returns-in-Ok-read_schedule_file-clause-opened
 returns-in-Ok-read_schedule_file-clause-opened g c =
-    OpensAll-then (c.args.files.box_file.now ∷ c.args.files.capture.now ∷ []) (c.args.files.schedule.now ∷ []) _ _ _ c.in-Ok.ensures.opened c.in-Ok-read_schedule_file.ensures.opened
+    opened_then (c.args.files.box_file.now ∷ c.args.files.capture.now ∷ []) (c.args.files.schedule.now ∷ []) _ _ _ c.in-Ok.ensures.opened c.in-Ok-read_schedule_file.ensures.opened
