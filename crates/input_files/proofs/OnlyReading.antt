@@ -5,7 +5,8 @@ use Rattle.world_io.specs.World.{Ledger}
 use Rattle.input_files.specs.Files.{OpensAll, OpensFirst, OnlyReads}
 
 -- a list of names is a first part of itself with more behind it
-pub OpensFirst-more : (names more : List (List ℕ)) (a b : Ledger) → OpensFirst names a b → OpensFirst (names ++ more) a b
+pub OpensFirst-more : (names more : List (List ℕ)) (a b : Ledger) → OpensFirst names a b
+    → OpensFirst (names ++ more) a b
 OpensFirst-more names more a b o = record {
   first = o.first;
   rest = o.rest ++ more;

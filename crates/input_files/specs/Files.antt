@@ -33,8 +33,8 @@ pub record OpensFirst (names : List (List ℕ)) (old new : Ledger) : Type 0 wher
   pub names_are : names ≡ first ++ rest
   pub opened : OpensAll first old new
 
--- files of a first part of these names were opened, each at most once, none was created, and only the count of faults of
--- reading may have risen
+-- files of a first part of these names were opened, each at most once, none was created, and only the count of faults
+-- of reading may have risen
 pub record AfterInputs (names : List (List ℕ)) (old new : Ledger) : Type 0 where
   pub created : new.created ≡ old.created
   pub given : new.given ≤ old.given + length names
@@ -42,8 +42,8 @@ pub record AfterInputs (names : List (List ℕ)) (old new : Ledger) : Type 0 whe
   pub read_faults : old.read_faults ≤ new.read_faults
   pub write_faults : new.write_faults ≡ old.write_faults
 
--- From the one state of a world to the other only reading has gone on: files of a first part of these names were opened,
--- in this order, and what was healthy is healthy.
+-- From the one state of a world to the other only reading has gone on: files of a first part of these names were
+-- opened, in this order, and what was healthy is healthy.
 pub record OnlyReads {W : Type 0} (ledger_of : W → Ledger) (healthy_of : W → Type 0) (names : List (List ℕ))
     (old new : W) : Type 0 where
   pub ledger : AfterInputs names (ledger_of old) (ledger_of new)

@@ -64,7 +64,8 @@ returns-in-Ok-clause-write_fault g c e =
     (c.check_box.ensures.cause (check_fault c.check_box.result (sym c.check_outcome.ensures ∙ e)))
 
 pub returns-in-Ok-clause-opens_in_order : goal.returns-in-Ok-clause-opens_in_order
-returns-in-Ok-clause-opens_in_order g c = OpensFirst-all _ _ _ (c.check_box.ensures.only_writes.ledger.opened_names ∙ c.in-Ok.ensures.opened)
+returns-in-Ok-clause-opens_in_order g c =
+    OpensFirst-all _ _ _ (c.check_box.ensures.only_writes.ledger.opened_names ∙ c.in-Ok.ensures.opened)
 
 pub returns-in-Ok-clause-opens_all : goal.returns-in-Ok-clause-opens_all
 returns-in-Ok-clause-opens_all g c e = c.check_box.ensures.only_writes.ledger.opened_names ∙ c.in-Ok.ensures.opened

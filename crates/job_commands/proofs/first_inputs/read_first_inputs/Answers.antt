@@ -34,14 +34,15 @@ returns-in-Err-clause-only_reads g c =
 
 pub returns-in-Err-read_capture_file-clause-only_reads : goal.returns-in-Err-read_capture_file-clause-only_reads
 returns-in-Err-read_capture_file-clause-only_reads g c =
-    OnlyReads-then _ _ (c.args.box_file.now ∷ []) (c.args.capture.now ∷ []) _ _ _ c.in-Ok.ensures.only_reads c.in-Ok.ensures.opened
-    c.in-Err-read_capture_file.ensures.only_reads
+    OnlyReads-then _ _ (c.args.box_file.now ∷ []) (c.args.capture.now ∷ []) _ _ _ c.in-Ok.ensures.only_reads
+    c.in-Ok.ensures.opened c.in-Err-read_capture_file.ensures.only_reads
 
 pub returns-in-Ok-read_capture_file-clause-only_reads : goal.returns-in-Ok-read_capture_file-clause-only_reads
 returns-in-Ok-read_capture_file-clause-only_reads g c =
-    OnlyReads-then _ _ (c.args.box_file.now ∷ []) (c.args.capture.now ∷ []) _ _ _ c.in-Ok.ensures.only_reads c.in-Ok.ensures.opened
-    c.in-Ok-read_capture_file.ensures.only_reads
+    OnlyReads-then _ _ (c.args.box_file.now ∷ []) (c.args.capture.now ∷ []) _ _ _ c.in-Ok.ensures.only_reads
+    c.in-Ok.ensures.opened c.in-Ok-read_capture_file.ensures.only_reads
 
 pub returns-in-Ok-read_capture_file-clause-opened : goal.returns-in-Ok-read_capture_file-clause-opened
 returns-in-Ok-read_capture_file-clause-opened g c =
-    opened_then (c.args.box_file.now ∷ []) (c.args.capture.now ∷ []) _ _ _ c.in-Ok.ensures.opened c.in-Ok-read_capture_file.ensures.opened
+    opened_then (c.args.box_file.now ∷ []) (c.args.capture.now ∷ []) _ _ _ c.in-Ok.ensures.opened
+    c.in-Ok-read_capture_file.ensures.opened

@@ -29,18 +29,20 @@ returns-in-Err-read_plan_file-clause-judged g c p q =
 
 pub returns-in-Err-clause-only_reads : goal.returns-in-Err-clause-only_reads
 returns-in-Err-clause-only_reads g c =
-    OnlyReads-more _ _ (c.args.names.box_file.now ∷ c.args.names.capture.now ∷ []) (c.args.names.plan.now ∷ []) _ _ c.in-Err.ensures.only_reads
+    OnlyReads-more _ _ (c.args.names.box_file.now ∷ c.args.names.capture.now ∷ []) (c.args.names.plan.now ∷ []) _ _
+    c.in-Err.ensures.only_reads
 
 pub returns-in-Err-read_plan_file-clause-only_reads : goal.returns-in-Err-read_plan_file-clause-only_reads
 returns-in-Err-read_plan_file-clause-only_reads g c =
-    OnlyReads-then _ _ (c.args.names.box_file.now ∷ c.args.names.capture.now ∷ []) (c.args.names.plan.now ∷ []) _ _ _ c.in-Ok.ensures.only_reads c.in-Ok.ensures.opened
-    c.in-Err-read_plan_file.ensures.only_reads
+    OnlyReads-then _ _ (c.args.names.box_file.now ∷ c.args.names.capture.now ∷ []) (c.args.names.plan.now ∷ []) _ _ _
+    c.in-Ok.ensures.only_reads c.in-Ok.ensures.opened c.in-Err-read_plan_file.ensures.only_reads
 
 pub returns-in-Ok-read_plan_file-clause-only_reads : goal.returns-in-Ok-read_plan_file-clause-only_reads
 returns-in-Ok-read_plan_file-clause-only_reads g c =
-    OnlyReads-then _ _ (c.args.names.box_file.now ∷ c.args.names.capture.now ∷ []) (c.args.names.plan.now ∷ []) _ _ _ c.in-Ok.ensures.only_reads c.in-Ok.ensures.opened
-    c.in-Ok-read_plan_file.ensures.only_reads
+    OnlyReads-then _ _ (c.args.names.box_file.now ∷ c.args.names.capture.now ∷ []) (c.args.names.plan.now ∷ []) _ _ _
+    c.in-Ok.ensures.only_reads c.in-Ok.ensures.opened c.in-Ok-read_plan_file.ensures.only_reads
 
 pub returns-in-Ok-read_plan_file-clause-opened : goal.returns-in-Ok-read_plan_file-clause-opened
 returns-in-Ok-read_plan_file-clause-opened g c =
-    opened_then (c.args.names.box_file.now ∷ c.args.names.capture.now ∷ []) (c.args.names.plan.now ∷ []) _ _ _ c.in-Ok.ensures.opened c.in-Ok-read_plan_file.ensures.opened
+    opened_then (c.args.names.box_file.now ∷ c.args.names.capture.now ∷ []) (c.args.names.plan.now ∷ []) _ _ _
+    c.in-Ok.ensures.opened c.in-Ok-read_plan_file.ensures.opened

@@ -67,7 +67,8 @@ returns-in-Ok-clause-write_fault g c e =
     (c.play_box.ensures.cause (play_fault c.play_box.result (sym c.play_outcome.ensures ∙ e)))
 
 pub returns-in-Ok-clause-opens_in_order : goal.returns-in-Ok-clause-opens_in_order
-returns-in-Ok-clause-opens_in_order g c = OpensFirst-all _ _ _ (c.play_box.ensures.writes_files.ledger.opened_names ∙ c.in-Ok.ensures.opened)
+returns-in-Ok-clause-opens_in_order g c =
+    OpensFirst-all _ _ _ (c.play_box.ensures.writes_files.ledger.opened_names ∙ c.in-Ok.ensures.opened)
 
 pub returns-in-Ok-clause-opens_all : goal.returns-in-Ok-clause-opens_all
 returns-in-Ok-clause-opens_all g c e = c.play_box.ensures.writes_files.ledger.opened_names ∙ c.in-Ok.ensures.opened

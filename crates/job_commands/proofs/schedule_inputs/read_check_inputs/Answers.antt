@@ -31,18 +31,20 @@ returns-in-Err-read_capture_file-clause-stage g c p q =
 
 pub returns-in-Err-clause-only_reads : goal.returns-in-Err-clause-only_reads
 returns-in-Err-clause-only_reads g c =
-    OnlyReads-more _ _ (schedule_inputs (files_of c.args.names.files)) (c.args.names.released.now ∷ []) _ _ c.in-Err.ensures.only_reads
+    OnlyReads-more _ _ (schedule_inputs (files_of c.args.names.files)) (c.args.names.released.now ∷ []) _ _
+    c.in-Err.ensures.only_reads
 
 pub returns-in-Err-read_capture_file-clause-only_reads : goal.returns-in-Err-read_capture_file-clause-only_reads
 returns-in-Err-read_capture_file-clause-only_reads g c =
-    OnlyReads-then _ _ (schedule_inputs (files_of c.args.names.files)) (c.args.names.released.now ∷ []) _ _ _ c.in-Ok.ensures.only_reads c.in-Ok.ensures.opened
-    c.in-Err-read_capture_file.ensures.only_reads
+    OnlyReads-then _ _ (schedule_inputs (files_of c.args.names.files)) (c.args.names.released.now ∷ []) _ _ _
+    c.in-Ok.ensures.only_reads c.in-Ok.ensures.opened c.in-Err-read_capture_file.ensures.only_reads
 
 pub returns-in-Ok-read_capture_file-clause-only_reads : goal.returns-in-Ok-read_capture_file-clause-only_reads
 returns-in-Ok-read_capture_file-clause-only_reads g c =
-    OnlyReads-then _ _ (schedule_inputs (files_of c.args.names.files)) (c.args.names.released.now ∷ []) _ _ _ c.in-Ok.ensures.only_reads c.in-Ok.ensures.opened
-    c.in-Ok-read_capture_file.ensures.only_reads
+    OnlyReads-then _ _ (schedule_inputs (files_of c.args.names.files)) (c.args.names.released.now ∷ []) _ _ _
+    c.in-Ok.ensures.only_reads c.in-Ok.ensures.opened c.in-Ok-read_capture_file.ensures.only_reads
 
 pub returns-in-Ok-read_capture_file-clause-opened : goal.returns-in-Ok-read_capture_file-clause-opened
 returns-in-Ok-read_capture_file-clause-opened g c =
-    opened_then (schedule_inputs (files_of c.args.names.files)) (c.args.names.released.now ∷ []) _ _ _ c.in-Ok.ensures.opened c.in-Ok-read_capture_file.ensures.opened
+    opened_then (schedule_inputs (files_of c.args.names.files)) (c.args.names.released.now ∷ []) _ _ _
+    c.in-Ok.ensures.opened c.in-Ok-read_capture_file.ensures.opened
