@@ -1,0 +1,68 @@
+ghost use Rattle.std.specs.Prelude.{◌≡◌, ℕ, ◌+◌, ◌-◌, ◌^◌, ◌<◌, ◌≤◌, replicate, length, sum};
+ghost use Rattle.std.specs.Prelude.{slice_index};
+
+use crate::THREADS;
+use std::marker::Model;
+
+/// For each of 16 threads a number of any size: how many of its entries are covered, or up to which all are held.
+/// Contracts see the counts as the list of the 16.
+#[derive(Clone, Copy, Debug, PartialEq, Eq)]
+pub struct Counts {
+    components: [u64; 16],
+}
+
+impl Model for Counts {
+    ghost use Rattle.std.specs.Prelude.{List, ℕ};
+
+    ghost Value = { List ℕ };
+
+    ghost view = { λ c. c.components };
+
+    ghost inverse = { λ list. record { components = list } };
+}
+
+impl Counts {
+    /// The counts with these components.
+    pub fn new(components: [u64; 16]) -> Self
+        ensures { result ≡ components }
+    {
+        Counts { components }
+    }
+
+    /// The counts that all are 0.
+    pub fn zero() -> Self
+        ensures { result ≡ replicate 16 0 }
+    {
+        Counts {
+            components: [0; THREADS],
+        }
+    }
+
+    /// The components, that of thread 0 first.
+    pub fn components(&self) -> &[u64; 16]
+        ensures value { result.now ≡ self.now }
+        ensures all { length self.now ≡ 16 }
+    {
+        &self.components
+    }
+
+    /// The component of one thread.
+    pub fn get(&self, thread: u32) -> u64
+        requires { thread < 16 }
+        ensures { result ≡ slice_index self.now thread }
+    {
+        self.components[thread as usize]
+    }
+
+    /// The sum of the components.
+    pub fn weight(&self) -> u128
+        ensures summed { result ≡ sum self.now }
+        ensures all { length self.now ≡ 16 }
+    {
+        let mut weight = 0;
+        for component in &self.components {
+            weight += u128::from(*component);
+        }
+        weight
+    }
+}
