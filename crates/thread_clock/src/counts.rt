@@ -1,7 +1,7 @@
 ghost use Rattle.std.specs.Prelude.{◌≡◌, ℕ, ◌+◌, ◌-◌, ◌^◌, ◌<◌, ◌≤◌, replicate, length, sum};
-ghost use Rattle.std.specs.Prelude.{slice_index};
+ghost use Rattle.std.specs.Prelude.{slice_index, IfSome, IfNone};
 
-use crate::THREADS;
+use crate::{Stamp, THREADS};
 use std::marker::Model;
 
 /// For each of 16 threads a number of any size: how many of its entries are covered, or up to which all are held.
@@ -52,6 +52,21 @@ impl Counts {
         ensures { result ≡ slice_index self.now thread }
     {
         self.components[thread as usize]
+    }
+
+    /// The stamp with these components; `None` exactly where one of them is 2^32 or more.
+    pub fn narrowed(&self) -> Option<Stamp>
+        ensures same { IfSome result (λ stamp. stamp ≡ self.now) }
+        ensures wide { IfNone result ((u : ℕ) × (2 ^ 32 ≤ slice_index self.now u)) }
+    {
+        let mut components = [0; THREADS];
+        for thread in 0..THREADS {
+            if self.components[thread] > u64::from(u32::MAX) {
+                return None;
+            }
+            components[thread] = self.components[thread] as u32;
+        }
+        Some(Stamp::new(components))
     }
 
     /// The sum of the components.
