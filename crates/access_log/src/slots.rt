@@ -15,7 +15,7 @@ use std::alloc::Global;
 use std::collections::{BTreeMap, VecDeque};
 use std::marker::Model;
 use std::mem::size_of;
-use thread_clock::Counts;
+use thread_clock::EntryCounts;
 
 /// The most slots and later entries together, far beyond what memory has.
 const LIMIT: usize = 0x100_0000_0000_0000;
@@ -94,7 +94,7 @@ fn gather(
 }
 
 /// Empties the slot if its entry has a component of its stamp above its thread's frontier.
-fn empty_if_above(slot: &mut Option<StampedEntry>, frontiers: &Counts)
+fn empty_if_above(slot: &mut Option<StampedEntry>, frontiers: &EntryCounts)
     ensures { (e : StampedEntry) → (slot.new ≡ Some e) ↔ ((slot.old ≡ Some e)
         × AtMost e.stamp frontiers.now) }
 {
@@ -106,7 +106,7 @@ fn empty_if_above(slot: &mut Option<StampedEntry>, frontiers: &Counts)
 }
 
 /// Empties each slot whose entry has a component of its stamp above its thread's frontier.
-fn empty_above(contiguous: &mut VecDeque<Option<StampedEntry>>, frontiers: &Counts)
+fn empty_above(contiguous: &mut VecDeque<Option<StampedEntry>>, frontiers: &EntryCounts)
     ensures { RetainsSlots contiguous.old.items contiguous.new.items frontiers.now }
 {
     for i in 0..contiguous.len() {
@@ -217,7 +217,7 @@ impl Slots {
     }
 
     /// Drops each held entry with a component of its stamp above its thread's frontier. It takes no memory.
-    pub fn retain_at_most(&mut self, frontiers: &Counts)
+    pub fn retain_at_most(&mut self, frontiers: &EntryCounts)
         ensures retained { RetainsAtMost self.old self.new frontiers.now }
         ensures fewer { length self.new.entries ≤ length self.old.entries }
     {

@@ -97,14 +97,21 @@ fn kept_form(alloc: Global, epoch: u32, threads: u32, stepped: Stepped) -> Resul
     }
 }
 
-/// What the frame in these bytes tells, as the call of its move showed it.
+/// What the frame in these bytes tells, as the call of its move showed it. It answers that memory ran out where a
+/// component of the stamp is 2^32 or more, as in no frame that was written.
 fn told_in(alloc: Global, bytes: &[u8]) -> Result<Stepped, NoMemory>
     requires { (f : FrameValue) × IsFrame bytes.now f }
     ensures { IfOk result (λ told. (f : FrameValue) → IsFrame bytes.now f → told ≡ shown_by f) }
 {
     match take_frame(alloc, bytes) {
-        Ok((Frame::Entry { entry, .. }, _)) => Ok(Stepped::Did(entry)),
-        Ok((Frame::Output { output, .. }, _)) => Ok(Stepped::Emitted(output)),
+        Ok((Frame::Entry { entry, .. }, _)) => match entry.entry() {
+            Some(entry) => Ok(Stepped::Did(entry)),
+            None => Err(NoMemory),
+        },
+        Ok((Frame::Output { output, .. }, _)) => match output.into_output() {
+            Some(output) => Ok(Stepped::Emitted(output)),
+            None => Err(NoMemory),
+        },
         Err(FrameError::NoMemory) => Err(NoMemory),
         Err(FrameError::Fault(_)) => unreachable!(),
     }

@@ -7,11 +7,11 @@ use std::marker::Model;
 /// For each of 16 threads a number of any size: how many of its entries are covered, or up to which all are held.
 /// Contracts see the counts as the list of the 16.
 #[derive(Clone, Copy, Debug, PartialEq, Eq)]
-pub struct Counts {
+pub struct EntryCounts {
     components: [u64; 16],
 }
 
-impl Model for Counts {
+impl Model for EntryCounts {
     ghost use Rattle.std.specs.Prelude.{List, ℕ};
 
     ghost Value = { List ℕ };
@@ -21,19 +21,19 @@ impl Model for Counts {
     ghost inverse = { λ list. record { components = list } };
 }
 
-impl Counts {
+impl EntryCounts {
     /// The counts with these components.
     pub fn new(components: [u64; 16]) -> Self
         ensures { result ≡ components }
     {
-        Counts { components }
+        EntryCounts { components }
     }
 
     /// The counts that all are 0.
     pub fn zero() -> Self
         ensures { result ≡ replicate 16 0 }
     {
-        Counts {
+        EntryCounts {
             components: [0; THREADS],
         }
     }

@@ -4,5 +4,5 @@
 mod counts;
 mod stamp;
 
-pub use counts::Counts;
+pub use counts::EntryCounts;
 pub use stamp::{Stamp, THREADS};

@@ -2,7 +2,7 @@ ghost use Rattle.std.specs.Prelude.{◌≡◌, ℕ, ◌+◌, ◌-◌, ◌^◌, �
 ghost use Rattle.std.specs.Prelude.{replicate, sum, slice_index, slice_set};
 ghost use Rattle.thread_clock.specs.Clock.{AtMost, IsJoin};
 
-use crate::Counts;
+use crate::EntryCounts;
 use std::marker::Model;
 
 /// The most threads that a job may have, and so the components of a stamp.
@@ -68,7 +68,7 @@ impl Stamp {
     }
 
     /// Whether no component is above that of these counts.
-    pub fn at_most(&self, counts: &Counts) -> bool
+    pub fn at_most(&self, counts: &EntryCounts) -> bool
         ensures { IsTrue result ↔ AtMost self.now counts.now }
     {
         let bounds = counts.components();

@@ -5,7 +5,7 @@ use entry_order::What;
 use plain_text::{NoMemory, Packet};
 use std::marker::Model;
 use thiserror::Error;
-use thread_clock::Counts;
+use thread_clock::EntryCounts;
 
 /// A log entry as a frame carries it, where a component of a stamp may be any number of 64 bits. Contracts see the
 /// entry.
@@ -14,7 +14,7 @@ pub struct FrameEntry {
     pub(crate) thread: u32,
     pub(crate) number: u64,
     pub(crate) what: What,
-    pub(crate) stamp: Counts,
+    pub(crate) stamp: EntryCounts,
 }
 
 impl Model for FrameEntry {
@@ -52,7 +52,7 @@ pub struct FrameOutput {
     pub(crate) thread: u32,
     pub(crate) number: u64,
     pub(crate) input: u64,
-    pub(crate) stamp: Counts,
+    pub(crate) stamp: EntryCounts,
     pub(crate) packet: Packet,
 }
 

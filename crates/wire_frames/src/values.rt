@@ -18,7 +18,7 @@ use crate::{Frame, FrameEntry, FrameError, FrameFault, FrameOutput};
 use entry_order::What;
 use plain_text::{Bytes, Kind, NoMemory, Packet};
 use std::alloc::Global;
-use thread_clock::Counts;
+use thread_clock::EntryCounts;
 
 /// The place of the code of what an entry did.
 const CODE: usize = 11;
@@ -35,7 +35,7 @@ pub(crate) struct Common {
     pub(crate) epoch: u32,
     pub(crate) thread: u32,
     pub(crate) number: u64,
-    pub(crate) stamp: Counts,
+    pub(crate) stamp: EntryCounts,
 }
 
 /// What is in a frame with these parts.
@@ -171,7 +171,7 @@ fn read_common(bytes: &[u8], layout: &Layout) -> Option<Common>
 }
 
 /// The stamp, unless a component of a frame of version 2 is 0.
-fn find_stamp(bytes: &[u8], layout: &Layout) -> Option<Counts>
+fn find_stamp(bytes: &[u8], layout: &Layout) -> Option<EntryCounts>
     requires found { layout.now ≡ layout_of bytes.now }
     requires whole { needed (kind_at bytes.now) (version_at bytes.now) bytes.now
         ≤ length bytes.now }

@@ -1,5 +1,5 @@
 use Rattle.std.proofs.Common.{◌≡◌, ◌*◌, ◌^◌, ◌≤◌, sum, take, length}
-use Rattle.thread_clock.proofs.counts.Counts.weight.Given as goal
+use Rattle.thread_clock.proofs.counts.EntryCounts.weight.Given as goal
 
 abbrev pub invariant-loop-component : goal.invariant-loop-component
 invariant-loop-component l = record {

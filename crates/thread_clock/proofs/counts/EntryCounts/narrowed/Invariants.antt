@@ -1,5 +1,5 @@
 use Rattle.std.proofs.Common.{◌≡◌, length, take}
-use Rattle.thread_clock.proofs.counts.Counts.narrowed.Given as goal
+use Rattle.thread_clock.proofs.counts.EntryCounts.narrowed.Given as goal
 
 abbrev pub invariant-loop-thread : goal.invariant-loop-thread
 invariant-loop-thread l = record {
