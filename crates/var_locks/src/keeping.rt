@@ -24,7 +24,7 @@ use plain_text::{NoMemory, Packet};
 use replay_guide::Guide;
 use std::alloc::Global;
 
-/// The mark of an entry: its weight, modulo 2^64.
+/// The mark of an entry: its weight, modulo 2^64, which it is below.
 pub(crate) fn mark_of_entry(entry: &StampedEntry) -> u64
     ensures { result ≡ weight_of entry.now % 2 ^ 64 }
 {
