@@ -1,4 +1,4 @@
-ghost use Rattle.std.specs.Prelude.{◌≡◌, ℕ, ◌+◌, ◌-◌, ◌^◌, ◌<◌, ◌≤◌, replicate, length, sum};
+ghost use Rattle.std.specs.Prelude.{◌≡◌, ℕ, ◌+◌, ◌-◌, ◌^◌, ◌<◌, ◌≤◌, length, sum};
 ghost use Rattle.std.specs.Prelude.{slice_index, IfSome, IfNone};
 
 use crate::{Stamp, THREADS};
@@ -27,15 +27,6 @@ impl EntryCounts {
         ensures { result ≡ components }
     {
         EntryCounts { components }
-    }
-
-    /// The counts that all are 0.
-    pub fn zero() -> Self
-        ensures { result ≡ replicate 16 0 }
-    {
-        EntryCounts {
-            components: [0; THREADS],
-        }
     }
 
     /// The components, that of thread 0 first.
