@@ -62,7 +62,7 @@ fn enter(
     let _few = frontiers.components();
     let _same = stamp.components();
     for thread in 0..16 {
-        let component = u64::from(stamp.get(thread));
+        let component = stamp.get(thread);
         if component > frontiers.get(thread) {
             index.insert((thread, component, arrival))?;
         }
@@ -79,7 +79,7 @@ fn leave(index: &mut BTreeSet<(u32, u64, u64)>, stamp: &Stamp, arrival: u64)
         → IsIndexed index.new.keys u (slice_index stamp.now u) arrival → ⊥ }
 {
     for thread in 0..16 {
-        index.remove(&(thread, u64::from(stamp.get(thread)), arrival));
+        index.remove(&(thread, stamp.get(thread), arrival));
     }
 }
 

@@ -123,7 +123,7 @@ impl Index {
             return None;
         }
         for thread in 0..16 {
-            if let Some(number) = self.read_past(var, places, thread, u64::from(done.get(thread))) {
+            if let Some(number) = self.read_past(var, places, thread, done.get(thread)) {
                 return Some((thread, number));
             }
         }

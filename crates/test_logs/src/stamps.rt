@@ -12,7 +12,7 @@ const TOO_WIDE: [u64; 16] = [1, 1, 0, 0, 0, 0, 0, 0, 0, 0, 0, 0, 0, 0, 0, 1 << 3
 fn counts_of(stamp: &Stamp) -> EntryCounts {
     let mut components = [0; 16];
     for thread in 0..16 {
-        components[thread as usize] = u64::from(stamp.get(thread));
+        components[thread as usize] = stamp.get(thread);
     }
     EntryCounts::new(components)
 }

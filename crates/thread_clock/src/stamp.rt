@@ -50,11 +50,11 @@ impl Stamp {
     }
 
     /// The component of one thread.
-    pub fn get(&self, thread: u32) -> u32
+    pub fn get(&self, thread: u32) -> u64
         requires { thread < 16 }
         ensures { result ≡ slice_index self.now thread }
     {
-        self.components[thread as usize]
+        u64::from(self.components[thread as usize])
     }
 
     /// Raises each component to that of the other stamp, where that is greater.
