@@ -13,9 +13,7 @@ use plain_text::NoMemory;
 use std::alloc::Global;
 use std::boxed::Box;
 use std::marker::Model;
-use wire_frames::{
-    Frame, FrameEntry, FrameError, FrameOutput, put_entry, put_output, take_frame,
-};
+use wire_frames::{Frame, FrameEntry, FrameError, FrameOutput, put_entry, put_output, take_frame};
 
 /// What a thread's move left, kept until it is noted. Contracts see what its call showed.
 ///

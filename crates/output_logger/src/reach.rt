@@ -67,7 +67,11 @@ fn frontier_over(held: &Held, thread: u32, count: u64) -> Result<u64, NoMemory>
 }
 
 /// The frontiers as they will be once each thread's entries up to its count are covered.
-pub fn frontiers_over(held: &Held, threads: u32, counts: &EntryCounts) -> Result<EntryCounts, NoMemory>
+pub fn frontiers_over(
+    held: &Held,
+    threads: u32,
+    counts: &EntryCounts,
+) -> Result<EntryCounts, NoMemory>
     requires all { threads ≡ length held.now }
     requires rising { (t : ℕ) → t < length held.now
         → (lane held.now t).covered ≤ slice_index counts.now t }

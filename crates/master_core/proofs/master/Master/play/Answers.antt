@@ -32,5 +32,5 @@ pub returns-in-Draw : goal.returns-in-Draw
 returns-in-Draw g c d x =
     let m = g.P.Program.meaning c.args.program.now in
     subst (λ (next : Move). Played m c.args.thread c.args.turn c.args.answer c.args.packet.now c.args.place
-    (slice_index_or c.args.self.now.threads c.args.thread d) x c.args.self.now c.hear-in-Draw.result c.hear-in-Draw.new.self next)
-    c.in-Draw.ensures (c.hear-in-Draw.ensures d)
+    (slice_index_or c.args.self.now.threads c.args.thread d) x c.args.self.now c.hear-in-Draw.result
+    c.hear-in-Draw.new.self next) c.in-Draw.ensures (c.hear-in-Draw.ensures d)
