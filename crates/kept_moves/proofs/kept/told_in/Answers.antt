@@ -1,5 +1,5 @@
 use Rattle.std.proofs.Common.{Err, length, sym, ap, ◌∙◌}
-use Rattle.std.specs.Result.{IfOk-weaker}
+use Rattle.std.proofs.lemmas.Result.{IfOk-weaker}
 use Rattle.wire_frames.proofs.Whole.{begins_whole}
 use Rattle.sent_frames.proofs.FrameLemmas.{gives_no_fault}
 use Rattle.kept_moves.specs.Keeping.{shown_by}

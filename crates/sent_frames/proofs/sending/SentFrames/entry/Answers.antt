@@ -1,5 +1,5 @@
 use Rattle.std.proofs.Common.{sym, subst}
-use Rattle.std.specs.Result.{IfOk-weaker}
+use Rattle.std.proofs.lemmas.Result.{IfOk-weaker}
 use Rattle.sent_frames.specs.Sending.{Sending, HasEntryFrame}
 use Rattle.sent_frames.proofs.FrameLemmas.{entry_bytes}
 use Rattle.sent_frames.proofs.sending.SentFrames.entry.Goals as goal
