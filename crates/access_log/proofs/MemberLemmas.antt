@@ -2,10 +2,9 @@
 use Rattle.std.proofs.Common.{◌≡◌, ◌≢◌, ℕ, zero, suc, ◌+◌, ◌≤◌, ◌<◌, ◌⊎◌, ◌↔◌, Bool, true, false, cond, leb, List, []}
 use Rattle.std.proofs.Common.{◌∷◌, ◌++◌, Option, Some, None, IsSome, length, length-append, not, slice_index, refl, sym}
 use Rattle.std.proofs.Common.{ap, ◌∙◌, subst, inl, inr, ⊎_elim, Less, arith}
-use Rattle.std.specs.Map.{lookup, keys_of}
+use Rattle.std.specs.Map.{keys_of}
 use Rattle.std.specs.List.{AllByRecursion}
 use Rattle.std.specs.List.Sorted.{IsStrictlySortedBy}
-use Rattle.std.specs.BTreeMap.{is_at}
 use Rattle.std.specs.Ordering.{nat_cmp}
 use Rattle.std.proofs.lemmas.Map.Keys.{sorted_head, sorted_tail}
 use Rattle.std.proofs.lemmas.Bool.{cases_lt}
@@ -14,14 +13,13 @@ use Rattle.std.proofs.lemmas.Bool.Decides.{nat_tests}
 use Rattle.std.proofs.lemmas.Grind.{common_steps}
 use Rattle.entry_order.proofs.Order.{is_or}
 use Rattle.access_log.specs.declared.entry.StampedEntry.{StampedEntry}
-use Rattle.access_log.specs.Held.{Lane, lane, entry_at, fresh_lane, IsRising, held_count}
+use Rattle.access_log.specs.Held.{Lane, lane, entry_at, IsRising, held_count}
 use Rattle.access_log.specs.Lanes.{CoversUpTo, RetainsAtMost, IsHeldSet}
 use Rattle.access_log.specs.Members.{IsMember, IsDropped, IsMemberAbove, IsListed, AreApart, IsNumberOf}
 use Rattle.access_log.proofs.SlotLemmas.{at, at-same, is_at-same, is_at-apart}
 use Rattle.access_log.specs.Slots.{in_slots, IsSlotted}
 use Rattle.access_log.proofs.LaneLemmas.{lane_past, rising_all}
 use Rattle.access_log.proofs.RetainedLemmas.{at_most, AtMost-true, at_most-true}
-use Rattle.thread_clock.specs.Clock.{AtMost}
 
 -- Two lists of the same entries, each once, are of one length
 

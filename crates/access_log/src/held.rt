@@ -11,7 +11,7 @@ use crate::{Added, StampedEntry};
 use plain_text::NoMemory;
 use std::alloc::Global;
 use std::marker::Model;
-use thread_clock::Stamp;
+use thread_clock::{EntryCounts, Stamp};
 
 /// How many entries a call let stay and dropped.
 #[derive(Clone, Copy, Debug, PartialEq, Eq)]
@@ -42,7 +42,7 @@ impl Model for Held {
 }
 
 /// Covers in each lane what the counts say.
-fn cover_each(lanes: &mut [Lane], counts: &Stamp)
+fn cover_each(lanes: &mut [Lane], counts: &EntryCounts)
     requires few { length lanes.old ≤ 16 }
     requires rising { (t : ℕ) → t < length lanes.old
         → (lane lanes.old t).covered ≤ slice_index counts.now t }
@@ -57,8 +57,8 @@ fn cover_each(lanes: &mut [Lane], counts: &Stamp)
     }
 }
 
-/// Drops in each lane the entries with a component of their stamps above this one's, and counts them.
-fn retain_in_each(lanes: &mut [Lane], frontiers: &Stamp) -> u64
+/// Drops in each lane the entries with a component of their stamps above the frontiers, and counts them.
+fn retain_in_each(lanes: &mut [Lane], frontiers: &EntryCounts) -> u64
     requires { length lanes.old ≤ 16 }
     ensures retained { (t : ℕ) → RetainsAtMost (lane lanes.old t) (lane lanes.new t) frontiers.now }
     ensures dropped { held_count lanes.new + result ≡ held_count lanes.old }
@@ -138,7 +138,7 @@ impl Held {
 
     /// Marks each thread's entries up to its count as covered, and drops those held of them: the held entries with
     /// numbers above the counts are left. It takes no memory.
-    pub fn cover(&mut self, counts: &Stamp)
+    pub fn cover(&mut self, counts: &EntryCounts)
         requires { (t : ℕ) → t < length self.old
             → (lane self.old t).covered ≤ slice_index counts.now t }
         ensures covers { (t : ℕ) → t < length self.old
@@ -159,8 +159,8 @@ impl Held {
         }
     }
 
-    /// The frontier of each thread, as a stamp.
-    fn frontiers(&self) -> Stamp
+    /// The frontier of each thread.
+    fn frontiers(&self) -> EntryCounts
         ensures { (t : ℕ) → IsFrontier (lane self.now t) (slice_index result t) }
     {
         let _few = &self.lanes;
@@ -168,7 +168,7 @@ impl Held {
         for i in 0..16 {
             components[i as usize] = self.frontier(i);
         }
-        Stamp::new(components)
+        EntryCounts::new(components)
     }
 
     /// The first entry that is missing for this stamp: of the least thread whose component is above its frontier, the
@@ -180,7 +180,7 @@ impl Held {
         let components = stamp.components();
         for thread in 0..16 {
             let frontier = self.frontier(thread);
-            if components[thread as usize] > frontier {
+            if u64::from(components[thread as usize]) > frontier {
                 return Some((thread, frontier + 1));
             }
         }

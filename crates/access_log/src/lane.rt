@@ -10,7 +10,7 @@ use crate::{Added, StampedEntry};
 use plain_text::NoMemory;
 use std::alloc::Global;
 use std::marker::Model;
-use thread_clock::Stamp;
+use thread_clock::EntryCounts;
 
 /// What is held of one thread.
 #[derive(Debug, Drop)]
@@ -106,8 +106,8 @@ impl Lane {
         self.frontier = frontier_after(&self.entries, self.frontier.max(count));
     }
 
-    /// Drops each held entry with a component of its stamp above this one's. It takes no memory.
-    pub fn retain_at_most(&mut self, frontiers: &Stamp)
+    /// Drops each held entry with a component of its stamp above its thread's frontier. It takes no memory.
+    pub fn retain_at_most(&mut self, frontiers: &EntryCounts)
         ensures retained { RetainsAtMost self.old self.new frontiers.now }
         ensures fewer { length self.new.entries ≤ length self.old.entries }
         ensures rising { IsRising self.new.covered self.new.entries }

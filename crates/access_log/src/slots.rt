@@ -15,13 +15,13 @@ use std::alloc::Global;
 use std::collections::{BTreeMap, VecDeque};
 use std::marker::Model;
 use std::mem::size_of;
-use thread_clock::Stamp;
+use thread_clock::EntryCounts;
 
 /// The most slots and later entries together, far beyond what memory has.
 const LIMIT: usize = 0x100_0000_0000_0000;
 
-// An entry takes at most 200 bytes.
-const _: () = prove!(size_of::<Option<StampedEntry>>() <= 200);
+// An entry takes at most 112 bytes.
+const _: () = prove!(size_of::<Option<StampedEntry>>() <= 112);
 
 /// The entries of one thread by number, after those covered: at once in slots that follow one another, and in a map
 /// where they come before those in between.
@@ -93,8 +93,8 @@ fn gather(
     }
 }
 
-/// Empties the slot if its entry has a component of its stamp above this one's.
-fn empty_if_above(slot: &mut Option<StampedEntry>, frontiers: &Stamp)
+/// Empties the slot if its entry has a component of its stamp above its thread's frontier.
+fn empty_if_above(slot: &mut Option<StampedEntry>, frontiers: &EntryCounts)
     ensures { (e : StampedEntry) → (slot.new ≡ Some e) ↔ ((slot.old ≡ Some e)
         × AtMost e.stamp frontiers.now) }
 {
@@ -105,8 +105,8 @@ fn empty_if_above(slot: &mut Option<StampedEntry>, frontiers: &Stamp)
     }
 }
 
-/// Empties each slot whose entry has a component of its stamp above this one's.
-fn empty_above(contiguous: &mut VecDeque<Option<StampedEntry>>, frontiers: &Stamp)
+/// Empties each slot whose entry has a component of its stamp above its thread's frontier.
+fn empty_above(contiguous: &mut VecDeque<Option<StampedEntry>>, frontiers: &EntryCounts)
     ensures { RetainsSlots contiguous.old.items contiguous.new.items frontiers.now }
 {
     for i in 0..contiguous.len() {
@@ -216,8 +216,8 @@ impl Slots {
         self.covered = count;
     }
 
-    /// Drops each held entry with a component of its stamp above this one's. It takes no memory.
-    pub fn retain_at_most(&mut self, frontiers: &Stamp)
+    /// Drops each held entry with a component of its stamp above its thread's frontier. It takes no memory.
+    pub fn retain_at_most(&mut self, frontiers: &EntryCounts)
         ensures retained { RetainsAtMost self.old self.new frontiers.now }
         ensures fewer { length self.new.entries ≤ length self.old.entries }
     {

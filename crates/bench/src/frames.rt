@@ -2,7 +2,7 @@
 ghost use Rattle.std.specs.Prelude.{◌≡◌, ◌≤◌};
 ghost use Rattle.wire_frames.specs.Writing.{CanPutEntry};
 
-use crate::words::next_number;
+use crate::words::{next_count, next_number};
 use access_log::{StampedEntry, What};
 use plain_text::{Bytes, NoMemory};
 use std::alloc::Global;
@@ -18,7 +18,7 @@ struct Passed {
 }
 
 /// The entry of this number of thread 0, which comes after entries of two other threads.
-fn entry_of(number: u64) -> StampedEntry
+fn entry_of(number: u32) -> StampedEntry
     requires { 1 ≤ number }
     ensures { CanPutEntry 1 4 result }
 {
@@ -28,10 +28,10 @@ fn entry_of(number: u64) -> StampedEntry
     components[2] = number - 1;
     StampedEntry {
         thread: 0,
-        number,
+        number: u64::from(number),
         what: What::Access {
             var: 0,
-            place: number,
+            place: u64::from(number),
         },
         stamp: Stamp::new(components),
     }
@@ -48,14 +48,14 @@ fn read_often(alloc: Global, frame: &[u8], times: u64) -> Result<u64, FrameError
 }
 
 /// The frame of an entry.
-fn frame_of(alloc: Global, number: u64) -> Result<Bytes, NoMemory>
+fn frame_of(alloc: Global, number: u32) -> Result<Bytes, NoMemory>
     requires { 1 ≤ number }
 {
     put_entry(alloc, 1, 4, &entry_of(number))
 }
 
 /// Writes a frame, and reads it this number of times.
-fn pass_frame(alloc: Global, number: u64, times: u64) -> Result<Passed, FrameError>
+fn pass_frame(alloc: Global, number: u32, times: u64) -> Result<Passed, FrameError>
     requires { 1 ≤ number }
 {
     let frame = frame_of(alloc, number)?;
@@ -66,7 +66,7 @@ fn pass_frame(alloc: Global, number: u64, times: u64) -> Result<Passed, FrameErr
 }
 
 /// Writes the frames of this number of entries, and reads each this number of times.
-fn pass_frames(alloc: Global, count: u64, times: u64) -> Result<Passed, FrameError> {
+fn pass_frames(alloc: Global, count: u32, times: u64) -> Result<Passed, FrameError> {
     let mut all = Passed {
         written: 0,
         read: 0,
@@ -82,7 +82,7 @@ fn pass_frames(alloc: Global, count: u64, times: u64) -> Result<Passed, FrameErr
 /// Tells how many bytes were written and read, where the words say how many entries there are, and how often each is
 /// read.
 pub fn run<R: AllocGlobal + Print>(rt: &R, words: &mut Args) -> anyhow::Result<()> {
-    let count = next_number(words, "how many entries?")?;
+    let count = next_count(words, "how many entries?")?;
     let times = next_number(words, "how often is each read?")?;
     let passed = pass_frames(rt.alloc(), count, times)?;
     println!(rt; "{} bytes written, {} read", passed.written, passed.read)?;

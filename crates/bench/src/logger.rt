@@ -2,7 +2,7 @@
 //! Then all outputs come first, and all entries after them, both the last one first.
 ghost use Rattle.std.specs.Prelude.{◌≡◌, ◌≤◌, length};
 
-use crate::words::next_number;
+use crate::words::next_count;
 use access_log::{Output, Outputs, StampedEntry, What};
 use output_logger::OutputLogger;
 use plain_text::{Bytes, NoMemory, Packet};
@@ -11,14 +11,14 @@ use std::env::Args;
 use thread_clock::Stamp;
 
 /// The stamp of entry `number` of thread 0, which comes after the earlier ones of the thread.
-fn stamp_of(number: u64) -> Stamp {
+fn stamp_of(number: u32) -> Stamp {
     let mut components = [0; 16];
     components[0] = number;
     Stamp::new(components)
 }
 
 /// Entry `number` of thread 0 arrives.
-fn log(logger: &mut OutputLogger, out: &mut Outputs, number: u64) -> Result<(), NoMemory>
+fn log(logger: &mut OutputLogger, out: &mut Outputs, number: u32) -> Result<(), NoMemory>
     requires threads { length logger.old.held ≡ 1 }
     requires numbered { 1 ≤ number }
     requires epoch { 1 ≤ logger.old.epoch }
@@ -27,7 +27,7 @@ fn log(logger: &mut OutputLogger, out: &mut Outputs, number: u64) -> Result<(), 
 {
     let entry = StampedEntry {
         thread: 0,
-        number,
+        number: u64::from(number),
         what: What::Clock(0),
         stamp: stamp_of(number),
     };
@@ -40,7 +40,7 @@ fn send(
     alloc: Global,
     logger: &mut OutputLogger,
     out: &mut Outputs,
-    number: u64,
+    number: u32,
 ) -> Result<(), NoMemory>
     requires threads { length logger.old.held ≡ 1 }
     requires numbered { 1 ≤ number }
@@ -57,8 +57,8 @@ fn send(
     };
     let output = Output {
         thread: 0,
-        number,
-        input: number,
+        number: u64::from(number),
+        input: u64::from(number),
         stamp: stamp_of(number),
         packet,
     };
@@ -71,7 +71,7 @@ fn come_in_order(
     alloc: Global,
     logger: &mut OutputLogger,
     out: &mut Outputs,
-    count: u64,
+    count: u32,
 ) -> Result<(), NoMemory>
     requires threads { length logger.old.held ≡ 1 }
     requires epoch { 1 ≤ logger.old.epoch }
@@ -88,7 +88,7 @@ fn come_in_reverse(
     alloc: Global,
     logger: &mut OutputLogger,
     out: &mut Outputs,
-    count: u64,
+    count: u32,
 ) -> Result<(), NoMemory>
     requires threads { length logger.old.held ≡ 1 }
     requires epoch { 1 ≤ logger.old.epoch }
@@ -103,7 +103,7 @@ fn come_in_reverse(
 }
 
 /// How many outputs are released where they come in order, or in reverse.
-fn released(alloc: Global, count: u64, in_order: bool) -> Result<usize, NoMemory> {
+fn released(alloc: Global, count: u32, in_order: bool) -> Result<usize, NoMemory> {
     let mut out = Outputs::new(alloc);
     let mut logger = OutputLogger::new(alloc, 1)?;
     if in_order {
@@ -116,8 +116,8 @@ fn released(alloc: Global, count: u64, in_order: bool) -> Result<usize, NoMemory
 
 /// Tells how many outputs were released, where the words say how many come in order, and how many in reverse.
 pub fn run<R: AllocGlobal + Print>(rt: &R, words: &mut Args) -> anyhow::Result<()> {
-    let forward = next_number(words, "how many outputs in order?")?;
-    let reverse = next_number(words, "how many in reverse?")?;
+    let forward = next_count(words, "how many outputs in order?")?;
+    let reverse = next_count(words, "how many in reverse?")?;
     let first = released(rt.alloc(), forward, true)?;
     let second = released(rt.alloc(), reverse, false)?;
     println!(rt; "{first} released in order, {second} in reverse")?;

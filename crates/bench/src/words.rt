@@ -11,6 +11,12 @@ pub fn words_of(alloc: Global, text: &str) -> Result<Args, AllocError> {
     Ok(words.into_iter())
 }
 
+/// The next word, which is a number below 2^32: so many entries have stamps. Where there is none, the error is this
+/// question.
+pub fn next_count(words: &mut Args, question: &'static str) -> anyhow::Result<u32> {
+    Ok(words.next().context(question)?.parse()?)
+}
+
 /// The next word, which is a number. Where there is none, the error is this question.
 pub fn next_number(words: &mut Args, question: &'static str) -> anyhow::Result<u64> {
     Ok(words.next().context(question)?.parse()?)

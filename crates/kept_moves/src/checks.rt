@@ -9,7 +9,7 @@ use plain_text::MOST_CAPTURED;
 use thread_clock::Stamp;
 
 /// Whether no thread from this one on has a component.
-fn has_none_from(components: &[u64], threads: usize) -> bool
+fn has_none_from(components: &[u32], threads: usize) -> bool
     ensures { IsTrue result → (u : ℕ) → threads ≤ u → slice_index components.now u ≡ 0 }
 {
     for thread in threads..components.len() {

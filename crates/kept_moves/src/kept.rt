@@ -13,7 +13,7 @@ use plain_text::NoMemory;
 use std::alloc::Global;
 use std::boxed::Box;
 use std::marker::Model;
-use wire_frames::{Frame, FrameError, put_entry, put_output, take_frame};
+use wire_frames::{Frame, FrameEntry, FrameError, FrameOutput, put_entry, put_output, take_frame};
 
 /// What a thread's move left, kept until it is noted. Contracts see what its call showed.
 ///
@@ -97,14 +97,35 @@ fn kept_form(alloc: Global, epoch: u32, threads: u32, stepped: Stepped) -> Resul
     }
 }
 
+/// The move that made this entry. It answers that memory ran out where a component of the stamp is 2^32 or more, as in
+/// no frame that was written.
+fn did(entry: &FrameEntry) -> Result<Stepped, NoMemory>
+    ensures { IfOk result (λ told. told ≡ stepped_is.Did entry.now) }
+{
+    match entry.entry() {
+        Some(entry) => Ok(Stepped::Did(entry)),
+        None => Err(NoMemory),
+    }
+}
+
+/// The move that sent this output out. It answers that memory ran out as `did` does.
+fn emitted(output: FrameOutput) -> Result<Stepped, NoMemory>
+    ensures { IfOk result (λ told. told ≡ stepped_is.Emitted output) }
+{
+    match output.into_output() {
+        Some(output) => Ok(Stepped::Emitted(output)),
+        None => Err(NoMemory),
+    }
+}
+
 /// What the frame in these bytes tells, as the call of its move showed it.
 fn told_in(alloc: Global, bytes: &[u8]) -> Result<Stepped, NoMemory>
     requires { (f : FrameValue) × IsFrame bytes.now f }
     ensures { IfOk result (λ told. (f : FrameValue) → IsFrame bytes.now f → told ≡ shown_by f) }
 {
     match take_frame(alloc, bytes) {
-        Ok((Frame::Entry { entry, .. }, _)) => Ok(Stepped::Did(entry)),
-        Ok((Frame::Output { output, .. }, _)) => Ok(Stepped::Emitted(output)),
+        Ok((Frame::Entry { entry, .. }, _)) => did(&entry),
+        Ok((Frame::Output { output, .. }, _)) => emitted(output),
         Err(FrameError::NoMemory) => Err(NoMemory),
         Err(FrameError::Fault(_)) => unreachable!(),
     }

@@ -190,7 +190,9 @@ module _ {V : Type 0} (m : Meaning V) (fits : ℕ → V → Type 0) (lawful : Is
   look_answers : (v : ℕ) (now : Turn) → MayMove (move.Read v) now → m.next place ≡ move.Read v
       → DoneLook m t v place part (slice_index_or p.vars v x) p r q
       → Answers m fits t now packet place p r q (move.Read v)
-  look_answers v now may is (e, r_is, done) =
+  look_answers v now may is (inr (r_is, q_is)) =
+      no_memory m fits t now packet place p r q (move.Read v) fit may r_is q_is
+  look_answers v now may is (inl (e, r_is, done)) =
       let under : v < m.vars = lawful.reads_var place v is in
       let value : V = (slice_index_or p.vars v x).value in
       let falls : m.rank (m.look v value place) < m.rank place =
@@ -210,12 +212,16 @@ module _ {V : Type 0} (m : Meaning V) (fits : ℕ → V → Type 0) (lawful : Is
   played_answers turn.Free (move.Read v) is h = look_answers v turn.Free (may_free (move.Read v)) is h
   played_answers (turn.Wait u n) (move.Read v) is h =
       not_turn m fits t v u n packet place p r q (move.Read v) fit (inr refl) h.0 h.1
-  played_answers now move.Clock is (e, r_is, done) =
+  played_answers now move.Clock is (inr (r_is, q_is)) =
+      no_memory m fits t now packet place p r q move.Clock fit (may_clock now) r_is q_is
+  played_answers now move.Clock is (inl (e, r_is, done)) =
       let falls : m.rank (m.told answer place) < m.rank place = lawful.clock_falls answer place is in
       made m fits t now packet place p r q move.Clock p.vars _ low (may_clock now) (subst MadeOne (sym r_is) tt)
       (heard_master m t (Clock answer) answer place part p e q done) (record { count = fit.count; fit = fit.fit })
       (omega arith) (λ o e. absurd (cc))
-  played_answers now move.Draw is (e, r_is, done) =
+  played_answers now move.Draw is (inr (r_is, q_is)) =
+      no_memory m fits t now packet place p r q move.Draw fit (may_draw now) r_is q_is
+  played_answers now move.Draw is (inl (e, r_is, done)) =
       let falls : m.rank (m.told answer place) < m.rank place = lawful.draw_falls answer place is in
       made m fits t now packet place p r q move.Draw p.vars _ low (may_draw now) (subst MadeOne (sym r_is) tt)
       (heard_master m t (Draw answer) answer place part p e q done) (record { count = fit.count; fit = fit.fit })

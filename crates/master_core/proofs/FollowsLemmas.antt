@@ -168,7 +168,11 @@ pub look_follows : {V : Type 0} (m : Meaning V) (inputs : ℕ → List Packet) (
     (r : Stepped) → Ready m inputs threads steps p t part packet place → m.next place ≡ move.Read v → v < m.vars
     → length p.vars ≡ m.vars → IsVariable m steps v x → DoneLook m t v place part x p r q
     → Follows m inputs threads steps (move_of m steps t answer) r q
-look_follows {V} m inputs threads steps t answer v packet place part x p q r ready next below len is (e, r_is, done) =
+look_follows {V} m inputs threads steps t answer v packet place part x p q r ready next below len is
+    (inr (r_is, q_is)) =
+    subst (λ (s : Stepped). Follows m inputs threads steps (move_of m steps t answer) s q) (sym r_is) tt
+look_follows {V} m inputs threads steps t answer v packet place part x p q r ready next below len is
+    (inl (e, r_is, done)) =
     made m inputs threads steps t answer
     (record { vars = slice_set p.vars v y; threads = slice_set p.threads t (after_entry part place' e.stamp) }) q r
     (stepped.Did e) r_is (looked_master m t v place part x p e q done) (record {
@@ -221,7 +225,10 @@ pub told_follows : {V : Type 0} (m : Meaning V) (inputs : ℕ → List Packet) (
     → act_of t steps (thread_after steps t).taken effect ≡ Did (entry_of t (log_of steps) what) None
     → DoneHear m t what answer place part p r q → Follows m inputs threads steps (move_of m steps t answer) r q
 told_follows {V} m inputs threads steps t answer question what effect packet place part p q r ready next none moves act
-    (e, r_is, done) =
+    (inr (r_is, q_is)) =
+    subst (λ (s : Stepped). Follows m inputs threads steps (move_of m steps t answer) s q) (sym r_is) tt
+told_follows {V} m inputs threads steps t answer question what effect packet place part p q r ready next none moves act
+    (inl (e, r_is, done)) =
     made m inputs threads steps t answer
     (record { vars = p.vars; threads = slice_set p.threads t (after_entry part place' e.stamp) }) q r (stepped.Did e)
     r_is (heard_master m t what answer place part p e q done) (record {

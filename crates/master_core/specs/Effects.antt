@@ -149,12 +149,14 @@ DoneTouch m t v place part x p r q =
 
 abbrev pub DoneLook : {V : Type 0} → Meaning V → ℕ → ℕ → Local → ThreadPart → VarPart V → Mastered V → Stepped
     → Mastered V → Type 0
-DoneLook m t v place part x p r q = (e : StampedEntry) × (r ≡ stepped.Did e) × Looked m t v place part x p e q
+DoneLook m t v place part x p r q =
+    ((e : StampedEntry) × (r ≡ stepped.Did e) × Looked m t v place part x p e q) ⊎ ((r ≡ stepped.NoMemory) × (q ≡ p))
 
 abbrev pub DoneHear : {V : Type 0} → Meaning V → ℕ → What → ℕ → Local → ThreadPart → Mastered V → Stepped
     → Mastered V → Type 0
 DoneHear m t what answer place part p r q =
-    (e : StampedEntry) × (r ≡ stepped.Did e) × Heard m t what answer place part p e q
+    ((e : StampedEntry) × (r ≡ stepped.Did e) × Heard m t what answer place part p e q)
+    ⊎ ((r ≡ stepped.NoMemory) × (q ≡ p))
 
 abbrev pub DoneEmit : {V : Type 0} → Meaning V → ℕ → Packet → Local → ThreadPart → Mastered V → Stepped
     → Mastered V → Type 0

@@ -153,7 +153,7 @@ impl<P: Program> Master<P> {
     /// `input` is the packet in hand, else the next input of the thread, else `None`. `turn` says whether a touch or a
     /// read may be made now. `Idle` comes exactly where the thread wants an input and gets none, and `NotTurn` exactly
     /// where it wants a touch or a read and the turn is to wait; after these, and after `NoMemory`, the master is
-    /// unchanged.
+    /// unchanged. What would pass 2^32 - 1 entries of the thread answers `NoMemory`.
     pub fn step(
         &mut self,
         alloc: Global,
@@ -290,7 +290,10 @@ impl<P: Program> Master<P> {
     {
         let part = &mut self.threads[thread as usize];
         let variable = &mut self.vars[var as usize];
-        Stepped::Did(moves::look(program, thread, part, place, var, variable))
+        let Ok(entry) = moves::look(program, thread, part, place, var, variable) else {
+            return Stepped::NoMemory;
+        };
+        Stepped::Did(entry)
     }
 
     /// Is told this answer, which the entry has as its content.
@@ -302,7 +305,10 @@ impl<P: Program> Master<P> {
             place part self.old result self.new) self.old.threads thread }
     {
         let part = &mut self.threads[thread as usize];
-        Stepped::Did(moves::hear(program, thread, part, place, what, answer))
+        let Ok(entry) = moves::hear(program, thread, part, place, what, answer) else {
+            return Stepped::NoMemory;
+        };
+        Stepped::Did(entry)
     }
 
     /// Sends out what the program makes of the packet in hand.

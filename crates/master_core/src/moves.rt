@@ -7,7 +7,7 @@ ghost use Rattle.master_core.specs.Mastered.{moves_made};
 ghost use Rattle.master_core.specs.Effects.{after_take, after_emit, after_end, next_output};
 ghost use Rattle.master_core.specs.Effects.{TouchesParts, ReadsParts, HearsPart};
 
-use crate::effects::log_entry;
+use crate::effects::{log_entry, next_number};
 use crate::{ThreadPart, VarPart};
 use access_log::{Output, StampedEntry, What};
 use box_program::Program;
@@ -28,7 +28,7 @@ pub fn take<P: Program>(program: &P, part: &mut ThreadPart, packet: &Packet) -> 
 }
 
 /// Touches this variable, with the packet in hand at this place. The answer is the entry, with its place and its stamp.
-/// On `NoMemory` both parts are unchanged.
+/// On `NoMemory` both parts are unchanged; it comes, too, where the thread logged 2^32 - 1 entries.
 pub fn touch<P: Program>(
     alloc: Global,
     program: &P,
@@ -48,6 +48,7 @@ pub fn touch<P: Program>(
     ensures part_stays { OnErr result (part.new ≡ part.old) }
     ensures variable_stays { OnErr result (variable.new ≡ variable.old) }
 {
+    let number = next_number(part)?;
     program.touch(alloc, var, &mut variable.value, &mut place)?;
     let mut join = part.stamp;
     join.join(&variable.stamp);
@@ -57,14 +58,14 @@ pub fn touch<P: Program>(
         var,
         place: variable.places,
     };
-    let entry = log_entry(part, thread, place, what, join);
+    let entry = log_entry(part, thread, number, place, what, join);
     variable.stamp = entry.stamp;
     variable.readers = Stamp::zero();
     Ok(entry)
 }
 
 /// Reads this variable, with the packet in hand at this place: its value stays. The answer is the entry, with its
-/// stamp.
+/// stamp. `NoMemory`, which leaves both parts unchanged, comes only where the thread logged 2^32 - 1 entries.
 pub fn look<P: Program>(
     program: &P,
     thread: u32,
@@ -72,13 +73,16 @@ pub fn look<P: Program>(
     mut place: Local,
     var: u32,
     variable: &mut VarPart<P::Value>,
-) -> StampedEntry
+) -> Result<StampedEntry, NoMemory>
     requires thread_in { thread < 16 }
     requires fits { P.fits program.now var variable.old.value }
     requires room { moves_made part.old < 2 ^ 56 }
-    ensures { ReadsParts (P.meaning program.now) thread var place part.old variable.old
-        result part.new variable.new }
+    ensures looked { IfOk result (λ entry. ReadsParts (P.meaning program.now) thread var place
+        part.old variable.old entry part.new variable.new) }
+    ensures part_stays { OnErr result (part.new ≡ part.old) }
+    ensures variable_stays { OnErr result (variable.new ≡ variable.old) }
 {
+    let number = next_number(part)?;
     program.look(var, &variable.value, &mut place);
     let mut join = part.stamp;
     join.join(&variable.stamp);
@@ -86,13 +90,13 @@ pub fn look<P: Program>(
         var,
         after: variable.places,
     };
-    let entry = log_entry(part, thread, place, what, join);
+    let entry = log_entry(part, thread, number, place, what, join);
     variable.readers.join(&entry.stamp);
-    entry
+    Ok(entry)
 }
 
 /// Is told this answer, with the packet in hand at this place. The answer is the entry, of this content, with its
-/// stamp.
+/// stamp. `NoMemory`, which leaves the part unchanged, comes only where the thread logged 2^32 - 1 entries.
 pub fn hear<P: Program>(
     program: &P,
     thread: u32,
@@ -100,14 +104,17 @@ pub fn hear<P: Program>(
     mut place: Local,
     what: What,
     answer: u64,
-) -> StampedEntry
+) -> Result<StampedEntry, NoMemory>
     requires thread_in { thread < 16 }
     requires room { moves_made part.old < 2 ^ 56 }
-    ensures { HearsPart (P.meaning program.now) thread what answer place part.old result part.new }
+    ensures told { IfOk result (λ entry.
+        HearsPart (P.meaning program.now) thread what answer place part.old entry part.new) }
+    ensures part_stays { OnErr result (part.new ≡ part.old) }
 {
+    let number = next_number(part)?;
     program.told(answer, &mut place);
     let join = part.stamp;
-    log_entry(part, thread, place, what, join)
+    Ok(log_entry(part, thread, number, place, what, join))
 }
 
 /// Sends out what the program makes of the packet in hand, at this place. On `NoMemory` the part is unchanged.

@@ -22,7 +22,7 @@ use std::alloc::Global;
 use std::collections::BTreeSet;
 use std::marker::Model;
 use std::mem;
-use thread_clock::Stamp;
+use thread_clock::EntryCounts;
 
 /// Holds log entries, and releases each output once, as soon as no log entry that it depends on is missing. Until then
 /// it waits.
@@ -75,8 +75,8 @@ fn take_items(alloc: Global, out: &mut Outputs) -> Vec<Output>
 fn prepare(
     waiting: &Waiting,
     alloc: Global,
-    from: &Stamp,
-    reached: &Stamp,
+    from: &EntryCounts,
+    reached: &EntryCounts,
     out: &mut Vec<Output>,
 ) -> Result<BTreeSet<u64>, NoMemory>
     requires small { (a : ℕ) → IsSome (arrived waiting.now.outputs.entries a) → a < 2 ^ 64 - 1 }
@@ -217,7 +217,7 @@ impl OutputLogger {
 
     /// Takes note that a snapshot is stored: each thread's entries up to its count are covered. The waiting outputs
     /// that are due then are released, in the order in which they arrived.
-    pub fn covered(&mut self, counts: &Stamp, out: &mut Outputs) -> Result<(), NoMemory>
+    pub fn covered(&mut self, counts: &EntryCounts, out: &mut Outputs) -> Result<(), NoMemory>
         requires { (t : ℕ) → t < length self.old.held
             → (lane self.old.held t).covered ≤ slice_index counts.now t }
         ensures covers { OnOk result ((t : ℕ) → t < length self.old.held
@@ -240,7 +240,7 @@ impl OutputLogger {
     }
 
     /// Covers the entries, and releases the outputs that are due then.
-    fn cover(&mut self, counts: &Stamp, out: &mut Vec<Output>) -> Result<(), NoMemory>
+    fn cover(&mut self, counts: &EntryCounts, out: &mut Vec<Output>) -> Result<(), NoMemory>
         requires { (t : ℕ) → t < length self.old.held
             → (lane self.old.held t).covered ≤ slice_index counts.now t }
         ensures err { OnErr result ((self.new ≡ self.old) × (out.new.items ≡ out.old.items)) }

@@ -8,10 +8,10 @@ ghost use Rattle.output_logger.specs.Reach.{Reaches, AreFrontiers, WithEntry, Wi
 
 use access_log::Held;
 use plain_text::NoMemory;
-use thread_clock::Stamp;
+use thread_clock::EntryCounts;
 
-/// The frontier of each thread, as a stamp.
-pub fn frontiers(held: &Held) -> Stamp
+/// The frontier of each thread.
+pub fn frontiers(held: &Held) -> EntryCounts
     ensures { AreFrontiers held.now result }
 {
     held.is_held_set();
@@ -19,7 +19,7 @@ pub fn frontiers(held: &Held) -> Stamp
     for i in 0..16 {
         components[i as usize] = held.frontier(i);
     }
-    Stamp::new(components)
+    EntryCounts::new(components)
 }
 
 /// The greatest number up to which each entry of the thread after this number is held. It answers that memory ran out
@@ -38,7 +38,7 @@ fn reach(held: &Held, thread: u32, from: u64) -> Result<u64, NoMemory>
 }
 
 /// The frontiers as they will be with one more entry.
-pub fn frontiers_with(held: &Held, thread: u32, number: u64) -> Result<Stamp, NoMemory>
+pub fn frontiers_with(held: &Held, thread: u32, number: u64) -> Result<EntryCounts, NoMemory>
     requires thread_in { thread < length held.now }
     requires numbered { 1 ≤ number }
     requires unknown { IsKnown (lane held.now thread) number → ⊥ }
@@ -50,7 +50,7 @@ pub fn frontiers_with(held: &Held, thread: u32, number: u64) -> Result<Stamp, No
     if components[thread as usize] == number - 1 {
         components[thread as usize] = reach(held, thread, number)?;
     }
-    Ok(Stamp::new(components))
+    Ok(EntryCounts::new(components))
 }
 
 /// The frontier of a thread as it will be once the entries up to this number are covered.
@@ -67,7 +67,11 @@ fn frontier_over(held: &Held, thread: u32, count: u64) -> Result<u64, NoMemory>
 }
 
 /// The frontiers as they will be once each thread's entries up to its count are covered.
-pub fn frontiers_over(held: &Held, threads: u32, counts: &Stamp) -> Result<Stamp, NoMemory>
+pub fn frontiers_over(
+    held: &Held,
+    threads: u32,
+    counts: &EntryCounts,
+) -> Result<EntryCounts, NoMemory>
     requires all { threads ≡ length held.now }
     requires rising { (t : ℕ) → t < length held.now
         → (lane held.now t).covered ≤ slice_index counts.now t }
@@ -79,5 +83,5 @@ pub fn frontiers_over(held: &Held, threads: u32, counts: &Stamp) -> Result<Stamp
     for thread in 0..threads {
         components[thread as usize] = frontier_over(held, thread, counts.get(thread))?;
     }
-    Ok(Stamp::new(components))
+    Ok(EntryCounts::new(components))
 }

@@ -18,7 +18,7 @@ use dup_filter::Released;
 use plain_text::NoMemory;
 use std::alloc::Global;
 use std::collections::{BTreeMap, BTreeSet};
-use thread_clock::Stamp;
+use thread_clock::{EntryCounts, Stamp};
 
 /// The waiting outputs by the order in which they arrived. An index has each under every log entry that it waits for,
 /// by thread, number and arrival; and maybe under others of its stamp.
@@ -49,7 +49,7 @@ fn next_arrival(outputs: &BTreeMap<u64, Output>) -> Result<u64, NoMemory>
 /// Puts an output into the index, under each log entry above these frontiers that its stamp names.
 fn enter(
     index: &mut BTreeSet<(u32, u64, u64)>,
-    frontiers: &Stamp,
+    frontiers: &EntryCounts,
     stamp: &Stamp,
     arrival: u64,
 ) -> Result<(), NoMemory>
@@ -89,7 +89,7 @@ fn find_due(
     waiting: &Waiting,
     thread: u32,
     from: u64,
-    reached: &Stamp,
+    reached: &EntryCounts,
     ready: &mut BTreeSet<u64>,
 ) -> Result<(), NoMemory>
     requires thread_in { thread < 16 }
@@ -159,7 +159,7 @@ impl Waiting {
     }
 
     /// Lets an output wait behind the others.
-    pub fn push(&mut self, frontiers: &Stamp, output: Output) -> Result<u64, NoMemory>
+    pub fn push(&mut self, frontiers: &EntryCounts, output: Output) -> Result<u64, NoMemory>
         ensures arrives { IfOk result (λ a.
             Arrives self.old.outputs.entries self.new.outputs.entries a output) }
         ensures enters { IfOk result (λ a.
@@ -210,8 +210,8 @@ impl Waiting {
     pub fn due(
         &self,
         alloc: Global,
-        from: &Stamp,
-        reached: &Stamp,
+        from: &EntryCounts,
+        reached: &EntryCounts,
     ) -> Result<BTreeSet<u64>, NoMemory>
         requires small { (a : ℕ) → IsSome (arrived self.now.outputs.entries a) → a < 2 ^ 64 - 1 }
         requires indexed { (a u : ℕ) (o : Output) → arrived self.now.outputs.entries a ≡ Some o

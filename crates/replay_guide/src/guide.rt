@@ -45,7 +45,7 @@ impl Model for Guide {
 }
 
 /// The threads and numbers of weighed entries, in their order.
-fn names_of(alloc: Global, weighed: &BTreeSet<(u128, u32, u64)>) -> Result<Order, NoMemory>
+fn names_of(alloc: Global, weighed: &BTreeSet<(u64, u32, u64)>) -> Result<Order, NoMemory>
     ensures names { IfOk result (λ order. order ≡ map (λ k. (k.1, k.2)) weighed.now.keys) }
     ensures sorted { IsStrictlySortedBy weighed_cmp weighed.now.keys }
 {

@@ -84,7 +84,7 @@ impl FollowedLane {
     }
 
     /// Puts the followed entries into the set, with their weights.
-    pub fn weigh(&self, weighed: &mut BTreeSet<(u128, u32, u64)>) -> Result<(), NoMemory>
+    pub fn weigh(&self, weighed: &mut BTreeSet<(u64, u32, u64)>) -> Result<(), NoMemory>
         ensures { OnOk result ((weight t n : ℕ) → IsWeighed weighed.new.keys weight t n
             ↔ (IsWeighed weighed.old.keys weight t n
             ⊎ ((k : ℕ) × (e : stamped.StampedEntry) × (entry_at self.now k ≡ Some e)

@@ -70,33 +70,40 @@ fn no_lengths(alloc: Global, threads: u32) -> Result<Vec<Sequence<u32>>, NoMemor
     Ok(lengths)
 }
 
-/// The entry of a frame, if it is that of an entry.
-fn entry_of(frame: &Frame) -> Option<StampedEntry>
-    ensures { (epoch threads : ℕ) (e : StampedEntry) → frame.now ≡ frame_is.Entry epoch threads e
-        → result ≡ Some e }
+/// The entry of a frame, if it is that of an entry. It answers that memory ran out where a component of the stamp is
+/// 2^32 or more, as in no frame that was sent.
+fn entry_of(frame: &Frame) -> Result<Option<StampedEntry>, NoMemory>
+    ensures { IfOk result (λ found. (epoch threads : ℕ) (e : StampedEntry)
+        → frame.now ≡ frame_is.Entry epoch threads e → found ≡ Some e) }
 {
     match frame {
-        Frame::Entry { entry, .. } => Some(*entry),
-        Frame::Output { .. } => None,
+        Frame::Entry { entry, .. } => match entry.entry() {
+            Some(entry) => Ok(Some(entry)),
+            None => Err(NoMemory),
+        },
+        Frame::Output { .. } => Ok(None),
     }
 }
 
-/// The output of a frame, if it is that of an output.
-fn output_of(frame: Frame) -> Option<Output>
-    ensures { (epoch threads : ℕ) (o : OutputValue) → frame ≡ frame_is.Output epoch threads o
-        → result ≡ Some o }
+/// The output of a frame, if it is that of an output. It answers that memory ran out as `entry_of` does.
+fn output_of(frame: Frame) -> Result<Option<Output>, NoMemory>
+    ensures { IfOk result (λ found. (epoch threads : ℕ) (o : OutputValue)
+        → frame ≡ frame_is.Output epoch threads o → found ≡ Some o) }
 {
     match frame {
         Frame::Output {
             epoch: _,
             threads: _,
             output,
-        } => Some(output),
+        } => match output.into_output() {
+            Some(output) => Ok(Some(output)),
+            None => Err(NoMemory),
+        },
         Frame::Entry {
             epoch: _,
             threads: _,
             entry: _,
-        } => None,
+        } => Ok(None),
     }
 }
 
@@ -133,9 +140,9 @@ fn word_of(what: What) -> u64
     }
 }
 
-/// Each component of a stamp is one.
-fn fit_words(components: &[u64])
-    ensures { (u : ℕ) → slice_index components.now u < 2 ^ 64 }
+/// Each component of a stamp is half of one.
+fn fit_words(components: &[u32])
+    ensures { (u : ℕ) → slice_index components.now u < 2 ^ 32 }
 {
     let _all = components.len();
 }
@@ -280,7 +287,7 @@ impl SentFrames {
             return Ok(None);
         };
         match frame_in(self.alloc, bytes)? {
-            Some(frame) => Ok(entry_of(&frame)),
+            Some(frame) => entry_of(&frame),
             None => Ok(None),
         }
     }
@@ -296,7 +303,7 @@ impl SentFrames {
             return Ok(None);
         };
         match frame_in(self.alloc, bytes)? {
-            Some(frame) => Ok(output_of(frame)),
+            Some(frame) => output_of(frame),
             None => Ok(None),
         }
     }

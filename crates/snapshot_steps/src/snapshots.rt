@@ -12,10 +12,10 @@ use plain_text::NoMemory;
 use recovery_world::Outcome;
 use sent_frames::SentFrames;
 use system_parts::Core;
-use thread_clock::Stamp;
+use thread_clock::EntryCounts;
 
 /// How many entries there are, by the number of each thread.
-fn total(counts: &Stamp) -> u64
+fn total(counts: &EntryCounts) -> u64
     ensures total { sum counts.now < 2 ^ 64 → result ≡ sum counts.now }
     ensures all { length counts.now ≡ 16 }
 {
@@ -42,7 +42,7 @@ pub fn snap<P: Program>(core: &mut Core<P>) -> Result<Outcome, NoMemory>
 }
 
 /// Forgets the frames of the entries that a stored snapshot has, by the number of each thread.
-fn forget_stored(sent: &mut SentFrames, threads: u32, counts: &Stamp)
+fn forget_stored(sent: &mut SentFrames, threads: u32, counts: &EntryCounts)
     requires { threads ≤ 16 }
     ensures { ForgetsCovered sent.old sent.new counts.now }
 {

@@ -12,7 +12,7 @@ use master_core::{Delta, Master};
 use plain_text::NoMemory;
 use std::alloc::Global;
 use std::marker::Model;
-use thread_clock::Stamp;
+use thread_clock::EntryCounts;
 
 /// What a recovery starts from: a master as it was stored, and how many moves it had made.
 #[derive(Drop)]
@@ -116,7 +116,7 @@ impl<P: Program> Store<P> {
 
     /// Stores the snapshot that is under way, in the place of the stored one, and gives the number of its entries for
     /// each thread; `None` exactly where none is under way. It takes no memory.
-    pub fn store(&mut self) -> Option<Stamp>
+    pub fn store(&mut self) -> Option<EntryCounts>
         ensures none { (result ≡ None) ↔ (self.old.copy ≡ None) }
         ensures counts { ForSome self.old.copy (λ copy. ForSome result (λ counts.
             HasCounts copy.master.threads counts)) }
@@ -159,7 +159,7 @@ impl<P: Program> Store<P> {
     }
 
     /// How many entries each thread has in the stored snapshot.
-    pub fn entry_counts(&self) -> Stamp
+    pub fn entry_counts(&self) -> EntryCounts
         ensures { HasCounts self.now.stored.master.threads result }
     {
         self.master.entry_counts()

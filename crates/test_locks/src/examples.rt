@@ -12,7 +12,7 @@ use thread_clock::Stamp;
 fn goes_between_threads<T: Send + Sync>(_value: &T) {}
 
 /// The stamp with these components for the first four threads.
-fn stamp(first: [u64; 4]) -> Stamp {
+fn stamp(first: [u32; 4]) -> Stamp {
     let mut components = [0; 16];
     for i in 0..4 {
         components[i] = first[i];
@@ -21,7 +21,7 @@ fn stamp(first: [u64; 4]) -> Stamp {
 }
 
 /// The first entry of a thread: the thread, what it is, and the stamp's first components.
-type First = (u32, What, [u64; 4]);
+type First = (u32, What, [u32; 4]);
 
 fn first_entry(first: First) -> StampedEntry {
     let (thread, what, components) = first;
@@ -50,7 +50,7 @@ fn guide_to(alloc: Global, entries: &[First]) -> Result<Guide, NoMemory> {
 
 /// A move that a thread wants as its first entry: the thread, whether it reads, the places of variable 0, the readers'
 /// stamp, and whose turn it is.
-type Asked = (u32, bool, u64, [u64; 4], Turn);
+type Asked = (u32, bool, u64, [u32; 4], Turn);
 
 /// The first of these moves of which the guide says something else.
 fn first_wrong(guide: &Guide, moves: &[Asked]) -> Option<usize> {
@@ -72,7 +72,7 @@ const TOUCH: bool = false;
 
 const READ: bool = true;
 
-const NONE: [u64; 4] = [0; 4];
+const NONE: [u32; 4] = [0; 4];
 
 /// That the turn waits for the first entry of thread 0.
 const WAIT_0: Turn = Turn::Wait {

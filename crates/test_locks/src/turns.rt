@@ -36,7 +36,7 @@ pub fn take_one_each<P: Program + Sync, R: Threads + Wait + Sync>(
 }
 
 /// The stamp of which these are the components of threads 0 and 1.
-fn stamp(first: u64, second: u64) -> Stamp {
+fn stamp(first: u32, second: u32) -> Stamp {
     let mut components = [0; 16];
     components[0] = first;
     components[1] = second;

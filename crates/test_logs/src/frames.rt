@@ -43,7 +43,7 @@ const OUTPUT: &[u8] = &[
 ];
 
 /// A stamp of one thread.
-fn one_component(first: u64) -> Stamp
+fn one_component(first: u32) -> Stamp
     ensures { (u : ℕ) → 1 ≤ u → slice_index result u ≡ 0 }
 {
     let mut components = [0; 16];
@@ -52,7 +52,7 @@ fn one_component(first: u64) -> Stamp
 }
 
 /// A stamp of three threads.
-fn three_components(first: u64, second: u64, third: u64) -> Stamp
+fn three_components(first: u32, second: u32, third: u32) -> Stamp
     ensures { (u : ℕ) → 3 ≤ u → slice_index result u ≡ 0 }
 {
     let mut components = [0; 16];
@@ -91,7 +91,7 @@ fn is_entry(alloc: Global, bytes: &[u8], threads: u32, entry: &StampedEntry) -> 
             epoch,
             threads: told,
             entry: read,
-        } => (*epoch, *told, size) == (1, threads, bytes.len()) && read == entry,
+        } => (*epoch, *told, size) == (1, threads, bytes.len()) && read.entry() == Some(*entry),
         Frame::Output { .. } => false,
     }
 }
@@ -154,14 +154,18 @@ fn is_output(alloc: Global, bytes: &[u8], output: &Output) -> bool {
     let Ok((frame, size)) = take_frame(alloc, bytes) else {
         return false;
     };
-    match &frame {
-        Frame::Output {
-            epoch,
-            threads,
-            output: read,
-        } => (*epoch, *threads, size) == (1, 3, bytes.len()) && is_same_output(read, output),
-        Frame::Entry { .. } => false,
-    }
+    let Frame::Output {
+        epoch,
+        threads,
+        output: read,
+    } = frame
+    else {
+        return false;
+    };
+    let Some(read) = read.into_output() else {
+        return false;
+    };
+    (epoch, threads, size) == (1, 3, bytes.len()) && is_same_output(&read, output)
 }
 
 /// Whether the output is written in version 2.

@@ -5,10 +5,10 @@ use access_log::{Added, Held, StampedEntry, What};
 use plain_text::NoMemory;
 use std::alloc::Global;
 use std::test::Fail;
-use thread_clock::Stamp;
+use thread_clock::{EntryCounts, Stamp};
 
 /// The first entry of a thread, a touch at this place, with these components of threads 0 and 1.
-fn first_touch(thread: u32, place: u64, first: u64, second: u64) -> StampedEntry
+fn first_touch(thread: u32, place: u64, first: u32, second: u32) -> StampedEntry
     ensures thread { result.thread ≡ thread }
     ensures number { result.number ≡ 1 }
 {
@@ -31,6 +31,9 @@ fn holds_second(held: &mut Held) -> bool {
         && held.closed_part().kept == 1
 }
 
+/// Of thread 1 the first entry is covered.
+const COVERED: [u64; 16] = [0, 1, 0, 0, 0, 0, 0, 0, 0, 0, 0, 0, 0, 0, 0, 0];
+
 /// Two threads count: thread 1 makes its touch, then thread 0. Whether the first touch is missing for the second alone,
 /// is known once it was added, and is no more held once it is covered.
 fn covers_first_in(held: &mut Held) -> Result<bool, NoMemory>
@@ -43,7 +46,7 @@ fn covers_first_in(held: &mut Held) -> Result<bool, NoMemory>
     held.add(first)?;
     let again = held.add(first)?;
     let both = held.missing(&second.stamp);
-    held.cover(&first.stamp);
+    held.cover(&EntryCounts::new(COVERED));
     Ok(alone == Some((1, 1)) && both.is_none() && again == Added::Known && holds_second(held))
 }
 

@@ -6,16 +6,16 @@ use access_log::{Kept, Output, Outputs, StampedEntry, What};
 use output_logger::{EntryTook, OutputLogger, OutputTook};
 use plain_text::{Bytes, NoMemory, Packet};
 use std::alloc::Global;
-use thread_clock::Stamp;
+use thread_clock::{EntryCounts, Stamp};
 
 /// What happens to a logger, and what is to become of it. An output comes after these numbers of entries of threads 0
 /// and 1.
 #[derive(Clone, Copy)]
 enum Event {
     /// An entry of this thread and number, sent in this epoch.
-    Log(u32, u32, u64, EntryTook),
+    Log(u32, u32, u32, EntryTook),
     /// An output of this thread and number, sent in this epoch.
-    Out(u32, u32, u64, (u64, u64), OutputTook),
+    Out(u32, u32, u64, (u32, u32), OutputTook),
     /// The end of an epoch, at which this is kept and dropped.
     Fence(Kept),
 }
@@ -24,7 +24,7 @@ use EntryTook::New;
 use OutputTook::{Again, OldEpoch, Release};
 
 /// The stamp with these components for threads 0 and 1.
-fn stamp(zero: u64, one: u64) -> Stamp {
+fn stamp(zero: u32, one: u32) -> Stamp {
     let mut components = [0; 16];
     components[0] = zero;
     components[1] = one;
@@ -32,13 +32,13 @@ fn stamp(zero: u64, one: u64) -> Stamp {
 }
 
 /// An entry of thread 0 or 1. Entry n of thread 0 comes after entry n of thread 1.
-fn entry_of(thread: u32, number: u64) -> StampedEntry
+fn entry_of(thread: u32, number: u32) -> StampedEntry
     ensures thread { result.thread ≡ thread }
     ensures number { result.number ≡ number }
 {
     StampedEntry {
         thread,
-        number,
+        number: u64::from(number),
         what: What::Clock(0),
         stamp: stamp(if thread == 0 { number } else { 0 }, number),
     }
@@ -272,7 +272,10 @@ fn stored_snapshot_releases(
 fn cover_first(logger: &mut OutputLogger, out: &mut Outputs) -> Result<(), NoMemory>
     requires { logger.old.held ≡ replicate 2 fresh_lane }
 {
-    logger.covered(&stamp(1, 1), out)
+    let mut counts = [0; 16];
+    counts[0] = 1;
+    counts[1] = 1;
+    logger.covered(&EntryCounts::new(counts), out)
 }
 
 /// The same at a logger of its own.

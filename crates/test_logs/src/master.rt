@@ -17,8 +17,8 @@ use std::test::Fail;
 #[derive(Clone, Copy, PartialEq)]
 enum Told {
     Took(u64),
-    Did(LogEntry, [u64; 16]),
-    Sent(u64, u64, [u64; 16]),
+    Did(LogEntry, [u32; 16]),
+    Sent(u64, u64, [u32; 16]),
     Ended(u64),
     Idle,
     NotTurn(u32, u64),
@@ -131,7 +131,7 @@ enum Row {
     /// How often variable 0 was touched, and its value.
     Variable(u64, u64),
     /// The components of the join of the stamps of the reads of variable 0.
-    Readers([u64; 16]),
+    Readers([u32; 16]),
 }
 
 /// Whether variable 0 was touched this often and has this value.
@@ -142,7 +142,7 @@ fn has_variable<P: Program<Value = u64>>(master: &Master<P>, places: u64, value:
 }
 
 /// Whether the join of the stamps of the reads of variable 0 has these components.
-fn has_readers<P: Program>(master: &Master<P>, components: &[u64; 16]) -> bool
+fn has_readers<P: Program>(master: &Master<P>, components: &[u32; 16]) -> bool
     requires { 0 < length master.now.vars }
 {
     master.readers(0).components() == components
@@ -271,13 +271,13 @@ const READ_OF_1: LogEntry = LogEntry {
 };
 
 /// The components of the stamp of no entry.
-const OF_NONE: [u64; 16] = [0; 16];
+const OF_NONE: [u32; 16] = [0; 16];
 
 /// Those of the stamp of the first entry of thread 1.
-const OF_ONE: [u64; 16] = [0, 1, 0, 0, 0, 0, 0, 0, 0, 0, 0, 0, 0, 0, 0, 0];
+const OF_ONE: [u32; 16] = [0, 1, 0, 0, 0, 0, 0, 0, 0, 0, 0, 0, 0, 0, 0, 0];
 
 /// Those of the stamp of the first entry of thread 0, after that of thread 1.
-const OF_BOTH: [u64; 16] = [1, 1, 0, 0, 0, 0, 0, 0, 0, 0, 0, 0, 0, 0, 0, 0];
+const OF_BOTH: [u32; 16] = [1, 1, 0, 0, 0, 0, 0, 0, 0, 0, 0, 0, 0, 0, 0, 0];
 
 /// A thread without an input is idle, and one whose turn is to wait stays where it is.
 const WAITS: [Row; 5] = [

@@ -2,15 +2,16 @@ ghost use Rattle.std.specs.Prelude.{◌≡◌, ℕ, ◌+◌, ◌-◌, ◌^◌, �
 ghost use Rattle.std.specs.Prelude.{replicate, sum, slice_index, slice_set};
 ghost use Rattle.thread_clock.specs.Clock.{AtMost, IsJoin};
 
+use crate::EntryCounts;
 use std::marker::Model;
 
 /// The most threads that a job may have, and so the components of a stamp.
 pub const THREADS: usize = 16;
 
-/// For each of 16 threads a count of its entries. Contracts see a stamp as the list of its 16 components.
+/// For each of 16 threads a count of its entries, below 2^32. Contracts see a stamp as the list of its 16 components.
 #[derive(Clone, Copy, Debug, PartialEq, Eq)]
 pub struct Stamp {
-    components: [u64; 16],
+    components: [u32; 16],
 }
 
 impl Model for Stamp {
@@ -25,7 +26,7 @@ impl Model for Stamp {
 
 impl Stamp {
     /// The stamp with these components.
-    pub fn new(components: [u64; 16]) -> Self
+    pub fn new(components: [u32; 16]) -> Self
         ensures { result ≡ components }
     {
         Stamp { components }
@@ -41,7 +42,7 @@ impl Stamp {
     }
 
     /// The components, that of thread 0 first.
-    pub fn components(&self) -> &[u64; 16]
+    pub fn components(&self) -> &[u32; 16]
         ensures value { result.now ≡ self.now }
         ensures all { length self.now ≡ 16 }
     {
@@ -53,7 +54,7 @@ impl Stamp {
         requires { thread < 16 }
         ensures { result ≡ slice_index self.now thread }
     {
-        self.components[thread as usize]
+        u64::from(self.components[thread as usize])
     }
 
     /// Raises each component to that of the other stamp, where that is greater.
@@ -66,12 +67,13 @@ impl Stamp {
         }
     }
 
-    /// Whether no component is above that of the other stamp.
-    pub fn at_most(&self, other: &Stamp) -> bool
-        ensures { IsTrue result ↔ AtMost self.now other.now }
+    /// Whether no component is above that of these counts.
+    pub fn at_most(&self, counts: &EntryCounts) -> bool
+        ensures { IsTrue result ↔ AtMost self.now counts.now }
     {
+        let bounds = counts.components();
         for i in 0..THREADS {
-            if self.components[i] > other.components[i] {
+            if u64::from(self.components[i]) > bounds[i] {
                 return false;
             }
         }
@@ -79,13 +81,14 @@ impl Stamp {
     }
 
     /// The sum of the components.
-    pub fn weight(&self) -> u128
+    pub fn weight(&self) -> u64
         ensures summed { result ≡ sum self.now }
         ensures all { length self.now ≡ 16 }
+        ensures small { result < 2 ^ 36 }
     {
         let mut weight = 0;
         for component in &self.components {
-            weight += u128::from(*component);
+            weight += u64::from(*component);
         }
         weight
     }
@@ -93,7 +96,7 @@ impl Stamp {
     /// Adds 1 to the component of one thread.
     pub fn bump(&mut self, thread: u32)
         requires thread_in { thread < 16 }
-        requires room { slice_index self.old thread < 2 ^ 64 - 1 }
+        requires room { slice_index self.old thread < 2 ^ 32 - 1 }
         ensures { self.new ≡ slice_set self.old thread (slice_index self.old thread + 1) }
     {
         self.components[thread as usize] += 1;

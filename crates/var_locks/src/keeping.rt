@@ -24,14 +24,11 @@ use plain_text::{NoMemory, Packet};
 use replay_guide::Guide;
 use std::alloc::Global;
 
-/// How many weights the marks of 64 bits tell apart.
-const MARKS: u128 = 1 << 64;
-
-/// The mark of an entry: its weight, modulo 2^64.
+/// The mark of an entry: its weight, modulo 2^64, which it is below.
 pub(crate) fn mark_of_entry(entry: &StampedEntry) -> u64
     ensures { result ≡ weight_of entry.now % 2 ^ 64 }
 {
-    (entry.stamp.weight() % MARKS) as u64
+    entry.stamp.weight()
 }
 
 /// The mark of a move, by what it left.
@@ -146,7 +143,9 @@ impl<P: Program, J: Round> Vars<P, J> {
             (option_copied input.entry) seat.new result }
     {
         let mut after = seat.part;
-        let entry = moves::hear(program, seat.thread, &mut after, place, what, told);
+        let Ok(entry) = moves::hear(program, seat.thread, &mut after, place, what, told) else {
+            return Stepped::NoMemory;
+        };
         match self.keep(program, seat, after, Trace::Did(copied(&entry)), input) {
             Ok(()) => Stepped::Did(entry),
             Err(NoMemory) => Stepped::NoMemory,

@@ -120,7 +120,7 @@ fn work_in<P: Program>(
         place,
     } = access;
     if read {
-        return Ok(moves::look(program, thread, part, place, var, slot));
+        return moves::look(program, thread, part, place, var, slot);
     }
     moves::touch(alloc, program, thread, part, place, var, slot)
 }

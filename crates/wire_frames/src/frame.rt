@@ -1,6 +1,91 @@
+ghost use Rattle.std.specs.Prelude.{◌≡◌, ℕ, ◌^◌, ◌≤◌, IfSome, IfNone, slice_index};
+
 use access_log::{Output, StampedEntry};
-use plain_text::NoMemory;
+use entry_order::What;
+use plain_text::{NoMemory, Packet};
+use std::marker::Model;
 use thiserror::Error;
+use thread_clock::EntryCounts;
+
+/// A log entry as a frame carries it, where a component of a stamp may be any number of 64 bits. Contracts see the
+/// entry.
+#[derive(Debug, Drop)]
+pub struct FrameEntry {
+    pub(crate) thread: u32,
+    pub(crate) number: u64,
+    pub(crate) what: What,
+    pub(crate) stamp: EntryCounts,
+}
+
+impl Model for FrameEntry {
+    ghost use Rattle.access_log.specs.declared.entry.StampedEntry.{StampedEntry};
+
+    ghost Value = { StampedEntry };
+
+    ghost view = { λ e. record {
+      thread = e.thread;
+      number = e.number;
+      what = e.what;
+      stamp = e.stamp;
+    } };
+}
+
+impl FrameEntry {
+    /// The entry, as it is kept in memory; `None` exactly where a component of its stamp is 2^32 or more.
+    pub fn entry(&self) -> Option<StampedEntry>
+        ensures same { IfSome result (λ entry. entry ≡ self.now) }
+        ensures wide { IfNone result ((u : ℕ) × (2 ^ 32 ≤ slice_index self.now.stamp u)) }
+    {
+        Some(StampedEntry {
+            thread: self.thread,
+            number: self.number,
+            what: self.what,
+            stamp: self.stamp.narrowed()?,
+        })
+    }
+}
+
+/// An output as a frame carries it, where a component of a stamp may be any number of 64 bits. Contracts see the
+/// output.
+#[derive(Debug, Drop)]
+pub struct FrameOutput {
+    pub(crate) thread: u32,
+    pub(crate) number: u64,
+    pub(crate) input: u64,
+    pub(crate) stamp: EntryCounts,
+    pub(crate) packet: Packet,
+}
+
+impl Model for FrameOutput {
+    ghost use Rattle.access_log.specs.declared.entry.Output.{Output};
+
+    ghost Value = { Output };
+
+    ghost view = { λ o. record {
+      thread = o.thread;
+      number = o.number;
+      input = o.input;
+      stamp = o.stamp;
+      packet = o.packet;
+    } };
+}
+
+impl FrameOutput {
+    /// The output, as it is kept in memory; `None` exactly where a component of its stamp is 2^32 or more.
+    pub fn into_output(self) -> Option<Output>
+        ensures same { IfSome result (λ output. output ≡ self) }
+        ensures wide { IfNone result ((u : ℕ) × (2 ^ 32 ≤ slice_index self.stamp u)) }
+    {
+        let stamp = self.stamp.narrowed()?;
+        Some(Output {
+            thread: self.thread,
+            number: self.number,
+            input: self.input,
+            stamp,
+            packet: self.packet,
+        })
+    }
+}
 
 /// What a frame carries, with the epoch in which it was sent, counted from 1, and the number of threads of its sender,
 /// 1 to 16.
@@ -10,13 +95,13 @@ pub enum Frame {
     Entry {
         epoch: u32,
         threads: u32,
-        entry: StampedEntry,
+        entry: FrameEntry,
     },
     /// A packet that a master of this epoch sends out.
     Output {
         epoch: u32,
         threads: u32,
-        output: Output,
+        output: FrameOutput,
     },
 }
 

@@ -15,7 +15,7 @@ mod values;
 mod version;
 mod writing;
 
-pub use frame::{Frame, FrameError, FrameFault};
+pub use frame::{Frame, FrameEntry, FrameError, FrameFault, FrameOutput};
 pub use laws::{
     no_frame_begins_another, one_frame, the_mask_names_what_is_not_0,
     the_tests_are_those_of_frames, what_is_written_is_a_frame,

@@ -4,7 +4,7 @@ ghost use Rattle.wire_frames.specs.Layout.{mask_of, nonzero};
 ghost use Rattle.wire_frames.specs.Places.{bits_set, component_at, components};
 
 use crate::bytes::u64_at;
-use thread_clock::{Stamp, THREADS};
+use thread_clock::{EntryCounts, Stamp, THREADS};
 
 /// Which components are not 0: bit u is set where component u is. Only those of this many threads are looked at.
 pub(crate) fn mask_of(stamp: &Stamp, threads: usize) -> u16
@@ -56,7 +56,7 @@ pub(crate) fn bits_set(mask: u32) -> usize
 
 /// The stamp whose components stand one after the other, where they are those of the threads in the mask; and whether
 /// one of these is 0, so that the mask is not that of the stamp.
-pub(crate) fn read_stamp(mask: u32, bytes: &[u8]) -> (Stamp, bool)
+pub(crate) fn read_stamp(mask: u32, bytes: &[u8]) -> (EntryCounts, bool)
     requires room { 8 * bits_set 16 mask ≤ length bytes.now }
     requires fits { mask < 2 ^ 16 }
     ensures stamp { result.0 ≡ components 16 mask bytes.now }
@@ -77,7 +77,7 @@ pub(crate) fn read_stamp(mask: u32, bytes: &[u8]) -> (Stamp, bool)
         place += 8 * (rest % 2) as usize;
         rest /= 2;
     }
-    (Stamp::new(components), has_zero)
+    (EntryCounts::new(components), has_zero)
 }
 
 /// Whether an earlier component that the mask names is 0, or this one.

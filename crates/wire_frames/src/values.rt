@@ -14,12 +14,11 @@ use crate::bytes::{byte_at, u32_at, u64_at};
 use crate::layout::{Layout, PACKET_HEADER, place_of_components};
 use crate::stamp::read_stamp;
 use crate::version::Version;
-use crate::{Frame, FrameError, FrameFault};
-use access_log::{Output, StampedEntry};
+use crate::{Frame, FrameEntry, FrameError, FrameFault, FrameOutput};
 use entry_order::What;
 use plain_text::{Bytes, Kind, NoMemory, Packet};
 use std::alloc::Global;
-use thread_clock::Stamp;
+use thread_clock::EntryCounts;
 
 /// The place of the code of what an entry did.
 const CODE: usize = 11;
@@ -36,7 +35,7 @@ pub(crate) struct Common {
     pub(crate) epoch: u32,
     pub(crate) thread: u32,
     pub(crate) number: u64,
-    pub(crate) stamp: Stamp,
+    pub(crate) stamp: EntryCounts,
 }
 
 /// What is in a frame with these parts.
@@ -84,7 +83,7 @@ fn read_entry(bytes: &[u8], layout: &Layout) -> Option<Frame>
     Some(Frame::Entry {
         epoch: common.epoch,
         threads: layout.threads,
-        entry: StampedEntry {
+        entry: FrameEntry {
             thread: common.thread,
             number: common.number,
             what,
@@ -118,7 +117,7 @@ fn read_output(alloc: Global, bytes: &[u8], layout: &Layout) -> Result<Frame, Fr
     Ok(Frame::Output {
         epoch: common.epoch,
         threads: layout.threads,
-        output: Output {
+        output: FrameOutput {
             thread: common.thread,
             number: common.number,
             input,
@@ -172,7 +171,7 @@ fn read_common(bytes: &[u8], layout: &Layout) -> Option<Common>
 }
 
 /// The stamp, unless a component of a frame of version 2 is 0.
-fn find_stamp(bytes: &[u8], layout: &Layout) -> Option<Stamp>
+fn find_stamp(bytes: &[u8], layout: &Layout) -> Option<EntryCounts>
     requires found { layout.now ≡ layout_of bytes.now }
     requires whole { needed (kind_at bytes.now) (version_at bytes.now) bytes.now
         ≤ length bytes.now }

@@ -226,12 +226,12 @@ fn put_packet_fields(frame: &mut Bytes, packet: &Packet) -> Result<(), NoMemory>
 }
 
 /// Puts the components that are not 0. Only this many are looked at.
-fn put_components(frame: &mut Bytes, components: &[u64], count: usize) -> Result<(), NoMemory>
+fn put_components(frame: &mut Bytes, components: &[u32], count: usize) -> Result<(), NoMemory>
     requires few { count ≤ length components.now }
     requires none { (u : ℕ) → count ≤ u → slice_index components.now u ≡ 0 }
     ensures spelled { OnOk result (frame.new
         ≡ spelled (component_fields (nonzero components.now)) ++ frame.old) }
-    ensures fit { (u : ℕ) → slice_index components.now u < 2 ^ 64 }
+    ensures fit { (u : ℕ) → slice_index components.now u < 2 ^ 32 }
 {
     for behind in 0..count {
         put_component(frame, components[count - 1 - behind])?;
@@ -240,14 +240,14 @@ fn put_components(frame: &mut Bytes, components: &[u64], count: usize) -> Result
 }
 
 /// Puts the component, if it is not 0.
-fn put_component(frame: &mut Bytes, component: u64) -> Result<(), NoMemory>
+fn put_component(frame: &mut Bytes, component: u32) -> Result<(), NoMemory>
     ensures { OnOk result (frame.new
         ≡ spelled (component_fields (nonzero (component ∷ []))) ++ frame.old) }
 {
     if component == 0 {
         return Ok(());
     }
-    put_u64(frame, component)
+    put_u64(frame, u64::from(component))
 }
 
 /// Puts a number of 64 bits.

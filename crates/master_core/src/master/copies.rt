@@ -12,7 +12,7 @@ use box_program::Program;
 use plain_text::NoMemory;
 use std::alloc::Global;
 use std::marker::Model;
-use thread_clock::{Stamp, THREADS};
+use thread_clock::{EntryCounts, THREADS};
 
 /// What changed in a master since an earlier moment of it: the parts that its variables and its threads have now.
 ///
@@ -91,7 +91,7 @@ impl<P: Program> Master<P> {
     }
 
     /// How many entries each thread logged.
-    pub fn entry_counts(&self) -> Stamp
+    pub fn entry_counts(&self) -> EntryCounts
         ensures { HasCounts self.now.threads result }
     {
         counts_of(&self.threads)
@@ -99,7 +99,7 @@ impl<P: Program> Master<P> {
 }
 
 /// The counts of entries of these threads.
-fn counts_of(threads: &[ThreadPart]) -> Stamp
+fn counts_of(threads: &[ThreadPart]) -> EntryCounts
     requires { length threads.now ≤ 16 }
     ensures { HasCounts threads.now result }
 {
@@ -107,7 +107,7 @@ fn counts_of(threads: &[ThreadPart]) -> Stamp
     for (thread, part) in threads.iter().enumerate() {
         components[thread] = part.counts.entries;
     }
-    Stamp::new(components)
+    EntryCounts::new(components)
 }
 
 /// A copy of one variable's part.

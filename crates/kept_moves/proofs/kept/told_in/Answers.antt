@@ -1,4 +1,5 @@
 use Rattle.std.proofs.Common.{Err, length, sym, ap, ◌∙◌}
+use Rattle.std.proofs.lemmas.Result.{IfOk-weaker}
 use Rattle.wire_frames.proofs.Whole.{begins_whole}
 use Rattle.sent_frames.proofs.FrameLemmas.{gives_no_fault}
 use Rattle.kept_moves.specs.Keeping.{shown_by}
@@ -13,13 +14,17 @@ unreachable-requires c =
     (c.take_frame.ensures.every f (length c.args.bytes.now) begins)
 
 pub returns-in-Ok-Entry-default : goal.returns-in-Ok-Entry-default
-returns-in-Ok-Entry-default c f is =
+returns-in-Ok-Entry-default c =
+    IfOk-weaker c.did.result _ _
+    (λ told told_is f is.
     let same = (c.in-Ok-Entry-default.ensures.every f (length c.args.bytes.now)
     (begins_whole c.args.bytes.now f is)).0 in
-    ap shown_by (sym c.in-Ok-Entry-default.field-0-0-is ∙ same)
+    told_is ∙ ap shown_by (sym c.in-Ok-Entry-default.field-0-0-is ∙ same)) c.did.ensures
 
 pub returns-in-Ok-Output-default : goal.returns-in-Ok-Output-default
-returns-in-Ok-Output-default c f is =
+returns-in-Ok-Output-default c =
+    IfOk-weaker c.emitted.result _ _
+    (λ told told_is f is.
     let same = (c.in-Ok-Output-default.ensures.every f (length c.args.bytes.now)
     (begins_whole c.args.bytes.now f is)).0 in
-    ap shown_by (sym c.in-Ok-Output-default.field-0-0-is ∙ same)
+    told_is ∙ ap shown_by (sym c.in-Ok-Output-default.field-0-0-is ∙ same)) c.emitted.ensures

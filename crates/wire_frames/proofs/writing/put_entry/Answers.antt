@@ -19,10 +19,10 @@ pub returns-clause-frame : goal.returns-clause-frame
 returns-clause-frame c =
     let e = c.args.entry.now in
     let f = frame.Entry c.args.epoch c.args.threads e in
-    let P : List ℕ → Type 0 = λ stamp. (u : ℕ) → slice_index stamp u < 2 ^ 64 in
+    let P : List ℕ → Type 0 = λ stamp. (u : ℕ) → slice_index stamp u < 2 ^ 32 in
     let fit = subst P c.components.ensures.value c.put_components.ensures.fit in
     let sent = is_sent c.args.epoch c.args.threads e.thread e.number e.stamp c.requires.sent c.ranges.epoch.fits
-    c.in_ok-put_entry_front.ensures.number c.components.ensures.all fit in
+    c.in_ok-put_entry_front.ensures.number c.components.ensures.all (λ u. omega (arith, fit u)) in
     let F : List ℕ → Type 0 = λ l. IsFrame l f in
     subst F (sym (returns-clause-spelled c))
     (is_written f (sent, is_done e.what c.requires.what c.put_entry_front.ensures.fits))

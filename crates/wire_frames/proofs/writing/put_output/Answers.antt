@@ -23,10 +23,10 @@ pub returns-clause-frame : goal.returns-clause-frame
 returns-clause-frame c =
     let o = c.args.output in
     let f = frame.Output c.args.epoch c.args.threads o in
-    let P : List ℕ → Type 0 = λ stamp. (u : ℕ) → slice_index stamp u < 2 ^ 64 in
+    let P : List ℕ → Type 0 = λ stamp. (u : ℕ) → slice_index stamp u < 2 ^ 32 in
     let fit = subst P c.components.ensures.value c.put_components.ensures.fit in
     let sent = is_sent c.args.epoch c.args.threads o.thread o.number o.stamp c.requires.sent c.ranges.epoch.fits
-    c.in_ok-put_output_front.ensures.number c.components.ensures.all fit in
+    c.in_ok-put_output_front.ensures.number c.components.ensures.all (λ u. omega (arith, fit u)) in
     let captured : IsCaptured o.packet = record {
       seconds = c.put_packet_fields.ensures.seconds;
       fraction = c.put_packet_fields.ensures.fraction;

@@ -1,4 +1,4 @@
-use Rattle.std.proofs.Common.{sym, subst, ℕ, List, ◌<◌, ◌^◌, slice_index}
+use Rattle.std.proofs.Common.{arith, sym, subst, ℕ, List, ◌<◌, ◌^◌, slice_index}
 use Rattle.wire_frames.specs.Writing.{CanPutEntry}
 use Rattle.sent_frames.specs.Sending.{Sending}
 use Rattle.sent_frames.proofs.FrameLemmas.{counts_entry, one_longer_is}
@@ -10,7 +10,7 @@ returns-clause-ok c =
     c.requires.can in
     let longer = one_longer_is _ _ _ _ _ _ _ c.index_mut.ensures.value c.in_ok-push.ensures.ok
     c.entry_length-size.ensures.value c.self.invariant.entries can.sent.of_these in
-    let Fits : List ℕ → Type 0 = λ l. (u : ℕ) → slice_index l u < 2 ^ 64 in
+    let Fits : List ℕ → Type 0 = λ l. (u : ℕ) → slice_index l u < 2 ^ 32 in
     counts_entry _ _ c.args.entry.now c.push.new.self c.self.view_is can c.fits_word.ensures.epoch
     c.fits_word.ensures.number c.word_of-word.ensures.fits c.components-components.ensures.all
-    (subst Fits c.components-components.ensures.value c.fit_words.ensures) longer
+    (λ u. omega (arith, subst Fits c.components-components.ensures.value c.fit_words.ensures u)) longer
