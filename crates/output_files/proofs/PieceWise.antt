@@ -2,9 +2,10 @@
 use Rattle.std.proofs.Common.{◌≡◌, ℕ, ◌+◌, ◌-◌, ◌≤◌, ◌⊎◌, List, [], ◌++◌, take, length, refl, sym, ap, ◌∙◌, append-nil}
 use Rattle.std.proofs.Common.{append_assoc, subst, inl, inr, Bool, true, false, nat_le, arith, Result, Ok, Err}
 use Rattle.std.proofs.lemmas.Bool.Decides.{nat_tests}
-use Rattle.std.proofs.lemmas.List.{take-append-le}
+use Rattle.std.proofs.lemmas.List.{take-append-le, take_all, take_at}
 use Rattle.std.proofs.Math.Seq.{take-append-add}
-use Rattle.std.specs.Result.{IsErr, IsOk}
+use Rattle.std.specs.Result.{IsErr}
+use Rattle.std.specs.Prelude.{OnOk}
 use Rattle.world_io.specs.World.{Shown, WritesFile}
 use Rattle.world_io.specs.OneFile.{WritesFile-nothing, WritesFile-more}
 use Rattle.output_files.specs.declared.error.OutputError.{OutputError}
@@ -14,16 +15,11 @@ use Rattle.output_files.specs.Written.{AppendsTo, AppendsSome, HasAppended}
 take_of : (n : ℕ) (part rest : List ℕ) → (m : ℕ) × (take m (part ++ rest) ≡ take n part)
 take_of n part rest = go (nat_le n (length part)) refl
   where
-    all : (k : ℕ) → take (length part + k) part ≡ part
-    all k = grind arith
-
     go : (b : Bool) → nat_le n (length part) ≡ b → (m : ℕ) × (take m (part ++ rest) ≡ take n part)
     go true e = (n, take-append-le n part rest (grind (arith, nat_tests)))
-    go false e = (
-      length part,
-      take-append-le (length part) part rest (omega arith)
-          ∙ grind arith,
-    )
+    go false e =
+        let above : length part ≤ n = grind (arith, nat_tests) in
+        (length part, take_at part rest (length part) refl ∙ sym (take_all n part above))
 
 pub nothing_appended : (file : ℕ) (a : Shown) → HasAppended file [] [] a a
 nothing_appended file a = record { first = []; bytes_are = refl; written = WritesFile-nothing file a }
@@ -63,7 +59,8 @@ pub some_begun : (file : ℕ) (bytes gathered rest all : List ℕ) (a b : Shown)
 some_begun file bytes gathered rest all a b h all_is =
     let whole : all ≡ h.first ++ (gathered ++ rest) = all_is ∙ ap (λ l. l ++ rest) h.bytes_are
     ∙ append_assoc h.first gathered rest in
-    let first : take (length h.first) all ≡ h.first = ap (take (length h.first)) whole ∙ grind arith in
+    let first : take (length h.first) all ≡ h.first =
+    ap (take (length h.first)) whole ∙ take_at h.first (gathered ++ rest) (length h.first) refl in
     (length h.first, subst (λ (l : List ℕ). WritesFile file l a b) (sym first) h.written)
 
 pub part_begun : (file : ℕ) (bytes rest all : List ℕ) (a b : Shown) → ((n : ℕ) × WritesFile file (take n bytes) a b)
@@ -74,19 +71,14 @@ part_begun file bytes rest all a b w all_is =
 
 -- What calls answer
 
-pub ok_appends : {A : Type 0} (r : Result A OutputError) (file : ℕ) (bytes : List ℕ) (a b : Shown) → IsOk r
-    → WritesFile file bytes a b → AppendsTo r file bytes a b
-ok_appends (Ok done) file bytes a b ok w = w
-ok_appends (Err error) file bytes a b ok w = absurd (cc)
-
 pub err_appends : {A : Type 0} (r : Result A OutputError) (file : ℕ) (bytes : List ℕ) (a b : Shown) → IsErr r
     → ((n : ℕ) × WritesFile file (take n bytes) a b) → AppendsTo r file bytes a b
 err_appends (Ok done) file bytes a b err w = absurd (cc)
 err_appends (Err error) file bytes a b err w = w
 
 -- none is gathered where all was appended
-pub none_gathered_now : {A : Type 0} (r : Result A OutputError) (file : ℕ) (bytes gathered : List ℕ) (a b : Shown)
-    → ((r ≡ r) → (gathered ≡ [])) → AppendsTo r file bytes a b → AppendsSome r file bytes gathered a b
-none_gathered_now (Ok done) file bytes gathered a b none w =
-    record { first = bytes; bytes_are = sym (append-nil bytes) ∙ ap (λ l. bytes ++ l) (sym (none refl)); written = w }
-none_gathered_now (Err error) file bytes gathered a b none w = w
+pub none_left : {A : Type 0} (r : Result A OutputError) (file : ℕ) (bytes gathered : List ℕ) (a b : Shown)
+    → OnOk r (gathered ≡ []) → AppendsTo r file bytes a b → AppendsSome r file bytes gathered a b
+none_left (Ok done) file bytes gathered a b none w =
+    record { first = bytes; bytes_are = sym (append-nil bytes) ∙ ap (λ l. bytes ++ l) (sym none); written = w }
+none_left (Err error) file bytes gathered a b none w = w

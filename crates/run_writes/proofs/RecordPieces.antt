@@ -1,16 +1,19 @@
 -- The records of outputs, appended by pieces.
 use Rattle.std.proofs.Common.{◌≡◌, ℕ, ◌+◌, ◌<◌, ◌≤◌, List, [], ◌∷◌, ◌++◌, take, drop, length, refl, sym, ap, ◌∙◌}
-use Rattle.std.proofs.Common.{append_assoc, append-nil, arith, get_or, Result, Ok, Err, subst, zero, suc}
-use Rattle.std.proofs.lemmas.List.{take-append-drop}
+use Rattle.std.proofs.Common.{append_assoc, get_or, Result, Ok, Err, subst}
+use Rattle.std.proofs.lemmas.List.{take-append-drop, take_all}
 use Rattle.std.specs.Result.{IsErr}
+use Rattle.std.specs.Prelude.{All, OnOk}
 use Rattle.world_io.specs.World.{Shown, WritesFile}
+use Rattle.world_io.specs.OneFile.{WritesFile-nothing}
 use Rattle.pcap_io.specs.Capture.{record_of, records_of}
 use Rattle.pcap_io.specs.declared.order.Order.TheVariants as order
 use Rattle.access_log.specs.declared.entry.Output.{Output}
 use Rattle.output_files.specs.declared.error.OutputError.{OutputError}
-use Rattle.output_files.specs.Written.{AppendsTo, AppendsSome, HasAppended}
-use Rattle.output_files.proofs.PieceWise.{nothing_appended, more_gathered, some_begun, part_begun, err_appends}
+use Rattle.output_files.specs.Written.{AppendsTo, HasAppended}
+use Rattle.output_files.proofs.PieceWise.{more_gathered, some_begun, part_begun, err_appends}
 use Rattle.run_writes.specs.Replies.{packets_in}
+use Rattle.run_writes.specs.Run.{FitsRecord}
 use Rattle.run_writes.proofs.OutputRecords.{records_grow}
 
 abbrev records_in : List Output → List ℕ
@@ -27,6 +30,17 @@ split : (n : ℕ) (outputs : List Output)
     → records_in outputs ≡ records_in (take n outputs) ++ records_in (drop n outputs)
 split n outputs =
     ap records_in (sym (take-append-drop n outputs)) ∙ records_more (take n outputs) (drop n outputs)
+
+-- nothing is gathered or appended yet
+pub none_appended : (file : ℕ) (piece : List ℕ) (a : Shown) → piece ≡ [] → HasAppended file [] piece a a
+none_appended file piece a none = record { first = []; bytes_are = sym none; written = WritesFile-nothing file a }
+
+pub none_begun : (file : ℕ) (bytes : List ℕ) (a : Shown) → (n : ℕ) × WritesFile file (take n bytes) a a
+none_begun file bytes a = (0, WritesFile-nothing file a)
+
+pub on_ok : {A E P : Type 0} (r : Result A E) → P → OnOk r P
+on_ok (Ok done) holds = holds
+on_ok (Err error) holds = tt
 
 -- one more record is gathered
 pub one_gathered : (file : ℕ) (outputs : List Output) (i : ℕ) (x : Output) (had now : List ℕ) (a b : Shown)
@@ -60,5 +74,11 @@ stops_within r file outputs i a b err w =
 pub all_gathered : (file : ℕ) (outputs : List Output) (i : ℕ) (had : List ℕ) (a b : Shown) → length outputs ≤ i
     → HasAppended file (records_in (take i outputs)) had a b → HasAppended file (records_in outputs) had a b
 all_gathered file outputs i had a b all h =
-    let whole : take i outputs ≡ outputs = grind arith in
+    let whole = take_all i outputs all in
     subst (λ (os : List Output). HasAppended file (records_in os) had a b) whole h
+
+pub all_fit : (outputs : List Output) (i : ℕ) → length outputs ≤ i → All FitsRecord (packets_in (take i outputs))
+    → All FitsRecord (packets_in outputs)
+all_fit outputs i all fit =
+    let whole = take_all i outputs all in
+    subst (λ (os : List Output). All FitsRecord (packets_in os)) whole fit

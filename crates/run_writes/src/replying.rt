@@ -167,9 +167,9 @@ pub fn write_stopped<W: World>(
     world: &mut W,
     file: u32,
     lines: &mut Bytes,
-    outputs: &[Output],
+    released: &[Output],
 ) -> Result<(), OutputError>
-    requires short { All IsShort (packets_in outputs.now) }
+    requires short { All IsShort (packets_in released.now) }
     requires writable { IsTrue (is_writable (W.ledger world.old) file) }
     ensures only_writes { OnlyWrites W.ledger W.healthy world.old world.new }
     ensures cause { IsErrOf result OutputError.WriteFault
@@ -178,12 +178,12 @@ pub fn write_stopped<W: World>(
         → (before : Shown) (writes : List Write) (name : List ℕ)
         → IsOutput file name (W.shows p world.old)
         → HasGathered writes lines.old before (W.shows p world.old)
-        → Writes result (writes ++ release_writes name (packets_in outputs.now)) before
+        → Writes result (writes ++ release_writes name (packets_in released.now)) before
         (W.shows p world.new) }
     ensures keeps { (p : Start) → W.honest p world.new
         → KeepsOutputs (W.shows p world.old) (W.shows p world.new) }
     ensures before { (p : Start) → W.honest p world.new → W.honest p world.old }
 {
-    write_outputs(alloc, world, file, lines, outputs)?;
+    write_outputs(alloc, world, file, lines, released)?;
     write_lines(world, lines)
 }

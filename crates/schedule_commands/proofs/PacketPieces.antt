@@ -1,10 +1,11 @@
 -- The records of packets, appended by pieces.
 use Rattle.std.proofs.Common.{◌≡◌, ℕ, ◌+◌, ◌<◌, ◌≤◌, List, [], ◌∷◌, ◌++◌, take, drop, length, sym, ap, ◌∙◌, subst}
-use Rattle.std.proofs.Common.{append_assoc, append-nil, arith, get_or, Result}
-use Rattle.std.proofs.lemmas.List.{take-append-drop, take_more}
+use Rattle.std.proofs.Common.{append-nil, get_or, Result}
+use Rattle.std.proofs.lemmas.List.{take-append-drop, take_more, take_all}
 use Rattle.std.proofs.lemmas.Grind.{flat_map-append}
 use Rattle.std.specs.Result.{IsErr}
 use Rattle.world_io.specs.World.{Shown, WritesFile}
+use Rattle.world_io.specs.OneFile.{WritesFile-nothing}
 use Rattle.plain_text.specs.declared.packet.Packet.{Packet}
 use Rattle.pcap_io.specs.Capture.{record_of, records_of}
 use Rattle.pcap_io.specs.declared.order.Order.TheVariants.{Little}
@@ -18,6 +19,13 @@ split : (n : ℕ) (packets : List Packet)
 split n packets =
     ap (records_of Little) (sym (take-append-drop n packets))
     ∙ flat_map-append (record_of Little) (take n packets) (drop n packets)
+
+-- nothing is gathered or appended yet
+pub none_appended : (file : ℕ) (piece : List ℕ) (a : Shown) → piece ≡ [] → HasAppended file [] piece a a
+none_appended file piece a none = record { first = []; bytes_are = sym none; written = WritesFile-nothing file a }
+
+pub none_begun : (file : ℕ) (bytes : List ℕ) (a : Shown) → (n : ℕ) × WritesFile file (take n bytes) a a
+none_begun file bytes a = (0, WritesFile-nothing file a)
 
 -- one more record is gathered
 pub one_gathered : (file : ℕ) (packets : List Packet) (i : ℕ) (x : Packet) (had now : List ℕ) (a b : Shown)
@@ -54,5 +62,5 @@ pub all_gathered : (file : ℕ) (packets : List Packet) (i : ℕ) (had : List �
     → HasAppended file (records_of Little (take i packets)) had a b
     → HasAppended file (records_of Little packets) had a b
 all_gathered file packets i had a b all h =
-    let whole : take i packets ≡ packets = grind arith in
+    let whole = take_all i packets all in
     subst (λ (ps : List Packet). HasAppended file (records_of Little ps) had a b) whole h

@@ -1,4 +1,4 @@
-ghost use Rattle.std.specs.Prelude.{◌≡◌, ◌<◌, ◌-◌, ◌^◌, All, IsTrue, IsErrOf};
+ghost use Rattle.std.specs.Prelude.{◌≡◌, ◌<◌, ◌-◌, ◌^◌, [], All, IsTrue, IfOk, IsErrOf};
 ghost use Rattle.plain_text.specs.Packets.{IsShort};
 ghost use Rattle.pcap_io.specs.Capture.{records_of, written_header};
 ghost use Rattle.pcap_io.specs.declared.order.Order.TheVariants as order;
@@ -8,9 +8,16 @@ ghost use Rattle.world_io.specs.World.{Start, is_writable, WritingFailed};
 
 use output_files::{OutputError, PIECE_ROOM, append, append_full, append_last, create, report};
 use pcap_io::{put_header, put_packet};
-use plain_text::{Bytes, Packet, Text, Unit};
+use plain_text::{Bytes, NoMemory, Packet, Text, Unit};
 use std::alloc::Global;
 use world_io::World;
+
+/// No bytes, with the room of a piece.
+fn fresh_piece(alloc: Global) -> Result<Bytes, NoMemory>
+    ensures { IfOk result (λ piece. piece ≡ []) }
+{
+    Ok(Bytes::from_vec(Vec::with_capacity(alloc, PIECE_ROOM)?))
+}
 
 /// Appends the records of packets to a created file, in order. They are gathered by pieces, in the same memory.
 fn append_packets<W: World>(
@@ -29,7 +36,7 @@ fn append_packets<W: World>(
         (W.shows p world.old) (W.shows p world.new) }
     ensures before { (p : Start) → W.honest p world.new → W.honest p world.old }
 {
-    let mut piece = Bytes::from_vec(Vec::with_capacity(alloc, PIECE_ROOM)?);
+    let mut piece = fresh_piece(alloc)?;
     for packet in packets {
         put_packet(&mut piece, packet)?;
         append_full(world, file, &mut piece)?;

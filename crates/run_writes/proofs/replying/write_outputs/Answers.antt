@@ -8,7 +8,7 @@ use Rattle.run_writes.proofs.replying.write_outputs.Goals as goal
 pub returns-then-is_empty-clause-fit_records : goal.returns-then-is_empty-clause-fit_records
 returns-then-is_empty-clause-fit_records g c =
     let none : length c.args.outputs.now ≡ 0 = grind arith in
-    λ ok. none_fit _ none
+    none_fit _ none
 
 pub returns-then-is_empty-clause-shows : goal.returns-then-is_empty-clause-shows
 returns-then-is_empty-clause-shows g c p h before writes name is gathered =

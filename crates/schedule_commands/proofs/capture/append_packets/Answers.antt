@@ -1,7 +1,19 @@
 use Rattle.std.proofs.Common.{arith}
-use Rattle.output_files.proofs.OnlyWriting.{OnlyWrites-trans}
-use Rattle.schedule_commands.proofs.PacketPieces.{one_gathered, stops_between, stops_within, all_gathered}
+use Rattle.output_files.proofs.OnlyWriting.{OnlyWrites-same, OnlyWrites-trans}
+use Rattle.output_files.proofs.PieceWise.{err_appends}
+use Rattle.schedule_commands.proofs.PacketPieces.{none_appended, none_begun, one_gathered, stops_between, stops_within}
+use Rattle.schedule_commands.proofs.PacketPieces.{all_gathered}
 use Rattle.schedule_commands.proofs.capture.append_packets.Goals as goal
+
+pub returns-in_err-piece-clause-shows : goal.returns-in_err-piece-clause-shows
+returns-in_err-piece-clause-shows g c p h = err_appends _ _ _ _ _ c.from_residual.ensures.0 (none_begun _ _ _)
+
+pub loop-packet-init : goal.loop-packet-init
+loop-packet-init g c = record {
+  only_writes = OnlyWrites-same _ _ _;
+  shows = λ p h. none_appended _ _ _ c.in_ok-piece.ensures;
+  before = λ p h. h;
+}
 
 pub loop-packet-preserved : goal.loop-packet-preserved
 loop-packet-preserved g c =
