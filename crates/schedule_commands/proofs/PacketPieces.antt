@@ -10,6 +10,7 @@ use Rattle.plain_text.specs.declared.packet.Packet.{Packet}
 use Rattle.pcap_io.specs.Capture.{record_of, records_of}
 use Rattle.pcap_io.specs.declared.order.Order.TheVariants.{Little}
 use Rattle.output_files.specs.declared.error.OutputError.{OutputError}
+use Rattle.output_files.specs.Writes.{Appends, HasBegun, HasWritten}
 use Rattle.output_files.specs.Written.{AppendsTo, HasAppended}
 use Rattle.output_files.proofs.PieceWise.{more_gathered, some_begun, part_begun, err_appends}
 
@@ -64,3 +65,14 @@ pub all_gathered : (file : ℕ) (packets : List Packet) (i : ℕ) (had : List �
 all_gathered file packets i had a b all h =
     let whole = take_all i packets all in
     subst (λ (ps : List Packet). HasAppended file (records_of Little ps) had a b) whole h
+
+-- a header that goes by another name
+pub header_begun : (name head header : List ℕ) (a b : Shown) → head ≡ header → HasBegun (Appends name head ∷ []) a b
+    → HasBegun (Appends name header ∷ []) a b
+header_begun name head header a b same begun =
+    subst (λ (l : List ℕ). HasBegun (Appends name l ∷ []) a b) same begun
+
+pub header_written : (name head header : List ℕ) (a b : Shown) → head ≡ header
+    → HasWritten (Appends name head ∷ []) a b → HasWritten (Appends name header ∷ []) a b
+header_written name head header a b same done =
+    subst (λ (l : List ℕ). HasWritten (Appends name l ∷ []) a b) same done
