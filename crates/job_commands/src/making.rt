@@ -1,6 +1,5 @@
-ghost use Rattle.std.specs.Prelude.{◌≡◌, ◌<◌, ◌≤◌, ◌-◌, ◌^◌, IfOk, IsErrOf};
-ghost use Rattle.pcap_io.specs.Capture.{records_of};
-ghost use Rattle.pcap_io.specs.declared.order.Order.TheVariants as order;
+ghost use Rattle.std.specs.Prelude.{◌≡◌, ◌<◌, ◌≤◌, ◌-◌, ◌^◌, All, IfOk, IsErrOf};
+ghost use Rattle.plain_text.specs.Packets.{IsShort};
 ghost use Rattle.plain_text.specs.declared.limit.TheConstants.{MOST_PACKETS};
 ghost use Rattle.traffic_gen.specs.Generated.{generated};
 ghost use Rattle.output_files.specs.Written.{Writes, WritesFiles};
@@ -9,21 +8,20 @@ ghost use Rattle.job_commands.specs.Words.{made_of};
 ghost use Rattle.world_io.specs.World.{Start, WritingFailed};
 
 use crate::MakeWords;
-use output_files::{OutputError, write_output};
-use pcap_io::put_header;
-use plain_text::{Bytes, NoMemory, Unit};
-use schedule_commands::{put_count, put_records};
+use output_files::OutputError;
+use plain_text::{NoMemory, Packets, Unit};
+use schedule_commands::{put_count, write_capture};
 use std::alloc::Global;
 use traffic_gen::make;
 use world_io::World;
 
-/// The records of as many packets of a seed.
-fn make_records(alloc: Global, seed: u64, count: u64) -> Result<Bytes, NoMemory>
+/// As many packets of a seed.
+fn make_packets(alloc: Global, seed: u64, count: u64) -> Result<Packets, NoMemory>
     requires { count ≤ MOST_PACKETS }
-    ensures { IfOk result (λ records. records ≡ records_of order.Little (generated seed count)) }
+    ensures packets { IfOk result (λ packets. packets ≡ generated seed count) }
+    ensures short { IfOk result (All IsShort) }
 {
-    let packets = make(alloc, seed, count)?;
-    put_records(alloc, packets.as_slice())
+    make(alloc, seed, count)
 }
 
 /// The command `make`: writes the capture of the generated packets, and reports how many there are.
@@ -41,14 +39,14 @@ pub fn make_capture<W: World>(
         (made_of words.entry)) (W.shows p world.old) (W.shows p world.new) }
     ensures before { (p : Start) → W.honest p world.new → W.honest p world.old }
 {
-    let records = make_records(alloc, words.seed, words.count)?;
+    let packets = make_packets(alloc, words.seed, words.count)?;
     let report = put_count(alloc, b"made ", words.count)?;
-    let header = put_header(Unit::Micro);
-    write_output(
+    write_capture(
+        alloc,
         world,
         words.capture,
-        &header,
-        records.as_slice(),
+        Unit::Micro,
+        packets.as_slice(),
         report.as_slice(),
     )
 }

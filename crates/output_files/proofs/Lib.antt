@@ -1,2 +1,3 @@
 pub mod Effects
 pub mod OnlyWriting
+pub mod PieceWise

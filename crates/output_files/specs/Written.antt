@@ -1,5 +1,5 @@
 -- What the calls that write do to a world.
-use Rattle.std.specs.Prelude.{◌≡◌, ◌+◌, ◌≤◌, List, [], ◌∷◌, Result, Ok, Err, ℕ, take}
+use Rattle.std.specs.Prelude.{◌≡◌, ◌+◌, ◌≤◌, List, [], ◌∷◌, ◌++◌, Result, Ok, Err, ℕ, take}
 use Rattle.world_io.specs.World.{Shown, Ledger, KeepsLedgerWriting, WritesFile}
 use Rattle.world_io.specs.declared.world.OpenFault.{OpenFault}
 use Rattle.world_io.specs.declared.world.OpenFault.TheVariants as opening
@@ -15,6 +15,18 @@ output_error_of opening.NoMemory = output.NoMemory
 abbrev pub AppendsTo : {A E : Type 0} → Result A E → ℕ → List ℕ → Shown → Shown → Type 0
 AppendsTo (Ok done) file bytes old new = WritesFile file bytes old new
 AppendsTo (Err error) file bytes old new = (n : ℕ) × WritesFile file (take n bytes) old new
+
+-- Of these bytes all were appended to a file but the last ones, which are gathered.
+pub record HasAppended (file : ℕ) (bytes gathered : List ℕ) (old new : Shown) : Type 0 where
+  pub first : List ℕ
+  pub bytes_are : bytes ≡ first ++ gathered
+  pub written : WritesFile file first old new
+
+-- All these bytes were appended but the last ones, which are gathered; a prefix of them, where writing ended with an
+-- error.
+abbrev pub AppendsSome : {A E : Type 0} → Result A E → ℕ → List ℕ → List ℕ → Shown → Shown → Type 0
+AppendsSome (Ok done) file bytes gathered old new = HasAppended file bytes gathered old new
+AppendsSome (Err error) file bytes gathered old new = (n : ℕ) × WritesFile file (take n bytes) old new
 
 -- All these writes were done, or after an error some first part of them.
 abbrev pub Writes : {A E : Type 0} → Result A E → List Write → Shown → Shown → Type 0

@@ -4,10 +4,10 @@
 
 mod error;
 mod lines;
-mod single;
+mod pieces;
 mod writing;
 
 pub use error::OutputError;
-pub use lines::{write_lines, write_records};
-pub use single::write_output;
+pub use lines::write_lines;
+pub use pieces::{PIECE, PIECE_ROOM, append_full, append_last};
 pub use writing::{REPORT, append, create, report};

@@ -1,14 +1,15 @@
 -- What was written is read back: a text of the lines of moves is their schedule.
 use Rattle.std.proofs.Common.{◌≡◌, ℕ, ◌-◌, ◌^◌, ◌<◌, ◌==◌, arith, List, [], ◌∷◌, ◌++◌, length, refl, Option, Some, None}
-use Rattle.std.proofs.Common.{false, ap, append-nil}
+use Rattle.std.proofs.Common.{false, ap, append-nil, sym, subst, ◌∙◌, ◌+◌, ◌≤◌}
 use Rattle.std.specs.Prelude.{codes, decimal, not, slice_index}
 use Rattle.std.specs.Str.Parse.{AllDigits}
 use Rattle.std.proofs.lemmas.Bool.Decides.{nat_tests}
-use Rattle.std.proofs.lemmas.Fmt.{decimal_is_IsNumeral}
+use Rattle.std.proofs.lemmas.Fmt.{decimal_is_IsNumeral, decimal_digit}
 use Rattle.std.proofs.lemmas.Str.Parse.{digit_from_value}
 use Rattle.plain_text.proofs.WrittenFiles as files
 use Rattle.plain_text.proofs.WrittenFiles.{IsSpelled}
-use Rattle.plain_text.proofs.WrittenWords.{spaced, AreWords, above_test, decimal_word, decimal_number}
+use Rattle.plain_text.specs.Lines.{words_of}
+use Rattle.plain_text.proofs.WrittenWords.{spaced, AreWords, above_test, decimal_word, decimal_number, words_of_spaced}
 use Rattle.plain_machine.specs.declared.plain_move.PlainMove.{PlainMove}
 use Rattle.plain_player.specs.ScheduleText.{answer_text, move_line, schedule_text}
 use Rattle.plain_player.specs.Schedules.{SaysMove, IsSchedule, IsAnswer, FitsLine, FitLines, schedule_form}
@@ -74,3 +75,21 @@ spells plain fits = record {
 
 pub read_back : (moves : List PlainMove) → FitLines moves → IsSchedule (schedule_text moves) moves
 read_back moves fit = files.read_back schedule_form move_line FitsLine spells moves fit
+
+-- a line of one digit says the move of a thread
+pub one_digit_says : (line : List ℕ) (d : ℕ) → line ≡ d ∷ [] → 48 ≤ d → d < 58
+    → SaysMove (words_of line) (record { thread = d - 48; answer = None })
+one_digit_says line d is low high =
+    let thread = d - 48 in
+    let small : thread < 10 = omega (arith, low, high) in
+    let same : 48 + thread ≡ d = omega (arith, low) in
+    let text : line ≡ decimal thread = is ∙ ap (λ (n : ℕ). n ∷ []) (sym same) ∙ sym (decimal_digit thread small) in
+    let fits : thread < 2 ^ 32 = omega (arith, small) in
+    let words : words_of line ≡ decimal thread ∷ [] =
+    ap words_of text ∙ words_of_spaced (decimal thread) [] (are_words thread None fits tt) in
+    subst (λ (ws : List (List ℕ)). SaysMove ws (record { thread = thread; answer = None })) (sym words)
+    (words_say thread None fits tt)
+
+-- a number of one digit
+pub digit_text : (n : ℕ) → n < 10 → decimal n ≡ (48 + n) ∷ []
+digit_text n small = decimal_digit n small

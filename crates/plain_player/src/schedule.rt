@@ -1,4 +1,5 @@
-ghost use Rattle.std.specs.Prelude.{◌≡◌, ◌≤◌, ◌++◌, Some, length, IfOk, IfErr, OnOk};
+ghost use Rattle.std.specs.Prelude.{◌≡◌, ◌≤◌, ◌++◌, Some, None, decimal, length, IfOk, IfErr};
+ghost use Rattle.std.specs.Prelude.{IfSome, OnOk};
 ghost use Rattle.plain_text.specs.declared.limit.TheConstants.{MOST_EVENTS as most_lines};
 ghost use Rattle.plain_text.specs.Lines.{words_of};
 ghost use Rattle.plain_player.specs.Reading.{answer_in};
@@ -51,6 +52,10 @@ fn read_move(line: &[u8]) -> Result<PlainMove, LineCause>
     ensures says { IfOk result (SaysMove (words_of line.now)) }
     ensures fault { IfErr result (λ cause. move_fault (words_of line.now) ≡ Some cause) }
 {
+    if let Some(thread) = one_digit(line) {
+        let answer = None;
+        return Ok(PlainMove { thread, answer });
+    }
     let mut left = words(line);
     let Some(word) = left.next() else {
         return Err(LineCause::MissingWord);
@@ -62,6 +67,18 @@ fn read_move(line: &[u8]) -> Result<PlainMove, LineCause>
     match u32::try_from(number) {
         Ok(thread) => Ok(PlainMove { thread, answer }),
         Err(_) => Err(LineCause::OutOfRange),
+    }
+}
+
+/// The thread of a line of one digit: most lines are of one, and need no search for words.
+#[tactic(auto, using(crate::proofs::WrittenSchedules::one_digit_says))]
+fn one_digit(line: &[u8]) -> Option<u32>
+    ensures { IfSome result (λ thread. SaysMove (words_of line.now)
+        (record { thread = thread; answer = None })) }
+{
+    match line {
+        [digit] if digit.is_ascii_digit() => Some(u32::from(*digit - b'0')),
+        _ => None,
     }
 }
 
@@ -116,8 +133,19 @@ fn put_move(text: &mut Bytes, plain: PlainMove) -> Result<(), NoMemory>
     ensures text { OnOk result (text.new ≡ text.old ++ move_line plain) }
     ensures fits { OnOk result (FitsLine plain) }
 {
-    put_u64(text, u64::from(plain.thread))?;
+    put_thread(text, plain.thread)?;
     put_answer(text, plain.answer)
+}
+
+/// Appends the number of a thread. Most are of one digit, and need no format.
+#[tactic(auto, using(crate::proofs::WrittenSchedules::digit_text))]
+fn put_thread(text: &mut Bytes, thread: u32) -> Result<(), NoMemory>
+    ensures { OnOk result (text.new ≡ text.old ++ decimal thread) }
+{
+    if thread < 10 {
+        return text.push(b'0' + thread as u8);
+    }
+    put_u64(text, u64::from(thread))
 }
 
 /// Appends what a move is told, where it is told something.

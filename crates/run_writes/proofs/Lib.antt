@@ -4,5 +4,6 @@ pub mod RunWrites
 pub mod KeepingStep
 pub mod ReplySteps
 pub mod OutputRecords
+pub mod RecordPieces
 pub mod OpeningSteps
 pub mod ClosingSteps

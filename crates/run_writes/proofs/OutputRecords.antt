@@ -1,6 +1,6 @@
 -- The records of outputs, one after another.
-use Rattle.std.proofs.Common.{◌≡◌, ℕ, zero, suc, ◌+◌, ◌<◌, List, [], ◌∷◌, ◌++◌, take, length, sym, ap, ◌∙◌, append-nil}
-use Rattle.std.proofs.Common.{append_assoc, subst, arith, add-one, get_or}
+use Rattle.std.proofs.Common.{◌≡◌, ℕ, zero, suc, ◌+◌, ◌<◌, List, [], ◌∷◌, ◌++◌, take, length, refl, sym, ap, ◌∙◌}
+use Rattle.std.proofs.Common.{append-nil, append_assoc, subst, arith, add-one, get_or}
 use Rattle.std.specs.Prelude.{All}
 use Rattle.std.proofs.lemmas.List.Elements.{All-cons, All-head, All-nil, All-tail}
 use Rattle.plain_text.specs.Packets.{IsShort}
@@ -50,3 +50,12 @@ pub fit_more : (outputs : List Output) (i : ℕ) (x : Output) → i < length out
     → All FitsRecord (packets_in (take i outputs)) → FitsRecord x.packet
     → All FitsRecord (packets_in (take (i + 1) outputs))
 fit_more outputs i x low is each fits = rw add-one (one_more_fits outputs i x low is each fits)
+
+-- no outputs have no records
+pub none_fit : (outputs : List Output) → length outputs ≡ 0 → All FitsRecord (packets_in outputs)
+none_fit [] none = All-nil FitsRecord
+none_fit (o ∷ outputs) none = absurd (omega arith)
+
+pub no_records : (outputs : List Output) → length outputs ≡ 0 → records_of order.Little (packets_in outputs) ≡ []
+no_records [] none = refl
+no_records (o ∷ outputs) none = absurd (omega arith)

@@ -1,9 +1,7 @@
 -- What an event leaves is written: its records, and then its line.
-use Rattle.std.proofs.Common.{◌≡◌, ℕ, List, [], ◌∷◌, ◌++◌, sym, append_assoc, subst, Result}
+use Rattle.std.proofs.Common.{◌≡◌, ℕ, List, [], ◌∷◌, ◌++◌, sym, append_assoc, subst}
 use Rattle.world_io.specs.World.{Shown}
-use Rattle.output_files.specs.declared.error.OutputError.{OutputError}
 use Rattle.output_files.specs.Writes.{Write, Appends, Reports, HasWritten, HasBegun, HasGathered}
-use Rattle.output_files.specs.Written.{Writes, WritesGathered}
 use Rattle.output_files.proofs.Effects.{begun_before, gathered_begun, line_gathered, none_gathered}
 
 module _ (writes : List Write) (name records line : List ℕ) (a : Shown) where
@@ -30,19 +28,6 @@ module _ (writes : List Write) (name records line : List ℕ) (a : Shown) where
       subst (λ (l : List ℕ). HasGathered (writes ++ (Appends name records ∷ Reports line ∷ [])) l a b) (sym more_is)
       (subst (λ (ws : List Write). HasGathered ws (lines ++ line) a b) all_same
       (line_gathered (writes ++ Appends name records ∷ []) lines line a b h))
-
--- the same records are written
-pub same_reply : {A : Type 0} (r : Result A OutputError) (writes : List Write) (name bytes records line lines : List ℕ)
-    (a b : Shown) → bytes ≡ records → WritesGathered r (writes ++ (Appends name bytes ∷ Reports line ∷ [])) lines a b
-    → WritesGathered r (writes ++ (Appends name records ∷ Reports line ∷ [])) lines a b
-same_reply r writes name bytes records line lines a b same h =
-    subst (λ (l : List ℕ). WritesGathered r (writes ++ (Appends name l ∷ Reports line ∷ [])) lines a b) same h
-
-pub same_records : {A : Type 0} (r : Result A OutputError) (writes : List Write) (name bytes records : List ℕ)
-    (a b : Shown) → bytes ≡ records → Writes r (writes ++ Appends name bytes ∷ []) a b
-    → Writes r (writes ++ Appends name records ∷ []) a b
-same_records r writes name bytes records a b same h =
-    subst (λ (l : List ℕ). Writes r (writes ++ Appends name l ∷ []) a b) same h
 
 -- no line is gathered after they were written
 pub lines_gone : (writes : List Write) (lines : List ℕ) (a b : Shown) → lines ≡ [] → HasWritten writes a b

@@ -9,12 +9,14 @@ ghost use Rattle.pcap_io.specs.declared.order.Order.TheVariants as order;
 ghost use Rattle.world_io.specs.World.{Start, Shown, is_writable, WritingFailed};
 ghost use Rattle.output_files.specs.Writes.{Write, Appends, Reports, HasGathered, IsOutput};
 ghost use Rattle.output_files.specs.Writes.{KeepsOutputs};
-ghost use Rattle.output_files.specs.Written.{Writes, WritesGathered, OnlyWrites};
+ghost use Rattle.output_files.specs.Written.{AppendsTo, Writes, WritesGathered, OnlyWrites};
 ghost use Rattle.run_writes.specs.Replies.{packets_in};
 ghost use Rattle.run_writes.specs.Run.{FitsRecord, release_writes, reply_writes};
 
 use access_log::Output;
-use output_files::{OutputError, write_lines, write_records};
+use output_files::{
+    OutputError, PIECE, PIECE_ROOM, append_full, append_last, write_lines,
+};
 use pcap_io::{put_packet, record_len};
 use plain_text::{Bytes, NoMemory, Packet};
 use std::alloc::Global;
@@ -47,7 +49,7 @@ fn put_record(records: &mut Bytes, packet: &Packet) -> Result<(), NoMemory>
     put_packet(records, packet)
 }
 
-/// No bytes, with room for the records of the packets of outputs.
+/// No bytes, with room for the records of the packets of outputs, or of as many as a piece has.
 fn room_for(alloc: Global, outputs: &[Output]) -> Result<Bytes, NoMemory>
     requires { All IsShort (packets_in outputs.now) }
     ensures { IfOk result (λ bytes. bytes ≡ []) }
@@ -55,34 +57,52 @@ fn room_for(alloc: Global, outputs: &[Output]) -> Result<Bytes, NoMemory>
     let mut room: usize = 0;
     for output in outputs {
         room = room.saturating_add(record_len(&output.packet));
+        if room > PIECE {
+            return Ok(Bytes::from_vec(Vec::with_capacity(alloc, PIECE_ROOM)?));
+        }
     }
     Ok(Bytes::from_vec(Vec::with_capacity(alloc, room)?))
 }
 
-/// The records of the packets of outputs, in order.
-pub fn put_outputs(alloc: Global, outputs: &[Output]) -> Result<Bytes, NoMemory>
-    requires { All IsShort (packets_in outputs.now) }
-    ensures records { IfOk result
-        (λ bytes. bytes ≡ records_of order.Little (packets_in outputs.now)) }
+/// Appends the records of the packets of outputs to a created file, in order. They are gathered by pieces, in the same
+/// memory.
+fn append_outputs<W: World>(
+    alloc: Global,
+    world: &mut W,
+    file: u32,
+    outputs: &[Output],
+) -> Result<(), OutputError>
+    requires short { All IsShort (packets_in outputs.now) }
+    requires writable { IsTrue (is_writable (W.ledger world.old) file) }
     ensures fit_records { OnOk result (All FitsRecord (packets_in outputs.now)) }
+    ensures only_writes { OnlyWrites W.ledger W.healthy world.old world.new }
+    ensures cause { IsErrOf result OutputError.WriteFault
+        → WritingFailed W.ledger W.healthy world.old world.new }
+    ensures shows { (p : Start) → W.honest p world.new → AppendsTo result file
+        (records_of order.Little (packets_in outputs.now))
+        (W.shows p world.old) (W.shows p world.new) }
+    ensures before { (p : Start) → W.honest p world.new → W.honest p world.old }
 {
-    let mut records = room_for(alloc, outputs)?;
+    let mut piece = room_for(alloc, outputs)?;
     for output in outputs {
-        put_record(&mut records, &output.packet)?;
+        put_record(&mut piece, &output.packet)?;
+        append_full(world, file, &mut piece)?;
     }
-    Ok(records)
+    append_last(world, file, &mut piece)
 }
 
-/// Writes the records of what an event released, and then its line, which may be gathered.
-fn write_both<W: World>(
+/// Appends the records of the packets of outputs to an output, behind the gathered lines: where there are outputs, the
+/// lines go to the report first.
+fn write_outputs<W: World>(
+    alloc: Global,
     world: &mut W,
     file: u32,
     lines: &mut Bytes,
-    records: &[u8],
-    line: &[u8],
+    outputs: &[Output],
 ) -> Result<(), OutputError>
-    requires { IsTrue (is_writable (W.ledger world.old) file) }
-    ensures gathered { OnOk result (length lines.new ≤ 65536) }
+    requires short { All IsShort (packets_in outputs.now) }
+    requires writable { IsTrue (is_writable (W.ledger world.old) file) }
+    ensures fit_records { OnOk result (All FitsRecord (packets_in outputs.now)) }
     ensures only_writes { OnlyWrites W.ledger W.healthy world.old world.new }
     ensures cause { IsErrOf result OutputError.WriteFault
         → WritingFailed W.ledger W.healthy world.old world.new }
@@ -90,18 +110,18 @@ fn write_both<W: World>(
         → (before : Shown) (writes : List Write) (name : List ℕ)
         → IsOutput file name (W.shows p world.old)
         → HasGathered writes lines.old before (W.shows p world.old)
-        → WritesGathered result (writes ++ (Appends name records.now ∷ Reports line.now ∷ []))
+        → WritesGathered result
+        (writes ++ Appends name (records_of order.Little (packets_in outputs.now)) ∷ [])
         lines.new before (W.shows p world.new) }
     ensures keeps { (p : Start) → W.honest p world.new
         → KeepsOutputs (W.shows p world.old) (W.shows p world.new) }
     ensures before { (p : Start) → W.honest p world.new → W.honest p world.old }
 {
-    write_records(world, file, lines, records)?;
-    lines.extend(line)?;
-    if lines.len() > GATHERED {
-        write_lines(world, lines)?;
+    if outputs.is_empty() {
+        return Ok(());
     }
-    Ok(())
+    write_lines(world, lines)?;
+    append_outputs(alloc, world, file, outputs)
 }
 
 /// Writes what an event that was performed leaves: the records of what it released, and then its line, which may be
@@ -133,8 +153,12 @@ pub fn write_reply<W: World>(
         → KeepsOutputs (W.shows p world.old) (W.shows p world.new) }
     ensures before { (p : Start) → W.honest p world.new → W.honest p world.old }
 {
-    let released = put_outputs(alloc, outputs)?;
-    write_both(world, file, lines, released.as_slice(), line)
+    write_outputs(alloc, world, file, lines, outputs)?;
+    lines.extend(line)?;
+    if lines.len() > GATHERED {
+        write_lines(world, lines)?;
+    }
+    Ok(())
 }
 
 /// Writes what an event that stopped at a limit released, behind the lines of the events before it.
@@ -143,9 +167,9 @@ pub fn write_stopped<W: World>(
     world: &mut W,
     file: u32,
     lines: &mut Bytes,
-    outputs: &[Output],
+    released: &[Output],
 ) -> Result<(), OutputError>
-    requires short { All IsShort (packets_in outputs.now) }
+    requires short { All IsShort (packets_in released.now) }
     requires writable { IsTrue (is_writable (W.ledger world.old) file) }
     ensures only_writes { OnlyWrites W.ledger W.healthy world.old world.new }
     ensures cause { IsErrOf result OutputError.WriteFault
@@ -154,13 +178,12 @@ pub fn write_stopped<W: World>(
         → (before : Shown) (writes : List Write) (name : List ℕ)
         → IsOutput file name (W.shows p world.old)
         → HasGathered writes lines.old before (W.shows p world.old)
-        → Writes result (writes ++ release_writes name (packets_in outputs.now)) before
+        → Writes result (writes ++ release_writes name (packets_in released.now)) before
         (W.shows p world.new) }
     ensures keeps { (p : Start) → W.honest p world.new
         → KeepsOutputs (W.shows p world.old) (W.shows p world.new) }
     ensures before { (p : Start) → W.honest p world.new → W.honest p world.old }
 {
-    let records = put_outputs(alloc, outputs)?;
-    write_records(world, file, lines, records.as_slice())?;
+    write_outputs(alloc, world, file, lines, released)?;
     write_lines(world, lines)
 }

@@ -3,14 +3,16 @@
 //! capture.
 #![tactic(auto)]
 
+mod capture;
 mod checking;
 mod error;
 mod playing;
 mod run;
 mod texts;
 
+pub use capture::write_capture;
 pub use checking::check_schedule;
 pub use error::ScheduleError;
 pub use playing::play_schedule;
 pub use run::ScheduleRun;
-pub use texts::{put_count, put_records};
+pub use texts::put_count;

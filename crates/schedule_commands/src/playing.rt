@@ -7,10 +7,9 @@ ghost use Rattle.schedule_commands.specs.Playing.{HasBegunPlay, HasPlayed, SaysP
 ghost use Rattle.schedule_commands.specs.Runs.{CanPlay, outcome_of};
 ghost use Rattle.world_io.specs.World.{Start, WritingFailed};
 
-use crate::{ScheduleError, ScheduleRun, put_count, put_records};
+use crate::{ScheduleError, ScheduleRun, put_count, write_capture};
 use box_program::Program;
-use output_files::{OutputError, write_output};
-use pcap_io::put_header;
+use output_files::OutputError;
 use plain_machine::PlayFault;
 use plain_player::PlayError;
 use plain_text::{NoMemory, Packet, Packets, Text, Unit};
@@ -49,10 +48,8 @@ fn write_packets<W: World>(
         (packet_writes out.now unit packets.now) (W.shows p world.old) (W.shows p world.new) }
     ensures before { (p : Start) → W.honest p world.new → W.honest p world.old }
 {
-    let records = put_records(alloc, packets)?;
     let report = put_count(alloc, b"emitted ", packets.len() as u64)?;
-    let header = put_header(unit);
-    write_output(world, out, &header, records.as_slice(), report.as_slice())
+    write_capture(alloc, world, out, unit, packets, report.as_slice())
 }
 
 /// Plays a schedule on a whole capture, and writes the packets that it sends out, in its order, as a capture in the
