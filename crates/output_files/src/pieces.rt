@@ -17,11 +17,7 @@ pub const PIECE_ROOM: usize = PIECE + 4_096;
 
 /// Appends the bytes that are gathered to a created file, so that none is gathered any more, and all that was to be
 /// appended was.
-pub fn append_last<W: World>(
-    world: &mut W,
-    file: u32,
-    piece: &mut Bytes,
-) -> Result<(), OutputError>
+pub fn append_last<W: World>(world: &mut W, file: u32, piece: &mut Bytes) -> Result<(), OutputError>
     requires { IsTrue (is_writable (W.ledger world.old) file) }
     ensures none { OnOk result (piece.new ≡ []) }
     ensures only_writes { OnlyWrites W.ledger W.healthy world.old world.new }
@@ -40,11 +36,7 @@ pub fn append_last<W: World>(
 }
 
 /// Appends the bytes that are gathered to a created file, where these are `PIECE` or more.
-pub fn append_full<W: World>(
-    world: &mut W,
-    file: u32,
-    piece: &mut Bytes,
-) -> Result<(), OutputError>
+pub fn append_full<W: World>(world: &mut W, file: u32, piece: &mut Bytes) -> Result<(), OutputError>
     requires { IsTrue (is_writable (W.ledger world.old) file) }
     ensures only_writes { OnlyWrites W.ledger W.healthy world.old world.new }
     ensures cause { IsErrOf result OutputError.WriteFault

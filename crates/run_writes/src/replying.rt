@@ -14,9 +14,7 @@ ghost use Rattle.run_writes.specs.Replies.{packets_in};
 ghost use Rattle.run_writes.specs.Run.{FitsRecord, release_writes, reply_writes};
 
 use access_log::Output;
-use output_files::{
-    OutputError, PIECE, PIECE_ROOM, append_full, append_last, write_lines,
-};
+use output_files::{OutputError, PIECE, PIECE_ROOM, append_full, append_last, write_lines};
 use pcap_io::{put_packet, record_len};
 use plain_text::{Bytes, NoMemory, Packet};
 use std::alloc::Global;
