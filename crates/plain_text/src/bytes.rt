@@ -1,7 +1,7 @@
 ghost use Rattle.std.specs.Prelude.{◌≡◌, ◌≤◌, ◌↔◌, ◌++◌, ◌∷◌, [], length, take, drop, replicate};
 ghost use Rattle.std.specs.Prelude.{IsTrue, IfOk, OnOk, OnErr};
 
-use crate::NoMemory;
+use crate::{HEADER_ROOM, NoMemory};
 use std::alloc::Global;
 use std::marker::Model;
 
@@ -31,9 +31,26 @@ pub fn copy_with_room(alloc: Global, room: usize, bytes: &[u8]) -> Result<Vec<u8
     ensures { IfOk result (λ copy. copy.items ≡ replicate room 0 ++ bytes.now) }
 {
     let mut copy = Vec::with_capacity(alloc, room.saturating_add(bytes.len()))?;
-    copy.resize(room, 0)?;
+    put_zeros(&mut copy, room)?;
     copy.extend_from_slice(bytes)?;
     Ok(copy)
+}
+
+/// What stands in the room of a packet that is to go out.
+static ZEROS: [u8; HEADER_ROOM] = [0; HEADER_ROOM];
+
+/// Puts as many zeros into a vector that has nothing. Those of a header's room are copied as one piece, which is faster
+/// than one by one.
+fn put_zeros(copy: &mut Vec<u8>, room: usize) -> Result<(), NoMemory>
+    requires { copy.old.items ≡ [] }
+    ensures { OnOk result (copy.new.items ≡ replicate room 0) }
+{
+    if room == HEADER_ROOM {
+        copy.extend_from_slice(&ZEROS)?;
+    } else {
+        copy.resize(room, 0)?;
+    }
+    Ok(())
 }
 
 impl Bytes {
