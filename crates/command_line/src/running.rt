@@ -54,7 +54,12 @@ fn run_plain<
 {
     let mut world = Told::of(RealWorld::new(rt.alloc(), rt));
     if asks_watch(words) {
-        return watch_words(rt.alloc(), words, &mut world, RealWorld::new(rt.alloc(), rt));
+        return watch_words(
+            rt.alloc(),
+            words,
+            &mut world,
+            RealWorld::new(rt.alloc(), rt),
+        );
     }
     perform(rt, words, &mut world, clock, gate)
 }
