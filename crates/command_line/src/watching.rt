@@ -30,8 +30,8 @@ pub fn asks_watch(arguments: io::Result<Args>) -> bool
     }
 }
 
-/// What the program comes to where the first word is `watch`: it shows the packets of a capture to one tap, which prints
-/// a line for each on the report of a world that is there for nothing else.
+/// What the program comes to where the first word is `watch`: it shows the packets of a capture to one tap, which
+/// prints a line for each on the report of a world that is there for nothing else.
 ///
 /// Where there are no arguments, since one of them is not UTF-8, or no memory to copy them, the world stays as it is.
 pub fn answer_watch<W: World, V: World + Drop>(
