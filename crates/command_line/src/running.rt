@@ -22,8 +22,8 @@ use world_told::Told;
 /// each name; or, where the first word is `watch`, prints a line for each packet of a window.
 ///
 /// The files stand in a world with a record of its calls. So what `perform`, `tapped` and
-/// `watch_words` promise by a beginning holds of the program: whatever bytes stood under the names when it began, if the
-/// system answered its reads as files with those bytes do.
+/// `watch_words` promise by a beginning holds of the program: whatever bytes stood under the names
+/// when it began, if the system answered its reads as files with those bytes do.
 pub fn run_words<
     C: Clock + Sync,
     G: Gate + Sync,

@@ -21,8 +21,8 @@ pub fn asks_watch(words: &[Text]) -> bool
     }
 }
 
-/// What the program comes to where the first word is `watch`: it shows the packets of a capture to one tap, which prints
-/// a line for each on the report of a world that is there for nothing else.
+/// What the program comes to where the first word is `watch`: it shows the packets of a capture to one tap, which
+/// prints a line for each on the report of a world that is there for nothing else.
 pub fn watch_words<W: World, V: World + Drop>(
     alloc: Global,
     words: &[Text],

@@ -1,5 +1,5 @@
 -- What is said of the file where watching a capture ended so.
-use Rattle.std.proofs.Common.{◌≡◌, ℕ, Bool, true, false, List, [], Option, Some, None, refl, inr}
+use Rattle.std.proofs.Common.{ℕ, Bool, true, false, List, [], Option, Some, None, refl, inr}
 use Rattle.std.specs.Prelude.{IfSome}
 use Rattle.plain_text.specs.declared.packet.Packet.{Packet}
 use Rattle.world_io.specs.World.{Shown, Start}

@@ -1,5 +1,5 @@
 -- A capture that is shown packet by packet.
-use Rattle.std.proofs.Common.{◌≡◌, ℕ, ◌+◌, ◌≤◌, List, [], ◌∷◌, ◌++◌, length, refl, sym, ap, ◌∙◌, arith, append_assoc}
+use Rattle.std.proofs.Common.{◌≡◌, ℕ, List, ◌++◌, length, sym, ap, ◌∙◌, append_assoc}
 use Rattle.std.proofs.Common.{inl, inr, true}
 use Rattle.std.specs.Prelude.{All}
 use Rattle.plain_text.specs.Octets.{IsOfBytes}

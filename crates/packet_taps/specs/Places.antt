@@ -1,5 +1,5 @@
 -- What becomes of taps in their places when packets are shown.
-use Rattle.std.specs.Prelude.{◌≡◌, ℕ, ◌<◌, ◌≤◌, Bool, true, false, List, ◌++◌, Option, Some, None, length, take}
+use Rattle.std.specs.Prelude.{◌≡◌, ℕ, ◌<◌, ◌≤◌, true, false, List, ◌++◌, Option, Some, None, length, take}
 use Rattle.std.specs.Prelude.{slice_get, slice_set}
 use Rattle.plain_text.specs.declared.packet.Packet.{Packet}
 use Rattle.world_io.specs.Stream.{Rose}

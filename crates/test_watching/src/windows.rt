@@ -1,7 +1,7 @@
 ghost use Rattle.std.specs.Prelude.{◌≡◌, [], length, IfOk};
 
 use crate::recorder::Recorder;
-use packet_taps::{Deck, PacketTap, Watched, watch};
+use packet_taps::{Deck, PacketTap, Printed, Watched, print_watched, watch};
 use plain_text::{Bytes, NoMemory, Packet, Text};
 use std::alloc::Global;
 use world_io::MemoryWorld;
@@ -12,9 +12,10 @@ const CAPTURE: &[u8] = b"\xd4\xc3\xb2\xa1\x02\0\x04\0\0\0\0\0\0\0\0\0\xff\xff\0\
     \x02\0\0\0\x06\0\0\0\x01\0\0\0\x01\0\0\0b\
     \x03\0\0\0\x07\0\0\0\x01\0\0\0\x01\0\0\0c";
 
+/// The words that ask for all three packets.
 fn words(alloc: Global) -> Result<Vec<Text>, NoMemory> {
     let mut words = Vec::new(alloc);
-    for word in ["watch", "capture", "1", "1"] {
+    for word in ["watch", "capture", "0", "3"] {
         words.push(Text::of(alloc, word)?)?;
     }
     Ok(words)
@@ -106,6 +107,45 @@ fn goes_on(alloc: Global) -> Result<bool, NoMemory> {
         return Ok(false);
     };
     are(alloc, there.tap.packets.as_slice(), b"ca")
+}
+
+/// Whether a fault of reading behind the last packet is told, and a tap saw the packets before.
+fn tells_a_read_fault(alloc: Global) -> Result<bool, NoMemory> {
+    let mut deck = Deck::new(alloc)?;
+    let Ok(0) = deck.seat(Recorder::new(alloc, 9), 0, 9) else {
+        return Ok(false);
+    };
+    let words = words(alloc)?;
+    let mut world = world(alloc)?;
+    world.fail_read(3)?;
+    let watched = watch(alloc, words.as_slice(), &mut world, &mut deck);
+    let Some(there) = deck.seated(0) else {
+        return Ok(false);
+    };
+    let all = are(alloc, there.tap.packets.as_slice(), b"abc")?;
+    Ok(all && watched == Watched::ReadFault)
+}
+
+/// What printing the lines comes to, where the second one may fail.
+fn printed(alloc: Global, second_fails: bool) -> Result<Printed, NoMemory> {
+    let words = words(alloc)?;
+    let mut world = world(alloc)?;
+    let mut out = MemoryWorld::new(alloc)?;
+    if second_fails {
+        out.fail_write(2)?;
+    }
+    Ok(print_watched(alloc, words.as_slice(), &mut world, out))
+}
+
+#[test]
+fn a_fault_of_reading_is_told(rt: HostRuntime) {
+    assert!(rt; matches!(tells_a_read_fault(rt.alloc()), Ok(true)));
+}
+
+#[test]
+fn a_line_that_is_not_printed_is_told(rt: HostRuntime) {
+    assert!(rt; printed(rt.alloc(), false) == Ok(Printed::Watched(Watched::Done(3))));
+    assert!(rt; printed(rt.alloc(), true) == Ok(Printed::WriteFault));
 }
 
 #[test]

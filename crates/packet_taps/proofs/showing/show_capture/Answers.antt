@@ -1,10 +1,9 @@
-use Rattle.std.proofs.Common.{◌≡◌, ◌≤◌, ◌∷◌, ◌++◌, [], List, length, refl, sym, ap, subst, inl, arith, length-append}
+use Rattle.std.proofs.Common.{◌∷◌, ◌++◌, [], refl, inl, arith}
 use Rattle.std.proofs.lemmas.List.{length_push}
 use Rattle.std.proofs.lemmas.List.Elements.{All-push}
 use Rattle.plain_text.specs.Octets.{IsOfBytes}
-use Rattle.plain_text.specs.declared.packet.Packet.{Packet}
 use Rattle.pcapng_io.specs.Any.{unit_of}
-use Rattle.pcapng_io.proofs.Captures.{HasReadAny, any_begins, any_on, any_few, format_start, format_on, refused_start}
+use Rattle.pcapng_io.proofs.Captures.{any_begins, any_on, any_few, format_start, format_on, refused_start}
 use Rattle.pcapng_io.proofs.Captures.{any_refused, any_large, any_end}
 use Rattle.pcapng_io.proofs.Taken.{some_at_start, some_more, some_of_any}
 use Rattle.world_io.proofs.GoingOn.{GoesOn-trans}
