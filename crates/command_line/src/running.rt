@@ -1,4 +1,4 @@
-ghost use Rattle.std.specs.Prelude.{◌≡◌, ◌≤◌, ◌*◌, ℕ, IfOk, IfErr, None, false, length};
+ghost use Rattle.std.specs.Prelude.{◌≡◌, ◌≤◌, ◌*◌, ◌⊎◌, ℕ, [], IfOk, IfErr, None, false, length};
 ghost use Rattle.job_commands.specs.Words.{asked};
 ghost use Rattle.command_line.specs.Printing.{asked_text};
 ghost use Rattle.command_line.specs.Watching.{begins_watch};
