@@ -1,7 +1,7 @@
 ghost use Rattle.std.specs.Prelude.{◌≡◌, ◌≤◌, ◌⊎◌};
 ghost use Rattle.std.specs.Process.{exit_status};
 
-use crate::{exit_of, read_words, run_words};
+use crate::{exit_of, read_words, run_words, tell_more};
 use job_commands::{Status, StatusText};
 use std::env;
 use std::process::ExitCode;
@@ -34,11 +34,13 @@ pub fn run_program<
         return exit_of(tell(rt, Status::NoMemory));
     };
     let clock = RealClock::new(own);
-    let status = match read_words(rt.alloc(), env::args(rt)) {
-        Ok(words) => run_words(rt, words.as_slice(), &clock, &OpenGate),
-        Err(status) => status,
+    let words = match read_words(rt.alloc(), env::args(rt)) {
+        Ok(words) => words,
+        Err(status) => return exit_of(tell(rt, status)),
     };
-    exit_of(tell(rt, status))
+    let status = tell(rt, run_words(rt, words.as_slice(), &clock, &OpenGate));
+    let _ = tell_more(rt, words.as_slice(), status);
+    exit_of(status)
 }
 
 /// Tells on standard error what was not done. The status stays, unless telling fails.

@@ -11,16 +11,18 @@ pub enum Request {
     Command,
 }
 
-/// Help or the version where the one and only word asks for it, and else a command.
+/// Help where the one and only word is `--help`, `-h` or `help`, or where `--help` is the second and
+/// last one; the version where `--version` is the one and only word; and else a command.
 pub fn read_request(words: &[Text]) -> Request
     ensures { result ≡ request_of words.now }
 {
-    let [word] = words else {
-        return Request::Command;
-    };
-    match word.as_str() {
-        "--help" => Request::Help,
-        "--version" => Request::Version,
+    match words {
+        [word] => match word.as_str() {
+            "--help" | "-h" | "help" => Request::Help,
+            "--version" => Request::Version,
+            _ => Request::Command,
+        },
+        [_, word] if word.as_str() == "--help" => Request::Help,
         _ => Request::Command,
     }
 }

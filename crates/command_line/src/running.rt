@@ -5,7 +5,7 @@ ghost use Rattle.command_line.specs.Watching.{begins_watch};
 ghost use Rattle.tap_command.specs.Split.{AsksForTaps, BeginsWithTap};
 ghost use Rattle.release_taps.specs.Seats.{AllFresh};
 
-use crate::{asks_watch, perform, watch_words};
+use crate::{asks_watch, one_file, perform, watch_words};
 use job_commands::Status;
 use plain_text::{NoMemory, Text};
 use std::rt::Files;
@@ -19,7 +19,8 @@ use world_told::Told;
 
 /// Does what the words ask for over the files of the system: performs them; or, where pairs
 /// `tap NAME` stand in front, runs what stands behind them and mirrors the released capture under
-/// each name; or, where the first word is `watch`, prints a line for each packet of a window.
+/// each name; or, where the first word is `watch`, prints a line for each packet of a window. Where
+/// the file of an output is seen to be that of another word (`one_file`), it does nothing.
 ///
 /// The files stand in a world with a record of its calls. So what `perform`, `tapped` and
 /// `watch_words` promise by a beginning holds of the program: whatever bytes stood under the names
@@ -35,6 +36,9 @@ pub fn run_words<
         → asked words.now ≡ None → asked_text words.now ≡ None
         → begins_watch words.now ≡ false → result ≡ Status.BadWords }
 {
+    if one_file(rt, words).is_some() {
+        return Status::BadWords;
+    }
     match split_taps(words) {
         Split::Plain => run_plain(rt, words, clock, gate),
         Split::Bad => Status::BadWords,

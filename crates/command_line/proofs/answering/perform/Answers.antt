@@ -1,8 +1,9 @@
-use Rattle.std.proofs.Common.{◌≡◌}
+use Rattle.std.proofs.Common.{◌≡◌, ap, sym, ◌∙◌, Some}
 use Rattle.command_line.specs.Printing.{asked_text}
 use Rattle.command_line.specs.Request.{request_of}
-use Rattle.command_line.specs.declared.request.Request.TheVariants.{Command}
-use Rattle.command_line.proofs.NoCommand.{any_text, no_text, printed_refuses, prints_nothing}
+use Rattle.command_line.specs.declared.request.Request.TheVariants.{Command, Help}
+use Rattle.command_line.proofs.NoCommand.{answers_none, any_text, asks_nothing, no_text, printed_refuses, prints_nothing}
+use Rattle.command_line.proofs.NoCommand.{prints_text}
 use Rattle.command_line.proofs.answering.perform.Goals as goal
 
 pub returns-in-Command-clause-performs : goal.returns-in-Command-clause-performs
@@ -32,6 +33,20 @@ returns-in-Command-clause-printed g c =
     let here = c.in-Command.is in
     let is : request_of c.args.words.now ≡ Command = cc in
     no_text c.args.words.now _ is
+
+pub returns-in-Help-clause-performs : goal.returns-in-Help-clause-performs
+returns-in-Help-clause-performs g c p q =
+    let asks = c.in-Help.ensures in
+    let here = c.in-Help.is in
+    let is : request_of c.args.words.now ≡ Help = cc in
+    record {
+      prints = prints_text c.args.words.now Help c.help.result.now c.print.result
+          (g.W.World.shows p c.args.world.now) (g.W.World.shows p c.print.new.world) is (ap Some (sym c.help.ensures))
+          (c.print.ensures.prints p q);
+      answers = answers_none (g.W.World.healthy c.args.world.now) (g.C.Clock.may c.args.clock.now) c.args.words.now
+          c.print.result (g.W.World.shows p c.args.world.now) (g.W.World.shows p c.print.new.world)
+          (asks_nothing c.args.words.now (λ command. let no : Help ≡ Command = sym is ∙ command in absurd (cc)));
+    }
 
 pub returns-in-Help-clause-printed : goal.returns-in-Help-clause-printed
 returns-in-Help-clause-printed g c = any_text (asked_text c.args.words.now) _ c.print.ensures.outcome

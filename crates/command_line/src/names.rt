@@ -1,0 +1,121 @@
+ghost use Rattle.std.specs.Prelude.{◌≡◌, ◌<◌, length, IfSome};
+
+use plain_text::Text;
+use std::fs;
+use std::path::{Path, PathBuf};
+use std::rt::Files;
+use tap_command::{Split, split_taps};
+
+/// Two places of words that name one file by its real path, of which the second is to be written.
+/// None where none are found. Two links to one file are not seen, and neither is a file of which
+/// the folder can't be told.
+pub fn one_file<R: AllocGlobal + Files>(rt: &R, words: &[Text]) -> Option<(usize, usize)>
+    ensures within { IfSome result
+        (λ places. (places.0 < length words.now) × (places.1 < length words.now)) }
+    ensures differ { IfSome result (λ places. ¬ (places.0 ≡ places.1)) }
+{
+    let start = line_start(words);
+    if !has_outputs(words.get(start..)?) {
+        return None;
+    }
+    for written in 0..words.len() {
+        if !is_written(start, written) {
+            continue;
+        }
+        if let Some(other) = same_file(rt, words, start, written) {
+            return Some((other, written));
+        }
+    }
+    None
+}
+
+/// Where the command stands among the words: behind the pairs of `tap` and a name.
+pub(crate) fn line_start(words: &[Text]) -> usize {
+    match split_taps(words) {
+        Split::Taps { pairs, .. } => pairs.saturating_mul(2),
+        Split::Plain | Split::Bad => 0,
+    }
+}
+
+/// Whether the command has inputs and outputs: three inputs, and outputs behind them.
+fn has_outputs(line: &[Text]) -> bool {
+    let Some(command) = line.first() else {
+        return false;
+    };
+    match command.as_str() {
+        "run" => line.len() == 6,
+        "live" => line.len() == 7,
+        "play" => line.len() == 5,
+        _ => false,
+    }
+}
+
+/// How many names of inputs stand behind the command.
+pub(crate) fn count_inputs(line: &[Text]) -> usize {
+    let Some(command) = line.first() else {
+        return 0;
+    };
+    match command.as_str() {
+        "run" | "live" | "play" => 3,
+        "check" => 4,
+        "watch" => 1,
+        _ => 0,
+    }
+}
+
+/// Whether the word at this place is the name of a file.
+fn is_name(start: usize, place: usize) -> bool {
+    if place < start {
+        place % 2 == 1
+    } else {
+        place > start
+    }
+}
+
+/// Whether it is the name of a file that is to be written.
+fn is_written(start: usize, place: usize) -> bool {
+    is_name(start, place) && (place < start || place - start >= 4)
+}
+
+/// The place of another name of the file that the word at this place names.
+fn same_file<R: AllocGlobal + Files>(
+    rt: &R,
+    words: &[Text],
+    start: usize,
+    written: usize,
+) -> Option<usize>
+    requires { written < length words.now }
+    ensures { IfSome result (λ other. (other < length words.now) × ¬ (other ≡ written)) }
+{
+    let file = real_path(rt, &words[written])?;
+    for other in 0..words.len() {
+        if other != written && is_name(start, other) && is_at(rt, &words[other], file.as_path()) {
+            return Some(other);
+        }
+    }
+    None
+}
+
+/// Whether the name is that of the file with this real path.
+fn is_at<R: AllocGlobal + Files>(rt: &R, name: &Text, file: Path<'_>) -> bool {
+    match real_path(rt, name) {
+        Some(path) => path.as_path().as_str() == file.as_str(),
+        None => false,
+    }
+}
+
+/// The path of a file with no link in it: of one that is there; or of one that is to be, in a
+/// folder that is there.
+fn real_path<R: AllocGlobal + Files>(rt: &R, name: &Text) -> Option<PathBuf> {
+    let path = Path::new(name.as_str());
+    if let Ok(real) = fs::canonicalize(rt, path) {
+        return Some(real);
+    }
+    let folder = match path.parent() {
+        Some(folder) if !folder.as_str().is_empty() => folder,
+        _ => Path::new("."),
+    };
+    let mut real = fs::canonicalize(rt, folder).ok()?;
+    real.push(path.file_name()?).ok()?;
+    Some(real)
+}
