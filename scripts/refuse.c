@@ -5,6 +5,7 @@
 #include <fcntl.h>
 #include <stdio.h>
 #include <stdlib.h>
+#include <sys/syscall.h>
 #include <unistd.h>
 
 extern void *__libc_malloc(size_t), *__libc_calloc(size_t, size_t), *__libc_realloc(void *, size_t), *__libc_memalign(size_t, size_t);
@@ -19,10 +20,17 @@ __attribute__((constructor)) static void begin(void) {
     asked = 0;
 }
 
-__attribute__((destructor)) static void end(void) {
+static void end(void) {
     const char *name = getenv("REFUSE_COUNT");
     int file = name ? open(name, O_WRONLY | O_CREAT | O_TRUNC, 0644) : -1;
     if (file >= 0) dprintf(file, "%lu\n", asked);
+}
+
+/* The program ends by this call, which runs no destructor. */
+void _exit(int status) {
+    end();
+    syscall(SYS_exit_group, status);
+    __builtin_unreachable();
 }
 
 static int is_refused(void) {
