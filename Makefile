@@ -8,7 +8,7 @@ PREFIX ?= /usr/local
 
 SOURCES := crates.txt scripts/build $(shell find crates -name out -prune -o -type f -print)
 
-.PHONY: all try test plants example bench soak interop install clean distclean
+.PHONY: all try test plants example bench soak interop manual install clean distclean
 
 # The program, proved and built.
 all: build/ftmb
@@ -67,6 +67,10 @@ soak: build/ftmb
 interop: build/ftmb
 	scripts/statuses build/ftmb build/statuses
 	scripts/interop build/ftmb build/interop
+
+# The manual page, README and the help, beside the tables of the code.
+manual:
+	scripts/manual
 
 # The program and its manual page, for all users.
 install: build/ftmb

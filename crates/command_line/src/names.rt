@@ -2,13 +2,16 @@ ghost use Rattle.std.specs.Prelude.{◌≡◌, ◌<◌, length, IfSome};
 
 use plain_text::Text;
 use std::fs;
+use std::os::unix::fs::MetadataExt;
 use std::path::{Path, PathBuf};
 use std::rt::Files;
 use tap_command::{Split, split_taps};
 
-/// Two places of words that name one file by its real path, of which the second is to be written.
-/// None where none are found. Two links to one file are not seen, and neither is a file of which
-/// the folder can't be told.
+/// Two places of words that name one file, of which the second is to be written. None where none
+/// are found: a file that is not there yet, in a folder that can't be told, is not seen.
+///
+/// Two names are of one file where it is there under both, with one device and one inode; or where
+/// their real paths are one.
 pub fn one_file<R: AllocGlobal + Files>(rt: &R, words: &[Text]) -> Option<(usize, usize)>
     ensures within { IfSome result
         (λ places. (places.0 < length words.now) × (places.1 < length words.now)) }
@@ -73,7 +76,7 @@ fn is_name(start: usize, place: usize) -> bool {
 }
 
 /// Whether it is the name of a file that is to be written.
-fn is_written(start: usize, place: usize) -> bool {
+pub(crate) fn is_written(start: usize, place: usize) -> bool {
     is_name(start, place) && (place < start || place - start >= 4)
 }
 
@@ -87,21 +90,46 @@ fn same_file<R: AllocGlobal + Files>(
     requires { written < length words.now }
     ensures { IfSome result (λ other. (other < length words.now) × ¬ (other ≡ written)) }
 {
-    let file = real_path(rt, &words[written])?;
+    let file = Place::of(rt, &words[written]);
     for other in 0..words.len() {
-        if other != written && is_name(start, other) && is_at(rt, &words[other], file.as_path()) {
+        if other != written && is_name(start, other) && file.is_that_of(rt, &words[other]) {
             return Some(other);
         }
     }
     None
 }
 
-/// Whether the name is that of the file with this real path.
-fn is_at<R: AllocGlobal + Files>(rt: &R, name: &Text, file: Path<'_>) -> bool {
-    match real_path(rt, name) {
-        Some(path) => path.as_path().as_str() == file.as_str(),
-        None => false,
+/// Where a file is: its device and inode, where it is there; its real path, where that is told.
+#[derive(Drop)]
+struct Place {
+    node: Option<(u64, u64)>,
+    path: Option<PathBuf>,
+}
+
+impl Place {
+    fn of<R: AllocGlobal + Files>(rt: &R, name: &Text) -> Place {
+        Place {
+            node: node_of(rt, name),
+            path: real_path(rt, name),
+        }
     }
+
+    /// Whether the name is that of the file in this place.
+    fn is_that_of<R: AllocGlobal + Files>(&self, rt: &R, name: &Text) -> bool {
+        if self.node.is_some() && self.node == node_of(rt, name) {
+            return true;
+        }
+        match (&self.path, real_path(rt, name)) {
+            (Some(one), Some(other)) => one.as_path().as_str() == other.as_path().as_str(),
+            _ => false,
+        }
+    }
+}
+
+/// The device and the inode of a file that is there.
+fn node_of<R: Files>(rt: &R, name: &Text) -> Option<(u64, u64)> {
+    let about = Path::new(name.as_str()).metadata(rt).ok()?;
+    Some((about.dev(), about.ino()))
 }
 
 /// The path of a file with no link in it: of one that is there; or of one that is to be, in a

@@ -1,12 +1,21 @@
+mod boxes;
+mod captures;
+mod files;
+mod lines;
+mod nearest;
+
 use crate::names::{count_inputs, line_start, one_file};
-use job_commands::Status;
+use job_commands::{InputFault, Status};
 use plain_text::Text;
 use std::io;
 use std::path::Path;
 use std::rt::Files;
 
 /// Tells in a further line on standard error, behind the text of the status, what helps: which two
-/// words name one file, which input is not there, where the commands are told.
+/// words name one file, which command was meant and how it is called, which input is not there or
+/// which output can't be written and what the system says of it, what stands where an input leaves
+/// its grammar. Where a box file makes no sense, though it is right by its grammar, this is told
+/// too, whatever the status.
 pub fn tell_more<R: AllocGlobal + Files + Eprint>(
     rt: &R,
     words: &[Text],
@@ -15,20 +24,20 @@ pub fn tell_more<R: AllocGlobal + Files + Eprint>(
     match status {
         Status::BadWords => tell_words(rt, words),
         Status::ReadFault => tell_unread(rt, words),
-        _ => Ok(()),
+        Status::WriteFault => tell_unwritten(rt, words),
+        Status::BadInput(fault) => tell_fault(rt, words, fault),
+        _ => tell_of_box(rt, words),
     }
 }
 
-/// Which two words name one file, or where the commands are told.
+/// Which two words name one file, or which command was meant.
 fn tell_words<R: AllocGlobal + Files + Eprint>(rt: &R, words: &[Text]) -> io::Result<()> {
-    match one_file(rt, words) {
-        Some((other, written)) => {
-            let other = words[other].as_str();
-            let written = words[written].as_str();
-            eprintln!(rt; "{other} and {written} are one file")
-        }
-        None => eprintln!(rt; "ftmb --help tells which words there are"),
+    if let Some((other, written)) = one_file(rt, words) {
+        let other = words[other].as_str();
+        let written = words[written].as_str();
+        return eprintln!(rt; "{other} and {written} are one file");
     }
+    nearest::tell_usage(rt, words)
 }
 
 /// Which of the inputs is not there, and what the system says of it. Nothing is told where each is
@@ -45,6 +54,84 @@ fn tell_unread<R: AllocGlobal + Files + Eprint>(rt: &R, words: &[Text]) -> io::R
             Ok(_) => {}
             Err(error) => return eprintln!(rt; "{name}: {error}"),
         }
+        if let Some(error) = files::reading_error(rt, name) {
+            return eprintln!(rt; "{name}: {error}");
+        }
     }
     Ok(())
+}
+
+/// Which of the outputs can't be written, and what the system says of it.
+fn tell_unwritten<R: AllocGlobal + Files + Eprint>(rt: &R, words: &[Text]) -> io::Result<()> {
+    let start = line_start(words);
+    for place in 0..words.len() {
+        if !crate::names::is_written(start, place) {
+            continue;
+        }
+        let name = words[place].as_str();
+        match Path::new(name).metadata(rt) {
+            Ok(about) if about.is_dir() => return eprintln!(rt; "{name}: it is a folder"),
+            _ => {}
+        }
+        if let Some(error) = files::writing_error(rt, name) {
+            return eprintln!(rt; "{name}: {error}");
+        }
+    }
+    eprintln!(rt; "each output can be opened: a disk is full, or nobody reads the report")
+}
+
+/// What stands in the input where it leaves its grammar.
+fn tell_fault<R: AllocGlobal + Files + Eprint>(
+    rt: &R,
+    words: &[Text],
+    fault: InputFault,
+) -> io::Result<()> {
+    match fault {
+        InputFault::BoxFile(fault) => match input_name(words, 1) {
+            Some(name) if fault.cause == plain_text::LineCause::MissingLine => {
+                boxes::tell_missing(rt, name)
+            }
+            Some(name) => lines::tell_line(rt, name, fault),
+            None => Ok(()),
+        },
+        InputFault::Capture(fault) => captures::tell_pcap(rt, input_name(words, 2), fault),
+        InputFault::NgCapture(fault) => captures::tell_pcapng(rt, input_name(words, 2), fault),
+        InputFault::Script(fault) | InputFault::Plan(fault) | InputFault::Schedule(fault) => {
+            match input_name(words, 3) {
+                Some(name) => lines::tell_line(rt, name, fault),
+                None => Ok(()),
+            }
+        }
+        InputFault::Moves(_) => Ok(()),
+        InputFault::Released(fault) => captures::tell_pcap(rt, input_name(words, 4), fault),
+        InputFault::NgReleased(fault) => captures::tell_pcapng(rt, input_name(words, 4), fault),
+    }
+}
+
+/// The name of an input, by its place behind the command; that of the capture, where `watch` has
+/// no other.
+fn input_name(words: &[Text], place: usize) -> Option<&Text> {
+    let line = words.get(line_start(words)..)?;
+    let inputs = count_inputs(line);
+    if inputs == 1 {
+        return line.get(1);
+    }
+    if place > inputs {
+        return None;
+    }
+    line.get(place)
+}
+
+/// What makes no sense in the box file, if the command has one.
+fn tell_of_box<R: AllocGlobal + Files + Eprint>(rt: &R, words: &[Text]) -> io::Result<()> {
+    let Some(line) = words.get(line_start(words)..) else {
+        return Ok(());
+    };
+    if count_inputs(line) < 2 {
+        return Ok(());
+    }
+    match line.get(1) {
+        Some(name) => boxes::warn(rt, name),
+        None => Ok(()),
+    }
 }

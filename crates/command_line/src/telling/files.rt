@@ -1,0 +1,30 @@
+use plain_text::{MOST_FILE_BYTES, Text};
+use std::alloc::Global;
+use std::fs::{self, OpenOptions};
+use std::io;
+use std::path::Path;
+use std::rt::Files;
+
+/// The bytes of a file that is no stream and no larger than an input may be. What a stream gave is
+/// gone, so it is not read again.
+pub fn read_again<R: AllocGlobal + Files>(rt: &R, name: &Text) -> Option<Vec<u8>> {
+    let path = Path::new(name.as_str());
+    let about = path.metadata(rt).ok()?;
+    if !about.is_file() || about.len() > MOST_FILE_BYTES {
+        return None;
+    }
+    fs::read(rt, path).ok()
+}
+
+/// What the system says where a file is opened to be read.
+pub fn reading_error<R: Files>(rt: &R, name: &str) -> Option<io::Error> {
+    fs::open(rt, name).err()
+}
+
+/// What the system says where a file is opened to be written. Nothing is created, and nothing that
+/// stands in it is changed.
+pub fn writing_error<R: Files>(rt: &R, name: &str) -> Option<io::Error> {
+    let mut how = OpenOptions::new();
+    how.write(true);
+    how.open(rt, name).err()
+}
