@@ -51,11 +51,13 @@ fn tell_unread<R: AllocGlobal + Files + Eprint>(rt: &R, words: &[Text]) -> io::R
         let name = name.as_str();
         match Path::new(name).metadata(rt) {
             Ok(about) if about.is_dir() => return eprintln!(rt; "{name}: it is a folder"),
+            Ok(about) if about.is_file() => {
+                if let Some(error) = files::reading_error(rt, name) {
+                    return eprintln!(rt; "{name}: {error}");
+                }
+            }
             Ok(_) => {}
             Err(error) => return eprintln!(rt; "{name}: {error}"),
-        }
-        if let Some(error) = files::reading_error(rt, name) {
-            return eprintln!(rt; "{name}: {error}");
         }
     }
     Ok(())
@@ -69,15 +71,14 @@ fn tell_unwritten<R: AllocGlobal + Files + Eprint>(rt: &R, words: &[Text]) -> io
             continue;
         }
         let name = words[place].as_str();
-        match Path::new(name).metadata(rt) {
-            Ok(about) if about.is_dir() => return eprintln!(rt; "{name}: it is a folder"),
-            _ => {}
+        if Path::new(name).metadata(rt).is_ok_and(|about| about.is_dir()) {
+            return eprintln!(rt; "{name}: it is a folder");
         }
         if let Some(error) = files::writing_error(rt, name) {
             return eprintln!(rt; "{name}: {error}");
         }
     }
-    eprintln!(rt; "each output can be opened: a disk is full, or nobody reads the report")
+    eprintln!(rt; "no output is at fault by its name: a disk is full, or nobody reads the report")
 }
 
 /// What stands in the input where it leaves its grammar.

@@ -16,15 +16,25 @@ pub fn read_again<R: AllocGlobal + Files>(rt: &R, name: &Text) -> Option<Vec<u8>
     fs::read(rt, path).ok()
 }
 
-/// What the system says where a file is opened to be read.
+/// What the system says where a file, which is no stream, is opened to be read.
 pub fn reading_error<R: Files>(rt: &R, name: &str) -> Option<io::Error> {
     fs::open(rt, name).err()
 }
 
-/// What the system says where a file is opened to be written. Nothing is created, and nothing that
-/// stands in it is changed.
+/// What the system says where a file is opened to be written, or of the folder of one that is yet
+/// to be. Nothing is created, nothing that stands in a file is changed, and no stream is opened.
 pub fn writing_error<R: Files>(rt: &R, name: &str) -> Option<io::Error> {
-    let mut how = OpenOptions::new();
-    how.write(true);
-    how.open(rt, name).err()
+    let path = Path::new(name);
+    match path.metadata(rt) {
+        Ok(about) if about.is_file() => {
+            let mut how = OpenOptions::new();
+            how.write(true);
+            how.open(rt, name).err()
+        }
+        Ok(_) => None,
+        Err(_) => match path.parent() {
+            Some(folder) if !folder.as_str().is_empty() => folder.metadata(rt).err(),
+            _ => None,
+        },
+    }
 }
