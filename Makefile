@@ -8,7 +8,7 @@ PREFIX ?= /usr/local
 
 SOURCES := crates.txt scripts/build $(shell find crates -name out -prune -o -type f -print)
 
-.PHONY: all try test plants example bench soak interop install clean distclean
+.PHONY: all try test plants promises example bench soak interop install clean distclean
 
 # The program, proved and built.
 all: build/ftmb
@@ -32,6 +32,10 @@ test:
 # Tries the wrong bodies of plants, in a copy, and says what refuses each; no part of the gate.
 plants:
 	scripts/plants $(RT)
+
+# Compares docs/PROMISES.md, with each answer of each public call, with the calls and the clauses of the sources; no part of the gate.
+promises:
+	scripts/promises
 
 # Runs a box on a packet, the one of the program's stored run, and checks what it wrote; and runs a box on two threads by a script of single
 # events, and the NAT on packets of two hosts. Shows what was written. Last, the NAT crashes when a host's first packet has left: both its
