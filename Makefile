@@ -8,7 +8,7 @@ PREFIX ?= /usr/local
 
 SOURCES := crates.txt scripts/build $(shell find crates -name out -prune -o -type f -print)
 
-.PHONY: all try test plants example bench soak interop manual install clean distclean
+.PHONY: all try test plants promises manual example bench soak interop install clean distclean
 
 # The program, proved and built.
 all: build/ftmb
@@ -33,6 +33,10 @@ test:
 plants:
 	scripts/plants $(RT)
 
+# Compares docs/PROMISES.md, with each answer of each public call, with the calls and the clauses of the sources; no part of the gate.
+promises:
+	scripts/promises
+
 # Runs a box on a packet, the one of the program's stored run, and checks what it wrote; and runs a box on two threads by a script of single
 # events, and the NAT on packets of two hosts. Shows what was written. Last, the NAT crashes when a host's first packet has left: both its
 # packets are to have left from one port. And two threads of the monitor race, with a crash between their rounds. Another middlebox is judged.
@@ -49,17 +53,20 @@ example: build/ftmb
 # The bytes summed and the packets rewritten in a second; the packets made and run in a second; the moves that a master makes in a
 # second, beside those of the plain player; the frames written and read, the log entries held, the outputs released, the touches that
 # threads make under numbered locks, beside those of a master alone, the lines of a script read, and the packets settled and the events
-# performed by the recovering system.
+# performed by the recovering system. And the program at each of its limits, and one past it.
 bench: build/ftmb build/bench
 	scripts/bench build/bench
 	scripts/bench_run build/ftmb build/bench build/measured
+	scripts/limits build/ftmb build/limits
 
 # Random scripts with crashes from 2,000 seeds, each performed twice and accepted by the check; 500 plans of racing threads, each run again by
-# the script that it wrote; and runs of which each request for memory is refused in turn.
+# the script that it wrote; runs of which each request for memory is refused in turn; and runs in which reads and writes fail, disks are full,
+# pipes are closed, inputs shrink, and signals come.
 soak: build/ftmb
 	scripts/soak build/ftmb build/soak
 	scripts/soak_live build/ftmb build/soak_live
 	scripts/soak_memory build/ftmb build/soak_memory
+	scripts/soak_faults build/ftmb build/soak_faults
 
 # Runs the program so that it ends with each of its statuses, and compares what it tells. Runs it on captures in all four forms and on
 # pcapng captures, and has tcpdump and Wireshark's tools read what was released; and has tshark verify the checksums of generated packets,

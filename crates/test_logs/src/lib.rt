@@ -4,6 +4,8 @@
 #![tactic(auto)]
 
 #[cfg(test)]
+mod frame_parts;
+#[cfg(test)]
 mod frames;
 #[cfg(test)]
 mod held;
