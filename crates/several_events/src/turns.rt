@@ -7,7 +7,7 @@ ghost use Rattle.several_events.specs.declared.progress.Progress.TheVariants as 
 ghost use Rattle.several_events.specs.Progressing.{to_do};
 ghost use Rattle.several_events.specs.Ahead.{GoesOnAs};
 
-use crate::progress::{next_turn, Progress};
+use crate::progress::{Progress, next_turn};
 use box_program::Program;
 use run_end::input_of;
 use system_parts::Core;
