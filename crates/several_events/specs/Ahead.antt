@@ -1,7 +1,9 @@
 -- While threads take turns the system may be ahead of the definitions: entries arrived as soon as they were made.
 use Rattle.std.specs.Prelude.{◌≡◌, ℕ, ◌⊎◌, true, List, [], ◌∷◌, None}
 use Rattle.plain_text.specs.declared.kind.Kind.TheVariants as kind
+use Rattle.access_log.specs.declared.entry.Output.{Output}
 use Rattle.entry_order.specs.Log.{Entry, IsIn}
+use Rattle.plain_machine.specs.Program.{Meaning}
 use Rattle.plain_machine.specs.History.{log_of}
 use Rattle.recovery_world.specs.declared.event.Event.{Event}
 use Rattle.recovery_world.specs.declared.event.Event.TheVariants as event
@@ -12,6 +14,8 @@ use Rattle.recovery_world.specs.Limits.{OnWithin}
 use Rattle.recovery_world.specs.Many.{Message}
 use Rattle.recovery_laws.specs.Sound.{Sound}
 use Rattle.early_arrivals.specs.Early.{IsEarly}
+use Rattle.system_parts.specs.Parts.{Parts}
+use Rattle.system_parts.specs.Performing.{MovesOn, Releasing}
 use Rattle.held_steps.specs.Holding.{StepsHeld}
 use Rattle.several_events.specs.declared.progress.Progress.{Progress}
 use Rattle.several_events.specs.declared.progress.Progress.TheVariants as progress
@@ -57,3 +61,10 @@ pub record GoesAhead {V : Type 0} (from at : Progress) (s : Setting V) (w next :
   pub reaches : Reaches from at s w here
   pub sound : Sound s w → Sound s here
   pub ahead : (next ≡ here) ⊎ IsAhead s at here next
+
+-- The parts stay, and the strategy goes on from there as it does from here.
+abbrev pub GoesOnAs : {P V : Type 0} → Meaning V → Parts P V → Progress → Progress → Type 0
+GoesOnAs {P} {V} m y at further =
+    (from : Progress) (old : Parts P V) (list out : List Output)
+    → MovesOn m (Releasing list out (GoesAhead from at)) old y
+    → MovesOn m (Releasing list out (GoesAhead from further)) old y

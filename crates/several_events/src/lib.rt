@@ -7,6 +7,7 @@ mod choosing;
 mod messages;
 mod progress;
 mod strategy;
+mod turns;
 
 pub use progress::Progress;
 pub use strategy::{begin, perform_several};

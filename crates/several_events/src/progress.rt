@@ -1,5 +1,6 @@
-ghost use Rattle.std.specs.Prelude.{◌≡◌, IfSome, None};
+ghost use Rattle.std.specs.Prelude.{◌≡◌, ◌<◌, ℕ, IfSome, None};
 ghost use Rattle.recovery_world.specs.declared.event.Event.TheVariants as event_is;
+ghost use Rattle.recovery_world.specs.declared.event.Outcome.TheVariants as outcome_is;
 ghost use Rattle.several_events.specs.Ahead.{HasTurns};
 ghost use Rattle.several_events.specs.declared.progress.Progress.TheVariants as progress_is;
 ghost use Rattle.several_events.specs.Progressing.{IsTurn, after_turn, after_of};
@@ -33,34 +34,39 @@ pub enum Progress {
     },
 }
 
-/// How it goes on behind a step of the thread whose turn it is. A thread that moved has another turn. Behind the last
-/// thread a new round begins, if one has moved in this round.
+/// Whose turn it is behind that of a thread that made no move, and whether a thread has moved in its round. Behind the
+/// last thread a new round begins, if one has moved in this round; else all threads had their turns.
+pub fn next_turn(thread: u32, moved: bool, threads: u32) -> (u32, bool)
+    requires { thread < threads }
+    ensures { (left : ℕ) → progress_is.Steps left result.0 result.1
+        ≡ after_turn threads left thread moved outcome_is.Idle }
+{
+    if thread + 1 < threads || !moved {
+        (thread + 1, moved)
+    } else {
+        (0, false)
+    }
+}
+
+/// How it goes on behind a step of the thread whose turn it is. A thread that moved has another turn.
 fn after_step(left: u64, thread: u32, moved: bool, threads: u32, outcome: &Outcome) -> Progress
     requires { IsTurn threads (progress_is.Steps left thread moved) }
     ensures { result ≡ after_turn threads left thread moved outcome.now }
 {
     match outcome {
-        Outcome::Idle | Outcome::Waits { .. } => {}
-        _ => {
-            return Progress::Steps {
+        Outcome::Idle | Outcome::Waits { .. } => {
+            let (thread, moved) = next_turn(thread, moved, threads);
+            Progress::Steps {
                 left,
                 thread,
-                moved: true,
-            };
+                moved,
+            }
         }
-    }
-    if thread + 1 < threads || !moved {
-        Progress::Steps {
+        _ => Progress::Steps {
             left,
-            thread: thread + 1,
-            moved,
-        }
-    } else {
-        Progress::Steps {
-            left,
-            thread: 0,
-            moved: false,
-        }
+            thread,
+            moved: true,
+        },
     }
 }
 

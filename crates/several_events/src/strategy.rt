@@ -11,6 +11,7 @@ ghost use Rattle.several_events.specs.Ahead.{Performs};
 use crate::choosing::choose_next;
 use crate::messages::next_message;
 use crate::progress::Progress;
+use crate::turns::pass_idle;
 use access_log::Outputs;
 use box_program::Program;
 use event_replies::Stop;
@@ -183,7 +184,8 @@ fn follow<P: Program>(core: &mut Core<P>, from: Progress, out: &mut Outputs) -> 
             None => return Ok(()),
             Some((event, further)) => {
                 let outcome = perform_next(core, &further, event, out)?;
-                at = further.after(core.inputs.threads(), event, &outcome);
+                let behind = further.after(core.inputs.threads(), event, &outcome);
+                at = pass_idle(core, behind);
             }
         }
     }

@@ -1,12 +1,12 @@
 ghost use Rattle.std.specs.Prelude.{◌≡◌, ◌≤◌, ◌<◌, ◌++◌, [], IsNone, IsErrOf, IfSome, IfOk};
-ghost use Rattle.std.specs.Prelude.{MatchOption, List, ℕ, length, take};
+ghost use Rattle.std.specs.Prelude.{MatchOption, List, ℕ, length, take, vec_len};
 ghost use Rattle.plain_text.specs.Octets.{AreBytes};
 ghost use Rattle.world_io.specs.Beginning.{ReadsBehind};
 ghost use Rattle.world_io.specs.Stream.{GoesOn, HasFailed};
 ghost use Rattle.world_io.specs.World.{Start};
 
 use crate::{Filled, FrontError, Source};
-use plain_text::Bytes;
+use plain_text::{Bytes, NoMemory};
 use std::alloc::Global;
 
 /// Fills the piece from the source, and says how many bytes it got: fewer than the piece has only
@@ -54,6 +54,21 @@ pub fn fill_behind<S: Source>(source: &mut S, first: &[u8], piece: &mut [u8]) ->
     }
 }
 
+/// What stands in a piece before it is read.
+static ZEROS: [u8; 2_048] = [0; 2_048];
+
+/// As many zeros. They are copied by pieces, which is faster than one by one.
+fn zeros(alloc: Global, count: usize) -> Result<Vec<u8>, NoMemory>
+    ensures { IfOk result (λ zeros. vec_len zeros ≡ count) }
+{
+    let mut zeros = Vec::with_capacity(alloc, count)?;
+    'pieces: while zeros.len() < count {
+        let more = (count - zeros.len()).min(ZEROS.len());
+        zeros.extend_from_slice(&ZEROS[..more])?;
+    }
+    Ok(zeros)
+}
+
 /// These bytes, and behind them what is read of the source until there are this many, or no more
 /// are left. After an error some bytes may have been taken, and these are lost.
 pub fn read_behind<S: Source>(
@@ -72,7 +87,7 @@ pub fn read_behind<S: Source>(
     ensures runs_out { (p : Start) → S.honest p source.new
         → IfOk result (λ bytes. length bytes < count → S.remains p source.new ≡ []) }
 {
-    let Ok(mut bytes) = vec![in alloc; 0u8; count] else {
+    let Ok(mut bytes) = zeros(alloc, count) else {
         return Err(FrontError::NoMemory);
     };
     let Some(had) = fill_behind(source, first, bytes.as_mut_slice()) else {
