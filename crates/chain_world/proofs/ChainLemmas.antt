@@ -40,7 +40,7 @@ pub record Stands {V U : Type 0} (s : Setting V) (r : Setting U) (c : Chained V 
   pub sound : Sound s c.first
   pub performed : IsPerformed (behind r c.first) c.second
 
-on_stands : {V U : Type 0} (s : Setting V) (r : Setting U) (c new : Chained V U) (ev : ChainEvent) (to : Outcome)
+pub on_stands : {V U : Type 0} (s : Setting V) (r : Setting U) (c new : Chained V U) (ev : ChainEvent) (to : Outcome)
     (freed : List Sent) → Stands s r c → OnChain s r c ev to freed new → Stands s r new
 on_stands {V} {U} s r c new ev to freed h (inl (one, on, same)) =
     let g = any_grows s c.first ev.event to freed new.first on in
@@ -62,7 +62,7 @@ all_stand s r c new events lines h (ChainRests same) = h
 all_stand s r c new events lines h (ChainGoes {mid = mid} {events = later} {lines = said} ev to freed on rest) =
     all_stand s r mid new later said (on_stands s r c mid ev to freed h on) rest
 
-opening_stands : {V U : Type 0} (s : Setting V) (r : Setting U) → Stands s r (chain_opening V U)
+pub opening_stands : {V U : Type 0} (s : Setting V) (r : Setting U) → Stands s r (chain_opening V U)
 opening_stands {V} {U} s r = record {
   sound = opening_sound s;
   performed = record { events = []; lines = []; performs = Rests (opening U) };

@@ -111,28 +111,46 @@ module _ {V : Type 0} (s : Setting V) (w : World V) (more : List Packet) where
   step_there low t given to new (inl none) = inl none
   step_there low t given to new (inr (inl down)) = inr (inl down)
   step_there low t given to new (inr (inr (inl (few, up, wants, is, same)))) =
-      inr (inr (inl (few, up, (wants.0, subst (λ (f : ℕ → List Packet).
-      slice_get (f t) (thread_after w.past t).taken ≡ None) (sym (same_inputs s more w.fed low)) wants.1), is, same)))
-  step_there low t given to new (inr (inr (inr (inl (few, up, waits, same))))) = inr (inr (inr (inl (few, up, record {
-    hand = waits.hand;
-    hand_is = waits.hand_is;
-    entry = waits.entry;
-    awaits = waits.awaits;
-    to_is = waits.to_is;
-  }, same))))
-  step_there low t given to new (inr (inr (inr (inr (few, up, makes))))) = inr (inr (inr (inr (few, up, record {
-    turn = makes.turn;
-    answer = makes.answer;
-    drawn = makes.drawn;
-    tells = hand_there t given makes.answer makes.drawn (thread_after w.past t).hand makes.tells;
-    step = makes.step;
-    moves = subst (λ (f : ℕ → List Packet). plain_move s.meaning f s.threads w.past (record {
-      thread = t;
+      inr (inr (inl (
+        few,
+        up,
+        (
+          wants.0,
+          subst (λ (f : ℕ → List Packet).
+              slice_get (f t) (thread_after w.past t).taken ≡ None) (sym (same_inputs s more w.fed low)) wants.1,
+        ),
+        is,
+        same,
+      )))
+  step_there low t given to new (inr (inr (inr (inl (few, up, waits, same))))) = inr (inr (inr (inl (
+    few,
+    up,
+    record {
+      hand = waits.hand;
+      hand_is = waits.hand_is;
+      entry = waits.entry;
+      awaits = waits.awaits;
+      to_is = waits.to_is;
+    },
+    same,
+  ))))
+  step_there low t given to new (inr (inr (inr (inr (few, up, makes))))) = inr (inr (inr (inr (
+    few,
+    up,
+    record {
+      turn = makes.turn;
       answer = makes.answer;
-    }) ≡ Ok (makes.step ∷ w.past)) (sym (same_inputs s more w.fed low)) makes.moves;
-    to_is = makes.to_is;
-    new_is = makes.new_is;
-  }))))
+      drawn = makes.drawn;
+      tells = hand_there t given makes.answer makes.drawn (thread_after w.past t).hand makes.tells;
+      step = makes.step;
+      moves = subst (λ (f : ℕ → List Packet). plain_move s.meaning f s.threads w.past (record {
+        thread = t;
+        answer = makes.answer;
+      }) ≡ Ok (makes.step ∷ w.past)) (sym (same_inputs s more w.fed low)) makes.moves;
+      to_is = makes.to_is;
+      new_is = makes.new_is;
+    },
+  ))))
 
   -- A feeding
 

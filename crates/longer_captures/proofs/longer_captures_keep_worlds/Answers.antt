@@ -1,4 +1,5 @@
-use Rattle.longer_captures.proofs.LongerLemmas.{sound_there, single_there, performed_there, performed_on, performed_stop}
+use Rattle.longer_captures.proofs.LongerLemmas.{sound_there, single_there, performed_there, performed_on}
+use Rattle.longer_captures.proofs.LongerLemmas.{performed_stop}
 use Rattle.longer_captures.proofs.longer_captures_keep_worlds.Goals as goal
 
 pub returns-clause-sound : goal.returns-clause-sound
