@@ -1,7 +1,8 @@
 ghost use Rattle.std.specs.Prelude.{◌≡◌, ◌≤◌, Some, IfOk, IfErr};
 ghost use Rattle.plain_text.specs.declared.limit.TheConstants.{MOST_EVENTS as most_events};
 ghost use Rattle.plain_text.specs.Lines.{words_of};
-ghost use Rattle.chain_text.specs.ChainScripts.{IsChainScript, IsRefused, SaysEvent, count_of, event_fault};
+ghost use Rattle.chain_text.specs.ChainScripts.{IsChainScript, IsRefused, SaysEvent, count_of};
+ghost use Rattle.chain_text.specs.ChainScripts.{event_fault};
 ghost use Rattle.chain_text.specs.ChainScripts.{system_of};
 
 use crate::rest::behind_word;

@@ -71,7 +71,10 @@ fn tell_unwritten<R: AllocGlobal + Files + Eprint>(rt: &R, words: &[Text]) -> io
             continue;
         }
         let name = words[place].as_str();
-        if Path::new(name).metadata(rt).is_ok_and(|about| about.is_dir()) {
+        if Path::new(name)
+            .metadata(rt)
+            .is_ok_and(|about| about.is_dir())
+        {
             return eprintln!(rt; "{name}: it is a folder");
         }
         if let Some(error) = files::writing_error(rt, name) {

@@ -1,47 +1,17 @@
 use super::files::read_again;
 use plain_text::{LineCause, LineFault, Text, lines, words};
-use std::io;
 use std::rt::Files;
-use std::str;
+use std::{io, str};
 
 /// How many bytes of a line are shown.
 const SHOWN: usize = 60;
 
 /// The words that some line of a text file has, besides numbers.
 const KNOWN: [&str; 33] = [
-    "=",
-    "auto",
-    "backend",
-    "balancer",
-    "box",
-    "count",
-    "crash",
-    "cut",
-    "feed",
-    "flow",
-    "inside",
-    "late",
-    "limit",
-    "log",
-    "lose",
-    "monitor",
-    "nat",
-    "out",
-    "outside",
-    "ports",
-    "recover",
-    "round",
-    "seed",
-    "settle",
-    "shards",
-    "show",
-    "snap",
-    "step",
-    "store",
-    "take",
-    "threads",
-    "time",
-    "virtual",
+    "=", "auto", "backend", "balancer", "box", "count", "crash", "cut", "feed", "flow", "inside",
+    "late", "limit", "log", "lose", "monitor", "nat", "out", "outside", "ports", "recover",
+    "round", "seed", "settle", "shards", "show", "snap", "step", "store", "take", "threads",
+    "time", "virtual",
 ];
 
 /// Shows the line that is refused, and which of its words is in no grammar, if one is.

@@ -64,9 +64,7 @@ fn is_near(one: &[u8], other: &[u8]) -> bool {
 /// Whether the letters `a` and `b`, and those behind them, are two exchanged ones and then the same.
 fn is_exchange(a: u8, b: u8, one: &[u8], other: &[u8]) -> bool {
     match (one, other) {
-        ([second, one @ ..], [first, other @ ..]) => {
-            *first == a && *second == b && one == other
-        }
+        ([second, one @ ..], [first, other @ ..]) => { *first == a && *second == b && one == other }
         _ => false,
     }
 }
