@@ -1,0 +1,4 @@
+pub mod Drill
+pub mod Running
+pub mod Ends
+pub mod Drilled
