@@ -8,7 +8,7 @@ PREFIX ?= /usr/local
 
 SOURCES := crates.txt scripts/build $(shell find crates -name out -prune -o -type f -print)
 
-.PHONY: all try test plants promises manual example bench soak interop install clean distclean
+.PHONY: all try test plants promises manual example bench plots soak interop install clean distclean
 
 # The program, proved and built.
 all: build/ftmb
@@ -56,8 +56,13 @@ example: build/ftmb
 # performed by the recovering system. And the program at each of its limits, and one past it.
 bench: build/ftmb build/bench
 	scripts/bench build/bench
-	scripts/bench_run build/ftmb build/bench build/measured
+	scripts/bench_run build/ftmb build/bench build/measured >build/figures; status=$$?; cat build/figures; exit $$status
 	scripts/limits build/ftmb build/limits
+
+# Draws what `make bench` printed of the program's speed beside its peers', and how long a replay is and how much memory a run takes by the
+# packets between two snapshots, into docs/pictures.
+plots: build/ftmb
+	scripts/plots build/ftmb build/figures build/plots docs/pictures
 
 # Random scripts with crashes from 2,000 seeds, each performed twice and accepted by the check; 500 plans of racing threads, each run again by
 # the script that it wrote; runs of which each request for memory is refused in turn; and runs in which reads and writes fail, disks are full,
