@@ -222,14 +222,16 @@ module _ {P V : Type 0} (m : Meaning V) (s : Setting V) (w : World V) (y : Parts
       not_stored = h.not_stored;
     }
 
-    may_go : IsDue y.logger.held x → MayGo w of.sent
+    -- nothing is missing for it
+    pub may_go : IsDue y.logger.held x → MayGo w of.sent
     may_go within e miss =
         due_within (log_of w.past) (log_of w.stored) (held_entries y.logger.held) of.sent.emission.thread of.sent.after
         (λ u. slice_index x.stamp u) (frontier_of y.logger.held) good of.stamp
         (frontiers s w st.sound.firm y.logger.held st.logger.holds) (within_frontiers y.logger.held x.stamp within) e
         (miss_in e miss)
 
-    lacks : (u k : ℕ) → IsFirstMissingLane y.logger.held x.stamp u k
+    -- an entry is the first missing one for it
+    pub lacks : (u k : ℕ) → IsFirstMissingLane y.logger.held x.stamp u k
         → (e : Entry) × IsFirstMissing (log_of w.past) (log_of w.stored) w.held of.sent.emission.thread of.sent.after e
         × (e.thread ≡ u) × (e.number ≡ k)
     lacks u k first = (

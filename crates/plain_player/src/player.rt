@@ -72,6 +72,16 @@ impl<V: Drop> Player<V> {
         }
     }
 
+    /// Where the thread is with its packet in hand. None where it has none, or is not there.
+    pub fn place(&self, thread: u32) -> Option<Local>
+        ensures { result ≡ place_in_hand self.now thread }
+    {
+        match self.seats.get(thread as usize) {
+            Some(seat) => seat.hand,
+            None => None,
+        }
+    }
+
     /// The number, from 1, of the input that the thread's next move is made with: the one in hand, or else its next.
     /// For a thread that is not there it is 0.
     pub fn next_input(&self, thread: u32) -> u64
