@@ -68,7 +68,8 @@ four : (a b c d : List ℕ) → a ++ (b ++ c ++ d) ≡ a ++ (b ++ (c ++ (d ++ []
 four a b c d = ap (λ l. a ++ l) (three b c d)
 
 five : (a b c d e : List ℕ) → a ++ (b ++ c ++ d ++ e) ≡ a ++ (b ++ (c ++ (d ++ (e ++ []))))
-five a b c d e = ap (λ l. a ++ l) (append_assoc (b ++ c) d e ∙ append_assoc b c (d ++ e) ∙ ap (λ l. b ++ (c ++ (d ++ l))) (sym (append-nil e)))
+five a b c d e = ap (λ l. a ++ l)
+    (append_assoc (b ++ c) d e ∙ append_assoc b c (d ++ e) ∙ ap (λ l. b ++ (c ++ (d ++ l))) (sym (append-nil e)))
 
 -- The attributes of an element
 
@@ -89,7 +90,10 @@ element_attributes c (shape.Line from to) = record {
       (attribute (codes "x2") to.x) (attribute (codes "y2") to.y);
   names = refl;
   distinct = refl;
-  values = (class_in_value c, (decimal_in_value from.x, (decimal_in_value from.y, (decimal_in_value to.x, (decimal_in_value to.y, tt)))));
+  values = (
+    class_in_value c,
+    (decimal_in_value from.x, (decimal_in_value from.y, (decimal_in_value to.x, (decimal_in_value to.y, tt)))),
+  );
 }
 element_attributes c (shape.Rectangle corner width height) = record {
   attributes = (codes "class", class_word c) ∷ (codes "x", decimal corner.x) ∷ (codes "y", decimal corner.y)
@@ -98,7 +102,10 @@ element_attributes c (shape.Rectangle corner width height) = record {
       (attribute (codes "width") width) (attribute (codes "height") height);
   names = refl;
   distinct = refl;
-  values = (class_in_value c, (decimal_in_value corner.x, (decimal_in_value corner.y, (decimal_in_value width, (decimal_in_value height, tt)))));
+  values = (
+    class_in_value c,
+    (decimal_in_value corner.x, (decimal_in_value corner.y, (decimal_in_value width, (decimal_in_value height, tt)))),
+  );
 }
 element_attributes c (shape.Circle middle radius) = record {
   attributes = (codes "class", class_word c) ∷ (codes "cx", decimal middle.x) ∷ (codes "cy", decimal middle.y)
@@ -121,7 +128,8 @@ element_attributes c (shape.Words at words) = record {
 
 -- The attributes of a picture
 
-field_in_value : (width height : ℕ) → IsText is_in_value (codes "0 0 " ++ (decimal width ++ codes " " ++ decimal height))
+field_in_value : (width height : ℕ)
+    → IsText is_in_value (codes "0 0 " ++ (decimal width ++ codes " " ++ decimal height))
 field_in_value width height =
     text_append is_in_value (codes "0 0 ") (decimal width ++ codes " " ++ decimal height)
     (plain_text is_in_value (codes "0 0 ") refl)
@@ -139,6 +147,11 @@ picture_attributes width height = record {
       (attribute (codes "width") width) (attribute (codes "height") height);
   names = refl;
   distinct = refl;
-  values = (plain_text is_in_value (codes "http://www.w3.org/2000/svg") refl, (field_in_value width height,
-      (decimal_in_value width, (decimal_in_value height, tt))));
+  values = (
+    plain_text is_in_value (codes "http://www.w3.org/2000/svg") refl,
+    (
+      field_in_value width height,
+      (decimal_in_value width, (decimal_in_value height, tt)),
+    ),
+  );
 }

@@ -58,7 +58,7 @@ parts a tag class places b title words c d e = simp append_assoc refl
 joined : (tag class places title words : List ℕ)
     → element_of tag (class ++ places) (title ++ words) ++ codes "\n"
     ≡ codes "<" ++ tag ++ class ++ places ++ codes ">" ++ (title ++ words) ++ (codes "</" ++ tag ++ codes ">")
-      ++ codes "\n"
+    ++ codes "\n"
 joined tag class places title words =
     parts (codes "<") tag class places (codes ">") title words (codes "</") (codes ">") (codes "\n")
 
@@ -74,7 +74,8 @@ element_content e =
 
 -- The style, and the tip of arrows
 
-tip_attributes : AreAttributes (codes " id=\"tip\" viewBox=\"0 0 6 6\" refX=\"5\" refY=\"3\" markerWidth=\"6\" markerHeight=\"6\" orient=\"auto\"")
+tip_attributes : AreAttributes
+    (codes " id=\"tip\" viewBox=\"0 0 6 6\" refX=\"5\" refY=\"3\" markerWidth=\"6\" markerHeight=\"6\" orient=\"auto\"")
 tip_attributes = record {
   attributes = (codes "id", codes "tip") ∷ (codes "viewBox", codes "0 0 6 6") ∷ (codes "refX", codes "5")
       ∷ (codes "refY", codes "3") ∷ (codes "markerWidth", codes "6") ∷ (codes "markerHeight", codes "6")
@@ -82,10 +83,25 @@ tip_attributes = record {
   spelled = refl;
   names = refl;
   distinct = refl;
-  values = (plain_text is_in_value (codes "tip") refl, (plain_text is_in_value (codes "0 0 6 6") refl,
-      (plain_text is_in_value (codes "5") refl, (plain_text is_in_value (codes "3") refl,
-      (plain_text is_in_value (codes "6") refl, (plain_text is_in_value (codes "6") refl,
-      (plain_text is_in_value (codes "auto") refl, tt)))))));
+  values = (
+    plain_text is_in_value (codes "tip") refl,
+    (
+      plain_text is_in_value (codes "0 0 6 6") refl,
+      (
+        plain_text is_in_value (codes "5") refl,
+        (
+          plain_text is_in_value (codes "3") refl,
+          (
+            plain_text is_in_value (codes "6") refl,
+            (
+              plain_text is_in_value (codes "6") refl,
+              (plain_text is_in_value (codes "auto") refl, tt),
+            ),
+          ),
+        ),
+      ),
+    ),
+  );
 }
 
 corner_attributes : AreAttributes (codes " points=\"0,0 6,3 0,6\"")
@@ -133,10 +149,10 @@ inside_content title elements are =
     content_append _ elements (content_append _ TIP.now last tip_content) are
 
 pieces : (a tag space size b feed c title d e look f tip elements g : List ℕ)
-    → a ++ tag ++ (space ++ size) ++ b ++ (feed ++ (c ++ title ++ d) ++ feed ++ (e ++ look ++ f) ++ feed ++ tip ++ elements)
-      ++ g ++ tag ++ b ++ feed
+    → a ++ tag ++ (space ++ size) ++ b
+    ++ (feed ++ (c ++ title ++ d) ++ feed ++ (e ++ look ++ f) ++ feed ++ tip ++ elements) ++ g ++ tag ++ b ++ feed
     ≡ (a ++ tag ++ space ++ size ++ (b ++ feed)) ++ (c ++ title ++ d) ++ feed ++ (e ++ look ++ (f ++ feed) ++ tip)
-      ++ elements ++ (g ++ tag ++ b ++ feed)
+    ++ elements ++ (g ++ tag ++ b ++ feed)
 pieces a tag space size b feed c title d e look f tip elements g = simp append_assoc refl
 
 pub picture_well_formed : (d : Drawing) → IsWellFormed (drawing_text d)

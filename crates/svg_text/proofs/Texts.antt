@@ -29,7 +29,7 @@ plain_text itself (x ∷ xs) all =
 -- a byte that is shown as itself stands for itself
 module _ (itself : ℕ → Bool)
     (plain : (b : ℕ) → is_shown b ≡ true → (b == 38) ≡ false → (b == 60) ≡ false → (b == 62) ≡ false
-      → (b == 34) ≡ false → itself b ≡ true) (unknown : itself 63 ≡ true) where
+    → (b == 34) ≡ false → itself b ≡ true) (unknown : itself 63 ≡ true) where
   byte : (b : ℕ) (p q r s t : Bool) → (b == 38) ≡ p → (b == 60) ≡ q → (b == 62) ≡ r → (b == 34) ≡ s → is_shown b ≡ t
       → IsText itself (if p then codes "&amp;" else if q then codes "&lt;" else if r then codes "&gt;"
       else if s then codes "&quot;" else if t then b ∷ [] else codes "?")

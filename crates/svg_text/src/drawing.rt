@@ -15,17 +15,30 @@ pub type Points = Sequence<Point>;
 #[derive(Drop)]
 pub enum Shape {
     /// A straight line between two places.
-    Line { from: Point, to: Point },
+    Line {
+        from: Point,
+        to: Point,
+    },
     /// A rectangle, by its upper left corner.
-    Rectangle { corner: Point, width: u32, height: u32 },
+    Rectangle {
+        corner: Point,
+        width: u32,
+        height: u32,
+    },
     /// A circle, by its middle.
-    Circle { middle: Point, radius: u32 },
+    Circle {
+        middle: Point,
+        radius: u32,
+    },
     /// A line through these points, and back to the first of them.
     Polygon(Points),
     /// A line through these points.
     Polyline(Points),
     /// Words, by the place where they stand.
-    Words { at: Point, words: Bytes },
+    Words {
+        at: Point,
+        words: Bytes,
+    },
 }
 
 /// One element of a picture.

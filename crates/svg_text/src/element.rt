@@ -1,5 +1,6 @@
 ghost use Rattle.std.specs.Prelude.{◌≡◌, ◌++◌, OnOk};
-ghost use Rattle.svg_text.specs.Drawing.{class_text, class_word, element_text, end_tag, inside_text};
+ghost use Rattle.svg_text.specs.Drawing.{class_text, class_word, element_text, end_tag};
+ghost use Rattle.svg_text.specs.Drawing.{inside_text};
 ghost use Rattle.svg_text.specs.Drawing.{start_tag, tag_word, title_text, words_text};
 
 use crate::escaping::{put_escaped, put_titled};

@@ -1,5 +1,5 @@
-//! A picture as a value, and its text in SVG: a small part of it, which every viewer of web pages shows. What is written
-//! is well-formed XML, whatever stands in the texts of the picture.
+//! A picture as a value, and its text in SVG: a small part of it, which every viewer of web pages shows. What is
+//! written is well-formed XML, whatever stands in the texts of the picture.
 #![tactic(auto)]
 
 mod class;

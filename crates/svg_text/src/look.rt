@@ -1,6 +1,6 @@
 /// How the elements of each class look, as a style sheet. Each class has a colour of the palette of Okabe and Ito,
-/// which those who do not tell all colours apart can read, or a grey; the fills have dark edges, so that the shapes stay
-/// in a print without colours.
+/// which those who do not tell all colours apart can read, or a grey; the fills have dark edges, so that the shapes
+/// stay in a print without colours.
 pub const LOOK: &[u8] = b"\
 text { font-family: sans-serif; font-size: 12px; fill: #000000; }
 rect, circle, polygon { stroke: #000000; stroke-width: 1px; }
