@@ -48,10 +48,12 @@ fn leaves_as_run_in(
         && world.report().ends_with(b"same as without crashes\n");
     let run = ["run", "box", "in", "script", "out_of_run", "moves_of_run"];
     let has_run = give_words(alloc, world, &run)? == Status::Done;
-    Ok(is_drilled
-        && has_run
-        && are_same(alloc, world, "out", "out_of_run")?
-        && are_same(alloc, world, "moves", "moves_of_run")?)
+    Ok(
+        is_drilled
+            && has_run
+            && are_same(alloc, world, "out", "out_of_run")?
+            && are_same(alloc, world, "moves", "moves_of_run")?,
+    )
 }
 
 /// Whether it does in a world of its own.
