@@ -1,0 +1,9 @@
+//! The picture of a run, from what was noted behind its events: a lane for each thread and for what arrives at the
+//! output logger, a mark for each move and each released output, crashes and epochs.
+#![tactic(auto)]
+
+mod marks;
+mod note;
+mod places;
+
+pub use note::{Cell, Note};
