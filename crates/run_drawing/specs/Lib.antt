@@ -1,3 +1,4 @@
 pub mod Marks
 pub mod Picture
 pub mod Places
+pub mod Standing

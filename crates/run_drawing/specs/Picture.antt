@@ -1,5 +1,5 @@
 -- The picture of a run, from what was noted behind its events.
-use Rattle.std.specs.Prelude.{ℕ, zero, suc, ◌+◌, ◌-◌, ◌*◌, ◌%◌, ◌==◌, ◌≤◌, Bool, true, false, if◌then◌else◌, max}
+use Rattle.std.specs.Prelude.{ℕ, zero, suc, ◌+◌, ◌-◌, ◌*◌, ◌%◌, ◌==◌, ◌≤◌, Bool, true, false, if◌then◌else◌, max, min}
 use Rattle.std.specs.Prelude.{List, [], ◌∷◌, ◌++◌, length, take, drop, Option, Some, None, codes, decimal}
 use Rattle.std.specs.List.{flat_map}
 use Rattle.recovery_world.specs.declared.event.Event.{Event}
@@ -34,15 +34,20 @@ abbrev pub is_several : Outcome → Bool
 is_several (outcome.Summary m r e) = true
 is_several _ = false
 
--- The moves that are new behind an event, from this column on, each behind the earlier ones of its master: an arrow from
--- the access before it, its mark, and its entry where that arrives with it. Those that were lost stand in gone.
-abbrev pub moves_from : ℕ → Note → List Cell → List Note → ℕ → List Cell → List Made → List Element
-moves_from threads n gone later column earlier [] = []
-moves_from threads n gone later column earlier (m ∷ made) =
-    (arrow_from column m.thread (access_before (var_of m.did) earlier)
-    ++ mark_of n.line gone later (length earlier) column m
-    ∷ entry_with (is_several n.outcome) (entry_lane threads) column (move_title n.line m) m.did)
-    ++ moves_from threads n gone later (column + 1) (earlier ++ cell_at column m ∷ []) made
+-- What is drawn of a move behind these of its master: an arrow from the access before it, its mark, and its entry where
+-- that arrives with it. Those that were lost stand in gone.
+abbrev pub move_elements : ℕ → List ℕ → Bool → List Cell → List Note → ℕ → List Cell → Made → List Element
+move_elements threads line several gone later column earlier m =
+    arrow_from column m.thread (access_before (var_of m.did) earlier)
+    ++ (mark_of line gone later (length earlier) column m ∷ [])
+    ++ entry_with several (entry_lane threads) column (move_title line m) m.did
+
+-- and of those that are new behind an event, from this column on
+abbrev pub moves_from : ℕ → List ℕ → Bool → List Cell → List Note → ℕ → List Cell → List Made → List Element
+moves_from threads line several gone later column earlier [] = []
+moves_from threads line several gone later column earlier (m ∷ made) =
+    move_elements threads line several gone later column earlier m
+    ++ moves_from threads line several gone later (column + 1) (earlier ++ cell_at column m ∷ []) made
 
 -- Events of one
 
@@ -132,7 +137,8 @@ after_note d n = record {
 -- what is drawn of an event, with those that follow it
 abbrev pub event_elements : ℕ → Drawn → Note → List Note → List Element
 event_elements threads d n later =
-    moves_from threads n (d.gone ++ drop n.kept d.earlier) later d.column (take n.kept d.earlier) n.made
+    moves_from threads n.line (is_several n.outcome) (d.gone ++ drop n.kept d.earlier) later d.column
+    (take n.kept d.earlier) n.made
     ++ signs_of threads d.column n.line (sign_class n.event n.outcome)
     ++ releases_from threads d.column n.line (d.released + 1) (n.released - d.released)
 
@@ -147,13 +153,20 @@ abbrev pub band_class : Bool → ℕ → Class
 band_class false epoch = class.Paper
 band_class true epoch = if epoch % 2 == 1 then class.OtherBand else class.Band
 
-abbrev pub bands_from : ℕ → ℕ → ℕ → List Note → List Element
-bands_from threads column before [] = []
-bands_from threads column before (n ∷ later) = record {
+abbrev pub band_of : ℕ → ℕ → ℕ → Note → Element
+band_of threads column before n = record {
   class = band_class n.up n.epoch;
   title = Some (codes "epoch " ++ decimal n.epoch);
-  shape = shape.Rectangle (in_cell column 0 0 0) (24 * width before n) (40 * (threads + 2));
-} ∷ bands_from threads (column + width before n) n.released later
+  shape = shape.Rectangle (in_cell column 0 0 0) (24 * min (width before n) 10000) (40 * min (threads + 2) 100);
+}
+
+abbrev pub bands_from : ℕ → ℕ → ℕ → List Note → List Element
+bands_from threads column before [] = []
+bands_from threads column before (n ∷ later) =
+    band_of threads column before n ∷ bands_from threads (column + width before n) n.released later
+
+abbrev pub words_at : Class → Point → List ℕ → Element
+words_at c at words = record { class = c; title = None; shape = shape.Words at words }
 
 -- a lane with its word
 abbrev pub lane_elements : ℕ → ℕ → List ℕ → List Element
@@ -162,29 +175,18 @@ lane_elements many lane word =
       class = class.Lane;
       title = None;
       shape = shape.Line (in_cell 0 lane 0 20) (in_cell many lane 0 20);
-    }) ∷ (record {
-      class = class.Label;
-      title = None;
-      shape = shape.Words (record { x = 10; y = top lane + 24 }) word;
-    }) ∷ []
+    }) ∷ words_at class.Label (record { x = 10; y = top lane + 24 }) word ∷ []
 
+-- of so many threads, from this one on
 abbrev pub thread_lanes : ℕ → ℕ → ℕ → List Element
 thread_lanes many t zero = []
-thread_lanes many t (suc left) =
-    lane_elements many t (codes "thread " ++ decimal t) ++ thread_lanes many (t + 1) left
+thread_lanes many t (suc rest) =
+    lane_elements many t (codes "thread " ++ decimal t) ++ thread_lanes many (t + 1) rest
 
 abbrev pub logger_lanes : ℕ → ℕ → List Element
 logger_lanes many threads =
-    lane_elements many (entry_lane threads) (codes "entries") ++ lane_elements many (output_lane threads) (codes "outputs")
+    lane_elements many (entry_lane threads) (codes "entries")
+    ++ lane_elements many (output_lane threads) (codes "outputs")
 
 -- The picture
 
-abbrev pub words_at : Class → ℕ → ℕ → List ℕ → Element
-words_at c x y words = record { class = c; title = None; shape = shape.Words (record { x = x; y = y }) words }
-
-abbrev pub paper : ℕ → ℕ → Element
-paper width height = record {
-  class = class.Paper;
-  title = None;
-  shape = shape.Rectangle (record { x = 0; y = 0 }) width height;
-}

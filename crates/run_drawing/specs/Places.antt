@@ -1,16 +1,16 @@
 -- Where things stand in the picture of a run. Time goes to the right, in columns; each thread has a lane, and below them
 -- the output logger has one for the entries and one for the outputs.
-use Rattle.std.specs.Prelude.{ℕ, ◌+◌, ◌-◌, ◌*◌, ◌≤◌, max, List, [], ◌∷◌, length}
+use Rattle.std.specs.Prelude.{ℕ, ◌+◌, ◌-◌, ◌*◌, min, max, List, [], ◌∷◌, length}
 use Rattle.svg_text.specs.declared.drawing.Point.{Point}
 use Rattle.run_drawing.specs.declared.note.Note.{Note}
 
--- the left edge of a column
+-- the left edge of a column; a picture has at most 10,000
 abbrev pub left : ℕ → ℕ
-left column = 120 + 24 * column
+left column = 120 + 24 * min column 10000
 
--- the upper edge of a lane
+-- the upper edge of a lane; a picture has at most 100
 abbrev pub top : ℕ → ℕ
-top lane = 60 + 40 * lane
+top lane = 60 + 40 * min lane 100
 
 -- a place in the cell of a column and a lane, so much from its upper left corner
 abbrev pub in_cell : ℕ → ℕ → ℕ → ℕ → Point

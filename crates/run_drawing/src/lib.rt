@@ -2,8 +2,12 @@
 //! output logger, a mark for each move and each released output, crashes and epochs.
 #![tactic(auto)]
 
+mod events;
+mod ground;
 mod marks;
+mod moves;
 mod note;
 mod places;
+mod signs;
 
 pub use note::{Cell, Note};

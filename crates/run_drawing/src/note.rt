@@ -25,5 +25,5 @@ pub struct Note {
 #[derive(Clone, Copy)]
 pub struct Cell {
     pub made: Made,
-    pub column: u32,
+    pub column: u64,
 }
