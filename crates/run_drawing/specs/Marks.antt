@@ -37,11 +37,15 @@ move_title line m = codes "thread " ++ decimal m.thread ++ did_words m.did ++ co
 
 -- Its shape
 
+-- a square on its corner
+abbrev pub clock_shape : ℕ → ℕ → Shape
+clock_shape c t =
+    shape.Polygon (in_cell c t 10 12 ∷ in_cell c t 18 20 ∷ in_cell c t 10 28 ∷ in_cell c t 2 20 ∷ [])
+
 abbrev pub entry_shape : ℕ → ℕ → What → Shape
 entry_shape c t (what.Access v place) = shape.Rectangle (in_cell c t 4 14) 12 12
 entry_shape c t (what.Read v after) = shape.Circle (in_cell c t 10 20) 6
-entry_shape c t (what.Clock a) =
-    shape.Polygon (in_cell c t 10 12 ∷ in_cell c t 18 20 ∷ in_cell c t 10 28 ∷ in_cell c t 2 20 ∷ [])
+entry_shape c t (what.Clock a) = clock_shape c t
 entry_shape c t (what.Draw a) = shape.Polygon (in_cell c t 3 14 ∷ in_cell c t 17 14 ∷ in_cell c t 10 27 ∷ [])
 
 -- in this column and lane

@@ -1,22 +1,28 @@
 -- The picture of a run, from what was noted behind its events.
-use Rattle.std.specs.Prelude.{ℕ, zero, suc, ◌+◌, ◌-◌, ◌*◌, ◌%◌, ◌==◌, ◌≤◌, Bool, true, false, if◌then◌else◌, max, min}
+use Rattle.std.specs.Prelude.{ℕ, zero, suc, ◌+◌, ◌-◌, ◌*◌, ◌%◌, ◌==◌, ◌&&◌, nat_le, Bool, true, false, if◌then◌else◌, max, min}
 use Rattle.std.specs.Prelude.{List, [], ◌∷◌, ◌++◌, length, take, drop, Option, Some, None, codes, decimal}
-use Rattle.std.specs.List.{flat_map}
+use Rattle.std.specs.List.{list_all}
 use Rattle.recovery_world.specs.declared.event.Event.{Event}
 use Rattle.recovery_world.specs.declared.event.Event.TheVariants as event
 use Rattle.recovery_world.specs.declared.event.Outcome.{Outcome}
 use Rattle.recovery_world.specs.declared.event.Outcome.TheVariants as outcome
 use Rattle.plain_text.specs.declared.kind.Kind.{Kind}
 use Rattle.plain_text.specs.declared.kind.Kind.TheVariants as kind
+use Rattle.entry_order.specs.declared.what.What.TheVariants as what
+use Rattle.made_moves.specs.declared.made.Did.{Did}
+use Rattle.made_moves.specs.declared.made.Did.TheVariants as did
 use Rattle.made_moves.specs.declared.made.Made.{Made}
 use Rattle.svg_text.specs.declared.class.Class.{Class}
 use Rattle.svg_text.specs.declared.class.Class.TheVariants as class
+use Rattle.svg_text.specs.declared.drawing.Drawing.{Drawing}
 use Rattle.svg_text.specs.declared.drawing.Element.{Element}
 use Rattle.svg_text.specs.declared.drawing.Point.{Point}
+use Rattle.svg_text.specs.declared.drawing.Shape.{Shape}
 use Rattle.svg_text.specs.declared.drawing.Shape.TheVariants as shape
 use Rattle.run_drawing.specs.declared.note.Cell.{Cell}
 use Rattle.run_drawing.specs.declared.note.Note.{Note}
-use Rattle.run_drawing.specs.Marks.{access_before, arrow_from, entry_with, mark_of, move_title, var_of}
+use Rattle.run_drawing.specs.Marks.{access_before, arrow_from, entry_with, mark_of, move_title, shape_of}
+use Rattle.run_drawing.specs.Marks.{var_of}
 use Rattle.run_drawing.specs.Places.{columns, entry_lane, in_cell, left, output_lane, top, width}
 
 -- Moves
@@ -169,7 +175,7 @@ abbrev pub words_at : Class → Point → List ℕ → Element
 words_at c at words = record { class = c; title = None; shape = shape.Words at words }
 
 -- a lane with its word
-abbrev pub lane_elements : ℕ → ℕ → List ℕ → List Element
+unfoldable pub lane_elements : ℕ → ℕ → List ℕ → List Element
 lane_elements many lane word =
     (record {
       class = class.Lane;
@@ -190,3 +196,100 @@ logger_lanes many threads =
 
 -- The picture
 
+-- The legend, below the lanes: in two rows, each thing with its word
+
+unfoldable pub legend_item : ℕ → ℕ → Class → Shape → List ℕ → List Element
+legend_item column lane c s word =
+    (record { class = c; title = None; shape = s }) ∷ words_at class.Label (in_cell column lane 24 24) word ∷ []
+
+abbrev pub move_item : ℕ → ℕ → Class → Did → List ℕ → List Element
+move_item column lane c d word = legend_item column lane c (shape_of column lane d) word
+
+abbrev pub first_moves : ℕ → List Element
+first_moves lane =
+    move_item 0 lane class.Take (did.Took 0) (codes "take")
+    ++ move_item 5 lane class.Touch (did.Logged 0 (what.Access 0 0)) (codes "touch")
+    ++ move_item 10 lane class.Read (did.Logged 0 (what.Read 0 0)) (codes "read")
+
+abbrev pub told_moves : ℕ → List Element
+told_moves lane =
+    move_item 15 lane class.Clock (did.Logged 0 (what.Clock 0)) (codes "clock")
+    ++ move_item 20 lane class.Draw (did.Logged 0 (what.Draw 0)) (codes "draw")
+    ++ move_item 25 lane class.Send (did.Sent 0) (codes "send")
+
+abbrev pub last_moves : ℕ → List Element
+last_moves lane =
+    move_item 30 lane class.End (did.Ended 0) (codes "end")
+    ++ move_item 35 lane class.Again (did.Logged 0 (what.Access 0 0)) (codes "made again")
+    ++ move_item 40 lane class.Lost (did.Logged 0 (what.Access 0 0)) (codes "lost")
+
+abbrev pub circle_item : ℕ → ℕ → Class → ℕ → List ℕ → List Element
+circle_item column lane c radius word = legend_item column lane c (shape.Circle (in_cell column lane 10 20) radius) word
+
+abbrev pub line_item : ℕ → ℕ → Class → List ℕ → List Element
+line_item column lane c word =
+    legend_item column lane c (shape.Line (in_cell column lane 2 20) (in_cell column lane 20 20)) word
+
+abbrev pub logger_items : ℕ → List Element
+logger_items lane =
+    circle_item 0 lane class.Entry 5 (codes "entry")
+    ++ circle_item 5 lane class.Waiting 7 (codes "output waits")
+    ++ circle_item 10 lane class.Released 7 (codes "released")
+
+abbrev pub event_items : ℕ → List Element
+event_items lane =
+    line_item 15 lane class.Snap (codes "snapshot")
+    ++ line_item 20 lane class.Store (codes "stored")
+    ++ line_item 25 lane class.Crash (codes "crash")
+    ++ line_item 30 lane class.Recover (codes "recovery")
+
+abbrev pub legend : ℕ → ℕ → List Element
+legend moves_row signs_row =
+    first_moves moves_row ++ told_moves moves_row ++ last_moves moves_row
+    ++ (logger_items signs_row ++ event_items signs_row)
+
+-- The picture
+
+-- the paper, the title, and the last line of the report
+abbrev pub frame_elements : ℕ → ℕ → List ℕ → List ℕ → List Element
+frame_elements wide high title last =
+    (record {
+      class = class.Paper;
+      title = None;
+      shape = shape.Rectangle (record { x = 0; y = 0 }) wide high;
+    })
+    ∷ words_at class.Heading (record { x = 10; y = 24 }) title
+    ∷ words_at class.Label (record { x = 10; y = 44 }) last ∷ []
+
+-- so many columns and threads: the ground, the lanes, what happened, and the legend
+abbrev pub run_elements : ℕ → ℕ → List Note → List Element
+run_elements many threads notes =
+    bands_from threads 0 0 notes ++ (thread_lanes many 0 threads ++ logger_lanes many threads)
+    ++ events_from threads at_first notes ++ legend (threads + 2) (threads + 3)
+
+-- A run is drawn move by move where no master makes more than 400 moves, and where there are at most 400 columns.
+abbrev pub are_short : List Note → Bool
+are_short notes = list_all (λ (n : Note). nat_le n.moves 400) notes
+
+abbrev pub is_small : List Note → Bool
+is_small notes = are_short notes && nat_le (columns 0 notes) 400
+
+-- of a larger one the picture has the title and the last line alone
+abbrev pub drawn_elements : ℕ → List Note → List Element
+drawn_elements threads notes =
+    if is_small notes then run_elements (columns 0 notes) threads notes
+    else words_at class.Label (record { x = 10; y = 84 }) (codes "too long to be drawn move by move") ∷ []
+
+abbrev pub wide_of : List Note → ℕ
+wide_of notes = max 1300 (left (columns 0 notes) + 40)
+
+abbrev pub high_of : ℕ → ℕ
+high_of threads = top (threads + 4) + 20
+
+abbrev pub picture : List ℕ → List ℕ → ℕ → List Note → Drawing
+picture title last threads notes = record {
+  width = wide_of notes;
+  height = high_of threads;
+  title = title;
+  elements = frame_elements (wide_of notes) (high_of threads) title last ++ drawn_elements threads notes;
+}

@@ -94,6 +94,7 @@ pub fn words(alloc: Global, class: Class, at: Point, text: &[u8]) -> Result<Elem
 }
 
 /// Appends a lane with its word.
+#[tactic(auto, unfolding(crate::specs::Picture::lane_elements))]
 fn put_lane(
     alloc: Global,
     out: &mut Elements,

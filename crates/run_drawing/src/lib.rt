@@ -4,10 +4,13 @@
 
 mod events;
 mod ground;
+mod legend;
 mod marks;
 mod moves;
 mod note;
+mod picture;
 mod places;
 mod signs;
 
 pub use note::{Cell, Note};
+pub use picture::put_picture;

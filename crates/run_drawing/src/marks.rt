@@ -1,7 +1,6 @@
-ghost use Rattle.std.specs.Prelude.{ℕ};
-ghost use Rattle.entry_order.specs.declared.what.What.TheVariants as what;
 ghost use Rattle.std.specs.Prelude.{◌≡◌, ◌++◌, ◌∷◌, ◌≤◌, [], IfOk, OnOk, length, decimal};
 ghost use Rattle.run_drawing.specs.Marks.{did_class, did_words as words_of, shape_of, what_words};
+ghost use Rattle.run_drawing.specs.Marks.{clock_shape as clock_shape_of};
 ghost use Rattle.run_drawing.specs.Marks.{entry_shape as entry_shape_of};
 ghost use Rattle.run_drawing.specs.Marks.{is_again as is_again_among, is_lost as is_lost_in};
 ghost use Rattle.run_drawing.specs.Marks.{mark_class as class_for};
@@ -82,30 +81,29 @@ pub fn title_of(alloc: Global, line: &[u8], made: Made) -> Result<Bytes, NoMemor
 fn entry_shape(alloc: Global, column: u64, lane: u64, what: What) -> Result<Shape, NoMemory>
     ensures { IfOk result (λ shape. shape ≡ entry_shape_of column lane what) }
 {
-    Ok(match what {
-        What::Access { .. } => Shape::Rectangle {
+    match what {
+        What::Access { .. } => Ok(Shape::Rectangle {
             corner: in_cell(column, lane, 4, 14),
             width: 12,
             height: 12,
-        },
-        What::Read { .. } => Shape::Circle {
+        }),
+        What::Read { .. } => Ok(Shape::Circle {
             middle: in_cell(column, lane, 10, 20),
             radius: 6,
-        },
-        What::Clock(_) => clock_shape(alloc, column, lane)?,
-        What::Draw(_) => Shape::Polygon(three(
+        }),
+        What::Clock(_) => clock_shape(alloc, column, lane),
+        What::Draw(_) => Ok(Shape::Polygon(three(
             alloc,
             in_cell(column, lane, 3, 14),
             in_cell(column, lane, 17, 14),
             in_cell(column, lane, 10, 27),
-        )?),
-    })
+        )?)),
+    }
 }
 
 /// The shape of the mark of a move that was told the time: a square on its corner.
 fn clock_shape(alloc: Global, column: u64, lane: u64) -> Result<Shape, NoMemory>
-    ensures { IfOk result (λ shape. (time : ℕ)
-        → shape ≡ entry_shape_of column lane (what.Clock time)) }
+    ensures { IfOk result (λ shape. shape ≡ clock_shape_of column lane) }
 {
     let mut points = three(
         alloc,
@@ -118,7 +116,7 @@ fn clock_shape(alloc: Global, column: u64, lane: u64) -> Result<Shape, NoMemory>
 }
 
 /// The shape of the mark of a move.
-fn did_shape(alloc: Global, column: u64, lane: u64, did: Did) -> Result<Shape, NoMemory>
+pub fn did_shape(alloc: Global, column: u64, lane: u64, did: Did) -> Result<Shape, NoMemory>
     ensures { IfOk result (λ shape. shape ≡ shape_of column lane did) }
 {
     match did {

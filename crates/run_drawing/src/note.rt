@@ -14,6 +14,8 @@ pub struct Note {
     pub kept: u64,
     /// The moves that it made behind these.
     pub made: MadeMoves,
+    /// How many moves it has made in all.
+    pub moves: u64,
     /// How many outputs were released in all.
     pub released: u64,
     /// Whether the master is up.
