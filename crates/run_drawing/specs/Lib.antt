@@ -1,4 +1,5 @@
 pub mod Marks
 pub mod Picture
 pub mod Places
+pub mod Promises
 pub mod Standing

@@ -4,6 +4,7 @@
 
 mod events;
 mod ground;
+mod laws;
 mod legend;
 mod marks;
 mod moves;
@@ -12,5 +13,6 @@ mod picture;
 mod places;
 mod signs;
 
+pub use laws::{every_move_has_one_mark, every_released_output_has_one_full_mark};
 pub use note::{Cell, Note};
 pub use picture::put_picture;

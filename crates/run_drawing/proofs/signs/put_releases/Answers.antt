@@ -9,5 +9,5 @@ releases-preserved c =
     c.releases.counter c.args.many c.args.line.now c.releases.out c.push.new.self c.push-in-releases.new.self _
     c.releases-test.true c.in_ok-column.ensures c.in_ok-number.ensures c.releases.invariant
     (c.in_ok-push.ensures.ok ∙ ap (λ (e : Element). c.releases.out ++ e ∷ []) c.in_ok-full.ensures)
-    (c.in_ok-push-in-releases.ensures.ok
+    (c.in_ok-push-2.ensures.ok
     ∙ ap (λ (e : Element). c.push.new.self ++ e ∷ []) c.in_ok-number_below.ensures)
