@@ -13,7 +13,7 @@ use Rattle.plain_machine.specs.declared.plain_move.PlayCause.{PlayCause}
 use Rattle.plain_machine.specs.declared.plain_move.PlayCause.TheVariants.{NoSuchThread}
 use Rattle.plain_machine.specs.Program.{Meaning}
 use Rattle.plain_machine.specs.Machine.{Hand, Thread, Effect, Takes, Touches, Looks, HearsClock, HearsDraw, Sends, Ends}
-use Rattle.plain_machine.specs.Machine.{hand_move, held_move, holding, sent_packet, take_move}
+use Rattle.plain_machine.specs.Machine.{Moves, hand_move, held_move, holding, sent_packet, take_move}
 use Rattle.plain_machine.specs.History.{Step, act_of, after_moved, log_of, outputs, plain_move, sent_of, step_of}
 use Rattle.plain_machine.specs.History.{thread_after, value_after}
 use Rattle.box_program.specs.Hands.{local_in}
@@ -116,7 +116,7 @@ module _ {V : Type 0} (m : Meaning V) (inputs : ℕ → List Packet) (threads : 
 
   done : (after : Thread) (effect : Effect V) (d : did_type.Did)
       → did_of (act_of plain.thread steps after.taken effect) ≡ d
-      → after_moved steps plain.thread (Rattle.plain_machine.specs.Machine.Moves after effect) ≡ Ok next → Goal d
+      → after_moved steps plain.thread (Moves after effect) ≡ Ok next → Goal d
   done after effect d same is =
       let there : step_of plain.thread steps after effect ∷ steps ≡ next = cc in
       subst (λ (l : List (Step V)). Grows steps l plain.thread d) there (record {

@@ -1,11 +1,12 @@
 -- The moves so far were played, and what they did is noted.
 use Rattle.std.proofs.Common.{◌≡◌, ℕ, ◌+◌, ◌<◌, ◌≤◌, List, [], ◌∷◌, ◌++◌, length, take, get_or, refl, sym, ap, ◌∙◌, subst}
 use Rattle.std.proofs.Common.{Option, Some, None, Result, Ok, Err, arith}
-use Rattle.std.specs.Prelude.{nat_lt, slice_get, slice_index_or, if◌then◌else◌, Bool, true, false}
+use Rattle.std.specs.Prelude.{IfOk, OnOk, nat_lt, slice_get, slice_index_or, if◌then◌else◌, Bool, true, false}
 use Rattle.std.specs.Option.{option_map_or}
 use Rattle.std.proofs.lemmas.Bool.Decides.{nat_tests}
 use Rattle.std.proofs.lemmas.Option.{slice_get-get_or}
 use Rattle.std.proofs.lemmas.List.{take_all, take_more}
+use Rattle.plain_text.specs.declared.memory.NoMemory.{NoMemory}
 use Rattle.plain_text.specs.declared.packet.Packet.{Packet}
 use Rattle.input_logger.specs.Inputs.{Fed, inputs_of, input_at}
 use Rattle.plain_machine.specs.declared.emission.Emission.{Emission}
@@ -25,7 +26,7 @@ use Rattle.plain_player.specs.Playing.{Follows, Playing, Stands, input_of_seat, 
 use Rattle.plain_player.proofs.PlayedOn.{SoFar, found_illegal, made_more}
 use Rattle.made_moves.specs.declared.made.Did.{Did}
 use Rattle.made_moves.specs.declared.made.Made.{Made}
-use Rattle.made_moves.specs.Made.{made_in, made_where, next_did}
+use Rattle.made_moves.specs.Made.{IsIllegal, made_in, made_where, next_did}
 use Rattle.made_moves.proofs.Grown.{Counts, Grows, grown, none_counted}
 
 -- a seat for a thread that is not there
@@ -141,3 +142,10 @@ module _ {V : Type 0} (m : Meaning V) (fed : Fed) (moves : List PlainMove) where
     none_noted cause e =
         ap made_where (sym (found_illegal m fed moves i less move d is p q (emissions h.steps) (played_so i p made h) r
         follows cause e))
+
+    -- no moves, where one is illegal
+    pub none_there : (e : MoveError) → r ≡ Err e → (result : Result (List Made) NoMemory)
+        → IfOk result (λ made. made ≡ []) → OnOk result (IsIllegal e)
+        → IfOk result (λ made. made ≡ made_where (play m (inputs_of fed) fed.threads moves))
+    none_there e bad (Ok none) is illegal = is ∙ none_noted illegal.0 (bad ∙ ap Err illegal.1)
+    none_there e bad (Err no_memory) is illegal = tt

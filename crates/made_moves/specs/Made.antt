@@ -1,5 +1,5 @@
 -- What the moves of a run did, with their numbers, oldest first.
-use Rattle.std.specs.Prelude.{ℕ, ◌+◌, ◌&&◌, nat_eq, Bool, true, false, List, [], ◌∷◌, ◌++◌, filter, length, unwrap_or}
+use Rattle.std.specs.Prelude.{◌≡◌, ℕ, ◌+◌, ◌&&◌, nat_eq, Bool, true, false, List, [], ◌∷◌, ◌++◌, filter, length, unwrap_or}
 use Rattle.std.specs.Prelude.{Option, Some, None, Result, Ok, Err}
 use Rattle.entry_order.specs.declared.what.What.{What}
 use Rattle.entry_order.specs.declared.what.What.TheVariants as what
@@ -9,6 +9,9 @@ use Rattle.plain_machine.specs.declared.local.Move.TheVariants as move
 use Rattle.plain_machine.specs.declared.plain_move.PlayFault.{PlayFault}
 use Rattle.plain_machine.specs.Program.{Meaning}
 use Rattle.plain_machine.specs.History.{Act, Took, Did, Emitted, Ended, Step}
+use Rattle.plain_machine.specs.declared.plain_move.PlayCause.{PlayCause}
+use Rattle.plain_player.specs.declared.hand.MoveError.{MoveError}
+use Rattle.plain_player.specs.declared.hand.MoveError.TheVariants as error
 use Rattle.made_moves.specs.declared.made.Did as did_type
 use Rattle.made_moves.specs.declared.made.Did.TheVariants as did
 use Rattle.made_moves.specs.declared.made.Made.{Made}
@@ -30,6 +33,10 @@ made_in (x ∷ earlier) = made_in earlier ++ made_by x ∷ []
 abbrev pub made_where : {V : Type 0} → Result (List (Step V)) PlayFault → List Made
 made_where (Ok steps) = made_in steps
 made_where (Err fault) = []
+
+-- the machine may not make the move
+abbrev pub IsIllegal : MoveError → Type 0
+IsIllegal e = (cause : PlayCause) × (e ≡ error.Illegal cause)
 
 -- Numbers
 

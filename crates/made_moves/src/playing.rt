@@ -1,7 +1,7 @@
-ghost use Rattle.std.specs.Prelude.{◌≡◌, ◌<◌, ◌-◌, ◌^◌, IfOk, length};
+ghost use Rattle.std.specs.Prelude.{◌≡◌, [], IfOk, OnOk};
 ghost use Rattle.input_logger.specs.Inputs.{inputs_of};
 ghost use Rattle.plain_machine.specs.History.{play};
-ghost use Rattle.made_moves.specs.Made.{made_where};
+ghost use Rattle.made_moves.specs.Made.{IsIllegal, made_where};
 
 use crate::next::next_of;
 use crate::{Made, MadeMoves};
@@ -11,6 +11,17 @@ use plain_machine::PlainMove;
 use plain_player::{MoveError, Player};
 use plain_text::NoMemory;
 use std::alloc::Global;
+
+/// No moves, where one of them is none that the plain machine may make.
+fn none_of(alloc: Global, error: MoveError) -> Result<MadeMoves, NoMemory>
+    ensures none { IfOk result (λ made. made ≡ []) }
+    ensures illegal { OnOk result (IsIllegal error) }
+{
+    match error {
+        MoveError::Illegal(_) => Ok(MadeMoves::new(alloc)),
+        MoveError::NoMemory => Err(NoMemory),
+    }
+}
 
 /// What each of these moves did, on the inputs that were fed. None where the plain machine may not make one of them.
 ///
@@ -32,11 +43,11 @@ pub fn made_moves<P: Program>(
         let input = inputs.input(thread, next);
         let place = player.place(thread);
         let did = next_of(program, made.as_slice(), thread, next, plain.answer, place);
-        match player.step(alloc, program, *plain, input) {
-            Ok(_) => made.push(Made { thread, did })?,
-            Err(MoveError::Illegal(_)) => return Ok(MadeMoves::new(alloc)),
-            Err(MoveError::NoMemory) => return Err(NoMemory),
-        }
+        let _sent = match player.step(alloc, program, *plain, input) {
+            Ok(sent) => sent,
+            Err(error) => return none_of(alloc, error),
+        };
+        made.push(Made { thread, did })?;
     }
     Ok(made)
 }

@@ -1,4 +1,5 @@
 pub mod Marks
+pub mod Noted
 pub mod Picture
 pub mod Places
 pub mod Promises
