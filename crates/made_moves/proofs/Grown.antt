@@ -29,7 +29,7 @@ pub record Counts {V : Type 0} (steps : List (Step V)) (made : List Made) : Type
   pub places_are : (v : ℕ) → places v (log_of steps) ≡ length (filter (is_touch_of v) made)
   pub outputs_are : (t : ℕ) → outputs t (sent_of steps) ≡ length (filter (is_output_of t) made)
 
-pub none_counted : {V : Type 0} → Counts {V} [] []
+pub none_counted : {V : Type 0} → Counts {V = V} [] []
 none_counted = record { entries_are = λ t. refl; places_are = λ v. refl; outputs_are = λ t. refl }
 
 -- one more of a list
@@ -40,12 +40,13 @@ counted p [] x = by (p x)
     by : (b : Bool) → length (if b then x ∷ [] else []) ≡ 0 + (if b then 1 else 0)
     by true = refl
     by false = refl
-counted p (y ∷ xs) x = by (p y)
+counted p (y ∷ xs) x = by (p y) (counted p xs x)
   where
-    by : (b : Bool) → length (if b then y ∷ filter p (xs ++ x ∷ []) else filter p (xs ++ x ∷ []))
+    by : (b : Bool) → length (filter p (xs ++ x ∷ [])) ≡ length (filter p xs) + (if p x then 1 else 0)
+        → length (if b then y ∷ filter p (xs ++ x ∷ []) else filter p (xs ++ x ∷ []))
         ≡ length (if b then y ∷ filter p xs else filter p xs) + (if p x then 1 else 0)
-    by true = let h = counted p xs x in omega (arith, h)
-    by false = counted p xs x
+    by true h = omega (arith, h)
+    by false h = h
 
 more : (b : Bool) (before n all : ℕ) → before ≡ n → all ≡ n + (if b then 1 else 0)
     → (if b then before + 1 else before) ≡ all

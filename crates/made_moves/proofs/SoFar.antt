@@ -51,7 +51,7 @@ module _ {V : Type 0} (m : Meaning V) (fed : Fed) (moves : List PlainMove) where
     counts = none_counted;
   }
 
-  pub played_so : (i : ℕ) (p : Playing V) (made : List Made) (h : IsNoted i p made)
+  abbrev pub played_so : (i : ℕ) (p : Playing V) (made : List Made) (h : IsNoted i p made)
       → SoFar m fed moves i p (emissions h.steps)
   played_so i p made h = record { steps = h.steps; plays = h.plays; stands = h.stands; sends = refl }
 
@@ -78,7 +78,7 @@ module _ {V : Type 0} (m : Meaning V) (fed : Fed) (moves : List PlainMove) where
 
     went : (w : Result (List (Step V)) PlayCause) (n : ℕ) (next : List (Step V)) → numbered n w ≡ Ok next
         → w ≡ Ok next
-    went (Ok steps) n next e = e
+    went (Ok steps) n next e = let same : steps ≡ next = cc in ap Ok same
     went (Err cause) n next e = absurd (cc)
 
     -- the thread is there
