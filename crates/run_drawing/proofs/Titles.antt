@@ -8,18 +8,15 @@ use Rattle.run_drawing.specs.Promises.{titles_where}
 pub titles_append : (is : Class → Bool) (xs ys : List Element)
     → titles_where is (xs ++ ys) ≡ titles_where is xs ++ titles_where is ys
 titles_append is [] ys = refl
-titles_append is (x ∷ xs) ys = by (is x.class)
+titles_append is (x ∷ xs) ys = by (is x.class) (titles_append is xs ys)
   where
-    shown : List Element → List (Option (List ℕ))
-    shown l = map (λ (e : Element). e.title) l
-
-    by : (b : Bool)
+    by : (b : Bool) → titles_where is (xs ++ ys) ≡ titles_where is xs ++ titles_where is ys
         → map (λ (e : Element). e.title) (if b then x ∷ filter (λ (e : Element). is e.class) (xs ++ ys)
         else filter (λ (e : Element). is e.class) (xs ++ ys))
         ≡ map (λ (e : Element). e.title) (if b then x ∷ filter (λ (e : Element). is e.class) xs
         else filter (λ (e : Element). is e.class) xs) ++ titles_where is ys
-    by true = ap (λ (l : List (Option (List ℕ))). x.title ∷ l) (titles_append is xs ys)
-    by false = titles_append is xs ys
+    by true h = ap (λ (l : List (Option (List ℕ))). x.title ∷ l) h
+    by false h = h
 
 -- three pieces, of which only the first or the last shows something
 pub first_shown : (is : Class → Bool) (a b c : List Element) (t : List (Option (List ℕ)))
