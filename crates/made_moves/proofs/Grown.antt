@@ -1,5 +1,6 @@
 -- A move more: what it did is told by the moves before it.
-use Rattle.std.proofs.Common.{◌≡◌, ℕ, ◌+◌, arith, Bool, true, false, List, [], ◌∷◌, ◌++◌, length, refl, sym, ap, ◌∙◌, subst}
+use Rattle.std.proofs.Common.{◌≡◌, ℕ, ◌+◌, arith, Bool, true, false, List, [], ◌∷◌, ◌++◌, length, refl, sym, ap, ◌∙◌}
+use Rattle.std.proofs.Common.{subst}
 use Rattle.std.proofs.Common.{Option, Some, None, Result, Ok, Err}
 use Rattle.std.specs.Prelude.{◌&&◌, filter, if◌then◌else◌, nat_eq, nat_lt, slice_get, unwrap_or}
 use Rattle.plain_text.specs.declared.packet.Packet.{Packet}
@@ -163,9 +164,10 @@ module _ {V : Type 0} (m : Meaning V) (inputs : ℕ → List Packet) (threads : 
   by_next taken h None move.Draw is = absurd (cc)
 
   by_hand : (taken : ℕ) (hand : Option Hand)
-      → after_moved steps plain.thread
-      (held_move m (inputs plain.thread) (value_after m steps) taken plain.answer hand) ≡ Ok next
-      → Goal (next_did m (made_in steps) plain.thread (input_of_seat taken (local_in hand)) plain.answer (local_in hand))
+      → after_moved steps plain.thread (held_move m (inputs plain.thread) (value_after m steps) taken plain.answer hand)
+      ≡ Ok next
+      → Goal (next_did m (made_in steps) plain.thread (input_of_seat taken (local_in hand)) plain.answer
+      (local_in hand))
   by_hand taken None is = by_input taken plain.answer (slice_get (inputs plain.thread) taken) is
   by_hand taken (Some h) is = by_next taken h plain.answer (m.next h.place) is
 

@@ -1,5 +1,6 @@
 -- The moves so far were played, and what they did is noted.
-use Rattle.std.proofs.Common.{◌≡◌, ℕ, ◌+◌, ◌<◌, ◌≤◌, List, [], ◌∷◌, ◌++◌, length, take, get_or, refl, sym, ap, ◌∙◌, subst}
+use Rattle.std.proofs.Common.{◌≡◌, ℕ, ◌+◌, ◌<◌, ◌≤◌, List, [], ◌∷◌, ◌++◌, length, take, get_or, refl, sym, ap, ◌∙◌}
+use Rattle.std.proofs.Common.{subst}
 use Rattle.std.proofs.Common.{Option, Some, None, Result, Ok, Err, arith}
 use Rattle.std.specs.Prelude.{IfOk, OnOk, nat_lt, slice_get, slice_index_or, if◌then◌else◌, Bool, true, false}
 use Rattle.std.specs.Option.{option_map_or}
@@ -98,8 +99,8 @@ module _ {V : Type 0} (m : Meaning V) (fed : Fed) (moves : List PlainMove) where
         slice_get-get_or p.seats move.thread none_seat (omega (arith, h.stands.threads_are)) in
         let at = h.stands.seat move.thread none_seat low in (
           ap (λ (o : Option Seat). option_map_or (λ (s : Seat). input_of_seat s.taken s.hand) o 0) found
-          ∙ (ap (λ (n : ℕ). input_of_seat n seat.hand) at.taken
-          ∙ ap (λ (o : Option Local). input_of_seat (thread_after h.steps move.thread).taken o) at.hand),
+              ∙ (ap (λ (n : ℕ). input_of_seat n seat.hand) at.taken
+              ∙ ap (λ (o : Option Local). input_of_seat (thread_after h.steps move.thread).taken o) at.hand),
           ap (hand_of (λ (s : Seat). s.hand)) found ∙ at.hand,
         )
 
@@ -107,7 +108,8 @@ module _ {V : Type 0} (m : Meaning V) (fed : Fed) (moves : List PlainMove) where
         → x ≡ next_did m made move.thread (next_input p move.thread) move.answer (place_in_hand p move.thread)
         → new ≡ made ++ (record { thread = move.thread; did = x }) ∷ [] → IsNoted (i + 1) q new
     noted_more out x new e does grows =
-        let so = made_more m fed moves i less move d is p q (emissions h.steps) (played_so i p made h) r follows out e in
+        let so =
+        made_more m fed moves i less move d is p q (emissions h.steps) (played_so i p made h) r follows out e in
         let moved = went (plain_move m (inputs_of fed) fed.threads h.steps move) (length h.steps) so.steps
         (sym one_more ∙ so.plays) in
         let test = there (nat_lt move.thread fed.threads) _ so.steps moved in

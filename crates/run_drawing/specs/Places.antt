@@ -1,5 +1,5 @@
--- Where things stand in the picture of a run. Time goes to the right, in columns; each thread has a lane, and below them
--- the output logger has one for the entries and one for the outputs.
+-- Where things stand in the picture of a run. Time goes to the right, in columns; each thread has a lane, and below
+-- them the output logger has one for the entries and one for the outputs.
 use Rattle.std.specs.Prelude.{ℕ, ◌+◌, ◌-◌, ◌*◌, min, max, List, [], ◌∷◌, length}
 use Rattle.svg_text.specs.declared.drawing.Point.{Point}
 use Rattle.run_drawing.specs.declared.note.Note.{Note}

@@ -1,5 +1,6 @@
 -- What a picture shows of the moves and of the released outputs, in order.
-use Rattle.std.specs.Prelude.{ℕ, zero, suc, ◌+◌, ◌-◌, Bool, true, false, List, [], ◌∷◌, ◌++◌, filter, map, codes, decimal}
+use Rattle.std.specs.Prelude.{ℕ, zero, suc, ◌+◌, ◌-◌, Bool, true, false, List, [], ◌∷◌, ◌++◌, filter, map, codes}
+use Rattle.std.specs.Prelude.{decimal}
 use Rattle.std.specs.Prelude.{Option, Some}
 use Rattle.std.specs.List.{flat_map}
 use Rattle.svg_text.specs.declared.class.Class.{Class}
@@ -39,7 +40,8 @@ numbered_releases line number zero = []
 numbered_releases line number (suc many) =
     Some (codes "released " ++ decimal number ++ codes "\n" ++ line) ∷ numbered_releases line (number + 1) many
 
--- the outputs that were released, each with its number and with the line of its event, where so many were released before
+-- the outputs that were released, each with its number and with the line of its event, where so many were released
+-- before
 abbrev pub release_titles : ℕ → List Note → List (Option (List ℕ))
 release_titles before [] = []
 release_titles before (n ∷ later) =

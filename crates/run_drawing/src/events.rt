@@ -64,8 +64,22 @@ fn put_note(
         gone: state.gone.as_slice(),
         later,
     };
-    put_moves(alloc, out, scene, column, &mut state.earlier, note.made.as_slice())?;
-    put_sign(alloc, out, threads, column, line, sign_for(note.event, &note.outcome))?;
+    put_moves(
+        alloc,
+        out,
+        scene,
+        column,
+        &mut state.earlier,
+        note.made.as_slice(),
+    )?;
+    put_sign(
+        alloc,
+        out,
+        threads,
+        column,
+        line,
+        sign_for(note.event, &note.outcome),
+    )?;
     let many = note.released.saturating_sub(before);
     put_releases(alloc, out, threads, column, line, advance(before, 1)?, many)?;
     state.column = advance(column, width(before, note))?;

@@ -1,7 +1,8 @@
 ghost use Rattle.std.specs.Prelude.{◌≡◌, ◌++◌, OnOk};
 ghost use Rattle.made_moves.specs.declared.made.Did.TheVariants as did_kind;
 ghost use Rattle.run_drawing.specs.Picture.{circle_item, event_items, first_moves, last_moves};
-ghost use Rattle.run_drawing.specs.Picture.{legend, legend_item, line_item, logger_items, move_item};
+ghost use Rattle.run_drawing.specs.Picture.{legend, legend_item, line_item, logger_items};
+ghost use Rattle.run_drawing.specs.Picture.{move_item};
 ghost use Rattle.run_drawing.specs.Picture.{told_moves};
 
 use crate::ground::words;
@@ -103,7 +104,15 @@ fn put_circle(
     ensures { OnOk result (out.new ≡ out.old ++ circle_item column lane class radius word.now) }
 {
     let middle = in_cell(column, lane, 10, 20);
-    put_item(alloc, out, column, lane, class, Shape::Circle { middle, radius }, word)
+    put_item(
+        alloc,
+        out,
+        column,
+        lane,
+        class,
+        Shape::Circle { middle, radius },
+        word,
+    )
 }
 
 /// Appends a kind of events.
@@ -119,7 +128,15 @@ fn put_line(
 {
     let from = in_cell(column, lane, 2, 20);
     let to = in_cell(column, lane, 20, 20);
-    put_item(alloc, out, column, lane, class, Shape::Line { from, to }, word)
+    put_item(
+        alloc,
+        out,
+        column,
+        lane,
+        class,
+        Shape::Line { from, to },
+        word,
+    )
 }
 
 /// Appends the marks at the output logger.

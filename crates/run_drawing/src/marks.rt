@@ -177,9 +177,13 @@ fn is_same_what(what: What, other: What) -> bool
                 place: at,
             },
         ) => var == touched && place == at,
-        (What::Read { var, after }, What::Read { var: looked, after: at }) => {
-            var == looked && after == at
-        }
+        (
+            What::Read { var, after },
+            What::Read {
+                var: looked,
+                after: at,
+            },
+        ) => { var == looked && after == at }
         (What::Clock(time), What::Clock(told)) => time == told,
         (What::Draw(word), What::Draw(told)) => word == told,
         _ => false,
@@ -209,8 +213,7 @@ fn is_same(did: Did, other: Did) -> bool
 fn is_again(made: Made, gone: &[Cell]) -> bool
     ensures { result ≡ is_again_among made gone.now }
 {
-    gone.iter()
-        .any(|cell| cell.made.thread == made.thread && is_same(cell.made.did, made.did))
+    gone.iter().any(|cell| cell.made.thread == made.thread && is_same(cell.made.did, made.did))
 }
 
 /// The class of a mark.

@@ -1,11 +1,12 @@
 ghost use Rattle.std.specs.Prelude.{◌≡◌, ◌++◌, OnOk, None};
 ghost use Rattle.run_drawing.specs.Marks.{access_before as last_before, arrow_from, entry_with};
-ghost use Rattle.run_drawing.specs.Marks.{is_var as is_variable, last_access as last_found, move_title, var_of};
+ghost use Rattle.run_drawing.specs.Marks.{is_var as is_variable, last_access as last_found};
+ghost use Rattle.run_drawing.specs.Marks.{move_title, var_of};
 ghost use Rattle.run_drawing.specs.Picture.{cells_from, move_elements, moves_from};
 
+use crate::Cell;
 use crate::marks::{Scene, mark, title_of};
 use crate::places::{advance, in_cell};
-use crate::Cell;
 use entry_order::What;
 use made_moves::{Did, Made};
 use plain_text::NoMemory;
@@ -128,7 +129,15 @@ fn put_move(
     let before = access_before(made.did, earlier);
     put_arrow(out, column, u64::from(made.thread), before)?;
     out.push(mark(alloc, scene, earlier.len() as u64, column, made)?)?;
-    put_entry(alloc, out, scene.several, scene.threads, column, scene.line, made)
+    put_entry(
+        alloc,
+        out,
+        scene.several,
+        scene.threads,
+        column,
+        scene.line,
+        made,
+    )
 }
 
 /// Appends what is drawn of moves, from this column on, each behind the earlier ones of its master.
@@ -142,7 +151,8 @@ pub fn put_moves(
 ) -> Result<(), NoMemory>
     ensures elements { OnOk result (out.new ≡ out.old ++ moves_from scene.entry.threads scene.entry.line.now
         scene.entry.several scene.entry.gone.now scene.entry.later.now first earlier.old.items made.now) }
-    ensures cells { OnOk result (earlier.new.items ≡ earlier.old.items ++ cells_from first made.now) }
+    ensures cells { OnOk result
+        (earlier.new.items ≡ earlier.old.items ++ cells_from first made.now) }
 {
     let mut column = first;
     for made in made {

@@ -1,5 +1,6 @@
 ghost use Rattle.std.specs.Prelude.{◌≡◌, ◌++◌, ◌<◌, IfOk, OnOk, codes, decimal};
-ghost use Rattle.run_drawing.specs.Picture.{full_mark, is_output_event, is_several as is_of_several};
+ghost use Rattle.run_drawing.specs.Picture.{full_mark, is_output_event};
+ghost use Rattle.run_drawing.specs.Picture.{is_several as is_of_several};
 ghost use Rattle.run_drawing.specs.Picture.{number_note, releases_from, sign_at, sign_class};
 ghost use Rattle.run_drawing.specs.Picture.{signs_of};
 
@@ -128,12 +129,7 @@ fn full(
 }
 
 /// The number of a release, as a word below its mark.
-fn number_below(
-    alloc: Global,
-    threads: u64,
-    column: u64,
-    number: u64,
-) -> Result<Element, NoMemory>
+fn number_below(alloc: Global, threads: u64, column: u64, number: u64) -> Result<Element, NoMemory>
     requires { threads < 1000 }
     ensures { IfOk result (λ element. element ≡ number_note threads column number) }
 {

@@ -1,4 +1,5 @@
-use Rattle.std.proofs.Common.{rules, ◌≡◌, ◌<◌, ◌∙◌, List, ℕ, Option, None, ap, refl, sym, arith, length, length-append, Ok, Err}
+use Rattle.std.proofs.Common.{rules, ◌≡◌, ◌<◌, ◌∙◌, List, ℕ, Option, None, ap, refl, sym, arith, length, length-append}
+use Rattle.std.proofs.Common.{Ok, Err}
 use Rattle.std.specs.Prelude.{IfOk, slice_index_or}
 use Rattle.std.proofs.lemmas.Result.{IfOk-weaker}
 use Rattle.input_logger.specs.Inputs.{input_at}
@@ -47,7 +48,8 @@ loop-index-preserved g c =
     let good : c.step.result ≡ Ok c.in-Ok.sent = search rules in
     let p = c.loop-index.player in
     let does : c.next_of-did.result
-    ≡ next_did m c.loop-index.made plain.thread (next_input p plain.thread) plain.answer (place_in_hand p plain.thread) =
+    ≡ next_did m c.loop-index.made plain.thread (next_input p plain.thread) plain.answer
+    (place_in_hand p plain.thread) =
     c.next_of-did.ensures
     ∙ ap (λ (l : List Made). next_did m l plain.thread c.next_input-next.result plain.answer c.place-place.result)
     c.as_slice.ensures
