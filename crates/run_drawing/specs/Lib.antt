@@ -1,0 +1,6 @@
+pub mod Marks
+pub mod Noted
+pub mod Picture
+pub mod Places
+pub mod Promises
+pub mod Standing

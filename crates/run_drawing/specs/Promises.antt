@@ -1,0 +1,48 @@
+-- What a picture shows of the moves and of the released outputs, in order.
+use Rattle.std.specs.Prelude.{ℕ, zero, suc, ◌+◌, ◌-◌, Bool, true, false, List, [], ◌∷◌, ◌++◌, filter, map, codes}
+use Rattle.std.specs.Prelude.{decimal}
+use Rattle.std.specs.Prelude.{Option, Some}
+use Rattle.std.specs.List.{flat_map}
+use Rattle.svg_text.specs.declared.class.Class.{Class}
+use Rattle.svg_text.specs.declared.class.Class.TheVariants as class
+use Rattle.svg_text.specs.declared.drawing.Element.{Element}
+use Rattle.run_drawing.specs.declared.note.Note.{Note}
+use Rattle.run_drawing.specs.Marks.{move_title}
+
+-- the classes of the marks of moves
+abbrev pub is_move : Class → Bool
+is_move class.Take = true
+is_move class.Touch = true
+is_move class.Read = true
+is_move class.Clock = true
+is_move class.Draw = true
+is_move class.Send = true
+is_move class.End = true
+is_move class.Again = true
+is_move class.Lost = true
+is_move _ = false
+
+abbrev pub is_released : Class → Bool
+is_released class.Released = true
+is_released _ = false
+
+-- what is shown of the marks of a class, in the order in which they are drawn
+abbrev pub titles_where : (Class → Bool) → List Element → List (Option (List ℕ))
+titles_where is elements = map (λ (e : Element). e.title) (filter (λ (e : Element). is e.class) elements)
+
+-- the moves that were made, each with what it did and with the line of its event
+abbrev pub move_titles : Note → List (Option (List ℕ))
+move_titles n = map (λ m. Some (move_title n.line m)) n.made
+
+-- so many releases, from this number on
+abbrev pub numbered_releases : List ℕ → ℕ → ℕ → List (Option (List ℕ))
+numbered_releases line number zero = []
+numbered_releases line number (suc many) =
+    Some (codes "released " ++ decimal number ++ codes "\n" ++ line) ∷ numbered_releases line (number + 1) many
+
+-- the outputs that were released, each with its number and with the line of its event, where so many were released
+-- before
+abbrev pub release_titles : ℕ → List Note → List (Option (List ℕ))
+release_titles before [] = []
+release_titles before (n ∷ later) =
+    numbered_releases n.line (before + 1) (n.released - before) ++ release_titles n.released later

@@ -1,0 +1,31 @@
+use made_moves::{Made, MadeMoves};
+use plain_text::Bytes;
+use recovery_world::{Event, Outcome};
+
+/// What is noted behind an event of a run.
+#[derive(Drop)]
+pub struct Note {
+    pub event: Event,
+    /// What it came to.
+    pub outcome: Outcome,
+    /// Its line of the report.
+    pub line: Bytes,
+    /// How many of the moves that the master had made before, the present master has made too.
+    pub kept: u64,
+    /// The moves that it made behind these.
+    pub made: MadeMoves,
+    /// How many moves it has made in all.
+    pub moves: u64,
+    /// How many outputs were released in all.
+    pub released: u64,
+    /// Whether the master is up.
+    pub up: bool,
+    pub epoch: u32,
+}
+
+/// A move in its column of the picture.
+#[derive(Clone, Copy)]
+pub struct Cell {
+    pub made: Made,
+    pub column: u64,
+}

@@ -1,0 +1,132 @@
+ghost use Rattle.std.specs.Prelude.{◌≡◌, ◌++◌, ◌<◌, IfOk, OnOk};
+ghost use Rattle.svg_text.specs.Drawing.{drawing_text};
+ghost use Rattle.run_drawing.specs.Picture.{are_short as are_all_short, drawn_elements};
+ghost use Rattle.run_drawing.specs.Picture.{frame_elements, logger_lanes, picture, run_elements};
+ghost use Rattle.run_drawing.specs.Picture.{thread_lanes};
+ghost use Rattle.run_drawing.specs.Places.{columns};
+
+use crate::Note;
+use crate::events::put_events;
+use crate::ground::{put_bands, put_logger_lanes, put_thread_lanes, width, words};
+use crate::legend::put_legend;
+use crate::places::{advance, left, top};
+use plain_text::{Bytes, NoMemory};
+use std::alloc::Global;
+use svg_text::{Class, Drawing, Element, Elements, Point, Shape, put_drawing};
+
+/// How many columns the events have.
+fn count_columns(notes: &[Note]) -> Result<u64, NoMemory>
+    ensures { IfOk result (λ many. many ≡ columns 0 notes.now) }
+{
+    let mut many = 0;
+    let mut before = 0;
+    for note in notes {
+        many = advance(many, width(before, note))?;
+        before = note.released;
+    }
+    Ok(many)
+}
+
+/// Whether no master makes too many moves for a picture of each.
+fn are_short(notes: &[Note]) -> bool
+    ensures { result ≡ are_all_short notes.now }
+{
+    notes.iter().all(|note| note.moves <= 400)
+}
+
+/// Appends the paper, the title and the last line of the report.
+fn put_frame(
+    alloc: Global,
+    out: &mut Elements,
+    wide: u32,
+    high: u32,
+    title: &[u8],
+    last: &[u8],
+) -> Result<(), NoMemory>
+    ensures { OnOk result (out.new ≡ out.old ++ frame_elements wide high title.now last.now) }
+{
+    out.push(Element {
+        class: Class::Paper,
+        title: None,
+        shape: Shape::Rectangle {
+            corner: Point { x: 0, y: 0 },
+            width: wide,
+            height: high,
+        },
+    })?;
+    out.push(words(alloc, Class::Heading, Point { x: 10, y: 24 }, title)?)?;
+    out.push(words(alloc, Class::Label, Point { x: 10, y: 44 }, last)?)
+}
+
+/// Appends a run, move by move.
+fn put_run(
+    alloc: Global,
+    out: &mut Elements,
+    many: u64,
+    threads: u64,
+    notes: &[Note],
+) -> Result<(), NoMemory>
+    requires { threads < 1000 }
+    ensures { OnOk result (out.new ≡ out.old ++ run_elements many threads notes.now) }
+{
+    put_bands(alloc, out, threads, notes)?;
+    put_lanes(alloc, out, many, threads)?;
+    put_events(alloc, out, threads, notes)?;
+    put_legend(alloc, out, threads + 2, threads + 3)
+}
+
+/// Appends all lanes.
+fn put_lanes(alloc: Global, out: &mut Elements, many: u64, threads: u64) -> Result<(), NoMemory>
+    requires { threads < 1000 }
+    ensures { OnOk result
+        (out.new ≡ out.old ++ (thread_lanes many 0 threads ++ logger_lanes many threads)) }
+{
+    put_thread_lanes(alloc, out, many, threads)?;
+    put_logger_lanes(alloc, out, many, threads)
+}
+
+/// Appends what is drawn of a run, which has so many columns.
+fn put_drawn(
+    alloc: Global,
+    out: &mut Elements,
+    many: u64,
+    threads: u64,
+    notes: &[Note],
+) -> Result<(), NoMemory>
+    requires columns { many ≡ columns 0 notes.now }
+    requires threads { threads < 1000 }
+    ensures { OnOk result (out.new ≡ out.old ++ drawn_elements threads notes.now) }
+{
+    if are_short(notes) && many <= 400 {
+        return put_run(alloc, out, many, threads, notes);
+    }
+    let text = b"too long to be drawn move by move";
+    out.push(words(alloc, Class::Label, Point { x: 10, y: 84 }, text)?)
+}
+
+/// The picture of a run, as SVG: with this title, and this last line of its report, of so many threads.
+pub fn put_picture(
+    alloc: Global,
+    title: &[u8],
+    last: &[u8],
+    threads: u64,
+    notes: &[Note],
+) -> Result<Bytes, NoMemory>
+    requires { threads < 1000 }
+    ensures { IfOk result (λ text.
+        text ≡ drawing_text (picture title.now last.now threads notes.now)) }
+{
+    let many = count_columns(notes)?;
+    let wide = 1300u32.max(left(many) + 40);
+    let high = top(threads + 4) + 20;
+    let mut elements = Elements::new(alloc);
+    put_frame(alloc, &mut elements, wide, high, title, last)?;
+    put_drawn(alloc, &mut elements, many, threads, notes)?;
+    let drawing = Drawing {
+        width: wide,
+        height: high,
+        title: Bytes::of(alloc, title)?,
+        elements,
+    };
+    put_drawing(alloc, &drawing)
+}
