@@ -7,9 +7,11 @@
 //! the run has been.
 #![tactic(auto)]
 
+mod lacking;
 mod parting;
 mod system;
 
 pub use event_replies::{Finished, Releases, Reply, Stop, put_line};
+pub use lacking::Lacks;
 pub use parting::{Kept, SystemParted};
 pub use system::System;

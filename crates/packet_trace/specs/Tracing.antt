@@ -1,0 +1,30 @@
+-- What a trace comes to in memory.
+use Rattle.std.specs.Prelude.{◌≡◌, ℕ, List, Option, Result, Ok, Err}
+use Rattle.plain_text.specs.declared.limit.Limit.{Limit}
+use Rattle.recovery_world.specs.declared.event.Event.{Event}
+use Rattle.recovery_world.specs.World.{Setting, World as SystemWorld}
+use Rattle.recovery_world.specs.Files.{done_line}
+use Rattle.packet_trace.specs.declared.rows.Row.{Row}
+use Rattle.packet_trace.specs.declared.steering.Steered.{Steered}
+use Rattle.packet_trace.specs.declared.tracing.Texts.{Texts}
+use Rattle.packet_trace.specs.Going.{AreTurns, IsHalted}
+use Rattle.packet_trace.specs.Table.{table_text}
+use Rattle.packet_trace.specs.Trace.{Traces, traced_events}
+
+-- all packets of the capture were steered
+pub record IsSteered {V : Type 0} (s : Setting V) (steered : Steered) : Type 0 where
+  pub inputs : steered.inputs ≡ record { threads = s.threads; packets = s.packets }
+  pub turns : AreTurns s.threads s.packets steered.turns
+
+-- the texts tell of a trace of these events
+pub record IsTold {V : Type 0} (register : Option ℕ) (s : Setting V) (events : List Event) (texts : Texts)
+    : Type 0 where
+  pub world : SystemWorld V
+  pub rows : List Row
+  pub traces : Traces register s events world rows
+  pub table : texts.table ≡ table_text rows
+  pub report : texts.report ≡ done_line world
+
+abbrev pub ComesTo : {V : Type 0} → Option ℕ → Setting V → List Event → Result Texts Limit → Type 0
+ComesTo register s events (Ok texts) = IsTold register s events texts
+ComesTo register s events (Err limit) = IsHalted s (traced_events events) limit
