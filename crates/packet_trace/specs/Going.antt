@@ -1,9 +1,6 @@
 -- A system that performs the events of a trace, and what is noted of it at the end.
-use Rattle.std.specs.Prelude.{◌≡◌, ℕ, ◌+◌, ◌<◌, ◌++◌, ◌∷◌, List, [], length, take, Option, Some, slice_get}
-use Rattle.std.specs.Prelude.{slice_index_or}
+use Rattle.std.specs.Prelude.{◌≡◌, ℕ, ◌+◌, ◌<◌, ◌++◌, ◌∷◌, List, [], length, Some, slice_get, slice_index_or}
 use Rattle.plain_text.specs.declared.limit.Limit.{Limit}
-use Rattle.plain_text.specs.declared.packet.Packet.{Packet}
-use Rattle.input_logger.specs.Inputs.{inputs_of, thread_of}
 use Rattle.plain_machine.specs.Program.{Meaning}
 use Rattle.plain_machine.specs.History.{outputs, sent_of}
 use Rattle.recovery_world.specs.declared.event.Event.{Event}
@@ -71,12 +68,3 @@ pub record HasAllGone {V : Type 0} (s : Setting V) (events : List Event) (gone :
   pub sound : Sound s world
   pub seen : HasSeen s.threads world gone.seen
   pub finished : FinishesAs s world gone.finished
-
--- For each packet its thread, and its number among the inputs of the thread.
-pub record AreTurns (threads : ℕ) (packets : List Packet) (turns : List (ℕ × ℕ)) : Type 0 where
-  pub long : length turns ≡ length packets
-  pub each : (i : ℕ) (packet : Packet) → slice_get packets i ≡ Some packet → slice_get turns i
-      ≡ Some (
-        thread_of packet threads,
-        length (inputs_of (record { threads = threads; packets = take (i + 1) packets }) (thread_of packet threads)),
-      )

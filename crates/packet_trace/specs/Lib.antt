@@ -9,3 +9,4 @@ pub mod Places
 pub mod Going
 pub mod Filling
 pub mod Tracing
+pub mod Turns

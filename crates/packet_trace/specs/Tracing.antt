@@ -7,8 +7,9 @@ use Rattle.recovery_world.specs.Files.{done_line}
 use Rattle.packet_trace.specs.declared.rows.Row.{Row}
 use Rattle.packet_trace.specs.declared.steering.Steered.{Steered}
 use Rattle.packet_trace.specs.declared.tracing.Texts.{Texts}
-use Rattle.packet_trace.specs.Going.{AreTurns, IsHalted}
+use Rattle.packet_trace.specs.Going.{IsHalted}
 use Rattle.packet_trace.specs.Table.{table_text}
+use Rattle.packet_trace.specs.Turns.{AreTurns}
 use Rattle.packet_trace.specs.Trace.{Traces, traced_events}
 
 -- all packets of the capture were steered

@@ -1,4 +1,5 @@
-ghost use Rattle.std.specs.Prelude.{◌≡◌, [], IfOk, OnOk, replicate, slice_index_or};
+ghost use Rattle.std.specs.Prelude.{◌≡◌, ◌+◌, ◌∷◌, ◌++◌, [], ℕ, List, IfOk, OnOk, length, replicate};
+ghost use Rattle.std.specs.Prelude.{slice_index_or};
 ghost use Rattle.packet_trace.specs.Places.{HasPlaces, IsNoted};
 
 use plain_text::NoMemory;
@@ -69,6 +70,19 @@ fn no_places(alloc: Global, threads: u32) -> Result<Vec<Places>, NoMemory>
     Ok(lists)
 }
 
+/// Notes the place of an output, by its thread and number, unless it has one. One of no thread is not noted.
+fn note_name(lists: &mut Vec<Places>, name: (u32, u64), place: u64) -> Result<(), NoMemory>
+    ensures { OnOk result ((threads : ℕ) (names : List (ℕ × ℕ)) → place ≡ length names + 1
+        → HasPlaces threads names lists.old.items
+        → HasPlaces threads (names ++ name ∷ []) lists.new.items) }
+{
+    let at = name.0 as usize;
+    if at >= lists.len() {
+        return Ok(());
+    }
+    lists[at].note(name.1, place)
+}
+
 /// For each thread the places of its released outputs, by the threads and numbers of these in the order of release.
 pub fn find_places(
     alloc: Global,
@@ -79,10 +93,7 @@ pub fn find_places(
 {
     let mut lists = no_places(alloc, threads)?;
     for (index, name) in names.iter().enumerate() {
-        let at = name.0 as usize;
-        if at < lists.len() {
-            lists[at].note(name.1, index as u64 + 1)?;
-        }
+        note_name(&mut lists, *name, index as u64 + 1)?;
     }
     Ok(lists)
 }

@@ -1,5 +1,5 @@
 ghost use Rattle.std.specs.Prelude.{◌≡◌, ◌≤◌, IfOk};
-ghost use Rattle.packet_trace.specs.Going.{AreTurns};
+ghost use Rattle.packet_trace.specs.Turns.{AreTurns};
 
 use input_logger::InputLog;
 use plain_text::{NoMemory, Packets, Sequence};

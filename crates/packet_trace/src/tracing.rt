@@ -7,6 +7,7 @@ ghost use Rattle.output_files.specs.Written.{Writes, WritesFiles};
 ghost use Rattle.run_writes.specs.Run.{CanRun, setting_of};
 ghost use Rattle.packet_trace.specs.Going.{HasAllGone};
 ghost use Rattle.packet_trace.specs.Trace.{HasBegunTrace, HasStopped, HasTraced, trace_writes};
+ghost use Rattle.packet_trace.specs.Trace.{traced_events};
 ghost use Rattle.packet_trace.specs.Tracing.{ComesTo, IsSteered, IsTold};
 
 use crate::filling::fill_rows;
@@ -42,7 +43,8 @@ fn put_texts<P: Program>(
 ) -> Result<Texts, NoMemory>
     ensures { IfOk result (λ texts. (s : Setting P.Value) (events : List EventKind)
         → s.meaning ≡ P.meaning program.now
-        → IsSteered s steered → HasAllGone s events gone.now → IsTold register s events texts) }
+        → IsSteered s steered → HasAllGone s (traced_events events) gone.now
+        → IsTold register s events texts) }
 {
     let Steered { inputs, mut turns } = steered;
     let finished = &gone.finished;
