@@ -15,24 +15,30 @@ use Rattle.packet_trace.proofs.Noted.{empty_here, empty_long}
 place_stays : (b t j : ℕ) (names : List (ℕ × ℕ)) (name : ℕ × ℕ) → place_behind b t j names ≢ 0
     → place_behind b t j (names ++ name ∷ []) ≡ place_behind b t j names
 place_stays b t j [] name ne = absurd (ne refl)
-place_stays b t j (n ∷ names) name ne = go (nat_eq n.0 t && nat_eq n.1 j) ne
+place_stays b t j (n ∷ names) name ne =
+    go (nat_eq n.0 t && nat_eq n.1 j) ne (λ ne. place_stays (b + 1) t j names name ne)
   where
     go : (x : Bool) → cond x (b + 1) (place_behind (b + 1) t j names) ≢ 0
+        → (place_behind (b + 1) t j names ≢ 0
+        → place_behind (b + 1) t j (names ++ name ∷ []) ≡ place_behind (b + 1) t j names)
         → cond x (b + 1) (place_behind (b + 1) t j (names ++ name ∷ []))
         ≡ cond x (b + 1) (place_behind (b + 1) t j names)
-    go true ne = refl
-    go false ne = place_stays (b + 1) t j names name ne
+    go true ne rest = refl
+    go false ne rest = rest ne
 
 place_hit : (b t j : ℕ) (names : List (ℕ × ℕ)) (name : ℕ × ℕ) → (nat_eq name.0 t && nat_eq name.1 j) ≡ true
     → place_behind b t j names ≡ 0 → place_behind b t j (names ++ name ∷ []) ≡ b + length names + 1
 place_hit b t j [] name is none =
     ap (λ (x : Bool). cond x (b + 1) (place_behind (b + 1) t j [])) is ∙ omega arith
-place_hit b t j (n ∷ names) name is none = go (nat_eq n.0 t && nat_eq n.1 j) none
+place_hit b t j (n ∷ names) name is none =
+    go (nat_eq n.0 t && nat_eq n.1 j) none (λ none. place_hit (b + 1) t j names name is none)
   where
     go : (x : Bool) → cond x (b + 1) (place_behind (b + 1) t j names) ≡ 0
+        → (place_behind (b + 1) t j names ≡ 0
+        → place_behind (b + 1) t j (names ++ name ∷ []) ≡ b + 1 + length names + 1)
         → cond x (b + 1) (place_behind (b + 1) t j (names ++ name ∷ [])) ≡ b + length (n ∷ names) + 1
-    go true none = absurd (omega arith)
-    go false none = place_hit (b + 1) t j names name is none ∙ omega arith
+    go true none rest = absurd (omega arith)
+    go false none rest = rest none ∙ omega arith
 
 place_miss : (b t j : ℕ) (names : List (ℕ × ℕ)) (name : ℕ × ℕ) → (nat_eq name.0 t && nat_eq name.1 j) ≡ false
     → place_behind b t j (names ++ name ∷ []) ≡ place_behind b t j names
@@ -67,7 +73,7 @@ module _ (threads : ℕ) (names : List (ℕ × ℕ)) (name : ℕ × ℕ) (lists 
 
   module _ (place : ℕ) (list : List ℕ) (is : place ≡ length names + 1) (below : name.0 < length lists)
       (noted : IsNoted name.1 place (get_or lists name.0 []) list) where
-    old : ℕ → ℕ
+    abbrev old : ℕ → ℕ
     old j = get_or (get_or lists name.0 []) j 0
 
     under : name.0 < threads

@@ -52,11 +52,17 @@ placed b t j o (x ∷ released) has (inl same) =
         sym (ap (λ (y : Bool). cond y (b + 1) (place_behind (b + 1) t j (sent_names released))) yes) ∙ e in
         absurd (omega arith)
 placed b t j o (x ∷ released) has (inr among) =
-    λ e. go (nat_eq x.emission.thread t && nat_eq x.emission.number j) e
+    λ e. go (nat_eq x.emission.thread t && nat_eq x.emission.number j) e (placed (b + 1) t j o released has among)
   where
-    go : (y : Bool) → cond y (b + 1) (place_behind (b + 1) t j (sent_names released)) ≡ 0 → ⊥
-    go true e = absurd (omega arith)
-    go false e = placed (b + 1) t j o released has among e
+    go : (y : Bool) → cond y (b + 1) (place_behind (b + 1) t j (sent_names released)) ≡ 0
+        → (place_behind (b + 1) t j (sent_names released) ≡ 0 → ⊥) → ⊥
+    go true e rest = absurd (omega arith)
+    go false e rest = rest e
+
+all_before : (l : List Lacks) (k : ℕ) → slice_get l k ≡ None → length l ≤ k
+all_before [] k e = omega arith
+all_before (y ∷ l) zero e = absurd (cc)
+all_before (y ∷ l) (suc k) e = let r = all_before l k e in omega (arith, r)
 
 module _ {V : Type 0} (s : Setting V) (w : World V) (sound : Sound s w) where
   -- what an output lacks that was not released
@@ -84,14 +90,9 @@ module _ {V : Type 0} (s : Setting V) (w : World V) (sound : Sound s w) where
       go : (o : Option Lacks) → slice_get list j ≡ o → Unreleased w t j (fate_of_lack (lacks_or_none o))
       go (Some x) e = unreleased t j none x (h.each j x e)
       go None e =
-          let long = all_taken_lacks list j e in
+          let long = all_before list j e in
           let count = h.long in
           NotSent (none_sent t j (omega (arith, long, count)))
-        where
-          all_taken_lacks : (l : List Lacks) (k : ℕ) → slice_get l k ≡ None → length l ≤ k
-          all_taken_lacks [] k e = omega arith
-          all_taken_lacks (y ∷ l) zero e = absurd (cc)
-          all_taken_lacks (y ∷ l) (suc k) e = let r = all_taken_lacks l k e in omega (arith, r)
 
   at_place : (t j p : ℕ) (x : Lacks) → (p ≡ 0 → Unreleased w t j (fate_of_lack x)) → by_place w t j p (fate_at p x)
   at_place t j zero x h = h refl

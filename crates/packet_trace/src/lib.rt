@@ -14,6 +14,6 @@ mod steering;
 mod table;
 mod tracing;
 
-pub use laws::each_packet_has_one_row;
+pub use laws::{each_packet_has_one_row, each_release_has_its_event};
 pub use rows::{Became, Departure, Fate, Row};
 pub use tracing::run_trace;

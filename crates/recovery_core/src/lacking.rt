@@ -1,6 +1,5 @@
 //! What an output that was not released lacks.
 ghost use Rattle.std.specs.Prelude.{◌≡◌, ◌<◌, IfOk};
-ghost use Rattle.plain_machine.specs.Program.{Meaning};
 ghost use Rattle.recovery_world.specs.World.{Setting, World};
 ghost use Rattle.recovery_world.specs.Files.{moves_made};
 ghost use Rattle.system_parts.specs.SystemStanding.{StandsFor};

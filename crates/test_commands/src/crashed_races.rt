@@ -170,12 +170,19 @@ impl Kept {
     }
 }
 
-/// The script of these events that goes on so.
-fn script_of(alloc: Global, events: &[&str], ending: Ending<'_>) -> Result<Bytes, NoMemory> {
-    let mut script = Bytes::of(alloc, b"feed 2\n")?;
+/// The lines of these events.
+fn events_of(alloc: Global, events: &[&str]) -> Result<Bytes, NoMemory> {
+    let mut script = Bytes::new(alloc);
     for event in events {
         script.extend(event.as_bytes())?;
     }
+    Ok(script)
+}
+
+/// The script of a race of both packets that goes on so behind these events.
+fn script_of(alloc: Global, events: &[&str], ending: Ending<'_>) -> Result<Bytes, NoMemory> {
+    let mut script = Bytes::of(alloc, b"feed 2\n")?;
+    script.extend(events_of(alloc, events)?.as_slice())?;
     script.extend(ending.events)?;
     Ok(script)
 }
@@ -255,10 +262,33 @@ const LOGGED_AT_THE_CRASH: Ending<'static> = Ending {
     last: b"done fed 2 epoch 3 released 2\nfound 2\n",
 };
 
-/// The least number of moves, 17 at most, behind which such a crash does not leave both packets from port 39278.
+/// Both packets come in, and the race goes on to where both threads have taken a port and thread 1 has mapped the host.
+const FED_AND_MOVED: [&str; 17] = [
+    "feed 2\n",
+    "step 0\n",
+    "step 0\n",
+    "step 0\n",
+    "step 1\n",
+    "step 1\n",
+    "step 1\n",
+    "step 0 = 0\n",
+    "step 1 = 0\n",
+    "step 0\n",
+    "step 1\n",
+    "step 0\n",
+    "step 1\n",
+    "step 1\n",
+    "step 0\n",
+    "step 0\n",
+    "step 0\n",
+];
+
+/// The least number of these events, from none to all, behind which such a crash does not leave both packets from port
+/// 39278.
 fn first_wrong_in_replay(alloc: Global) -> Result<Option<usize>, NoMemory> {
-    for place in 0..18 {
-        let script = script_of(alloc, &MOVES[..place], LOGGED_AT_THE_CRASH)?;
+    for place in 0..FED_AND_MOVED.len() + 1 {
+        let mut script = events_of(alloc, &FED_AND_MOVED[..place])?;
+        script.extend(LOGGED_AT_THE_CRASH.events)?;
         let last = LOGGED_AT_THE_CRASH.last;
         if !is_accepted(alloc, script.as_slice(), FROM_ONE_PORT, last)? {
             return Ok(Some(place));

@@ -9,6 +9,8 @@ mod commands;
 #[cfg(test)]
 mod crashed_races;
 #[cfg(test)]
+mod drills;
+#[cfg(test)]
 mod endings;
 #[cfg(test)]
 mod faults;
