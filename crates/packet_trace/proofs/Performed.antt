@@ -1,6 +1,6 @@
 -- Events are performed one by one, and it is noted how the outputs left.
 use Rattle.std.proofs.Common.{◌≡◌, ℕ, ◌+◌, ◌-◌, ◌<◌, ◌≤◌, List, [], ◌∷◌, ◌++◌, length, take, drop, refl, sym, ap, ◌∙◌, subst}
-use Rattle.std.proofs.Common.{add-one, append_assoc, arith, get_or, replicate, suc, zero}
+use Rattle.std.proofs.Common.{add-one, append_assoc, arith, get_or, replicate, suc, zero, Result, Err}
 use Rattle.std.proofs.lemmas.List.{take_all}
 use Rattle.plain_text.specs.declared.limit.Limit.{Limit}
 use Rattle.plain_machine.specs.Program.{Meaning}
@@ -10,6 +10,7 @@ use Rattle.recovery_world.specs.World.{Setting, Sent, World as SystemWorld, open
 use Rattle.recovery_world.specs.Many.{OnAny}
 use Rattle.recovery_world.specs.Files.{Performs, Rests, Goes as GoesOn, reply_line, sent_names}
 use Rattle.event_replies.specs.declared.reply.Reply.{Reply}
+use Rattle.event_replies.specs.declared.reply.Stop.{Stop}
 use Rattle.recovery_core.specs.Systems.{RepliesAny, SystemMoves, SystemStands, SystemStops, Systemed}
 use Rattle.system_parts.specs.Performing.{IsStopped}
 use Rattle.packet_trace.specs.declared.rows.Departure.{Departure}
@@ -165,3 +166,10 @@ same_item events i d low = any_item events i d (get_or events i d) low
     any_item [] i d e low = absurd (omega arith)
     any_item (y ∷ l) zero d e low = refl
     any_item (y ∷ l) (suc i) d e low = any_item l i d e (omega arith)
+
+abbrev failed : {A : Type 0} → Stop → Result A Stop
+failed e = Err e
+
+-- a stop is the same whatever would have been answered
+pub same_stop : {A B : Type 0} (r : Result A Stop) (x y : Stop) → r ≡ Err x → r ≡ Err y → failed {A = B} x ≡ failed y
+same_stop r x y one two = let same : x ≡ y = cc in ap failed same

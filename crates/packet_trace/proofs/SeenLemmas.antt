@@ -52,3 +52,6 @@ pub threads_are : {P V : Type 0} (threads : ℕ) (m : Meaning V) (y : Systemed P
     → threads ≡ y.parts.inputs.threads
 threads_are threads m y (s, w, stands, same) =
     sym same ∙ sym (ap (λ (log : Fed). log.threads) stands.parts.inputs.inputs)
+
+pub no_lists : {V : Type 0} (w : World V) → HasLacks 0 w []
+no_lists w = record { count = refl; each = λ t low. absurd (omega arith) }

@@ -10,9 +10,10 @@ use Rattle.plain_machine.specs.Program.{Meaning}
 use Rattle.plain_machine.specs.History.{Step, play}
 use Rattle.world_io.specs.World.{Shown}
 use Rattle.recovery_world.specs.declared.event.Event.{Event}
-use Rattle.recovery_world.specs.World.{Setting, World as SystemWorld}
+use Rattle.recovery_world.specs.World.{Setting, World as SystemWorld, opening}
 use Rattle.recovery_world.specs.Files.{done_line, moves_made, packets_of}
 use Rattle.recovery_laws.proofs.AcceptedRuns.{moves_play}
+use Rattle.recovery_core.specs.Systems.{SystemStands, Systemed}
 use Rattle.output_files.specs.declared.error.OutputError.{OutputError}
 use Rattle.output_files.specs.declared.error.OutputError.TheVariants as output
 use Rattle.output_files.specs.Writes.{HasBegun, HasWritten}
@@ -30,10 +31,12 @@ use Rattle.packet_trace.specs.declared.steering.Steered.{Steered}
 use Rattle.packet_trace.specs.declared.tracing.Texts.{Texts}
 use Rattle.packet_trace.specs.Filling.{AreFilled}
 use Rattle.packet_trace.specs.Following.{HasBecome}
-use Rattle.packet_trace.specs.Going.{HasAllGone, IsHalted}
+use Rattle.packet_trace.specs.Going.{HasAllGone, IsHalted, IsSomewhere}
 use Rattle.packet_trace.specs.Table.{table_text}
 use Rattle.packet_trace.specs.Trace.{HasBegunTrace, HasStopped, HasTraced, Traces, trace_writes, traced_events}
 use Rattle.packet_trace.specs.Tracing.{ComesTo, IsSteered, IsTold}
+use Rattle.packet_trace.specs.Turns.{AreTurns}
+use Rattle.packet_trace.proofs.Performed.{stands_same}
 use Rattle.packet_trace.proofs.RowLemmas.{rows_are}
 
 -- The texts
@@ -174,3 +177,26 @@ module _ {V : Type 0} (register : Option ℕ) (s : Setting V) (events : List Eve
 pub comes_halted : {V : Type 0} (register : Option ℕ) (s : Setting V) (events : List Event) (limit : Limit)
     → IsHalted s (traced_events events) limit → ComesTo register s events (Err limit)
 comes_halted register s events limit h = h
+
+-- A new system
+
+pub new_stands : {P V : Type 0} (meaning : P → Meaning V) (program : P) (s : Setting V) (y : Systemed P V)
+    → y.parts.program ≡ program → SystemStands (meaning program) s (opening V) y
+    → SystemStands (meaning y.parts.program) s (opening V) y
+new_stands {P} {V} meaning program s y same stands =
+    stands_same (meaning program) (meaning y.parts.program) s (opening V) y (ap meaning (sym same)) stands
+
+pub new_somewhere : {P V : Type 0} (meaning : P → Meaning V) (program : P) (s : Setting V) (y : Systemed P V)
+    → y.parts.program ≡ program → SystemStands (meaning program) s (opening V) y
+    → IsSomewhere s.threads (meaning y.parts.program) y
+new_somewhere {P} {V} meaning program s y same stands =
+    (s, opening V, new_stands meaning program s y same stands, refl)
+
+-- the packets of the run were steered
+pub steered_so : {V : Type 0} (s : Setting V) (packets : List Packet) (steered : Steered) → packets ≡ s.packets
+    → steered.inputs ≡ record { threads = s.threads; packets = packets }
+    → AreTurns s.threads packets steered.turns → IsSteered s steered
+steered_so s packets steered same inputs turns = record {
+  inputs = inputs ∙ ap (λ (l : List Packet). let log : Fed = record { threads = s.threads; packets = l } in log) same;
+  turns = subst (λ (l : List Packet). AreTurns s.threads l steered.turns) same turns;
+}

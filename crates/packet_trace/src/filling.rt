@@ -1,4 +1,4 @@
-ghost use Rattle.std.specs.Prelude.{◌≡◌, [], IfOk};
+ghost use Rattle.std.specs.Prelude.{◌≡◌, ◌+◌, [], ℕ, IfOk};
 ghost use Rattle.packet_trace.specs.Fates.{dropped_for as dropped_for_of};
 ghost use Rattle.packet_trace.specs.Filling.{AreFilled, IsFilled, became_noted, fate_at as fate_at_of};
 ghost use Rattle.packet_trace.specs.Filling.{fate_from, lacks_noted};
@@ -94,15 +94,15 @@ fn left_of(departures: &[Departure], fate: Fate) -> Option<Departure>
     }
 }
 
-/// The row of the packet that follows so many others, of this thread and input.
-fn row_of(gone: &Gone, inputs: &[Inputs], earlier: usize, turn: (u32, u64)) -> Row
-    ensures { IsFilled gone.now.departures gone.now.seen.places.items gone.now.seen.lacks.items
-        inputs.now earlier turn result }
+/// The row of the packet with this number, of this thread and input.
+fn row_of(gone: &Gone, inputs: &[Inputs], packet: u64, turn: (u32, u64)) -> Row
+    ensures { (i : ℕ) → packet ≡ i + 1 → IsFilled gone.now.departures gone.now.seen.places.items
+        gone.now.seen.lacks.items inputs.now i turn result }
 {
     let (thread, input) = turn;
     let fate = fate_of(&gone.seen, thread, became_of(inputs, thread, input));
     Row {
-        packet: earlier as u64 + 1,
+        packet,
         thread,
         input,
         left: left_of(gone.departures.as_slice(), fate),
@@ -122,7 +122,7 @@ pub fn fill_rows(
 {
     let mut rows = Rows::new(alloc);
     for (earlier, turn) in turns.iter().enumerate() {
-        rows.push(row_of(gone, inputs, earlier, *turn))?;
+        rows.push(row_of(gone, inputs, earlier as u64 + 1, *turn))?;
     }
     Ok(rows)
 }

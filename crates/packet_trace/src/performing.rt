@@ -24,7 +24,8 @@ fn put_departures(
     ensures { OnOk result (departures.new
         ≡ departures.old ++ replicate (total - length departures.old) departure) }
 {
-    for _ in departures.len()..total {
+    let more = total.saturating_sub(departures.len());
+    for _ in 0..more {
         departures.push(departure)?;
     }
     Ok(())

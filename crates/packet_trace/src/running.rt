@@ -49,9 +49,11 @@ fn lacks_of_thread<P: Program>(
     let mut list = Lacking::new(alloc);
     let sent = system.counts(thread).outputs;
     for number in 0..sent {
-        list.push(system.lacks(thread, number)?)?;
+        let lacks = system.lacks(thread, number)?;
+        list.push(lacks)?;
     }
-    list.push(system.lacks(thread, sent)?)?;
+    let last = system.lacks(thread, sent)?;
+    list.push(last)?;
     Ok(list)
 }
 
@@ -68,7 +70,8 @@ fn all_lacks<P: Program>(
 {
     let mut lists = Vec::new(alloc);
     for thread in 0..threads {
-        lists.push(lacks_of_thread(alloc, system, thread)?)?;
+        let list = lacks_of_thread(alloc, system, thread)?;
+        lists.push(list)?;
     }
     Ok(lists)
 }
@@ -130,11 +133,14 @@ pub fn run_events<P: Program>(
 {
     let mut system = system;
     match go(alloc, &mut system, threads, events) {
-        Ok((departures, seen)) => Ok(Gone {
-            departures,
-            seen,
-            finished: system.finish()?,
-        }),
+        Ok((departures, seen)) => {
+            let finished = system.finish()?;
+            Ok(Gone {
+                departures,
+                seen,
+                finished,
+            })
+        }
         Err(stop) => {
             system.discard();
             Err(stop)

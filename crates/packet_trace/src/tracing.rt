@@ -51,10 +51,9 @@ fn put_texts<P: Program>(
     let became = follow_schedule(alloc, program, &inputs, &finished.schedule, register)?;
     turns.truncate(finished.fed as usize);
     let rows = fill_rows(alloc, gone, &became, turns.as_slice())?;
-    Ok(Texts {
-        table: put_table(alloc, rows.as_slice())?,
-        report: put_done(alloc, finished.fed, finished.epoch, finished.released)?,
-    })
+    let table = put_table(alloc, rows.as_slice())?;
+    let report = put_done(alloc, finished.fed, finished.epoch, finished.released)?;
+    Ok(Texts { table, report })
 }
 
 /// Performs the events of a trace, and tells what became of each packet; or at which limit an event stopped.
@@ -67,17 +66,17 @@ fn trace_run<P: Program>(
     requires { CanRun run }
     ensures { IfOk result (ComesTo register (setting_of (P.meaning program.now) run) run.events) }
 {
-    let steered = steer_all(
-        alloc,
-        run.threads,
-        copy_packets(alloc, run.packets.as_slice())?,
-    )?;
+    let packets = copy_packets(alloc, run.packets.as_slice())?;
+    let steered = steer_all(alloc, run.threads, packets)?;
     let mut events = run.events;
     events.push(Event::Recover)?;
     let lent = Lent { program };
     let system = System::new(alloc, lent, run.threads, run.seed, run.unit, run.packets)?;
     match run_events(alloc, system, run.threads, events.as_slice()) {
-        Ok(gone) => Ok(Ok(put_texts(alloc, program, steered, &gone, register)?)),
+        Ok(gone) => {
+            let texts = put_texts(alloc, program, steered, &gone, register)?;
+            Ok(Ok(texts))
+        }
         Err(Stop::Limit(limit)) => Ok(Err(limit)),
         Err(Stop::NoMemory) => Err(NoMemory),
     }
@@ -130,8 +129,12 @@ pub fn run_trace<P: Program, W: World>(
         (W.shows p world.old) (W.shows p world.new) }
     ensures before { (p : Start) → W.honest p world.new → W.honest p world.old }
 {
-    match trace_run(alloc, run, register, &program)? {
-        Ok(texts) => written(write_texts(world, table, &texts)),
+    let traced = trace_run(alloc, run, register, &program)?;
+    match traced {
+        Ok(texts) => {
+            let files = write_texts(world, table, &texts);
+            written(files)
+        }
         Err(limit) => Err(RunError::Limit(limit)),
     }
 }
