@@ -58,3 +58,11 @@ module _ (departures : List Departure) (places : List (List ℕ)) (lists : List 
       → AreFilled departures places lists inputs turns rows
   filled_all turns i rows all h =
       subst (λ (l : List (ℕ × ℕ)). AreFilled departures places lists inputs l rows) (take_all i turns all) h
+
+pub filled_same : (departures : List Departure) (places : List (List ℕ)) (lists : List (List Lacks))
+    (inputs other : List (List Became)) (turns others : List (ℕ × ℕ)) (rows : List Row) → inputs ≡ other
+    → turns ≡ others → AreFilled departures places lists inputs turns rows
+    → AreFilled departures places lists other others rows
+filled_same departures places lists inputs other turns others rows same alike h =
+    subst (λ (l : List (ℕ × ℕ)). AreFilled departures places lists other l rows) alike
+    (subst (λ (l : List (List Became)). AreFilled departures places lists l turns rows) same h)

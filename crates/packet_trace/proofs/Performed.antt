@@ -148,7 +148,7 @@ pub gone_all : {P V : Type 0} (m : Meaning V) (s : Setting V) (events : List Eve
     (departures : List Departure) (y : Systemed P V) → length events ≤ i
     → HasGone m s (take i events) departures y → HasGone m s events departures y
 gone_all {P} {V} m s events i departures y low h =
-    subst (λ (l : List Event). HasGone m s l departures y) (take_all events i low) h
+    subst (λ (l : List Event). HasGone m s l departures y) (take_all i events low) h
 
 -- the first events, with one more, and those behind it
 pub split_here : (events : List Event) (i : ℕ) (x : Event) → i < length events → x ≡ get_or events i x

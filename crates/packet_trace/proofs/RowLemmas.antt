@@ -47,9 +47,9 @@ placed b t j o (x ∷ released) has (inl same) =
   where
     go : (nat_eq x.emission.thread t && nat_eq x.emission.number j) ≡ true
         → place_behind b t j (sent_names (x ∷ released)) ≡ 0 → ⊥
-    go yes e =
+    go is e =
         let here : b + 1 ≡ 0 =
-        sym (ap (λ (y : Bool). cond y (b + 1) (place_behind (b + 1) t j (sent_names released))) yes) ∙ e in
+        sym (ap (λ (y : Bool). cond y (b + 1) (place_behind (b + 1) t j (sent_names released))) is) ∙ e in
         absurd (omega arith)
 placed b t j o (x ∷ released) has (inr among) =
     λ e. go (nat_eq x.emission.thread t && nat_eq x.emission.number j) e (placed (b + 1) t j o released has among)
@@ -77,7 +77,7 @@ module _ {V : Type 0} (s : Setting V) (w : World V) (sound : Sound s w) where
 
   -- none was sent with this number
   none_sent : (t j : ℕ) → outputs t (sent_of w.past) + 1 ≤ j → (o : SentOutput) → IsOutputOf w t j o → ⊥
-  none_sent t j high o (sends, thread, number) =
+  none_sent t j high o (sends, (thread, number)) =
       let low = number_high s.meaning (inputs_fed s w.fed) s.threads w.past o.emission o.after sound.firm.legal sends in
       let same : outputs o.emission.thread (sent_of w.past) ≡ outputs t (sent_of w.past) =
       ap (λ (u : ℕ). outputs u (sent_of w.past)) thread in

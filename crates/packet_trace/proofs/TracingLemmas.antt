@@ -16,7 +16,7 @@ use Rattle.recovery_laws.proofs.AcceptedRuns.{moves_play}
 use Rattle.recovery_core.specs.Systems.{SystemStands, Systemed}
 use Rattle.output_files.specs.declared.error.OutputError.{OutputError}
 use Rattle.output_files.specs.declared.error.OutputError.TheVariants as output
-use Rattle.output_files.specs.Writes.{HasBegun, HasWritten}
+use Rattle.output_files.specs.Writes.{Appends, HasBegun, HasWritten, Reports}
 use Rattle.output_files.specs.Written.{Writes}
 use Rattle.output_files.proofs.Effects.{begun_all}
 use Rattle.run_writes.specs.declared.error.RunError.{RunError}
@@ -34,7 +34,7 @@ use Rattle.packet_trace.specs.Following.{HasBecome}
 use Rattle.packet_trace.specs.Going.{HasAllGone, IsHalted, IsSomewhere}
 use Rattle.packet_trace.specs.Table.{table_text}
 use Rattle.packet_trace.specs.Trace.{HasBegunTrace, HasStopped, HasTraced, Traces, trace_writes, traced_events}
-use Rattle.packet_trace.specs.Tracing.{ComesTo, IsSteered, IsTold}
+use Rattle.packet_trace.specs.Tracing.{ComesTo, IsSteered, IsTold, WritesTraced}
 use Rattle.packet_trace.specs.Turns.{AreTurns}
 use Rattle.packet_trace.proofs.Performed.{stands_same}
 use Rattle.packet_trace.proofs.RowLemmas.{rows_are}
@@ -90,6 +90,20 @@ module _ {V : Type 0} (register : Option ℕ) (s : Setting V) (events : List Eve
     report = report ∙ line_is;
   }
 
+-- One write, of the same bytes
+
+pub begun_same : (name bytes other : List ℕ) (a b : Shown) → bytes ≡ other → HasBegun (Appends name bytes ∷ []) a b
+    → HasBegun (Appends name other ∷ []) a b
+begun_same name bytes other a b same h = subst (λ (l : List ℕ). HasBegun (Appends name l ∷ []) a b) same h
+
+pub written_same : (name bytes other : List ℕ) (a b : Shown) → bytes ≡ other
+    → HasWritten (Appends name bytes ∷ []) a b → HasWritten (Appends name other ∷ []) a b
+written_same name bytes other a b same h = subst (λ (l : List ℕ). HasWritten (Appends name l ∷ []) a b) same h
+
+pub reports_same : (r : Result ⊤ OutputError) (bytes other : List ℕ) (a b : Shown) → bytes ≡ other
+    → Writes r (Reports bytes ∷ []) a b → Writes r (Reports other ∷ []) a b
+reports_same r bytes other a b same h = subst (λ (l : List ℕ). Writes r (Reports l ∷ []) a b) same h
+
 -- What was written
 
 -- an error of a trace is a write fault only where that of its outputs is
@@ -97,6 +111,9 @@ pub fault_written : (r : Result ⊤ OutputError) → IsErrOf (run_result_of r) r
 fault_written (Ok done) h = absurd (cc)
 fault_written (Err output.WriteFault) h = refl
 fault_written (Err output.NoMemory) h = absurd (cc)
+
+abbrev pub failed_at : Limit → Result ⊤ RunError
+failed_at limit = Err (run.Limit limit)
 
 no_limit : (w : Result ⊤ OutputError) (limit : Limit) → run_result_of w ≡ Err (run.Limit limit) → ⊥
 no_limit (Ok done) limit e = cc
@@ -173,10 +190,38 @@ module _ {V : Type 0} (register : Option ℕ) (s : Setting V) (events : List Eve
     kept = kept;
   }
 
--- what the answer comes to
-pub comes_halted : {V : Type 0} (register : Option ℕ) (s : Setting V) (events : List Event) (limit : Limit)
-    → IsHalted s (traced_events events) limit → ComesTo register s events (Err limit)
-comes_halted register s events limit h = h
+  -- what a trace came to was written
+
+  pub traced_whole : (r : Result ⊤ RunError) (came : Result Texts Limit) → ComesTo register s events came
+      → WritesTraced r came name a b → OnOk r (HasTraced register s events name a b)
+  traced_whole r (Ok texts) comes (w, is, wrote) = whole texts comes r w is wrote
+  traced_whole r (Err l) comes (is, kept) =
+      subst (λ (x : Result ⊤ RunError). OnOk x (HasTraced register s events name a b)) (sym is) tt
+
+  pub traced_limit : (r : Result ⊤ RunError) (came : Result Texts Limit) (limit : Limit)
+      → ComesTo register s events came → WritesTraced r came name a b → r ≡ Err (run.Limit limit)
+      → HasStopped s events limit a b
+  traced_limit r (Ok texts) limit comes (w, is, wrote) e = no_stop texts comes r w is limit e
+  traced_limit r (Err l) limit comes (is, kept) e =
+      let both : failed_at l ≡ failed_at limit = sym is ∙ e in
+      let one : l ≡ limit = cc in
+      stopped limit (subst (IsHalted s (traced_events events)) one comes) kept
+
+  pub traced_order : (r : Result ⊤ RunError) (came : Result Texts Limit) → ComesTo register s events came
+      → WritesTraced r came name a b → HasBegunTrace register s events name a b
+  traced_order r (Ok texts) comes (w, is, wrote) = in_order texts comes w wrote
+  traced_order r (Err l) comes (is, kept) = inl kept
+
+pub whole_traced : (r : Result ⊤ RunError) (came : Result Texts Limit) (texts : Texts) (w : Result ⊤ OutputError)
+    (name : List ℕ) (a b : Shown) → came ≡ Ok texts → r ≡ run_result_of w
+    → Writes w (trace_writes name texts.table texts.report) a b → WritesTraced r came name a b
+whole_traced r came texts w name a b is made wrote =
+    subst (λ (x : Result Texts Limit). WritesTraced r x name a b) (sym is) (w, made, wrote)
+
+pub stopped_traced : (r : Result ⊤ RunError) (came : Result Texts Limit) (limit : Limit) (name : List ℕ) (a b : Shown)
+    → came ≡ Err limit → r ≡ Err (run.Limit limit) → KeepsShown a b → WritesTraced r came name a b
+stopped_traced r came limit name a b is made kept =
+    subst (λ (x : Result Texts Limit). WritesTraced r x name a b) (sym is) (made, kept)
 
 -- A new system
 

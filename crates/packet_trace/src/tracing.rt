@@ -9,6 +9,7 @@ ghost use Rattle.packet_trace.specs.Going.{HasAllGone};
 ghost use Rattle.packet_trace.specs.Trace.{HasBegunTrace, HasStopped, HasTraced, trace_writes};
 ghost use Rattle.packet_trace.specs.Trace.{traced_events};
 ghost use Rattle.packet_trace.specs.Tracing.{ComesTo, IsSteered, IsTold};
+ghost use Rattle.packet_trace.specs.Tracing.{WritesTraced};
 
 use crate::filling::fill_rows;
 use crate::following::follow_schedule;
@@ -98,6 +99,26 @@ fn write_texts<W: World>(world: &mut W, table: &Text, texts: &Texts) -> Result<(
     report(world, texts.report.as_slice())
 }
 
+/// Writes what a trace came to; nothing, where an event stopped at a limit.
+fn write_traced<W: World>(
+    world: &mut W,
+    table: &Text,
+    traced: &Result<Texts, Limit>,
+) -> Result<(), RunError>
+    requires room { (W.ledger world.old).given < 2 ^ 32 - 1 }
+    ensures writes_files { WritesFiles W.ledger W.healthy 1 world.old world.new }
+    ensures cause { IsErrOf result RunError.WriteFault
+        → WritingFailed W.ledger W.healthy world.old world.new }
+    ensures shows { (p : Start) → W.honest p world.new
+        → WritesTraced result traced.now table.now (W.shows p world.old) (W.shows p world.new) }
+    ensures before { (p : Start) → W.honest p world.new → W.honest p world.old }
+{
+    match traced {
+        Ok(texts) => written(write_texts(world, table, texts)),
+        Err(limit) => Err(RunError::Limit(*limit)),
+    }
+}
+
 /// Traces the packets of a capture through a run: the events of the script are performed, and one recovery more, which
 /// changes nothing where the master is up. Then a table is created under this name, with a line for each packet that was
 /// fed, and the last line of the report of `run` is reported.
@@ -130,11 +151,5 @@ pub fn run_trace<P: Program, W: World>(
     ensures before { (p : Start) → W.honest p world.new → W.honest p world.old }
 {
     let traced = trace_run(alloc, run, register, &program)?;
-    match traced {
-        Ok(texts) => {
-            let files = write_texts(world, table, &texts);
-            written(files)
-        }
-        Err(limit) => Err(RunError::Limit(limit)),
-    }
+    write_traced(world, table, &traced)
 }

@@ -27,13 +27,13 @@ pub returns-in_err-perform_next-clause-limit : goal.returns-in_err-perform_next-
 returns-in_err-perform_next-clause-limit g c s h limit e =
     let inv = c.loop-index.invariant in
     let low : c.loop-index.index < length c.args.events.now = omega arith in
-    let made : c.from_residual.result ≡ Err c.in_err-perform_next.field-0 = search rules in
+    let made : c.from_residual.result ≡ Err c.in_err-perform_next.field-0.0 = search rules in
     halted_longer s _ (drop (suc c.loop-index.index) c.args.events.now) c.args.events.now limit
     (split_here c.args.events.now c.loop-index.index _ low
     (same_item c.args.events.now c.loop-index.index _ low))
     (c.in_err-perform_next.ensures.limit s (take c.loop-index.index c.args.events.now)
     (gone_same _ _ s _ _ _ c.loop-index.system (ap g.P.Program.meaning (sym inv.program)) refl (inv.on s h)) limit
-    (same_stop c.from_residual.result c.in_err-perform_next.field-0 _ made e))
+    (same_stop c.from_residual.result c.in_err-perform_next.field-0.0 _ made e))
 
 pub returns-clause-on : goal.returns-clause-on
 returns-clause-on g c s h =

@@ -27,7 +27,7 @@ returns-clause-on g c s events number h =
 
 pub returns-in_err-on-clause-limit : goal.returns-in_err-on-clause-limit
 returns-in_err-on-clause-limit g c s events h limit e =
-    let made : c.from_residual.result ≡ Err c.in_err-on.field-0 = search rules in
+    let made : c.from_residual.result ≡ Err c.in_err-on.field-0.0 = search rules in
     halted_next (g.P.Program.meaning c.args.system.now.parts.program) s events c.args.departures.now c.args.event.now
     limit c.args.system.now c.on.new.self h
-    (c.in_err-on.ensures.limit limit (same_stop c.from_residual.result c.in_err-on.field-0 _ made e))
+    (c.in_err-on.ensures.limit limit (same_stop c.from_residual.result c.in_err-on.field-0.0 _ made e))

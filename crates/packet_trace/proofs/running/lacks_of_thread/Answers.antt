@@ -24,13 +24,13 @@ loop-number-preserved g c =
 pub returns : goal.returns
 returns g c s w h =
     let inv = c.loop-number.invariant in
-    let ok = c.in_ok-push.ensures.ok in
-    let sent : c.loop-number.number ≡ c.counts.result.outputs = omega arith in
+    let ok = c.in_ok-push-2.ensures.ok in
+    let sent : c.loop-number.number ≡ c.counts-sent.result.outputs = omega arith in
     record {
       long = ap (λ (l : List Lacks). length l) ok
           ∙ (length-append c.loop-number.list (c.in_ok-last.last ∷ [])
-          ∙ ap (λ n. n + 1) (inv.long ∙ (sent ∙ (c.counts.ensures s w h).2)));
+          ∙ ap (λ n. n + 1) (inv.long ∙ (sent ∙ (c.counts-sent.ensures s w h).2)));
       each = subst (AreLacks w c.args.thread) (sym ok)
-          (lacks_on w c.args.thread c.loop-number.list c.counts.result.outputs c.in_ok-last.last (inv.long ∙ sent)
+          (lacks_on w c.args.thread c.loop-number.list c.counts-sent.result.outputs c.in_ok-last.last (inv.long ∙ sent)
           (inv.lacks s w h) (c.in_ok-last.ensures s w h));
     }

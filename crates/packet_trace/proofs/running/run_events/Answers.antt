@@ -4,8 +4,8 @@ use Rattle.packet_trace.specs.Going.{HasSeen}
 use Rattle.packet_trace.proofs.Performed.{same_stop}
 use Rattle.packet_trace.proofs.running.run_events.Goals as goal
 
-pub returns-in-Ok-clause-gone : goal.returns-in-Ok-clause-gone
-returns-in-Ok-clause-gone g c s threads h =
+pub returns-in_ok-finished-in-Ok-clause-gone : goal.returns-in_ok-finished-in-Ok-clause-gone
+returns-in_ok-finished-in-Ok-clause-gone g c s threads h =
     let gone = c.in-Ok.ensures.gone s h in
     record {
       world = gone.world;
@@ -15,7 +15,7 @@ returns-in-Ok-clause-gone g c s threads h =
       sound = gone.stands.parts.sound;
       seen = subst (λ (n : ℕ). HasSeen n gone.world c.in-Ok.seen) (sym threads)
           (c.in-Ok.ensures.seen s gone.world gone.stands);
-      finished = c.in_ok-finished.ensures s gone.world gone.stands.parts;
+      finished = c.in_ok-finished-in-Ok.ensures s gone.world gone.stands.parts;
     }
 
 pub returns-in-Err-clause-limit : goal.returns-in-Err-clause-limit

@@ -1,11 +1,6 @@
 use Rattle.std.proofs.Common.{◌∙◌, List, ℕ, subst, sym, refl}
 use Rattle.packet_trace.specs.Places.{HasPlaces}
-use Rattle.packet_trace.proofs.SeenLemmas.{threads_are}
 use Rattle.packet_trace.proofs.running.see.Goals as goal
-
-pub all_lacks-lacks-requires : goal.all_lacks-lacks-requires
-all_lacks-lacks-requires g c =
-    threads_are c.args.threads (g.P.Program.meaning c.args.system.now.parts.program) c.args.system.now c.requires
 
 pub returns : goal.returns
 returns g c s w h = record {

@@ -1,5 +1,5 @@
-use Rattle.std.proofs.Common.{◌∙◌, ◌≡◌, ap, sym, subst, refl, rules, Err}
-use Rattle.recovery_world.specs.World.{Setting}
+use Rattle.std.proofs.Common.{◌∙◌, ◌≡◌, List, refl, rules, subst, Err}
+use Rattle.recovery_world.specs.declared.event.Event.{Event}
 use Rattle.run_writes.specs.Run.{setting_of}
 use Rattle.event_replies.specs.declared.reply.Stop.TheVariants as stop
 use Rattle.packet_trace.specs.declared.lent.Lent.{Lent}
@@ -8,7 +8,27 @@ use Rattle.packet_trace.proofs.TracingLemmas.{new_somewhere, new_stands, steered
 use Rattle.packet_trace.proofs.tracing.trace_run.Goals as goal
 
 pub run_events-requires-clause-somewhere : goal.run_events-requires-clause-somewhere
-run_events-requires-clause-somewhere g c =
+run_events-requires-clause-somewhere g c κs within =
     new_somewhere (λ (lent : Lent g.row.P.Denot). g.P.Program.meaning lent.program.now) _
     (setting_of (g.P.Program.meaning c.args.program.now) c.args.run) c.in_ok-system.system
     c.in_ok-system.ensures.program c.in_ok-system.ensures.stands
+
+pub returns-in-Ok : goal.returns-in-Ok
+returns-in-Ok g c =
+    let s = setting_of (g.P.Program.meaning c.args.program.now) c.args.run in
+    c.in_ok-texts-in-Ok.ensures s c.args.run.events refl
+    (steered_so s c.in_ok-packets.packets c.in_ok-steered.steered (c.in_ok-packets.ensures ∙ c.as_slice.ensures)
+    c.in_ok-steered.ensures.inputs c.in_ok-steered.ensures.turns)
+    (subst (λ (l : List Event). HasAllGone s l c.in-Ok.gone) (c.as_slice-2.ensures ∙ c.in_ok-push.ensures.ok)
+    (c.in-Ok.ensures.gone s refl
+    (new_stands (λ (lent : Lent g.row.P.Denot). g.P.Program.meaning lent.program.now) _ s c.in_ok-system.system
+    c.in_ok-system.ensures.program c.in_ok-system.ensures.stands)))
+
+pub returns-in-Err-Limit : goal.returns-in-Err-Limit
+returns-in-Err-Limit g c =
+    let s = setting_of (g.P.Program.meaning c.args.program.now) c.args.run in
+    let at : c.run_events.result ≡ Err (stop.Limit c.in-Err-Limit.limit) = search rules in
+    subst (λ (l : List Event). IsHalted s l c.in-Err-Limit.limit) (c.as_slice-2.ensures ∙ c.in_ok-push.ensures.ok)
+    (c.run_events.ensures.limit c.in-Err-Limit.limit at s
+    (new_stands (λ (lent : Lent g.row.P.Denot). g.P.Program.meaning lent.program.now) _ s c.in_ok-system.system
+    c.in_ok-system.ensures.program c.in_ok-system.ensures.stands))
