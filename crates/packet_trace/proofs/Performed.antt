@@ -167,7 +167,7 @@ same_item events i d low = any_item events i d (get_or events i d) low
     any_item (y ∷ l) zero d e low = refl
     any_item (y ∷ l) (suc i) d e low = any_item l i d e (omega arith)
 
-abbrev failed : {A : Type 0} → Stop → Result A Stop
+abbrev pub failed : {A : Type 0} → Stop → Result A Stop
 failed e = Err e
 
 -- a stop is the same whatever would have been answered

@@ -13,6 +13,8 @@ use Rattle.recovery_world.specs.declared.event.Event.{Event}
 use Rattle.recovery_world.specs.World.{Setting, World as SystemWorld, opening}
 use Rattle.recovery_world.specs.Files.{done_line, moves_made, packets_of}
 use Rattle.recovery_laws.proofs.AcceptedRuns.{moves_play}
+use Rattle.event_replies.specs.declared.reply.Stop.{Stop}
+use Rattle.event_replies.specs.declared.reply.Stop.TheVariants as stop
 use Rattle.recovery_core.specs.Systems.{SystemStands, Systemed}
 use Rattle.output_files.specs.declared.error.OutputError.{OutputError}
 use Rattle.output_files.specs.declared.error.OutputError.TheVariants as output
@@ -34,7 +36,7 @@ use Rattle.packet_trace.specs.Following.{HasBecome}
 use Rattle.packet_trace.specs.Going.{HasAllGone, IsHalted, IsSomewhere}
 use Rattle.packet_trace.specs.Table.{table_text}
 use Rattle.packet_trace.specs.Trace.{HasBegunTrace, HasStopped, HasTraced, Traces, trace_writes, traced_events}
-use Rattle.packet_trace.specs.Tracing.{ComesTo, IsSteered, IsTold, WritesTraced}
+use Rattle.packet_trace.specs.Tracing.{ComesTo, IsHalt, IsSteered, IsTold, WritesTraced}
 use Rattle.packet_trace.specs.Turns.{AreTurns}
 use Rattle.packet_trace.proofs.Performed.{stands_same}
 use Rattle.packet_trace.proofs.RowLemmas.{rows_are}
@@ -222,6 +224,16 @@ pub stopped_traced : (r : Result ⊤ RunError) (came : Result Texts Limit) (limi
     → came ≡ Err limit → r ≡ Err (run.Limit limit) → KeepsShown a b → WritesTraced r came name a b
 stopped_traced r came limit name a b is made kept =
     subst (λ (x : Result Texts Limit). WritesTraced r x name a b) (sym is) (made, kept)
+
+-- the events stopped
+pub halted_comes : {V E : Type 0} (register : Option ℕ) (s : Setting V) (events : List Event)
+    (r : Result (Result Texts Limit) E) (why : Stop) → IfOk r (IsHalt why)
+    → ((limit : Limit) → why ≡ stop.Limit limit → IsHalted s (traced_events events) limit)
+    → IfOk r (ComesTo register s events)
+halted_comes register s events (Ok came) (stop.Limit l) is h =
+    subst (ComesTo register s events) (sym is) (h l refl)
+halted_comes register s events (Ok came) stop.NoMemory is h = absurd is
+halted_comes register s events (Err error) why is h = tt
 
 -- A new system
 

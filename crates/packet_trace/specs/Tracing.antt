@@ -5,6 +5,8 @@ use Rattle.world_io.specs.World.{Shown}
 use Rattle.recovery_world.specs.declared.event.Event.{Event}
 use Rattle.recovery_world.specs.World.{Setting, World as SystemWorld}
 use Rattle.recovery_world.specs.Files.{done_line}
+use Rattle.event_replies.specs.declared.reply.Stop.{Stop}
+use Rattle.event_replies.specs.declared.reply.Stop.TheVariants as stop
 use Rattle.output_files.specs.declared.error.OutputError.{OutputError}
 use Rattle.output_files.specs.Written.{Writes}
 use Rattle.run_writes.specs.declared.error.RunError.{RunError}
@@ -36,6 +38,11 @@ pub record IsTold {V : Type 0} (register : Option ℕ) (s : Setting V) (events :
 abbrev pub ComesTo : {V : Type 0} → Option ℕ → Setting V → List Event → Result Texts Limit → Type 0
 ComesTo register s events (Ok texts) = IsTold register s events texts
 ComesTo register s events (Err limit) = IsHalted s (traced_events events) limit
+
+-- what a trace comes to whose events stopped so
+abbrev pub IsHalt : Stop → Result Texts Limit → Type 0
+IsHalt (stop.Limit limit) came = came ≡ Err limit
+IsHalt stop.NoMemory came = ⊥
 
 -- It was written, or some first part of it; or, where an event stopped at a limit, nothing.
 abbrev pub WritesTraced : Result ⊤ RunError → Result Texts Limit → List ℕ → Shown → Shown → Type 0

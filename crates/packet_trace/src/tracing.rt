@@ -8,7 +8,7 @@ ghost use Rattle.run_writes.specs.Run.{CanRun, setting_of};
 ghost use Rattle.packet_trace.specs.Going.{HasAllGone};
 ghost use Rattle.packet_trace.specs.Trace.{HasBegunTrace, HasStopped, HasTraced, trace_writes};
 ghost use Rattle.packet_trace.specs.Trace.{traced_events};
-ghost use Rattle.packet_trace.specs.Tracing.{ComesTo, IsSteered, IsTold};
+ghost use Rattle.packet_trace.specs.Tracing.{ComesTo, IsHalt, IsSteered, IsTold};
 ghost use Rattle.packet_trace.specs.Tracing.{WritesTraced};
 
 use crate::filling::fill_rows;
@@ -57,6 +57,16 @@ fn put_texts<P: Program>(
     Ok(Texts { table, report })
 }
 
+/// What a trace comes to whose events stopped so.
+fn halt(stop: Stop) -> Result<Result<Texts, Limit>, NoMemory>
+    ensures { IfOk result (IsHalt stop) }
+{
+    match stop {
+        Stop::Limit(limit) => Ok(Err(limit)),
+        Stop::NoMemory => Err(NoMemory),
+    }
+}
+
 /// Performs the events of a trace, and tells what became of each packet; or at which limit an event stopped.
 fn trace_run<P: Program>(
     alloc: Global,
@@ -78,8 +88,7 @@ fn trace_run<P: Program>(
             let texts = put_texts(alloc, program, steered, &gone, register)?;
             Ok(Ok(texts))
         }
-        Err(Stop::Limit(limit)) => Ok(Err(limit)),
-        Err(Stop::NoMemory) => Err(NoMemory),
+        Err(stop) => halt(stop),
     }
 }
 

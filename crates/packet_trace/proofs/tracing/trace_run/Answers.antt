@@ -1,10 +1,13 @@
-use Rattle.std.proofs.Common.{◌∙◌, ◌≡◌, List, refl, rules, subst, Err}
+use Rattle.std.proofs.Common.{◌∙◌, ◌≡◌, List, ap, refl, subst}
 use Rattle.recovery_world.specs.declared.event.Event.{Event}
 use Rattle.run_writes.specs.Run.{setting_of}
+use Rattle.event_replies.specs.declared.reply.Stop.{Stop}
 use Rattle.event_replies.specs.declared.reply.Stop.TheVariants as stop
+use Rattle.plain_text.specs.declared.limit.Limit.{Limit}
 use Rattle.packet_trace.specs.declared.lent.Lent.{Lent}
 use Rattle.packet_trace.specs.Going.{HasAllGone, IsHalted}
-use Rattle.packet_trace.proofs.TracingLemmas.{new_somewhere, new_stands, steered_so}
+use Rattle.packet_trace.proofs.TracingLemmas.{halted_comes, new_somewhere, new_stands, steered_so}
+use Rattle.packet_trace.proofs.Performed.{failed}
 use Rattle.packet_trace.proofs.tracing.trace_run.Goals as goal
 
 pub run_events-requires-clause-somewhere : goal.run_events-requires-clause-somewhere
@@ -24,11 +27,12 @@ returns-in-Ok g c =
     (new_stands (λ (lent : Lent g.row.P.Denot). g.P.Program.meaning lent.program.now) _ s c.in_ok-system.system
     c.in_ok-system.ensures.program c.in_ok-system.ensures.stands)))
 
-pub returns-in-Err-Limit : goal.returns-in-Err-Limit
-returns-in-Err-Limit g c =
+pub returns-in-Err : goal.returns-in-Err
+returns-in-Err g c =
     let s = setting_of (g.P.Program.meaning c.args.program.now) c.args.run in
-    let at : c.run_events.result ≡ Err (stop.Limit c.in-Err-Limit.limit) = search rules in
-    subst (λ (l : List Event). IsHalted s l c.in-Err-Limit.limit) (c.as_slice-2.ensures ∙ c.in_ok-push.ensures.ok)
-    (c.run_events.ensures.limit c.in-Err-Limit.limit at s
+    halted_comes c.args.register s c.args.run.events c.halt.result c.in-Err.stop c.halt.ensures
+    (λ (limit : Limit) (e : c.in-Err.stop ≡ stop.Limit limit).
+    subst (λ (l : List Event). IsHalted s l limit) (c.as_slice-2.ensures ∙ c.in_ok-push.ensures.ok)
+    (c.in-Err.ensures.limit limit (ap (λ (x : Stop). failed x) e) s
     (new_stands (λ (lent : Lent g.row.P.Denot). g.P.Program.meaning lent.program.now) _ s c.in_ok-system.system
-    c.in_ok-system.ensures.program c.in_ok-system.ensures.stands))
+    c.in_ok-system.ensures.program c.in_ok-system.ensures.stands)))
